@@ -1,0 +1,4 @@
+pub mod Integer
+pub mod Float
+pub mod Primitive
+pub mod DataLayout

@@ -1,0 +1,48 @@
+//! Floating-point formats.
+
+ghost use Rattle.std.specs.Prelude.{◌≡◌, ℕ};
+ghost use Rattle.abi_base.specs.Float.{float_size, float_align};
+
+use crate::align::Align;
+use crate::data_layout::HasDataLayout;
+use crate::size::Size;
+
+/// A floating-point format. Only its size and its alignment matter to a layout.
+#[derive(Clone, Copy, PartialEq, Eq, PartialOrd, Ord, Hash, Debug)]
+pub enum Float {
+    F16,
+    /// `bfloat16`.
+    F16B,
+    F32,
+    F64,
+    F128,
+    /// Two `f64` of a double double.
+    PpcF128,
+}
+
+impl Float {
+    /// How many bytes it has.
+    pub fn size(self) -> Size
+        ensures { result ≡ float_size self }
+    {
+        match self {
+            Float::F16 | Float::F16B => Size::from_bytes(2),
+            Float::F32 => Size::from_bytes(4),
+            Float::F64 => Size::from_bytes(8),
+            Float::F128 | Float::PpcF128 => Size::from_bytes(16),
+        }
+    }
+
+    /// Its alignment.
+    pub fn align<C: HasDataLayout>(self, cx: &C) -> Align
+        ensures { result ≡ float_align (C.target cx.now) self }
+    {
+        let dl = cx.data_layout();
+        match self {
+            Float::F16 | Float::F16B => dl.f16_align,
+            Float::F32 => dl.f32_align,
+            Float::F64 => dl.f64_align,
+            Float::F128 | Float::PpcF128 => dl.f128_align,
+        }
+    }
+}

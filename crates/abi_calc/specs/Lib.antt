@@ -1,0 +1,5 @@
+pub mod Answer
+pub mod Array
+pub mod Apart
+pub mod Placement
+pub mod List

@@ -1,0 +1,6 @@
+pub mod Range
+pub mod RangeText
+pub mod Scalar
+pub mod Niche
+pub mod Lawful
+pub mod Simple

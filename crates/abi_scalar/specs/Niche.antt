@@ -1,0 +1,22 @@
+-- Niches: places with free numbers.
+use Rattle.std.specs.Prelude.{ℕ, Option, Some, None, ◌==◌, if◌then◌else◌}
+use Rattle.abi_base.specs.declared.data_layout.TargetDataLayout.{TargetDataLayout}
+use Rattle.abi_base.specs.Primitive.{primitive_size}
+use Rattle.abi_scalar.specs.declared.niche.Niche.{Niche}
+use Rattle.abi_scalar.specs.declared.scalar.Scalar.{Scalar}
+use Rattle.abi_scalar.specs.declared.scalar.Scalar.TheVariants.{Initialized, Union}
+use Rattle.abi_scalar.specs.Range.{free_count}
+
+-- how many bytes a niche has
+abbrev pub niche_size : TargetDataLayout → Niche → ℕ
+niche_size dl niche = primitive_size dl niche.value
+
+-- how many numbers a niche has free
+abbrev pub available_in : TargetDataLayout → Niche → ℕ
+available_in dl niche = free_count (niche_size dl niche) niche.valid_range
+
+-- the niche of a scalar at an offset: none for a union's scalar, nor where no number is free
+abbrev pub niche_at : TargetDataLayout → (offset : ℕ) → Scalar → Option Niche
+niche_at dl offset (Initialized value range) =
+    if free_count (primitive_size dl value) range == 0 then None else Some (record { offset = offset; value = value; valid_range = range })
+niche_at dl offset (Union value) = None

@@ -1,0 +1,44 @@
+-- Scalars, and the numbers that they hold.
+use Rattle.std.specs.Prelude.{ℕ, ◌<◌, ◌≤◌}
+use Rattle.abi_base.specs.declared.primitive.Primitive.{Primitive}
+use Rattle.abi_base.specs.declared.data_layout.TargetDataLayout.{TargetDataLayout}
+use Rattle.abi_base.specs.Primitive.{primitive_size, primitive_align, KnowsPrimitive, IsLawfulPrimitive}
+use Rattle.abi_scalar.specs.declared.wrapping_range.WrappingRange.{WrappingRange}
+use Rattle.abi_scalar.specs.declared.scalar.Scalar.{Scalar}
+use Rattle.abi_scalar.specs.declared.scalar.Scalar.TheVariants.{Initialized, Union}
+use Rattle.abi_scalar.specs.Range.{numbers_of, IsIn, AreWithin, full_range}
+
+-- what the scalar consists of
+abbrev pub primitive_of : Scalar → Primitive
+primitive_of (Initialized value range) = value
+primitive_of (Union value) = value
+
+-- how many bytes it has
+abbrev pub scalar_size : TargetDataLayout → Scalar → ℕ
+scalar_size dl scalar = primitive_size dl (primitive_of scalar)
+
+-- its alignment, as an exponent of two
+abbrev pub scalar_align : TargetDataLayout → Scalar → ℕ
+scalar_align dl scalar = primitive_align dl (primitive_of scalar)
+
+-- the numbers that it may hold, as a range
+abbrev pub range_of : TargetDataLayout → Scalar → WrappingRange
+range_of dl (Initialized value range) = range
+range_of dl (Union value) = full_range (primitive_size dl value)
+
+-- a scalar of so many bytes holds the number: one of its range, or for a union's scalar any
+abbrev pub IsNumberOf : (width : ℕ) → Scalar → ℕ → Type 0
+IsNumberOf width (Initialized value range) n = IsIn width range n
+IsNumberOf width (Union value) n = n < numbers_of width
+
+-- A scalar that can be asked for its numbers: its space is known, it has 1 to 16 bytes, and its range's ends fit them.
+pub record IsReadable (dl : TargetDataLayout) (scalar : Scalar) : Type 0 where
+  pub known : KnowsPrimitive dl (primitive_of scalar)
+  pub some : 1 ≤ scalar_size dl scalar
+  pub most : scalar_size dl scalar ≤ 16
+  pub within : AreWithin (scalar_size dl scalar) (range_of dl scalar)
+
+-- A lawful scalar: its pointer is lawful, and its range's ends fit its bytes.
+pub record IsLawfulScalar (dl : TargetDataLayout) (scalar : Scalar) : Type 0 where
+  pub pointer : IsLawfulPrimitive dl (primitive_of scalar)
+  pub within : AreWithin (scalar_size dl scalar) (range_of dl scalar)

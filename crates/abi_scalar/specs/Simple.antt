@@ -1,0 +1,46 @@
+-- The layouts of types without parts.
+use Rattle.std.specs.Prelude.{ℕ, ◌+◌, ◌*◌, ◌%◌, ◌^◌, None, true, false}
+use Rattle.std.specs.Int.{rotate_right, w64}
+use Rattle.abi_base.specs.declared.primitive.Primitive.{Primitive}
+use Rattle.abi_base.specs.declared.primitive.Primitive.TheVariants.{Int, Float, Pointer}
+use Rattle.abi_base.specs.declared.data_layout.TargetDataLayout.{TargetDataLayout}
+use Rattle.abi_scalar.specs.declared.scalar.Scalar.{Scalar}
+use Rattle.abi_scalar.specs.declared.backend_repr.BackendRepr.TheVariants.{Scalar as OneScalar}
+use Rattle.abi_scalar.specs.declared.fields_shape.FieldsShape.TheVariants.{Primitive as NoFields}
+use Rattle.abi_scalar.specs.declared.variants.Variants.TheVariants.{Single}
+use Rattle.abi_scalar.specs.declared.layout_data.LayoutData.{LayoutData}
+use Rattle.abi_scalar.specs.Scalar.{primitive_of, scalar_size, scalar_align, range_of}
+use Rattle.abi_scalar.specs.Niche.{niche_at}
+
+-- what tells apart the seeds of equally large primitives
+abbrev pub kind_of : Primitive → ℕ
+kind_of (Int integer true) = 1
+kind_of (Int integer false) = 2
+kind_of (Float float) = 3
+kind_of (Pointer space) = 4
+
+-- the low 64 bits, rotated right by 16
+abbrev pub mixed : ℕ → ℕ
+mixed n = rotate_right w64 (n % 2 ^ 64) 16
+
+-- the seed of a scalar
+abbrev pub scalar_seed : TargetDataLayout → Scalar → ℕ
+scalar_seed dl scalar =
+    (scalar_size dl scalar + kind_of (primitive_of scalar) * 2 ^ 32
+    + mixed (range_of dl scalar).start + mixed (range_of dl scalar).end) % 2 ^ 64
+
+-- the layout of a scalar; `first` is the index of the first variant
+abbrev pub scalar_layout : {F V : Type 0} → (first : V) → TargetDataLayout → Scalar → LayoutData F V
+scalar_layout first dl scalar = record {
+  fields = NoFields;
+  variants = Single first;
+  backend_repr = OneScalar scalar;
+  largest_niche = niche_at dl 0 scalar;
+  uninhabited = false;
+  align = record { abi = scalar_align dl scalar };
+  size = scalar_size dl scalar;
+  max_repr_align = None;
+  unadjusted_abi_align = scalar_align dl scalar;
+  repr_c = false;
+  randomization_seed = scalar_seed dl scalar;
+}

@@ -1,0 +1,33 @@
+//! The layout of a type.
+
+use crate::backend_repr::BackendRepr;
+use crate::fields_shape::FieldsShape;
+use crate::niche::Niche;
+use crate::variants::Variants;
+use abi_base::{AbiAlign, Align, Size};
+use abi_index::{Hash64, Idx};
+
+/// The layout of a type: how large it is, how it is aligned, and where its parts lie.
+#[derive(Drop, PartialEq, Eq, Hash)]
+pub struct LayoutData<FieldIdx: Idx, VariantIdx: Idx> {
+    /// Where the fields lie, without those that one variant alone has.
+    pub fields: FieldsShape<FieldIdx>,
+    pub variants: Variants<FieldIdx, VariantIdx>,
+    /// How a code generator sees the values.
+    pub backend_repr: BackendRepr,
+    /// The place with the most free numbers.
+    pub largest_niche: Option<Niche>,
+    /// Whether no value of the type can be.
+    pub uninhabited: bool,
+    pub align: AbiAlign,
+    /// In bytes.
+    pub size: Size,
+    /// The greatest alignment that a `repr(align)` in the type asks for.
+    pub max_repr_align: Option<Align>,
+    /// The alignment before `repr(align)` raised it.
+    pub unadjusted_abi_align: Align,
+    /// Whether the fields lie as `repr(C)` has them.
+    pub repr_c: bool,
+    /// A hash of the parts, to seed a shuffle of fields with.
+    pub randomization_seed: Hash64,
+}

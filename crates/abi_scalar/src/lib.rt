@@ -1,0 +1,26 @@
+//! Scalars, the numbers they may hold, and layouts as data.
+#![tactic(auto)]
+
+mod backend_repr;
+mod error;
+mod fields_shape;
+mod handle;
+mod lane_count;
+mod layout_data;
+mod niche;
+mod repr;
+mod scalar;
+mod variants;
+mod wrapping_range;
+
+pub use backend_repr::BackendRepr;
+pub use error::LayoutCalculatorError;
+pub use fields_shape::{FieldCount, FieldsShape};
+pub use handle::LayoutHandle;
+pub use lane_count::BackendLaneCount;
+pub use layout_data::LayoutData;
+pub use niche::Niche;
+pub use repr::{ReprFlags, ReprOptions};
+pub use scalar::Scalar;
+pub use variants::{RangeInclusive, TagEncoding, VariantLayout, Variants};
+pub use wrapping_range::WrappingRange;
