@@ -10,6 +10,7 @@ mod layout_data;
 mod niche;
 mod repr;
 mod scalar;
+mod simple;
 mod variants;
 mod wrapping_range;
 
