@@ -29,6 +29,9 @@ impl Align {
     /// One byte.
     pub const ONE: Align = Align { pow2: 0 };
 
+    /// The greatest alignment that a type may have: 2^29 bytes.
+    pub const MAX: Align = Align { pow2: 29 };
+
     /// The alignment in bytes.
     pub fn bytes(self) -> u64
         requires { self < 64 }

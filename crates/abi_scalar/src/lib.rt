@@ -6,6 +6,7 @@ mod error;
 mod fields_shape;
 mod handle;
 mod lane_count;
+mod lawful;
 mod layout_data;
 mod niche;
 mod repr;

@@ -20,13 +20,7 @@ fn kind(value: Primitive) -> u64
     ensures { result ≡ kind_of value }
 {
     match value {
-        Primitive::Int(_, signed) => {
-            if signed {
-                1
-            } else {
-                2
-            }
-        }
+        Primitive::Int(_, signed) => { if signed { 1 } else { 2 } }
         Primitive::Float(_) => 3,
         Primitive::Pointer(_) => 4,
     }
@@ -57,10 +51,8 @@ impl<FieldIdx: Idx, VariantIdx: Idx> LayoutData<FieldIdx, VariantIdx> {
     pub fn scalar<C: HasDataLayout>(cx: &C, scalar: Scalar) -> Self
         requires { IsReadable (C.target cx.now) scalar }
         ensures exact { result ≡ scalar_layout (VariantIdx.at 0) (C.target cx.now) scalar }
-        ensures lawful {
-            IsLawfulDataLayout (C.target cx.now) → IsLawfulScalar (C.target cx.now) scalar
-            → IsLawfulLayout (C.target cx.now) result
-        }
+        ensures lawful { IsLawfulDataLayout (C.target cx.now) → IsLawfulScalar (C.target cx.now) scalar
+            → IsLawfulLayout (C.target cx.now) result }
     {
         let align = scalar.default_align(cx);
         LayoutData {

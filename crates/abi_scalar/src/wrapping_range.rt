@@ -1,7 +1,7 @@
 //! Ranges of numbers that may wrap round.
 
-ghost use Rattle.std.specs.Prelude.{◌≡◌, ◌≤◌, ◌-◌, Some};
-ghost use Rattle.abi_scalar.specs.Range.{numbers_of, AreWithin, free_count, full_range};
+ghost use Rattle.std.specs.Prelude.{◌≡◌, ℕ, ◌≤◌, ◌-◌, ◌↔◌, IsTrue, Some};
+ghost use Rattle.abi_scalar.specs.Range.{numbers_of, IsFree, AreWithin, free_count, full_range};
 ghost use Rattle.abi_scalar.specs.RangeText.{range_text};
 
 use abi_base::Size;
@@ -54,6 +54,17 @@ impl WrappingRange {
         } else {
             self.start + (greatest_number(size) - self.end)
         }
+    }
+
+    /// Whether some number of so many bytes is not in it.
+    #[tactic(auto, using(crate::proofs::RangeLemmas::free_after, crate::proofs::RangeLemmas::none_free))]
+    pub(crate) fn has_free(&self, size: Size) -> bool
+        requires some { 1 ≤ size }
+        requires most { size ≤ 16 }
+        requires within { AreWithin size self.now }
+        ensures { IsTrue result ↔ ((n : ℕ) × IsFree size self.now n) }
+    {
+        self.free(size) != 0
     }
 }
 
