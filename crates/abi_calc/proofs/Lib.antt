@@ -1,0 +1,4 @@
+pub mod Rounding
+pub mod Steps
+pub mod Placing
+pub mod Lawful
