@@ -2,3 +2,5 @@ pub mod Rounding
 pub mod Steps
 pub mod Placing
 pub mod Lawful
+pub mod Apart
+pub mod Answers

@@ -1,11 +1,9 @@
 -- The loop that places fields one after another.
-use Rattle.std.proofs.Common.{◌≡◌, ℕ, ◌+◌, ◌^◌, ◌<◌, ◌≤◌, List, [], ◌∷◌, ◌++◌, Bool, true, false, Option, None, Some, Result, Ok, Err, length, drop, map, get_or, refl, sym, ap, subst, ◌∙◌, arith, inl, inr, ⊎_elim, append_assoc, append-nil}
-use Rattle.std.specs.Prelude.{◌⊎◌, All, nat_lt, if◌then◌else◌}
-use Rattle.std.proofs.lemmas.Bool.{cases_lt}
+use Rattle.std.proofs.Common.{◌≡◌, ℕ, ◌+◌, ◌<◌, ◌≤◌, List, [], ◌∷◌, ◌++◌, true, false, Some, map, refl, sym, ap, subst, ◌∙◌, arith, inl, append_assoc, append-nil}
+use Rattle.std.specs.Prelude.{nat_lt}
 use Rattle.std.proofs.lemmas.Bool.Decides.{nat_tests}
 use Rattle.abi_scalar.specs.declared.layout_data.LayoutData.{LayoutData}
-use Rattle.abi_scalar.specs.declared.error.LayoutCalculatorError.{LayoutCalculatorError}
-use Rattle.abi_scalar.specs.declared.error.LayoutCalculatorError.TheVariants.{SizeOverflow, UnexpectedUnsized, OutOfMemory}
+use Rattle.abi_scalar.specs.declared.error.LayoutCalculatorError.TheVariants.{SizeOverflow, UnexpectedUnsized}
 use Rattle.abi_calc.specs.List.{ArePlaced, IsFault, is_unsized, fault_from}
 use Rattle.abi_calc.specs.Placement.{place_of, offsets_from, end_from}
 

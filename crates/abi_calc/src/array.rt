@@ -42,7 +42,11 @@ impl<Cx: HasDataLayout> LayoutCalculator<Cx> {
             backend_repr: BackendRepr::Memory {
                 sized: count_if_sized.is_some(),
             },
-            largest_niche: if count == 0 { None } else { element.largest_niche },
+            largest_niche: if count == 0 {
+                None
+            } else {
+                element.largest_niche
+            },
             uninhabited: element.uninhabited && count != 0,
             align: element.align,
             size,

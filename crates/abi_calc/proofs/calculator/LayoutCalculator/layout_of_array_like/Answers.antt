@@ -1,4 +1,4 @@
-use Rattle.std.proofs.Common.{rules, ◌≡◌, ◌<◌, arith, refl, inl, inr}
+use Rattle.std.proofs.Common.{rules, arith, refl, inl, inr}
 use Rattle.abi_calc.proofs.Lawful.{array_lawful}
 use Rattle.abi_calc.proofs.calculator.LayoutCalculator.layout_of_array_like.Goals as goal
 use Rattle.abi_calc.proofs.calculator.LayoutCalculator.layout_of_array_like.Goals.{then-count-eq0, else-count-eq0}
