@@ -1,7 +1,9 @@
 //! Types that were laid out.
 
 ghost use Rattle.std.specs.Prelude.{◌≡◌, ◌<◌, length, true};
+ghost use Rattle.rustc_abi.specs.Nodes.{root_of};
 ghost use Rattle.rustc_abi.specs.Adding.{are_nodes};
+ghost use Rattle.rustc_abi.specs.Room.{has_room};
 
 use crate::node::Node;
 use abi_base::Endian;
@@ -15,17 +17,18 @@ pub struct Laid {
     endian: Endian,
     ghost some: { 0 < length nodes.items },
     ghost well: { are_nodes 0 nodes.items ≡ true },
+    ghost room: { has_room (root_of nodes.items) ≡ true },
 }
 
 impl Laid {
     ghost use Rattle.rustc_abi.specs.Laid.{placed_of, endian_of};
     ghost use Rattle.rustc_abi.specs.Placed.{layout_of};
-    ghost use Rattle.rustc_abi.specs.Nodes.{root_of};
 
     /// The type of the last node.
     pub(crate) fn new(nodes: Vec<Node>, endian: Endian) -> Laid
         requires some { 0 < length nodes.items }
         requires well { are_nodes 0 nodes.items ≡ true }
+        requires room { has_room (root_of nodes.items) ≡ true }
         ensures placed { placed_of result ≡ root_of nodes.items }
         ensures endian { endian_of result ≡ endian }
     {
