@@ -1,12 +1,12 @@
 -- The gaps between runs are the maximal runs of what no run covers.
-use Rattle.std.proofs.Common.{◌≡◌, ℕ, zero, suc, ◌+◌, ◌-◌, ◌<◌, ◌≤◌, ⊎_elim, List, [], ◌∷◌, ◌++◌, Option, Some, None, Bool, true, false, length, get_or, take, drop, arith, refl, sym, ap, ◌∙◌, subst, All, append_assoc}
+use Rattle.std.proofs.Common.{◌≡◌, ℕ, zero, suc, ◌+◌, ◌-◌, ◌<◌, ◌≤◌, List, [], ◌∷◌, ◌++◌, Some, None, Bool, true, false, length, get_or, drop, arith, refl, sym, ap, ◌∙◌, subst, append_assoc}
 use Rattle.std.specs.Prelude.{◌&&◌, ◌||◌, not, nat_lt, nat_le, if◌then◌else◌}
-use Rattle.std.proofs.lemmas.Bool.{lt-ltb, le-ltb, le-leb, lt-leb, cases_lt}
+use Rattle.std.proofs.lemmas.Bool.{lt-ltb, le-ltb, le-leb, lt-leb}
 use Rattle.std.specs.Cmp.Derive.{both_true}
 use Rattle.std.proofs.Math.Bool.{and-false}
 use Rattle.std.proofs.lemmas.List.{append-nil, drop_all, drop_more}
 use Rattle.rustc_abi.specs.declared.runs.Run.{Run}
-use Rattle.rustc_abi.specs.Runs.{is_in, covers, is_beside, Ascend, runs_from, AreGaps}
+use Rattle.rustc_abi.specs.Runs.{covers, is_beside, Ascend, runs_from, AreGaps}
 
 -- no place is picked from k to j
 skips : (p : ℕ → Bool) (k n m total j : ℕ) → total ≡ n + m → j ≡ k + n → ((i : ℕ) → k ≤ i → i < j → p i ≡ false) →

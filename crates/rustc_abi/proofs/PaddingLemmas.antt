@@ -1,6 +1,6 @@
 -- What each kind of node has of data places.
-use Rattle.std.proofs.Common.{◌≡◌, ℕ, zero, suc, ◌+◌, ◌-◌, ◌*◌, ◌/◌, ◌%◌, ◌<◌, ◌≤◌, List, [], ◌∷◌, ◌++◌, Bool, true, false, length, map, get_or, take, min, arith, refl, sym, ap, ◌∙◌, subst, All}
-use Rattle.std.specs.Prelude.{◌==◌, ◌&&◌, ◌||◌, nat_le, nat_lt}
+use Rattle.std.proofs.Common.{◌≡◌, ℕ, zero, suc, ◌+◌, ◌-◌, ◌*◌, ◌/◌, ◌%◌, ◌<◌, ◌≤◌, List, [], ◌∷◌, ◌++◌, Bool, true, false, length, get_or, take, min, arith, refl, sym, ap, ◌∙◌, subst, All}
+use Rattle.std.specs.Prelude.{◌==◌, ◌&&◌, ◌||◌, nat_le, nat_lt, not, None}
 use Rattle.std.specs.List.{list_all}
 use Rattle.std.proofs.lemmas.Bool.{ltb-true, le-ltb, eqb-true, and_parts}
 use Rattle.std.proofs.lemmas.List.{take_more, length-take-le, length-map, get_or-map}
@@ -8,18 +8,17 @@ use Rattle.std.proofs.lemmas.List.Elements.{All-nil, All-cons}
 use Rattle.std.proofs.Math.Bool.{or-false}
 use Rattle.abi_calc.specs.Apart.{offsets_of}
 use Rattle.abi_scalar.specs.declared.scalar.Scalar.{Scalar}
-use Rattle.rustc_abi.specs.declared.node.Shape.{Shape}
 use Rattle.rustc_abi.specs.declared.node.Shape.TheVariants.{Scalar as Number, Elements, Fields}
 use Rattle.rustc_abi.specs.declared.node.Node.{Node}
 use Rattle.rustc_abi.specs.declared.runs.Run.{Run}
 use Rattle.std.specs.Prelude.{Vec}
 use Rattle.std.specs.declared.alloc.Global.{Global}
-use Rattle.rustc_abi.specs.Placed.{Placed, Layout, scalar, elements, fields, size_of, Parts, no_parts, part, nothing}
+use Rattle.rustc_abi.specs.Placed.{Placed, Layout, scalar, elements, fields, size_of, part, nothing}
 use Rattle.rustc_abi.specs.Places.{is_data_place, is_place_of_part}
-use Rattle.rustc_abi.specs.Nodes.{placed_in, parts_at, types_in, placed_at}
+use Rattle.rustc_abi.specs.Nodes.{parts_at, placed_at}
 use Rattle.rustc_abi.specs.Room.{has_room, have_room}
-use Rattle.rustc_abi.specs.Adding.{are_nodes, is_node, all_at}
-use Rattle.rustc_abi.specs.Runs.{covers, repeats, Ascend}
+use Rattle.rustc_abi.specs.Adding.{are_nodes, all_at}
+use Rattle.rustc_abi.specs.Runs.{covers, repeats, Ascend, runs_from, is_beside, padding_of}
 use Rattle.rustc_abi.proofs.NodesLemmas.{placed_at-node}
 use Rattle.rustc_abi.proofs.RoomLemmas.{within_room, room_at, ends_inside}
 
@@ -115,3 +114,7 @@ module _ (ns : List Node) (os children : List ℕ) (n : ℕ) (lt : n < length os
   fields_more k =
       parts_at-more os (all_at ns children) n k lt as_many
       ∙ ap (λ p. is_place_of_part (parts_at (take n os) (take n (all_at ns children))) k || (nat_le (get_or os n 0) k && is_data_place p (k - get_or os n 0))) child_at
+
+-- the gaps between the runs of a type's places are its padding
+pub padding_same : (placed : Placed) (runs : List Run) → ((k : ℕ) → covers runs k ≡ is_data_place placed k) → runs_from (is_beside runs) None 0 (size_of placed) ≡ padding_of placed
+padding_same placed runs same = ap (λ p. runs_from p None 0 (size_of placed)) (λ i k. not (same k i))

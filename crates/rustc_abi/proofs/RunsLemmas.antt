@@ -1,14 +1,11 @@
 -- Runs that are joined, and the gaps between runs.
-use Rattle.std.proofs.Common.{◌≡◌, ◌≢◌, ℕ, zero, suc, ◌+◌, ◌-◌, ◌<◌, ◌≤◌, ◌⊎◌, ⊎_elim, inl, inr, List, [], ◌∷◌, ◌++◌, Option, Some, None, Bool, true, false, length, get_or, take, drop, max, arith, refl, sym, ap, ◌∙◌, subst, All}
-use Rattle.std.specs.Prelude.{IfSome, ◌&&◌, ◌||◌, not, nat_lt, nat_le, if◌then◌else◌}
-use Rattle.std.specs.List.{list_any}
-use Rattle.std.specs.Cmp.Derive.{both_true}
+use Rattle.std.proofs.Common.{◌≡◌, ℕ, ◌+◌, ◌<◌, ◌≤◌, inl, inr, List, [], ◌∷◌, ◌++◌, Option, Some, None, Bool, true, false, length, get_or, take, max, arith, refl, sym, ap, ◌∙◌, subst}
+use Rattle.std.specs.Prelude.{◌||◌}
 use Rattle.std.proofs.lemmas.List.{take_more}
 use Rattle.std.proofs.lemmas.List.Folds.{list_any-append}
 use Rattle.std.proofs.lemmas.Bool.Decides.{nat_tests}
-use Rattle.std.proofs.lemmas.Bool.{lt-ltb, le-ltb, le-leb, leb-true, ltb-true, cases_lt, and_parts, or_cases}
 use Rattle.rustc_abi.specs.declared.runs.Run.{Run}
-use Rattle.rustc_abi.specs.Runs.{is_in, covers, Ascend, runs_from, Joins, last_of, AreJoined}
+use Rattle.rustc_abi.specs.Runs.{is_in, covers, Ascend, Joins, AreJoined}
 
 -- where the last of the runs ends
 abbrev end_of : (from : ℕ) → List Run → ℕ

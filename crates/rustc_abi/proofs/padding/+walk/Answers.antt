@@ -1,6 +1,6 @@
-use Rattle.std.proofs.Common.{◌≡◌, ℕ, ◌++◌, ◌+◌, ◌*◌, ◌<◌, ◌≤◌, true, false, List, [], ◌∷◌, length, get_or, take, map, arith, ap, sym, ◌∙◌, subst, All}
+use Rattle.std.proofs.Common.{◌≡◌, ℕ, ◌++◌, ◌+◌, ◌*◌, ◌<◌, ◌≤◌, List, [], ◌∷◌, length, get_or, take, map, arith, ap, sym, ◌∙◌, subst, All}
 use Rattle.std.proofs.lemmas.Result.{IfOk-weaker}
-use Rattle.rustc_abi.specs.Placed.{Placed, scalar, elements, fields, size_of}
+use Rattle.rustc_abi.specs.Placed.{Placed, elements, size_of}
 use Rattle.rustc_abi.specs.Places.{is_data_place, is_place_of_part}
 use Rattle.rustc_abi.specs.declared.runs.Run.{Run}
 use Rattle.abi_calc.specs.Apart.{offsets_of}
@@ -121,7 +121,7 @@ fields_runs-loop-offset-preserved t c =
     let child : c.in-Some.child.now ≡ get_or c.args.children.now n 0 = turn.3 0 in
     let offset : c.bytes.result ≡ get_or os n 0 = rw c.bytes.ensures (turn.2 0) in
     let put : c.put_shifted.new.all.items ≡ c.loop-offset.all.items ++ map (shifted c.bytes.result) runs =
-        c.in_ok-put_shifted.ensures ∙ ap (λ rs. c.loop-offset.all.items ++ map (shifted c.bytes.result) rs) c.deref.ensures.value in
+    c.in_ok-put_shifted.ensures ∙ ap (λ rs. c.loop-offset.all.items ++ map (shifted c.bytes.result) rs) c.deref.ensures.value in
     let part : ℕ → ℕ → Placed → Bool = λ k o p. nat_le o k && is_data_place p (k - o) in
     let more : length (c.loop-offset.yielded ++ (c.in-Some.offset, c.in-Some.child) ∷ []) ≡ n + 1 = length-append c.loop-offset.yielded ((c.in-Some.offset, c.in-Some.child) ∷ []) in
     record {

@@ -1,10 +1,10 @@
-use Rattle.std.proofs.Common.{◌≡◌, ◌+◌, ◌<◌, ◌≤◌, ◌*◌, ◌++◌, ◌||◌, All, ℕ, length, map, get_or, arith, rules, ap, sym, ◌∙◌, subst}
+use Rattle.std.proofs.Common.{◌≡◌, ◌<◌, ◌*◌, ◌||◌, All, ℕ, length, arith, ap, sym, ◌∙◌, subst}
 use Rattle.std.specs.Prelude.{nat_le, ◌&&◌, ◌-◌}
 use Rattle.std.proofs.lemmas.Grind.{common_steps}
 use Rattle.std.proofs.lemmas.Result.{IfOk-weaker}
 use Rattle.std.proofs.lemmas.List.Elements.{All-append}
 use Rattle.rustc_abi.specs.declared.runs.Run.{Run}
-use Rattle.rustc_abi.specs.Runs.{covers, shifted, repeats}
+use Rattle.rustc_abi.specs.Runs.{covers, repeats}
 use Rattle.rustc_abi.proofs.WalkLemmas.{repeats-whole, repeats-more, covers-put, some-shifted, first_covers, size_some}
 use Rattle.rustc_abi.proofs.padding.repeated.Goals as goal
 

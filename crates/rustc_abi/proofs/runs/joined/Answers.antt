@@ -1,4 +1,4 @@
-use Rattle.std.proofs.Common.{◌≡◌, ◌++◌, ℕ, ◌<◌, ◌≤◌, All, length, get_or, take, arith, rules, ap, sym, ◌∙◌, subst}
+use Rattle.std.proofs.Common.{◌≡◌, ◌++◌, ℕ, ◌<◌, ◌≤◌, length, get_or, take, arith, rules, ap, sym, ◌∙◌, subst}
 use Rattle.std.proofs.lemmas.List.{get_or_default, take_all, append-nil}
 use Rattle.std.proofs.lemmas.List.Sorted.{IsNonDecreasingBy-from_sort_by_key, All-permutation, list_any-IsPermutation}
 use Rattle.rustc_abi.specs.declared.runs.Run.{Run}
