@@ -1,3 +1,5 @@
+pub mod Size
+pub mod Align
 pub mod Integer
 pub mod Float
 pub mod Primitive

@@ -13,7 +13,7 @@ mod size;
 mod struct_kind;
 
 pub use address_space::AddressSpace;
-pub use align::{AbiAlign, Align};
+pub use align::{AbiAlign, Align, AlignFromBytesError};
 pub use data_layout::{AddressSpaces, HasDataLayout, PointerSpec, TargetDataLayout, VectorAligns};
 pub use endian::Endian;
 pub use float::Float;
