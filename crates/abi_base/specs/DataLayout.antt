@@ -8,7 +8,7 @@ use Rattle.abi_base.specs.declared.address_space.AddressSpace.{AddressSpace}
 use Rattle.abi_base.specs.declared.data_layout.PointerSpec.{PointerSpec}
 use Rattle.abi_base.specs.declared.data_layout.TargetDataLayout.{TargetDataLayout}
 use Rattle.abi_base.specs.declared.integer.Integer.{Integer}
-use Rattle.abi_base.specs.declared.integer.Integer.TheVariants.{I32}
+use Rattle.abi_base.specs.declared.integer.Integer.TheVariants.{I16, I32, I64}
 use Rattle.abi_base.specs.declared.endian.Endian.TheVariants.{Big}
 use Rattle.abi_base.specs.declared.float.Float.{Float}
 use Rattle.abi_base.specs.Integer.{integer_size, integer_align}
@@ -45,6 +45,10 @@ size_bound dl = bound_of_pointer dl.default_address_space_pointer_spec.pointer_s
 -- 16, 32 or 64 bits
 abbrev pub IsPointerWidth : ℕ → Type 0
 IsPointerWidth bytes = (bytes ≡ 2) ⊎ (bytes ≡ 4) ⊎ (bytes ≡ 8)
+
+-- the integer as wide as an index of so many bytes
+abbrev pub index_integer : ℕ → Integer
+index_integer bytes = if bytes == 2 then I16 else (if bytes == 4 then I32 else I64)
 
 -- the listed alignment of vectors of a size: the first of that size
 abbrev pub listed_align : List (ℕ × ℕ) → ℕ → Option ℕ

@@ -5,3 +5,5 @@ pub mod Float
 pub mod Primitive
 pub mod DataLayout
 pub mod Endian
+pub mod IntegerType
+pub mod Numeric

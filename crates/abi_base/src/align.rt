@@ -1,6 +1,6 @@
 //! Alignments: powers of two, in bytes.
 
-ghost use Rattle.std.specs.Prelude.{◌≡◌, ◌≢◌, ℕ, ◌<◌, ◌≤◌, ◌-◌, ◌*◌, ◌^◌, min, max, ◌↔◌, IsTrue, nat_lt, if◌then◌else◌, codes, ◌++◌, Some};
+ghost use Rattle.std.specs.Prelude.{◌≡◌, ◌≢◌, ℕ, ◌<◌, ◌≤◌, ◌-◌, ◌*◌, ◌^◌, min, max, ◌↔◌, IsTrue, ◌==◌, nat_le, nat_lt, if◌then◌else◌, codes, ◌++◌, Some};
 ghost use Rattle.std.specs.Int.{◌∣◌, div_ceil};
 ghost use Rattle.std.specs.Fmt.{decimal};
 ghost use Rattle.abi_base.specs.declared.align.AlignFromBytesError.TheVariants.{NotPowerOfTwo, TooLarge};
@@ -56,6 +56,20 @@ impl Align {
         ensures { IsTrue result ↔ self ≤ 29 }
     {
         self.pow2 <= 29
+    }
+
+    /// Whether the size is just so many bytes, whatever the exponent.
+    pub(crate) fn is_size(self, size: Size) -> bool
+        ensures { result ≡ (size == 2 ^ self) }
+    {
+        u128::from(size.bytes()) == self.wide_bytes()
+    }
+
+    /// Whether the size is at most so many bytes, whatever the exponent.
+    pub(crate) fn holds(self, size: Size) -> bool
+        ensures { result ≡ nat_le size (2 ^ self) }
+    {
+        u128::from(size.bytes()) <= self.wide_bytes()
     }
 
     /// Whether so many bytes are a multiple of it, whatever the exponent.

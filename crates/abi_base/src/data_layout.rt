@@ -7,7 +7,7 @@ ghost use Rattle.abi_base.specs.declared.integer.Integer.{Integer};
 ghost use Rattle.abi_base.specs.declared.float.Float.{Float};
 ghost use Rattle.abi_base.specs.Integer.{integer_size, integer_align};
 ghost use Rattle.abi_base.specs.Float.{float_size, float_align};
-ghost use Rattle.abi_base.specs.DataLayout.{IsPointerWidth, Knows, HasLawfulPointer, IsLawfulSpec, IsLawfulDataLayout, HasLawfulDefault, alignments_of, scalar_alignments_of, bound_of_pointer, default_data_layout, entry_of, known_spec, listed_align, pointer_spec_of, size_bound};
+ghost use Rattle.abi_base.specs.DataLayout.{IsPointerWidth, Knows, HasLawfulPointer, IsLawfulSpec, IsLawfulDataLayout, HasLawfulDefault, alignments_of, scalar_alignments_of, bound_of_pointer, default_data_layout, entry_of, index_integer, known_spec, listed_align, pointer_spec_of, size_bound};
 
 use crate::address_space::AddressSpace;
 use crate::align::Align;
@@ -294,7 +294,8 @@ impl TargetDataLayout {
     /// The integer as wide as an index.
     pub fn ptr_sized_integer(&self) -> Integer
         requires { IsPointerWidth self.now.default_address_space_pointer_spec.pointer_offset }
-        ensures { integer_size result ≡ self.now.default_address_space_pointer_spec.pointer_offset }
+        ensures value { result ≡ index_integer self.now.default_address_space_pointer_spec.pointer_offset }
+        ensures size { integer_size result ≡ self.now.default_address_space_pointer_spec.pointer_offset }
     {
         integer_of(self.pointer_offset())
     }
@@ -303,7 +304,8 @@ impl TargetDataLayout {
     pub fn ptr_sized_integer_in(&self, space: AddressSpace) -> Integer
         requires known { Knows self.now space }
         requires width { IsPointerWidth (pointer_spec_of self.now space).pointer_offset }
-        ensures { integer_size result ≡ (pointer_spec_of self.now space).pointer_offset }
+        ensures value { result ≡ index_integer (pointer_spec_of self.now space).pointer_offset }
+        ensures size { integer_size result ≡ (pointer_spec_of self.now space).pointer_offset }
     {
         integer_of(self.pointer_offset_in(space))
     }
@@ -480,7 +482,8 @@ fn bound_of(pointer: Size) -> u64
 /// The integer of the size.
 fn integer_of(size: Size) -> Integer
     requires { IsPointerWidth size }
-    ensures { integer_size result ≡ size }
+    ensures value { result ≡ index_integer size }
+    ensures size { integer_size result ≡ size }
 {
     match size.bytes() {
         2 => Integer::I16,

@@ -1,24 +1,34 @@
 //! Sizes, alignments, primitive types, and what a data layout says of them.
 #![tactic(auto)]
 
+mod abi_from_str_err;
 mod address_space;
 mod align;
 mod data_layout;
 mod endian;
 mod float;
 mod integer;
+mod niche_optimizations;
+mod numeric;
+mod pointee;
 mod primitive;
 mod scalable;
+mod simd;
 mod size;
 mod struct_kind;
 
+pub use abi_from_str_err::AbiFromStrErr;
 pub use address_space::AddressSpace;
 pub use align::{AbiAlign, Align, AlignFromBytesError};
 pub use data_layout::{AddressSpaces, HasDataLayout, PointerSpec, TargetDataLayout, VectorAligns};
-pub use endian::Endian;
+pub use endian::{Endian, UnknownEndian, UnknownEndianText};
 pub use float::Float;
-pub use integer::{Integer, IntegerType};
+pub use integer::{Integer, IntegerType, NoSuchInteger};
+pub use niche_optimizations::NicheOptimizations;
+pub use numeric::Numeric;
+pub use pointee::{PointeeInfo, PointerKind};
 pub use primitive::Primitive;
 pub use scalable::{NumScalableVectors, ScalableElt};
+pub use simd::MAX_SIMD_LANES;
 pub use size::Size;
 pub use struct_kind::StructKind;
