@@ -1,10 +1,11 @@
 -- Powers of two, and the greatest that divides a number.
 use Rattle.std.proofs.Common.{◌≡◌, ℕ, zero, suc, ◌+◌, ◌-◌, ◌*◌, ◌/◌, ◌%◌, ◌^◌, ◌≤◌, ◌<◌, refl, sym, ◌∙◌, ap, subst, arith, rules}
 use Rattle.std.specs.Int.{◌∣◌}
-use Rattle.std.specs.Int.Count.{count_trailing_zeros, under}
+use Rattle.std.specs.Int.Count.{count_trailing_zeros, count_leading_zeros, under}
+use Rattle.abi_base.specs.Align.{next_exponent, IsLeastPower}
 use Rattle.std.proofs.Math.Nat.{one-dvd, dvd-mul_right, dvd-mul_left, pow-le-pow_right, pow-succ', div-mul_cancel, mul_assoc, pow-zero, mul-dvd-mul_left, dvd_of_mul-dvd-mul_left}
 use Rattle.std.proofs.Math.Pow.{pow-lt}
-use Rattle.std.proofs.lemmas.Nat.{pow_pos}
+use Rattle.std.proofs.lemmas.Nat.{pow_pos, leading_length}
 use Rattle.std.proofs.lemmas.Nat.Gcd.{dvd_refl, dvd_trans, le_of_dvd, dvd_of_mod-eq-zero, mod-eq-zero_of_dvd}
 
 even_half : (n : ℕ) → n % 2 ≡ 0 → 2 * (n / 2) ≡ n
@@ -55,3 +56,20 @@ exponent_is n j l e =
     let up : j ≤ count_trailing_zeros 64 n = factor_greatest 64 n j low (subst (λ (m : ℕ). 2 ^ j ∣ m) (sym e) (dvd_refl (2 ^ j))) in
     let down : count_trailing_zeros 64 n ≤ j = exponent_le (count_trailing_zeros 64 n) j (subst (λ (m : ℕ). 2 ^ count_trailing_zeros 64 n ≤ m) e (le_of_dvd (subst (λ (m : ℕ). 0 < m) (sym e) (pow_pos j)) (factor_divides 64 n))) in
     omega (arith, up, down)
+
+least_below : (n m k : ℕ) → 2 ^ m ≤ 2 * (n - 1) + 1 → n ≤ 2 ^ k → m ≤ k
+least_below n zero k low h = omega arith
+least_below n (suc m) k low h = grind (arith, pow-lt {i = k} {j = suc m}, pow-succ' 2 m, exponent_le m k)
+
+least_at : (n m e : ℕ) → e ≡ m → n - 1 < 2 ^ m → 2 ^ m ≤ 2 * (n - 1) + 1 → IsLeastPower n e
+least_at n m e same up low = record {
+  holds = subst (λ (j : ℕ). n ≤ 2 ^ j) (sym same) (omega (arith, up));
+  least = λ k h. subst (λ (j : ℕ). j ≤ k) (sym same) (least_below n m k low h);
+}
+
+-- the power past a number's digits is the least that is greater
+pub least_power : (n : ℕ) → n ≤ 2 ^ 64 → IsLeastPower n (next_exponent n)
+least_power n l =
+    let top : n - 1 < 2 ^ 64 = omega (arith, l) in
+    let d : (m : ℕ) × (count_leading_zeros 64 (n - 1) + m ≡ 64) × (n - 1 < 2 ^ m) × (2 ^ m ≤ 2 * (n - 1) + 1) = leading_length 64 (n - 1) top in
+    least_at n d.0 (next_exponent n) (omega (arith, d.1)) d.2 d.3

@@ -4,7 +4,7 @@ ghost use Rattle.std.specs.Prelude.{◌≡◌, ◌≢◌, ℕ, ◌<◌, ◌≤�
 ghost use Rattle.std.specs.Int.{◌∣◌, div_ceil};
 ghost use Rattle.std.specs.Fmt.{decimal};
 ghost use Rattle.abi_base.specs.declared.align.AlignFromBytesError.TheVariants.{NotPowerOfTwo, TooLarge};
-ghost use Rattle.abi_base.specs.Align.{align_of_bytes, align_error_text, factor_exponent};
+ghost use Rattle.abi_base.specs.Align.{align_of_bytes, align_error_text, factor_exponent, next_exponent, IsLeastPower};
 
 use crate::data_layout::TargetDataLayout;
 use crate::size::Size;
@@ -49,6 +49,17 @@ impl Align {
         ensures { result ≡ pow2 }
     {
         Align { pow2 }
+    }
+
+    /// The least power of two that is no less than the size.
+    pub(crate) fn next_power(size: Size) -> Align
+        ensures value { result ≡ next_exponent size }
+        ensures law { IsLeastPower size result }
+    {
+        let below = size.bytes().saturating_sub(1);
+        Align {
+            pow2: (64 - below.leading_zeros()) as u8,
+        }
     }
 
     /// Whether it is no greater than `MAX`.

@@ -1,13 +1,14 @@
 //! What a target says of its types: alignments, pointers, byte order.
 
-ghost use Rattle.std.specs.Prelude.{◌≡◌, ℕ, ◌^◌, ◌≤◌, ◌↔◌, IsTrue, IfOk, All, map, None};
+ghost use Rattle.std.specs.Prelude.{◌≡◌, ℕ, ◌^◌, ◌≤◌, ◌↔◌, IsTrue, IfOk, All, None, Some};
 ghost use Rattle.std.specs.Int.{◌∣◌};
 ghost use Rattle.abi_base.specs.declared.data_layout.TargetDataLayout.{TargetDataLayout};
 ghost use Rattle.abi_base.specs.declared.integer.Integer.{Integer};
 ghost use Rattle.abi_base.specs.declared.float.Float.{Float};
 ghost use Rattle.abi_base.specs.Integer.{integer_size, integer_align};
 ghost use Rattle.abi_base.specs.Float.{float_size, float_align};
-ghost use Rattle.abi_base.specs.DataLayout.{IsPointerWidth, Knows, HasLawfulPointer, IsLawfulSpec, IsLawfulDataLayout, HasLawfulDefault, alignments_of, scalar_alignments_of, bound_of_pointer, default_data_layout, entry_of, index_integer, known_spec, listed_align, pointer_spec_of, size_bound};
+ghost use Rattle.abi_base.specs.Align.{IsLeastPower};
+ghost use Rattle.abi_base.specs.DataLayout.{IsPointerWidth, Knows, HasLawfulPointer, IsLawfulSpec, IsLawfulDataLayout, HasLawfulDefault, alignments_of, scalar_alignments_of, bound_of_pointer, default_data_layout, entry_of, index_integer, known_spec, listed_align, pointer_spec_of, size_bound, vector_align_of};
 
 use crate::address_space::AddressSpace;
 use crate::align::Align;
@@ -353,6 +354,20 @@ impl TargetDataLayout {
         ensures { result ≡ (pointer_spec_of self.now space).pointer_align }
     {
         self.known_spec_in(space).pointer_align
+    }
+
+    /// The alignment of a vector of the size: the listed one, else the next power of two.
+    /// Where the size is unlisted, that power has to be at most 2^29 bytes.
+    pub fn rust_vector_align(&self, size: Size) -> Align
+        requires { listed_align self.now.vector_align size ≡ None → size ≤ 2 ^ 29 }
+        ensures value { result ≡ vector_align_of self.now size }
+        ensures listed { (align : ℕ) → listed_align self.now.vector_align size ≡ Some align → result ≡ align }
+        ensures unlisted { listed_align self.now.vector_align size ≡ None → IsLeastPower size result }
+    {
+        match self.vector_align.listed(size) {
+            Some(align) => align,
+            None => Align::next_power(size),
+        }
     }
 
     /// Whether types have layouts under it: each integer's and each float's size is a multiple of
