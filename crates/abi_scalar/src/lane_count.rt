@@ -1,5 +1,11 @@
 //! How many lanes a vector has.
 
+ghost use Rattle.std.specs.Prelude.{◌≡◌, ℕ, Result, IsTrue, ◌↔◌};
+ghost use Rattle.std.specs.Int.{IsPowerOfTwo};
+ghost use Rattle.abi_scalar.specs.LaneCount.{lane_count};
+
+use crate::error::LayoutCalculatorError;
+use abi_base::MAX_SIMD_LANES;
 use std::marker::Model;
 
 /// How many lanes a vector has: 1 to 32768.
@@ -18,4 +24,44 @@ impl Model for BackendLaneCount {
     ghost inverse = { λ n. record { lanes = n } };
 
     ghost invariant = { λ a. (1 ≤ a.lanes) × (a.lanes ≤ 32768) };
+}
+
+impl BackendLaneCount {
+    /// So many lanes. `OversizedSimdType` above 32768, `ZeroLengthSimdType` for 0.
+    pub fn new<N>(count: u64) -> Result<BackendLaneCount, LayoutCalculatorError<N>>
+        ensures { result ≡ lane_count count }
+    {
+        if count > 32768 {
+            return Err(LayoutCalculatorError::OversizedSimdType {
+                max_lanes: MAX_SIMD_LANES,
+            });
+        }
+        if count == 0 {
+            return Err(LayoutCalculatorError::ZeroLengthSimdType);
+        }
+        Ok(BackendLaneCount {
+            lanes: count as u16,
+        })
+    }
+
+    /// Whether the number is a power of two.
+    pub fn is_power_of_two(self) -> bool
+        ensures { IsTrue result ↔ IsPowerOfTwo self }
+    {
+        self.lanes.is_power_of_two()
+    }
+
+    /// The number.
+    pub fn as_u64(self) -> u64
+        ensures { result ≡ self }
+    {
+        u64::from(self.lanes)
+    }
+
+    /// The number.
+    pub fn as_u32(self) -> u32
+        ensures { result ≡ self }
+    {
+        u32::from(self.lanes)
+    }
 }
