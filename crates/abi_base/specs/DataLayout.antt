@@ -5,7 +5,7 @@ use Rattle.std.specs.Ordering.{on, eq_of_both}
 use Rattle.std.specs.Prelude.{nat_eq}
 use Rattle.std.proofs.Math.Bool.{beq}
 use Rattle.abi_base.specs.declared.address_space.AddressSpace.{AddressSpace}
-use Rattle.abi_base.specs.declared.data_layout.PointerSpec.{PointerSpec}
+use Rattle.abi_base.specs.declared.pointer_spec.PointerSpec.{PointerSpec}
 use Rattle.abi_base.specs.declared.data_layout.TargetDataLayout.{TargetDataLayout}
 use Rattle.abi_base.specs.declared.integer.Integer.{Integer}
 use Rattle.abi_base.specs.declared.integer.Integer.TheVariants.{I16, I32, I64}
