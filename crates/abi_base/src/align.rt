@@ -298,3 +298,72 @@ impl Debug for AbiAlign {
         self.abi.fmt(f)
     }
 }
+
+#[cfg(test)]
+mod tests {
+    use super::*;
+    use std::test::Fail;
+
+    #[test]
+    fn reads_bytes_and_bits(rt: HostRuntime) {
+        assert_eq!(rt; Align::from_bytes(0), Ok(Align::ONE));
+        assert_eq!(rt; Align::from_bytes(1), Ok(Align::ONE));
+        assert_eq!(rt; Align::from_bytes(8), Ok(Align::EIGHT));
+        assert_eq!(rt; Align::from_bytes(1 << 29), Ok(Align::MAX));
+        assert_eq!(rt;
+            Align::from_bytes(3),
+            Err(AlignFromBytesError::NotPowerOfTwo(3))
+        );
+        assert_eq!(rt;
+            Align::from_bytes(1 << 30),
+            Err(AlignFromBytesError::TooLarge(1 << 30))
+        );
+        assert_eq!(rt; Align::from_bits(32), Ok(Align::FOUR));
+        assert_eq!(rt;
+            Align::from_bits(24),
+            Err(AlignFromBytesError::NotPowerOfTwo(3))
+        );
+    }
+
+    #[test]
+    fn finds_factors(rt: HostRuntime) {
+        assert_eq!(rt;
+            Align::max_aligned_factor(Size::from_bytes(24)),
+            Align::EIGHT
+        );
+        assert_eq!(rt;
+            Align::EIGHT.restrict_for_offset(Size::from_bytes(4)),
+            Align::FOUR
+        );
+        assert_eq!(rt;
+            Align::FOUR.restrict_for_offset(Size::from_bytes(24)),
+            Align::FOUR
+        );
+        assert_eq!(rt; Align::FOUR.restrict_for_offset(Size::ZERO), Align::FOUR);
+    }
+
+    #[test]
+    fn is_limited_by_the_target(rt: HostRuntime) -> Result<(), Fail> {
+        let mut dl = TargetDataLayout::default_in(rt.alloc())?;
+        assert_eq!(rt; Align::max_for_target(&dl), Align::MAX);
+        dl.default_address_space_pointer_spec.pointer_size = Size::from_bytes(2);
+        assert_eq!(rt; Align::max_for_target(&dl).bytes(), 1 << 15);
+        Ok(())
+    }
+
+    #[test]
+    fn is_written_in_bytes(rt: HostRuntime) -> Result<(), Fail> {
+        let text = format!(in rt.alloc(); "{:?} {:?}", Align::FOUR, AbiAlign::new(Align::EIGHT))?;
+        assert_eq!(rt; text.as_str(), "Align(4 bytes) Align(8 bytes)");
+        let not_power = AlignFromBytesError::NotPowerOfTwo(3);
+        let too_large = AlignFromBytesError::TooLarge(1 << 30);
+        let errors = format!(in rt.alloc();
+            "{not_power}, {not_power:?}, {too_large}, {too_large:?}"
+        )?;
+        assert_eq!(rt;
+            errors.as_str(),
+            "3 is not a power of 2, 3 is not a power of 2, 1073741824 is too large, 1073741824 is too large"
+        );
+        Ok(())
+    }
+}

@@ -283,3 +283,89 @@ impl HasDataLayout for &TargetDataLayout {
         *self
     }
 }
+
+#[cfg(test)]
+mod tests {
+    use super::*;
+    use std::test::Fail;
+
+    #[test]
+    fn has_defaults(rt: HostRuntime) -> Result<(), Fail> {
+        let dl = TargetDataLayout::default_in(rt.alloc())?;
+        assert_eq!(rt; dl.endian, Endian::Big);
+        let integers = [
+            dl.i1_align,
+            dl.i8_align,
+            dl.i16_align,
+            dl.i32_align,
+            dl.i64_align,
+            dl.i128_align,
+        ];
+        for (align, bytes) in integers.iter().zip([1, 1, 2, 4, 4, 4]) {
+            assert_eq!(rt; Align::from_bytes(bytes), Ok(*align));
+        }
+        let floats = [
+            dl.f16_align,
+            dl.f32_align,
+            dl.f64_align,
+            dl.f128_align,
+            dl.aggregate_align,
+        ];
+        for (align, bytes) in floats.iter().zip([2, 4, 8, 16, 1]) {
+            assert_eq!(rt; Align::from_bytes(bytes), Ok(*align));
+        }
+        let vectors = [
+            (Size::from_bytes(8), Align::EIGHT),
+            (Size::from_bytes(16), dl.f128_align),
+        ];
+        assert_eq!(rt; dl.vector_align.as_slice(), vectors.as_slice());
+        assert_eq!(rt; dl.default_address_space, AddressSpace::ZERO);
+        assert_eq!(rt; dl.instruction_address_space, AddressSpace::ZERO);
+        assert_eq!(rt; dl.c_enum_min_size, Integer::I32);
+        assert_eq!(rt; dl, TargetDataLayout::default_in(rt.alloc())?);
+        Ok(())
+    }
+
+    #[test]
+    fn has_pointers_of_64_bits(rt: HostRuntime) -> Result<(), Fail> {
+        let dl = TargetDataLayout::default_in(rt.alloc())?;
+        assert_eq!(rt; dl.pointer_size(), Size::from_bytes(8));
+        assert_eq!(rt; dl.pointer_offset(), Size::from_bytes(8));
+        assert_eq!(rt; dl.pointer_align(), Align::EIGHT);
+        assert_eq!(rt; dl.obj_size_bound(), 1 << 61);
+        assert_eq!(rt; dl.ptr_sized_integer(), Integer::I64);
+        assert!(rt; dl.knows(AddressSpace::ZERO));
+        assert!(rt; !dl.knows(AddressSpace(7)));
+        Ok(())
+    }
+
+    #[test]
+    fn aligns_vectors(rt: HostRuntime) -> Result<(), Fail> {
+        let dl = TargetDataLayout::default_in(rt.alloc())?;
+        for (size, bytes) in [(8, 8), (16, 16), (0, 1), (12, 16), (32, 32), (33, 64)] {
+            let align = dl.rust_vector_align(Size::from_bytes(size));
+            assert_eq!(rt; Align::from_bytes(bytes), Ok(align), "at {size}");
+        }
+        Ok(())
+    }
+
+    #[test]
+    fn knows_its_spaces(rt: HostRuntime) -> Result<(), Fail> {
+        let mut dl = TargetDataLayout::default_in(rt.alloc())?;
+        let spec = PointerSpec {
+            pointer_size: Size::from_bytes(16),
+            pointer_align: Align::EIGHT,
+            pointer_offset: Size::from_bytes(4),
+            is_fat: true,
+        };
+        dl.address_space_info.entries.push((AddressSpace(7), spec))?;
+        let space = AddressSpace(7);
+        assert!(rt; dl.knows(space));
+        assert_eq!(rt; dl.pointer_size_in(space), Size::from_bytes(16));
+        assert_eq!(rt; dl.pointer_align_in(space), Align::EIGHT);
+        assert_eq!(rt; dl.pointer_offset_in(space), Size::from_bytes(4));
+        assert_eq!(rt; dl.ptr_sized_integer_in(space), Integer::I32);
+        assert_eq!(rt; dl.obj_size_bound_in(AddressSpace::ZERO), 1 << 61);
+        Ok(())
+    }
+}

@@ -251,3 +251,64 @@ impl IntegerType {
         }
     }
 }
+
+#[cfg(test)]
+mod tests {
+    use super::*;
+    use crate::data_layout::TargetDataLayout;
+    use std::test::Fail;
+
+    #[test]
+    fn fits_numbers(rt: HostRuntime) {
+        assert_eq!(rt; Integer::fit_signed(-128), Integer::I8);
+        assert_eq!(rt; Integer::fit_signed(128), Integer::I16);
+        assert_eq!(rt; Integer::fit_signed(i128::MIN), Integer::I128);
+        assert_eq!(rt; Integer::fit_unsigned(255), Integer::I8);
+        assert_eq!(rt; Integer::fit_unsigned(256), Integer::I16);
+        assert_eq!(rt; Integer::fit_unsigned(1 << 64), Integer::I128);
+        assert_eq!(rt; Integer::I16.signed_min(), -32768);
+        assert_eq!(rt; Integer::I16.signed_max(), 32767);
+    }
+
+    #[test]
+    fn goes_by_alignment_and_size(rt: HostRuntime) -> Result<(), Fail> {
+        let dl = TargetDataLayout::default_in(rt.alloc())?;
+        assert_eq!(rt; Integer::for_align(&dl, Align::FOUR), Some(Integer::I32));
+        assert_eq!(rt; Integer::for_align(&dl, Align::EIGHT), None);
+        assert_eq!(rt; Integer::approximate_align(&dl, Align::ONE), Integer::I8);
+        assert_eq!(rt; Integer::approximate_align(&dl, Align::FOUR), Integer::I32);
+        assert_eq!(rt; Integer::approximate_align(&dl, Align::EIGHT), Integer::I64);
+        Ok(())
+    }
+
+    #[test]
+    fn goes_by_attribute(rt: HostRuntime) -> Result<(), Fail> {
+        let dl = TargetDataLayout::default_in(rt.alloc())?;
+        assert_eq!(rt;
+            Integer::from_attr(&dl, IntegerType::Pointer(true)),
+            Integer::I64
+        );
+        assert_eq!(rt;
+            Integer::from_attr(&dl, IntegerType::Fixed(Integer::I16, false)),
+            Integer::I16
+        );
+        assert!(rt; IntegerType::Pointer(true).is_signed());
+        assert!(rt; !IntegerType::Fixed(Integer::I8, false).is_signed());
+        Ok(())
+    }
+
+    #[test]
+    fn goes_by_size(rt: HostRuntime) -> Result<(), Fail> {
+        assert_eq!(rt; Integer::from_size(Size::from_bytes(16)), Ok(Integer::I128));
+        assert_eq!(rt;
+            Integer::from_size(Size::from_bytes(3)),
+            Err(NoSuchInteger(24))
+        );
+        let text = format!(in rt.alloc(); "{}", NoSuchInteger(24))?;
+        assert_eq!(rt;
+            text.as_str(),
+            "rust does not support integers with 24 bits"
+        );
+        Ok(())
+    }
+}

@@ -133,3 +133,69 @@ fn is_pointer_width(size: Size) -> bool
     let bytes = size.bytes();
     bytes == 2 || bytes == 4 || bytes == 8
 }
+
+#[cfg(test)]
+mod tests {
+    use super::*;
+    use crate::address_space::AddressSpace;
+    use crate::pointer_spec::PointerSpec;
+    use std::test::Fail;
+
+    #[test]
+    fn asks_each_law(rt: HostRuntime) -> Result<(), Fail> {
+        let mut dl = TargetDataLayout::default_in(rt.alloc())?;
+        assert!(rt; dl.is_lawful());
+        dl.i8_align = Align::FOUR;
+        assert!(rt; !dl.is_lawful(), "an integer");
+        dl.i8_align = Align::ONE;
+        dl.f32_align = Align::EIGHT;
+        assert!(rt; !dl.is_lawful(), "a float");
+        dl.f32_align = Align::FOUR;
+        dl.aggregate_align = Align::exponent(30);
+        assert!(rt; !dl.is_lawful(), "the limit");
+        dl.aggregate_align = Align::MAX;
+        assert!(rt; dl.is_lawful());
+        Ok(())
+    }
+
+    #[test]
+    fn asks_of_the_default_pointers(rt: HostRuntime) -> Result<(), Fail> {
+        let mut dl = TargetDataLayout::default_in(rt.alloc())?;
+        for (size, align, offset, lawful) in [
+            (8, Align::EIGHT, 8, true),
+            (4, Align::FOUR, 2, true),
+            (16, Align::EIGHT, 8, false),
+            (8, Align::EIGHT, 3, false),
+            (4, Align::EIGHT, 4, false),
+        ] {
+            dl.default_address_space_pointer_spec = PointerSpec {
+                pointer_size: Size::from_bytes(size),
+                pointer_align: align,
+                pointer_offset: Size::from_bytes(offset),
+                is_fat: false,
+            };
+            assert_eq!(rt; dl.is_lawful(), lawful, "at {size}");
+        }
+        Ok(())
+    }
+
+    #[test]
+    fn asks_of_a_space(rt: HostRuntime) -> Result<(), Fail> {
+        let mut dl = TargetDataLayout::default_in(rt.alloc())?;
+        let zero = AddressSpace::ZERO;
+        assert!(rt; dl.has_lawful_pointer(zero));
+        assert!(rt; !dl.has_lawful_pointer(AddressSpace(7)), "an unknown space");
+        for (size, align, lawful) in [
+            (16, Align::EIGHT, true),
+            (1, Align::ONE, true),
+            (0, Align::ONE, false),
+            (17, Align::ONE, false),
+            (12, Align::EIGHT, false),
+        ] {
+            dl.default_address_space_pointer_spec.pointer_size = Size::from_bytes(size);
+            dl.default_address_space_pointer_spec.pointer_align = align;
+            assert_eq!(rt; dl.has_lawful_pointer(zero), lawful, "at {size}");
+        }
+        Ok(())
+    }
+}

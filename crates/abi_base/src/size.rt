@@ -280,3 +280,80 @@ impl Debug for Size {
         write!(f, "Size({} bytes)", self.raw)
     }
 }
+
+#[cfg(test)]
+mod tests {
+    use super::*;
+    use crate::data_layout::TargetDataLayout;
+    use std::test::Fail;
+
+    #[test]
+    fn converts_bits(rt: HostRuntime) {
+        for (bits, bytes) in [(0, 0), (1, 1), (8, 1), (9, 2), (u64::MAX, 1 << 61)] {
+            assert_eq!(rt; Size::from_bits(bits).bytes(), bytes, "at {bits}");
+        }
+        assert_eq!(rt; Size::from_bytes(3).bits(), 24);
+        assert_eq!(rt; Size::from_bytes(3).bits_usize(), 24);
+        assert_eq!(rt; Size::from_bytes(3).bytes_usize(), 3);
+    }
+
+    #[test]
+    fn rounds_up(rt: HostRuntime) {
+        assert_eq!(rt;
+            Size::from_bytes(5).align_to(Align::FOUR),
+            Size::from_bytes(8)
+        );
+        assert_eq!(rt;
+            Size::from_bytes(8).align_to(Align::FOUR),
+            Size::from_bytes(8)
+        );
+        assert!(rt; Size::from_bytes(8).is_aligned(Align::FOUR));
+        assert!(rt; !Size::from_bytes(6).is_aligned(Align::FOUR));
+    }
+
+    #[test]
+    fn extends_signs(rt: HostRuntime) {
+        assert_eq!(rt; Size::ZERO.sign_extend(5), 0);
+        assert_eq!(rt; Size::from_bytes(1).sign_extend(0x17F), 127);
+        assert_eq!(rt; Size::from_bytes(1).sign_extend(0x80), -128);
+        assert_eq!(rt;
+            Size::from_bytes(8).sign_extend(1 << 63),
+            -0x8000_0000_0000_0000
+        );
+        assert_eq!(rt; Size::from_bytes(16).sign_extend(u128::MAX), -1);
+        assert_eq!(rt; Size::ZERO.truncate(5), 0);
+        assert_eq!(rt; Size::from_bytes(1).truncate(0x17F), 0x7F);
+        assert_eq!(rt; Size::from_bytes(16).truncate(u128::MAX), u128::MAX);
+    }
+
+    #[test]
+    fn knows_the_limits_of_integers(rt: HostRuntime) {
+        let byte = Size::from_bytes(1);
+        assert_eq!(rt; byte.signed_int_min(), -128);
+        assert_eq!(rt; byte.signed_int_max(), 127);
+        assert_eq!(rt; byte.unsigned_int_max(), 255);
+        let widest = Size::from_bytes(16);
+        assert_eq!(rt; widest.signed_int_min(), i128::MIN);
+        assert_eq!(rt; widest.signed_int_max(), i128::MAX);
+        assert_eq!(rt; widest.unsigned_int_max(), u128::MAX);
+    }
+
+    #[test]
+    fn stays_below_the_bound(rt: HostRuntime) -> Result<(), Fail> {
+        let dl = TargetDataLayout::default_in(rt.alloc())?;
+        let last = Size::from_bytes((1 << 61) - 1);
+        assert_eq!(rt; last.checked_add(Size::ZERO, &dl), Some(last));
+        assert_eq!(rt; last.checked_add(Size::from_bytes(1), &dl), None);
+        assert_eq!(rt; last.checked_mul(1, &dl), Some(last));
+        assert_eq!(rt; Size::from_bytes(1 << 60).checked_mul(2, &dl), None);
+        assert_eq!(rt; Size::from_bytes(1 << 60).checked_mul(1 << 60, &dl), None);
+        Ok(())
+    }
+
+    #[test]
+    fn is_written_in_bytes(rt: HostRuntime) -> Result<(), Fail> {
+        let text = format!(in rt.alloc(); "{:?}", Size::from_bytes(4))?;
+        assert_eq!(rt; text.as_str(), "Size(4 bytes)");
+        Ok(())
+    }
+}
