@@ -65,3 +65,29 @@ impl BackendLaneCount {
         u32::from(self.lanes)
     }
 }
+
+#[cfg(test)]
+mod tests {
+    use super::*;
+    use std::test::Fail;
+
+    #[test]
+    fn counts_lanes(rt: HostRuntime) -> Result<(), Fail> {
+        let none: Result<BackendLaneCount, LayoutCalculatorError<u8>> = BackendLaneCount::new(0);
+        assert_eq!(rt; none, Err(LayoutCalculatorError::ZeroLengthSimdType));
+        let many: Result<BackendLaneCount, LayoutCalculatorError<u8>> = BackendLaneCount::new(
+            32769,
+        );
+        assert_eq!(rt;
+            many,
+            Err(LayoutCalculatorError::OversizedSimdType { max_lanes: 32768 })
+        );
+        for (count, power) in [(1, true), (3, false), (32768, true)] {
+            let lanes = BackendLaneCount::new::<u8>(count)?;
+            assert_eq!(rt; lanes.as_u64(), count);
+            assert_eq!(rt; u64::from(lanes.as_u32()), count);
+            assert_eq!(rt; lanes.is_power_of_two(), power, "at {count}");
+        }
+        Ok(())
+    }
+}

@@ -179,3 +179,99 @@ impl ReprOptions {
             & (self.scalable == other.scalable)
     }
 }
+
+#[cfg(test)]
+mod tests {
+    use super::*;
+    use abi_base::Integer;
+    use std::test::Fail;
+
+    #[test]
+    fn flags_are_written_by_name(rt: HostRuntime) -> Result<(), Fail> {
+        for (bits, text) in [
+            (0, ""),
+            (1, "IS_C"),
+            (3, "IS_C | IS_SIMD"),
+            (75, "IS_C | IS_SIMD | IS_LINEAR | IS_SCALABLE"),
+            (
+                52,
+                "IS_TRANSPARENT | RANDOMIZE_LAYOUT | PASS_INDIRECTLY_IN_NON_RUSTIC_ABIS",
+            ),
+            (128, "0x80"),
+        ] {
+            let written = format!(in rt.alloc(); "{:?}", ReprFlags::from_bits_retain(bits))?;
+            assert_eq!(rt; written.as_str(), text);
+        }
+        Ok(())
+    }
+
+    #[test]
+    fn asks_for_nothing_by_default(rt: HostRuntime) {
+        let repr = ReprOptions::default();
+        assert_eq!(rt; repr.flags.bits(), 0);
+        assert!(rt; repr.rust());
+        assert!(rt; !repr.packed());
+        assert!(rt; !repr.inhibit_enum_layout_opt());
+        assert!(rt; !repr.inhibit_struct_field_reordering());
+        assert!(rt; !repr.inhibit_newtype_abi_optimization());
+        assert_eq!(rt; repr.discr_type(), IntegerType::Pointer(true));
+    }
+
+    #[test]
+    fn reads_each_flag(rt: HostRuntime) {
+        for (bits, c, simd, transparent, linear, scalable, rust) in [
+            (1, true, false, false, false, false, false),
+            (2, false, true, false, false, false, false),
+            (4, false, false, true, false, false, false),
+            (8, false, false, false, true, false, true),
+            (64, false, false, false, false, true, false),
+        ] {
+            let mut repr = ReprOptions::default();
+            repr.flags = ReprFlags::from_bits_retain(bits);
+            assert_eq!(rt; repr.c(), c, "at {bits}");
+            assert_eq!(rt; repr.simd(), simd, "at {bits}");
+            assert_eq!(rt; repr.transparent(), transparent, "at {bits}");
+            assert_eq!(rt; repr.linear(), linear, "at {bits}");
+            assert_eq!(rt; repr.scalable(), scalable, "at {bits}");
+            assert_eq!(rt; repr.rust(), rust, "at {bits}");
+            assert_eq!(rt; repr.inhibits_union_abi_opt(), c, "at {bits}");
+        }
+    }
+
+    #[test]
+    fn fixes_the_order(rt: HostRuntime) {
+        for (bits, fixed) in [
+            (1, true),
+            (2, true),
+            (4, false),
+            (8, true),
+            (16, false),
+            (32, false),
+            (64, true),
+        ] {
+            let mut repr = ReprOptions::default();
+            repr.flags = ReprFlags::from_bits_retain(bits);
+            assert_eq!(rt; repr.inhibit_struct_field_reordering(), fixed, "at {bits}");
+            assert_eq!(rt;
+                repr.inhibit_newtype_abi_optimization(),
+                bits < 3,
+                "at {bits}"
+            );
+            assert_eq!(rt; repr.can_randomize_type_layout(), bits == 16, "at {bits}");
+        }
+    }
+
+    #[test]
+    fn reads_the_integer(rt: HostRuntime) {
+        let mut repr = ReprOptions::default();
+        repr.int = Some(IntegerType::Fixed(Integer::I8, false));
+        assert_eq!(rt; repr.discr_type(), IntegerType::Fixed(Integer::I8, false));
+        assert!(rt; repr.inhibit_enum_layout_opt());
+        assert!(rt; repr.inhibit_struct_field_reordering());
+        let mut other = repr;
+        other.field_shuffle_seed = Hash64::new(5);
+        assert!(rt; repr.equal_up_to_seed(&other));
+        other.int = None;
+        assert!(rt; !repr.equal_up_to_seed(&other));
+    }
+}
