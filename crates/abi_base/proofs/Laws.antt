@@ -1,5 +1,5 @@
 -- When a data layout is lawful.
-use Rattle.std.proofs.Common.{◌≡◌, ℕ, ◌^◌, ◌≤◌, ◌↔◌, IsTrue, Bool, true, false, ◌&&◌, Result, Ok, Err, IfOk, sym, subst, refl, List, [], ◌∷◌, ◌++◌, map, Option, Some, IsSome, unwrap_or, inl, inr, rules, arith}
+use Rattle.std.proofs.Common.{◌≡◌, ℕ, ◌^◌, ◌≤◌, ◌↔◌, IsTrue, Bool, true, false, ◌&&◌, Result, Ok, Err, IfOk, sym, subst, refl, List, [], ◌∷◌, ◌++◌, map, Option, Some, IsSome, unwrap_or, inr, rules}
 use Rattle.std.specs.List.{All}
 use Rattle.std.proofs.lemmas.List.Elements.{All-nil, All-cons, All-head, All-tail, All-append, All-map, All-from_recursion}
 use Rattle.std.proofs.lemmas.Nat.Gcd.{dvd_of_mod-eq-zero}
@@ -11,8 +11,7 @@ use Rattle.abi_base.specs.declared.float.Float.TheVariants.{F16, F16B, F32, F64,
 use Rattle.abi_base.specs.declared.data_layout.TargetDataLayout.{TargetDataLayout}
 use Rattle.abi_base.specs.Integer.{integer_size, integer_align}
 use Rattle.abi_base.specs.Float.{float_size, float_align}
-use Rattle.abi_base.specs.DataLayout.{IsLawfulDataLayout, HasLawfulDefault, alignments_of, default_data_layout, IsLawfulSpec, scalar_alignments_of}
-use Rattle.abi_base.specs.declared.address_space.AddressSpace.{AddressSpace}
+use Rattle.abi_base.specs.DataLayout.{IsLawfulDataLayout, HasLawfulDefault, alignments_of, default_data_layout, IsLawfulSpec}
 use Rattle.abi_base.specs.declared.pointer_spec.PointerSpec.{PointerSpec}
 
 integer_of : (dl : TargetDataLayout) → (2 ^ dl.i8_align ∣ 1) × (2 ^ dl.i16_align ∣ 2) × (2 ^ dl.i32_align ∣ 4) × (2 ^ dl.i64_align ∣ 8) × (2 ^ dl.i128_align ∣ 16) → (i : Integer) → 2 ^ integer_align dl i ∣ integer_size i
