@@ -97,3 +97,7 @@ each_list P f g xs vs bs b h = (
 -- a pointer that is known to be lawful
 pub known_lawful : (o : Option PointerSpec) (s d : PointerSpec) (b : Bool) → Some s ≡ o → (IsTrue b ↔ IsLawfulSpec s) → (IsTrue b ↔ IsSome o × IsLawfulSpec (unwrap_or o d))
 known_lawful o s d b e h = subst (λ (q : Option PointerSpec). IsTrue b ↔ IsSome q × IsLawfulSpec (unwrap_or q d)) e (λ t. (search rules, h.0 t), λ p. h.1 p.1)
+
+-- and of five
+pub all_five : {P Q R S T : Type 0} (a b d e f : Bool) → (IsTrue a ↔ P) → (IsTrue b ↔ Q) → (IsTrue d ↔ R) → (IsTrue e ↔ S) → (IsTrue f ↔ T) → (IsTrue (a && b && d && e && f) ↔ P × Q × R × S × T)
+all_five a b d e f h k m o q = let n = both (a && b && d && e) f (all_four a b d e h k m o) q in (λ t. ((n.0 t).0.0, (n.0 t).0.1, (n.0 t).0.2, (n.0 t).0.3, (n.0 t).1), λ p. n.1 ((p.0, p.1, p.2, p.3), p.4))
