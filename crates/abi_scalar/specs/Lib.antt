@@ -1,3 +1,6 @@
+pub mod Repr
+pub mod LaneCount
+pub mod LayoutError
 pub mod Range
 pub mod RangeText
 pub mod Scalar
