@@ -1,4 +1,5 @@
 pub mod Range
+pub mod Wraparound
 pub mod RangeText
 pub mod Scalar
 pub mod Niche

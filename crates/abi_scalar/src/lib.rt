@@ -25,4 +25,4 @@ pub use niche::Niche;
 pub use repr::{ReprFlags, ReprOptions};
 pub use scalar::Scalar;
 pub use variants::{RangeInclusive, TagEncoding, VariantLayout, Variants};
-pub use wrapping_range::WrappingRange;
+pub use wrapping_range::{RangeFull, WrappingRange};

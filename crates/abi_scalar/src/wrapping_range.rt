@@ -1,7 +1,8 @@
 //! Ranges of numbers that may wrap round.
 
-ghost use Rattle.std.specs.Prelude.{◌≡◌, ℕ, ◌≤◌, ◌-◌, ◌↔◌, IsTrue, Some};
-ghost use Rattle.abi_scalar.specs.Range.{numbers_of, IsFree, AreWithin, free_count, full_range};
+ghost use Rattle.std.specs.Prelude.{◌≡◌, ℕ, ◌≤◌, ◌<◌, ◌-◌, ◌↔◌, IsTrue, Some, IsErr, IfOk};
+ghost use Rattle.abi_scalar.specs.Range.{numbers_of, IsIn, IsBetween, IsFree, IsFull, Includes, AreWithin, free_count, full_range, steps_between};
+ghost use Rattle.abi_scalar.specs.Wraparound.{unsigned_place, signed_place, HasNoGap};
 ghost use Rattle.abi_scalar.specs.RangeText.{range_text};
 
 use abi_base::Size;
@@ -29,6 +30,47 @@ pub(crate) fn greatest_number(size: Size) -> u128
     }
 }
 
+/// Whether the number is met when counting from the start to the end.
+fn is_between(start: u128, end: u128, n: u128) -> bool
+    ensures { IsTrue result ↔ IsBetween start end n }
+{
+    if start <= end {
+        start <= n && n <= end
+    } else {
+        start <= n || n <= end
+    }
+}
+
+/// How many steps lead from one number of so many bytes to another, counting up.
+pub(crate) fn steps(start: u128, end: u128, size: Size) -> u128
+    requires some { 1 ≤ size }
+    requires most { size ≤ 16 }
+    requires start_within { start < numbers_of size }
+    requires end_within { end < numbers_of size }
+    ensures { result ≡ steps_between size start end }
+{
+    if start <= end {
+        end - start
+    } else {
+        greatest_number(size) - start + 1 + end
+    }
+}
+
+/// How many numbers of so many bytes are below this one, where they are read as signed.
+fn place(n: u128, size: Size) -> u128
+    requires some { 1 ≤ size }
+    requires most { size ≤ 16 }
+    requires within { n < numbers_of size }
+    ensures { result ≡ signed_place size n }
+{
+    let half = greatest_number(size) / 2 + 1;
+    if n < half { n + half } else { n - half }
+}
+
+/// A range with every number, of which it can't be said whether it wraps round.
+#[derive(Clone, Copy, PartialEq, Eq, Debug)]
+pub struct RangeFull;
+
 impl WrappingRange {
     /// Every number of so many bytes.
     pub fn full(size: Size) -> WrappingRange
@@ -39,6 +81,74 @@ impl WrappingRange {
         WrappingRange {
             start: 0,
             end: greatest_number(size),
+        }
+    }
+
+    /// Whether the number is in it, whatever width the ends and the number are read at.
+    pub fn contains(&self, v: u128) -> bool
+        ensures {
+            (width : ℕ) → AreWithin width self.now → v < numbers_of width
+            → (IsTrue result ↔ IsIn width self.now v)
+        }
+    {
+        is_between(self.start, self.end, v)
+    }
+
+    /// Whether each number of the other range is in this one.
+    pub fn contains_range(&self, other: WrappingRange, size: Size) -> bool
+        requires some { 1 ≤ size }
+        requires most { size ≤ 16 }
+        requires within { AreWithin size self.now }
+        requires other_within { AreWithin size other }
+        ensures { IsTrue result ↔ Includes size self.now other }
+    {
+        if self.is_full_for(size) {
+            return true;
+        }
+        let reach = steps(self.start, self.end, size);
+        let first = steps(self.start, other.start, size);
+        let last = steps(self.start, other.end, size);
+        first <= last && last <= reach
+    }
+
+    /// Whether it has every number of so many bytes. Ranges other than that of `full` are full too.
+    #[tactic(auto, using(crate::proofs::RangeLemmas::none_free, crate::proofs::RangeLemmas::full_none))]
+    pub fn is_full_for(&self, size: Size) -> bool
+        requires some { 1 ≤ size }
+        requires most { size ≤ 16 }
+        requires within { AreWithin size self.now }
+        ensures { IsTrue result ↔ IsFull size self.now }
+    {
+        self.free(size) == 0
+    }
+
+    /// Whether it has no gap when its numbers are read as unsigned; `RangeFull` where it has every number.
+    pub fn no_unsigned_wraparound(&self, size: Size) -> Result<bool, RangeFull>
+        requires some { 1 ≤ size }
+        requires most { size ≤ 16 }
+        requires within { AreWithin size self.now }
+        ensures full { IsErr result ↔ IsFull size self.now }
+        ensures gap { IfOk result (λ answer. IsTrue answer ↔ HasNoGap unsigned_place size self.now) }
+    {
+        if self.is_full_for(size) {
+            Err(RangeFull)
+        } else {
+            Ok(self.start <= self.end)
+        }
+    }
+
+    /// Whether it has no gap when its numbers are read as signed; `RangeFull` where it has every number.
+    pub fn no_signed_wraparound(&self, size: Size) -> Result<bool, RangeFull>
+        requires some { 1 ≤ size }
+        requires most { size ≤ 16 }
+        requires within { AreWithin size self.now }
+        ensures full { IsErr result ↔ IsFull size self.now }
+        ensures gap { IfOk result (λ answer. IsTrue answer ↔ HasNoGap signed_place size self.now) }
+    {
+        if self.is_full_for(size) {
+            Err(RangeFull)
+        } else {
+            Ok(place(self.start, size) <= place(self.end, size))
         }
     }
 
