@@ -1,3 +1,4 @@
 pub mod RangeLemmas
 pub mod LawfulLemmas
 pub mod GapLemmas
+pub mod ReserveLemmas

@@ -3,5 +3,7 @@ pub mod Wraparound
 pub mod RangeText
 pub mod Scalar
 pub mod Niche
+pub mod Reserve
 pub mod Lawful
 pub mod Simple
+pub mod Lending

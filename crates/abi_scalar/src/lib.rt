@@ -10,6 +10,7 @@ mod lawful;
 mod layout_data;
 mod niche;
 mod repr;
+mod reserve;
 mod scalar;
 mod simple;
 mod variants;

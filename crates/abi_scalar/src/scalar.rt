@@ -1,12 +1,14 @@
 //! Scalars: a primitive, and the numbers that it may hold.
 
 ghost use Rattle.std.specs.Prelude.{◌≡◌, ◌↔◌, IsTrue};
+ghost use Rattle.std.specs.Borrow.{sem};
 ghost use Rattle.abi_base.specs.Primitive.{KnowsPrimitive};
 ghost use Rattle.abi_scalar.specs.declared.scalar.Scalar.TheVariants.{Union};
-ghost use Rattle.abi_scalar.specs.Scalar.{primitive_of, scalar_size, scalar_align, range_of, IsUnion, IsReadable};
+ghost use Rattle.abi_scalar.specs.Scalar.{primitive_of, scalar_size, scalar_align, range_of, IsUnion, IsInitialized, IsBool, IsSignedInteger, IsAlwaysValid, IsReadable};
+ghost use Rattle.abi_scalar.specs.Lending.{LendsRange};
 
 use crate::wrapping_range::WrappingRange;
-use abi_base::{Align, HasDataLayout, Primitive, Size};
+use abi_base::{Align, HasDataLayout, Integer, Primitive, Size};
 
 /// A primitive, and the numbers that it may hold.
 #[derive(Clone, Copy, PartialEq, Eq, Hash, Debug)]
@@ -23,6 +25,19 @@ pub enum Scalar {
 }
 
 impl Scalar {
+    /// Whether it is an unsigned byte that holds 0 or 1.
+    pub fn is_bool(&self) -> bool
+        ensures { IsTrue result ↔ IsBool self.now }
+    {
+        match *self {
+            Scalar::Initialized {
+                value: Primitive::Int(Integer::I8, false),
+                valid_range,
+            } => valid_range.start == 0 && valid_range.end == 1,
+            _ => false,
+        }
+    }
+
     /// What it consists of, whatever numbers it may hold.
     pub fn primitive(&self) -> Primitive
         ensures { result ≡ primitive_of self.now }
@@ -75,6 +90,31 @@ impl Scalar {
         }
     }
 
+    /// Lends its range for writing, which a union's scalar doesn't have.
+    pub fn valid_range_mut(&mut self) -> &mut WrappingRange
+        requires { IsInitialized self.old }
+        ensures* { sem 𝓛 (LendsRange self.entry result) }
+    {
+        match self {
+            Scalar::Initialized {
+                value: _,
+                valid_range,
+            } => valid_range,
+            Scalar::Union { value: _ } => unreachable!(),
+        }
+    }
+
+    /// Whether it may hold every number of its bytes.
+    pub fn is_always_valid<C: HasDataLayout>(&self, cx: &C) -> bool
+        requires { IsReadable (C.target cx.now) self.now }
+        ensures { IsTrue result ↔ IsAlwaysValid (C.target cx.now) self.now }
+    {
+        match *self {
+            Scalar::Initialized { value, valid_range } => valid_range.is_full_for(value.size(cx)),
+            Scalar::Union { value: _ } => true,
+        }
+    }
+
     /// Whether it may be uninitialised, as only a union's scalar may.
     pub fn is_uninit_valid(&self) -> bool
         ensures { IsTrue result ↔ IsUnion self.now }
@@ -85,6 +125,17 @@ impl Scalar {
                 valid_range: _,
             } => false,
             Scalar::Union { value: _ } => true,
+        }
+    }
+
+    /// Whether it is a signed integer.
+    pub fn is_signed(&self) -> bool
+        ensures { IsTrue result ↔ IsSignedInteger (primitive_of self.now) }
+    {
+        match self.primitive() {
+            Primitive::Int(_, signed) => signed,
+            Primitive::Float(_) => false,
+            Primitive::Pointer(_) => false,
         }
     }
 }
