@@ -2,3 +2,4 @@ pub mod RangeLemmas
 pub mod LawfulLemmas
 pub mod GapLemmas
 pub mod ReserveLemmas
+pub mod CountLemmas

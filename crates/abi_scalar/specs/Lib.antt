@@ -1,4 +1,6 @@
 pub mod Range
+pub mod Count
+pub mod LeastRange
 pub mod Wraparound
 pub mod RangeText
 pub mod Scalar

@@ -2,7 +2,8 @@
 
 ghost use Rattle.std.specs.Prelude.{◌≡◌, ◌≤◌};
 ghost use Rattle.abi_base.specs.Primitive.{KnowsPrimitive};
-ghost use Rattle.abi_scalar.specs.Range.{AreWithin};
+ghost use Rattle.abi_scalar.specs.Count.{AreSoMany};
+ghost use Rattle.abi_scalar.specs.Range.{IsFree, AreWithin};
 ghost use Rattle.abi_scalar.specs.Scalar.{IsReadable};
 ghost use Rattle.abi_scalar.specs.Niche.{niche_size, available_in, niche_at, IsReadableNiche};
 
@@ -42,9 +43,13 @@ impl Niche {
     }
 
     /// How many numbers are free.
+    #[tactic(auto, using(crate::proofs::CountLemmas::free_counted))]
     pub fn available<C: HasDataLayout>(&self, cx: &C) -> u128
         requires { IsReadableNiche (C.target cx.now) self.now }
-        ensures { result ≡ available_in (C.target cx.now) self.now }
+        ensures exact { result ≡ available_in (C.target cx.now) self.now }
+        ensures count {
+            AreSoMany (IsFree (niche_size (C.target cx.now) self.now) self.now.valid_range) result
+        }
     {
         self.valid_range.free(self.value.size(cx))
     }
