@@ -3,3 +3,4 @@ pub mod LawfulLemmas
 pub mod GapLemmas
 pub mod ReserveLemmas
 pub mod CountLemmas
+pub mod LeastLemmas

@@ -8,6 +8,7 @@ mod handle;
 mod lane_count;
 mod lawful;
 mod layout_data;
+mod least_range;
 mod niche;
 mod repr;
 mod reserve;

@@ -1,0 +1,53 @@
+//! The least range that holds some values.
+
+ghost use Rattle.std.specs.Prelude.{◌≡◌, ◌≤◌, ◌<◌, [], length, All, IfOk, MatchOption};
+ghost use Rattle.std.specs.List.Sorted.{IsNonDecreasing};
+ghost use Rattle.abi_scalar.specs.Range.{numbers_of};
+ghost use Rattle.abi_scalar.specs.LeastRange.{IsLeastRange};
+
+use crate::wrapping_range::{WrappingRange, steps};
+use abi_base::Size;
+use std::alloc::{AllocError, Global};
+
+/// The least range that holds ascending values: from the least to the greatest, or round a gap between two
+/// neighbours.
+fn least_of_ascending(values: &[u128], size: Size) -> WrappingRange
+    requires some { 1 ≤ size }
+    requires most { size ≤ 16 }
+    requires any { 0 < length values.now }
+    requires within { All (λ v. v < numbers_of size) values.now }
+    requires ascending { IsNonDecreasing values.now }
+    ensures { IsLeastRange size values.now result }
+{
+    let mut best = WrappingRange {
+        start: values[0],
+        end: values[values.len() - 1],
+    };
+    let mut fewest = best.end - best.start;
+    for k in 1..values.len() {
+        let end = values[k - 1];
+        let start = values[k];
+        if end < start {
+            let reach = steps(start, end, size);
+            if reach < fewest {
+                best = WrappingRange { start, end };
+                fewest = reach;
+            }
+        }
+    }
+    best
+}
+
+/// The least range that holds the values; None for no values.
+fn least_range(mut values: Vec<u128>, size: Size) -> Option<WrappingRange>
+    requires some { 1 ≤ size }
+    requires most { size ≤ 16 }
+    requires within { All (λ v. v < numbers_of size) values.items }
+    ensures { MatchOption result (values.items ≡ []) (IsLeastRange size values.items) }
+{
+    if values.is_empty() {
+        return None;
+    }
+    values.sort_unstable();
+    Some(least_of_ascending(values.as_slice(), size))
+}
