@@ -2,6 +2,8 @@
 
 ghost use Rattle.std.specs.Prelude.{◌≡◌, ◌≤◌, ◌<◌, [], length, All, IfOk, MatchOption};
 ghost use Rattle.std.specs.List.Sorted.{IsNonDecreasing};
+ghost use Rattle.std.specs.Iterator.{IsFinite};
+ghost use Rattle.std.specs.Iterator.Runs.{EachRunFrom, WholeRun};
 ghost use Rattle.abi_scalar.specs.Range.{numbers_of};
 ghost use Rattle.abi_scalar.specs.LeastRange.{IsLeastRange};
 
@@ -50,4 +52,26 @@ fn least_range(mut values: Vec<u128>, size: Size) -> Option<WrappingRange>
     }
     values.sort_unstable();
     Some(least_of_ascending(values.as_slice(), size))
+}
+
+impl WrappingRange {
+    /// The least range of so many bytes that holds the values, which come in any order: the one with the fewest
+    /// numbers, of several such one that does not wrap round, else the one with the least end. None for no
+    /// values.
+    pub fn smallest_range_containing<I: Iterator<Item = u128>>(alloc: Global, values: I, size: Size) -> Result<Option<WrappingRange>, AllocError>
+    where
+        I: Drop,
+        requires some { 1 ≤ size }
+        requires most { size ≤ 16 }
+        requires can { I.can_next values }
+        requires ends { IsFinite (I.remaining values) }
+        requires within { EachRunFrom I.next_gives values (λ p. All (λ v. v < numbers_of size) p.items) }
+        ensures {
+            IfOk result (λ found. WholeRun I.next_gives values (λ p.
+                MatchOption found (p.items ≡ []) (IsLeastRange size p.items)))
+        }
+    {
+        let all: Vec<u128> = values.collect(alloc)?;
+        Ok(least_range(all, size))
+    }
 }
