@@ -92,6 +92,44 @@ impl Model for FieldIdx {
     ghost inverse = { λ n. record { raw = n } };
 }
 
+impl FieldIdx {
+    /// The first place.
+    pub const ZERO: FieldIdx = FieldIdx { raw: 0 };
+
+    /// The second place.
+    pub const ONE: FieldIdx = FieldIdx { raw: 1 };
+
+    /// The index of a place, at most 0xFFFF_FF00.
+    pub fn from_u32(value: u32) -> FieldIdx
+        requires { value ≤ 0xFFFF_FF00 }
+        ensures { result ≡ value }
+    {
+        FieldIdx { raw: value }
+    }
+
+    /// The index of a place, at most 0xFFFF_FF00.
+    pub fn from_usize(value: usize) -> FieldIdx
+        requires { value ≤ 0xFFFF_FF00 }
+        ensures { result ≡ value }
+    {
+        FieldIdx { raw: value as u32 }
+    }
+
+    /// The place that it names.
+    pub fn as_u32(self) -> u32
+        ensures { result ≡ self }
+    {
+        self.raw
+    }
+
+    /// The place that it names.
+    pub fn as_usize(self) -> usize
+        ensures { result ≡ self }
+    {
+        self.raw as usize
+    }
+}
+
 impl Idx for FieldIdx {
     ghost use Rattle.std.specs.Prelude.{refl};
     ghost use Rattle.std.proofs.Common.{rules};
@@ -144,6 +182,41 @@ impl Model for VariantIdx {
     ghost view = { λ a. a.raw };
 
     ghost inverse = { λ n. record { raw = n } };
+}
+
+impl VariantIdx {
+    /// The first place.
+    pub const ZERO: VariantIdx = VariantIdx { raw: 0 };
+
+    /// The index of a place, at most 0xFFFF_FF00.
+    pub fn from_u32(value: u32) -> VariantIdx
+        requires { value ≤ 0xFFFF_FF00 }
+        ensures { result ≡ value }
+    {
+        VariantIdx { raw: value }
+    }
+
+    /// The index of a place, at most 0xFFFF_FF00.
+    pub fn from_usize(value: usize) -> VariantIdx
+        requires { value ≤ 0xFFFF_FF00 }
+        ensures { result ≡ value }
+    {
+        VariantIdx { raw: value as u32 }
+    }
+
+    /// The place that it names.
+    pub fn as_u32(self) -> u32
+        ensures { result ≡ self }
+    {
+        self.raw
+    }
+
+    /// The place that it names.
+    pub fn as_usize(self) -> usize
+        ensures { result ≡ self }
+    {
+        self.raw as usize
+    }
 }
 
 impl Idx for VariantIdx {

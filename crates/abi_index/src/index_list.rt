@@ -1,15 +1,21 @@
 //! Lists whose places are named by an index type.
 
-ghost use Rattle.std.specs.Prelude.{◌≡◌, ℕ, ◌≤◌, ◌<◌, ◌+◌, List, [], ◌∷◌, ◌++◌, length, OnOk, OnErr, IfOk, IfSome, slice_get, Some};
+ghost use Rattle.std.specs.Prelude.{◌≡◌, ℕ, ◌≤◌, ◌<◌, ◌+◌, List, [], ◌∷◌, ◌++◌, length, OnOk, OnErr, IfOk, IfSome, slice_get, Some, map};
+ghost use Rattle.std.specs.List.{range_with_len};
+ghost use Rattle.std.specs.Slice.Iter.{iter_rest};
+ghost use Rattle.std.specs.Iterator.Adapters.{IterYieldsInOrder};
+ghost use Rattle.abi_index.specs.Indices.{indices_left, last_left};
 ghost use Rattle.std.specs.Option.{option_copied};
 ghost use Rattle.abi_index.specs.Slice.{items_of};
 
 use crate::idx::Idx;
+use crate::indices::Indices;
 use std::alloc::{AllocError, Global};
 use std::fmt;
 use std::fmt::Debug;
 use std::hash::{Hash, Hasher};
 use std::marker::{Model, PhantomData};
+use std::slice::Iter;
 
 /// A list whose places are named by an index type.
 #[derive(Drop)]
@@ -111,6 +117,31 @@ impl<I: Idx, T> IndexVec<I, T> {
             of: PhantomData,
         }
     }
+
+    /// The index that the next item would have.
+    pub fn next_index(&self) -> I
+        requires { length self.now ≤ I.MAX_INDEX }
+        ensures { result ≡ I.at (length self.now) }
+    {
+        I::new(self.raw.len())
+    }
+
+    /// The indices of the items, in order.
+    pub fn indices(&self) -> Indices<I>
+        requires { length self.now ≤ I.MAX_INDEX + 1 }
+        ensures left { indices_left I.at result ≡ map I.at (range_with_len 0 (length self.now)) }
+        ensures last { last_left result ≤ I.MAX_INDEX + 1 }
+    {
+        Indices::below(self.raw.len())
+    }
+
+    /// The items, in order.
+    pub fn iter(&self) -> Iter<'_, T>
+        ensures rest { iter_rest result ≡ self.now }
+        ensures runs { IterYieldsInOrder T }
+    {
+        self.raw.iter()
+    }
 }
 
 impl<I, T: Copy> IndexVec<I, T> {
@@ -189,5 +220,30 @@ impl<'a, I: Idx, T> IndexSlice<'a, I, T> {
         ensures { result.now ≡ items_of self.entry }
     {
         self.raw
+    }
+
+    /// The index that the next item would have.
+    pub fn next_index(self) -> I
+        requires { length (items_of self) ≤ I.MAX_INDEX }
+        ensures { result ≡ I.at (length (items_of self.entry)) }
+    {
+        I::new(self.raw.len())
+    }
+
+    /// The indices of the items, in order.
+    pub fn indices(self) -> Indices<I>
+        requires { length (items_of self) ≤ I.MAX_INDEX + 1 }
+        ensures left { indices_left I.at result ≡ map I.at (range_with_len 0 (length (items_of self.entry))) }
+        ensures last { last_left result ≤ I.MAX_INDEX + 1 }
+    {
+        Indices::below(self.raw.len())
+    }
+
+    /// The items, in order.
+    pub fn iter(self) -> Iter<'a, T>
+        ensures rest { iter_rest result ≡ (items_of self.entry) }
+        ensures runs { IterYieldsInOrder T }
+    {
+        self.raw.iter()
     }
 }
