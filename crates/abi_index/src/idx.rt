@@ -253,3 +253,22 @@ impl Idx for VariantIdx {
         }
     }
 }
+
+#[cfg(test)]
+mod tests {
+    use super::*;
+
+    #[test]
+    fn names_places(rt: HostRuntime) {
+        assert_eq!(rt; FieldIdx::from_u32(3).as_usize(), 3);
+        assert_eq!(rt; FieldIdx::from_usize(0xFFFF_FF00).as_u32(), 0xFFFF_FF00);
+        assert_eq!(rt; FieldIdx::new(2).plus(5), FieldIdx::from_u32(7));
+        assert_eq!(rt; FieldIdx::ZERO.plus(1), FieldIdx::ONE);
+        assert_eq!(rt; VariantIdx::from_u32(9).as_usize(), 9);
+        assert_eq!(rt; VariantIdx::from_usize(4).as_u32(), 4);
+        assert_eq!(rt; FIRST_VARIANT, VariantIdx::ZERO);
+        assert_eq!(rt; u32::new(6).plus(1).index(), 7);
+        assert!(rt; FieldIdx::ZERO < FieldIdx::ONE);
+        assert!(rt; VariantIdx::from_u32(2) < VariantIdx::from_u32(10));
+    }
+}

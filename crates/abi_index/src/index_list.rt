@@ -247,3 +247,60 @@ impl<'a, I: Idx, T> IndexSlice<'a, I, T> {
         self.raw.iter()
     }
 }
+
+#[cfg(test)]
+mod tests {
+    use super::*;
+    use crate::idx::FieldIdx;
+    use std::test::Fail;
+
+    /// A list of three numbers.
+    fn three(alloc: Global) -> Result<IndexVec<FieldIdx, u8>, AllocError>
+        ensures { IfOk result (λ list. list ≡ 5 ∷ 6 ∷ 9 ∷ []) }
+    {
+        let mut list = IndexVec::new(alloc);
+        let _first: FieldIdx = list.push(5)?;
+        let _second = list.push(6)?;
+        let _third = list.push(9)?;
+        Ok(list)
+    }
+
+    #[test]
+    fn keeps_items(rt: HostRuntime) -> Result<(), Fail> {
+        let mut list = three(rt.alloc())?;
+        assert_eq!(rt; list.len(), 3);
+        assert_eq!(rt; list.next_index(), FieldIdx::from_u32(3));
+        assert_eq!(rt; list.get(FieldIdx::ONE).copied(), Some(6));
+        assert_eq!(rt; list.get(FieldIdx::from_u32(3)).copied(), None);
+        let pushed = list.push(1)?;
+        assert_eq!(rt; pushed, FieldIdx::from_u32(3));
+        assert_eq!(rt; list.as_slice().as_raw(), [5, 6, 9, 1].as_slice());
+        Ok(())
+    }
+
+    #[test]
+    fn copies(rt: HostRuntime) -> Result<(), Fail> {
+        let list = three(rt.alloc())?;
+        let copy = list.try_clone(rt.alloc())?;
+        assert!(rt; copy == list);
+        let text = format!(in rt.alloc(); "{list:?}")?;
+        assert_eq!(rt; text.as_str(), "[5, 6, 9]");
+        Ok(())
+    }
+
+    #[test]
+    fn goes_over(rt: HostRuntime) -> Result<(), Fail> {
+        let list = three(rt.alloc())?;
+        let view = list.as_slice();
+        let indices: Vec<FieldIdx> = list.indices().collect(rt.alloc())?;
+        assert_eq!(rt; indices.as_slice(), [FieldIdx::ZERO, FieldIdx::ONE, FieldIdx::from_u32(2)].as_slice());
+        assert_eq!(rt; view.indices().size_hint(), (3, Some(3)));
+        let items: Vec<u8> = view.iter().copied().collect(rt.alloc())?;
+        assert_eq!(rt; items.as_slice(), [5, 6, 9].as_slice());
+        assert_eq!(rt; list.iter().count(), 3);
+        assert_eq!(rt; view.next_index(), FieldIdx::from_u32(3));
+        assert_eq!(rt; view.get(FieldIdx::ZERO).copied(), Some(5));
+        assert_eq!(rt; view.len(), 3);
+        Ok(())
+    }
+}
