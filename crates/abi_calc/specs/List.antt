@@ -1,5 +1,5 @@
 -- The layout of a list of fields in source order.
-use Rattle.std.specs.Prelude.{ℕ, ◌+◌, ◌%◌, ◌^◌, Bool, true, false, List, [], ◌∷◌, length, map, max, sum_by, nat_lt, Option, Some, None, Result, Ok, Err, if◌then◌else◌}
+use Rattle.std.specs.Prelude.{◌≡◌, ◌<◌, ◌⊎◌, ℕ, ◌+◌, ◌%◌, ◌^◌, Bool, true, false, List, [], ◌∷◌, length, map, max, sum_by, nat_lt, Option, Some, None, Result, Ok, Err, if◌then◌else◌}
 use Rattle.std.specs.Int.{next_multiple_of}
 use Rattle.std.specs.List.{list_any, range_with_len}
 use Rattle.abi_base.specs.declared.data_layout.TargetDataLayout.{TargetDataLayout}
@@ -10,7 +10,8 @@ use Rattle.abi_scalar.specs.declared.fields_shape.FieldsShape.TheVariants.{Arbit
 use Rattle.abi_scalar.specs.declared.variants.Variants.TheVariants.{Single}
 use Rattle.abi_scalar.specs.declared.layout_data.LayoutData.{LayoutData}
 use Rattle.abi_scalar.specs.declared.error.LayoutCalculatorError.{LayoutCalculatorError}
-use Rattle.abi_scalar.specs.declared.error.LayoutCalculatorError.TheVariants.{SizeOverflow, UnexpectedUnsized}
+use Rattle.abi_scalar.specs.declared.error.LayoutCalculatorError.TheVariants.{SizeOverflow, UnexpectedUnsized, OutOfMemory}
+use Rattle.abi_scalar.specs.declared.repr.ReprOptions.{ReprOptions}
 use Rattle.abi_calc.specs.Placement.{place_of, offsets_from, end_from, align_from}
 
 -- the size isn't known beforehand
@@ -70,3 +71,22 @@ abbrev pub list_answer : {F V H : Type 0} → (layout_of : H → LayoutData F V)
     → Result (LayoutData F V) (LayoutCalculatorError H)
 list_answer layout_of at first dl shuffle_seed fields =
     answer_after (size_bound dl) (fault_from layout_of (size_bound dl) 0 fields) (list_layout at first dl shuffle_seed (map layout_of fields))
+
+-- the repr is `repr(C)` alone
+pub record IsPlainC (repr : ReprOptions) : Type 0 where
+  pub flags : repr.flags.0 ≡ 1
+  pub int : repr.int ≡ None
+  pub align : repr.align ≡ None
+  pub pack : repr.pack ≡ None
+  pub scalable : repr.scalable ≡ None
+
+-- The fields, without a fault, lie at these places, and the last ends here.
+pub record ArePlaced {F V H : Type 0} (layout_of : H → LayoutData F V) (bound : ℕ) (fields : List H) (places : List ℕ) (last : ℕ) : Type 0 where
+  pub faultless : fault_from layout_of bound 0 fields ≡ None
+  pub offsets : places ≡ offsets_from 0 (map layout_of fields)
+  pub end : last ≡ end_from 0 (map layout_of fields)
+  pub below : last < bound
+
+-- the error is the fields' first fault, or want of memory
+abbrev pub IsFault : {F V H : Type 0} → (layout_of : H → LayoutData F V) → (bound : ℕ) → List H → LayoutCalculatorError H → Type 0
+IsFault layout_of bound fields error = (fault_from layout_of bound 0 fields ≡ Some error) ⊎ (error ≡ OutOfMemory)

@@ -1,0 +1,6 @@
+pub mod Rounding
+pub mod Steps
+pub mod Placing
+pub mod Lawful
+pub mod Apart
+pub mod Answers

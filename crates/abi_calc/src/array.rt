@@ -1,0 +1,59 @@
+//! Arrays and slices.
+
+ghost use Rattle.std.specs.Prelude.{◌≡◌, ℕ, ◌*◌, IfOk, unwrap_or};
+ghost use Rattle.abi_base.specs.DataLayout.{IsLawfulDataLayout};
+ghost use Rattle.abi_scalar.specs.Lawful.{IsLawfulLayout};
+ghost use Rattle.abi_calc.specs.Array.{array_answer};
+
+use crate::calculator::LayoutCalculator;
+use abi_base::{AbiAlign, HasDataLayout};
+use abi_index::{Hash64, Idx};
+use abi_scalar::{BackendRepr, FieldsShape, LayoutCalculatorError, LayoutData, Variants};
+
+impl<Cx: HasDataLayout> LayoutCalculator<Cx> {
+    /// The layout of so many elements, one after another; without a count, that of a slice.
+    ///
+    /// A slice has a size of 0 here, since only its values say how many elements they have.
+    ///
+    /// Refused as `SizeOverflow` where the size is not below the data layout's bound.
+    pub fn layout_of_array_like<FieldIdx: Idx, VariantIdx: Idx, F>(
+        &self,
+        element: &LayoutData<FieldIdx, VariantIdx>,
+        count_if_sized: Option<u64>,
+    ) -> Result<LayoutData<FieldIdx, VariantIdx>, LayoutCalculatorError<F>>
+        requires data_layout { IsLawfulDataLayout (Cx.target self.now.cx) }
+        requires element { IsLawfulLayout (Cx.target self.now.cx) element.now }
+        ensures exact { result ≡ array_answer (VariantIdx.at 0) (Cx.target self.now.cx) element.now count_if_sized }
+        ensures size { IfOk result (λ array. array.size ≡ element.now.size * unwrap_or count_if_sized 0) }
+        ensures lawful { IfOk result (IsLawfulLayout (Cx.target self.now.cx)) }
+    {
+        let count = count_if_sized.unwrap_or(0);
+        let Some(size) = element.size.checked_mul(count, &self.cx) else {
+            return Err(LayoutCalculatorError::SizeOverflow);
+        };
+        Ok(LayoutData {
+            fields: FieldsShape::Array {
+                stride: element.size,
+                count,
+            },
+            variants: Variants::Single {
+                index: VariantIdx::new(0),
+            },
+            backend_repr: BackendRepr::Memory {
+                sized: count_if_sized.is_some(),
+            },
+            largest_niche: if count == 0 {
+                None
+            } else {
+                element.largest_niche
+            },
+            uninhabited: element.uninhabited && count != 0,
+            align: element.align,
+            size,
+            max_repr_align: None,
+            unadjusted_abi_align: element.align.abi,
+            repr_c: element.repr_c,
+            randomization_seed: element.randomization_seed.wrapping_add(Hash64::new(count)),
+        })
+    }
+}
