@@ -75,3 +75,54 @@ impl WrappingRange {
         Ok(least_range(all, size))
     }
 }
+
+#[cfg(test)]
+mod tests {
+    use super::*;
+    use std::test::Fail;
+
+    /// The least range of bytes, as its two ends.
+    fn of_bytes(alloc: Global, values: &[u8]) -> Result<Option<(u128, u128)>, AllocError> {
+        let wide = values.iter().map(|v| u128::from(*v));
+        let found = WrappingRange::smallest_range_containing(alloc, wide, Size::from_bytes(1))?;
+        Ok(found.map(|range| (range.start, range.end)))
+    }
+
+    /// The least range of numbers of 16 bytes, as its two ends.
+    fn of_wide(alloc: Global, values: &[u128]) -> Result<Option<(u128, u128)>, AllocError> {
+        let all = values.iter().copied();
+        let found = WrappingRange::smallest_range_containing(alloc, all, Size::from_bytes(16))?;
+        Ok(found.map(|range| (range.start, range.end)))
+    }
+
+    #[test]
+    fn finds_ranges_of_bytes(rt: HostRuntime) -> Result<(), Fail> {
+        let rows = [
+            (b"\x0a\x64\xa0\xdc".as_slice(), (100, 10)),
+            (b"\x00\x80".as_slice(), (0, 128)),
+            (b"\x00\x81".as_slice(), (129, 0)),
+            (b"\x0a\x60\xb5".as_slice(), (96, 10)),
+            (b"\xa0\xe0\x20\x60".as_slice(), (0x20, 0xe0)),
+            (b"\x07".as_slice(), (7, 7)),
+            (b"\x07\x07\x07".as_slice(), (7, 7)),
+            (b"\x00\xff".as_slice(), (255, 0)),
+            (b"\x00\x7f".as_slice(), (0, 127)),
+            (b"\x64\xc8".as_slice(), (100, 200)),
+            (b"\x64\xc8\x32".as_slice(), (50, 200)),
+            (b"\x64\xc8\xfa".as_slice(), (100, 250)),
+            (b"\x64\xc8\xfa\x32".as_slice(), (200, 100)),
+            (b"\x64\xe4".as_slice(), (100, 228)),
+            (b"\xc8\x32".as_slice(), (200, 50)),
+            (b"\xc8\x32\xbe".as_slice(), (190, 50)),
+            (b"\xc8\x32\x3c".as_slice(), (200, 60)),
+            (b"\xc8\x32\x7d".as_slice(), (50, 200)),
+        ];
+        for (values, want) in rows {
+            let found = of_bytes(rt.alloc(), values)?;
+            assert_eq!(rt; found, Some(want));
+        }
+        let none = of_bytes(rt.alloc(), b"")?;
+        assert_eq!(rt; none, None);
+        Ok(())
+    }
+}

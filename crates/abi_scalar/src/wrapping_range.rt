@@ -191,3 +191,119 @@ impl Debug for WrappingRange {
         }
     }
 }
+
+#[cfg(test)]
+mod tests {
+    use super::*;
+    use std::test::Fail;
+
+    /// A range of bytes.
+    fn byte(start: u8, end: u8) -> WrappingRange
+        ensures { AreWithin 1 result }
+    {
+        WrappingRange {
+            start: u128::from(start),
+            end: u128::from(end),
+        }
+    }
+
+    /// A range of numbers of 16 bytes.
+    fn wide(start: u128, end: u128) -> WrappingRange
+        ensures { AreWithin 16 result }
+    {
+        WrappingRange { start, end }
+    }
+
+    #[test]
+    fn includes_bytes(rt: HostRuntime) {
+        let size = Size::from_bytes(1);
+        let rows = [
+            ((0, 255), (128, 127), true),
+            ((0, 255), (0, 1), true),
+            ((0, 255), (255, 1), true),
+            ((128, 127), (0, 255), true),
+            ((128, 127), (0, 1), true),
+            ((128, 127), (255, 1), true),
+            ((0, 1), (0, 255), false),
+            ((0, 1), (128, 127), false),
+            ((0, 1), (255, 1), false),
+            ((255, 1), (0, 1), true),
+            ((255, 1), (0, 255), false),
+            ((255, 1), (128, 127), false),
+        ];
+        for ((start, end), (from, to), want) in rows {
+            let holds = byte(start, end).contains_range(byte(from, to), size);
+            assert_eq!(rt; holds, want, "{start} to {end}, {from} to {to}");
+        }
+    }
+
+    #[test]
+    fn includes_wide_numbers(rt: HostRuntime) {
+        let size = Size::from_bytes(16);
+        let rows = [
+            ((10, 20), (10, 20), true),
+            ((10, 20), (11, 19), true),
+            ((10, 20), (10, 10), true),
+            ((10, 20), (20, 20), true),
+            ((10, 20), (10, 21), false),
+            ((10, 20), (9, 20), false),
+            ((10, 20), (4, 6), false),
+            ((10, 20), (24, 26), false),
+            ((10, 20), (16, 14), false),
+            ((20, 10), (20, 10), true),
+            ((20, 10), (20, 20), true),
+            ((20, 10), (10, 10), true),
+            ((20, 10), (0, 10), true),
+            ((20, 10), (20, 30), true),
+            ((20, 10), (20, 9), true),
+            ((20, 10), (21, 10), true),
+            ((20, 10), (999, 9999), true),
+            ((20, 10), (999, 9), true),
+            ((20, 10), (19, 19), false),
+            ((20, 10), (11, 11), false),
+            ((20, 10), (19, 11), false),
+            ((20, 10), (11, 19), false),
+            ((0, u128::MAX), (10, 20), true),
+            ((0, u128::MAX), (20, 10), true),
+            ((2, 1), (10, 20), true),
+            ((2, 1), (20, 10), true),
+            ((128, 127), (0, 255), true),
+            ((0, 255), (128, 127), false),
+        ];
+        for ((start, end), (from, to), want) in rows {
+            let holds = wide(start, end).contains_range(wide(from, to), size);
+            assert_eq!(rt; holds, want, "{start} to {end}, {from} to {to}");
+        }
+    }
+
+    #[test]
+    fn tells_of_wrapping(rt: HostRuntime) {
+        let one = Size::from_bytes(1);
+        let two = Size::from_bytes(2);
+        assert_eq!(rt; byte(100, 200).no_unsigned_wraparound(one), Ok(true));
+        assert_eq!(rt; byte(100, 200).no_signed_wraparound(one), Ok(false));
+        let words = WrappingRange {
+            start: 100,
+            end: 200,
+        };
+        assert_eq!(rt; words.no_signed_wraparound(two), Ok(true));
+        assert_eq!(rt; byte(200, 100).no_unsigned_wraparound(one), Ok(false));
+        assert_eq!(rt; byte(200, 100).no_signed_wraparound(one), Ok(true));
+        assert_eq!(rt; byte(5, 4).no_unsigned_wraparound(one), Err(RangeFull));
+        assert_eq!(rt; byte(0, 255).no_signed_wraparound(one), Err(RangeFull));
+        assert!(rt; byte(5, 4).is_full_for(one));
+        assert!(rt; !byte(5, 3).is_full_for(one));
+        assert!(rt; byte(255, 1).contains(0));
+        assert!(rt; !byte(255, 1).contains(2));
+        assert_eq!(rt; WrappingRange::full(one), byte(0, 255));
+    }
+
+    #[test]
+    fn writes_ranges(rt: HostRuntime) -> Result<(), Fail> {
+        let plain = byte(0, 1);
+        let wrapping = byte(255, 1);
+        let text = format!(in rt.alloc(); "{plain:?}, {wrapping:?}")?;
+        assert_eq!(rt; text.as_str(), "0..=1, (..=1) | (255..)");
+        Ok(())
+    }
+}
