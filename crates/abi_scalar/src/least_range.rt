@@ -88,6 +88,27 @@ mod tests {
         Ok(found.map(|range| (range.start, range.end)))
     }
 
+    /// The least range of numbers of 2 bytes, as its two ends.
+    fn of_words(alloc: Global, values: &[u16]) -> Result<Option<(u128, u128)>, AllocError> {
+        let wide = values.iter().map(|v| u128::from(*v));
+        let found = WrappingRange::smallest_range_containing(alloc, wide, Size::from_bytes(2))?;
+        Ok(found.map(|range| (range.start, range.end)))
+    }
+
+    /// The least range of numbers of 4 bytes, as its two ends.
+    fn of_doubles(alloc: Global, values: &[u32]) -> Result<Option<(u128, u128)>, AllocError> {
+        let wide = values.iter().map(|v| u128::from(*v));
+        let found = WrappingRange::smallest_range_containing(alloc, wide, Size::from_bytes(4))?;
+        Ok(found.map(|range| (range.start, range.end)))
+    }
+
+    /// The least range of numbers of 8 bytes, as its two ends.
+    fn of_quads(alloc: Global, values: &[u64]) -> Result<Option<(u128, u128)>, AllocError> {
+        let wide = values.iter().map(|v| u128::from(*v));
+        let found = WrappingRange::smallest_range_containing(alloc, wide, Size::from_bytes(8))?;
+        Ok(found.map(|range| (range.start, range.end)))
+    }
+
     /// The least range of numbers of 16 bytes, as its two ends.
     fn of_wide(alloc: Global, values: &[u128]) -> Result<Option<(u128, u128)>, AllocError> {
         let all = values.iter().copied();
@@ -123,6 +144,53 @@ mod tests {
         }
         let none = of_bytes(rt.alloc(), b"")?;
         assert_eq!(rt; none, None);
+        Ok(())
+    }
+
+    #[test]
+    fn finds_ranges_of_many_bytes(rt: HostRuntime) -> Result<(), Fail> {
+        let mut low = Vec::new(rt.alloc());
+        let mut ends = Vec::new(rt.alloc());
+        for v in 0..128u8 {
+            low.push(v)?;
+            ends.push(if v % 2 == 0 { 50 } else { 200 })?;
+        }
+        let found = of_bytes(rt.alloc(), low.as_slice())?;
+        assert_eq!(rt; found, Some((0, 127)));
+        low.push(255)?;
+        let found = of_bytes(rt.alloc(), low.as_slice())?;
+        assert_eq!(rt; found, Some((255, 127)));
+        let found = of_bytes(rt.alloc(), ends.as_slice())?;
+        assert_eq!(rt; found, Some((200, 50)));
+        Ok(())
+    }
+
+    #[test]
+    fn finds_wide_ranges(rt: HostRuntime) -> Result<(), Fail> {
+        let found = of_words(rt.alloc(), &[0, 255])?;
+        assert_eq!(rt; found, Some((0, 255)));
+        let found = of_words(rt.alloc(), &[0, 65535])?;
+        assert_eq!(rt; found, Some((65535, 0)));
+        let found = of_doubles(rt.alloc(), &[0, 65535])?;
+        assert_eq!(rt; found, Some((0, 65535)));
+        let found = of_doubles(rt.alloc(), &[0, u32::MAX])?;
+        assert_eq!(rt; found, Some((4_294_967_295, 0)));
+        let found = of_quads(rt.alloc(), &[0, 4_294_967_295])?;
+        assert_eq!(rt; found, Some((0, 4_294_967_295)));
+        let mut powers = Vec::new(rt.alloc());
+        for n in 0..64u32 {
+            powers.push(1u64 << n)?;
+        }
+        let found = of_quads(rt.alloc(), powers.as_slice())?;
+        assert_eq!(rt; found, Some((1, 1 << 63)));
+        let mut around = Vec::new(rt.alloc());
+        for n in 0..101u8 {
+            let wide = u128::from(n);
+            around.push(wide)?;
+            around.push(wide.wrapping_neg())?;
+        }
+        let found = of_wide(rt.alloc(), around.as_slice())?;
+        assert_eq!(rt; found, Some((100u128.wrapping_neg(), 100)));
         Ok(())
     }
 }

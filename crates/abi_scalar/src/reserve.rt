@@ -144,3 +144,84 @@ impl Niche {
         Some((first, Scalar::Initialized { value, valid_range }))
     }
 }
+
+#[cfg(test)]
+mod tests {
+    use super::*;
+    use abi_base::{Integer, Primitive, TargetDataLayout};
+    use std::test::Fail;
+
+    /// A niche of a byte.
+    fn byte(dl: &TargetDataLayout, start: u8, end: u8) -> Niche
+        ensures { IsReadableNiche dl.now result }
+    {
+        Niche {
+            offset: Size::ZERO,
+            value: Primitive::Int(Integer::I8, false),
+            valid_range: WrappingRange {
+                start: u128::from(start),
+                end: u128::from(end),
+            },
+        }
+    }
+
+    /// A scalar of a byte.
+    fn scalar(start: u128, end: u128) -> Scalar {
+        Scalar::Initialized {
+            value: Primitive::Int(Integer::I8, false),
+            valid_range: WrappingRange { start, end },
+        }
+    }
+
+    #[test]
+    fn hands_out(rt: HostRuntime) -> Result<(), Fail> {
+        let dl = TargetDataLayout::default_in(rt.alloc())?;
+        let rows = [
+            ((2, 3), 2, Some((0, scalar(0, 3)))),
+            ((2, 3), 3, Some((4, scalar(2, 6)))),
+            ((250, 252), 4, Some((253, scalar(250, 0)))),
+            ((250, 252), 5, Some((245, scalar(245, 252)))),
+            ((1, 1), 1, Some((0, scalar(0, 1)))),
+            ((0, 1), 254, Some((2, scalar(0, 255)))),
+            ((0, 1), 255, None),
+            ((0, 254), 1, Some((255, scalar(255, 254)))),
+        ];
+        for ((start, end), count, want) in rows {
+            let handed = byte(&dl, start, end).reserve(&dl, count);
+            assert_eq!(rt; handed, want, "{count} of {start} to {end}");
+        }
+        assert_eq!(rt; byte(&dl, 0, 1).available(&dl), 254);
+        assert_eq!(rt; byte(&dl, 7, 6).available(&dl), 0);
+        Ok(())
+    }
+
+    #[test]
+    fn hands_out_of_wide(rt: HostRuntime) -> Result<(), Fail> {
+        let dl = TargetDataLayout::default_in(rt.alloc())?;
+        let value = Primitive::Int(Integer::I32, false);
+        let character = Scalar::Initialized {
+            value,
+            valid_range: WrappingRange {
+                start: 0,
+                end: 0x10_FFFF,
+            },
+        };
+        let niche = Niche::from_scalar(&dl, Size::from_bytes(4), character);
+        let handed = niche.and_then(|niche| niche.reserve(&dl, 1));
+        let valid_range = WrappingRange {
+            start: 0xFFFF_FFFF,
+            end: 0x10_FFFF,
+        };
+        assert_eq!(rt; handed, Some((0xFFFF_FFFF, Scalar::Initialized { value, valid_range })));
+        let value = Primitive::Int(Integer::I8, false);
+        let valid_range = WrappingRange {
+            start: 255,
+            end: 254,
+        };
+        let full = Niche::from_scalar(&dl, Size::ZERO, Scalar::Initialized { value, valid_range });
+        assert_eq!(rt; full, None);
+        let shared = Niche::from_scalar(&dl, Size::ZERO, Scalar::Union { value });
+        assert_eq!(rt; shared, None);
+        Ok(())
+    }
+}
