@@ -1,3 +1,5 @@
+pub mod Repr
+pub mod LaneCount
 pub mod Range
 pub mod Count
 pub mod LeastRange

@@ -9,6 +9,10 @@ pub enum LayoutCalculatorError<F> {
     UnexpectedUnsized(F),
     /// The size is not below the data layout's bound.
     SizeOverflow,
+    /// A vector has more lanes than the greatest number.
+    OversizedSimdType { max_lanes: u16 },
+    /// A vector has no lane.
+    ZeroLengthSimdType,
     /// A growth of memory was refused.
     OutOfMemory,
 }

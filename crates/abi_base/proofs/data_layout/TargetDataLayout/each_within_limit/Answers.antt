@@ -1,4 +1,4 @@
-use Rattle.abi_base.proofs.Lawful.{all_three}
+use Rattle.abi_base.proofs.Laws.{all_three}
 use Rattle.abi_base.proofs.data_layout.TargetDataLayout.each_within_limit.Goals as goal
 
 pub returns : goal.returns

@@ -1,4 +1,4 @@
-use Rattle.abi_base.proofs.Lawful.{each_float}
+use Rattle.abi_base.proofs.Laws.{each_float}
 use Rattle.abi_base.proofs.data_layout.TargetDataLayout.floats_fit.Goals as goal
 
 pub returns : goal.returns

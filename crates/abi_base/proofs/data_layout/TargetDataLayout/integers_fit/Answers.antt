@@ -1,4 +1,4 @@
-use Rattle.abi_base.proofs.Lawful.{each_integer}
+use Rattle.abi_base.proofs.Laws.{each_integer}
 use Rattle.abi_base.proofs.data_layout.TargetDataLayout.integers_fit.Goals as goal
 
 pub returns : goal.returns

@@ -1,4 +1,4 @@
-use Rattle.abi_base.proofs.Lawful.{in_parts}
+use Rattle.abi_base.proofs.Laws.{in_parts}
 use Rattle.abi_base.proofs.data_layout.TargetDataLayout.is_lawful.Goals as goal
 
 pub returns : goal.returns

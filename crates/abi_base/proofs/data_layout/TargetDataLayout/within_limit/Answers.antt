@@ -1,5 +1,5 @@
 use Rattle.std.proofs.Common.{◌≤◌}
-use Rattle.abi_base.proofs.Lawful.{each_list}
+use Rattle.abi_base.proofs.Laws.{each_list}
 use Rattle.abi_base.specs.DataLayout.{scalar_alignments_of}
 use Rattle.abi_base.proofs.data_layout.TargetDataLayout.within_limit.Goals as goal
 

@@ -13,7 +13,7 @@ use Rattle.abi_base.specs.Integer.{integer_size, integer_align}
 use Rattle.abi_base.specs.Float.{float_size, float_align}
 use Rattle.abi_base.specs.DataLayout.{IsLawfulDataLayout, HasLawfulDefault, alignments_of, default_data_layout, IsLawfulSpec, scalar_alignments_of}
 use Rattle.abi_base.specs.declared.address_space.AddressSpace.{AddressSpace}
-use Rattle.abi_base.specs.declared.data_layout.PointerSpec.{PointerSpec}
+use Rattle.abi_base.specs.declared.pointer_spec.PointerSpec.{PointerSpec}
 
 integer_of : (dl : TargetDataLayout) → (2 ^ dl.i8_align ∣ 1) × (2 ^ dl.i16_align ∣ 2) × (2 ^ dl.i32_align ∣ 4) × (2 ^ dl.i64_align ∣ 8) × (2 ^ dl.i128_align ∣ 16) → (i : Integer) → 2 ^ integer_align dl i ∣ integer_size i
 integer_of dl h I8 = h.0

@@ -1,0 +1,8 @@
+//! Whether niches may be used.
+
+/// Whether a type's niches may be used for something else, which `UnsafeCell` forbids.
+#[derive(Clone, Copy, PartialEq, Eq, Debug)]
+pub enum NicheOptimizations {
+    Enabled,
+    Disabled,
+}
