@@ -5,6 +5,7 @@ pub mod Count
 pub mod LeastRange
 pub mod Wraparound
 pub mod RangeText
+pub mod ScalarText
 pub mod Scalar
 pub mod Niche
 pub mod Reserve

@@ -13,6 +13,7 @@ mod niche;
 mod repr;
 mod reserve;
 mod scalar;
+mod scalar_text;
 mod simple;
 mod variants;
 mod wrapping_range;

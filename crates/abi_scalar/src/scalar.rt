@@ -11,7 +11,7 @@ use crate::wrapping_range::WrappingRange;
 use abi_base::{Align, HasDataLayout, Integer, Primitive, Size};
 
 /// A primitive, and the numbers that it may hold.
-#[derive(Clone, Copy, PartialEq, Eq, Hash, Debug)]
+#[derive(Clone, Copy, PartialEq, Eq, Hash)]
 pub enum Scalar {
     /// It holds a number of the range.
     Initialized {
