@@ -97,3 +97,44 @@ impl Debug for Scalar {
         }
     }
 }
+
+#[cfg(test)]
+mod tests {
+    use super::*;
+    use abi_base::{AddressSpace, Float, Integer};
+    use std::test::Fail;
+
+    /// A scalar of this primitive.
+    fn scalar(value: Primitive, start: u128, end: u128) -> Scalar {
+        Scalar::Initialized {
+            value,
+            valid_range: WrappingRange { start, end },
+        }
+    }
+
+    #[test]
+    fn writes_scalars(rt: HostRuntime) -> Result<(), Fail> {
+        let unsigned = Primitive::Int(Integer::I8, false);
+        let signed = Primitive::Int(Integer::I8, true);
+        let pointer = Primitive::Pointer(AddressSpace(0));
+        let far = Primitive::Pointer(AddressSpace(5));
+        let rows = [
+            (scalar(unsigned, 0, 1), "u8 is 0..=1"),
+            (scalar(unsigned, 0, 255), "u8 is .."),
+            (scalar(unsigned, 1, 0), "u8 is (..=0) | (1..)"),
+            (scalar(signed, 0, 255), "i8 is .."),
+            (scalar(signed, 255, 1), "i8 is -1..=1"),
+            (scalar(signed, 100, 200), "i8 is (..=-56) | (100..)"),
+            (scalar(pointer, 0, u128::MAX), "pointer is .."),
+            (scalar(pointer, 0, 65535), "pointer is 0..=65535"),
+            (scalar(Primitive::Float(Float::F32), 0, 0xFFFF_FFFF), "f32 is .."),
+            (Scalar::Union { value: unsigned }, "union u8"),
+            (Scalar::Union { value: far }, "union pointer(AddressSpace(5))"),
+        ];
+        for (value, want) in rows {
+            let text = format!(in rt.alloc(); "{value:?}")?;
+            assert_eq!(rt; text.as_str(), want);
+        }
+        Ok(())
+    }
+}
