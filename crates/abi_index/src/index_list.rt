@@ -293,7 +293,10 @@ mod tests {
         let list = three(rt.alloc())?;
         let view = list.as_slice();
         let indices: Vec<FieldIdx> = list.indices().collect(rt.alloc())?;
-        assert_eq!(rt; indices.as_slice(), [FieldIdx::ZERO, FieldIdx::ONE, FieldIdx::from_u32(2)].as_slice());
+        assert_eq!(rt;
+            indices.as_slice(),
+            [FieldIdx::ZERO, FieldIdx::ONE, FieldIdx::from_u32(2)].as_slice()
+        );
         assert_eq!(rt; view.indices().size_hint(), (3, Some(3)));
         let items: Vec<u8> = view.iter().copied().collect(rt.alloc())?;
         assert_eq!(rt; items.as_slice(), [5, 6, 9].as_slice());

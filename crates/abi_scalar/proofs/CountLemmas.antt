@@ -1,6 +1,6 @@
 -- How many numbers ranges have.
-use Rattle.std.proofs.Common.{◌≡◌, ◌≢◌, ℕ, ◌+◌, ◌-◌, ◌*◌, ◌%◌, ◌<◌, ◌≤◌, ◌⊎◌, ◌↔◌, inl, inr, arith, sym, ap, ◌∙◌, refl, subst, List, length, get_or, map, zero, suc, eqb}
-use Rattle.std.specs.List.{AllPairs, Contains, range_with_len}
+use Rattle.std.proofs.Common.{◌≡◌, ◌≢◌, ℕ, ◌+◌, ◌%◌, ◌<◌, ◌≤◌, inl, inr, arith, sym, ◌∙◌, refl, subst, length, get_or, map, zero, suc}
+use Rattle.std.specs.List.{range_with_len}
 use Rattle.std.proofs.lemmas.Bool.{cases_lt}
 use Rattle.std.proofs.lemmas.Nat.{mod_below}
 use Rattle.std.proofs.lemmas.List.FromFn.{length-map-range_with_len, get_or-map-range_with_len}
@@ -8,7 +8,7 @@ use Rattle.abi_scalar.specs.declared.wrapping_range.WrappingRange.{WrappingRange
 use Rattle.abi_scalar.specs.Range.{numbers_of, IsIn, IsFree, AreWithin, steps_between, free_count}
 use Rattle.abi_scalar.specs.Count.{AreSoMany}
 use Rattle.abi_scalar.specs.Reserve.{stepped_on, end_moved}
-use Rattle.abi_scalar.proofs.RangeLemmas.{IsDistance, cut_once, arrive, before, none_free, steps_are, steps_from_in, in_from_steps, below_from_in, full_from_reach, same_distance}
+use Rattle.abi_scalar.proofs.RangeLemmas.{cut_once, arrive, before, none_free, steps_are, full_from_reach, same_distance}
 use Rattle.abi_scalar.proofs.ReserveLemmas.{end_handed, further, free_and_reach}
 
 -- the numbers counted from a start
@@ -21,8 +21,8 @@ differ all start i j h l m same =
     let ci = cut_once all (start + i) (omega arith) in
     let cj = cut_once all (start + j) (omega arith) in
     elim ci.is [
-      inl a ↦ elim cj.is [ inl b ↦ omega (arith, a, b) | inr b ↦ omega (arith, a, b) ]
-    | inr a ↦ elim cj.is [ inl b ↦ omega (arith, a, b) | inr b ↦ omega (arith, a, b) ]
+      | inl a ↦ elim cj.is [ inl b ↦ omega (arith, a, b) | inr b ↦ omega (arith, a, b) ]
+      | inr a ↦ elim cj.is [ inl b ↦ omega (arith, a, b) | inr b ↦ omega (arith, a, b) ]
     ]
 
 pub counted : (all start count : ℕ) (P : ℕ → Type 0) → start < all → count ≤ all
@@ -35,8 +35,8 @@ counted all start count P h room to from =
     record {
       members = xs;
       differ = λ i j d l m same.
-        let m' : j < count = omega (arith, m, long) in
-        differ all start i j h l (omega (arith, m', room)) (sym (at i d (omega (arith, l, m'))) ∙ same ∙ at j d m');
+          let m' : j < count = omega (arith, m, long) in
+          differ all start i j h l (omega (arith, m', room)) (sym (at i d (omega (arith, l, m'))) ∙ same ∙ at j d m');
       exact = λ n. (
         λ c. let l : c.0 < count = omega (arith, c.1, long) in to n (c.0, l, sym c.2 ∙ at c.0 n l),
         λ p. let q = from n p in (q.0, omega (arith, q.1, long), at q.0 n q.1 ∙ sym q.2),
@@ -54,9 +54,9 @@ range_counted width range w =
     counted all range.start (reach + 1) (IsIn width range) w.0 (omega (arith, d.below))
     (λ n c. (c.0, c.2, λ k l. before all range.start range.end reach k w.0 w.1 d (omega (arith, l, c.1))))
     (λ n i. elim (cases_lt reach i.0) [
-        inl l ↦ absurd (i.2 reach l (arrive all range.start range.end reach w.0 w.1 d))
+      | inl l ↦ absurd (i.2 reach l (arrive all range.start range.end reach w.0 w.1 d))
       | inr g ↦ (i.0, omega (arith, g), i.1)
-      ])
+    ])
 
 -- the range with all free numbers beside it is full
 all_in : (width : ℕ) (range : WrappingRange) (free : ℕ) → AreWithin width range

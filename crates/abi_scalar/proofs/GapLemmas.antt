@@ -1,12 +1,12 @@
 -- Ranges without a gap, for numbers that are read by their places in a rotated order.
-use Rattle.std.proofs.Common.{◌≡◌, ℕ, ◌+◌, ◌-◌, ◌*◌, ◌^◌, ◌%◌, ◌<◌, ◌≤◌, inl, inr, arith, zero, suc, sym, ap, ◌∙◌, refl}
+use Rattle.std.proofs.Common.{◌≡◌, ℕ, ◌+◌, ◌-◌, ◌*◌, ◌^◌, ◌%◌, ◌<◌, ◌≤◌, inl, inr, arith, suc, sym, ap, ◌∙◌, refl}
 use Rattle.std.proofs.Math.Nat.{two-pow-succ}
 use Rattle.std.proofs.lemmas.Bool.{cases_lt}
 use Rattle.std.proofs.lemmas.Nat.{mod_below}
 use Rattle.abi_scalar.specs.declared.wrapping_range.WrappingRange.{WrappingRange}
-use Rattle.abi_scalar.specs.Range.{numbers_of, IsIn, IsFull, AreWithin, steps_between}
+use Rattle.abi_scalar.specs.Range.{numbers_of, IsFull, AreWithin}
 use Rattle.abi_scalar.specs.Wraparound.{unsigned_place, signed_place, HasNoGap}
-use Rattle.abi_scalar.proofs.RangeLemmas.{IsDistance, cut_once, steps_are, same_distance, in_from_steps, steps_from_in, below_from_in, start_in, end_in, full_from_reach}
+use Rattle.abi_scalar.proofs.RangeLemmas.{IsDistance, cut_once, steps_are, in_from_steps, steps_from_in, below_from_in, start_in, end_in, full_from_reach}
 
 -- places that keep distances
 pub record IsRotation (all : ℕ) (place : ℕ → ℕ) : Type 0 where
@@ -30,14 +30,14 @@ gap_from_order place width range r w order a b n ia ib h low high =
     let pe = r.below range.end w.1 in
     let ps = r.below range.start w.0 in
     in_from_steps width range n w h (elim de.is [
-      inl e ↦ elim da.is [
-        inl x ↦ elim db.is [
-          inl y ↦ elim dn.is [ inl z ↦ omega (arith, e, x, y, z, na, nb, low, high) | inr z ↦ absurd (omega (arith, x, z, low)) ]
-        | inr y ↦ absurd (omega (arith, e, y, nb, pe))
+      | inl e ↦ elim da.is [
+        | inl x ↦ elim db.is [
+          | inl y ↦ elim dn.is [ inl z ↦ omega (arith, e, x, y, z, na, nb, low, high) | inr z ↦ absurd (omega (arith, x, z, low)) ]
+          | inr y ↦ absurd (omega (arith, e, y, nb, pe))
         ]
-      | inr x ↦ absurd (omega (arith, e, x, na, pe))
+        | inr x ↦ absurd (omega (arith, e, x, na, pe))
       ]
-    | inr e ↦ absurd (omega (arith, e, order))
+      | inr e ↦ absurd (omega (arith, e, order))
     ])
 
 pub order_from_gap : (place : ℕ → ℕ → ℕ) (width : ℕ) (range : WrappingRange) → IsRotation (numbers_of width) (place width)
@@ -50,20 +50,20 @@ order_from_gap place width range r w some gap =
     let ps = r.below range.start w.0 in
     let de = r.keeps range.start range.end _ w.0 w.1 (steps_are width range.start range.end w.0 w.1) in
     elim (cases_lt e s) [
-      inl l ↦
-        elim (cases_lt (e + 1) s) [
-          inl between ↦
-            let m = r.back (e + 1) (omega (arith, between, ps)) in
-            let i = gap range.end range.start m.0 (end_in width range w) (start_in width range w) m.1 (omega (arith, m.2)) (omega (arith, m.2, between)) in
-            let near = steps_from_in width range m.0 w m.1 i in
-            let dm = r.keeps range.start m.0 _ w.0 m.1 (steps_are width range.start m.0 w.0 m.1) in
-            elim de.is [
-              inl x ↦ absurd (omega (arith, x, l))
-            | inr x ↦ elim dm.is [ inl y ↦ absurd (omega (arith, y, m.2, between)) | inr y ↦ absurd (omega (arith, x, y, m.2, near)) ]
-            ]
-        | inr next ↦ absurd (some (full_from_reach width range w (elim de.is [ inl x ↦ absurd (omega (arith, x, l)) | inr x ↦ omega (arith, x, next, l) ])))
-        ]
-    | inr g ↦ g
+      | inl l ↦
+          elim (cases_lt (e + 1) s) [
+            | inl between ↦
+                let m = r.back (e + 1) (omega (arith, between, ps)) in
+                let i = gap range.end range.start m.0 (end_in width range w) (start_in width range w) m.1 (omega (arith, m.2)) (omega (arith, m.2, between)) in
+                let near = steps_from_in width range m.0 w m.1 i in
+                let dm = r.keeps range.start m.0 _ w.0 m.1 (steps_are width range.start m.0 w.0 m.1) in
+                elim de.is [
+                  | inl x ↦ absurd (omega (arith, x, l))
+                  | inr x ↦ elim dm.is [ inl y ↦ absurd (omega (arith, y, m.2, between)) | inr y ↦ absurd (omega (arith, x, y, m.2, near)) ]
+                ]
+            | inr next ↦ absurd (some (full_from_reach width range w (elim de.is [ inl x ↦ absurd (omega (arith, x, l)) | inr x ↦ omega (arith, x, next, l) ])))
+          ]
+      | inr g ↦ g
     ]
 
 pub unsigned_rotation : (width : ℕ) → IsRotation (numbers_of width) (unsigned_place width)
@@ -87,13 +87,13 @@ keep all half a b d twice ha hb is =
     record {
       below = is.below;
       is = elim ca.is [
-        inl x ↦ elim cb.is [
-          inl y ↦ elim is.is [ inl z ↦ inl (omega (arith, x, y, z), omega (arith, x, y, z)) | inr z ↦ inr (omega (arith, x, y, z), omega (arith, x, y, z)) ]
-        | inr y ↦ elim is.is [ inl z ↦ inr (omega (arith, x, y, z, cb.below), omega (arith, x, y, z)) | inr z ↦ absurd (omega (arith, x, y, z)) ]
+        | inl x ↦ elim cb.is [
+          | inl y ↦ elim is.is [ inl z ↦ inl (omega (arith, x, y, z), omega (arith, x, y, z)) | inr z ↦ inr (omega (arith, x, y, z), omega (arith, x, y, z)) ]
+          | inr y ↦ elim is.is [ inl z ↦ inr (omega (arith, x, y, z, cb.below), omega (arith, x, y, z)) | inr z ↦ absurd (omega (arith, x, y, z)) ]
         ]
-      | inr x ↦ elim cb.is [
-          inl y ↦ elim is.is [ inl z ↦ absurd (omega (arith, x, y, z)) | inr z ↦ inl (omega (arith, x, y, z), omega (arith, x, y, z)) ]
-        | inr y ↦ elim is.is [ inl z ↦ inl (omega (arith, x, y, z), omega (arith, x, y, z)) | inr z ↦ inr (omega (arith, x, y, z), omega (arith, x, y, z)) ]
+        | inr x ↦ elim cb.is [
+          | inl y ↦ elim is.is [ inl z ↦ absurd (omega (arith, x, y, z)) | inr z ↦ inl (omega (arith, x, y, z), omega (arith, x, y, z)) ]
+          | inr y ↦ elim is.is [ inl z ↦ inl (omega (arith, x, y, z), omega (arith, x, y, z)) | inr z ↦ inr (omega (arith, x, y, z), omega (arith, x, y, z)) ]
         ]
       ];
     }
@@ -102,12 +102,12 @@ keep all half a b d twice ha hb is =
 pub unplace : (all half n : ℕ) → half + half ≡ all → n < all → (m : ℕ) × (m < all) × ((m + half) % all ≡ n)
 unplace all half n twice h =
     elim (cases_lt n half) [
-      inl l ↦
-        let cut = cut_once all (n + half + half) (omega arith) in
-        (n + half, omega arith, elim cut.is [ inl a ↦ absurd (omega (arith, a)) | inr a ↦ omega (arith, a) ])
-    | inr g ↦
-        let cut = cut_once all (n - half + half) (omega arith) in
-        (n - half, omega arith, elim cut.is [ inl a ↦ omega (arith, a) | inr a ↦ absurd (omega (arith, a, cut.below)) ])
+      | inl l ↦
+          let cut = cut_once all (n + half + half) (omega arith) in
+          (n + half, omega arith, elim cut.is [ inl a ↦ absurd (omega (arith, a)) | inr a ↦ omega (arith, a) ])
+      | inr g ↦
+          let cut = cut_once all (n - half + half) (omega arith) in
+          (n - half, omega arith, elim cut.is [ inl a ↦ omega (arith, a) | inr a ↦ absurd (omega (arith, a, cut.below)) ])
     ]
 
 pub signed_rotation : (width : ℕ) → 1 ≤ width → IsRotation (numbers_of width) (signed_place width)

@@ -1,15 +1,15 @@
 -- The least range that holds ascending values.
-use Rattle.std.proofs.Common.{◌≡◌, ℕ, ◌+◌, ◌-◌, ◌*◌, ◌<◌, ◌≤◌, ◌⊎◌, inl, inr, arith, sym, ap, ◌∙◌, refl, subst, List, length, get_or, zero, suc, [], ◌∷◌}
+use Rattle.std.proofs.Common.{◌≡◌, ℕ, ◌+◌, ◌-◌, ◌<◌, ◌≤◌, ◌⊎◌, inl, inr, arith, sym, ap, ◌∙◌, refl, subst, List, length, get_or, zero, suc}
 use Rattle.std.specs.List.{All}
 use Rattle.std.specs.List.Sorted.{IsNonDecreasing, IsPermutation}
 use Rattle.std.proofs.lemmas.Bool.{cases_lt}
 use Rattle.std.proofs.lemmas.List.{get_or_default}
 use Rattle.std.proofs.lemmas.List.Sorted.{All-permutation, IsPermutation-sym}
 use Rattle.abi_scalar.specs.declared.wrapping_range.WrappingRange.{WrappingRange}
-use Rattle.abi_scalar.specs.Range.{numbers_of, IsIn, IsBetween, AreWithin, steps_between}
+use Rattle.abi_scalar.specs.Range.{numbers_of, IsIn, AreWithin, steps_between}
 use Rattle.abi_scalar.specs.Count.{AreSoMany}
-use Rattle.abi_scalar.specs.LeastRange.{IsLeastRange, IsNoWorse, IsPreferred}
-use Rattle.abi_scalar.proofs.RangeLemmas.{IsDistance, steps_are, same_distance, in_from_between, between_from_in}
+use Rattle.abi_scalar.specs.LeastRange.{IsLeastRange}
+use Rattle.abi_scalar.proofs.RangeLemmas.{steps_are, in_from_between, between_from_in}
 use Rattle.abi_scalar.proofs.CountLemmas.{range_counted}
 
 -- the range from the least value to the greatest
@@ -44,9 +44,9 @@ best_first all xs start end fewest h = record {
 kind_on : (all : ℕ) (xs : List ℕ) (k start end fewest : ℕ) → IsWhole xs start end fewest ⊎ IsAround all xs k start end fewest
     → IsWhole xs start end fewest ⊎ IsAround all xs (k + 1) start end fewest
 kind_on all xs k start end fewest h = elim h [
-    inl a ↦ inl a
+  | inl a ↦ inl a
   | inr a ↦ inr (record { i = a.i; below = omega (arith, a.below); last = a.last; next = a.next; gap = a.gap; reach = a.reach; shorter = a.shorter })
-  ]
+]
 
 -- one more value that leaves the best as it was
 pub best_kept : (all : ℕ) (xs : List ℕ) (k start end fewest : ℕ) → IsNonDecreasing xs → 1 ≤ k → k < length xs
@@ -57,7 +57,7 @@ best_kept all xs k start end fewest sorted some within h longer = record {
   whole = h.whole;
   kind = kind_on all xs k start end fewest h.kind;
   gaps = λ i j next l up. elim (cases_lt j k) [
-      inl earlier ↦ h.gaps i j next earlier up
+    | inl earlier ↦ h.gaps i j next earlier up
     | inr late ↦
         let e : j ≡ k = omega (arith, l, late) in
         let f : i ≡ k - 1 = omega (arith, e, next) in
@@ -65,11 +65,11 @@ best_kept all xs k start end fewest sorted some within h longer = record {
         let vj = ap (λ x. get_or xs x 0) e in (
           omega (arith, longer (omega (arith, up, vi, vj)), vi, vj),
           λ tie. elim h.kind [
-              inl a ↦ inl (omega (arith, a.2))
+            | inl a ↦ inl (omega (arith, a.2))
             | inr a ↦ inr (omega (arith, a.last, sorted a.i i 0 (omega (arith, a.below, f)) (omega (arith, within, f))))
-            ],
+          ],
         )
-    ];
+  ];
 }
 
 -- one more value, with a gap before it that is better to go round
@@ -80,10 +80,10 @@ pub best_taken : (all : ℕ) (xs : List ℕ) (k start end fewest start' end' few
 best_taken all xs k start end fewest start' end' fewest' some within h next last gap reach shorter = record {
   whole = omega (arith, h.whole);
   kind =
-    let e : k - 1 + 1 ≡ k = omega arith in
-    inr (record { i = k - 1; below = omega arith; last = last; next = next ∙ sym (ap (λ x. get_or xs x 0) e); gap = gap; reach = reach; shorter = omega (arith, h.whole) });
+      let e : k - 1 + 1 ≡ k = omega arith in
+      inr (record { i = k - 1; below = omega arith; last = last; next = next ∙ sym (ap (λ x. get_or xs x 0) e); gap = gap; reach = reach; shorter = omega (arith, h.whole) });
   gaps = λ i j beside l up. elim (cases_lt j k) [
-      inl earlier ↦
+    | inl earlier ↦
         let before = h.gaps i j beside earlier up in
         (omega (arith, before.0), λ tie. absurd (omega (arith, before.0, tie)))
     | inr late ↦
@@ -92,7 +92,7 @@ best_taken all xs k start end fewest start' end' fewest' some within h next last
         let vi = ap (λ x. get_or xs x 0) f in
         let vj = ap (λ x. get_or xs x 0) e in
         (omega (arith, vi, vj, next, last, reach), λ tie. inr (omega (arith, vi, last)))
-    ];
+  ];
 }
 
 -- between a value up to a bound and one above it there are neighbours that are such
@@ -101,10 +101,10 @@ crossing : (xs : List ℕ) (bound k : ℕ) → get_or xs 0 0 ≤ bound → bound
 crossing xs bound zero low high = absurd (omega (arith, low, high))
 crossing xs bound (suc k) low high =
     elim (cases_lt bound (get_or xs k 0)) [
-      inl above ↦ let c = crossing xs bound k low above in (c.0, omega (arith, c.1), c.2, c.3)
-    | inr here ↦
-        let e : k + 1 ≡ suc k = omega arith in
-        (k, omega arith, here, omega (arith, high, ap (λ x. get_or xs x 0) e))
+      | inl above ↦ let c = crossing xs bound k low above in (c.0, omega (arith, c.1), c.2, c.3)
+      | inr here ↦
+          let e : k + 1 ≡ suc k = omega arith in
+          (k, omega arith, here, omega (arith, high, ap (λ x. get_or xs x 0) e))
     ]
 
 -- what the other range takes, against the best
@@ -127,43 +127,43 @@ beaten width xs start end fewest other sorted some below h w holds =
     let first = between_from_in width other least w (holds 0 0 some) in
     let last = between_from_in width other greatest w (holds most 0 (omega (arith, some))) in
     elim d.is [
-      inl plain ↦
-        let low : other.start ≤ least = elim first [ inl x ↦ x.1 | inr x ↦ elim x [ inl y ↦ absurd (omega (arith, plain, y)) | inr y ↦ absurd (omega (arith, plain, y)) ] ] in
-        let high : greatest ≤ other.end = elim last [ inl x ↦ x.2 | inr x ↦ elim x [ inl y ↦ absurd (omega (arith, plain, y)) | inr y ↦ absurd (omega (arith, plain, y)) ] ] in
-        record {
-          longer = omega (arith, plain, low, high, h.whole);
-          tie = λ e. elim h.kind [ inl a ↦ inl (omega (arith, a.2)) | inr a ↦ absurd (omega (arith, e, plain, low, high, a.shorter)) ];
-        }
-    | inr wraps ↦
-        elim (cases_lt least other.start) [
-          inl low ↦
-            let within : least ≤ other.end = elim first [ inl x ↦ absurd (omega (arith, wraps, x)) | inr x ↦ elim x [ inl y ↦ absurd (omega (arith, low, y)) | inr y ↦ y.1 ] ] in
-            elim (cases_lt other.end greatest) [
-              inl high ↦
-                let c = crossing xs other.end most within high in
-                let up : other.start ≤ get_or xs (c.0 + 1) 0 =
-                    elim (between_from_in width other (get_or xs (c.0 + 1) 0) w (holds (c.0 + 1) 0 (omega (arith, c.1, some)))) [
-                      inl x ↦ absurd (omega (arith, wraps, x))
-                    | inr x ↦ elim x [ inl y ↦ y.1 | inr y ↦ absurd (omega (arith, y, c.3)) ]
-                    ] in
-                let gap = h.gaps c.0 (c.0 + 1) refl (omega (arith, c.1, some)) (omega (arith, c.2, c.3)) in
-                record {
-                  longer = omega (arith, gap.0, up, c.2, wraps);
-                  tie = λ e. elim (gap.1 (omega (arith, gap.0, up, c.2, wraps, e))) [
-                      inl x ↦ inl x
-                    | inr x ↦ inr (wraps.0, omega (arith, x, c.2))
-                    ];
-                }
-            | inr flat ↦ record {
-                longer = omega (arith, h.whole, flat, wraps, w.0);
-                tie = λ e. absurd (omega (arith, h.whole, flat, wraps, w.0, e));
-              }
-            ]
-        | inr high ↦ record {
-            longer = omega (arith, h.whole, high, wraps, top);
-            tie = λ e. absurd (omega (arith, h.whole, high, wraps, top, e));
+      | inl plain ↦
+          let low : other.start ≤ least = elim first [ inl x ↦ x.1 | inr x ↦ elim x [ inl y ↦ absurd (omega (arith, plain, y)) | inr y ↦ absurd (omega (arith, plain, y)) ] ] in
+          let high : greatest ≤ other.end = elim last [ inl x ↦ x.2 | inr x ↦ elim x [ inl y ↦ absurd (omega (arith, plain, y)) | inr y ↦ absurd (omega (arith, plain, y)) ] ] in
+          record {
+            longer = omega (arith, plain, low, high, h.whole);
+            tie = λ e. elim h.kind [ inl a ↦ inl (omega (arith, a.2)) | inr a ↦ absurd (omega (arith, e, plain, low, high, a.shorter)) ];
           }
-        ]
+      | inr wraps ↦
+          elim (cases_lt least other.start) [
+            | inl low ↦
+                let within : least ≤ other.end = elim first [ inl x ↦ absurd (omega (arith, wraps, x)) | inr x ↦ elim x [ inl y ↦ absurd (omega (arith, low, y)) | inr y ↦ y.1 ] ] in
+                elim (cases_lt other.end greatest) [
+                  | inl high ↦
+                      let c = crossing xs other.end most within high in
+                      let up : other.start ≤ get_or xs (c.0 + 1) 0 =
+                      elim (between_from_in width other (get_or xs (c.0 + 1) 0) w (holds (c.0 + 1) 0 (omega (arith, c.1, some)))) [
+                        | inl x ↦ absurd (omega (arith, wraps, x))
+                        | inr x ↦ elim x [ inl y ↦ y.1 | inr y ↦ absurd (omega (arith, y, c.3)) ]
+                      ] in
+                      let gap = h.gaps c.0 (c.0 + 1) refl (omega (arith, c.1, some)) (omega (arith, c.2, c.3)) in
+                      record {
+                        longer = omega (arith, gap.0, up, c.2, wraps);
+                        tie = λ e. elim (gap.1 (omega (arith, gap.0, up, c.2, wraps, e))) [
+                          | inl x ↦ inl x
+                          | inr x ↦ inr (wraps.0, omega (arith, x, c.2))
+                        ];
+                      }
+                  | inr flat ↦ record {
+                    longer = omega (arith, h.whole, flat, wraps, w.0);
+                    tie = λ e. absurd (omega (arith, h.whole, flat, wraps, w.0, e));
+                  }
+                ]
+            | inr high ↦ record {
+              longer = omega (arith, h.whole, high, wraps, top);
+              tie = λ e. absurd (omega (arith, h.whole, high, wraps, top, e));
+            }
+          ]
     ]
 
 pub least_from_best : (width : ℕ) (xs : List ℕ) (range : WrappingRange) (fewest : ℕ) → IsNonDecreasing xs → 0 < length xs
@@ -173,35 +173,40 @@ least_from_best width xs range fewest sorted some below h =
     let all = numbers_of width in
     let most = length xs - 1 in
     let within : AreWithin width range = elim h.kind [
-      inl a ↦ (omega (arith, a.0, below 0 0 some), omega (arith, a.1, below most 0 (omega (arith, some))))
-    | inr a ↦ (omega (arith, a.next, below (a.i + 1) 0 a.below), omega (arith, a.last, below a.i 0 (omega (arith, a.below))))
+      | inl a ↦ (omega (arith, a.0, below 0 0 some), omega (arith, a.1, below most 0 (omega (arith, some))))
+      | inr a ↦ (omega (arith, a.next, below (a.i + 1) 0 a.below), omega (arith, a.last, below a.i 0 (omega (arith, a.below))))
     ] in
     let d = steps_are width range.start range.end within.0 within.1 in
     let reach : steps_between width range.start range.end ≡ fewest = elim h.kind [
-      inl a ↦ elim d.is [ inl x ↦ omega (arith, x, a.2) | inr x ↦ absurd (omega (arith, x, a.2)) ]
-    | inr a ↦ elim d.is [ inl x ↦ absurd (omega (arith, x, a.gap)) | inr x ↦ omega (arith, x, a.reach) ]
+      | inl a ↦ elim d.is [ inl x ↦ omega (arith, x, a.2) | inr x ↦ absurd (omega (arith, x, a.2)) ]
+      | inr a ↦ elim d.is [ inl x ↦ absurd (omega (arith, x, a.gap)) | inr x ↦ omega (arith, x, a.reach) ]
     ] in
     record {
       within = within;
-      holds = λ i d l. 
-        let v = get_or_default xs i d 0 l in
-        in_from_between width range (get_or xs i d) within (below i d l) (elim h.kind [
-          inl a ↦ inl (omega (arith, a.2), omega (arith, v, a.0, sorted 0 i 0 (omega arith) l), omega (arith, v, a.1, sorted i most 0 (omega (arith, l)) (omega (arith, some))))
-        | inr a ↦ elim (cases_lt a.i i) [
-            inl after ↦ inr (inl (a.gap, omega (arith, v, a.next, sorted (a.i + 1) i 0 (omega (arith, after)) l)))
-          | inr upto ↦ inr (inr (a.gap, omega (arith, v, a.last, sorted i a.i 0 upto (omega (arith, a.below)))))
-          ]
-        ]);
-      least = λ other w holds.
-        let b = beaten width xs range.start range.end fewest other sorted some below h w holds in
-        let many = steps_between width other.start other.end in
-        let P : ℕ → Type 0 = λ n. AreSoMany (IsIn width range) (n + 1) in
-        (fewest + 1, many + 1, subst P reach (range_counted width range within), range_counted width other w, elim (cases_lt fewest many) [
-            inl l ↦ inl (omega (arith, l))
-          | inr g ↦
-              let e : fewest ≡ many = omega (arith, g, b.longer) in
-              inr (ap (λ n. n + 1) e, b.tie e)
+      holds = λ i d l.
+          let v = get_or_default xs i d 0 l in
+          in_from_between width range (get_or xs i d) within (below i d l) (elim h.kind [
+            | inl a ↦ inl (omega (arith, a.2), omega (arith, v, a.0, sorted 0 i 0 (omega arith) l), omega (arith, v, a.1, sorted i most 0 (omega (arith, l)) (omega (arith, some))))
+            | inr a ↦ elim (cases_lt a.i i) [
+              | inl after ↦ inr (inl (a.gap, omega (arith, v, a.next, sorted (a.i + 1) i 0 (omega (arith, after)) l)))
+              | inr upto ↦ inr (inr (a.gap, omega (arith, v, a.last, sorted i a.i 0 upto (omega (arith, a.below)))))
+            ]
           ]);
+      least = λ other w holds.
+          let b = beaten width xs range.start range.end fewest other sorted some below h w holds in
+          let many = steps_between width other.start other.end in
+          let P : ℕ → Type 0 = λ n. AreSoMany (IsIn width range) (n + 1) in (
+            fewest + 1,
+            many + 1,
+            subst P reach (range_counted width range within),
+            range_counted width other w,
+            elim (cases_lt fewest many) [
+              | inl l ↦ inl (omega (arith, l))
+              | inr g ↦
+                  let e : fewest ≡ many = omega (arith, g, b.longer) in
+                  inr (ap (λ n. n + 1) e, b.tie e)
+            ],
+          );
     }
 
 -- how long the way round a gap is

@@ -4,3 +4,4 @@ pub mod GapLemmas
 pub mod ReserveLemmas
 pub mod CountLemmas
 pub mod LeastLemmas
+pub mod NicheLemmas

@@ -176,8 +176,8 @@ steps_are width start end s e =
     let all = numbers_of width in
     let cut = cut_once all (end + all - start) (omega arith) in
     elim (cases_lt end start) [
-      inl l ↦ record { below = cut.below; is = inr (l, elim cut.is [ inl a ↦ omega (arith, a, l) | inr a ↦ absurd (omega (arith, a, l, cut.below)) ]) }
-    | inr g ↦ record { below = cut.below; is = inl (g, elim cut.is [ inl a ↦ absurd (omega (arith, a, g)) | inr a ↦ omega (arith, a, g) ]) }
+      | inl l ↦ record { below = cut.below; is = inr (l, elim cut.is [ inl a ↦ omega (arith, a, l) | inr a ↦ absurd (omega (arith, a, l, cut.below)) ]) }
+      | inr g ↦ record { below = cut.below; is = inl (g, elim cut.is [ inl a ↦ absurd (omega (arith, a, g)) | inr a ↦ omega (arith, a, g) ]) }
     ]
 
 -- two ways after one another
@@ -185,13 +185,13 @@ pub compose : (all a b c x y z : ℕ) → a < all → b < all → c < all → Is
     → (x + y ≡ z) ⊎ (x + y ≡ z + all)
 compose all a b c x y z ha hb hc dx dy dz =
     elim dx.is [
-      inl p ↦ elim dy.is [
-        inl q ↦ elim dz.is [ inl r ↦ inl (omega (arith, p, q, r)) | inr r ↦ absurd (omega (arith, p, q, r)) ]
-      | inr q ↦ elim dz.is [ inl r ↦ inr (omega (arith, p, q, r)) | inr r ↦ inl (omega (arith, p, q, r)) ]
+      | inl p ↦ elim dy.is [
+        | inl q ↦ elim dz.is [ inl r ↦ inl (omega (arith, p, q, r)) | inr r ↦ absurd (omega (arith, p, q, r)) ]
+        | inr q ↦ elim dz.is [ inl r ↦ inr (omega (arith, p, q, r)) | inr r ↦ inl (omega (arith, p, q, r)) ]
       ]
-    | inr p ↦ elim dy.is [
-        inl q ↦ elim dz.is [ inl r ↦ inr (omega (arith, p, q, r)) | inr r ↦ inl (omega (arith, p, q, r)) ]
-      | inr q ↦ elim dz.is [ inl r ↦ absurd (omega (arith, p, q, r, dz.below)) | inr r ↦ inr (omega (arith, p, q, r)) ]
+      | inr p ↦ elim dy.is [
+        | inl q ↦ elim dz.is [ inl r ↦ inr (omega (arith, p, q, r)) | inr r ↦ inl (omega (arith, p, q, r)) ]
+        | inr q ↦ elim dz.is [ inl r ↦ absurd (omega (arith, p, q, r, dz.below)) | inr r ↦ inr (omega (arith, p, q, r)) ]
       ]
     ]
 
@@ -215,13 +215,13 @@ steps_from_in width range n w h i =
     let t_is = steps_are width range.start n w.0 h in
     let d_is = steps_are width range.start range.end w.0 w.1 in
     elim (cases_lt d i.0) [
-      inl l ↦ absurd (i.2 d l (arrive all range.start range.end d w.0 w.1 d_is))
-    | inr g ↦
-        let cut = cut_once all (range.start + i.0) (omega (arith, g, d_is.below, w.0)) in
-        elim cut.is [
-          inl a ↦ elim t_is.is [ inl b ↦ omega (arith, a, b, g, i.1) | inr b ↦ omega (arith, a, b, g, i.1) ]
-        | inr a ↦ elim t_is.is [ inl b ↦ absurd (omega (arith, a, b, g, i.1, d_is.below)) | inr b ↦ omega (arith, a, b, g, i.1) ]
-        ]
+      | inl l ↦ absurd (i.2 d l (arrive all range.start range.end d w.0 w.1 d_is))
+      | inr g ↦
+          let cut = cut_once all (range.start + i.0) (omega (arith, g, d_is.below, w.0)) in
+          elim cut.is [
+            | inl a ↦ elim t_is.is [ inl b ↦ omega (arith, a, b, g, i.1) | inr b ↦ omega (arith, a, b, g, i.1) ]
+            | inr a ↦ elim t_is.is [ inl b ↦ absurd (omega (arith, a, b, g, i.1, d_is.below)) | inr b ↦ omega (arith, a, b, g, i.1) ]
+          ]
     ]
 
 -- a member is a number of the width
@@ -242,11 +242,11 @@ included width range other w v first last n i =
     let d = steps_are width other.start n v.0 h in
     let e = steps_are width range.start n w.0 h in
     in_from_steps width range n w h (elim (compose all range.start other.start other.end _ _ _ w.0 v.0 v.1 a b c) [
-      inl p ↦ elim (compose all range.start other.start n _ _ _ w.0 v.0 h a d e) [
-        inl q ↦ omega (arith, near, first, last, p, q)
-      | inr q ↦ omega (arith, near, first, last, p, q, c.below)
+      | inl p ↦ elim (compose all range.start other.start n _ _ _ w.0 v.0 h a d e) [
+        | inl q ↦ omega (arith, near, first, last, p, q)
+        | inr q ↦ omega (arith, near, first, last, p, q, c.below)
       ]
-    | inr p ↦ absurd (omega (arith, first, p, b.below))
+      | inr p ↦ absurd (omega (arith, first, p, b.below))
     ])
 
 -- the ends are in the range
@@ -268,15 +268,15 @@ full_from_reach width range w long n h =
 before_start : (all start : ℕ) → start < all → (n : ℕ) × (n < all) × IsDistance all start n (all - 1)
 before_start all start h =
     elim (cases_lt 0 start) [
-      inl l ↦ (start - 1, omega arith, record { below = omega arith; is = inr (omega arith, omega arith) })
-    | inr g ↦ (all - 1, omega arith, record { below = omega arith; is = inl (omega arith, omega arith) })
+      | inl l ↦ (start - 1, omega arith, record { below = omega arith; is = inr (omega arith, omega arith) })
+      | inr g ↦ (all - 1, omega arith, record { below = omega arith; is = inl (omega arith, omega arith) })
     ]
 
 pub same_distance : (all a b x y : ℕ) → a < all → b < all → IsDistance all a b x → IsDistance all a b y → x ≡ y
 same_distance all a b x y ha hb dx dy =
     elim dx.is [
-      inl p ↦ elim dy.is [ inl q ↦ omega (arith, p, q) | inr q ↦ absurd (omega (arith, p, q)) ]
-    | inr p ↦ elim dy.is [ inl q ↦ absurd (omega (arith, p, q)) | inr q ↦ omega (arith, p, q) ]
+      | inl p ↦ elim dy.is [ inl q ↦ omega (arith, p, q) | inr q ↦ absurd (omega (arith, p, q)) ]
+      | inr p ↦ elim dy.is [ inl q ↦ absurd (omega (arith, p, q)) | inr q ↦ omega (arith, p, q) ]
     ]
 
 pub last_from_included : (width : ℕ) (range other : WrappingRange) → AreWithin width range → AreWithin width other
@@ -292,23 +292,23 @@ first_from_included width range other w v some inc =
     let first = steps_between width range.start other.start in
     let last = steps_between width range.start other.end in
     elim (cases_lt last first) [
-      inl l ↦
-        let z = before_start all range.start w.0 in
-        let a = steps_are width range.start other.start w.0 v.0 in
-        let b = steps_are width other.start other.end v.0 v.1 in
-        let c = steps_are width range.start other.end w.0 v.1 in
-        let d = steps_are width other.start z.0 v.0 z.1 in
-        let e = steps_are width range.start z.0 w.0 z.1 in
-        let far = same_distance all range.start z.0 _ _ w.0 z.1 e z.2 in
-        let near : steps_between width other.start z.0 ≤ steps_between width other.start other.end =
-            elim (compose all range.start other.start other.end _ _ _ w.0 v.0 v.1 a b c) [
-              inl p ↦ absurd (omega (arith, l, p))
+      | inl l ↦
+          let z = before_start all range.start w.0 in
+          let a = steps_are width range.start other.start w.0 v.0 in
+          let b = steps_are width other.start other.end v.0 v.1 in
+          let c = steps_are width range.start other.end w.0 v.1 in
+          let d = steps_are width other.start z.0 v.0 z.1 in
+          let e = steps_are width range.start z.0 w.0 z.1 in
+          let far = same_distance all range.start z.0 _ _ w.0 z.1 e z.2 in
+          let near : steps_between width other.start z.0 ≤ steps_between width other.start other.end =
+          elim (compose all range.start other.start other.end _ _ _ w.0 v.0 v.1 a b c) [
+            | inl p ↦ absurd (omega (arith, l, p))
             | inr p ↦ elim (compose all range.start other.start z.0 _ _ _ w.0 v.0 z.1 a d e) [
-                inl q ↦ omega (arith, l, p, q, far)
+              | inl q ↦ omega (arith, l, p, q, far)
               | inr q ↦ absurd (omega (arith, q, far, a.below, d.below))
-              ]
-            ] in
-        let reached = steps_from_in width range z.0 w z.1 (inc z.0 (in_from_steps width other z.0 v z.1 near)) in
-        absurd (some (full_from_reach width range w (omega (arith, reached, far))))
-    | inr g ↦ g
+            ]
+          ] in
+          let reached = steps_from_in width range z.0 w z.1 (inc z.0 (in_from_steps width other z.0 v z.1 near)) in
+          absurd (some (full_from_reach width range w (omega (arith, reached, far))))
+      | inr g ↦ g
     ]

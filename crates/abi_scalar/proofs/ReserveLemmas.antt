@@ -1,9 +1,9 @@
 -- Ranges as arcs: what moving an end adds.
-use Rattle.std.proofs.Common.{◌≡◌, ℕ, ◌+◌, ◌-◌, ◌*◌, ◌%◌, ◌<◌, ◌≤◌, ◌⊎◌, ◌↔◌, inl, inr, arith, sym, ap, ◌∙◌, refl, subst, Bool, true, false, if◌then◌else◌}
+use Rattle.std.proofs.Common.{◌≡◌, ℕ, ◌+◌, ◌-◌, ◌*◌, ◌%◌, ◌<◌, ◌≤◌, ◌⊎◌, inl, inr, arith, sym, refl, subst, Bool, true, false, if◌then◌else◌}
 use Rattle.std.proofs.lemmas.Bool.{cases_lt}
 use Rattle.std.proofs.lemmas.Nat.{mod_below, pow_pos}
 use Rattle.abi_scalar.specs.declared.wrapping_range.WrappingRange.{WrappingRange}
-use Rattle.abi_scalar.specs.Range.{numbers_of, IsIn, IsFree, AreWithin, steps_between, free_count}
+use Rattle.abi_scalar.specs.Range.{numbers_of, IsIn, AreWithin, steps_between, free_count}
 use Rattle.abi_base.specs.declared.data_layout.TargetDataLayout.{TargetDataLayout}
 use Rattle.abi_scalar.specs.declared.niche.Niche.{Niche}
 use Rattle.abi_scalar.specs.declared.scalar.Scalar.{Scalar}
@@ -12,7 +12,7 @@ use Rattle.abi_scalar.specs.Scalar.{range_of}
 use Rattle.abi_scalar.specs.Niche.{niche_size, available_in}
 use Rattle.abi_scalar.specs.Reserve.{HandsOut, stepped_on, stepped_back, start_moved, end_moved, moves_start, reserved}
 use Rattle.abi_scalar.proofs.GapLemmas.{twice_half}
-use Rattle.abi_scalar.proofs.RangeLemmas.{IsDistance, cut_once, compose, steps_are, same_distance, in_from_steps, steps_from_in, below_from_in, free_by_comparison}
+use Rattle.abi_scalar.proofs.RangeLemmas.{IsDistance, cut_once, compose, steps_are, in_from_steps, steps_from_in, below_from_in, free_by_comparison}
 
 -- an arc: a range whose ends are so many steps after some number
 pub record IsArc (width origin : ℕ) (range : WrappingRange) (i j : ℕ) : Type 0 where
@@ -31,11 +31,11 @@ arc_in width origin range i j n q ho arc h dq is =
     let t = steps_are width range.start n w.0 h in
     let near = steps_from_in width range n w h is in
     elim (compose all origin range.start range.end _ _ _ ho w.0 w.1 arc.from d arc.to) [
-      inl x ↦ elim (compose all origin range.start n _ _ _ ho w.0 h arc.from t dq) [
-        inl y ↦ (omega (arith, y), omega (arith, x, y, near))
-      | inr y ↦ absurd (omega (arith, x, y, near, arc.to.below))
+      | inl x ↦ elim (compose all origin range.start n _ _ _ ho w.0 h arc.from t dq) [
+        | inl y ↦ (omega (arith, y), omega (arith, x, y, near))
+        | inr y ↦ absurd (omega (arith, x, y, near, arc.to.below))
       ]
-    | inr x ↦ absurd (omega (arith, x, arc.order, d.below))
+      | inr x ↦ absurd (omega (arith, x, arc.order, d.below))
     ]
 
 pub in_arc : (width origin : ℕ) (range : WrappingRange) (i j n q : ℕ) → origin < numbers_of width → IsArc width origin range i j
@@ -46,13 +46,13 @@ in_arc width origin range i j n q ho arc h dq low high =
     let d = steps_are width range.start range.end w.0 w.1 in
     let t = steps_are width range.start n w.0 h in
     in_from_steps width range n w h (
-      elim (compose all origin range.start range.end _ _ _ ho w.0 w.1 arc.from d arc.to) [
-        inl x ↦ elim (compose all origin range.start n _ _ _ ho w.0 h arc.from t dq) [
-          inl y ↦ omega (arith, x, y, low, high)
+    elim (compose all origin range.start range.end _ _ _ ho w.0 w.1 arc.from d arc.to) [
+      | inl x ↦ elim (compose all origin range.start n _ _ _ ho w.0 h arc.from t dq) [
+        | inl y ↦ omega (arith, x, y, low, high)
         | inr y ↦ absurd (omega (arith, y, low, t.below))
-        ]
+      ]
       | inr x ↦ absurd (omega (arith, x, arc.order, d.below))
-      ])
+    ])
 
 -- so many steps on from a number
 pub further : (all origin n m k : ℕ) → origin < all → n < all → IsDistance all origin n m → m + k < all
@@ -62,11 +62,14 @@ further all origin n m k ho h d small =
     record {
       below = small;
       is = elim cut.is [
-        inl a ↦ elim d.is [ inl b ↦ inl (omega (arith, a, b), omega (arith, a, b)) | inr b ↦ elim (cases_lt ((n + k) % all) origin) [
-            inl l ↦ inr (l, omega (arith, a, b))
-          | inr g ↦ absurd (omega (arith, a, b, g, small))
-          ] ]
-      | inr a ↦ elim d.is [ inl b ↦ inr (omega (arith, a, b, small), omega (arith, a, b)) | inr b ↦ absurd (omega (arith, a, b, small)) ]
+        | inl a ↦ elim d.is [
+          | inl b ↦ inl (omega (arith, a, b), omega (arith, a, b))
+          | inr b ↦ elim (cases_lt ((n + k) % all) origin) [
+            | inl l ↦ inr (l, omega (arith, a, b))
+            | inr g ↦ absurd (omega (arith, a, b, g, small))
+          ]
+        ]
+        | inr a ↦ elim d.is [ inl b ↦ inr (omega (arith, a, b, small), omega (arith, a, b)) | inr b ↦ absurd (omega (arith, a, b, small)) ]
       ];
     }
 
@@ -74,8 +77,8 @@ further all origin n m k ho h d small =
 pub same_place : (all origin x y q : ℕ) → x < all → y < all → IsDistance all origin x q → IsDistance all origin y q → x ≡ y
 same_place all origin x y q hx hy dx dy =
     elim dx.is [
-      inl a ↦ elim dy.is [ inl b ↦ omega (arith, a, b) | inr b ↦ absurd (omega (arith, a, b, hx)) ]
-    | inr a ↦ elim dy.is [ inl b ↦ absurd (omega (arith, a, b, hy)) | inr b ↦ omega (arith, a, b) ]
+      | inl a ↦ elim dy.is [ inl b ↦ omega (arith, a, b) | inr b ↦ absurd (omega (arith, a, b, hx)) ]
+      | inr a ↦ elim dy.is [ inl b ↦ absurd (omega (arith, a, b, hy)) | inr b ↦ omega (arith, a, b) ]
     ]
 
 -- a number that is far enough is reached from another on the way
@@ -98,37 +101,40 @@ arcs_hand_out width origin old new i j i' j' first m count ho a b hf df room bes
     let small = λ (k : ℕ). mod_below (first + k) all (omega (arith, ho)) in
     record {
       within = b.within;
-      were_free = λ k l. (small k, λ is.
-        let o = arc_in width origin old i j (stepped_on width first k) (m + k) ho a (small k) (place k l) is in
-        elim beside [ inl x ↦ omega (arith, x, o.0, l) | inr x ↦ omega (arith, x, o.1) ]);
+      were_free = λ k l. (
+        small k,
+        λ is.
+            let o = arc_in width origin old i j (stepped_on width first k) (m + k) ho a (small k) (place k l) is in
+            elim beside [ inl x ↦ omega (arith, x, o.0, l) | inr x ↦ omega (arith, x, o.1) ],
+      );
       members = λ n. (
         λ is.
-          let h = below_from_in width new n b.within is in
-          let q = steps_between width origin n in
-          let dq = steps_are width origin n ho h in
-          let o = arc_in width origin new i' j' n q ho b h dq is in
-          elim beside [
-            inl x ↦ elim (cases_lt q i) [
-              inl l ↦ inr (q - m, omega (arith, x, l, o.0), reached all origin first n m q ho hf h df dq (omega (arith, x, o.0)))
-            | inr g ↦ inl (in_arc width origin old i j n q ho a h dq g (omega (arith, x, o.1)))
-            ]
-          | inr x ↦ elim (cases_lt j q) [
-              inl l ↦ inr (q - m, omega (arith, x, l, o.1), reached all origin first n m q ho hf h df dq (omega (arith, x, l)))
-            | inr g ↦ inl (in_arc width origin old i j n q ho a h dq (omega (arith, x, o.0)) g)
-            ]
-          ],
-        λ either. elim either [
-          inl is ↦
-            let h = below_from_in width old n a.within is in
+            let h = below_from_in width new n b.within is in
             let q = steps_between width origin n in
             let dq = steps_are width origin n ho h in
-            let o = arc_in width origin old i j n q ho a h dq is in
-            in_arc width origin new i' j' n q ho b h dq
+            let o = arc_in width origin new i' j' n q ho b h dq is in
+            elim beside [
+              | inl x ↦ elim (cases_lt q i) [
+                | inl l ↦ inr (q - m, omega (arith, x, l, o.0), reached all origin first n m q ho hf h df dq (omega (arith, x, o.0)))
+                | inr g ↦ inl (in_arc width origin old i j n q ho a h dq g (omega (arith, x, o.1)))
+              ]
+              | inr x ↦ elim (cases_lt j q) [
+                | inl l ↦ inr (q - m, omega (arith, x, l, o.1), reached all origin first n m q ho hf h df dq (omega (arith, x, l)))
+                | inr g ↦ inl (in_arc width origin old i j n q ho a h dq (omega (arith, x, o.0)) g)
+              ]
+            ],
+        λ either. elim either [
+          | inl is ↦
+              let h = below_from_in width old n a.within is in
+              let q = steps_between width origin n in
+              let dq = steps_are width origin n ho h in
+              let o = arc_in width origin old i j n q ho a h dq is in
+              in_arc width origin new i' j' n q ho b h dq
               (elim beside [ inl x ↦ omega (arith, x, o.0) | inr x ↦ omega (arith, x, o.0) ])
               (elim beside [ inl x ↦ omega (arith, x, o.1) | inr x ↦ omega (arith, x, o.1, room) ])
-        | inr k ↦
-            let P : ℕ → Type 0 = λ x. IsIn width new x in
-            subst P (sym k.2) (in_arc width origin new i' j' (stepped_on width first k.0) (m + k.0) ho b (small k.0) (place k.0 k.1)
+          | inr k ↦
+              let P : ℕ → Type 0 = λ x. IsIn width new x in
+              subst P (sym k.2) (in_arc width origin new i' j' (stepped_on width first k.0) (m + k.0) ho b (small k.0) (place k.0 k.1)
               (elim beside [ inl x ↦ omega (arith, x) | inr x ↦ omega (arith, x, a.order) ])
               (elim beside [ inl x ↦ omega (arith, x, k.1, a.order) | inr x ↦ omega (arith, x, k.1) ]))
         ],
@@ -140,19 +146,25 @@ extend : (all a b c x y : ℕ) → a < all → b < all → c < all → IsDistanc
     → IsDistance all a c (x + y)
 extend all a b c x y ha hb hc dx dy small =
     elim (cases_lt c a) [
-      inl l ↦ record {
+      | inl l ↦ record {
         below = small;
-        is = inr (l, elim dx.is [
-          inl p ↦ elim dy.is [ inl q ↦ absurd (omega (arith, p, q, l)) | inr q ↦ omega (arith, p, q) ]
-        | inr p ↦ elim dy.is [ inl q ↦ omega (arith, p, q) | inr q ↦ absurd (omega (arith, p, q, small)) ]
-        ]);
+        is = inr (
+          l,
+          elim dx.is [
+            | inl p ↦ elim dy.is [ inl q ↦ absurd (omega (arith, p, q, l)) | inr q ↦ omega (arith, p, q) ]
+            | inr p ↦ elim dy.is [ inl q ↦ omega (arith, p, q) | inr q ↦ absurd (omega (arith, p, q, small)) ]
+          ],
+        );
       }
-    | inr g ↦ record {
+      | inr g ↦ record {
         below = small;
-        is = inl (g, elim dx.is [
-          inl p ↦ elim dy.is [ inl q ↦ omega (arith, p, q) | inr q ↦ absurd (omega (arith, p, q, g, small)) ]
-        | inr p ↦ elim dy.is [ inl q ↦ absurd (omega (arith, p, q, g, small)) | inr q ↦ absurd (omega (arith, p, q, small)) ]
-        ]);
+        is = inl (
+          g,
+          elim dx.is [
+            | inl p ↦ elim dy.is [ inl q ↦ omega (arith, p, q) | inr q ↦ absurd (omega (arith, p, q, g, small)) ]
+            | inr p ↦ elim dy.is [ inl q ↦ absurd (omega (arith, p, q, g, small)) | inr q ↦ absurd (omega (arith, p, q, small)) ]
+          ],
+        );
       }
     ]
 
@@ -163,8 +175,8 @@ free_and_reach width range w =
     let f = free_by_comparison (numbers_of width) range.start range.end w.0 w.1 in
     let d = steps_are width range.start range.end w.0 w.1 in
     elim f.is [
-      inl p ↦ elim d.is [ inl q ↦ omega (arith, p, q) | inr q ↦ absurd (omega (arith, p, q)) ]
-    | inr p ↦ elim d.is [ inl q ↦ absurd (omega (arith, p, q)) | inr q ↦ omega (arith, p, q) ]
+      | inl p ↦ elim d.is [ inl q ↦ omega (arith, p, q) | inr q ↦ absurd (omega (arith, p, q)) ]
+      | inr p ↦ elim d.is [ inl q ↦ absurd (omega (arith, p, q)) | inr q ↦ omega (arith, p, q) ]
     ]
 
 back_distance : (all start count : ℕ) → start < all → count < all → IsDistance all ((start + all - count) % all) start count
@@ -173,8 +185,8 @@ back_distance all start count hs hc =
     record {
       below = hc;
       is = elim (cases_lt start ((start + all - count) % all)) [
-        inl l ↦ inr (l, elim cut.is [ inl a ↦ omega (arith, a) | inr a ↦ absurd (omega (arith, a, l)) ])
-      | inr g ↦ inl (g, elim cut.is [ inl a ↦ absurd (omega (arith, a, g, hc)) | inr a ↦ omega (arith, a, hs, hc) ])
+        | inl l ↦ inr (l, elim cut.is [ inl a ↦ omega (arith, a) | inr a ↦ absurd (omega (arith, a, l)) ])
+        | inr g ↦ inl (g, elim cut.is [ inl a ↦ absurd (omega (arith, a, g, hc)) | inr a ↦ omega (arith, a, hs, hc) ])
       ];
     }
 
@@ -216,9 +228,9 @@ end_handed width range count w some room =
 either : (dl : TargetDataLayout) (niche : Niche) (count : ℕ) (start : Bool)
     → AreWithin (niche_size dl niche) niche.valid_range → 1 ≤ count → count ≤ available_in dl niche
     → let handed : ℕ × Scalar = if start
-      then (stepped_back (niche_size dl niche) niche.valid_range.start count, Initialized niche.value (start_moved (niche_size dl niche) niche.valid_range count))
-      else (stepped_on (niche_size dl niche) niche.valid_range.end 1, Initialized niche.value (end_moved (niche_size dl niche) niche.valid_range count)) in
-      HandsOut (niche_size dl niche) niche.valid_range (range_of dl handed.1) handed.0 count
+    then (stepped_back (niche_size dl niche) niche.valid_range.start count, Initialized niche.value (start_moved (niche_size dl niche) niche.valid_range count))
+    else (stepped_on (niche_size dl niche) niche.valid_range.end 1, Initialized niche.value (end_moved (niche_size dl niche) niche.valid_range count)) in
+    HandsOut (niche_size dl niche) niche.valid_range (range_of dl handed.1) handed.0 count
 either dl niche count true w some room = start_handed (niche_size dl niche) niche.valid_range count w some room
 either dl niche count false w some room = end_handed (niche_size dl niche) niche.valid_range count w some room
 

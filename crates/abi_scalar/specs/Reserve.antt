@@ -1,5 +1,5 @@
 -- Which free numbers of a niche are handed out, and on which side of its range they lie.
-use Rattle.std.specs.Prelude.{◌≡◌, ℕ, ◌+◌, ◌-◌, ◌%◌, ◌<◌, ◌≤◌, ◌==◌, ◌&&◌, ◌⊎◌, ◌↔◌, nat_lt, nat_le, Bool, false, not, min, if◌then◌else◌}
+use Rattle.std.specs.Prelude.{◌≡◌, ℕ, ◌+◌, ◌-◌, ◌%◌, ◌<◌, ◌==◌, ◌&&◌, ◌⊎◌, ◌↔◌, nat_lt, nat_le, Bool, false, not, min, if◌then◌else◌}
 use Rattle.abi_base.specs.declared.data_layout.TargetDataLayout.{TargetDataLayout}
 use Rattle.abi_scalar.specs.declared.niche.Niche.{Niche}
 use Rattle.abi_scalar.specs.declared.scalar.Scalar.{Scalar}
@@ -54,10 +54,14 @@ moves_start width range count =
 abbrev pub reserved : TargetDataLayout → Niche → (count : ℕ) → ℕ × Scalar
 reserved dl niche count =
     if moves_start (niche_size dl niche) niche.valid_range count
-    then (stepped_back (niche_size dl niche) niche.valid_range.start count,
-        Initialized niche.value (start_moved (niche_size dl niche) niche.valid_range count))
-    else (stepped_on (niche_size dl niche) niche.valid_range.end 1,
-        Initialized niche.value (end_moved (niche_size dl niche) niche.valid_range count))
+    then (
+      stepped_back (niche_size dl niche) niche.valid_range.start count,
+      Initialized niche.value (start_moved (niche_size dl niche) niche.valid_range count),
+    )
+    else (
+      stepped_on (niche_size dl niche) niche.valid_range.end 1,
+      Initialized niche.value (end_moved (niche_size dl niche) niche.valid_range count),
+    )
 
 -- The new range has the old one's numbers and `count` more, which are counted from `first` and were free.
 pub record HandsOut (width : ℕ) (old new : WrappingRange) (first count : ℕ) : Type 0 where

@@ -58,7 +58,11 @@ impl WrappingRange {
     /// The least range of so many bytes that holds the values, which come in any order: the one with the fewest
     /// numbers, of several such one that does not wrap round, else the one with the least end. None for no
     /// values.
-    pub fn smallest_range_containing<I: Iterator<Item = u128>>(alloc: Global, values: I, size: Size) -> Result<Option<WrappingRange>, AllocError>
+    pub fn smallest_range_containing<I: Iterator<Item = u128>>(
+        alloc: Global,
+        values: I,
+        size: Size,
+    ) -> Result<Option<WrappingRange>, AllocError>
     where
         I: Drop,
         requires some { 1 ≤ size }
@@ -66,10 +70,8 @@ impl WrappingRange {
         requires can { I.can_next values }
         requires ends { IsFinite (I.remaining values) }
         requires within { EachRunFrom I.next_gives values (λ p. All (λ v. v < numbers_of size) p.items) }
-        ensures {
-            IfOk result (λ found. WholeRun I.next_gives values (λ p.
-                MatchOption found (p.items ≡ []) (IsLeastRange size p.items)))
-        }
+        ensures { IfOk result (λ found. WholeRun I.next_gives values (λ p.
+            MatchOption found (p.items ≡ []) (IsLeastRange size p.items))) }
     {
         let all: Vec<u128> = values.collect(alloc)?;
         Ok(least_range(all, size))

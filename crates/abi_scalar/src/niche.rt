@@ -1,11 +1,11 @@
 //! Niches: numbers that a place inside a type never holds.
 
-ghost use Rattle.std.specs.Prelude.{◌≡◌, ◌≤◌};
+ghost use Rattle.std.specs.Prelude.{◌≡◌, ◌↔◌, IsSome};
 ghost use Rattle.abi_base.specs.Primitive.{KnowsPrimitive};
 ghost use Rattle.abi_scalar.specs.Count.{AreSoMany};
 ghost use Rattle.abi_scalar.specs.Range.{IsFree, AreWithin};
 ghost use Rattle.abi_scalar.specs.Scalar.{IsReadable};
-ghost use Rattle.abi_scalar.specs.Niche.{niche_size, available_in, niche_at, IsReadableNiche};
+ghost use Rattle.abi_scalar.specs.Niche.{niche_size, available_in, niche_at, HasFreeNumber, IsReadableNiche};
 
 use crate::scalar::Scalar;
 use crate::wrapping_range::{WrappingRange, greatest_number};
@@ -23,7 +23,8 @@ impl Niche {
     /// The niche of a scalar at an offset. None for a union's scalar, and where no number is free.
     pub fn from_scalar<C: HasDataLayout>(cx: &C, offset: Size, scalar: Scalar) -> Option<Niche>
         requires { IsReadable (C.target cx.now) scalar }
-        ensures { result ≡ niche_at (C.target cx.now) offset scalar }
+        ensures exact { result ≡ niche_at (C.target cx.now) offset scalar }
+        ensures free { IsSome result ↔ HasFreeNumber (C.target cx.now) scalar }
     {
         match scalar {
             Scalar::Initialized { value, valid_range } => {
@@ -47,9 +48,7 @@ impl Niche {
     pub fn available<C: HasDataLayout>(&self, cx: &C) -> u128
         requires { IsReadableNiche (C.target cx.now) self.now }
         ensures exact { result ≡ available_in (C.target cx.now) self.now }
-        ensures count {
-            AreSoMany (IsFree (niche_size (C.target cx.now) self.now) self.now.valid_range) result
-        }
+        ensures count { AreSoMany (IsFree (niche_size (C.target cx.now) self.now) self.now.valid_range) result }
     {
         self.valid_range.free(self.value.size(cx))
     }

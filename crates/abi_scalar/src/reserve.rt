@@ -111,10 +111,8 @@ impl Niche {
         requires some { 1 ≤ count }
         ensures room { IsSome result ↔ (count ≤ available_in (C.target cx.now) self.now) }
         ensures side { IfSome result (λ handed. handed ≡ reserved (C.target cx.now) self.now count) }
-        ensures set {
-            IfSome result (λ handed. HandsOut (niche_size (C.target cx.now) self.now) self.now.valid_range
-                (range_of (C.target cx.now) handed.1) handed.0 count)
-        }
+        ensures set { IfSome result (λ handed. HandsOut (niche_size (C.target cx.now) self.now) self.now.valid_range
+            (range_of (C.target cx.now) handed.1) handed.0 count) }
     {
         let size = self.value.size(cx);
         let range = self.valid_range;
@@ -212,7 +210,10 @@ mod tests {
             start: 0xFFFF_FFFF,
             end: 0x10_FFFF,
         };
-        assert_eq!(rt; handed, Some((0xFFFF_FFFF, Scalar::Initialized { value, valid_range })));
+        assert_eq!(rt;
+            handed,
+            Some((0xFFFF_FFFF, Scalar::Initialized { value, valid_range }))
+        );
         let value = Primitive::Int(Integer::I8, false);
         let valid_range = WrappingRange {
             start: 255,

@@ -180,7 +180,13 @@ mod tests {
         let union = Scalar::Union { value };
         assert_eq!(rt; union.size(&dl), Size::from_bytes(8));
         assert_eq!(rt; union.default_align(&dl).bytes(), 4);
-        assert_eq!(rt; union.valid_range(&dl), WrappingRange { start: 0, end: 0xFFFF_FFFF_FFFF_FFFF });
+        assert_eq!(rt;
+            union.valid_range(&dl),
+            WrappingRange {
+                start: 0,
+                end: 0xFFFF_FFFF_FFFF_FFFF
+            }
+        );
         assert!(rt; union.is_always_valid(&dl));
         let byte = Primitive::Int(Integer::I8, false);
         let turned = Scalar::Initialized {

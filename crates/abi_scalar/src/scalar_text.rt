@@ -127,9 +127,15 @@ mod tests {
             (scalar(signed, 100, 200), "i8 is (..=-56) | (100..)"),
             (scalar(pointer, 0, u128::MAX), "pointer is .."),
             (scalar(pointer, 0, 65535), "pointer is 0..=65535"),
-            (scalar(Primitive::Float(Float::F32), 0, 0xFFFF_FFFF), "f32 is .."),
+            (
+                scalar(Primitive::Float(Float::F32), 0, 0xFFFF_FFFF),
+                "f32 is ..",
+            ),
             (Scalar::Union { value: unsigned }, "union u8"),
-            (Scalar::Union { value: far }, "union pointer(AddressSpace(5))"),
+            (
+                Scalar::Union { value: far },
+                "union pointer(AddressSpace(5))",
+            ),
         ];
         for (value, want) in rows {
             let text = format!(in rt.alloc(); "{value:?}")?;

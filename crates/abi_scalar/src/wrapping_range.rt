@@ -86,10 +86,8 @@ impl WrappingRange {
 
     /// Whether the number is in it, whatever width the ends and the number are read at.
     pub fn contains(&self, v: u128) -> bool
-        ensures {
-            (width : ℕ) → AreWithin width self.now → v < numbers_of width
-            → (IsTrue result ↔ IsIn width self.now v)
-        }
+        ensures { (width : ℕ) → AreWithin width self.now → v < numbers_of width
+            → (IsTrue result ↔ IsIn width self.now v) }
     {
         is_between(self.start, self.end, v)
     }

@@ -1,4 +1,4 @@
-use Rattle.std.proofs.Common.{◌≡◌, ℕ, ◌+◌, ◌-◌, ◌<◌, ◌≤◌, ap, ◌∙◌, sym, arith, subst, get_or, length}
+use Rattle.std.proofs.Common.{◌≡◌, ℕ, ◌-◌, ◌<◌, ◌≤◌, ap, arith, subst, get_or, length}
 use Rattle.abi_scalar.specs.declared.wrapping_range.WrappingRange.{WrappingRange}
 use Rattle.abi_scalar.specs.Range.{numbers_of}
 use Rattle.abi_scalar.proofs.LeastLemmas.{IsBestSoFar, best_kept, best_taken, around_gap, least_from_best}
@@ -17,20 +17,20 @@ loop-k-preserved c =
     let start : get_or xs k 0 < all = c.requires.within k 0 within in
     let end : get_or xs (k - 1) 0 < all = c.requires.within (k - 1) 0 (omega (arith, within, some)) in
     elim c.if-end-start.branch [
-      then-end-start+then-reach-fewest w ↦
-        let reach = around_gap c.args.size (get_or xs k 0) (get_or xs (k - 1) 0) start end w.if-end-start.true in
-        let s = ap (λ (b : WrappingRange). b.start) w.best-is in
-        let e = ap (λ (b : WrappingRange). b.end) w.best-is in
-        best_taken all xs k best.start best.end c.loop-k.fewest new.start new.end c.if-end-start.fewest some within c.loop-k.invariant
-        s e (omega (arith, s, e, w.if-end-start.true)) (omega (arith, s, e, w.fewest-is, w.steps-reach.ensures, reach))
-        (omega (arith, w.fewest-is, w.if-reach-fewest.true))
-    | then-end-start+else-reach-fewest w ↦
-        let reach = around_gap c.args.size (get_or xs k 0) (get_or xs (k - 1) 0) start end w.if-end-start.true in
-        rw (w.best-is, w.fewest-is) (best_kept all xs k best.start best.end c.loop-k.fewest c.requires.ascending some within c.loop-k.invariant
-        (λ up. omega (arith, w.if-reach-fewest.false, w.steps-reach.ensures, reach)))
-    | else-end-start w ↦
-        rw (w.best-is, w.fewest-is) (best_kept all xs k best.start best.end c.loop-k.fewest c.requires.ascending some within c.loop-k.invariant
-        (λ up. absurd (omega (arith, up, w.if-end-start.false))))
+      | then-end-start+then-reach-fewest w ↦
+          let reach = around_gap c.args.size (get_or xs k 0) (get_or xs (k - 1) 0) start end w.if-end-start.true in
+          let s = ap (λ (b : WrappingRange). b.start) w.best-is in
+          let e = ap (λ (b : WrappingRange). b.end) w.best-is in
+          best_taken all xs k best.start best.end c.loop-k.fewest new.start new.end c.if-end-start.fewest some within c.loop-k.invariant
+          s e (omega (arith, s, e, w.if-end-start.true)) (omega (arith, s, e, w.fewest-is, w.steps-reach.ensures, reach))
+          (omega (arith, w.fewest-is, w.if-reach-fewest.true))
+      | then-end-start+else-reach-fewest w ↦
+          let reach = around_gap c.args.size (get_or xs k 0) (get_or xs (k - 1) 0) start end w.if-end-start.true in
+          rw (w.best-is, w.fewest-is) (best_kept all xs k best.start best.end c.loop-k.fewest c.requires.ascending some within c.loop-k.invariant
+          (λ up. omega (arith, w.if-reach-fewest.false, w.steps-reach.ensures, reach)))
+      | else-end-start w ↦
+          rw (w.best-is, w.fewest-is) (best_kept all xs k best.start best.end c.loop-k.fewest c.requires.ascending some within c.loop-k.invariant
+          (λ up. absurd (omega (arith, up, w.if-end-start.false))))
     ]
 
 pub returns : goal.returns

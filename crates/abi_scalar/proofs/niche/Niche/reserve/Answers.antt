@@ -1,5 +1,4 @@
-use Rattle.std.proofs.Common.{rules, arith}
-use Rattle.std.proofs.lemmas.Grind.{common_steps}
+use Rattle.std.proofs.Common.{rules}
 use Rattle.abi_scalar.specs.declared.scalar.Scalar.TheVariants.{Initialized}
 use Rattle.abi_scalar.proofs.ReserveLemmas.{reserved_hands_out}
 use Rattle.abi_scalar.proofs.niche.Niche.reserve.Goals as goal

@@ -1,4 +1,4 @@
-use Rattle.std.proofs.Common.{◌≡◌, ◌≤◌, sym, ◌∙◌, arith, true, false}
+use Rattle.std.proofs.Common.{arith}
 use Rattle.std.proofs.lemmas.Bool.{leb-true, le-leb}
 use Rattle.std.proofs.lemmas.Bool.Decides.{not_from_Decides}
 use Rattle.abi_scalar.proofs.RangeLemmas.{included, first_from_included, last_from_included}
@@ -10,12 +10,12 @@ returns-then-first-last c =
     let first = c.steps-first.ensures in
     let last = c.steps-last.ensures in (
       λ t.
-        let near = leb-true c.steps-last.result c.steps-reach.result t in
-        included c.args.size c.args.self.now c.args.other c.requires.within c.requires.other_within
-        (omega (arith, first, last)) (omega (arith, near, last, reach)),
+          let near = leb-true c.steps-last.result c.steps-reach.result t in
+          included c.args.size c.args.self.now c.args.other c.requires.within c.requires.other_within
+          (omega (arith, first, last)) (omega (arith, near, last, reach)),
       λ inc.
-        let near = last_from_included c.args.size c.args.self.now c.args.other c.requires.within c.requires.other_within inc in
-        le-leb c.steps-last.result c.steps-reach.result (omega (arith, near, last, reach)),
+          let near = last_from_included c.args.size c.args.self.now c.args.other c.requires.within c.requires.other_within inc in
+          le-leb c.steps-last.result c.steps-reach.result (omega (arith, near, last, reach)),
     )
 
 pub returns-else-first-last : goal.returns-else-first-last
@@ -25,6 +25,6 @@ returns-else-first-last c =
     let last = c.steps-last.ensures in (
       λ t. absurd (omega (arith, leb-true c.steps-first.result c.steps-last.result t)),
       λ inc.
-        let near = first_from_included c.args.size c.args.self.now c.args.other c.requires.within c.requires.other_within some inc in
-        le-leb c.steps-first.result c.steps-last.result (omega (arith, near, first, last)),
+          let near = first_from_included c.args.size c.args.self.now c.args.other c.requires.within c.requires.other_within some inc in
+          le-leb c.steps-first.result c.steps-last.result (omega (arith, near, first, last)),
     )

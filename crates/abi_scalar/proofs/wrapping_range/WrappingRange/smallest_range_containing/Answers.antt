@@ -1,4 +1,4 @@
-use Rattle.std.proofs.Common.{◌≡◌, ℕ, List, [], subst, sym, MatchOption}
+use Rattle.std.proofs.Common.{◌≡◌, ℕ, List, [], subst, MatchOption}
 use Rattle.abi_scalar.specs.LeastRange.{IsLeastRange}
 use Rattle.abi_scalar.proofs.wrapping_range.WrappingRange.smallest_range_containing.Goals as goal
 
