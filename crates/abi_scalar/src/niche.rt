@@ -14,8 +14,11 @@ use abi_base::{HasDataLayout, Primitive, Size};
 /// A place inside a type, and the numbers that it holds there: all others of its width are free.
 #[derive(Clone, Copy, PartialEq, Eq, Hash, Debug)]
 pub struct Niche {
+    /// Where it begins, in bytes from the type's start.
     pub offset: Size,
+    /// What it consists of, which tells its width.
     pub value: Primitive,
+    /// The numbers that it holds.
     pub valid_range: WrappingRange,
 }
 

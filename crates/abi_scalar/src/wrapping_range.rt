@@ -13,7 +13,9 @@ use std::fmt::Debug;
 /// is read at. It wraps round where `start` is above `end`.
 #[derive(Clone, Copy, PartialEq, Eq, Hash)]
 pub struct WrappingRange {
+    /// The number that the count begins with.
     pub start: u128,
+    /// The number that it ends with, which is in the range too.
     pub end: u128,
 }
 
@@ -23,11 +25,7 @@ pub(crate) fn greatest_number(size: Size) -> u128
     requires most { size ≤ 16 }
     ensures { result ≡ numbers_of size - 1 }
 {
-    if size.bytes() == 16 {
-        u128::MAX
-    } else {
-        (1 << (8 * size.bytes())) - 1
-    }
+    size.unsigned_int_max()
 }
 
 /// Whether the number is met when counting from the start to the end.
