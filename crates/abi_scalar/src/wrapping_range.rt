@@ -54,6 +54,13 @@ pub(crate) fn steps(start: u128, end: u128, size: Size) -> u128
     }
 }
 
+/// Whether the numbers ascend.
+fn ascend(first: u128, last: u128, reach: u128) -> bool
+    ensures { IsTrue result ↔ ((first ≤ last) × (last ≤ reach)) }
+{
+    first <= last && last <= reach
+}
+
 /// How many numbers of so many bytes are below this one, where they are read as signed.
 fn place(n: u128, size: Size) -> u128
     requires some { 1 ≤ size }
@@ -104,7 +111,7 @@ impl WrappingRange {
         let reach = steps(self.start, self.end, size);
         let first = steps(self.start, other.start, size);
         let last = steps(self.start, other.end, size);
-        first <= last && last <= reach
+        ascend(first, last, reach)
     }
 
     /// Whether it has every number of so many bytes. Ranges other than that of `full` are full too.
