@@ -12,3 +12,5 @@ pub mod Reserve
 pub mod Lawful
 pub mod Simple
 pub mod Lending
+pub mod View
+pub mod Layout

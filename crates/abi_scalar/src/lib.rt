@@ -7,6 +7,7 @@ mod fields_shape;
 mod handle;
 mod lane_count;
 mod lawful;
+mod layout_calls;
 mod layout_data;
 mod least_range;
 mod niche;
@@ -16,6 +17,7 @@ mod scalar;
 mod scalar_text;
 mod simple;
 mod variants;
+mod view;
 mod wrapping_range;
 
 pub use backend_repr::BackendRepr;
