@@ -51,6 +51,13 @@ impl Scalar {
         }
     }
 
+    /// Whether it consists of this primitive.
+    pub(crate) fn is_of(&self, value: Primitive) -> bool
+        ensures { IsTrue result ↔ (primitive_of self.now ≡ value) }
+    {
+        self.primitive() == value
+    }
+
     /// Its alignment as a type of its own.
     pub fn default_align<C: HasDataLayout>(self, cx: &C) -> Align
         requires { KnowsPrimitive (C.target cx.now) (primitive_of self) }
