@@ -1,10 +1,15 @@
 -- What a data layout says, and when its types have layouts at all.
-use Rattle.std.specs.Prelude.{◌≡◌, ℕ, ◌^◌, ◌≤◌, ◌⊎◌, ◌==◌, List, [], ◌∷◌, ◌++◌, All, Option, Some, None, map, IsSome, if◌then◌else◌, unwrap_or}
+use Rattle.std.specs.Prelude.{◌≡◌, ℕ, ◌^◌, ◌≤◌, ◌⊎◌, ◌==◌, List, [], ◌∷◌, ◌++◌, All, Option, Some, None, Bool, false, map, IsSome, if◌then◌else◌, unwrap_or}
 use Rattle.std.specs.Int.{◌∣◌}
+use Rattle.std.specs.Ordering.{on, eq_of_both}
+use Rattle.std.specs.Prelude.{nat_eq}
+use Rattle.std.proofs.Math.Bool.{beq}
 use Rattle.abi_base.specs.declared.address_space.AddressSpace.{AddressSpace}
 use Rattle.abi_base.specs.declared.data_layout.PointerSpec.{PointerSpec}
 use Rattle.abi_base.specs.declared.data_layout.TargetDataLayout.{TargetDataLayout}
 use Rattle.abi_base.specs.declared.integer.Integer.{Integer}
+use Rattle.abi_base.specs.declared.integer.Integer.TheVariants.{I32}
+use Rattle.abi_base.specs.declared.endian.Endian.TheVariants.{Big}
 use Rattle.abi_base.specs.declared.float.Float.{Float}
 use Rattle.abi_base.specs.Integer.{integer_size, integer_align}
 use Rattle.abi_base.specs.Float.{float_size, float_align}
@@ -41,14 +46,43 @@ size_bound dl = bound_of_pointer dl.default_address_space_pointer_spec.pointer_s
 abbrev pub IsPointerWidth : ℕ → Type 0
 IsPointerWidth bytes = (bytes ≡ 2) ⊎ (bytes ≡ 4) ⊎ (bytes ≡ 8)
 
--- each alignment that the data layout names, as an exponent of two
-abbrev pub alignments_of : TargetDataLayout → List ℕ
-alignments_of dl =
+-- the listed alignment of vectors of a size: the first of that size
+abbrev pub listed_align : List (ℕ × ℕ) → ℕ → Option ℕ
+listed_align [] size = None
+listed_align (e ∷ entries) size = if e.0 == size then Some e.1 else listed_align entries size
+
+-- the same size and alignment
+abbrev pub same_vector : ℕ × ℕ → ℕ × ℕ → Bool
+same_vector = eq_of_both (on (λ e. e.0) nat_eq) (on (λ e. e.1) nat_eq)
+
+-- pointers represented in the same way, fat ones among them
+abbrev pub same_spec : PointerSpec → PointerSpec → Bool
+same_spec = eq_of_both (eq_of_both (eq_of_both (on (λ p. p.pointer_size) nat_eq) (on (λ p. p.pointer_align) nat_eq)) (on (λ p. p.pointer_offset) nat_eq)) (on (λ p. p.is_fat) beq)
+
+-- the same space, with pointers represented in the same way
+abbrev pub same_entry : AddressSpace × PointerSpec → AddressSpace × PointerSpec → Bool
+same_entry = eq_of_both (on (λ e. e.0.0) nat_eq) (on (λ e. e.1) same_spec)
+
+-- each alignment of a scalar or a list of fields, as an exponent of two
+abbrev pub scalar_alignments_of : TargetDataLayout → List ℕ
+scalar_alignments_of dl =
     dl.i1_align ∷ dl.i8_align ∷ dl.i16_align ∷ dl.i32_align ∷ dl.i64_align ∷ dl.i128_align
     ∷ dl.f16_align ∷ dl.f32_align ∷ dl.f64_align ∷ dl.f128_align ∷ dl.aggregate_align
     ∷ dl.default_address_space_pointer_spec.pointer_align ∷ []
+
+-- each alignment that the data layout names, as an exponent of two
+abbrev pub alignments_of : TargetDataLayout → List ℕ
+alignments_of dl =
+    scalar_alignments_of dl
     ++ map (λ e. e.1) dl.vector_align
     ++ map (λ e. e.1.pointer_align) dl.address_space_info
+
+-- the default space's pointers and indices have 16, 32 or 64 bits, the pointers a multiple of their alignment
+abbrev pub HasLawfulDefault : TargetDataLayout → Type 0
+HasLawfulDefault dl =
+    IsPointerWidth dl.default_address_space_pointer_spec.pointer_size
+    × IsPointerWidth dl.default_address_space_pointer_spec.pointer_offset
+    × (2 ^ dl.default_address_space_pointer_spec.pointer_align ∣ dl.default_address_space_pointer_spec.pointer_size)
 
 -- A lawful data layout: one under which types have layouts.
 pub record IsLawfulDataLayout (dl : TargetDataLayout) : Type 0 where
@@ -74,3 +108,26 @@ pub record IsLawfulSpec (spec : PointerSpec) : Type 0 where
 -- the space is known, and its pointers are lawful
 abbrev pub HasLawfulPointer : TargetDataLayout → AddressSpace → Type 0
 HasLawfulPointer dl space = Knows dl space × IsLawfulSpec (pointer_spec_of dl space)
+
+-- The data layout of a target that says nothing of its own.
+abbrev pub default_data_layout : TargetDataLayout
+default_data_layout = record {
+  endian = Big;
+  i1_align = 0;
+  i8_align = 0;
+  i16_align = 1;
+  i32_align = 2;
+  i64_align = 2;
+  i128_align = 2;
+  f16_align = 1;
+  f32_align = 2;
+  f64_align = 3;
+  f128_align = 4;
+  aggregate_align = 0;
+  vector_align = (8, 3) ∷ (16, 4) ∷ [];
+  default_address_space = record { 0 = 0 };
+  default_address_space_pointer_spec = record { pointer_size = 8; pointer_align = 3; pointer_offset = 8; is_fat = false };
+  address_space_info = [];
+  instruction_address_space = record { 0 = 0 };
+  c_enum_min_size = I32;
+}

@@ -1,5 +1,5 @@
 -- Scalars, and the numbers that they hold.
-use Rattle.std.specs.Prelude.{ℕ, ◌<◌, ◌≤◌}
+use Rattle.std.specs.Prelude.{ℕ, ◌<◌, ◌≤◌, ⊤}
 use Rattle.abi_base.specs.declared.primitive.Primitive.{Primitive}
 use Rattle.abi_base.specs.declared.data_layout.TargetDataLayout.{TargetDataLayout}
 use Rattle.abi_base.specs.Primitive.{primitive_size, primitive_align, KnowsPrimitive, IsLawfulPrimitive}
@@ -12,6 +12,11 @@ use Rattle.abi_scalar.specs.Range.{numbers_of, IsIn, AreWithin, full_range}
 abbrev pub primitive_of : Scalar → Primitive
 primitive_of (Initialized value range) = value
 primitive_of (Union value) = value
+
+-- it is a union's scalar
+abbrev pub IsUnion : Scalar → Type 0
+IsUnion (Initialized value range) = ⊥
+IsUnion (Union value) = ⊤
 
 -- how many bytes it has
 abbrev pub scalar_size : TargetDataLayout → Scalar → ℕ

@@ -6,10 +6,12 @@ mod error;
 mod fields_shape;
 mod handle;
 mod lane_count;
+mod lawful;
 mod layout_data;
 mod niche;
 mod repr;
 mod scalar;
+mod simple;
 mod variants;
 mod wrapping_range;
 

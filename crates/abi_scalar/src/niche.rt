@@ -1,7 +1,14 @@
 //! Niches: numbers that a place inside a type never holds.
 
-use crate::wrapping_range::WrappingRange;
-use abi_base::{Primitive, Size};
+ghost use Rattle.std.specs.Prelude.{◌≡◌, ◌≤◌};
+ghost use Rattle.abi_base.specs.Primitive.{KnowsPrimitive};
+ghost use Rattle.abi_scalar.specs.Range.{AreWithin};
+ghost use Rattle.abi_scalar.specs.Scalar.{IsReadable};
+ghost use Rattle.abi_scalar.specs.Niche.{niche_size, available_in, niche_at, IsReadableNiche};
+
+use crate::scalar::Scalar;
+use crate::wrapping_range::{WrappingRange, greatest_number};
+use abi_base::{HasDataLayout, Primitive, Size};
 
 /// A place inside a type, and the numbers that it holds there: all others of its width are free.
 #[derive(Clone, Copy, PartialEq, Eq, Hash, Debug)]
@@ -9,4 +16,36 @@ pub struct Niche {
     pub offset: Size,
     pub value: Primitive,
     pub valid_range: WrappingRange,
+}
+
+impl Niche {
+    /// The niche of a scalar at an offset. None for a union's scalar, and where no number is free.
+    pub fn from_scalar<C: HasDataLayout>(cx: &C, offset: Size, scalar: Scalar) -> Option<Niche>
+        requires { IsReadable (C.target cx.now) scalar }
+        ensures { result ≡ niche_at (C.target cx.now) offset scalar }
+    {
+        match scalar {
+            Scalar::Initialized { value, valid_range } => {
+                let niche = Niche {
+                    offset,
+                    value,
+                    valid_range,
+                };
+                if niche.available(cx) == 0 {
+                    None
+                } else {
+                    Some(niche)
+                }
+            }
+            Scalar::Union { value: _ } => None,
+        }
+    }
+
+    /// How many numbers are free.
+    pub fn available<C: HasDataLayout>(&self, cx: &C) -> u128
+        requires { IsReadableNiche (C.target cx.now) self.now }
+        ensures { result ≡ available_in (C.target cx.now) self.now }
+    {
+        self.valid_range.free(self.value.size(cx))
+    }
 }

@@ -1,0 +1,74 @@
+//! The layouts of types without parts.
+
+ghost use Rattle.std.specs.Prelude.{◌≡◌, ℕ, ◌+◌, ◌*◌, ◌%◌, ◌^◌};
+ghost use Rattle.abi_base.specs.DataLayout.{IsLawfulDataLayout};
+ghost use Rattle.abi_scalar.specs.Scalar.{IsReadable, IsLawfulScalar};
+ghost use Rattle.abi_scalar.specs.Simple.{kind_of, mixed, scalar_seed, scalar_layout};
+ghost use Rattle.abi_scalar.specs.Lawful.{IsLawfulLayout};
+
+use crate::backend_repr::BackendRepr;
+use crate::fields_shape::FieldsShape;
+use crate::layout_data::LayoutData;
+use crate::niche::Niche;
+use crate::scalar::Scalar;
+use crate::variants::Variants;
+use abi_base::{AbiAlign, HasDataLayout, Primitive, Size};
+use abi_index::{Hash64, Idx};
+
+/// What tells apart the seeds of equally large primitives.
+fn kind(value: Primitive) -> u64
+    ensures { result ≡ kind_of value }
+{
+    match value {
+        Primitive::Int(_, signed) => { if signed { 1 } else { 2 } }
+        Primitive::Float(_) => 3,
+        Primitive::Pointer(_) => 4,
+    }
+}
+
+/// The low 64 bits, rotated right by 16.
+fn mix(n: u128) -> Hash64
+    ensures { result ≡ mixed n }
+{
+    Hash64::new(((n % (1 << 64)) as u64).rotate_right(16))
+}
+
+/// The seed of a scalar.
+fn seed<C: HasDataLayout>(cx: &C, scalar: Scalar) -> Hash64
+    requires { IsReadable (C.target cx.now) scalar }
+    ensures { result ≡ scalar_seed (C.target cx.now) scalar }
+{
+    let range = scalar.valid_range(cx);
+    let kind = kind(scalar.primitive()) << 32;
+    Hash64::new(scalar.size(cx).bytes())
+        .wrapping_add(Hash64::new(kind))
+        .wrapping_add(mix(range.start))
+        .wrapping_add(mix(range.end))
+}
+
+impl<FieldIdx: Idx, VariantIdx: Idx> LayoutData<FieldIdx, VariantIdx> {
+    /// The layout of one scalar: its size, its own alignment, and its free numbers as niche.
+    pub fn scalar<C: HasDataLayout>(cx: &C, scalar: Scalar) -> Self
+        requires { IsReadable (C.target cx.now) scalar }
+        ensures exact { result ≡ scalar_layout (VariantIdx.at 0) (C.target cx.now) scalar }
+        ensures lawful { IsLawfulDataLayout (C.target cx.now) → IsLawfulScalar (C.target cx.now) scalar
+            → IsLawfulLayout (C.target cx.now) result }
+    {
+        let align = scalar.default_align(cx);
+        LayoutData {
+            fields: FieldsShape::Primitive,
+            variants: Variants::Single {
+                index: VariantIdx::new(0),
+            },
+            backend_repr: BackendRepr::Scalar(scalar),
+            largest_niche: Niche::from_scalar(cx, Size::ZERO, scalar),
+            uninhabited: false,
+            align: AbiAlign::new(align),
+            size: scalar.size(cx),
+            max_repr_align: None,
+            unadjusted_abi_align: align,
+            repr_c: false,
+            randomization_seed: seed(cx, scalar),
+        }
+    }
+}

@@ -1,0 +1,5 @@
+mod BytesLemmas
+mod HoldLemmas
+mod ScalarLemmas
+mod ElementsLemmas
+mod PartsLemmas

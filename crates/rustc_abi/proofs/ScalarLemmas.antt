@@ -1,0 +1,116 @@
+-- A scalar's layout keeps its numbers.
+use Rattle.std.proofs.Common.{◌≤◌, ◌≡◌, ℕ, ◌+◌, ◌<◌, List, length, Some, None, arith, refl, sym, ap, ◌∙◌, subst, ◌*◌}
+use Rattle.std.specs.Prelude.{IfSome, true}
+use Rattle.std.proofs.lemmas.List.{take_all}
+use Rattle.std.proofs.lemmas.Nat.{mod_below, pow_pos}
+use Rattle.std.proofs.lemmas.Option.{IfSome_then}
+use Rattle.std.proofs.lemmas.Bool.{ltb-true, lt-ltb}
+use Rattle.abi_base.specs.declared.data_layout.TargetDataLayout.{TargetDataLayout}
+use Rattle.abi_base.specs.declared.endian.Endian.{Endian}
+use Rattle.abi_scalar.specs.declared.scalar.Scalar.{Scalar}
+use Rattle.abi_scalar.specs.declared.scalar.Scalar.TheVariants.{Initialized, Union}
+use Rattle.abi_scalar.specs.declared.niche.Niche.{Niche}
+use Rattle.abi_scalar.specs.Range.{numbers_of, IsIn}
+use Rattle.abi_scalar.specs.Scalar.{scalar_size, IsNumberOf}
+use Rattle.abi_scalar.specs.Niche.{niche_size}
+use Rattle.abi_scalar.specs.Lawful.{IsLawfulLayout}
+use Rattle.rustc_abi.specs.Tree.{Tree, scalar}
+use Rattle.rustc_abi.specs.Bytes.{AreBytes, bytes_at, number_of}
+use Rattle.rustc_abi.specs.Value.{Value, number, two, list, variant, state, bytes}
+use Rattle.rustc_abi.specs.Placed.{Placed, Layout, size_of, scalar as placed_scalar}
+use Rattle.rustc_abi.specs.Places.{is_data_place}
+use Rattle.rustc_abi.specs.Values.{IsValueOf}
+use Rattle.rustc_abi.specs.Holding.{Holds}
+use Rattle.rustc_abi.specs.Faithful.{AgreeOn, IsFaithful}
+use Rattle.rustc_abi.specs.Fits.{Fits}
+use Rattle.rustc_abi.proofs.BytesLemmas.{same_bytes, spelled_in, length-spelled_in, number_of-spelled_in, AreBytes-spelled_in}
+
+-- a scalar's number is one of its width
+pub in_width : (width : ℕ) (s : Scalar) (n : ℕ) → IsNumberOf width s n → n < numbers_of width
+in_width width (Initialized value range) n h = subst (λ k. k < numbers_of width) (sym h.1) (mod_below (range.start + h.0) (numbers_of width) (pow_pos (8 * width)))
+in_width width (Union value) n h = h
+
+-- the niche, if there is one, is the scalar
+abbrev pub IsWhole : Scalar → Niche → Type 0
+IsWhole s n = (n.offset ≡ 0) × (s ≡ Initialized n.value n.valid_range)
+
+module _ (dl : TargetDataLayout) (s : Scalar) (layout : Layout) (size : layout.size ≡ scalar_size dl s) (niche : IfSome layout.largest_niche (IsWhole s)) where
+  abbrev tree : Tree
+  tree = scalar s
+
+  abbrev placed : Placed
+  placed = placed_scalar layout s
+
+  exists : (v : Value) → IsValueOf dl tree placed v → (b : List ℕ) × AreBytes b × Holds dl.endian placed b v
+  exists (number n) h =
+      let here : IsNumberOf layout.size s n = subst (λ w. IsNumberOf w s n) (sym size) h in (
+        spelled_in dl.endian layout.size n,
+        AreBytes-spelled_in dl.endian layout.size n,
+        (length-spelled_in dl.endian layout.size n, sym (number_of-spelled_in dl.endian layout.size n (in_width layout.size s n here)), here),
+      )
+  exists (two n m) h = absurd h
+  exists (list vs) h = absurd h
+  exists (variant i vs) h = absurd h
+  exists (state i ps vs) h = absurd h
+  exists (bytes content) h = absurd h
+
+  only : (b : List ℕ) (v : Value) → AreBytes b → Holds dl.endian placed b v → IsValueOf dl tree placed v
+  only b (number n) are h = subst (λ w. IsNumberOf w s n) size h.2
+  only b (two n m) are h = h
+  only b (list vs) are h = h
+  only b (variant i vs) are h = h
+  only b (state i ps vs) are h = h
+  only b (bytes content) are h = h
+
+  unique : (b : List ℕ) (v w : Value) → Holds dl.endian placed b v → Holds dl.endian placed b w → v ≡ w
+  unique b (number n) (number m) h k = ap number (h.1 ∙ sym k.1)
+  unique b (number n) _ h k = absurd k
+  unique b (two n m) w h k = absurd h
+  unique b (list vs) w h k = absurd h
+  unique b (variant i vs) w h k = absurd h
+  unique b (state i ps vs) w h k = absurd h
+  unique b (bytes content) w h k = absurd h
+
+  padding : (xs ys : List ℕ) (v : Value) → length xs ≡ size_of placed → length ys ≡ size_of placed →
+      AgreeOn placed xs ys → Holds dl.endian placed xs v → Holds dl.endian placed ys v
+  padding xs ys v ex ey agree h =
+      subst (λ b. Holds dl.endian placed b v) (same_bytes xs ys layout.size ex ey (λ k lt. agree k (lt-ltb k layout.size lt))) h
+
+  -- the number at the niche's place is the whole number
+  true_niche : (n : Niche) → IsWhole s n → (b : List ℕ) (v : Value) → Holds dl.endian placed b v →
+      IsIn (niche_size dl n) n.valid_range (number_of dl.endian (bytes_at b n.offset (niche_size dl n)))
+  true_niche n e b (number m) h =
+      let width : layout.size ≡ niche_size dl n = size ∙ ap (scalar_size dl) e.1 in
+      let whole : bytes_at b n.offset (niche_size dl n) ≡ b =
+      ap (λ o. bytes_at b o (niche_size dl n)) e.0 ∙ take_all (niche_size dl n) b (omega (arith, width, h.0)) in
+      let here : IsNumberOf layout.size (Initialized n.value n.valid_range) m = subst (λ t. IsNumberOf layout.size t m) e.1 h.2 in
+      subst (λ w. IsIn w n.valid_range (number_of dl.endian (bytes_at b n.offset (niche_size dl n)))) width
+      (subst (IsIn layout.size n.valid_range) (h.1 ∙ ap (number_of dl.endian) (sym whole)) here)
+  true_niche n e b (two m k) h = absurd h
+  true_niche n e b (list vs) h = absurd h
+  true_niche n e b (variant i vs) h = absurd h
+  true_niche n e b (state i ps vs) h = absurd h
+  true_niche n e b (bytes content) h = absurd h
+
+  inside_niche : (n : Niche) → IsWhole s n → n.offset + niche_size dl n ≤ size_of placed
+  inside_niche n e =
+      let width : layout.size ≡ niche_size dl n = size ∙ ap (scalar_size dl) e.1 in
+      omega (arith, width, e.0)
+
+  faithful : IsFaithful dl tree placed
+  faithful = record {
+    exists = exists;
+    only = only;
+    unique = unique;
+    niche = IfSome_then layout.largest_niche niche true_niche;
+    inside = IfSome_then layout.largest_niche niche inside_niche;
+    padding = padding;
+  }
+
+  within : (k : ℕ) → is_data_place placed k ≡ true → k < size_of placed
+  within k place = ltb-true k layout.size place
+
+-- a scalar's layout
+pub Fits-scalar : (dl : TargetDataLayout) (s : Scalar) (layout : Layout) → layout.size ≡ scalar_size dl s → IfSome layout.largest_niche (IsWhole s) →
+    IsLawfulLayout dl layout → Fits dl (scalar s) (placed_scalar layout s)
+Fits-scalar dl s layout size niche lawful = record { faithful = λ _. faithful dl s layout size niche; lawful = lawful; within = within dl s layout size niche }

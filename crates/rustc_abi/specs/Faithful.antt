@@ -1,0 +1,53 @@
+-- What a layout of a type keeps: its values apart, and its bytes free of what isn't one.
+use Rattle.std.specs.Prelude.{◌≡◌, ℕ, ◌+◌, ◌≤◌, List, length, get_or, IfSome, true}
+use Rattle.abi_base.specs.declared.data_layout.TargetDataLayout.{TargetDataLayout}
+use Rattle.abi_scalar.specs.Range.{IsIn}
+use Rattle.abi_scalar.specs.Niche.{niche_size}
+use Rattle.rustc_abi.specs.Tree.{Tree}
+use Rattle.rustc_abi.specs.Value.{Value}
+use Rattle.rustc_abi.specs.Bytes.{AreBytes, bytes_at, number_of}
+use Rattle.rustc_abi.specs.Placed.{Placed, size_of, niche_of}
+use Rattle.rustc_abi.specs.Places.{is_data_place}
+use Rattle.rustc_abi.specs.Values.{IsValueOf}
+use Rattle.rustc_abi.specs.Holding.{Holds}
+
+-- the byte lists agree at each data place
+abbrev pub AgreeOn : Placed → List ℕ → List ℕ → Type 0
+AgreeOn placed xs ys = (k : ℕ) → is_data_place placed k ≡ true → get_or xs k 0 ≡ get_or ys k 0
+
+module _ (dl : TargetDataLayout) (tree : Tree) (placed : Placed) where
+  -- every value has bytes that hold it
+  abbrev pub EachValueIsHeld : Type 0
+  EachValueIsHeld = (v : Value) → IsValueOf dl tree placed v → (b : List ℕ) × AreBytes b × Holds dl.endian placed b v
+
+  -- only values are held
+  abbrev pub OnlyValuesAreHeld : Type 0
+  OnlyValuesAreHeld = (b : List ℕ) (v : Value) → AreBytes b → Holds dl.endian placed b v → IsValueOf dl tree placed v
+
+-- no bytes hold two values
+abbrev pub NoBytesHoldTwo : TargetDataLayout → Placed → Type 0
+NoBytesHoldTwo dl placed = (b : List ℕ) (v w : Value) → Holds dl.endian placed b v → Holds dl.endian placed b w → v ≡ w
+
+-- where bytes hold a value, the number at the largest niche's place lies in its range
+abbrev pub IsNicheTrue : TargetDataLayout → Placed → Type 0
+IsNicheTrue dl placed = IfSome (niche_of placed) (λ niche.
+    (b : List ℕ) (v : Value) → Holds dl.endian placed b v →
+    IsIn (niche_size dl niche) niche.valid_range (number_of dl.endian (bytes_at b niche.offset (niche_size dl niche))))
+
+-- the largest niche lies inside the type
+abbrev pub IsNicheInside : TargetDataLayout → Placed → Type 0
+IsNicheInside dl placed = IfSome (niche_of placed) (λ niche. niche.offset + niche_size dl niche ≤ size_of placed)
+
+-- byte lists of the type's size that agree at each data place hold the same values
+abbrev pub PaddingDecidesNothing : TargetDataLayout → Placed → Type 0
+PaddingDecidesNothing dl placed = (xs ys : List ℕ) (v : Value) → length xs ≡ size_of placed → length ys ≡ size_of placed →
+    AgreeOn placed xs ys → Holds dl.endian placed xs v → Holds dl.endian placed ys v
+
+-- A layout that keeps its type's values.
+pub record IsFaithful (dl : TargetDataLayout) (tree : Tree) (placed : Placed) : Type 0 where
+  pub exists : EachValueIsHeld dl tree placed
+  pub only : OnlyValuesAreHeld dl tree placed
+  pub unique : NoBytesHoldTwo dl placed
+  pub niche : IsNicheTrue dl placed
+  pub inside : IsNicheInside dl placed
+  pub padding : PaddingDecidesNothing dl placed

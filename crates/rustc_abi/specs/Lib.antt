@@ -1,0 +1,12 @@
+pub mod Tree
+pub mod Value
+pub mod Bytes
+pub mod Placed
+pub mod Tag
+pub mod Places
+pub mod Values
+pub mod Holding
+pub mod Faithful
+pub mod Fits
+pub mod Error
+pub mod Nodes

@@ -1,0 +1,44 @@
+-- What the nodes of a vector mean, each of which names only earlier ones.
+use Rattle.std.specs.Prelude.{◌≡◌, ℕ, ◌+◌, ◌-◌, ◌<◌, ◌≤◌, All, List, [], ◌∷◌, ◌++◌, get_or, length, map}
+use Rattle.abi_calc.specs.Apart.{offsets_of}
+use Rattle.rustc_abi.specs.Placed.{Placed, Layout, scalar, elements, fields, Parts, no_parts, part, nothing}
+use Rattle.rustc_abi.specs.declared.node.Shape.{Shape}
+use Rattle.rustc_abi.specs.declared.node.Shape.TheVariants.{Scalar, Elements, Fields}
+use Rattle.rustc_abi.specs.declared.node.Node.{Node}
+
+-- the type that stands at this place
+abbrev pub placed_in : List Placed → ℕ → Placed
+placed_in done i = get_or done i nothing
+
+-- types at these offsets
+abbrev pub parts_at : (offsets : List ℕ) → List Placed → Parts
+parts_at (o ∷ offsets) (p ∷ ps) = part o p (parts_at offsets ps)
+parts_at _ _ = no_parts
+
+-- what a node means, after those before it
+abbrev pub meaning : List Placed → Layout → Shape → Placed
+meaning done layout (Scalar s) = scalar layout s
+meaning done layout (Elements count element) = elements layout count (placed_in done element)
+meaning done layout (Fields children) = fields layout (parts_at (offsets_of layout.fields) (map (placed_in done) children.items))
+
+-- the meanings of all nodes, after those that are done
+abbrev pub meanings : List Placed → List Node → List Placed
+meanings done [] = done
+meanings done (n ∷ ns) = meanings (done ++ meaning done n.layout n.shape ∷ []) ns
+
+-- what each node means
+abbrev pub types_in : List Node → List Placed
+types_in ns = meanings [] ns
+
+-- what the node at this place means
+abbrev pub placed_at : List Node → ℕ → Placed
+placed_at ns i = placed_in (types_in ns) i
+
+-- what the last node means
+abbrev pub root_of : List Node → Placed
+root_of ns = placed_at ns (length ns - 1)
+
+-- each type that was there is there
+pub record Keeps (old new : List Placed) : Type 0 where
+  pub longer : length old ≤ length new
+  pub same : (i : ℕ) → i < length old → placed_in new i ≡ placed_in old i

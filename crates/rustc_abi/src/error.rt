@@ -1,0 +1,58 @@
+//! Why a tree has no layout.
+
+use abi_scalar::LayoutCalculatorError;
+use std::alloc::{AllocError, AllocFailed};
+
+/// Why a tree has no layout.
+#[derive(Clone, Copy, PartialEq, Eq, Debug)]
+pub enum LayError {
+    /// The data layout isn't lawful, so that no type has a layout under it.
+    UnlawfulDataLayout,
+    /// A type of this kind isn't laid out yet.
+    NotYet,
+    /// A list has more items than its index type can name.
+    BadIndex,
+    /// A field that has to be sized is unsized, as none in a tree is.
+    UnexpectedUnsized,
+    /// A size is not below the data layout's bound.
+    SizeOverflow,
+    /// A growth of memory was refused.
+    OutOfMemory,
+}
+
+impl From<AllocError> for LayError {
+    ghost use Rattle.std.specs.Prelude.{◌≡◌};
+    ghost use Rattle.rustc_abi.specs.declared.error.LayError.TheVariants.{OutOfMemory};
+
+    ghost from_gives = { λ _ error. error ≡ OutOfMemory };
+
+    fn from(_error: AllocError) -> Self {
+        LayError::OutOfMemory
+    }
+}
+
+impl<T: Drop> From<AllocFailed<T>> for LayError {
+    ghost use Rattle.std.specs.Prelude.{◌≡◌};
+    ghost use Rattle.rustc_abi.specs.declared.error.LayError.TheVariants.{OutOfMemory};
+
+    ghost from_gives = { λ _ error. error ≡ OutOfMemory };
+
+    fn from(_error: AllocFailed<T>) -> Self {
+        LayError::OutOfMemory
+    }
+}
+
+impl<F> From<LayoutCalculatorError<F>> for LayError {
+    ghost use Rattle.std.specs.Prelude.{◌≡◌};
+    ghost use Rattle.rustc_abi.specs.Error.{lay_error};
+
+    ghost from_gives = { λ refused error. error ≡ lay_error refused };
+
+    fn from(refused: LayoutCalculatorError<F>) -> Self {
+        match refused {
+            LayoutCalculatorError::UnexpectedUnsized(_) => LayError::UnexpectedUnsized,
+            LayoutCalculatorError::SizeOverflow => LayError::SizeOverflow,
+            LayoutCalculatorError::OutOfMemory => LayError::OutOfMemory,
+        }
+    }
+}
