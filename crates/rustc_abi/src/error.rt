@@ -42,7 +42,7 @@ impl<T: Drop> From<AllocFailed<T>> for LayError {
     }
 }
 
-impl<F> From<LayoutCalculatorError<F>> for LayError {
+impl<F: Drop> From<LayoutCalculatorError<F>> for LayError {
     ghost use Rattle.std.specs.Prelude.{◌≡◌};
     ghost use Rattle.rustc_abi.specs.Error.{lay_error};
 
