@@ -15,9 +15,11 @@ pub(crate) fn decimal(word: &[u8]) -> Option<u64>
         if !digit.is_ascii_digit() {
             return None;
         }
-        number = number
-            .checked_mul(10)?
-            .checked_add(u64::from(*digit - b'0'))?;
+        let more = u128::from(number) * 10 + u128::from(*digit - b'0');
+        if more > u128::from(u64::MAX) {
+            return None;
+        }
+        number = more as u64;
     }
     Some(number)
 }

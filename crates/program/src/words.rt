@@ -1,6 +1,6 @@
 //! The words of a line.
 
-ghost use Rattle.std.specs.Prelude.{◌≡◌, ◌≢◌, ◌<◌, ◌≤◌, ℕ, length, slice_index, MatchOption, [], ◌∷◌, true, false};
+ghost use Rattle.std.specs.Prelude.{◌≡◌, ◌≢◌, ◌<◌, ◌≤◌, ℕ, length, slice_index, MatchOption, IfSome, take, drop, [], ◌∷◌, true, false};
 ghost use Rattle.program.specs.Words.{is_plain, words_of};
 
 fn is_plain(byte: u8) -> bool
@@ -37,13 +37,30 @@ fn run_length(line: &[u8]) -> usize
     line.len()
 }
 
+/// How many bytes the line's first word has.
+fn first_length(line: &[u8]) -> usize
+    requires some { 0 < length line.now }
+    requires begins { slice_index line.now 0 ≢ 32 }
+    ensures first { words_of line.now ≡ take result line.now ∷ words_of (drop result line.now) }
+    ensures some { 0 < result }
+    ensures within { result ≤ length line.now }
+{
+    if is_plain(line[0]) {
+        run_length(line)
+    } else {
+        1
+    }
+}
+
 /// The line's first word, and what follows it.
 pub(crate) fn next_word(line: &[u8]) -> Option<(&[u8], &[u8])>
     ensures words { MatchOption result (words_of line.now ≡ []) (λ p. words_of line.now ≡ p.0.now ∷ words_of p.1.now) }
-    ensures shorter { MatchOption result (length line.now ≡ length line.now) (λ p. length p.1.now < length line.now) }
+    ensures shorter { IfSome result (λ p. length p.1.now < length line.now) }
 {
     let line = after_spaces(line);
-    let first = *line.first()?;
-    let end = if is_plain(first) { run_length(line) } else { 1 };
-    Some((&line[..end], &line[end..]))
+    if line.is_empty() {
+        return None;
+    }
+    let (word, rest) = line.split_at(first_length(line));
+    Some((word, rest))
 }
