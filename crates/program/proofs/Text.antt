@@ -17,8 +17,8 @@ fitting_large : (n : ℕ) (ds : List ℕ) → 2 ^ 64 ≤ n → fitting (digits_f
 fitting_large n [] h = fitting_large_at n h
 fitting_large n (d ∷ ds) h =
     elim (is_ascii_digit d) as (λ b. fitting (if b then digits_from (n * 10 + (d - 48)) ds else None) ≡ None) [
-      true ↦ fitting_large (n * 10 + (d - 48)) ds (omega arith)
-    | false ↦ refl
+      | true ↦ fitting_large (n * 10 + (d - 48)) ds (omega arith)
+      | false ↦ refl
     ]
 
 number_some : (w : List ℕ) → 0 < length w → number_in w ≡ fitting (digits_from 0 w)

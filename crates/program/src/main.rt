@@ -3,6 +3,8 @@
 
 mod lines;
 mod number;
+mod repr_text;
+mod type_word;
 mod words;
 
 fn main() {}
