@@ -3,3 +3,4 @@ pub mod Words
 pub mod Numbers
 pub mod TypeWords
 pub mod Repr
+pub mod Reading
