@@ -11,7 +11,7 @@ use Rattle.rustc_abi.specs.Tree.{Tree, scalar, array, struct, trees, tree_of}
 use Rattle.program.specs.declared.fault.Fault.{Fault}
 use Rattle.program.specs.declared.fault.Fault.TheVariants.{Unreadable, NotYet, TooDeep, OutOfMemory}
 use Rattle.program.specs.declared.type_word.TypeWord.{TypeWord}
-use Rattle.program.specs.declared.type_word.TypeWord.TheVariants.{Integer, Array, Struct, Later, Other}
+use Rattle.program.specs.declared.type_word.TypeWord.TheVariants.{Integer, Array, Struct, Other}
 use Rattle.program.specs.declared.repr_text.ReprText.{ReprText}
 use Rattle.program.specs.declared.repr_text.ReprText.TheVariants as repr
 use Rattle.program.specs.declared.reader.Want.{Want}

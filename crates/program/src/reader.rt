@@ -217,3 +217,28 @@ fn step(alloc: Global, number: u64, reader: Reader, word: &[u8]) -> Result<Reade
         Want::End => Err(Fault::Unreadable(number)),
     }
 }
+
+/// The type that a line writes, whole.
+///
+/// `Unreadable` has the number of the first word that doesn't fit, one past the last where words are missing.
+pub(crate) fn read_type(alloc: Global, line: &[u8]) -> Result<TypeTree, Fault>
+    ensures { Agrees tree_of (read (words_of line.now)) result }
+{
+    let mut reader = waiting(Want::Tree, Vec::new(alloc));
+    let mut rest = line;
+    let mut number = 1u64;
+    while let Some((word, more)) = next_word(rest) {
+        reader = step(alloc, number, reader, word)?;
+        rest = more;
+        number += 1;
+    }
+    let Reader {
+        want: _,
+        begun: _,
+        tree,
+    } = reader;
+    match tree {
+        Some(tree) => Ok(tree),
+        None => Err(Fault::Unreadable(number)),
+    }
+}

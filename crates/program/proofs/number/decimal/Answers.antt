@@ -1,4 +1,4 @@
-use Rattle.std.proofs.Common.{◌≡◌, ◌<◌, arith, rules, sym, length}
+use Rattle.std.proofs.Common.{◌<◌, arith, rules, sym, length}
 use Rattle.program.proofs.Text.{number_read, overflows}
 use Rattle.program.proofs.number.decimal.Goals as goal
 

@@ -1,7 +1,6 @@
-use Rattle.std.proofs.Common.{◌≡◌, ◌∙◌, rules, sym, List, ℕ, ap, option_copied, true, false}
-use Rattle.std.specs.Prelude.{is_some, Option}
-use Rattle.std.specs.List.{list_all}
-use Rattle.program.specs.Repr.{parts_of, part_kind}
+use Rattle.std.proofs.Common.{◌≡◌, ◌∙◌, rules, sym, option_copied, true, false}
+use Rattle.std.specs.Prelude.{is_some}
+use Rattle.program.specs.Repr.{part_kind}
 use Rattle.program.proofs.Parts.{known_next}
 use Rattle.program.proofs.repr_text.are_known.Goals as goal
 

@@ -1,5 +1,5 @@
 -- The parts that are left decide.
-use Rattle.std.proofs.Common.{◌≡◌, ℕ, List, length, Option, None, Some, suc}
+use Rattle.std.proofs.Common.{◌≡◌}
 use Rattle.std.specs.Prelude.{is_some}
 use Rattle.std.specs.Option.{option_copied}
 use Rattle.std.specs.List.{list_all}

@@ -1,7 +1,5 @@
-use Rattle.std.proofs.Common.{◌≡◌, ◌∙◌, ◌+◌, rules, arith, sym, List, ℕ, option_copied, true, false}
-use Rattle.std.specs.Prelude.{count_by, nat_le}
-use Rattle.std.proofs.lemmas.Bool.Decides.{nat_tests}
-use Rattle.program.specs.Repr.{has_kind, parts_of, parts_left, part_kind, is_single}
+use Rattle.std.proofs.Common.{◌≡◌, rules, option_copied, true, false}
+use Rattle.program.specs.Repr.{has_kind, part_kind}
 use Rattle.program.proofs.Parts.{count_next, not_seen, seen_once, seen_twice}
 use Rattle.program.proofs.repr_text.is_single.Goals as goal
 

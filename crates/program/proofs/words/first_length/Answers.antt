@@ -1,4 +1,4 @@
-use Rattle.std.proofs.Common.{◌≡◌, rules}
+use Rattle.std.proofs.Common.{rules}
 use Rattle.program.proofs.Text.{run_words, single_word}
 use Rattle.program.proofs.words.first_length.Goals as goal
 
