@@ -1,6 +1,6 @@
 -- An array's layout keeps its elements' values.
-use Rattle.std.proofs.Common.{◌≡◌, ℕ, zero, suc, ◌+◌, ◌-◌, ◌*◌, ◌/◌, ◌%◌, ◌<◌, ◌≤◌, List, length, replicate, drop, take, get_or, Some, None, arith, refl, sym, ap, ◌∙◌, subst, le_refl}
-use Rattle.std.specs.Prelude.{IfSome, true, false, Bool, ◌&&◌, nat_lt}
+use Rattle.std.proofs.Common.{◌≡◌, ℕ, ◌+◌, ◌*◌, ◌/◌, ◌%◌, ◌<◌, ◌≤◌, List, length, replicate, drop, take, arith, refl, sym, ap, ◌∙◌, subst, le_refl}
+use Rattle.std.specs.Prelude.{IfSome, true, nat_lt}
 use Rattle.std.proofs.lemmas.List.{length-replicate}
 use Rattle.std.proofs.lemmas.List.Elements.{All-replicate}
 use Rattle.std.proofs.lemmas.Option.{IfSome_then}

@@ -1,5 +1,5 @@
 -- Bytes that hold a value, and parts of bytes.
-use Rattle.std.proofs.Common.{◌≡◌, ℕ, ◌+◌, ◌-◌, ◌<◌, ◌≤◌, List, length, take, drop, get_or, min, arith, sym, ap, ◌∙◌, subst, ⊎_elim, Some, length-take, length-drop}
+use Rattle.std.proofs.Common.{◌≡◌, ℕ, ◌+◌, ◌-◌, ◌≤◌, List, length, take, drop, get_or, min, arith, sym, ap, ◌∙◌, subst, ⊎_elim, Some, length-take, length-drop}
 use Rattle.std.proofs.lemmas.List.{get_or-take, get_or-drop, get_or_past, drop-drop, drop-take, take-take}
 use Rattle.std.proofs.lemmas.Bool.{cases_lt}
 use Rattle.std.specs.Prelude.{IfSome, true}
@@ -8,7 +8,6 @@ use Rattle.abi_base.specs.declared.endian.Endian.{Endian}
 use Rattle.abi_scalar.specs.declared.niche.Niche.{Niche}
 use Rattle.abi_scalar.specs.Range.{IsIn}
 use Rattle.abi_scalar.specs.Niche.{niche_size}
-use Rattle.rustc_abi.specs.Tree.{Tree}
 use Rattle.rustc_abi.specs.Bytes.{bytes_at, number_of}
 use Rattle.rustc_abi.specs.Value.{Value, number, two, list, variant, state, bytes}
 use Rattle.rustc_abi.specs.Placed.{Placed, scalar, pair, never, elements, vector, fields, union, single, tagged, states, size_of, niche_of}

@@ -3,3 +3,9 @@ mod HoldLemmas
 mod ScalarLemmas
 mod ElementsLemmas
 mod PartsLemmas
+mod NodesLemmas
+mod FieldsLemmas
+mod TreeLemmas
+mod LayLemmas
+mod ListLemmas
+mod RefusalLemmas

@@ -1,18 +1,18 @@
 -- Parts that share no byte keep their values together.
-use Rattle.std.proofs.Common.{◌≡◌, ℕ, zero, suc, ◌+◌, ◌-◌, ◌<◌, ◌≤◌, ◌⊎◌, ⊎_elim, inl, inr, List, length, replicate, get_or, Some, None, arith, refl, sym, ap, ◌∙◌, subst}
-use Rattle.std.specs.Prelude.{IfSome, true, false, Bool, ◌&&◌, ◌||◌, nat_le, ⊤}
+use Rattle.std.proofs.Common.{◌≡◌, ℕ, ◌+◌, ◌-◌, ◌<◌, ◌≤◌, ◌⊎◌, ⊎_elim, inl, inr, List, length, replicate, get_or, arith, refl, sym, ap, ◌∙◌, subst}
+use Rattle.std.specs.Prelude.{true, ◌&&◌, ◌||◌, nat_le, ⊤}
 use Rattle.std.proofs.lemmas.List.{length-replicate}
 use Rattle.std.proofs.lemmas.List.Elements.{All-replicate}
 use Rattle.std.proofs.lemmas.Bool.{and_parts, or_cases, leb-true, le-leb}
 use Rattle.std.proofs.Math.Bool.{or-true}
 use Rattle.std.specs.Cmp.Derive.{both_true}
 use Rattle.abi_base.specs.declared.data_layout.TargetDataLayout.{TargetDataLayout}
-use Rattle.rustc_abi.specs.Tree.{Tree, Trees, no_trees, more_trees}
+use Rattle.rustc_abi.specs.Tree.{Trees, no_trees, more_trees}
 use Rattle.rustc_abi.specs.Bytes.{AreBytes, bytes_at}
-use Rattle.rustc_abi.specs.Value.{Value, Values, no_values, more_values}
+use Rattle.rustc_abi.specs.Value.{Values, no_values, more_values}
 use Rattle.rustc_abi.specs.Placed.{Placed, Parts, no_parts, part, size_of}
 use Rattle.rustc_abi.specs.Places.{is_data_place, is_place_of_part}
-use Rattle.rustc_abi.specs.Values.{IsValueOf, AreValuesOf}
+use Rattle.rustc_abi.specs.Values.{AreValuesOf}
 use Rattle.rustc_abi.specs.Holding.{Holds, HoldParts}
 use Rattle.rustc_abi.specs.Faithful.{IsFaithful}
 use Rattle.rustc_abi.proofs.BytesLemmas.{put, length-put, bytes_at-put, bytes_at-put_other, AreBytes-put, AreBytes-bytes_at}

@@ -1,18 +1,23 @@
 -- A scalar's layout keeps its numbers.
 use Rattle.std.proofs.Common.{◌≤◌, ◌≡◌, ℕ, ◌+◌, ◌<◌, List, length, Some, None, arith, refl, sym, ap, ◌∙◌, subst, ◌*◌}
-use Rattle.std.specs.Prelude.{IfSome, true}
+use Rattle.std.specs.Prelude.{IfSome, true, false, Bool, ◌==◌, ◌-◌, if◌then◌else◌}
 use Rattle.std.proofs.lemmas.List.{take_all}
 use Rattle.std.proofs.lemmas.Nat.{mod_below, pow_pos}
 use Rattle.std.proofs.lemmas.Option.{IfSome_then}
-use Rattle.std.proofs.lemmas.Bool.{ltb-true, lt-ltb}
+use Rattle.std.proofs.lemmas.Bool.{ltb-true, lt-ltb, eqb-true, and_parts}
+use Rattle.abi_base.specs.declared.integer.Integer.{Integer}
+use Rattle.abi_base.specs.declared.integer.Integer.TheVariants.{I8, I16, I32, I64, I128}
+use Rattle.abi_base.specs.declared.primitive.Primitive.TheVariants.{Int, Float, Pointer}
+use Rattle.abi_base.specs.Integer.{integer_size}
+use Rattle.abi_base.specs.Primitive.{primitive_size}
+use Rattle.abi_scalar.specs.declared.wrapping_range.WrappingRange.{WrappingRange}
 use Rattle.abi_base.specs.declared.data_layout.TargetDataLayout.{TargetDataLayout}
-use Rattle.abi_base.specs.declared.endian.Endian.{Endian}
 use Rattle.abi_scalar.specs.declared.scalar.Scalar.{Scalar}
 use Rattle.abi_scalar.specs.declared.scalar.Scalar.TheVariants.{Initialized, Union}
 use Rattle.abi_scalar.specs.declared.niche.Niche.{Niche}
-use Rattle.abi_scalar.specs.Range.{numbers_of, IsIn}
-use Rattle.abi_scalar.specs.Scalar.{scalar_size, IsNumberOf}
-use Rattle.abi_scalar.specs.Niche.{niche_size}
+use Rattle.abi_scalar.specs.Range.{numbers_of, IsIn, AreWithin, free_count}
+use Rattle.abi_scalar.specs.Scalar.{scalar_size, IsNumberOf, IsReadable, IsLawfulScalar}
+use Rattle.abi_scalar.specs.Niche.{niche_size, niche_at}
 use Rattle.abi_scalar.specs.Lawful.{IsLawfulLayout}
 use Rattle.rustc_abi.specs.Tree.{Tree, scalar}
 use Rattle.rustc_abi.specs.Bytes.{AreBytes, bytes_at, number_of}
@@ -23,6 +28,7 @@ use Rattle.rustc_abi.specs.Values.{IsValueOf}
 use Rattle.rustc_abi.specs.Holding.{Holds}
 use Rattle.rustc_abi.specs.Faithful.{AgreeOn, IsFaithful}
 use Rattle.rustc_abi.specs.Fits.{Fits}
+use Rattle.rustc_abi.specs.Laying.{is_full_integer}
 use Rattle.rustc_abi.proofs.BytesLemmas.{same_bytes, spelled_in, length-spelled_in, number_of-spelled_in, AreBytes-spelled_in}
 
 -- a scalar's number is one of its width
@@ -114,3 +120,47 @@ module _ (dl : TargetDataLayout) (s : Scalar) (layout : Layout) (size : layout.s
 pub Fits-scalar : (dl : TargetDataLayout) (s : Scalar) (layout : Layout) → layout.size ≡ scalar_size dl s → IfSome layout.largest_niche (IsWhole s) →
     IsLawfulLayout dl layout → Fits dl (scalar s) (placed_scalar layout s)
 Fits-scalar dl s layout size niche lawful = record { faithful = λ _. faithful dl s layout size niche; lawful = lawful; within = within dl s layout size niche }
+
+niche_by : (b : Bool) (n : Niche) (s : Scalar) → IsWhole s n → IfSome (if b then None else Some n) (IsWhole s)
+niche_by true n s h = tt
+niche_by false n s h = h
+
+-- a scalar's niche is the scalar
+pub scalar_niche : (dl : TargetDataLayout) (s : Scalar) → IfSome (niche_at dl 0 s) (IsWhole s)
+scalar_niche dl (Initialized value range) =
+    niche_by (free_count (primitive_size dl value) range == 0) (record { offset = 0; value = value; valid_range = range }) (Initialized value range) (refl, refl)
+scalar_niche dl (Union value) = tt
+
+module _ (dl : TargetDataLayout) where
+  width_some : (i : Integer) → 1 ≤ integer_size i
+  width_some I8 = omega arith
+  width_some I16 = omega arith
+  width_some I32 = omega arith
+  width_some I64 = omega arith
+  width_some I128 = omega arith
+
+  width_most : (i : Integer) → integer_size i ≤ 16
+  width_most I8 = omega arith
+  width_most I16 = omega arith
+  width_most I32 = omega arith
+  width_most I64 = omega arith
+  width_most I128 = omega arith
+
+  full_within : (i : Integer) (signed : Bool) (range : WrappingRange) → is_full_integer (Initialized (Int i signed) range) ≡ true → AreWithin (integer_size i) range
+  full_within i signed range h =
+      let both = and_parts (range.start == 0) (range.end == numbers_of (integer_size i) - 1) h in
+      let positive = pow_pos (8 * integer_size i) in
+      (omega (arith, eqb-true range.start 0 both.0, positive), omega (arith, eqb-true range.end (numbers_of (integer_size i) - 1) both.1, positive))
+
+  -- a full integer can be read, and is lawful
+  pub full_readable : (s : Scalar) → is_full_integer s ≡ true → IsReadable dl s
+  full_readable (Initialized (Int i signed) range) h = record { known = tt; some = width_some i; most = width_most i; within = full_within i signed range h }
+  full_readable (Initialized (Float f) range) h = absurd (cc)
+  full_readable (Initialized (Pointer space) range) h = absurd (cc)
+  full_readable (Union value) h = absurd (cc)
+
+  pub full_lawful : (s : Scalar) → is_full_integer s ≡ true → IsLawfulScalar dl s
+  full_lawful (Initialized (Int i signed) range) h = record { pointer = tt; within = full_within i signed range h }
+  full_lawful (Initialized (Float f) range) h = absurd (cc)
+  full_lawful (Initialized (Pointer space) range) h = absurd (cc)
+  full_lawful (Union value) h = absurd (cc)

@@ -1,4 +1,5 @@
 -- The calculator's refusals by the names that a tree's layout has for them.
+use Rattle.std.specs.Prelude.{Result, Ok, Err}
 use Rattle.abi_scalar.specs.declared.error.LayoutCalculatorError.{LayoutCalculatorError}
 use Rattle.abi_scalar.specs.declared.error.LayoutCalculatorError.TheVariants as calculator
 use Rattle.rustc_abi.specs.declared.error.LayError.{LayError}
@@ -8,3 +9,13 @@ abbrev pub lay_error : {H : Type 0} → LayoutCalculatorError H → LayError
 lay_error (calculator.UnexpectedUnsized field) = UnexpectedUnsized
 lay_error calculator.SizeOverflow = SizeOverflow
 lay_error calculator.OutOfMemory = OutOfMemory
+
+-- the calculator's answer, with its refusal by that name
+abbrev pub named : {A H : Type 0} → Result A (LayoutCalculatorError H) → Result A LayError
+named (Ok a) = Ok a
+named (Err e) = Err (lay_error e)
+
+-- what follows an answer: nothing follows a refusal
+abbrev pub and_then : {A B : Type 0} → Result A LayError → (A → Result B LayError) → Result B LayError
+and_then (Ok a) next = next a
+and_then (Err e) next = Err e

@@ -10,3 +10,7 @@ pub mod Faithful
 pub mod Fits
 pub mod Error
 pub mod Nodes
+pub mod Laying
+pub mod Adding
+pub mod Laid
+pub mod Fault

@@ -1,5 +1,5 @@
 -- What the nodes of a vector mean, each of which names only earlier ones.
-use Rattle.std.specs.Prelude.{◌≡◌, ℕ, ◌+◌, ◌-◌, ◌<◌, ◌≤◌, All, List, [], ◌∷◌, ◌++◌, get_or, length, map}
+use Rattle.std.specs.Prelude.{◌≡◌, ℕ, ◌-◌, ◌<◌, ◌≤◌, List, [], ◌∷◌, ◌++◌, get_or, length, map}
 use Rattle.abi_calc.specs.Apart.{offsets_of}
 use Rattle.rustc_abi.specs.Placed.{Placed, Layout, scalar, elements, fields, Parts, no_parts, part, nothing}
 use Rattle.rustc_abi.specs.declared.node.Shape.{Shape}

@@ -49,6 +49,11 @@ abbrev pub variants : List (ℕ × Vec Tree Global) → Variants
 variants [] = no_variants
 variants (v ∷ vs) = more_variants v.0 (trees v.1.items) (variants vs)
 
+-- the variants of a list of the program's
+abbrev pub variants_with : (TypeTree → Tree) → List (ℕ × Vec TypeTree Global) → Variants
+variants_with f [] = no_variants
+variants_with f (v ∷ vs) = more_variants v.0 (trees (map f v.1.items)) (variants_with f vs)
+
 -- one layer of the program's tree, whose children are trees already
 abbrev pub layer_tree : TypeTree-F Tree → Tree
 layer_tree (layer.Scalar s) = scalar s
@@ -66,3 +71,7 @@ layer_tree (layer.Coroutine prefix locals states conflicts) =
 -- the program's tree as the definitions see it
 abbrev pub tree_of : TypeTree → Tree
 tree_of = fold-TypeTree Tree layer_tree
+
+-- the program's variants
+abbrev pub trees_of_variants : List (ℕ × Vec TypeTree Global) → Variants
+trees_of_variants = variants_with tree_of

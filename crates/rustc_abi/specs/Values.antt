@@ -1,9 +1,8 @@
 -- The values of a type, taken from the tree. Only a union looks at its layout: its values are lists of its data bytes.
 use Rattle.std.specs.Prelude.{◌≡◌, ℕ, zero, suc, ◌<◌, List, [], ◌∷◌, length, get_or, ⊤}
 use Rattle.abi_base.specs.declared.data_layout.TargetDataLayout.{TargetDataLayout}
-use Rattle.abi_scalar.specs.declared.scalar.Scalar.{Scalar}
 use Rattle.abi_scalar.specs.Scalar.{scalar_size, IsNumberOf}
-use Rattle.rustc_abi.specs.Tree.{Tree, scalar, pair, never, unit, array, vector, struct, union, enum, coroutine, Trees, no_trees, more_trees, Variants, no_variants, more_variants}
+use Rattle.rustc_abi.specs.Tree.{Tree, scalar, pair, unit, array, vector, struct, union, enum, coroutine, Trees, no_trees, more_trees, Variants, no_variants, more_variants}
 use Rattle.rustc_abi.specs.Value.{Value, number, two, list, variant, state, bytes, Values, no_values, more_values, value_count, Each}
 use Rattle.rustc_abi.specs.Bytes.{AreBytes, place_count}
 use Rattle.rustc_abi.specs.Placed.{Placed, Parts, size_of, element_of, parts_of, first_part, more_parts, own_parts}

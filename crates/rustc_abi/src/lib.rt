@@ -2,8 +2,13 @@
 #![tactic(auto)]
 
 mod error;
+mod laid;
+mod lay;
+mod lay_tree;
 mod node;
 mod tree;
 
 pub use error::LayError;
+pub use laid::Laid;
+pub use lay_tree::lay_out;
 pub use tree::TypeTree;

@@ -1,0 +1,196 @@
+-- How types are laid out, one after another.
+use Rattle.std.proofs.Common.{◌≡◌, ◌≢◌, ℕ, ◌-◌, ◌<◌, ◌≤◌, List, [], ◌∷◌, ◌++◌, Option, Some, None, Bool, true, false, length, map, arith, refl, sym, ap, ◌∙◌, subst, inl, inr, All, Result, Ok, Err}
+use Rattle.std.specs.Prelude.{IfSome, nat_lt, ◌==◌, ◌&&◌, if◌then◌else◌}
+use Rattle.std.proofs.lemmas.Bool.{eqb-false}
+use Rattle.std.proofs.lemmas.List.{map-append}
+use Rattle.std.proofs.lemmas.List.Elements.{All-nil, All-cons, All-head, All-tail, All-append, All-weaker}
+use Rattle.abi_base.specs.declared.data_layout.TargetDataLayout.{TargetDataLayout}
+use Rattle.abi_scalar.specs.declared.repr.ReprOptions.{ReprOptions}
+use Rattle.abi_scalar.specs.declared.niche.Niche.{Niche}
+use Rattle.abi_scalar.specs.Lawful.{IsLawfulLayout}
+use Rattle.abi_calc.specs.Apart.{AreApart, offsets_of}
+use Rattle.abi_calc.specs.Array.{array_answer, elements_layout}
+use Rattle.rustc_abi.specs.declared.error.LayError.{LayError}
+use Rattle.rustc_abi.specs.declared.error.LayError.TheVariants.{NotYet, BadIndex}
+use Rattle.rustc_abi.specs.declared.node.Node.{Node}
+use Rattle.rustc_abi.specs.Tree.{Tree, array, struct, Trees, no_trees, more_trees, trees}
+use Rattle.rustc_abi.specs.Placed.{Placed, Layout, layout_of, size_of, niche_of, elements, fields}
+use Rattle.rustc_abi.specs.Error.{named, and_then}
+use Rattle.rustc_abi.specs.Fits.{Fits}
+use Rattle.rustc_abi.specs.Nodes.{placed_in, parts_at, types_in, placed_at, root_of, Keeps}
+use Rattle.rustc_abi.specs.Values.{LocalsHaveValues}
+use Rattle.rustc_abi.specs.Faithful.{IsFaithful}
+use Rattle.rustc_abi.specs.Laying.{laid_out, laid_out_each, elements_answer, fields_answer, listed, is_plain_c, most_fields, placed_by}
+use Rattle.rustc_abi.specs.Adding.{are_nodes, IsRefusal, IsPut, IsAdded, EachFits, all_at, AreAdded}
+use Rattle.rustc_abi.proofs.ElementsLemmas.{IsElementNiche, Fits-elements}
+use Rattle.rustc_abi.proofs.FieldsLemmas.{IsPartNiche, Fits-fields}
+use Rattle.rustc_abi.proofs.ListLemmas.{chosen}
+use Rattle.rustc_abi.proofs.NodesLemmas.{length-types_in, Keeps-trans, Keeps-refl}
+
+pub IsAdded-put : (dl : TargetDataLayout) (old new : List Node) (i : ℕ) (placed : Placed) (t : Tree) → IsPut old new i placed →
+    laid_out dl t ≡ Ok placed → Fits dl t placed → IsAdded dl old new i t
+IsAdded-put dl old new i placed t put exact fits = record {
+  kept = put.kept;
+  well = put.well;
+  last = put.last;
+  exact = exact ∙ ap Ok (sym put.meant);
+  fits = subst (Fits dl t) (sym put.meant) fits;
+}
+
+-- what was added after more nodes
+pub IsAdded-later : (dl : TargetDataLayout) (first old new : List Node) (i : ℕ) (t : Tree) → Keeps (types_in first) (types_in old) →
+    (are_nodes 0 first ≡ true → are_nodes 0 old ≡ true) → IsAdded dl old new i t → IsAdded dl first new i t
+IsAdded-later dl first old new i t kept well added = record {
+  kept = Keeps-trans (types_in first) (types_in old) (types_in new) kept added.kept;
+  well = λ h. added.well (well h);
+  last = added.last;
+  exact = added.exact;
+  fits = added.fits;
+}
+
+element_niche : (count : ℕ) (element : Placed) (niche : Option Niche) → count ≢ 0 → niche ≡ niche_of element → IfSome niche (IsElementNiche count element)
+element_niche count element None some e = tt
+element_niche count element (Some n) some e =
+    (omega arith, record { own = n; of_part = sym e; offset_is = omega arith; value_is = refl; range_is = refl })
+
+-- the niche of an array is its first element's
+niche_by : (b : Bool) (count : ℕ) (element : Placed) → (b ≡ false → count ≢ 0) → IfSome (if b then None else niche_of element) (IsElementNiche count element)
+niche_by true count element some = tt
+niche_by false count element some = element_niche count element (niche_of element) (some refl) refl
+
+array_niche : (count : ℕ) (element : Placed) → IfSome (if count == 0 then None else niche_of element) (IsElementNiche count element)
+array_niche count element = niche_by (count == 0) count element (λ e. eqb-false count 0 e)
+
+-- an array's layout
+pub IsAdded-elements : (dl : TargetDataLayout) (old new : List Node) (i : ℕ) (element : Placed) (count : ℕ) (layout : Layout) (t : Tree) →
+    named {H = ℕ} (array_answer 0 dl (layout_of element) (Some count)) ≡ Ok layout → IsLawfulLayout dl layout →
+    IsPut old new i (elements layout count element) → laid_out dl t ≡ Ok element → Fits dl t element → IsAdded dl old new i (array count t)
+IsAdded-elements dl old new i element count layout t answer lawful put exact fits =
+    let made : layout ≡ elements_layout 0 true count (layout_of element) = chosen ℕ _ _ layout answer in
+    IsAdded-put dl old new i (elements layout count element) (array count t) put
+    (ap (λ r. and_then r (elements_answer dl count)) exact ∙ ap (λ r. and_then r (λ l. Ok (elements l count element))) answer)
+    (Fits-elements dl t element count layout fits (ap (λ l. l.size) made)
+    (subst (λ n. IfSome n (IsElementNiche count element)) (sym (ap (λ l. l.largest_niche) made)) (array_niche count element)) lawful)
+
+-- each type's layout is lawful
+pub EachFits-lawful : (dl : TargetDataLayout) (ts : Trees) (ps : List Placed) → EachFits dl ts ps → All (λ p. IsLawfulLayout dl (layout_of p)) ps
+EachFits-lawful dl no_trees [] h = All-nil (λ p. IsLawfulLayout dl (layout_of p))
+EachFits-lawful dl no_trees (p ∷ ps) h = absurd h
+EachFits-lawful dl (more_trees t ts) [] h = absurd h
+EachFits-lawful dl (more_trees t ts) (p ∷ ps) h =
+    All-cons (λ p. IsLawfulLayout dl (layout_of p)) p ps (Fits.lawful h.0) (EachFits-lawful dl ts ps h.1)
+
+-- what a struct's fields make
+pub fields_made : (dl : TargetDataLayout) (repr : ReprOptions) (always_sized : Bool) (ps : List Placed) (layout : Layout) → (is_plain_c repr && always_sized) ≡ true →
+    nat_lt most_fields (length ps) ≡ false → listed dl repr.field_shuffle_seed (map layout_of ps) ≡ Ok layout →
+    fields_answer dl repr always_sized ps ≡ Ok (fields layout (parts_at (offsets_of layout.fields) ps))
+fields_made dl repr always_sized ps layout known few answer =
+    ap (λ b. if b then (if nat_lt most_fields (length ps) then Err BadIndex else
+    placed_by (λ layout. fields layout (parts_at (offsets_of layout.fields) ps)) (listed dl repr.field_shuffle_seed (map layout_of ps))) else Err NotYet) known
+    ∙ ap (λ b. if b then Err BadIndex else placed_by (λ layout. fields layout (parts_at (offsets_of layout.fields) ps)) (listed dl repr.field_shuffle_seed (map layout_of ps))) few
+    ∙ ap (placed_by (λ layout. fields layout (parts_at (offsets_of layout.fields) ps))) answer
+
+pub fields_many : (dl : TargetDataLayout) (repr : ReprOptions) (always_sized : Bool) (ps : List Placed) → (is_plain_c repr && always_sized) ≡ true →
+    nat_lt most_fields (length ps) ≡ true → fields_answer dl repr always_sized ps ≡ Err BadIndex
+fields_many dl repr always_sized ps known many =
+    ap (λ b. if b then (if nat_lt most_fields (length ps) then Err BadIndex else
+    placed_by (λ layout. fields layout (parts_at (offsets_of layout.fields) ps)) (listed dl repr.field_shuffle_seed (map layout_of ps))) else Err NotYet) known
+    ∙ ap (λ b. if b then Err BadIndex else placed_by (λ layout. fields layout (parts_at (offsets_of layout.fields) ps)) (listed dl repr.field_shuffle_seed (map layout_of ps))) many
+
+-- a struct's layout
+pub IsAdded-fields : (dl : TargetDataLayout) (old new : List Node) (i : ℕ) (repr : ReprOptions) (always_sized : Bool) (ps : List Placed) (layout : Layout) (ts : Trees) →
+    fields_answer dl repr always_sized ps ≡ Ok (fields layout (parts_at (offsets_of layout.fields) ps)) → IsLawfulLayout dl layout → layout.largest_niche ≡ None →
+    AreApart layout.size (offsets_of layout.fields) (map size_of ps) → IsPut old new i (fields layout (parts_at (offsets_of layout.fields) ps)) →
+    laid_out_each dl ts ≡ Ok ps → EachFits dl ts ps → IsAdded dl old new i (struct repr always_sized ts)
+IsAdded-fields dl old new i repr always_sized ps layout ts answer lawful none apart put exact fits =
+    IsAdded-put dl old new i (fields layout (parts_at (offsets_of layout.fields) ps)) (struct repr always_sized ts) put
+    (ap (λ r. and_then r (fields_answer dl repr always_sized)) exact ∙ answer)
+    (Fits-fields dl repr always_sized ts layout (offsets_of layout.fields) ps fits apart
+    (subst (λ n. IfSome n (IsPartNiche (parts_at (offsets_of layout.fields) ps))) (sym none) tt) lawful)
+
+-- a list is laid out where its first type and the others are
+cons_parts : (r : Result Placed LayError) (rs : Result (List Placed) LayError) (ps : List Placed) → and_then r (λ p. and_then rs (λ qs. Ok (p ∷ qs))) ≡ Ok ps →
+    (p : Placed) × (qs : List Placed) × (r ≡ Ok p) × (rs ≡ Ok qs) × (p ∷ qs ≡ ps)
+cons_parts (Ok p) (Ok qs) ps h = (p, qs, refl, refl, cc)
+cons_parts (Ok p) (Err e) ps h = absurd (cc)
+cons_parts (Err e) rs ps h = absurd (cc)
+
+cons_made : (r : Result Placed LayError) (rs : Result (List Placed) LayError) (p : Placed) (qs : List Placed) → r ≡ Ok p → rs ≡ Ok qs →
+    and_then r (λ p. and_then rs (λ qs. Ok (p ∷ qs))) ≡ Ok (p ∷ qs)
+cons_made r rs p qs e f = ap (λ r. and_then r (λ p. and_then rs (λ qs. Ok (p ∷ qs)))) e ∙ ap (λ rs. and_then rs (λ qs. Ok (p ∷ qs))) f
+
+cons_refused : (r : Result Placed LayError) (rs : Result (List Placed) LayError) (p : Placed) (e : LayError) → r ≡ Ok p → IsRefusal rs e →
+    IsRefusal (and_then r (λ p. and_then rs (λ qs. Ok (p ∷ qs)))) e
+cons_refused r rs p e ok (inl memory) = inl memory
+cons_refused r rs p e ok (inr f) = inr (ap (λ r. and_then r (λ p. and_then rs (λ qs. Ok (p ∷ qs)))) ok ∙ ap (λ rs. and_then rs (λ qs. Ok (p ∷ qs))) f)
+
+-- one type more
+laid_out_each-push : (dl : TargetDataLayout) (ts : List Tree) (ps : List Placed) (t : Tree) (p : Placed) → laid_out_each dl (trees ts) ≡ Ok ps → laid_out dl t ≡ Ok p →
+    laid_out_each dl (trees (ts ++ t ∷ [])) ≡ Ok (ps ++ p ∷ [])
+laid_out_each-push dl [] ps t p before here =
+    let none : [] ≡ ps = cc in
+    cons_made (laid_out dl t) (Ok []) p [] here refl ∙ ap (λ qs. Ok (qs ++ p ∷ [])) none
+laid_out_each-push dl (s ∷ ts) ps t p before here =
+    let both = cons_parts (laid_out dl s) (laid_out_each dl (trees ts)) ps before in
+    cons_made (laid_out dl s) (laid_out_each dl (trees (ts ++ t ∷ []))) both.0 (both.1 ++ p ∷ []) both.2 (laid_out_each-push dl ts both.1 t p both.3 here)
+    ∙ ap (λ qs. Ok (qs ++ p ∷ [])) both.4
+
+-- the first fault is the answer
+pub laid_out_each-refused : (dl : TargetDataLayout) (ts : List Tree) (ps : List Placed) (t : Tree) (rest : List Tree) (e : LayError) → laid_out_each dl (trees ts) ≡ Ok ps →
+    IsRefusal (laid_out dl t) e → IsRefusal (laid_out_each dl (trees (ts ++ t ∷ rest))) e
+laid_out_each-refused dl [] ps t rest e before (inl memory) = inl memory
+laid_out_each-refused dl [] ps t rest e before (inr f) = inr (ap (λ r. and_then r (λ p. and_then (laid_out_each dl (trees rest)) (λ qs. Ok (p ∷ qs)))) f)
+laid_out_each-refused dl (s ∷ ts) ps t rest e before here =
+    let both = cons_parts (laid_out dl s) (laid_out_each dl (trees ts)) ps before in
+    cons_refused (laid_out dl s) (laid_out_each dl (trees (ts ++ t ∷ rest))) both.0 e both.2 (laid_out_each-refused dl ts both.1 t rest e both.3 here)
+
+EachFits-push : (dl : TargetDataLayout) (ts : List Tree) (ps : List Placed) (t : Tree) (p : Placed) → EachFits dl (trees ts) ps → Fits dl t p → EachFits dl (trees (ts ++ t ∷ [])) (ps ++ p ∷ [])
+EachFits-push dl [] [] t p h fits = (fits, tt)
+EachFits-push dl [] (q ∷ ps) t p h fits = absurd h
+EachFits-push dl (s ∷ ts) [] t p h fits = absurd h
+EachFits-push dl (s ∷ ts) (q ∷ ps) t p h fits = (h.0, EachFits-push dl ts ps t p h.1 fits)
+
+-- types that were there mean the same
+all_at-kept : (old new : List Node) → Keeps (types_in old) (types_in new) → (children : List ℕ) → All (λ child. child < length old) children → all_at new children ≡ all_at old children
+all_at-kept old new kept [] there = refl
+all_at-kept old new kept (c ∷ children) there =
+    let here : placed_in (types_in new) c ≡ placed_in (types_in old) c =
+    kept.same c (omega (arith, length-types_in old, All-head (λ child. child < length old) c children there)) in
+    let rest : all_at new children ≡ all_at old children = all_at-kept old new kept children (All-tail (λ child. child < length old) c children there) in
+    cc
+
+-- no types yet
+pub AreAdded-none : (dl : TargetDataLayout) (ns : List Node) → AreAdded dl ns ns [] []
+AreAdded-none dl ns = record {
+  kept = Keeps-refl (types_in ns);
+  well = λ h. h;
+  there = All-nil (λ child. child < length ns);
+  exact = refl;
+  fits = tt;
+}
+
+-- one type more
+pub AreAdded-more : (dl : TargetDataLayout) (first old new : List Node) (children : List ℕ) (ts : List Tree) (i : ℕ) (t : Tree) → AreAdded dl first old children ts →
+    IsAdded dl old new i t → AreAdded dl first new (children ++ i ∷ []) (ts ++ t ∷ [])
+AreAdded-more dl first old new children ts i t h added =
+    let same : all_at new children ≡ all_at old children = all_at-kept old new added.kept children h.there in
+    let longer : length old ≤ length new = omega (arith, added.kept.longer, length-types_in old, length-types_in new) in
+    let more : all_at new (children ++ i ∷ []) ≡ all_at old children ++ placed_at new i ∷ [] =
+    map-append (placed_in (types_in new)) children (i ∷ []) ∙ ap (λ ps. ps ++ placed_at new i ∷ []) same in
+    record {
+      kept = Keeps-trans (types_in first) (types_in old) (types_in new) h.kept added.kept;
+      well = λ first_well. added.well (h.well first_well);
+      there =
+          All-append (λ child. child < length new) children (i ∷ [])
+          (All-weaker (λ child. child < length old) (λ child. child < length new) (λ child lt. omega arith) children h.there)
+          (All-cons (λ child. child < length new) i [] (omega (arith, added.last)) (All-nil (λ child. child < length new)));
+      exact = laid_out_each-push dl ts (all_at old children) t (placed_at new i) h.exact added.exact ∙ ap Ok (sym more);
+      fits = subst (EachFits dl (trees (ts ++ t ∷ []))) (sym more) (EachFits-push dl ts (all_at old children) t (placed_at new i) h.fits added.fits);
+    }
+
+-- the last node keeps the tree's values
+pub faithful_root : (dl : TargetDataLayout) (old new : List Node) (i : ℕ) (t : Tree) (placed : Placed) → IsAdded dl old new i t → placed ≡ root_of new →
+    LocalsHaveValues dl t → IsFaithful dl t placed
+faithful_root dl old new i t placed added is locals =
+    let root : i ≡ length new - 1 = omega (arith, added.last) in
+    subst (IsFaithful dl t) (ap (placed_at new) root ∙ sym is) (added.fits.faithful locals)

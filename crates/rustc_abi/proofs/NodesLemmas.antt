@@ -1,0 +1,105 @@
+-- What nodes mean as more are added.
+use Rattle.std.proofs.Common.{subst, ◌≡◌, ℕ, zero, suc, ◌+◌, ◌<◌, List, [], ◌∷◌, ◌++◌, length, get_or, arith, refl, sym, ap, ◌∙◌, length-append}
+use Rattle.std.specs.Prelude.{true}
+use Rattle.std.specs.Cmp.Derive.{both_true}
+use Rattle.std.proofs.lemmas.List.{get_or_append_left, get_or_push}
+use Rattle.std.proofs.lemmas.Bool.{and_parts}
+use Rattle.rustc_abi.specs.declared.node.Shape.{Shape}
+use Rattle.rustc_abi.specs.declared.node.Shape.TheVariants.{Scalar, Elements, Fields}
+use Rattle.rustc_abi.specs.declared.node.Node.{Node}
+use Rattle.rustc_abi.specs.Placed.{Placed, Layout, layout_of, nothing}
+use Rattle.rustc_abi.specs.Nodes.{placed_in, meaning, meanings, types_in, placed_at, Keeps}
+use Rattle.rustc_abi.specs.Adding.{is_node, are_nodes, IsPut}
+
+meanings-push : (done : List Placed) (ns : List Node) (n : Node) →
+    meanings done (ns ++ n ∷ []) ≡ meanings done ns ++ meaning (meanings done ns) n.layout n.shape ∷ []
+meanings-push done [] n = refl
+meanings-push done (m ∷ ns) n = meanings-push (done ++ meaning done m.layout m.shape ∷ []) ns n
+
+length-meanings : (done : List Placed) (ns : List Node) → length (meanings done ns) ≡ length done + length ns
+length-meanings done [] = omega arith
+length-meanings done (m ∷ ns) =
+    let more = done ++ meaning done m.layout m.shape ∷ [] in
+    omega (arith, length-meanings more ns, length-append done (meaning done m.layout m.shape ∷ []))
+
+pub length-types_in : (ns : List Node) → length (types_in ns) ≡ length ns
+length-types_in ns = omega (arith, length-meanings [] ns)
+
+meanings-first : (done : List Placed) (ns : List Node) (i : ℕ) → i < length done → placed_in (meanings done ns) i ≡ placed_in done i
+meanings-first done [] i lt = refl
+meanings-first done (m ∷ ns) i lt =
+    let x = meaning done m.layout m.shape in
+    meanings-first (done ++ x ∷ []) ns i (omega (arith, length-append done (x ∷ []))) ∙ get_or_append_left done (x ∷ []) nothing i lt
+
+layout_of-meaning : (done : List Placed) (layout : Layout) (shape : Shape) → layout_of (meaning done layout shape) ≡ layout
+layout_of-meaning done layout (Scalar s) = refl
+layout_of-meaning done layout (Elements count element) = refl
+layout_of-meaning done layout (Fields children) = refl
+
+layout_in : (done : List Placed) (ns : List Node) (i j : ℕ) (d : Node) → j ≡ length done + i → i < length ns →
+    layout_of (placed_in (meanings done ns) j) ≡ (get_or ns i d).layout
+layout_in done [] i j d e lt = absurd (omega arith)
+layout_in done (m ∷ ns) zero j d e lt =
+    let x = meaning done m.layout m.shape in
+    let at : length done ≡ j = omega arith in
+    ap layout_of (meanings-first (done ++ x ∷ []) ns j (omega (arith, length-append done (x ∷ []))) ∙ get_or_push done x nothing j at)
+    ∙ layout_of-meaning done m.layout m.shape
+layout_in done (m ∷ ns) (suc i) j d e lt =
+    let x = meaning done m.layout m.shape in
+    layout_in (done ++ x ∷ []) ns i j d (omega (arith, length-append done (x ∷ []))) (omega arith)
+
+-- a node's layout is that of what it means
+pub layout_of-placed_at : (ns : List Node) (i : ℕ) (d : Node) → i < length ns → layout_of (placed_at ns i) ≡ (get_or ns i d).layout
+layout_of-placed_at ns i d lt = layout_in [] ns i i d (omega arith) lt
+
+module _ (ns : List Node) (n : Node) where
+  abbrev x : Placed
+  x = meaning (types_in ns) n.layout n.shape
+
+  pub Keeps-push : Keeps (types_in ns) (types_in (ns ++ n ∷ []))
+  Keeps-push = record {
+    longer = omega (arith, ap length (meanings-push [] ns n), length-append (types_in ns) (x ∷ []));
+    same = λ i lt. ap (λ ts. placed_in ts i) (meanings-push [] ns n) ∙ get_or_append_left (types_in ns) (x ∷ []) nothing i lt;
+  }
+
+  pub placed_at-push : (i : ℕ) → i ≡ length ns → placed_at (ns ++ n ∷ []) i ≡ x
+  placed_at-push i e =
+      ap (λ ts. placed_in ts i) (meanings-push [] ns n) ∙ get_or_push (types_in ns) x nothing i (length-types_in ns ∙ sym e)
+
+pub Keeps-refl : (ts : List Placed) → Keeps ts ts
+Keeps-refl ts = record { longer = omega arith; same = λ i lt. refl }
+
+pub Keeps-trans : (xs ys zs : List Placed) → Keeps xs ys → Keeps ys zs → Keeps xs zs
+Keeps-trans xs ys zs h k = record {
+  longer = omega arith;
+  same = λ i lt. k.same i (omega arith) ∙ h.same i lt;
+}
+
+are_nodes-push : (first : ℕ) (ns : List Node) (n : Node) (i : ℕ) → i ≡ first + length ns → is_node i n.shape ≡ true → are_nodes first ns ≡ true → are_nodes first (ns ++ n ∷ []) ≡ true
+are_nodes-push first [] n i e is h =
+    let at : i ≡ first = omega arith in
+    both_true (subst (λ k. is_node k n.shape ≡ true) at is) refl
+are_nodes-push first (m ∷ ns) n i e is h =
+    let both = and_parts (is_node first m.shape) (are_nodes (first + 1) ns) h in
+    both_true both.0 (are_nodes-push (first + 1) ns n i (omega arith) is both.1)
+
+-- a node that is pushed is put
+pub IsPut-push : (ns : List Node) (n : Node) (i : ℕ) → is_node i n.shape ≡ true → i ≡ length ns → IsPut ns (ns ++ n ∷ []) i (meaning (types_in ns) n.layout n.shape)
+IsPut-push ns n i is e = record {
+  kept = Keeps-push ns n;
+  well = are_nodes-push 0 ns n i (omega arith) is;
+  last = omega (arith, length-append ns (n ∷ []));
+  meant = placed_at-push ns n i e;
+}
+
+is_node-at : (first : ℕ) (ns : List Node) (i j : ℕ) (d : Node) → j ≡ first + i → i < length ns → are_nodes first ns ≡ true → is_node j (get_or ns i d).shape ≡ true
+is_node-at first [] i j d e lt h = absurd (omega arith)
+is_node-at first (m ∷ ns) zero j d e lt h =
+    let at : first ≡ j = omega arith in
+    subst (λ k. is_node k m.shape ≡ true) at (and_parts (is_node first m.shape) (are_nodes (first + 1) ns) h).0
+is_node-at first (m ∷ ns) (suc i) j d e lt h =
+    is_node-at (first + 1) ns i j d (omega arith) (omega arith) (and_parts (is_node first m.shape) (are_nodes (first + 1) ns) h).1
+
+-- each node names earlier ones
+pub children_before : (ns : List Node) (i : ℕ) (d : Node) → i < length ns → are_nodes 0 ns ≡ true → is_node i (get_or ns i d).shape ≡ true
+children_before ns i d lt h = is_node-at 0 ns i i d (omega arith) lt h

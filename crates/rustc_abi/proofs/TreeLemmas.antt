@@ -1,0 +1,34 @@
+-- The program's trees as the definitions see them.
+use Rattle.std.proofs.Common.{◌≡◌, ℕ, zero, suc, ◌+◌, ◌*◌, ◌<◌, ◌≤◌, List, [], ◌∷◌, map, get_or, length, Vec, refl, ap, sym, ◌∙◌, arith}
+use Rattle.std.specs.declared.alloc.Global.{Global}
+use Rattle.abi_scalar.specs.declared.repr.ReprOptions.{ReprOptions}
+use Rattle.rustc_abi.specs.declared.tree.TypeTree.{TypeTree, Enum, fold-roll-TypeTree}
+use Rattle.rustc_abi.specs.declared.tree.TypeTree.TheVariants.{rolls-Enum}
+use Rattle.rustc_abi.specs.declared.tree.TypeTree.TheShapes.{former-TypeTree-Enum-1-at-3}
+use Rattle.rustc_abi.specs.declared.tree.TypeTree.TheOpen as layer
+use Rattle.rustc_abi.specs.Tree.{Tree, tree_of, layer_tree, trees, enum, variants, more_variants, trees_of_variants}
+use Rattle.rustc_abi.specs.Adding.{tree_size, trees_size, variants_size}
+
+variants-map : (all : List (ℕ × Vec TypeTree Global)) → variants (map (former-TypeTree-Enum-1-at-3.map TypeTree Tree tree_of) all) ≡ trees_of_variants all
+variants-map [] = refl
+variants-map (v ∷ all) = ap (more_variants v.0 (trees (map tree_of v.1.items))) (variants-map all)
+
+pub tree_of-Enum : (repr : ReprOptions) (all : Vec (ℕ × Vec TypeTree Global) Global) → tree_of (Enum repr all) ≡ enum repr (trees_of_variants all.items)
+tree_of-Enum repr all = ap tree_of (sym (rolls-Enum repr all)) ∙ fold-roll-TypeTree Tree layer_tree (layer.Enum repr all) ∙ ap (enum repr) (variants-map all.items)
+
+-- a list is larger than each of its types
+pub trees_size-at : (ts : List TypeTree) (i : ℕ) (d : TypeTree) → i < length ts → tree_size (tree_of (get_or ts i d)) ≤ trees_size (trees (map tree_of ts))
+trees_size-at [] i d lt = absurd (omega arith)
+trees_size-at (t ∷ ts) zero d lt = omega arith
+trees_size-at (t ∷ ts) (suc i) d lt = omega (arith, trees_size-at ts i d (omega arith))
+
+pub variants_size-at : (all : List (ℕ × Vec TypeTree Global)) (i : ℕ) (d : ℕ × Vec TypeTree Global) → i < length all →
+    trees_size (trees (map tree_of (get_or all i d).1.items)) ≤ variants_size (trees_of_variants all)
+variants_size-at [] i d lt = absurd (omega arith)
+variants_size-at (v ∷ all) zero d lt = omega arith
+variants_size-at (v ∷ all) (suc i) d lt = omega (arith, variants_size-at all i d (omega arith))
+
+-- an enum is larger than its variants
+pub falls-Enum : (tree : TypeTree) (repr : ReprOptions) (all : Vec (ℕ × Vec TypeTree Global) Global) → tree ≡ Enum repr all →
+    3 * variants_size (trees_of_variants all.items) + 2 < 3 * tree_size (tree_of tree)
+falls-Enum tree repr all e = omega (arith, ap tree_size (ap tree_of e ∙ tree_of-Enum repr all))

@@ -1,0 +1,80 @@
+use Rattle.std.proofs.Common.{◌≡◌, ◌+◌, ◌++◌, ◌∷◌, [], arith, ap, sym, ◌∙◌, subst, take, map, get_or}
+use Rattle.std.proofs.lemmas.List.{take_more, map-append}
+use Rattle.rustc_abi.specs.Tree.{tree_of, trees}
+use Rattle.rustc_abi.specs.Laying.{laid_out_each}
+use Rattle.rustc_abi.specs.Adding.{IsRefusal, tree_size, trees_size}
+use Rattle.rustc_abi.proofs.TreeLemmas.{trees_size-at, variants_size-at, falls-Enum}
+use Rattle.rustc_abi.proofs.LayLemmas.{EachFits-lawful, AreAdded-more}
+use Rattle.rustc_abi.proofs.RefusalLemmas.{each_refused, variants_refused, variants_more, enum_refused, enum_not_yet}
+use Rattle.rustc_abi.proofs.ListLemmas.{passed_on}
+use Rattle.rustc_abi.proofs.lay.+lay.Goals as goal
+
+pub lay_each-lay_tree-requires : goal.lay_each-lay_tree-requires
+lay_each-lay_tree-requires t c =
+    let item : c.field-item.result ≡ get_or c.args.fields.now c.loop-field.field-index c.field-item.result = c.field-item.is in
+    let size = trees_size-at c.args.fields.now c.loop-field.field-index c.field-item.result (omega arith) in
+    (omega (arith, c.decreases, size, ap (λ x. tree_size (tree_of x)) item), c.requires)
+
+pub lay_each-returns-in_err-child-clause-err : goal.lay_each-returns-in_err-child-clause-err
+lay_each-returns-in_err-child-clause-err t c =
+    let item : c.field-item.result ≡ get_or c.args.fields.now c.loop-field.field-index c.field-item.result = c.field-item.is in
+    passed_on _ _ _ c.from_residual.ensures.1
+    (each_refused c.args.dl.now c.args.fields.now c.loop-field.field-index c.field-item.result _ _ (omega arith) item c.loop-field.invariant.exact c.in_err-child.ensures.err)
+
+pub lay_each-loop-field-preserved : goal.lay_each-loop-field-preserved
+lay_each-loop-field-preserved t c =
+    let more : take (c.loop-field.field-index + 1) c.args.fields.now ≡ take c.loop-field.field-index c.args.fields.now ++ c.field-item.result ∷ [] =
+    take_more c.args.fields.now c.loop-field.field-index c.field-item.result (omega arith)
+    ∙ ap (λ x. take c.loop-field.field-index c.args.fields.now ++ x ∷ []) (sym c.field-item.is) in
+    let mapped : map tree_of (take (c.loop-field.field-index + 1) c.args.fields.now) ≡ map tree_of (take c.loop-field.field-index c.args.fields.now) ++ tree_of c.field-item.result ∷ [] =
+    ap (map tree_of) more ∙ map-append tree_of (take c.loop-field.field-index c.args.fields.now) (c.field-item.result ∷ []) in
+    rw (mapped, c.in_ok-push.ensures.items) (AreAdded-more _ _ _ _ _ _ _ _ c.loop-field.invariant c.in_ok-child.ensures.ok)
+
+pub lay_tree-add_fields-requires-clause-lawful : goal.lay_tree-add_fields-requires-clause-lawful
+lay_tree-add_fields-requires-clause-lawful t c = EachFits-lawful _ _ _ c.in_ok-children-in-Struct.ensures.ok.fits
+
+pub lay_tree-lay_variants-requires : goal.lay_tree-lay_variants-requires
+lay_tree-lay_variants-requires t c =
+    let falls = falls-Enum c.args.tree.now c.in-Enum.repr c.in-Enum.variants c.in-Enum.is in
+    (rw c.deref-in-Enum.ensures.value (omega (arith, c.decreases, falls)), c.requires)
+
+pub lay_tree-returns-in_err-lay_variants-in-Enum-clause-err : goal.lay_tree-returns-in_err-lay_variants-in-Enum-clause-err
+lay_tree-returns-in_err-lay_variants-in-Enum-clause-err t c =
+    let refused = rw c.deref-in-Enum.ensures.value at c.in_err-lay_variants-in-Enum.ensures.err in
+    passed_on _ _ _ c.from_residual-in_err-lay_variants-in-Enum.ensures.1
+    (enum_refused c.args.dl.now c.args.tree.now c.in-Enum.repr c.in-Enum.variants _ c.in-Enum.is refused)
+
+pub lay_tree-returns-in_ok-lay_variants-in-Enum-clause-err : goal.lay_tree-returns-in_ok-lay_variants-in-Enum-clause-err
+lay_tree-returns-in_ok-lay_variants-in-Enum-clause-err t c =
+    let laid = rw c.deref-in-Enum.ensures.value at c.in_ok-lay_variants-in-Enum.ensures.ok in
+    enum_not_yet c.args.dl.now c.args.tree.now c.in-Enum.repr c.in-Enum.variants c.in-Enum.is laid
+
+pub lay_variants-lay_each-requires : goal.lay_variants-lay_each-requires
+lay_variants-lay_each-requires t c =
+    let item : c.variant-item.result ≡ get_or c.args.all.now c.loop-variant.variant-index c.variant-item.result = c.variant-item.is in
+    let size = variants_size-at c.args.all.now c.loop-variant.variant-index c.variant-item.result (omega arith) in
+    let lent : c.deref.result.now ≡ c.variant-item.result.1.items = c.deref.ensures.value in (
+      omega (
+        arith,
+        c.decreases,
+        size,
+        ap (λ ts. trees_size (trees (map tree_of ts))) lent,
+        ap (λ x. trees_size (trees (map tree_of x.1.items))) item,
+      ),
+      c.requires,
+    )
+
+pub lay_variants-returns-in_err-_children-clause-err : goal.lay_variants-returns-in_err-_children-clause-err
+lay_variants-returns-in_err-_children-clause-err t c =
+    let item : c.variant-item.result ≡ get_or c.args.all.now c.loop-variant.variant-index c.variant-item.result = c.variant-item.is in
+    let lent : c.deref.result.now ≡ c.variant-item.result.1.items = c.deref.ensures.value in
+    let refused = subst (λ ts. IsRefusal (laid_out_each c.args.dl.now (trees (map tree_of ts))) c.in_err-_children.field-0.0) lent c.in_err-_children.ensures.err in
+    passed_on _ _ _ c.from_residual.ensures.1
+    (variants_refused c.args.dl.now c.args.all.now c.loop-variant.variant-index c.variant-item.result _ _ (omega arith) item c.loop-variant.invariant.1 refused)
+
+pub lay_variants-loop-variant-preserved : goal.lay_variants-loop-variant-preserved
+lay_variants-loop-variant-preserved t c =
+    let item : c.variant-item.result ≡ get_or c.args.all.now c.loop-variant.variant-index c.variant-item.result = c.variant-item.is in
+    let lent : c.deref.result.now ≡ c.variant-item.result.1.items = c.deref.ensures.value in
+    let laid = ap (λ ts. laid_out_each c.args.dl.now (trees (map tree_of ts))) (sym lent) ∙ c.in_ok-_children.ensures.ok.exact in
+    variants_more c.args.dl.now c.args.all.now c.loop-variant.variant-index c.variant-item.result _ _ (omega arith) item c.loop-variant.invariant.1 laid

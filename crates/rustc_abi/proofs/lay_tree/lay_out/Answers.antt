@@ -1,0 +1,14 @@
+use Rattle.rustc_abi.proofs.LayLemmas.{faithful_root}
+use Rattle.rustc_abi.proofs.lay_tree.lay_out.Goals as goal
+
+pub returns-clause-exists : goal.returns-clause-exists
+returns-clause-exists c = λ locals. (faithful_root _ _ _ _ _ _ c.in_ok-_root.ensures.ok c.new.ensures.placed locals).exists
+
+pub returns-clause-only : goal.returns-clause-only
+returns-clause-only c = λ locals. (faithful_root _ _ _ _ _ _ c.in_ok-_root.ensures.ok c.new.ensures.placed locals).only
+
+pub returns-clause-unique : goal.returns-clause-unique
+returns-clause-unique c = λ locals. (faithful_root _ _ _ _ _ _ c.in_ok-_root.ensures.ok c.new.ensures.placed locals).unique
+
+pub returns-clause-padding : goal.returns-clause-padding
+returns-clause-padding c = λ locals. (faithful_root _ _ _ _ _ _ c.in_ok-_root.ensures.ok c.new.ensures.placed locals).padding

@@ -1,0 +1,81 @@
+-- What the functions that lay out a tree keep, node by node.
+use Rattle.std.specs.Prelude.{◌≡◌, ℕ, ◌+◌, ◌<◌, ◌⊎◌, ◌&&◌, Bool, true, All, List, [], ◌∷◌, length, map, nat_lt, Result, Ok, Err, ⊤}
+use Rattle.std.specs.List.{list_all}
+use Rattle.abi_base.specs.declared.data_layout.TargetDataLayout.{TargetDataLayout}
+use Rattle.rustc_abi.specs.declared.error.LayError.{LayError}
+use Rattle.rustc_abi.specs.declared.error.LayError.TheVariants.{OutOfMemory}
+use Rattle.rustc_abi.specs.declared.node.Shape.{Shape}
+use Rattle.rustc_abi.specs.declared.node.Shape.TheVariants.{Scalar, Elements, Fields}
+use Rattle.rustc_abi.specs.declared.node.Node.{Node}
+use Rattle.rustc_abi.specs.Tree.{Tree, array, vector, struct, union, enum, coroutine, Trees, no_trees, more_trees, trees, Variants, no_variants, more_variants}
+use Rattle.rustc_abi.specs.Placed.{Placed}
+use Rattle.rustc_abi.specs.Fits.{Fits}
+use Rattle.rustc_abi.specs.Nodes.{placed_in, types_in, placed_at, Keeps}
+use Rattle.rustc_abi.specs.Laying.{laid_out, laid_out_each}
+
+-- a node at this place names only earlier ones
+abbrev pub is_node : ℕ → Shape → Bool
+is_node i (Scalar s) = true
+is_node i (Elements count element) = nat_lt element i
+is_node i (Fields children) = list_all (λ child. nat_lt child i) children.items
+
+-- each node, from this place on, names only earlier ones
+abbrev pub are_nodes : ℕ → List Node → Bool
+are_nodes i [] = true
+are_nodes i (n ∷ ns) = is_node i n.shape && are_nodes (i + 1) ns
+
+-- memory aside, this is the refusal
+abbrev pub IsRefusal : {A : Type 0} → Result A LayError → LayError → Type 0
+IsRefusal answer e = (e ≡ OutOfMemory) ⊎ (answer ≡ Err e)
+
+-- A node was put last, and each node that was there kept.
+pub record IsPut (old new : List Node) (i : ℕ) (placed : Placed) : Type 0 where
+  pub kept : Keeps (types_in old) (types_in new)
+  pub well : are_nodes 0 old ≡ true → are_nodes 0 new ≡ true
+  pub last : i + 1 ≡ length new
+  pub meant : placed_at new i ≡ placed
+
+-- A node for the tree was put last, and each node that was there kept.
+pub record IsAdded (dl : TargetDataLayout) (old new : List Node) (i : ℕ) (tree : Tree) : Type 0 where
+  pub kept : Keeps (types_in old) (types_in new)
+  pub well : are_nodes 0 old ≡ true → are_nodes 0 new ≡ true
+  pub last : i + 1 ≡ length new
+  pub exact : laid_out dl tree ≡ Ok (placed_at new i)
+  pub fits : Fits dl tree (placed_at new i)
+
+-- each type fits its tree
+abbrev pub EachFits : TargetDataLayout → Trees → List Placed → Type 0
+EachFits dl no_trees [] = ⊤
+EachFits dl (more_trees t ts) (p ∷ ps) = Fits dl t p × EachFits dl ts ps
+EachFits dl _ _ = ⊥
+
+-- what the nodes at these places mean
+abbrev pub all_at : List Node → List ℕ → List Placed
+all_at ns children = map (placed_in (types_in ns)) children
+
+-- Nodes for the trees were put, and each node that was there kept.
+pub record AreAdded (dl : TargetDataLayout) (old new : List Node) (children : List ℕ) (ts : List Tree) : Type 0 where
+  pub kept : Keeps (types_in old) (types_in new)
+  pub well : are_nodes 0 old ≡ true → are_nodes 0 new ≡ true
+  pub there : All (λ child. child < length new) children
+  pub exact : laid_out_each dl (trees ts) ≡ Ok (all_at new children)
+  pub fits : EachFits dl (trees ts) (all_at new children)
+
+abbrev mutual
+  -- how many nodes a tree has
+  pub tree_size : Tree → ℕ
+  tree_size (array count element) = tree_size element + 1
+  tree_size (vector lanes packed element) = tree_size element + 1
+  tree_size (struct repr always_sized all) = trees_size all + 1
+  tree_size (union repr all) = trees_size all + 1
+  tree_size (enum repr all) = variants_size all + 1
+  tree_size (coroutine prefix locals states conflicts) = trees_size prefix + trees_size locals + 1
+  tree_size _ = 1
+
+  pub trees_size : Trees → ℕ
+  trees_size no_trees = 0
+  trees_size (more_trees t ts) = tree_size t + trees_size ts
+
+  pub variants_size : Variants → ℕ
+  variants_size no_variants = 0
+  variants_size (more_variants discriminant ts others) = trees_size ts + variants_size others

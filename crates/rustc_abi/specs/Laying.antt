@@ -1,0 +1,78 @@
+-- Which layout each type has, or why it has none: children first, left to right.
+use Rattle.std.specs.Prelude.{ℕ, ◌-◌, ◌==◌, ◌&&◌, Bool, false, List, [], ◌∷◌, length, map, nat_lt, is_none, Some, Result, Ok, Err, if◌then◌else◌}
+use Rattle.abi_base.specs.declared.data_layout.TargetDataLayout.{TargetDataLayout}
+use Rattle.abi_base.specs.declared.primitive.Primitive.TheVariants.{Int}
+use Rattle.abi_base.specs.Integer.{integer_size}
+use Rattle.abi_scalar.specs.declared.scalar.Scalar.{Scalar}
+use Rattle.abi_scalar.specs.declared.scalar.Scalar.TheVariants.{Initialized}
+use Rattle.abi_scalar.specs.declared.repr.ReprOptions.{ReprOptions}
+use Rattle.abi_scalar.specs.Range.{numbers_of}
+use Rattle.abi_scalar.specs.Simple.{scalar_layout}
+use Rattle.abi_calc.specs.Apart.{offsets_of}
+use Rattle.abi_calc.specs.Array.{array_answer}
+use Rattle.abi_calc.specs.List.{list_answer}
+use Rattle.rustc_abi.specs.declared.error.LayError.{LayError}
+use Rattle.rustc_abi.specs.declared.error.LayError.TheVariants.{NotYet, BadIndex}
+use Rattle.rustc_abi.specs.Tree.{Tree, scalar, pair, never, unit, array, vector, struct, union, enum, coroutine, Trees, no_trees, more_trees, Variants, no_variants, more_variants}
+use Rattle.rustc_abi.specs.Placed.{Placed, Layout, layout_of, scalar as placed_scalar, elements, fields}
+use Rattle.rustc_abi.specs.Nodes.{parts_at}
+use Rattle.rustc_abi.specs.Error.{named, and_then}
+
+-- the type with the layout that was answered
+abbrev pub placed_by : (Layout → Placed) → Result Layout LayError → Result Placed LayError
+placed_by make answer = and_then answer (λ layout. Ok (make layout))
+
+-- an integer that may be any number of its width
+abbrev pub is_full_integer : Scalar → Bool
+is_full_integer (Initialized (Int integer signed) range) = (range.start == 0) && (range.end == numbers_of (integer_size integer) - 1)
+is_full_integer _ = false
+
+-- `repr(C)` and nothing else
+abbrev pub is_plain_c : ReprOptions → Bool
+is_plain_c repr = (repr.flags.0 == 1) && (is_none repr.int && (is_none repr.align && (is_none repr.pack && is_none repr.scalable)))
+
+-- a list of fields has at most so many
+abbrev pub most_fields : ℕ
+most_fields = 0xFFFF_FF01
+
+abbrev pub scalar_answer : TargetDataLayout → Scalar → Result Placed LayError
+scalar_answer dl s = if is_full_integer s then Ok (placed_scalar (scalar_layout 0 dl s) s) else Err NotYet
+
+abbrev pub elements_answer : TargetDataLayout → (count : ℕ) → Placed → Result Placed LayError
+elements_answer dl count element =
+    placed_by (λ layout. elements layout count element) (named {H = ℕ} (array_answer 0 dl (layout_of element) (Some count)))
+
+-- the layout of fields in source order
+abbrev pub listed : TargetDataLayout → (shuffle_seed : ℕ) → List Layout → Result Layout LayError
+listed dl shuffle_seed layouts = named (list_answer (λ layout. layout) (λ i. i) 0 dl shuffle_seed layouts)
+
+abbrev pub fields_answer : TargetDataLayout → ReprOptions → (always_sized : Bool) → List Placed → Result Placed LayError
+fields_answer dl repr always_sized ps =
+    if is_plain_c repr && always_sized
+    then (if nat_lt most_fields (length ps) then Err BadIndex else
+    placed_by (λ layout. fields layout (parts_at (offsets_of layout.fields) ps)) (listed dl repr.field_shuffle_seed (map layout_of ps)))
+    else Err NotYet
+
+-- the tree, laid out, or its first fault; a lawful data layout is a premise
+abbrev mutual
+  pub laid_out : TargetDataLayout → Tree → Result Placed LayError
+  laid_out dl (scalar s) = scalar_answer dl s
+  laid_out dl (array count element) = and_then (laid_out dl element) (elements_answer dl count)
+  laid_out dl (struct repr always_sized all) = and_then (laid_out_each dl all) (fields_answer dl repr always_sized)
+  laid_out dl (pair a b) = Err NotYet
+  laid_out dl never = Err NotYet
+  laid_out dl unit = Err NotYet
+  laid_out dl (vector lanes packed element) = and_then (laid_out dl element) (λ p. Err NotYet)
+  laid_out dl (union repr all) = and_then (laid_out_each dl all) (λ ps. Err NotYet)
+  laid_out dl (enum repr all) = and_then (laid_out_variants dl all) (λ ps. Err NotYet)
+  laid_out dl (coroutine prefix locals states conflicts) =
+      and_then (laid_out_each dl prefix) (λ ps. and_then (laid_out_each dl locals) (λ qs. Err NotYet))
+
+  pub laid_out_each : TargetDataLayout → Trees → Result (List Placed) LayError
+  laid_out_each dl no_trees = Ok []
+  laid_out_each dl (more_trees t ts) = and_then (laid_out dl t) (λ p. and_then (laid_out_each dl ts) (λ ps. Ok (p ∷ ps)))
+
+  pub laid_out_variants : TargetDataLayout → Variants → Result (List (List Placed)) LayError
+  laid_out_variants dl no_variants = Ok []
+  laid_out_variants dl (more_variants discriminant ts others) =
+      and_then (laid_out_each dl ts) (λ ps. and_then (laid_out_variants dl others) (λ rest. Ok (ps ∷ rest)))

@@ -1,0 +1,49 @@
+//! Types that were laid out.
+
+ghost use Rattle.std.specs.Prelude.{◌≡◌, ◌<◌, length, true};
+ghost use Rattle.rustc_abi.specs.Adding.{are_nodes};
+
+use crate::node::Node;
+use abi_base::Endian;
+use abi_index::{FieldIdx, VariantIdx};
+use abi_scalar::LayoutData;
+
+/// A type that was laid out: its layout, and those of its parts.
+#[derive(Drop)]
+pub struct Laid {
+    nodes: Vec<Node>,
+    endian: Endian,
+    ghost some: { 0 < length nodes.items },
+    ghost well: { are_nodes 0 nodes.items ≡ true },
+}
+
+impl Laid {
+    ghost use Rattle.rustc_abi.specs.Laid.{placed_of, endian_of};
+    ghost use Rattle.rustc_abi.specs.Placed.{layout_of};
+    ghost use Rattle.rustc_abi.specs.Nodes.{root_of};
+
+    /// The type of the last node.
+    pub(crate) fn new(nodes: Vec<Node>, endian: Endian) -> Laid
+        requires some { 0 < length nodes.items }
+        requires well { are_nodes 0 nodes.items ≡ true }
+        ensures placed { placed_of result ≡ root_of nodes.items }
+        ensures endian { endian_of result ≡ endian }
+    {
+        Laid { nodes, endian }
+    }
+
+    /// The layout of the type.
+    pub fn layout(&self) -> &LayoutData<FieldIdx, VariantIdx>
+        ensures { result.now ≡ layout_of (placed_of self.now) }
+    {
+        let nodes = self.nodes.as_slice();
+        crate::lay::layout_at(nodes, nodes.len() - 1)
+    }
+
+    /// The order of the bytes of a number in the type.
+    pub fn endian(&self) -> Endian
+        ensures { result ≡ endian_of self.now }
+    {
+        self.endian
+    }
+}

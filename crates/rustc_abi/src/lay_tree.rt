@@ -1,0 +1,50 @@
+//! The layout of a tree.
+
+ghost use Rattle.std.specs.Prelude.{◌≡◌, IfOk, IfErr, Err, Ok};
+ghost use Rattle.abi_base.specs.DataLayout.{IsLawfulDataLayout};
+ghost use Rattle.rustc_abi.specs.Tree.{tree_of};
+ghost use Rattle.rustc_abi.specs.Values.{LocalsHaveValues};
+ghost use Rattle.rustc_abi.specs.Faithful.{EachValueIsHeld, OnlyValuesAreHeld, NoBytesHoldTwo, IsNicheTrue, IsNicheInside, PaddingDecidesNothing};
+ghost use Rattle.rustc_abi.specs.Laid.{placed_of, endian_of};
+ghost use Rattle.rustc_abi.specs.Laying.{laid_out};
+ghost use Rattle.rustc_abi.specs.Fault.{IsRefusedFor};
+
+use crate::error::LayError;
+use crate::laid::Laid;
+use crate::lay;
+use crate::tree::TypeTree;
+use abi_base::TargetDataLayout;
+use std::alloc::Global;
+
+/// Lays out a tree under a data layout: children before parents, left to right.
+///
+/// `UnlawfulDataLayout` where the data layout isn't lawful. Else the first fault of a part: `NotYet` for a type that isn't
+/// laid out yet, `BadIndex` for a list of more fields than its index type can name, `SizeOverflow` for a size that is not
+/// below the data layout's bound. `OutOfMemory` where a growth of memory was refused.
+pub fn lay_out(alloc: Global, dl: &TargetDataLayout, tree: &TypeTree) -> Result<Laid, LayError>
+    // When it is refused, and for what.
+    ensures lawful { IfOk result (λ _. IsLawfulDataLayout dl.now) }
+    ensures refused { IfErr result (IsRefusedFor dl.now (tree_of tree.now)) }
+
+    // Which layout each part has.
+    ensures laid { IfOk result (λ laid. laid_out dl.now (tree_of tree.now) ≡ Ok (placed_of laid)) }
+    ensures order { IfOk result (λ laid. endian_of laid ≡ dl.now.endian) }
+
+    // What the layout keeps of the values, where each local of a coroutine has one.
+    ensures exists { IfOk result (λ laid. LocalsHaveValues dl.now (tree_of tree.now) →
+        EachValueIsHeld dl.now (tree_of tree.now) (placed_of laid)) }
+    ensures only { IfOk result (λ laid. LocalsHaveValues dl.now (tree_of tree.now) →
+        OnlyValuesAreHeld dl.now (tree_of tree.now) (placed_of laid)) }
+    ensures unique { IfOk result (λ laid. LocalsHaveValues dl.now (tree_of tree.now) → NoBytesHoldTwo dl.now (placed_of laid)) }
+    ensures niche { IfOk result (λ laid. LocalsHaveValues dl.now (tree_of tree.now) → IsNicheTrue dl.now (placed_of laid)) }
+    ensures inside { IfOk result (λ laid. LocalsHaveValues dl.now (tree_of tree.now) → IsNicheInside dl.now (placed_of laid)) }
+    ensures padding { IfOk result (λ laid. LocalsHaveValues dl.now (tree_of tree.now) →
+        PaddingDecidesNothing dl.now (placed_of laid)) }
+{
+    if !dl.is_lawful() {
+        return Err(LayError::UnlawfulDataLayout);
+    }
+    let mut nodes = Vec::new(alloc);
+    let _root = lay::lay_tree(alloc, dl, &mut nodes, tree)?;
+    Ok(Laid::new(nodes, dl.endian))
+}
