@@ -4,3 +4,4 @@ pub mod Numbers
 pub mod TypeWords
 pub mod Repr
 pub mod Reading
+pub mod Printing

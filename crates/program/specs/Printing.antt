@@ -32,3 +32,43 @@ shape_lines NoFields = []
 shape_lines (Union count) = []
 shape_lines (Array stride count) = codes "elements stride " ++ decimal stride ++ codes " count " ++ decimal count ++ codes "\n"
 shape_lines (Arbitrary offsets order) = field_lines 0 offsets
+
+abbrev pub integer_text : Integer → (signed : Bool) → List ℕ
+integer_text I8 false = codes "u8"
+integer_text I8 true = codes "i8"
+integer_text I16 false = codes "u16"
+integer_text I16 true = codes "i16"
+integer_text I32 false = codes "u32"
+integer_text I32 true = codes "i32"
+integer_text I64 false = codes "u64"
+integer_text I64 true = codes "i64"
+integer_text I128 false = codes "u128"
+integer_text I128 true = codes "i128"
+
+abbrev pub float_text : Format → List ℕ
+float_text F16 = codes "f16"
+float_text F16B = codes "f16b"
+float_text F32 = codes "f32"
+float_text F64 = codes "f64"
+float_text F128 = codes "f128"
+float_text PpcF128 = codes "ppcf128"
+
+-- a pointer has the number of its address space, unless that is 0
+abbrev pub primitive_text : Primitive → List ℕ
+primitive_text (Int integer signed) = integer_text integer signed
+primitive_text (Float float) = float_text float
+primitive_text (Pointer space) = if space.0 == 0 then codes "pointer" else codes "pointer(AddressSpace(" ++ decimal space.0 ++ codes "))"
+
+abbrev pub niche_line : Option Niche → List ℕ
+niche_line None = codes "niche none\n"
+niche_line (Some n) =
+    codes "niche " ++ decimal n.offset ++ codes " " ++ primitive_text n.value ++ codes " " ++ range_text n.valid_range.start n.valid_range.end ++ codes "\n"
+
+-- the runs of bytes that hold nothing
+abbrev pub padding_lines : List (ℕ × ℕ) → List ℕ
+padding_lines [] = []
+padding_lines (r ∷ ranges) = codes "padding " ++ decimal r.0 ++ codes ".." ++ decimal r.1 ++ codes "\n" ++ padding_lines ranges
+
+-- all that is written of a type but its padding
+abbrev pub layout_lines : Layout → List ℕ
+layout_lines layout = size_line layout ++ uninhabited_line layout.uninhabited ++ shape_lines layout.fields ++ niche_line layout.largest_niche

@@ -4,6 +4,7 @@
 mod fault;
 mod lines;
 mod number;
+mod print;
 mod reader;
 mod repr_text;
 mod type_word;
