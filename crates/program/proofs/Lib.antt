@@ -1,2 +1,3 @@
 pub mod Text
 pub mod Parts
+pub mod Utf8

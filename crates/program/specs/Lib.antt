@@ -5,3 +5,4 @@ pub mod TypeWords
 pub mod Repr
 pub mod Reading
 pub mod Printing
+pub mod Output

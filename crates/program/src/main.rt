@@ -1,13 +1,21 @@
-//! Lays out a type that is written as text.
+//! Lays out a type: standard input has a data layout string and a type, a line each, and standard output gets the layout.
 #![tactic(auto)]
 
+mod answer;
 mod fault;
 mod lines;
 mod number;
 mod print;
 mod reader;
 mod repr_text;
+mod run;
 mod type_word;
 mod words;
 
-fn main() {}
+pub use run::run;
+use std::io;
+use std::process::ExitCode;
+
+fn main(rt: HostRuntime) -> ExitCode {
+    ExitCode::from(run(rt.alloc(), &mut rt.reader(), &mut io::writer(&rt)))
+}

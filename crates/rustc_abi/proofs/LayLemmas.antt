@@ -194,3 +194,10 @@ pub faithful_root : (dl : TargetDataLayout) (old new : List Node) (i : ℕ) (t :
 faithful_root dl old new i t placed added is locals =
     let root : i ≡ length new - 1 = omega (arith, added.last) in
     subst (IsFaithful dl t) (ap (placed_at new) root ∙ sym is) (added.fits.faithful locals)
+
+-- the last node's layout is lawful
+pub lawful_root : (dl : TargetDataLayout) (old new : List Node) (i : ℕ) (t : Tree) (placed : Placed) → IsAdded dl old new i t → placed ≡ root_of new →
+    IsLawfulLayout dl (layout_of placed)
+lawful_root dl old new i t placed added is =
+    let root : i ≡ length new - 1 = omega (arith, added.last) in
+    subst (λ p. IsLawfulLayout dl (layout_of p)) (ap (placed_at new) root ∙ sym is) added.fits.lawful
