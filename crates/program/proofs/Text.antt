@@ -21,7 +21,7 @@ fitting_large n (d ∷ ds) h =
       | false ↦ refl
     ]
 
-number_some : (w : List ℕ) → 0 < length w → number_in w ≡ fitting (digits_from 0 w)
+pub number_some : (w : List ℕ) → 0 < length w → number_in w ≡ fitting (digits_from 0 w)
 number_some [] h = absurd (omega arith)
 number_some (d ∷ ds) h = refl
 
@@ -44,10 +44,10 @@ number_read w k n some long inv small =
 plain_no_space : (b : ℕ) → is_plain b ≡ true → (b == 32) ≡ false
 plain_no_space b h = grind (arith, nat_tests)
 
-words_grow : (b : ℕ) (bs : List ℕ) → is_plain b ≡ true → begins_plain bs ≡ true → words_of (b ∷ bs) ≡ grown b (words_of bs)
+pub words_grow : (b : ℕ) (bs : List ℕ) → is_plain b ≡ true → begins_plain bs ≡ true → words_of (b ∷ bs) ≡ grown b (words_of bs)
 words_grow b bs here next = rw (here, next, plain_no_space b here) refl
 
-words_alone : (b : ℕ) (bs : List ℕ) → is_plain b ≡ true → begins_plain bs ≡ false → words_of (b ∷ bs) ≡ (b ∷ []) ∷ words_of bs
+pub words_alone : (b : ℕ) (bs : List ℕ) → is_plain b ≡ true → begins_plain bs ≡ false → words_of (b ∷ bs) ≡ (b ∷ []) ∷ words_of bs
 words_alone b bs here next = rw (here, next, plain_no_space b here) refl
 
 -- a run of bytes of a word is the first word

@@ -6,3 +6,4 @@ pub mod Repr
 pub mod Reading
 pub mod Printing
 pub mod Output
+pub mod Written

@@ -1,13 +1,14 @@
 //! Reads a type, word by word.
 
-ghost use Rattle.std.specs.Prelude.{◌≡◌, ◌⊎◌, ◌<◌, ◌≤◌, ◌+◌, ◌^◌, ℕ, IfOk, IfErr, codes, length};
+ghost use Rattle.std.specs.Prelude.{◌≡◌, ◌⊎◌, ◌<◌, ◌≤◌, ◌+◌, ◌^◌, ℕ, IfOk, IfErr, MatchResult, codes, length};
 ghost use Rattle.std.specs.Str.{bytes_eq};
 ghost use Rattle.abi_base.specs.Integer.{integer_size};
-ghost use Rattle.rustc_abi.specs.Tree.{tree_of};
+ghost use Rattle.rustc_abi.specs.Tree.{Tree, tree_of};
 ghost use Rattle.program.specs.Reading.{Agrees, at_count, at_repr, at_type, begin, begun_in, closed, full_integer, next, plain_c, put, read, start, state_of, step, waiting};
 ghost use Rattle.program.specs.Numbers.{number_in};
 ghost use Rattle.program.specs.Repr.{repr_text};
 ghost use Rattle.program.specs.Words.{words_of};
+ghost use Rattle.program.specs.Written.{IsKnown, line_of, written};
 
 use crate::fault::Fault;
 use crate::number::decimal;
@@ -218,10 +219,8 @@ fn step(alloc: Global, number: u64, reader: Reader, word: &[u8]) -> Result<Reade
     }
 }
 
-/// The type that a line writes, whole.
-///
-/// `Unreadable` has the number of the first word that doesn't fit, one past the last where words are missing.
-pub(crate) fn read_type(alloc: Global, line: &[u8]) -> Result<TypeTree, Fault>
+/// The type that a line's words write, whole.
+fn read_words(alloc: Global, line: &[u8]) -> Result<TypeTree, Fault>
     ensures { Agrees tree_of (read (words_of line.now)) result }
 {
     let mut reader = waiting(Want::Tree, Vec::new(alloc));
@@ -241,4 +240,17 @@ pub(crate) fn read_type(alloc: Global, line: &[u8]) -> Result<TypeTree, Fault>
         Some(tree) => Ok(tree),
         None => Err(Fault::Unreadable(number)),
     }
+}
+
+/// The type that a line writes, whole.
+///
+/// `Unreadable` has the number of the first word that doesn't fit, one past the last where words are missing. `NotYet` comes
+/// at a word that the program doesn't know yet, `TooDeep` at one that begins a type in more than 200 others: whichever is
+/// first.
+pub(crate) fn read_type(alloc: Global, line: &[u8]) -> Result<TypeTree, Fault>
+    ensures exact { Agrees tree_of (read (words_of line.now)) result }
+    ensures written { (t : Tree) → IsKnown 0 t → line.now ≡ line_of (written t) →
+        MatchResult result (λ tree. tree_of tree ≡ t) (λ fault. fault ≡ Fault.OutOfMemory) }
+{
+    read_words(alloc, line)
 }

@@ -2,7 +2,7 @@
 use Rattle.std.proofs.Common.{◌≡◌, ◌+◌, ◌≤◌, length}
 use Rattle.program.specs.Reading.{read, read_from, state_of}
 use Rattle.program.specs.Words.{words_of}
-use Rattle.program.proofs.reader.read_type.Given as goal
+use Rattle.program.proofs.reader.read_words.Given as goal
 
 abbrev pub invariant-loop-word : goal.invariant-loop-word
 invariant-loop-word l = record {
