@@ -9,6 +9,8 @@ mod print;
 mod reader;
 mod repr_text;
 mod run;
+#[cfg(test)]
+mod tests;
 mod type_word;
 mod words;
 
