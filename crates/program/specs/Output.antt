@@ -1,5 +1,5 @@
 -- What the program writes for an input, and the status that it ends with.
-use Rattle.std.specs.Prelude.{◌≡◌, ℕ, ◌&&◌, ◌++◌, ◌⊎◌, not, nat_lt, Bool, List, [], codes, string_bytes, length, ◌==◌, Option, Result, Ok, Err, if◌then◌else◌}
+use Rattle.std.specs.Prelude.{◌≡◌, ℕ, ◌&&◌, ◌++◌, ◌⊎◌, not, nat_lt, List, codes, string_bytes, length, Option, Result, Ok, Err, if◌then◌else◌}
 use Rattle.std.specs.Fmt.{decimal}
 use Rattle.std.specs.Io.KnownBytes.{Appends}
 use Rattle.std.specs.Str.{is_utf8}
@@ -7,13 +7,13 @@ use Rattle.abi_base.specs.DataLayout.{default_data_layout}
 use Rattle.rustc_abi.specs.declared.error.LayError.{LayError}
 use Rattle.rustc_abi.specs.declared.error.LayError.TheVariants as lay
 use Rattle.rustc_abi.specs.Tree.{Tree}
-use Rattle.rustc_abi.specs.Placed.{Placed, layout_of}
+use Rattle.rustc_abi.specs.Placed.{Placed}
 use Rattle.rustc_abi.specs.Laying.{laid_out}
 use Rattle.program.specs.declared.answer.Answer.{Answer}
 use Rattle.program.specs.declared.fault.Fault.{Fault}
 use Rattle.program.specs.declared.fault.Fault.TheVariants.{Unreadable, NotYet, TooDeep, OutOfMemory}
 use Rattle.program.specs.Lines.{first_line, second_line}
-use Rattle.program.specs.Printing.{layout_lines}
+use Rattle.program.specs.Printing.{type_text}
 use Rattle.program.specs.Reading.{read}
 use Rattle.program.specs.Words.{words_of}
 
@@ -46,9 +46,6 @@ output_of_fault (Unreadable number) = unreadable number
 output_of_fault NotYet = refused (codes "NotYet")
 output_of_fault TooDeep = refused (codes "TooDeep")
 output_of_fault OutOfMemory = out_of_memory
-
-abbrev pub type_text : Placed → List ℕ
-type_text placed = layout_lines (layout_of placed)
 
 abbrev pub output_of_layout : Result Placed LayError → Output
 output_of_layout (Ok placed) = record { text = type_text placed; status = 0 }
