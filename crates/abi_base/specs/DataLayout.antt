@@ -5,12 +5,13 @@ use Rattle.std.specs.Ordering.{on, eq_of_both}
 use Rattle.std.specs.Prelude.{nat_eq}
 use Rattle.std.proofs.Math.Bool.{beq}
 use Rattle.abi_base.specs.declared.address_space.AddressSpace.{AddressSpace}
-use Rattle.abi_base.specs.declared.data_layout.PointerSpec.{PointerSpec}
+use Rattle.abi_base.specs.declared.pointer_spec.PointerSpec.{PointerSpec}
 use Rattle.abi_base.specs.declared.data_layout.TargetDataLayout.{TargetDataLayout}
 use Rattle.abi_base.specs.declared.integer.Integer.{Integer}
-use Rattle.abi_base.specs.declared.integer.Integer.TheVariants.{I32}
+use Rattle.abi_base.specs.declared.integer.Integer.TheVariants.{I16, I32, I64}
 use Rattle.abi_base.specs.declared.endian.Endian.TheVariants.{Big}
 use Rattle.abi_base.specs.declared.float.Float.{Float}
+use Rattle.abi_base.specs.Align.{next_exponent}
 use Rattle.abi_base.specs.Integer.{integer_size, integer_align}
 use Rattle.abi_base.specs.Float.{float_size, float_align}
 
@@ -46,10 +47,18 @@ size_bound dl = bound_of_pointer dl.default_address_space_pointer_spec.pointer_s
 abbrev pub IsPointerWidth : ℕ → Type 0
 IsPointerWidth bytes = (bytes ≡ 2) ⊎ (bytes ≡ 4) ⊎ (bytes ≡ 8)
 
+-- the integer as wide as an index of so many bytes
+abbrev pub index_integer : ℕ → Integer
+index_integer bytes = if bytes == 2 then I16 else (if bytes == 4 then I32 else I64)
+
 -- the listed alignment of vectors of a size: the first of that size
 abbrev pub listed_align : List (ℕ × ℕ) → ℕ → Option ℕ
 listed_align [] size = None
 listed_align (e ∷ entries) size = if e.0 == size then Some e.1 else listed_align entries size
+
+-- the alignment of vectors of a size: the listed one, else the next power of two
+abbrev pub vector_align_of : TargetDataLayout → ℕ → ℕ
+vector_align_of dl size = unwrap_or (listed_align dl.vector_align size) (next_exponent size)
 
 -- the same size and alignment
 abbrev pub same_vector : ℕ × ℕ → ℕ × ℕ → Bool

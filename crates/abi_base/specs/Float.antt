@@ -1,5 +1,5 @@
 -- Floating-point formats.
-use Rattle.std.specs.Prelude.{ℕ}
+use Rattle.std.specs.Prelude.{ℕ, Bool, true, false, List, codes}
 use Rattle.abi_base.specs.declared.float.Float.{Float}
 use Rattle.abi_base.specs.declared.float.Float.TheVariants.{F16, F16B, F32, F64, F128, PpcF128}
 use Rattle.abi_base.specs.declared.data_layout.TargetDataLayout.{TargetDataLayout}
@@ -21,3 +21,18 @@ float_align dl F32 = dl.f32_align
 float_align dl F64 = dl.f64_align
 float_align dl F128 = dl.f128_align
 float_align dl PpcF128 = dl.f128_align
+
+-- its name
+abbrev pub float_text : Float → List ℕ
+float_text F16 = codes "f16"
+float_text F16B = codes "f16b"
+float_text F32 = codes "f32"
+float_text F64 = codes "f64"
+float_text F128 = codes "f128"
+float_text PpcF128 = codes "ppcf128"
+
+-- it is one of IEEE 754's interchange formats
+abbrev pub is_ieee_float : Float → Bool
+is_ieee_float F16B = false
+is_ieee_float PpcF128 = false
+is_ieee_float _ = true

@@ -1,5 +1,9 @@
+pub mod Size
+pub mod Align
 pub mod Integer
 pub mod Float
 pub mod Primitive
 pub mod DataLayout
 pub mod Endian
+pub mod IntegerType
+pub mod Numeric

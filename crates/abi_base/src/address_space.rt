@@ -7,4 +7,10 @@ pub struct AddressSpace(pub u32);
 impl AddressSpace {
     /// The space of data, where no other is named.
     pub const ZERO: AddressSpace = AddressSpace(0);
+
+    /// The space of constant memory on nvptx and amdgpu.
+    pub const GPU_CONSTANT: AddressSpace = AddressSpace(4);
+
+    /// The space of a workgroup's memory on nvptx and amdgpu.
+    pub const GPU_WORKGROUP: AddressSpace = AddressSpace(3);
 }

@@ -1,12 +1,15 @@
 //! Alignments: powers of two, in bytes.
 
-ghost use Rattle.std.specs.Prelude.{◌≡◌, ℕ, ◌<◌, ◌≤◌, ◌^◌, ◌↔◌, IsTrue, codes, ◌++◌, Some};
-ghost use Rattle.std.specs.Int.{◌∣◌};
+ghost use Rattle.std.specs.Prelude.{◌≡◌, ◌≢◌, ℕ, ◌<◌, ◌≤◌, ◌-◌, ◌*◌, ◌^◌, min, max, ◌↔◌, IsTrue, ◌==◌, nat_le, nat_lt, if◌then◌else◌, codes, ◌++◌, Some};
+ghost use Rattle.std.specs.Int.{◌∣◌, div_ceil};
 ghost use Rattle.std.specs.Fmt.{decimal};
+ghost use Rattle.abi_base.specs.declared.align.AlignFromBytesError.TheVariants.{NotPowerOfTwo, TooLarge};
+ghost use Rattle.abi_base.specs.Align.{align_of_bytes, align_error_text, factor_exponent, next_exponent, IsLeastPower};
 
+use crate::data_layout::TargetDataLayout;
 use crate::size::Size;
 use std::fmt;
-use std::fmt::Debug;
+use std::fmt::{Debug, Display};
 use std::marker::Model;
 
 /// An alignment: a power of two, in bytes. Contracts see its exponent.
@@ -48,11 +51,36 @@ impl Align {
         Align { pow2 }
     }
 
+    /// The least power of two that is no less than the size.
+    pub(crate) fn next_power(size: Size) -> Align
+        ensures value { result ≡ next_exponent size }
+        ensures law { IsLeastPower size result }
+    {
+        let below = size.bytes().saturating_sub(1);
+        Align {
+            pow2: (64 - below.leading_zeros()) as u8,
+        }
+    }
+
     /// Whether it is no greater than `MAX`.
     pub(crate) fn within_limit(self) -> bool
         ensures { IsTrue result ↔ self ≤ 29 }
     {
         self.pow2 <= 29
+    }
+
+    /// Whether the size is just so many bytes, whatever the exponent.
+    pub(crate) fn is_size(self, size: Size) -> bool
+        ensures { result ≡ (size == 2 ^ self) }
+    {
+        u128::from(size.bytes()) == self.wide_bytes()
+    }
+
+    /// Whether the size is at most so many bytes, whatever the exponent.
+    pub(crate) fn holds(self, size: Size) -> bool
+        ensures { result ≡ nat_le size (2 ^ self) }
+    {
+        u128::from(size.bytes()) <= self.wide_bytes()
     }
 
     /// Whether so many bytes are a multiple of it, whatever the exponent.
@@ -76,6 +104,50 @@ impl Align {
         1 << self.pow2
     }
 
+    /// The greatest alignment for a target: 2^(n - 1) bytes for pointers of n bits, or `MAX` where
+    /// that is less. Asks pointers of 8 to 255 bits.
+    pub fn max_for_target(tdl: &TargetDataLayout) -> Align
+        requires some { 1 ≤ tdl.now.default_address_space_pointer_spec.pointer_size }
+        requires most { tdl.now.default_address_space_pointer_spec.pointer_size * 8 ≤ 255 }
+        ensures { result ≡ min (tdl.now.default_address_space_pointer_spec.pointer_size * 8 - 1) 29 }
+    {
+        let pow2 = (tdl.pointer_size().bits() - 1) as u8;
+        if pow2 < 29 {
+            Align { pow2 }
+        } else {
+            Align::MAX
+        }
+    }
+
+    /// The alignment of so many bits, rounded up to whole bytes; 0 bits give one byte.
+    /// `NotPowerOfTwo` and `TooLarge` as for [`Align::from_bytes`], with the number of bytes.
+    pub fn from_bits(bits: u64) -> Result<Align, AlignFromBytesError>
+        ensures { result ≡ align_of_bytes (div_ceil bits 8) }
+    {
+        Align::from_bytes(Size::from_bits(bits).bytes())
+    }
+
+    /// The alignment of so many bytes; 0 bytes give one byte. `NotPowerOfTwo` where the number is
+    /// no power of two, `TooLarge` where it is one above 2^29.
+    pub fn from_bytes(bytes: u64) -> Result<Align, AlignFromBytesError>
+        ensures value { result ≡ align_of_bytes bytes }
+        ensures zero { bytes ≡ 0 → result ≡ Ok 0 }
+        ensures power { (k : ℕ) → bytes ≡ 2 ^ k → result ≡ (if nat_lt 29 k then Err (TooLarge bytes) else Ok k) }
+        ensures not_power { 0 < bytes → ((k : ℕ) → bytes ≢ 2 ^ k) → result ≡ Err (NotPowerOfTwo bytes) }
+    {
+        if bytes == 0 {
+            return Ok(Align::ONE);
+        }
+        let pow2 = bytes.trailing_zeros();
+        if 1 << pow2 != bytes {
+            return Err(AlignFromBytesError::NotPowerOfTwo(bytes));
+        }
+        if pow2 > 29 {
+            return Err(AlignFromBytesError::TooLarge(bytes));
+        }
+        Ok(Align { pow2: pow2 as u8 })
+    }
+
     /// The alignment in bytes.
     pub fn bytes(self) -> u64
         requires { self < 64 }
@@ -83,11 +155,89 @@ impl Align {
     {
         1 << self.pow2
     }
+
+    /// The alignment in bytes, as a `usize`.
+    pub fn bytes_usize(self) -> usize
+        requires { self < 64 }
+        ensures { result ≡ 2 ^ self }
+    {
+        self.bytes() as usize
+    }
+
+    /// The alignment in bits.
+    pub fn bits(self) -> u64
+        requires { self ≤ 60 }
+        ensures { result ≡ 2 ^ self * 8 }
+    {
+        self.bytes() * 8
+    }
+
+    /// The alignment in bits, as a `usize`.
+    pub fn bits_usize(self) -> usize
+        requires { self ≤ 60 }
+        ensures { result ≡ 2 ^ self * 8 }
+    {
+        self.bits() as usize
+    }
+
+    /// The greatest power of two that divides the size: the alignment of what lies at such an
+    /// offset from aligned memory. 2^64 for no bytes, which each power divides.
+    pub fn max_aligned_factor(size: Size) -> Align
+        ensures value { result ≡ factor_exponent size }
+        ensures divides { 2 ^ result ∣ size }
+        ensures greatest { (k : ℕ) → k ≤ 64 → 2 ^ k ∣ size → k ≤ result }
+    {
+        Align {
+            pow2: size.bytes().trailing_zeros() as u8,
+        }
+    }
+
+    /// The alignment that is left at this offset from memory so aligned: the greatest power of two
+    /// that is no greater and divides the offset.
+    pub fn restrict_for_offset(self, offset: Size) -> Align
+        ensures { result ≡ min self (factor_exponent offset) }
+    {
+        let factor = Align::max_aligned_factor(offset);
+        if factor.pow2 < self.pow2 {
+            factor
+        } else {
+            self
+        }
+    }
+}
+
+/// Why a number is no alignment.
+#[derive(Clone, Copy, PartialEq, Eq)]
+pub enum AlignFromBytesError {
+    /// So many bytes are no power of two.
+    NotPowerOfTwo(u64),
+    /// So many bytes are a power of two above 2^29.
+    TooLarge(u64),
+}
+
+impl Debug for AlignFromBytesError {
+    ghost debug_output = { λ error. Some (align_error_text error) };
+
+    fn fmt<W: fmt::Write>(&self, f: &mut fmt::Formatter<W>) -> fmt::Result {
+        match self {
+            AlignFromBytesError::NotPowerOfTwo(bytes) => write!(f, "{bytes} is not a power of 2"),
+            AlignFromBytesError::TooLarge(bytes) => write!(f, "{bytes} is too large"),
+        }
+    }
+}
+
+impl Display for AlignFromBytesError {
+    ghost output = { λ error. Some (align_error_text error) };
+
+    fn fmt<W: fmt::Write>(&self, f: &mut fmt::Formatter<W>) -> fmt::Result {
+        write!(f, "{self:?}")
+    }
 }
 
 /// The alignment that an ABI asks of a type.
 #[derive(Clone, Copy, PartialEq, Eq, Hash)]
 pub struct AbiAlign {
+    /// The alignment.
     pub abi: Align,
 }
 
@@ -97,6 +247,40 @@ impl AbiAlign {
         ensures { result.abi ≡ align }
     {
         AbiAlign { abi: align }
+    }
+
+    /// The smaller of both.
+    pub fn min(self, other: AbiAlign) -> AbiAlign
+        ensures { result.abi ≡ min self.abi other.abi }
+    {
+        AbiAlign {
+            abi: self.abi.min(other.abi),
+        }
+    }
+
+    /// The greater of both.
+    pub fn max(self, other: AbiAlign) -> AbiAlign
+        ensures { result.abi ≡ max self.abi other.abi }
+    {
+        AbiAlign {
+            abi: self.abi.max(other.abi),
+        }
+    }
+
+    /// The alignment in bytes.
+    pub fn bytes(self) -> u64
+        requires { self.abi < 64 }
+        ensures { result ≡ 2 ^ self.abi }
+    {
+        self.abi.bytes()
+    }
+
+    /// The alignment in bits.
+    pub fn bits(self) -> u64
+        requires { self.abi ≤ 60 }
+        ensures { result ≡ 2 ^ self.abi * 8 }
+    {
+        self.abi.bits()
     }
 }
 
@@ -113,5 +297,74 @@ impl Debug for AbiAlign {
 
     fn fmt<W: fmt::Write>(&self, f: &mut fmt::Formatter<W>) -> fmt::Result {
         self.abi.fmt(f)
+    }
+}
+
+#[cfg(test)]
+mod tests {
+    use super::*;
+    use std::test::Fail;
+
+    #[test]
+    fn reads_bytes_and_bits(rt: HostRuntime) {
+        assert_eq!(rt; Align::from_bytes(0), Ok(Align::ONE));
+        assert_eq!(rt; Align::from_bytes(1), Ok(Align::ONE));
+        assert_eq!(rt; Align::from_bytes(8), Ok(Align::EIGHT));
+        assert_eq!(rt; Align::from_bytes(1 << 29), Ok(Align::MAX));
+        assert_eq!(rt;
+            Align::from_bytes(3),
+            Err(AlignFromBytesError::NotPowerOfTwo(3))
+        );
+        assert_eq!(rt;
+            Align::from_bytes(1 << 30),
+            Err(AlignFromBytesError::TooLarge(1 << 30))
+        );
+        assert_eq!(rt; Align::from_bits(32), Ok(Align::FOUR));
+        assert_eq!(rt;
+            Align::from_bits(24),
+            Err(AlignFromBytesError::NotPowerOfTwo(3))
+        );
+    }
+
+    #[test]
+    fn finds_factors(rt: HostRuntime) {
+        assert_eq!(rt;
+            Align::max_aligned_factor(Size::from_bytes(24)),
+            Align::EIGHT
+        );
+        assert_eq!(rt;
+            Align::EIGHT.restrict_for_offset(Size::from_bytes(4)),
+            Align::FOUR
+        );
+        assert_eq!(rt;
+            Align::FOUR.restrict_for_offset(Size::from_bytes(24)),
+            Align::FOUR
+        );
+        assert_eq!(rt; Align::FOUR.restrict_for_offset(Size::ZERO), Align::FOUR);
+    }
+
+    #[test]
+    fn is_limited_by_the_target(rt: HostRuntime) -> Result<(), Fail> {
+        let mut dl = TargetDataLayout::default_in(rt.alloc())?;
+        assert_eq!(rt; Align::max_for_target(&dl), Align::MAX);
+        dl.default_address_space_pointer_spec.pointer_size = Size::from_bytes(2);
+        assert_eq!(rt; Align::max_for_target(&dl).bytes(), 1 << 15);
+        Ok(())
+    }
+
+    #[test]
+    fn is_written_in_bytes(rt: HostRuntime) -> Result<(), Fail> {
+        let text = format!(in rt.alloc(); "{:?} {:?}", Align::FOUR, AbiAlign::new(Align::EIGHT))?;
+        assert_eq!(rt; text.as_str(), "Align(4 bytes) Align(8 bytes)");
+        let not_power = AlignFromBytesError::NotPowerOfTwo(3);
+        let too_large = AlignFromBytesError::TooLarge(1 << 30);
+        let errors = format!(in rt.alloc();
+            "{not_power}, {not_power:?}, {too_large}, {too_large:?}"
+        )?;
+        assert_eq!(rt;
+            errors.as_str(),
+            "3 is not a power of 2, 3 is not a power of 2, 1073741824 is too large, 1073741824 is too large"
+        );
+        Ok(())
     }
 }

@@ -1,205 +1,67 @@
 //! What a target says of its types: alignments, pointers, byte order.
 
-ghost use Rattle.std.specs.Prelude.{◌≡◌, ℕ, ◌^◌, ◌≤◌, ◌↔◌, IsTrue, IfOk, All, map, None};
-ghost use Rattle.std.specs.Int.{◌∣◌};
+ghost use Rattle.std.specs.Prelude.{◌≡◌, ℕ, ◌^◌, ◌≤◌, ◌↔◌, IsTrue, IfOk, None, Some};
 ghost use Rattle.abi_base.specs.declared.data_layout.TargetDataLayout.{TargetDataLayout};
-ghost use Rattle.abi_base.specs.declared.integer.Integer.{Integer};
-ghost use Rattle.abi_base.specs.declared.float.Float.{Float};
-ghost use Rattle.abi_base.specs.Integer.{integer_size, integer_align};
-ghost use Rattle.abi_base.specs.Float.{float_size, float_align};
-ghost use Rattle.abi_base.specs.DataLayout.{IsPointerWidth, Knows, HasLawfulPointer, IsLawfulSpec, IsLawfulDataLayout, HasLawfulDefault, alignments_of, scalar_alignments_of, bound_of_pointer, default_data_layout, entry_of, known_spec, listed_align, pointer_spec_of, size_bound};
+ghost use Rattle.abi_base.specs.Integer.{integer_size};
+ghost use Rattle.abi_base.specs.Align.{IsLeastPower};
+ghost use Rattle.abi_base.specs.DataLayout.{IsPointerWidth, Knows, IsLawfulDataLayout, bound_of_pointer, default_data_layout, index_integer, known_spec, listed_align, pointer_spec_of, size_bound, vector_align_of};
 
 use crate::address_space::AddressSpace;
+use crate::address_spaces::AddressSpaces;
 use crate::align::Align;
 use crate::endian::Endian;
 use crate::integer::Integer;
+use crate::pointer_spec::PointerSpec;
 use crate::size::Size;
+use crate::vector_aligns::VectorAligns;
 use std::alloc::{AllocError, Global};
-use std::fmt;
-use std::fmt::Debug;
-use std::marker::Model;
-
-/// How the pointers of an address space are represented. Sizes are in bytes.
-#[derive(Clone, Copy, PartialEq, Eq, Debug)]
-pub struct PointerSpec {
-    pointer_size: Size,
-    pointer_align: Align,
-    pointer_offset: Size,
-    is_fat: bool,
-}
-
-impl PointerSpec {
-    /// Whether a pointer has 1 to 16 bytes, a multiple of its alignment.
-    fn is_lawful(self) -> bool
-        ensures { IsTrue result ↔ IsLawfulSpec self }
-    {
-        let size = self.pointer_size.bytes();
-        1 <= size && size <= 16 && self.pointer_align.divides_size(self.pointer_size)
-    }
-}
-
-/// The alignments of vectors by their sizes, the first of a size counts. Contracts see a list.
-#[derive(Drop)]
-pub struct VectorAligns {
-    entries: Vec<(Size, Align)>,
-}
-
-impl Model for VectorAligns {
-    ghost use Rattle.std.specs.Prelude.{List, ℕ};
-
-    ghost Value = { List (ℕ × ℕ) };
-
-    ghost view = { λ a. a.entries.items };
-}
-
-impl PartialEq for VectorAligns {
-    ghost use Rattle.std.proofs.Common.{rules};
-    ghost use Rattle.std.specs.Cmp.Lexicographic.{pointwise};
-    ghost use Rattle.std.specs.Cmp.Rules.{comparing};
-    ghost use Rattle.abi_base.specs.DataLayout.{same_vector};
-
-    ghost eq = { pointwise same_vector };
-
-    ghost laws = { Prim.search (comparing, rules) };
-
-    fn eq(&self, other: &Self) -> bool {
-        self.entries == other.entries
-    }
-}
-
-impl Eq for VectorAligns {
-    ghost use Rattle.std.proofs.Common.{rules};
-    ghost use Rattle.std.specs.Cmp.Rules.{comparing};
-
-    ghost laws = { Prim.search (comparing, rules) };
-}
-
-impl Debug for VectorAligns {
-    fn fmt<W: fmt::Write>(&self, f: &mut fmt::Formatter<W>) -> fmt::Result {
-        self.entries.fmt(f)
-    }
-}
-
-impl VectorAligns {
-    /// The alignment of vectors of the size, if it is listed.
-    fn listed(&self, size: Size) -> Option<Align>
-        ensures { result ≡ listed_align self.now size }
-    {
-        for (listed, align) in &self.entries {
-            if *listed == size {
-                return Some(*align);
-            }
-        }
-        None
-    }
-
-    /// Whether no alignment is above the greatest.
-    pub(crate) fn within_limit(&self) -> bool
-        ensures { IsTrue result ↔ All (λ e. e.1 ≤ 29) self.now }
-    {
-        self.entries.iter().all(|entry| entry.1.within_limit())
-    }
-}
-
-/// The pointers of the address spaces other than the default one, the first of a space counts.
-/// Contracts see a list.
-#[derive(Drop)]
-pub struct AddressSpaces {
-    entries: Vec<(AddressSpace, PointerSpec)>,
-}
-
-impl Model for AddressSpaces {
-    ghost use Rattle.std.specs.Prelude.{List};
-    ghost use Rattle.abi_base.specs.declared.address_space.AddressSpace.{AddressSpace};
-    ghost use Rattle.abi_base.specs.declared.data_layout.PointerSpec.{PointerSpec};
-
-    ghost Value = { List (AddressSpace × PointerSpec) };
-
-    ghost view = { λ a. a.entries.items };
-}
 
 /// What a target says of its types, as the data layout section of LLVM's LangRef has it.
 #[derive(Drop, PartialEq, Eq, Debug)]
 pub struct TargetDataLayout {
+    /// The order of a number's bytes.
     pub endian: Endian,
+    /// The alignment of `bool`.
     pub i1_align: Align,
+    /// The alignment of an integer of 8 bits.
     pub i8_align: Align,
+    /// Of 16 bits.
     pub i16_align: Align,
+    /// Of 32 bits.
     pub i32_align: Align,
+    /// Of 64 bits.
     pub i64_align: Align,
+    /// Of 128 bits.
     pub i128_align: Align,
+    /// The alignment of a float of 16 bits.
     pub f16_align: Align,
+    /// Of 32 bits.
     pub f32_align: Align,
+    /// Of 64 bits.
     pub f64_align: Align,
+    /// Of 128 bits.
     pub f128_align: Align,
     /// The least alignment of a list of fields.
     pub aggregate_align: Align,
     /// The alignments of vectors by their sizes.
     pub vector_align: VectorAligns,
+    /// The space of data, where no other is named.
     pub default_address_space: AddressSpace,
+    /// How its pointers are represented.
     pub default_address_space_pointer_spec: PointerSpec,
-    address_space_info: AddressSpaces,
+    /// How the pointers of the other spaces are represented.
+    pub(crate) address_space_info: AddressSpaces,
+    /// The space of functions.
     pub instruction_address_space: AddressSpace,
     /// The least size of the tag of a `repr(C)` enum.
     pub c_enum_min_size: Integer,
-}
-
-impl PartialEq for AddressSpaces {
-    ghost use Rattle.std.proofs.Common.{rules};
-    ghost use Rattle.std.specs.Cmp.Lexicographic.{pointwise};
-    ghost use Rattle.std.specs.Cmp.Rules.{comparing};
-    ghost use Rattle.abi_base.specs.DataLayout.{same_entry};
-
-    ghost eq = { pointwise same_entry };
-
-    ghost laws = { Prim.search (comparing, rules) depth 9 };
-
-    fn eq(&self, other: &Self) -> bool {
-        self.entries == other.entries
-    }
-}
-
-impl Eq for AddressSpaces {
-    ghost use Rattle.std.proofs.Common.{rules};
-    ghost use Rattle.std.specs.Cmp.Rules.{comparing};
-
-    ghost laws = { Prim.search (comparing, rules) depth 9 };
-}
-
-impl Debug for AddressSpaces {
-    fn fmt<W: fmt::Write>(&self, f: &mut fmt::Formatter<W>) -> fmt::Result {
-        self.entries.fmt(f)
-    }
-}
-
-impl AddressSpaces {
-    /// Whether no alignment is above the greatest.
-    pub(crate) fn within_limit(&self) -> bool
-        ensures { IsTrue result ↔ All (λ e. e.1.pointer_align ≤ 29) self.now }
-    {
-        self.entries
-            .iter()
-            .all(|entry| entry.1.pointer_align.within_limit())
-    }
-
-    /// How the pointers of the space are represented, if it is listed.
-    fn entry(&self, space: AddressSpace) -> Option<PointerSpec>
-        ensures { result ≡ entry_of self.now space }
-    {
-        for (listed, spec) in &self.entries {
-            if listed.0 == space.0 {
-                return Some(*spec);
-            }
-        }
-        None
-    }
 }
 
 impl TargetDataLayout {
     /// The data layout of a target that says nothing of its own, by the defaults of LLVM's
     /// LangRef where rustc has them too: big endian, 64-bit pointers in space 0.
     /// `AllocError` where there is no memory for the list of vectors.
-    #[tactic(auto, using(crate::proofs::Lawful::when_default))]
+    #[tactic(auto, using(crate::proofs::Laws::when_default))]
     pub fn default_in(alloc: Global) -> Result<TargetDataLayout, AllocError>
         ensures value { IfOk result (λ dl. dl ≡ default_data_layout) }
         ensures lawful { IfOk result IsLawfulDataLayout }
@@ -246,7 +108,7 @@ impl TargetDataLayout {
     }
 
     /// How the pointers of the space are represented, if it is known.
-    fn spec_in(&self, space: AddressSpace) -> Option<PointerSpec>
+    pub(crate) fn spec_in(&self, space: AddressSpace) -> Option<PointerSpec>
         ensures { result ≡ known_spec self.now space }
     {
         if space.0 == self.default_address_space.0 {
@@ -294,7 +156,8 @@ impl TargetDataLayout {
     /// The integer as wide as an index.
     pub fn ptr_sized_integer(&self) -> Integer
         requires { IsPointerWidth self.now.default_address_space_pointer_spec.pointer_offset }
-        ensures { integer_size result ≡ self.now.default_address_space_pointer_spec.pointer_offset }
+        ensures value { result ≡ index_integer self.now.default_address_space_pointer_spec.pointer_offset }
+        ensures size { integer_size result ≡ self.now.default_address_space_pointer_spec.pointer_offset }
     {
         integer_of(self.pointer_offset())
     }
@@ -303,7 +166,8 @@ impl TargetDataLayout {
     pub fn ptr_sized_integer_in(&self, space: AddressSpace) -> Integer
         requires known { Knows self.now space }
         requires width { IsPointerWidth (pointer_spec_of self.now space).pointer_offset }
-        ensures { integer_size result ≡ (pointer_spec_of self.now space).pointer_offset }
+        ensures value { result ≡ index_integer (pointer_spec_of self.now space).pointer_offset }
+        ensures size { integer_size result ≡ (pointer_spec_of self.now space).pointer_offset }
     {
         integer_of(self.pointer_offset_in(space))
     }
@@ -353,115 +217,19 @@ impl TargetDataLayout {
         self.known_spec_in(space).pointer_align
     }
 
-    /// Whether types have layouts under it: each integer's and each float's size is a multiple of
-    /// its alignment, pointers and indices have 16, 32 or 64 bits, a pointer's size is a multiple
-    /// of its alignment, and no alignment is above 2^29 bytes.
-    pub fn is_lawful(&self) -> bool
-        ensures { IsTrue result ↔ IsLawfulDataLayout self.now }
+    /// The alignment of a vector of the size: the listed one, else the next power of two.
+    /// Where the size is unlisted, that power has to be at most 2^29 bytes.
+    pub fn rust_vector_align(&self, size: Size) -> Align
+        requires { listed_align self.now.vector_align size ≡ None → size ≤ 2 ^ 29 }
+        ensures value { result ≡ vector_align_of self.now size }
+        ensures listed { (align : ℕ) → listed_align self.now.vector_align size ≡ Some align → result ≡ align }
+        ensures unlisted { listed_align self.now.vector_align size ≡ None → IsLeastPower size result }
     {
-        self.is_lawful_in_parts()
-    }
-
-    /// The same, part by part.
-    fn is_lawful_in_parts(&self) -> bool
-        ensures { IsTrue result ↔ ((i : Integer) → 2 ^ integer_align self.now i ∣ integer_size i) × ((f : Float) → 2 ^ float_align self.now f ∣ float_size f) × HasLawfulDefault self.now × All (λ a. a ≤ 29) (alignments_of self.now) }
-    {
-        self.integers_fit() & self.floats_fit() & self.default_fits() & self.within_limit()
-    }
-
-    /// Whether the default space's pointers and indices have 16, 32 or 64 bits, the pointers a
-    /// multiple of their alignment.
-    fn default_fits(&self) -> bool
-        ensures { IsTrue result ↔ HasLawfulDefault self.now }
-    {
-        let spec = self.default_address_space_pointer_spec;
-        is_pointer_width(spec.pointer_size)
-            & is_pointer_width(spec.pointer_offset)
-            & spec.pointer_align.divides_size(spec.pointer_size)
-    }
-
-    /// Whether the space is known, and its pointers have 1 to 16 bytes, a multiple of their
-    /// alignment.
-    pub fn has_lawful_pointer(&self, space: AddressSpace) -> bool
-        ensures { IsTrue result ↔ HasLawfulPointer self.now space }
-    {
-        match self.spec_in(space) {
-            Some(spec) => spec.is_lawful(),
-            None => false,
+        match self.vector_align.listed(size) {
+            Some(align) => align,
+            None => Align::next_power(size),
         }
     }
-
-    /// Whether each integer's size is a multiple of its alignment.
-    fn integers_fit(&self) -> bool
-        ensures { IsTrue result ↔ ((i : Integer) → 2 ^ integer_align self.now i ∣ integer_size i) }
-    {
-        self.integers_divide()
-    }
-
-    /// The same, one by one.
-    fn integers_divide(&self) -> bool
-        ensures { IsTrue result ↔ (2 ^ self.now.i8_align ∣ 1) × (2 ^ self.now.i16_align ∣ 2) × (2 ^ self.now.i32_align ∣ 4) × (2 ^ self.now.i64_align ∣ 8) × (2 ^ self.now.i128_align ∣ 16) }
-    {
-        self.i8_align.divides(1)
-            && self.i16_align.divides(2)
-            && self.i32_align.divides(4)
-            && self.i64_align.divides(8)
-            && self.i128_align.divides(16)
-    }
-
-    /// Whether each float's size is a multiple of its alignment.
-    fn floats_fit(&self) -> bool
-        ensures { IsTrue result ↔ ((f : Float) → 2 ^ float_align self.now f ∣ float_size f) }
-    {
-        self.floats_divide()
-    }
-
-    /// The same, one by one.
-    fn floats_divide(&self) -> bool
-        ensures { IsTrue result ↔ (2 ^ self.now.f16_align ∣ 2) × (2 ^ self.now.f32_align ∣ 4) × (2 ^ self.now.f64_align ∣ 8) × (2 ^ self.now.f128_align ∣ 16) }
-    {
-        self.f16_align.divides(2)
-            && self.f32_align.divides(4)
-            && self.f64_align.divides(8)
-            && self.f128_align.divides(16)
-    }
-
-    /// Whether no alignment is above the greatest.
-    fn within_limit(&self) -> bool
-        ensures { IsTrue result ↔ All (λ a. a ≤ 29) (alignments_of self.now) }
-    {
-        self.each_within_limit()
-    }
-
-    /// The same, list by list.
-    fn each_within_limit(&self) -> bool
-        ensures { IsTrue result ↔ All (λ a. a ≤ 29) (scalar_alignments_of self.now) × All (λ e. e.1 ≤ 29) self.now.vector_align × All (λ e. e.1.pointer_align ≤ 29) self.now.address_space_info }
-    {
-        let scalars = [
-            self.i1_align,
-            self.i8_align,
-            self.i16_align,
-            self.i32_align,
-            self.i64_align,
-            self.i128_align,
-            self.f16_align,
-            self.f32_align,
-            self.f64_align,
-            self.f128_align,
-            self.aggregate_align,
-            self.default_address_space_pointer_spec.pointer_align,
-        ];
-        all_within_limit(&scalars)
-            & self.vector_align.within_limit()
-            & self.address_space_info.within_limit()
-    }
-}
-
-/// Whether no alignment is above the greatest.
-fn all_within_limit(aligns: &[Align]) -> bool
-    ensures { IsTrue result ↔ All (λ a. a ≤ 29) aligns.now }
-{
-    aligns.iter().all(|align| align.within_limit())
 }
 
 /// The number of bytes that no type's size reaches, by the size of a pointer.
@@ -480,7 +248,8 @@ fn bound_of(pointer: Size) -> u64
 /// The integer of the size.
 fn integer_of(size: Size) -> Integer
     requires { IsPointerWidth size }
-    ensures { integer_size result ≡ size }
+    ensures value { result ≡ index_integer size }
+    ensures size { integer_size result ≡ size }
 {
     match size.bytes() {
         2 => Integer::I16,
@@ -488,14 +257,6 @@ fn integer_of(size: Size) -> Integer
         8 => Integer::I64,
         _ => unreachable!(),
     }
-}
-
-/// Whether it is 16, 32 or 64 bits.
-fn is_pointer_width(size: Size) -> bool
-    ensures { IsTrue result ↔ IsPointerWidth size }
-{
-    let bytes = size.bytes();
-    bytes == 2 || bytes == 4 || bytes == 8
 }
 
 /// A value that lends a data layout, the same each time.
@@ -520,5 +281,88 @@ impl HasDataLayout for &TargetDataLayout {
 
     fn data_layout(&self) -> &TargetDataLayout {
         *self
+    }
+}
+
+#[cfg(test)]
+mod tests {
+    use super::*;
+    use std::test::Fail;
+
+    #[test]
+    fn aligns_by_default(rt: HostRuntime) -> Result<(), Fail> {
+        let dl = TargetDataLayout::default_in(rt.alloc())?;
+        let two = Align::exponent(1);
+        let sixteen = Align::exponent(4);
+        assert_eq!(rt;
+            [dl.i1_align, dl.i8_align, dl.aggregate_align],
+            [Align::ONE, Align::ONE, Align::ONE]
+        );
+        assert_eq!(rt; [dl.i16_align, dl.f16_align], [two, two]);
+        assert_eq!(rt;
+            [dl.i32_align, dl.i64_align, dl.i128_align, dl.f32_align],
+            [Align::FOUR, Align::FOUR, Align::FOUR, Align::FOUR]
+        );
+        assert_eq!(rt; [dl.f64_align, dl.f128_align], [Align::EIGHT, sixteen]);
+        let vectors = [
+            (Size::from_bytes(8), Align::EIGHT),
+            (Size::from_bytes(16), sixteen),
+        ];
+        assert_eq!(rt; dl.vector_align.as_slice(), vectors.as_slice());
+        Ok(())
+    }
+
+    #[test]
+    fn has_defaults(rt: HostRuntime) -> Result<(), Fail> {
+        let dl = TargetDataLayout::default_in(rt.alloc())?;
+        assert_eq!(rt; dl.endian, Endian::Big);
+        assert_eq!(rt; dl.default_address_space, AddressSpace::ZERO);
+        assert_eq!(rt; dl.instruction_address_space, AddressSpace::ZERO);
+        assert_eq!(rt; dl.c_enum_min_size, Integer::I32);
+        assert_eq!(rt; dl, TargetDataLayout::default_in(rt.alloc())?);
+        Ok(())
+    }
+
+    #[test]
+    fn has_pointers_of_64_bits(rt: HostRuntime) -> Result<(), Fail> {
+        let dl = TargetDataLayout::default_in(rt.alloc())?;
+        assert_eq!(rt; dl.pointer_size(), Size::from_bytes(8));
+        assert_eq!(rt; dl.pointer_offset(), Size::from_bytes(8));
+        assert_eq!(rt; dl.pointer_align(), Align::EIGHT);
+        assert_eq!(rt; dl.obj_size_bound(), 1 << 61);
+        assert_eq!(rt; dl.ptr_sized_integer(), Integer::I64);
+        assert!(rt; dl.knows(AddressSpace::ZERO));
+        assert!(rt; !dl.knows(AddressSpace(7)));
+        Ok(())
+    }
+
+    #[test]
+    fn aligns_vectors(rt: HostRuntime) -> Result<(), Fail> {
+        let dl = TargetDataLayout::default_in(rt.alloc())?;
+        for (size, bytes) in [(8, 8), (16, 16), (0, 1), (12, 16), (32, 32), (33, 64)] {
+            let align = dl.rust_vector_align(Size::from_bytes(size));
+            assert_eq!(rt; Align::from_bytes(bytes), Ok(align), "at {size}");
+        }
+        Ok(())
+    }
+
+    #[test]
+    fn knows_its_spaces(rt: HostRuntime) -> Result<(), Fail> {
+        let mut dl = TargetDataLayout::default_in(rt.alloc())?;
+        let spec = PointerSpec {
+            pointer_size: Size::from_bytes(16),
+            pointer_align: Align::EIGHT,
+            pointer_offset: Size::from_bytes(4),
+            is_fat: true,
+        };
+        dl.address_space_info.entries.push((AddressSpace(7), spec))?;
+        let space = AddressSpace(7);
+        assert!(rt; dl.knows(space));
+        assert_eq!(rt; dl.pointer_size_in(space), Size::from_bytes(16));
+        assert_eq!(rt; dl.pointer_align_in(space), Align::EIGHT);
+        assert_eq!(rt; dl.pointer_offset_in(space), Size::from_bytes(4));
+        assert_eq!(rt; dl.ptr_sized_integer_in(space), Integer::I32);
+        assert_eq!(rt; dl.obj_size_bound_in(AddressSpace::ZERO), 1 << 61);
+        Ok(())
     }
 }

@@ -1,7 +1,8 @@
 //! The order of a number's bytes.
 
-ghost use Rattle.std.specs.Prelude.{◌≡◌, ⊤, codes, MatchResult, Some};
-ghost use Rattle.abi_base.specs.Endian.{endian_text};
+ghost use Rattle.std.specs.Prelude.{◌≡◌, ◌≢◌, codes, IfOk, IfErr, MatchResult, Some};
+ghost use Rattle.abi_base.specs.declared.endian.Endian.{Endian};
+ghost use Rattle.abi_base.specs.Endian.{endian_text, unknown_endian_text};
 
 use std::fmt;
 use std::fmt::{Debug, Display};
@@ -26,6 +27,61 @@ impl Endian {
             Endian::Big => "big",
         }
     }
+
+    /// The order of this name. `UnknownEndianText` with the text where it is no order's name.
+    pub fn from_text(text: &str) -> Result<Endian, UnknownEndianText<'_>>
+        ensures known { IfOk result (λ endian. text.now ≡ endian_text endian) }
+        ensures unknown { IfErr result (λ error. error.text.now ≡ text.now) }
+        ensures all { (endian : Endian) → text.now ≡ endian_text endian → result ≡ Ok endian }
+    {
+        match text {
+            "little" => Ok(Endian::Little),
+            "big" => Ok(Endian::Big),
+            _ => Err(UnknownEndianText { text }),
+        }
+    }
+}
+
+impl FromStr for Endian {
+    type Err = UnknownEndian;
+
+    ghost from_str_gives = { λ text result. MatchResult result (λ endian. text ≡ endian_text endian) (λ _. (endian : Endian) → text ≢ endian_text endian) };
+
+    /// The order of this name. `UnknownEndian` where it is no order's name.
+    fn from_str(s: &str) -> Result<Endian, UnknownEndian> {
+        match s {
+            "little" => Ok(Endian::Little),
+            "big" => Ok(Endian::Big),
+            _ => Err(UnknownEndian),
+        }
+    }
+}
+
+/// A text is no order's name.
+#[derive(Clone, Copy, PartialEq, Eq, Debug)]
+pub struct UnknownEndian;
+
+impl Display for UnknownEndian {
+    ghost output = { λ _. Some (codes "unknown endian") };
+
+    fn fmt<W: fmt::Write>(&self, f: &mut fmt::Formatter<W>) -> fmt::Result {
+        f.write_str("unknown endian")
+    }
+}
+
+/// This text is no order's name.
+#[derive(Clone, Copy, PartialEq, Eq, Debug)]
+pub struct UnknownEndianText<'a> {
+    /// The text.
+    pub text: &'a str,
+}
+
+impl<'a> Display for UnknownEndianText<'a> {
+    ghost output = { λ error. Some (unknown_endian_text error.text.now) };
+
+    fn fmt<W: fmt::Write>(&self, f: &mut fmt::Formatter<W>) -> fmt::Result {
+        write!(f, "unknown endian: \"{}\"", self.text)
+    }
 }
 
 impl Debug for Endian {
@@ -33,5 +89,34 @@ impl Debug for Endian {
 
     fn fmt<W: fmt::Write>(&self, f: &mut fmt::Formatter<W>) -> fmt::Result {
         f.write_str(self.as_str())
+    }
+}
+
+#[cfg(test)]
+mod tests {
+    use super::*;
+    use std::test::Fail;
+
+    #[test]
+    fn reads_names(rt: HostRuntime) {
+        assert!(rt; Endian::from_text("little") == Ok(Endian::Little));
+        assert!(rt; Endian::from_text("x") == Err(UnknownEndianText { text: "x" }));
+        let big: Result<Endian, UnknownEndian> = "big".parse();
+        assert_eq!(rt; big, Ok(Endian::Big));
+        let unknown: Result<Endian, UnknownEndian> = "Big".parse();
+        assert_eq!(rt; unknown, Err(UnknownEndian));
+    }
+
+    #[test]
+    fn is_written_by_name(rt: HostRuntime) -> Result<(), Fail> {
+        let names = format!(in rt.alloc(); "{:?} {:?}", Endian::Little, Endian::Big)?;
+        assert_eq!(rt; names.as_str(), "little big");
+        let errors = format!(in rt.alloc();
+            "{} {}",
+            UnknownEndian,
+            UnknownEndianText { text: "x" }
+        )?;
+        assert_eq!(rt; errors.as_str(), "unknown endian unknown endian: \"x\"");
+        Ok(())
     }
 }

@@ -1,24 +1,41 @@
 //! Sizes, alignments, primitive types, and what a data layout says of them.
 #![tactic(auto)]
 
+mod abi_from_str_err;
 mod address_space;
+mod address_spaces;
 mod align;
 mod data_layout;
 mod endian;
 mod float;
 mod integer;
+mod lawful;
+mod niche_optimizations;
+mod numeric;
+mod pointee;
+mod pointer_spec;
 mod primitive;
 mod scalable;
+mod simd;
 mod size;
 mod struct_kind;
+mod vector_aligns;
 
+pub use abi_from_str_err::AbiFromStrErr;
 pub use address_space::AddressSpace;
-pub use align::{AbiAlign, Align};
-pub use data_layout::{AddressSpaces, HasDataLayout, PointerSpec, TargetDataLayout, VectorAligns};
-pub use endian::Endian;
+pub use address_spaces::AddressSpaces;
+pub use align::{AbiAlign, Align, AlignFromBytesError};
+pub use data_layout::{HasDataLayout, TargetDataLayout};
+pub use endian::{Endian, UnknownEndian, UnknownEndianText};
 pub use float::Float;
-pub use integer::{Integer, IntegerType};
+pub use integer::{Integer, IntegerType, NoSuchInteger};
+pub use niche_optimizations::NicheOptimizations;
+pub use numeric::Numeric;
+pub use pointee::{PointeeInfo, PointerKind};
+pub use pointer_spec::PointerSpec;
 pub use primitive::Primitive;
 pub use scalable::{NumScalableVectors, ScalableElt};
+pub use simd::MAX_SIMD_LANES;
 pub use size::Size;
 pub use struct_kind::StructKind;
+pub use vector_aligns::VectorAligns;

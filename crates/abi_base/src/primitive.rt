@@ -1,7 +1,7 @@
 //! Primitive types: what a scalar consists of.
 
-ghost use Rattle.std.specs.Prelude.{◌≡◌};
-ghost use Rattle.abi_base.specs.Primitive.{primitive_size, primitive_align, KnowsPrimitive};
+ghost use Rattle.std.specs.Prelude.{◌≡◌, Some};
+ghost use Rattle.abi_base.specs.Primitive.{primitive_size, primitive_align, primitive_text, KnowsPrimitive};
 
 use crate::address_space::AddressSpace;
 use crate::align::Align;
@@ -9,12 +9,15 @@ use crate::data_layout::HasDataLayout;
 use crate::float::Float;
 use crate::integer::Integer;
 use crate::size::Size;
+use std::fmt;
+use std::fmt::Debug;
 
 /// A primitive type: what a scalar consists of.
-#[derive(Clone, Copy, PartialEq, Eq, Hash, Debug)]
+#[derive(Clone, Copy, PartialEq, Eq, Hash)]
 pub enum Primitive {
     /// An integer, signed where the flag is set. No layout depends on the sign.
     Int(Integer, bool),
+    /// A float.
     Float(Float),
     /// A pointer into an address space.
     Pointer(AddressSpace),
@@ -43,5 +46,44 @@ impl Primitive {
             Primitive::Float(float) => float.align(cx),
             Primitive::Pointer(space) => cx.data_layout().pointer_align_in(space),
         }
+    }
+}
+
+impl Debug for Primitive {
+    ghost debug_output = { λ primitive. Some (primitive_text primitive) };
+
+    fn fmt<W: fmt::Write>(&self, f: &mut fmt::Formatter<W>) -> fmt::Result {
+        match self {
+            Primitive::Int(integer, true) => f.write_str(integer.int_ty_str()),
+            Primitive::Int(integer, false) => f.write_str(integer.uint_ty_str()),
+            Primitive::Float(float) => f.write_str(float.ty_str()),
+            Primitive::Pointer(AddressSpace(0)) => f.write_str("pointer"),
+            Primitive::Pointer(space) => write!(f, "pointer(AddressSpace({}))", space.0),
+        }
+    }
+}
+
+#[cfg(test)]
+mod tests {
+    use super::*;
+    use std::test::Fail;
+
+    #[test]
+    fn is_written_by_name(rt: HostRuntime) -> Result<(), Fail> {
+        for (primitive, name) in [
+            (Primitive::Int(Integer::I8, false), "u8"),
+            (Primitive::Int(Integer::I64, true), "i64"),
+            (Primitive::Float(Float::F32), "f32"),
+            (Primitive::Float(Float::PpcF128), "ppcf128"),
+            (Primitive::Pointer(AddressSpace::ZERO), "pointer"),
+            (
+                Primitive::Pointer(AddressSpace(5)),
+                "pointer(AddressSpace(5))",
+            ),
+        ] {
+            let text = format!(in rt.alloc(); "{primitive:?}")?;
+            assert_eq!(rt; text.as_str(), name);
+        }
+        Ok(())
     }
 }

@@ -1,9 +1,10 @@
 //! Numbers of bytes.
 
-ghost use Rattle.std.specs.Prelude.{◌≡◌, ℕ, ◌+◌, ◌-◌, ◌*◌, ◌^◌, ◌<◌, ◌≤◌, ◌↔◌, IsTrue, codes, ◌++◌, Some};
+ghost use Rattle.std.specs.Prelude.{◌≡◌, ℕ, ◌+◌, ◌-◌, ◌*◌, ◌%◌, ◌^◌, ◌<◌, ◌≤◌, ◌↔◌, IsTrue, codes, ◌++◌, Some, nat_lt, if◌then◌else◌, pos, neg_ℤ, ◌-ℤ◌};
 ghost use Rattle.std.specs.Fmt.{decimal};
-ghost use Rattle.std.specs.Int.{next_multiple_of, ◌∣◌};
+ghost use Rattle.std.specs.Int.{next_multiple_of, div_ceil, ◌∣◌};
 ghost use Rattle.std.specs.Option.{SomeIff};
+ghost use Rattle.abi_base.specs.Size.{signed_value};
 ghost use Rattle.abi_base.specs.DataLayout.{IsPointerWidth, size_bound};
 
 use crate::align::Align;
@@ -42,11 +43,43 @@ impl Size {
         Size { raw: bytes }
     }
 
+    /// So many bits, rounded up to whole bytes.
+    pub fn from_bits(bits: u64) -> Size
+        ensures { result ≡ div_ceil bits 8 }
+    {
+        Size {
+            raw: bits.div_ceil(8),
+        }
+    }
+
     /// The number of bytes.
     pub fn bytes(self) -> u64
         ensures { result ≡ self }
     {
         self.raw
+    }
+
+    /// The number of bytes, as a `usize`.
+    pub fn bytes_usize(self) -> usize
+        ensures { result ≡ self }
+    {
+        self.raw as usize
+    }
+
+    /// The number of bits, which has to fit.
+    pub fn bits(self) -> u64
+        requires { self * 8 < 2 ^ 64 }
+        ensures { result ≡ self * 8 }
+    {
+        self.raw * 8
+    }
+
+    /// The number of bits, as a `usize`, which has to fit.
+    pub fn bits_usize(self) -> usize
+        requires { self * 8 < 2 ^ 64 }
+        ensures { result ≡ self * 8 }
+    {
+        self.bits() as usize
     }
 
     /// The least multiple of the alignment that is no less.
@@ -66,6 +99,74 @@ impl Size {
         ensures { IsTrue result ↔ (2 ^ align ∣ self) }
     {
         self.raw % align.bytes() == 0
+    }
+
+    /// The number's low bits, as many as the size has: at most 16 bytes.
+    pub fn truncate(self, value: u128) -> u128
+        requires { self ≤ 16 }
+        ensures { result ≡ value % 2 ^ (self * 8) }
+    {
+        let bits = self.raw * 8;
+        if bits == 128 {
+            value
+        } else {
+            value % (1 << bits)
+        }
+    }
+
+    /// The number that the low bits stand for in two's complement: at most 16 bytes, and 0 for
+    /// no bytes.
+    pub fn sign_extend(self, value: u128) -> i128
+        requires { self ≤ 16 }
+        ensures { result ≡ signed_value (self * 8) (value % 2 ^ (self * 8)) }
+    {
+        if self.raw == 0 {
+            return 0;
+        }
+        twos_complement(self.signed_half(), self.truncate(value))
+    }
+
+    /// How many numbers of 1 to 16 bytes are negative.
+    fn signed_half(self) -> u128
+        requires some { 1 ≤ self }
+        requires most { self ≤ 16 }
+        ensures value { result ≡ 2 ^ (self * 8 - 1) }
+        ensures double { 2 * result ≡ 2 ^ (self * 8) }
+        ensures bound { result ≤ 2 ^ 127 }
+    {
+        1 << (self.raw * 8 - 1)
+    }
+
+    /// The least signed number of 1 to 16 bytes.
+    pub fn signed_int_min(self) -> i128
+        requires some { 1 ≤ self }
+        requires most { self ≤ 16 }
+        ensures { result ≡ neg_ℤ (pos (2 ^ (self * 8 - 1))) }
+    {
+        -1 - self.signed_int_max()
+    }
+
+    /// The greatest signed number of 1 to 16 bytes.
+    pub fn signed_int_max(self) -> i128
+        requires some { 1 ≤ self }
+        requires most { self ≤ 16 }
+        ensures { result ≡ pos (2 ^ (self * 8 - 1) - 1) }
+    {
+        (self.signed_half() - 1) as i128
+    }
+
+    /// The greatest unsigned number of 1 to 16 bytes.
+    pub fn unsigned_int_max(self) -> u128
+        requires some { 1 ≤ self }
+        requires most { self ≤ 16 }
+        ensures { result ≡ 2 ^ (self * 8) - 1 }
+    {
+        let bits = self.raw * 8;
+        if bits == 128 {
+            u128::MAX
+        } else {
+            (1 << bits) - 1
+        }
     }
 
     /// The sum of both, if it is below the data layout's bound.
@@ -90,6 +191,19 @@ impl Size {
             .checked_mul(count)
             .filter(|product| *product < bound)
             .map(|raw| Size { raw })
+    }
+}
+
+/// What a number below twice `half` stands for, where the upper half is negative.
+fn twos_complement(half: u128, low: u128) -> i128
+    requires half { half ≤ 2 ^ 127 }
+    requires low { low < 2 * half }
+    ensures { result ≡ (if nat_lt low half then pos low else (pos low -ℤ pos (2 * half))) }
+{
+    if low < half {
+        low as i128
+    } else {
+        -1 - (half - 1 - (low - half)) as i128
     }
 }
 
@@ -164,5 +278,82 @@ impl Debug for Size {
 
     fn fmt<W: fmt::Write>(&self, f: &mut fmt::Formatter<W>) -> fmt::Result {
         write!(f, "Size({} bytes)", self.raw)
+    }
+}
+
+#[cfg(test)]
+mod tests {
+    use super::*;
+    use crate::data_layout::TargetDataLayout;
+    use std::test::Fail;
+
+    #[test]
+    fn converts_bits(rt: HostRuntime) {
+        for (bits, bytes) in [(0, 0), (1, 1), (8, 1), (9, 2), (u64::MAX, 1 << 61)] {
+            assert_eq!(rt; Size::from_bits(bits).bytes(), bytes, "at {bits}");
+        }
+        assert_eq!(rt; Size::from_bytes(3).bits(), 24);
+        assert_eq!(rt; Size::from_bytes(3).bits_usize(), 24);
+        assert_eq!(rt; Size::from_bytes(3).bytes_usize(), 3);
+    }
+
+    #[test]
+    fn rounds_up(rt: HostRuntime) {
+        assert_eq!(rt;
+            Size::from_bytes(5).align_to(Align::FOUR),
+            Size::from_bytes(8)
+        );
+        assert_eq!(rt;
+            Size::from_bytes(8).align_to(Align::FOUR),
+            Size::from_bytes(8)
+        );
+        assert!(rt; Size::from_bytes(8).is_aligned(Align::FOUR));
+        assert!(rt; !Size::from_bytes(6).is_aligned(Align::FOUR));
+    }
+
+    #[test]
+    fn extends_signs(rt: HostRuntime) {
+        assert_eq!(rt; Size::ZERO.sign_extend(5), 0);
+        assert_eq!(rt; Size::from_bytes(1).sign_extend(0x17F), 127);
+        assert_eq!(rt; Size::from_bytes(1).sign_extend(0x80), -128);
+        assert_eq!(rt;
+            Size::from_bytes(8).sign_extend(1 << 63),
+            -0x8000_0000_0000_0000
+        );
+        assert_eq!(rt; Size::from_bytes(16).sign_extend(u128::MAX), -1);
+        assert_eq!(rt; Size::ZERO.truncate(5), 0);
+        assert_eq!(rt; Size::from_bytes(1).truncate(0x17F), 0x7F);
+        assert_eq!(rt; Size::from_bytes(16).truncate(u128::MAX), u128::MAX);
+    }
+
+    #[test]
+    fn knows_the_limits_of_integers(rt: HostRuntime) {
+        let byte = Size::from_bytes(1);
+        assert_eq!(rt; byte.signed_int_min(), -128);
+        assert_eq!(rt; byte.signed_int_max(), 127);
+        assert_eq!(rt; byte.unsigned_int_max(), 255);
+        let widest = Size::from_bytes(16);
+        assert_eq!(rt; widest.signed_int_min(), i128::MIN);
+        assert_eq!(rt; widest.signed_int_max(), i128::MAX);
+        assert_eq!(rt; widest.unsigned_int_max(), u128::MAX);
+    }
+
+    #[test]
+    fn stays_below_the_bound(rt: HostRuntime) -> Result<(), Fail> {
+        let dl = TargetDataLayout::default_in(rt.alloc())?;
+        let last = Size::from_bytes((1 << 61) - 1);
+        assert_eq!(rt; last.checked_add(Size::ZERO, &dl), Some(last));
+        assert_eq!(rt; last.checked_add(Size::from_bytes(1), &dl), None);
+        assert_eq!(rt; last.checked_mul(1, &dl), Some(last));
+        assert_eq!(rt; Size::from_bytes(1 << 60).checked_mul(2, &dl), None);
+        assert_eq!(rt; Size::from_bytes(1 << 60).checked_mul(1 << 60, &dl), None);
+        Ok(())
+    }
+
+    #[test]
+    fn is_written_in_bytes(rt: HostRuntime) -> Result<(), Fail> {
+        let text = format!(in rt.alloc(); "{:?}", Size::from_bytes(4))?;
+        assert_eq!(rt; text.as_str(), "Size(4 bytes)");
+        Ok(())
     }
 }

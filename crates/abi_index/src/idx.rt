@@ -92,6 +92,44 @@ impl Model for FieldIdx {
     ghost inverse = { λ n. record { raw = n } };
 }
 
+impl FieldIdx {
+    /// The first place.
+    pub const ZERO: FieldIdx = FieldIdx { raw: 0 };
+
+    /// The second place.
+    pub const ONE: FieldIdx = FieldIdx { raw: 1 };
+
+    /// The index of a place, at most 0xFFFF_FF00.
+    pub fn from_u32(value: u32) -> FieldIdx
+        requires { value ≤ 0xFFFF_FF00 }
+        ensures { result ≡ value }
+    {
+        FieldIdx { raw: value }
+    }
+
+    /// The index of a place, at most 0xFFFF_FF00.
+    pub fn from_usize(value: usize) -> FieldIdx
+        requires { value ≤ 0xFFFF_FF00 }
+        ensures { result ≡ value }
+    {
+        FieldIdx { raw: value as u32 }
+    }
+
+    /// The place that it names.
+    pub fn as_u32(self) -> u32
+        ensures { result ≡ self }
+    {
+        self.raw
+    }
+
+    /// The place that it names.
+    pub fn as_usize(self) -> usize
+        ensures { result ≡ self }
+    {
+        self.raw as usize
+    }
+}
+
 impl Idx for FieldIdx {
     ghost use Rattle.std.specs.Prelude.{refl};
     ghost use Rattle.std.proofs.Common.{rules};
@@ -146,6 +184,41 @@ impl Model for VariantIdx {
     ghost inverse = { λ n. record { raw = n } };
 }
 
+impl VariantIdx {
+    /// The first place.
+    pub const ZERO: VariantIdx = VariantIdx { raw: 0 };
+
+    /// The index of a place, at most 0xFFFF_FF00.
+    pub fn from_u32(value: u32) -> VariantIdx
+        requires { value ≤ 0xFFFF_FF00 }
+        ensures { result ≡ value }
+    {
+        VariantIdx { raw: value }
+    }
+
+    /// The index of a place, at most 0xFFFF_FF00.
+    pub fn from_usize(value: usize) -> VariantIdx
+        requires { value ≤ 0xFFFF_FF00 }
+        ensures { result ≡ value }
+    {
+        VariantIdx { raw: value as u32 }
+    }
+
+    /// The place that it names.
+    pub fn as_u32(self) -> u32
+        ensures { result ≡ self }
+    {
+        self.raw
+    }
+
+    /// The place that it names.
+    pub fn as_usize(self) -> usize
+        ensures { result ≡ self }
+    {
+        self.raw as usize
+    }
+}
+
 impl Idx for VariantIdx {
     ghost use Rattle.std.specs.Prelude.{refl};
     ghost use Rattle.std.proofs.Common.{rules};
@@ -178,5 +251,24 @@ impl Idx for VariantIdx {
         VariantIdx {
             raw: (self.raw as usize + amount) as u32,
         }
+    }
+}
+
+#[cfg(test)]
+mod tests {
+    use super::*;
+
+    #[test]
+    fn names_places(rt: HostRuntime) {
+        assert_eq!(rt; FieldIdx::from_u32(3).as_usize(), 3);
+        assert_eq!(rt; FieldIdx::from_usize(0xFFFF_FF00).as_u32(), 0xFFFF_FF00);
+        assert_eq!(rt; FieldIdx::new(2).plus(5), FieldIdx::from_u32(7));
+        assert_eq!(rt; FieldIdx::ZERO.plus(1), FieldIdx::ONE);
+        assert_eq!(rt; VariantIdx::from_u32(9).as_usize(), 9);
+        assert_eq!(rt; VariantIdx::from_usize(4).as_u32(), 4);
+        assert_eq!(rt; FIRST_VARIANT, VariantIdx::ZERO);
+        assert_eq!(rt; u32::new(6).plus(1).index(), 7);
+        assert!(rt; FieldIdx::ZERO < FieldIdx::ONE);
+        assert!(rt; VariantIdx::from_u32(2) < VariantIdx::from_u32(10));
     }
 }

@@ -1,15 +1,21 @@
 //! Lists whose places are named by an index type.
 
-ghost use Rattle.std.specs.Prelude.{◌≡◌, ℕ, ◌≤◌, ◌<◌, ◌+◌, List, [], ◌∷◌, ◌++◌, length, OnOk, OnErr, IfOk, IfSome, slice_get, Some};
+ghost use Rattle.std.specs.Prelude.{◌≡◌, ℕ, ◌≤◌, ◌<◌, ◌+◌, List, [], ◌∷◌, ◌++◌, length, OnOk, OnErr, IfOk, IfSome, slice_get, Some, map};
+ghost use Rattle.std.specs.List.{range_with_len};
+ghost use Rattle.std.specs.Slice.Iter.{iter_rest};
+ghost use Rattle.std.specs.Iterator.Adapters.{IterYieldsInOrder};
+ghost use Rattle.abi_index.specs.Indices.{indices_left, last_left};
 ghost use Rattle.std.specs.Option.{option_copied};
 ghost use Rattle.abi_index.specs.Slice.{items_of};
 
 use crate::idx::Idx;
+use crate::indices::Indices;
 use std::alloc::{AllocError, Global};
 use std::fmt;
 use std::fmt::Debug;
 use std::hash::{Hash, Hasher};
 use std::marker::{Model, PhantomData};
+use std::slice::Iter;
 
 /// A list whose places are named by an index type.
 #[derive(Drop)]
@@ -111,6 +117,31 @@ impl<I: Idx, T> IndexVec<I, T> {
             of: PhantomData,
         }
     }
+
+    /// The index that the next item would have.
+    pub fn next_index(&self) -> I
+        requires { length self.now ≤ I.MAX_INDEX }
+        ensures { result ≡ I.at (length self.now) }
+    {
+        I::new(self.raw.len())
+    }
+
+    /// The indices of the items, in order.
+    pub fn indices(&self) -> Indices<I>
+        requires { length self.now ≤ I.MAX_INDEX + 1 }
+        ensures left { indices_left I.at result ≡ map I.at (range_with_len 0 (length self.now)) }
+        ensures last { last_left result ≤ I.MAX_INDEX + 1 }
+    {
+        Indices::below(self.raw.len())
+    }
+
+    /// The items, in order.
+    pub fn iter(&self) -> Iter<'_, T>
+        ensures rest { iter_rest result ≡ self.now }
+        ensures runs { IterYieldsInOrder T }
+    {
+        self.raw.iter()
+    }
 }
 
 impl<I, T: Copy> IndexVec<I, T> {
@@ -189,5 +220,90 @@ impl<'a, I: Idx, T> IndexSlice<'a, I, T> {
         ensures { result.now ≡ items_of self.entry }
     {
         self.raw
+    }
+
+    /// The index that the next item would have.
+    pub fn next_index(self) -> I
+        requires { length (items_of self) ≤ I.MAX_INDEX }
+        ensures { result ≡ I.at (length (items_of self.entry)) }
+    {
+        I::new(self.raw.len())
+    }
+
+    /// The indices of the items, in order.
+    pub fn indices(self) -> Indices<I>
+        requires { length (items_of self) ≤ I.MAX_INDEX + 1 }
+        ensures left { indices_left I.at result ≡ map I.at (range_with_len 0 (length (items_of self.entry))) }
+        ensures last { last_left result ≤ I.MAX_INDEX + 1 }
+    {
+        Indices::below(self.raw.len())
+    }
+
+    /// The items, in order.
+    pub fn iter(self) -> Iter<'a, T>
+        ensures rest { iter_rest result ≡ (items_of self.entry) }
+        ensures runs { IterYieldsInOrder T }
+    {
+        self.raw.iter()
+    }
+}
+
+#[cfg(test)]
+mod tests {
+    use super::*;
+    use crate::idx::FieldIdx;
+    use std::test::Fail;
+
+    /// A list of three numbers.
+    fn three(alloc: Global) -> Result<IndexVec<FieldIdx, u8>, AllocError>
+        ensures { IfOk result (λ list. list ≡ 5 ∷ 6 ∷ 9 ∷ []) }
+    {
+        let mut list = IndexVec::new(alloc);
+        let _first: FieldIdx = list.push(5)?;
+        let _second = list.push(6)?;
+        let _third = list.push(9)?;
+        Ok(list)
+    }
+
+    #[test]
+    fn keeps_items(rt: HostRuntime) -> Result<(), Fail> {
+        let mut list = three(rt.alloc())?;
+        assert_eq!(rt; list.len(), 3);
+        assert_eq!(rt; list.next_index(), FieldIdx::from_u32(3));
+        assert_eq!(rt; list.get(FieldIdx::ONE).copied(), Some(6));
+        assert_eq!(rt; list.get(FieldIdx::from_u32(3)).copied(), None);
+        let pushed = list.push(1)?;
+        assert_eq!(rt; pushed, FieldIdx::from_u32(3));
+        assert_eq!(rt; list.as_slice().as_raw(), [5, 6, 9, 1].as_slice());
+        Ok(())
+    }
+
+    #[test]
+    fn copies(rt: HostRuntime) -> Result<(), Fail> {
+        let list = three(rt.alloc())?;
+        let copy = list.try_clone(rt.alloc())?;
+        assert!(rt; copy == list);
+        let text = format!(in rt.alloc(); "{list:?}")?;
+        assert_eq!(rt; text.as_str(), "[5, 6, 9]");
+        Ok(())
+    }
+
+    #[test]
+    fn goes_over(rt: HostRuntime) -> Result<(), Fail> {
+        let list = three(rt.alloc())?;
+        let view = list.as_slice();
+        let indices: Vec<FieldIdx> = list.indices().collect(rt.alloc())?;
+        assert_eq!(rt;
+            indices.as_slice(),
+            [FieldIdx::ZERO, FieldIdx::ONE, FieldIdx::from_u32(2)].as_slice()
+        );
+        assert_eq!(rt; view.indices().size_hint(), (3, Some(3)));
+        let items: Vec<u8> = view.iter().copied().collect(rt.alloc())?;
+        assert_eq!(rt; items.as_slice(), [5, 6, 9].as_slice());
+        assert_eq!(rt; list.iter().count(), 3);
+        assert_eq!(rt; view.next_index(), FieldIdx::from_u32(3));
+        assert_eq!(rt; view.get(FieldIdx::ZERO).copied(), Some(5));
+        assert_eq!(rt; view.len(), 3);
+        Ok(())
     }
 }

@@ -31,10 +31,6 @@ pub below_power : (a : ℕ) → a < 2 ^ a
 below_power zero = pow_pos 0
 below_power (suc a) = omega (arith, below_power a, two-pow-succ a)
 
--- what divides at most 16 bytes is at most 2 ^ 29
-pub small_exponent : (exponent size : ℕ) → 1 ≤ size → size ≤ 16 → 2 ^ exponent ∣ size → exponent ≤ 29
-small_exponent exponent size some most many = omega (arith, below_power exponent, le_of_dvd (omega arith) many)
-
 -- each bound is above 16 bytes
 pub bound_above : (dl : TargetDataLayout) → IsLawfulDataLayout dl → 2 ^ 15 ≤ size_bound dl
 bound_above dl law =

@@ -1,6 +1,17 @@
+pub mod Repr
+pub mod LaneCount
+pub mod LayoutError
 pub mod Range
+pub mod Count
+pub mod LeastRange
+pub mod Wraparound
 pub mod RangeText
+pub mod ScalarText
 pub mod Scalar
 pub mod Niche
+pub mod Reserve
 pub mod Lawful
 pub mod Simple
+pub mod Lending
+pub mod View
+pub mod Layout

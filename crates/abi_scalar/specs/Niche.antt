@@ -5,7 +5,7 @@ use Rattle.abi_base.specs.Primitive.{primitive_size, KnowsPrimitive}
 use Rattle.abi_scalar.specs.declared.niche.Niche.{Niche}
 use Rattle.abi_scalar.specs.declared.scalar.Scalar.{Scalar}
 use Rattle.abi_scalar.specs.declared.scalar.Scalar.TheVariants.{Initialized, Union}
-use Rattle.abi_scalar.specs.Range.{free_count, AreWithin}
+use Rattle.abi_scalar.specs.Range.{IsFree, free_count, AreWithin}
 
 -- how many bytes a niche has
 abbrev pub niche_size : TargetDataLayout → Niche → ℕ
@@ -21,6 +21,11 @@ pub record IsReadableNiche (dl : TargetDataLayout) (niche : Niche) : Type 0 wher
 -- how many numbers a niche has free
 abbrev pub available_in : TargetDataLayout → Niche → ℕ
 available_in dl niche = free_count (niche_size dl niche) niche.valid_range
+
+-- some number of the scalar's width is free; a union's scalar holds any
+abbrev pub HasFreeNumber : TargetDataLayout → Scalar → Type 0
+HasFreeNumber dl (Initialized value range) = (n : ℕ) × IsFree (primitive_size dl value) range n
+HasFreeNumber dl (Union value) = ⊥
 
 -- the niche of a scalar at an offset: none for a union's scalar, nor where no number is free
 abbrev pub niche_at : TargetDataLayout → (offset : ℕ) → Scalar → Option Niche

@@ -1,6 +1,8 @@
 -- Scalars, and the numbers that they hold.
-use Rattle.std.specs.Prelude.{ℕ, ◌<◌, ◌≤◌, ⊤}
+use Rattle.std.specs.Prelude.{◌≡◌, ℕ, ◌<◌, ◌≤◌, ⊤, IsTrue, false}
 use Rattle.abi_base.specs.declared.primitive.Primitive.{Primitive}
+use Rattle.abi_base.specs.declared.primitive.Primitive.TheVariants.{Int, Float, Pointer}
+use Rattle.abi_base.specs.declared.integer.Integer.TheVariants.{I8}
 use Rattle.abi_base.specs.declared.data_layout.TargetDataLayout.{TargetDataLayout}
 use Rattle.abi_base.specs.Primitive.{primitive_size, primitive_align, KnowsPrimitive, IsLawfulPrimitive}
 use Rattle.abi_scalar.specs.declared.wrapping_range.WrappingRange.{WrappingRange}
@@ -17,6 +19,26 @@ primitive_of (Union value) = value
 abbrev pub IsUnion : Scalar → Type 0
 IsUnion (Initialized value range) = ⊥
 IsUnion (Union value) = ⊤
+
+-- it is an unsigned byte that holds 0 or 1
+abbrev pub IsBool : Scalar → Type 0
+IsBool scalar = scalar ≡ Initialized (Int I8 false) (record { start = 0; end = 1 })
+
+-- the primitive is a signed integer
+abbrev pub IsSignedInteger : Primitive → Type 0
+IsSignedInteger (Int integer signed) = IsTrue signed
+IsSignedInteger (Float float) = ⊥
+IsSignedInteger (Pointer space) = ⊥
+
+-- the scalar with that range, where it has one
+abbrev pub with_range : Scalar → WrappingRange → Scalar
+with_range (Initialized value range) new = Initialized value new
+with_range (Union value) new = Union value
+
+-- it holds numbers of a range
+abbrev pub IsInitialized : Scalar → Type 0
+IsInitialized (Initialized value range) = ⊤
+IsInitialized (Union value) = ⊥
 
 -- how many bytes it has
 abbrev pub scalar_size : TargetDataLayout → Scalar → ℕ
@@ -35,6 +57,10 @@ range_of dl (Union value) = full_range (primitive_size dl value)
 abbrev pub IsNumberOf : (width : ℕ) → Scalar → ℕ → Type 0
 IsNumberOf width (Initialized value range) n = IsIn width range n
 IsNumberOf width (Union value) n = n < numbers_of width
+
+-- it may hold every number of its bytes
+abbrev pub IsAlwaysValid : TargetDataLayout → Scalar → Type 0
+IsAlwaysValid dl scalar = (n : ℕ) → n < numbers_of (scalar_size dl scalar) → IsNumberOf (scalar_size dl scalar) scalar n
 
 -- A scalar that can be asked for its numbers: its space is known, it has 1 to 16 bytes, and its range's ends fit them.
 pub record IsReadable (dl : TargetDataLayout) (scalar : Scalar) : Type 0 where

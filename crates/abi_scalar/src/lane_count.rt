@@ -1,5 +1,11 @@
 //! How many lanes a vector has.
 
+ghost use Rattle.std.specs.Prelude.{◌≡◌, ℕ, Result, IsTrue, ◌↔◌};
+ghost use Rattle.std.specs.Int.{IsPowerOfTwo};
+ghost use Rattle.abi_scalar.specs.LaneCount.{lane_count};
+
+use crate::error::LayoutCalculatorError;
+use abi_base::MAX_SIMD_LANES;
 use std::marker::Model;
 
 /// How many lanes a vector has: 1 to 32768.
@@ -18,4 +24,70 @@ impl Model for BackendLaneCount {
     ghost inverse = { λ n. record { lanes = n } };
 
     ghost invariant = { λ a. (1 ≤ a.lanes) × (a.lanes ≤ 32768) };
+}
+
+impl BackendLaneCount {
+    /// So many lanes. `OversizedSimdType` above 32768, `ZeroLengthSimdType` for 0.
+    pub fn new<N>(count: u64) -> Result<BackendLaneCount, LayoutCalculatorError<N>>
+        ensures { result ≡ lane_count count }
+    {
+        if count > 32768 {
+            return Err(LayoutCalculatorError::OversizedSimdType {
+                max_lanes: MAX_SIMD_LANES,
+            });
+        }
+        if count == 0 {
+            return Err(LayoutCalculatorError::ZeroLengthSimdType);
+        }
+        Ok(BackendLaneCount {
+            lanes: count as u16,
+        })
+    }
+
+    /// Whether the number is a power of two.
+    pub fn is_power_of_two(self) -> bool
+        ensures { IsTrue result ↔ IsPowerOfTwo self }
+    {
+        self.lanes.is_power_of_two()
+    }
+
+    /// The number.
+    pub fn as_u64(self) -> u64
+        ensures { result ≡ self }
+    {
+        u64::from(self.lanes)
+    }
+
+    /// The number.
+    pub fn as_u32(self) -> u32
+        ensures { result ≡ self }
+    {
+        u32::from(self.lanes)
+    }
+}
+
+#[cfg(test)]
+mod tests {
+    use super::*;
+    use std::test::Fail;
+
+    #[test]
+    fn counts_lanes(rt: HostRuntime) -> Result<(), Fail> {
+        let none: Result<BackendLaneCount, LayoutCalculatorError<u8>> = BackendLaneCount::new(0);
+        assert_eq!(rt; none, Err(LayoutCalculatorError::ZeroLengthSimdType));
+        let many: Result<BackendLaneCount, LayoutCalculatorError<u8>> = BackendLaneCount::new(
+            32769,
+        );
+        assert_eq!(rt;
+            many,
+            Err(LayoutCalculatorError::OversizedSimdType { max_lanes: 32768 })
+        );
+        for (count, power) in [(1, true), (3, false), (32768, true)] {
+            let lanes = BackendLaneCount::new::<u8>(count)?;
+            assert_eq!(rt; lanes.as_u64(), count);
+            assert_eq!(rt; u64::from(lanes.as_u32()), count);
+            assert_eq!(rt; lanes.is_power_of_two(), power, "at {count}");
+        }
+        Ok(())
+    }
 }

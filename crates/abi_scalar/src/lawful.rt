@@ -1,8 +1,7 @@
 //! The test that tells whether a layout is lawful.
 
-ghost use Rattle.std.specs.Prelude.{◌≡◌, ◌↔◌, ◌≤◌, ◌^◌, IsTrue, IfSome};
-ghost use Rattle.std.specs.Int.{◌∣◌};
-ghost use Rattle.abi_base.specs.DataLayout.{IsLawfulDataLayout, HasLawfulPointer};
+ghost use Rattle.std.specs.Prelude.{◌≡◌, ◌↔◌, ◌≤◌, IsTrue, IfSome};
+ghost use Rattle.abi_base.specs.DataLayout.{IsLawfulDataLayout};
 ghost use Rattle.abi_base.specs.Primitive.{IsLawfulPrimitive};
 ghost use Rattle.abi_scalar.specs.declared.scalar.Scalar.TheVariants.{Initialized};
 ghost use Rattle.abi_scalar.specs.Range.{AreWithin};
@@ -15,23 +14,8 @@ use crate::niche::Niche;
 use crate::scalar::Scalar;
 use crate::variants::Variants;
 use crate::wrapping_range::{WrappingRange, greatest_number};
-use abi_base::{AddressSpace, Align, Primitive, Size, TargetDataLayout};
+use abi_base::{Align, Primitive, Size, TargetDataLayout};
 use abi_index::Idx;
-
-/// Whether the size is 1 to 16 bytes and a multiple of the alignment.
-#[tactic(auto, using(crate::proofs::LawfulLemmas::small_exponent))]
-fn is_pointer_size(size: Size, align: Align) -> bool
-    ensures { IsTrue result ↔ ((1 ≤ size) × (size ≤ 16) × (2 ^ align ∣ size)) }
-{
-    1 <= size.bytes() && size.bytes() <= 16 && align <= Align::MAX && size.is_aligned(align)
-}
-
-/// Whether the data layout knows the space, and its pointers have 1 to 16 bytes, a multiple of their alignment.
-fn has_lawful_pointer(dl: &TargetDataLayout, space: AddressSpace) -> bool
-    ensures { IsTrue result ↔ HasLawfulPointer dl.now space }
-{
-    dl.knows(space) && is_pointer_size(dl.pointer_size_in(space), dl.pointer_align_in(space))
-}
 
 /// Whether the primitive is no pointer, or a lawful one.
 fn is_lawful_primitive(dl: &TargetDataLayout, value: Primitive) -> bool
@@ -40,7 +24,7 @@ fn is_lawful_primitive(dl: &TargetDataLayout, value: Primitive) -> bool
     match value {
         Primitive::Int(_, _) => true,
         Primitive::Float(_) => true,
-        Primitive::Pointer(space) => has_lawful_pointer(dl, space),
+        Primitive::Pointer(space) => dl.has_lawful_pointer(space),
     }
 }
 

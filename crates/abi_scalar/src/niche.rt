@@ -1,10 +1,11 @@
 //! Niches: numbers that a place inside a type never holds.
 
-ghost use Rattle.std.specs.Prelude.{◌≡◌, ◌≤◌};
+ghost use Rattle.std.specs.Prelude.{◌≡◌, ◌↔◌, IsSome};
 ghost use Rattle.abi_base.specs.Primitive.{KnowsPrimitive};
-ghost use Rattle.abi_scalar.specs.Range.{AreWithin};
+ghost use Rattle.abi_scalar.specs.Count.{AreSoMany};
+ghost use Rattle.abi_scalar.specs.Range.{IsFree, AreWithin};
 ghost use Rattle.abi_scalar.specs.Scalar.{IsReadable};
-ghost use Rattle.abi_scalar.specs.Niche.{niche_size, available_in, niche_at, IsReadableNiche};
+ghost use Rattle.abi_scalar.specs.Niche.{niche_size, available_in, niche_at, HasFreeNumber, IsReadableNiche};
 
 use crate::scalar::Scalar;
 use crate::wrapping_range::{WrappingRange, greatest_number};
@@ -13,8 +14,11 @@ use abi_base::{HasDataLayout, Primitive, Size};
 /// A place inside a type, and the numbers that it holds there: all others of its width are free.
 #[derive(Clone, Copy, PartialEq, Eq, Hash, Debug)]
 pub struct Niche {
+    /// Where it begins, in bytes from the type's start.
     pub offset: Size,
+    /// What it consists of, which tells its width.
     pub value: Primitive,
+    /// The numbers that it holds.
     pub valid_range: WrappingRange,
 }
 
@@ -22,7 +26,8 @@ impl Niche {
     /// The niche of a scalar at an offset. None for a union's scalar, and where no number is free.
     pub fn from_scalar<C: HasDataLayout>(cx: &C, offset: Size, scalar: Scalar) -> Option<Niche>
         requires { IsReadable (C.target cx.now) scalar }
-        ensures { result ≡ niche_at (C.target cx.now) offset scalar }
+        ensures exact { result ≡ niche_at (C.target cx.now) offset scalar }
+        ensures free { IsSome result ↔ HasFreeNumber (C.target cx.now) scalar }
     {
         match scalar {
             Scalar::Initialized { value, valid_range } => {
@@ -42,9 +47,11 @@ impl Niche {
     }
 
     /// How many numbers are free.
+    #[tactic(auto, using(crate::proofs::CountLemmas::free_counted))]
     pub fn available<C: HasDataLayout>(&self, cx: &C) -> u128
         requires { IsReadableNiche (C.target cx.now) self.now }
-        ensures { result ≡ available_in (C.target cx.now) self.now }
+        ensures exact { result ≡ available_in (C.target cx.now) self.now }
+        ensures count { AreSoMany (IsFree (niche_size (C.target cx.now) self.now) self.now.valid_range) result }
     {
         self.valid_range.free(self.value.size(cx))
     }

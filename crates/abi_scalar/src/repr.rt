@@ -1,14 +1,19 @@
 //! What a `repr` attribute asks of a type.
 
-ghost use Rattle.std.specs.Prelude.{⊤, ◌≡◌, ◌==◌, ℕ, [], ◌∷◌, codes};
-ghost use Rattle.std.specs.Int.RustNames.{bit_and};
+ghost use Rattle.std.specs.Prelude.{⊤, ◌≡◌, ◌↔◌, IsTrue, is_some, ◌||◌, ◌&&◌, not, ℕ, [], ◌∷◌, codes};
+ghost use Rattle.abi_scalar.specs.Repr.{is_c, is_simd, is_scalable, is_transparent, is_linear, is_rust, discr_type_of, has_fixed_order, is_abi_fixed, may_randomize, IsEqualUpToSeed};
 
 use abi_base::{Align, IntegerType, ScalableElt};
 use abi_index::Hash64;
+use bitflags::parser::to_writer;
 use bitflags::{Flag, Flags, bitflag_items};
+use std::fmt;
+use std::fmt::Debug;
 
-/// The words of a `repr` attribute that are set or not.
-#[derive(Clone, Copy, PartialEq, Eq, Debug, Default)]
+/// The words of a `repr` attribute that are set or not, as a set of bits: bit 0 `IS_C`, 1
+/// `IS_SIMD`, 2 `IS_TRANSPARENT`, 3 `IS_LINEAR` (fields stay in source order), 4
+/// `RANDOMIZE_LAYOUT`, 5 `PASS_INDIRECTLY_IN_NON_RUSTIC_ABIS`, 6 `IS_SCALABLE`. By default none.
+#[derive(Clone, Copy, PartialEq, Eq, Default)]
 pub struct ReprFlags(u8);
 
 bitflag_items! {
@@ -49,7 +54,14 @@ impl Flags for ReprFlags {
     }
 }
 
-/// What a `repr` attribute asks of a type. By default it asks for nothing.
+impl Debug for ReprFlags {
+    fn fmt<W: fmt::Write>(&self, f: &mut fmt::Formatter<W>) -> fmt::Result {
+        to_writer(self, f)
+    }
+}
+
+/// What a `repr` attribute asks of a type, as the Rust Reference has it under "Type layout". By
+/// default it asks for nothing.
 #[derive(Clone, Copy, PartialEq, Eq, Debug, Default)]
 pub struct ReprOptions {
     /// The integer of an enum's tag.
@@ -62,4 +74,204 @@ pub struct ReprOptions {
     pub scalable: Option<ScalableElt>,
     /// A hash of the type's path, to seed a shuffle of its fields with.
     pub field_shuffle_seed: Hash64,
+}
+
+impl ReprOptions {
+    /// Whether it is a vector.
+    pub fn simd(&self) -> bool
+        ensures { result ≡ is_simd self.now }
+    {
+        self.flags.contains(ReprFlags::IS_SIMD)
+    }
+
+    /// Whether it is a scalable vector.
+    pub fn scalable(&self) -> bool
+        ensures { result ≡ is_scalable self.now }
+    {
+        self.flags.contains(ReprFlags::IS_SCALABLE)
+    }
+
+    /// Whether it is laid out as in C.
+    pub fn c(&self) -> bool
+        ensures { result ≡ is_c self.now }
+    {
+        self.flags.contains(ReprFlags::IS_C)
+    }
+
+    /// Whether its layout is Rust's own to choose.
+    pub fn rust(&self) -> bool
+        ensures { result ≡ is_rust self.now }
+    {
+        !self.c() & !self.simd() & !self.scalable() & !self.transparent()
+    }
+
+    /// Whether the alignment of its fields is limited.
+    pub fn packed(&self) -> bool
+        ensures { result ≡ is_some self.now.pack }
+    {
+        self.pack.is_some()
+    }
+
+    /// Whether it is laid out as its one field that is not trivial.
+    pub fn transparent(&self) -> bool
+        ensures { result ≡ is_transparent self.now }
+    {
+        self.flags.contains(ReprFlags::IS_TRANSPARENT)
+    }
+
+    /// Whether its fields stay in source order.
+    pub fn linear(&self) -> bool
+        ensures { result ≡ is_linear self.now }
+    {
+        self.flags.contains(ReprFlags::IS_LINEAR)
+    }
+
+    /// The type of an enum's discriminants: the one that is named, else `isize`.
+    pub fn discr_type(&self) -> IntegerType
+        ensures { result ≡ discr_type_of self.now }
+    {
+        self.int.unwrap_or(IntegerType::Pointer(true))
+    }
+
+    /// Whether an enum's layout is that of a tag before the variants, without niches.
+    pub fn inhibit_enum_layout_opt(&self) -> bool
+        ensures { result ≡ (is_c self.now || is_some self.now.int) }
+    {
+        self.c() || self.int.is_some()
+    }
+
+    /// Whether a struct of one field is not passed as that field.
+    pub fn inhibit_newtype_abi_optimization(&self) -> bool
+        ensures { result ≡ is_abi_fixed self.now }
+    {
+        self.flags.intersects(ReprFlags::ABI_UNOPTIMIZABLE)
+    }
+
+    /// Whether fields stay in source order.
+    pub fn inhibit_struct_field_reordering(&self) -> bool
+        ensures { result ≡ has_fixed_order self.now }
+    {
+        self.flags.intersects(ReprFlags::FIELD_ORDER_UNOPTIMIZABLE) || self.int.is_some()
+    }
+
+    /// Whether fields may be shuffled: their order is free, and a shuffle is asked for.
+    pub fn can_randomize_type_layout(&self) -> bool
+        ensures { result ≡ may_randomize self.now }
+    {
+        !self.inhibit_struct_field_reordering() && self.flags.contains(ReprFlags::RANDOMIZE_LAYOUT)
+    }
+
+    /// Whether a union is not passed as its fields are.
+    pub fn inhibits_union_abi_opt(&self) -> bool
+        ensures { result ≡ is_c self.now }
+    {
+        self.c()
+    }
+
+    /// Whether both ask for the same, whatever the seeds.
+    pub fn equal_up_to_seed(&self, other: &ReprOptions) -> bool
+        ensures { IsTrue result ↔ IsEqualUpToSeed self.now other.now }
+    {
+        (self.int == other.int)
+            & (self.align == other.align)
+            & (self.pack == other.pack)
+            & (self.flags == other.flags)
+            & (self.scalable == other.scalable)
+    }
+}
+
+#[cfg(test)]
+mod tests {
+    use super::*;
+    use abi_base::Integer;
+    use std::test::Fail;
+
+    #[test]
+    fn flags_are_written_by_name(rt: HostRuntime) -> Result<(), Fail> {
+        for (bits, text) in [
+            (0, ""),
+            (1, "IS_C"),
+            (3, "IS_C | IS_SIMD"),
+            (75, "IS_C | IS_SIMD | IS_LINEAR | IS_SCALABLE"),
+            (
+                52,
+                "IS_TRANSPARENT | RANDOMIZE_LAYOUT | PASS_INDIRECTLY_IN_NON_RUSTIC_ABIS",
+            ),
+            (128, "0x80"),
+        ] {
+            let written = format!(in rt.alloc(); "{:?}", ReprFlags::from_bits_retain(bits))?;
+            assert_eq!(rt; written.as_str(), text);
+        }
+        Ok(())
+    }
+
+    #[test]
+    fn asks_for_nothing_by_default(rt: HostRuntime) {
+        let repr = ReprOptions::default();
+        assert_eq!(rt; repr.flags.bits(), 0);
+        assert!(rt; repr.rust());
+        assert!(rt; !repr.packed());
+        assert!(rt; !repr.inhibit_enum_layout_opt());
+        assert!(rt; !repr.inhibit_struct_field_reordering());
+        assert!(rt; !repr.inhibit_newtype_abi_optimization());
+        assert_eq!(rt; repr.discr_type(), IntegerType::Pointer(true));
+    }
+
+    #[test]
+    fn reads_each_flag(rt: HostRuntime) {
+        for (bits, c, simd, transparent, linear, scalable, rust) in [
+            (1, true, false, false, false, false, false),
+            (2, false, true, false, false, false, false),
+            (4, false, false, true, false, false, false),
+            (8, false, false, false, true, false, true),
+            (64, false, false, false, false, true, false),
+        ] {
+            let mut repr = ReprOptions::default();
+            repr.flags = ReprFlags::from_bits_retain(bits);
+            assert_eq!(rt; repr.c(), c, "at {bits}");
+            assert_eq!(rt; repr.simd(), simd, "at {bits}");
+            assert_eq!(rt; repr.transparent(), transparent, "at {bits}");
+            assert_eq!(rt; repr.linear(), linear, "at {bits}");
+            assert_eq!(rt; repr.scalable(), scalable, "at {bits}");
+            assert_eq!(rt; repr.rust(), rust, "at {bits}");
+            assert_eq!(rt; repr.inhibits_union_abi_opt(), c, "at {bits}");
+        }
+    }
+
+    #[test]
+    fn fixes_the_order(rt: HostRuntime) {
+        for (bits, fixed) in [
+            (1, true),
+            (2, true),
+            (4, false),
+            (8, true),
+            (16, false),
+            (32, false),
+            (64, true),
+        ] {
+            let mut repr = ReprOptions::default();
+            repr.flags = ReprFlags::from_bits_retain(bits);
+            assert_eq!(rt; repr.inhibit_struct_field_reordering(), fixed, "at {bits}");
+            assert_eq!(rt;
+                repr.inhibit_newtype_abi_optimization(),
+                bits < 3,
+                "at {bits}"
+            );
+            assert_eq!(rt; repr.can_randomize_type_layout(), bits == 16, "at {bits}");
+        }
+    }
+
+    #[test]
+    fn reads_the_integer(rt: HostRuntime) {
+        let mut repr = ReprOptions::default();
+        repr.int = Some(IntegerType::Fixed(Integer::I8, false));
+        assert_eq!(rt; repr.discr_type(), IntegerType::Fixed(Integer::I8, false));
+        assert!(rt; repr.inhibit_enum_layout_opt());
+        assert!(rt; repr.inhibit_struct_field_reordering());
+        let mut other = repr;
+        other.field_shuffle_seed = Hash64::new(5);
+        assert!(rt; repr.equal_up_to_seed(&other));
+        other.int = None;
+        assert!(rt; !repr.equal_up_to_seed(&other));
+    }
 }

@@ -72,3 +72,62 @@ impl<FieldIdx: Idx, VariantIdx: Idx> LayoutData<FieldIdx, VariantIdx> {
         }
     }
 }
+
+#[cfg(test)]
+mod tests {
+    use super::*;
+    use crate::wrapping_range::WrappingRange;
+    use abi_base::{Integer, TargetDataLayout};
+    use abi_index::{FieldIdx, VariantIdx};
+    use std::test::Fail;
+
+    #[test]
+    fn lays_out_scalars(rt: HostRuntime) -> Result<(), Fail> {
+        let dl = TargetDataLayout::default_in(rt.alloc())?;
+        assert!(rt; dl.is_lawful());
+        let value = Primitive::Int(Integer::I32, false);
+        let valid_range = WrappingRange {
+            start: 0,
+            end: 1_114_111,
+        };
+        let character = Scalar::Initialized { value, valid_range };
+        let layout: LayoutData<FieldIdx, VariantIdx> = LayoutData::scalar(&dl, character);
+        assert!(rt; layout.is_lawful(&dl));
+        let niche = Niche {
+            offset: Size::ZERO,
+            value,
+            valid_range,
+        };
+        let LayoutData {
+            size,
+            align,
+            backend_repr,
+            largest_niche,
+            uninhabited,
+            ..
+        } = layout;
+        assert_eq!(rt; size, Size::from_bytes(4));
+        assert_eq!(rt; align.abi.bytes(), 4);
+        assert_eq!(rt; backend_repr, BackendRepr::Scalar(character));
+        assert_eq!(rt; largest_niche, Some(niche));
+        assert!(rt; !uninhabited);
+        let byte = Primitive::Int(Integer::I8, false);
+        let all = WrappingRange { start: 0, end: 255 };
+        let full = Scalar::Initialized {
+            value: byte,
+            valid_range: all,
+        };
+        let bytes: LayoutData<FieldIdx, VariantIdx> = LayoutData::scalar(&dl, full);
+        assert!(rt; bytes.is_lawful(&dl));
+        let none = bytes.largest_niche;
+        let seed = bytes.randomization_seed;
+        assert_eq!(rt; none, None);
+        assert_eq!(rt; seed.as_u64(), 0x00FF_0002_0000_0001);
+        let odd = LayoutData {
+            size: Size::from_bytes(2),
+            ..bytes
+        };
+        assert!(rt; !odd.is_lawful(&dl));
+        Ok(())
+    }
+}

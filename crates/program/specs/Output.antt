@@ -39,6 +39,11 @@ error_name lay.NotYet = codes "NotYet"
 error_name lay.BadIndex = codes "BadIndex"
 error_name lay.UnexpectedUnsized = codes "UnexpectedUnsized"
 error_name lay.SizeOverflow = codes "SizeOverflow"
+error_name lay.EmptyUnion = codes "EmptyUnion"
+error_name lay.ReprConflict = codes "ReprConflict"
+error_name lay.ZeroLengthSimdType = codes "ZeroLengthSimdType"
+error_name lay.OversizedSimdType = codes "OversizedSimdType"
+error_name lay.NonPrimitiveSimdType = codes "NonPrimitiveSimdType"
 error_name lay.OutOfMemory = codes "OutOfMemory"
 
 abbrev pub output_of_fault : Fault → Output

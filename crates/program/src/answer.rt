@@ -55,6 +55,11 @@ fn error_name(error: LayError) -> &'static str
         LayError::BadIndex => "BadIndex",
         LayError::UnexpectedUnsized => "UnexpectedUnsized",
         LayError::SizeOverflow => "SizeOverflow",
+        LayError::EmptyUnion => "EmptyUnion",
+        LayError::ReprConflict => "ReprConflict",
+        LayError::ZeroLengthSimdType => "ZeroLengthSimdType",
+        LayError::OversizedSimdType => "OversizedSimdType",
+        LayError::NonPrimitiveSimdType => "NonPrimitiveSimdType",
         LayError::OutOfMemory => "OutOfMemory",
     }
 }

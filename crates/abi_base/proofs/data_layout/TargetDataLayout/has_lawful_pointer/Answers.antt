@@ -1,4 +1,4 @@
-use Rattle.abi_base.proofs.Lawful.{known_lawful}
+use Rattle.abi_base.proofs.Laws.{known_lawful}
 use Rattle.abi_base.proofs.data_layout.TargetDataLayout.has_lawful_pointer.Goals as goal
 
 pub returns-in-Some : goal.returns-in-Some

@@ -1,0 +1,81 @@
+//! The alignments of vectors.
+
+ghost use Rattle.std.specs.Prelude.{◌≡◌, ◌≤◌, ◌↔◌, IsTrue};
+ghost use Rattle.std.specs.List.{All};
+ghost use Rattle.abi_base.specs.DataLayout.{listed_align};
+
+use crate::align::Align;
+use crate::size::Size;
+use std::fmt;
+use std::fmt::Debug;
+use std::marker::Model;
+
+/// The alignments of vectors by their sizes, the first of a size counts. Contracts see a list.
+#[derive(Drop)]
+pub struct VectorAligns {
+    pub(crate) entries: Vec<(Size, Align)>,
+}
+
+impl Model for VectorAligns {
+    ghost use Rattle.std.specs.Prelude.{List, ℕ};
+
+    ghost Value = { List (ℕ × ℕ) };
+
+    ghost view = { λ a. a.entries.items };
+}
+
+impl PartialEq for VectorAligns {
+    ghost use Rattle.std.proofs.Common.{rules};
+    ghost use Rattle.std.specs.Cmp.Lexicographic.{pointwise};
+    ghost use Rattle.std.specs.Cmp.Rules.{comparing};
+    ghost use Rattle.abi_base.specs.DataLayout.{same_vector};
+
+    ghost eq = { pointwise same_vector };
+
+    ghost laws = { Prim.search (comparing, rules) };
+
+    fn eq(&self, other: &Self) -> bool {
+        self.entries == other.entries
+    }
+}
+
+impl Eq for VectorAligns {
+    ghost use Rattle.std.proofs.Common.{rules};
+    ghost use Rattle.std.specs.Cmp.Rules.{comparing};
+
+    ghost laws = { Prim.search (comparing, rules) };
+}
+
+impl Debug for VectorAligns {
+    fn fmt<W: fmt::Write>(&self, f: &mut fmt::Formatter<W>) -> fmt::Result {
+        self.entries.fmt(f)
+    }
+}
+
+impl VectorAligns {
+    /// Sizes and alignments, as they are listed.
+    pub fn as_slice(&self) -> &[(Size, Align)]
+        ensures { result.now ≡ self.now }
+    {
+        self.entries.as_slice()
+    }
+
+    /// The alignment of vectors of the size, if it is listed.
+    pub(crate) fn listed(&self, size: Size) -> Option<Align>
+        ensures { result ≡ listed_align self.now size }
+    {
+        for (listed, align) in &self.entries {
+            if *listed == size {
+                return Some(*align);
+            }
+        }
+        None
+    }
+
+    /// Whether no alignment is above the greatest.
+    pub(crate) fn within_limit(&self) -> bool
+        ensures { IsTrue result ↔ All (λ e. e.1 ≤ 29) self.now }
+    {
+        self.entries.iter().all(|entry| entry.1.within_limit())
+    }
+}

@@ -1,0 +1,57 @@
+//! Going over the indices of a list.
+
+ghost use Rattle.std.specs.Prelude.{◌≡◌, ◌≤◌, ◌+◌, ℕ, map};
+ghost use Rattle.std.specs.List.{range_with_len};
+ghost use Rattle.std.specs.Iterator.{YieldsFirst, item_count};
+ghost use Rattle.abi_index.specs.Indices.{indices_left, last_left};
+
+use crate::idx::Idx;
+use std::marker::PhantomData;
+
+/// The indices of a list's places, in order.
+#[derive(Drop)]
+pub struct Indices<I> {
+    next: usize,
+    end: usize,
+    of: PhantomData<I>,
+}
+
+impl<I: Idx> Indices<I> {
+    /// The indices of so many places.
+    pub(crate) fn below(count: usize) -> Self
+        requires { count ≤ I.MAX_INDEX + 1 }
+        ensures left { indices_left I.at result ≡ map I.at (range_with_len 0 count) }
+        ensures last { last_left result ≤ I.MAX_INDEX + 1 }
+    {
+        Indices {
+            next: 0,
+            end: count,
+            of: PhantomData,
+        }
+    }
+}
+
+impl<I: Idx> Iterator for Indices<I> {
+    type Item = I;
+
+    ghost can_next = { λ s. last_left s ≤ I.MAX_INDEX + 1 };
+
+    ghost next_gives = { YieldsFirst (λ s. indices_left I.at s) };
+
+    ghost remaining = { item_count (λ s. indices_left I.at s) };
+
+    fn next(&mut self) -> Option<I> {
+        if self.next >= self.end {
+            return None;
+        }
+        let index = I::new(self.next);
+        self.next += 1;
+        Some(index)
+    }
+
+    #[tactic(auto, using(crate::proofs::IndicesLemmas::length_indices))]
+    fn size_hint(&self) -> (usize, Option<usize>) {
+        let left = self.end.saturating_sub(self.next);
+        (left, Some(left))
+    }
+}

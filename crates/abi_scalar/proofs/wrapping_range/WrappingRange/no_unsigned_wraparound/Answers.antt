@@ -1,0 +1,12 @@
+use Rattle.std.proofs.Common.{arith}
+use Rattle.std.proofs.lemmas.Bool.{leb-true, le-leb}
+use Rattle.std.proofs.lemmas.Bool.Decides.{not_from_Decides}
+use Rattle.abi_scalar.proofs.GapLemmas.{unsigned_gap_from_order, unsigned_order_from_gap}
+use Rattle.abi_scalar.proofs.wrapping_range.WrappingRange.no_unsigned_wraparound.Goals as goal
+
+pub returns-else-is_full_for-clause-gap : goal.returns-else-is_full_for-clause-gap
+returns-else-is_full_for-clause-gap c =
+    let some = not_from_Decides c.is_full_for.result c.is_full_for.ensures c.if-is_full_for.false in (
+      λ t. unsigned_gap_from_order c.args.size c.args.self.now c.requires.within (omega (arith, leb-true (c.args.self.now.start) (c.args.self.now.end) t)),
+      λ gap. le-leb (c.args.self.now.start) (c.args.self.now.end) (omega (arith, unsigned_order_from_gap c.args.size c.args.self.now c.requires.within some gap)),
+    )
