@@ -3,3 +3,4 @@ pub mod Parts
 pub mod Utf8
 pub mod Written
 pub mod ReadBack
+pub mod Sending

@@ -1,6 +1,6 @@
 -- A written type reads back as itself.
-use Rattle.std.proofs.Common.{◌≡◌, ◌≢◌, ℕ, zero, suc, ◌+◌, ◌-◌, ◌*◌, ◌^◌, ◌<◌, ◌≤◌, Bool, true, false, List, [], ◌∷◌, ◌++◌, length, take, drop, get_or, Option, None, Some, Result, Ok, Err, refl, sym, ap, ap₂, ◌∙◌, arith, subst, append_assoc, append-nil, length-append, add-one, rules}
-use Rattle.std.specs.Prelude.{◌==◌, ◌&&◌, not, nat_lt, codes, if◌then◌else◌}
+use Rattle.std.proofs.Common.{◌≡◌, ℕ, suc, ◌+◌, ◌-◌, ◌*◌, ◌^◌, ◌<◌, ◌≤◌, Bool, true, false, List, [], ◌∷◌, ◌++◌, length, None, Some, Ok, refl, sym, ap, ap₂, ◌∙◌, arith, subst, append_assoc, append-nil, length-append, add-one, rules}
+use Rattle.std.specs.Prelude.{◌&&◌, nat_lt, codes, if◌then◌else◌}
 use Rattle.std.specs.Fmt.{decimal}
 use Rattle.std.specs.Char.{is_ascii_digit}
 use Rattle.std.specs.Str.{all_ascii_digits}
@@ -14,12 +14,11 @@ use Rattle.abi_scalar.specs.declared.repr.ReprOptions.{ReprOptions}
 use Rattle.abi_scalar.specs.declared.scalar.Scalar.{Scalar}
 use Rattle.abi_scalar.specs.declared.scalar.Scalar.TheVariants.{Initialized, Union}
 use Rattle.rustc_abi.specs.Tree.{Tree, scalar, pair, never, unit, array, vector, struct, union, enum, coroutine, Trees, no_trees, more_trees, trees}
-use Rattle.program.specs.declared.fault.Fault.{Fault}
 use Rattle.program.specs.declared.type_word.TypeWord.TheVariants.{Integer as AnInteger}
-use Rattle.program.specs.declared.reader.Want.TheVariants.{Tree as ATree, Count, Repr, Opening, End}
+use Rattle.program.specs.declared.reader.Want.TheVariants.{Tree as ATree}
 use Rattle.program.specs.Numbers.{digits_from, fitting, number_in}
 use Rattle.program.specs.Printing.{integer_text}
-use Rattle.program.specs.Reading.{Begun, elements, fields, State, waiting, put, plain_c, c_struct, full_integer, read_from, read, step}
+use Rattle.program.specs.Reading.{Begun, elements, fields, waiting, put, plain_c, c_struct, full_integer, read_from, read}
 use Rattle.program.specs.TypeWords.{type_word}
 use Rattle.program.specs.Written.{written, written_each, scalar_words, IsKnown, AreKnown, IsFullInteger}
 use Rattle.program.proofs.Text.{number_some}

@@ -1,5 +1,5 @@
 -- What the program writes for an input, and the status that it ends with.
-use Rattle.std.specs.Prelude.{◌≡◌, ℕ, ◌&&◌, ◌++◌, ◌⊎◌, not, nat_lt, Bool, List, [], codes, string_bytes, length, ◌==◌, Option, Result, Ok, Err, if◌then◌else◌}
+use Rattle.std.specs.Prelude.{◌≡◌, ℕ, ◌&&◌, ◌++◌, ◌⊎◌, not, nat_lt, List, take, codes, string_bytes, length, Option, Result, Ok, Err, if◌then◌else◌}
 use Rattle.std.specs.Fmt.{decimal}
 use Rattle.std.specs.Io.KnownBytes.{Appends}
 use Rattle.std.specs.Str.{is_utf8}
@@ -7,13 +7,13 @@ use Rattle.abi_base.specs.DataLayout.{default_data_layout}
 use Rattle.rustc_abi.specs.declared.error.LayError.{LayError}
 use Rattle.rustc_abi.specs.declared.error.LayError.TheVariants as lay
 use Rattle.rustc_abi.specs.Tree.{Tree}
-use Rattle.rustc_abi.specs.Placed.{Placed, layout_of}
+use Rattle.rustc_abi.specs.Placed.{Placed}
 use Rattle.rustc_abi.specs.Laying.{laid_out}
 use Rattle.program.specs.declared.answer.Answer.{Answer}
 use Rattle.program.specs.declared.fault.Fault.{Fault}
 use Rattle.program.specs.declared.fault.Fault.TheVariants.{Unreadable, NotYet, TooDeep, OutOfMemory}
 use Rattle.program.specs.Lines.{first_line, second_line}
-use Rattle.program.specs.Printing.{layout_lines}
+use Rattle.program.specs.Printing.{type_text}
 use Rattle.program.specs.Reading.{read}
 use Rattle.program.specs.Words.{words_of}
 
@@ -52,9 +52,6 @@ output_of_fault NotYet = refused (codes "NotYet")
 output_of_fault TooDeep = refused (codes "TooDeep")
 output_of_fault OutOfMemory = out_of_memory
 
-abbrev pub type_text : Placed → List ℕ
-type_text placed = layout_lines (layout_of placed)
-
 abbrev pub output_of_layout : Result Placed LayError → Output
 output_of_layout (Ok placed) = record { text = type_text placed; status = 0 }
 output_of_layout (Err error) = refused (error_name error)
@@ -73,13 +70,19 @@ output_of_lines first second =
 abbrev pub output_of : List ℕ → Output
 output_of input = output_of_lines (first_line input) (second_line input)
 
--- the text was written whole, behind what was there, and the status is its own
-abbrev pub Wrote : (old new : Option (List ℕ)) → Output → (status : ℕ) → Type 0
-Wrote old new output status = Appends old new output.text × (status ≡ output.status)
+-- the text was written whole behind what was there, and the status is the one given; or writing failed: only a beginning
+-- of the text was written, and the status is 1
+abbrev pub Sent : (old new : Option (List ℕ)) → (text : List ℕ) → (given status : ℕ) → Type 0
+Sent old new text given status =
+    (Appends old new text × (status ≡ given)) ⊎ ((count : ℕ) × Appends old new (take count text) × (status ≡ 1))
 
--- the run answered this, or that memory was wanting, or the status says that reading or writing failed
+abbrev pub SentOutput : (old new : Option (List ℕ)) → Output → (status : ℕ) → Type 0
+SentOutput old new output status = Sent old new output.text output.status status
+
+-- the run answered this; or that memory was wanting, or that reading failed
 abbrev pub Answered : (old new : Option (List ℕ)) → Output → (status : ℕ) → Type 0
-Answered old new output status = Wrote old new output status ⊎ (Wrote old new out_of_memory status ⊎ (status ≡ 1))
+Answered old new output status =
+    SentOutput old new output status ⊎ (SentOutput old new out_of_memory status ⊎ SentOutput old new (refused (codes "Input")) status)
 
 -- an answer, as the definitions see it
 abbrev pub answered_by : Answer → Output
@@ -88,7 +91,3 @@ answered_by answer = record { text = string_bytes answer.text; status = answer.s
 -- the answer is this, or that memory was wanting
 abbrev pub IsAnswer : Output → Answer → Type 0
 IsAnswer output answer = (answered_by answer ≡ output) ⊎ (answered_by answer ≡ out_of_memory)
-
--- the text was written whole, behind what was there, and the status is the one given; or writing failed, and it is 1
-abbrev pub Sent : (old new : Option (List ℕ)) → (text : List ℕ) → (given status : ℕ) → Type 0
-Sent old new text given status = (Appends old new text × (status ≡ given)) ⊎ (status ≡ 1)

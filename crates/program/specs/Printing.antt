@@ -11,7 +11,9 @@ use Rattle.abi_scalar.specs.declared.fields_shape.FieldsShape.{FieldsShape}
 use Rattle.abi_scalar.specs.declared.fields_shape.FieldsShape.TheVariants.{Primitive as NoFields, Union, Array, Arbitrary}
 use Rattle.abi_scalar.specs.declared.niche.Niche.{Niche}
 use Rattle.abi_scalar.specs.RangeText.{range_text}
-use Rattle.rustc_abi.specs.Placed.{Layout}
+use Rattle.rustc_abi.specs.declared.runs.Run.{Run}
+use Rattle.rustc_abi.specs.Placed.{Layout, Placed, layout_of, size_of}
+use Rattle.rustc_abi.specs.Runs.{padding_of}
 
 -- size and alignment, in bytes
 abbrev pub size_line : Layout → List ℕ
@@ -64,11 +66,19 @@ niche_line None = codes "niche none\n"
 niche_line (Some n) =
     codes "niche " ++ decimal n.offset ++ codes " " ++ primitive_text n.value ++ codes " " ++ range_text n.valid_range.start n.valid_range.end ++ codes "\n"
 
--- the runs of bytes that hold nothing
-abbrev pub padding_lines : List (ℕ × ℕ) → List ℕ
-padding_lines [] = []
-padding_lines (r ∷ ranges) = codes "padding " ++ decimal r.0 ++ codes ".." ++ decimal r.1 ++ codes "\n" ++ padding_lines ranges
+-- each run of bytes, with the byte after its last
+abbrev pub range_lines : List Run → List ℕ
+range_lines [] = []
+range_lines (r ∷ runs) = codes "padding " ++ decimal r.start ++ codes ".." ++ decimal r.end ++ codes "\n" ++ range_lines runs
+
+-- the runs of padding, listed for a type of at most 2 ^ 16 bytes
+abbrev pub padding_lines : Placed → List ℕ
+padding_lines placed = if nat_lt 65536 (size_of placed) then codes "padding not listed\n" else range_lines (padding_of placed)
 
 -- all that is written of a type but its padding
 abbrev pub layout_lines : Layout → List ℕ
 layout_lines layout = size_line layout ++ uninhabited_line layout.uninhabited ++ shape_lines layout.fields ++ niche_line layout.largest_niche
+
+-- all that is written of a type
+abbrev pub type_text : Placed → List ℕ
+type_text placed = layout_lines (layout_of placed) ++ padding_lines placed

@@ -7,13 +7,13 @@ ghost use Rattle.rustc_abi.specs.Laid.{placed_of};
 ghost use Rattle.rustc_abi.specs.Placed.{layout_of};
 ghost use Rattle.rustc_abi.specs.Laying.{laid_out};
 ghost use Rattle.rustc_abi.specs.Tree.{tree_of};
-ghost use Rattle.program.specs.Output.{answered_by, error_name, IsAnswer, output_of, output_of_fault, output_of_layout, output_of_lines, output_of_type, refused, unreadable, type_text};
+ghost use Rattle.program.specs.Output.{answered_by, error_name, IsAnswer, output_of, output_of_fault, output_of_layout, output_of_lines, output_of_type, refused, unreadable};
 ghost use Rattle.program.specs.Reading.{read};
 ghost use Rattle.program.specs.Words.{words_of};
 
 use crate::fault::Fault;
 use crate::lines::two_lines;
-use crate::print::write_layout;
+use crate::print::write_type;
 use crate::reader::read_type;
 use abi_base::TargetDataLayout;
 use rustc_abi::{Laid, LayError, TypeTree, lay_out};
@@ -82,7 +82,7 @@ fn answer_laid(alloc: Global, laid: &Laid) -> Result<Answer, AllocError>
     ensures { IfOk result (λ a. answered_by a ≡ output_of_layout (Ok (placed_of laid.now))) }
 {
     let mut text = String::new(alloc);
-    write_layout(&mut text, laid.layout())?;
+    write_type(alloc, &mut text, laid)?;
     Ok(Answer { text, status: 0 })
 }
 

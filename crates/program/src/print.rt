@@ -1,12 +1,18 @@
 //! How a laid-out type is written.
 
 ghost use Rattle.std.specs.Prelude.{◌≡◌, ◌<◌, ◌++◌, OnOk, IfOk, string_bytes};
-ghost use Rattle.program.specs.Printing.{field_lines, float_text, integer_text, layout_lines, niche_line, padding_lines, primitive_text, shape_lines, size_line, uninhabited_line};
+ghost use Rattle.program.specs.Printing.{field_lines, float_text, integer_text, layout_lines, niche_line, padding_lines, primitive_text, range_lines, shape_lines, size_line, type_text, uninhabited_line};
+ghost use Rattle.rustc_abi.specs.Laid.{placed_of};
+ghost use Rattle.rustc_abi.specs.Placed.{layout_of};
 
 use abi_base::{Float, Integer, Primitive, Size};
 use abi_index::{FieldIdx, VariantIdx};
 use abi_scalar::{FieldsShape, LayoutData, Niche};
+use rustc_abi::{Laid, Run};
 use std::alloc::{AllocError, Global};
+
+/// The padding of a larger type isn't listed. In bytes.
+const MOST_LISTED: u64 = 65_536;
 
 /// Writes the size and the alignment, in bytes.
 fn write_size(out: &mut String, layout: &LayoutData<FieldIdx, VariantIdx>) -> Result<(), AllocError>
@@ -123,7 +129,7 @@ fn write_niche(out: &mut String, niche: Option<Niche>) -> Result<(), AllocError>
 }
 
 /// Writes all there is to say of a type but its padding.
-pub(crate) fn write_layout(
+fn write_layout(
     out: &mut String,
     layout: &LayoutData<FieldIdx, VariantIdx>,
 ) -> Result<(), AllocError>
@@ -134,4 +140,36 @@ pub(crate) fn write_layout(
     write_uninhabited(out, layout.uninhabited)?;
     write_shape(out, &layout.fields)?;
     write_niche(out, layout.largest_niche)
+}
+
+/// Writes each run of bytes, with the byte after its last.
+fn write_ranges(out: &mut String, runs: &[Run]) -> Result<(), AllocError>
+    ensures { OnOk result (string_bytes out.new ≡ string_bytes out.old ++ range_lines runs.now) }
+{
+    for run in runs {
+        let start = run.start;
+        let end = run.end;
+        write!(out, "padding {start}..{end}\n")?;
+    }
+    Ok(())
+}
+
+/// Writes the runs of padding.
+fn write_padding(alloc: Global, out: &mut String, laid: &Laid) -> Result<(), AllocError>
+    ensures { OnOk result (string_bytes out.new ≡ string_bytes out.old ++ padding_lines (placed_of laid.now)) }
+{
+    if laid.layout().size.bytes() > MOST_LISTED {
+        return out.push_str("padding not listed\n");
+    }
+    let runs = laid.padding(alloc)?;
+    write_ranges(out, &runs)
+}
+
+/// Writes all there is to say of a type.
+pub(crate) fn write_type(alloc: Global, out: &mut String, laid: &Laid) -> Result<(), AllocError>
+    requires { (layout_of (placed_of laid.now)).align.abi < 64 }
+    ensures { OnOk result (string_bytes out.new ≡ string_bytes out.old ++ type_text (placed_of laid.now)) }
+{
+    write_layout(out, laid.layout())?;
+    write_padding(alloc, out, laid)
 }

@@ -1,23 +1,44 @@
 //! The program over any reader and writer.
 
-ghost use Rattle.std.specs.Prelude.{◌≡◌, ◌⊎◌, IfSome, Some};
+ghost use Rattle.std.specs.Prelude.{◌≤◌, IfSome, MatchOption, length, take};
+ghost use Rattle.std.specs.Io.KnownBytes.{Appends, Keeps};
 ghost use Rattle.program.specs.Output.{Answered, Sent, output_of};
 
 use crate::answer::answer_input;
 use std::alloc::Global;
 use std::io::{ErrorKind, Read, Write};
 
+/// Writes a beginning of a text, and answers its length: 0 where the writer was interrupted. None where writing fails.
+fn write_some<W: Write>(output: &mut W, text: &[u8]) -> Option<usize>
+    ensures { MatchOption result (Keeps (W.contents output.old) (W.contents output.new))
+        (λ count. (count ≤ length text.now) × Appends (W.contents output.old) (W.contents output.new) (take count text.now)) }
+{
+    match output.write(text) {
+        Ok(0) => None,
+        Ok(count) => Some(count),
+        Err(error) if error.kind() == ErrorKind::Interrupted => Some(0),
+        Err(_) => None,
+    }
+}
+
 /// Writes a text, and answers the status; 1 where writing fails, and nothing more is written then.
 fn send<W: Write>(output: &mut W, text: &[u8], status: u8) -> u8
     ensures { Sent (W.contents output.old) (W.contents output.new) text.now status result }
 {
-    if output.write_all(text).is_err() {
-        return 1;
+    let mut rest = text;
+    for _ in 0..u64::MAX {
+        if rest.is_empty() {
+            return match output.flush() {
+                Ok(()) => status,
+                Err(_) => 1,
+            };
+        }
+        let Some(count) = write_some(output, rest) else {
+            return 1;
+        };
+        rest = &rest[count..];
     }
-    match output.flush() {
-        Ok(()) => status,
-        Err(_) => 1,
-    }
+    1
 }
 
 /// Reads an input whole, writes the answer to it, and answers the status: 0 for a type with a layout, 1 for one that is
