@@ -1,5 +1,5 @@
 -- Worked facts: the definitions, tried on small types in both directions.
-use Rattle.std.proofs.Common.{◌≡◌, ℕ, zero, suc, ◌+◌, ◌<◌, ◌≤◌, List, [], ◌∷◌, Bool, true, false, None, Some, Ok, Err, inl, inr, arith, refl, sym, ◌∙◌}
+use Rattle.std.proofs.Common.{◌≡◌, ℕ, List, [], ◌∷◌, true, false, None, Ok, Err, inl, inr, arith, refl}
 use Rattle.abi_base.specs.declared.endian.Endian.{Endian}
 use Rattle.abi_base.specs.declared.endian.Endian.TheVariants.{Little, Big}
 use Rattle.abi_base.specs.declared.primitive.Primitive.TheVariants.{Int}
@@ -11,21 +11,21 @@ use Rattle.abi_scalar.specs.declared.scalar.Scalar.{Scalar}
 use Rattle.abi_scalar.specs.declared.scalar.Scalar.TheVariants.{Initialized}
 use Rattle.abi_scalar.specs.declared.repr.ReprOptions.{ReprOptions}
 use Rattle.abi_scalar.specs.declared.variants.TagEncoding.{TagEncoding}
-use Rattle.abi_scalar.specs.declared.variants.TagEncoding.TheVariants.{Direct, Niche}
+use Rattle.abi_scalar.specs.declared.variants.TagEncoding.TheVariants.{Niche}
 use Rattle.abi_scalar.specs.declared.wrapping_range.WrappingRange.{WrappingRange}
 use Rattle.abi_scalar.specs.Range.{IsIn, full_range}
-use Rattle.rustc_abi.specs.declared.runs.Run.{Run}
 use Rattle.std.specs.Prelude.{Result}
 use Rattle.rustc_abi.specs.declared.error.LayError.{LayError}
 use Rattle.rustc_abi.specs.Tree.{Tree, struct, no_trees, more_trees, scalar as number_type}
 use Rattle.rustc_abi.specs.Value.{Value, number, two, list, variant, state, bytes, no_values, more_values}
 use Rattle.rustc_abi.specs.Bytes.{picked}
-use Rattle.rustc_abi.specs.Placed.{Placed, Layout, layout_of, scalar, fields, union, states, Parts, no_parts, part, Arms, no_arms, arm, nothing}
+use Rattle.rustc_abi.specs.Placed.{Placed, Layout, layout_of, scalar, fields, union, states, no_parts, part, no_arms, arm, nothing}
 use Rattle.rustc_abi.specs.Places.{is_data_place}
 use Rattle.rustc_abi.specs.Runs.{padding_of}
 use Rattle.rustc_abi.specs.Tag.{Names}
 use Rattle.rustc_abi.specs.Holding.{Holds}
 use Rattle.rustc_abi.specs.Laying.{laid_out}
+use Rattle.rustc_abi.specs.Faithful.{EachValueIsHeld}
 
 -- ---- the types
 
@@ -80,6 +80,31 @@ second_byte_is_padding = refl
 
 padding_listed : padding_of three ≡ record { start = 1; end = 4 } ∷ record { start = 10; end = 12 } ∷ []
 padding_listed = refl
+
+-- ---- fields at one offset: of two numbers that differ, no bytes hold both, so that not every value is held
+
+abbrev of_two : Tree
+of_two = struct plain_c true (more_trees (number_type (unsigned I8)) (more_trees (number_type (unsigned I8)) no_trees))
+
+abbrev at_one_offset : Placed
+at_one_offset = fields (sized 2) (part 0 u8_placed (part 0 u8_placed no_parts))
+
+abbrev zero_and_one : Value
+zero_and_one = list (more_values (number 0) (more_values (number 1) no_values))
+
+zero_is_in : IsIn 1 (full_range 1) 0
+zero_is_in = (0, refl, λ k lt e. absurd (omega (arith, lt)))
+
+one_is_in_all : IsIn 1 (full_range 1) 1
+one_is_in_all = (1, refl, λ k lt e. absurd (omega (arith, lt, e)))
+
+both_not_held : (b : List ℕ) → Holds Big at_one_offset b zero_and_one → ⊥
+both_not_held b h = absurd (omega (arith, h.1.0.1.1, h.1.1.0.1.1))
+
+offsets_matter : EachValueIsHeld default_data_layout of_two at_one_offset → ⊥
+offsets_matter held =
+    let bytes_of = held zero_and_one (zero_is_in, (one_is_in_all, tt)) in
+    both_not_held bytes_of.0 bytes_of.2
 
 -- ---- values: 01 holds the bool 1, and 02 holds none
 
@@ -158,8 +183,8 @@ wrapping = record { start = 254; end = 1 }
 start_is_in : IsIn 1 wrapping 254
 start_is_in = (0, refl, λ k lt e. absurd (omega (arith, lt)))
 
-zero_is_in : IsIn 1 wrapping 0
-zero_is_in = (2, refl, λ k lt e. absurd (omega (arith, lt, e)))
+zero_is_in_too : IsIn 1 wrapping 0
+zero_is_in_too = (2, refl, λ k lt e. absurd (omega (arith, lt, e)))
 
 end_is_in : IsIn 1 wrapping 1
 end_is_in = (3, refl, λ k lt e. absurd (omega (arith, lt, e)))
