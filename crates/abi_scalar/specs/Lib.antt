@@ -14,3 +14,4 @@ pub mod Simple
 pub mod Lending
 pub mod View
 pub mod Layout
+pub mod Shape
