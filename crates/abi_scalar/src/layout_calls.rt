@@ -2,11 +2,12 @@
 
 ghost use Rattle.std.specs.Prelude.{◌≡◌, ◌↔◌, IsTrue};
 ghost use Rattle.abi_scalar.specs.View.{IsUnsizedView, IsSizedView, IsAggregateView, IsScalableView};
-ghost use Rattle.abi_scalar.specs.Layout.{IsZst, Is1zst, StandsAlone, scalable_lanes};
+ghost use Rattle.abi_scalar.specs.Layout.{IsZst, Is1zst, StandsAlone, IsVariantUninhabited, HasSameAbi, scalable_lanes};
 
 use crate::backend_repr::BackendRepr;
 use crate::lane_count::BackendLaneCount;
 use crate::layout_data::LayoutData;
+use crate::variants::Variants;
 use abi_base::{Align, Size};
 use abi_index::Idx;
 
@@ -92,5 +93,37 @@ impl<FieldIdx: Idx, VariantIdx: Idx> LayoutData<FieldIdx, VariantIdx> {
             BackendRepr::Memory { sized } => sized && self.size == Size::ZERO,
             _ => true,
         }
+    }
+
+    /// Whether the variant has no value: one beside the only one, one that is marked, or none at all.
+    pub fn is_variant_uninhabited(&self, variant: VariantIdx) -> bool
+        ensures {
+            IsTrue result ↔ IsVariantUninhabited VariantIdx.number self.now (VariantIdx.number variant)
+        }
+    {
+        match &self.variants {
+            Variants::Empty => true,
+            Variants::Single { index } => variant.index() != index.index() || self.uninhabited,
+            Variants::Multiple {
+                tag: _,
+                tag_encoding: _,
+                tag_field: _,
+                variants,
+            } => match variants.get(variant) {
+                Some(layout) => layout.is_uninhabited(),
+                None => true,
+            },
+        }
+    }
+
+    /// Whether values of both are passed in the same way: size, alignment and view agree, but for the numbers
+    /// that scalars may hold, and both are a `bool` or neither.
+    pub fn eq_abi(&self, other: &Self) -> bool
+        ensures { IsTrue result ↔ HasSameAbi self.now other.now }
+    {
+        self.size == other.size
+            && self.align.abi == other.align.abi
+            && self.backend_repr.eq_up_to_validity(&other.backend_repr)
+            && self.backend_repr.is_bool() == other.backend_repr.is_bool()
     }
 }
