@@ -1,11 +1,7 @@
 -- Where the fields of a type lie.
-use Rattle.std.specs.Prelude.{◌≡◌, ℕ, ◌*◌, ◌^◌, ◌<◌, ⊤, length, slice_index, slice_get, unwrap_or, Bool, true, MatchOption, IsTrue, ◌≢◌, ◌⊎◌}
-use Rattle.abi_base.specs.declared.size.Size.{Size}
+use Rattle.std.specs.Prelude.{ℕ, ◌*◌, length, slice_get, unwrap_or}
 use Rattle.abi_scalar.specs.declared.fields_shape.FieldsShape.{FieldsShape}
 use Rattle.abi_scalar.specs.declared.fields_shape.FieldsShape.TheVariants.{Primitive, Union, Array, Arbitrary}
-use Rattle.abi_scalar.specs.declared.variants.Variants.{Variants}
-use Rattle.abi_scalar.specs.declared.variants.Variants.TheVariants.{Empty, Single, Multiple}
-use Rattle.abi_scalar.specs.declared.layout_data.LayoutData.{LayoutData}
 
 -- how many fields there are
 abbrev pub field_count : {F : Type 0} → FieldsShape F → ℕ

@@ -97,9 +97,7 @@ impl<FieldIdx: Idx, VariantIdx: Idx> LayoutData<FieldIdx, VariantIdx> {
 
     /// Whether the variant has no value: one beside the only one, one that is marked, or none at all.
     pub fn is_variant_uninhabited(&self, variant: VariantIdx) -> bool
-        ensures {
-            IsTrue result ↔ IsVariantUninhabited VariantIdx.number self.now (VariantIdx.number variant)
-        }
+        ensures { IsTrue result ↔ IsVariantUninhabited VariantIdx.number self.now (VariantIdx.number variant) }
     {
         match &self.variants {
             Variants::Empty => true,
@@ -131,8 +129,8 @@ impl<FieldIdx: Idx, VariantIdx: Idx> LayoutData<FieldIdx, VariantIdx> {
 #[cfg(test)]
 mod tests {
     use super::*;
-    use abi_base::TargetDataLayout;
     use crate::fields_shape::FieldsShape;
+    use abi_base::TargetDataLayout;
     use abi_index::{FieldIdx, TryClone, VariantIdx};
     use std::test::Fail;
 
@@ -161,10 +159,18 @@ mod tests {
     fn counts_fields(rt: HostRuntime) -> Result<(), Fail> {
         let dl = TargetDataLayout::default_in(rt.alloc())?;
         let index = VariantIdx::from_u32(2);
-        let three: LayoutData<FieldIdx, VariantIdx> =
-            LayoutData::uninhabited_variant(rt.alloc(), &dl, index, 3);
-        let none: LayoutData<FieldIdx, VariantIdx> =
-            LayoutData::uninhabited_variant(rt.alloc(), &dl, index, 0);
+        let three: LayoutData<FieldIdx, VariantIdx> = LayoutData::uninhabited_variant(
+            rt.alloc(),
+            &dl,
+            index,
+            3,
+        );
+        let none: LayoutData<FieldIdx, VariantIdx> = LayoutData::uninhabited_variant(
+            rt.alloc(),
+            &dl,
+            index,
+            0,
+        );
         assert_eq!(rt; three.fields.count(), 3);
         assert_eq!(rt; none.fields.count(), 0);
         assert!(rt; three.is_variant_uninhabited(index));

@@ -98,7 +98,12 @@ impl<FieldIdx: Idx, VariantIdx: Idx> LayoutData<FieldIdx, VariantIdx> {
 
     /// The layout of a variant that no value has, with so many fields: no bytes, aligned as an `i8`. It takes no
     /// memory.
-    pub fn uninhabited_variant<C: HasDataLayout>(alloc: Global, cx: &C, index: VariantIdx, fields: usize) -> Self
+    pub fn uninhabited_variant<C: HasDataLayout>(
+        alloc: Global,
+        cx: &C,
+        index: VariantIdx,
+        fields: usize,
+    ) -> Self
         ensures exact { result ≡ uninhabited_layout index (C.target cx.now) fields }
         ensures lawful { IsLawfulDataLayout (C.target cx.now) → IsLawfulLayout (C.target cx.now) result }
     {

@@ -114,11 +114,9 @@ impl BackendRepr {
     {
         match *self {
             BackendRepr::Scalar(scalar) => Some(scalar.default_align(cx)),
-            BackendRepr::ScalarPair {
-                a,
-                b,
-                b_offset: _,
-            } => Some(a.default_align(cx).max(b.default_align(cx))),
+            BackendRepr::ScalarPair { a, b, b_offset: _ } => Some(
+                a.default_align(cx).max(b.default_align(cx)),
+            ),
             _ => None,
         }
     }
@@ -190,9 +188,7 @@ impl BackendRepr {
         ensures { IsTrue result ↔ IsVectorOf value lanes self.now }
     {
         match *self {
-            BackendRepr::SimdVector { element, count } => {
-                element.is_of(value) && count == lanes
-            }
+            BackendRepr::SimdVector { element, count } => { element.is_of(value) && count == lanes }
             _ => false,
         }
     }

@@ -1,4 +1,4 @@
-use Rattle.std.proofs.Common.{true, refl, ap, ◌∙◌}
+use Rattle.std.proofs.Common.{refl, ap, ◌∙◌}
 use Rattle.abi_base.specs.declared.data_layout.TargetDataLayout.{TargetDataLayout}
 use Rattle.abi_scalar.proofs.LawfulLemmas.{empty_lawful}
 use Rattle.abi_scalar.proofs.layout_data.LayoutData.unit.Goals as goal
