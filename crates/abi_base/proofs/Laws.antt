@@ -1,5 +1,5 @@
 -- When a data layout is lawful.
-use Rattle.std.proofs.Common.{◌≡◌, ℕ, ◌^◌, ◌≤◌, ◌↔◌, IsTrue, Bool, true, false, ◌&&◌, Result, Ok, Err, IfOk, sym, subst, refl, List, [], ◌∷◌, ◌++◌, map, Option, Some, IsSome, unwrap_or, inl, inr, rules, arith}
+use Rattle.std.proofs.Common.{◌≡◌, ℕ, ◌^◌, ◌≤◌, ◌↔◌, IsTrue, Bool, true, false, ◌&&◌, Result, Ok, Err, IfOk, sym, subst, refl, List, [], ◌∷◌, ◌++◌, map, Option, Some, IsSome, unwrap_or, inr, rules}
 use Rattle.std.specs.List.{All}
 use Rattle.std.proofs.lemmas.List.Elements.{All-nil, All-cons, All-head, All-tail, All-append, All-map, All-from_recursion}
 use Rattle.std.proofs.lemmas.Nat.Gcd.{dvd_of_mod-eq-zero}
@@ -11,8 +11,7 @@ use Rattle.abi_base.specs.declared.float.Float.TheVariants.{F16, F16B, F32, F64,
 use Rattle.abi_base.specs.declared.data_layout.TargetDataLayout.{TargetDataLayout}
 use Rattle.abi_base.specs.Integer.{integer_size, integer_align}
 use Rattle.abi_base.specs.Float.{float_size, float_align}
-use Rattle.abi_base.specs.DataLayout.{IsLawfulDataLayout, HasLawfulDefault, alignments_of, default_data_layout, IsLawfulSpec, scalar_alignments_of}
-use Rattle.abi_base.specs.declared.address_space.AddressSpace.{AddressSpace}
+use Rattle.abi_base.specs.DataLayout.{IsLawfulDataLayout, HasLawfulDefault, alignments_of, default_data_layout, IsLawfulSpec}
 use Rattle.abi_base.specs.declared.pointer_spec.PointerSpec.{PointerSpec}
 
 integer_of : (dl : TargetDataLayout) → (2 ^ dl.i8_align ∣ 1) × (2 ^ dl.i16_align ∣ 2) × (2 ^ dl.i32_align ∣ 4) × (2 ^ dl.i64_align ∣ 8) × (2 ^ dl.i128_align ∣ 16) → (i : Integer) → 2 ^ integer_align dl i ∣ integer_size i
@@ -98,3 +97,7 @@ each_list P f g xs vs bs b h = (
 -- a pointer that is known to be lawful
 pub known_lawful : (o : Option PointerSpec) (s d : PointerSpec) (b : Bool) → Some s ≡ o → (IsTrue b ↔ IsLawfulSpec s) → (IsTrue b ↔ IsSome o × IsLawfulSpec (unwrap_or o d))
 known_lawful o s d b e h = subst (λ (q : Option PointerSpec). IsTrue b ↔ IsSome q × IsLawfulSpec (unwrap_or q d)) e (λ t. (search rules, h.0 t), λ p. h.1 p.1)
+
+-- and of five
+pub all_five : {P Q R S T : Type 0} (a b d e f : Bool) → (IsTrue a ↔ P) → (IsTrue b ↔ Q) → (IsTrue d ↔ R) → (IsTrue e ↔ S) → (IsTrue f ↔ T) → (IsTrue (a && b && d && e && f) ↔ P × Q × R × S × T)
+all_five a b d e f h k m o q = let n = both (a && b && d && e) f (all_four a b d e h k m o) q in (λ t. ((n.0 t).0.0, (n.0 t).0.1, (n.0 t).0.2, (n.0 t).0.3, (n.0 t).1), λ p. n.1 ((p.0, p.1, p.2, p.3), p.4))

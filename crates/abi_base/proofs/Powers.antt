@@ -1,12 +1,12 @@
 -- Powers of two, and the greatest that divides a number.
-use Rattle.std.proofs.Common.{◌≡◌, ℕ, zero, suc, ◌+◌, ◌-◌, ◌*◌, ◌/◌, ◌%◌, ◌^◌, ◌≤◌, ◌<◌, refl, sym, ◌∙◌, ap, subst, arith, rules}
+use Rattle.std.proofs.Common.{◌≡◌, ℕ, zero, suc, ◌+◌, ◌-◌, ◌*◌, ◌/◌, ◌%◌, ◌^◌, ◌≤◌, ◌<◌, refl, sym, subst, arith}
 use Rattle.std.specs.Int.{◌∣◌}
 use Rattle.std.specs.Int.Count.{count_trailing_zeros, count_leading_zeros, under}
 use Rattle.abi_base.specs.Align.{next_exponent, IsLeastPower}
-use Rattle.std.proofs.Math.Nat.{one-dvd, dvd-mul_right, dvd-mul_left, pow-le-pow_right, pow-succ', div-mul_cancel, mul_assoc, pow-zero, mul-dvd-mul_left, dvd_of_mul-dvd-mul_left}
+use Rattle.std.proofs.Math.Nat.{one-dvd, dvd-mul_right, pow-succ', pow-zero, mul-dvd-mul_left, dvd_of_mul-dvd-mul_left}
 use Rattle.std.proofs.Math.Pow.{pow-lt}
 use Rattle.std.proofs.lemmas.Nat.{pow_pos, leading_length}
-use Rattle.std.proofs.lemmas.Nat.Gcd.{dvd_refl, dvd_trans, le_of_dvd, dvd_of_mod-eq-zero, mod-eq-zero_of_dvd}
+use Rattle.std.proofs.lemmas.Nat.Gcd.{dvd_refl, dvd_trans, le_of_dvd, mod-eq-zero_of_dvd}
 
 even_half : (n : ℕ) → n % 2 ≡ 0 → 2 * (n / 2) ≡ n
 even_half n e = omega (arith, e)

@@ -1,5 +1,5 @@
 -- Integer types as attributes name them.
-use Rattle.std.specs.Prelude.{ℕ, ⊤, Bool}
+use Rattle.std.specs.Prelude.{⊤, Bool}
 use Rattle.abi_base.specs.declared.integer.Integer.{Integer}
 use Rattle.abi_base.specs.declared.integer.IntegerType.{IntegerType}
 use Rattle.abi_base.specs.declared.integer.IntegerType.TheVariants.{Pointer, Fixed}

@@ -104,8 +104,8 @@ impl Align {
         1 << self.pow2
     }
 
-    /// The greatest alignment for a target: half of its pointers' numbers, or `MAX` where that is
-    /// less. Asks pointers of 8 to 255 bits.
+    /// The greatest alignment for a target: 2^(n - 1) bytes for pointers of n bits, or `MAX` where
+    /// that is less. Asks pointers of 8 to 255 bits.
     pub fn max_for_target(tdl: &TargetDataLayout) -> Align
         requires some { 1 ≤ tdl.now.default_address_space_pointer_spec.pointer_size }
         requires most { tdl.now.default_address_space_pointer_spec.pointer_size * 8 ≤ 255 }
@@ -237,6 +237,7 @@ impl Display for AlignFromBytesError {
 /// The alignment that an ABI asks of a type.
 #[derive(Clone, Copy, PartialEq, Eq, Hash)]
 pub struct AbiAlign {
+    /// The alignment.
     pub abi: Align,
 }
 

@@ -290,35 +290,32 @@ mod tests {
     use std::test::Fail;
 
     #[test]
+    fn aligns_by_default(rt: HostRuntime) -> Result<(), Fail> {
+        let dl = TargetDataLayout::default_in(rt.alloc())?;
+        let two = Align::exponent(1);
+        let sixteen = Align::exponent(4);
+        assert_eq!(rt;
+            [dl.i1_align, dl.i8_align, dl.aggregate_align],
+            [Align::ONE, Align::ONE, Align::ONE]
+        );
+        assert_eq!(rt; [dl.i16_align, dl.f16_align], [two, two]);
+        assert_eq!(rt;
+            [dl.i32_align, dl.i64_align, dl.i128_align, dl.f32_align],
+            [Align::FOUR, Align::FOUR, Align::FOUR, Align::FOUR]
+        );
+        assert_eq!(rt; [dl.f64_align, dl.f128_align], [Align::EIGHT, sixteen]);
+        let vectors = [
+            (Size::from_bytes(8), Align::EIGHT),
+            (Size::from_bytes(16), sixteen),
+        ];
+        assert_eq!(rt; dl.vector_align.as_slice(), vectors.as_slice());
+        Ok(())
+    }
+
+    #[test]
     fn has_defaults(rt: HostRuntime) -> Result<(), Fail> {
         let dl = TargetDataLayout::default_in(rt.alloc())?;
         assert_eq!(rt; dl.endian, Endian::Big);
-        let integers = [
-            dl.i1_align,
-            dl.i8_align,
-            dl.i16_align,
-            dl.i32_align,
-            dl.i64_align,
-            dl.i128_align,
-        ];
-        for (align, bytes) in integers.iter().zip([1, 1, 2, 4, 4, 4]) {
-            assert_eq!(rt; Align::from_bytes(bytes), Ok(*align));
-        }
-        let floats = [
-            dl.f16_align,
-            dl.f32_align,
-            dl.f64_align,
-            dl.f128_align,
-            dl.aggregate_align,
-        ];
-        for (align, bytes) in floats.iter().zip([2, 4, 8, 16, 1]) {
-            assert_eq!(rt; Align::from_bytes(bytes), Ok(*align));
-        }
-        let vectors = [
-            (Size::from_bytes(8), Align::EIGHT),
-            (Size::from_bytes(16), dl.f128_align),
-        ];
-        assert_eq!(rt; dl.vector_align.as_slice(), vectors.as_slice());
         assert_eq!(rt; dl.default_address_space, AddressSpace::ZERO);
         assert_eq!(rt; dl.instruction_address_space, AddressSpace::ZERO);
         assert_eq!(rt; dl.c_enum_min_size, Integer::I32);

@@ -10,11 +10,15 @@ use crate::size::Size;
 /// A floating-point format. Only its size and its alignment matter to a layout.
 #[derive(Clone, Copy, PartialEq, Eq, PartialOrd, Ord, Hash, Debug)]
 pub enum Float {
+    /// IEEE 754 binary16.
     F16,
     /// `bfloat16`.
     F16B,
+    /// IEEE 754 binary32.
     F32,
+    /// IEEE 754 binary64.
     F64,
+    /// IEEE 754 binary128.
     F128,
     /// Two `f64` of a double double.
     PpcF128,

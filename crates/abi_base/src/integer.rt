@@ -17,10 +17,15 @@ use std::fmt::Display;
 /// The width of an integer type, signed or not.
 #[derive(Clone, Copy, PartialEq, Eq, PartialOrd, Ord, Hash, Debug)]
 pub enum Integer {
+    /// 8 bits.
     I8,
+    /// 16 bits.
     I16,
+    /// 32 bits.
     I32,
+    /// 64 bits.
     I64,
+    /// 128 bits.
     I128,
 }
 

@@ -7,7 +7,7 @@ ghost use Rattle.abi_base.specs.declared.integer.Integer.{Integer};
 ghost use Rattle.abi_base.specs.declared.float.Float.{Float};
 ghost use Rattle.abi_base.specs.Integer.{integer_size, integer_align};
 ghost use Rattle.abi_base.specs.Float.{float_size, float_align};
-ghost use Rattle.abi_base.specs.DataLayout.{IsPointerWidth, HasLawfulPointer, IsLawfulDataLayout, HasLawfulDefault, alignments_of, scalar_alignments_of};
+ghost use Rattle.abi_base.specs.DataLayout.{IsPointerWidth, HasLawfulPointer, IsLawfulDataLayout, HasLawfulDefault, alignments_of};
 
 use crate::address_space::AddressSpace;
 use crate::align::Align;
@@ -20,13 +20,6 @@ impl TargetDataLayout {
     /// of its alignment, and no alignment is above 2^29 bytes.
     pub fn is_lawful(&self) -> bool
         ensures { IsTrue result ↔ IsLawfulDataLayout self.now }
-    {
-        self.is_lawful_in_parts()
-    }
-
-    /// The same, part by part.
-    fn is_lawful_in_parts(&self) -> bool
-        ensures { IsTrue result ↔ ((i : Integer) → 2 ^ integer_align self.now i ∣ integer_size i) × ((f : Float) → 2 ^ float_align self.now f ∣ float_size f) × HasLawfulDefault self.now × All (λ a. a ≤ 29) (alignments_of self.now) }
     {
         self.integers_fit() & self.floats_fit() & self.default_fits() & self.within_limit()
     }
@@ -57,47 +50,26 @@ impl TargetDataLayout {
     fn integers_fit(&self) -> bool
         ensures { IsTrue result ↔ ((i : Integer) → 2 ^ integer_align self.now i ∣ integer_size i) }
     {
-        self.integers_divide()
-    }
-
-    /// The same, one by one.
-    fn integers_divide(&self) -> bool
-        ensures { IsTrue result ↔ (2 ^ self.now.i8_align ∣ 1) × (2 ^ self.now.i16_align ∣ 2) × (2 ^ self.now.i32_align ∣ 4) × (2 ^ self.now.i64_align ∣ 8) × (2 ^ self.now.i128_align ∣ 16) }
-    {
         self.i8_align.divides(1)
-            && self.i16_align.divides(2)
-            && self.i32_align.divides(4)
-            && self.i64_align.divides(8)
-            && self.i128_align.divides(16)
+            & self.i16_align.divides(2)
+            & self.i32_align.divides(4)
+            & self.i64_align.divides(8)
+            & self.i128_align.divides(16)
     }
 
     /// Whether each float's size is a multiple of its alignment.
     fn floats_fit(&self) -> bool
         ensures { IsTrue result ↔ ((f : Float) → 2 ^ float_align self.now f ∣ float_size f) }
     {
-        self.floats_divide()
-    }
-
-    /// The same, one by one.
-    fn floats_divide(&self) -> bool
-        ensures { IsTrue result ↔ (2 ^ self.now.f16_align ∣ 2) × (2 ^ self.now.f32_align ∣ 4) × (2 ^ self.now.f64_align ∣ 8) × (2 ^ self.now.f128_align ∣ 16) }
-    {
         self.f16_align.divides(2)
-            && self.f32_align.divides(4)
-            && self.f64_align.divides(8)
-            && self.f128_align.divides(16)
+            & self.f32_align.divides(4)
+            & self.f64_align.divides(8)
+            & self.f128_align.divides(16)
     }
 
     /// Whether no alignment is above the greatest.
     fn within_limit(&self) -> bool
         ensures { IsTrue result ↔ All (λ a. a ≤ 29) (alignments_of self.now) }
-    {
-        self.each_within_limit()
-    }
-
-    /// The same, list by list.
-    fn each_within_limit(&self) -> bool
-        ensures { IsTrue result ↔ All (λ a. a ≤ 29) (scalar_alignments_of self.now) × All (λ e. e.1 ≤ 29) self.now.vector_align × All (λ e. e.1.pointer_align ≤ 29) self.now.address_space_info }
     {
         let scalars = [
             self.i1_align,

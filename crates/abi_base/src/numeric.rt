@@ -12,6 +12,7 @@ use crate::size::Size;
 pub enum Numeric {
     /// An integer, signed where the flag is set.
     Int(Integer, bool),
+    /// A float.
     Float(Float),
 }
 

@@ -17,6 +17,7 @@ use std::fmt::Debug;
 pub enum Primitive {
     /// An integer, signed where the flag is set. No layout depends on the sign.
     Int(Integer, bool),
+    /// A float.
     Float(Float),
     /// A pointer into an address space.
     Pointer(AddressSpace),

@@ -4,5 +4,7 @@
 mod array;
 mod calculator;
 mod list;
+#[cfg(test)]
+mod tests;
 
 pub use calculator::LayoutCalculator;

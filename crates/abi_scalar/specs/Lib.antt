@@ -1,5 +1,6 @@
 pub mod Repr
 pub mod LaneCount
+pub mod LayoutError
 pub mod Range
 pub mod Count
 pub mod LeastRange

@@ -1,6 +1,11 @@
 //! Why a type has no layout.
 
+ghost use Rattle.std.specs.Prelude.{◌≡◌};
+ghost use Rattle.std.specs.Fmt.{WritesOnOk};
+ghost use Rattle.abi_scalar.specs.LayoutError.{bare_error, fallback_text};
+
 use std::alloc::AllocError;
+use std::fmt;
 
 /// Why a type has no layout; with the field that was refused, where there is one.
 #[derive(Clone, Copy, PartialEq, Eq, Debug)]
@@ -9,12 +14,62 @@ pub enum LayoutCalculatorError<F> {
     UnexpectedUnsized(F),
     /// The size is not below the data layout's bound.
     SizeOverflow,
-    /// A vector has more lanes than the greatest number.
-    OversizedSimdType { max_lanes: u16 },
+    /// A union has no fields.
+    EmptyUnion,
+    /// An enum is packed.
+    ReprConflict,
     /// A vector has no lane.
     ZeroLengthSimdType,
+    /// A vector has more lanes than the greatest number.
+    OversizedSimdType { max_lanes: u16 },
+    /// A vector's element is no scalar.
+    NonPrimitiveSimdType(F),
     /// A growth of memory was refused.
     OutOfMemory,
+}
+
+impl<F> LayoutCalculatorError<F> {
+    /// The same without the field.
+    pub fn without_payload(&self) -> LayoutCalculatorError<()>
+        ensures { result ≡ bare_error self.now }
+    {
+        match self {
+            LayoutCalculatorError::UnexpectedUnsized(_) => {
+                LayoutCalculatorError::UnexpectedUnsized(())
+            }
+            LayoutCalculatorError::SizeOverflow => LayoutCalculatorError::SizeOverflow,
+            LayoutCalculatorError::EmptyUnion => LayoutCalculatorError::EmptyUnion,
+            LayoutCalculatorError::ReprConflict => LayoutCalculatorError::ReprConflict,
+            LayoutCalculatorError::ZeroLengthSimdType => LayoutCalculatorError::ZeroLengthSimdType,
+            LayoutCalculatorError::OversizedSimdType { max_lanes } => {
+                LayoutCalculatorError::OversizedSimdType {
+                    max_lanes: *max_lanes,
+                }
+            }
+            LayoutCalculatorError::NonPrimitiveSimdType(_) => {
+                LayoutCalculatorError::NonPrimitiveSimdType(())
+            }
+            LayoutCalculatorError::OutOfMemory => LayoutCalculatorError::OutOfMemory,
+        }
+    }
+
+    /// Writes in plain words what is wrong.
+    pub fn fallback_fmt<W: fmt::Write>(&self, f: &mut fmt::Formatter<W>) -> fmt::Result
+        ensures { WritesOnOk W.write_str_gives f.old result (fallback_text self.now) f.new }
+    {
+        f.write_str(match self {
+            LayoutCalculatorError::UnexpectedUnsized(_) => {
+                "an unsized type was found where a sized type was expected"
+            }
+            LayoutCalculatorError::SizeOverflow => "size overflow",
+            LayoutCalculatorError::EmptyUnion => "type is a union with no fields",
+            LayoutCalculatorError::ReprConflict => "type has an invalid repr",
+            LayoutCalculatorError::ZeroLengthSimdType
+            | LayoutCalculatorError::OversizedSimdType { .. }
+            | LayoutCalculatorError::NonPrimitiveSimdType(_) => "invalid simd type definition",
+            LayoutCalculatorError::OutOfMemory => "out of memory",
+        })
+    }
 }
 
 impl<F> From<AllocError> for LayoutCalculatorError<F> {
@@ -25,5 +80,43 @@ impl<F> From<AllocError> for LayoutCalculatorError<F> {
 
     fn from(_error: AllocError) -> Self {
         LayoutCalculatorError::OutOfMemory
+    }
+}
+
+#[cfg(test)]
+mod tests {
+    use super::*;
+    use std::fmt::Display;
+    use std::test::Fail;
+
+    /// An error, displayed in plain words.
+    #[derive(Clone, Copy)]
+    struct Plain(LayoutCalculatorError<u8>);
+
+    impl Display for Plain {
+        fn fmt<W: fmt::Write>(&self, f: &mut fmt::Formatter<W>) -> fmt::Result {
+            self.0.fallback_fmt(f)
+        }
+    }
+
+    #[test]
+    fn says_what_is_wrong(rt: HostRuntime) -> Result<(), Fail> {
+        let unsized_field = Plain(LayoutCalculatorError::UnexpectedUnsized(1));
+        let too_large = Plain(LayoutCalculatorError::SizeOverflow);
+        let text = format!(in rt.alloc(); "{unsized_field}; {too_large}")?;
+        assert_eq!(rt;
+            text.as_str(),
+            "an unsized type was found where a sized type was expected; size overflow"
+        );
+        let no_lane = Plain(LayoutCalculatorError::ZeroLengthSimdType);
+        let no_memory = Plain(LayoutCalculatorError::OutOfMemory);
+        let text = format!(in rt.alloc(); "{no_lane}; {no_memory}")?;
+        assert_eq!(rt;
+            text.as_str(),
+            "invalid simd type definition; out of memory"
+        );
+        let bare = LayoutCalculatorError::NonPrimitiveSimdType(1u8).without_payload();
+        assert_eq!(rt; bare, LayoutCalculatorError::NonPrimitiveSimdType(()));
+        Ok(())
     }
 }

@@ -5,7 +5,7 @@ use Rattle.std.proofs.lemmas.List.{length-replicate}
 use Rattle.std.proofs.lemmas.List.Elements.{All-replicate}
 use Rattle.std.proofs.lemmas.Option.{IfSome_then}
 use Rattle.std.proofs.lemmas.Nat.{mul-le, mul-add-lt, div-mul-add, mod-mul-add}
-use Rattle.std.proofs.lemmas.Bool.{ltb-true, lt-ltb, and_parts}
+use Rattle.std.proofs.lemmas.Bool.{ltb-true, lt-ltb, eq-eqb, and_parts}
 use Rattle.std.specs.Cmp.Derive.{both_true}
 use Rattle.abi_base.specs.declared.data_layout.TargetDataLayout.{TargetDataLayout}
 use Rattle.abi_scalar.specs.declared.niche.Niche.{Niche}
@@ -173,7 +173,7 @@ module _ (dl : TargetDataLayout) (t : Tree) (element : Placed) (faithful : IsFai
   }
 
 -- an array's data places lie inside it
-within_elements : (layout : Layout) (count : ℕ) (element : Placed) → layout.size ≡ size_of element * count →
+pub within_elements : (layout : Layout) (count : ℕ) (element : Placed) → layout.size ≡ size_of element * count →
     ((k : ℕ) → is_data_place element k ≡ true → k < size_of element) →
     (k : ℕ) → is_data_place (elements layout count element) k ≡ true → k < layout.size
 within_elements layout count element size within k place =
@@ -192,5 +192,6 @@ pub Fits-elements : (dl : TargetDataLayout) (t : Tree) (element : Placed) (count
 Fits-elements dl t element count layout fits size niche lawful = record {
   faithful = λ locals. array_faithful dl t element (fits.faithful locals) fits.within count layout size niche;
   lawful = lawful;
+  room = both_true (eq-eqb layout.size (size_of element * count) size) fits.room;
   within = within_elements layout count element size fits.within;
 }

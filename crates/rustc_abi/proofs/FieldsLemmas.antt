@@ -1,7 +1,10 @@
 -- A struct's layout keeps its fields' values.
-use Rattle.std.proofs.Common.{◌≡◌, ℕ, ◌+◌, ◌≤◌, ◌⊎◌, ⊎_elim, List, [], ◌∷◌, length, map, arith, sym, ap, ◌∙◌}
-use Rattle.std.specs.Prelude.{IfSome, Bool}
+use Rattle.std.proofs.Common.{◌≡◌, ℕ, ◌+◌, ◌≤◌, ◌⊎◌, ⊎_elim, List, [], ◌∷◌, length, map, arith, refl, sym, ap, ◌∙◌}
+use Rattle.std.specs.Prelude.{IfSome, true, Bool}
+use Rattle.std.specs.Cmp.Derive.{both_true}
+use Rattle.std.proofs.lemmas.Bool.{le-leb}
 use Rattle.std.proofs.lemmas.Option.{IfSome_then}
+use Rattle.rustc_abi.specs.Room.{have_room}
 use Rattle.abi_base.specs.declared.data_layout.TargetDataLayout.{TargetDataLayout}
 use Rattle.abi_scalar.specs.declared.repr.ReprOptions.{ReprOptions}
 use Rattle.abi_scalar.specs.declared.niche.Niche.{Niche}
@@ -141,6 +144,16 @@ inside dl size (more_trees t ts) offsets [] apart fits = absurd fits
 inside dl size (more_trees t ts) [] (p ∷ ps) apart fits = absurd apart
 inside dl size (more_trees t ts) (o ∷ offsets) (p ∷ ps) apart fits = (apart.0, Fits.within fits.0, inside dl size ts offsets ps apart.2 fits.1)
 
+room_of : (dl : TargetDataLayout) (size : ℕ) (ts : Trees) (offsets : List ℕ) (ps : List Placed) → AreApart size offsets (map size_of ps) →
+    EachFits dl ts ps → have_room size (parts_at offsets ps) ≡ true
+room_of dl size no_trees [] [] apart fits = refl
+room_of dl size no_trees (o ∷ offsets) [] apart fits = absurd apart
+room_of dl size no_trees offsets (p ∷ ps) apart fits = absurd fits
+room_of dl size (more_trees t ts) offsets [] apart fits = absurd fits
+room_of dl size (more_trees t ts) [] (p ∷ ps) apart fits = absurd apart
+room_of dl size (more_trees t ts) (o ∷ offsets) (p ∷ ps) apart fits =
+    both_true (both_true (le-leb (o + size_of p) size apart.0) (Fits.room fits.0)) (room_of dl size ts offsets ps apart.2 fits.1)
+
 -- a layout of fields, wherever they lie
 pub Fits-fields : (dl : TargetDataLayout) (repr : ReprOptions) (always_sized : Bool) (ts : Trees) (layout : Layout) (offsets : List ℕ) (ps : List Placed) →
     EachFits dl ts ps → AreApart layout.size offsets (map size_of ps) → IfSome layout.largest_niche (IsPartNiche (parts_at offsets ps)) → IsLawfulLayout dl layout →
@@ -148,5 +161,6 @@ pub Fits-fields : (dl : TargetDataLayout) (repr : ReprOptions) (always_sized : B
 Fits-fields dl repr always_sized ts layout offsets ps fits apart niche lawful = record {
   faithful = λ locals. struct_faithful dl repr always_sized ts layout (parts_at offsets ps) (together dl layout.size ts offsets ps apart fits locals) niche;
   lawful = lawful;
+  room = room_of dl layout.size ts offsets ps apart fits;
   within = within_parts layout.size (parts_at offsets ps) (inside dl layout.size ts offsets ps apart fits);
 }

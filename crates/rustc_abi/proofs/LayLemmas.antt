@@ -16,6 +16,7 @@ use Rattle.rustc_abi.specs.declared.node.Node.{Node}
 use Rattle.rustc_abi.specs.Tree.{Tree, array, struct, Trees, no_trees, more_trees, trees}
 use Rattle.rustc_abi.specs.Placed.{Placed, Layout, layout_of, size_of, niche_of, elements, fields}
 use Rattle.rustc_abi.specs.Error.{named, and_then}
+use Rattle.rustc_abi.specs.Room.{has_room}
 use Rattle.rustc_abi.specs.Fits.{Fits}
 use Rattle.rustc_abi.specs.Nodes.{placed_in, parts_at, types_in, placed_at, root_of, Keeps}
 use Rattle.rustc_abi.specs.Values.{LocalsHaveValues}
@@ -194,3 +195,16 @@ pub faithful_root : (dl : TargetDataLayout) (old new : List Node) (i : ℕ) (t :
 faithful_root dl old new i t placed added is locals =
     let root : i ≡ length new - 1 = omega (arith, added.last) in
     subst (IsFaithful dl t) (ap (placed_at new) root ∙ sym is) (added.fits.faithful locals)
+
+-- each part of the last node ends inside it
+pub root_room : (dl : TargetDataLayout) (old new : List Node) (i : ℕ) (t : Tree) → IsAdded dl old new i t → has_room (root_of new) ≡ true
+root_room dl old new i t added =
+    let root : i ≡ length new - 1 = omega (arith, added.last) in
+    subst (λ j. has_room (placed_at new j) ≡ true) root added.fits.room
+
+-- the last node's layout is lawful
+pub lawful_root : (dl : TargetDataLayout) (old new : List Node) (i : ℕ) (t : Tree) (placed : Placed) → IsAdded dl old new i t → placed ≡ root_of new →
+    IsLawfulLayout dl (layout_of placed)
+lawful_root dl old new i t placed added is =
+    let root : i ≡ length new - 1 = omega (arith, added.last) in
+    subst (λ p. IsLawfulLayout dl (layout_of p)) (ap (placed_at new) root ∙ sym is) added.fits.lawful

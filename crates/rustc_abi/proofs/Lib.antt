@@ -9,3 +9,8 @@ mod TreeLemmas
 mod LayLemmas
 mod ListLemmas
 mod RefusalLemmas
+mod RunsLemmas
+mod GapsLemmas
+mod WalkLemmas
+mod RoomLemmas
+mod PaddingLemmas

@@ -1,14 +1,18 @@
 -- What nodes mean as more are added.
-use Rattle.std.proofs.Common.{subst, ◌≡◌, ℕ, zero, suc, ◌+◌, ◌<◌, List, [], ◌∷◌, ◌++◌, length, get_or, arith, refl, sym, ap, ◌∙◌, length-append}
+use Rattle.std.proofs.lemmas.Bool.{ltb-true}
+use Rattle.std.specs.Prelude.{nat_lt}
+use Rattle.std.proofs.Common.{subst, ◌≡◌, ℕ, zero, suc, ◌+◌, ◌<◌, List, [], ◌∷◌, ◌++◌, length, map, get_or, arith, refl, sym, ap, ◌∙◌, length-append}
 use Rattle.std.specs.Prelude.{true}
 use Rattle.std.specs.Cmp.Derive.{both_true}
 use Rattle.std.proofs.lemmas.List.{get_or_append_left, get_or_push}
 use Rattle.std.proofs.lemmas.Bool.{and_parts}
+use Rattle.std.specs.List.{list_all}
+use Rattle.abi_calc.specs.Apart.{offsets_of}
 use Rattle.rustc_abi.specs.declared.node.Shape.{Shape}
 use Rattle.rustc_abi.specs.declared.node.Shape.TheVariants.{Scalar, Elements, Fields}
 use Rattle.rustc_abi.specs.declared.node.Node.{Node}
-use Rattle.rustc_abi.specs.Placed.{Placed, Layout, layout_of, nothing}
-use Rattle.rustc_abi.specs.Nodes.{placed_in, meaning, meanings, types_in, placed_at, Keeps}
+use Rattle.rustc_abi.specs.Placed.{Placed, Layout, layout_of, elements, fields, nothing}
+use Rattle.rustc_abi.specs.Nodes.{placed_in, parts_at, meaning, meanings, types_in, placed_at, Keeps}
 use Rattle.rustc_abi.specs.Adding.{is_node, are_nodes, IsPut}
 
 meanings-push : (done : List Placed) (ns : List Node) (n : Node) →
@@ -103,3 +107,45 @@ is_node-at first (m ∷ ns) (suc i) j d e lt h =
 -- each node names earlier ones
 pub children_before : (ns : List Node) (i : ℕ) (d : Node) → i < length ns → are_nodes 0 ns ≡ true → is_node i (get_or ns i d).shape ≡ true
 children_before ns i d lt h = is_node-at 0 ns i i d (omega arith) lt h
+
+children-same : (xs ys : List Placed) (n : ℕ) → ((i : ℕ) → i < n → placed_in xs i ≡ placed_in ys i) → (cs : List ℕ) → list_all (λ child. nat_lt child n) cs ≡ true →
+    map (placed_in xs) cs ≡ map (placed_in ys) cs
+children-same xs ys n same [] below = refl
+children-same xs ys n same (c ∷ cs) below =
+    let both = and_parts (nat_lt c n) (list_all (λ child. nat_lt child n) cs) below in
+    let here : placed_in xs c ≡ placed_in ys c = same c (ltb-true c n both.0) in
+    let rest : map (placed_in xs) cs ≡ map (placed_in ys) cs = children-same xs ys n same cs both.1 in
+    cc
+
+-- a node's meaning from those before it is its meaning from all
+meaning-same : (xs ys : List Placed) (n : ℕ) → ((i : ℕ) → i < n → placed_in xs i ≡ placed_in ys i) → (layout : Layout) (shape : Shape) → is_node n shape ≡ true →
+    meaning xs layout shape ≡ meaning ys layout shape
+meaning-same xs ys n same layout (Scalar s) is = refl
+meaning-same xs ys n same layout (Elements count element) is = ap (elements layout count) (same element (ltb-true element n is))
+meaning-same xs ys n same layout (Fields children) is =
+    ap (λ ps. fields layout (parts_at (offsets_of layout.fields) ps)) (children-same xs ys n same children.items is)
+
+placed_in-meanings : (done : List Placed) (ns : List Node) (i j : ℕ) (d : Node) → j ≡ length done + i → i < length ns → is_node j (get_or ns i d).shape ≡ true →
+    placed_in (meanings done ns) j ≡ meaning (meanings done ns) (get_or ns i d).layout (get_or ns i d).shape
+placed_in-meanings done [] i j d e lt is = absurd (omega arith)
+placed_in-meanings done (m ∷ ns) zero j d e lt is =
+    let x = meaning done m.layout m.shape in
+    let at : length done ≡ j = omega arith in
+    let more = done ++ x ∷ [] in
+    let long = length-append done (x ∷ []) in
+    let same : (k : ℕ) → k < j → placed_in done k ≡ placed_in (meanings more ns) k = λ k less.
+    sym (meanings-first more ns k (omega arith) ∙ get_or_append_left done (x ∷ []) nothing k (omega arith)) in
+    meanings-first more ns j (omega arith) ∙ get_or_push done x nothing j at ∙ meaning-same done (meanings more ns) j same m.layout m.shape is
+placed_in-meanings done (m ∷ ns) (suc i) j d e lt is =
+    let x = meaning done m.layout m.shape in
+    placed_in-meanings (done ++ x ∷ []) ns i j d (omega (arith, length-append done (x ∷ []))) (omega arith) is
+
+-- what a node means, by what its children mean
+pub placed_at-node : (ns : List Node) → are_nodes 0 ns ≡ true → (i : ℕ) (n : Node) (shape : Shape) → i < length ns → n ≡ get_or ns i n → n.shape ≡ shape →
+    (is_node i shape ≡ true) × (placed_at ns i ≡ meaning (types_in ns) n.layout shape)
+placed_at-node ns well i n shape lt at e =
+    let is : is_node i (get_or ns i n).shape ≡ true = children_before ns i n lt well in
+    let same : (get_or ns i n).shape ≡ shape = ap (λ m. m.shape) (sym at) ∙ e in (
+      subst (λ s. is_node i s ≡ true) same is,
+      placed_in-meanings [] ns i i n (omega arith) lt is ∙ ap (λ m. meaning (types_in ns) m.layout m.shape) (sym at) ∙ ap (meaning (types_in ns) n.layout) e,
+    )

@@ -119,7 +119,7 @@ module _ (dl : TargetDataLayout) (s : Scalar) (layout : Layout) (size : layout.s
 -- a scalar's layout
 pub Fits-scalar : (dl : TargetDataLayout) (s : Scalar) (layout : Layout) → layout.size ≡ scalar_size dl s → IfSome layout.largest_niche (IsWhole s) →
     IsLawfulLayout dl layout → Fits dl (scalar s) (placed_scalar layout s)
-Fits-scalar dl s layout size niche lawful = record { faithful = λ _. faithful dl s layout size niche; lawful = lawful; within = within dl s layout size niche }
+Fits-scalar dl s layout size niche lawful = record { faithful = λ _. faithful dl s layout size niche; lawful = lawful; room = refl; within = within dl s layout size niche }
 
 niche_by : (b : Bool) (n : Niche) (s : Scalar) → IsWhole s n → IfSome (if b then None else Some n) (IsWhole s)
 niche_by true n s h = tt

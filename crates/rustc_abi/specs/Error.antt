@@ -3,11 +3,16 @@ use Rattle.std.specs.Prelude.{Result, Ok, Err}
 use Rattle.abi_scalar.specs.declared.error.LayoutCalculatorError.{LayoutCalculatorError}
 use Rattle.abi_scalar.specs.declared.error.LayoutCalculatorError.TheVariants as calculator
 use Rattle.rustc_abi.specs.declared.error.LayError.{LayError}
-use Rattle.rustc_abi.specs.declared.error.LayError.TheVariants.{UnexpectedUnsized, SizeOverflow, OutOfMemory}
+use Rattle.rustc_abi.specs.declared.error.LayError.TheVariants.{UnexpectedUnsized, SizeOverflow, EmptyUnion, ReprConflict, ZeroLengthSimdType, OversizedSimdType, NonPrimitiveSimdType, OutOfMemory}
 
 abbrev pub lay_error : {H : Type 0} → LayoutCalculatorError H → LayError
 lay_error (calculator.UnexpectedUnsized field) = UnexpectedUnsized
 lay_error calculator.SizeOverflow = SizeOverflow
+lay_error calculator.EmptyUnion = EmptyUnion
+lay_error calculator.ReprConflict = ReprConflict
+lay_error calculator.ZeroLengthSimdType = ZeroLengthSimdType
+lay_error (calculator.OversizedSimdType max_lanes) = OversizedSimdType
+lay_error (calculator.NonPrimitiveSimdType field) = NonPrimitiveSimdType
 lay_error calculator.OutOfMemory = OutOfMemory
 
 -- the calculator's answer, with its refusal by that name

@@ -6,10 +6,12 @@ use Rattle.rustc_abi.specs.Tree.{Tree}
 use Rattle.rustc_abi.specs.Placed.{Placed, layout_of, size_of}
 use Rattle.rustc_abi.specs.Places.{is_data_place}
 use Rattle.rustc_abi.specs.Values.{LocalsHaveValues}
+use Rattle.rustc_abi.specs.Room.{has_room}
 use Rattle.rustc_abi.specs.Faithful.{IsFaithful}
 
--- The laid-out type keeps the tree's values, its layout is lawful, and its data places lie inside it.
+-- The laid-out type keeps the tree's values, its layout is lawful, each part ends inside, and its data places lie inside it.
 pub record Fits (dl : TargetDataLayout) (tree : Tree) (placed : Placed) : Type 0 where
   pub faithful : LocalsHaveValues dl tree → IsFaithful dl tree placed
   pub lawful : IsLawfulLayout dl (layout_of placed)
+  pub room : has_room placed ≡ true
   pub within : (k : ℕ) → is_data_place placed k ≡ true → k < size_of placed

@@ -7,6 +7,7 @@ pub mod Places
 pub mod Values
 pub mod Holding
 pub mod Faithful
+pub mod Room
 pub mod Fits
 pub mod Error
 pub mod Nodes
@@ -14,3 +15,4 @@ pub mod Laying
 pub mod Adding
 pub mod Laid
 pub mod Fault
+pub mod Runs

@@ -16,6 +16,16 @@ pub enum LayError {
     UnexpectedUnsized,
     /// A size is not below the data layout's bound.
     SizeOverflow,
+    /// A union has no fields.
+    EmptyUnion,
+    /// An enum is packed.
+    ReprConflict,
+    /// A vector has no lane.
+    ZeroLengthSimdType,
+    /// A vector has more lanes than the greatest number.
+    OversizedSimdType,
+    /// A vector's element is no scalar.
+    NonPrimitiveSimdType,
     /// A growth of memory was refused.
     OutOfMemory,
 }
@@ -52,6 +62,11 @@ impl<F: Drop> From<LayoutCalculatorError<F>> for LayError {
         match refused {
             LayoutCalculatorError::UnexpectedUnsized(_) => LayError::UnexpectedUnsized,
             LayoutCalculatorError::SizeOverflow => LayError::SizeOverflow,
+            LayoutCalculatorError::EmptyUnion => LayError::EmptyUnion,
+            LayoutCalculatorError::ReprConflict => LayError::ReprConflict,
+            LayoutCalculatorError::ZeroLengthSimdType => LayError::ZeroLengthSimdType,
+            LayoutCalculatorError::OversizedSimdType { .. } => LayError::OversizedSimdType,
+            LayoutCalculatorError::NonPrimitiveSimdType(_) => LayError::NonPrimitiveSimdType,
             LayoutCalculatorError::OutOfMemory => LayError::OutOfMemory,
         }
     }

@@ -1,12 +1,18 @@
 //! Types that were laid out.
 
-ghost use Rattle.std.specs.Prelude.{◌≡◌, ◌<◌, length, true};
+ghost use Rattle.std.specs.Prelude.{◌≡◌, ◌<◌, IfOk, length, true};
+ghost use Rattle.rustc_abi.specs.Nodes.{root_of};
 ghost use Rattle.rustc_abi.specs.Adding.{are_nodes};
+ghost use Rattle.rustc_abi.specs.Room.{has_room};
 
+use crate::lay::layout_at;
 use crate::node::Node;
+use crate::padding::data_runs;
+use crate::runs::{Run, gaps};
 use abi_base::Endian;
 use abi_index::{FieldIdx, VariantIdx};
 use abi_scalar::LayoutData;
+use std::alloc::{AllocError, Global};
 
 /// A type that was laid out: its layout, and those of its parts.
 #[derive(Drop)]
@@ -15,17 +21,19 @@ pub struct Laid {
     endian: Endian,
     ghost some: { 0 < length nodes.items },
     ghost well: { are_nodes 0 nodes.items ≡ true },
+    ghost room: { has_room (root_of nodes.items) ≡ true },
 }
 
 impl Laid {
     ghost use Rattle.rustc_abi.specs.Laid.{placed_of, endian_of};
     ghost use Rattle.rustc_abi.specs.Placed.{layout_of};
-    ghost use Rattle.rustc_abi.specs.Nodes.{root_of};
+    ghost use Rattle.rustc_abi.specs.Runs.{padding_of};
 
     /// The type of the last node.
     pub(crate) fn new(nodes: Vec<Node>, endian: Endian) -> Laid
         requires some { 0 < length nodes.items }
         requires well { are_nodes 0 nodes.items ≡ true }
+        requires room { has_room (root_of nodes.items) ≡ true }
         ensures placed { placed_of result ≡ root_of nodes.items }
         ensures endian { endian_of result ≡ endian }
     {
@@ -37,7 +45,17 @@ impl Laid {
         ensures { result.now ≡ layout_of (placed_of self.now) }
     {
         let nodes = self.nodes.as_slice();
-        crate::lay::layout_at(nodes, nodes.len() - 1)
+        layout_at(nodes, nodes.len() - 1)
+    }
+
+    /// The padding of the type: the bytes that no value of it decides, as maximal runs in ascending order.
+    pub fn padding(&self, alloc: Global) -> Result<Vec<Run>, AllocError>
+        ensures { IfOk result (λ runs. runs.items ≡ padding_of (placed_of self.now)) }
+    {
+        let nodes = self.nodes.as_slice();
+        let root = nodes.len() - 1;
+        let data = data_runs(alloc, nodes, root)?;
+        gaps(alloc, &data, layout_at(nodes, root).size.bytes())
     }
 
     /// The order of the bytes of a number in the type.

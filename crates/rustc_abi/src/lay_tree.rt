@@ -5,6 +5,8 @@ ghost use Rattle.abi_base.specs.DataLayout.{IsLawfulDataLayout};
 ghost use Rattle.rustc_abi.specs.Tree.{tree_of};
 ghost use Rattle.rustc_abi.specs.Values.{LocalsHaveValues};
 ghost use Rattle.rustc_abi.specs.Faithful.{EachValueIsHeld, OnlyValuesAreHeld, NoBytesHoldTwo, IsNicheTrue, IsNicheInside, PaddingDecidesNothing};
+ghost use Rattle.abi_scalar.specs.Lawful.{IsLawfulLayout};
+ghost use Rattle.rustc_abi.specs.Placed.{layout_of};
 ghost use Rattle.rustc_abi.specs.Laid.{placed_of, endian_of};
 ghost use Rattle.rustc_abi.specs.Laying.{laid_out};
 ghost use Rattle.rustc_abi.specs.Fault.{IsRefusedFor};
@@ -28,6 +30,7 @@ pub fn lay_out(alloc: Global, dl: &TargetDataLayout, tree: &TypeTree) -> Result<
 
     // Which layout each part has.
     ensures laid { IfOk result (λ laid. laid_out dl.now (tree_of tree.now) ≡ Ok (placed_of laid)) }
+    ensures layout { IfOk result (λ laid. IsLawfulLayout dl.now (layout_of (placed_of laid))) }
     ensures order { IfOk result (λ laid. endian_of laid ≡ dl.now.endian) }
 
     // What the layout keeps of the values, where each local of a coroutine has one.

@@ -6,9 +6,12 @@ mod laid;
 mod lay;
 mod lay_tree;
 mod node;
+mod padding;
+mod runs;
 mod tree;
 
 pub use error::LayError;
 pub use laid::Laid;
 pub use lay_tree::lay_out;
+pub use runs::Run;
 pub use tree::TypeTree;

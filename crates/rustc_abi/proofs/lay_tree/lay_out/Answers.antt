@@ -1,4 +1,4 @@
-use Rattle.rustc_abi.proofs.LayLemmas.{faithful_root}
+use Rattle.rustc_abi.proofs.LayLemmas.{faithful_root, lawful_root}
 use Rattle.rustc_abi.proofs.lay_tree.lay_out.Goals as goal
 
 pub returns-clause-exists : goal.returns-clause-exists
@@ -12,3 +12,6 @@ returns-clause-unique c = λ locals. (faithful_root _ _ _ _ _ _ c.in_ok-_root.en
 
 pub returns-clause-padding : goal.returns-clause-padding
 returns-clause-padding c = λ locals. (faithful_root _ _ _ _ _ _ c.in_ok-_root.ensures.ok c.new.ensures.placed locals).padding
+
+pub returns-clause-layout : goal.returns-clause-layout
+returns-clause-layout c = lawful_root _ _ _ _ _ _ c.in_ok-_root.ensures.ok c.new.ensures.placed

@@ -1,4 +1,4 @@
-use Rattle.std.proofs.Common.{◌≡◌, ◌≤◌, ◌^◌, sym, subst}
+use Rattle.std.proofs.Common.{◌^◌, sym, subst}
 use Rattle.std.specs.Int.{◌∣◌}
 use Rattle.std.specs.Int.Count.{count_trailing_zeros}
 use Rattle.abi_base.proofs.Powers.{factor_divides, factor_greatest}

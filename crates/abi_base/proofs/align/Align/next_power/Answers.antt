@@ -1,4 +1,4 @@
-use Rattle.std.proofs.Common.{◌≡◌, ℕ, ◌≤◌, ◌-◌, ◌^◌, ap, sym, ◌∙◌, subst, arith}
+use Rattle.std.proofs.Common.{◌≡◌, ℕ, ◌≤◌, ◌-◌, ◌^◌, sym, subst, arith}
 use Rattle.std.specs.Int.Count.{count_leading_zeros}
 use Rattle.abi_base.specs.Align.{IsLeastPower}
 use Rattle.abi_base.proofs.Powers.{least_power}

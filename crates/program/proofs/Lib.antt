@@ -1,0 +1,5 @@
+pub mod Text
+pub mod Parts
+pub mod Utf8
+pub mod Written
+pub mod ReadBack

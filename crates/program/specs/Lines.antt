@@ -1,0 +1,23 @@
+-- How a text falls into lines.
+use Rattle.std.specs.Prelude.{ℕ, ◌-◌, ◌==◌, List, [], ◌∷◌, length, take, slice_index, Option, None, Some, unwrap_or, if◌then◌else◌}
+
+-- what stands before the first such byte, or the whole
+abbrev pub before : (b : ℕ) → List ℕ → List ℕ
+before b [] = []
+before b (c ∷ cs) = if c == b then [] else c ∷ before b cs
+
+-- what follows the first such byte, if there is one
+abbrev pub after : (b : ℕ) → List ℕ → Option (List ℕ)
+after b [] = None
+after b (c ∷ cs) = if c == b then Some cs else after b cs
+
+-- a line without a carriage return at its end
+abbrev pub without_return : List ℕ → List ℕ
+without_return line = if slice_index line (length line - 1) == 13 then take (length line - 1) line else line
+
+abbrev pub first_line : List ℕ → List ℕ
+first_line text = without_return (before 10 text)
+
+-- the second line, or nothing where there is none
+abbrev pub second_line : List ℕ → List ℕ
+second_line text = without_return (before 10 (unwrap_or (after 10 text) []))

@@ -1,0 +1,49 @@
+-- How a type is written.
+use Rattle.std.specs.Prelude.{◌≡◌, ℕ, ◌+◌, ◌^◌, ◌<◌, ◌≤◌, Bool, true, List, [], ◌∷◌, ◌++◌, codes, IfOk, Result}
+use Rattle.std.specs.Fmt.{decimal}
+use Rattle.abi_base.specs.declared.primitive.Primitive.TheVariants.{Int}
+use Rattle.abi_base.specs.Integer.{integer_size}
+use Rattle.abi_scalar.specs.declared.scalar.Scalar.{Scalar}
+use Rattle.abi_scalar.specs.declared.scalar.Scalar.TheVariants.{Initialized}
+use Rattle.abi_scalar.specs.Range.{full_range}
+use Rattle.rustc_abi.specs.Tree.{Tree, scalar, array, struct, Trees, no_trees, more_trees}
+use Rattle.program.specs.Printing.{integer_text}
+use Rattle.program.specs.Reading.{plain_c}
+
+abbrev pub scalar_words : Scalar → List (List ℕ)
+scalar_words (Initialized (Int width signed) range) = integer_text width signed ∷ []
+scalar_words _ = []
+
+abbrev mutual
+  -- the words that write a type
+  pub written : Tree → List (List ℕ)
+  written (scalar s) = scalar_words s
+  written (array count t) = codes "array" ∷ decimal count ∷ written t
+  written (struct repr sized ts) = codes "struct" ∷ codes "C" ∷ codes "(" ∷ (written_each ts ++ codes ")" ∷ [])
+  written _ = []
+
+  pub written_each : Trees → List (List ℕ)
+  written_each no_trees = []
+  written_each (more_trees t ts) = written t ++ written_each ts
+
+-- an integer that may be any number of its width
+abbrev pub IsFullInteger : Scalar → Type 0
+IsFullInteger (Initialized (Int width signed) range) = range ≡ full_range (integer_size width)
+IsFullInteger _ = ⊥
+
+abbrev mutual
+  -- the type is one that the program knows, and stands, nested in so many others, in no more than 200
+  pub IsKnown : (nested : ℕ) → Tree → Type 0
+  IsKnown nested (scalar s) = (nested ≤ 200) × IsFullInteger s
+  IsKnown nested (array count t) = (nested ≤ 200) × (count < 2 ^ 64) × IsKnown (nested + 1) t
+  IsKnown nested (struct repr sized ts) = (nested ≤ 200) × (repr ≡ plain_c) × (sized ≡ true) × AreKnown (nested + 1) ts
+  IsKnown nested _ = ⊥
+
+  pub AreKnown : (nested : ℕ) → Trees → Type 0
+  AreKnown nested no_trees = Unit {0}
+  AreKnown nested (more_trees t ts) = IsKnown nested t × AreKnown nested ts
+
+-- words in a line, each with a space behind it
+abbrev pub line_of : List (List ℕ) → List ℕ
+line_of [] = []
+line_of (w ∷ ws) = w ++ 32 ∷ line_of ws

@@ -1,0 +1,131 @@
+//! The answer to a text.
+
+ghost use Rattle.std.specs.Prelude.{◌≡◌, ◌<◌, IfOk, Ok};
+ghost use Rattle.std.specs.Str.{is_utf8};
+ghost use Rattle.abi_base.specs.DataLayout.{default_data_layout};
+ghost use Rattle.rustc_abi.specs.Laid.{placed_of};
+ghost use Rattle.rustc_abi.specs.Placed.{layout_of};
+ghost use Rattle.rustc_abi.specs.Laying.{laid_out};
+ghost use Rattle.rustc_abi.specs.Tree.{tree_of};
+ghost use Rattle.program.specs.Output.{answered_by, error_name, IsAnswer, output_of, output_of_fault, output_of_layout, output_of_lines, output_of_type, refused, unreadable, type_text};
+ghost use Rattle.program.specs.Reading.{read};
+ghost use Rattle.program.specs.Words.{words_of};
+
+use crate::fault::Fault;
+use crate::lines::two_lines;
+use crate::print::write_layout;
+use crate::reader::read_type;
+use abi_base::TargetDataLayout;
+use rustc_abi::{Laid, LayError, TypeTree, lay_out};
+use std::alloc::{AllocError, Global};
+
+/// What is written, and the status.
+#[derive(Drop)]
+pub(crate) struct Answer {
+    pub(crate) text: String,
+    pub(crate) status: u8,
+}
+
+/// The answer to a type that has no layout, and to an input that can't be read.
+fn refused(alloc: Global, name: &str) -> Result<Answer, AllocError>
+    ensures { IfOk result (λ a. answered_by a ≡ refused name.now) }
+{
+    Ok(Answer {
+        text: format!(in alloc; "refused {name}\n")?,
+        status: 1,
+    })
+}
+
+/// The answer to a text whose word of this number doesn't fit.
+fn unreadable(alloc: Global, number: u64) -> Result<Answer, AllocError>
+    ensures { IfOk result (λ a. answered_by a ≡ unreadable number) }
+{
+    Ok(Answer {
+        text: format!(in alloc; "unreadable word {number}\n")?,
+        status: 2,
+    })
+}
+
+fn error_name(error: LayError) -> &'static str
+    ensures { result.now ≡ error_name error }
+{
+    match error {
+        LayError::UnlawfulDataLayout => "UnlawfulDataLayout",
+        LayError::NotYet => "NotYet",
+        LayError::BadIndex => "BadIndex",
+        LayError::UnexpectedUnsized => "UnexpectedUnsized",
+        LayError::SizeOverflow => "SizeOverflow",
+        LayError::EmptyUnion => "EmptyUnion",
+        LayError::ReprConflict => "ReprConflict",
+        LayError::ZeroLengthSimdType => "ZeroLengthSimdType",
+        LayError::OversizedSimdType => "OversizedSimdType",
+        LayError::NonPrimitiveSimdType => "NonPrimitiveSimdType",
+        LayError::OutOfMemory => "OutOfMemory",
+    }
+}
+
+/// The answer to a text that can't be read.
+fn answer_fault(alloc: Global, fault: Fault) -> Result<Answer, AllocError>
+    ensures { IfOk result (λ a. answered_by a ≡ output_of_fault fault) }
+{
+    match fault {
+        Fault::Unreadable(number) => unreadable(alloc, number),
+        Fault::NotYet => refused(alloc, "NotYet"),
+        Fault::TooDeep => refused(alloc, "TooDeep"),
+        Fault::OutOfMemory => refused(alloc, "OutOfMemory"),
+    }
+}
+
+/// The answer to a type that was laid out.
+fn answer_laid(alloc: Global, laid: &Laid) -> Result<Answer, AllocError>
+    requires { (layout_of (placed_of laid.now)).align.abi < 64 }
+    ensures { IfOk result (λ a. answered_by a ≡ output_of_layout (Ok (placed_of laid.now))) }
+{
+    let mut text = String::new(alloc);
+    write_layout(&mut text, laid.layout())?;
+    Ok(Answer { text, status: 0 })
+}
+
+/// The answer to a type, under the default data layout.
+fn answer_tree(alloc: Global, tree: &TypeTree) -> Result<Answer, AllocError>
+    ensures { IfOk result (IsAnswer (output_of_layout (laid_out default_data_layout (tree_of tree.now)))) }
+{
+    let dl = TargetDataLayout::default_in(alloc)?;
+    match lay_out(alloc, &dl, tree) {
+        Ok(laid) => answer_laid(alloc, &laid),
+        Err(error) => refused(alloc, error_name(error)),
+    }
+}
+
+/// The answer to the line of a type.
+fn answer_type(alloc: Global, line: &[u8]) -> Result<Answer, AllocError>
+    ensures { IfOk result (IsAnswer (output_of_type (read (words_of line.now)))) }
+{
+    match read_type(alloc, line) {
+        Ok(tree) => answer_tree(alloc, &tree),
+        Err(fault) => answer_fault(alloc, fault),
+    }
+}
+
+fn is_utf8(line: &[u8]) -> bool
+    ensures { result ≡ is_utf8 line.now }
+{
+    match std::str::from_utf8(line) {
+        Ok(_) => true,
+        Err(_) => false,
+    }
+}
+
+/// The answer to an input: its first line is a data layout, its second a type.
+pub(crate) fn answer_input(alloc: Global, input: &[u8]) -> Result<Answer, AllocError>
+    ensures { IfOk result (IsAnswer (output_of input.now)) }
+{
+    let (first, second) = two_lines(input);
+    if !(is_utf8(first) && is_utf8(second)) {
+        return unreadable(alloc, 0);
+    }
+    if !first.is_empty() {
+        return refused(alloc, "NotYet");
+    }
+    answer_type(alloc, second)
+}

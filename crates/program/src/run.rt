@@ -1,0 +1,43 @@
+//! The program over any reader and writer.
+
+ghost use Rattle.std.specs.Prelude.{◌≡◌, ◌⊎◌, IfSome, Some};
+ghost use Rattle.program.specs.Output.{Answered, Sent, output_of};
+
+use crate::answer::answer_input;
+use std::alloc::Global;
+use std::io::{ErrorKind, Read, Write};
+
+/// Writes a text, and answers the status; 1 where writing fails, and nothing more is written then.
+fn send<W: Write>(output: &mut W, text: &[u8], status: u8) -> u8
+    ensures { Sent (W.contents output.old) (W.contents output.new) text.now status result }
+{
+    if output.write_all(text).is_err() {
+        return 1;
+    }
+    match output.flush() {
+        Ok(()) => status,
+        Err(_) => 1,
+    }
+}
+
+/// Reads an input whole, writes the answer to it, and answers the status: 0 for a type with a layout, 1 for one that is
+/// refused, 2 for a text that can't be read.
+///
+/// The input's first line is a data layout string, its second a type. All of the answer is made before any of it is
+/// written. Where reading fails it is `refused Input`, where memory is wanting `refused OutOfMemory`; where writing fails
+/// the status is 1, and nothing more is written.
+pub fn run<R: Read, W: Write>(alloc: Global, input: &mut R, output: &mut W) -> u8
+    ensures { IfSome (R.remaining input.old) (λ all. Answered (W.contents output.old) (W.contents output.new) (output_of all) result) }
+{
+    let mut text = Vec::new(alloc);
+    match input.read_to_end(&mut text) {
+        Ok(_) => match answer_input(alloc, text.as_slice()) {
+            Ok(answer) => send(output, answer.text.as_bytes(), answer.status),
+            Err(_) => send(output, b"refused OutOfMemory\n", 1),
+        },
+        Err(error) if error.kind() == ErrorKind::OutOfMemory => {
+            send(output, b"refused OutOfMemory\n", 1)
+        }
+        Err(_) => send(output, b"refused Input\n", 1),
+    }
+}

@@ -1,0 +1,120 @@
+-- What each kind of node has of data places.
+use Rattle.std.proofs.Common.{◌≡◌, ℕ, zero, suc, ◌+◌, ◌-◌, ◌*◌, ◌/◌, ◌%◌, ◌<◌, ◌≤◌, List, [], ◌∷◌, ◌++◌, Bool, true, false, length, get_or, take, min, arith, refl, sym, ap, ◌∙◌, subst, All}
+use Rattle.std.specs.Prelude.{◌==◌, ◌&&◌, ◌||◌, nat_le, nat_lt, not, None}
+use Rattle.std.specs.List.{list_all}
+use Rattle.std.proofs.lemmas.Bool.{ltb-true, le-ltb, eqb-true, and_parts}
+use Rattle.std.proofs.lemmas.List.{take_more, length-take-le, length-map, get_or-map}
+use Rattle.std.proofs.lemmas.List.Elements.{All-nil, All-cons}
+use Rattle.std.proofs.Math.Bool.{or-false}
+use Rattle.abi_calc.specs.Apart.{offsets_of}
+use Rattle.abi_scalar.specs.declared.scalar.Scalar.{Scalar}
+use Rattle.rustc_abi.specs.declared.node.Shape.TheVariants.{Scalar as Number, Elements, Fields}
+use Rattle.rustc_abi.specs.declared.node.Node.{Node}
+use Rattle.rustc_abi.specs.declared.runs.Run.{Run}
+use Rattle.std.specs.Prelude.{Vec}
+use Rattle.std.specs.declared.alloc.Global.{Global}
+use Rattle.rustc_abi.specs.Placed.{Placed, Layout, scalar, elements, fields, size_of, part, nothing}
+use Rattle.rustc_abi.specs.Places.{is_data_place, is_place_of_part}
+use Rattle.rustc_abi.specs.Nodes.{parts_at, placed_at}
+use Rattle.rustc_abi.specs.Room.{has_room, have_room}
+use Rattle.rustc_abi.specs.Adding.{are_nodes, all_at}
+use Rattle.rustc_abi.specs.Runs.{covers, repeats, Ascend, runs_from, is_beside, padding_of}
+use Rattle.rustc_abi.proofs.NodesLemmas.{placed_at-node}
+use Rattle.rustc_abi.proofs.RoomLemmas.{within_room, room_at, ends_inside}
+
+module _ (ns : List Node) (well : are_nodes 0 ns ≡ true) (i : ℕ) (n : Node) (lt : i < length ns) (at : n ≡ get_or ns i n) (room : has_room (placed_at ns i) ≡ true) where
+  pub scalar_node : (s : Scalar) → n.shape ≡ Number s → placed_at ns i ≡ scalar n.layout s
+  scalar_node s e = (placed_at-node ns well i n (Number s) lt at e).1
+
+  pub elements_node : (count element : ℕ) → n.shape ≡ Elements count element →
+      (element < i) × (placed_at ns i ≡ elements n.layout count (placed_at ns element)) × (n.layout.size ≡ size_of (placed_at ns element) * count)
+      × (has_room (placed_at ns element) ≡ true)
+  elements_node count element e =
+      let is = placed_at-node ns well i n (Elements count element) lt at e in
+      let both = and_parts (n.layout.size == size_of (placed_at ns element) * count) (has_room (placed_at ns element)) (ap has_room (sym is.1) ∙ room) in
+      (ltb-true element i is.0, is.1, eqb-true n.layout.size (size_of (placed_at ns element) * count) both.0, both.1)
+
+  all_before : (cs : List ℕ) → list_all (λ child. nat_lt child i) cs ≡ true → All (λ child. child < i) cs
+  all_before [] h = All-nil (λ child. child < i)
+  all_before (c ∷ cs) h =
+      let both = and_parts (nat_lt c i) (list_all (λ child. nat_lt child i) cs) h in
+      All-cons (λ child. child < i) c cs (ltb-true c i both.0) (all_before cs both.1)
+
+  pub fields_node : (children : Vec ℕ Global) → n.shape ≡ Fields children →
+      All (λ child. child < i) children.items × (placed_at ns i ≡ fields n.layout (parts_at (offsets_of n.layout.fields) (all_at ns children.items)))
+      × (have_room n.layout.size (parts_at (offsets_of n.layout.fields) (all_at ns children.items)) ≡ true)
+  fields_node children e =
+      let is = placed_at-node ns well i n (Fields children) lt at e in
+      (all_before children.items is.0, is.1, ap has_room (sym is.1) ∙ room)
+
+-- what repeats an element's runs are the array's places
+pub places_of_elements : (layout : Layout) (count : ℕ) (element : Placed) (runs : List Run) → ((k : ℕ) → covers runs k ≡ is_data_place element k) → (k : ℕ) →
+    repeats runs count (size_of element) k ≡ is_data_place (elements layout count element) k
+places_of_elements layout count element runs same k = ap (λ b. nat_lt (k / size_of element) count && b) (same (k % size_of element))
+
+-- an array of nothing has no place
+pub places_of_none : (layout : Layout) (element : Placed) (k : ℕ) → false ≡ is_data_place (elements layout 0 element) k
+places_of_none layout element k = sym (ap (λ b. b && is_data_place element (k % size_of element)) (le-ltb (k / size_of element) 0 (omega arith)))
+
+-- runs of a type's places end inside it
+pub runs_inside : (placed : Placed) (runs : List Run) → has_room placed ≡ true → Ascend 0 runs → ((k : ℕ) → covers runs k ≡ is_data_place placed k) → All (λ run. run.end ≤ size_of placed) runs
+runs_inside placed runs room ascend same = ends_inside 0 (size_of placed) runs ascend (λ k h. within_room placed k room (sym (same k) ∙ h))
+
+or_shift : (a b c : Bool) → (a || (b || c)) ≡ ((a || b) || c)
+or_shift true b c = refl
+or_shift false b c = refl
+
+-- one part more
+parts_at-push : (os : List ℕ) (ps : List Placed) (o : ℕ) (p : Placed) (k : ℕ) → length os ≡ length ps →
+    is_place_of_part (parts_at (os ++ o ∷ []) (ps ++ p ∷ [])) k ≡ (is_place_of_part (parts_at os ps) k || (nat_le o k && is_data_place p (k - o)))
+parts_at-push [] [] o p k same = or-false (nat_le o k && is_data_place p (k - o))
+parts_at-push [] (q ∷ ps) o p k same = absurd (omega arith)
+parts_at-push (r ∷ os) [] o p k same = absurd (omega arith)
+parts_at-push (r ∷ os) (q ∷ ps) o p k same =
+    ap (λ b. (nat_le r k && is_data_place q (k - r)) || b) (parts_at-push os ps o p k (omega arith))
+    ∙ or_shift (nat_le r k && is_data_place q (k - r)) (is_place_of_part (parts_at os ps) k) (nat_le o k && is_data_place p (k - o))
+
+-- the first parts, and one more
+pub parts_at-more : (os : List ℕ) (ps : List Placed) (n k : ℕ) → n < length os → n < length ps →
+    is_place_of_part (parts_at (take (n + 1) os) (take (n + 1) ps)) k
+    ≡ (is_place_of_part (parts_at (take n os) (take n ps)) k || (nat_le (get_or os n 0) k && is_data_place (get_or ps n nothing) (k - get_or os n 0)))
+parts_at-more os ps n k lt below =
+    ap (λ xs. is_place_of_part (parts_at xs (take (n + 1) ps)) k) (take_more os n 0 lt)
+    ∙ ap (λ xs. is_place_of_part (parts_at (take n os ++ get_or os n 0 ∷ []) xs) k) (take_more ps n nothing below)
+    ∙ parts_at-push (take n os) (take n ps) (get_or os n 0) (get_or ps n nothing) k (length-take-le n os (omega arith) ∙ sym (length-take-le n ps (omega arith)))
+
+-- as many offsets as types as there are of both
+pub parts_at-all : (os : List ℕ) (ps : List Placed) (n : ℕ) → n ≡ min (length os) (length ps) → parts_at (take n os) (take n ps) ≡ parts_at os ps
+parts_at-all [] ps n e =
+    let none : n ≡ 0 = omega arith in
+    ap (λ m. parts_at (take m []) (take m ps)) none
+parts_at-all (o ∷ os) [] n e =
+    let none : n ≡ 0 = omega arith in
+    ap (λ m. parts_at (take m (o ∷ os)) (take m [])) none
+parts_at-all (o ∷ os) (p ∷ ps) zero e = absurd (omega arith)
+parts_at-all (o ∷ os) (p ∷ ps) (suc n) e = ap (part o p) (parts_at-all os ps n (omega arith))
+
+-- the n-th field: it comes before the node, ends inside it, and so do its own parts
+module _ (ns : List Node) (os children : List ℕ) (n : ℕ) (lt : n < length os) (below : n < length children) where
+  child_at : get_or (all_at ns children) n nothing ≡ placed_at ns (get_or children n 0)
+  child_at = get_or-map (placed_at ns) children n 0 nothing below
+
+  as_many : n < length (all_at ns children)
+  as_many = omega (arith, below, length-map children (placed_at ns))
+
+  pub field_at : (size node : ℕ) → All (λ child. child < node) children → have_room size (parts_at os (all_at ns children)) ≡ true →
+      (get_or children n 0 < node) × (get_or os n 0 + size_of (placed_at ns (get_or children n 0)) ≤ size) × (has_room (placed_at ns (get_or children n 0)) ≡ true)
+  field_at size node before room =
+      let at = room_at size os (all_at ns children) n room lt as_many in
+      (before n 0 below, subst (λ p. get_or os n 0 + size_of p ≤ size) child_at at.0, subst (λ p. has_room p ≡ true) child_at at.1)
+
+  pub fields_more : (k : ℕ) →
+      is_place_of_part (parts_at (take (n + 1) os) (take (n + 1) (all_at ns children))) k
+      ≡ (is_place_of_part (parts_at (take n os) (take n (all_at ns children))) k || (nat_le (get_or os n 0) k && is_data_place (placed_at ns (get_or children n 0)) (k - get_or os n 0)))
+  fields_more k =
+      parts_at-more os (all_at ns children) n k lt as_many
+      ∙ ap (λ p. is_place_of_part (parts_at (take n os) (take n (all_at ns children))) k || (nat_le (get_or os n 0) k && is_data_place p (k - get_or os n 0))) child_at
+
+-- the gaps between the runs of a type's places are its padding
+pub padding_same : (placed : Placed) (runs : List Run) → ((k : ℕ) → covers runs k ≡ is_data_place placed k) → runs_from (is_beside runs) None 0 (size_of placed) ≡ padding_of placed
+padding_same placed runs same = ap (λ p. runs_from p None 0 (size_of placed)) (λ i k. not (same k i))

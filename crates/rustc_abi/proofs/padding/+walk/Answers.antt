@@ -1,0 +1,152 @@
+use Rattle.std.proofs.Common.{◌≡◌, ℕ, ◌++◌, ◌+◌, ◌*◌, ◌<◌, ◌≤◌, List, [], ◌∷◌, length, get_or, take, map, arith, ap, sym, ◌∙◌, subst, All}
+use Rattle.std.proofs.lemmas.Result.{IfOk-weaker}
+use Rattle.rustc_abi.specs.Placed.{Placed, elements, size_of}
+use Rattle.rustc_abi.specs.Places.{is_data_place, is_place_of_part}
+use Rattle.rustc_abi.specs.declared.runs.Run.{Run}
+use Rattle.abi_calc.specs.Apart.{offsets_of}
+use Rattle.rustc_abi.specs.Adding.{all_at}
+use Rattle.std.specs.Prelude.{nat_lt, nat_le, ◌&&◌, ◌||◌, ◌-◌, Bool}
+use Rattle.rustc_abi.specs.Nodes.{placed_at, parts_at}
+use Rattle.rustc_abi.specs.Runs.{covers, repeats, shifted}
+use Rattle.std.proofs.lemmas.List.{length-map, length-append}
+use Rattle.std.proofs.lemmas.List.Elements.{All-append}
+use Rattle.rustc_abi.proofs.WalkLemmas.{covers-put, some-shifted}
+use Rattle.std.proofs.lemmas.Slice.Zip.{zip_turn, zip_end}
+use Rattle.rustc_abi.proofs.RoomLemmas.{each_some}
+use Rattle.rustc_abi.proofs.PaddingLemmas.{scalar_node, elements_node, fields_node, places_of_elements, places_of_none, runs_inside, field_at, fields_more, parts_at-all}
+use Rattle.rustc_abi.proofs.padding.+walk.Goals as goal
+
+pub data_runs-layout_at-requires : goal.data_runs-layout_at-requires
+data_runs-layout_at-requires t c =
+    let facts = elements_node c.args.nodes.now c.requires.well c.args.node _ c.requires.there c.index-nodes-node.is c.requires.room c.in-Elements.count c.in-Elements.element c.in-Elements.is in
+    omega (arith, facts.0)
+
+pub data_runs-data_runs-requires : goal.data_runs-data_runs-requires
+data_runs-data_runs-requires t c =
+    let facts = elements_node c.args.nodes.now c.requires.well c.args.node _ c.requires.there c.index-nodes-node.is c.requires.room c.in-Elements.count c.in-Elements.element c.in-Elements.is in
+    (omega (arith, facts.0, c.decreases), (omega (arith, facts.0), (c.requires.well, facts.3)))
+
+pub data_runs-returns-then-count-eq0-clause-covers : goal.data_runs-returns-then-count-eq0-clause-covers
+data_runs-returns-then-count-eq0-clause-covers t c k =
+    let facts = elements_node c.args.nodes.now c.requires.well c.args.node _ c.requires.there c.index-nodes-node.is c.requires.room c.in-Elements.count c.in-Elements.element c.in-Elements.is in
+    ap (λ rs. covers rs k) c.new.ensures.items ∙ places_of_none c.index-nodes-node.result.layout (placed_at c.args.nodes.now c.in-Elements.element) k
+    ∙ ap (λ n. is_data_place (elements c.index-nodes-node.result.layout n (placed_at c.args.nodes.now c.in-Elements.element)) k) (sym c.if-count-eq0.true)
+    ∙ ap (λ p. is_data_place p k) (sym facts.1)
+
+pub data_runs-repeated-requires-clause-fits : goal.data_runs-repeated-requires-clause-fits
+data_runs-repeated-requires-clause-fits t c =
+    let facts = elements_node c.args.nodes.now c.requires.well c.args.node _ c.requires.there c.index-nodes-node.is c.requires.room c.in-Elements.count c.in-Elements.element c.in-Elements.is in
+    let size : c.bytes.result ≡ size_of (placed_at c.args.nodes.now c.in-Elements.element) = rw c.bytes.ensures (ap (λ l. l.size) c.layout_at.ensures) in
+    let all : size_of (placed_at c.args.nodes.now c.in-Elements.element) * c.in-Elements.count < 18446744073709551616 = omega (arith, facts.2, c.bytes-size.ensures, c.bytes-size.type_inv) in
+    rw size omega (arith, all)
+
+pub data_runs-repeated-requires-clause-inside : goal.data_runs-repeated-requires-clause-inside
+data_runs-repeated-requires-clause-inside t c =
+    let facts = elements_node c.args.nodes.now c.requires.well c.args.node _ c.requires.there c.index-nodes-node.is c.requires.room c.in-Elements.count c.in-Elements.element c.in-Elements.is in
+    let size : c.bytes.result ≡ size_of (placed_at c.args.nodes.now c.in-Elements.element) = rw c.bytes.ensures (ap (λ l. l.size) c.layout_at.ensures) in
+    rw c.deref.ensures.value (rw size (runs_inside (placed_at c.args.nodes.now c.in-Elements.element) c.in_ok-runs-in-Elements.runs.items facts.3 c.in_ok-runs-in-Elements.ensures.ascend c.in_ok-runs-in-Elements.ensures.covers))
+
+pub data_runs-repeated-requires-clause-some : goal.data_runs-repeated-requires-clause-some
+data_runs-repeated-requires-clause-some t c = rw c.deref.ensures.value (each_some 0 _ c.in_ok-runs-in-Elements.ensures.ascend)
+
+pub data_runs-fields_runs-requires : goal.data_runs-fields_runs-requires
+data_runs-fields_runs-requires t c =
+    let facts = fields_node c.args.nodes.now c.requires.well c.args.node _ c.requires.there c.index-nodes-node.is c.requires.room c.in-Fields.children c.in-Fields.is in
+    (omega (arith, c.decreases), (c.requires.there, (rw c.deref-in-Fields.ensures.value facts.0, (c.requires.well, rw c.bytes-size.ensures (rw c.offsets.ensures (rw c.deref-in-Fields.ensures.value facts.2))))))
+
+pub data_runs-returns-in-Scalar-clause-covers : goal.data_runs-returns-in-Scalar-clause-covers
+data_runs-returns-in-Scalar-clause-covers t c =
+    let is = scalar_node c.args.nodes.now c.requires.well c.args.node _ c.requires.there c.index-nodes-node.is c.requires.room c.in-Scalar.field-0 c.in-Scalar.is in
+    IfOk-weaker c.whole.result _ _ (λ runs same k. same k ∙ ap (nat_lt k) c.bytes-size.ensures ∙ ap (λ p. is_data_place p k) (sym is)) c.whole.ensures.covers
+
+pub data_runs-returns-in_ok-runs-in-Elements-clause-covers : goal.data_runs-returns-in_ok-runs-in-Elements-clause-covers
+data_runs-returns-in_ok-runs-in-Elements-clause-covers t c =
+    let facts = elements_node c.args.nodes.now c.requires.well c.args.node _ c.requires.there c.index-nodes-node.is c.requires.room c.in-Elements.count c.in-Elements.element c.in-Elements.is in
+    let size : c.bytes.result ≡ size_of (placed_at c.args.nodes.now c.in-Elements.element) = rw c.bytes.ensures (ap (λ l. l.size) c.layout_at.ensures) in
+    let placed : Placed = placed_at c.args.nodes.now c.in-Elements.element in
+    IfOk-weaker c.repeated.result _ _
+    (λ runs same k. same k
+    ∙ ap (λ rs. repeats rs c.in-Elements.count c.bytes.result k) c.deref.ensures.value
+    ∙ ap (λ n. repeats c.in_ok-runs-in-Elements.runs.items c.in-Elements.count n k) size
+    ∙ places_of_elements c.index-nodes-node.result.layout c.in-Elements.count placed c.in_ok-runs-in-Elements.runs.items c.in_ok-runs-in-Elements.ensures.covers k
+    ∙ ap (λ p. is_data_place p k) (sym facts.1))
+    c.repeated.ensures.covers
+
+pub data_runs-returns-in-Fields-clause-covers : goal.data_runs-returns-in-Fields-clause-covers
+data_runs-returns-in-Fields-clause-covers t c =
+    let facts = fields_node c.args.nodes.now c.requires.well c.args.node _ c.requires.there c.index-nodes-node.is c.requires.room c.in-Fields.children c.in-Fields.is in
+    IfOk-weaker c.fields_runs.result _ _
+    (λ runs same k. same k
+    ∙ ap (λ os. is_place_of_part (parts_at os (all_at c.args.nodes.now c.deref-in-Fields.result.now)) k) c.offsets.ensures
+    ∙ ap (λ cs. is_place_of_part (parts_at (offsets_of c.index-nodes-node.result.layout.fields) (all_at c.args.nodes.now cs)) k) c.deref-in-Fields.ensures.value
+    ∙ ap (λ p. is_data_place p k) (sym facts.1))
+    c.fields_runs.ensures.covers
+
+pub fields_runs-data_runs-requires : goal.fields_runs-data_runs-requires
+fields_runs-data_runs-requires t c =
+    let first : c.into_iter-offset-iterator.result.a.rest.now ≡ c.args.offsets.now = ap (λ z. z.a.rest.now) c.into_iter-offset-iterator.ensures.into_iter_gives ∙ ap (λ i. i.rest.now) c.zip-offset-items.ensures.first ∙ c.iter.ensures.rest in
+    let back : c.zip-offset-items.result.b.rest.now ≡ c.args.children.now = c.zip-offset-items.ensures.second.0 in
+    let second : c.into_iter-offset-iterator.result.b.rest.now ≡ c.args.children.now = ap (λ z. z.b.rest.now) c.into_iter-offset-iterator.ensures.into_iter_gives ∙ back in
+    let turn = zip_turn c.args.offsets.now c.args.children.now c.loop-offset.yielded c.into_iter-offset-iterator.result c.loop-offset.offset-iterator c.next.new.self c.next.result first second c.loop-offset.yielded_by (c.in-Some.offset, c.in-Some.child) c.in-Some.is c.next.ensures.steps in
+    let at = field_at c.args.nodes.now c.args.offsets.now c.args.children.now (length c.loop-offset.yielded) turn.0 turn.1 c.args.size c.args.node c.requires.before c.requires.room in
+    let child : c.in-Some.child.now ≡ get_or c.args.children.now (length c.loop-offset.yielded) 0 = turn.3 0 in
+    (omega (arith, child, at.0, c.decreases), (omega (arith, child, at.0, c.requires.there), (c.requires.well, rw child at.2)))
+
+pub fields_runs-put_shifted-requires-clause-fits : goal.fields_runs-put_shifted-requires-clause-fits
+fields_runs-put_shifted-requires-clause-fits t c =
+    let first : c.into_iter-offset-iterator.result.a.rest.now ≡ c.args.offsets.now = ap (λ z. z.a.rest.now) c.into_iter-offset-iterator.ensures.into_iter_gives ∙ ap (λ i. i.rest.now) c.zip-offset-items.ensures.first ∙ c.iter.ensures.rest in
+    let back : c.zip-offset-items.result.b.rest.now ≡ c.args.children.now = c.zip-offset-items.ensures.second.0 in
+    let second : c.into_iter-offset-iterator.result.b.rest.now ≡ c.args.children.now = ap (λ z. z.b.rest.now) c.into_iter-offset-iterator.ensures.into_iter_gives ∙ back in
+    let turn = zip_turn c.args.offsets.now c.args.children.now c.loop-offset.yielded c.into_iter-offset-iterator.result c.loop-offset.offset-iterator c.next.new.self c.next.result first second c.loop-offset.yielded_by (c.in-Some.offset, c.in-Some.child) c.in-Some.is c.next.ensures.steps in
+    let at = field_at c.args.nodes.now c.args.offsets.now c.args.children.now (length c.loop-offset.yielded) turn.0 turn.1 c.args.size c.args.node c.requires.before c.requires.room in
+    let child : c.in-Some.child.now ≡ get_or c.args.children.now (length c.loop-offset.yielded) 0 = turn.3 0 in
+    let offset : c.in-Some.offset.now ≡ get_or c.args.offsets.now (length c.loop-offset.yielded) 0 = turn.2 0 in
+    let placed : Placed = placed_at c.args.nodes.now (get_or c.args.children.now (length c.loop-offset.yielded) 0) in
+    let inside : All (λ run. run.end ≤ size_of placed) c.in_ok-runs.runs.items = runs_inside placed c.in_ok-runs.runs.items at.2 c.in_ok-runs.ensures.ascend (λ k. c.in_ok-runs.ensures.covers k ∙ ap (λ n. is_data_place (placed_at c.args.nodes.now n) k) child) in
+    rw c.deref.ensures.value (λ k d lt. omega (arith, inside k d lt, at.1, offset, c.bytes.ensures, c.ranges.size.fits))
+
+pub fields_runs-put_shifted-requires-clause-some : goal.fields_runs-put_shifted-requires-clause-some
+fields_runs-put_shifted-requires-clause-some t c = rw c.deref.ensures.value (each_some 0 _ c.in_ok-runs.ensures.ascend)
+
+pub fields_runs-loop-offset-preserved : goal.fields_runs-loop-offset-preserved
+fields_runs-loop-offset-preserved t c =
+    let first : c.into_iter-offset-iterator.result.a.rest.now ≡ c.args.offsets.now = ap (λ z. z.a.rest.now) c.into_iter-offset-iterator.ensures.into_iter_gives ∙ ap (λ i. i.rest.now) c.zip-offset-items.ensures.first ∙ c.iter.ensures.rest in
+    let back : c.zip-offset-items.result.b.rest.now ≡ c.args.children.now = c.zip-offset-items.ensures.second.0 in
+    let second : c.into_iter-offset-iterator.result.b.rest.now ≡ c.args.children.now = ap (λ z. z.b.rest.now) c.into_iter-offset-iterator.ensures.into_iter_gives ∙ back in
+    let turn = zip_turn c.args.offsets.now c.args.children.now c.loop-offset.yielded c.into_iter-offset-iterator.result c.loop-offset.offset-iterator c.next.new.self c.next.result first second c.loop-offset.yielded_by (c.in-Some.offset, c.in-Some.child) c.in-Some.is c.next.ensures.steps in
+    let n : ℕ = length c.loop-offset.yielded in
+    let os : List ℕ = c.args.offsets.now in
+    let all : List Placed = all_at c.args.nodes.now c.args.children.now in
+    let runs : List Run = c.in_ok-runs.runs.items in
+    let child : c.in-Some.child.now ≡ get_or c.args.children.now n 0 = turn.3 0 in
+    let offset : c.bytes.result ≡ get_or os n 0 = rw c.bytes.ensures (turn.2 0) in
+    let put : c.put_shifted.new.all.items ≡ c.loop-offset.all.items ++ map (shifted c.bytes.result) runs =
+    c.in_ok-put_shifted.ensures ∙ ap (λ rs. c.loop-offset.all.items ++ map (shifted c.bytes.result) rs) c.deref.ensures.value in
+    let part : ℕ → ℕ → Placed → Bool = λ k o p. nat_le o k && is_data_place p (k - o) in
+    let more : length (c.loop-offset.yielded ++ (c.in-Some.offset, c.in-Some.child) ∷ []) ≡ n + 1 = length-append c.loop-offset.yielded ((c.in-Some.offset, c.in-Some.child) ∷ []) in
+    record {
+      same = λ k.
+          ap (λ rs. covers rs k) put ∙ covers-put c.loop-offset.all.items runs c.bytes.result k
+          ∙ ap (λ b. b || (nat_le c.bytes.result k && covers runs (k - c.bytes.result))) (c.loop-offset.invariant.same k)
+          ∙ ap (λ b. is_place_of_part (parts_at (take n os) (take n all)) k || (nat_le c.bytes.result k && b)) (c.in_ok-runs.ensures.covers (k - c.bytes.result))
+          ∙ ap (λ o. is_place_of_part (parts_at (take n os) (take n all)) k || part k o (placed_at c.args.nodes.now c.in-Some.child.now)) offset
+          ∙ ap (λ i. is_place_of_part (parts_at (take n os) (take n all)) k || part k (get_or os n 0) (placed_at c.args.nodes.now i)) child
+          ∙ sym (fields_more c.args.nodes.now os c.args.children.now n turn.0 turn.1 k)
+          ∙ ap (λ m. is_place_of_part (parts_at (take m os) (take m all)) k) (sym more);
+      some =
+          subst (All (λ run. run.start < run.end)) (sym put)
+          (All-append (λ run. run.start < run.end) c.loop-offset.all.items _ c.loop-offset.invariant.some
+          (some-shifted c.bytes.result runs (each_some 0 runs c.in_ok-runs.ensures.ascend)));
+    }
+
+pub fields_runs-returns-clause-covers : goal.fields_runs-returns-clause-covers
+fields_runs-returns-clause-covers t c =
+    let first : c.into_iter-offset-iterator.result.a.rest.now ≡ c.args.offsets.now = ap (λ z. z.a.rest.now) c.into_iter-offset-iterator.ensures.into_iter_gives ∙ ap (λ i. i.rest.now) c.zip-offset-items.ensures.first ∙ c.iter.ensures.rest in
+    let back : c.zip-offset-items.result.b.rest.now ≡ c.args.children.now = c.zip-offset-items.ensures.second.0 in
+    let second : c.into_iter-offset-iterator.result.b.rest.now ≡ c.args.children.now = ap (λ z. z.b.rest.now) c.into_iter-offset-iterator.ensures.into_iter_gives ∙ back in
+    let end = zip_end c.args.offsets.now c.args.children.now c.loop-offset.yielded c.into_iter-offset-iterator.result c.loop-offset.offset-iterator c.next.new.self c.next.result first second c.loop-offset.yielded_by c.in-None.is c.next.ensures.steps in
+    let as_many = length-map c.args.children.now (placed_at c.args.nodes.now) in
+    IfOk-weaker c.joined.result _ _
+    (λ runs same k. same k ∙ c.loop-offset.invariant.same k
+    ∙ ap (λ parts. is_place_of_part parts k) (parts_at-all c.args.offsets.now (all_at c.args.nodes.now c.args.children.now) (length c.loop-offset.yielded) (omega (arith, end, as_many))))
+    c.joined.ensures.covers

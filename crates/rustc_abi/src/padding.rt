@@ -1,0 +1,139 @@
+//! The padding of a type: the bytes that decide nothing.
+
+ghost use Rattle.std.specs.Prelude.{◌≡◌, ℕ, ◌+◌, ◌*◌, ◌^◌, ◌<◌, ◌≤◌, ◌++◌, All, IfOk, OnOk, length, map, nat_lt, true};
+ghost use Rattle.abi_calc.specs.Apart.{offsets_of};
+ghost use Rattle.rustc_abi.specs.Placed.{size_of, layout_of};
+ghost use Rattle.rustc_abi.specs.Places.{is_data_place, is_place_of_part};
+ghost use Rattle.rustc_abi.specs.Nodes.{parts_at, placed_at};
+ghost use Rattle.rustc_abi.specs.Adding.{all_at, are_nodes};
+ghost use Rattle.rustc_abi.specs.Room.{has_room, have_room};
+ghost use Rattle.rustc_abi.specs.Runs.{covers, shifted, repeats, Ascend};
+
+use crate::lay::layout_at;
+use crate::node::{Node, Shape};
+use crate::runs::{Run, joined};
+use abi_base::Size;
+use abi_index::{FieldIdx, VariantIdx};
+use abi_scalar::{FieldsShape, LayoutData};
+use std::alloc::{AllocError, Global};
+
+/// The offsets of fields that are listed one by one.
+fn offsets(layout: &LayoutData<FieldIdx, VariantIdx>) -> &[Size]
+    ensures { result.now ≡ offsets_of layout.now.fields }
+{
+    match &layout.fields {
+        FieldsShape::Arbitrary {
+            offsets,
+            in_memory_order: _,
+        } => offsets.as_slice().as_raw(),
+        _ => &[],
+    }
+}
+
+/// All bytes of the size, as one run where there are any.
+fn whole(alloc: Global, size: u64) -> Result<Vec<Run>, AllocError>
+    ensures covers { IfOk result (λ runs. (k : ℕ) → covers runs.items k ≡ nat_lt k size) }
+    ensures ascend { IfOk result (λ runs. Ascend 0 runs.items) }
+{
+    let mut runs = Vec::new(alloc);
+    if size > 0 {
+        runs.push(Run {
+            start: 0,
+            end: size,
+        })?;
+    }
+    Ok(runs)
+}
+
+/// Puts runs behind the others, each moved on by the offset.
+fn put_shifted(all: &mut Vec<Run>, runs: &[Run], offset: u64) -> Result<(), AllocError>
+    requires fits { All (λ run. offset + run.end < 2 ^ 64) runs.now }
+    requires some { All (λ run. run.start < run.end) runs.now }
+    ensures { OnOk result (all.new.items ≡ all.old.items ++ map (shifted offset) runs.now) }
+{
+    for run in runs {
+        all.push(Run {
+            start: offset + run.start,
+            end: offset + run.end,
+        })?;
+    }
+    Ok(())
+}
+
+/// The runs of so many elements, each with these runs: one where each byte of an element is covered.
+fn repeated(alloc: Global, runs: &[Run], count: u64, size: u64) -> Result<Vec<Run>, AllocError>
+    requires fits { count * size < 2 ^ 64 }
+    requires inside { All (λ run. run.end ≤ size) runs.now }
+    requires some { All (λ run. run.start < run.end) runs.now }
+    ensures covers { IfOk result (λ made. (k : ℕ) → covers made.items k ≡ repeats runs.now count size k) }
+    ensures ascend { IfOk result (λ made. Ascend 0 made.items) }
+{
+    if runs.is_empty() {
+        return Ok(Vec::new(alloc));
+    }
+    if runs[0].start == 0 && runs[0].end == size {
+        return whole(alloc, count * size);
+    }
+    let mut all = Vec::new(alloc);
+    for i in 0..count {
+        put_shifted(&mut all, runs, i * size)?;
+    }
+    joined(alloc, all)
+}
+
+/// The runs of a node's data places.
+#[cycle(walk)]
+pub(crate) fn data_runs(alloc: Global, nodes: &[Node], node: usize) -> Result<Vec<Run>, AllocError>
+    requires there { node < length nodes.now }
+    requires well { are_nodes 0 nodes.now ≡ true }
+    requires room { has_room (placed_at nodes.now node) ≡ true }
+    ensures covers { IfOk result (λ runs. (k : ℕ) → covers runs.items k ≡ is_data_place (placed_at nodes.now node) k) }
+    ensures ascend { IfOk result (λ runs. Ascend 0 runs.items) }
+{
+    let here = &nodes[node];
+    let size = here.layout.size.bytes();
+    match &here.shape {
+        Shape::Scalar(_) => whole(alloc, size),
+        Shape::Elements { count, element } => {
+            if *count == 0 {
+                return Ok(Vec::new(alloc));
+            }
+            let runs = data_runs(alloc, nodes, *element)?;
+            repeated(
+                alloc,
+                &runs,
+                *count,
+                layout_at(nodes, *element).size.bytes(),
+            )
+        }
+        Shape::Fields(children) => {
+            fields_runs(alloc, nodes, node, size, offsets(&here.layout), children)
+        }
+    }
+}
+
+/// The runs of the data places of fields at these offsets, each as a node before this one.
+#[cycle(walk)]
+fn fields_runs(
+    alloc: Global,
+    nodes: &[Node],
+    node: usize,
+    size: u64,
+    offsets: &[Size],
+    children: &[usize],
+) -> Result<Vec<Run>, AllocError>
+    requires there { node < length nodes.now }
+    requires before { All (λ child. child < node) children.now }
+    requires well { are_nodes 0 nodes.now ≡ true }
+    requires room { have_room size (parts_at offsets.now (all_at nodes.now children.now)) ≡ true }
+    ensures covers { IfOk result (λ runs. (k : ℕ) →
+        covers runs.items k ≡ is_place_of_part (parts_at offsets.now (all_at nodes.now children.now)) k) }
+    ensures ascend { IfOk result (λ runs. Ascend 0 runs.items) }
+{
+    let mut all = Vec::new(alloc);
+    for (offset, child) in offsets.iter().zip(children) {
+        let runs = data_runs(alloc, nodes, *child)?;
+        put_shifted(&mut all, &runs, offset.bytes())?;
+    }
+    joined(alloc, all)
+}
