@@ -1,9 +1,11 @@
 //! The layout of two scalars.
 
-ghost use Rattle.std.specs.Prelude.{◌≡◌, [], ◌∷◌, IfOk};
-ghost use Rattle.abi_scalar.specs.Scalar.{IsReadable};
+ghost use Rattle.std.specs.Prelude.{◌≡◌, ◌<◌, [], ◌∷◌, IfOk};
+ghost use Rattle.abi_base.specs.DataLayout.{IsLawfulDataLayout, size_bound};
+ghost use Rattle.abi_scalar.specs.Scalar.{IsReadable, IsLawfulScalar};
+ghost use Rattle.abi_scalar.specs.Lawful.{IsLawfulLayout};
 ghost use Rattle.abi_scalar.specs.Niche.{niche_at};
-ghost use Rattle.abi_scalar.specs.Pair.{HasRoomForPair, second_offset, larger_niche, pair_layout};
+ghost use Rattle.abi_scalar.specs.Pair.{HasRoomForPair, second_offset, pair_size, larger_niche, pair_layout};
 
 use crate::backend_repr::BackendRepr;
 use crate::fields_shape::FieldsShape;
@@ -61,7 +63,12 @@ impl<FieldIdx: Idx, VariantIdx: Idx> LayoutData<FieldIdx, VariantIdx> {
         requires first { IsReadable (C.target cx.now) a }
         requires second { IsReadable (C.target cx.now) b }
         requires room { HasRoomForPair (C.target cx.now) a b }
-        ensures { IfOk result (λ layout. layout ≡ pair_layout (VariantIdx.at 0) (FieldIdx.at 0) (FieldIdx.at 1) (C.target cx.now) a b) }
+        ensures exact { IfOk result (λ layout.
+            layout ≡ pair_layout (VariantIdx.at 0) (FieldIdx.at 0) (FieldIdx.at 1) (C.target cx.now) a b) }
+        // Where the size is below the data layout's bound.
+        ensures lawful { IsLawfulDataLayout (C.target cx.now) → IsLawfulScalar (C.target cx.now) a
+            → IsLawfulScalar (C.target cx.now) b → pair_size (C.target cx.now) a b < size_bound (C.target cx.now)
+            → IfOk result (IsLawfulLayout (C.target cx.now)) }
     {
         let own = cx.data_layout().aggregate_align;
         let align = a.default_align(cx).max(b.default_align(cx)).max(own);
