@@ -2,9 +2,10 @@
 use Rattle.std.proofs.Common.{◌≡◌, ℕ, ◌^◌, ◌<◌, ◌≤◌, inl, inr, arith, sym, subst, refl, Bool, true, false, ◌==◌, Some, None, IfSome, lit≤, lit<, eq-eqb, zero, suc, if◌then◌else◌}
 use Rattle.std.proofs.Math.Nat.{two-pow-succ}
 use Rattle.std.proofs.lemmas.Nat.{pow_pos}
-use Rattle.abi_scalar.specs.declared.backend_repr.BackendRepr.TheVariants.{Scalar as OneScalar}
+use Rattle.abi_scalar.specs.declared.backend_repr.BackendRepr.TheVariants.{Scalar as OneScalar, Memory}
+use Rattle.abi_base.specs.declared.integer.Integer.TheVariants.{I8}
 use Rattle.std.specs.Int.{◌∣◌}
-use Rattle.std.proofs.lemmas.Nat.Gcd.{le_of_dvd}
+use Rattle.std.proofs.lemmas.Nat.Gcd.{le_of_dvd, dvd-zero}
 use Rattle.abi_base.specs.declared.data_layout.TargetDataLayout.{TargetDataLayout}
 use Rattle.abi_base.specs.declared.primitive.Primitive.{Primitive}
 use Rattle.abi_base.specs.declared.primitive.Primitive.TheVariants.{Int, Float, Pointer}
@@ -81,5 +82,21 @@ scalar_lawful dl s l r law h size align niche view tag =
       niche = rw (niche, size) (niche_lawful dl s h);
       view = rw (view, size) (h, refl);
       niche_of_view = rw (niche, view) (niche_viewed dl s);
+      tag = tag;
+    }
+
+-- a layout of no bytes, aligned as an `i8`, is lawful
+pub empty_lawful : {F V : Type 0} (dl : TargetDataLayout) (sized : Bool) (l : LayoutData F V) → IsLawfulDataLayout dl
+    → l.size ≡ 0 → l.align.abi ≡ dl.i8_align → l.largest_niche ≡ None → l.backend_repr ≡ Memory sized
+    → HasLawfulTag dl l.variants → IsLawfulLayout dl l
+empty_lawful dl sized l law size align niche view tag =
+    let byte : 2 ^ dl.i8_align ∣ 1 = law.integers I8 in
+    record {
+      multiple = rw size (dvd-zero (2 ^ l.align.abi));
+      bound = omega (arith, bound_above dl law, few, size);
+      limit = omega (arith, below_power dl.i8_align, le_of_dvd (omega arith) byte, align);
+      niche = rw niche tt;
+      view = rw view tt;
+      niche_of_view = rw niche tt;
       tag = tag;
     }

@@ -5,3 +5,4 @@ pub mod ReserveLemmas
 pub mod CountLemmas
 pub mod LeastLemmas
 pub mod NicheLemmas
+pub mod PairLemmas

@@ -1,5 +1,5 @@
 -- When a scalar has a niche.
-use Rattle.std.proofs.Common.{◌≡◌, ℕ, ◌==◌, ◌↔◌, Bool, true, false, Option, Some, None, IsSome, if◌then◌else◌, eq-eqb, sym, ◌∙◌, refl}
+use Rattle.std.proofs.Common.{subst, ◌≡◌, ℕ, ◌==◌, ◌↔◌, Bool, true, false, Option, Some, None, IsSome, if◌then◌else◌, eq-eqb, sym, ◌∙◌, refl}
 use Rattle.std.proofs.lemmas.Bool.{eqb-true, false≢true}
 use Rattle.abi_base.specs.declared.data_layout.TargetDataLayout.{TargetDataLayout}
 use Rattle.abi_base.specs.Primitive.{primitive_size}
@@ -8,7 +8,7 @@ use Rattle.abi_scalar.specs.declared.scalar.Scalar.{Scalar}
 use Rattle.abi_scalar.specs.declared.scalar.Scalar.TheVariants.{Initialized, Union}
 use Rattle.abi_scalar.specs.Range.{free_count}
 use Rattle.abi_scalar.specs.Scalar.{IsReadable}
-use Rattle.abi_scalar.specs.Niche.{niche_at, HasFreeNumber}
+use Rattle.abi_scalar.specs.Niche.{niche_at, HasFreeNumber, IsReadableNiche}
 use Rattle.abi_scalar.proofs.RangeLemmas.{free_after, none_free}
 
 -- a choice by a test is there where the test fails
@@ -31,3 +31,17 @@ niche_there dl offset (Union value) r = (λ t. absurd (false≢true t), λ p. ab
 pub niche_there_at : (dl : TargetDataLayout) (offset : ℕ) (s : Scalar) (found : Option Niche) → IsReadable dl s
     → found ≡ niche_at dl offset s → IsSome found ↔ HasFreeNumber dl s
 niche_there_at dl offset s found r e = rw e (niche_there dl offset s r)
+
+chosen : (b : Bool) {A : Type 0} (x y : A) → (if b then None else Some x) ≡ Some y → x ≡ y
+chosen true x y e = cc
+chosen false x y e = cc
+
+-- the niche of a scalar that can be asked for its numbers can be asked too
+pub niche_readable : (dl : TargetDataLayout) (offset : ℕ) (s : Scalar) (niche : Niche) → IsReadable dl s
+    → Some niche ≡ niche_at dl offset s → IsReadableNiche dl niche
+niche_readable dl offset (Initialized value range) niche r e =
+    let own : Niche = record { offset = offset; value = value; valid_range = range } in
+    let P : Niche → Type 0 = λ n. IsReadableNiche dl n in
+    subst P (chosen (free_count (primitive_size dl value) range == 0) own niche (sym e))
+    (record { known = r.known; some = r.some; most = r.most; within = r.within })
+niche_readable dl offset (Union value) niche r e = cc

@@ -12,6 +12,8 @@ pub mod Niche
 pub mod Reserve
 pub mod Lawful
 pub mod Simple
+pub mod Pair
 pub mod Lending
 pub mod View
 pub mod Layout
+pub mod Shape

@@ -1,7 +1,12 @@
 //! Where the fields of a type lie.
 
+ghost use Rattle.std.specs.Prelude.{◌≡◌, ◌≤◌, ◌<◌, ◌^◌};
+ghost use Rattle.std.specs.Option.{SomeIff};
+ghost use Rattle.abi_scalar.specs.Shape.{field_count, field_offset};
+
 use abi_base::Size;
-use abi_index::{Idx, IndexVec};
+use abi_index::{Idx, IndexVec, TryClone};
+use std::alloc::{AllocError, Global};
 use std::marker::Model;
 
 /// How many fields a union has: at least one.
@@ -22,6 +27,26 @@ impl Model for FieldCount {
     ghost invariant = { λ a. 1 ≤ a.count };
 }
 
+impl FieldCount {
+    /// So many fields; None for no fields.
+    pub fn new(count: usize) -> Option<FieldCount>
+        ensures { SomeIff result (1 ≤ count) count }
+    {
+        if count == 0 {
+            None
+        } else {
+            Some(FieldCount { count })
+        }
+    }
+
+    /// How many fields there are.
+    pub fn get(self) -> usize
+        ensures { result ≡ self }
+    {
+        self.count
+    }
+}
+
 /// Where the fields of a type lie.
 #[derive(Drop, PartialEq, Eq, Hash, Debug)]
 pub enum FieldsShape<FieldIdx: Idx> {
@@ -39,4 +64,60 @@ pub enum FieldsShape<FieldIdx: Idx> {
         offsets: IndexVec<FieldIdx, Size>,
         in_memory_order: IndexVec<u32, FieldIdx>,
     },
+}
+
+impl<FieldIdx: Idx> FieldsShape<FieldIdx> {
+    /// How many fields there are.
+    pub fn count(&self) -> usize
+        ensures { result ≡ field_count self.now }
+    {
+        match self {
+            FieldsShape::Primitive => 0,
+            FieldsShape::Union(count) => count.get(),
+            FieldsShape::Array { stride: _, count } => *count as usize,
+            FieldsShape::Arbitrary {
+                offsets,
+                in_memory_order: _,
+            } => offsets.len(),
+        }
+    }
+
+    /// How many bytes lie before the field, in source order.
+    pub fn offset(&self, i: usize) -> Size
+        requires within { i < field_count self.now }
+        requires fits { field_offset self.now i < 2 ^ 64 }
+        ensures { result ≡ field_offset self.now i }
+    {
+        match self {
+            FieldsShape::Primitive => unreachable!(),
+            FieldsShape::Union(_) => Size::ZERO,
+            FieldsShape::Array { stride, count: _ } => *stride * (i as u64),
+            FieldsShape::Arbitrary {
+                offsets,
+                in_memory_order: _,
+            } => offsets.as_slice().as_raw()[i],
+        }
+    }
+}
+
+impl<FieldIdx: Idx> TryClone for FieldsShape<FieldIdx> {
+    fn try_clone(&self, alloc: Global) -> Result<Self, AllocError> {
+        Ok(match self {
+            FieldsShape::Primitive => FieldsShape::Primitive,
+            FieldsShape::Union(count) => FieldsShape::Union(*count),
+            FieldsShape::Array { stride, count } => {
+                FieldsShape::Array {
+                    stride: *stride,
+                    count: *count,
+                }
+            }
+            FieldsShape::Arbitrary {
+                offsets,
+                in_memory_order,
+            } => FieldsShape::Arbitrary {
+                offsets: offsets.try_clone(alloc)?,
+                in_memory_order: in_memory_order.try_clone(alloc)?,
+            },
+        })
+    }
 }

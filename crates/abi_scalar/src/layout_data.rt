@@ -5,7 +5,8 @@ use crate::fields_shape::FieldsShape;
 use crate::niche::Niche;
 use crate::variants::Variants;
 use abi_base::{AbiAlign, Align, Size};
-use abi_index::{Hash64, Idx};
+use abi_index::{Hash64, Idx, TryClone};
+use std::alloc::{AllocError, Global};
 
 /// The layout of a type: how large it is, how it is aligned, and where its parts lie.
 #[derive(Drop, PartialEq, Eq, Hash)]
@@ -30,4 +31,22 @@ pub struct LayoutData<FieldIdx: Idx, VariantIdx: Idx> {
     pub repr_c: bool,
     /// A hash of the parts, to seed a shuffle of fields with.
     pub randomization_seed: Hash64,
+}
+
+impl<FieldIdx: Idx, VariantIdx: Idx> TryClone for LayoutData<FieldIdx, VariantIdx> {
+    fn try_clone(&self, alloc: Global) -> Result<Self, AllocError> {
+        Ok(LayoutData {
+            fields: self.fields.try_clone(alloc)?,
+            variants: self.variants.try_clone(alloc)?,
+            backend_repr: self.backend_repr,
+            largest_niche: self.largest_niche,
+            uninhabited: self.uninhabited,
+            align: self.align,
+            size: self.size,
+            max_repr_align: self.max_repr_align,
+            unadjusted_abi_align: self.unadjusted_abi_align,
+            repr_c: self.repr_c,
+            randomization_seed: self.randomization_seed,
+        })
+    }
 }

@@ -11,6 +11,7 @@ mod layout_calls;
 mod layout_data;
 mod least_range;
 mod niche;
+mod pair;
 mod repr;
 mod reserve;
 mod scalar;

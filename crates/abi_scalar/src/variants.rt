@@ -1,9 +1,12 @@
 //! The variants of a type, and how its bytes name one.
 
+ghost use Rattle.std.specs.Prelude.{◌≡◌, ◌<◌, ◌↔◌, IsTrue, length};
+
 use crate::backend_repr::BackendRepr;
 use crate::scalar::Scalar;
 use abi_base::Size;
-use abi_index::{Idx, IndexVec};
+use abi_index::{Idx, IndexVec, TryClone};
+use std::alloc::{AllocError, Global};
 
 /// The numbers or indices from `start` to `last`, both of them in it.
 #[derive(Clone, Copy, PartialEq, Eq, Hash, Debug)]
@@ -52,4 +55,52 @@ pub enum Variants<FieldIdx: Idx, VariantIdx: Idx> {
         tag_field: FieldIdx,
         variants: IndexVec<VariantIdx, VariantLayout<FieldIdx>>,
     },
+}
+
+impl<FieldIdx: Idx> VariantLayout<FieldIdx> {
+    /// Whether it is marked as having no value.
+    pub fn is_uninhabited(&self) -> bool
+        ensures { result ≡ self.now.uninhabited }
+    {
+        self.uninhabited
+    }
+
+    /// Whether it has fields of its own.
+    pub fn has_fields(&self) -> bool
+        ensures { IsTrue result ↔ (0 < length self.now.field_offsets) }
+    {
+        self.field_offsets.len() > 0
+    }
+}
+
+impl<FieldIdx: Idx> TryClone for VariantLayout<FieldIdx> {
+    fn try_clone(&self, alloc: Global) -> Result<Self, AllocError> {
+        Ok(VariantLayout {
+            size: self.size,
+            backend_repr: self.backend_repr,
+            field_offsets: self.field_offsets.try_clone(alloc)?,
+            fields_in_memory_order: self.fields_in_memory_order.try_clone(alloc)?,
+            uninhabited: self.uninhabited,
+        })
+    }
+}
+
+impl<FieldIdx: Idx, VariantIdx: Idx> TryClone for Variants<FieldIdx, VariantIdx> {
+    fn try_clone(&self, alloc: Global) -> Result<Self, AllocError> {
+        Ok(match self {
+            Variants::Empty => Variants::Empty,
+            Variants::Single { index } => Variants::Single { index: *index },
+            Variants::Multiple {
+                tag,
+                tag_encoding,
+                tag_field,
+                variants,
+            } => Variants::Multiple {
+                tag: *tag,
+                tag_encoding: *tag_encoding,
+                tag_field: *tag_field,
+                variants: variants.try_clone_each(alloc)?,
+            },
+        })
+    }
 }

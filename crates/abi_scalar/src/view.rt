@@ -114,11 +114,9 @@ impl BackendRepr {
     {
         match *self {
             BackendRepr::Scalar(scalar) => Some(scalar.default_align(cx)),
-            BackendRepr::ScalarPair {
-                a,
-                b,
-                b_offset: _,
-            } => Some(a.default_align(cx).max(b.default_align(cx))),
+            BackendRepr::ScalarPair { a, b, b_offset: _ } => Some(
+                a.default_align(cx).max(b.default_align(cx)),
+            ),
             _ => None,
         }
     }
@@ -190,10 +188,56 @@ impl BackendRepr {
         ensures { IsTrue result ↔ IsVectorOf value lanes self.now }
     {
         match *self {
-            BackendRepr::SimdVector { element, count } => {
-                element.is_of(value) && count == lanes
-            }
+            BackendRepr::SimdVector { element, count } => { element.is_of(value) && count == lanes }
             _ => false,
         }
+    }
+}
+
+#[cfg(test)]
+mod tests {
+    use super::*;
+    use crate::scalar::Scalar;
+    use crate::wrapping_range::WrappingRange;
+    use abi_base::{Integer, TargetDataLayout};
+    use std::test::Fail;
+
+    /// An unsigned integer with this range.
+    fn unsigned(integer: Integer, start: u128, end: u128) -> Scalar {
+        Scalar::Initialized {
+            value: Primitive::Int(integer, false),
+            valid_range: WrappingRange { start, end },
+        }
+    }
+
+    #[test]
+    fn tells_views_apart(rt: HostRuntime) {
+        let truth = BackendRepr::Scalar(unsigned(Integer::I8, 0, 1));
+        let byte = BackendRepr::Scalar(unsigned(Integer::I8, 0, 255));
+        let sized = BackendRepr::Memory { sized: true };
+        let tail = BackendRepr::Memory { sized: false };
+        assert!(rt; truth.is_bool() && !byte.is_bool() && !sized.is_bool());
+        assert!(rt; byte.is_scalar() && !sized.is_scalar());
+        assert!(rt; byte.is_scalar_or_simd() && !tail.is_scalar_or_simd());
+        assert!(rt; tail.is_unsized() && !sized.is_unsized() && !byte.is_unsized());
+        assert!(rt; !tail.is_sized() && sized.is_sized() && byte.is_sized());
+        assert!(rt; truth.eq_up_to_validity(&byte) && byte.eq_up_to_validity(&truth.to_union()));
+        assert!(rt; !sized.eq_up_to_validity(&tail) && !sized.eq_up_to_validity(&byte));
+        assert_eq!(rt; tail.to_union(), sized);
+    }
+
+    #[test]
+    fn measures_views(rt: HostRuntime) -> Result<(), Fail> {
+        let dl = TargetDataLayout::default_in(rt.alloc())?;
+        let value = Primitive::Int(Integer::I16, true);
+        let one = BackendRepr::Scalar(Scalar::Union { value });
+        assert!(rt; one.is_signed());
+        assert_eq!(rt; one.scalar_size(&dl), Some(Size::from_bytes(2)));
+        let aligned = one.scalar_platform_align(&dl);
+        assert!(rt; aligned == Some(dl.i16_align));
+        let none = BackendRepr::Memory { sized: true };
+        assert_eq!(rt; none.scalar_size(&dl), None);
+        assert_eq!(rt; none.scalar_platform_align(&dl), None);
+        Ok(())
     }
 }

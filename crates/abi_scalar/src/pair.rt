@@ -1,0 +1,143 @@
+//! The layout of two scalars.
+
+ghost use Rattle.std.specs.Prelude.{◌≡◌, ◌<◌, [], ◌∷◌, IfOk};
+ghost use Rattle.abi_base.specs.DataLayout.{IsLawfulDataLayout, size_bound};
+ghost use Rattle.abi_scalar.specs.Scalar.{IsReadable, IsLawfulScalar};
+ghost use Rattle.abi_scalar.specs.Lawful.{IsLawfulLayout};
+ghost use Rattle.abi_scalar.specs.Niche.{niche_at};
+ghost use Rattle.abi_scalar.specs.Pair.{HasRoomForPair, second_offset, pair_size, larger_niche, pair_layout};
+
+use crate::backend_repr::BackendRepr;
+use crate::fields_shape::FieldsShape;
+use crate::layout_data::LayoutData;
+use crate::niche::Niche;
+use crate::scalar::Scalar;
+use crate::variants::Variants;
+use abi_base::{AbiAlign, HasDataLayout, Size};
+use abi_index::{Hash64, Idx, IndexVec};
+use std::alloc::{AllocError, Global};
+
+/// The niche of two scalars: the one with more free numbers, the first's where both have as many.
+#[tactic(auto, using(crate::proofs::NicheLemmas::niche_readable))]
+fn pair_niche<C: HasDataLayout>(cx: &C, a: Scalar, b: Scalar, b_offset: Size) -> Option<Niche>
+    requires first { IsReadable (C.target cx.now) a }
+    requires second { IsReadable (C.target cx.now) b }
+    ensures { result ≡ larger_niche (C.target cx.now) (niche_at (C.target cx.now) 0 a) (niche_at (C.target cx.now) b_offset b) }
+{
+    let first = Niche::from_scalar(cx, Size::ZERO, a);
+    let second = Niche::from_scalar(cx, b_offset, b);
+    match first {
+        None => second,
+        Some(low) => match second {
+            None => Some(low),
+            Some(high) => {
+                if low.available(cx) < high.available(cx) {
+                    Some(high)
+                } else {
+                    Some(low)
+                }
+            }
+        },
+    }
+}
+
+/// Two items as a list.
+fn two<I: Idx, T: Copy>(alloc: Global, first: T, second: T) -> Result<IndexVec<I, T>, AllocError>
+    ensures { IfOk result (λ list. list ≡ first ∷ second ∷ []) }
+{
+    let mut list = IndexVec::new(alloc);
+    let _first: I = list.push(first)?;
+    let _second = list.push(second)?;
+    Ok(list)
+}
+
+impl<FieldIdx: Idx, VariantIdx: Idx> LayoutData<FieldIdx, VariantIdx> {
+    /// The layout of two scalars: the second begins after the first, at its own alignment, and the whole is as
+    /// aligned as both and as a list of fields.
+    pub fn scalar_pair<C: HasDataLayout>(
+        alloc: Global,
+        cx: &C,
+        a: Scalar,
+        b: Scalar,
+    ) -> Result<Self, AllocError>
+        requires first { IsReadable (C.target cx.now) a }
+        requires second { IsReadable (C.target cx.now) b }
+        requires room { HasRoomForPair (C.target cx.now) a b }
+        ensures exact { IfOk result (λ layout.
+            layout ≡ pair_layout (VariantIdx.at 0) (FieldIdx.at 0) (FieldIdx.at 1) (C.target cx.now) a b) }
+        // Where the size is below the data layout's bound.
+        ensures lawful { IsLawfulDataLayout (C.target cx.now) → IsLawfulScalar (C.target cx.now) a
+            → IsLawfulScalar (C.target cx.now) b → pair_size (C.target cx.now) a b < size_bound (C.target cx.now)
+            → IfOk result (IsLawfulLayout (C.target cx.now)) }
+    {
+        let own = cx.data_layout().aggregate_align;
+        let align = a.default_align(cx).max(b.default_align(cx)).max(own);
+        let b_offset = a.size(cx).align_to(b.default_align(cx));
+        let end = b_offset + b.size(cx);
+        let seed = a.size(cx).bytes() + b.size(cx).bytes();
+        Ok(LayoutData {
+            fields: FieldsShape::Arbitrary {
+                offsets: two(alloc, Size::ZERO, b_offset)?,
+                in_memory_order: two(alloc, FieldIdx::new(0), FieldIdx::new(1))?,
+            },
+            variants: Variants::Single {
+                index: VariantIdx::new(0),
+            },
+            backend_repr: BackendRepr::ScalarPair { a, b, b_offset },
+            largest_niche: pair_niche(cx, a, b, b_offset),
+            uninhabited: false,
+            align: AbiAlign::new(align),
+            size: end.align_to(align),
+            max_repr_align: None,
+            unadjusted_abi_align: align,
+            repr_c: false,
+            randomization_seed: Hash64::new(seed),
+        })
+    }
+}
+
+#[cfg(test)]
+mod tests {
+    use super::*;
+    use crate::wrapping_range::WrappingRange;
+    use abi_base::{Integer, Primitive, TargetDataLayout};
+    use abi_index::{FieldIdx, VariantIdx};
+    use std::test::Fail;
+
+    #[test]
+    fn lays_out_pairs(rt: HostRuntime) -> Result<(), Fail> {
+        let dl = TargetDataLayout::default_in(rt.alloc())?;
+        let truth = Scalar::Initialized {
+            value: Primitive::Int(Integer::I8, false),
+            valid_range: WrappingRange { start: 0, end: 1 },
+        };
+        let byte = Scalar::Union {
+            value: Primitive::Int(Integer::I8, false),
+        };
+        let word = Scalar::Union {
+            value: Primitive::Int(Integer::I32, false),
+        };
+        let rows = [
+            ((truth, word), (4, 8), Some(0)),
+            ((byte, truth), (1, 2), Some(1)),
+            ((truth, truth), (1, 2), Some(0)),
+            ((word, byte), (4, 8), None),
+        ];
+        for ((a, b), (offset, size), niche) in rows {
+            let layout: LayoutData<FieldIdx, VariantIdx> = LayoutData::scalar_pair(
+                rt.alloc(),
+                &dl,
+                a,
+                b,
+            )?;
+            assert_eq!(rt; layout.fields.count(), 2);
+            assert_eq!(rt; layout.fields.offset(1), Size::from_bytes(offset));
+            assert_eq!(rt; layout.size, Size::from_bytes(size));
+            assert_eq!(rt;
+                layout.largest_niche.map(|niche| niche.offset.bytes()),
+                niche
+            );
+        }
+        Ok(())
+    }
+}
