@@ -14,3 +14,4 @@ mod GapsLemmas
 mod WalkLemmas
 mod RoomLemmas
 mod PaddingLemmas
+mod Facts

@@ -3,8 +3,6 @@
 ghost use Rattle.std.specs.Prelude.{◌≡◌, ◌-◌, ◌<◌, ◌≤◌, ◌&&◌, ℕ, Some, IfOk, IfErr, IsOk, IsTrue, Err, Ok, length, vec_len, All, List, map, true, false, Bool};
 ghost use Rattle.std.specs.declared.alloc.Global.{Global};
 ghost use Rattle.abi_base.specs.DataLayout.{IsLawfulDataLayout};
-ghost use Rattle.abi_base.specs.Integer.{integer_size};
-ghost use Rattle.abi_scalar.specs.Range.{numbers_of};
 ghost use Rattle.abi_scalar.specs.Lawful.{IsLawfulLayout};
 ghost use Rattle.rustc_abi.specs.Tree.{Tree, Trees, tree_of, trees, trees_of_variants, scalar, array, struct};
 ghost use Rattle.rustc_abi.specs.Placed.{layout_of, size_of};
@@ -19,7 +17,7 @@ ghost use Rattle.rustc_abi.specs.Adding.{is_node, IsPut, IsAdded, AreAdded, IsRe
 use crate::error::LayError;
 use crate::node::{Node, Shape};
 use crate::tree::TypeTree;
-use abi_base::{Integer, Primitive, StructKind, TargetDataLayout};
+use abi_base::{Primitive, StructKind, TargetDataLayout};
 use abi_calc::LayoutCalculator;
 use abi_index::{FieldIdx, IndexSlice, VariantIdx};
 use abi_scalar::{LayoutCalculatorError, LayoutData, ReprOptions, Scalar};
@@ -52,19 +50,6 @@ fn add(
     Ok(node)
 }
 
-/// The greatest number of an integer's width.
-fn greatest_of(integer: Integer) -> u128
-    ensures { result ≡ numbers_of (integer_size integer) - 1 }
-{
-    match integer {
-        Integer::I8 => 0xFF,
-        Integer::I16 => 0xFFFF,
-        Integer::I32 => 0xFFFF_FFFF,
-        Integer::I64 => 0xFFFF_FFFF_FFFF_FFFF,
-        Integer::I128 => u128::MAX,
-    }
-}
-
 /// Whether the scalar is an integer that may be any number of its width.
 fn is_full_integer(scalar: &Scalar) -> bool
     ensures { result ≡ is_full_integer scalar.now }
@@ -73,7 +58,7 @@ fn is_full_integer(scalar: &Scalar) -> bool
         Scalar::Initialized {
             value: Primitive::Int(integer, _),
             valid_range,
-        } => valid_range.start == 0 && valid_range.end == greatest_of(*integer),
+        } => valid_range.start == 0 && valid_range.end == integer.size().unsigned_int_max(),
         _ => false,
     }
 }

@@ -1,0 +1,196 @@
+-- Worked facts: the definitions, tried on small types in both directions.
+use Rattle.std.proofs.Common.{◌≡◌, ℕ, List, [], ◌∷◌, true, false, None, Ok, Err, inl, inr, arith, refl}
+use Rattle.abi_base.specs.declared.endian.Endian.{Endian}
+use Rattle.abi_base.specs.declared.endian.Endian.TheVariants.{Little, Big}
+use Rattle.abi_base.specs.declared.primitive.Primitive.TheVariants.{Int}
+use Rattle.abi_base.specs.declared.integer.Integer.{Integer}
+use Rattle.abi_base.specs.declared.integer.Integer.TheVariants.{I8, I16, I32}
+use Rattle.abi_base.specs.Integer.{integer_size}
+use Rattle.abi_base.specs.DataLayout.{default_data_layout}
+use Rattle.abi_scalar.specs.declared.scalar.Scalar.{Scalar}
+use Rattle.abi_scalar.specs.declared.scalar.Scalar.TheVariants.{Initialized}
+use Rattle.abi_scalar.specs.declared.repr.ReprOptions.{ReprOptions}
+use Rattle.abi_scalar.specs.declared.variants.TagEncoding.{TagEncoding}
+use Rattle.abi_scalar.specs.declared.variants.TagEncoding.TheVariants.{Niche}
+use Rattle.abi_scalar.specs.declared.wrapping_range.WrappingRange.{WrappingRange}
+use Rattle.abi_scalar.specs.Range.{IsIn, full_range}
+use Rattle.std.specs.Prelude.{Result}
+use Rattle.rustc_abi.specs.declared.error.LayError.{LayError}
+use Rattle.rustc_abi.specs.Tree.{Tree, struct, no_trees, more_trees, scalar as number_type}
+use Rattle.rustc_abi.specs.Value.{Value, number, two, list, variant, state, bytes, no_values, more_values}
+use Rattle.rustc_abi.specs.Bytes.{picked}
+use Rattle.rustc_abi.specs.Placed.{Placed, Layout, layout_of, scalar, fields, union, states, no_parts, part, no_arms, arm, nothing}
+use Rattle.rustc_abi.specs.Places.{is_data_place}
+use Rattle.rustc_abi.specs.Runs.{padding_of}
+use Rattle.rustc_abi.specs.Tag.{Names}
+use Rattle.rustc_abi.specs.Holding.{Holds}
+use Rattle.rustc_abi.specs.Laying.{laid_out}
+use Rattle.rustc_abi.specs.Faithful.{EachValueIsHeld}
+
+-- ---- the types
+
+-- a layout of so many bytes
+abbrev sized : ℕ → Layout
+sized n = record {
+  fields = (layout_of nothing).fields;
+  variants = (layout_of nothing).variants;
+  backend_repr = (layout_of nothing).backend_repr;
+  largest_niche = None;
+  uninhabited = false;
+  align = record { abi = 0 };
+  size = n;
+  max_repr_align = None;
+  unadjusted_abi_align = 0;
+  repr_c = false;
+  randomization_seed = 0;
+}
+
+abbrev unsigned : Integer → Scalar
+unsigned integer = Initialized (Int integer false) (full_range (integer_size integer))
+
+abbrev boolean : Scalar
+boolean = Initialized (Int I8 false) (record { start = 0; end = 1 })
+
+abbrev u8_placed : Placed
+u8_placed = scalar (sized 1) (unsigned I8)
+
+abbrev bool_placed : Placed
+bool_placed = scalar (sized 1) boolean
+
+-- ---- data places: struct C ( u8 u32 u16 )
+
+abbrev plain_c : ReprOptions
+plain_c = record { int = None; align = None; pack = None; flags = record { 0 = 1 }; scalable = None; field_shuffle_seed = 0 }
+
+abbrev of_three : Tree
+of_three = struct plain_c true (more_trees (number_type (unsigned I8)) (more_trees (number_type (unsigned I32)) (more_trees (number_type (unsigned I16)) no_trees)))
+
+abbrev placed_or_nothing : Result Placed LayError → Placed
+placed_or_nothing (Ok placed) = placed
+placed_or_nothing (Err error) = nothing
+
+abbrev three : Placed
+three = placed_or_nothing (laid_out default_data_layout of_three)
+
+first_byte_decides : is_data_place three 0 ≡ true
+first_byte_decides = refl
+
+second_byte_is_padding : is_data_place three 1 ≡ false
+second_byte_is_padding = refl
+
+padding_listed : padding_of three ≡ record { start = 1; end = 4 } ∷ record { start = 10; end = 12 } ∷ []
+padding_listed = refl
+
+-- ---- fields at one offset: of two numbers that differ, no bytes hold both, so that not every value is held
+
+abbrev of_two : Tree
+of_two = struct plain_c true (more_trees (number_type (unsigned I8)) (more_trees (number_type (unsigned I8)) no_trees))
+
+abbrev at_one_offset : Placed
+at_one_offset = fields (sized 2) (part 0 u8_placed (part 0 u8_placed no_parts))
+
+abbrev zero_and_one : Value
+zero_and_one = list (more_values (number 0) (more_values (number 1) no_values))
+
+zero_is_in : IsIn 1 (full_range 1) 0
+zero_is_in = (0, refl, λ k lt e. absurd (omega (arith, lt)))
+
+one_is_in_all : IsIn 1 (full_range 1) 1
+one_is_in_all = (1, refl, λ k lt e. absurd (omega (arith, lt, e)))
+
+both_not_held : (b : List ℕ) → Holds Big at_one_offset b zero_and_one → ⊥
+both_not_held b h = absurd (omega (arith, h.1.0.1.1, h.1.1.0.1.1))
+
+offsets_matter : EachValueIsHeld default_data_layout of_two at_one_offset → ⊥
+offsets_matter held =
+    let bytes_of = held zero_and_one (zero_is_in, (one_is_in_all, tt)) in
+    both_not_held bytes_of.0 bytes_of.2
+
+-- ---- values: 01 holds the bool 1, and 02 holds none
+
+one_is_in : IsIn 1 (record { start = 0; end = 1 }) 1
+one_is_in = (1, refl, λ k lt e. absurd (omega (arith, lt, e)))
+
+bool_held : (order : Endian) → Holds order bool_placed (1 ∷ []) (number 1)
+bool_held Little = (refl, refl, one_is_in)
+bool_held Big = (refl, refl, one_is_in)
+
+two_is_out : (n : ℕ) → n ≡ 2 → IsIn 1 (record { start = 0; end = 1 }) n → ⊥
+two_is_out n is h = h.2 1 (omega (arith, is, h.1)) refl
+
+no_bool : (order : Endian) (v : Value) → Holds order bool_placed (2 ∷ []) v → ⊥
+no_bool Little (number n) h = two_is_out n h.1 h.2
+no_bool Big (number n) h = two_is_out n h.1 h.2
+no_bool order (two n m) h = h
+no_bool order (list vs) h = h
+no_bool order (variant i vs) h = h
+no_bool order (state i ps vs) h = h
+no_bool order (bytes content) h = h
+
+-- ---- a niche tag: 2 names the variant without fields, and each number of the bool the one with it
+
+abbrev niche : TagEncoding ℕ
+niche = Niche 1 (record { start = 0; last = 0 }) 2
+
+two_names_first : Names niche 1 no_arms 2 0
+two_names_first = inl ((omega arith, omega arith, λ e. absurd (omega (arith, e))), refl)
+
+one_names_second : Names niche 1 no_arms 1 1
+one_names_second = inr (refl, λ other spanned e. absurd (omega (arith, spanned.0, spanned.1, e)))
+
+two_names_no_other : Names niche 1 no_arms 2 1 → ⊥
+two_names_no_other (inl h) = h.0.2 refl
+two_names_no_other (inr h) = h.1 0 (omega arith, omega arith, λ e. absurd (omega (arith, e))) refl
+
+one_names_no_other : Names niche 1 no_arms 1 0 → ⊥
+one_names_no_other (inl h) = absurd (omega (arith, h.1))
+one_names_no_other (inr h) = absurd (omega (arith, h.0))
+
+-- ---- a union of a u8 and of a struct whose second byte is padding: its data bytes are those of either
+
+abbrev either : Placed
+either = union (sized 4) (part 0 u8_placed (part 0 (fields (sized 4) (part 0 u8_placed (part 2 u8_placed (part 3 u8_placed no_parts)))) no_parts))
+
+data_bytes : picked (is_data_place either) 0 (10 ∷ 11 ∷ 12 ∷ 13 ∷ []) ≡ 10 ∷ 12 ∷ 13 ∷ []
+data_bytes = refl
+
+union_held : Holds Little either (10 ∷ 11 ∷ 12 ∷ 13 ∷ []) (bytes (10 ∷ 12 ∷ 13 ∷ []))
+union_held = (refl, refl)
+
+-- ---- two states of a coroutine, whose locals share the byte after the tag
+
+abbrev two_states : Placed
+two_states = states (sized 2) no_parts 0 u8_placed (arm 0 (part 1 u8_placed no_parts) (arm 1 (part 1 bool_placed no_parts) no_arms))
+
+seven_is_in : IsIn 1 (full_range 1) 7
+seven_is_in = (7, refl, λ k lt e. absurd (omega (arith, lt, e)))
+
+first_state_held : Holds Little two_states (0 ∷ 7 ∷ []) (state 0 no_values (more_values (number 7) no_values))
+first_state_held = (refl, tt, omega arith, (refl, refl), ((omega arith, (refl, refl, seven_is_in)), tt))
+
+second_state_held : Holds Little two_states (1 ∷ 1 ∷ []) (state 1 no_values (more_values (number 1) no_values))
+second_state_held = (refl, tt, omega arith, (refl, refl), ((omega arith, (refl, refl, one_is_in)), tt))
+
+-- the byte 7 is no value of the second state's local
+no_second_state : (n : ℕ) → Holds Little two_states (1 ∷ 7 ∷ []) (state 1 no_values (more_values (number n) no_values)) → ⊥
+no_second_state n h = h.4.0.1.2.2 1 (omega (arith, h.4.0.1.1, h.4.0.1.2.1)) refl
+
+-- ---- the range from 254 to 1 wraps round: it has 254, 255, 0 and 1
+
+abbrev wrapping : WrappingRange
+wrapping = record { start = 254; end = 1 }
+
+start_is_in : IsIn 1 wrapping 254
+start_is_in = (0, refl, λ k lt e. absurd (omega (arith, lt)))
+
+zero_is_in_too : IsIn 1 wrapping 0
+zero_is_in_too = (2, refl, λ k lt e. absurd (omega (arith, lt, e)))
+
+end_is_in : IsIn 1 wrapping 1
+end_is_in = (3, refl, λ k lt e. absurd (omega (arith, lt, e)))
+
+after_end : IsIn 1 wrapping 2 → ⊥
+after_end h = h.2 3 (omega (arith, h.1)) refl
+
+before_start : IsIn 1 wrapping 253 → ⊥
+before_start h = h.2 3 (omega (arith, h.1)) refl
