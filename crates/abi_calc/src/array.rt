@@ -15,6 +15,8 @@ impl<Cx: HasDataLayout> LayoutCalculator<Cx> {
     ///
     /// A slice has a size of 0 here, since only its values say how many elements they have.
     ///
+    /// Element `n` lies `n` times the element's size from the start (Rust Reference, "Array layout").
+    ///
     /// Refused as `SizeOverflow` where the size is not below the data layout's bound.
     pub fn layout_of_array_like<FieldIdx: Idx, VariantIdx: Idx, F>(
         &self,

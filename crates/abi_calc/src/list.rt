@@ -131,7 +131,8 @@ impl<Cx: HasDataLayout> LayoutCalculator<Cx> {
     }
 
     /// The layout of a struct's or a tuple's fields, one after another in source order, as `repr(C)` has them:
-    /// each at the least multiple of its alignment that no field before it reaches.
+    /// each at the least multiple of its alignment that no field before it reaches (Rust Reference, "The C
+    /// representation").
     ///
     /// Refused as `UnexpectedUnsized` with the first field whose size isn't known beforehand, and as `SizeOverflow`
     /// where a field's end or the size isn't below the data layout's bound: the fault of an earlier field is told

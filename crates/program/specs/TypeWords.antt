@@ -55,8 +55,8 @@ other_word w =
     else (if is_later_word w then Later else Other))
 
 abbrev pub word_with : Option (Integer × Bool) → TypeWord → TypeWord
-word_with None other = other
-word_with (Some p) other = AnInteger p.0 p.1
+word_with None word = word
+word_with (Some p) word = AnInteger p.0 p.1
 
 -- what the word means where a type begins
 abbrev pub type_word : List ℕ → TypeWord
