@@ -26,3 +26,5 @@ mod sizes;
 mod texts;
 #[cfg(test)]
 mod trees;
+#[cfg(test)]
+mod views;

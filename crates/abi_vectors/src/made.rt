@@ -104,10 +104,7 @@ pub(crate) fn check_fields(
         } => offsets.as_slice().as_raw(),
         _ => &[],
     };
-    let found: Vec<u64> = listed
-        .iter()
-        .map(|offset| offset.bytes())
-        .collect(alloc)?;
+    let found: Vec<u64> = listed.iter().map(|offset| offset.bytes()).collect(alloc)?;
     assert_eq!(rt; found.as_slice(), offsets, "{tree:?}");
     let padding = laid.padding(alloc)?;
     assert_eq!(rt; padding.as_slice(), known.padding, "{tree:?}");
