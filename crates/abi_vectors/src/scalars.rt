@@ -93,6 +93,13 @@ fn pointers_and_floats_have_layouts(rt: HostRuntime) -> Result<(), Fail> {
     let wanted = known(pointer, 8, Align::EIGHT, None, 0x0000_0004_0000_0007);
     let found: Layout = LayoutData::scalar(&dl, pointer);
     assert!(rt; found == wanted);
+    Ok(())
+}
+
+#[test]
+fn a_reference_has_one_free_number(rt: HostRuntime) -> Result<(), Fail> {
+    let dl = TargetDataLayout::default_in(rt.alloc())?;
+    let value = Primitive::Pointer(AddressSpace::ZERO);
     let valid_range = WrappingRange {
         start: 1,
         end: 0xFFFF_FFFF_FFFF_FFFF,
