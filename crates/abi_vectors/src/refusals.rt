@@ -1,0 +1,255 @@
+//! Types that are refused, and for what: those that aren't laid out yet, the first fault of several, unlawful data layouts.
+
+use crate::made::{array, as_in_c, list, unsigned};
+use abi_base::{AddressSpace, Align, Float, Integer, IntegerType, Primitive, TargetDataLayout};
+use abi_scalar::{ReprFlags, ReprOptions, Scalar, WrappingRange};
+use bitflags::Flags;
+use rustc_abi::{LayError, TypeTree, lay_out};
+use std::alloc::Global;
+use std::process::Abort;
+use std::test::Fail;
+
+/// Asserts that no tree has a layout under the default data layout, and that each is refused for this.
+fn check(rt: &impl Abort, alloc: Global, trees: &[TypeTree], wanted: LayError) -> Result<(), Fail> {
+    let dl = TargetDataLayout::default_in(alloc)?;
+    for tree in trees {
+        let refused = lay_out(alloc, &dl, tree).err();
+        assert_eq!(rt; refused, Some(wanted), "{tree:?}");
+    }
+    Ok(())
+}
+
+/// An array of one byte too many.
+fn too_large(alloc: Global) -> Result<TypeTree, Fail> {
+    array(alloc, 2_305_843_009_213_693_952, unsigned(Integer::I8))
+}
+
+/// A scalar that is a number from `start` to `end`.
+fn scalar(value: Primitive, start: u128, end: u128) -> Scalar {
+    Scalar::Initialized {
+        value,
+        valid_range: WrappingRange { start, end },
+    }
+}
+
+#[test]
+fn scalars_other_than_plain_integers_wait(rt: HostRuntime) -> Result<(), Fail> {
+    let byte = Primitive::Int(Integer::I8, false);
+    let word = Primitive::Int(Integer::I32, false);
+    let pointer = Primitive::Pointer(AddressSpace::ZERO);
+    let trees = vec![in rt.alloc();
+        TypeTree::Scalar(scalar(byte, 0, 1)),
+        TypeTree::Scalar(scalar(word, 0, 1_114_111)),
+        TypeTree::Scalar(scalar(byte, 5, 4)),
+        TypeTree::Scalar(scalar(byte, 0, 256)),
+        TypeTree::Scalar(scalar(pointer, 0, 0xFFFF_FFFF_FFFF_FFFF)),
+        TypeTree::Scalar(scalar(pointer, 1, 0xFFFF_FFFF_FFFF_FFFF)),
+        TypeTree::Scalar(scalar(Primitive::Pointer(AddressSpace(7)), 0, 1)),
+        TypeTree::Scalar(scalar(Primitive::Float(Float::F32), 0, 0xFFFF_FFFF)),
+        TypeTree::Scalar(Scalar::Union { value: byte }),
+    ]?;
+    check(&rt, rt.alloc(), &trees, LayError::NotYet)
+}
+
+#[test]
+fn other_kinds_of_types_wait(rt: HostRuntime) -> Result<(), Fail> {
+    let alloc = rt.alloc();
+    let byte = scalar(Primitive::Int(Integer::I8, false), 0, 255);
+    let trees = vec![in alloc;
+        TypeTree::Never,
+        TypeTree::Unit,
+        TypeTree::Pair(byte, byte),
+        TypeTree::Vector {
+            lanes: 4,
+            packed: false,
+            element: Box::new(alloc, unsigned(Integer::I32))?,
+        },
+        TypeTree::Vector {
+            lanes: 0,
+            packed: true,
+            element: Box::new(alloc, unsigned(Integer::I32))?,
+        },
+        TypeTree::Union {
+            repr: as_in_c(),
+            fields: vec![in alloc; unsigned(Integer::I8), unsigned(Integer::I32)]?,
+        },
+        TypeTree::Union {
+            repr: ReprOptions::default(),
+            fields: vec![in alloc]?,
+        },
+        TypeTree::Enum {
+            repr: ReprOptions::default(),
+            variants: vec![in alloc]?,
+        },
+        TypeTree::Enum {
+            repr: as_in_c(),
+            variants: vec![in alloc; (0, vec![in alloc; unsigned(Integer::I8)]?)]?,
+        },
+        TypeTree::Coroutine {
+            prefix: vec![in alloc]?,
+            locals: vec![in alloc; unsigned(Integer::I64)]?,
+            states: vec![in alloc; vec![in alloc; 0]?]?,
+            conflicts: vec![in alloc]?,
+        },
+    ]?;
+    check(&rt, alloc, &trees, LayError::NotYet)
+}
+
+#[test]
+fn structs_under_other_options_wait(rt: HostRuntime) -> Result<(), Fail> {
+    let alloc = rt.alloc();
+    let dl = TargetDataLayout::default_in(alloc)?;
+    let c = as_in_c();
+    for repr in [
+        ReprOptions::default(),
+        ReprOptions {
+            flags: ReprFlags::IS_LINEAR,
+            ..c
+        },
+        ReprOptions {
+            flags: ReprFlags::IS_TRANSPARENT,
+            ..c
+        },
+        ReprOptions {
+            flags: ReprFlags::from_bits_retain(9),
+            ..c
+        },
+        ReprOptions {
+            pack: Some(Align::ONE),
+            ..c
+        },
+        ReprOptions {
+            align: Some(Align::EIGHT),
+            ..c
+        },
+        ReprOptions {
+            int: Some(IntegerType::Fixed(Integer::I8, false)),
+            ..c
+        },
+    ] {
+        let tree = TypeTree::Struct {
+            repr,
+            always_sized: true,
+            fields: vec![in alloc; unsigned(Integer::I8), unsigned(Integer::I32)]?,
+        };
+        let refused = lay_out(alloc, &dl, &tree).err();
+        assert_eq!(rt; refused, Some(LayError::NotYet), "{repr:?}");
+    }
+    let last_may_lose_its_size = TypeTree::Struct {
+        repr: c,
+        always_sized: false,
+        fields: vec![in alloc; unsigned(Integer::I8)]?,
+    };
+    let refused = lay_out(alloc, &dl, &last_may_lose_its_size).err();
+    assert_eq!(rt; refused, Some(LayError::NotYet));
+    Ok(())
+}
+
+#[test]
+fn parts_that_wait_are_found_inside(rt: HostRuntime) -> Result<(), Fail> {
+    let alloc = rt.alloc();
+    let trees = vec![in alloc;
+        array(alloc, 0, TypeTree::Never)?,
+        array(alloc, u64::MAX, TypeTree::Unit)?,
+        list(vec![in alloc; unsigned(Integer::I8), TypeTree::Unit]?),
+        list(vec![in alloc; array(alloc, 2, list(vec![in alloc; TypeTree::Never]?))?]?),
+    ]?;
+    check(&rt, alloc, &trees, LayError::NotYet)
+}
+
+#[test]
+fn the_first_fault_is_told(rt: HostRuntime) -> Result<(), Fail> {
+    let alloc = rt.alloc();
+    let early = vec![in alloc;
+        list(vec![in alloc; too_large(alloc)?, TypeTree::Never]?),
+        array(alloc, 0, too_large(alloc)?)?,
+        TypeTree::Vector {
+            lanes: 2,
+            packed: false,
+            element: Box::new(alloc, too_large(alloc)?)?,
+        },
+        TypeTree::Union {
+            repr: ReprOptions::default(),
+            fields: vec![in alloc; too_large(alloc)?, TypeTree::Never]?,
+        },
+        TypeTree::Struct {
+            repr: ReprOptions::default(),
+            always_sized: true,
+            fields: vec![in alloc; unsigned(Integer::I8), too_large(alloc)?]?,
+        },
+        TypeTree::Enum {
+            repr: ReprOptions::default(),
+            variants: vec![in alloc;
+                (0, vec![in alloc; unsigned(Integer::I8)]?),
+                (1, vec![in alloc; too_large(alloc)?, TypeTree::Never]?)
+            ]?,
+        },
+        TypeTree::Coroutine {
+            prefix: vec![in alloc; too_large(alloc)?]?,
+            locals: vec![in alloc; TypeTree::Never]?,
+            states: vec![in alloc]?,
+            conflicts: vec![in alloc]?,
+        },
+    ]?;
+    check(&rt, alloc, &early, LayError::SizeOverflow)?;
+    let late = vec![in alloc;
+        list(vec![in alloc; TypeTree::Never, too_large(alloc)?]?),
+        list(vec![in alloc; list(vec![in alloc; TypeTree::Unit]?), too_large(alloc)?]?),
+        TypeTree::Coroutine {
+            prefix: vec![in alloc; TypeTree::Never]?,
+            locals: vec![in alloc; too_large(alloc)?]?,
+            states: vec![in alloc]?,
+            conflicts: vec![in alloc]?,
+        },
+    ]?;
+    check(&rt, alloc, &late, LayError::NotYet)
+}
+
+#[test]
+fn sizes_at_the_bound_are_refused(rt: HostRuntime) -> Result<(), Fail> {
+    let alloc = rt.alloc();
+    let most = 2_305_843_009_213_693_951;
+    let trees = vec![in alloc;
+        too_large(alloc)?,
+        array(alloc, u64::MAX, unsigned(Integer::I8))?,
+        array(
+            alloc,
+            2,
+            array(alloc, 1_152_921_504_606_846_976, unsigned(Integer::I8))?
+        )?,
+        list(vec![in alloc;
+            array(alloc, most, unsigned(Integer::I8))?,
+            unsigned(Integer::I8)
+        ]?),
+        list(vec![in alloc;
+            unsigned(Integer::I16),
+            array(alloc, most - 2, unsigned(Integer::I8))?
+        ]?),
+    ]?;
+    check(&rt, alloc, &trees, LayError::SizeOverflow)
+}
+
+#[test]
+fn unlawful_data_layouts_are_refused_first(rt: HostRuntime) -> Result<(), Fail> {
+    let alloc = rt.alloc();
+    let mut dl = TargetDataLayout::default_in(alloc)?;
+    let two = dl.i16_align;
+    let trees = vec![in alloc;
+        unsigned(Integer::I8),
+        list(vec![in alloc]?),
+        TypeTree::Never,
+        too_large(alloc)?,
+    ]?;
+    dl.i8_align = two;
+    for tree in &trees {
+        let refused = lay_out(alloc, &dl, tree).err();
+        assert_eq!(rt; refused, Some(LayError::UnlawfulDataLayout), "{tree:?}");
+    }
+    dl.i8_align = Align::ONE;
+    dl.i128_align = Align::MAX;
+    for tree in &trees {
+        let refused = lay_out(alloc, &dl, tree).err();
+        assert_eq!(rt; refused, Some(LayError::UnlawfulDataLayout), "{tree:?}");
+    }
+    Ok(())
+}
