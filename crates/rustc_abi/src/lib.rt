@@ -1,4 +1,4 @@
-//! Types as trees, their layouts, and the values that their bytes hold.
+//! Types as trees, their layouts, and the values that their bytes hold; and all that the crates below export, under one name.
 #![tactic(auto)]
 
 mod error;
@@ -10,6 +10,21 @@ mod padding;
 mod runs;
 mod tree;
 
+pub use abi_base::{
+    AbiAlign, AbiFromStrErr, AddressSpace, AddressSpaces, Align, AlignFromBytesError, Endian,
+    Float, HasDataLayout, Integer, IntegerType, MAX_SIMD_LANES, NicheOptimizations, NoSuchInteger,
+    NumScalableVectors, Numeric, PointeeInfo, PointerKind, PointerSpec, Primitive, ScalableElt,
+    Size, StructKind, TargetDataLayout, UnknownEndian, UnknownEndianText, VectorAligns,
+};
+pub use abi_calc::LayoutCalculator;
+pub use abi_index::{
+    FIRST_VARIANT, FieldIdx, Hash64, Idx, IndexSlice, IndexVec, Indices, TryClone, VariantIdx,
+};
+pub use abi_scalar::{
+    BackendLaneCount, BackendRepr, FieldCount, FieldsShape, LayoutCalculatorError, LayoutData,
+    LayoutHandle, Niche, RangeFull, RangeInclusive, ReprFlags, ReprOptions, Scalar, TagEncoding,
+    VariantLayout, Variants, WrappingRange,
+};
 pub use error::LayError;
 pub use laid::Laid;
 pub use lay_tree::lay_out;
