@@ -1,7 +1,7 @@
 -- A number as bytes, and bytes put over others.
 use Rattle.std.proofs.Common.{List, [], ap, arith, drop, get_or, inl, inr, length, length-append, length-drop, length-take, refl, reverse, subst, suc, sym, take, zero, ℕ, ⊎_elim, ◌%◌, ◌*◌, ◌++◌, ◌+◌, ◌-◌, ◌/◌, ◌<◌, ◌^◌, ◌∙◌, ◌∷◌, ◌≡◌, ◌≤◌, ◌⊎◌}
 use Rattle.std.proofs.lemmas.List.{drop-drop, drop_at, get_or-drop, get_or-reverse, get_or-take, get_or_append_left, get_or_default, length-reverse, length-take-le, reverse-reverse, same_lists, take_at}
-use Rattle.std.proofs.lemmas.List.Elements.{All-nil, All-cons, All-head, All-tail, All-append, All-take, All-drop}
+use Rattle.std.proofs.lemmas.List.Elements.{All-nil, All-cons, All-append, All-take, All-drop}
 use Rattle.std.proofs.lemmas.Nat.{pow-add, div_below, mod_below}
 use Rattle.abi_base.specs.declared.endian.Endian.{Endian}
 use Rattle.abi_base.specs.declared.endian.Endian.TheVariants.{Little, Big}
@@ -131,19 +131,6 @@ bytes_at-put_other bytes part offset fits o n inside apart =
     get_or-take n (drop o (put bytes offset part)) k 0 lt ∙ get_or-drop o (put bytes offset part) k 0
     ∙ get_or-put_other bytes part offset fits (o + k) outside
     ∙ sym (get_or-take n (drop o bytes) k 0 lt ∙ get_or-drop o bytes k 0))
-
--- the number of bytes is one of their width
-pub little-below : (bytes : List ℕ) → AreBytes bytes → little bytes < numbers_of (length bytes)
-little-below [] all = omega arith
-little-below (b ∷ bytes) all =
-    let first : b < 256 = All-head (λ b. b < 256) b bytes all in
-    let rest = little-below bytes (All-tail (λ b. b < 256) b bytes all) in
-    subst (λ k. b + 256 * little bytes < k) (sym (numbers_of-suc (length bytes))) (omega arith)
-
-pub number_of-below : (order : Endian) (bytes : List ℕ) → AreBytes bytes → number_of order bytes < numbers_of (length bytes)
-number_of-below Little bytes all = little-below bytes all
-number_of-below Big bytes all =
-    subst (λ n. little (reverse bytes) < numbers_of n) (length-reverse bytes) (little-below (reverse bytes) (AreBytes-reverse bytes all))
 
 pub AreBytes-bytes_at : (bytes : List ℕ) (offset n : ℕ) → AreBytes bytes → AreBytes (bytes_at bytes offset n)
 AreBytes-bytes_at bytes offset n all = All-take (λ b. b < 256) n (drop offset bytes) (All-drop (λ b. b < 256) offset bytes all)

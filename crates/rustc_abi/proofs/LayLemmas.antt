@@ -16,17 +16,16 @@ use Rattle.rustc_abi.specs.declared.node.Node.{Node}
 use Rattle.rustc_abi.specs.Tree.{Tree, array, struct, Trees, no_trees, more_trees, trees}
 use Rattle.rustc_abi.specs.Placed.{Placed, Layout, layout_of, size_of, niche_of, elements, fields}
 use Rattle.rustc_abi.specs.Error.{named, and_then}
-use Rattle.rustc_abi.specs.Room.{has_room}
 use Rattle.rustc_abi.specs.Fits.{Fits}
 use Rattle.rustc_abi.specs.Nodes.{placed_in, parts_at, types_in, placed_at, root_of, Keeps}
 use Rattle.rustc_abi.specs.Values.{LocalsHaveValues}
 use Rattle.rustc_abi.specs.Faithful.{IsFaithful}
 use Rattle.rustc_abi.specs.Laying.{laid_out, laid_out_each, elements_answer, fields_answer, listed, is_plain_c, most_fields, placed_by}
-use Rattle.rustc_abi.specs.Adding.{are_nodes, IsRefusal, IsPut, IsAdded, EachFits, all_at, AreAdded}
+use Rattle.rustc_abi.specs.Adding.{IsRefusal, IsPut, IsAdded, EachFits, all_at, AreAdded}
 use Rattle.rustc_abi.proofs.ElementsLemmas.{IsElementNiche, Fits-elements}
 use Rattle.rustc_abi.proofs.FieldsLemmas.{IsPartNiche, Fits-fields}
 use Rattle.rustc_abi.proofs.ListLemmas.{chosen}
-use Rattle.rustc_abi.proofs.NodesLemmas.{length-types_in, Keeps-trans, Keeps-refl}
+use Rattle.rustc_abi.proofs.NodesLemmas.{length-types_in, Keeps-trans}
 
 pub IsAdded-put : (dl : TargetDataLayout) (old new : List Node) (i : ℕ) (placed : Placed) (t : Tree) → IsPut old new i placed →
     laid_out dl t ≡ Ok placed → Fits dl t placed → IsAdded dl old new i t
@@ -36,17 +35,6 @@ IsAdded-put dl old new i placed t put exact fits = record {
   last = put.last;
   exact = exact ∙ ap Ok (sym put.meant);
   fits = subst (Fits dl t) (sym put.meant) fits;
-}
-
--- what was added after more nodes
-pub IsAdded-later : (dl : TargetDataLayout) (first old new : List Node) (i : ℕ) (t : Tree) → Keeps (types_in first) (types_in old) →
-    (are_nodes 0 first ≡ true → are_nodes 0 old ≡ true) → IsAdded dl old new i t → IsAdded dl first new i t
-IsAdded-later dl first old new i t kept well added = record {
-  kept = Keeps-trans (types_in first) (types_in old) (types_in new) kept added.kept;
-  well = λ h. added.well (well h);
-  last = added.last;
-  exact = added.exact;
-  fits = added.fits;
 }
 
 element_niche : (count : ℕ) (element : Placed) (niche : Option Niche) → count ≢ 0 → niche ≡ niche_of element → IfSome niche (IsElementNiche count element)
@@ -90,13 +78,6 @@ fields_made dl repr always_sized ps layout known few answer =
     placed_by (λ layout. fields layout (parts_at (offsets_of layout.fields) ps)) (listed dl repr.field_shuffle_seed (map layout_of ps))) else Err NotYet) known
     ∙ ap (λ b. if b then Err BadIndex else placed_by (λ layout. fields layout (parts_at (offsets_of layout.fields) ps)) (listed dl repr.field_shuffle_seed (map layout_of ps))) few
     ∙ ap (placed_by (λ layout. fields layout (parts_at (offsets_of layout.fields) ps))) answer
-
-pub fields_many : (dl : TargetDataLayout) (repr : ReprOptions) (always_sized : Bool) (ps : List Placed) → (is_plain_c repr && always_sized) ≡ true →
-    nat_lt most_fields (length ps) ≡ true → fields_answer dl repr always_sized ps ≡ Err BadIndex
-fields_many dl repr always_sized ps known many =
-    ap (λ b. if b then (if nat_lt most_fields (length ps) then Err BadIndex else
-    placed_by (λ layout. fields layout (parts_at (offsets_of layout.fields) ps)) (listed dl repr.field_shuffle_seed (map layout_of ps))) else Err NotYet) known
-    ∙ ap (λ b. if b then Err BadIndex else placed_by (λ layout. fields layout (parts_at (offsets_of layout.fields) ps)) (listed dl repr.field_shuffle_seed (map layout_of ps))) many
 
 -- a struct's layout
 pub IsAdded-fields : (dl : TargetDataLayout) (old new : List Node) (i : ℕ) (repr : ReprOptions) (always_sized : Bool) (ps : List Placed) (layout : Layout) (ts : Trees) →
@@ -160,16 +141,6 @@ all_at-kept old new kept (c ∷ children) there =
     let rest : all_at new children ≡ all_at old children = all_at-kept old new kept children (All-tail (λ child. child < length old) c children there) in
     cc
 
--- no types yet
-pub AreAdded-none : (dl : TargetDataLayout) (ns : List Node) → AreAdded dl ns ns [] []
-AreAdded-none dl ns = record {
-  kept = Keeps-refl (types_in ns);
-  well = λ h. h;
-  there = All-nil (λ child. child < length ns);
-  exact = refl;
-  fits = tt;
-}
-
 -- one type more
 pub AreAdded-more : (dl : TargetDataLayout) (first old new : List Node) (children : List ℕ) (ts : List Tree) (i : ℕ) (t : Tree) → AreAdded dl first old children ts →
     IsAdded dl old new i t → AreAdded dl first new (children ++ i ∷ []) (ts ++ t ∷ [])
@@ -195,12 +166,6 @@ pub faithful_root : (dl : TargetDataLayout) (old new : List Node) (i : ℕ) (t :
 faithful_root dl old new i t placed added is locals =
     let root : i ≡ length new - 1 = omega (arith, added.last) in
     subst (IsFaithful dl t) (ap (placed_at new) root ∙ sym is) (added.fits.faithful locals)
-
--- each part of the last node ends inside it
-pub root_room : (dl : TargetDataLayout) (old new : List Node) (i : ℕ) (t : Tree) → IsAdded dl old new i t → has_room (root_of new) ≡ true
-root_room dl old new i t added =
-    let root : i ≡ length new - 1 = omega (arith, added.last) in
-    subst (λ j. has_room (placed_at new j) ≡ true) root added.fits.room
 
 -- the last node's layout is lawful
 pub lawful_root : (dl : TargetDataLayout) (old new : List Node) (i : ℕ) (t : Tree) (placed : Placed) → IsAdded dl old new i t → placed ≡ root_of new →

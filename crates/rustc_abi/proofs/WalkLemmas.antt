@@ -82,14 +82,6 @@ pub repeats-more : (runs : List Run) (i size k : ℕ) → 0 < size → All (λ r
 repeats-more runs i size k some inside =
     step (k / size) (k % size) i size k (covers runs) (omega arith) (omega arith) (λ j le. covers-beyond size runs j inside le)
 
--- no element yet
-pub repeats-none : (runs : List Run) (size k : ℕ) → repeats runs 0 size k ≡ false
-repeats-none runs size k = ap (λ v. v && covers runs (k % size)) (le-ltb (k / size) 0 (omega arith))
-
--- elements without runs
-pub repeats-nothing : (count size k : ℕ) → repeats [] count size k ≡ false
-repeats-nothing count size k = and-false (nat_lt (k / size) count)
-
 -- runs put behind others
 pub covers-put : (all runs : List Run) (offset k : ℕ) → covers (all ++ map (shifted offset) runs) k ≡ (covers all k || (nat_le offset k && covers runs (k - offset)))
 covers-put all runs offset k = list_any-append (is_in k) all (map (shifted offset) runs) ∙ ap (λ b. covers all k || b) (covers-shifted offset runs k)
