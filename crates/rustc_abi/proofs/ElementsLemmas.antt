@@ -1,6 +1,6 @@
 -- An array's layout keeps its elements' values.
 use Rattle.std.proofs.Common.{◌≡◌, ℕ, ◌+◌, ◌*◌, ◌/◌, ◌%◌, ◌<◌, ◌≤◌, List, length, replicate, drop, take, arith, refl, sym, ap, ◌∙◌, subst, le_refl}
-use Rattle.std.specs.Prelude.{IfSome, true, nat_lt}
+use Rattle.std.specs.Prelude.{IfSome, true, nat_lt, ◌==◌, ◌&&◌, not}
 use Rattle.std.proofs.lemmas.List.{length-replicate}
 use Rattle.std.proofs.lemmas.List.Elements.{All-replicate}
 use Rattle.std.proofs.lemmas.Option.{IfSome_then}
@@ -15,12 +15,14 @@ use Rattle.abi_scalar.specs.Lawful.{IsLawfulLayout}
 use Rattle.rustc_abi.specs.Tree.{Tree, array}
 use Rattle.rustc_abi.specs.Bytes.{AreBytes, bytes_at, number_of}
 use Rattle.rustc_abi.specs.Value.{Value, number, two, list, variant, state, bytes, Values, no_values, more_values, value_count, Each}
-use Rattle.rustc_abi.specs.Placed.{Placed, Layout, size_of, elements}
+use Rattle.rustc_abi.specs.Placed.{Placed, Layout, layout_of, size_of, elements}
 use Rattle.rustc_abi.specs.Places.{is_data_place}
 use Rattle.rustc_abi.specs.Values.{IsValueOf}
 use Rattle.rustc_abi.specs.Holding.{Holds, HoldEach}
 use Rattle.rustc_abi.specs.Faithful.{AgreeOn, IsFaithful}
 use Rattle.rustc_abi.specs.Fits.{Fits}
+use Rattle.abi_scalar.specs.declared.backend_repr.BackendRepr.TheVariants.{Memory}
+use Rattle.rustc_abi.proofs.FlagLemmas.{flag-elements}
 use Rattle.rustc_abi.proofs.BytesLemmas.{put, length-put, bytes_at-put, drop-put_after, AreBytes-put, AreBytes-bytes_at}
 use Rattle.rustc_abi.proofs.HoldLemmas.{length-Holds, length-bytes_at, drop_later, AgreeOn-bytes_at, IsNicheAt, niche_in_part, niche_in_whole}
 
@@ -104,7 +106,8 @@ module _ (dl : TargetDataLayout) (t : Tree) (element : Placed) (faithful : IsFai
 
 module _ (dl : TargetDataLayout) (t : Tree) (element : Placed) (faithful : IsFaithful dl t element)
     (within : (k : ℕ) → is_data_place element k ≡ true → k < size_of element) (count : ℕ) (layout : Layout)
-    (size : layout.size ≡ size_of element * count) (niche : IfSome layout.largest_niche (IsElementNiche count element)) where
+    (size : layout.size ≡ size_of element * count) (niche : IfSome layout.largest_niche (IsElementNiche count element))
+    (view : layout.backend_repr ≡ Memory true) (flag : layout.uninhabited ≡ ((layout_of element).uninhabited && not (count == 0))) where
   abbrev placed : Placed
   placed = elements layout count element
 
@@ -170,6 +173,8 @@ module _ (dl : TargetDataLayout) (t : Tree) (element : Placed) (faithful : IsFai
     niche = IfSome_then layout.largest_niche niche array_niche;
     inside = IfSome_then layout.largest_niche niche array_inside;
     padding = array_padding;
+    view = λ b v h. rw view tt;
+    flag = λ vectors. flag-elements dl t element count layout flag (faithful.flag vectors);
   }
 
 -- an array's data places lie inside it
@@ -187,10 +192,10 @@ within_elements layout count element size within k place =
 
 -- a layout of elements
 pub Fits-elements : (dl : TargetDataLayout) (t : Tree) (element : Placed) (count : ℕ) (layout : Layout) → Fits dl t element →
-    layout.size ≡ size_of element * count → IfSome layout.largest_niche (IsElementNiche count element) → IsLawfulLayout dl layout →
-    Fits dl (array count t) (elements layout count element)
-Fits-elements dl t element count layout fits size niche lawful = record {
-  faithful = λ locals. array_faithful dl t element (fits.faithful locals) fits.within count layout size niche;
+    layout.size ≡ size_of element * count → IfSome layout.largest_niche (IsElementNiche count element) → layout.backend_repr ≡ Memory true →
+    layout.uninhabited ≡ ((layout_of element).uninhabited && not (count == 0)) → IsLawfulLayout dl layout → Fits dl (array count t) (elements layout count element)
+Fits-elements dl t element count layout fits size niche view flag lawful = record {
+  faithful = λ locals. array_faithful dl t element (fits.faithful locals) fits.within count layout size niche view flag;
   lawful = lawful;
   room = both_true (eq-eqb layout.size (size_of element * count) size) fits.room;
   within = within_elements layout count element size fits.within;

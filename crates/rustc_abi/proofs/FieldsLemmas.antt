@@ -15,13 +15,16 @@ use Rattle.abi_calc.specs.Apart.{AreApart, IsBeside}
 use Rattle.rustc_abi.specs.Tree.{Tree, struct, Trees, no_trees, more_trees}
 use Rattle.rustc_abi.specs.Bytes.{AreBytes, bytes_at, number_of}
 use Rattle.rustc_abi.specs.Value.{Value, number, two, list, variant, state, bytes, Values, no_values, more_values}
-use Rattle.rustc_abi.specs.Placed.{Placed, Layout, Parts, no_parts, part, size_of, fields}
-use Rattle.rustc_abi.specs.Values.{IsValueOf, LocalsOfEach}
+use Rattle.rustc_abi.specs.Placed.{Placed, Layout, Parts, no_parts, part, layout_of, size_of, fields}
+use Rattle.rustc_abi.specs.Values.{IsValueOf, LocalsOfEach, VectorsOfEach}
 use Rattle.rustc_abi.specs.Holding.{Holds, HoldParts}
-use Rattle.rustc_abi.specs.Faithful.{AgreeOn, IsFaithful}
+use Rattle.rustc_abi.specs.Faithful.{AgreeOn, IsFaithful, IsFlagTrue, IsTrueOf}
 use Rattle.rustc_abi.specs.Fits.{Fits}
 use Rattle.rustc_abi.specs.Nodes.{parts_at}
 use Rattle.rustc_abi.specs.Adding.{EachFits}
+use Rattle.std.specs.List.{list_any}
+use Rattle.abi_scalar.specs.declared.backend_repr.BackendRepr.TheVariants.{Memory}
+use Rattle.rustc_abi.proofs.FlagLemmas.{flag-fields}
 use Rattle.rustc_abi.proofs.HoldLemmas.{IsNicheAt, niche_in_part, niche_in_whole}
 use Rattle.rustc_abi.proofs.PartsLemmas.{LieBeside, FitTogether, LieInside, exist, only, unique, padding, within_parts}
 
@@ -30,7 +33,7 @@ abbrev pub IsPartNiche : Parts → Niche → Type 0
 IsPartNiche no_parts n = ⊥
 IsPartNiche (part o placed parts) n = IsNicheAt o placed n ⊎ IsPartNiche parts n
 
-part_niche : (dl : TargetDataLayout) (size : ℕ) (ts : Trees) (parts : Parts) → FitTogether dl size ts parts → (n : Niche) → IsPartNiche parts n →
+pub part_niche : (dl : TargetDataLayout) (size : ℕ) (ts : Trees) (parts : Parts) → FitTogether dl size ts parts → (n : Niche) → IsPartNiche parts n →
     (b : List ℕ) (vs : Values) → HoldParts dl.endian parts b vs → IsIn (niche_size dl n) n.valid_range (number_of dl.endian (bytes_at b n.offset (niche_size dl n)))
 part_niche dl size no_trees no_parts fit n has b vs h = absurd has
 part_niche dl size no_trees (part o placed parts) fit n has b vs h = absurd fit
@@ -42,7 +45,7 @@ part_niche dl size (more_trees t ts) (part o placed parts) fit n has b (more_val
     (λ later. part_niche dl size ts parts fit.3 n later b vs h.1)
     has
 
-part_niche_inside : (dl : TargetDataLayout) (size : ℕ) (ts : Trees) (parts : Parts) → FitTogether dl size ts parts → (n : Niche) → IsPartNiche parts n → n.offset + niche_size dl n ≤ size
+pub part_niche_inside : (dl : TargetDataLayout) (size : ℕ) (ts : Trees) (parts : Parts) → FitTogether dl size ts parts → (n : Niche) → IsPartNiche parts n → n.offset + niche_size dl n ≤ size
 part_niche_inside dl size no_trees no_parts fit n has = absurd has
 part_niche_inside dl size no_trees (part o placed parts) fit n has = absurd fit
 part_niche_inside dl size (more_trees t ts) no_parts fit n has = absurd fit
@@ -53,7 +56,9 @@ part_niche_inside dl size (more_trees t ts) (part o placed parts) fit n has =
     has
 
 module _ (dl : TargetDataLayout) (repr : ReprOptions) (always_sized : Bool) (ts : Trees) (layout : Layout) (parts : Parts)
-    (fit : FitTogether dl layout.size ts parts) (niche : IfSome layout.largest_niche (IsPartNiche parts)) where
+    (fit : FitTogether dl layout.size ts parts) (niche : IfSome layout.largest_niche (IsPartNiche parts))
+    (view : (b : List ℕ) (vs : Values) → HoldParts dl.endian parts b vs → IsTrueOf dl layout.backend_repr b)
+    (flag : VectorsOfEach dl ts → IsFlagTrue dl (struct repr always_sized ts) (fields layout parts)) where
   abbrev tree : Tree
   tree = struct repr always_sized ts
 
@@ -103,6 +108,14 @@ module _ (dl : TargetDataLayout) (repr : ReprOptions) (always_sized : Bool) (ts 
   struct_padding xs ys (state i ps vs) ex ey agree h = absurd h
   struct_padding xs ys (bytes content) ex ey agree h = absurd h
 
+  struct_view : (b : List ℕ) (v : Value) → Holds dl.endian placed b v → IsTrueOf dl layout.backend_repr b
+  struct_view b (list vs) h = view b vs h.1
+  struct_view b (number n) h = absurd h
+  struct_view b (two n m) h = absurd h
+  struct_view b (variant i vs) h = absurd h
+  struct_view b (state i ps vs) h = absurd h
+  struct_view b (bytes content) h = absurd h
+
   struct_faithful : IsFaithful dl tree placed
   struct_faithful = record {
     exists = struct_exists;
@@ -111,6 +124,8 @@ module _ (dl : TargetDataLayout) (repr : ReprOptions) (always_sized : Bool) (ts 
     niche = IfSome_then layout.largest_niche niche struct_niche;
     inside = IfSome_then layout.largest_niche niche (part_niche_inside dl layout.size ts parts fit);
     padding = struct_padding;
+    view = struct_view;
+    flag = flag;
   }
 
 -- what lies beside the places lies beside the parts
@@ -156,10 +171,12 @@ room_of dl size (more_trees t ts) (o ∷ offsets) (p ∷ ps) apart fits =
 
 -- a layout of fields, wherever they lie
 pub Fits-fields : (dl : TargetDataLayout) (repr : ReprOptions) (always_sized : Bool) (ts : Trees) (layout : Layout) (offsets : List ℕ) (ps : List Placed) →
-    EachFits dl ts ps → AreApart layout.size offsets (map size_of ps) → IfSome layout.largest_niche (IsPartNiche (parts_at offsets ps)) → IsLawfulLayout dl layout →
+    EachFits dl ts ps → AreApart layout.size offsets (map size_of ps) → IfSome layout.largest_niche (IsPartNiche (parts_at offsets ps)) →
+    layout.backend_repr ≡ Memory true → layout.uninhabited ≡ list_any (λ f. f.uninhabited) (map layout_of ps) → IsLawfulLayout dl layout →
     Fits dl (struct repr always_sized ts) (fields layout (parts_at offsets ps))
-Fits-fields dl repr always_sized ts layout offsets ps fits apart niche lawful = record {
-  faithful = λ locals. struct_faithful dl repr always_sized ts layout (parts_at offsets ps) (together dl layout.size ts offsets ps apart fits locals) niche;
+Fits-fields dl repr always_sized ts layout offsets ps fits apart niche view flag lawful = record {
+  faithful = λ locals. struct_faithful dl repr always_sized ts layout (parts_at offsets ps) (together dl layout.size ts offsets ps apart fits locals) niche
+      (λ b vs h. rw view tt) (flag-fields dl repr always_sized ts layout offsets ps flag apart fits locals);
   lawful = lawful;
   room = room_of dl layout.size ts offsets ps apart fits;
   within = within_parts layout.size (parts_at offsets ps) (inside dl layout.size ts offsets ps apart fits);

@@ -8,19 +8,29 @@ use Rattle.abi_base.specs.declared.data_layout.TargetDataLayout.{TargetDataLayou
 use Rattle.abi_scalar.specs.declared.repr.ReprOptions.{ReprOptions}
 use Rattle.abi_scalar.specs.declared.niche.Niche.{Niche}
 use Rattle.abi_scalar.specs.Lawful.{IsLawfulLayout}
+use Rattle.abi_scalar.specs.declared.backend_repr.BackendRepr.TheVariants.{Memory}
+use Rattle.std.specs.List.{list_any}
 use Rattle.abi_calc.specs.Apart.{AreApart, offsets_of}
 use Rattle.abi_calc.specs.Array.{array_answer, elements_layout}
 use Rattle.rustc_abi.specs.declared.error.LayError.{LayError}
-use Rattle.rustc_abi.specs.declared.error.LayError.TheVariants.{NotYet, BadIndex}
+use Rattle.rustc_abi.specs.declared.error.LayError.TheVariants.{NotYet, BadIndex, SizeOverflow}
 use Rattle.rustc_abi.specs.declared.node.Node.{Node}
-use Rattle.rustc_abi.specs.Tree.{Tree, array, struct, Trees, no_trees, more_trees, trees}
-use Rattle.rustc_abi.specs.Placed.{Placed, Layout, layout_of, size_of, niche_of, elements, fields}
+use Rattle.abi_base.specs.DataLayout.{size_bound}
+use Rattle.abi_scalar.specs.declared.scalar.Scalar.{Scalar}
+use Rattle.abi_scalar.specs.Pair.{pair_size, second_offset}
+use Rattle.std.proofs.lemmas.Bool.{lt-ltb, le-ltb}
+use Rattle.rustc_abi.specs.declared.node.Shape.TheVariants.{Pair}
+use Rattle.rustc_abi.specs.ScalarFault.{scalar_fault}
+use Rattle.rustc_abi.proofs.FaultLemmas.{faultless}
+use Rattle.rustc_abi.proofs.PairLemmas.{Fits-pair}
+use Rattle.rustc_abi.specs.Tree.{Tree, pair, array, struct, Trees, no_trees, more_trees, trees}
+use Rattle.rustc_abi.specs.Placed.{Placed, Layout, layout_of, size_of, niche_of, pair as placed_pair, elements, fields, part, no_parts}
 use Rattle.rustc_abi.specs.Error.{named, and_then}
 use Rattle.rustc_abi.specs.Fits.{Fits}
-use Rattle.rustc_abi.specs.Nodes.{placed_in, parts_at, types_in, placed_at, root_of, Keeps}
+use Rattle.rustc_abi.specs.Nodes.{placed_in, parts_at, meaning, types_in, placed_at, root_of, Keeps}
 use Rattle.rustc_abi.specs.Values.{LocalsHaveValues}
 use Rattle.rustc_abi.specs.Faithful.{IsFaithful}
-use Rattle.rustc_abi.specs.Laying.{laid_out, laid_out_each, elements_answer, fields_answer, listed, is_plain_c, most_fields, placed_by}
+use Rattle.rustc_abi.specs.Laying.{laid_out, laid_out_each, elements_answer, fields_answer, listed, is_plain_c, most_fields, placed_by, unless, one_scalar, two_scalars, pair_answer}
 use Rattle.rustc_abi.specs.Adding.{IsRefusal, IsPut, IsAdded, EachFits, all_at, AreAdded}
 use Rattle.rustc_abi.proofs.ElementsLemmas.{IsElementNiche, Fits-elements}
 use Rattle.rustc_abi.proofs.FieldsLemmas.{IsPartNiche, Fits-fields}
@@ -59,7 +69,8 @@ IsAdded-elements dl old new i element count layout t answer lawful put exact fit
     IsAdded-put dl old new i (elements layout count element) (array count t) put
     (ap (λ r. and_then r (elements_answer dl count)) exact ∙ ap (λ r. and_then r (λ l. Ok (elements l count element))) answer)
     (Fits-elements dl t element count layout fits (ap (λ l. l.size) made)
-    (subst (λ n. IfSome n (IsElementNiche count element)) (sym (ap (λ l. l.largest_niche) made)) (array_niche count element)) lawful)
+    (subst (λ n. IfSome n (IsElementNiche count element)) (sym (ap (λ l. l.largest_niche) made)) (array_niche count element))
+    (ap (λ l. l.backend_repr) made) (ap (λ l. l.uninhabited) made) lawful)
 
 -- each type's layout is lawful
 pub EachFits-lawful : (dl : TargetDataLayout) (ts : Trees) (ps : List Placed) → EachFits dl ts ps → All (λ p. IsLawfulLayout dl (layout_of p)) ps
@@ -82,13 +93,13 @@ fields_made dl repr always_sized ps layout known few answer =
 -- a struct's layout
 pub IsAdded-fields : (dl : TargetDataLayout) (old new : List Node) (i : ℕ) (repr : ReprOptions) (always_sized : Bool) (ps : List Placed) (layout : Layout) (ts : Trees) →
     fields_answer dl repr always_sized ps ≡ Ok (fields layout (parts_at (offsets_of layout.fields) ps)) → IsLawfulLayout dl layout → layout.largest_niche ≡ None →
-    AreApart layout.size (offsets_of layout.fields) (map size_of ps) → IsPut old new i (fields layout (parts_at (offsets_of layout.fields) ps)) →
+    layout.backend_repr ≡ Memory true → layout.uninhabited ≡ list_any (λ f. f.uninhabited) (map layout_of ps) → AreApart layout.size (offsets_of layout.fields) (map size_of ps) → IsPut old new i (fields layout (parts_at (offsets_of layout.fields) ps)) →
     laid_out_each dl ts ≡ Ok ps → EachFits dl ts ps → IsAdded dl old new i (struct repr always_sized ts)
-IsAdded-fields dl old new i repr always_sized ps layout ts answer lawful none apart put exact fits =
+IsAdded-fields dl old new i repr always_sized ps layout ts answer lawful none view flag apart put exact fits =
     IsAdded-put dl old new i (fields layout (parts_at (offsets_of layout.fields) ps)) (struct repr always_sized ts) put
     (ap (λ r. and_then r (fields_answer dl repr always_sized)) exact ∙ answer)
     (Fits-fields dl repr always_sized ts layout (offsets_of layout.fields) ps fits apart
-    (subst (λ n. IfSome n (IsPartNiche (parts_at (offsets_of layout.fields) ps))) (sym none) tt) lawful)
+    (subst (λ n. IfSome n (IsPartNiche (parts_at (offsets_of layout.fields) ps))) (sym none) tt) view flag lawful)
 
 -- a list is laid out where its first type and the others are
 cons_parts : (r : Result Placed LayError) (rs : Result (List Placed) LayError) (ps : List Placed) → and_then r (λ p. and_then rs (λ qs. Ok (p ∷ qs))) ≡ Ok ps →
@@ -173,3 +184,35 @@ pub lawful_root : (dl : TargetDataLayout) (old new : List Node) (i : ℕ) (t : T
 lawful_root dl old new i t placed added is =
     let root : i ≡ length new - 1 = omega (arith, added.last) in
     subst (λ p. IsLawfulLayout dl (layout_of p)) (ap (placed_at new) root ∙ sym is) added.fits.lawful
+
+-- two scalars' layout
+pub IsAdded-pair : (dl : TargetDataLayout) (old one both new : List Node) (i j k : ℕ) (a b : Scalar) → scalar_fault dl a ≡ None → scalar_fault dl b ≡ None →
+    pair_size dl a b < size_bound dl → IsLawfulLayout dl (layout_of (one_scalar dl a)) → IsLawfulLayout dl (layout_of (one_scalar dl b)) → IsLawfulLayout dl (layout_of (two_scalars dl a b)) →
+    IsPut old one i (one_scalar dl a) → IsPut one both j (one_scalar dl b) → IsPut both new k (meaning (types_in both) (layout_of (two_scalars dl a b)) (Pair i j)) →
+    IsAdded dl old new k (pair a b)
+IsAdded-pair dl old one both new i j k a b fa fb below la lb lawful first second last =
+    let here : placed_in (types_in both) i ≡ one_scalar dl a = second.kept.same i (omega (arith, length-types_in one, first.last)) ∙ first.meant in
+    let there : placed_in (types_in both) j ≡ one_scalar dl b = second.meant in
+    let same : meaning (types_in both) (layout_of (two_scalars dl a b)) (Pair i j) ≡ two_scalars dl a b =
+    ap (λ p. placed_pair (layout_of (two_scalars dl a b)) (part 0 p (part (second_offset dl a b) (placed_in (types_in both) j) no_parts))) here
+    ∙ ap (λ p. placed_pair (layout_of (two_scalars dl a b)) (part 0 (one_scalar dl a) (part (second_offset dl a b) p no_parts))) there in
+    let put : IsPut old new k (two_scalars dl a b) = record {
+      kept = Keeps-trans (types_in old) (types_in one) (types_in new) first.kept (Keeps-trans (types_in one) (types_in both) (types_in new) second.kept last.kept);
+      well = λ h. last.well (second.well (first.well h));
+      last = last.last;
+      meant = last.meant ∙ same;
+    } in
+    let fits : nat_lt (pair_size dl a b) (size_bound dl) ≡ true = lt-ltb (pair_size dl a b) (size_bound dl) below in
+    let answer : (r : Result Placed LayError) → unless (scalar_fault dl a) (unless (scalar_fault dl b) r) ≡ r =
+    λ r. ap (λ f. unless f (unless (scalar_fault dl b) r)) fa ∙ ap (λ f. unless f r) fb in
+    IsAdded-put dl old new k (two_scalars dl a b) (pair a b) put
+    (answer (if nat_lt (pair_size dl a b) (size_bound dl) then Ok (two_scalars dl a b) else Err SizeOverflow) ∙ ap (λ t. if t then Ok (two_scalars dl a b) else Err SizeOverflow) fits)
+    (Fits-pair dl a b (faultless dl a fa) (faultless dl b fb) la lb lawful)
+
+-- two scalars that are too large
+pub pair_overflows : (dl : TargetDataLayout) (a b : Scalar) → scalar_fault dl a ≡ None → scalar_fault dl b ≡ None → size_bound dl ≤ pair_size dl a b → pair_answer dl a b ≡ Err SizeOverflow
+pair_overflows dl a b fa fb above =
+    let large : nat_lt (pair_size dl a b) (size_bound dl) ≡ false = le-ltb (pair_size dl a b) (size_bound dl) above in
+    let answer : (r : Result Placed LayError) → unless (scalar_fault dl a) (unless (scalar_fault dl b) r) ≡ r =
+    λ r. ap (λ f. unless f (unless (scalar_fault dl b) r)) fa ∙ ap (λ f. unless f r) fb in
+    answer (if nat_lt (pair_size dl a b) (size_bound dl) then Ok (two_scalars dl a b) else Err SizeOverflow) ∙ ap (λ t. if t then Ok (two_scalars dl a b) else Err SizeOverflow) large

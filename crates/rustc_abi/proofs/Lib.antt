@@ -1,12 +1,16 @@
 mod BytesLemmas
 mod HoldLemmas
 mod ScalarLemmas
+mod RoomForPair
+mod FaultLemmas
+mod PairLemmas
+mod EmptyLemmas
+mod FlagLemmas
 mod ElementsLemmas
 mod PartsLemmas
 mod NodesLemmas
 mod FieldsLemmas
 mod TreeLemmas
-mod LayLemmas
 mod ListLemmas
 mod RefusalLemmas
 mod RunsLemmas
@@ -15,3 +19,4 @@ mod WalkLemmas
 mod RoomLemmas
 mod PaddingLemmas
 mod Facts
+mod LayLemmas

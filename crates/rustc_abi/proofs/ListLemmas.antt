@@ -74,10 +74,12 @@ made_by : (H : Type 0) (bound : ℕ) (fault : Option (LayoutCalculatorError H)) 
 made_by H bound (Some e) layout made h = absurd (cc)
 made_by H bound None layout made h = chosen H (nat_lt layout.size bound) layout made h
 
--- such a list has no niche yet
-pub listed-niche : (dl : TargetDataLayout) (seed : ℕ) (layouts : List Layout) (made : Layout) → listed dl seed layouts ≡ Ok made → made.largest_niche ≡ None
-listed-niche dl seed layouts made h =
-    ap (λ l. l.largest_niche) (made_by Layout (size_bound dl) (fault_from (λ l. l) (size_bound dl) 0 layouts) (list_layout (λ i. i) 0 dl seed (map (λ l. l) layouts)) made h)
+-- the layout of a list
+pub listed-made : (dl : TargetDataLayout) (seed : ℕ) (layouts : List Layout) (made : Layout) → listed dl seed layouts ≡ Ok made →
+    made ≡ list_layout (λ i. i) 0 dl seed layouts
+listed-made dl seed layouts made h =
+    made_by Layout (size_bound dl) (fault_from (λ l. l) (size_bound dl) 0 layouts) (list_layout (λ i. i) 0 dl seed (map (λ l. l) layouts)) made h
+    ∙ ap (list_layout (λ i. i) 0 dl seed) (map-id layouts)
 
 -- each of these numbers is below n
 pub all_below : (n : ℕ) (children : List ℕ) → All (λ child. child < n) children → list_all (λ child. nat_lt child n) children ≡ true

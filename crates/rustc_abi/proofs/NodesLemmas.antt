@@ -2,16 +2,16 @@
 use Rattle.std.proofs.lemmas.Bool.{ltb-true}
 use Rattle.std.specs.Prelude.{nat_lt}
 use Rattle.std.proofs.Common.{subst, ◌≡◌, ℕ, zero, suc, ◌+◌, ◌<◌, List, [], ◌∷◌, ◌++◌, length, map, get_or, arith, refl, sym, ap, ◌∙◌, length-append}
-use Rattle.std.specs.Prelude.{true}
+use Rattle.std.specs.Prelude.{true, ◌&&◌}
 use Rattle.std.specs.Cmp.Derive.{both_true}
 use Rattle.std.proofs.lemmas.List.{get_or_append_left, get_or_push}
 use Rattle.std.proofs.lemmas.Bool.{and_parts}
 use Rattle.std.specs.List.{list_all}
 use Rattle.abi_calc.specs.Apart.{offsets_of}
 use Rattle.rustc_abi.specs.declared.node.Shape.{Shape}
-use Rattle.rustc_abi.specs.declared.node.Shape.TheVariants.{Scalar, Elements, Fields}
+use Rattle.rustc_abi.specs.declared.node.Shape.TheVariants.{Scalar, Pair, Never, Elements, Fields}
 use Rattle.rustc_abi.specs.declared.node.Node.{Node}
-use Rattle.rustc_abi.specs.Placed.{Placed, Layout, layout_of, elements, fields, nothing}
+use Rattle.rustc_abi.specs.Placed.{Placed, Layout, layout_of, pair, elements, fields, nothing}
 use Rattle.rustc_abi.specs.Nodes.{placed_in, parts_at, meaning, meanings, types_in, placed_at, Keeps}
 use Rattle.rustc_abi.specs.Adding.{is_node, are_nodes, IsPut}
 
@@ -37,6 +37,8 @@ meanings-first done (m ∷ ns) i lt =
 
 layout_of-meaning : (done : List Placed) (layout : Layout) (shape : Shape) → layout_of (meaning done layout shape) ≡ layout
 layout_of-meaning done layout (Scalar s) = refl
+layout_of-meaning done layout (Pair first second) = refl
+layout_of-meaning done layout Never = refl
 layout_of-meaning done layout (Elements count element) = refl
 layout_of-meaning done layout (Fields children) = refl
 
@@ -117,10 +119,17 @@ children-same xs ys n same (c ∷ cs) below =
     let rest : map (placed_in xs) cs ≡ map (placed_in ys) cs = children-same xs ys n same cs both.1 in
     cc
 
+-- both children of a pair's node come before it
+pub pair_before : (n first second : ℕ) → (nat_lt first n && nat_lt second n) ≡ true → list_all (λ child. nat_lt child n) (first ∷ second ∷ []) ≡ true
+pair_before n first second is = let both = and_parts (nat_lt first n) (nat_lt second n) is in both_true both.0 (both_true both.1 refl)
+
 -- a node's meaning from those before it is its meaning from all
 meaning-same : (xs ys : List Placed) (n : ℕ) → ((i : ℕ) → i < n → placed_in xs i ≡ placed_in ys i) → (layout : Layout) (shape : Shape) → is_node n shape ≡ true →
     meaning xs layout shape ≡ meaning ys layout shape
 meaning-same xs ys n same layout (Scalar s) is = refl
+meaning-same xs ys n same layout (Pair first second) is =
+    ap (λ ps. pair layout (parts_at (offsets_of layout.fields) ps)) (children-same xs ys n same (first ∷ second ∷ []) (pair_before n first second is))
+meaning-same xs ys n same layout Never is = refl
 meaning-same xs ys n same layout (Elements count element) is = ap (elements layout count) (same element (ltb-true element n is))
 meaning-same xs ys n same layout (Fields children) is =
     ap (λ ps. fields layout (parts_at (offsets_of layout.fields) ps)) (children-same xs ys n same children.items is)

@@ -8,23 +8,26 @@ use Rattle.std.proofs.lemmas.List.Elements.{All-nil, All-cons}
 use Rattle.std.proofs.Math.Bool.{or-false}
 use Rattle.abi_calc.specs.Apart.{offsets_of}
 use Rattle.abi_scalar.specs.declared.scalar.Scalar.{Scalar}
-use Rattle.rustc_abi.specs.declared.node.Shape.TheVariants.{Scalar as Number, Elements, Fields}
+use Rattle.rustc_abi.specs.declared.node.Shape.TheVariants.{Scalar as Number, Pair, Never, Elements, Fields}
 use Rattle.rustc_abi.specs.declared.node.Node.{Node}
 use Rattle.rustc_abi.specs.declared.runs.Run.{Run}
 use Rattle.std.specs.Prelude.{Vec}
 use Rattle.std.specs.declared.alloc.Global.{Global}
-use Rattle.rustc_abi.specs.Placed.{Placed, Layout, scalar, elements, fields, size_of, part, nothing}
+use Rattle.rustc_abi.specs.Placed.{Placed, Layout, scalar, pair, never, elements, fields, size_of, part, nothing}
 use Rattle.rustc_abi.specs.Places.{is_data_place, is_place_of_part}
 use Rattle.rustc_abi.specs.Nodes.{parts_at, placed_at}
 use Rattle.rustc_abi.specs.Room.{has_room, have_room}
 use Rattle.rustc_abi.specs.Adding.{are_nodes, all_at}
 use Rattle.rustc_abi.specs.Runs.{covers, repeats, Ascend, runs_from, is_beside, padding_of}
-use Rattle.rustc_abi.proofs.NodesLemmas.{placed_at-node}
+use Rattle.rustc_abi.proofs.NodesLemmas.{placed_at-node, pair_before}
 use Rattle.rustc_abi.proofs.RoomLemmas.{within_room, room_at, ends_inside}
 
 module _ (ns : List Node) (well : are_nodes 0 ns ≡ true) (i : ℕ) (n : Node) (lt : i < length ns) (at : n ≡ get_or ns i n) (room : has_room (placed_at ns i) ≡ true) where
   pub scalar_node : (s : Scalar) → n.shape ≡ Number s → placed_at ns i ≡ scalar n.layout s
   scalar_node s e = (placed_at-node ns well i n (Number s) lt at e).1
+
+  pub never_node : n.shape ≡ Never → placed_at ns i ≡ never n.layout
+  never_node e = (placed_at-node ns well i n Never lt at e).1
 
   pub elements_node : (count element : ℕ) → n.shape ≡ Elements count element →
       (element < i) × (placed_at ns i ≡ elements n.layout count (placed_at ns element)) × (n.layout.size ≡ size_of (placed_at ns element) * count)
@@ -46,6 +49,13 @@ module _ (ns : List Node) (well : are_nodes 0 ns ≡ true) (i : ℕ) (n : Node) 
   fields_node children e =
       let is = placed_at-node ns well i n (Fields children) lt at e in
       (all_before children.items is.0, is.1, ap has_room (sym is.1) ∙ room)
+
+  pub pair_node : (first second : ℕ) → n.shape ≡ Pair first second →
+      All (λ child. child < i) (first ∷ second ∷ []) × (placed_at ns i ≡ pair n.layout (parts_at (offsets_of n.layout.fields) (all_at ns (first ∷ second ∷ []))))
+      × (have_room n.layout.size (parts_at (offsets_of n.layout.fields) (all_at ns (first ∷ second ∷ []))) ≡ true)
+  pair_node first second e =
+      let is = placed_at-node ns well i n (Pair first second) lt at e in
+      (all_before (first ∷ second ∷ []) (pair_before i first second is.0), is.1, ap has_room (sym is.1) ∙ room)
 
 -- what repeats an element's runs are the array's places
 pub places_of_elements : (layout : Layout) (count : ℕ) (element : Placed) (runs : List Run) → ((k : ℕ) → covers runs k ≡ is_data_place element k) → (k : ℕ) →

@@ -1,7 +1,8 @@
 -- A scalar's layout keeps its numbers.
-use Rattle.std.proofs.Common.{◌≤◌, ◌≡◌, ℕ, ◌+◌, ◌<◌, List, length, Some, None, arith, refl, sym, ap, ◌∙◌, subst, ◌*◌}
+use Rattle.std.proofs.Common.{◌≤◌, ◌≡◌, ℕ, ◌+◌, ◌<◌, List, length, Some, None, arith, refl, sym, ap, ◌∙◌, subst, ◌*◌, ◌%◌}
 use Rattle.std.specs.Prelude.{IfSome, true, false, Bool, ◌==◌, ◌-◌, if◌then◌else◌}
 use Rattle.std.proofs.lemmas.List.{take_all}
+use Rattle.std.proofs.Math.Nat.{mod-eq_of_lt}
 use Rattle.std.proofs.lemmas.Nat.{mod_below, pow_pos}
 use Rattle.std.proofs.lemmas.Option.{IfSome_then}
 use Rattle.std.proofs.lemmas.Bool.{ltb-true, lt-ltb, eqb-true, and_parts}
@@ -26,21 +27,41 @@ use Rattle.rustc_abi.specs.Placed.{Placed, Layout, size_of, scalar as placed_sca
 use Rattle.rustc_abi.specs.Places.{is_data_place}
 use Rattle.rustc_abi.specs.Values.{IsValueOf}
 use Rattle.rustc_abi.specs.Holding.{Holds}
-use Rattle.rustc_abi.specs.Faithful.{AgreeOn, IsFaithful}
+use Rattle.rustc_abi.specs.Faithful.{AgreeOn, IsFaithful, IsFlagTrue, IsScalarTrue, IsTrueOf}
 use Rattle.rustc_abi.specs.Fits.{Fits}
-use Rattle.rustc_abi.specs.Laying.{is_full_integer}
+use Rattle.rustc_abi.specs.Laying.{one_scalar}
+use Rattle.abi_scalar.specs.declared.backend_repr.BackendRepr.TheVariants.{Scalar as OneScalar}
+use Rattle.abi_scalar.specs.Simple.{scalar_layout}
 use Rattle.rustc_abi.proofs.BytesLemmas.{same_bytes, spelled_in, length-spelled_in, number_of-spelled_in, AreBytes-spelled_in}
 
 -- a scalar's number is one of its width
-pub in_width : (width : ℕ) (s : Scalar) (n : ℕ) → IsNumberOf width s n → n < numbers_of width
+in_width : (width : ℕ) (s : Scalar) (n : ℕ) → IsNumberOf width s n → n < numbers_of width
 in_width width (Initialized value range) n h = subst (λ k. k < numbers_of width) (sym h.1) (mod_below (range.start + h.0) (numbers_of width) (pow_pos (8 * width)))
 in_width width (Union value) n h = h
 
 -- the niche, if there is one, is the scalar
-abbrev pub IsWhole : Scalar → Niche → Type 0
+abbrev IsWhole : Scalar → Niche → Type 0
 IsWhole s n = (n.offset ≡ 0) × (s ≡ Initialized n.value n.valid_range)
 
-module _ (dl : TargetDataLayout) (s : Scalar) (layout : Layout) (size : layout.size ≡ scalar_size dl s) (niche : IfSome layout.largest_niche (IsWhole s)) where
+-- a scalar's bytes hold a number of its range
+pub held_true : (dl : TargetDataLayout) (s : Scalar) (width : ℕ) (b : List ℕ) (m : ℕ) → width ≡ scalar_size dl s → length b ≡ width →
+    m ≡ number_of dl.endian b → IsNumberOf width s m → IsScalarTrue dl 0 s b
+held_true dl (Initialized value range) width b m w long is h =
+    let whole : bytes_at b 0 (primitive_size dl value) ≡ b = take_all (primitive_size dl value) b (omega (arith, w, long)) in
+    subst (λ x. IsIn x range (number_of dl.endian (bytes_at b 0 (primitive_size dl value)))) w
+    (subst (IsIn width range) (is ∙ ap (number_of dl.endian) (sym whole)) h)
+held_true dl (Union value) width b m w long is h = tt
+
+-- a scalar has a number
+pub some_number : (dl : TargetDataLayout) (s : Scalar) → IsLawfulScalar dl s → (n : ℕ) × IsNumberOf (scalar_size dl s) s n
+some_number dl (Initialized value range) h =
+    let first : range.start + 0 ≡ range.start = omega arith in
+    let same : range.start ≡ (range.start + 0) % numbers_of (primitive_size dl value) = sym (ap (λ n. n % numbers_of (primitive_size dl value)) first ∙ mod-eq_of_lt h.within.0) in
+    (range.start, (0, same, λ k lt. absurd (omega (arith, lt))))
+some_number dl (Union value) h = (0, pow_pos (8 * primitive_size dl value))
+
+module _ (dl : TargetDataLayout) (s : Scalar) (layout : Layout) (size : layout.size ≡ scalar_size dl s) (niche : IfSome layout.largest_niche (IsWhole s))
+    (view : layout.backend_repr ≡ OneScalar s) (flag : layout.uninhabited ≡ false) (here : IsLawfulScalar dl s) where
   abbrev tree : Tree
   tree = scalar s
 
@@ -103,6 +124,17 @@ module _ (dl : TargetDataLayout) (s : Scalar) (layout : Layout) (size : layout.s
       let width : layout.size ≡ niche_size dl n = size ∙ ap (scalar_size dl) e.1 in
       omega (arith, width, e.0)
 
+  true_view : (b : List ℕ) (v : Value) → Holds dl.endian placed b v → IsTrueOf dl layout.backend_repr b
+  true_view b (number m) h = subst (λ r. IsTrueOf dl r b) (sym view) (held_true dl s layout.size b m size h.0 h.1 h.2)
+  true_view b (two m k) h = absurd h
+  true_view b (list vs) h = absurd h
+  true_view b (variant i vs) h = absurd h
+  true_view b (state i ps vs) h = absurd h
+  true_view b (bytes content) h = absurd h
+
+  true_flag : IsFlagTrue dl tree placed
+  true_flag = let some = some_number dl s here in rw flag (number some.0, some.1)
+
   faithful : IsFaithful dl tree placed
   faithful = record {
     exists = exists;
@@ -111,56 +143,29 @@ module _ (dl : TargetDataLayout) (s : Scalar) (layout : Layout) (size : layout.s
     niche = IfSome_then layout.largest_niche niche true_niche;
     inside = IfSome_then layout.largest_niche niche inside_niche;
     padding = padding;
+    view = true_view;
+    flag = λ _. true_flag;
   }
 
   within : (k : ℕ) → is_data_place placed k ≡ true → k < size_of placed
   within k place = ltb-true k layout.size place
-
--- a scalar's layout
-pub Fits-scalar : (dl : TargetDataLayout) (s : Scalar) (layout : Layout) → layout.size ≡ scalar_size dl s → IfSome layout.largest_niche (IsWhole s) →
-    IsLawfulLayout dl layout → Fits dl (scalar s) (placed_scalar layout s)
-Fits-scalar dl s layout size niche lawful = record { faithful = λ _. faithful dl s layout size niche; lawful = lawful; room = refl; within = within dl s layout size niche }
 
 niche_by : (b : Bool) (n : Niche) (s : Scalar) → IsWhole s n → IfSome (if b then None else Some n) (IsWhole s)
 niche_by true n s h = tt
 niche_by false n s h = h
 
 -- a scalar's niche is the scalar
-pub scalar_niche : (dl : TargetDataLayout) (s : Scalar) → IfSome (niche_at dl 0 s) (IsWhole s)
+scalar_niche : (dl : TargetDataLayout) (s : Scalar) → IfSome (niche_at dl 0 s) (IsWhole s)
 scalar_niche dl (Initialized value range) =
     niche_by (free_count (primitive_size dl value) range == 0) (record { offset = 0; value = value; valid_range = range }) (Initialized value range) (refl, refl)
 scalar_niche dl (Union value) = tt
 
-module _ (dl : TargetDataLayout) where
-  width_some : (i : Integer) → 1 ≤ integer_size i
-  width_some I8 = omega arith
-  width_some I16 = omega arith
-  width_some I32 = omega arith
-  width_some I64 = omega arith
-  width_some I128 = omega arith
 
-  width_most : (i : Integer) → integer_size i ≤ 16
-  width_most I8 = omega arith
-  width_most I16 = omega arith
-  width_most I32 = omega arith
-  width_most I64 = omega arith
-  width_most I128 = omega arith
-
-  full_within : (i : Integer) (signed : Bool) (range : WrappingRange) → is_full_integer (Initialized (Int i signed) range) ≡ true → AreWithin (integer_size i) range
-  full_within i signed range h =
-      let both = and_parts (range.start == 0) (range.end == numbers_of (integer_size i) - 1) h in
-      let positive = pow_pos (8 * integer_size i) in
-      (omega (arith, eqb-true range.start 0 both.0, positive), omega (arith, eqb-true range.end (numbers_of (integer_size i) - 1) both.1, positive))
-
-  -- a full integer can be read, and is lawful
-  pub full_readable : (s : Scalar) → is_full_integer s ≡ true → IsReadable dl s
-  full_readable (Initialized (Int i signed) range) h = record { known = tt; some = width_some i; most = width_most i; within = full_within i signed range h }
-  full_readable (Initialized (Float f) range) h = absurd (cc)
-  full_readable (Initialized (Pointer space) range) h = absurd (cc)
-  full_readable (Union value) h = absurd (cc)
-
-  pub full_lawful : (s : Scalar) → is_full_integer s ≡ true → IsLawfulScalar dl s
-  full_lawful (Initialized (Int i signed) range) h = record { pointer = tt; within = full_within i signed range h }
-  full_lawful (Initialized (Float f) range) h = absurd (cc)
-  full_lawful (Initialized (Pointer space) range) h = absurd (cc)
-  full_lawful (Union value) h = absurd (cc)
+-- a lawful scalar's layout
+pub Fits-scalar : (dl : TargetDataLayout) (s : Scalar) → IsLawfulScalar dl s → IsLawfulLayout {F = ℕ} {V = ℕ} dl (scalar_layout 0 dl s) → Fits dl (scalar s) (one_scalar dl s)
+Fits-scalar dl s here lawful = record {
+  faithful = λ _. faithful dl s (scalar_layout 0 dl s) refl (scalar_niche dl s) refl refl here;
+  lawful = lawful;
+  room = refl;
+  within = within dl s (scalar_layout 0 dl s) refl (scalar_niche dl s) refl refl here;
+}

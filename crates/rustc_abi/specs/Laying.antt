@@ -1,31 +1,25 @@
 -- Which layout each type has, or why it has none: children first, left to right.
-use Rattle.std.specs.Prelude.{ℕ, ◌-◌, ◌==◌, ◌&&◌, Bool, false, List, [], ◌∷◌, length, map, nat_lt, is_none, Some, Result, Ok, Err, if◌then◌else◌}
+use Rattle.std.specs.Prelude.{ℕ, ◌==◌, ◌&&◌, Bool, true, List, [], ◌∷◌, length, map, nat_lt, is_none, Option, None, Some, Result, Ok, Err, if◌then◌else◌}
 use Rattle.abi_base.specs.declared.data_layout.TargetDataLayout.{TargetDataLayout}
-use Rattle.abi_base.specs.declared.primitive.Primitive.TheVariants.{Int}
-use Rattle.abi_base.specs.Integer.{integer_size}
+use Rattle.abi_base.specs.DataLayout.{size_bound}
 use Rattle.abi_scalar.specs.declared.scalar.Scalar.{Scalar}
-use Rattle.abi_scalar.specs.declared.scalar.Scalar.TheVariants.{Initialized}
 use Rattle.abi_scalar.specs.declared.repr.ReprOptions.{ReprOptions}
-use Rattle.abi_scalar.specs.Range.{numbers_of}
-use Rattle.abi_scalar.specs.Simple.{scalar_layout}
+use Rattle.abi_scalar.specs.Simple.{scalar_layout, never_layout, unit_layout}
+use Rattle.abi_scalar.specs.Pair.{pair_layout, pair_size, second_offset}
 use Rattle.abi_calc.specs.Apart.{offsets_of}
 use Rattle.abi_calc.specs.Array.{array_answer}
 use Rattle.abi_calc.specs.List.{list_answer}
 use Rattle.rustc_abi.specs.declared.error.LayError.{LayError}
-use Rattle.rustc_abi.specs.declared.error.LayError.TheVariants.{NotYet, BadIndex}
+use Rattle.rustc_abi.specs.declared.error.LayError.TheVariants.{NotYet, BadIndex, SizeOverflow}
 use Rattle.rustc_abi.specs.Tree.{Tree, scalar, pair, never, unit, array, vector, struct, union, enum, coroutine, Trees, no_trees, more_trees, Variants, no_variants, more_variants}
-use Rattle.rustc_abi.specs.Placed.{Placed, Layout, layout_of, scalar as placed_scalar, elements, fields}
+use Rattle.rustc_abi.specs.Placed.{Placed, Layout, layout_of, scalar as placed_scalar, pair as placed_pair, never as placed_never, elements, fields, no_parts, part}
 use Rattle.rustc_abi.specs.Nodes.{parts_at}
 use Rattle.rustc_abi.specs.Error.{named, and_then}
+use Rattle.rustc_abi.specs.ScalarFault.{scalar_fault}
 
 -- the type with the layout that was answered
 abbrev pub placed_by : (Layout → Placed) → Result Layout LayError → Result Placed LayError
 placed_by make answer = and_then answer (λ layout. Ok (make layout))
-
--- an integer that may be any number of its width
-abbrev pub is_full_integer : Scalar → Bool
-is_full_integer (Initialized (Int integer signed) range) = (range.start == 0) && (range.end == numbers_of (integer_size integer) - 1)
-is_full_integer _ = false
 
 -- `repr(C)` and nothing else
 abbrev pub is_plain_c : ReprOptions → Bool
@@ -35,8 +29,28 @@ is_plain_c repr = (repr.flags.0 == 1) && (is_none repr.int && (is_none repr.alig
 abbrev pub most_fields : ℕ
 most_fields = 0xFFFF_FF01
 
+-- the answer, where there is no fault
+abbrev pub unless : Option LayError → Result Placed LayError → Result Placed LayError
+unless None answer = answer
+unless (Some e) answer = Err e
+
+-- a lawful scalar, laid out
+abbrev pub one_scalar : TargetDataLayout → Scalar → Placed
+one_scalar dl s = placed_scalar (scalar_layout 0 dl s) s
+
+-- two lawful scalars, laid out: each is a part
+abbrev pub two_scalars : TargetDataLayout → (a b : Scalar) → Placed
+two_scalars dl a b =
+    placed_pair (pair_layout 0 0 1 dl a b) (part 0 (one_scalar dl a) (part (second_offset dl a b) (one_scalar dl b) no_parts))
+
 abbrev pub scalar_answer : TargetDataLayout → Scalar → Result Placed LayError
-scalar_answer dl s = if is_full_integer s then Ok (placed_scalar (scalar_layout 0 dl s) s) else Err NotYet
+scalar_answer dl s = unless (scalar_fault dl s) (Ok (one_scalar dl s))
+
+-- both faults of the first scalar come before the second's, and then the bound
+abbrev pub pair_answer : TargetDataLayout → (a b : Scalar) → Result Placed LayError
+pair_answer dl a b =
+    unless (scalar_fault dl a) (unless (scalar_fault dl b)
+    (if nat_lt (pair_size dl a b) (size_bound dl) then Ok (two_scalars dl a b) else Err SizeOverflow))
 
 abbrev pub elements_answer : TargetDataLayout → (count : ℕ) → Placed → Result Placed LayError
 elements_answer dl count element =
@@ -59,9 +73,9 @@ abbrev mutual
   laid_out dl (scalar s) = scalar_answer dl s
   laid_out dl (array count element) = and_then (laid_out dl element) (elements_answer dl count)
   laid_out dl (struct repr always_sized all) = and_then (laid_out_each dl all) (fields_answer dl repr always_sized)
-  laid_out dl (pair a b) = Err NotYet
-  laid_out dl never = Err NotYet
-  laid_out dl unit = Err NotYet
+  laid_out dl (pair a b) = pair_answer dl a b
+  laid_out dl never = Ok (placed_never (never_layout dl))
+  laid_out dl unit = Ok (fields (unit_layout 0 dl true) no_parts)
   laid_out dl (vector lanes packed element) = and_then (laid_out dl element) (λ p. Err NotYet)
   laid_out dl (union repr all) = and_then (laid_out_each dl all) (λ ps. Err NotYet)
   laid_out dl (enum repr all) = and_then (laid_out_variants dl all) (λ ps. Err NotYet)

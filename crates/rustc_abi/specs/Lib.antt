@@ -11,6 +11,7 @@ pub mod Room
 pub mod Fits
 pub mod Error
 pub mod Nodes
+pub mod ScalarFault
 pub mod Laying
 pub mod Adding
 pub mod Laid

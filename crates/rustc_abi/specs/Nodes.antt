@@ -1,9 +1,9 @@
 -- What the nodes of a vector mean, each of which names only earlier ones.
 use Rattle.std.specs.Prelude.{◌≡◌, ℕ, ◌-◌, ◌<◌, ◌≤◌, List, [], ◌∷◌, ◌++◌, get_or, length, map}
 use Rattle.abi_calc.specs.Apart.{offsets_of}
-use Rattle.rustc_abi.specs.Placed.{Placed, Layout, scalar, elements, fields, Parts, no_parts, part, nothing}
+use Rattle.rustc_abi.specs.Placed.{Placed, Layout, scalar, pair, never, elements, fields, Parts, no_parts, part, nothing}
 use Rattle.rustc_abi.specs.declared.node.Shape.{Shape}
-use Rattle.rustc_abi.specs.declared.node.Shape.TheVariants.{Scalar, Elements, Fields}
+use Rattle.rustc_abi.specs.declared.node.Shape.TheVariants.{Scalar, Pair, Never, Elements, Fields}
 use Rattle.rustc_abi.specs.declared.node.Node.{Node}
 
 -- the type that stands at this place
@@ -18,6 +18,9 @@ parts_at _ _ = no_parts
 -- what a node means, after those before it
 abbrev pub meaning : List Placed → Layout → Shape → Placed
 meaning done layout (Scalar s) = scalar layout s
+meaning done layout (Pair first second) =
+    pair layout (parts_at (offsets_of layout.fields) (placed_in done first ∷ placed_in done second ∷ []))
+meaning done layout Never = never layout
 meaning done layout (Elements count element) = elements layout count (placed_in done element)
 meaning done layout (Fields children) = fields layout (parts_at (offsets_of layout.fields) (map (placed_in done) children.items))
 

@@ -77,3 +77,22 @@ module _ (dl : TargetDataLayout) where
     pub LocalsOfVariants : Variants → Type 0
     LocalsOfVariants no_variants = ⊤
     LocalsOfVariants (more_variants discriminant fields others) = LocalsOfEach fields × LocalsOfVariants others
+
+  -- Each vector's element in the tree has a value: of other trees nothing is said.
+  abbrev mutual
+    pub VectorsHaveValues : Tree → Type 0
+    VectorsHaveValues (array count element) = VectorsHaveValues element
+    VectorsHaveValues (vector lanes packed element) = VectorsHaveValues element × HasValue element
+    VectorsHaveValues (struct repr always_sized fields) = VectorsOfEach fields
+    VectorsHaveValues (union repr fields) = VectorsOfEach fields
+    VectorsHaveValues (enum repr all) = VectorsOfVariants all
+    VectorsHaveValues (coroutine prefix locals states conflicts) = VectorsOfEach prefix × VectorsOfEach locals
+    VectorsHaveValues _ = ⊤
+
+    pub VectorsOfEach : Trees → Type 0
+    VectorsOfEach no_trees = ⊤
+    VectorsOfEach (more_trees t ts) = VectorsHaveValues t × VectorsOfEach ts
+
+    pub VectorsOfVariants : Variants → Type 0
+    VectorsOfVariants no_variants = ⊤
+    VectorsOfVariants (more_variants discriminant fields others) = VectorsOfEach fields × VectorsOfVariants others

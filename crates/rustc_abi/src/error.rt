@@ -12,6 +12,10 @@ pub enum LayError {
     NotYet,
     /// A list has more items than its index type can name.
     BadIndex,
+    /// A scalar is a pointer into a space that the data layout doesn't know, or whose pointers aren't lawful.
+    UnknownSpace,
+    /// An end of a scalar's range is no number of its width.
+    BadRange,
     /// A field that has to be sized is unsized, as none in a tree is.
     UnexpectedUnsized,
     /// A size is not below the data layout's bound.

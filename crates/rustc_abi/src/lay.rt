@@ -4,10 +4,10 @@ ghost use Rattle.std.specs.Prelude.{◌≡◌, ◌-◌, ◌<◌, ◌≤◌, ◌&
 ghost use Rattle.std.specs.declared.alloc.Global.{Global};
 ghost use Rattle.abi_base.specs.DataLayout.{IsLawfulDataLayout};
 ghost use Rattle.abi_scalar.specs.Lawful.{IsLawfulLayout};
-ghost use Rattle.rustc_abi.specs.Tree.{Tree, Trees, tree_of, trees, trees_of_variants, scalar, array, struct};
+ghost use Rattle.rustc_abi.specs.Tree.{Tree, Trees, tree_of, trees, trees_of_variants, array, struct};
 ghost use Rattle.rustc_abi.specs.Placed.{layout_of, size_of};
 ghost use Rattle.rustc_abi.specs.Nodes.{types_in, placed_at, meaning};
-ghost use Rattle.rustc_abi.specs.Laying.{laid_out, laid_out_each, laid_out_variants, is_full_integer, is_plain_c, most_fields, scalar_answer, elements_answer, listed, fields_answer};
+ghost use Rattle.rustc_abi.specs.Laying.{laid_out, laid_out_each, laid_out_variants, is_plain_c, most_fields, elements_answer, listed, fields_answer};
 ghost use Rattle.rustc_abi.specs.Error.{named};
 ghost use Rattle.rustc_abi.specs.Fits.{Fits};
 ghost use Rattle.abi_calc.specs.Array.{array_answer};
@@ -15,12 +15,13 @@ ghost use Rattle.abi_calc.specs.Apart.{AreApart, offsets_of};
 ghost use Rattle.rustc_abi.specs.Adding.{is_node, IsPut, IsAdded, AreAdded, IsRefusal, EachFits, all_at};
 
 use crate::error::LayError;
+use crate::lay_scalar::{add_never, add_pair, add_scalar, add_unit};
 use crate::node::{Node, Shape};
 use crate::tree::TypeTree;
-use abi_base::{Primitive, StructKind, TargetDataLayout};
+use abi_base::{StructKind, TargetDataLayout};
 use abi_calc::LayoutCalculator;
 use abi_index::{FieldIdx, IndexSlice, VariantIdx};
-use abi_scalar::{LayoutCalculatorError, LayoutData, ReprOptions, Scalar};
+use abi_scalar::{LayoutCalculatorError, LayoutData, ReprOptions};
 use bitflags::Flags;
 use std::alloc::{AllocError, Global};
 
@@ -36,7 +37,7 @@ pub(crate) fn layout_at(nodes: &[Node], node: usize) -> &LayoutData<FieldIdx, Va
 }
 
 /// Puts a node behind the others.
-fn add(
+pub(crate) fn add(
     nodes: &mut Vec<Node>,
     layout: LayoutData<FieldIdx, VariantIdx>,
     shape: Shape,
@@ -48,19 +49,6 @@ fn add(
     let node = nodes.len();
     nodes.push(Node { layout, shape })?;
     Ok(node)
-}
-
-/// Whether the scalar is an integer that may be any number of its width.
-fn is_full_integer(scalar: &Scalar) -> bool
-    ensures { result ≡ is_full_integer scalar.now }
-{
-    match scalar {
-        Scalar::Initialized {
-            value: Primitive::Int(integer, _),
-            valid_range,
-        } => valid_range.start == 0 && valid_range.end == integer.size().unsigned_int_max(),
-        _ => false,
-    }
 }
 
 /// Whether the options are `repr(C)` and nothing else.
@@ -79,22 +67,6 @@ fn is_known(repr: &ReprOptions, always_sized: bool) -> bool
     ensures { result ≡ (is_plain_c repr.now && always_sized) }
 {
     is_plain_c(repr) && always_sized
-}
-
-/// A node for a scalar.
-fn add_scalar(
-    dl: &TargetDataLayout,
-    nodes: &mut Vec<Node>,
-    value: Scalar,
-) -> Result<usize, LayError>
-    requires { IsLawfulDataLayout dl.now }
-    ensures ok { IfOk result (λ i. IsAdded dl.now nodes.old.items nodes.new.items i (scalar value)) }
-    ensures err { IfErr result (IsRefusal (scalar_answer dl.now value)) }
-{
-    if !is_full_integer(&value) {
-        return Err(LayError::NotYet);
-    }
-    add(nodes, LayoutData::scalar(&dl, value), Shape::Scalar(value))
 }
 
 /// The layout of so many elements, each as the node `element`.
@@ -222,6 +194,9 @@ pub(crate) fn lay_tree(
 {
     match tree {
         TypeTree::Scalar(value) => add_scalar(dl, nodes, *value),
+        TypeTree::Pair(a, b) => add_pair(alloc, dl, nodes, *a, *b),
+        TypeTree::Never => add_never(dl, nodes),
+        TypeTree::Unit => add_unit(alloc, dl, nodes),
         TypeTree::Array(count, element) => {
             let element = lay_tree(alloc, dl, nodes, element)?;
             add_elements(dl, nodes, *count, element)
@@ -234,7 +209,6 @@ pub(crate) fn lay_tree(
             let children = lay_each(alloc, dl, nodes, fields)?;
             add_fields(alloc, dl, nodes, repr, *always_sized, children)
         }
-        TypeTree::Pair(_, _) | TypeTree::Never | TypeTree::Unit => Err(LayError::NotYet),
         TypeTree::Vector {
             lanes: _,
             packed: _,

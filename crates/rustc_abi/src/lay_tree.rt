@@ -3,8 +3,8 @@
 ghost use Rattle.std.specs.Prelude.{◌≡◌, IfOk, IfErr, Err, Ok};
 ghost use Rattle.abi_base.specs.DataLayout.{IsLawfulDataLayout};
 ghost use Rattle.rustc_abi.specs.Tree.{tree_of};
-ghost use Rattle.rustc_abi.specs.Values.{LocalsHaveValues};
-ghost use Rattle.rustc_abi.specs.Faithful.{EachValueIsHeld, OnlyValuesAreHeld, NoBytesHoldTwo, IsNicheTrue, IsNicheInside, PaddingDecidesNothing};
+ghost use Rattle.rustc_abi.specs.Values.{LocalsHaveValues, VectorsHaveValues};
+ghost use Rattle.rustc_abi.specs.Faithful.{EachValueIsHeld, OnlyValuesAreHeld, NoBytesHoldTwo, IsNicheTrue, IsNicheInside, PaddingDecidesNothing, IsViewTrue, IsFlagTrue};
 ghost use Rattle.abi_scalar.specs.Lawful.{IsLawfulLayout};
 ghost use Rattle.rustc_abi.specs.Placed.{layout_of};
 ghost use Rattle.rustc_abi.specs.Laid.{placed_of, endian_of};
@@ -21,8 +21,9 @@ use std::alloc::Global;
 /// Lays out a tree under a data layout: children before parents, left to right.
 ///
 /// `UnlawfulDataLayout` where the data layout isn't lawful. Else the first fault of a part: `NotYet` for a type that isn't
-/// laid out yet, `BadIndex` for a list of more fields than its index type can name, `SizeOverflow` for a size that is not
-/// below the data layout's bound. `OutOfMemory` where a growth of memory was refused.
+/// laid out yet, `UnknownSpace` for a scalar that is a pointer into a space that the data layout doesn't know or whose
+/// pointers aren't lawful, `BadRange` for one whose range has an end that is no number of its width, `BadIndex` for a list
+/// of more fields than its index type can name, `SizeOverflow` for a size that is not below the data layout's bound. `OutOfMemory` where a growth of memory was refused.
 pub fn lay_out(alloc: Global, dl: &TargetDataLayout, tree: &TypeTree) -> Result<Laid, LayError>
     // When it is refused, and for what.
     ensures lawful { IfOk result (λ _. IsLawfulDataLayout dl.now) }
@@ -43,6 +44,9 @@ pub fn lay_out(alloc: Global, dl: &TargetDataLayout, tree: &TypeTree) -> Result<
     ensures inside { IfOk result (λ laid. LocalsHaveValues dl.now (tree_of tree.now) → IsNicheInside dl.now (placed_of laid)) }
     ensures padding { IfOk result (λ laid. LocalsHaveValues dl.now (tree_of tree.now) →
         PaddingDecidesNothing dl.now (placed_of laid)) }
+    ensures view { IfOk result (λ laid. LocalsHaveValues dl.now (tree_of tree.now) → IsViewTrue dl.now (placed_of laid)) }
+    ensures uninhabited { IfOk result (λ laid. LocalsHaveValues dl.now (tree_of tree.now) → VectorsHaveValues dl.now (tree_of tree.now) →
+        IsFlagTrue dl.now (tree_of tree.now) (placed_of laid)) }
 {
     if !dl.is_lawful() {
         return Err(LayError::UnlawfulDataLayout);

@@ -8,6 +8,10 @@ use abi_scalar::{LayoutData, Scalar};
 pub(crate) enum Shape {
     /// A number.
     Scalar(Scalar),
+    /// Two numbers, each a child; the layout says where they lie.
+    Pair { first: usize, second: usize },
+    /// No value.
+    Never,
     /// So many elements, each as the child.
     Elements { count: u64, element: usize },
     /// A child for each field, in source order; the layout says where they lie.

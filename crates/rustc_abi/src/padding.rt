@@ -94,6 +94,15 @@ pub(crate) fn data_runs(alloc: Global, nodes: &[Node], node: usize) -> Result<Ve
     let size = here.layout.size.bytes();
     match &here.shape {
         Shape::Scalar(_) => whole(alloc, size),
+        Shape::Never => whole(alloc, size),
+        Shape::Pair { first, second } => fields_runs(
+            alloc,
+            nodes,
+            node,
+            size,
+            offsets(&here.layout),
+            &[*first, *second],
+        ),
         Shape::Elements { count, element } => {
             if *count == 0 {
                 return Ok(Vec::new(alloc));

@@ -1,4 +1,4 @@
-use Rattle.std.proofs.Common.{◌≡◌, le-ltb, true, false, length, arith, sym, ◌∙◌}
+use Rattle.std.proofs.Common.{◌≡◌, le-ltb, true, false, length, arith, sym, ap, ◌∙◌}
 use Rattle.std.specs.Prelude.{◌&&◌, nat_lt}
 use Rattle.std.proofs.lemmas.List.{length-map}
 use Rattle.rustc_abi.specs.Nodes.{placed_in, types_in}
@@ -6,7 +6,7 @@ use Rattle.std.proofs.lemmas.Result.{IfOk-weaker}
 use Rattle.rustc_abi.specs.Laying.{is_plain_c, most_fields}
 use Rattle.rustc_abi.specs.Adding.{all_at}
 use Rattle.rustc_abi.proofs.LayLemmas.{IsAdded-fields, fields_made}
-use Rattle.rustc_abi.proofs.ListLemmas.{listed-niche, all_below}
+use Rattle.rustc_abi.proofs.ListLemmas.{listed-made, all_below}
 use Rattle.rustc_abi.proofs.lay.add_fields.Goals as goal
 
 pub fields_layout-requires-clause-lawful : goal.fields_layout-requires-clause-lawful
@@ -24,7 +24,8 @@ returns-clause-ok c =
     let few : nat_lt most_fields (length ps) ≡ false = le-ltb most_fields (length ps) (omega (arith, length-map c.args.children.items (placed_in (types_in c.args.nodes.now.items)))) in
     let listed = rw (c.deref.ensures.value, c.deref-2.ensures.value) at c.in_ok-layout.ensures.ok in
     let apart = rw (c.deref.ensures.value, c.deref-2.ensures.value) at c.in_ok-layout.ensures.apart in
+    let made = listed-made dl _ _ _ listed in
     IfOk-weaker c.add.result _ _
     (λ i put ts laid fits. IsAdded-fields dl _ _ i repr c.args.always_sized ps _ ts (fields_made dl repr c.args.always_sized ps _ known few listed)
-    c.in_ok-layout.ensures.lawful (listed-niche dl _ _ _ listed) apart put laid fits)
+    c.in_ok-layout.ensures.lawful (ap (λ l. l.largest_niche) made) (ap (λ l. l.backend_repr) made) (ap (λ l. l.uninhabited) made) apart put laid fits)
     c.add.ensures.ok

@@ -13,5 +13,11 @@ returns-clause-unique c = λ locals. (faithful_root _ _ _ _ _ _ c.in_ok-_root.en
 pub returns-clause-padding : goal.returns-clause-padding
 returns-clause-padding c = λ locals. (faithful_root _ _ _ _ _ _ c.in_ok-_root.ensures.ok c.new.ensures.placed locals).padding
 
+pub returns-clause-view : goal.returns-clause-view
+returns-clause-view c = λ locals. (faithful_root _ _ _ _ _ _ c.in_ok-_root.ensures.ok c.new.ensures.placed locals).view
+
+pub returns-clause-uninhabited : goal.returns-clause-uninhabited
+returns-clause-uninhabited c = λ locals vectors. (faithful_root _ _ _ _ _ _ c.in_ok-_root.ensures.ok c.new.ensures.placed locals).flag vectors
+
 pub returns-clause-layout : goal.returns-clause-layout
 returns-clause-layout c = lawful_root _ _ _ _ _ _ c.in_ok-_root.ensures.ok c.new.ensures.placed

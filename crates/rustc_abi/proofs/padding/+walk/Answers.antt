@@ -13,7 +13,7 @@ use Rattle.std.proofs.lemmas.List.Elements.{All-append}
 use Rattle.rustc_abi.proofs.WalkLemmas.{covers-put, some-shifted}
 use Rattle.std.proofs.lemmas.Slice.Zip.{zip_turn, zip_end}
 use Rattle.rustc_abi.proofs.RoomLemmas.{each_some}
-use Rattle.rustc_abi.proofs.PaddingLemmas.{scalar_node, elements_node, fields_node, places_of_elements, places_of_none, runs_inside, field_at, fields_more, parts_at-all}
+use Rattle.rustc_abi.proofs.PaddingLemmas.{scalar_node, never_node, pair_node, elements_node, fields_node, places_of_elements, places_of_none, runs_inside, field_at, fields_more, parts_at-all}
 use Rattle.rustc_abi.proofs.padding.+walk.Goals as goal
 
 pub data_runs-layout_at-requires : goal.data_runs-layout_at-requires
@@ -51,8 +51,27 @@ data_runs-repeated-requires-clause-some t c = rw c.deref.ensures.value (each_som
 
 pub data_runs-fields_runs-requires : goal.data_runs-fields_runs-requires
 data_runs-fields_runs-requires t c =
+    let facts = pair_node c.args.nodes.now c.requires.well c.args.node _ c.requires.there c.index-nodes-node.is c.requires.room c.in-Pair.first c.in-Pair.second c.in-Pair.is in
+    (omega (arith, c.decreases), (c.requires.there, (facts.0, (c.requires.well, rw c.bytes-size.ensures (rw c.offsets.ensures facts.2)))))
+
+pub data_runs-fields_runs-requires-in-Fields : goal.data_runs-fields_runs-requires-in-Fields
+data_runs-fields_runs-requires-in-Fields t c =
     let facts = fields_node c.args.nodes.now c.requires.well c.args.node _ c.requires.there c.index-nodes-node.is c.requires.room c.in-Fields.children c.in-Fields.is in
-    (omega (arith, c.decreases), (c.requires.there, (rw c.deref-in-Fields.ensures.value facts.0, (c.requires.well, rw c.bytes-size.ensures (rw c.offsets.ensures (rw c.deref-in-Fields.ensures.value facts.2))))))
+    (omega (arith, c.decreases), (c.requires.there, (rw c.deref-in-Fields.ensures.value facts.0, (c.requires.well, rw c.bytes-size.ensures (rw c.offsets-in-Fields.ensures (rw c.deref-in-Fields.ensures.value facts.2))))))
+
+pub data_runs-returns-in-Never-clause-covers : goal.data_runs-returns-in-Never-clause-covers
+data_runs-returns-in-Never-clause-covers t c =
+    let is = never_node c.args.nodes.now c.requires.well c.args.node _ c.requires.there c.index-nodes-node.is c.requires.room c.in-Never.is in
+    IfOk-weaker c.whole-in-Never.result _ _ (λ runs same k. same k ∙ ap (nat_lt k) c.bytes-size.ensures ∙ ap (λ p. is_data_place p k) (sym is)) c.whole-in-Never.ensures.covers
+
+pub data_runs-returns-in-Pair-clause-covers : goal.data_runs-returns-in-Pair-clause-covers
+data_runs-returns-in-Pair-clause-covers t c =
+    let facts = pair_node c.args.nodes.now c.requires.well c.args.node _ c.requires.there c.index-nodes-node.is c.requires.room c.in-Pair.first c.in-Pair.second c.in-Pair.is in
+    IfOk-weaker c.fields_runs.result _ _
+    (λ runs same k. same k
+    ∙ ap (λ os. is_place_of_part (parts_at os (all_at c.args.nodes.now (c.in-Pair.first ∷ c.in-Pair.second ∷ []))) k) c.offsets.ensures
+    ∙ ap (λ p. is_data_place p k) (sym facts.1))
+    c.fields_runs.ensures.covers
 
 pub data_runs-returns-in-Scalar-clause-covers : goal.data_runs-returns-in-Scalar-clause-covers
 data_runs-returns-in-Scalar-clause-covers t c =
@@ -75,12 +94,12 @@ data_runs-returns-in_ok-runs-in-Elements-clause-covers t c =
 pub data_runs-returns-in-Fields-clause-covers : goal.data_runs-returns-in-Fields-clause-covers
 data_runs-returns-in-Fields-clause-covers t c =
     let facts = fields_node c.args.nodes.now c.requires.well c.args.node _ c.requires.there c.index-nodes-node.is c.requires.room c.in-Fields.children c.in-Fields.is in
-    IfOk-weaker c.fields_runs.result _ _
+    IfOk-weaker c.fields_runs-in-Fields.result _ _
     (λ runs same k. same k
-    ∙ ap (λ os. is_place_of_part (parts_at os (all_at c.args.nodes.now c.deref-in-Fields.result.now)) k) c.offsets.ensures
+    ∙ ap (λ os. is_place_of_part (parts_at os (all_at c.args.nodes.now c.deref-in-Fields.result.now)) k) c.offsets-in-Fields.ensures
     ∙ ap (λ cs. is_place_of_part (parts_at (offsets_of c.index-nodes-node.result.layout.fields) (all_at c.args.nodes.now cs)) k) c.deref-in-Fields.ensures.value
     ∙ ap (λ p. is_data_place p k) (sym facts.1))
-    c.fields_runs.ensures.covers
+    c.fields_runs-in-Fields.ensures.covers
 
 pub fields_runs-data_runs-requires : goal.fields_runs-data_runs-requires
 fields_runs-data_runs-requires t c =

@@ -1,0 +1,93 @@
+-- The layouts of types without bytes: one with no value, and one with one.
+use Rattle.std.proofs.Common.{◌≡◌, ℕ, ◌<◌, List, [], length, refl, arith, sym, ◌∙◌}
+use Rattle.std.specs.Prelude.{true}
+use Rattle.std.proofs.lemmas.Bool.{ltb-true}
+use Rattle.abi_base.specs.declared.data_layout.TargetDataLayout.{TargetDataLayout}
+use Rattle.abi_scalar.specs.Simple.{never_layout, unit_layout}
+use Rattle.abi_scalar.specs.Lawful.{IsLawfulLayout}
+use Rattle.rustc_abi.specs.Tree.{Tree, never, unit}
+use Rattle.rustc_abi.specs.Bytes.{AreBytes}
+use Rattle.rustc_abi.specs.Value.{Value, number, two, list, variant, state, bytes, no_values, more_values}
+use Rattle.rustc_abi.specs.Placed.{Placed, size_of, never as placed_never, fields, no_parts}
+use Rattle.rustc_abi.specs.Places.{is_data_place}
+use Rattle.rustc_abi.specs.Values.{IsValueOf}
+use Rattle.rustc_abi.specs.Holding.{Holds}
+use Rattle.rustc_abi.specs.Faithful.{AgreeOn, IsFaithful}
+use Rattle.rustc_abi.specs.Fits.{Fits}
+
+module _ (dl : TargetDataLayout) where
+  abbrev no_value : Placed
+  no_value = placed_never (never_layout dl)
+
+  never_faithful : IsFaithful dl never no_value
+  never_faithful = record {
+    exists = λ v h. absurd h;
+    only = λ b v are h. absurd h;
+    unique = λ b v w h k. absurd h;
+    niche = tt;
+    inside = tt;
+    padding = λ xs ys v ex ey agree h. absurd h;
+    view = λ b v h. tt;
+    flag = λ _ v h. absurd h;
+  }
+
+  -- a type with no value
+  pub Fits-never : IsLawfulLayout {F = ℕ} {V = ℕ} dl (never_layout dl) → Fits dl never no_value
+  Fits-never lawful = record { faithful = λ _. never_faithful; lawful = lawful; room = refl; within = λ k place. ltb-true k 0 place }
+
+  abbrev one_value : Placed
+  one_value = fields (unit_layout 0 dl true) no_parts
+
+  unit_exists : (v : Value) → IsValueOf dl unit one_value v → (b : List ℕ) × AreBytes b × Holds dl.endian one_value b v
+  unit_exists (list no_values) h = ([], λ k d lt. absurd (omega arith), (refl, tt))
+  unit_exists (list (more_values v vs)) h = absurd h
+  unit_exists (number n) h = absurd h
+  unit_exists (two n m) h = absurd h
+  unit_exists (variant i vs) h = absurd h
+  unit_exists (state i ps vs) h = absurd h
+  unit_exists (bytes content) h = absurd h
+
+  unit_only : (b : List ℕ) (v : Value) → AreBytes b → Holds dl.endian one_value b v → IsValueOf dl unit one_value v
+  unit_only b (list no_values) are h = tt
+  unit_only b (list (more_values v vs)) are h = absurd h.1
+  unit_only b (number n) are h = absurd h
+  unit_only b (two n m) are h = absurd h
+  unit_only b (variant i vs) are h = absurd h
+  unit_only b (state i ps vs) are h = absurd h
+  unit_only b (bytes content) are h = absurd h
+
+  unit_unique : (b : List ℕ) (v w : Value) → Holds dl.endian one_value b v → Holds dl.endian one_value b w → v ≡ w
+  unit_unique b (list no_values) (list no_values) h k = refl
+  unit_unique b (list no_values) (list (more_values w ws)) h k = absurd k.1
+  unit_unique b (list (more_values v vs)) w h k = absurd h.1
+  unit_unique b (list no_values) _ h k = absurd k
+  unit_unique b (number n) w h k = absurd h
+  unit_unique b (two n m) w h k = absurd h
+  unit_unique b (variant i vs) w h k = absurd h
+  unit_unique b (state i ps vs) w h k = absurd h
+  unit_unique b (bytes content) w h k = absurd h
+
+  unit_padding : (xs ys : List ℕ) (v : Value) → length xs ≡ size_of one_value → length ys ≡ size_of one_value →
+      AgreeOn one_value xs ys → Holds dl.endian one_value xs v → Holds dl.endian one_value ys v
+  unit_padding xs ys (list vs) ex ey agree h = (ey, h.1)
+  unit_padding xs ys (number n) ex ey agree h = absurd h
+  unit_padding xs ys (two n m) ex ey agree h = absurd h
+  unit_padding xs ys (variant i vs) ex ey agree h = absurd h
+  unit_padding xs ys (state i ps vs) ex ey agree h = absurd h
+  unit_padding xs ys (bytes content) ex ey agree h = absurd h
+
+  unit_faithful : IsFaithful dl unit one_value
+  unit_faithful = record {
+    exists = unit_exists;
+    only = unit_only;
+    unique = unit_unique;
+    niche = tt;
+    inside = tt;
+    padding = unit_padding;
+    view = λ b v h. tt;
+    flag = λ _. (list no_values, tt);
+  }
+
+  -- a type with one value
+  pub Fits-unit : IsLawfulLayout {F = ℕ} {V = ℕ} dl (unit_layout 0 dl true) → Fits dl unit one_value
+  Fits-unit lawful = record { faithful = λ _. unit_faithful; lawful = lawful; room = refl; within = λ k place. absurd (cc) }

@@ -1,0 +1,13 @@
+use Rattle.std.proofs.Common.{subst}
+use Rattle.abi_scalar.specs.Lawful.{IsLawfulLayout}
+use Rattle.rustc_abi.proofs.FaultLemmas.{faultless}
+use Rattle.rustc_abi.proofs.RoomForPair.{lawful_readable}
+use Rattle.rustc_abi.proofs.lay_scalar.add_lawful.Goals as goal
+
+pub scalar-requires : goal.scalar-requires
+scalar-requires c = lawful_readable c.args.dl.now c.args.value (faultless c.args.dl.now c.args.value c.requires.faultless)
+
+pub returns-clause-lawful : goal.returns-clause-lawful
+returns-clause-lawful c =
+    subst (IsLawfulLayout c.args.dl.now) c.scalar.ensures.exact
+    (c.scalar.ensures.lawful c.requires.data_layout (faultless c.args.dl.now c.args.value c.requires.faultless))

@@ -1,0 +1,19 @@
+use Rattle.std.proofs.Common.{ap, sym, refl, subst, Ok}
+use Rattle.std.proofs.lemmas.Result.{IfOk-weaker}
+use Rattle.abi_calc.specs.Apart.{offsets_of}
+use Rattle.abi_scalar.specs.Lawful.{IsLawfulLayout}
+use Rattle.rustc_abi.specs.Placed.{fields}
+use Rattle.rustc_abi.specs.Nodes.{parts_at}
+use Rattle.rustc_abi.specs.Adding.{IsPut, all_at}
+use Rattle.rustc_abi.proofs.EmptyLemmas.{Fits-unit}
+use Rattle.rustc_abi.proofs.LayLemmas.{IsAdded-put}
+use Rattle.rustc_abi.proofs.lay_scalar.add_unit.Goals as goal
+
+pub returns-clause-ok : goal.returns-clause-ok
+returns-clause-ok c =
+    let dl = c.args.dl.now in
+    let lawful = subst (IsLawfulLayout dl) c.unit.ensures.exact (c.unit.ensures.lawful c.requires) in
+    IfOk-weaker c.add.result _ _
+    (λ i put. IsAdded-put dl _ _ i _ _
+    (subst (λ l. IsPut c.args.nodes.now.items c.add.new.nodes.items i (fields l (parts_at (offsets_of l.fields) (all_at c.args.nodes.now.items c.new.result.items)))) c.unit.ensures.exact put) refl (Fits-unit dl lawful))
+    c.add.ensures.ok

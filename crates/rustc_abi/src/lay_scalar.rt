@@ -1,0 +1,153 @@
+//! How types without parts, and pairs of scalars, are laid out.
+
+ghost use Rattle.std.specs.Prelude.{◌≡◌, IfOk, IfErr, None, true};
+ghost use Rattle.abi_base.specs.DataLayout.{IsLawfulDataLayout};
+ghost use Rattle.abi_scalar.specs.Scalar.{primitive_of};
+ghost use Rattle.rustc_abi.specs.Tree.{scalar, pair, never, unit};
+ghost use Rattle.abi_scalar.specs.Lawful.{IsLawfulLayout};
+ghost use Rattle.rustc_abi.specs.Placed.{layout_of};
+ghost use Rattle.rustc_abi.specs.Laying.{one_scalar, scalar_answer, pair_answer};
+ghost use Rattle.rustc_abi.specs.ScalarFault.{is_lawful_primitive, has_range_within, scalar_fault};
+ghost use Rattle.rustc_abi.specs.Adding.{IsPut, IsAdded, IsRefusal};
+
+use crate::error::LayError;
+use crate::lay::add;
+use crate::node::{Node, Shape};
+use abi_base::{Primitive, TargetDataLayout};
+use abi_scalar::{LayoutData, Scalar};
+use std::alloc::Global;
+
+/// Whether it is no pointer, or one into a space that the data layout knows, with lawful pointers.
+fn is_lawful_primitive(dl: &TargetDataLayout, value: Primitive) -> bool
+    ensures { result ≡ is_lawful_primitive dl.now value }
+{
+    match value {
+        Primitive::Int(_, _) => true,
+        Primitive::Float(_) => true,
+        Primitive::Pointer(space) => dl.has_lawful_pointer(space),
+    }
+}
+
+/// Whether both ends of its range, if it has one, are numbers of its width.
+fn has_range_within(dl: &TargetDataLayout, value: Scalar) -> bool
+    requires { is_lawful_primitive dl.now (primitive_of value) ≡ true }
+    ensures { result ≡ has_range_within dl.now value }
+{
+    match value {
+        Scalar::Initialized { value, valid_range } => {
+            let greatest = value.size(dl).unsigned_int_max();
+            valid_range.start <= greatest && valid_range.end <= greatest
+        }
+        Scalar::Union { value: _ } => true,
+    }
+}
+
+/// The scalar's fault, if it has one: its pointer's before its range's.
+fn scalar_fault(dl: &TargetDataLayout, value: Scalar) -> Option<LayError>
+    ensures { result ≡ scalar_fault dl.now value }
+{
+    if !is_lawful_primitive(dl, value.primitive()) {
+        return Some(LayError::UnknownSpace);
+    }
+    if !has_range_within(dl, value) {
+        return Some(LayError::BadRange);
+    }
+    None
+}
+
+/// A node for a scalar without a fault.
+fn add_lawful(
+    dl: &TargetDataLayout,
+    nodes: &mut Vec<Node>,
+    value: Scalar,
+) -> Result<usize, LayError>
+    requires data_layout { IsLawfulDataLayout dl.now }
+    requires faultless { scalar_fault dl.now value ≡ None }
+    ensures ok { IfOk result (λ i. IsPut nodes.old.items nodes.new.items i (one_scalar dl.now value)) }
+    ensures lawful { IsLawfulLayout dl.now (layout_of (one_scalar dl.now value)) }
+    ensures err { IfErr result (λ e. e ≡ LayError.OutOfMemory) }
+{
+    add(nodes, LayoutData::scalar(&dl, value), Shape::Scalar(value))
+}
+
+/// A node for a scalar.
+pub(crate) fn add_scalar(
+    dl: &TargetDataLayout,
+    nodes: &mut Vec<Node>,
+    value: Scalar,
+) -> Result<usize, LayError>
+    requires { IsLawfulDataLayout dl.now }
+    ensures ok { IfOk result (λ i. IsAdded dl.now nodes.old.items nodes.new.items i (scalar value)) }
+    ensures err { IfErr result (IsRefusal (scalar_answer dl.now value)) }
+{
+    match scalar_fault(dl, value) {
+        Some(fault) => Err(fault),
+        None => add_lawful(dl, nodes, value),
+    }
+}
+
+/// Nodes for two scalars without faults, and one for both.
+fn add_two(
+    alloc: Global,
+    dl: &TargetDataLayout,
+    nodes: &mut Vec<Node>,
+    a: Scalar,
+    b: Scalar,
+) -> Result<usize, LayError>
+    requires data_layout { IsLawfulDataLayout dl.now }
+    requires first { scalar_fault dl.now a ≡ None }
+    requires second { scalar_fault dl.now b ≡ None }
+    ensures ok { IfOk result (λ i. IsAdded dl.now nodes.old.items nodes.new.items i (pair a b)) }
+    ensures err { IfErr result (IsRefusal (pair_answer dl.now a b)) }
+{
+    let layout = LayoutData::scalar_pair(alloc, &dl, a, b)?;
+    if layout.size.bytes() >= dl.obj_size_bound() {
+        return Err(LayError::SizeOverflow);
+    }
+    let first = add_lawful(dl, nodes, a)?;
+    let second = add_lawful(dl, nodes, b)?;
+    add(nodes, layout, Shape::Pair { first, second })
+}
+
+/// A node for two scalars, and one for each of them.
+pub(crate) fn add_pair(
+    alloc: Global,
+    dl: &TargetDataLayout,
+    nodes: &mut Vec<Node>,
+    a: Scalar,
+    b: Scalar,
+) -> Result<usize, LayError>
+    requires { IsLawfulDataLayout dl.now }
+    ensures ok { IfOk result (λ i. IsAdded dl.now nodes.old.items nodes.new.items i (pair a b)) }
+    ensures err { IfErr result (IsRefusal (pair_answer dl.now a b)) }
+{
+    if let Some(fault) = scalar_fault(dl, a) {
+        return Err(fault);
+    }
+    if let Some(fault) = scalar_fault(dl, b) {
+        return Err(fault);
+    }
+    add_two(alloc, dl, nodes, a, b)
+}
+
+/// A node for a type with no values.
+pub(crate) fn add_never(dl: &TargetDataLayout, nodes: &mut Vec<Node>) -> Result<usize, LayError>
+    requires { IsLawfulDataLayout dl.now }
+    ensures ok { IfOk result (λ i. IsAdded dl.now nodes.old.items nodes.new.items i never) }
+    ensures err { IfErr result (λ e. e ≡ LayError.OutOfMemory) }
+{
+    add(nodes, LayoutData::never_type(&dl), Shape::Never)
+}
+
+/// A node for a type with one value, which takes no bytes.
+pub(crate) fn add_unit(
+    alloc: Global,
+    dl: &TargetDataLayout,
+    nodes: &mut Vec<Node>,
+) -> Result<usize, LayError>
+    requires { IsLawfulDataLayout dl.now }
+    ensures ok { IfOk result (λ i. IsAdded dl.now nodes.old.items nodes.new.items i unit) }
+    ensures err { IfErr result (λ e. e ≡ LayError.OutOfMemory) }
+{
+    add(nodes, LayoutData::unit(alloc, &dl, true), Shape::Fields(Vec::new(alloc)))
+}
