@@ -9,6 +9,7 @@ use Rattle.std.proofs.lemmas.Bool.Decides.{nat_tests}
 use Rattle.std.proofs.lemmas.Fmt.{digits_decimal, decimal_nonempty}
 use Rattle.abi_base.specs.declared.integer.Integer.{Integer}
 use Rattle.abi_base.specs.declared.integer.Integer.TheVariants.{I8, I16, I32, I64, I128}
+use Rattle.abi_base.specs.declared.data_layout.TargetDataLayout.{TargetDataLayout}
 use Rattle.abi_base.specs.declared.primitive.Primitive.TheVariants.{Int, Float, Pointer}
 use Rattle.abi_scalar.specs.declared.scalar.Scalar.{Scalar}
 use Rattle.abi_scalar.specs.declared.scalar.Scalar.TheVariants.{Initialized, Union}
@@ -113,8 +114,8 @@ mutual
   each_words no_trees n h = tt
   each_words (more_trees t ts) n h = words_append (written t) (written_each ts) (written_words t n h.0) (each_words ts n h.1)
 
-line_read : (t : Tree) (line : List ℕ) → IsKnown 0 t → line ≡ line_of (written t) → read (words_of line) ≡ Ok t
-line_read t line h e = ap (λ l. read (words_of l)) e ∙ ap read (words_line (written t) (written_words t 0 h)) ∙ words_read t h
+line_read : (dl : TargetDataLayout) (t : Tree) (line : List ℕ) → IsKnown 0 t → line ≡ line_of (written t) → read dl (words_of line) ≡ Ok t
+line_read dl t line h e = ap (λ l. read dl (words_of l)) e ∙ ap (read dl) (words_line (written t) (written_words t 0 h)) ∙ words_read dl t h
 
 agrees_back : (t : Tree) (answer : Result Tree Fault) (result : Result TypeTree Fault) → Agrees tree_of answer result → answer ≡ Ok t
     → MatchResult result (λ tree. tree_of tree ≡ t) (λ fault. fault ≡ OutOfMemory)
@@ -122,6 +123,6 @@ agrees_back t answer (Ok tree) a e = cc
 agrees_back t answer (Err fault) (inl a) e = cc
 agrees_back t answer (Err fault) (inr a) e = a
 
-pub reads_back : (t : Tree) (line : List ℕ) (result : Result TypeTree Fault) → Agrees tree_of (read (words_of line)) result → IsKnown 0 t → line ≡ line_of (written t)
+pub reads_back : (dl : TargetDataLayout) (t : Tree) (line : List ℕ) (result : Result TypeTree Fault) → Agrees tree_of (read dl (words_of line)) result → IsKnown 0 t → line ≡ line_of (written t)
     → MatchResult result (λ tree. tree_of tree ≡ t) (λ fault. fault ≡ OutOfMemory)
-reads_back t line result a h e = agrees_back t (read (words_of line)) result a (line_read t line h e)
+reads_back dl t line result a h e = agrees_back t (read dl (words_of line)) result a (line_read dl t line h e)

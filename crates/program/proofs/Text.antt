@@ -1,45 +1,45 @@
 -- Lines, words and digits.
 use Rattle.std.proofs.Common.{◌≡◌, ◌≢◌, ℕ, zero, suc, ◌+◌, ◌-◌, ◌*◌, ◌^◌, ◌<◌, ◌≤◌, true, false, List, [], ◌∷◌, length, take, drop, get_or, None, Some, refl, sym, ap, ◌∙◌, arith}
-use Rattle.std.specs.Prelude.{◌==◌, nat_lt, if◌then◌else◌}
+use Rattle.std.specs.Prelude.{◌==◌, nat_le, if◌then◌else◌}
 use Rattle.std.specs.Char.{is_ascii_digit}
 use Rattle.std.proofs.lemmas.Bool.Decides.{nat_tests}
 use Rattle.std.proofs.lemmas.List.{drop_more, drop_all}
 use Rattle.program.specs.Words.{words_of, is_plain, begins_plain, grown}
-use Rattle.program.specs.Numbers.{digits_from, fitting, number_in}
+use Rattle.program.specs.Numbers.{digits_from, fitting, number_to}
 
-fitting_large_at : (n : ℕ) → 2 ^ 64 ≤ n → fitting (Some n) ≡ None
-fitting_large_at n h =
-    let no : nat_lt n (2 ^ 64) ≡ false = grind (arith, nat_tests) in
+fitting_large_at : (most n : ℕ) → most < n → fitting most (Some n) ≡ None
+fitting_large_at most n h =
+    let no : nat_le n most ≡ false = grind (arith, nat_tests) in
     rw no refl
 
 -- digits that go on from too large a number make one
-fitting_large : (n : ℕ) (ds : List ℕ) → 2 ^ 64 ≤ n → fitting (digits_from n ds) ≡ None
-fitting_large n [] h = fitting_large_at n h
-fitting_large n (d ∷ ds) h =
-    elim (is_ascii_digit d) as (λ b. fitting (if b then digits_from (n * 10 + (d - 48)) ds else None) ≡ None) [
-      | true ↦ fitting_large (n * 10 + (d - 48)) ds (omega arith)
+fitting_large : (most n : ℕ) (ds : List ℕ) → most < n → fitting most (digits_from n ds) ≡ None
+fitting_large most n [] h = fitting_large_at most n h
+fitting_large most n (d ∷ ds) h =
+    elim (is_ascii_digit d) as (λ b. fitting most (if b then digits_from (n * 10 + (d - 48)) ds else None) ≡ None) [
+      | true ↦ fitting_large most (n * 10 + (d - 48)) ds (omega arith)
       | false ↦ refl
     ]
 
-pub number_some : (w : List ℕ) → 0 < length w → number_in w ≡ fitting (digits_from 0 w)
-number_some [] h = absurd (omega arith)
-number_some (d ∷ ds) h = refl
+pub number_some : (most : ℕ) (w : List ℕ) → 0 < length w → number_to most w ≡ fitting most (digits_from 0 w)
+number_some most [] h = absurd (omega arith)
+number_some most (d ∷ ds) h = refl
 
 digit_more : (w : List ℕ) (k n : ℕ) → k < length w → is_ascii_digit (get_or w k 0) ≡ true → digits_from n (drop k w) ≡ digits_from (n * 10 + (get_or w k 0 - 48)) (drop (k + 1) w)
 digit_more w k n short digit = rw (drop_more w k 0 short, digit) refl
 
 -- a number that no longer fits is none
-pub overflows : (w : List ℕ) (k n : ℕ) → k < length w → is_ascii_digit (get_or w k 0) ≡ true → fitting (digits_from n (drop k w)) ≡ fitting (digits_from 0 w)
-    → 2 ^ 64 ≤ n * 10 + (get_or w k 0 - 48) → number_in w ≡ None
-overflows w k n short digit inv large =
-    number_some w (omega arith) ∙ sym inv ∙ ap fitting (digit_more w k n short digit) ∙ fitting_large (n * 10 + (get_or w k 0 - 48)) (drop (k + 1) w) large
+pub overflows : (most : ℕ) (w : List ℕ) (k n : ℕ) → k < length w → is_ascii_digit (get_or w k 0) ≡ true → fitting most (digits_from n (drop k w)) ≡ fitting most (digits_from 0 w)
+    → most < n * 10 + (get_or w k 0 - 48) → number_to most w ≡ None
+overflows most w k n short digit inv large =
+    number_some most w (omega arith) ∙ sym inv ∙ ap (fitting most) (digit_more w k n short digit) ∙ fitting_large most (n * 10 + (get_or w k 0 - 48)) (drop (k + 1) w) large
 
 -- a number that has been read whole
-pub number_read : (w : List ℕ) (k n : ℕ) → 0 < length w → length w ≤ k → fitting (digits_from n (drop k w)) ≡ fitting (digits_from 0 w) → n < 2 ^ 64 → number_in w ≡ Some n
-number_read w k n some long inv small =
-    let yes : nat_lt n (2 ^ 64) ≡ true = grind (arith, nat_tests) in
-    let fits : fitting (Some n) ≡ Some n = rw yes refl in
-    number_some w some ∙ sym inv ∙ ap (λ ds. fitting (digits_from n ds)) (drop_all k w long) ∙ fits
+pub number_read : (most : ℕ) (w : List ℕ) (k n : ℕ) → 0 < length w → length w ≤ k → fitting most (digits_from n (drop k w)) ≡ fitting most (digits_from 0 w) → n ≤ most → number_to most w ≡ Some n
+number_read most w k n some long inv small =
+    let yes : nat_le n most ≡ true = grind (arith, nat_tests) in
+    let fits : fitting most (Some n) ≡ Some n = rw yes refl in
+    number_some most w some ∙ sym inv ∙ ap (λ ds. fitting most (digits_from n ds)) (drop_all k w long) ∙ fits
 
 plain_no_space : (b : ℕ) → is_plain b ≡ true → (b == 32) ≡ false
 plain_no_space b h = grind (arith, nat_tests)

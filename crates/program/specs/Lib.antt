@@ -1,7 +1,9 @@
 pub mod Lines
 pub mod Words
 pub mod Numbers
+pub mod ScalarWords
 pub mod TypeWords
+pub mod Scalars
 pub mod Repr
 pub mod Reading
 pub mod Printing

@@ -1,9 +1,10 @@
 -- What the program writes for an input, and the status that it ends with.
-use Rattle.std.specs.Prelude.{◌≡◌, ℕ, ◌&&◌, ◌++◌, ◌⊎◌, not, nat_lt, List, take, codes, string_bytes, length, Option, Result, Ok, Err, if◌then◌else◌}
+use Rattle.std.specs.Prelude.{◌≡◌, ℕ, ◌&&◌, ◌++◌, ◌⊎◌, MatchBool, nat_lt, List, take, codes, string_bytes, length, Option, Result, Ok, Err}
 use Rattle.std.specs.Fmt.{decimal}
 use Rattle.std.specs.Io.KnownBytes.{Appends}
 use Rattle.std.specs.Str.{is_utf8}
-use Rattle.abi_base.specs.DataLayout.{default_data_layout}
+use Rattle.abi_base.specs.declared.data_layout.TargetDataLayout.{TargetDataLayout}
+use Rattle.abi_base.specs.DataLayout.{IsLawfulDataLayout, default_data_layout}
 use Rattle.rustc_abi.specs.declared.error.LayError.{LayError}
 use Rattle.rustc_abi.specs.declared.error.LayError.TheVariants as lay
 use Rattle.rustc_abi.specs.Tree.{Tree}
@@ -37,6 +38,8 @@ abbrev pub error_name : LayError → List ℕ
 error_name lay.UnlawfulDataLayout = codes "UnlawfulDataLayout"
 error_name lay.NotYet = codes "NotYet"
 error_name lay.BadIndex = codes "BadIndex"
+error_name lay.UnknownSpace = codes "UnknownSpace"
+error_name lay.BadRange = codes "BadRange"
 error_name lay.UnexpectedUnsized = codes "UnexpectedUnsized"
 error_name lay.SizeOverflow = codes "SizeOverflow"
 error_name lay.EmptyUnion = codes "EmptyUnion"
@@ -56,19 +59,25 @@ abbrev pub output_of_layout : Result Placed LayError → Output
 output_of_layout (Ok placed) = record { text = type_text placed; status = 0 }
 output_of_layout (Err error) = refused (error_name error)
 
-abbrev pub output_of_type : Result Tree Fault → Output
-output_of_type (Ok tree) = output_of_layout (laid_out default_data_layout tree)
-output_of_type (Err fault) = output_of_fault fault
+-- the output for a type under a data layout: where the data layout is lawful, its layout or its first fault
+pub record IsOutputOfTree (dl : TargetDataLayout) (tree : Tree) (output : Output) : Type 0 where
+  pub lawful : IsLawfulDataLayout dl → output ≡ output_of_layout (laid_out dl tree)
+  pub unlawful : (IsLawfulDataLayout dl → ⊥) → output ≡ refused (codes "UnlawfulDataLayout")
 
--- the answer to the first two lines: a data layout, of which only the default one, an empty line, is known yet, and a type
-abbrev pub output_of_lines : (first second : List ℕ) → Output
-output_of_lines first second =
-    if not (is_utf8 first && is_utf8 second) then unreadable 0
-    else (if nat_lt 0 (length first) then refused (codes "NotYet") else output_of_type (read (words_of second)))
+abbrev pub IsOutputOfType : TargetDataLayout → Result Tree Fault → Output → Type 0
+IsOutputOfType dl (Ok tree) output = IsOutputOfTree dl tree output
+IsOutputOfType dl (Err fault) output = output ≡ output_of_fault fault
 
--- the answer to an input
-abbrev pub output_of : List ℕ → Output
-output_of input = output_of_lines (first_line input) (second_line input)
+-- the output for the first two lines: a data layout, of which only the default one, an empty line, is known yet, and a type
+abbrev pub IsOutputOfLines : (first second : List ℕ) → Output → Type 0
+IsOutputOfLines first second output =
+    MatchBool (is_utf8 first && is_utf8 second)
+    (MatchBool (nat_lt 0 (length first)) (output ≡ refused (codes "NotYet")) (IsOutputOfType default_data_layout (read default_data_layout (words_of second)) output))
+    (output ≡ unreadable 0)
+
+-- the output for an input
+abbrev pub IsOutputOf : List ℕ → Output → Type 0
+IsOutputOf input output = IsOutputOfLines (first_line input) (second_line input) output
 
 -- the text was written whole behind what was there, and the status is the one given; or writing failed: only a beginning
 -- of the text was written, and the status is 1
@@ -79,15 +88,16 @@ Sent old new text given status =
 abbrev pub SentOutput : (old new : Option (List ℕ)) → Output → (status : ℕ) → Type 0
 SentOutput old new output status = Sent old new output.text output.status status
 
--- the run answered this; or that memory was wanting, or that reading failed
-abbrev pub Answered : (old new : Option (List ℕ)) → Output → (status : ℕ) → Type 0
-Answered old new output status =
-    SentOutput old new output status ⊎ (SentOutput old new out_of_memory status ⊎ SentOutput old new (refused (codes "Input")) status)
+-- the run answered such an output; or that memory was wanting, or that reading failed
+abbrev pub Answered : (old new : Option (List ℕ)) → (Output → Type 0) → (status : ℕ) → Type 0
+Answered old new P status =
+    ((output : Output) × P output × SentOutput old new output status)
+    ⊎ (SentOutput old new out_of_memory status ⊎ SentOutput old new (refused (codes "Input")) status)
 
 -- an answer, as the definitions see it
 abbrev pub answered_by : Answer → Output
 answered_by answer = record { text = string_bytes answer.text; status = answer.status }
 
--- the answer is this, or that memory was wanting
-abbrev pub IsAnswer : Output → Answer → Type 0
-IsAnswer output answer = (answered_by answer ≡ output) ⊎ (answered_by answer ≡ out_of_memory)
+-- the answer is such an output, or that memory was wanting
+abbrev pub IsAnswer : (Output → Type 0) → Answer → Type 0
+IsAnswer P answer = P (answered_by answer) ⊎ (answered_by answer ≡ out_of_memory)

@@ -1,32 +1,47 @@
--- The type that a line's words write, or the first word that doesn't fit.
-use Rattle.std.specs.Prelude.{◌≡◌, ℕ, ◌+◌, ◌⊎◌, Bool, true, List, [], ◌∷◌, ◌++◌, codes, length, map, nat_lt, option_map, reverse, Option, None, Some, Result, Ok, Err, if◌then◌else◌}
+-- The type that a line's words write under a data layout, or the first word that doesn't fit.
+use Rattle.std.specs.Prelude.{◌≡◌, ℕ, ◌+◌, ◌⊎◌, Bool, true, false, List, [], ◌∷◌, ◌++◌, codes, length, map, nat_lt, option_map, reverse, Option, None, Some, Result, Ok, Err, if◌then◌else◌}
 use Rattle.std.specs.Str.{bytes_eq}
-use Rattle.abi_base.specs.declared.integer.Integer.{Integer as Width}
-use Rattle.abi_base.specs.declared.primitive.Primitive.TheVariants.{Int}
-use Rattle.abi_base.specs.Integer.{integer_size}
-use Rattle.abi_scalar.specs.declared.scalar.Scalar.TheVariants.{Initialized}
+use Rattle.abi_base.specs.declared.primitive.Primitive.{Primitive}
+use Rattle.abi_base.specs.declared.primitive.Primitive.TheVariants.{Int, Float, Pointer}
+use Rattle.abi_base.specs.declared.data_layout.TargetDataLayout.{TargetDataLayout}
+use Rattle.abi_scalar.specs.declared.scalar.Scalar.{Scalar}
+use Rattle.abi_scalar.specs.declared.scalar.Scalar.TheVariants.{Initialized, Union}
 use Rattle.abi_scalar.specs.declared.repr.ReprOptions.{ReprOptions}
-use Rattle.abi_scalar.specs.Range.{full_range}
-use Rattle.rustc_abi.specs.Tree.{Tree, scalar, array, struct, trees, tree_of}
+use Rattle.rustc_abi.specs.Tree.{Tree, scalar, pair, never, unit, array, struct, trees, tree_of}
 use Rattle.program.specs.declared.fault.Fault.{Fault}
 use Rattle.program.specs.declared.fault.Fault.TheVariants.{Unreadable, NotYet, TooDeep, OutOfMemory}
+use Rattle.program.specs.declared.scalar_word.ScalarWord.{ScalarWord}
+use Rattle.program.specs.declared.scalar_word.ScalarWord.TheVariants as word
 use Rattle.program.specs.declared.type_word.TypeWord.{TypeWord}
-use Rattle.program.specs.declared.type_word.TypeWord.TheVariants.{Integer, Array, Struct, Other}
+use Rattle.program.specs.declared.type_word.TypeWord.TheVariants as type
 use Rattle.program.specs.declared.repr_text.ReprText.{ReprText}
 use Rattle.program.specs.declared.repr_text.ReprText.TheVariants as repr
-use Rattle.program.specs.declared.reader.Want.{Want}
-use Rattle.program.specs.declared.reader.Want.TheVariants.{Tree as ATree, Count, Repr, Opening, End}
-use Rattle.program.specs.declared.reader.Open.{Open}
-use Rattle.program.specs.declared.reader.Open.TheVariants.{Elements, Fields}
-use Rattle.program.specs.declared.reader.Reader.{Reader}
+use Rattle.program.specs.declared.begun.Want.{Want}
+use Rattle.program.specs.declared.begun.Want.TheVariants as want
+use Rattle.program.specs.declared.begun.Open.{Open}
+use Rattle.program.specs.declared.begun.Open.TheVariants as open_type
+use Rattle.program.specs.declared.begun.Reader.{Reader}
 use Rattle.program.specs.Numbers.{number_in}
 use Rattle.program.specs.Repr.{repr_text}
+use Rattle.program.specs.ScalarWords.{scalar_word}
 use Rattle.program.specs.TypeWords.{type_word}
+use Rattle.program.specs.Scalars.{a_bool, a_char, a_ref, default_pointer, full, index_primitive}
 
--- a type that is begun: an array that waits for its element, or a struct with the fields so far
+-- a type, or a scalar, that is begun
 pub data Begun : Type 0 where
+  -- an array that waits for its element
   elements : (count : ℕ) → Begun
+  -- a struct, with the fields so far
   fields : List Tree → Begun
+  -- a pair that waits for its first scalar, or its second
+  first : Begun
+  second : Scalar → Begun
+  -- a range that waits for its primitive, its start, or its end
+  range : Begun
+  range_of : Primitive → Begun
+  range_from : Primitive → (start : ℕ) → Begun
+  -- a union's scalar that waits for its primitive
+  union_of : Begun
 
 -- What has been read: what comes next, the types that are begun, the innermost first, and the whole type once it's complete.
 pub record State : Type 0 where
@@ -38,7 +53,7 @@ abbrev pub waiting : Want → List Begun → State
 waiting want begun = record { want = want; begun = begun; tree = None }
 
 abbrev pub start : State
-start = waiting ATree []
+start = waiting want.Tree []
 
 -- `repr(C)` and nothing else
 abbrev pub plain_c : ReprOptions
@@ -47,51 +62,115 @@ plain_c = record { int = None; align = None; pack = None; flags = record { 0 = 1
 abbrev pub c_struct : List Tree → Tree
 c_struct ts = struct plain_c true (trees ts)
 
--- an integer that may be any number of its width
-abbrev pub full_integer : Width → (signed : Bool) → Tree
-full_integer width signed = scalar (Initialized (Int width signed) (full_range (integer_size width)))
-
 -- a complete type goes into the innermost type that is begun, and completes it where that is an array
 abbrev pub put : Tree → List Begun → State
-put t [] = record { want = End; begun = []; tree = Some t }
+put t [] = record { want = want.End; begun = []; tree = Some t }
 put t (elements n ∷ begun) = put (array n t) begun
-put t (fields ts ∷ begun) = waiting ATree (fields (ts ++ t ∷ []) ∷ begun)
+put t (fields ts ∷ begun) = waiting want.Tree (fields (ts ++ t ∷ []) ∷ begun)
+put t (_ ∷ begun) = put t begun
+
+-- a complete scalar goes into a pair that waits for one, or is a type
+abbrev pub put_scalar : Scalar → List Begun → State
+put_scalar s (first ∷ begun) = waiting want.Scalar (second s ∷ begun)
+put_scalar s (second a ∷ begun) = put (pair a s) begun
+put_scalar s begun = put (scalar s) begun
 
 -- a closing parenthesis completes a struct
 abbrev pub closed : (number : ℕ) → List Begun → Result State Fault
 closed number (fields ts ∷ begun) = Ok (put (c_struct ts) begun)
 closed number _ = Err (Unreadable number)
 
--- a word that begins a type; no type stands in more than 200 others
-abbrev pub begin : List Begun → TypeWord → Result State Fault
-begin begun (Integer width signed) = Ok (put (full_integer width signed) begun)
-begin begun Array = Ok (waiting Count begun)
-begin begun Struct = Ok (waiting Repr begun)
-begin begun _ = Err NotYet
-
-abbrev pub at_type : (number : ℕ) → (closes : Bool) → List Begun → TypeWord → Result State Fault
-at_type number closes begun Other = if closes then closed number begun else Err (Unreadable number)
-at_type number closes begun word = if nat_lt 200 (length begun) then Err TooDeep else begin begun word
-
 abbrev pub at_count : (number : ℕ) → List Begun → Option ℕ → Result State Fault
 at_count number begun None = Err (Unreadable number)
-at_count number begun (Some n) = Ok (waiting ATree (elements n ∷ begun))
+at_count number begun (Some n) = Ok (waiting want.Tree (elements n ∷ begun))
 
 abbrev pub at_repr : (number : ℕ) → List Begun → ReprText → Result State Fault
-at_repr number begun repr.PlainC = Ok (waiting Opening begun)
+at_repr number begun repr.PlainC = Ok (waiting want.Opening begun)
 at_repr number begun repr.Later = Err NotYet
 at_repr number begun repr.Other = Err (Unreadable number)
 
--- what has been read with the next word, of this number
-abbrev pub next : (number : ℕ) → List Begun → (word : List ℕ) → Want → Result State Fault
-next number begun word ATree = at_type number (bytes_eq word (codes ")")) begun (type_word word)
-next number begun word Count = at_count number begun (number_in word)
-next number begun word Repr = at_repr number begun (repr_text word)
-next number begun word Opening = if bytes_eq word (codes "(") then Ok (waiting ATree (fields [] ∷ begun)) else Err (Unreadable number)
-next number begun word End = Err (Unreadable number)
+abbrev pub at_opening : (number : ℕ) → List Begun → (opens : Bool) → Result State Fault
+at_opening number begun opens = if opens then Ok (waiting want.Tree (fields [] ∷ begun)) else Err (Unreadable number)
 
-abbrev pub step : (number : ℕ) → State → (word : List ℕ) → Result State Fault
-step number state word = next number state.begun word state.want
+abbrev pub at_start : (number : ℕ) → List Begun → Option ℕ → Result State Fault
+at_start number (range_of p ∷ begun) (Some n) = Ok (waiting want.RangeEnd (range_from p n ∷ begun))
+at_start number _ _ = Err (Unreadable number)
+
+abbrev pub at_end : (number : ℕ) → List Begun → Option ℕ → Result State Fault
+at_end number (range_from p n ∷ begun) (Some m) = Ok (put_scalar (Initialized p (record { start = n; end = m })) begun)
+at_end number _ _ = Err (Unreadable number)
+
+-- the word begins a primitive
+abbrev pub is_primitive : ScalarWord → Bool
+is_primitive (word.Integer integer signed) = true
+is_primitive (word.Index signed) = true
+is_primitive (word.Float float) = true
+is_primitive word.Pointer = true
+is_primitive word.PointerIn = true
+is_primitive _ = false
+
+module _ (dl : TargetDataLayout) where
+  -- a complete primitive goes into what waits for one, or is a scalar with its full range
+  abbrev pub put_primitive : Primitive → List Begun → State
+  put_primitive p (range ∷ begun) = waiting want.RangeStart (range_of p ∷ begun)
+  put_primitive p (union_of ∷ begun) = put_scalar (Union p) begun
+  put_primitive p begun = put_scalar (full dl p) begun
+
+  -- a word that begins a scalar
+  abbrev pub begin_scalar : List Begun → ScalarWord → State
+  begin_scalar begun (word.Integer integer signed) = put_primitive (Int integer signed) begun
+  begin_scalar begun (word.Index signed) = put_primitive (index_primitive dl signed) begun
+  begin_scalar begun (word.Float float) = put_primitive (Float float) begun
+  begin_scalar begun word.Pointer = put_primitive default_pointer begun
+  begin_scalar begun word.PointerIn = waiting want.Space begun
+  begin_scalar begun word.Bool = put_scalar a_bool begun
+  begin_scalar begun word.Char = put_scalar a_char begun
+  begin_scalar begun word.Ref = put_scalar (a_ref dl) begun
+  begin_scalar begun word.Range = waiting want.Primitive (range ∷ begun)
+  begin_scalar begun word.UnionOf = waiting want.Primitive (union_of ∷ begun)
+
+  abbrev pub at_scalar : (number : ℕ) → List Begun → Option ScalarWord → Result State Fault
+  at_scalar number begun None = Err (Unreadable number)
+  at_scalar number begun (Some w) = Ok (begin_scalar begun w)
+
+  abbrev pub at_primitive : (number : ℕ) → List Begun → Option ScalarWord → Result State Fault
+  at_primitive number begun None = Err (Unreadable number)
+  at_primitive number begun (Some w) = if is_primitive w then Ok (begin_scalar begun w) else Err (Unreadable number)
+
+  abbrev pub at_space : (number : ℕ) → List Begun → Option ℕ → Result State Fault
+  at_space number begun None = Err (Unreadable number)
+  at_space number begun (Some n) = Ok (put_primitive (Pointer (record { 0 = n })) begun)
+
+  -- a word that begins a type
+  abbrev pub begin : List Begun → TypeWord → Result State Fault
+  begin begun (type.Scalar w) = Ok (begin_scalar begun w)
+  begin begun type.Pair = Ok (waiting want.Scalar (first ∷ begun))
+  begin begun type.Never = Ok (put never begun)
+  begin begun type.Unit = Ok (put unit begun)
+  begin begun type.Array = Ok (waiting want.Count begun)
+  begin begun type.Struct = Ok (waiting want.Repr begun)
+  begin begun _ = Err NotYet
+
+  -- no type stands in more than 200 others
+  abbrev pub at_type : (number : ℕ) → (closes : Bool) → List Begun → TypeWord → Result State Fault
+  at_type number closes begun type.Other = if closes then closed number begun else Err (Unreadable number)
+  at_type number closes begun w = if nat_lt 200 (length begun) then Err TooDeep else begin begun w
+
+  -- what has been read with the next word, of this number
+  abbrev pub next : (number : ℕ) → List Begun → (word : List ℕ) → Want → Result State Fault
+  next number begun w want.Tree = at_type number (bytes_eq w (codes ")")) begun (type_word w)
+  next number begun w want.Scalar = at_scalar number begun (scalar_word w)
+  next number begun w want.Primitive = at_primitive number begun (scalar_word w)
+  next number begun w want.Space = at_space number begun (number_in 32 w)
+  next number begun w want.RangeStart = at_start number begun (number_in 128 w)
+  next number begun w want.RangeEnd = at_end number begun (number_in 128 w)
+  next number begun w want.Count = at_count number begun (number_in 64 w)
+  next number begun w want.Repr = at_repr number begun (repr_text w)
+  next number begun w want.Opening = at_opening number begun (bytes_eq w (codes "("))
+  next number begun w want.End = Err (Unreadable number)
+
+  abbrev pub step : (number : ℕ) → State → (word : List ℕ) → Result State Fault
+  step number state w = next number state.begun w state.want
 
 -- the type, where no word of it is missing
 abbrev pub finished : (number : ℕ) → Option Tree → Result Tree Fault
@@ -103,18 +182,24 @@ on_ok (Ok a) f = f a
 on_ok (Err e) f = Err e
 
 -- the words from this number on
-abbrev pub read_from : (number : ℕ) → State → List (List ℕ) → Result Tree Fault
-read_from number state [] = finished number state.tree
-read_from number state (w ∷ ws) = on_ok (step number state w) (λ more. read_from (number + 1) more ws)
+abbrev pub read_from : TargetDataLayout → (number : ℕ) → State → List (List ℕ) → Result Tree Fault
+read_from dl number state [] = finished number state.tree
+read_from dl number state (w ∷ ws) = on_ok (step dl number state w) (λ more. read_from dl (number + 1) more ws)
 
 -- the type that the words write
-abbrev pub read : List (List ℕ) → Result Tree Fault
-read ws = read_from 1 start ws
+abbrev pub read : TargetDataLayout → List (List ℕ) → Result Tree Fault
+read dl ws = read_from dl 1 start ws
 
 -- what the program keeps of a type that is begun
 abbrev pub begun_by : Open → Begun
-begun_by (Elements count) = elements count
-begun_by (Fields ts) = fields (map tree_of ts.items)
+begun_by (open_type.Elements count) = elements count
+begun_by (open_type.Fields ts) = fields (map tree_of ts.items)
+begun_by open_type.First = first
+begun_by (open_type.Second a) = second a
+begun_by open_type.Range = range
+begun_by (open_type.RangeOf p) = range_of p
+begun_by (open_type.RangeFrom p n) = range_from p n
+begun_by open_type.UnionOf = union_of
 
 abbrev pub begun_in : List Open → List Begun
 begun_in all = reverse (map begun_by all)

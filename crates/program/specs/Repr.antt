@@ -8,7 +8,7 @@ use Rattle.program.specs.declared.repr_text.ReprPart.TheVariants.{C, Transparent
 use Rattle.program.specs.declared.repr_text.ReprText.{ReprText}
 use Rattle.program.specs.declared.repr_text.ReprText.TheVariants.{PlainC, Later, Other}
 use Rattle.program.specs.Numbers.{number_in}
-use Rattle.program.specs.TypeWords.{integer_named, is_index_word}
+use Rattle.program.specs.ScalarWords.{integer_named, is_index_word}
 
 -- the first part, longer by a byte in front
 abbrev pub longer : (b : ℕ) → List (List ℕ) → List (List ℕ)
@@ -30,7 +30,7 @@ is_alignment_in (Some n) = is_alignment n
 
 -- the word is an alignment's number after this beginning
 abbrev pub is_with_alignment : (name : List ℕ) → (length : ℕ) → List ℕ → Bool
-is_with_alignment name length w = bytes_eq (take length w) name && is_alignment_in (number_in (drop length w))
+is_with_alignment name length w = bytes_eq (take length w) name && is_alignment_in (number_in 64 (drop length w))
 
 -- what kind of word a part of a repr is
 abbrev pub part_kind : List ℕ → Option ReprPart

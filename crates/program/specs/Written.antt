@@ -32,7 +32,7 @@ IsFullInteger (Initialized (Int width signed) range) = range ≡ full_range (int
 IsFullInteger _ = ⊥
 
 abbrev mutual
-  -- the type is one that the program knows, and stands, nested in so many others, in no more than 200
+  -- the type is made of full integers, arrays and C structs, and stands, nested in so many others, in no more than 200
   pub IsKnown : (nested : ℕ) → Tree → Type 0
   IsKnown nested (scalar s) = (nested ≤ 200) × IsFullInteger s
   IsKnown nested (array count t) = (nested ≤ 200) × (count < 2 ^ 64) × IsKnown (nested + 1) t

@@ -7,7 +7,7 @@ ghost use Rattle.rustc_abi.specs.Laid.{placed_of};
 ghost use Rattle.rustc_abi.specs.Placed.{layout_of};
 ghost use Rattle.rustc_abi.specs.Laying.{laid_out};
 ghost use Rattle.rustc_abi.specs.Tree.{tree_of};
-ghost use Rattle.program.specs.Output.{answered_by, error_name, IsAnswer, output_of, output_of_fault, output_of_layout, output_of_lines, output_of_type, refused, unreadable};
+ghost use Rattle.program.specs.Output.{answered_by, error_name, IsAnswer, IsOutputOf, IsOutputOfLines, IsOutputOfTree, IsOutputOfType, output_of_fault, output_of_layout, refused, unreadable};
 ghost use Rattle.program.specs.Reading.{read};
 ghost use Rattle.program.specs.Words.{words_of};
 
@@ -53,6 +53,8 @@ fn error_name(error: LayError) -> &'static str
         LayError::UnlawfulDataLayout => "UnlawfulDataLayout",
         LayError::NotYet => "NotYet",
         LayError::BadIndex => "BadIndex",
+        LayError::UnknownSpace => "UnknownSpace",
+        LayError::BadRange => "BadRange",
         LayError::UnexpectedUnsized => "UnexpectedUnsized",
         LayError::SizeOverflow => "SizeOverflow",
         LayError::EmptyUnion => "EmptyUnion",
@@ -86,23 +88,26 @@ fn answer_laid(alloc: Global, laid: &Laid) -> Result<Answer, AllocError>
     Ok(Answer { text, status: 0 })
 }
 
-/// The answer to a type, under the default data layout.
-fn answer_tree(alloc: Global, tree: &TypeTree) -> Result<Answer, AllocError>
-    ensures { IfOk result (IsAnswer (output_of_layout (laid_out default_data_layout (tree_of tree.now)))) }
+/// The answer to a type under a data layout.
+fn answer_tree(
+    alloc: Global,
+    dl: &TargetDataLayout,
+    tree: &TypeTree,
+) -> Result<Answer, AllocError>
+    ensures { IfOk result (IsAnswer (IsOutputOfTree dl.now (tree_of tree.now))) }
 {
-    let dl = TargetDataLayout::default_in(alloc)?;
-    match lay_out(alloc, &dl, tree) {
+    match lay_out(alloc, dl, tree) {
         Ok(laid) => answer_laid(alloc, &laid),
         Err(error) => refused(alloc, error_name(error)),
     }
 }
 
-/// The answer to the line of a type.
-fn answer_type(alloc: Global, line: &[u8]) -> Result<Answer, AllocError>
-    ensures { IfOk result (IsAnswer (output_of_type (read (words_of line.now)))) }
+/// The answer to the line of a type, under a data layout.
+fn answer_type(alloc: Global, dl: &TargetDataLayout, line: &[u8]) -> Result<Answer, AllocError>
+    ensures { IfOk result (IsAnswer (IsOutputOfType dl.now (read dl.now (words_of line.now)))) }
 {
-    match read_type(alloc, line) {
-        Ok(tree) => answer_tree(alloc, &tree),
+    match read_type(alloc, dl, line) {
+        Ok(tree) => answer_tree(alloc, dl, &tree),
         Err(fault) => answer_fault(alloc, fault),
     }
 }
@@ -118,7 +123,7 @@ fn is_utf8(line: &[u8]) -> bool
 
 /// The answer to an input: its first line is a data layout, its second a type.
 pub(crate) fn answer_input(alloc: Global, input: &[u8]) -> Result<Answer, AllocError>
-    ensures { IfOk result (IsAnswer (output_of input.now)) }
+    ensures { IfOk result (IsAnswer (IsOutputOf input.now)) }
 {
     let (first, second) = two_lines(input);
     if !(is_utf8(first) && is_utf8(second)) {
@@ -127,5 +132,6 @@ pub(crate) fn answer_input(alloc: Global, input: &[u8]) -> Result<Answer, AllocE
     if !first.is_empty() {
         return refused(alloc, "NotYet");
     }
-    answer_type(alloc, second)
+    let dl = TargetDataLayout::default_in(alloc)?;
+    answer_type(alloc, &dl, second)
 }

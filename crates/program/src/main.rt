@@ -2,13 +2,17 @@
 #![tactic(auto)]
 
 mod answer;
+mod begun;
 mod fault;
 mod lines;
 mod number;
 mod print;
+mod read_scalar;
 mod reader;
 mod repr_text;
 mod run;
+mod scalar_word;
+mod scalars;
 #[cfg(test)]
 mod tests;
 mod type_word;

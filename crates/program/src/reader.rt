@@ -1,68 +1,31 @@
 //! Reads a type, word by word.
 
-ghost use Rattle.std.specs.Prelude.{◌≡◌, ◌⊎◌, ◌<◌, ◌≤◌, ◌+◌, ◌^◌, ℕ, IfOk, IfErr, MatchResult, codes, length};
+ghost use Rattle.std.specs.Prelude.{◌≡◌, ◌∷◌, ◌⊎◌, ◌<◌, ◌≤◌, ◌+◌, ◌^◌, ℕ, IfOk, IfErr, MatchResult, codes, length};
 ghost use Rattle.std.specs.Str.{bytes_eq};
-ghost use Rattle.abi_base.specs.Integer.{integer_size};
 ghost use Rattle.rustc_abi.specs.Tree.{Tree, tree_of};
-ghost use Rattle.program.specs.Reading.{Agrees, at_count, at_repr, at_type, begin, begun_in, closed, full_integer, next, plain_c, put, read, start, state_of, step, waiting};
+ghost use Rattle.program.specs.Reading.{Agrees, waiting, first, at_count, at_opening, at_repr, at_type, begun_in, closed, plain_c, read, start, state_of, step};
 ghost use Rattle.program.specs.Numbers.{number_in};
 ghost use Rattle.program.specs.Repr.{repr_text};
 ghost use Rattle.program.specs.Words.{words_of};
 ghost use Rattle.program.specs.Written.{IsKnown, line_of, written};
 
+use crate::begun::{Open, Reader, Want, put, waiting};
 use crate::fault::Fault;
 use crate::number::decimal;
+use crate::read_scalar::{
+    begin_scalar, read_end, read_primitive, read_scalar, read_space, read_start,
+};
 use crate::repr_text::{ReprText, repr_text};
 use crate::type_word::{TypeWord, type_word};
 use crate::words::next_word;
-use abi_base::{Integer, Primitive, Size};
+use abi_base::TargetDataLayout;
 use abi_index::Hash64;
-use abi_scalar::{ReprFlags, ReprOptions, Scalar, WrappingRange};
+use abi_scalar::{ReprFlags, ReprOptions};
 use rustc_abi::TypeTree;
 use std::alloc::Global;
 
 /// A type is nested in at most so many others.
 const MOST_NESTED: usize = 200;
-
-/// What comes next in a type's text.
-#[derive(Clone, Copy, PartialEq, Eq, Debug)]
-pub(crate) enum Want {
-    Tree,
-    Count,
-    Repr,
-    Opening,
-    /// Nothing: the type is complete.
-    End,
-}
-
-/// A type that is begun.
-#[derive(Drop)]
-pub(crate) enum Open {
-    /// An array, which waits for its element.
-    Elements(u64),
-    /// A struct, with the fields so far.
-    Fields(Vec<TypeTree>),
-}
-
-/// What has been read of a type.
-#[derive(Drop)]
-pub(crate) struct Reader {
-    want: Want,
-    /// The types that are begun, the innermost last.
-    begun: Vec<Open>,
-    /// The type, once it's complete.
-    tree: Option<TypeTree>,
-}
-
-/// An integer that may be any number of its width.
-fn full_integer(integer: Integer, signed: bool) -> TypeTree
-    ensures { tree_of result ≡ full_integer integer signed }
-{
-    TypeTree::Scalar(Scalar::Initialized {
-        value: Primitive::Int(integer, signed),
-        valid_range: WrappingRange::full(integer.size()),
-    })
-}
 
 /// `repr(C)` and nothing else.
 fn plain_c() -> ReprOptions
@@ -76,43 +39,6 @@ fn plain_c() -> ReprOptions
         scalable: None,
         field_shuffle_seed: Hash64::ZERO,
     }
-}
-
-/// Waits for something within these types.
-fn waiting(want: Want, begun: Vec<Open>) -> Reader
-    ensures { state_of result ≡ waiting want (begun_in begun.items) }
-{
-    Reader {
-        want,
-        begun,
-        tree: None,
-    }
-}
-
-/// Puts a complete type into the innermost type that is begun.
-fn put(alloc: Global, tree: TypeTree, begun: Vec<Open>) -> Result<Reader, Fault>
-    ensures ok { IfOk result (λ reader. state_of reader ≡ put (tree_of tree) (begun_in begun.items)) }
-    ensures err { IfErr result (λ fault. fault ≡ Fault.OutOfMemory) }
-{
-    let mut tree = tree;
-    let mut begun = begun;
-    while let Some(top) = begun.pop() {
-        match top {
-            Open::Elements(count) => {
-                tree = TypeTree::Array(count, Box::new(alloc, tree)?);
-            }
-            Open::Fields(mut fields) => {
-                fields.push(tree)?;
-                begun.push(Open::Fields(fields))?;
-                return Ok(waiting(Want::Tree, begun));
-            }
-        }
-    }
-    Ok(Reader {
-        want: Want::End,
-        begun,
-        tree: Some(tree),
-    })
 }
 
 /// Reads a closing parenthesis.
@@ -133,15 +59,26 @@ fn close(alloc: Global, number: u64, begun: Vec<Open>) -> Result<Reader, Fault>
     }
 }
 
+/// Waits for the first scalar of a pair.
+fn open_pair(begun: Vec<Open>) -> Result<Reader, Fault>
+    ensures ok { IfOk result (λ reader. state_of reader ≡ waiting Want.Scalar (first ∷ begun_in begun.items)) }
+    ensures err { IfErr result (λ fault. fault ≡ Fault.OutOfMemory) }
+{
+    let mut begun = begun;
+    begun.push(Open::First)?;
+    Ok(waiting(Want::Scalar, begun))
+}
+
 /// Reads a word where a type may begin.
 fn read_type_word(
     alloc: Global,
+    dl: &TargetDataLayout,
     number: u64,
     closes: bool,
     begun: Vec<Open>,
     word: TypeWord,
 ) -> Result<Reader, Fault>
-    ensures { Agrees state_of (at_type number closes (begun_in begun.items) word) result }
+    ensures { Agrees state_of (at_type dl.now number closes (begun_in begun.items) word) result }
 {
     if word == TypeWord::Other {
         if closes {
@@ -153,7 +90,10 @@ fn read_type_word(
         return Err(Fault::TooDeep);
     }
     match word {
-        TypeWord::Integer(integer, signed) => put(alloc, full_integer(integer, signed), begun),
+        TypeWord::Scalar(scalar) => begin_scalar(alloc, dl, begun, scalar),
+        TypeWord::Pair => open_pair(begun),
+        TypeWord::Never => put(alloc, TypeTree::Never, begun),
+        TypeWord::Unit => put(alloc, TypeTree::Unit, begun),
         TypeWord::Array => Ok(waiting(Want::Count, begun)),
         TypeWord::Struct => Ok(waiting(Want::Repr, begun)),
         _ => Err(Fault::NotYet),
@@ -162,7 +102,7 @@ fn read_type_word(
 
 /// Reads an array's count.
 fn read_count(number: u64, begun: Vec<Open>, word: &[u8]) -> Result<Reader, Fault>
-    ensures { Agrees state_of (at_count number (begun_in begun.items) (number_in word.now)) result }
+    ensures { Agrees state_of (at_count number (begun_in begun.items) (number_in 64 word.now)) result }
 {
     let mut begun = begun;
     match decimal(word) {
@@ -187,7 +127,7 @@ fn read_repr(number: u64, begun: Vec<Open>, word: &[u8]) -> Result<Reader, Fault
 
 /// Reads the parenthesis that opens a struct's fields.
 fn read_opening(alloc: Global, number: u64, begun: Vec<Open>, word: &[u8]) -> Result<Reader, Fault>
-    ensures { Agrees state_of (next number (begun_in begun.items) word.now Want.Opening) result }
+    ensures { Agrees state_of (at_opening number (begun_in begun.items) (bytes_eq word.now (codes "("))) result }
 {
     let mut begun = begun;
     if word == b"(".as_slice() {
@@ -199,8 +139,14 @@ fn read_opening(alloc: Global, number: u64, begun: Vec<Open>, word: &[u8]) -> Re
 }
 
 /// Reads the next word, of this number.
-fn step(alloc: Global, number: u64, reader: Reader, word: &[u8]) -> Result<Reader, Fault>
-    ensures { Agrees state_of (step number (state_of reader) word.now) result }
+fn step(
+    alloc: Global,
+    dl: &TargetDataLayout,
+    number: u64,
+    reader: Reader,
+    word: &[u8],
+) -> Result<Reader, Fault>
+    ensures { Agrees state_of (step dl.now number (state_of reader) word.now) result }
 {
     let Reader {
         want,
@@ -210,8 +156,13 @@ fn step(alloc: Global, number: u64, reader: Reader, word: &[u8]) -> Result<Reade
     match want {
         Want::Tree => {
             let closes = word == b")".as_slice();
-            read_type_word(alloc, number, closes, begun, type_word(word))
+            read_type_word(alloc, dl, number, closes, begun, type_word(word))
         }
+        Want::Scalar => read_scalar(alloc, dl, number, begun, word),
+        Want::Primitive => read_primitive(alloc, dl, number, begun, word),
+        Want::Space => read_space(alloc, dl, number, begun, word),
+        Want::RangeStart => read_start(number, begun, word),
+        Want::RangeEnd => read_end(alloc, number, begun, word),
         Want::Count => read_count(number, begun, word),
         Want::Repr => read_repr(number, begun, word),
         Want::Opening => read_opening(alloc, number, begun, word),
@@ -220,14 +171,14 @@ fn step(alloc: Global, number: u64, reader: Reader, word: &[u8]) -> Result<Reade
 }
 
 /// The type that a line's words write, whole.
-fn read_words(alloc: Global, line: &[u8]) -> Result<TypeTree, Fault>
-    ensures { Agrees tree_of (read (words_of line.now)) result }
+fn read_words(alloc: Global, dl: &TargetDataLayout, line: &[u8]) -> Result<TypeTree, Fault>
+    ensures { Agrees tree_of (read dl.now (words_of line.now)) result }
 {
     let mut reader = waiting(Want::Tree, Vec::new(alloc));
     let mut rest = line;
     let mut number = 1u64;
     while let Some((word, more)) = next_word(rest) {
-        reader = step(alloc, number, reader, word)?;
+        reader = step(alloc, dl, number, reader, word)?;
         rest = more;
         number += 1;
     }
@@ -242,15 +193,19 @@ fn read_words(alloc: Global, line: &[u8]) -> Result<TypeTree, Fault>
     }
 }
 
-/// The type that a line writes, whole.
+/// The type that a line writes under a data layout, whole.
 ///
 /// `Unreadable` has the number of the first word that doesn't fit, one past the last where words are missing. `NotYet` comes
 /// at a word that the program doesn't know yet, `TooDeep` at one that begins a type in more than 200 others: whichever is
 /// first.
-pub(crate) fn read_type(alloc: Global, line: &[u8]) -> Result<TypeTree, Fault>
-    ensures exact { Agrees tree_of (read (words_of line.now)) result }
+pub(crate) fn read_type(
+    alloc: Global,
+    dl: &TargetDataLayout,
+    line: &[u8],
+) -> Result<TypeTree, Fault>
+    ensures exact { Agrees tree_of (read dl.now (words_of line.now)) result }
     ensures written { (t : Tree) → IsKnown 0 t → line.now ≡ line_of (written t) →
         MatchResult result (λ tree. tree_of tree ≡ t) (λ fault. fault ≡ Fault.OutOfMemory) }
 {
-    read_words(alloc, line)
+    read_words(alloc, dl, line)
 }

@@ -7,7 +7,7 @@ ghost use Rattle.program.specs.Numbers.{number_in};
 
 use crate::lines::cut;
 use crate::number::decimal;
-use crate::type_word::{integer_named, is_index_word};
+use crate::scalar_word::{integer_named, is_index_word};
 
 /// A kind of word in a repr.
 #[derive(Clone, Copy, PartialEq, Eq, Debug)]
@@ -41,7 +41,7 @@ fn is_alignment(bytes: u64) -> bool
 
 /// Whether the word is the number of an alignment.
 fn is_alignment_in(word: &[u8]) -> bool
-    ensures { result ≡ is_alignment_in (number_in word.now) }
+    ensures { result ≡ is_alignment_in (number_in 64 word.now) }
 {
     match decimal(word) {
         Some(bytes) => is_alignment(bytes),

@@ -2,7 +2,7 @@
 
 ghost use Rattle.std.specs.Prelude.{◌≤◌, IfSome, MatchOption, length, take};
 ghost use Rattle.std.specs.Io.KnownBytes.{Appends, Keeps};
-ghost use Rattle.program.specs.Output.{Answered, Sent, output_of};
+ghost use Rattle.program.specs.Output.{Answered, Sent, IsOutputOf};
 
 use crate::answer::answer_input;
 use std::alloc::Global;
@@ -48,7 +48,7 @@ fn send<W: Write>(output: &mut W, text: &[u8], status: u8) -> u8
 /// written. Where reading fails it is `refused Input`, where memory is wanting `refused OutOfMemory`; where writing fails
 /// the status is 1, and nothing more is written.
 pub fn run<R: Read, W: Write>(alloc: Global, input: &mut R, output: &mut W) -> u8
-    ensures { IfSome (R.remaining input.old) (λ all. Answered (W.contents output.old) (W.contents output.new) (output_of all) result) }
+    ensures { IfSome (R.remaining input.old) (λ all. Answered (W.contents output.old) (W.contents output.new) (IsOutputOf all) result) }
 {
     let mut text = Vec::new(alloc);
     match input.read_to_end(&mut text) {

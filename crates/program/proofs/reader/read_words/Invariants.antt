@@ -6,7 +6,7 @@ use Rattle.program.proofs.reader.read_words.Given as goal
 
 abbrev pub invariant-loop-word : goal.invariant-loop-word
 invariant-loop-word l = record {
-  rest : read_from l.number (state_of l.reader) (words_of l.rest) ≡ read (words_of l.line);
+  rest : read_from l.dl l.number (state_of l.reader) (words_of l.rest) ≡ read l.dl (words_of l.line);
   number : l.number + length l.rest ≤ length l.line + 1;
 }
 

@@ -2,7 +2,7 @@
 use Rattle.std.proofs.Common.{◌≡◌, vec_len}
 use Rattle.rustc_abi.specs.Tree.{tree_of}
 use Rattle.program.specs.Reading.{begun_in, put}
-use Rattle.program.proofs.reader.put.Given as goal
+use Rattle.program.proofs.begun.put.Given as goal
 
 abbrev pub invariant-loop-top : goal.invariant-loop-top
 invariant-loop-top l = put (tree_of l.tree) (begun_in l.begun.items) ≡ put (tree_of l.initial.tree) (begun_in l.initial.begun.items)

@@ -1,0 +1,145 @@
+//! What has been read of a type.
+
+ghost use Rattle.std.specs.Prelude.{◌≡◌, IfOk, IfErr};
+ghost use Rattle.rustc_abi.specs.Tree.{tree_of};
+ghost use Rattle.program.specs.Reading.{begun_in, put, put_primitive, put_scalar, state_of, waiting};
+
+use crate::fault::Fault;
+use crate::scalars::full;
+use abi_base::{Primitive, TargetDataLayout};
+use abi_scalar::{Scalar, WrappingRange};
+use rustc_abi::TypeTree;
+use std::alloc::Global;
+
+/// What comes next in a type's text.
+#[derive(Clone, Copy, PartialEq, Eq, Debug)]
+pub(crate) enum Want {
+    Tree,
+    /// A scalar of a pair.
+    Scalar,
+    /// The primitive of a range, or of a union's scalar.
+    Primitive,
+    /// The number of an address space.
+    Space,
+    RangeStart,
+    RangeEnd,
+    Count,
+    Repr,
+    Opening,
+    /// Nothing: the type is complete.
+    End,
+}
+
+/// A type, or a scalar, that is begun.
+#[derive(Drop)]
+pub(crate) enum Open {
+    /// An array, which waits for its element.
+    Elements(u64),
+    /// A struct, with the fields so far.
+    Fields(Vec<TypeTree>),
+    /// A pair that waits for its first scalar.
+    First,
+    /// A pair that has its first scalar.
+    Second(Scalar),
+    /// A range that waits for its primitive.
+    Range,
+    /// A range that waits for its start.
+    RangeOf(Primitive),
+    /// A range that waits for its end.
+    RangeFrom(Primitive, u128),
+    /// A union's scalar that waits for its primitive.
+    UnionOf,
+}
+
+/// What has been read of a type.
+#[derive(Drop)]
+pub(crate) struct Reader {
+    pub(crate) want: Want,
+    /// The types that are begun, the innermost last.
+    pub(crate) begun: Vec<Open>,
+    /// The type, once it's complete.
+    pub(crate) tree: Option<TypeTree>,
+}
+
+/// Waits for something within these types.
+pub(crate) fn waiting(want: Want, begun: Vec<Open>) -> Reader
+    ensures { state_of result ≡ waiting want (begun_in begun.items) }
+{
+    Reader {
+        want,
+        begun,
+        tree: None,
+    }
+}
+
+/// Puts a complete type into the innermost type that is begun.
+pub(crate) fn put(alloc: Global, tree: TypeTree, begun: Vec<Open>) -> Result<Reader, Fault>
+    ensures ok { IfOk result (λ reader. state_of reader ≡ put (tree_of tree) (begun_in begun.items)) }
+    ensures err { IfErr result (λ fault. fault ≡ Fault.OutOfMemory) }
+{
+    let mut tree = tree;
+    let mut begun = begun;
+    while let Some(top) = begun.pop() {
+        match top {
+            Open::Elements(count) => {
+                tree = TypeTree::Array(count, Box::new(alloc, tree)?);
+            }
+            Open::Fields(mut fields) => {
+                fields.push(tree)?;
+                begun.push(Open::Fields(fields))?;
+                return Ok(waiting(Want::Tree, begun));
+            }
+            _ => {}
+        }
+    }
+    Ok(Reader {
+        want: Want::End,
+        begun,
+        tree: Some(tree),
+    })
+}
+
+/// Puts a complete scalar into a pair that waits for one, or makes it a type.
+pub(crate) fn put_scalar(alloc: Global, scalar: Scalar, begun: Vec<Open>) -> Result<Reader, Fault>
+    ensures ok { IfOk result (λ reader. state_of reader ≡ put_scalar scalar (begun_in begun.items)) }
+    ensures err { IfErr result (λ fault. fault ≡ Fault.OutOfMemory) }
+{
+    let mut begun = begun;
+    match begun.pop() {
+        Some(Open::First) => {
+            begun.push(Open::Second(scalar))?;
+            Ok(waiting(Want::Scalar, begun))
+        }
+        Some(Open::Second(first)) => put(alloc, TypeTree::Pair(first, scalar), begun),
+        Some(other) => {
+            begun.push(other)?;
+            put(alloc, TypeTree::Scalar(scalar), begun)
+        }
+        None => put(alloc, TypeTree::Scalar(scalar), begun),
+    }
+}
+
+/// Puts a complete primitive into what waits for one, or makes it a scalar with its full range.
+pub(crate) fn put_primitive(
+    alloc: Global,
+    dl: &TargetDataLayout,
+    value: Primitive,
+    begun: Vec<Open>,
+) -> Result<Reader, Fault>
+    ensures ok { IfOk result (λ reader. state_of reader ≡ put_primitive dl.now value (begun_in begun.items)) }
+    ensures err { IfErr result (λ fault. fault ≡ Fault.OutOfMemory) }
+{
+    let mut begun = begun;
+    match begun.pop() {
+        Some(Open::Range) => {
+            begun.push(Open::RangeOf(value))?;
+            Ok(waiting(Want::RangeStart, begun))
+        }
+        Some(Open::UnionOf) => put_scalar(alloc, Scalar::Union { value }, begun),
+        Some(other) => {
+            begun.push(other)?;
+            put_scalar(alloc, full(dl, value), begun)
+        }
+        None => put_scalar(alloc, full(dl, value), begun),
+    }
+}

@@ -1,0 +1,152 @@
+//! Reads the words of a scalar.
+
+ghost use Rattle.std.specs.Prelude.{◌≡◌, ◌∷◌, IfOk, IfErr};
+ghost use Rattle.program.specs.Numbers.{number_in};
+ghost use Rattle.program.specs.Reading.{Agrees, waiting, begun_by, at_end, at_primitive, at_scalar, at_space, at_start, begin_scalar, begun_in, is_primitive, state_of};
+ghost use Rattle.program.specs.ScalarWords.{scalar_word};
+
+use crate::begun::{Open, Reader, Want, put_primitive, put_scalar, waiting};
+use crate::fault::Fault;
+use crate::number::{short, wide};
+use crate::scalar_word::{ScalarWord, scalar_word};
+use crate::scalars::{a_bool, a_char, a_ref, default_pointer, index_primitive};
+use abi_base::{AddressSpace, Primitive, TargetDataLayout};
+use abi_scalar::{Scalar, WrappingRange};
+use std::alloc::Global;
+
+/// Waits for a primitive, within one type or scalar more.
+fn waiting_in(top: Open, begun: Vec<Open>) -> Result<Reader, Fault>
+    ensures ok { IfOk result (λ reader. state_of reader ≡ waiting Want.Primitive (begun_by top ∷ begun_in begun.items)) }
+    ensures err { IfErr result (λ fault. fault ≡ Fault.OutOfMemory) }
+{
+    let mut begun = begun;
+    begun.push(top)?;
+    Ok(waiting(Want::Primitive, begun))
+}
+
+/// Reads a word that begins a scalar.
+pub(crate) fn begin_scalar(
+    alloc: Global,
+    dl: &TargetDataLayout,
+    begun: Vec<Open>,
+    word: ScalarWord,
+) -> Result<Reader, Fault>
+    ensures ok { IfOk result (λ reader. state_of reader ≡ begin_scalar dl.now (begun_in begun.items) word) }
+    ensures err { IfErr result (λ fault. fault ≡ Fault.OutOfMemory) }
+{
+    match word {
+        ScalarWord::Integer(integer, signed) => {
+            put_primitive(alloc, dl, Primitive::Int(integer, signed), begun)
+        }
+        ScalarWord::Index(signed) => put_primitive(alloc, dl, index_primitive(dl, signed), begun),
+        ScalarWord::Float(float) => put_primitive(alloc, dl, Primitive::Float(float), begun),
+        ScalarWord::Pointer => put_primitive(alloc, dl, default_pointer(), begun),
+        ScalarWord::PointerIn => Ok(waiting(Want::Space, begun)),
+        ScalarWord::Bool => put_scalar(alloc, a_bool(), begun),
+        ScalarWord::Char => put_scalar(alloc, a_char(), begun),
+        ScalarWord::Ref => put_scalar(alloc, a_ref(dl), begun),
+        ScalarWord::Range => waiting_in(Open::Range, begun),
+        ScalarWord::UnionOf => waiting_in(Open::UnionOf, begun),
+    }
+}
+
+/// Whether the word begins a primitive.
+fn is_primitive(word: ScalarWord) -> bool
+    ensures { result ≡ is_primitive word }
+{
+    match word {
+        ScalarWord::Integer(_, _) => true,
+        ScalarWord::Index(_) => true,
+        ScalarWord::Float(_) => true,
+        ScalarWord::Pointer => true,
+        ScalarWord::PointerIn => true,
+        _ => false,
+    }
+}
+
+/// Reads a word where a pair's scalar stands.
+pub(crate) fn read_scalar(
+    alloc: Global,
+    dl: &TargetDataLayout,
+    number: u64,
+    begun: Vec<Open>,
+    word: &[u8],
+) -> Result<Reader, Fault>
+    ensures { Agrees state_of (at_scalar dl.now number (begun_in begun.items) (scalar_word word.now)) result }
+{
+    match scalar_word(word) {
+        Some(scalar) => begin_scalar(alloc, dl, begun, scalar),
+        None => Err(Fault::Unreadable(number)),
+    }
+}
+
+/// Reads a word where a range's primitive, or that of a union's scalar, stands.
+pub(crate) fn read_primitive(
+    alloc: Global,
+    dl: &TargetDataLayout,
+    number: u64,
+    begun: Vec<Open>,
+    word: &[u8],
+) -> Result<Reader, Fault>
+    ensures { Agrees state_of (at_primitive dl.now number (begun_in begun.items) (scalar_word word.now)) result }
+{
+    let Some(scalar) = scalar_word(word) else {
+        return Err(Fault::Unreadable(number));
+    };
+    if is_primitive(scalar) {
+        begin_scalar(alloc, dl, begun, scalar)
+    } else {
+        Err(Fault::Unreadable(number))
+    }
+}
+
+/// Reads the number of an address space.
+pub(crate) fn read_space(
+    alloc: Global,
+    dl: &TargetDataLayout,
+    number: u64,
+    begun: Vec<Open>,
+    word: &[u8],
+) -> Result<Reader, Fault>
+    ensures { Agrees state_of (at_space dl.now number (begun_in begun.items) (number_in 32 word.now)) result }
+{
+    match short(word) {
+        Some(space) => {
+            put_primitive(alloc, dl, Primitive::Pointer(AddressSpace(space)), begun)
+        }
+        None => Err(Fault::Unreadable(number)),
+    }
+}
+
+/// Reads the start of a range.
+pub(crate) fn read_start(number: u64, begun: Vec<Open>, word: &[u8]) -> Result<Reader, Fault>
+    ensures { Agrees state_of (at_start number (begun_in begun.items) (number_in 128 word.now)) result }
+{
+    let mut begun = begun;
+    match (begun.pop(), wide(word)) {
+        (Some(Open::RangeOf(value)), Some(start)) => {
+            begun.push(Open::RangeFrom(value, start))?;
+            Ok(waiting(Want::RangeEnd, begun))
+        }
+        _ => Err(Fault::Unreadable(number)),
+    }
+}
+
+/// Reads the end of a range.
+pub(crate) fn read_end(
+    alloc: Global,
+    number: u64,
+    begun: Vec<Open>,
+    word: &[u8],
+) -> Result<Reader, Fault>
+    ensures { Agrees state_of (at_end number (begun_in begun.items) (number_in 128 word.now)) result }
+{
+    let mut begun = begun;
+    match (begun.pop(), wide(word)) {
+        (Some(Open::RangeFrom(value, start)), Some(end)) => {
+            let valid_range = WrappingRange { start, end };
+            put_scalar(alloc, Scalar::Initialized { value, valid_range }, begun)
+        }
+        _ => Err(Fault::Unreadable(number)),
+    }
+}
