@@ -13,6 +13,8 @@ use Rattle.abi_base.specs.declared.align.AbiAlign.{AbiAlign}
 use Rattle.abi_scalar.specs.declared.backend_repr.BackendRepr.TheVariants.{Memory}
 use Rattle.abi_scalar.specs.declared.fields_shape.FieldsShape.TheVariants.{Arbitrary}
 use Rattle.abi_scalar.specs.declared.variants.Variants.TheVariants.{Single}
+use Rattle.abi_scalar.specs.declared.niche.Niche.{Niche}
+use Rattle.abi_calc.specs.ListNiche.{list_niche}
 use Rattle.abi_calc.specs.List.{IsFault, fault_from, answer_after, list_align, list_answer, list_layout, list_size, max_repr_align_of}
 use Rattle.abi_calc.specs.Placement.{end_from, offsets_from}
 use Rattle.abi_calc.proofs.Apart.{fault_large, size_above}
@@ -50,15 +52,16 @@ fault_too_large layout_of dl fields error (inr e) is = cc
 
 -- the layout, from its parts
 pub layout_made : {F V : Type 0} (at : ℕ → F) (first : V) (dl : TargetDataLayout) (shuffle : ℕ) (fields : List (LayoutData F V))
-    (offsets : List ℕ) (order : List F) (index : V) (uninhabited : Bool) (abi : AbiAlign) (size align : ℕ) (greatest : Option ℕ) (seed : ℕ)
+    (offsets : List ℕ) (order : List F) (index : V) (uninhabited : Bool) (abi : AbiAlign) (size align : ℕ) (greatest : Option ℕ) (seed : ℕ) (niche : Option Niche)
     → offsets ≡ offsets_from 0 fields → order ≡ map at (range_with_len 0 (length fields)) → index ≡ first → uninhabited ≡ list_any (λ f. f.uninhabited) fields
     → abi.abi ≡ align → size ≡ list_size dl fields → align ≡ list_align dl fields → greatest ≡ max_repr_align_of fields
     → seed ≡ (sum_by (λ f. f.randomization_seed) fields + shuffle) % 2 ^ 64
+    → niche ≡ list_niche dl (list_size dl fields) (offsets_from 0 fields) fields
     → record {
       fields = Arbitrary offsets order;
       variants = Single index;
       backend_repr = Memory true;
-      largest_niche = None;
+      largest_niche = niche;
       uninhabited = uninhabited;
       align = abi;
       size = size;
@@ -67,6 +70,6 @@ pub layout_made : {F V : Type 0} (at : ℕ → F) (first : V) (dl : TargetDataLa
       repr_c = true;
       randomization_seed = seed;
     } ≡ list_layout at first dl shuffle fields
-layout_made at first dl shuffle fields offsets order index uninhabited abi size align greatest seed e1 e2 e0 e3 e4 e5 e6 e7 e8 =
+layout_made at first dl shuffle fields offsets order index uninhabited abi size align greatest seed niche e1 e2 e0 e3 e4 e5 e6 e7 e8 e9 =
     let a : abi ≡ record { abi = list_align dl fields } = ap (λ (n : ℕ). record { abi = n }) (e4 ∙ e6) in
-    rw (e1, e2, e0, e3, a, e5, e6, e7, e8) refl
+    rw (e1, e2, e0, e3, a, e5, e6, e7, e8, e9) refl

@@ -1,5 +1,5 @@
 -- Fields that follow one another share no byte, and lie aligned.
-use Rattle.std.proofs.Common.{◌≡◌, ℕ, ◌+◌, ◌≤◌, List, [], ◌∷◌, Some, Bool, true, false, map, refl, arith, inl}
+use Rattle.std.proofs.Common.{◌≡◌, ℕ, ◌+◌, ◌≤◌, List, [], ◌∷◌, Some, Bool, true, false, map, length, suc, ap, refl, arith, inl}
 use Rattle.std.specs.Prelude.{nat_lt, if◌then◌else◌}
 use Rattle.std.proofs.lemmas.Bool.Decides.{nat_tests}
 use Rattle.abi_base.specs.declared.data_layout.TargetDataLayout.{TargetDataLayout}
@@ -65,3 +65,7 @@ fault_large layout_of bound from (h ∷ hs) fault =
 
 pub size_above : {F V : Type 0} (dl : TargetDataLayout) (fields : List (LayoutData F V)) → end_from 0 fields ≤ list_size dl fields
 size_above dl fields = (rounded_to (end_from 0 fields) (list_align dl fields)).above
+
+pub length_offsets : {F V : Type 0} (from : ℕ) (fields : List (LayoutData F V)) → length (offsets_from from fields) ≡ length fields
+length_offsets from [] = refl
+length_offsets from (f ∷ fs) = ap (λ n. suc n) (length_offsets (place_of from f + f.size) fs)

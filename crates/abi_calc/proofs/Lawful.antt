@@ -82,13 +82,13 @@ list_align_small layout_of dl fields lawful all = align_small layout_of dl dl.ag
 -- a list's layout, by its parts
 pub list_lawful : {F V : Type 0} (dl : TargetDataLayout) (layout : LayoutData F V) (first : V) (last align : ℕ)
     → layout.align.abi ≡ align → align ≤ 29 → layout.size ≡ next_multiple_of last (2 ^ align) → layout.size < size_bound dl
-    → layout.largest_niche ≡ None → layout.backend_repr ≡ Memory true → layout.variants ≡ Single first → IsLawfulLayout dl layout
+    → IfSome layout.largest_niche (IsLawfulNiche dl layout.size) → layout.backend_repr ≡ Memory true → layout.variants ≡ Single first → IsLawfulLayout dl layout
 list_lawful dl layout first last align aligned small size bound niche view variants = record {
   multiple = rw (size, aligned) (rounded_to last align).multiple;
   bound = bound;
   limit = rw aligned small;
-  niche = rw niche tt;
+  niche = niche;
   view = rw view tt;
-  niche_of_view = rw niche tt;
+  niche_of_view = rw view (any_niche true layout.largest_niche);
   tag = rw variants tt;
 }

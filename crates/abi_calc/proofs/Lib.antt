@@ -4,3 +4,4 @@ pub mod Placing
 pub mod Lawful
 pub mod Apart
 pub mod Answers
+pub mod ListNiche

@@ -12,6 +12,7 @@ use Rattle.abi_scalar.specs.declared.layout_data.LayoutData.{LayoutData}
 use Rattle.abi_scalar.specs.declared.error.LayoutCalculatorError.{LayoutCalculatorError}
 use Rattle.abi_scalar.specs.declared.error.LayoutCalculatorError.TheVariants.{SizeOverflow, UnexpectedUnsized, OutOfMemory}
 use Rattle.abi_scalar.specs.declared.repr.ReprOptions.{ReprOptions}
+use Rattle.abi_calc.specs.ListNiche.{list_niche}
 use Rattle.abi_calc.specs.Placement.{place_of, offsets_from, end_from, align_from}
 
 -- the size isn't known beforehand
@@ -52,7 +53,7 @@ list_layout at first dl shuffle_seed fields = record {
   fields = Arbitrary (offsets_from 0 fields) (map at (range_with_len 0 (length fields)));
   variants = Single first;
   backend_repr = Memory true;
-  largest_niche = None;
+  largest_niche = list_niche dl (list_size dl fields) (offsets_from 0 fields) fields;
   uninhabited = list_any (λ f. f.uninhabited) fields;
   align = record { abi = list_align dl fields };
   size = list_size dl fields;

@@ -4,6 +4,7 @@
 mod array;
 mod calculator;
 mod list;
+mod list_niche;
 #[cfg(test)]
 mod tests;
 

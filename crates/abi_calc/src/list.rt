@@ -1,29 +1,33 @@
 //! Lists of fields, one after another in memory.
 
-ghost use Rattle.std.specs.Prelude.{◌≡◌, ℕ, ◌+◌, ◌%◌, ◌^◌, ◌≤◌, ◌<◌, All, Err, IfOk, IfErr, List, length, map, sum_by};
+ghost use Rattle.std.specs.Prelude.{◌≡◌, ℕ, ◌+◌, ◌%◌, ◌^◌, ◌≤◌, ◌<◌, All, Err, IfOk, IfErr, IfSome, List, length, map, sum_by};
 ghost use Rattle.std.specs.List.{list_any, range_with_len};
 ghost use Rattle.abi_index.specs.Slice.{items_of};
 ghost use Rattle.abi_base.specs.DataLayout.{IsLawfulDataLayout, size_bound};
 ghost use Rattle.abi_scalar.specs.Lawful.{IsLawfulLayout};
+ghost use Rattle.abi_scalar.specs.Niche.{IsReadableNiche};
 ghost use Rattle.abi_calc.specs.Answer.{IsAnswer};
 ghost use Rattle.abi_calc.specs.Apart.{AreAligned, AreApart, offsets_of};
-ghost use Rattle.abi_calc.specs.List.{IsPlainC, ArePlaced, IsFault, list_answer, list_size, max_repr_align_of};
-ghost use Rattle.abi_calc.specs.Placement.{align_from};
+ghost use Rattle.abi_calc.specs.List.{IsPlainC, ArePlaced, IsFault, fault_from, list_answer, list_size, max_repr_align_of};
+ghost use Rattle.abi_calc.specs.ListNiche.{HasLargestNiche, IsNicheOfPart, greatest_niche, list_niche};
+ghost use Rattle.abi_calc.specs.Placement.{align_from, end_from, offsets_from};
 
 use crate::calculator::LayoutCalculator;
+use crate::list_niche::{NicheBias, greater_niche, niche_of_part, space_beside};
 use abi_base::{AbiAlign, Align, HasDataLayout, Size, StructKind};
 use abi_index::{Hash64, Idx, IndexSlice, IndexVec};
 use abi_scalar::{
-    BackendRepr, FieldsShape, LayoutCalculatorError, LayoutData, LayoutHandle, ReprOptions,
+    BackendRepr, FieldsShape, LayoutCalculatorError, LayoutData, LayoutHandle, Niche, ReprOptions,
     Variants,
 };
 use std::alloc::{AllocError, Global};
 
-/// Where fields lie that follow one another, and where the last of them ends.
+/// Where fields lie that follow one another, where the last of them ends, and the greatest of their niches.
 #[derive(Drop)]
 struct Placed<FieldIdx: Idx> {
     offsets: IndexVec<FieldIdx, Size>,
     end: Size,
+    largest_niche: Option<Niche>,
 }
 
 /// The indices from 0 on, so many of them.
@@ -106,15 +110,19 @@ impl<Cx: HasDataLayout> LayoutCalculator<Cx> {
         &self,
         alloc: Global,
         fields: &[F],
+        bias: NicheBias,
     ) -> Result<Placed<FieldIdx>, LayoutCalculatorError<F>>
         requires data_layout { IsLawfulDataLayout (Cx.target self.now.cx) }
         requires fields { All (λ f. IsLawfulLayout (Cx.target self.now.cx) (F.layout_of f)) fields.now }
         requires count { length fields.now ≤ FieldIdx.MAX_INDEX + 1 }
         ensures ok { IfOk result (λ placed. ArePlaced F.layout_of (size_bound (Cx.target self.now.cx)) fields.now placed.offsets placed.end) }
+        ensures niche { IfOk result (λ placed. placed.largest_niche ≡ greatest_niche bias (Cx.target self.now.cx) (offsets_from 0 (map F.layout_of fields.now)) (map F.layout_of fields.now)) }
+        ensures readable { IfOk result (λ placed. IfSome placed.largest_niche (IsReadableNiche (Cx.target self.now.cx))) }
         ensures err { IfErr result (IsFault F.layout_of (size_bound (Cx.target self.now.cx)) fields.now) }
     {
         let mut offsets = IndexVec::new(alloc);
         let mut end = Size::ZERO;
+        let mut largest_niche = None;
         for field in fields {
             let layout = field.layout();
             if let BackendRepr::Memory { sized: false } = layout.backend_repr {
@@ -124,10 +132,52 @@ impl<Cx: HasDataLayout> LayoutCalculator<Cx> {
             let Some(next) = offset.checked_add(layout.size, &self.cx) else {
                 return Err(LayoutCalculatorError::SizeOverflow);
             };
+            let niche = niche_of_part(offset, layout.largest_niche);
+            largest_niche = greater_niche(&self.cx, bias, largest_niche, niche);
             let _index = offsets.push(offset)?;
             end = next;
         }
-        Ok(Placed { offsets, end })
+        Ok(Placed {
+            offsets,
+            end,
+            largest_niche,
+        })
+    }
+
+    /// The niche of a list of this size, given the first greatest of its fields' niches: that one, or the last
+    /// greatest where the first has space on both sides and the last begins after either space.
+    fn list_niche<FieldIdx: Idx, VariantIdx: Idx, F: LayoutHandle<FieldIdx, VariantIdx> + Copy>(
+        &self,
+        alloc: Global,
+        fields: &[F],
+        size: Size,
+        first: Option<Niche>,
+    ) -> Result<Option<Niche>, LayoutCalculatorError<F>>
+        requires data_layout { IsLawfulDataLayout (Cx.target self.now.cx) }
+        requires fields { All (λ f. IsLawfulLayout (Cx.target self.now.cx) (F.layout_of f)) fields.now }
+        requires count { length fields.now ≤ FieldIdx.MAX_INDEX + 1 }
+        requires faultless { fault_from F.layout_of (size_bound (Cx.target self.now.cx)) 0 fields.now ≡ None }
+        requires size { end_from 0 (map F.layout_of fields.now) ≤ size }
+        requires first { first ≡ greatest_niche NicheBias.Start (Cx.target self.now.cx) (offsets_from 0 (map F.layout_of fields.now)) (map F.layout_of fields.now) }
+        requires readable { IfSome first (IsReadableNiche (Cx.target self.now.cx)) }
+        ensures ok { IfOk result (λ niche. niche ≡ list_niche (Cx.target self.now.cx) size (offsets_from 0 (map F.layout_of fields.now)) (map F.layout_of fields.now)) }
+        ensures err { IfErr result (IsFault F.layout_of (size_bound (Cx.target self.now.cx)) fields.now) }
+    {
+        let Some(start) = first else {
+            return Ok(None);
+        };
+        if fields.len() < 2 {
+            return Ok(Some(start));
+        }
+        let Some(space) = space_beside(&self.cx, size, &start) else {
+            return Ok(Some(start));
+        };
+        let placed: Placed<FieldIdx> = self.place(alloc, fields, NicheBias::End)?;
+        let last = placed.largest_niche;
+        match last {
+            Some(end) if end.offset > space => Ok(Some(end)),
+            _ => Ok(Some(start)),
+        }
     }
 
     /// The layout of a struct's or a tuple's fields, one after another in source order, as `repr(C)` has them:
@@ -157,10 +207,16 @@ impl<Cx: HasDataLayout> LayoutCalculator<Cx> {
         ensures lawful { IfOk result (IsLawfulLayout (Cx.target self.now.cx)) }
         ensures apart { IfOk result (λ l. AreApart l.size (offsets_of l.fields) (map (λ f. (F.layout_of f).size) (items_of fields.entry))) }
         ensures aligned { IfOk result (λ l. AreAligned (offsets_of l.fields) (map (λ f. (F.layout_of f).align.abi) (items_of fields.entry))) }
+        ensures niche { IfOk result (λ l. IfSome l.largest_niche (IsNicheOfPart (offsets_of l.fields) (map F.layout_of (items_of fields.entry)))) }
+        ensures largest { IfOk result (λ l. HasLargestNiche (Cx.target self.now.cx) l.largest_niche (map F.layout_of (items_of fields.entry))) }
         ensures too_large { result ≡ Err LayoutCalculatorError.SizeOverflow → size_bound (Cx.target self.now.cx) ≤ list_size (Cx.target self.now.cx) (map F.layout_of (items_of fields.entry)) }
     {
         let fields = fields.as_raw();
-        let Placed { offsets, end } = self.place(alloc, fields)?;
+        let Placed {
+            offsets,
+            end,
+            largest_niche: first,
+        } = self.place(alloc, fields, NicheBias::Start)?;
         let in_memory_order = source_order(alloc, fields.len())?;
         let dl = self.cx.data_layout();
         let align = list_align(dl.aggregate_align, fields);
@@ -168,6 +224,7 @@ impl<Cx: HasDataLayout> LayoutCalculator<Cx> {
         if size.bytes() >= dl.obj_size_bound() {
             return Err(LayoutCalculatorError::SizeOverflow);
         }
+        let largest_niche = self.list_niche(alloc, fields, size, first)?;
         Ok(LayoutData {
             fields: FieldsShape::Arbitrary {
                 offsets,
@@ -177,7 +234,7 @@ impl<Cx: HasDataLayout> LayoutCalculator<Cx> {
                 index: VariantIdx::new(0),
             },
             backend_repr: BackendRepr::Memory { sized: true },
-            largest_niche: None,
+            largest_niche,
             uninhabited: any_uninhabited(fields),
             align: AbiAlign::new(align),
             size,

@@ -1,4 +1,4 @@
-ghost use Rattle.std.specs.Prelude.{◌<◌};
+ghost use Rattle.std.specs.Prelude.{◌<◌, All, IsTrue};
 ghost use Rattle.abi_base.specs.DataLayout.{IsLawfulDataLayout};
 ghost use Rattle.abi_base.specs.Integer.{integer_size};
 ghost use Rattle.abi_scalar.specs.Lawful.{IsLawfulLayout};
@@ -34,19 +34,26 @@ fn unsigned(dl: &TargetDataLayout, integer: Integer, greatest: u128) -> Laid
     )
 }
 
-/// The list of these three, as `repr(C)` has it, where it has a layout.
-fn list_of(
-    alloc: Global,
-    dl: &TargetDataLayout,
-    first: &Laid,
-    second: &Laid,
-    third: &Laid,
-) -> Option<Laid>
-    requires data_layout { IsLawfulDataLayout dl.now }
-    requires first { IsLawfulLayout dl.now first.now }
-    requires second { IsLawfulLayout dl.now second.now }
-    requires third { IsLawfulLayout dl.now third.now }
+/// Whether each of these is lawful.
+fn are_lawful(dl: &TargetDataLayout, layouts: &[&Laid]) -> bool
+    requires { IsLawfulDataLayout dl.now }
+    ensures { IsTrue result → All (λ layout. IsLawfulLayout dl.now layout.now) layouts.now }
 {
+    for layout in layouts {
+        if !layout.is_lawful(dl) {
+            return false;
+        }
+    }
+    true
+}
+
+/// The list of these, as `repr(C)` has it, where they are lawful and it has a layout.
+fn list_of(alloc: Global, dl: &TargetDataLayout, fields: &[&Laid]) -> Option<Laid>
+    requires { IsLawfulDataLayout dl.now }
+{
+    if fields.len() > 8 || !are_lawful(dl, fields) {
+        return None;
+    }
     let repr = ReprOptions {
         int: None,
         align: None,
@@ -55,10 +62,9 @@ fn list_of(
         scalable: None,
         field_shuffle_seed: Hash64::ZERO,
     };
-    let fields = [first, second, third];
     let list = LayoutCalculator::new(dl).layout_of_univariant(
         alloc,
-        IndexSlice::new(&fields),
+        IndexSlice::new(fields),
         &repr,
         StructKind::AlwaysSized,
     );
@@ -72,7 +78,7 @@ fn a_list_is_padded(rt: HostRuntime) -> Result<(), Fail> {
     let word = unsigned(&dl, Integer::I32, 0xFFFF_FFFF);
     let half = unsigned(&dl, Integer::I16, 0xFFFF);
     let align = word.align;
-    let list = list_of(rt.alloc(), &dl, &byte, &word, &half);
+    let list = list_of(rt.alloc(), &dl, &[&byte, &word, &half]);
     let mut offsets: IndexVec<FieldIdx, Size> = IndexVec::new(rt.alloc());
     let _first = offsets.push(Size::from_bytes(0))?;
     let _second = offsets.push(Size::from_bytes(4))?;
@@ -100,6 +106,36 @@ fn a_list_is_padded(rt: HostRuntime) -> Result<(), Fail> {
         randomization_seed: Hash64::new(71_213_194_877_665_286),
     };
     assert!(rt; list == Some(wanted));
+    Ok(())
+}
+
+/// Where the list's niche begins, and how wide it is.
+fn niche_place(dl: &TargetDataLayout, list: Option<Laid>) -> Option<(u64, u64)>
+    requires { IsLawfulDataLayout dl.now }
+{
+    let list = list?;
+    if !list.is_lawful(dl) {
+        return None;
+    }
+    let niche = list.largest_niche?;
+    Some((niche.offset.bytes(), niche.value.size(dl).bytes()))
+}
+
+#[test]
+fn a_niche_is_the_nearest_to_an_edge(rt: HostRuntime) -> Result<(), Fail> {
+    let dl = TargetDataLayout::default_in(rt.alloc())?;
+    let byte = unsigned(&dl, Integer::I8, 0xFF);
+    let word = unsigned(&dl, Integer::I32, 0xFFFF_FFFF);
+    let truth = unsigned(&dl, Integer::I8, 1);
+    let last = list_of(rt.alloc(), &dl, &[&byte, &truth, &truth]);
+    assert!(rt; niche_place(&dl, last) == Some((2, 1)));
+    let inner = list_of(rt.alloc(), &dl, &[&byte, &truth, &truth, &byte]);
+    assert!(rt; niche_place(&dl, inner) == Some((1, 1)));
+    let first = list_of(rt.alloc(), &dl, &[&truth, &truth, &byte]);
+    assert!(rt; niche_place(&dl, first) == Some((0, 1)));
+    let none = list_of(rt.alloc(), &dl, &[&byte, &word, &byte]);
+    assert!(rt; none.is_some());
+    assert!(rt; niche_place(&dl, none).is_none());
     Ok(())
 }
 

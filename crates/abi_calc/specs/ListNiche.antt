@@ -1,0 +1,69 @@
+-- The niche of a list of parts.
+use Rattle.std.specs.Prelude.{◌≡◌, ℕ, ◌+◌, ◌-◌, ◌≤◌, ◌⊎◌, ◌&&◌, All, Bool, false, List, ◌∷◌, length, max, nat_lt, Option, Some, None, IfSome, if◌then◌else◌}
+use Rattle.abi_base.specs.declared.data_layout.TargetDataLayout.{TargetDataLayout}
+use Rattle.abi_scalar.specs.declared.niche.Niche.{Niche}
+use Rattle.abi_scalar.specs.declared.layout_data.LayoutData.{LayoutData}
+use Rattle.abi_scalar.specs.Niche.{niche_size, available_in}
+use Rattle.abi_scalar.specs.Pair.{larger_niche}
+use Rattle.abi_calc.specs.declared.list_niche.NicheBias.{NicheBias}
+use Rattle.abi_calc.specs.declared.list_niche.NicheBias.TheVariants.{Start, End}
+
+-- a part's niche, told from the start of the whole
+abbrev pub niche_of_part : (offset : ℕ) → Option Niche → Option Niche
+niche_of_part offset None = None
+niche_of_part offset (Some own) = Some (record own { offset = offset + own.offset })
+
+-- the niche with more free numbers; of equals a bias to the start keeps the earlier, one to the end the later
+abbrev pub greater_niche : NicheBias → TargetDataLayout → (earlier later : Option Niche) → Option Niche
+greater_niche Start dl earlier later = larger_niche dl earlier later
+greater_niche End dl earlier later = larger_niche dl later earlier
+
+-- the greatest niche of parts that lie at these offsets, in memory order: the first of equals, or the last
+abbrev pub greatest_niche : {F V : Type 0} → NicheBias → TargetDataLayout → (offsets : List ℕ) → List (LayoutData F V) → Option Niche
+greatest_niche bias dl (o ∷ offsets) (f ∷ fields) =
+    greater_niche bias dl (niche_of_part o f.largest_niche) (greatest_niche bias dl offsets fields)
+greatest_niche bias dl _ _ = None
+
+-- the space before a niche or after it, whichever is more, in a list of so many bytes: none where it touches an edge
+abbrev pub space_beside : TargetDataLayout → (size : ℕ) → Option Niche → Option ℕ
+space_beside dl size None = None
+space_beside dl size (Some niche) =
+    let after : ℕ = size - (niche.offset + niche_size dl niche) in
+    if nat_lt 0 niche.offset && nat_lt 0 after then Some (max niche.offset after) else None
+
+-- the niche begins after so many bytes
+abbrev pub begins_after : ℕ → Option Niche → Bool
+begins_after space None = false
+begins_after space (Some niche) = nat_lt space niche.offset
+
+-- the niche begins after that space, where there is one
+abbrev pub begins_beyond : Option ℕ → Option Niche → Bool
+begins_beyond None niche = false
+begins_beyond (Some space) niche = begins_after space niche
+
+-- the niche of a second run is taken: there are several fields, the first run's niche has space on both sides, and the
+-- second's begins after either space
+abbrev pub takes_second : TargetDataLayout → (count size : ℕ) → (first second : Option Niche) → Bool
+takes_second dl count size first second = nat_lt 1 count && begins_beyond (space_beside dl size first) second
+
+-- the niche of a list of so many bytes, whose parts lie at these offsets: the first greatest, or the last where that is taken
+abbrev pub list_niche : {F V : Type 0} → TargetDataLayout → (size : ℕ) → (offsets : List ℕ) → List (LayoutData F V) → Option Niche
+list_niche dl size offsets fields =
+    let first : Option Niche = greatest_niche Start dl offsets fields in
+    let last : Option Niche = greatest_niche End dl offsets fields in
+    if takes_second dl (length fields) size first last then last else first
+
+-- the niche is a part's own, told from the start of the whole
+abbrev pub IsNicheAt : (offset : ℕ) → (own : Option Niche) → Niche → Type 0
+IsNicheAt offset None niche = ⊥
+IsNicheAt offset (Some own) niche = (niche.offset ≡ offset + own.offset) × (niche.value ≡ own.value) × (niche.valid_range ≡ own.valid_range)
+
+-- the niche is that of one of these parts, at the part's offset plus its own
+abbrev pub IsNicheOfPart : {F V : Type 0} → (offsets : List ℕ) → List (LayoutData F V) → Niche → Type 0
+IsNicheOfPart (o ∷ offsets) (f ∷ fields) niche = IsNicheAt o f.largest_niche niche ⊎ IsNicheOfPart offsets fields niche
+IsNicheOfPart _ _ niche = ⊥
+
+-- no part's niche has more free numbers than this one, which is missing only where no part has a niche
+abbrev pub HasLargestNiche : {F V : Type 0} → TargetDataLayout → Option Niche → List (LayoutData F V) → Type 0
+HasLargestNiche dl None fields = All (λ f. f.largest_niche ≡ None) fields
+HasLargestNiche dl (Some niche) fields = All (λ f. IfSome f.largest_niche (λ own. available_in dl own ≤ available_in dl niche)) fields
