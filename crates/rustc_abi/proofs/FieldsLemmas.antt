@@ -1,5 +1,5 @@
 -- A struct's layout keeps its fields' values.
-use Rattle.std.proofs.Common.{◌≡◌, ℕ, ◌+◌, ◌≤◌, ◌⊎◌, ⊎_elim, List, [], ◌∷◌, length, map, arith, refl, sym, ap, ◌∙◌}
+use Rattle.std.proofs.Common.{◌≡◌, ℕ, ◌+◌, ◌≤◌, ◌⊎◌, ⊎_elim, inl, inr, Option, Some, None, List, [], ◌∷◌, length, map, arith, refl, sym, ap, ◌∙◌}
 use Rattle.std.specs.Prelude.{IfSome, true, Bool}
 use Rattle.std.specs.Cmp.Derive.{both_true}
 use Rattle.std.proofs.lemmas.Bool.{le-leb}
@@ -12,10 +12,11 @@ use Rattle.abi_scalar.specs.Range.{IsIn}
 use Rattle.abi_scalar.specs.Niche.{niche_size}
 use Rattle.abi_scalar.specs.Lawful.{IsLawfulLayout}
 use Rattle.abi_calc.specs.Apart.{AreApart, IsBeside}
+use Rattle.abi_calc.specs.ListNiche as calc
 use Rattle.rustc_abi.specs.Tree.{Tree, struct, Trees, no_trees, more_trees}
 use Rattle.rustc_abi.specs.Bytes.{AreBytes, bytes_at, number_of}
 use Rattle.rustc_abi.specs.Value.{Value, number, two, list, variant, state, bytes, Values, no_values, more_values}
-use Rattle.rustc_abi.specs.Placed.{Placed, Layout, Parts, no_parts, part, layout_of, size_of, fields}
+use Rattle.rustc_abi.specs.Placed.{Placed, Layout, Parts, no_parts, part, layout_of, size_of, niche_of, fields}
 use Rattle.rustc_abi.specs.Values.{IsValueOf, LocalsOfEach, VectorsOfEach}
 use Rattle.rustc_abi.specs.Holding.{Holds, HoldParts}
 use Rattle.rustc_abi.specs.Faithful.{AgreeOn, IsFaithful, IsFlagTrue, IsTrueOf}
@@ -32,6 +33,16 @@ use Rattle.rustc_abi.proofs.PartsLemmas.{LieBeside, FitTogether, LieInside, exis
 abbrev pub IsPartNiche : Parts → Niche → Type 0
 IsPartNiche no_parts n = ⊥
 IsPartNiche (part o placed parts) n = IsNicheAt o placed n ⊎ IsPartNiche parts n
+
+niche_at : (o : ℕ) (placed : Placed) (own : Option Niche) → niche_of placed ≡ own → (n : Niche) → calc.IsNicheAt o own n → IsNicheAt o placed n
+niche_at o placed None e n h = absurd h
+niche_at o placed (Some own) e n h = record { own = own; of_part = e; offset_is = h.0; value_is = h.1; range_is = h.2 }
+
+-- the niche of one of the listed layouts is some part's
+pub part_of_list : (offsets : List ℕ) (ps : List Placed) (n : Niche) → calc.IsNicheOfPart offsets (map layout_of ps) n → IsPartNiche (parts_at offsets ps) n
+part_of_list [] ps n h = absurd h
+part_of_list (o ∷ offsets) [] n h = absurd h
+part_of_list (o ∷ offsets) (p ∷ ps) n h = ⊎_elim (λ here. inl (niche_at o p (niche_of p) refl n here)) (λ later. inr (part_of_list offsets ps n later)) h
 
 pub part_niche : (dl : TargetDataLayout) (size : ℕ) (ts : Trees) (parts : Parts) → FitTogether dl size ts parts → (n : Niche) → IsPartNiche parts n →
     (b : List ℕ) (vs : Values) → HoldParts dl.endian parts b vs → IsIn (niche_size dl n) n.valid_range (number_of dl.endian (bytes_at b n.offset (niche_size dl n)))

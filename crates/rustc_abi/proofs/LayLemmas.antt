@@ -33,7 +33,9 @@ use Rattle.rustc_abi.specs.Faithful.{IsFaithful}
 use Rattle.rustc_abi.specs.Laying.{laid_out, laid_out_each, elements_answer, fields_answer, listed, is_plain_c, most_fields, placed_by, unless, one_scalar, two_scalars, pair_answer}
 use Rattle.rustc_abi.specs.Adding.{IsRefusal, IsPut, IsAdded, EachFits, all_at, AreAdded}
 use Rattle.rustc_abi.proofs.ElementsLemmas.{IsElementNiche, Fits-elements}
-use Rattle.rustc_abi.proofs.FieldsLemmas.{IsPartNiche, Fits-fields}
+use Rattle.rustc_abi.proofs.FieldsLemmas.{part_of_list, Fits-fields}
+use Rattle.abi_calc.specs.ListNiche.{IsNicheOfPart}
+use Rattle.std.proofs.lemmas.Option.{IfSome_then}
 use Rattle.rustc_abi.proofs.ListLemmas.{chosen}
 use Rattle.rustc_abi.proofs.NodesLemmas.{length-types_in, Keeps-trans}
 
@@ -92,14 +94,14 @@ fields_made dl repr always_sized ps layout known few answer =
 
 -- a struct's layout
 pub IsAdded-fields : (dl : TargetDataLayout) (old new : List Node) (i : ℕ) (repr : ReprOptions) (always_sized : Bool) (ps : List Placed) (layout : Layout) (ts : Trees) →
-    fields_answer dl repr always_sized ps ≡ Ok (fields layout (parts_at (offsets_of layout.fields) ps)) → IsLawfulLayout dl layout → layout.largest_niche ≡ None →
+    fields_answer dl repr always_sized ps ≡ Ok (fields layout (parts_at (offsets_of layout.fields) ps)) → IsLawfulLayout dl layout → IfSome layout.largest_niche (IsNicheOfPart (offsets_of layout.fields) (map layout_of ps)) →
     layout.backend_repr ≡ Memory true → layout.uninhabited ≡ list_any (λ f. f.uninhabited) (map layout_of ps) → AreApart layout.size (offsets_of layout.fields) (map size_of ps) → IsPut old new i (fields layout (parts_at (offsets_of layout.fields) ps)) →
     laid_out_each dl ts ≡ Ok ps → EachFits dl ts ps → IsAdded dl old new i (struct repr always_sized ts)
-IsAdded-fields dl old new i repr always_sized ps layout ts answer lawful none view flag apart put exact fits =
+IsAdded-fields dl old new i repr always_sized ps layout ts answer lawful niche view flag apart put exact fits =
     IsAdded-put dl old new i (fields layout (parts_at (offsets_of layout.fields) ps)) (struct repr always_sized ts) put
     (ap (λ r. and_then r (fields_answer dl repr always_sized)) exact ∙ answer)
     (Fits-fields dl repr always_sized ts layout (offsets_of layout.fields) ps fits apart
-    (subst (λ n. IfSome n (IsPartNiche (parts_at (offsets_of layout.fields) ps))) (sym none) tt) view flag lawful)
+    (IfSome_then layout.largest_niche niche (part_of_list (offsets_of layout.fields) ps)) view flag lawful)
 
 -- a list is laid out where its first type and the others are
 cons_parts : (r : Result Placed LayError) (rs : Result (List Placed) LayError) (ps : List Placed) → and_then r (λ p. and_then rs (λ qs. Ok (p ∷ qs))) ≡ Ok ps →

@@ -1,6 +1,6 @@
 //! How trees are laid out: children before parents, left to right.
 
-ghost use Rattle.std.specs.Prelude.{◌≡◌, ◌-◌, ◌<◌, ◌≤◌, ◌&&◌, ℕ, Some, IfOk, IfErr, IsOk, IsTrue, Err, Ok, length, vec_len, All, List, map, true, false, Bool};
+ghost use Rattle.std.specs.Prelude.{◌≡◌, ◌-◌, ◌<◌, ◌≤◌, ◌&&◌, ℕ, Some, IfOk, IfErr, IfSome, IsOk, IsTrue, Err, Ok, length, vec_len, All, List, map, true, false, Bool};
 ghost use Rattle.std.specs.declared.alloc.Global.{Global};
 ghost use Rattle.abi_base.specs.DataLayout.{IsLawfulDataLayout};
 ghost use Rattle.abi_scalar.specs.Lawful.{IsLawfulLayout};
@@ -12,6 +12,7 @@ ghost use Rattle.rustc_abi.specs.Error.{named};
 ghost use Rattle.rustc_abi.specs.Fits.{Fits};
 ghost use Rattle.abi_calc.specs.Array.{array_answer};
 ghost use Rattle.abi_calc.specs.Apart.{AreApart, offsets_of};
+ghost use Rattle.abi_calc.specs.ListNiche.{IsNicheOfPart};
 ghost use Rattle.rustc_abi.specs.Adding.{is_node, IsPut, IsAdded, AreAdded, IsRefusal, EachFits, all_at};
 
 use crate::error::LayError;
@@ -141,6 +142,7 @@ fn fields_layout(
     ensures err { IfErr result (IsRefusal (listed dl.now repr.now.field_shuffle_seed (map layout_of (all_at nodes.now children.now)))) }
     ensures lawful { IfOk result (IsLawfulLayout dl.now) }
     ensures apart { IfOk result (λ l. AreApart l.size (offsets_of l.fields) (map size_of (all_at nodes.now children.now))) }
+    ensures niche { IfOk result (λ l. IfSome l.largest_niche (IsNicheOfPart (offsets_of l.fields) (map layout_of (all_at nodes.now children.now)))) }
 {
     let layouts = layouts_at(alloc, nodes, children)?;
     let answer = LayoutCalculator::new(dl).layout_of_univariant(

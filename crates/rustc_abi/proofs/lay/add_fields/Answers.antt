@@ -24,8 +24,9 @@ returns-clause-ok c =
     let few : nat_lt most_fields (length ps) ≡ false = le-ltb most_fields (length ps) (omega (arith, length-map c.args.children.items (placed_in (types_in c.args.nodes.now.items)))) in
     let listed = rw (c.deref.ensures.value, c.deref-2.ensures.value) at c.in_ok-layout.ensures.ok in
     let apart = rw (c.deref.ensures.value, c.deref-2.ensures.value) at c.in_ok-layout.ensures.apart in
+    let niche = rw (c.deref.ensures.value, c.deref-2.ensures.value) at c.in_ok-layout.ensures.niche in
     let made = listed-made dl _ _ _ listed in
     IfOk-weaker c.add.result _ _
     (λ i put ts laid fits. IsAdded-fields dl _ _ i repr c.args.always_sized ps _ ts (fields_made dl repr c.args.always_sized ps _ known few listed)
-    c.in_ok-layout.ensures.lawful (ap (λ l. l.largest_niche) made) (ap (λ l. l.backend_repr) made) (ap (λ l. l.uninhabited) made) apart put laid fits)
+    c.in_ok-layout.ensures.lawful niche (ap (λ l. l.backend_repr) made) (ap (λ l. l.uninhabited) made) apart put laid fits)
     c.add.ensures.ok

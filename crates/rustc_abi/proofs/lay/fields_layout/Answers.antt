@@ -2,6 +2,8 @@ use Rattle.std.proofs.Common.{◌≡◌, map, All, sym, ap, ◌∙◌, subst}
 use Rattle.std.proofs.lemmas.List.Elements.{All-map}
 use Rattle.abi_index.specs.Slice.{items_of}
 use Rattle.abi_calc.specs.Apart.{AreApart, offsets_of}
+use Rattle.abi_calc.specs.ListNiche.{IsNicheOfPart}
+use Rattle.std.specs.Prelude.{IfSome}
 use Rattle.abi_scalar.specs.Lawful.{IsLawfulLayout}
 use Rattle.rustc_abi.specs.Placed.{layout_of}
 use Rattle.rustc_abi.specs.Error.{lay_error}
@@ -47,3 +49,8 @@ returns-clause-apart c =
     let lent : map (λ r. r.now) hs ≡ map layout_of ps =
     ap (map (λ r. r.now)) (c.new-2.ensures ∙ c.as_slice.ensures.value) ∙ c.in_ok-layouts.ensures in
     subst (AreApart c.in_ok-answer.field-0.size (offsets_of c.in_ok-answer.field-0.fields)) (sizes_by (λ r. r.now) hs ps lent) c.in_ok-answer.ensures.apart
+
+pub returns-clause-niche : goal.returns-clause-niche
+returns-clause-niche c =
+    let lent = ap (map (λ r. r.now)) (c.new-2.ensures ∙ c.as_slice.ensures.value) ∙ c.in_ok-layouts.ensures in
+    subst (λ layouts. IfSome c.in_ok-answer.field-0.largest_niche (IsNicheOfPart (offsets_of c.in_ok-answer.field-0.fields) layouts)) lent c.in_ok-answer.ensures.niche
