@@ -2,10 +2,13 @@
 
 ghost use Rattle.std.specs.Prelude.{◌≡◌, ◌≤◌, ◌↔◌, IsTrue};
 ghost use Rattle.std.specs.List.{All};
+ghost use Rattle.std.specs.Result.{OnOk};
 ghost use Rattle.abi_base.specs.DataLayout.{entry_of};
+ghost use Rattle.abi_base.specs.DataLayoutText.{put_space};
 
 use crate::address_space::AddressSpace;
 use crate::pointer_spec::PointerSpec;
+use std::alloc::AllocError;
 use std::fmt;
 use std::fmt::Debug;
 use std::marker::Model;
@@ -63,6 +66,20 @@ impl AddressSpaces {
         self.entries
             .iter()
             .all(|entry| entry.1.pointer_align.within_limit())
+    }
+
+    /// The entry of the space replaced, or added last.
+    pub(crate) fn put(&mut self, space: AddressSpace, spec: PointerSpec) -> Result<(), AllocError>
+        ensures { OnOk result (self.new ≡ put_space space spec self.old) }
+    {
+        for entry in self.entries.iter_mut() {
+            if entry.0.0 == space.0 {
+                entry.1 = spec;
+                return Ok(());
+            }
+        }
+        self.entries.push((space, spec))?;
+        Ok(())
     }
 
     /// How the pointers of the space are represented, if it is listed.

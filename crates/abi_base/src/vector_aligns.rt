@@ -2,10 +2,13 @@
 
 ghost use Rattle.std.specs.Prelude.{◌≡◌, ◌≤◌, ◌↔◌, IsTrue};
 ghost use Rattle.std.specs.List.{All};
+ghost use Rattle.std.specs.Result.{OnOk};
 ghost use Rattle.abi_base.specs.DataLayout.{listed_align};
+ghost use Rattle.abi_base.specs.DataLayoutText.{put_vector};
 
 use crate::align::Align;
 use crate::size::Size;
+use std::alloc::AllocError;
 use std::fmt;
 use std::fmt::Debug;
 use std::marker::Model;
@@ -70,6 +73,20 @@ impl VectorAligns {
             }
         }
         None
+    }
+
+    /// The alignment of the size replaced, or added last.
+    pub(crate) fn put(&mut self, size: Size, align: Align) -> Result<(), AllocError>
+        ensures { OnOk result (self.new ≡ put_vector size align self.old) }
+    {
+        for entry in self.entries.iter_mut() {
+            if entry.0 == size {
+                entry.1 = align;
+                return Ok(());
+            }
+        }
+        self.entries.push((size, align))?;
+        Ok(())
     }
 
     /// Whether no alignment is above the greatest.
