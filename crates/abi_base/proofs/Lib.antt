@@ -1,3 +1,7 @@
 pub mod Laws
-pub mod Powers
+pub mod Numbers
 pub mod Parts
+pub mod Powers
+pub mod Rows
+pub mod Settings
+pub mod Specs

@@ -1,5 +1,6 @@
 -- What a spec of a data layout string says. Specs stand with `-` between them, a spec's parts with `:`.
-use Rattle.std.specs.Prelude.{ℕ, ◌^◌, ◌==◌, ◌&&◌, not, Bool, true, false, List, [], ◌∷◌, ◌++◌, codes, drop, slice_index, max, nat_le, Option, Some, None, is_some, unwrap_or, Result, Ok, Err, if◌then◌else◌}
+use Rattle.std.specs.Prelude.{ℕ, ◌^◌, ◌==◌, ◌&&◌, not, Bool, true, false, List, [], ◌∷◌, ◌++◌, codes, drop, length, slice_index, max, nat_le, Option, Some, None, is_some, unwrap_or, Result, Ok, Err, if◌then◌else◌}
+use Rattle.std.specs.List.{slice_split}
 use Rattle.std.specs.Int.{div_ceil}
 use Rattle.std.specs.Str.{bytes_eq, chars}
 use Rattle.unicode.specs.Binary.{is_alphabetic}
@@ -17,15 +18,9 @@ use Rattle.abi_base.specs.DataLayout.{default_data_layout, known_spec}
 use Rattle.abi_base.specs.DataLayoutFault.{Fault, bad_space, bad_bits, missing_alignment, bad_alignment, unknown_pointer}
 use Rattle.abi_base.specs.NumberText.{number_answer}
 
--- the first part, longer by a byte in front
-abbrev pub longer : (b : ℕ) → List (List ℕ) → List (List ℕ)
-longer b [] = (b ∷ []) ∷ []
-longer b (p ∷ ps) = (b ∷ p) ∷ ps
-
 -- the parts of a text between marks
 abbrev pub parts_of : (mark : ℕ) → List ℕ → List (List ℕ)
-parts_of mark [] = [] ∷ []
-parts_of mark (b ∷ bs) = if b == mark then [] ∷ parts_of mark bs else longer b (parts_of mark bs)
+parts_of mark text = slice_split (λ b. b == mark) text
 
 -- the parts that are left, if any are
 abbrev pub parts_left : (mark : ℕ) → Option (List ℕ) → List (List ℕ)
@@ -104,14 +99,15 @@ aligned_word word =
     else (if bytes_eq word (codes "f64") then Some F64
     else (if bytes_eq word (codes "f128") then Some F128 else None))))
 
-abbrev pub is_empty : List (List ℕ) → Bool
-is_empty [] = true
-is_empty (p ∷ ps) = false
+-- there are parts
+abbrev pub has_parts : List (List ℕ) → Bool
+has_parts [] = false
+has_parts (p ∷ ps) = true
 
 -- the row of a spec whose first part is no word of its own
 unfoldable pub lettered_row : (word : List ℕ) → (parts : List (List ℕ)) → Row
 lettered_row word parts =
-    if begins 112 word && not (is_empty parts) then pointer (drop 1 word) parts
+    if begins 112 word && has_parts parts then pointer (drop 1 word) parts
     else (if begins 105 word then integer word parts
     else (if begins 118 word then vector word parts else ignored))
 
@@ -122,9 +118,9 @@ aligned_row None word parts = lettered_row word parts
 -- the row of a spec, by its first part and the others: the first that fits
 unfoldable pub row_of : (word : List ℕ) → (parts : List (List ℕ)) → Row
 row_of word parts =
-    if is_empty parts && bytes_eq word (codes "e") then order Little
-    else (if is_empty parts && bytes_eq word (codes "E") then order Big
-    else (if is_empty parts && begins 80 word then instructions (drop 1 word)
+    if not (has_parts parts) && bytes_eq word (codes "e") then order Little
+    else (if not (has_parts parts) && bytes_eq word (codes "E") then order Big
+    else (if not (has_parts parts) && begins 80 word then instructions (drop 1 word)
     else aligned_row (aligned_word word) word parts))
 
 -- what follows the `p` without the mark of a fat pointer
@@ -133,8 +129,7 @@ space_text rest = if begins 102 rest then drop 1 rest else rest
 
 -- the space of a pointer spec, 0 where there is no number
 unfoldable pub pointer_space : List ℕ → Result AddressSpace Fault
-pointer_space [] = Ok (record { 0 = 0 })
-pointer_space (b ∷ bs) = space_in (b ∷ bs) (codes "p-")
+pointer_space text = if length text == 0 then Ok (record { 0 = 0 }) else space_in text (codes "p-")
 
 -- the text of the index size: the fifth part of exactly five, else that of the size; the parts are those after the size
 abbrev pub index_text : (size : List ℕ) → (parts : List (List ℕ)) → List ℕ

@@ -1,5 +1,5 @@
 -- What a data layout string means: the data layout that its specs make together.
-use Rattle.std.specs.Prelude.{ℕ, ◌==◌, ◌&&◌, Bool, true, false, List, [], ◌∷◌, ◌++◌, max, nat_le, Option, Some, None, is_some, unwrap_or, Result, Ok, if◌then◌else◌}
+use Rattle.std.specs.Prelude.{ℕ, ◌≤◌, ◌==◌, ◌&&◌, Bool, true, false, List, [], ◌∷◌, ◌++◌, max, nat_le, Option, Some, None, is_some, unwrap_or, Result, Ok, if◌then◌else◌}
 use Rattle.abi_base.specs.declared.address_space.AddressSpace.{AddressSpace}
 use Rattle.abi_base.specs.declared.pointer_spec.PointerSpec.{PointerSpec}
 use Rattle.abi_base.specs.declared.data_layout.TargetDataLayout.{TargetDataLayout}
@@ -104,6 +104,20 @@ with_settings dl least ss = record {
   address_space_info = spaces_after dl.default_address_space dl.address_space_info ss;
   instruction_address_space = last_of instructions_set ss dl.instruction_address_space;
   c_enum_min_size = dl.c_enum_min_size;
+}
+
+-- the widths that the alignment of integers of 128 bits is taken from
+abbrev pub IsWide : ℕ → Type 0
+IsWide bits = (64 ≤ bits) × (bits ≤ 128)
+
+-- the alignment of integers of so many bits, where the width is one of 1 to 64 bits that have a field
+abbrev pub with_integer : TargetDataLayout → (bits align : ℕ) → TargetDataLayout
+with_integer dl bits align = record dl {
+  i1_align = unwrap_or (integer_set 1 (Integer bits align)) dl.i1_align;
+  i8_align = unwrap_or (integer_set 8 (Integer bits align)) dl.i8_align;
+  i16_align = unwrap_or (integer_set 16 (Integer bits align)) dl.i16_align;
+  i32_align = unwrap_or (integer_set 32 (Integer bits align)) dl.i32_align;
+  i64_align = unwrap_or (integer_set 64 (Integer bits align)) dl.i64_align;
 }
 
 -- the space of functions is added with the default pointers where it isn't known

@@ -6,7 +6,8 @@ ghost use Rattle.abi_base.specs.declared.setting.Setting.{Setting};
 ghost use Rattle.abi_base.specs.declared.data_layout.TargetDataLayout.{TargetDataLayout};
 ghost use Rattle.abi_base.specs.DataLayout.{Knows};
 ghost use Rattle.abi_base.specs.DataLayoutFault.{IsRefusal};
-ghost use Rattle.abi_base.specs.DataLayoutText.{data_layout_in, default_with, with_instructions, with_settings};
+ghost use Rattle.abi_base.specs.declared.setting.Setting.TheVariants.{Aligned, Integer, Pointer};
+ghost use Rattle.abi_base.specs.DataLayoutText.{IsWide, data_layout_in, default_with, with_instructions, with_integer, with_settings};
 
 use crate::address_space::AddressSpace;
 use crate::align::Align;
@@ -29,7 +30,10 @@ pub(crate) struct Reading {
 
 impl Reading {
     /// The alignment of lists of fields, or of a float.
-    fn set_aligned(&mut self, named: AlignedWord, align: Align) {
+    fn set_aligned(&mut self, named: AlignedWord, align: Align)
+        ensures one_more { (ss : List Setting) → with_settings self.new.dl self.new.widest ss ≡ with_settings self.old.dl self.old.widest (Aligned named align ∷ ss) }
+        ensures widest { self.new.widest ≡ self.old.widest }
+    {
         match named {
             AlignedWord::Aggregate => self.dl.aggregate_align = align,
             AlignedWord::F16 => self.dl.f16_align = align,
@@ -39,8 +43,11 @@ impl Reading {
         }
     }
 
-    /// The alignment of integers of so many bits.
-    fn set_integer(&mut self, bits: u64, align: Align) {
+    /// The alignment of integers of so many bits, but for that of 128 bits.
+    fn set_width(&mut self, bits: u64, align: Align)
+        ensures dl { self.new.dl ≡ with_integer self.old.dl bits align }
+        ensures widest { self.new.widest ≡ self.old.widest }
+    {
         match bits {
             1 => self.dl.i1_align = align,
             8 => self.dl.i8_align = align,
@@ -49,6 +56,15 @@ impl Reading {
             64 => self.dl.i64_align = align,
             _ => {}
         }
+    }
+
+    /// The alignment of integers of so many bits.
+    fn set_integer(&mut self, bits: u64, align: Align)
+        requires { IsWide self.old.widest }
+        ensures one_more { (ss : List Setting) → with_settings self.new.dl self.new.widest ss ≡ with_settings self.old.dl self.old.widest (Integer bits align ∷ ss) }
+        ensures wide { IsWide self.new.widest }
+    {
+        self.set_width(bits, align);
         if self.widest <= bits && bits <= 128 {
             self.widest = bits;
             self.dl.i128_align = align;
@@ -56,7 +72,10 @@ impl Reading {
     }
 
     /// The pointers of a space.
-    fn set_pointers(&mut self, space: AddressSpace, spec: PointerSpec) -> Result<(), AllocError> {
+    fn set_pointers(&mut self, space: AddressSpace, spec: PointerSpec) -> Result<(), AllocError>
+        ensures one_more { OnOk result ((ss : List Setting) → with_settings self.new.dl self.new.widest ss ≡ with_settings self.old.dl self.old.widest (Pointer space spec ∷ ss)) }
+        ensures widest { self.new.widest ≡ self.old.widest }
+    {
         if space.0 == self.dl.default_address_space.0 {
             self.dl.default_address_space_pointer_spec = spec;
             Ok(())
@@ -66,14 +85,18 @@ impl Reading {
     }
 
     /// One spec more.
-    fn set(&mut self, setting: Setting) -> Result<(), AllocError> {
+    fn set(&mut self, setting: Setting) -> Result<(), AllocError>
+        requires { IsWide self.old.widest }
+        ensures one_more { OnOk result ((ss : List Setting) → with_settings self.new.dl self.new.widest ss ≡ with_settings self.old.dl self.old.widest (setting ∷ ss)) }
+        ensures wide { OnOk result (IsWide self.new.widest) }
+    {
         match setting {
             Setting::Order(endian) => self.dl.endian = endian,
             Setting::Instructions(space) => self.dl.instruction_address_space = space,
             Setting::Aligned(named, align) => self.set_aligned(named, align),
-            Setting::Pointer(space, spec) => self.set_pointers(space, spec)?,
+            Setting::Pointer(space, spec) => return self.set_pointers(space, spec),
             Setting::Integer(bits, align) => self.set_integer(bits, align),
-            Setting::Vector(size, align) => self.dl.vector_align.put(size, align)?,
+            Setting::Vector(size, align) => return self.dl.vector_align.put(size, align),
             Setting::Nothing => {}
         }
         Ok(())
@@ -95,7 +118,8 @@ impl TargetDataLayout {
 
     /// Adds the space of functions with the default pointers, where it isn't known.
     fn with_instructions(mut self) -> Result<TargetDataLayout, AllocError>
-        ensures { IfOk result (λ dl. dl ≡ with_instructions self) }
+        ensures value { IfOk result (λ dl. dl ≡ with_instructions self) }
+        ensures knows { IfOk result (λ dl. Knows dl dl.instruction_address_space) }
     {
         let space = self.instruction_address_space;
         if !self.knows(space) {

@@ -4,14 +4,14 @@ ghost use Rattle.std.specs.Prelude.{◌≡◌, ◌∷◌, ◌<◌, slice_index};
 ghost use Rattle.std.specs.Option.{option_copied};
 ghost use Rattle.abi_base.specs.declared.endian.Endian.{Endian};
 ghost use Rattle.abi_base.specs.DataLayoutFault.{IsReading};
-ghost use Rattle.abi_base.specs.DataLayoutSpec.{aligned, aligned_word, alignment_in, bits_in, index_text, instructions, integer, lettered_row, parts_left, pointers_in, pointer_setting, pointer_space, row_of, setting_in, setting_of, size_in, space_in, vector};
+ghost use Rattle.abi_base.specs.DataLayoutSpec.{aligned, aligned_word, alignment_in, bits_in, index_text, instructions, integer, lettered_row, parts_left, pointers_in, pointer_setting, pointer_space, row_of, space_text, setting_in, setting_of, size_in, space_in, vector};
 
 use crate::address_space::AddressSpace;
 use crate::align::Align;
 use crate::endian::Endian;
 use crate::parse_error::TargetDataLayoutError;
 use crate::parse_number::{number_u32, number_u64};
-use crate::parse_text::{begins, begins_alphabetic, cut, tail};
+use crate::parse_text::{begins, begins_alphabetic, cut, has_parts, tail};
 use crate::pointer_spec::PointerSpec;
 use crate::setting::{AlignedWord, Setting};
 use crate::size::Size;
@@ -128,20 +128,29 @@ fn pointers<'a>(
     ))
 }
 
+/// What follows the `p` of a pointer spec, without the mark of a fat pointer.
+fn space_text(rest: &str) -> &str
+    ensures { result.now ≡ space_text rest.now }
+{
+    if begins(rest, 'f') { tail(rest) } else { rest }
+}
+
 /// A pointer spec: what follows its `p`, and the parts after that.
 fn pointer_spec<'a>(
     rest: &'a str,
-    parts: &'a str,
+    parts: Option<&'a str>,
 ) -> Result<Setting, TargetDataLayoutError<'a>>
-    ensures { IsReading (pointer_setting rest.now (parts_left 58 (Some parts.now))) result }
+    ensures { IsReading (pointer_setting rest.now (parts_left 58 (option_copied parts.entry))) result }
 {
-    let is_fat = begins(rest, 'f');
-    let space = if is_fat { tail(rest) } else { rest };
+    let Some(parts) = parts else {
+        return Ok(Setting::Nothing);
+    };
+    let space = space_text(rest);
     if begins_alphabetic(space) {
         return Err(TargetDataLayoutError::UnknownPointerSpecification { err: space });
     }
     let (bytes, parts) = cut(parts, ':');
-    pointers(is_fat, space, bytes, parts)
+    pointers(begins(rest, 'f'), space, bytes, parts)
 }
 
 /// What a word names an alignment of.
@@ -216,12 +225,9 @@ fn lettered<'a>(
 ) -> Result<Setting, TargetDataLayoutError<'a>>
     ensures { IsReading (setting_in (lettered_row word.now (parts_left 58 (option_copied parts.entry)))) result }
 {
-    if begins(word, 'p')
-        && let Some(parts) = parts
-    {
-        return pointer_spec(tail(word), parts);
-    }
-    if begins(word, 'i') {
+    if begins(word, 'p') & has_parts(parts) {
+        pointer_spec(tail(word), parts)
+    } else if begins(word, 'i') {
         integer(word, parts)
     } else if begins(word, 'v') {
         vector(word, parts)
@@ -236,11 +242,12 @@ pub(crate) fn read_spec<'a>(spec: &'a str) -> Result<Setting, TargetDataLayoutEr
     ensures { IsReading (setting_of spec.now) result }
 {
     let (word, parts) = cut(spec, ':');
-    if parts.is_none() && word == "e" {
+    let alone = !has_parts(parts);
+    if alone & (word == "e") {
         Ok(Setting::Order(Endian::Little))
-    } else if parts.is_none() && word == "E" {
+    } else if alone & (word == "E") {
         Ok(Setting::Order(Endian::Big))
-    } else if parts.is_none() && begins(word, 'P') {
+    } else if alone & begins(word, 'P') {
         instructions(tail(word))
     } else if let Some(named) = aligned_word(word) {
         aligned(named, word, parts)

@@ -2,7 +2,7 @@
 
 ghost use Rattle.std.specs.Prelude.{◌≡◌, ◌<◌, ◌+◌, IfSome, length, drop, slice_index, ◌∷◌};
 ghost use Rattle.std.specs.Option.{option_copied};
-ghost use Rattle.abi_base.specs.DataLayoutSpec.{begins, begins_alphabetic, is_empty, parts_left, parts_of};
+ghost use Rattle.abi_base.specs.DataLayoutSpec.{begins, begins_alphabetic, has_parts, parts_left, parts_of};
 
 use unicode::properties::is_alphabetic;
 
@@ -16,6 +16,13 @@ pub(crate) fn cut(text: &str, mark: char) -> (&str, Option<&str>)
         Some((part, rest)) => (part, Some(rest)),
         None => (text, None),
     }
+}
+
+/// Whether there are parts.
+pub(crate) fn has_parts(parts: Option<&str>) -> bool
+    ensures { result ≡ has_parts (parts_left 58 (option_copied parts.entry)) }
+{
+    parts.is_some()
 }
 
 /// Whether the text begins with the character.
