@@ -39,4 +39,4 @@ returns-in_default c =
     let l : not (has_parts (parts_left 58 (option_copied c.cut.result.1))) && bytes_eq c.cut.result.0.now (codes "e") ≡ false = (cc) in
     let b : not (has_parts (parts_left 58 (option_copied c.cut.result.1))) && bytes_eq c.cut.result.0.now (codes "E") ≡ false = (cc) in
     let p : not (has_parts (parts_left 58 (option_copied c.cut.result.1))) && begins 80 c.cut.result.0.now ≡ false = (cc) in
-    same_reading (setting_of c.args.spec.now) (setting_in (lettered_row c.cut.result.0.now (parts_left 58 (option_copied c.cut.result.1)))) c.lettered.result (setting_first c.args.spec.now c.cut.result.0.now (parts_left 58 (option_copied c.cut.result.1)) c.cut.ensures.parts ∙ ap setting_in (row_lettered c.cut.result.0.now (parts_left 58 (option_copied c.cut.result.1)) l b p (?))) c.lettered.ensures
+    same_reading (setting_of c.args.spec.now) (setting_in (lettered_row c.cut.result.0.now (parts_left 58 (option_copied c.cut.result.1)))) c.lettered.result (setting_first c.args.spec.now c.cut.result.0.now (parts_left 58 (option_copied c.cut.result.1)) c.cut.ensures.parts ∙ ap setting_in (row_lettered c.cut.result.0.now (parts_left 58 (option_copied c.cut.result.1)) l b p (sym c.in_default.ensures))) c.lettered.ensures
