@@ -1,5 +1,6 @@
 -- What a data layout string means: the data layout that its specs make together.
-use Rattle.std.specs.Prelude.{ℕ, ◌≤◌, ◌==◌, ◌&&◌, Bool, true, false, List, [], ◌∷◌, ◌++◌, max, nat_le, Option, Some, None, is_some, unwrap_or, Result, Ok, if◌then◌else◌}
+use Rattle.std.specs.Prelude.{ℕ, ◌≤◌, ◌==◌, ◌&&◌, Bool, true, false, List, [], ◌∷◌, ◌++◌, max, nat_eq, nat_le, Option, Some, None, is_some, unwrap_or, Result, Ok, if◌then◌else◌}
+use Rattle.std.specs.Ordering.{on}
 use Rattle.abi_base.specs.declared.address_space.AddressSpace.{AddressSpace}
 use Rattle.abi_base.specs.declared.pointer_spec.PointerSpec.{PointerSpec}
 use Rattle.abi_base.specs.declared.data_layout.TargetDataLayout.{TargetDataLayout}
@@ -45,30 +46,42 @@ abbrev pub integer_set : (bits : ℕ) → Setting → Option ℕ
 integer_set bits (Integer width align) = if width == bits then Some align else None
 integer_set bits _ = None
 
--- the width of 64 to 128 bits that an alignment is set for, or 0
-abbrev pub wide_bits : Setting → ℕ
-wide_bits (Integer width align) = if nat_le 64 width && nat_le width 128 then width else 0
-wide_bits _ = 0
+-- the width of 64 to 128 bits that an alignment is set for, if it is one
+abbrev pub wide_bits : Setting → Option ℕ
+wide_bits (Integer width align) = if nat_le 64 width && nat_le width 128 then Some width else None
+wide_bits _ = None
 
--- the most bits, up to 128, that an alignment is set for, and no fewer than the least
+-- the greater of both, where there are two
+abbrev pub wider : Option ℕ → ℕ → ℕ
+wider None bits = bits
+wider (Some width) bits = max width bits
+
+-- the most bits, of 64 to 128, that an alignment is set for, and no fewer than the least
 abbrev pub widest : (least : ℕ) → List Setting → ℕ
 widest least [] = least
-widest least (s ∷ ss) = max (wide_bits s) (widest least ss)
+widest least (s ∷ ss) = wider (wide_bits s) (widest least ss)
+
+-- the same space
+abbrev pub same_space : AddressSpace → AddressSpace → Bool
+same_space = on (λ space. space.0) nat_eq
 
 -- how the pointers of the space are set
 abbrev pub pointers_set : AddressSpace → Setting → Option PointerSpec
-pointers_set space (Pointer named spec) = if named.0 == space.0 then Some spec else None
+pointers_set space (Pointer named spec) = if same_space named space then Some spec else None
 pointers_set space _ = None
 
--- the alignment of the size replaced, or added last
-abbrev pub put_vector : (size align : ℕ) → List (ℕ × ℕ) → List (ℕ × ℕ)
-put_vector size align [] = (size, align) ∷ []
-put_vector size align (e ∷ entries) = if e.0 == size then (size, align) ∷ entries else e ∷ put_vector size align entries
+-- the value of the key replaced, or added last
+abbrev pub put_entry : {K V : Type 0} → (same : K → K → Bool) → (key : K) → (value : V) → List (K × V) → List (K × V)
+put_entry same key value [] = (key, value) ∷ []
+put_entry same key value (e ∷ entries) = if same e.0 key then (key, value) ∷ entries else e ∷ put_entry same key value entries
 
--- the entry of the space replaced, or added last
+-- the alignment of vectors of a size replaced, or added last
+abbrev pub put_vector : (size align : ℕ) → List (ℕ × ℕ) → List (ℕ × ℕ)
+put_vector size align entries = put_entry nat_eq size align entries
+
+-- the pointers of a space replaced, or added last
 abbrev pub put_space : AddressSpace → PointerSpec → List (AddressSpace × PointerSpec) → List (AddressSpace × PointerSpec)
-put_space space spec [] = (space, spec) ∷ []
-put_space space spec (e ∷ entries) = if e.0.0 == space.0 then (space, spec) ∷ entries else e ∷ put_space space spec entries
+put_space space spec entries = put_entry same_space space spec entries
 
 -- the alignments of vectors, with those that are set
 abbrev pub vectors_after : List (ℕ × ℕ) → List Setting → List (ℕ × ℕ)
@@ -79,7 +92,7 @@ vectors_after entries (s ∷ ss) = vectors_after entries ss
 -- the pointers of the spaces other than the default one, with those that are set
 abbrev pub spaces_after : (default : AddressSpace) → List (AddressSpace × PointerSpec) → List Setting → List (AddressSpace × PointerSpec)
 spaces_after default entries [] = entries
-spaces_after default entries (Pointer space spec ∷ ss) = spaces_after default (if space.0 == default.0 then entries else put_space space spec entries) ss
+spaces_after default entries (Pointer space spec ∷ ss) = spaces_after default (if same_space space default then entries else put_space space spec entries) ss
 spaces_after default entries (s ∷ ss) = spaces_after default entries ss
 
 -- A data layout with these settings: each field is that of the last setting of its kind, or as it was.

@@ -118,8 +118,7 @@ impl TargetDataLayout {
 
     /// Adds the space of functions with the default pointers, where it isn't known.
     fn with_instructions(mut self) -> Result<TargetDataLayout, AllocError>
-        ensures value { IfOk result (λ dl. dl ≡ with_instructions self) }
-        ensures knows { IfOk result (λ dl. Knows dl dl.instruction_address_space) }
+        ensures { IfOk result (λ dl. dl ≡ with_instructions self) }
     {
         let space = self.instruction_address_space;
         if !self.knows(space) {

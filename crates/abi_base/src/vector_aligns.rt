@@ -1,6 +1,6 @@
 //! The alignments of vectors.
 
-ghost use Rattle.std.specs.Prelude.{◌≡◌, ◌≤◌, ◌↔◌, IsTrue};
+ghost use Rattle.std.specs.Prelude.{◌≡◌, ℕ, ◌<◌, ◌≤◌, ◌↔◌, ◌++◌, ◌∷◌, [], IsTrue, MatchOption, length, slice_set};
 ghost use Rattle.std.specs.List.{All};
 ghost use Rattle.std.specs.Result.{OnOk};
 ghost use Rattle.abi_base.specs.DataLayout.{listed_align};
@@ -79,14 +79,23 @@ impl VectorAligns {
     pub(crate) fn put(&mut self, size: Size, align: Align) -> Result<(), AllocError>
         ensures { OnOk result (self.new ≡ put_vector size align self.old) }
     {
-        for entry in self.entries.iter_mut() {
-            if entry.0 == size {
-                entry.1 = align;
-                return Ok(());
+        match self.place(size) {
+            Some(index) => self.entries[index] = (size, align),
+            None => self.entries.push((size, align))?,
+        }
+        Ok(())
+    }
+
+    /// Where the entry of the size is, if it is listed.
+    fn place(&self, size: Size) -> Option<usize>
+        ensures { MatchOption result ((align : ℕ) → put_vector size align self.now ≡ self.now ++ ((size, align) ∷ [])) (λ index. (index < length self.now) × ((align : ℕ) → put_vector size align self.now ≡ slice_set self.now index (size, align))) }
+    {
+        for (index, (listed, _)) in self.entries.iter().enumerate() {
+            if *listed == size {
+                return Some(index);
             }
         }
-        self.entries.push((size, align))?;
-        Ok(())
+        None
     }
 
     /// Whether no alignment is above the greatest.
