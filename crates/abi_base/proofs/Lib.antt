@@ -1,4 +1,5 @@
 pub mod Entries
+pub mod Instructions
 pub mod Laws
 pub mod Numbers
 pub mod Parts

@@ -1,5 +1,6 @@
 -- The specs of a data layout string, one after another.
-use Rattle.std.proofs.Common.{◌≡◌, ℕ, Bool, true, false, List, [], ◌∷◌, Option, None, Some, Result, Ok, Err, refl, sym, subst, ap, ◌∙◌}
+use Rattle.std.proofs.Common.{◌≡◌, ℕ, Bool, true, false, List, [], ◌∷◌, Option, None, Some, Result, Ok, Err, IfErr, refl, sym, subst, ap, ◌∙◌}
+use Rattle.abi_base.specs.declared.address_space.AddressSpace.{AddressSpace}
 use Rattle.abi_base.specs.declared.setting.Setting.{Setting}
 use Rattle.abi_base.specs.declared.data_layout.TargetDataLayout.{TargetDataLayout}
 use Rattle.abi_base.specs.declared.parse_error.TargetDataLayoutError.{TargetDataLayoutError}
@@ -8,8 +9,8 @@ use Rattle.std.specs.Prelude.{codes}
 use Rattle.std.specs.Int.{div_ceil}
 use Rattle.abi_base.specs.Align.{align_of_bytes}
 use Rattle.abi_base.specs.DataLayoutFault.{Fault, bad_space, bad_bits, missing_alignment, bad_alignment, unknown_pointer, IsReading, IsRefusal}
-use Rattle.abi_base.specs.DataLayoutSpec.{◌>>=◌, alignment_in, begins, begins_alphabetic, bits_in, has_parts, or_fault, pointer_setting, pointers_in, setting_of, space_text, settings_of}
-use Rattle.abi_base.specs.DataLayoutText.{with_instructions, with_settings}
+use Rattle.abi_base.specs.DataLayoutSpec.{◌>>=◌, alignment_in, begins, begins_alphabetic, bits_in, has_parts, or_fault, parts_of, pointer_setting, pointers_in, setting_of, space_text, settings_of}
+use Rattle.abi_base.specs.DataLayoutText.{data_layout_in, default_with, with_instructions, with_settings}
 
 -- what the specs mean on top of a data layout
 abbrev pub answer_from : TargetDataLayout → (least : ℕ) → List (List ℕ) → Result TargetDataLayout Fault
@@ -55,3 +56,33 @@ pub pointer_first : (rest space size : List ℕ) (parts others : List (List ℕ)
     → pointer_setting rest parts ≡ pointers_in fat space size others
 unfolding pointer_setting
 pointer_first rest space size parts others fat e is f l = let letter : begins_alphabetic (space_text rest) ≡ false = rw is at l in rw (e, letter, is, f) refl
+
+after_one : (dl made : TargetDataLayout) (least width : ℕ) (s : Setting) (later : Result (List Setting) Fault) → ((ss : List Setting) → with_settings made width ss ≡ with_settings dl least (s ∷ ss))
+    → (later >>= λ ss. Ok (with_instructions (with_settings made width ss))) ≡ ((later >>= λ ss. Ok (s ∷ ss)) >>= λ ss. Ok (with_instructions (with_settings dl least ss)))
+after_one dl made least width s (Ok ss) h = ap (λ (d : TargetDataLayout). Ok (with_instructions d)) (h ss)
+after_one dl made least width s (Err f) h = refl
+
+-- one spec more has been read
+pub one_more : (dl made : TargetDataLayout) (least width : ℕ) (specs : List (List ℕ)) (spec : List ℕ) (others : List (List ℕ)) (s : Setting) → specs ≡ spec ∷ others → setting_of spec ≡ Ok s
+    → ((ss : List Setting) → with_settings made width ss ≡ with_settings dl least (s ∷ ss)) → answer_from made width others ≡ answer_from dl least specs
+unfolding settings_of
+one_more dl made least width specs spec others s e is h = rw (e, is) (after_one dl made least width s (settings_of others) h)
+
+-- the first spec has a fault
+pub first_fault : (dl : TargetDataLayout) (least : ℕ) (specs : List (List ℕ)) (spec : List ℕ) (others : List (List ℕ)) (f : Fault) → specs ≡ spec ∷ others → setting_of spec ≡ Err f → answer_from dl least specs ≡ Err f
+unfolding settings_of
+first_fault dl least specs spec others f e is = rw (e, is) refl
+
+-- no spec is left
+pub none_left : (dl : TargetDataLayout) (least : ℕ) (specs : List (List ℕ)) → specs ≡ [] → answer_from dl least specs ≡ Ok (with_instructions dl)
+unfolding settings_of
+none_left dl least specs e = rw e refl
+
+-- the answer from the beginning
+pub at_first : (dl : TargetDataLayout) (space : AddressSpace) (text : List ℕ) → dl ≡ default_with space → answer_from dl 64 (parts_of 45 text) ≡ data_layout_in space text
+unfolding data_layout_in
+at_first dl space text e = ap (λ (d : TargetDataLayout). answer_from d 64 (parts_of 45 text)) e
+
+-- an error that is passed on
+pub err_passes : {A B : Type 0} (a : Result A Fault) (b : Result B Fault) (e : TargetDataLayoutError) (r : Result B TargetDataLayoutError) → IsRefusal a e → ((f : Fault) → a ≡ Err f → b ≡ Err f) → r ≡ Err e → IfErr r (IsRefusal b)
+err_passes a b e r h k is = rw is (told a b e h k)
