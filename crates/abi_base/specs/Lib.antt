@@ -7,3 +7,7 @@ pub mod DataLayout
 pub mod Endian
 pub mod IntegerType
 pub mod Numeric
+pub mod NumberText
+pub mod DataLayoutFault
+pub mod DataLayoutSpec
+pub mod DataLayoutText

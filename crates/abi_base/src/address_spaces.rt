@@ -1,11 +1,15 @@
 //! The pointers of address spaces.
 
-ghost use Rattle.std.specs.Prelude.{◌≡◌, ◌≤◌, ◌↔◌, IsTrue};
+ghost use Rattle.std.specs.Prelude.{◌≡◌, ℕ, ◌<◌, ◌≤◌, ◌↔◌, ◌++◌, ◌∷◌, [], IsTrue, MatchOption, length, slice_set};
 ghost use Rattle.std.specs.List.{All};
+ghost use Rattle.std.specs.Result.{OnOk};
+ghost use Rattle.abi_base.specs.declared.pointer_spec.PointerSpec.{PointerSpec};
 ghost use Rattle.abi_base.specs.DataLayout.{entry_of};
+ghost use Rattle.abi_base.specs.DataLayoutText.{put_space};
 
 use crate::address_space::AddressSpace;
 use crate::pointer_spec::PointerSpec;
+use std::alloc::AllocError;
 use std::fmt;
 use std::fmt::Debug;
 use std::marker::Model;
@@ -63,6 +67,29 @@ impl AddressSpaces {
         self.entries
             .iter()
             .all(|entry| entry.1.pointer_align.within_limit())
+    }
+
+    /// The entry of the space replaced, or added last.
+    pub(crate) fn put(&mut self, space: AddressSpace, spec: PointerSpec) -> Result<(), AllocError>
+        ensures { OnOk result (self.new ≡ put_space space spec self.old) }
+    {
+        match self.place(space) {
+            Some(index) => self.entries[index] = (space, spec),
+            None => self.entries.push((space, spec))?,
+        }
+        Ok(())
+    }
+
+    /// Where the entry of the space is, if it is listed.
+    fn place(&self, space: AddressSpace) -> Option<usize>
+        ensures { MatchOption result ((spec : PointerSpec) → put_space space spec self.now ≡ self.now ++ ((space, spec) ∷ [])) (λ index. (index < length self.now) × ((spec : PointerSpec) → put_space space spec self.now ≡ slice_set self.now index (space, spec))) }
+    {
+        for (index, (listed, _)) in self.entries.iter().enumerate() {
+            if listed.0 == space.0 {
+                return Some(index);
+            }
+        }
+        None
     }
 
     /// How the pointers of the space are represented, if it is listed.

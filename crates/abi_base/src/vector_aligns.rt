@@ -1,11 +1,14 @@
 //! The alignments of vectors.
 
-ghost use Rattle.std.specs.Prelude.{◌≡◌, ◌≤◌, ◌↔◌, IsTrue};
+ghost use Rattle.std.specs.Prelude.{◌≡◌, ℕ, ◌<◌, ◌≤◌, ◌↔◌, ◌++◌, ◌∷◌, [], IsTrue, MatchOption, length, slice_set};
 ghost use Rattle.std.specs.List.{All};
+ghost use Rattle.std.specs.Result.{OnOk};
 ghost use Rattle.abi_base.specs.DataLayout.{listed_align};
+ghost use Rattle.abi_base.specs.DataLayoutText.{put_vector};
 
 use crate::align::Align;
 use crate::size::Size;
+use std::alloc::AllocError;
 use std::fmt;
 use std::fmt::Debug;
 use std::marker::Model;
@@ -67,6 +70,29 @@ impl VectorAligns {
         for (listed, align) in &self.entries {
             if *listed == size {
                 return Some(*align);
+            }
+        }
+        None
+    }
+
+    /// The alignment of the size replaced, or added last.
+    pub(crate) fn put(&mut self, size: Size, align: Align) -> Result<(), AllocError>
+        ensures { OnOk result (self.new ≡ put_vector size align self.old) }
+    {
+        match self.place(size) {
+            Some(index) => self.entries[index] = (size, align),
+            None => self.entries.push((size, align))?,
+        }
+        Ok(())
+    }
+
+    /// Where the entry of the size is, if it is listed.
+    fn place(&self, size: Size) -> Option<usize>
+        ensures { MatchOption result ((align : ℕ) → put_vector size align self.now ≡ self.now ++ ((size, align) ∷ [])) (λ index. (index < length self.now) × ((align : ℕ) → put_vector size align self.now ≡ slice_set self.now index (size, align))) }
+    {
+        for (index, (listed, _)) in self.entries.iter().enumerate() {
+            if *listed == size {
+                return Some(index);
             }
         }
         None

@@ -1,0 +1,7 @@
+-- The bytes that are left decide.
+use Rattle.std.proofs.Common.{◌≡◌, drop}
+use Rattle.std.specs.Str.{all_ascii_digits}
+use Rattle.abi_base.proofs.parse_number.are_digits.Given as goal
+
+abbrev pub invariant-loop-byte : goal.invariant-loop-byte
+invariant-loop-byte l = all_ascii_digits (drop l.byte-index l.bytes) ≡ all_ascii_digits l.bytes

@@ -1,0 +1,11 @@
+use Rattle.std.proofs.Common.{◌≡◌, rules, refl}
+use Rattle.abi_base.specs.DataLayoutSpec.{bits_in}
+use Rattle.abi_base.proofs.parse_spec.bits.Goals as goal
+
+pub returns-in-Ok : goal.returns-in-Ok
+unfolding bits_in
+returns-in-Ok c = rw (← c.in-Ok.ensures) refl
+
+pub returns-in-Err : goal.returns-in-Err
+unfolding bits_in
+returns-in-Err c = rw (← c.in-Err.ensures) refl

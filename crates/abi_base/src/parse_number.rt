@@ -1,0 +1,80 @@
+//! Numbers in a data layout string.
+
+ghost use Rattle.std.specs.Prelude.{◌≡◌, ◌^◌};
+ghost use Rattle.std.specs.Str.{all_ascii_digits};
+ghost use Rattle.std.specs.Str.Parse.{without_leading_plus};
+ghost use Rattle.abi_base.specs.NumberText.{is_numeral, number_answer, number_error};
+
+/// Why a text is no number that fits. A number is one decimal digit or more, after at most one
+/// plus.
+#[derive(Clone, Copy, PartialEq, Eq, Debug)]
+pub enum NumberError {
+    /// There is no text.
+    Empty,
+    /// The text is no number, as `+`, `-1` and `1x` are none.
+    InvalidDigit,
+    /// The number has too many bits.
+    PosOverflow,
+}
+
+/// Whether it is one decimal digit or more, and nothing else.
+fn is_numeral(digits: &[u8]) -> bool
+    ensures { result ≡ is_numeral digits.now }
+{
+    !digits.is_empty() && are_digits(digits)
+}
+
+/// Whether each byte is a decimal digit.
+fn are_digits(bytes: &[u8]) -> bool
+    ensures { result ≡ all_ascii_digits bytes.now }
+{
+    for byte in bytes {
+        if !byte.is_ascii_digit() {
+            return false;
+        }
+    }
+    true
+}
+
+/// What follows one plus, if one stands first.
+fn without_plus(text: &[u8]) -> &[u8]
+    ensures { result.now ≡ without_leading_plus text.now }
+{
+    match text {
+        [b'+', rest @ ..] => rest,
+        _ => text,
+    }
+}
+
+/// Why a text is no number that fits.
+fn number_error(text: &[u8]) -> NumberError
+    ensures { result ≡ number_error text.now }
+{
+    if text.is_empty() {
+        NumberError::Empty
+    } else if is_numeral(without_plus(text)) {
+        NumberError::PosOverflow
+    } else {
+        NumberError::InvalidDigit
+    }
+}
+
+/// The number of 64 bits that the text is.
+pub(crate) fn number_u64(text: &str) -> Result<u64, NumberError>
+    ensures { result ≡ number_answer (2 ^ 64) text.now }
+{
+    match text.parse::<u64>() {
+        Ok(number) => Ok(number),
+        Err(_) => Err(number_error(text.as_bytes())),
+    }
+}
+
+/// The number of 32 bits that the text is.
+pub(crate) fn number_u32(text: &str) -> Result<u32, NumberError>
+    ensures { result ≡ number_answer (2 ^ 32) text.now }
+{
+    match text.parse::<u32>() {
+        Ok(number) => Ok(number),
+        Err(_) => Err(number_error(text.as_bytes())),
+    }
+}
