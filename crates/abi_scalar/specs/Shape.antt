@@ -1,5 +1,5 @@
 -- Where the fields of a type lie.
-use Rattle.std.specs.Prelude.{◌≡◌, ℕ, ◌*◌, ⊤, List, [], length, slice_get, unwrap_or}
+use Rattle.std.specs.Prelude.{ℕ, ◌*◌, ⊤, List, [], length, slice_get, unwrap_or}
 use Rattle.abi_base.specs.declared.size.Size.{Size}
 use Rattle.abi_scalar.specs.declared.fields_shape.FieldsShape.{FieldsShape}
 use Rattle.abi_scalar.specs.declared.fields_shape.FieldsShape.TheVariants.{Primitive, Union, Array, Arbitrary}

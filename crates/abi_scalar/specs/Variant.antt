@@ -1,8 +1,8 @@
 -- The layout of one variant, by itself and as a part of its type's.
-use Rattle.std.specs.Prelude.{ℕ, List, [], Option}
+use Rattle.std.specs.Prelude.{List, []}
 use Rattle.abi_scalar.specs.declared.fields_shape.FieldsShape.TheVariants.{Arbitrary}
 use Rattle.abi_scalar.specs.declared.variants.Variants.{Variants}
-use Rattle.abi_scalar.specs.declared.variants.Variants.TheVariants.{Empty, Single, Multiple}
+use Rattle.abi_scalar.specs.declared.variants.Variants.TheVariants.{Single, Multiple}
 use Rattle.abi_scalar.specs.declared.variants.VariantLayout.{VariantLayout}
 use Rattle.abi_scalar.specs.declared.layout_data.LayoutData.{LayoutData}
 use Rattle.abi_scalar.specs.Shape.{listed_offsets, listed_order}

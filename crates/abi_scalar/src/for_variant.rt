@@ -20,7 +20,9 @@ impl<FieldIdx: Idx, VariantIdx: Idx> LayoutData<FieldIdx, VariantIdx> {
         ensures { IfOk result (λ layout.
             Some layout ≡ option_map (variant_layout parent.now index) (slice_get (variants_of parent.now.variants) (VariantIdx.number index))) }
     {
-        let Variants::Multiple { variants, .. } = &parent.variants else { unreachable!() };
+        let Variants::Multiple { variants, .. } = &parent.variants else {
+            unreachable!()
+        };
         let variant = &variants.as_slice().as_raw()[index.index()];
         Ok(LayoutData {
             fields: FieldsShape::Arbitrary {

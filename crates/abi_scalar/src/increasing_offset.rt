@@ -1,7 +1,8 @@
 //! Going over fields as they follow one another in memory.
 
-ghost use Rattle.std.specs.Prelude.{◌≡◌, length};
-ghost use Rattle.std.specs.Iterator.{YieldsFirst, item_count};
+ghost use Rattle.std.specs.Prelude.{◌≡◌, length, IfSome, Some};
+ghost use Rattle.std.specs.Iterator.{YieldsFirst, UpTo, at_most, item_count};
+ghost use Rattle.std.specs.Iterator.SizeHint.{IsWithinCount};
 ghost use Rattle.abi_scalar.specs.Order.{HasPlaceForEach, IsAscending, NeverStepsBack, indices_by_offset, place_count, places_in, places_left};
 
 use crate::fields_shape::FieldsShape;
@@ -92,7 +93,12 @@ impl<'a, FieldIdx: Idx> Iterator for IncreasingOffset<'a, FieldIdx> {
         }
     }
 
-    fn size_hint(&self) -> (usize, Option<usize>) {
+    /// The number of places that are still to come, twice.
+    fn size_hint(&self) -> (usize, Option<usize>)
+        ensures lower { IsWithinCount result.0 (at_most (length (places_left FieldIdx.number self.now))) }
+        ensures upper { IfSome result.1 (UpTo (at_most (length (places_left FieldIdx.number self.now)))) }
+        ensures exact { result ≡ (length (places_left FieldIdx.number self.now), Some (length (places_left FieldIdx.number self.now))) }
+    {
         let left = self.len();
         (left, Some(left))
     }
@@ -118,7 +124,10 @@ mod tests {
     use std::test::Fail;
 
     /// The places of the shape's fields, after a look at how many there are.
-    fn places(alloc: Global, shape: &FieldsShape<FieldIdx>) -> Result<(usize, Vec<usize>), AllocError>
+    fn places(
+        alloc: Global,
+        shape: &FieldsShape<FieldIdx>,
+    ) -> Result<(usize, Vec<usize>), AllocError>
         requires { HasPlaceForEach shape.now }
     {
         let order = shape.index_by_increasing_offset();
