@@ -6,3 +6,4 @@ pub mod CountLemmas
 pub mod LeastLemmas
 pub mod NicheLemmas
 pub mod PairLemmas
+pub mod OrderLemmas

@@ -17,3 +17,5 @@ pub mod Lending
 pub mod View
 pub mod Layout
 pub mod Shape
+pub mod Variant
+pub mod Order

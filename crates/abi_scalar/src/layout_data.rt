@@ -7,6 +7,8 @@ use crate::variants::Variants;
 use abi_base::{AbiAlign, Align, Size};
 use abi_index::{Hash64, Idx, TryClone};
 use std::alloc::{AllocError, Global};
+use std::fmt;
+use std::fmt::Debug;
 
 /// The layout of a type: how large it is, how it is aligned, and where its parts lie.
 #[derive(Drop, PartialEq, Eq, Hash)]
@@ -48,5 +50,46 @@ impl<FieldIdx: Idx, VariantIdx: Idx> TryClone for LayoutData<FieldIdx, VariantId
             repr_c: self.repr_c,
             randomization_seed: self.randomization_seed,
         })
+    }
+}
+
+impl<FieldIdx: Idx, VariantIdx: Idx> Debug for LayoutData<FieldIdx, VariantIdx> {
+    fn fmt<W: fmt::Write>(&self, f: &mut fmt::Formatter<W>) -> fmt::Result {
+        f.debug_struct("Layout")
+            .field("size", &self.size)
+            .field("align", &self.align)
+            .field("backend_repr", &self.backend_repr)
+            .field("fields", &self.fields)
+            .field("largest_niche", &self.largest_niche)
+            .field("uninhabited", &self.uninhabited)
+            .field("variants", &self.variants)
+            .field("max_repr_align", &self.max_repr_align)
+            .field("unadjusted_abi_align", &self.unadjusted_abi_align)
+            .field("repr_c", &self.repr_c)
+            .field("randomization_seed", &self.randomization_seed)
+            .finish()
+    }
+}
+
+#[cfg(test)]
+mod tests {
+    use super::*;
+    use abi_base::TargetDataLayout;
+    use abi_index::{FieldIdx, VariantIdx};
+    use std::test::Fail;
+
+    #[test]
+    fn is_written_part_by_part(rt: HostRuntime) -> Result<(), Fail> {
+        let dl = TargetDataLayout::default_in(rt.alloc())?;
+        let never: LayoutData<FieldIdx, VariantIdx> = LayoutData::never_type(&dl);
+        let text = format!(in rt.alloc(); "{never:?}")?;
+        assert_eq!(rt;
+            text.as_str(),
+            "Layout { size: Size(0 bytes), align: Align(1 bytes), backend_repr: Memory { sized: true }, \
+             fields: Primitive, largest_niche: None, uninhabited: true, variants: Empty, \
+             max_repr_align: None, unadjusted_abi_align: Align(1 bytes), repr_c: false, \
+             randomization_seed: Hash64 { inner: 0 } }"
+        );
+        Ok(())
     }
 }

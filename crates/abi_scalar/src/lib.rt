@@ -4,7 +4,9 @@
 mod backend_repr;
 mod error;
 mod fields_shape;
+mod for_variant;
 mod handle;
+mod increasing_offset;
 mod lane_count;
 mod lawful;
 mod layout_calls;
@@ -25,6 +27,7 @@ pub use backend_repr::BackendRepr;
 pub use error::LayoutCalculatorError;
 pub use fields_shape::{FieldCount, FieldsShape};
 pub use handle::LayoutHandle;
+pub use increasing_offset::IncreasingOffset;
 pub use lane_count::BackendLaneCount;
 pub use layout_data::LayoutData;
 pub use niche::Niche;

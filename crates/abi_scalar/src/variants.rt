@@ -1,8 +1,13 @@
 //! The variants of a type, and how its bytes name one.
 
 ghost use Rattle.std.specs.Prelude.{◌≡◌, ◌<◌, ◌↔◌, IsTrue, length};
+ghost use Rattle.abi_scalar.specs.Shape.{IsListed};
+ghost use Rattle.abi_scalar.specs.Variant.{variant_of};
 
 use crate::backend_repr::BackendRepr;
+use crate::fields_shape::FieldsShape;
+use crate::layout_data::LayoutData;
+use crate::niche::Niche;
 use crate::scalar::Scalar;
 use abi_base::Size;
 use abi_index::{Idx, IndexVec, TryClone};
@@ -35,8 +40,9 @@ pub struct VariantLayout<FieldIdx: Idx> {
     pub size: Size,
     pub backend_repr: BackendRepr,
     pub field_offsets: IndexVec<FieldIdx, Size>,
-    fields_in_memory_order: IndexVec<u32, FieldIdx>,
-    uninhabited: bool,
+    pub(crate) fields_in_memory_order: IndexVec<u32, FieldIdx>,
+    pub(crate) largest_niche: Option<Niche>,
+    pub(crate) uninhabited: bool,
 }
 
 /// The variants of a type.
@@ -58,6 +64,36 @@ pub enum Variants<FieldIdx: Idx, VariantIdx: Idx> {
 }
 
 impl<FieldIdx: Idx> VariantLayout<FieldIdx> {
+    /// What the layout of a list of fields has of its own, as that of one variant: its size, view, offsets, memory
+    /// order and niche, and whether it is marked as having no value. Asked of fields that are listed one by one.
+    pub fn from_layout<V: Idx>(layout: LayoutData<FieldIdx, V>) -> Self
+        requires { IsListed layout.fields }
+        ensures { result ≡ variant_of layout }
+    {
+        let LayoutData {
+            fields,
+            size,
+            backend_repr,
+            largest_niche,
+            uninhabited,
+            ..
+        } = layout;
+        match fields {
+            FieldsShape::Arbitrary {
+                offsets,
+                in_memory_order,
+            } => VariantLayout {
+                size,
+                backend_repr,
+                field_offsets: offsets,
+                fields_in_memory_order: in_memory_order,
+                largest_niche,
+                uninhabited,
+            },
+            _ => unreachable!(),
+        }
+    }
+
     /// Whether it is marked as having no value.
     pub fn is_uninhabited(&self) -> bool
         ensures { result ≡ self.now.uninhabited }
@@ -80,6 +116,7 @@ impl<FieldIdx: Idx> TryClone for VariantLayout<FieldIdx> {
             backend_repr: self.backend_repr,
             field_offsets: self.field_offsets.try_clone(alloc)?,
             fields_in_memory_order: self.fields_in_memory_order.try_clone(alloc)?,
+            largest_niche: self.largest_niche,
             uninhabited: self.uninhabited,
         })
     }
