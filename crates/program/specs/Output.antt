@@ -1,10 +1,14 @@
 -- What the program writes for an input, and the status that it ends with.
-use Rattle.std.specs.Prelude.{◌≡◌, ℕ, ◌&&◌, ◌++◌, ◌⊎◌, MatchBool, nat_lt, List, take, codes, string_bytes, length, Option, Result, Ok, Err}
+use Rattle.std.specs.Prelude.{◌≡◌, ℕ, ◌&&◌, ◌++◌, ◌⊎◌, MatchBool, List, take, codes, string_bytes, Option, Result, Ok, Err}
 use Rattle.std.specs.Fmt.{decimal}
 use Rattle.std.specs.Io.KnownBytes.{Appends}
 use Rattle.std.specs.Str.{is_utf8}
 use Rattle.abi_base.specs.declared.data_layout.TargetDataLayout.{TargetDataLayout}
-use Rattle.abi_base.specs.DataLayout.{IsLawfulDataLayout, default_data_layout}
+use Rattle.abi_base.specs.DataLayout.{IsLawfulDataLayout}
+use Rattle.abi_base.specs.declared.parse_error.TargetDataLayoutError.{TargetDataLayoutError}
+use Rattle.abi_base.specs.declared.parse_error.TargetDataLayoutError.TheVariants as data_layout
+use Rattle.abi_base.specs.DataLayoutFault.{Fault as Flaw, bad_space, bad_bits, missing_alignment, bad_alignment, unknown_pointer}
+use Rattle.abi_base.specs.DataLayoutText.{data_layout_in}
 use Rattle.rustc_abi.specs.declared.error.LayError.{LayError}
 use Rattle.rustc_abi.specs.declared.error.LayError.TheVariants as lay
 use Rattle.rustc_abi.specs.Tree.{Tree}
@@ -49,6 +53,25 @@ error_name lay.OversizedSimdType = codes "OversizedSimdType"
 error_name lay.NonPrimitiveSimdType = codes "NonPrimitiveSimdType"
 error_name lay.OutOfMemory = codes "OutOfMemory"
 
+-- the name of what is wrong with a data layout string
+abbrev pub flaw_name : Flaw → List ℕ
+flaw_name (bad_space text cause err) = codes "InvalidAddressSpace"
+flaw_name (bad_bits kind text cause err) = codes "InvalidBits"
+flaw_name (missing_alignment cause) = codes "MissingAlignment"
+flaw_name (bad_alignment cause err) = codes "InvalidAlignment"
+flaw_name (unknown_pointer rest) = codes "UnknownPointerSpecification"
+
+abbrev pub data_layout_error_name : TargetDataLayoutError → List ℕ
+data_layout_error_name (data_layout.InvalidAddressSpace text cause err) = codes "InvalidAddressSpace"
+data_layout_error_name (data_layout.InvalidBits kind text cause err) = codes "InvalidBits"
+data_layout_error_name (data_layout.MissingAlignment cause) = codes "MissingAlignment"
+data_layout_error_name (data_layout.InvalidAlignment cause err) = codes "InvalidAlignment"
+data_layout_error_name (data_layout.InconsistentTargetArchitecture dl target) = codes "InconsistentTargetArchitecture"
+data_layout_error_name (data_layout.InconsistentTargetPointerWidth size target) = codes "InconsistentTargetPointerWidth"
+data_layout_error_name (data_layout.InvalidBitsSize err) = codes "InvalidBitsSize"
+data_layout_error_name (data_layout.UnknownPointerSpecification rest) = codes "UnknownPointerSpecification"
+data_layout_error_name data_layout.OutOfMemory = codes "OutOfMemory"
+
 abbrev pub output_of_fault : Fault → Output
 output_of_fault (Unreadable number) = unreadable number
 output_of_fault NotYet = refused (codes "NotYet")
@@ -68,11 +91,16 @@ abbrev pub IsOutputOfType : TargetDataLayout → Result Tree Fault → Output �
 IsOutputOfType dl (Ok tree) output = IsOutputOfTree dl tree output
 IsOutputOfType dl (Err fault) output = output ≡ output_of_fault fault
 
--- the output for the first two lines: a data layout, of which only the default one, an empty line, is known yet, and a type
+-- the output for the line of a type, under a data layout or its fault
+abbrev pub IsOutputUnder : Result TargetDataLayout Flaw → (second : List ℕ) → Output → Type 0
+IsOutputUnder (Ok dl) second output = IsOutputOfType dl (read dl (words_of second)) output
+IsOutputUnder (Err flaw) second output = output ≡ refused (flaw_name flaw)
+
+-- the output for the first two lines, a data layout and a type
 abbrev pub IsOutputOfLines : (first second : List ℕ) → Output → Type 0
 IsOutputOfLines first second output =
     MatchBool (is_utf8 first && is_utf8 second)
-    (MatchBool (nat_lt 0 (length first)) (output ≡ refused (codes "NotYet")) (IsOutputOfType default_data_layout (read default_data_layout (words_of second)) output))
+    (IsOutputUnder (data_layout_in (record { 0 = 0 }) first) second output)
     (output ≡ unreadable 0)
 
 -- the output for an input

@@ -1,13 +1,13 @@
 //! The answer to a text.
 
-ghost use Rattle.std.specs.Prelude.{◌≡◌, ◌<◌, IfOk, Ok};
+ghost use Rattle.std.specs.Prelude.{◌≡◌, ◌<◌, IfOk, MatchOption, Ok, true, false};
 ghost use Rattle.std.specs.Str.{is_utf8};
-ghost use Rattle.abi_base.specs.DataLayout.{default_data_layout};
+ghost use Rattle.abi_base.specs.DataLayoutText.{data_layout_in};
 ghost use Rattle.rustc_abi.specs.Laid.{placed_of};
 ghost use Rattle.rustc_abi.specs.Placed.{layout_of};
 ghost use Rattle.rustc_abi.specs.Laying.{laid_out};
 ghost use Rattle.rustc_abi.specs.Tree.{tree_of};
-ghost use Rattle.program.specs.Output.{answered_by, error_name, IsAnswer, IsOutputOf, IsOutputOfLines, IsOutputOfTree, IsOutputOfType, output_of_fault, output_of_layout, refused, unreadable};
+ghost use Rattle.program.specs.Output.{answered_by, data_layout_error_name, error_name, IsAnswer, IsOutputOf, IsOutputOfLines, IsOutputOfTree, IsOutputOfType, IsOutputUnder, output_of_fault, output_of_layout, refused, unreadable};
 ghost use Rattle.program.specs.Reading.{read};
 ghost use Rattle.program.specs.Words.{words_of};
 
@@ -15,7 +15,7 @@ use crate::fault::Fault;
 use crate::lines::two_lines;
 use crate::print::write_type;
 use crate::reader::read_type;
-use abi_base::TargetDataLayout;
+use abi_base::{AddressSpace, TargetDataLayout, TargetDataLayoutError};
 use rustc_abi::{Laid, LayError, TypeTree, lay_out};
 use std::alloc::{AllocError, Global};
 
@@ -89,11 +89,7 @@ fn answer_laid(alloc: Global, laid: &Laid) -> Result<Answer, AllocError>
 }
 
 /// The answer to a type under a data layout.
-fn answer_tree(
-    alloc: Global,
-    dl: &TargetDataLayout,
-    tree: &TypeTree,
-) -> Result<Answer, AllocError>
+fn answer_tree(alloc: Global, dl: &TargetDataLayout, tree: &TypeTree) -> Result<Answer, AllocError>
     ensures { IfOk result (IsAnswer (IsOutputOfTree dl.now (tree_of tree.now))) }
 {
     match lay_out(alloc, dl, tree) {
@@ -112,12 +108,43 @@ fn answer_type(alloc: Global, dl: &TargetDataLayout, line: &[u8]) -> Result<Answ
     }
 }
 
-fn is_utf8(line: &[u8]) -> bool
-    ensures { result ≡ is_utf8 line.now }
+fn data_layout_error_name(error: &TargetDataLayoutError<'_>) -> &'static str
+    ensures { result.now ≡ data_layout_error_name error.now }
+{
+    match error {
+        TargetDataLayoutError::InvalidAddressSpace { .. } => "InvalidAddressSpace",
+        TargetDataLayoutError::InvalidBits { .. } => "InvalidBits",
+        TargetDataLayoutError::MissingAlignment { .. } => "MissingAlignment",
+        TargetDataLayoutError::InvalidAlignment { .. } => "InvalidAlignment",
+        TargetDataLayoutError::InconsistentTargetArchitecture { .. } => {
+            "InconsistentTargetArchitecture"
+        }
+        TargetDataLayoutError::InconsistentTargetPointerWidth { .. } => {
+            "InconsistentTargetPointerWidth"
+        }
+        TargetDataLayoutError::InvalidBitsSize { .. } => "InvalidBitsSize",
+        TargetDataLayoutError::UnknownPointerSpecification { .. } => "UnknownPointerSpecification",
+        TargetDataLayoutError::OutOfMemory => "OutOfMemory",
+    }
+}
+
+/// The answer to the two lines of a text: a data layout, and a type.
+fn answer_text(alloc: Global, first: &str, second: &[u8]) -> Result<Answer, AllocError>
+    ensures { IfOk result (IsAnswer (IsOutputUnder (data_layout_in (record { 0 = 0 }) first.now) second.now)) }
+{
+    match TargetDataLayout::parse_from_llvm_datalayout_string(alloc, first, AddressSpace::ZERO) {
+        Ok(dl) => answer_type(alloc, &dl, second),
+        Err(error) => refused(alloc, data_layout_error_name(&error)),
+    }
+}
+
+/// A line as text, where it is UTF-8.
+fn text_of(line: &[u8]) -> Option<&str>
+    ensures { MatchOption result (is_utf8 line.now ≡ false) (λ text. (is_utf8 line.now ≡ true) × (text.now ≡ line.now)) }
 {
     match std::str::from_utf8(line) {
-        Ok(_) => true,
-        Err(_) => false,
+        Ok(text) => Some(text),
+        Err(_) => None,
     }
 }
 
@@ -126,12 +153,8 @@ pub(crate) fn answer_input(alloc: Global, input: &[u8]) -> Result<Answer, AllocE
     ensures { IfOk result (IsAnswer (IsOutputOf input.now)) }
 {
     let (first, second) = two_lines(input);
-    if !(is_utf8(first) && is_utf8(second)) {
-        return unreadable(alloc, 0);
+    match (text_of(first), text_of(second)) {
+        (Some(text), Some(_)) => answer_text(alloc, text, second),
+        _ => unreadable(alloc, 0),
     }
-    if !first.is_empty() {
-        return refused(alloc, "NotYet");
-    }
-    let dl = TargetDataLayout::default_in(alloc)?;
-    answer_type(alloc, &dl, second)
 }

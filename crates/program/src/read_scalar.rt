@@ -111,9 +111,7 @@ pub(crate) fn read_space(
     ensures { Agrees state_of (at_space dl.now number (begun_in begun.items) (number_in 32 word.now)) result }
 {
     match short(word) {
-        Some(space) => {
-            put_primitive(alloc, dl, Primitive::Pointer(AddressSpace(space)), begun)
-        }
+        Some(space) => { put_primitive(alloc, dl, Primitive::Pointer(AddressSpace(space)), begun) }
         None => Err(Fault::Unreadable(number)),
     }
 }

@@ -140,38 +140,221 @@ fn words_that_do_not_fit_are_told(rt: HostRuntime) {
 
 #[test]
 fn words_that_are_not_known_yet_are_refused(rt: HostRuntime) {
-    check(&rt, rt.alloc(), b"\nbool", b"refused NotYet\n", 1);
-    check(
-        &rt,
-        rt.alloc(),
+    let texts: [&[u8]; 6] = [
         b"\nstruct - ( u8 )",
-        b"refused NotYet\n",
-        1,
-    );
-    check(
-        &rt,
-        rt.alloc(),
         b"\nstruct C,packed=1 ( u8 )",
-        b"refused NotYet\n",
-        1,
-    );
-    check(
-        &rt,
-        rt.alloc(),
         b"\nstruct tail,linear,align=0,isize foo",
-        b"refused NotYet\n",
+        b"\nstruct C ( simd",
+        b"\ncoroutine",
+        b"p:32:32\nunion foo",
+    ];
+    for text in texts {
+        check(&rt, rt.alloc(), text, b"refused NotYet\n", 1);
+    }
+}
+
+#[test]
+fn data_layouts_are_read_first(rt: HostRuntime) {
+    check(
+        &rt,
+        rt.alloc(),
+        b"a:24\nfoo",
+        b"refused InvalidAlignment\n",
         1,
     );
     check(
         &rt,
         rt.alloc(),
-        b"\nstruct C ( bool",
-        b"refused NotYet\n",
+        b"i64\nu8",
+        b"refused MissingAlignment\n",
         1,
     );
-    check(&rt, rt.alloc(), b"\ncoroutine", b"refused NotYet\n", 1);
-    check(&rt, rt.alloc(), b"a:24\nu8", b"refused NotYet\n", 1);
-    check(&rt, rt.alloc(), b"a:24\nfoo", b"refused NotYet\n", 1);
+    check(&rt, rt.alloc(), b"ix:32\nu8", b"refused InvalidBits\n", 1);
+    check(
+        &rt,
+        rt.alloc(),
+        b"P\nu8",
+        b"refused InvalidAddressSpace\n",
+        1,
+    );
+    check(
+        &rt,
+        rt.alloc(),
+        b"px:64:64\nu8",
+        b"refused UnknownPointerSpecification\n",
+        1,
+    );
+    check(
+        &rt,
+        rt.alloc(),
+        b"i8:16\nu8",
+        b"refused UnlawfulDataLayout\n",
+        1,
+    );
+    check(
+        &rt,
+        rt.alloc(),
+        b"p:24:8\nusize u8",
+        b"unreadable word 2\n",
+        2,
+    );
+}
+
+#[test]
+fn data_layouts_decide(rt: HostRuntime) {
+    check(
+        &rt,
+        rt.alloc(),
+        b"p:32:32:32:16\nusize",
+        b"size 2 align 2\nniche none\n",
+        0,
+    );
+    check(
+        &rt,
+        rt.alloc(),
+        b"e-m:e-p270:32:32-p271:32:32-p272:64:64-i64:64-i128:128-f80:128-n8:16:32:64-S128\nstruct C ( u8 u64 )",
+        b"size 16 align 8\nfield 0 offset 0\nfield 1 offset 8\nniche none\npadding 1..8\n",
+        0,
+    );
+    check(
+        &rt,
+        rt.alloc(),
+        b"\nstruct C ( u8 u64 )",
+        b"size 12 align 4\nfield 0 offset 0\nfield 1 offset 4\nniche none\npadding 1..4\n",
+        0,
+    );
+    check(
+        &rt,
+        rt.alloc(),
+        b"p7:32:32\nptrin 7",
+        b"size 4 align 4\nniche none\n",
+        0,
+    );
+}
+
+#[test]
+fn scalars_are_laid_out(rt: HostRuntime) {
+    let rows: [(&[u8], &[u8]); 6] = [
+        (b"\nchar", b"size 4 align 4\nniche 0 u32 0..=1114111\n"),
+        (
+            b"\nref",
+            b"size 8 align 8\nniche 0 pointer 1..=18446744073709551615\n",
+        ),
+        (b"\nrange u8 5 4", b"size 1 align 1\nniche none\n"),
+        (
+            b"\nrange i8 255 1",
+            b"size 1 align 1\nniche 0 i8 (..=1) | (255..)\n",
+        ),
+        (b"\nunionof f64", b"size 8 align 8\nniche none\n"),
+        (b"\nppcf128", b"size 16 align 16\nniche none\n"),
+    ];
+    for (text, wanted) in rows {
+        check(&rt, rt.alloc(), text, wanted, 0);
+    }
+}
+
+#[test]
+fn pairs_are_laid_out(rt: HostRuntime) {
+    let rows: [(&[u8], &[u8]); 4] = [
+        (
+            b"\npair bool u32",
+            b"size 8 align 4\nfield 0 offset 0\nfield 1 offset 4\nniche 0 u8 0..=1\npadding 1..4\n",
+        ),
+        (
+            b"\npair u8 bool",
+            b"size 2 align 1\nfield 0 offset 0\nfield 1 offset 1\nniche 1 u8 0..=1\n",
+        ),
+        (
+            b"\npair bool bool",
+            b"size 2 align 1\nfield 0 offset 0\nfield 1 offset 1\nniche 0 u8 0..=1\n",
+        ),
+        (
+            b"\npair range u8 0 9 unionof ptrin 0",
+            b"size 16 align 8\nfield 0 offset 0\nfield 1 offset 8\nniche 0 u8 0..=9\npadding 1..8\n",
+        ),
+    ];
+    for (text, wanted) in rows {
+        check(&rt, rt.alloc(), text, wanted, 0);
+    }
+}
+
+#[test]
+fn types_without_bytes_are_laid_out(rt: HostRuntime) {
+    let rows: [(&[u8], &[u8]); 4] = [
+        (b"\nnever", b"size 0 align 1\nuninhabited\nniche none\n"),
+        (b"\nunit", b"size 0 align 1\nniche none\n"),
+        (
+            b"\narray 0 bool",
+            b"size 0 align 1\nelements stride 1 count 0\nniche none\n",
+        ),
+        (
+            b"\narray 2 never",
+            b"size 0 align 1\nuninhabited\nelements stride 0 count 2\nniche none\n",
+        ),
+    ];
+    for (text, wanted) in rows {
+        check(&rt, rt.alloc(), text, wanted, 0);
+    }
+}
+
+#[test]
+fn lists_show_their_niche(rt: HostRuntime) {
+    let rows: [(&[u8], &[u8]); 4] = [
+        (
+            b"\nstruct C ( u8 bool bool )",
+            b"size 3 align 1\nfield 0 offset 0\nfield 1 offset 1\nfield 2 offset 2\nniche 2 u8 0..=1\n",
+        ),
+        (
+            b"\nstruct C ( u8 bool bool u8 )",
+            b"size 4 align 1\nfield 0 offset 0\nfield 1 offset 1\nfield 2 offset 2\nfield 3 offset 3\nniche 1 u8 0..=1\n",
+        ),
+        (
+            b"\nstruct C ( bool bool u8 )",
+            b"size 3 align 1\nfield 0 offset 0\nfield 1 offset 1\nfield 2 offset 2\nniche 0 u8 0..=1\n",
+        ),
+        (
+            b"\nstruct C ( u8 never )",
+            b"size 1 align 1\nuninhabited\nfield 0 offset 0\nfield 1 offset 1\nniche none\n",
+        ),
+    ];
+    for (text, wanted) in rows {
+        check(&rt, rt.alloc(), text, wanted, 0);
+    }
+}
+
+#[test]
+fn scalars_that_are_not_lawful_are_refused(rt: HostRuntime) {
+    let rows: [(&[u8], &[u8]); 5] = [
+        (b"\nrange u8 0 256", b"refused BadRange\n"),
+        (b"\nptrin 7", b"refused UnknownSpace\n"),
+        (b"\npair range u8 0 256 ptrin 7", b"refused BadRange\n"),
+        (
+            b"\npair range ptrin 7 0 18446744073709551616 u8",
+            b"refused UnknownSpace\n",
+        ),
+        (b"p:16:16-a:262144\npair u8 u8", b"refused SizeOverflow\n"),
+    ];
+    for (text, wanted) in rows {
+        check(&rt, rt.alloc(), text, wanted, 1);
+    }
+}
+
+#[test]
+fn scalars_that_do_not_fit_are_told(rt: HostRuntime) {
+    let rows: [(&[u8], &[u8]); 6] = [
+        (b"\nrange bool 0 1", b"unreadable word 2\n"),
+        (b"\nunionof range u8 0 1", b"unreadable word 2\n"),
+        (b"\npair array 1 u8", b"unreadable word 2\n"),
+        (b"\npair u8", b"unreadable word 3\n"),
+        (
+            b"\nrange u8 0 340282366920938463463374607431768211456",
+            b"unreadable word 4\n",
+        ),
+        (b"\nptrin 4294967296", b"unreadable word 2\n"),
+    ];
+    for (text, wanted) in rows {
+        check(&rt, rt.alloc(), text, wanted, 2);
+    }
 }
 
 #[test]
@@ -192,7 +375,7 @@ fn types_nest_two_hundred_deep(rt: HostRuntime) -> Result<(), Fail> {
     deeper.extend_from_slice(&text[1..])?;
     check(&rt, rt.alloc(), &deeper, b"refused TooDeep\n", 1);
     deeper.truncate(deeper.len() - 2);
-    deeper.extend_from_slice(b"bool")?;
+    deeper.extend_from_slice(b"unit")?;
     check(&rt, rt.alloc(), &deeper, b"refused TooDeep\n", 1);
     deeper.truncate(deeper.len() - 4);
     deeper.extend_from_slice(b"foo")?;
