@@ -1,5 +1,5 @@
 -- Entries replaced, or added last.
-use Rattle.std.proofs.Common.{◌≡◌, ℕ, zero, suc, ◌<◌, List, [], ◌∷◌, ◌++◌, length, take, drop, get_or, Bool, true, false, refl, sym, ap, ◌∙◌, arith}
+use Rattle.std.proofs.Common.{◌≡◌, ℕ, zero, suc, ◌<◌, List, [], ◌∷◌, ◌++◌, length, take, drop, get_or, Bool, true, refl, ap, arith}
 use Rattle.std.specs.Prelude.{slice_set}
 use Rattle.abi_base.specs.DataLayoutText.{put_entry}
 

@@ -1,5 +1,6 @@
 pub mod Entries
 pub mod Instructions
+pub mod LastSet
 pub mod Laws
 pub mod Numbers
 pub mod Parts
@@ -7,3 +8,4 @@ pub mod Powers
 pub mod Rows
 pub mod Settings
 pub mod Specs
+pub mod TextFacts

@@ -1,9 +1,9 @@
 -- The parts of a text, one after another.
-use Rattle.std.proofs.Common.{◌≡◌, ℕ, suc, ◌+◌, ◌<◌, ◌≤◌, List, [], ◌∷◌, length, Bool, Option, None, Some, refl, sym, ap, ap₂, ◌∙◌, true, false, arith, cond}
-use Rattle.std.specs.Prelude.{◌==◌, slice_index, not, is_some}
+use Rattle.std.proofs.Common.{◌≡◌, ℕ, ◌+◌, ◌<◌, ◌≤◌, List, [], ◌∷◌, length, Bool, Option, None, Some, refl, sym, ap, ap₂, ◌∙◌, true, false, arith}
+use Rattle.std.specs.Prelude.{◌==◌, slice_index, is_some}
 use Rattle.std.specs.Option.{option_copied}
 use denote.Ref.{Bor}
-use Rattle.std.specs.List.{before_first, after_first, position_or_len, slice_split, onto_first}
+use Rattle.std.specs.List.{before_first, after_first, position_or_len, onto_first}
 use Rattle.std.proofs.lemmas.List.Splits.{slice_split_first}
 use Rattle.abi_base.specs.DataLayoutSpec.{has_parts, index_text, parts_of, parts_left}
 

@@ -1,10 +1,10 @@
 -- The row of a spec, test by test.
-use Rattle.std.proofs.Common.{◌≡◌, ℕ, List, [], ◌∷◌, true, false, ◌&&◌, Option, None, Some, Result, refl, drop}
+use Rattle.std.proofs.Common.{◌≡◌, ℕ, List, ◌∷◌, true, false, ◌&&◌, None, Some, refl, drop}
 use Rattle.std.specs.Prelude.{not, codes}
 use Rattle.std.specs.Str.{bytes_eq}
 use Rattle.abi_base.specs.declared.endian.Endian.TheVariants.{Little, Big}
 use Rattle.abi_base.specs.declared.setting.AlignedWord.{AlignedWord}
-use Rattle.abi_base.specs.DataLayoutSpec.{Row, order, instructions, aligned, pointer, integer, vector, ignored, aligned_word, begins, has_parts, lettered_row, parts_of, row_of, setting_in, setting_of}
+use Rattle.abi_base.specs.DataLayoutSpec.{order, instructions, aligned, pointer, integer, vector, ignored, aligned_word, begins, has_parts, lettered_row, parts_of, row_of, setting_in, setting_of}
 
 -- a spec, by its first part and the others
 pub setting_first : (spec word : List ℕ) (parts : List (List ℕ)) → parts_of 58 spec ≡ word ∷ parts → setting_of spec ≡ setting_in (row_of word parts)

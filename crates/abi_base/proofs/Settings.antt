@@ -1,5 +1,5 @@
 -- One setting more.
-use Rattle.std.proofs.Common.{◌≡◌, ◌≢◌, ℕ, zero, suc, ◌+◌, ◌<◌, ◌≤◌, List, [], ◌∷◌, Bool, true, false, Option, Some, None, Result, Ok, Err, OnOk, refl, sym, subst, ap, ◌∙◌, arith, inl, inr, ◌⊎◌, ◌&&◌}
+use Rattle.std.proofs.Common.{◌≡◌, ◌≢◌, ℕ, ◌<◌, ◌≤◌, List, [], ◌∷◌, Bool, true, false, Option, Some, None, Result, Ok, Err, OnOk, refl, sym, subst, ap, ◌∙◌, arith, inl, inr, ◌⊎◌, ◌&&◌}
 use Rattle.std.specs.Prelude.{◌==◌, max, nat_le, unwrap_or, if◌then◌else◌}
 use Rattle.std.proofs.lemmas.Bool.Decides.{nat_tests}
 use Rattle.abi_base.specs.declared.address_space.AddressSpace.{AddressSpace}
@@ -77,9 +77,9 @@ set_here most (Integer width align) e a b = here_at width most align a b (width 
 found : (least most : ℕ) (ss : List Setting) → widest least ss ≡ most → most ≢ least → (a b : ℕ) → last_of (integer_set most) ss a ≡ last_of (integer_set most) ss b
 found least most [] e ne a b = absurd (ne (sym e))
 found least most (s ∷ ss) e ne a b = elim (wider_is (wide_bits s) (widest least ss) most e) [
-    | inl here ↦ ap (last_of (integer_set most) ss) (set_here most s here a b)
-    | inr later ↦ found least most ss later ne (unwrap_or (integer_set most s) a) (unwrap_or (integer_set most s) b)
-  ]
+  | inl here ↦ ap (last_of (integer_set most) ss) (set_here most s here a b)
+  | inr later ↦ found least most ss later ne (unwrap_or (integer_set most s) a) (unwrap_or (integer_set most s) b)
+]
 
 taken_at : (most bits align a : ℕ) (ss : List Setting) (t : Bool) → (bits == most) ≡ t → widest bits ss ≡ most
     → last_of (integer_set most) ss align ≡ last_of (integer_set most) ss (unwrap_or (integer_set most (Integer bits align)) a)
@@ -113,14 +113,14 @@ module _ (dl : TargetDataLayout) (least bits align : ℕ) (wide : IsWide least) 
   integer_taken low high =
       let same : widest bits ss ≡ widest least (Integer bits align ∷ ss) = sym (widest_above least bits ss low) ∙ sym (wide_is bits (widest least ss) (omega (arith, wide.0, low)) high) in
       ap (λ (a : ℕ). record (with_settings dl least (Integer bits align ∷ ss)) { i128_align = a })
-        (ap (λ m. last_of (integer_set m) ss align) same ∙ taken_at (widest least (Integer bits align ∷ ss)) bits align dl.i128_align ss (bits == widest least (Integer bits align ∷ ss)) refl same)
+      (ap (λ m. last_of (integer_set m) ss align) same ∙ taken_at (widest least (Integer bits align ∷ ss)) bits align dl.i128_align ss (bits == widest least (Integer bits align ∷ ss)) refl same)
 
   -- or stays with the later ones, or with what it was
   pub integer_left : (bits < least) ⊎ (128 < bits) → with_settings (with_integer dl bits align) least ss ≡ with_settings dl least (Integer bits align ∷ ss)
   integer_left outside =
       let same : wider (if nat_le 64 bits && nat_le bits 128 then Some bits else None) (widest least ss) ≡ widest least ss = low_at bits least (widest least ss) (nat_le 64 bits) (nat_le bits 128) refl refl outside (least_widest least ss) in
       ap (λ (a : ℕ). record (with_settings dl least (Integer bits align ∷ ss)) { i128_align = a })
-        (left_at (widest least ss) (widest least (Integer bits align ∷ ss)) bits align dl.i128_align ss same (other_at bits (widest least ss) least outside (least_widest least ss) (widest_most least ss wide.1)))
+      (left_at (widest least ss) (widest least (Integer bits align ∷ ss)) bits align dl.i128_align ss same (other_at bits (widest least ss) least outside (least_widest least ss) (widest_most least ss wide.1)))
 
 pub then_ok : {A E : Type 0} (r : Result A E) (P Q : Type 0) → (P → Q) → OnOk r P → OnOk r Q
 then_ok (Ok x) P Q k h = k h

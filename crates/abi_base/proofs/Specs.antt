@@ -1,5 +1,5 @@
 -- The specs of a data layout string, one after another.
-use Rattle.std.proofs.Common.{◌≡◌, ℕ, Bool, true, false, List, [], ◌∷◌, Option, None, Some, Result, Ok, Err, IfErr, refl, sym, subst, ap, ◌∙◌}
+use Rattle.std.proofs.Common.{◌≡◌, ℕ, Bool, true, false, List, [], ◌∷◌, Result, Ok, Err, IfErr, refl, sym, subst, ap}
 use Rattle.abi_base.specs.declared.address_space.AddressSpace.{AddressSpace}
 use Rattle.abi_base.specs.declared.setting.Setting.{Setting}
 use Rattle.abi_base.specs.declared.data_layout.TargetDataLayout.{TargetDataLayout}

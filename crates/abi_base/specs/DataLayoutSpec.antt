@@ -1,12 +1,10 @@
 -- What a spec of a data layout string says. Specs stand with `-` between them, a spec's parts with `:`.
-use Rattle.std.specs.Prelude.{ℕ, ◌^◌, ◌==◌, ◌&&◌, not, Bool, true, false, List, [], ◌∷◌, ◌++◌, codes, drop, length, slice_index, max, nat_le, Option, Some, None, is_some, unwrap_or, Result, Ok, Err, if◌then◌else◌}
+use Rattle.std.specs.Prelude.{ℕ, ◌^◌, ◌==◌, ◌&&◌, not, Bool, true, false, List, [], ◌∷◌, codes, drop, length, slice_index, Option, Some, None, Result, Ok, Err, if◌then◌else◌}
 use Rattle.std.specs.List.{slice_split}
 use Rattle.std.specs.Int.{div_ceil}
 use Rattle.std.specs.Str.{bytes_eq, chars}
 use Rattle.unicode.specs.Binary.{is_alphabetic}
 use Rattle.abi_base.specs.declared.address_space.AddressSpace.{AddressSpace}
-use Rattle.abi_base.specs.declared.pointer_spec.PointerSpec.{PointerSpec}
-use Rattle.abi_base.specs.declared.data_layout.TargetDataLayout.{TargetDataLayout}
 use Rattle.abi_base.specs.declared.endian.Endian.{Endian}
 use Rattle.abi_base.specs.declared.endian.Endian.TheVariants.{Little, Big}
 use Rattle.abi_base.specs.declared.setting.AlignedWord.{AlignedWord}
@@ -14,7 +12,6 @@ use Rattle.abi_base.specs.declared.setting.AlignedWord.TheVariants.{Aggregate, F
 use Rattle.abi_base.specs.declared.setting.Setting.{Setting}
 use Rattle.abi_base.specs.declared.setting.Setting.TheVariants.{Order, Instructions, Aligned, Pointer, Integer, Vector, Nothing}
 use Rattle.abi_base.specs.Align.{align_of_bytes}
-use Rattle.abi_base.specs.DataLayout.{default_data_layout, known_spec}
 use Rattle.abi_base.specs.DataLayoutFault.{Fault, bad_space, bad_bits, missing_alignment, bad_alignment, unknown_pointer}
 use Rattle.abi_base.specs.NumberText.{number_answer}
 

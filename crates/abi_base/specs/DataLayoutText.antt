@@ -8,7 +8,7 @@ use Rattle.abi_base.specs.declared.endian.Endian.{Endian}
 use Rattle.abi_base.specs.declared.setting.AlignedWord.{AlignedWord}
 use Rattle.abi_base.specs.declared.setting.AlignedWord.TheVariants.{Aggregate, F16, F32, F64, F128}
 use Rattle.abi_base.specs.declared.setting.Setting.{Setting}
-use Rattle.abi_base.specs.declared.setting.Setting.TheVariants.{Order, Instructions, Aligned, Pointer, Integer, Vector, Nothing}
+use Rattle.abi_base.specs.declared.setting.Setting.TheVariants.{Order, Instructions, Aligned, Pointer, Integer, Vector}
 use Rattle.abi_base.specs.DataLayout.{default_data_layout, known_spec}
 use Rattle.abi_base.specs.DataLayoutFault.{Fault}
 use Rattle.abi_base.specs.DataLayoutSpec.{◌>>=◌, parts_of, settings_of}

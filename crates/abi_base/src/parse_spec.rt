@@ -17,11 +17,7 @@ use crate::setting::{AlignedWord, Setting};
 use crate::size::Size;
 
 /// A number of bits.
-fn bits<'a>(
-    kind: &'a str,
-    text: &'a str,
-    cause: &'a str,
-) -> Result<u64, TargetDataLayoutError<'a>>
+fn bits<'a>(kind: &'a str, text: &'a str, cause: &'a str) -> Result<u64, TargetDataLayoutError<'a>>
     ensures { IsReading (bits_in kind.now text.now cause.now) result }
 {
     match number_u64(text) {
@@ -44,10 +40,7 @@ fn size<'a>(text: &'a str, cause: &'a str) -> Result<Size, TargetDataLayoutError
 }
 
 /// An alignment, written in bits: that of the first of the parts.
-fn alignment<'a>(
-    parts: Option<&'a str>,
-    cause: &'a str,
-) -> Result<Align, TargetDataLayoutError<'a>>
+fn alignment<'a>(parts: Option<&'a str>, cause: &'a str) -> Result<Align, TargetDataLayoutError<'a>>
     ensures { IsReading (alignment_in (parts_left 58 (option_copied parts.entry)) cause.now) result }
 {
     let Some(parts) = parts else {
@@ -193,10 +186,7 @@ fn aligned<'a>(
 }
 
 /// An integer's alignment.
-fn integer<'a>(
-    word: &'a str,
-    parts: Option<&'a str>,
-) -> Result<Setting, TargetDataLayoutError<'a>>
+fn integer<'a>(word: &'a str, parts: Option<&'a str>) -> Result<Setting, TargetDataLayoutError<'a>>
     requires { slice_index word.now 0 ≡ 105 }
     ensures { IsReading (setting_in (integer word.now (parts_left 58 (option_copied parts.entry)))) result }
 {
@@ -206,10 +196,7 @@ fn integer<'a>(
 }
 
 /// A vector's alignment.
-fn vector<'a>(
-    word: &'a str,
-    parts: Option<&'a str>,
-) -> Result<Setting, TargetDataLayoutError<'a>>
+fn vector<'a>(word: &'a str, parts: Option<&'a str>) -> Result<Setting, TargetDataLayoutError<'a>>
     requires { slice_index word.now 0 ≡ 118 }
     ensures { IsReading (setting_in (vector word.now (parts_left 58 (option_copied parts.entry)))) result }
 {
@@ -219,10 +206,7 @@ fn vector<'a>(
 }
 
 /// A spec whose first part is no word of its own.
-fn lettered<'a>(
-    word: &'a str,
-    parts: Option<&'a str>,
-) -> Result<Setting, TargetDataLayoutError<'a>>
+fn lettered<'a>(word: &'a str, parts: Option<&'a str>) -> Result<Setting, TargetDataLayoutError<'a>>
     ensures { IsReading (setting_in (lettered_row word.now (parts_left 58 (option_copied parts.entry)))) result }
 {
     if begins(word, 'p') & has_parts(parts) {

@@ -1,4 +1,4 @@
-use Rattle.std.proofs.Common.{◌≡◌, ◌∷◌, ◌∙◌, rules, refl, Ok, ap, sym, codes}
+use Rattle.std.proofs.Common.{rules, refl}
 use Rattle.std.specs.Option.{option_copied}
 use Rattle.abi_base.specs.DataLayoutSpec.{aligned, alignment_in, parts_left, setting_in}
 use Rattle.abi_base.proofs.Specs.{refused}

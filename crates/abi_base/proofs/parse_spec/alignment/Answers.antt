@@ -1,4 +1,4 @@
-use Rattle.std.proofs.Common.{◌≡◌, ◌∷◌, ◌∙◌, rules, refl, Ok, ap, sym, codes}
+use Rattle.std.proofs.Common.{◌≡◌, ◌∷◌, ◌∙◌, rules, refl, codes}
 use Rattle.std.specs.Option.{option_copied}
 use Rattle.abi_base.specs.DataLayoutSpec.{alignment_in, bits_in, parts_left}
 use Rattle.abi_base.proofs.Parts.{left_next}

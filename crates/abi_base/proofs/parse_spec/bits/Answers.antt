@@ -1,4 +1,4 @@
-use Rattle.std.proofs.Common.{◌≡◌, rules, refl}
+use Rattle.std.proofs.Common.{refl}
 use Rattle.abi_base.specs.DataLayoutSpec.{bits_in}
 use Rattle.abi_base.proofs.parse_spec.bits.Goals as goal
 

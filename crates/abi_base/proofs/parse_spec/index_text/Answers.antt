@@ -1,8 +1,6 @@
-use Rattle.std.proofs.Common.{◌≡◌, ◌∷◌, ◌∙◌, ◌&&◌, true, false, rules, refl, Ok, None, Some, ap, sym, codes, drop}
-use Rattle.std.specs.Prelude.{not}
+use Rattle.std.proofs.Common.{◌≡◌, ◌∙◌, true, sym}
 use Rattle.std.specs.Option.{option_copied}
-use Rattle.std.specs.Str.{bytes_eq}
-use Rattle.abi_base.specs.DataLayoutSpec.{has_parts, index_text, parts_left}
+use Rattle.abi_base.specs.DataLayoutSpec.{has_parts, parts_left}
 use Rattle.abi_base.proofs.Parts.{has_left, index_more, left_next}
 use Rattle.abi_base.proofs.parse_spec.index_text.Goals as goal
 

@@ -1,5 +1,4 @@
-use Rattle.std.proofs.Common.{◌≡◌, ◌∷◌, ◌∙◌, rules, refl, Ok, ap, sym, codes}
-use Rattle.std.specs.Option.{option_copied}
+use Rattle.std.proofs.Common.{rules, refl, codes}
 use Rattle.abi_base.specs.DataLayoutSpec.{instructions, space_in, setting_in}
 use Rattle.abi_base.proofs.Specs.{refused}
 use Rattle.abi_base.proofs.parse_spec.instructions.Goals as goal

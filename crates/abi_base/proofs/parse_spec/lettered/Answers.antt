@@ -1,7 +1,5 @@
-use Rattle.std.proofs.Common.{◌≡◌, ◌∷◌, ◌∙◌, ◌&&◌, true, false, rules, refl, Ok, None, Some, ap, sym, codes, drop}
-use Rattle.std.specs.Prelude.{not}
+use Rattle.std.proofs.Common.{◌≡◌, ◌∙◌, ◌&&◌, true, false, refl, ap}
 use Rattle.std.specs.Option.{option_copied}
-use Rattle.std.specs.Str.{bytes_eq}
 use Rattle.abi_base.specs.DataLayoutSpec.{begins, has_parts, integer, lettered_row, parts_left, pointer_setting, setting_in, vector}
 use Rattle.abi_base.proofs.Specs.{same_reading}
 use Rattle.abi_base.proofs.Rows.{row_ignored, row_integer, row_pointer, row_vector}

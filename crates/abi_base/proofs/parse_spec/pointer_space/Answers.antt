@@ -1,5 +1,4 @@
-use Rattle.std.proofs.Common.{◌≡◌, ◌∷◌, ◌∙◌, rules, refl, Ok, ap, sym, codes}
-use Rattle.std.specs.Option.{option_copied}
+use Rattle.std.proofs.Common.{refl, codes}
 use Rattle.abi_base.specs.DataLayoutSpec.{pointer_space, space_in}
 use Rattle.abi_base.proofs.Specs.{same_reading}
 use Rattle.abi_base.proofs.parse_spec.pointer_space.Goals as goal

@@ -1,8 +1,6 @@
-use Rattle.std.proofs.Common.{◌≡◌, ◌∷◌, ◌∙◌, ◌&&◌, true, false, rules, refl, Ok, None, Some, ap, sym, codes, drop}
-use Rattle.std.specs.Prelude.{not}
+use Rattle.std.proofs.Common.{◌≡◌, ◌∷◌, refl, sym}
 use Rattle.std.specs.Option.{option_copied}
-use Rattle.std.specs.Str.{bytes_eq}
-use Rattle.abi_base.specs.DataLayoutSpec.{parts_left, pointer_setting, pointers_in, begins}
+use Rattle.abi_base.specs.DataLayoutSpec.{parts_left, pointer_setting, pointers_in}
 use Rattle.abi_base.proofs.Parts.{left_next, some_parts}
 use Rattle.abi_base.proofs.Specs.{pointer_first, pointer_unknown, same_reading}
 use Rattle.abi_base.proofs.parse_spec.pointer_spec.Goals as goal

@@ -1,6 +1,6 @@
-use Rattle.std.proofs.Common.{◌≡◌, ◌∷◌, ◌∙◌, rules, refl, Ok, ap, sym, codes}
+use Rattle.std.proofs.Common.{rules, refl, codes}
 use Rattle.std.specs.Option.{option_copied}
-use Rattle.abi_base.specs.DataLayoutSpec.{alignment_in, index_text, parts_left, pointer_space, pointers_in, size_in}
+use Rattle.abi_base.specs.DataLayoutSpec.{alignment_in, parts_left, pointer_space, pointers_in, size_in}
 use Rattle.abi_base.proofs.Specs.{refused}
 use Rattle.abi_base.proofs.parse_spec.pointers.Goals as goal
 

@@ -1,8 +1,8 @@
-use Rattle.std.proofs.Common.{◌≡◌, ◌∷◌, ◌∙◌, ◌&&◌, true, false, rules, refl, Ok, None, Some, ap, sym, codes, drop}
+use Rattle.std.proofs.Common.{◌≡◌, ◌∙◌, ◌&&◌, true, false, refl, ap, sym, codes}
 use Rattle.std.specs.Prelude.{not}
 use Rattle.std.specs.Option.{option_copied}
 use Rattle.std.specs.Str.{bytes_eq}
-use Rattle.abi_base.specs.DataLayoutSpec.{aligned, aligned_word, begins, has_parts, instructions, lettered_row, parts_left, setting_in, setting_of}
+use Rattle.abi_base.specs.DataLayoutSpec.{aligned, begins, has_parts, instructions, lettered_row, parts_left, setting_in, setting_of}
 use Rattle.abi_base.proofs.Specs.{same_reading}
 use Rattle.abi_base.proofs.Rows.{row_aligned, row_big, row_instructions, row_lettered, row_little, setting_first}
 use Rattle.abi_base.proofs.parse_spec.read_spec.Goals as goal

@@ -1,4 +1,4 @@
-use Rattle.std.proofs.Common.{◌≡◌, rules, refl, Ok, ap, sym, codes}
+use Rattle.std.proofs.Common.{rules, refl, Ok, ap, sym, codes}
 use Rattle.abi_base.specs.DataLayoutSpec.{bits_in, size_in}
 use Rattle.abi_base.proofs.Specs.{refused}
 use Rattle.abi_base.proofs.parse_spec.size.Goals as goal

@@ -1,5 +1,4 @@
-use Rattle.std.proofs.Common.{◌≡◌, ◌∷◌, ◌∙◌, rules, refl, Ok, ap, sym, codes}
-use Rattle.std.specs.Option.{option_copied}
+use Rattle.std.proofs.Common.{refl}
 use Rattle.abi_base.specs.DataLayoutSpec.{space_in}
 use Rattle.abi_base.proofs.parse_spec.space.Goals as goal
 

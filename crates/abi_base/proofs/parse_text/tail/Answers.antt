@@ -1,4 +1,3 @@
-use Rattle.std.proofs.Common.{arith}
 use Rattle.std.proofs.lemmas.Str.{lead_after_ascii}
 use Rattle.abi_base.proofs.Parts.{some_byte}
 use Rattle.abi_base.proofs.parse_text.tail.Goals as goal

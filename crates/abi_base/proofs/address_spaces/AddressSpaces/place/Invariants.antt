@@ -1,5 +1,5 @@
 -- The space isn't among the entries before the index.
-use Rattle.std.proofs.Common.{◌≡◌, ℕ, ◌++◌, take, drop}
+use Rattle.std.proofs.Common.{◌≡◌, ◌++◌, take, drop}
 use Rattle.abi_base.specs.declared.pointer_spec.PointerSpec.{PointerSpec}
 use Rattle.abi_base.specs.DataLayoutText.{put_space}
 use Rattle.abi_base.proofs.address_spaces.AddressSpaces.place.Given as goal

@@ -13,7 +13,7 @@ loop-rest-init c = record { rest = at_first c.in_ok-dl.dl c.args.default_address
 pub returns-in_err-setting-clause-err : goal.returns-in_err-setting-clause-err
 returns-in_err-setting-clause-err c =
     err_passes (setting_of c.cut.result.0.now) (data_layout_in c.args.default_address_space c.args.input.now) c.in_err-setting.field-0.0 c.from_residual-in_err-setting.result c.in_err-setting.ensures
-      (λ f is. sym c.loop-rest.invariant.rest ∙ first_fault c.loop-rest.reading.dl c.loop-rest.reading.widest (parts_left 45 (option_copied c.loop-rest.rest)) c.cut.result.0.now (parts_left 45 (option_copied c.cut.result.1)) f (left_next 45 c.loop-rest.rest c.in-Some.text c.cut.result.0.now (parts_left 45 (option_copied c.cut.result.1)) c.in-Some.is c.cut.ensures.parts) is) (search rules)
+    (λ f is. sym c.loop-rest.invariant.rest ∙ first_fault c.loop-rest.reading.dl c.loop-rest.reading.widest (parts_left 45 (option_copied c.loop-rest.rest)) c.cut.result.0.now (parts_left 45 (option_copied c.cut.result.1)) f (left_next 45 c.loop-rest.rest c.in-Some.text c.cut.result.0.now (parts_left 45 (option_copied c.cut.result.1)) c.in-Some.is c.cut.ensures.parts) is) (search rules)
 
 pub loop-rest-preserved : goal.loop-rest-preserved
 loop-rest-preserved c = record {

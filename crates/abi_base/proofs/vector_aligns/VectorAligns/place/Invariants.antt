@@ -1,6 +1,5 @@
 -- The size isn't among the entries before the index.
 use Rattle.std.proofs.Common.{◌≡◌, ℕ, ◌++◌, take, drop}
-use Rattle.abi_base.specs.declared.pointer_spec.PointerSpec.{PointerSpec}
 use Rattle.abi_base.specs.DataLayoutText.{put_vector}
 use Rattle.abi_base.proofs.vector_aligns.VectorAligns.place.Given as goal
 
