@@ -9,6 +9,8 @@ mod floats;
 #[cfg(test)]
 mod integers;
 #[cfg(test)]
+mod leaves;
+#[cfg(test)]
 mod made;
 #[cfg(test)]
 mod primitives;

@@ -14,15 +14,16 @@ mod tree;
 pub use abi_base::{
     AbiAlign, AbiFromStrErr, AddressSpace, AddressSpaces, Align, AlignFromBytesError, Endian,
     Float, HasDataLayout, Integer, IntegerType, MAX_SIMD_LANES, NicheOptimizations, NoSuchInteger,
-    NumScalableVectors, Numeric, PointeeInfo, PointerKind, PointerSpec, Primitive, ScalableElt,
-    Size, StructKind, TargetDataLayout, UnknownEndian, UnknownEndianText, VectorAligns,
+    NumScalableVectors, NumberError, Numeric, PointeeInfo, PointerKind, PointerSpec, Primitive,
+    ScalableElt, Size, StructKind, TargetDataLayout, TargetDataLayoutError, UnknownEndian,
+    UnknownEndianText, VectorAligns,
 };
 pub use abi_calc::LayoutCalculator;
 pub use abi_index::{
     FIRST_VARIANT, FieldIdx, Hash64, Idx, IndexSlice, IndexVec, Indices, TryClone, VariantIdx,
 };
 pub use abi_scalar::{
-    BackendLaneCount, BackendRepr, FieldCount, FieldsShape, LayoutCalculatorError, LayoutData,
+    BackendLaneCount, BackendRepr, FieldCount, FieldsShape, IncreasingOffset, LayoutCalculatorError, LayoutData,
     LayoutHandle, Niche, RangeFull, RangeInclusive, ReprFlags, ReprOptions, Scalar, TagEncoding,
     VariantLayout, Variants, WrappingRange,
 };
