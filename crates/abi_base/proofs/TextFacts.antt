@@ -13,7 +13,6 @@ use Rattle.abi_base.specs.NumberText.{number_answer}
 use Rattle.abi_base.specs.DataLayoutSpec.{alignment_in, bits_in, lettered_row, pointer_setting, pointer_space, pointers_in, row_of, setting_in, setting_of, settings_of, size_in, space_in}
 use Rattle.abi_base.specs.DataLayoutText.{data_layout_in}
 
-
 -- nothing said
 pub empty_text : data_layout_in (record { 0 = 0 }) [] ≡ Ok default_data_layout
 unfolding data_layout_in settings_of setting_of row_of lettered_row setting_in

@@ -9,24 +9,12 @@ mod floats;
 #[cfg(test)]
 mod integers;
 #[cfg(test)]
-mod leaves;
-#[cfg(test)]
-mod made;
-#[cfg(test)]
 mod primitives;
 #[cfg(test)]
 mod ranges;
 #[cfg(test)]
-mod refusals;
-#[cfg(test)]
 mod scalars;
-#[cfg(test)]
-mod seeds;
 #[cfg(test)]
 mod sizes;
 #[cfg(test)]
 mod texts;
-#[cfg(test)]
-mod trees;
-#[cfg(test)]
-mod views;

@@ -160,7 +160,6 @@ scalar_niche dl (Initialized value range) =
     niche_by (free_count (primitive_size dl value) range == 0) (record { offset = 0; value = value; valid_range = range }) (Initialized value range) (refl, refl)
 scalar_niche dl (Union value) = tt
 
-
 -- a lawful scalar's layout
 pub Fits-scalar : (dl : TargetDataLayout) (s : Scalar) → IsLawfulScalar dl s → IsLawfulLayout {F = ℕ} {V = ℕ} dl (scalar_layout 0 dl s) → Fits dl (scalar s) (one_scalar dl s)
 Fits-scalar dl s here lawful = record {

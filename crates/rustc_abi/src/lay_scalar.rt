@@ -149,5 +149,9 @@ pub(crate) fn add_unit(
     ensures ok { IfOk result (λ i. IsAdded dl.now nodes.old.items nodes.new.items i unit) }
     ensures err { IfErr result (λ e. e ≡ LayError.OutOfMemory) }
 {
-    add(nodes, LayoutData::unit(alloc, &dl, true), Shape::Fields(Vec::new(alloc)))
+    add(
+        nodes,
+        LayoutData::unit(alloc, &dl, true),
+        Shape::Fields(Vec::new(alloc)),
+    )
 }

@@ -23,9 +23,9 @@ pub use abi_index::{
     FIRST_VARIANT, FieldIdx, Hash64, Idx, IndexSlice, IndexVec, Indices, TryClone, VariantIdx,
 };
 pub use abi_scalar::{
-    BackendLaneCount, BackendRepr, FieldCount, FieldsShape, IncreasingOffset, LayoutCalculatorError, LayoutData,
-    LayoutHandle, Niche, RangeFull, RangeInclusive, ReprFlags, ReprOptions, Scalar, TagEncoding,
-    VariantLayout, Variants, WrappingRange,
+    BackendLaneCount, BackendRepr, FieldCount, FieldsShape, IncreasingOffset,
+    LayoutCalculatorError, LayoutData, LayoutHandle, Niche, RangeFull, RangeInclusive, ReprFlags,
+    ReprOptions, Scalar, TagEncoding, VariantLayout, Variants, WrappingRange,
 };
 pub use error::LayError;
 pub use laid::Laid;

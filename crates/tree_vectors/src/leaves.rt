@@ -12,6 +12,7 @@ use std::test::Fail;
 type Layout = LayoutData<FieldIdx, VariantIdx>;
 
 const BYTE: Primitive = Primitive::Int(Integer::I8, false);
+
 const TWO: WrappingRange = WrappingRange { start: 0, end: 1 };
 
 /// Lays out a type, and asserts its layout, whole, and its padding.
@@ -118,7 +119,13 @@ fn a_pair_has_two_fields(rt: HostRuntime) -> Result<(), Fail> {
 #[test]
 fn types_without_bytes(rt: HostRuntime) -> Result<(), Fail> {
     let alloc = rt.alloc();
-    check(&rt, alloc, &TypeTree::Unit, &empty(fields(alloc, &[])?), &[])?;
+    check(
+        &rt,
+        alloc,
+        &TypeTree::Unit,
+        &empty(fields(alloc, &[])?),
+        &[],
+    )?;
     let mut never = empty(FieldsShape::Primitive);
     never.variants = Variants::Empty;
     never.uninhabited = true;
@@ -174,7 +181,10 @@ fn what_has_no_value_is_flagged(rt: HostRuntime) -> Result<(), Fail> {
         TypeTree::Pair(truth(), truth()),
     ]?;
     for tree in &some {
-        assert!(rt; !lay_out(alloc, &dl, tree)?.layout().uninhabited, "{tree:?}");
+        assert!(rt;
+            !lay_out(alloc, &dl, tree)?.layout().uninhabited,
+            "{tree:?}"
+        );
     }
     Ok(())
 }
