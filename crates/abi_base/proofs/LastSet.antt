@@ -124,9 +124,9 @@ no_wider least (t ∷ earlier) later s width e = omega (arith, no_wider least ea
 pub widest_is : (least : ℕ) (ss : List Setting) → (widest least ss ≡ least) ⊎ ((earlier : List Setting) × (s : Setting) × (later : List Setting) × (ss ≡ earlier ++ (s ∷ later)) × (wide_bits s ≡ Some (widest least ss)))
 widest_is least [] = inl refl
 widest_is least (s ∷ ss) = elim (wider_is (wide_bits s) (widest least ss) (widest least (s ∷ ss)) refl) [
-    | inl here ↦ inr ([], s, ss, refl, here)
-    | inr later ↦ elim (widest_is least ss) [
-        | inl e ↦ inl (sym later ∙ e)
-        | inr found ↦ inr (s ∷ found.0, found.1, found.2, ap (λ ts. s ∷ ts) found.3, found.4 ∙ ap Some later)
-      ]
+  | inl here ↦ inr ([], s, ss, refl, here)
+  | inr later ↦ elim (widest_is least ss) [
+    | inl e ↦ inl (sym later ∙ e)
+    | inr found ↦ inr (s ∷ found.0, found.1, found.2, ap (λ ts. s ∷ ts) found.3, found.4 ∙ ap Some later)
   ]
+]

@@ -1,10 +1,8 @@
 -- The meaning of data layout strings, tried on a few.
-use Rattle.std.proofs.Common.{◌≡◌, ℕ, ◌^◌, false, Ok, Err, refl, [], ◌∷◌}
+use Rattle.std.proofs.Common.{◌≡◌, ◌^◌, false, Ok, Err, refl, [], ◌∷◌}
 use Rattle.std.specs.Prelude.{codes}
 use Rattle.std.specs.Int.Count.{count_trailing_zeros}
 use Rattle.std.specs.Str.{chars}
-use Rattle.abi_base.specs.declared.address_space.AddressSpace.{AddressSpace}
-use Rattle.abi_base.specs.declared.endian.Endian.TheVariants.{Little}
 use Rattle.abi_base.specs.declared.parse_number.NumberError.TheVariants.{Empty, InvalidDigit, PosOverflow}
 use Rattle.abi_base.specs.declared.align.AlignFromBytesError.TheVariants.{NotPowerOfTwo}
 use Rattle.abi_base.specs.DataLayout.{default_data_layout}
@@ -12,7 +10,6 @@ use Rattle.abi_base.specs.DataLayoutFault.{bad_alignment, bad_bits, bad_space, m
 use Rattle.abi_base.specs.NumberText.{number_answer}
 use Rattle.abi_base.specs.DataLayoutSpec.{alignment_in, bits_in, lettered_row, pointer_setting, pointer_space, pointers_in, row_of, setting_in, setting_of, settings_of, size_in, space_in}
 use Rattle.abi_base.specs.DataLayoutText.{data_layout_in}
-
 
 -- nothing said
 pub empty_text : data_layout_in (record { 0 = 0 }) [] ≡ Ok default_data_layout

@@ -402,3 +402,14 @@ fn tells_unknown_pointers(rt: HostRuntime) {
         assert_eq!(rt; parse(rt.alloc(), text), Err(error), "{text}");
     }
 }
+
+#[test]
+fn wants_memory_or_answers(rt: HostRuntime) {
+    match parse(rt.alloc(), "v24:32-v48:64-p7:32:32-p8:16:16-P9") {
+        Ok(dl) => {
+            assert_eq!(rt; dl.vector_align.as_slice().len(), 4);
+            assert!(rt; dl.knows(AddressSpace(8)) & dl.knows(AddressSpace(9)));
+        }
+        Err(error) => assert_eq!(rt; error, TargetDataLayoutError::OutOfMemory),
+    }
+}
