@@ -1,5 +1,5 @@
 -- The last setting of a kind decides.
-use Rattle.std.proofs.Common.{◌≡◌, ℕ, List, [], ◌∷◌, ◌++◌, arith, Bool, true, false, Option, Some, None, refl, sym, ap, ◌∙◌}
+use Rattle.std.proofs.Common.{◌≡◌, ℕ, List, [], ◌∷◌, ◌++◌, arith, Bool, true, false, Option, Some, None, refl, sym, subst, ap, ◌∙◌, ◌≤◌, ◌⊎◌, inl, inr}
 use Rattle.std.specs.Prelude.{nat_eq, unwrap_or, if◌then◌else◌}
 use Rattle.std.specs.List.{All}
 use Rattle.std.proofs.lemmas.List.Elements.{All-head, All-tail}
@@ -9,7 +9,8 @@ use Rattle.abi_base.specs.declared.pointer_spec.PointerSpec.{PointerSpec}
 use Rattle.abi_base.specs.declared.setting.Setting.{Setting}
 use Rattle.abi_base.specs.declared.setting.Setting.TheVariants.{Order, Instructions, Aligned, Pointer, Integer, Vector, Nothing}
 use Rattle.abi_base.specs.DataLayout.{entry_of, listed_align}
-use Rattle.abi_base.specs.DataLayoutText.{last_of, put_entry, put_space, put_vector, same_space, spaces_after, vectors_after}
+use Rattle.abi_base.specs.DataLayoutText.{last_of, put_entry, put_space, put_vector, same_space, spaces_after, vectors_after, wide_bits, wider, widest}
+use Rattle.abi_base.proofs.Settings.{wider_is, wider_least}
 
 -- where no setting says anything, the default stays
 pub none_says : {A : Type 0} (says : Setting → Option A) (ss : List Setting) (d : A) → All (λ s. says s ≡ None) ss → last_of says ss d ≡ d
@@ -113,3 +114,19 @@ space_listed space default other entries (Aligned w a ∷ ss) = space_listed spa
 space_listed space default other entries (Vector a p ∷ ss) = space_listed space default other entries ss
 space_listed space default other entries (Integer w a ∷ ss) = space_listed space default other entries ss
 space_listed space default other entries (Nothing ∷ ss) = space_listed space default other entries ss
+
+-- no spec of 64 to 128 bits is wider than the widest
+pub no_wider : (least : ℕ) (earlier later : List Setting) (s : Setting) (width : ℕ) → wide_bits s ≡ Some width → width ≤ widest least (earlier ++ (s ∷ later))
+no_wider least [] later s width e = subst (λ (o : Option ℕ). width ≤ wider o (widest least later)) (sym e) (omega arith)
+no_wider least (t ∷ earlier) later s width e = omega (arith, no_wider least earlier later s width e, wider_least (wide_bits t) (widest least (earlier ++ (s ∷ later))))
+
+-- which is the width of one of them, or the least
+pub widest_is : (least : ℕ) (ss : List Setting) → (widest least ss ≡ least) ⊎ ((earlier : List Setting) × (s : Setting) × (later : List Setting) × (ss ≡ earlier ++ (s ∷ later)) × (wide_bits s ≡ Some (widest least ss)))
+widest_is least [] = inl refl
+widest_is least (s ∷ ss) = elim (wider_is (wide_bits s) (widest least ss) (widest least (s ∷ ss)) refl) [
+  | inl here ↦ inr ([], s, ss, refl, here)
+  | inr later ↦ elim (widest_is least ss) [
+    | inl e ↦ inl (sym later ∙ e)
+    | inr found ↦ inr (s ∷ found.0, found.1, found.2, ap (λ ts. s ∷ ts) found.3, found.4 ∙ ap Some later)
+  ]
+]

@@ -7,9 +7,10 @@ use Rattle.abi_base.specs.declared.pointer_spec.PointerSpec.{PointerSpec}
 use Rattle.abi_base.specs.declared.setting.Setting.{Setting}
 use Rattle.abi_base.specs.declared.setting.Setting.TheVariants.{Order, Instructions, Aligned, Pointer, Integer, Vector, Nothing}
 use Rattle.abi_base.specs.declared.data_layout.TargetDataLayout.{TargetDataLayout}
-use Rattle.abi_base.specs.DataLayoutText.{IsWide, integer_set, last_of, pointers_set, put_space, put_vector, same_space, spaces_after, wide_bits, wider, widest, with_integer, with_settings}
+use Rattle.abi_base.specs.DataLayoutText.{integer_set, last_of, pointers_set, put_space, put_vector, same_space, spaces_after, wide_bits, wider, widest, with_settings}
+use Rattle.abi_base.specs.Setting.{IsWide, with_integer}
 
-wider_least : (o : Option ℕ) (n : ℕ) → n ≤ wider o n
+pub wider_least : (o : Option ℕ) (n : ℕ) → n ≤ wider o n
 wider_least None n = omega arith
 wider_least (Some w) n = omega arith
 
@@ -50,7 +51,7 @@ max_at : (a b : ℕ) (t : Bool) → nat_le b a ≡ t → (max a b ≡ a) ⊎ (ma
 max_at a b true e = let low : b ≤ a = grind (arith, nat_tests) in inl (omega (arith, low))
 max_at a b false e = let high : a ≤ b = grind (arith, nat_tests) in inr (omega (arith, high))
 
-wider_is : (o : Option ℕ) (n most : ℕ) → wider o n ≡ most → (o ≡ Some most) ⊎ (n ≡ most)
+pub wider_is : (o : Option ℕ) (n most : ℕ) → wider o n ≡ most → (o ≡ Some most) ⊎ (n ≡ most)
 wider_is None n most e = inr e
 wider_is (Some w) n most e = elim (max_at w n (nat_le n w) refl) [ inl h ↦ inl (ap Some (sym h ∙ e)) | inr h ↦ inr (sym h ∙ e) ]
 

@@ -1,10 +1,8 @@
 -- The meaning of data layout strings, tried on a few.
-use Rattle.std.proofs.Common.{◌≡◌, ℕ, ◌^◌, false, Ok, Err, refl, [], ◌∷◌}
+use Rattle.std.proofs.Common.{◌≡◌, ◌^◌, false, Ok, Err, refl, [], ◌∷◌}
 use Rattle.std.specs.Prelude.{codes}
 use Rattle.std.specs.Int.Count.{count_trailing_zeros}
 use Rattle.std.specs.Str.{chars}
-use Rattle.abi_base.specs.declared.address_space.AddressSpace.{AddressSpace}
-use Rattle.abi_base.specs.declared.endian.Endian.TheVariants.{Little}
 use Rattle.abi_base.specs.declared.parse_number.NumberError.TheVariants.{Empty, InvalidDigit, PosOverflow}
 use Rattle.abi_base.specs.declared.align.AlignFromBytesError.TheVariants.{NotPowerOfTwo}
 use Rattle.abi_base.specs.DataLayout.{default_data_layout}

@@ -1,5 +1,5 @@
 -- What a data layout string means: the data layout that its specs make together.
-use Rattle.std.specs.Prelude.{ℕ, ◌≤◌, ◌==◌, ◌&&◌, Bool, true, false, List, [], ◌∷◌, ◌++◌, max, nat_eq, nat_le, Option, Some, None, is_some, unwrap_or, Result, Ok, if◌then◌else◌}
+use Rattle.std.specs.Prelude.{ℕ, ◌==◌, ◌&&◌, Bool, true, false, List, [], ◌∷◌, ◌++◌, max, nat_eq, nat_le, Option, Some, None, is_some, unwrap_or, Result, Ok, if◌then◌else◌}
 use Rattle.std.specs.Ordering.{on}
 use Rattle.abi_base.specs.declared.address_space.AddressSpace.{AddressSpace}
 use Rattle.abi_base.specs.declared.pointer_spec.PointerSpec.{PointerSpec}
@@ -13,7 +13,7 @@ use Rattle.abi_base.specs.DataLayout.{default_data_layout, known_spec}
 use Rattle.abi_base.specs.DataLayoutFault.{Fault}
 use Rattle.abi_base.specs.DataLayoutSpec.{◌>>=◌, parts_of, settings_of}
 
--- what the last setting says that says anything of a kind, or the default
+-- what the last setting says of those that say anything of a kind; where none does, the default
 abbrev pub last_of : {A : Type 0} → (Setting → Option A) → List Setting → A → A
 last_of says [] default = default
 last_of says (s ∷ ss) default = last_of says ss (unwrap_or (says s) default)
@@ -96,7 +96,8 @@ spaces_after default entries (Pointer space spec ∷ ss) = spaces_after default 
 spaces_after default entries (s ∷ ss) = spaces_after default entries ss
 
 -- A data layout with these settings: each field is that of the last setting of its kind, or as it was.
--- The alignment of integers of 128 bits is that of the most bits from the least on, the last of equals.
+-- The alignment of integers of 128 bits is that of the widest of 64 to 128 bits, the last of equals; one below the
+-- least width doesn't count.
 abbrev pub with_settings : TargetDataLayout → (least : ℕ) → List Setting → TargetDataLayout
 with_settings dl least ss = record {
   endian = last_of order_set ss dl.endian;
@@ -117,20 +118,6 @@ with_settings dl least ss = record {
   address_space_info = spaces_after dl.default_address_space dl.address_space_info ss;
   instruction_address_space = last_of instructions_set ss dl.instruction_address_space;
   c_enum_min_size = dl.c_enum_min_size;
-}
-
--- the widths that the alignment of integers of 128 bits is taken from
-abbrev pub IsWide : ℕ → Type 0
-IsWide bits = (64 ≤ bits) × (bits ≤ 128)
-
--- the alignment of integers of so many bits, where the width is one of 1 to 64 bits that have a field
-abbrev pub with_integer : TargetDataLayout → (bits align : ℕ) → TargetDataLayout
-with_integer dl bits align = record dl {
-  i1_align = unwrap_or (integer_set 1 (Integer bits align)) dl.i1_align;
-  i8_align = unwrap_or (integer_set 8 (Integer bits align)) dl.i8_align;
-  i16_align = unwrap_or (integer_set 16 (Integer bits align)) dl.i16_align;
-  i32_align = unwrap_or (integer_set 32 (Integer bits align)) dl.i32_align;
-  i64_align = unwrap_or (integer_set 64 (Integer bits align)) dl.i64_align;
 }
 
 -- the space of functions is added with the default pointers where it isn't known

@@ -11,3 +11,4 @@ pub mod NumberText
 pub mod DataLayoutFault
 pub mod DataLayoutSpec
 pub mod DataLayoutText
+pub mod Setting

@@ -7,7 +7,8 @@ ghost use Rattle.abi_base.specs.declared.data_layout.TargetDataLayout.{TargetDat
 ghost use Rattle.abi_base.specs.DataLayout.{Knows};
 ghost use Rattle.abi_base.specs.DataLayoutFault.{IsRefusal};
 ghost use Rattle.abi_base.specs.declared.setting.Setting.TheVariants.{Aligned, Integer, Pointer};
-ghost use Rattle.abi_base.specs.DataLayoutText.{IsWide, data_layout_in, default_with, with_instructions, with_integer, with_settings};
+ghost use Rattle.abi_base.specs.DataLayoutText.{data_layout_in, default_with, with_instructions, with_settings};
+ghost use Rattle.abi_base.specs.Setting.{IsWide, with_integer};
 
 use crate::address_space::AddressSpace;
 use crate::align::Align;

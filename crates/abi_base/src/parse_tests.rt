@@ -6,6 +6,7 @@ use crate::data_layout::TargetDataLayout;
 use crate::endian::Endian;
 use crate::parse_error::TargetDataLayoutError;
 use crate::parse_number::NumberError;
+use crate::parse_number::NumberError::{Empty, InvalidDigit, PosOverflow};
 use crate::size::Size;
 use std::alloc::Global;
 use std::test::Fail;
@@ -30,19 +31,6 @@ fn bad_bits<'a>(
     TargetDataLayoutError::InvalidBits {
         kind,
         bit,
-        cause,
-        err,
-    }
-}
-
-/// A text that is no number of a space.
-fn bad_space<'a>(
-    addr_space: &'a str,
-    cause: &'a str,
-    err: NumberError,
-) -> TargetDataLayoutError<'a> {
-    TargetDataLayoutError::InvalidAddressSpace {
-        addr_space,
         cause,
         err,
     }
@@ -307,61 +295,51 @@ fn takes_another_default_space(rt: HostRuntime) -> Result<(), Fail> {
 }
 
 #[test]
-fn tells_bad_numbers(rt: HostRuntime) {
-    let huge = "i18446744073709551616:8";
-    let odd = "i18446744073709551616x:8";
-    for (text, error) in [
-        ("P", bad_space("", "P", NumberError::Empty)),
-        ("P-1", bad_space("", "P", NumberError::Empty)),
-        ("P+", bad_space("+", "P", NumberError::InvalidDigit)),
-        (
-            "P4294967296",
-            bad_space("4294967296", "P", NumberError::PosOverflow),
-        ),
-        (
-            "p7x:64:64",
-            bad_space("7x", "p-", NumberError::InvalidDigit),
-        ),
-        ("p٤:64:64", bad_space("٤", "p-", NumberError::InvalidDigit)),
-        (
-            "ix:32",
-            bad_bits("size", "x", "i", NumberError::InvalidDigit),
-        ),
-        ("v", bad_bits("size", "", "v", NumberError::Empty)),
-        (
-            "p:x",
-            bad_bits("size", "x", "p-", NumberError::InvalidDigit),
-        ),
-        (
-            "p:8:x:8:y",
-            bad_bits("alignment", "x", "p-", NumberError::InvalidDigit),
-        ),
-        (
-            "p:8:8:8:y",
-            bad_bits("size", "y", "p-", NumberError::InvalidDigit),
-        ),
-        ("f64:", bad_bits("alignment", "", "f64", NumberError::Empty)),
-        (
-            huge,
-            bad_bits(
-                "size",
-                "18446744073709551616",
-                "i",
-                NumberError::PosOverflow,
-            ),
-        ),
-        (
-            odd,
-            bad_bits(
-                "size",
-                "18446744073709551616x",
-                "i",
-                NumberError::InvalidDigit,
-            ),
-        ),
+fn tells_bad_spaces(rt: HostRuntime) {
+    for (text, addr_space, cause, err) in [
+        ("P", "", "P", Empty),
+        ("P-1", "", "P", Empty),
+        ("P+", "+", "P", InvalidDigit),
+        ("P4294967296", "4294967296", "P", PosOverflow),
+        ("p7x:64:64", "7x", "p-", InvalidDigit),
+        ("p٤:64:64", "٤", "p-", InvalidDigit),
+        ("p4294967296:x", "4294967296", "p-", PosOverflow),
     ] {
+        let error = TargetDataLayoutError::InvalidAddressSpace {
+            addr_space,
+            cause,
+            err,
+        };
         assert_eq!(rt; parse(rt.alloc(), text), Err(error), "{text}");
     }
+}
+
+#[test]
+fn tells_bad_bits(rt: HostRuntime) {
+    for (text, kind, bit, cause, err) in [
+        ("ix:32", "size", "x", "i", InvalidDigit),
+        ("ix", "size", "x", "i", InvalidDigit),
+        ("i", "size", "", "i", Empty),
+        ("v", "size", "", "v", Empty),
+        ("p:x", "size", "x", "p-", InvalidDigit),
+        ("p:8:x:8:y", "alignment", "x", "p-", InvalidDigit),
+        ("p:8:8:8:y", "size", "y", "p-", InvalidDigit),
+        ("f64:", "alignment", "", "f64", Empty),
+        ("i8:+", "alignment", "+", "i8", InvalidDigit),
+        ("v64:-8", "alignment", "", "v64", Empty),
+    ] {
+        let error = bad_bits(kind, bit, cause, err);
+        assert_eq!(rt; parse(rt.alloc(), text), Err(error), "{text}");
+    }
+}
+
+#[test]
+fn tells_numbers_of_too_many_bits(rt: HostRuntime) {
+    let size = bad_bits("size", "18446744073709551616", "i", PosOverflow);
+    assert_eq!(rt; parse(rt.alloc(), "i18446744073709551616:8"), Err(size));
+    let bad_end = bad_bits("size", "18446744073709551616x", "i", InvalidDigit);
+    assert_eq!(rt; parse(rt.alloc(), "i18446744073709551616x:8"), Err(bad_end));
+    assert!(rt; parse(rt.alloc(), "i18446744073709551615:8").is_ok());
 }
 
 #[test]
@@ -400,5 +378,16 @@ fn tells_unknown_pointers(rt: HostRuntime) {
     ] {
         let error = TargetDataLayoutError::UnknownPointerSpecification { err };
         assert_eq!(rt; parse(rt.alloc(), text), Err(error), "{text}");
+    }
+}
+
+#[test]
+fn wants_memory_or_answers(rt: HostRuntime) {
+    match parse(rt.alloc(), "v24:32-v48:64-p7:32:32-p8:16:16-P9") {
+        Ok(dl) => {
+            assert_eq!(rt; dl.vector_align.as_slice().len(), 4);
+            assert!(rt; dl.knows(AddressSpace(8)) & dl.knows(AddressSpace(9)));
+        }
+        Err(error) => assert_eq!(rt; error, TargetDataLayoutError::OutOfMemory),
     }
 }

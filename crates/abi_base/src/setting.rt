@@ -1,8 +1,5 @@
 //! What a spec of a data layout string sets.
 
-ghost use Rattle.std.specs.Prelude.{◌≡◌};
-ghost use Rattle.std.specs.Result.{OnOk};
-
 use crate::address_space::AddressSpace;
 use crate::align::Align;
 use crate::endian::Endian;

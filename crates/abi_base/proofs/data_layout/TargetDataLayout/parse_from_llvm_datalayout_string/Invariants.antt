@@ -2,7 +2,8 @@
 use Rattle.std.proofs.Common.{◌≡◌}
 use Rattle.std.specs.Option.{option_copied}
 use Rattle.abi_base.specs.DataLayoutSpec.{parts_left}
-use Rattle.abi_base.specs.DataLayoutText.{IsWide, data_layout_in}
+use Rattle.abi_base.specs.DataLayoutText.{data_layout_in}
+use Rattle.abi_base.specs.Setting.{IsWide}
 use Rattle.abi_base.proofs.Parts.{room}
 use Rattle.abi_base.proofs.Specs.{answer_from}
 use Rattle.abi_base.proofs.data_layout.TargetDataLayout.parse_from_llvm_datalayout_string.Given as goal
