@@ -25,12 +25,12 @@ use Rattle.rustc_abi.proofs.FaultLemmas.{faultless}
 use Rattle.rustc_abi.proofs.PairLemmas.{Fits-pair}
 use Rattle.rustc_abi.specs.Tree.{Tree, pair, array, struct, Trees, no_trees, more_trees, trees}
 use Rattle.rustc_abi.specs.Placed.{Placed, Layout, layout_of, size_of, niche_of, pair as placed_pair, elements, fields, part, no_parts}
-use Rattle.rustc_abi.specs.Error.{named, and_then}
+use Rattle.rustc_abi.specs.Error.{named, IsRefused}
 use Rattle.rustc_abi.specs.Fits.{Fits}
 use Rattle.rustc_abi.specs.Nodes.{placed_in, parts_at, meaning, types_in, placed_at, root_of, Keeps}
 use Rattle.rustc_abi.specs.Values.{LocalsHaveValues}
 use Rattle.rustc_abi.specs.Faithful.{IsFaithful}
-use Rattle.rustc_abi.specs.Laying.{laid_out, laid_out_each, elements_answer, fields_answer, listed, is_plain_c, most_fields, placed_by, unless, one_scalar, two_scalars, pair_answer}
+use Rattle.rustc_abi.specs.Laying.{IsLaying, AreLaying, elements_answer, fields_answer, listed, is_plain_c, most_fields, placed_by, unless, one_scalar, two_scalars, pair_answer}
 use Rattle.rustc_abi.specs.Adding.{IsRefusal, IsPut, IsAdded, EachFits, all_at, AreAdded}
 use Rattle.rustc_abi.proofs.ElementsLemmas.{IsElementNiche, Fits-elements}
 use Rattle.rustc_abi.proofs.FieldsLemmas.{part_of_list, Fits-fields}
@@ -40,12 +40,12 @@ use Rattle.rustc_abi.proofs.ListLemmas.{chosen}
 use Rattle.rustc_abi.proofs.NodesLemmas.{length-types_in, Keeps-trans}
 
 pub IsAdded-put : (dl : TargetDataLayout) (old new : List Node) (i : ℕ) (placed : Placed) (t : Tree) → IsPut old new i placed →
-    laid_out dl t ≡ Ok placed → Fits dl t placed → IsAdded dl old new i t
+    IsLaying dl t (Ok placed) → Fits dl t placed → IsAdded dl old new i t
 IsAdded-put dl old new i placed t put exact fits = record {
   kept = put.kept;
   well = put.well;
   last = put.last;
-  exact = exact ∙ ap Ok (sym put.meant);
+  exact = subst (λ p. IsLaying dl t (Ok p)) (sym put.meant) exact;
   fits = subst (Fits dl t) (sym put.meant) fits;
 }
 
@@ -65,11 +65,11 @@ array_niche count element = niche_by (count == 0) count element (λ e. eqb-false
 -- an array's layout
 pub IsAdded-elements : (dl : TargetDataLayout) (old new : List Node) (i : ℕ) (element : Placed) (count : ℕ) (layout : Layout) (t : Tree) →
     named {H = ℕ} (array_answer 0 dl (layout_of element) (Some count)) ≡ Ok layout → IsLawfulLayout dl layout →
-    IsPut old new i (elements layout count element) → laid_out dl t ≡ Ok element → Fits dl t element → IsAdded dl old new i (array count t)
+    IsPut old new i (elements layout count element) → IsLaying dl t (Ok element) → Fits dl t element → IsAdded dl old new i (array count t)
 IsAdded-elements dl old new i element count layout t answer lawful put exact fits =
     let made : layout ≡ elements_layout 0 true count (layout_of element) = chosen ℕ _ _ layout answer in
     IsAdded-put dl old new i (elements layout count element) (array count t) put
-    (ap (λ r. and_then r (elements_answer dl count)) exact ∙ ap (λ r. and_then r (λ l. Ok (elements l count element))) answer)
+    (inr (element, exact, sym (ap (placed_by (λ l. elements l count element)) answer)))
     (Fits-elements dl t element count layout fits (ap (λ l. l.size) made)
     (subst (λ n. IfSome n (IsElementNiche count element)) (sym (ap (λ l. l.largest_niche) made)) (array_niche count element))
     (ap (λ l. l.backend_repr) made) (ap (λ l. l.uninhabited) made) lawful)
@@ -96,48 +96,46 @@ fields_made dl repr always_sized ps layout known few answer =
 pub IsAdded-fields : (dl : TargetDataLayout) (old new : List Node) (i : ℕ) (repr : ReprOptions) (always_sized : Bool) (ps : List Placed) (layout : Layout) (ts : Trees) →
     fields_answer dl repr always_sized ps ≡ Ok (fields layout (parts_at (offsets_of layout.fields) ps)) → IsLawfulLayout dl layout → IfSome layout.largest_niche (IsNicheOfPart (offsets_of layout.fields) (map layout_of ps)) →
     layout.backend_repr ≡ Memory true → layout.uninhabited ≡ list_any (λ f. f.uninhabited) (map layout_of ps) → AreApart layout.size (offsets_of layout.fields) (map size_of ps) → IsPut old new i (fields layout (parts_at (offsets_of layout.fields) ps)) →
-    laid_out_each dl ts ≡ Ok ps → EachFits dl ts ps → IsAdded dl old new i (struct repr always_sized ts)
+    AreLaying dl ts (Ok ps) → EachFits dl ts ps → IsAdded dl old new i (struct repr always_sized ts)
 IsAdded-fields dl old new i repr always_sized ps layout ts answer lawful niche view flag apart put exact fits =
     IsAdded-put dl old new i (fields layout (parts_at (offsets_of layout.fields) ps)) (struct repr always_sized ts) put
-    (ap (λ r. and_then r (fields_answer dl repr always_sized)) exact ∙ answer)
+    (inr (ps, exact, sym answer))
     (Fits-fields dl repr always_sized ts layout (offsets_of layout.fields) ps fits apart
     (IfSome_then layout.largest_niche niche (part_of_list (offsets_of layout.fields) ps)) view flag lawful)
 
 -- a list is laid out where its first type and the others are
-cons_parts : (r : Result Placed LayError) (rs : Result (List Placed) LayError) (ps : List Placed) → and_then r (λ p. and_then rs (λ qs. Ok (p ∷ qs))) ≡ Ok ps →
-    (p : Placed) × (qs : List Placed) × (r ≡ Ok p) × (rs ≡ Ok qs) × (p ∷ qs ≡ ps)
-cons_parts (Ok p) (Ok qs) ps h = (p, qs, refl, refl, cc)
-cons_parts (Ok p) (Err e) ps h = absurd (cc)
-cons_parts (Err e) rs ps h = absurd (cc)
+more_laying : (dl : TargetDataLayout) (t : Tree) (ts : Trees) (p : Placed) (ps : List Placed) → IsLaying dl t (Ok p) → AreLaying dl ts (Ok ps) → AreLaying dl (more_trees t ts) (Ok (p ∷ ps))
+more_laying dl t ts p ps here later = inr (p, here, inr (ps, later, refl))
 
-cons_made : (r : Result Placed LayError) (rs : Result (List Placed) LayError) (p : Placed) (qs : List Placed) → r ≡ Ok p → rs ≡ Ok qs →
-    and_then r (λ p. and_then rs (λ qs. Ok (p ∷ qs))) ≡ Ok (p ∷ qs)
-cons_made r rs p qs e f = ap (λ r. and_then r (λ p. and_then rs (λ qs. Ok (p ∷ qs)))) e ∙ ap (λ rs. and_then rs (λ qs. Ok (p ∷ qs))) f
-
-cons_refused : (r : Result Placed LayError) (rs : Result (List Placed) LayError) (p : Placed) (e : LayError) → r ≡ Ok p → IsRefusal rs e →
-    IsRefusal (and_then r (λ p. and_then rs (λ qs. Ok (p ∷ qs)))) e
-cons_refused r rs p e ok (inl memory) = inl memory
-cons_refused r rs p e ok (inr f) = inr (ap (λ r. and_then r (λ p. and_then rs (λ qs. Ok (p ∷ qs)))) ok ∙ ap (λ rs. and_then rs (λ qs. Ok (p ∷ qs))) f)
+first_laying : (dl : TargetDataLayout) (t : Tree) (ts : Trees) (xs : List Placed) → AreLaying dl (more_trees t ts) (Ok xs) →
+    (p : Placed) × (ps : List Placed) × IsLaying dl t (Ok p) × AreLaying dl ts (Ok ps) × (xs ≡ p ∷ ps)
+first_laying dl t ts xs (inl h) = absurd (cc h.2)
+first_laying dl t ts xs (inr (p, here, inl h)) = absurd (cc h.2)
+first_laying dl t ts xs (inr (p, here, inr (ps, later, e))) = (p, ps, here, later, cc)
 
 -- one type more
-laid_out_each-push : (dl : TargetDataLayout) (ts : List Tree) (ps : List Placed) (t : Tree) (p : Placed) → laid_out_each dl (trees ts) ≡ Ok ps → laid_out dl t ≡ Ok p →
-    laid_out_each dl (trees (ts ++ t ∷ [])) ≡ Ok (ps ++ p ∷ [])
-laid_out_each-push dl [] ps t p before here =
+laying-push : (dl : TargetDataLayout) (ts : List Tree) (ps : List Placed) (t : Tree) (p : Placed) → AreLaying dl (trees ts) (Ok ps) → IsLaying dl t (Ok p) →
+    AreLaying dl (trees (ts ++ t ∷ [])) (Ok (ps ++ p ∷ []))
+laying-push dl [] ps t p before here =
     let none : [] ≡ ps = cc in
-    cons_made (laid_out dl t) (Ok []) p [] here refl ∙ ap (λ qs. Ok (qs ++ p ∷ [])) none
-laid_out_each-push dl (s ∷ ts) ps t p before here =
-    let both = cons_parts (laid_out dl s) (laid_out_each dl (trees ts)) ps before in
-    cons_made (laid_out dl s) (laid_out_each dl (trees (ts ++ t ∷ []))) both.0 (both.1 ++ p ∷ []) both.2 (laid_out_each-push dl ts both.1 t p both.3 here)
-    ∙ ap (λ qs. Ok (qs ++ p ∷ [])) both.4
+    subst (λ qs. AreLaying dl (more_trees t no_trees) (Ok (qs ++ p ∷ []))) none (more_laying dl t no_trees p [] here refl)
+laying-push dl (s ∷ ts) ps t p before here =
+    let both = first_laying dl s (trees ts) ps before in
+    subst (λ qs. AreLaying dl (trees ((s ∷ ts) ++ t ∷ [])) (Ok (qs ++ p ∷ []))) (sym both.4)
+    (more_laying dl s (trees (ts ++ t ∷ [])) both.0 (both.1 ++ p ∷ []) both.2 (laying-push dl ts both.1 t p both.3 here))
+
+later_refused : (dl : TargetDataLayout) (t : Tree) (ts : Trees) (p : Placed) (e : LayError) → IsLaying dl t (Ok p) → IsRefused (AreLaying dl ts) e → IsRefused (AreLaying dl (more_trees t ts)) e
+later_refused dl t ts p e here (inl memory) = inl memory
+later_refused dl t ts p e here (inr f) = inr (inr (p, here, inl (e, f, refl)))
 
 -- the first fault is the answer
-pub laid_out_each-refused : (dl : TargetDataLayout) (ts : List Tree) (ps : List Placed) (t : Tree) (rest : List Tree) (e : LayError) → laid_out_each dl (trees ts) ≡ Ok ps →
-    IsRefusal (laid_out dl t) e → IsRefusal (laid_out_each dl (trees (ts ++ t ∷ rest))) e
-laid_out_each-refused dl [] ps t rest e before (inl memory) = inl memory
-laid_out_each-refused dl [] ps t rest e before (inr f) = inr (ap (λ r. and_then r (λ p. and_then (laid_out_each dl (trees rest)) (λ qs. Ok (p ∷ qs)))) f)
-laid_out_each-refused dl (s ∷ ts) ps t rest e before here =
-    let both = cons_parts (laid_out dl s) (laid_out_each dl (trees ts)) ps before in
-    cons_refused (laid_out dl s) (laid_out_each dl (trees (ts ++ t ∷ rest))) both.0 e both.2 (laid_out_each-refused dl ts both.1 t rest e both.3 here)
+pub laying-refused : (dl : TargetDataLayout) (ts : List Tree) (ps : List Placed) (t : Tree) (rest : List Tree) (e : LayError) → AreLaying dl (trees ts) (Ok ps) →
+    IsRefused (IsLaying dl t) e → IsRefused (AreLaying dl (trees (ts ++ t ∷ rest))) e
+laying-refused dl ts ps t rest e before (inl memory) = inl memory
+laying-refused dl [] ps t rest e before (inr f) = inr (inl (e, f, refl))
+laying-refused dl (s ∷ ts) ps t rest e before (inr f) =
+    let both = first_laying dl s (trees ts) ps before in
+    later_refused dl s (trees (ts ++ t ∷ rest)) both.0 e both.2 (laying-refused dl ts both.1 t rest e both.3 (inr f))
 
 EachFits-push : (dl : TargetDataLayout) (ts : List Tree) (ps : List Placed) (t : Tree) (p : Placed) → EachFits dl (trees ts) ps → Fits dl t p → EachFits dl (trees (ts ++ t ∷ [])) (ps ++ p ∷ [])
 EachFits-push dl [] [] t p h fits = (fits, tt)
@@ -169,7 +167,7 @@ AreAdded-more dl first old new children ts i t h added =
           All-append (λ child. child < length new) children (i ∷ [])
           (All-weaker (λ child. child < length old) (λ child. child < length new) (λ child lt. omega arith) children h.there)
           (All-cons (λ child. child < length new) i [] (omega (arith, added.last)) (All-nil (λ child. child < length new)));
-      exact = laid_out_each-push dl ts (all_at old children) t (placed_at new i) h.exact added.exact ∙ ap Ok (sym more);
+      exact = subst (λ ps. AreLaying dl (trees (ts ++ t ∷ [])) (Ok ps)) (sym more) (laying-push dl ts (all_at old children) t (placed_at new i) h.exact added.exact);
       fits = subst (EachFits dl (trees (ts ++ t ∷ []))) (sym more) (EachFits-push dl ts (all_at old children) t (placed_at new i) h.fits added.fits);
     }
 
@@ -208,7 +206,7 @@ IsAdded-pair dl old one both new i j k a b fa fb below la lb lawful first second
     let answer : (r : Result Placed LayError) → unless (scalar_fault dl a) (unless (scalar_fault dl b) r) ≡ r =
     λ r. ap (λ f. unless f (unless (scalar_fault dl b) r)) fa ∙ ap (λ f. unless f r) fb in
     IsAdded-put dl old new k (two_scalars dl a b) (pair a b) put
-    (answer (if nat_lt (pair_size dl a b) (size_bound dl) then Ok (two_scalars dl a b) else Err SizeOverflow) ∙ ap (λ t. if t then Ok (two_scalars dl a b) else Err SizeOverflow) fits)
+    (sym (answer (if nat_lt (pair_size dl a b) (size_bound dl) then Ok (two_scalars dl a b) else Err SizeOverflow) ∙ ap (λ t. if t then Ok (two_scalars dl a b) else Err SizeOverflow) fits))
     (Fits-pair dl a b (faultless dl a fa) (faultless dl b fb) la lb lawful)
 
 -- two scalars that are too large

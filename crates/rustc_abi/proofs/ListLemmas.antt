@@ -93,9 +93,9 @@ All-from_map P f [] h = All-nil (λ y. P (f y))
 All-from_map P f (y ∷ ys) h = All-cons (λ y. P (f y)) y ys (All-head P (f y) (map f ys) h) (All-from_map P f ys (All-tail P (f y) (map f ys) h))
 
 -- an error that was passed on
-pub passed_on : {A B : Type 0} (answer : Result A LayError) (e : LayError) (r : Result B LayError) → IsErrAnd r (λ error. error ≡ e) → IsRefusal answer e → IfErr r (IsRefusal answer)
-passed_on answer e (Ok b) h refused = absurd h
-passed_on answer e (Err error) h refused = subst (IsRefusal answer) (sym h) refused
+pub passed_on : {B : Type 0} (P : LayError → Type 0) (e : LayError) (r : Result B LayError) → IsErrAnd r (λ error. error ≡ e) → P e → IfErr r P
+passed_on P e (Ok b) h refused = absurd h
+passed_on P e (Err error) h refused = subst P (sym h) refused
 
 map_sizes : {H : Type 0} (f : H → Layout) (hs : List H) → map (λ h. (f h).size) hs ≡ map (λ l. l.size) (map f hs)
 map_sizes f [] = refl

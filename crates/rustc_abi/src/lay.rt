@@ -1,14 +1,14 @@
 //! How trees are laid out: children before parents, left to right.
 
-ghost use Rattle.std.specs.Prelude.{◌≡◌, ◌-◌, ◌<◌, ◌≤◌, ◌&&◌, ℕ, Some, IfOk, IfErr, IfSome, IsOk, IsTrue, Err, Ok, length, vec_len, All, List, map, true, false, Bool};
+ghost use Rattle.std.specs.Prelude.{◌≡◌, ◌-◌, ◌<◌, ◌≤◌, ◌&&◌, ℕ, Some, IfOk, IfErr, IfSome, IsTrue, Err, Ok, length, vec_len, All, List, map, true, false, Bool};
 ghost use Rattle.std.specs.declared.alloc.Global.{Global};
 ghost use Rattle.abi_base.specs.DataLayout.{IsLawfulDataLayout};
 ghost use Rattle.abi_scalar.specs.Lawful.{IsLawfulLayout};
 ghost use Rattle.rustc_abi.specs.Tree.{Tree, Trees, tree_of, trees, trees_of_variants, array, struct};
-ghost use Rattle.rustc_abi.specs.Placed.{layout_of, size_of};
+ghost use Rattle.rustc_abi.specs.Placed.{Placed, layout_of, size_of};
 ghost use Rattle.rustc_abi.specs.Nodes.{types_in, placed_at, meaning};
-ghost use Rattle.rustc_abi.specs.Laying.{laid_out, laid_out_each, laid_out_variants, is_plain_c, most_fields, elements_answer, listed, fields_answer};
-ghost use Rattle.rustc_abi.specs.Error.{named};
+ghost use Rattle.rustc_abi.specs.Laying.{IsLaying, AreLaying, VariantsLaying, is_plain_c, most_fields, elements_answer, listed, fields_answer};
+ghost use Rattle.rustc_abi.specs.Error.{named, IsRefused};
 ghost use Rattle.rustc_abi.specs.Fits.{Fits};
 ghost use Rattle.abi_calc.specs.Array.{array_answer};
 ghost use Rattle.abi_calc.specs.Apart.{AreApart, offsets_of};
@@ -100,7 +100,7 @@ fn add_elements(
     requires there { element < vec_len nodes.old }
     requires lawful { IsLawfulLayout dl.now (layout_of (placed_at nodes.old.items element)) }
     ensures ok { IfOk result
-        (λ i. (t : Tree) → laid_out dl.now t ≡ Ok (placed_at nodes.old.items element) →
+        (λ i. (t : Tree) → IsLaying dl.now t (Ok (placed_at nodes.old.items element)) →
         Fits dl.now t (placed_at nodes.old.items element) →
         IsAdded dl.now nodes.old.items nodes.new.items i (array count t)) }
     ensures err { IfErr result (IsRefusal (elements_answer dl.now count (placed_at nodes.old.items element))) }
@@ -167,7 +167,7 @@ fn add_fields(
     requires there { All (λ child. child < vec_len nodes.old) children.items }
     requires lawful { All (λ p. IsLawfulLayout dl.now (layout_of p)) (all_at nodes.old.items children.items) }
     ensures ok { IfOk result
-        (λ i. (ts : Trees) → laid_out_each dl.now ts ≡ Ok (all_at nodes.old.items children.items) →
+        (λ i. (ts : Trees) → AreLaying dl.now ts (Ok (all_at nodes.old.items children.items)) →
         EachFits dl.now ts (all_at nodes.old.items children.items) →
         IsAdded dl.now nodes.old.items nodes.new.items i (struct repr.now always_sized ts)) }
     ensures err { IfErr result (IsRefusal (fields_answer dl.now repr.now always_sized (all_at nodes.old.items children.items))) }
@@ -192,7 +192,7 @@ pub(crate) fn lay_tree(
 ) -> Result<usize, LayError>
     requires { IsLawfulDataLayout dl.now }
     ensures ok { IfOk result (λ i. IsAdded dl.now nodes.old.items nodes.new.items i (tree_of tree.now)) }
-    ensures err { IfErr result (IsRefusal (laid_out dl.now (tree_of tree.now))) }
+    ensures err { IfErr result (IsRefused (IsLaying dl.now (tree_of tree.now))) }
 {
     match tree {
         TypeTree::Scalar(value) => add_scalar(dl, nodes, *value),
@@ -250,7 +250,7 @@ fn lay_each(
 ) -> Result<Vec<usize>, LayError>
     requires { IsLawfulDataLayout dl.now }
     ensures ok { IfOk result (λ children. AreAdded dl.now nodes.old.items nodes.new.items children.items (map tree_of fields.now)) }
-    ensures err { IfErr result (IsRefusal (laid_out_each dl.now (trees (map tree_of fields.now)))) }
+    ensures err { IfErr result (IsRefused (AreLaying dl.now (trees (map tree_of fields.now)))) }
 {
     let mut children = Vec::new(alloc);
     for field in fields {
@@ -269,8 +269,8 @@ fn lay_variants(
     all: &[(u128, Vec<TypeTree>)],
 ) -> Result<(), LayError>
     requires { IsLawfulDataLayout dl.now }
-    ensures ok { IfOk result (λ _. IsOk (laid_out_variants dl.now (trees_of_variants all.now))) }
-    ensures err { IfErr result (IsRefusal (laid_out_variants dl.now (trees_of_variants all.now))) }
+    ensures ok { IfOk result (λ _. (rest : List (List Placed)) × VariantsLaying dl.now (trees_of_variants all.now) (Ok rest)) }
+    ensures err { IfErr result (IsRefused (VariantsLaying dl.now (trees_of_variants all.now))) }
 {
     for variant in all {
         let _children = lay_each(alloc, dl, nodes, &variant.1)?;

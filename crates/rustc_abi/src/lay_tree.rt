@@ -8,7 +8,7 @@ ghost use Rattle.rustc_abi.specs.Faithful.{EachValueIsHeld, OnlyValuesAreHeld, N
 ghost use Rattle.abi_scalar.specs.Lawful.{IsLawfulLayout};
 ghost use Rattle.rustc_abi.specs.Placed.{layout_of};
 ghost use Rattle.rustc_abi.specs.Laid.{placed_of, endian_of};
-ghost use Rattle.rustc_abi.specs.Laying.{laid_out};
+ghost use Rattle.rustc_abi.specs.Laying.{IsLaying};
 ghost use Rattle.rustc_abi.specs.Fault.{IsRefusedFor};
 
 use crate::error::LayError;
@@ -30,7 +30,7 @@ pub fn lay_out(alloc: Global, dl: &TargetDataLayout, tree: &TypeTree) -> Result<
     ensures refused { IfErr result (IsRefusedFor dl.now (tree_of tree.now)) }
 
     // Which layout each part has.
-    ensures laid { IfOk result (λ laid. laid_out dl.now (tree_of tree.now) ≡ Ok (placed_of laid)) }
+    ensures laid { IfOk result (λ laid. IsLaying dl.now (tree_of tree.now) (Ok (placed_of laid))) }
     ensures layout { IfOk result (λ laid. IsLawfulLayout dl.now (layout_of (placed_of laid))) }
     ensures order { IfOk result (λ laid. endian_of laid ≡ dl.now.endian) }
 

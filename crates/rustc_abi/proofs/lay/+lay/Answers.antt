@@ -1,11 +1,12 @@
 use Rattle.std.proofs.Common.{◌≡◌, ◌+◌, ◌++◌, ◌∷◌, [], arith, ap, sym, ◌∙◌, subst, take, map, get_or}
 use Rattle.std.proofs.lemmas.List.{take_more, map-append}
 use Rattle.rustc_abi.specs.Tree.{tree_of, trees}
-use Rattle.rustc_abi.specs.Laying.{laid_out_each}
-use Rattle.rustc_abi.specs.Adding.{IsRefusal, tree_size, trees_size}
+use Rattle.rustc_abi.specs.Laying.{IsLaying, AreLaying}
+use Rattle.rustc_abi.specs.Adding.{tree_size, trees_size}
 use Rattle.rustc_abi.proofs.TreeLemmas.{trees_size-at, variants_size-at, falls-Enum}
 use Rattle.rustc_abi.proofs.LayLemmas.{EachFits-lawful, AreAdded-more}
 use Rattle.rustc_abi.proofs.RefusalLemmas.{each_refused, variants_refused, variants_more, enum_refused, enum_not_yet}
+use Rattle.rustc_abi.specs.Error.{IsRefused}
 use Rattle.rustc_abi.proofs.ListLemmas.{passed_on}
 use Rattle.rustc_abi.proofs.lay.+lay.Goals as goal
 
@@ -68,7 +69,7 @@ pub lay_variants-returns-in_err-_children-clause-err : goal.lay_variants-returns
 lay_variants-returns-in_err-_children-clause-err t c =
     let item : c.variant-item.result ≡ get_or c.args.all.now c.loop-variant.variant-index c.variant-item.result = c.variant-item.is in
     let lent : c.deref.result.now ≡ c.variant-item.result.1.items = c.deref.ensures.value in
-    let refused = subst (λ ts. IsRefusal (laid_out_each c.args.dl.now (trees (map tree_of ts))) c.in_err-_children.field-0.0) lent c.in_err-_children.ensures.err in
+    let refused = subst (λ ts. IsRefused (AreLaying c.args.dl.now (trees (map tree_of ts))) c.in_err-_children.field-0.0) lent c.in_err-_children.ensures.err in
     passed_on _ _ _ c.from_residual.ensures.1
     (variants_refused c.args.dl.now c.args.all.now c.loop-variant.variant-index c.variant-item.result _ _ (omega arith) item c.loop-variant.invariant.1 refused)
 
@@ -76,5 +77,5 @@ pub lay_variants-loop-variant-preserved : goal.lay_variants-loop-variant-preserv
 lay_variants-loop-variant-preserved t c =
     let item : c.variant-item.result ≡ get_or c.args.all.now c.loop-variant.variant-index c.variant-item.result = c.variant-item.is in
     let lent : c.deref.result.now ≡ c.variant-item.result.1.items = c.deref.ensures.value in
-    let laid = ap (λ ts. laid_out_each c.args.dl.now (trees (map tree_of ts))) (sym lent) ∙ c.in_ok-_children.ensures.ok.exact in
+    let laid = subst (λ ts. AreLaying c.args.dl.now (trees (map tree_of ts)) (Ok _)) lent c.in_ok-_children.ensures.ok.exact in
     variants_more c.args.dl.now c.args.all.now c.loop-variant.variant-index c.variant-item.result _ _ (omega arith) item c.loop-variant.invariant.1 laid
