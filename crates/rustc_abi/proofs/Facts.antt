@@ -14,8 +14,6 @@ use Rattle.abi_scalar.specs.declared.variants.TagEncoding.{TagEncoding}
 use Rattle.abi_scalar.specs.declared.variants.TagEncoding.TheVariants.{Niche}
 use Rattle.abi_scalar.specs.declared.wrapping_range.WrappingRange.{WrappingRange}
 use Rattle.abi_scalar.specs.Range.{IsIn, full_range}
-use Rattle.std.specs.Prelude.{Result}
-use Rattle.rustc_abi.specs.declared.error.LayError.{LayError}
 use Rattle.rustc_abi.specs.Tree.{Tree, struct, no_trees, more_trees, scalar as number_type}
 use Rattle.rustc_abi.specs.Value.{Value, number, two, list, variant, state, bytes, no_values, more_values}
 use Rattle.rustc_abi.specs.Bytes.{picked}
@@ -24,7 +22,6 @@ use Rattle.rustc_abi.specs.Places.{is_data_place}
 use Rattle.rustc_abi.specs.Runs.{padding_of}
 use Rattle.rustc_abi.specs.Tag.{Names}
 use Rattle.rustc_abi.specs.Holding.{Holds}
-use Rattle.rustc_abi.specs.Laying.{laid_out}
 use Rattle.rustc_abi.specs.Faithful.{EachValueIsHeld}
 
 -- ---- the types
@@ -62,15 +59,9 @@ bool_placed = scalar (sized 1) boolean
 abbrev plain_c : ReprOptions
 plain_c = record { int = None; align = None; pack = None; flags = record { 0 = 1 }; scalable = None; field_shuffle_seed = 0 }
 
-abbrev of_three : Tree
-of_three = struct plain_c true (more_trees (number_type (unsigned I8)) (more_trees (number_type (unsigned I32)) (more_trees (number_type (unsigned I16)) no_trees)))
-
-abbrev placed_or_nothing : Result Placed LayError → Placed
-placed_or_nothing (Ok placed) = placed
-placed_or_nothing (Err error) = nothing
-
 abbrev three : Placed
-three = placed_or_nothing (laid_out default_data_layout of_three)
+three =
+    fields (sized 12) (part 0 u8_placed (part 4 (scalar (sized 4) (unsigned I32)) (part 8 (scalar (sized 2) (unsigned I16)) no_parts)))
 
 first_byte_decides : is_data_place three 0 ≡ true
 first_byte_decides = refl

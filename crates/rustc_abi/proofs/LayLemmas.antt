@@ -216,3 +216,23 @@ pair_overflows dl a b fa fb above =
     let answer : (r : Result Placed LayError) → unless (scalar_fault dl a) (unless (scalar_fault dl b) r) ≡ r =
     λ r. ap (λ f. unless f (unless (scalar_fault dl b) r)) fa ∙ ap (λ f. unless f r) fb in
     answer (if nat_lt (pair_size dl a b) (size_bound dl) then Ok (two_scalars dl a b) else Err SizeOverflow) ∙ ap (λ t. if t then Ok (two_scalars dl a b) else Err SizeOverflow) large
+
+-- a node behind a type's, and behind several types'
+pub IsAdded-after : (dl : TargetDataLayout) (first old new : List Node) (i j : ℕ) (t u : Tree) → IsAdded dl first old i t → IsAdded dl old new j u → IsAdded dl first new j u
+IsAdded-after dl first old new i j t u before added = record {
+  kept = Keeps-trans (types_in first) (types_in old) (types_in new) before.kept added.kept;
+  well = λ h. added.well (before.well h);
+  last = added.last;
+  exact = added.exact;
+  fits = added.fits;
+}
+
+pub AreAdded-after : (dl : TargetDataLayout) (first old new : List Node) (children : List ℕ) (ts : List Tree) (j : ℕ) (u : Tree) → AreAdded dl first old children ts → IsAdded dl old new j u →
+    IsAdded dl first new j u
+AreAdded-after dl first old new children ts j u before added = record {
+  kept = Keeps-trans (types_in first) (types_in old) (types_in new) before.kept added.kept;
+  well = λ h. added.well (before.well h);
+  last = added.last;
+  exact = added.exact;
+  fits = added.fits;
+}

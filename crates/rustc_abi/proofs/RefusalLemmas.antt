@@ -64,6 +64,10 @@ module _ (dl : TargetDataLayout) where
       let more = variants-push before v parts.1 ps parts.3 here in
       (parts.0 ∷ more.0, inr (parts.0, parts.2, inr (more.0, more.1, refl)))
 
+-- equal trees have equal answers
+pub laying_as : (dl : TargetDataLayout) (xs ys : List TypeTree) (r : Result (List Placed) LayError) → xs ≡ ys → AreLaying dl (trees (map tree_of xs)) r → AreLaying dl (trees (map tree_of ys)) r
+laying_as dl xs ys r same h = subst (λ ts. AreLaying dl (trees (map tree_of ts)) r) same h
+
 pub variants_refused : (dl : TargetDataLayout) (all : List Fields) (i : ℕ) (v : Fields) (out : List (List Placed)) (e : LayError) → i < length all → v ≡ get_or all i v →
     VariantsLaying dl (trees_of_variants (take i all)) (Ok out) → IsRefused (AreLaying dl (trees (map tree_of v.1.items))) e →
     IsRefused (VariantsLaying dl (trees_of_variants all)) e
