@@ -13,16 +13,17 @@ use Rattle.abi_scalar.specs.declared.repr.ReprOptions.{ReprOptions}
 use Rattle.abi_scalar.specs.declared.variants.TagEncoding.{TagEncoding}
 use Rattle.abi_scalar.specs.declared.variants.TagEncoding.TheVariants.{Niche}
 use Rattle.abi_scalar.specs.declared.wrapping_range.WrappingRange.{WrappingRange}
+use Rattle.abi_scalar.specs.declared.backend_repr.BackendRepr.TheVariants.{Scalar as OneScalar}
 use Rattle.abi_scalar.specs.Range.{IsIn, full_range}
-use Rattle.rustc_abi.specs.Tree.{Tree, struct, no_trees, more_trees, scalar as number_type}
+use Rattle.rustc_abi.specs.Tree.{Tree, never, struct, no_trees, more_trees, scalar as number_type}
 use Rattle.rustc_abi.specs.Value.{Value, number, two, list, variant, state, bytes, no_values, more_values}
 use Rattle.rustc_abi.specs.Bytes.{picked}
-use Rattle.rustc_abi.specs.Placed.{Placed, Layout, layout_of, scalar, fields, union, states, no_parts, part, no_arms, arm, nothing}
+use Rattle.rustc_abi.specs.Placed.{Placed, Layout, layout_of, scalar, never as nowhere, fields, union, states, no_parts, part, no_arms, arm, nothing}
 use Rattle.rustc_abi.specs.Places.{is_data_place}
 use Rattle.rustc_abi.specs.Runs.{padding_of}
 use Rattle.rustc_abi.specs.Tag.{Names}
 use Rattle.rustc_abi.specs.Holding.{Holds}
-use Rattle.rustc_abi.specs.Faithful.{EachValueIsHeld}
+use Rattle.rustc_abi.specs.Faithful.{EachValueIsHeld, IsFlagTrue, IsViewTrue}
 
 -- ---- the types
 
@@ -117,6 +118,22 @@ no_bool order (list vs) h = h
 no_bool order (variant i vs) h = h
 no_bool order (state i ps vs) h = h
 no_bool order (bytes content) h = h
+
+-- ---- a flag that is wrong: never without it, and a number with it
+
+unflagged_never : IsFlagTrue default_data_layout never (nowhere (sized 0)) → ⊥
+unflagged_never h = h.1
+
+flagged_number : IsFlagTrue default_data_layout (number_type (unsigned I8)) (scalar (record (sized 1) { uninhabited = true }) (unsigned I8)) → ⊥
+flagged_number h = h (number 0) zero_is_in
+
+-- ---- a view that is wrong: a number that is seen as a bool, where the byte is 2
+
+two_is_in_all : IsIn 1 (full_range 1) 2
+two_is_in_all = (2, refl, λ k lt e. absurd (omega (arith, lt, e)))
+
+wrong_view : IsViewTrue default_data_layout (scalar (record (sized 1) { backend_repr = OneScalar boolean }) (unsigned I8)) → ⊥
+wrong_view h = two_is_out 2 refl (h (2 ∷ []) (number 2) (refl, refl, two_is_in_all))
 
 -- ---- a niche tag: 2 names the variant without fields, and each number of the bool the one with it
 
