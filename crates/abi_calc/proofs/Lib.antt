@@ -1,7 +1,12 @@
 pub mod Rounding
+pub mod Ends
+pub mod Groups
+pub mod Sorting
+pub mod Tight
+pub mod Least
+pub mod NicheLemmas
 pub mod Steps
-pub mod Placing
 pub mod Lawful
-pub mod Apart
-pub mod Answers
-pub mod ListNiche
+pub mod ViewLemmas
+pub mod PlacingLemmas
+pub mod FaultLemmas

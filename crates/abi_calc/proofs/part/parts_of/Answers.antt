@@ -1,0 +1,6 @@
+use Rattle.std.proofs.Common.{sym, subst}
+use Rattle.abi_scalar.specs.Lawful.{IsLawfulLayout}
+use Rattle.abi_calc.proofs.part.parts_of.Goals as goal
+
+pub part_of-requires : goal.part_of-requires
+part_of-requires g c = rw (c.layout.ensures, c.field-item.is) (c.requires c.loop-field.field-index c.field-item.result c.loop-field-test.true)
