@@ -10,3 +10,6 @@ pub mod Lawful
 pub mod ViewLemmas
 pub mod PlacingLemmas
 pub mod FaultLemmas
+pub mod RunLemmas
+pub mod SourceLemmas
+pub mod ListLemmas

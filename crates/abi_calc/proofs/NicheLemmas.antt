@@ -84,13 +84,13 @@ larger_has dl P None y hx hy = hy
 larger_has dl P (Some a) None hx hy = hx
 larger_has dl P (Some a) (Some b) hx hy = one_of (nat_lt (available_in dl a) (available_in dl b)) P a b hx hy
 
-greater_has : (bias : NicheBias) (dl : TargetDataLayout) (P : Niche → Type 0) (x y : Option Niche) → IfSome x P → IfSome y P → IfSome (greater_niche bias dl x y) P
+pub greater_has : (bias : NicheBias) (dl : TargetDataLayout) (P : Niche → Type 0) (x y : Option Niche) → IfSome x P → IfSome y P → IfSome (greater_niche bias dl x y) P
 greater_has Start dl P x y hx hy = larger_has dl P x y hx hy
 greater_has End dl P x y hx hy = larger_has dl P y x hy hx
 
 -- ---- lawful niches can be asked for their numbers
 
-readable_size : (dl : TargetDataLayout) (p : Primitive) → IsLawfulPrimitive dl p → KnowsPrimitive dl p × (1 ≤ primitive_size dl p) × (primitive_size dl p ≤ 16)
+pub readable_size : (dl : TargetDataLayout) (p : Primitive) → IsLawfulPrimitive dl p → KnowsPrimitive dl p × (1 ≤ primitive_size dl p) × (primitive_size dl p ≤ 16)
 readable_size dl (Int I8 s) h = (tt, omega arith, omega arith)
 readable_size dl (Int I16 s) h = (tt, omega arith, omega arith)
 readable_size dl (Int I32 s) h = (tt, omega arith, omega arith)

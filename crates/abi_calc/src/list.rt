@@ -14,12 +14,12 @@ ghost use Rattle.abi_calc.specs.Order.{movable};
 ghost use Rattle.abi_calc.specs.Placement.{IsAllowed, IsLawfulPrefix, IsNonEmptyIfUnsized, IsSized, cut, list_repr, size_in, start_of, sum_rounded};
 
 use crate::calculator::LayoutCalculator;
-use crate::list_repr::{list_repr, unraised};
+use crate::list_repr::{ListRepr, list_repr, unraised};
 use crate::list_view::{bulky_parts, list_view, transparent_align};
 use crate::part::{Part, parts_of};
 use crate::placing::{ListFault, list_align};
 use crate::run::{PlacedList, layout_of_parts};
-use abi_base::{AbiAlign, Align, HasDataLayout, Size, StructKind};
+use abi_base::{AbiAlign, Align, HasDataLayout, Size, StructKind, TargetDataLayout};
 use abi_index::{Hash64, Idx, IndexSlice, IndexVec};
 use abi_scalar::{
     FieldsShape, LayoutCalculatorError, LayoutData, LayoutHandle, ReprOptions, Variants,
@@ -140,6 +140,65 @@ fn error_of<F: Copy>(fields: &[F], fault: ListFault) -> LayoutCalculatorError<F>
     }
 }
 
+/// The layout of these fields as one list.
+fn layout_of_list<FieldIdx: Idx, VariantIdx: Idx, F: LayoutHandle<FieldIdx, VariantIdx> + Copy>(
+    alloc: Global,
+    dl: &TargetDataLayout,
+    fields: &[F],
+    repr: &ReprOptions,
+    list: &ListRepr,
+) -> Result<LayoutData<FieldIdx, VariantIdx>, LayoutCalculatorError<F>>
+    requires data_layout { IsLawfulDataLayout dl.now }
+    requires fields { All (λ f. IsLawfulLayout dl.now (F.layout_of f)) fields.now }
+    requires repr { HasLawfulAligns repr.now }
+    requires list { list.now ≡ list_repr dl.now repr.now list.now.kind }
+    requires prefix { IsLawfulPrefix list.now.kind (size_bound dl.now) }
+    requires tail { IsNonEmptyIfUnsized list.now.kind (length fields.now) }
+    requires count { length fields.now ≤ FieldIdx.MAX_INDEX + 1 }
+    ensures exact { IsListAnswer F.layout_of FieldIdx.at (VariantIdx.at 0) dl.now repr.now list.now.kind fields.now result }
+{
+    let parts = parts_of(alloc, dl, fields)?;
+    let placed = match layout_of_parts(alloc, dl, &parts, list) {
+        Ok(placed) => placed,
+        Err(fault) => return Err(error_of(fields, fault)),
+    };
+    let PlacedList {
+        offsets,
+        order,
+        size,
+        align,
+        largest_niche,
+    } = placed;
+    let bulky = bulky_parts(alloc, &parts)?;
+    let fixed = repr.inhibit_newtype_abi_optimization();
+    let view = list_view(dl, fixed, size, align, &parts, &offsets, &bulky);
+    let unadjusted_abi_align = if repr.transparent() {
+        transparent_align(size, align, &parts, &bulky)
+    } else {
+        list_align(&parts, &unraised(dl, repr, list))
+    };
+    let offsets = field_offsets(alloc, &offsets)?;
+    let in_memory_order = fields_named(alloc, &order)?;
+    Ok(LayoutData {
+        fields: FieldsShape::Arbitrary {
+            offsets,
+            in_memory_order,
+        },
+        variants: Variants::Single {
+            index: VariantIdx::new(0),
+        },
+        backend_repr: view,
+        largest_niche,
+        uninhabited: any_uninhabited(fields),
+        align: AbiAlign::new(align),
+        size,
+        max_repr_align: max_repr_align(repr.align, fields),
+        unadjusted_abi_align,
+        repr_c: repr.c() | (repr.transparent() & any_repr_c(fields)),
+        randomization_seed: seed_of(repr.field_shuffle_seed, movable_fields(list.kind, fields)),
+    })
+}
+
 impl<Cx: HasDataLayout> LayoutCalculator<Cx> {
     /// The layout of a struct's or a tuple's fields, one after another.
     pub fn layout_of_univariant<
@@ -162,42 +221,7 @@ impl<Cx: HasDataLayout> LayoutCalculator<Cx> {
         ensures exact { IsListAnswer F.layout_of FieldIdx.at (VariantIdx.at 0) (Cx.target self.now.cx) repr.now kind (items_of fields.entry) result }
     {
         let dl = self.cx.data_layout();
-        let fields = fields.as_raw();
-        let parts = parts_of(alloc, dl, fields)?;
-        let placed = match layout_of_parts(alloc, dl, &parts, &list_repr(dl, repr, kind)) {
-            Ok(placed) => placed,
-            Err(fault) => return Err(error_of(fields, fault)),
-        };
-        let PlacedList {
-            offsets,
-            order,
-            size,
-            align,
-            largest_niche,
-        } = placed;
-        let bulky = bulky_parts(alloc, &parts)?;
-        let fixed = repr.inhibit_newtype_abi_optimization();
-        Ok(LayoutData {
-            fields: FieldsShape::Arbitrary {
-                offsets: field_offsets(alloc, &offsets)?,
-                in_memory_order: fields_named(alloc, &order)?,
-            },
-            variants: Variants::Single {
-                index: VariantIdx::new(0),
-            },
-            backend_repr: list_view(dl, fixed, size, align, &parts, &offsets, &bulky),
-            largest_niche,
-            uninhabited: any_uninhabited(fields),
-            align: AbiAlign::new(align),
-            size,
-            max_repr_align: max_repr_align(repr.align, fields),
-            unadjusted_abi_align: if repr.transparent() {
-                transparent_align(size, align, &parts, &bulky)
-            } else {
-                list_align(&parts, &unraised(dl, repr, kind))
-            },
-            repr_c: repr.c() || (repr.transparent() && any_repr_c(fields)),
-            randomization_seed: seed_of(repr.field_shuffle_seed, movable_fields(kind, fields)),
-        })
+        let list = list_repr(dl, repr, kind);
+        layout_of_list(alloc, dl, fields.as_raw(), repr, &list)
     }
 }

@@ -45,11 +45,11 @@ pub fn list_repr(dl: &TargetDataLayout, repr: &ReprOptions, kind: StructKind) ->
 }
 
 /// The same before `repr(align)` raises the alignment.
-pub fn unraised(dl: &TargetDataLayout, repr: &ReprOptions, kind: StructKind) -> ListRepr
-    ensures { result ≡ unraised dl.now repr.now kind }
+pub fn unraised(dl: &TargetDataLayout, repr: &ReprOptions, list: &ListRepr) -> ListRepr
+    ensures { result ≡ unraised dl.now repr.now list.now.kind }
 {
     ListRepr {
-        kind,
+        kind: list.kind,
         pack: repr.pack,
         align: own_align(dl, repr),
         reorderable: !repr.inhibit_struct_field_reordering(),

@@ -4,7 +4,7 @@ ghost use Rattle.std.specs.Prelude.{◌≡◌, ℕ, ◌+◌, ◌^◌, ◌<◌, �
 ghost use Rattle.abi_base.specs.DataLayout.{IsLawfulDataLayout, size_bound};
 ghost use Rattle.abi_scalar.specs.Scalar.{IsLawfulScalar};
 ghost use Rattle.abi_calc.specs.Part.{IsLawfulPart};
-ghost use Rattle.abi_calc.specs.ListView.{any_unsized, bulky_align, bulky_parts, bulky_view, is_bulky, kept_view, list_view, one_view, pair_view, transparent_align, two_view};
+ghost use Rattle.abi_calc.specs.ListView.{any_unsized, bulky_align, bulky_parts, bulky_view, is_bulky, kept_view, list_view, one_view, pair_view, part_at, transparent_align, two_view};
 
 use crate::part::{Part, is_unsized};
 use abi_base::{Align, Size, TargetDataLayout};
@@ -19,6 +19,14 @@ fn is_bulky(part: &Part) -> bool
         BackendRepr::Memory { sized } => !(sized && part.size == Size::ZERO),
         _ => true,
     }
+}
+
+/// The field at an index.
+fn part_at<'a>(parts: &'a [Part], index: usize) -> &'a Part
+    requires { index < length parts.now }
+    ensures { result.now ≡ part_at parts.now index }
+{
+    &parts[index]
 }
 
 /// The indices of the fields that have bytes, or are seen as more than bytes in memory.
@@ -140,12 +148,17 @@ fn bulky_view(
     requires bulky { All (λ i. i < length parts.now) bulky.now }
     ensures { result ≡ bulky_view dl.now fixed size align parts.now offsets.now bulky.now }
 {
-    match bulky {
-        [i] => one_view(fixed, size, align, offsets[*i], &parts[*i]),
-        [i, j] => two_view(
-            dl, size, align, offsets[*i], &parts[*i], offsets[*j], &parts[*j],
-        ),
-        _ => BackendRepr::Memory { sized: true },
+    if bulky.len() == 1 {
+        let i = bulky[0];
+        one_view(fixed, size, align, offsets[i], part_at(parts, i))
+    } else if bulky.len() == 2 {
+        let i = bulky[0];
+        let j = bulky[1];
+        let one = part_at(parts, i);
+        let other = part_at(parts, j);
+        two_view(dl, size, align, offsets[i], one, offsets[j], other)
+    } else {
+        BackendRepr::Memory { sized: true }
     }
 }
 
@@ -183,8 +196,9 @@ pub fn transparent_align(size: Size, align: Align, parts: &[Part], bulky: &[usiz
     if any_unsized(parts) || size == Size::ZERO {
         return align;
     }
-    match bulky {
-        [i] => parts[*i].unadjusted_align,
-        _ => align,
+    if bulky.len() == 1 {
+        part_at(parts, bulky[0]).unadjusted_align
+    } else {
+        align
     }
 }

@@ -93,7 +93,7 @@ pub fn parts_of<
     fields: &[F],
 ) -> Result<Vec<Part>, AllocError>
     requires { All (λ f. IsLawfulLayout (C.target cx.now) (F.layout_of f)) fields.now }
-    ensures { IfOk result (λ parts. parts.items ≡ map (λ f. part_of (C.target cx.now) (F.layout_of f)) fields.now) }
+    ensures { IfOk result (λ parts. parts.items ≡ map (λ f. part_of (C.target cx.now) f) (map F.layout_of fields.now)) }
 {
     let mut parts = Vec::new(alloc);
     for field in fields {

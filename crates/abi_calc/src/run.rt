@@ -123,7 +123,10 @@ pub fn layout_of_parts(
     let Some(space) = space_wanted(dl, repr, parts.len(), &first) else {
         return Ok(first);
     };
-    let second = run(alloc, dl, parts, repr, NicheBias::End)?;
+    let second = match run(alloc, dl, parts, repr, NicheBias::End) {
+        Ok(second) => second,
+        Err(fault) => return Err(fault),
+    };
     if begins_after(&second.largest_niche, space) {
         Ok(second)
     } else {

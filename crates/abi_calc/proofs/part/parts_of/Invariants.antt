@@ -4,4 +4,4 @@ use Rattle.abi_calc.specs.Part.{part_of}
 use Rattle.abi_calc.proofs.part.parts_of.Given as goal
 
 abbrev pub invariant-loop-field : goal.invariant-loop-field
-invariant-loop-field g l = l.parts.items ≡ map (λ f. part_of (g.C.HasDataLayout.target l.cx) (g.F.LayoutHandle.layout_of f)) (take l.field-index l.fields)
+invariant-loop-field g l = l.parts.items ≡ map (λ f. part_of (g.C.HasDataLayout.target l.cx) f) (map g.F.LayoutHandle.layout_of (take l.field-index l.fields))

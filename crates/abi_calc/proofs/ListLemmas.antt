@@ -1,0 +1,74 @@
+-- Lists of fields with layouts.
+use Rattle.std.proofs.Common.{◌≡◌, ℕ, suc, ◌+◌, ◌^◌, ◌<◌, ◌≤◌, Bool, true, false, List, [], ◌∷◌, Option, None, Some, inl, inr, length, map, max, refl, sym, ap, subst, ◌∙◌, arith, ⊎_elim}
+use Rattle.std.specs.Prelude.{◌⊎◌, All, IfSome, IsPermutation, IsTrue, is_some, unwrap_or, if◌then◌else◌, slice_get}
+use Rattle.std.proofs.lemmas.List.{length-map}
+use Rattle.std.proofs.lemmas.List.Elements.{All-head, All-tail, All-nil, All-cons, All-get_or}
+use Rattle.abi_base.specs.declared.data_layout.TargetDataLayout.{TargetDataLayout}
+use Rattle.abi_base.specs.declared.struct_kind.StructKind.{StructKind}
+use Rattle.abi_base.specs.declared.integer.Integer.TheVariants.{I8}
+use Rattle.abi_base.specs.DataLayout.{IsLawfulDataLayout, alignments_of, size_bound}
+use Rattle.abi_scalar.specs.declared.layout_data.LayoutData.{LayoutData}
+use Rattle.abi_scalar.specs.declared.repr.ReprOptions.{ReprOptions}
+use Rattle.abi_scalar.specs.Lawful.{IsLawfulLayout}
+use Rattle.abi_calc.specs.declared.order.NicheBias.TheVariants.{Start}
+use Rattle.abi_calc.specs.declared.part.Part.{Part}
+use Rattle.abi_calc.specs.declared.list_repr.ListRepr.{ListRepr}
+use Rattle.abi_calc.specs.declared.placing.ListFault.{ListFault}
+use Rattle.abi_calc.specs.declared.placing.ListFault.TheVariants.{Unsized, TooLarge, OutOfMemory}
+use Rattle.abi_calc.specs.Fault.{IsFaultIndex, fault_in}
+use Rattle.abi_calc.specs.List.{HasLawfulAligns, parts_of}
+use Rattle.abi_calc.specs.Order.{IsNamedOrder}
+use Rattle.abi_calc.specs.Part.{IsLawfulPart, part_of}
+use Rattle.abi_calc.specs.Placement.{IsLawfulPrefix, IsLawfulRepr, IsNonEmptyIfUnsized, list_repr, own_align}
+use Rattle.abi_calc.specs.Run.{IsFaultOf}
+use Rattle.abi_calc.proofs.FaultLemmas.{unsized_in}
+use Rattle.abi_calc.proofs.Lawful.{aggregate_small}
+use Rattle.abi_calc.proofs.Least.{allowed_permutes, named_allowed}
+use Rattle.abi_calc.proofs.Sorting.{within_order}
+
+part_lawful_of : {F V : Type 0} (dl : TargetDataLayout) (l : LayoutData F V) → IsLawfulLayout dl l → IsLawfulPart dl (part_of dl l)
+part_lawful_of dl l h = record { aligned = h.limit; whole = h.multiple; niche = h.niche; view = h.view; niche_of_view = h.niche_of_view }
+
+pub parts_lawful : {F V H : Type 0} (layout_of : H → LayoutData F V) (dl : TargetDataLayout) (fields : List H) → All (λ f. IsLawfulLayout dl (layout_of f)) fields → All (IsLawfulPart dl) (parts_of dl (map layout_of fields))
+parts_lawful layout_of dl [] h = All-nil (IsLawfulPart dl)
+parts_lawful layout_of dl (f ∷ fs) h =
+    All-cons (IsLawfulPart dl) (part_of dl (layout_of f)) (parts_of dl (map layout_of fs)) (part_lawful_of dl (layout_of f) (All-head (λ f. IsLawfulLayout dl (layout_of f)) f fs h))
+    (parts_lawful layout_of dl fs (All-tail (λ f. IsLawfulLayout dl (layout_of f)) f fs h))
+
+pub length-parts : {F V H : Type 0} (layout_of : H → LayoutData F V) (dl : TargetDataLayout) (fields : List H) → length (parts_of dl (map layout_of fields)) ≡ length fields
+length-parts layout_of dl fields = length-map (map layout_of fields) (λ f. part_of dl f) ∙ length-map fields layout_of
+
+byte_small : (dl : TargetDataLayout) → IsLawfulDataLayout dl → dl.i8_align ≤ 29
+byte_small dl h = All-get_or (λ a. a ≤ 29) (alignments_of dl) 1 0 (omega arith) h.limit
+
+own_small : (b : Bool) (dl : TargetDataLayout) → IsLawfulDataLayout dl → (if b then dl.i8_align else dl.aggregate_align) ≤ 29
+own_small true dl h = byte_small dl h
+own_small false dl h = aggregate_small dl h
+
+option_small : (a : Option ℕ) → IfSome a (λ n. n ≤ 29) → unwrap_or a 0 ≤ 29
+option_small None h = omega arith
+option_small (Some n) h = h
+
+pub repr_lawful : (dl : TargetDataLayout) (repr : ReprOptions) (kind : StructKind) (count : ℕ) → IsLawfulDataLayout dl → HasLawfulAligns repr → IsLawfulPrefix kind (size_bound dl) → IsNonEmptyIfUnsized kind count
+    → IsLawfulRepr (list_repr dl repr kind) count (size_bound dl)
+repr_lawful dl repr kind count law aligns prefix tail =
+    let own : own_align dl repr ≤ 29 = own_small (is_some repr.pack) dl law in
+    let raised : unwrap_or repr.align 0 ≤ 29 = option_small repr.align aligns.align in
+    record { aligned = omega arith; kind = tail; starts = prefix }
+
+-- the field that a fault names is there
+fault_index : (repr : ListRepr) (dl : TargetDataLayout) (parts : List Part) (order : List ℕ) (fault : ListFault) → fault_in repr (size_bound dl) parts order ≡ Some fault → All (λ i. i < length parts) order
+    → IsFaultIndex (length parts) fault
+fault_index repr dl parts order (Unsized i) e within = (unsized_in repr (size_bound dl) parts order (λ i. i < length parts) i e within).0
+fault_index repr dl parts order TooLarge e within = tt
+fault_index repr dl parts order OutOfMemory e within = tt
+
+memory_index : (count : ℕ) (fault : ListFault) → fault ≡ OutOfMemory → IsFaultIndex count fault
+memory_index count (Unsized i) e = cc
+memory_index count TooLarge e = tt
+memory_index count OutOfMemory e = tt
+
+pub fault_named : (repr : ListRepr) (dl : TargetDataLayout) (parts : List Part) (fault : ListFault) → IsNonEmptyIfUnsized repr.kind (length parts) → IsFaultOf dl repr Start parts fault → IsFaultIndex (length parts) fault
+fault_named repr dl parts fault tail (inl f) =
+    fault_index repr dl parts f.0 fault f.2 (within_order (length parts) f.0 (allowed_permutes repr (length parts) f.0 (named_allowed repr Start parts f.0 tail f.1)))
+fault_named repr dl parts fault tail (inr e) = memory_index (length parts) fault e
