@@ -13,3 +13,4 @@ pub mod FaultLemmas
 pub mod RunLemmas
 pub mod SourceLemmas
 pub mod ListLemmas
+pub mod DeepLemmas

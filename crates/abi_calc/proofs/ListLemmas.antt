@@ -1,5 +1,5 @@
 -- Lists of fields with layouts.
-use Rattle.std.proofs.Common.{◌≡◌, ℕ, suc, ◌+◌, ◌^◌, ◌<◌, ◌≤◌, Bool, true, false, List, [], ◌∷◌, Option, None, Some, inl, inr, length, map, max, refl, sym, ap, subst, ◌∙◌, arith, ⊎_elim}
+use Rattle.std.proofs.Common.{◌≡◌, ℕ, suc, ◌+◌, ◌^◌, ◌<◌, ◌≤◌, Bool, true, false, List, [], ◌∷◌, Option, None, Some, Err, inl, inr, length, map, max, refl, sym, ap, subst, ◌∙◌, arith, ⊎_elim}
 use Rattle.std.specs.Prelude.{◌⊎◌, All, IfSome, IsPermutation, IsTrue, is_some, unwrap_or, if◌then◌else◌, slice_get}
 use Rattle.std.proofs.lemmas.List.{length-map}
 use Rattle.std.proofs.lemmas.List.Elements.{All-head, All-tail, All-nil, All-cons, All-get_or}
@@ -15,8 +15,11 @@ use Rattle.abi_calc.specs.declared.part.Part.{Part}
 use Rattle.abi_calc.specs.declared.list_repr.ListRepr.{ListRepr}
 use Rattle.abi_calc.specs.declared.placing.ListFault.{ListFault}
 use Rattle.abi_calc.specs.declared.placing.ListFault.TheVariants.{Unsized, TooLarge, OutOfMemory}
-use Rattle.abi_calc.specs.Fault.{IsFaultIndex, fault_in}
-use Rattle.abi_calc.specs.List.{HasLawfulAligns, parts_of}
+use Rattle.abi_scalar.specs.declared.error.LayoutCalculatorError.{LayoutCalculatorError}
+use Rattle.abi_scalar.specs.declared.error.LayoutCalculatorError.TheVariants.{SizeOverflow, UnexpectedUnsized, OutOfMemory as NoMemory}
+use Rattle.abi_calc.specs.Answer.{IsAnswer}
+use Rattle.abi_calc.specs.Fault.{IsErrorOf, IsFaultIndex, fault_in}
+use Rattle.abi_calc.specs.List.{HasLawfulAligns, IsListError, parts_of}
 use Rattle.abi_calc.specs.Order.{IsNamedOrder}
 use Rattle.abi_calc.specs.Part.{IsLawfulPart, part_of}
 use Rattle.abi_calc.specs.Placement.{IsLawfulPrefix, IsLawfulRepr, IsNonEmptyIfUnsized, list_repr, own_align}
@@ -72,3 +75,32 @@ pub fault_named : (repr : ListRepr) (dl : TargetDataLayout) (parts : List Part) 
 fault_named repr dl parts fault tail (inl f) =
     fault_index repr dl parts f.0 fault f.2 (within_order (length parts) f.0 (allowed_permutes repr (length parts) f.0 (named_allowed repr Start parts f.0 tail f.1)))
 fault_named repr dl parts fault tail (inr e) = memory_index (length parts) fault e
+
+-- ---- errors
+
+pub error_large : {H : Type 0} (fields : List H) (fault : ListFault) (error : LayoutCalculatorError H) → IsErrorOf fields fault error → error ≡ SizeOverflow → fault ≡ TooLarge
+error_large fields (Unsized i) error h e = let other : error ≡ UnexpectedUnsized h.0 = h.2 in cc
+error_large fields TooLarge error h e = refl
+error_large fields OutOfMemory error h e = cc
+
+pub error_answer : {A H : Type 0} (fields : List H) (fault : ListFault) (error : LayoutCalculatorError H) → (fault ≡ TooLarge) ⊎ (fault ≡ OutOfMemory) → IsErrorOf fields fault error
+    → IsAnswer {A = A} (Err SizeOverflow) (Err error)
+error_answer fields (Unsized i) error (inl e) h = cc
+error_answer fields TooLarge error (inl e) h = inl (ap (λ x. Err x) h)
+error_answer fields OutOfMemory error (inl e) h = cc
+error_answer fields (Unsized i) error (inr e) h = cc
+error_answer fields TooLarge error (inr e) h = cc
+error_answer fields OutOfMemory error (inr e) h = inr (ap (λ x. Err x) h)
+
+memory_error : {H : Type 0} (fields : List H) (fault : ListFault) (error : LayoutCalculatorError H) → IsErrorOf fields fault error → fault ≡ OutOfMemory → error ≡ NoMemory
+memory_error fields (Unsized i) error h e = cc
+memory_error fields TooLarge error h e = cc
+memory_error fields OutOfMemory error h e = h
+
+pub error_exact : {F V H : Type 0} (layout_of : H → LayoutData F V) (dl : TargetDataLayout) (repr : ReprOptions) (kind : StructKind) (list : ListRepr) (fields : List H) (fault : ListFault) (error : LayoutCalculatorError H)
+    → IsFaultOf dl list Start (parts_of dl (map layout_of fields)) fault → IsErrorOf fields fault error → list ≡ list_repr dl repr kind
+    → IsListError layout_of dl repr kind fields error ⊎ (error ≡ NoMemory)
+error_exact layout_of dl repr kind list fields fault error (inl f) h e =
+    inl (f.0, subst (λ (r : ListRepr). IsNamedOrder r Start (parts_of dl (map layout_of fields)) f.0) e f.1, fault,
+    subst (λ (r : ListRepr). fault_in r (size_bound dl) (parts_of dl (map layout_of fields)) f.0 ≡ Some fault) e f.2, h)
+error_exact layout_of dl repr kind list fields fault error (inr m) h e = inr (memory_error fields fault error h m)

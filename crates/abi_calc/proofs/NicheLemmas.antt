@@ -1,5 +1,5 @@
 -- Niches of lists: the greatest of them, and what holds of it.
-use Rattle.std.proofs.Common.{◌≡◌, ℕ, ◌+◌, ◌^◌, ◌<◌, ◌≤◌, Bool, true, false, List, [], ◌∷◌, length, map, Option, Some, None, refl, sym, ap, ◌∙◌, subst, arith, inl, inr}
+use Rattle.std.proofs.Common.{◌≡◌, ℕ, ◌+◌, ◌^◌, ◌<◌, ◌≤◌, Bool, true, false, List, [], ◌∷◌, length, map, zero, suc, get_or, Option, Some, None, refl, sym, ap, ◌∙◌, subst, arith, inl, inr}
 use Rattle.std.specs.Prelude.{All, IfSome, nat_lt, if◌then◌else◌}
 use Rattle.std.proofs.lemmas.Bool.Decides.{nat_tests}
 use Rattle.std.proofs.lemmas.List.Elements.{All-cons, All-head, All-nil, All-tail}
@@ -16,9 +16,11 @@ use Rattle.abi_scalar.specs.Niche.{IsReadableNiche, available_in}
 use Rattle.abi_scalar.specs.Pair.{larger_niche}
 use Rattle.abi_calc.specs.declared.order.NicheBias.{NicheBias}
 use Rattle.abi_calc.specs.declared.order.NicheBias.TheVariants.{Start, End}
-use Rattle.abi_calc.specs.Apart.{AreApart}
-use Rattle.abi_calc.specs.Placement.{offsets_from, place_of}
-use Rattle.abi_calc.specs.ListNiche.{IsNicheAt, greater_niche, greatest_niche, niche_of_part}
+use Rattle.abi_calc.specs.ListNiche.{HasLargestNiche, IsNicheAt, IsNicheOfPart, greater_niche, greatest_niche, niche_of_part}
+use Rattle.abi_calc.specs.declared.part.Part.{Part}
+use Rattle.abi_calc.specs.List.{parts_of}
+use Rattle.abi_calc.specs.Part.{part_of}
+use Rattle.abi_calc.specs.Placement.{no_part}
 
 -- a choice of two niches by a test
 pick : (b : Bool) (x y : Niche) → Option Niche
@@ -126,3 +128,118 @@ part_fits dl offset size (Some own) h inside = omega (arith, h.inside)
 pub part_readable : (dl : TargetDataLayout) (offset size : ℕ) (own : Option Niche) → IfSome own (IsLawfulNiche dl size) → IfSome (niche_of_part offset own) (IsReadableNiche dl)
 part_readable dl offset size own h = lawful_readable dl (offset + size) (niche_of_part offset own) (part_lawful dl offset size (offset + size) own h (omega arith))
 
+-- ---- it has the most free numbers
+
+-- no more free numbers than this niche has, where there is one
+abbrev pub IsBelow : TargetDataLayout → (own best : Option Niche) → Type 0
+IsBelow dl own None = own ≡ None
+IsBelow dl own (Some niche) = IfSome own (λ own. available_in dl own ≤ available_in dl niche)
+
+below_pick : (b : Bool) (dl : TargetDataLayout) (own : Option Niche) (x y : Niche) → nat_lt (available_in dl x) (available_in dl y) ≡ b
+    → (IsBelow dl own (Some x) → IsBelow dl own (if b then Some y else Some x)) × (IsBelow dl own (Some y) → IsBelow dl own (if b then Some y else Some x))
+below_pick true dl None x y e = (λ h. tt, λ h. tt)
+below_pick false dl None x y e = (λ h. tt, λ h. tt)
+below_pick true dl (Some own) x y e = (λ h. grind (arith, nat_tests), λ h. h)
+below_pick false dl (Some own) x y e = (λ h. h, λ h. grind (arith, nat_tests))
+
+below_none : (dl : TargetDataLayout) (own : Option Niche) (x : Niche) → own ≡ None → IsBelow dl own (Some x)
+below_none dl None x h = tt
+below_none dl (Some own) x h = cc
+
+-- what is below the first is below the larger
+below_first : (dl : TargetDataLayout) (own x y : Option Niche) → IsBelow dl own x → IsBelow dl own (larger_niche dl x y)
+below_first dl own None None h = h
+below_first dl own None (Some y) h = below_none dl own y h
+below_first dl own (Some x) None h = h
+below_first dl own (Some x) (Some y) h = (below_pick (nat_lt (available_in dl x) (available_in dl y)) dl own x y refl).0 h
+
+below_second : (dl : TargetDataLayout) (own x y : Option Niche) → IsBelow dl own y → IsBelow dl own (larger_niche dl x y)
+below_second dl own None y h = h
+below_second dl own (Some x) None h = below_none dl own x h
+below_second dl own (Some x) (Some y) h = (below_pick (nat_lt (available_in dl x) (available_in dl y)) dl own x y refl).1 h
+
+below_earlier : (bias : NicheBias) (dl : TargetDataLayout) (own x y : Option Niche) → IsBelow dl own x → IsBelow dl own (greater_niche bias dl x y)
+below_earlier Start dl own x y h = below_first dl own x y h
+below_earlier End dl own x y h = below_second dl own y x h
+
+below_later : (bias : NicheBias) (dl : TargetDataLayout) (own x y : Option Niche) → IsBelow dl own y → IsBelow dl own (greater_niche bias dl x y)
+below_later Start dl own x y h = below_second dl own x y h
+below_later End dl own x y h = below_first dl own y x h
+
+below_part : (dl : TargetDataLayout) (offset : ℕ) (own : Option Niche) → IsBelow dl own (niche_of_part offset own)
+below_part dl offset None = refl
+below_part dl offset (Some own) = omega arith
+
+below_all : (bias : NicheBias) (dl : TargetDataLayout) (earlier later : Option Niche) (fields : List Part)
+    → All (λ f. IsBelow dl f.largest_niche later) fields → All (λ f. IsBelow dl f.largest_niche (greater_niche bias dl earlier later)) fields
+below_all bias dl earlier later [] h = All-nil (λ f. IsBelow dl f.largest_niche (greater_niche bias dl earlier later))
+below_all bias dl earlier later (f ∷ fields) h =
+    All-cons (λ f. IsBelow dl f.largest_niche (greater_niche bias dl earlier later)) f fields
+    (below_later bias dl f.largest_niche earlier later (All-head (λ f. IsBelow dl f.largest_niche later) f fields h))
+    (below_all bias dl earlier later fields (All-tail (λ f. IsBelow dl f.largest_niche later) f fields h))
+
+pub greatest_below : (bias : NicheBias) (dl : TargetDataLayout) (offsets : List ℕ) (parts : List Part) → length offsets ≡ length parts
+    → All (λ p. IsBelow dl p.largest_niche (greatest_niche bias dl offsets parts)) parts
+greatest_below bias dl [] [] e = All-nil (λ p. IsBelow dl p.largest_niche None)
+greatest_below bias dl (o ∷ offsets) [] e = All-nil (λ p. IsBelow dl p.largest_niche None)
+greatest_below bias dl [] (p ∷ parts) e = cc
+greatest_below bias dl (o ∷ offsets) (p ∷ parts) e =
+    let later : Option Niche = greatest_niche bias dl offsets parts in
+    let here : Option Niche = niche_of_part o p.largest_niche in
+    All-cons (λ q. IsBelow dl q.largest_niche (greater_niche bias dl here later)) p parts
+    (below_earlier bias dl p.largest_niche here later (below_part dl o p.largest_niche))
+    (below_all bias dl here later parts (greatest_below bias dl offsets parts (omega arith)))
+
+-- what is below for parts makes the largest for their layouts
+below_layouts : {F V H : Type 0} (layout_of : H → LayoutData F V) (dl : TargetDataLayout) (best : Option Niche) (hs : List H)
+    → All (λ p. IsBelow dl p.largest_niche best) (parts_of dl (map layout_of hs)) → All (λ f. IsBelow dl f.largest_niche best) (map layout_of hs)
+below_layouts layout_of dl best [] h = All-nil (λ f. IsBelow dl f.largest_niche best)
+below_layouts layout_of dl best (x ∷ hs) h =
+    All-cons (λ f. IsBelow dl f.largest_niche best) (layout_of x) (map layout_of hs)
+    (All-head (λ p. IsBelow dl p.largest_niche best) (part_of dl (layout_of x)) (parts_of dl (map layout_of hs)) h)
+    (below_layouts layout_of dl best hs (All-tail (λ p. IsBelow dl p.largest_niche best) (part_of dl (layout_of x)) (parts_of dl (map layout_of hs)) h))
+
+largest_of_below : {F V : Type 0} (dl : TargetDataLayout) (best : Option Niche) (fields : List (LayoutData F V)) → All (λ f. IsBelow dl f.largest_niche best) fields → HasLargestNiche dl best fields
+largest_of_below dl None fields h = h
+largest_of_below dl (Some niche) fields h = h
+
+pub largest_of_parts : {F V H : Type 0} (layout_of : H → LayoutData F V) (dl : TargetDataLayout) (best : Option Niche) (hs : List H)
+    → All (λ p. IsBelow dl p.largest_niche best) (parts_of dl (map layout_of hs)) → HasLargestNiche dl best (map layout_of hs)
+largest_of_parts layout_of dl best hs h = largest_of_below dl best (map layout_of hs) (below_layouts layout_of dl best hs h)
+
+-- ---- which part's niche it is
+
+-- the niche is that of the part at this index
+pub record IsNicheOfIndex (offsets : List ℕ) (parts : List Part) (niche : Niche) : Type 0 where
+  pub index : ℕ
+  pub within : index < length parts
+  pub own : IsNicheAt (get_or offsets index 0) (get_or parts index no_part).largest_niche niche
+
+part_here : (offset : ℕ) (own : Option Niche) → IfSome (niche_of_part offset own) (λ niche. IsNicheAt offset own niche)
+part_here offset None = tt
+part_here offset (Some own) = (refl, refl, refl)
+
+weaken : (P Q : Niche → Type 0) (niche : Option Niche) → ((n : Niche) → P n → Q n) → IfSome niche P → IfSome niche Q
+weaken P Q None f h = tt
+weaken P Q (Some n) f h = f n h
+
+pub greatest_of_index : (bias : NicheBias) (dl : TargetDataLayout) (offsets : List ℕ) (parts : List Part) → IfSome (greatest_niche bias dl offsets parts) (IsNicheOfIndex offsets parts)
+greatest_of_index bias dl [] [] = tt
+greatest_of_index bias dl [] (p ∷ parts) = tt
+greatest_of_index bias dl (o ∷ offsets) [] = tt
+greatest_of_index bias dl (o ∷ offsets) (p ∷ parts) =
+    greater_has bias dl (IsNicheOfIndex (o ∷ offsets) (p ∷ parts)) (niche_of_part o p.largest_niche) (greatest_niche bias dl offsets parts)
+    (weaken (IsNicheAt o p.largest_niche) (IsNicheOfIndex (o ∷ offsets) (p ∷ parts)) (niche_of_part o p.largest_niche) (λ n h. record { index = 0; within = omega arith; own = h }) (part_here o p.largest_niche))
+    (weaken (IsNicheOfIndex offsets parts) (IsNicheOfIndex (o ∷ offsets) (p ∷ parts)) (greatest_niche bias dl offsets parts)
+    (λ n h. record { index = suc h.index; within = omega (arith, h.within); own = h.own }) (greatest_of_index bias dl offsets parts))
+
+pub weaken_niche : (P Q : Niche → Type 0) (niche : Option Niche) → ((n : Niche) → P n → Q n) → IfSome niche P → IfSome niche Q
+weaken_niche P Q niche f h = weaken P Q niche f h
+
+-- so it is a part's of the list of layouts
+pub of_part : {F V H : Type 0} (layout_of : H → LayoutData F V) (dl : TargetDataLayout) (offsets : List ℕ) (hs : List H) (n : Niche) (i : ℕ) → length offsets ≡ length hs → i < length hs
+    → IsNicheAt (get_or offsets i 0) (get_or (parts_of dl (map layout_of hs)) i no_part).largest_niche n → IsNicheOfPart offsets (map layout_of hs) n
+of_part layout_of dl offsets [] n i e short h = absurd (omega arith)
+of_part layout_of dl [] (x ∷ hs) n i e short h = cc
+of_part layout_of dl (o ∷ offsets) (x ∷ hs) n zero e short h = inl h
+of_part layout_of dl (o ∷ offsets) (x ∷ hs) n (suc i) e short h = inr (of_part layout_of dl offsets hs n i (omega arith) (omega arith) h)

@@ -67,7 +67,7 @@ in_order-more fields order k i short is =
     let more : take (k + 1) order ≡ take k order ++ i ∷ [] = subst (λ x. take (k + 1) order ≡ take k order ++ x ∷ []) (sym is) (take_more order k 0 short) in
     ap (in_order fields) more ∙ map-append (λ j. get_or fields j no_part) (take k order) (i ∷ [])
 
-length-offsets : (pack : Option ℕ) (from : ℕ) (fs : List Part) → length (offsets_from pack from fs) ≡ length fs
+pub length-offsets : (pack : Option ℕ) (from : ℕ) (fs : List Part) → length (offsets_from pack from fs) ≡ length fs
 length-offsets pack from [] = refl
 length-offsets pack from (f ∷ fs) = ap (λ n. suc n) (length-offsets pack (place_of pack from f + f.size) fs)
 

@@ -64,15 +64,15 @@ pub record Lies (pack : Option ℕ) (from : ℕ) (parts : List Part) (order offs
   pub count : length offsets ≡ length parts
   pub places : map (slice_index offsets) order ≡ offsets_from pack from (in_order parts order)
 
-length-in : (parts : List Part) (order : List ℕ) → length (in_order parts order) ≡ length order
+pub length-in : (parts : List Part) (order : List ℕ) → length (in_order parts order) ≡ length order
 length-in parts order = length-map order (λ i. get_or parts i no_part)
 
-offset_at : (pack : Option ℕ) (from : ℕ) (parts : List Part) (order offsets : List ℕ) (a i : ℕ) → Lies pack from parts order offsets → a < length order → get_or order a 0 ≡ i
+pub offset_at : (pack : Option ℕ) (from : ℕ) (parts : List Part) (order offsets : List ℕ) (a i : ℕ) → Lies pack from parts order offsets → a < length order → get_or order a 0 ≡ i
     → get_or (offsets_from pack from (in_order parts order)) a 0 ≡ get_or offsets i 0
 offset_at pack from parts order offsets a i l short is =
     ap (λ xs. get_or xs a 0) (sym l.places) ∙ get_or-map (slice_index offsets) order a 0 0 short ∙ ap (λ j. get_or offsets j 0) is
 
-part_in : (parts : List Part) (order : List ℕ) (a i : ℕ) → a < length order → get_or order a 0 ≡ i → get_or (in_order parts order) a no_part ≡ get_or parts i no_part
+pub part_in : (parts : List Part) (order : List ℕ) (a i : ℕ) → a < length order → get_or order a 0 ≡ i → get_or (in_order parts order) a no_part ≡ get_or parts i no_part
 part_in parts order a i short is = get_or-map (λ j. get_or parts j no_part) order a 0 no_part short ∙ ap (λ j. get_or parts j no_part) is
 
 pub lies_at : (pack : Option ℕ) (from : ℕ) (parts : List Part) (order offsets : List ℕ) (i : ℕ) → Lies pack from parts order offsets → i < length parts

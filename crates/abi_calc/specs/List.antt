@@ -75,3 +75,7 @@ abbrev pub IsListAnswer : {F V H : Type 0} → (layout_of : H → LayoutData F V
 IsListAnswer layout_of at first dl repr kind fields (Ok layout) =
     (order : List ℕ) × (offsets : List ℕ) × IsListLayout at first dl repr kind (map layout_of fields) order offsets layout
 IsListAnswer layout_of at first dl repr kind fields (Err error) = IsListError layout_of dl repr kind fields error ⊎ (error ≡ OutOfMemory)
+
+-- the size of each field is known beforehand
+abbrev pub AreSized : {F V : Type 0} → List (LayoutData F V) → Type 0
+AreSized fields = All (λ f. is_unsized f.backend_repr ≡ false) fields

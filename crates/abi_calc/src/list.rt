@@ -8,7 +8,7 @@ ghost use Rattle.abi_scalar.specs.Lawful.{IsLawfulLayout};
 ghost use Rattle.abi_calc.specs.Answer.{IsAnswer};
 ghost use Rattle.abi_calc.specs.Apart.{AreAligned, AreApart, offsets_of};
 ghost use Rattle.abi_calc.specs.Fault.{IsErrorOf, IsFaultIndex};
-ghost use Rattle.abi_calc.specs.List.{HasLawfulAligns, IsListAnswer, greater, max_repr_align_of, parts_of};
+ghost use Rattle.abi_calc.specs.List.{AreSized, HasLawfulAligns, IsListAnswer, greater, max_repr_align_of, parts_of};
 ghost use Rattle.abi_calc.specs.ListNiche.{HasLargestNiche, IsNicheOfPart};
 ghost use Rattle.abi_calc.specs.Order.{movable};
 ghost use Rattle.abi_calc.specs.Placement.{IsAllowed, IsLawfulPrefix, IsNonEmptyIfUnsized, IsSized, cut, list_repr, size_in, start_of, sum_rounded};
@@ -156,6 +156,16 @@ fn layout_of_list<FieldIdx: Idx, VariantIdx: Idx, F: LayoutHandle<FieldIdx, Vari
     requires tail { IsNonEmptyIfUnsized list.now.kind (length fields.now) }
     requires count { length fields.now ≤ FieldIdx.MAX_INDEX + 1 }
     ensures exact { IsListAnswer F.layout_of FieldIdx.at (VariantIdx.at 0) dl.now repr.now list.now.kind fields.now result }
+    ensures lawful { IfOk result (IsLawfulLayout dl.now) }
+    ensures apart { IfOk result (λ l. AreApart l.size (offsets_of l.fields) (map (λ f. (F.layout_of f).size) fields.now)) }
+    ensures after { IfOk result (λ l. All (λ o. start_of list.now.pack list.now.kind ≤ o) (offsets_of l.fields)) }
+    ensures aligned { IfOk result (λ l. AreAligned (offsets_of l.fields) (map (λ f. cut list.now.pack (F.layout_of f).align.abi) fields.now)) }
+    ensures niche { IfOk result (λ l. IfSome l.largest_niche (IsNicheOfPart (offsets_of l.fields) (map F.layout_of fields.now))) }
+    ensures largest { IfOk result (λ l. HasLargestNiche dl.now l.largest_niche (map F.layout_of fields.now)) }
+    ensures least { IfOk result (λ l. (other : List ℕ) → IsAllowed list.now (length fields.now) other → l.size ≤ size_in list.now (parts_of dl.now (map F.layout_of fields.now)) other) }
+    ensures too_large { result ≡ Err LayoutCalculatorError.SizeOverflow → (other : List ℕ) → IsAllowed list.now (length fields.now) other → size_bound dl.now ≤ size_in list.now (parts_of dl.now (map F.layout_of fields.now)) other }
+    ensures refused { AreSized (map F.layout_of fields.now) → ((other : List ℕ) → IsAllowed list.now (length fields.now) other → size_bound dl.now ≤ size_in list.now (parts_of dl.now (map F.layout_of fields.now)) other) → IsAnswer (Err LayoutCalculatorError.SizeOverflow) result }
+    ensures sum { IsTrue list.now.reorderable → IsSized list.now.kind → IfOk result (λ l. l.size ≡ sum_rounded list.now (parts_of dl.now (map F.layout_of fields.now))) }
 {
     let parts = parts_of(alloc, dl, fields)?;
     let placed = match layout_of_parts(alloc, dl, &parts, list) {
