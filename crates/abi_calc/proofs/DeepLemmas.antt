@@ -1,14 +1,13 @@
 -- What is promised of a list, from the run that laid it out.
-use Rattle.std.proofs.Common.{◌≡◌, ℕ, zero, suc, ◌+◌, ◌^◌, ◌<◌, ◌≤◌, Bool, true, false, List, [], ◌∷◌, Option, None, Some, inl, inr, length, map, get_or, refl, sym, ap, subst, ◌∙◌, arith}
-use Rattle.std.specs.Prelude.{◌⊎◌, All, IfSome, IsPermutation, IsTrue, slice_get}
-use Rattle.std.proofs.lemmas.List.{length-map, get_or_default}
+use Rattle.std.proofs.Common.{◌≡◌, ℕ, zero, suc, ◌<◌, ◌≤◌, true, false, List, [], ◌∷◌, Option, Some, inl, inr, length, map, get_or, refl, sym, ap, subst, ◌∙◌, arith}
+use Rattle.std.specs.Prelude.{◌⊎◌, All, IfSome, IsPermutation, IsTrue}
 use Rattle.std.proofs.lemmas.List.Sorted.{All-permutation, IsPermutation-sym}
 use Rattle.std.proofs.lemmas.List.Elements.{All-head, All-tail}
 use Rattle.abi_base.specs.declared.data_layout.TargetDataLayout.{TargetDataLayout}
 use Rattle.abi_base.specs.DataLayout.{size_bound}
 use Rattle.abi_scalar.specs.declared.layout_data.LayoutData.{LayoutData}
 use Rattle.abi_scalar.specs.declared.niche.Niche.{Niche}
-use Rattle.abi_scalar.specs.Lawful.{IsLawfulLayout, IsLawfulNiche}
+use Rattle.abi_scalar.specs.Lawful.{IsLawfulNiche}
 use Rattle.abi_calc.specs.declared.part.Part.{Part}
 use Rattle.abi_calc.specs.declared.list_repr.ListRepr.{ListRepr}
 use Rattle.abi_calc.specs.declared.order.NicheBias.TheVariants.{Start}
@@ -18,8 +17,7 @@ use Rattle.abi_calc.specs.Apart.{AreAligned, AreApart}
 use Rattle.abi_calc.specs.Fault.{fault_in}
 use Rattle.abi_calc.specs.List.{AreSized, parts_of}
 use Rattle.abi_calc.specs.ListNiche.{HasLargestNiche, IsNicheOfPart, niche_in}
-use Rattle.abi_calc.specs.Order.{IsNamedOrder}
-use Rattle.abi_calc.specs.Part.{IsLawfulPart, is_unsized, part_of}
+use Rattle.abi_calc.specs.Part.{IsLawfulPart, is_unsized}
 use Rattle.abi_calc.specs.Placement.{IsAllowed, IsNonEmptyIfUnsized, IsSized, align_of, cut, end_from, in_order, no_part, offsets_from, size_in, source_order, start_of, sum_rounded}
 use Rattle.abi_calc.specs.Run.{IsFaultOf}
 use Rattle.abi_calc.proofs.FaultLemmas.{clear_of, large_in, memory_in, unsized_in}

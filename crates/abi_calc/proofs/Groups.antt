@@ -3,7 +3,7 @@ use Rattle.std.proofs.Common.{◌≡◌, ℕ, ◌*◌, ◌^◌, ◌%◌, ◌/◌
 use Rattle.std.specs.Prelude.{if◌then◌else◌}
 use Rattle.std.specs.Int.{◌∣◌, trailing_zeros, w64}
 use Rattle.std.specs.Int.Count.{count_trailing_zeros}
-use Rattle.std.proofs.Math.Nat.{dvd_trans, dvd-zero, one-dvd, dvd_refl, dvd-mul_left, dvd_of_mod-eq-zero, mod-eq-zero_of_dvd, mul-dvd-mul_right, dvd_of_mul-dvd-mul_right, pow-suc, pow-le-pow_right, le_of_dvd}
+use Rattle.std.proofs.Math.Nat.{dvd_trans, dvd-zero, one-dvd, dvd_refl, dvd-mul_left, mod-eq-zero_of_dvd, mul-dvd-mul_right, dvd_of_mul-dvd-mul_right, pow-suc, pow-le-pow_right, le_of_dvd}
 use Rattle.std.proofs.lemmas.Nat.{pow_pos, trailing_le}
 use Rattle.std.proofs.lemmas.Bool.{cases_lt}
 use Rattle.abi_calc.specs.declared.part.Part.{Part}

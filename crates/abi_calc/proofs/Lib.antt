@@ -14,3 +14,4 @@ pub mod RunLemmas
 pub mod SourceLemmas
 pub mod ListLemmas
 pub mod DeepLemmas
+pub mod LawfulList

@@ -1,11 +1,11 @@
 -- Lists of fields with layouts.
-use Rattle.std.proofs.Common.{◌≡◌, ℕ, suc, ◌+◌, ◌^◌, ◌<◌, ◌≤◌, Bool, true, false, List, [], ◌∷◌, Option, None, Some, Err, inl, inr, length, map, max, refl, sym, ap, subst, ◌∙◌, arith, ⊎_elim}
-use Rattle.std.specs.Prelude.{◌⊎◌, All, IfSome, IsPermutation, IsTrue, is_some, unwrap_or, if◌then◌else◌, slice_get}
-use Rattle.std.proofs.lemmas.List.{length-map}
+use Rattle.std.proofs.Common.{◌≡◌, ℕ, ◌+◌, ◌-◌, ◌%◌, ◌^◌, ◌<◌, ◌≤◌, Bool, true, false, List, [], ◌∷◌, Option, None, Some, Err, inl, inr, length, map, take, refl, sym, ap, ap₂, subst, ◌∙◌, arith}
+use Rattle.std.specs.Prelude.{◌⊎◌, All, IfSome, is_some, unwrap_or, if◌then◌else◌, sum_by}
+use Rattle.std.proofs.lemmas.List.{length-map, take-map}
 use Rattle.std.proofs.lemmas.List.Elements.{All-head, All-tail, All-nil, All-cons, All-get_or}
 use Rattle.abi_base.specs.declared.data_layout.TargetDataLayout.{TargetDataLayout}
 use Rattle.abi_base.specs.declared.struct_kind.StructKind.{StructKind}
-use Rattle.abi_base.specs.declared.integer.Integer.TheVariants.{I8}
+use Rattle.abi_base.specs.declared.struct_kind.StructKind.TheVariants.{AlwaysSized, MaybeUnsized, Prefixed}
 use Rattle.abi_base.specs.DataLayout.{IsLawfulDataLayout, alignments_of, size_bound}
 use Rattle.abi_scalar.specs.declared.layout_data.LayoutData.{LayoutData}
 use Rattle.abi_scalar.specs.declared.repr.ReprOptions.{ReprOptions}
@@ -19,10 +19,12 @@ use Rattle.abi_scalar.specs.declared.error.LayoutCalculatorError.{LayoutCalculat
 use Rattle.abi_scalar.specs.declared.error.LayoutCalculatorError.TheVariants.{SizeOverflow, UnexpectedUnsized, OutOfMemory as NoMemory}
 use Rattle.abi_calc.specs.Answer.{IsAnswer}
 use Rattle.abi_calc.specs.Fault.{IsErrorOf, IsFaultIndex, fault_in}
-use Rattle.abi_calc.specs.List.{HasLawfulAligns, IsListError, parts_of}
-use Rattle.abi_calc.specs.Order.{IsNamedOrder}
+use Rattle.abi_calc.specs.List.{HasLawfulAligns, IsListError, list_seed, parts_of, unadjusted_of}
+use Rattle.abi_calc.specs.ListView.{list_view, transparent_align}
+use Rattle.abi_scalar.specs.Repr.{is_transparent}
+use Rattle.abi_calc.specs.Order.{IsNamedOrder, movable}
 use Rattle.abi_calc.specs.Part.{IsLawfulPart, part_of}
-use Rattle.abi_calc.specs.Placement.{IsLawfulPrefix, IsLawfulRepr, IsNonEmptyIfUnsized, list_repr, own_align}
+use Rattle.abi_calc.specs.Placement.{IsLawfulPrefix, IsLawfulRepr, IsNonEmptyIfUnsized, align_of, list_repr, own_align, unraised}
 use Rattle.abi_calc.specs.Run.{IsFaultOf}
 use Rattle.abi_calc.proofs.FaultLemmas.{unsized_in}
 use Rattle.abi_calc.proofs.Lawful.{aggregate_small}
@@ -101,6 +103,43 @@ pub error_exact : {F V H : Type 0} (layout_of : H → LayoutData F V) (dl : Targ
     → IsFaultOf dl list Start (parts_of dl (map layout_of fields)) fault → IsErrorOf fields fault error → list ≡ list_repr dl repr kind
     → IsListError layout_of dl repr kind fields error ⊎ (error ≡ NoMemory)
 error_exact layout_of dl repr kind list fields fault error (inl f) h e =
-    inl (f.0, subst (λ (r : ListRepr). IsNamedOrder r Start (parts_of dl (map layout_of fields)) f.0) e f.1, fault,
-    subst (λ (r : ListRepr). fault_in r (size_bound dl) (parts_of dl (map layout_of fields)) f.0 ≡ Some fault) e f.2, h)
+    inl (
+      f.0,
+      subst (λ (r : ListRepr). IsNamedOrder r Start (parts_of dl (map layout_of fields)) f.0) e f.1,
+      fault,
+      subst (λ (r : ListRepr). fault_in r (size_bound dl) (parts_of dl (map layout_of fields)) f.0 ≡ Some fault) e f.2,
+      h,
+    )
 error_exact layout_of dl repr kind list fields fault error (inr m) h e = inr (memory_error fields fault error h m)
+
+-- ---- the layout's parts
+
+pub view_same : (dl : TargetDataLayout) (fixed fixed2 : Bool) (size align align2 : ℕ) (ps ps2 : List Part) (os os2 : List ℕ) → fixed ≡ fixed2 → align ≡ align2 → ps ≡ ps2 → os ≡ os2
+    → list_view dl fixed size align ps os ≡ list_view dl fixed2 size align2 ps2 os2
+view_same dl fixed fixed2 size align align2 ps ps2 os os2 a b c d = rw (a, b, c, d) refl
+
+pub unadjusted_then : (dl : TargetDataLayout) (repr : ReprOptions) (kind : StructKind) (size align abi : ℕ) (ps ps2 : List Part) → is_transparent repr ≡ true → align ≡ abi → ps ≡ ps2
+    → transparent_align size align ps ≡ unadjusted_of dl repr kind size abi ps2
+unadjusted_then dl repr kind size align abi ps ps2 t a p = rw (a, p) (if_then (is_transparent repr) (transparent_align size abi ps2) (align_of (unraised dl repr kind) ps2) t)
+  where
+    if_then : (b : Bool) (x y : ℕ) → b ≡ true → x ≡ (if b then x else y)
+    if_then true x y e = refl
+    if_then false x y e = cc
+
+pub unadjusted_else : (dl : TargetDataLayout) (repr : ReprOptions) (kind : StructKind) (size abi : ℕ) (r : ListRepr) (ps ps2 : List Part) → is_transparent repr ≡ false → r ≡ unraised dl repr kind → ps ≡ ps2
+    → align_of r ps ≡ unadjusted_of dl repr kind size abi ps2
+unadjusted_else dl repr kind size abi r ps ps2 t a p = ap₂ align_of a p ∙ if_else (is_transparent repr) (transparent_align size abi ps2) (align_of (unraised dl repr kind) ps2) t
+  where
+    if_else : (b : Bool) (x y : ℕ) → b ≡ false → y ≡ (if b then x else y)
+    if_else true x y e = cc
+    if_else false x y e = refl
+
+movable-map : {F V H : Type 0} (layout_of : H → LayoutData F V) (kind : StructKind) (fields : List H) → map layout_of (movable kind fields) ≡ movable kind (map layout_of fields)
+movable-map layout_of AlwaysSized fields = refl
+movable-map layout_of MaybeUnsized fields = sym (take-map layout_of (length fields - 1) fields) ∙ ap (λ n. take (n - 1) (map layout_of fields)) (sym (length-map fields layout_of))
+movable-map layout_of (Prefixed size align) fields = refl
+
+pub seed_same : {F V H : Type 0} (layout_of : H → LayoutData F V) (repr : ReprOptions) (kind : StructKind) (fields front : List H) → front ≡ movable kind fields
+    → (sum_by (λ f. f.randomization_seed) (map layout_of front) + repr.field_shuffle_seed) % 2 ^ 64 ≡ list_seed repr kind (map layout_of fields)
+seed_same layout_of repr kind fields front e =
+    ap (λ fs. (sum_by (λ f. f.randomization_seed) fs + repr.field_shuffle_seed) % 2 ^ 64) (ap (map layout_of) e ∙ movable-map layout_of kind fields)

@@ -1,5 +1,5 @@
 -- Niches of lists: the greatest of them, and what holds of it.
-use Rattle.std.proofs.Common.{◌≡◌, ℕ, ◌+◌, ◌^◌, ◌<◌, ◌≤◌, Bool, true, false, List, [], ◌∷◌, length, map, zero, suc, get_or, Option, Some, None, refl, sym, ap, ◌∙◌, subst, arith, inl, inr}
+use Rattle.std.proofs.Common.{◌≡◌, ℕ, ◌+◌, ◌^◌, ◌<◌, ◌≤◌, Bool, true, false, List, [], ◌∷◌, length, map, zero, suc, get_or, Option, Some, None, refl, sym, ◌∙◌, arith, inl, inr}
 use Rattle.std.specs.Prelude.{All, IfSome, nat_lt, if◌then◌else◌}
 use Rattle.std.proofs.lemmas.Bool.Decides.{nat_tests}
 use Rattle.std.proofs.lemmas.List.Elements.{All-cons, All-head, All-nil, All-tail}
@@ -11,7 +11,7 @@ use Rattle.abi_base.specs.declared.primitive.Primitive.TheVariants.{Int, Float a
 use Rattle.abi_base.specs.Primitive.{primitive_size, IsLawfulPrimitive, KnowsPrimitive}
 use Rattle.abi_scalar.specs.declared.niche.Niche.{Niche}
 use Rattle.abi_scalar.specs.declared.layout_data.LayoutData.{LayoutData}
-use Rattle.abi_scalar.specs.Lawful.{IsLawfulLayout, IsLawfulNiche}
+use Rattle.abi_scalar.specs.Lawful.{IsLawfulNiche}
 use Rattle.abi_scalar.specs.Niche.{IsReadableNiche, available_in}
 use Rattle.abi_scalar.specs.Pair.{larger_niche}
 use Rattle.abi_calc.specs.declared.order.NicheBias.{NicheBias}

@@ -1,9 +1,9 @@
 -- The loop that places fields in an order.
-use Rattle.std.proofs.Common.{◌≡◌, ℕ, zero, suc, ◌+◌, ◌<◌, ◌≤◌, ◌≢◌, Bool, true, false, List, [], ◌∷◌, ◌++◌, Option, None, Some, inl, inr, length, take, drop, map, get_or, set, refl, sym, ap, ap₂, subst, ◌∙◌, arith, get_or-set_same, get_or-set_other, length-set, length-take, eqb, nat_lt}
+use Rattle.std.proofs.Common.{◌≡◌, ℕ, zero, suc, ◌+◌, ◌<◌, ◌≤◌, ◌≢◌, true, false, List, [], ◌∷◌, ◌++◌, Option, Some, length, take, drop, map, get_or, set, refl, sym, ap, ap₂, subst, ◌∙◌, arith, get_or-set_same, get_or-set_other, length-set, length-take, eqb, nat_lt}
 use Rattle.std.proofs.lemmas.Bool.Decides.{Decides-eqb}
 use Rattle.std.proofs.lemmas.List.FromFn.{length-range_with_len, get_or-range_with_len}
-use Rattle.std.specs.Prelude.{◌⊎◌, All, AllPairs, IfSome, IsPermutation, slice_index, if◌then◌else◌, ◌&&◌, not}
-use Rattle.std.proofs.lemmas.List.{take_more, map-append, get_or-take, get_or_default, take-append-drop, drop_more, drop_all, take_all}
+use Rattle.std.specs.Prelude.{All, AllPairs, IfSome, IsPermutation, slice_index, ◌&&◌, not}
+use Rattle.std.proofs.lemmas.List.{take_more, map-append, get_or-take, get_or_default, drop_more}
 use Rattle.std.proofs.lemmas.Bool.Decides.{nat_tests}
 use Rattle.std.proofs.lemmas.List.Elements.{All-head, All-tail}
 use Rattle.std.proofs.lemmas.Map.Keys.{IsDistinct-IsPermutation}
@@ -14,13 +14,12 @@ use Rattle.abi_scalar.specs.Niche.{IsReadableNiche}
 use Rattle.abi_calc.specs.declared.part.Part.{Part}
 use Rattle.abi_calc.specs.declared.list_repr.ListRepr.{ListRepr}
 use Rattle.abi_calc.specs.declared.order.NicheBias.{NicheBias}
-use Rattle.abi_calc.specs.declared.placing.ListFault.{ListFault}
-use Rattle.abi_calc.specs.declared.placing.ListFault.TheVariants.{Unsized, TooLarge, OutOfMemory}
+use Rattle.abi_calc.specs.declared.placing.ListFault.TheVariants.{Unsized, TooLarge}
 use Rattle.abi_calc.specs.Fault.{fault_from, is_empty, is_maybe_unsized}
 use Rattle.abi_calc.specs.ListNiche.{greatest_niche, greater_niche, niche_of_part}
 use Rattle.abi_calc.specs.Part.{IsLawfulPart, is_unsized}
 use Rattle.abi_calc.specs.Placement.{place_of, offsets_from, end_from, no_part, in_order, source_order}
-use Rattle.abi_calc.proofs.Ends.{end_from-append, end_from-above}
+use Rattle.abi_calc.proofs.Ends.{end_from-append}
 use Rattle.abi_calc.proofs.NicheLemmas.{greater_assoc, greater_none, none_greater}
 
 eqb_comm : (a b : ℕ) → eqb a b ≡ eqb b a

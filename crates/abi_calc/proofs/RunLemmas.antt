@@ -1,6 +1,6 @@
 -- Runs over a list's fields, and the choice between two of them.
-use Rattle.std.proofs.Common.{◌≡◌, ℕ, ◌+◌, ◌^◌, ◌<◌, ◌≤◌, Bool, true, false, List, [], ◌∷◌, Option, None, Some, inl, inr, length, map, refl, sym, ap, ap₂, subst, ◌∙◌, arith, nat_lt, ⊎_elim}
-use Rattle.std.specs.Prelude.{◌⊎◌, All, IfSome, IsPermutation, IsTrue, MatchBool, MatchOption, if◌then◌else◌, slice_index}
+use Rattle.std.proofs.Common.{◌≡◌, ℕ, ◌+◌, ◌<◌, ◌≤◌, Bool, true, false, List, [], ◌∷◌, Option, None, Some, inl, inr, length, refl, sym, ap, ap₂, subst, ◌∙◌, arith, ⊎_elim}
+use Rattle.std.specs.Prelude.{◌⊎◌, All, IfSome, IsPermutation, MatchBool, MatchOption, if◌then◌else◌}
 use Rattle.std.proofs.lemmas.List.Sorted.{All-permutation, IsPermutation-sym}
 use Rattle.abi_base.specs.declared.data_layout.TargetDataLayout.{TargetDataLayout}
 use Rattle.abi_base.specs.declared.struct_kind.StructKind.{StructKind}
@@ -13,13 +13,12 @@ use Rattle.abi_calc.specs.declared.list_repr.ListRepr.{ListRepr}
 use Rattle.abi_calc.specs.declared.order.NicheBias.{NicheBias}
 use Rattle.abi_calc.specs.declared.order.NicheBias.TheVariants.{Start, End}
 use Rattle.abi_calc.specs.declared.placing.ListFault.{ListFault}
-use Rattle.abi_calc.specs.declared.placing.ListFault.TheVariants.{OutOfMemory, TooLarge}
-use Rattle.abi_calc.specs.Fault.{fault_from, fault_in, is_maybe_unsized}
+use Rattle.abi_calc.specs.Fault.{fault_in, is_maybe_unsized}
 use Rattle.abi_calc.specs.ListNiche.{begins_after, greatest_niche, niche_in, space_beside}
 use Rattle.abi_calc.specs.Order.{IsNamedOrder}
-use Rattle.abi_calc.specs.Part.{IsAlignedPart, IsLawfulPart, max_align}
-use Rattle.abi_calc.specs.Placement.{IsAllowed, IsNonEmptyIfUnsized, align_of, end_from, in_order, offsets_from, place_of, size_in, source_order, start_of}
-use Rattle.abi_calc.specs.Run.{IsFaultOf, IsNamedLayout, IsPlacedIn, IsRun, may_move, space_wanted}
+use Rattle.abi_calc.specs.Part.{IsAlignedPart, IsLawfulPart}
+use Rattle.abi_calc.specs.Placement.{IsNonEmptyIfUnsized, align_of, end_from, in_order, offsets_from, place_of, size_in, source_order, start_of}
+use Rattle.abi_calc.specs.Run.{IsFaultOf, IsNamedLayout, IsPlacedIn, may_move, space_wanted}
 use Rattle.abi_calc.proofs.Ends.{end_from-above}
 use Rattle.abi_calc.proofs.FaultLemmas.{IsSizedAt, clear_of, fault_in-none, faultless_of_sized, sized_of_faultless}
 use Rattle.abi_calc.proofs.Least.{allowed_permutes, named_allowed, named_least}

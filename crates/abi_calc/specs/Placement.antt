@@ -1,5 +1,5 @@
 -- Where the fields of a list lie in an order, which orders there are, and how large the list is.
-use Rattle.std.specs.Prelude.{◌≡◌, ℕ, ◌+◌, ◌-◌, ◌^◌, ◌<◌, ◌≤◌, Option, None, Some, List, [], ◌∷◌, Bool, true, not, MatchBool, length, min, max, map, fold, sum_by, slice_index, slice_index_or, is_some, unwrap_or, IsPermutation, if◌then◌else◌}
+use Rattle.std.specs.Prelude.{◌≡◌, ℕ, ◌+◌, ◌-◌, ◌^◌, ◌<◌, ◌≤◌, Option, None, Some, List, [], ◌∷◌, true, not, MatchBool, min, max, map, fold, sum_by, slice_index, slice_index_or, is_some, unwrap_or, IsPermutation, if◌then◌else◌}
 use Rattle.std.specs.Int.{next_multiple_of}
 use Rattle.std.specs.List.{range_with_len}
 use Rattle.abi_base.specs.declared.data_layout.TargetDataLayout.{TargetDataLayout}

@@ -210,7 +210,20 @@ fn layout_of_list<FieldIdx: Idx, VariantIdx: Idx, F: LayoutHandle<FieldIdx, Vari
 }
 
 impl<Cx: HasDataLayout> LayoutCalculator<Cx> {
-    /// The layout of a struct's or a tuple's fields, one after another.
+    /// The layout of a struct's or a tuple's fields, or of those of an enum's variant, one after another: each at
+    /// the least multiple of its alignment that no field before it reaches. With `packed` no alignment counts for
+    /// more than the pack's; fields after a prefix begin behind it.
+    ///
+    /// Fields stay in source order where the `repr` asks for C, a vector, `linear` or an integer. Else they are
+    /// moved so that the list has the least size of all orders, the last field of a maybe-unsized list staying
+    /// last; among such orders, niches come near the start, or near the end where that leaves more room.
+    ///
+    /// Refused as `UnexpectedUnsized` with a field whose size isn't known beforehand, unless it is the last of a
+    /// maybe-unsized list, and as `SizeOverflow` where a field's end or the size isn't below the data layout's
+    /// bound: the first fault in memory order is told. `OutOfMemory` may come at any time.
+    ///
+    /// The data layout, the fields' layouts and the alignments of `repr` and `kind` have to be lawful, a prefix
+    /// smaller than the bound, and a maybe-unsized list not empty.
     pub fn layout_of_univariant<
         FieldIdx: Idx,
         VariantIdx: Idx,
@@ -229,6 +242,22 @@ impl<Cx: HasDataLayout> LayoutCalculator<Cx> {
         requires tail { IsNonEmptyIfUnsized kind (length (items_of fields)) }
         requires count { length (items_of fields) ≤ FieldIdx.MAX_INDEX + 1 }
         ensures exact { IsListAnswer F.layout_of FieldIdx.at (VariantIdx.at 0) (Cx.target self.now.cx) repr.now kind (items_of fields.entry) result }
+        ensures lawful { IfOk result (IsLawfulLayout (Cx.target self.now.cx)) }
+        ensures apart { IfOk result (λ l. AreApart l.size (offsets_of l.fields) (map (λ f. (F.layout_of f).size) (items_of fields.entry))) }
+        ensures after { IfOk result (λ l. All (λ o. start_of repr.now.pack kind ≤ o) (offsets_of l.fields)) }
+        ensures aligned { IfOk result (λ l. AreAligned (offsets_of l.fields) (map (λ f. cut repr.now.pack (F.layout_of f).align.abi) (items_of fields.entry))) }
+        ensures niche { IfOk result (λ l. IfSome l.largest_niche (IsNicheOfPart (offsets_of l.fields) (map F.layout_of (items_of fields.entry)))) }
+        ensures largest { IfOk result (λ l. HasLargestNiche (Cx.target self.now.cx) l.largest_niche (map F.layout_of (items_of fields.entry))) }
+
+        // No order that the repr and the kind allow is smaller.
+        ensures least { IfOk result (λ l. (other : List ℕ) → IsAllowed (list_repr (Cx.target self.now.cx) repr.now kind) (length (items_of fields.entry)) other → l.size ≤ size_in (list_repr (Cx.target self.now.cx) repr.now kind) (parts_of (Cx.target self.now.cx) (map F.layout_of (items_of fields.entry))) other) }
+
+        // It is refused for its size only where every such order is too large, and a list of sized fields always then.
+        ensures too_large { result ≡ Err LayoutCalculatorError.SizeOverflow → (other : List ℕ) → IsAllowed (list_repr (Cx.target self.now.cx) repr.now kind) (length (items_of fields.entry)) other → size_bound (Cx.target self.now.cx) ≤ size_in (list_repr (Cx.target self.now.cx) repr.now kind) (parts_of (Cx.target self.now.cx) (map F.layout_of (items_of fields.entry))) other }
+        ensures refused { AreSized (map F.layout_of (items_of fields.entry)) → ((other : List ℕ) → IsAllowed (list_repr (Cx.target self.now.cx) repr.now kind) (length (items_of fields.entry)) other → size_bound (Cx.target self.now.cx) ≤ size_in (list_repr (Cx.target self.now.cx) repr.now kind) (parts_of (Cx.target self.now.cx) (map F.layout_of (items_of fields.entry))) other) → IsAnswer (Err LayoutCalculatorError.SizeOverflow) result }
+
+        // Where the order is free, sized fields leave no padding but at the end.
+        ensures sum { IsTrue (list_repr (Cx.target self.now.cx) repr.now kind).reorderable → IsSized kind → IfOk result (λ l. l.size ≡ sum_rounded (list_repr (Cx.target self.now.cx) repr.now kind) (parts_of (Cx.target self.now.cx) (map F.layout_of (items_of fields.entry)))) }
     {
         let dl = self.cx.data_layout();
         let list = list_repr(dl, repr, kind);

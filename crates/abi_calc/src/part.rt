@@ -87,11 +87,7 @@ pub fn parts_of<
     FieldIdx: Idx,
     VariantIdx: Idx,
     F: LayoutHandle<FieldIdx, VariantIdx>,
->(
-    alloc: Global,
-    cx: &C,
-    fields: &[F],
-) -> Result<Vec<Part>, AllocError>
+>(alloc: Global, cx: &C, fields: &[F]) -> Result<Vec<Part>, AllocError>
     requires { All (λ f. IsLawfulLayout (C.target cx.now) (F.layout_of f)) fields.now }
     ensures { IfOk result (λ parts. parts.items ≡ map (λ f. part_of (C.target cx.now) f) (map F.layout_of fields.now)) }
 {

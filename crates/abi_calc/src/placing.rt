@@ -75,9 +75,7 @@ pub fn list_align(parts: &[Part], repr: &ListRepr) -> Align
 {
     let own = repr.align.max(prefix_align(repr.kind, repr.pack));
     let pack = repr.pack;
-    parts
-        .iter()
-        .fold(own, |greatest, part| greatest.max(cut_to(part.align, pack)))
+    parts.iter().fold(own, |greatest, part| greatest.max(cut_to(part.align, pack)))
 }
 
 /// Where the first field may begin.

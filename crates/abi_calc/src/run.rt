@@ -81,7 +81,12 @@ fn may_move(kind: StructKind, count: usize) -> bool
 }
 
 /// How far a second order's niche has to begin from the front, if one is tried.
-fn space_wanted(dl: &TargetDataLayout, repr: &ListRepr, count: usize, first: &PlacedList) -> Option<Size>
+fn space_wanted(
+    dl: &TargetDataLayout,
+    repr: &ListRepr,
+    count: usize,
+    first: &PlacedList,
+) -> Option<Size>
     requires readable { IfSome first.now.largest_niche (IsReadableNiche dl.now) }
     requires inside { IfSome first.now.largest_niche (IsLawfulNiche dl.now first.now.size) }
     ensures { result ≡ (if may_move repr.now.kind count then space_beside dl.now first.now.size first.now.largest_niche else None) }

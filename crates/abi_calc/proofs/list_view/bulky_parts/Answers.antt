@@ -1,4 +1,4 @@
-use Rattle.std.proofs.Common.{◌≡◌, Bool, true, false, sym, ap, ◌∙◌}
+use Rattle.std.proofs.Common.{◌≡◌, sym, ap, ◌∙◌}
 use Rattle.abi_calc.specs.ListView.{is_bulky, part_at}
 use Rattle.abi_calc.proofs.ViewLemmas.{bulky_else, bulky_then, part_read}
 use Rattle.abi_calc.proofs.list_view.bulky_parts.Goals as goal

@@ -1,6 +1,5 @@
-use Rattle.std.proofs.Common.{rules, arith, ◌≡◌, ◌<◌, length, get_or, sym, subst, ap, ◌∙◌}
+use Rattle.std.proofs.Common.{arith, ◌<◌, length, get_or, ◌∙◌}
 use Rattle.std.proofs.lemmas.List.{get_or_default}
-use Rattle.abi_calc.specs.Part.{IsLawfulPart}
 use Rattle.abi_calc.specs.Placement.{no_part}
 use Rattle.abi_calc.proofs.ViewLemmas.{two_read}
 use Rattle.abi_calc.proofs.list_view.bulky_view.Goals as goal

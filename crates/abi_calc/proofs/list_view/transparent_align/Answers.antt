@@ -1,4 +1,4 @@
-use Rattle.std.proofs.Common.{arith, ◌<◌, length, get_or, List, ℕ, sym, subst}
+use Rattle.std.proofs.Common.{arith, ◌<◌, length, List, ℕ, sym, subst}
 use Rattle.std.specs.Prelude.{All}
 use Rattle.abi_calc.proofs.ViewLemmas.{bulky_within}
 use Rattle.abi_calc.proofs.list_view.transparent_align.Goals as goal

@@ -1,5 +1,3 @@
-use Rattle.std.proofs.Common.{sym, subst}
-use Rattle.abi_scalar.specs.Lawful.{IsLawfulLayout}
 use Rattle.abi_calc.proofs.part.parts_of.Goals as goal
 
 pub part_of-requires : goal.part_of-requires

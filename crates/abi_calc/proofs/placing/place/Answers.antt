@@ -1,6 +1,6 @@
-use Rattle.std.proofs.Common.{rules, arith, ◌≡◌, ◌<◌, length, get_or, refl, inl, sym, ap, ◌∙◌}
+use Rattle.std.proofs.Common.{rules, arith, ◌<◌, length, get_or, refl, inl, sym, ◌∙◌}
 use Rattle.abi_calc.specs.Part.{IsLawfulPart}
-use Rattle.abi_calc.specs.Placement.{no_part, source_order, start_of}
+use Rattle.abi_calc.specs.Placement.{start_of}
 use Rattle.abi_calc.proofs.NicheLemmas.{part_fits, part_readable}
 use Rattle.abi_calc.proofs.Sorting.{within_order}
 use Rattle.abi_calc.proofs.ViewLemmas.{part_read}

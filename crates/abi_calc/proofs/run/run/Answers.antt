@@ -1,5 +1,5 @@
-use Rattle.std.proofs.Common.{rules, arith, ◌≡◌, ◌≤◌, length, ap, sym, ◌∙◌}
-use Rattle.abi_calc.specs.Placement.{align_of, size_in}
+use Rattle.std.proofs.Common.{rules, ◌≡◌, length}
+use Rattle.abi_calc.specs.Placement.{size_in}
 use Rattle.abi_calc.specs.ListNiche.{niche_in}
 use Rattle.abi_calc.proofs.Least.{named_allowed, allowed_permutes, align_small}
 use Rattle.abi_calc.proofs.RunLemmas.{aligned_parts, niche_inside}
