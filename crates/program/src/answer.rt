@@ -55,6 +55,7 @@ fn error_name(error: LayError) -> &'static str
         LayError::BadIndex => "BadIndex",
         LayError::UnknownSpace => "UnknownSpace",
         LayError::BadRange => "BadRange",
+        LayError::BadAlign => "BadAlign",
         LayError::UnexpectedUnsized => "UnexpectedUnsized",
         LayError::SizeOverflow => "SizeOverflow",
         LayError::EmptyUnion => "EmptyUnion",

@@ -1,6 +1,6 @@
 -- How types are laid out, one after another.
 use Rattle.std.proofs.Common.{◌≡◌, ◌≢◌, ℕ, ◌-◌, ◌<◌, ◌≤◌, List, [], ◌∷◌, ◌++◌, Option, Some, None, Bool, true, false, length, map, arith, refl, sym, ap, ◌∙◌, subst, inl, inr, All, Result, Ok, Err}
-use Rattle.std.specs.Prelude.{IfSome, nat_lt, ◌==◌, ◌&&◌, if◌then◌else◌}
+use Rattle.std.specs.Prelude.{IfSome, nat_lt, ◌⊎◌, ◌==◌, ◌&&◌, ◌||◌, if◌then◌else◌}
 use Rattle.std.proofs.lemmas.Bool.{eqb-false}
 use Rattle.std.proofs.lemmas.List.{map-append}
 use Rattle.std.proofs.lemmas.List.Elements.{All-nil, All-cons, All-head, All-tail, All-append, All-weaker}
@@ -11,14 +11,18 @@ use Rattle.abi_scalar.specs.Lawful.{IsLawfulLayout}
 use Rattle.abi_scalar.specs.declared.backend_repr.BackendRepr.TheVariants.{Memory}
 use Rattle.std.specs.List.{list_any}
 use Rattle.abi_calc.specs.Apart.{AreApart, offsets_of}
+use Rattle.abi_calc.specs.List.{HasLawfulAligns, parts_of}
+use Rattle.abi_base.specs.declared.struct_kind.StructKind.TheVariants.{AlwaysSized, MaybeUnsized}
+use Rattle.abi_calc.specs.ListView.{list_view}
+use Rattle.abi_scalar.specs.Repr.{is_abi_fixed}
 use Rattle.abi_calc.specs.Array.{array_answer, elements_layout}
 use Rattle.rustc_abi.specs.declared.error.LayError.{LayError}
-use Rattle.rustc_abi.specs.declared.error.LayError.TheVariants.{NotYet, BadIndex, SizeOverflow}
+use Rattle.rustc_abi.specs.declared.error.LayError.TheVariants.{BadIndex, BadAlign, SizeOverflow}
 use Rattle.rustc_abi.specs.declared.node.Node.{Node}
 use Rattle.abi_base.specs.DataLayout.{size_bound}
 use Rattle.abi_scalar.specs.declared.scalar.Scalar.{Scalar}
 use Rattle.abi_scalar.specs.Pair.{pair_size, second_offset}
-use Rattle.std.proofs.lemmas.Bool.{lt-ltb, le-ltb}
+use Rattle.std.proofs.lemmas.Bool.{lt-ltb, le-ltb, ltb-false}
 use Rattle.rustc_abi.specs.declared.node.Shape.TheVariants.{Pair}
 use Rattle.rustc_abi.specs.ScalarFault.{scalar_fault}
 use Rattle.rustc_abi.proofs.FaultLemmas.{faultless}
@@ -30,7 +34,7 @@ use Rattle.rustc_abi.specs.Fits.{Fits}
 use Rattle.rustc_abi.specs.Nodes.{placed_in, parts_at, meaning, types_in, placed_at, root_of, Keeps}
 use Rattle.rustc_abi.specs.Values.{LocalsHaveValues}
 use Rattle.rustc_abi.specs.Faithful.{IsFaithful}
-use Rattle.rustc_abi.specs.Laying.{IsLaying, AreLaying, elements_answer, fields_answer, listed, is_plain_c, most_fields, placed_by, unless, one_scalar, two_scalars, pair_answer}
+use Rattle.rustc_abi.specs.Laying.{IsLaying, AreLaying, elements_answer, IsFieldsAnswer, IsListed, fields_fault, has_bad_align, is_above_limit, most_fields, kind_of, placed_fields, placed_by, unless, one_scalar, two_scalars, pair_answer}
 use Rattle.rustc_abi.specs.Adding.{IsRefusal, IsPut, IsAdded, EachFits, all_at, AreAdded}
 use Rattle.rustc_abi.proofs.ElementsLemmas.{IsElementNiche, Fits-elements}
 use Rattle.rustc_abi.proofs.FieldsLemmas.{part_of_list, Fits-fields}
@@ -82,26 +86,60 @@ EachFits-lawful dl (more_trees t ts) [] h = absurd h
 EachFits-lawful dl (more_trees t ts) (p ∷ ps) h =
     All-cons (λ p. IsLawfulLayout dl (layout_of p)) p ps (Fits.lawful h.0) (EachFits-lawful dl ts ps h.1)
 
--- what a struct's fields make
-pub fields_made : (dl : TargetDataLayout) (repr : ReprOptions) (always_sized : Bool) (ps : List Placed) (layout : Layout) → (is_plain_c repr && always_sized) ≡ true →
-    nat_lt most_fields (length ps) ≡ false → listed dl repr.field_shuffle_seed (map layout_of ps) ≡ Ok layout →
-    fields_answer dl repr always_sized ps ≡ Ok (fields layout (parts_at (offsets_of layout.fields) ps))
-fields_made dl repr always_sized ps layout known few answer =
-    ap (λ b. if b then (if nat_lt most_fields (length ps) then Err BadIndex else
-    placed_by (λ layout. fields layout (parts_at (offsets_of layout.fields) ps)) (listed dl repr.field_shuffle_seed (map layout_of ps))) else Err NotYet) known
-    ∙ ap (λ b. if b then Err BadIndex else placed_by (λ layout. fields layout (parts_at (offsets_of layout.fields) ps)) (listed dl repr.field_shuffle_seed (map layout_of ps))) few
-    ∙ ap (placed_by (λ layout. fields layout (parts_at (offsets_of layout.fields) ps))) answer
+few_of : (many bad : Bool) → (if many then Some BadIndex else (if bad then Some BadAlign else None)) ≡ None → (many ≡ false) × (bad ≡ false)
+few_of true bad e = absurd (cc)
+few_of false true e = absurd (cc)
+few_of false false e = (refl, refl)
+
+-- a struct without a fault of its own has no more fields than can be named
+pub faultless_few : (repr : ReprOptions) (ps : List Placed) → fields_fault repr ps ≡ None → length ps ≤ most_fields
+faultless_few repr ps none = ltb-false most_fields (length ps) (few_of (nat_lt most_fields (length ps)) (has_bad_align repr) none).0
+
+limited : (align : Option ℕ) → is_above_limit align ≡ false → IfSome align (λ a. a ≤ 29)
+limited None h = tt
+limited (Some a) h = ltb-false 29 a h
+
+neither : (a b : Bool) → (a || b) ≡ false → (a ≡ false) × (b ≡ false)
+neither true b h = absurd (cc)
+neither false b h = (refl, h)
+
+-- and no alignment above the limit
+pub faultless_aligns : (repr : ReprOptions) (ps : List Placed) → fields_fault repr ps ≡ None → HasLawfulAligns repr
+faultless_aligns repr ps none =
+    let both = neither (is_above_limit repr.align) (is_above_limit repr.pack) (few_of (nat_lt most_fields (length ps)) (has_bad_align repr) none).1 in
+    record { align = limited repr.align both.0; pack = limited repr.pack both.1 }
+
+-- a list of a struct is always sized, or has a field
+pub kind_cases : (always_sized : Bool) (ps : List Placed) → (kind_of always_sized ps ≡ AlwaysSized) ⊎ ((kind_of always_sized ps ≡ MaybeUnsized) × (0 < length ps))
+kind_cases always_sized [] = inl refl
+kind_cases true (p ∷ ps) = inl refl
+kind_cases false (p ∷ ps) = inr (refl, omega arith)
+
+-- the calculator's refusal is the struct's
+pub fields_refused : (dl : TargetDataLayout) (repr : ReprOptions) (always_sized : Bool) (ps : List Placed) (e : LayError) → fields_fault repr ps ≡ None →
+    IsRefused (IsListed dl repr (kind_of always_sized ps) (map layout_of ps)) e → IsRefused (IsFieldsAnswer dl repr always_sized ps) e
+fields_refused dl repr always_sized ps e faultless (inl memory) = inl memory
+fields_refused dl repr always_sized ps e faultless (inr f) = inr (rw faultless (inl (e, f, refl)))
+
+-- a struct's refusal is the tree's
+pub struct_refused : (dl : TargetDataLayout) (repr : ReprOptions) (always_sized : Bool) (ts : Trees) (ps : List Placed) (e : LayError) → AreLaying dl ts (Ok ps) →
+    IsRefused (IsFieldsAnswer dl repr always_sized ps) e → IsRefused (IsLaying dl (struct repr always_sized ts)) e
+struct_refused dl repr always_sized ts ps e exact (inl memory) = inl memory
+struct_refused dl repr always_sized ts ps e exact (inr f) = inr (inr (ps, exact, f))
 
 -- a struct's layout
 pub IsAdded-fields : (dl : TargetDataLayout) (old new : List Node) (i : ℕ) (repr : ReprOptions) (always_sized : Bool) (ps : List Placed) (layout : Layout) (ts : Trees) →
-    fields_answer dl repr always_sized ps ≡ Ok (fields layout (parts_at (offsets_of layout.fields) ps)) → IsLawfulLayout dl layout → IfSome layout.largest_niche (IsNicheOfPart (offsets_of layout.fields) (map layout_of ps)) →
-    layout.backend_repr ≡ Memory true → layout.uninhabited ≡ list_any (λ f. f.uninhabited) (map layout_of ps) → AreApart layout.size (offsets_of layout.fields) (map size_of ps) → IsPut old new i (fields layout (parts_at (offsets_of layout.fields) ps)) →
-    AreLaying dl ts (Ok ps) → EachFits dl ts ps → IsAdded dl old new i (struct repr always_sized ts)
-IsAdded-fields dl old new i repr always_sized ps layout ts answer lawful niche view flag apart put exact fits =
-    IsAdded-put dl old new i (fields layout (parts_at (offsets_of layout.fields) ps)) (struct repr always_sized ts) put
-    (inr (ps, exact, sym answer))
-    (Fits-fields dl repr always_sized ts layout (offsets_of layout.fields) ps fits apart
-    (IfSome_then layout.largest_niche niche (part_of_list (offsets_of layout.fields) ps)) view flag lawful)
+    fields_fault repr ps ≡ None → IsListed dl repr (kind_of always_sized ps) (map layout_of ps) (Ok layout) → IsLawfulLayout dl layout →
+    IfSome layout.largest_niche (IsNicheOfPart (offsets_of layout.fields) (map layout_of ps)) → AreApart layout.size (offsets_of layout.fields) (map size_of ps) →
+    IsPut old new i (placed_fields ps layout) → AreLaying dl ts (Ok ps) → EachFits dl ts ps → IsAdded dl old new i (struct repr always_sized ts)
+IsAdded-fields dl old new i repr always_sized ps layout ts faultless listed lawful niche apart put exact fits =
+    let made = listed.2 in
+    let offsets : offsets_of layout.fields ≡ listed.1 = ap offsets_of made.shape in
+    let view = made.view ∙ ap (list_view dl (is_abi_fixed repr) layout.size layout.align.abi (parts_of dl (map layout_of ps))) (sym offsets) in
+    let answer : IsFieldsAnswer dl repr always_sized ps (Ok (placed_fields ps layout)) = rw faultless (inr (layout, listed, refl)) in
+    IsAdded-put dl old new i (placed_fields ps layout) (struct repr always_sized ts) put (inr (ps, exact, answer))
+    (Fits-fields dl repr always_sized (is_abi_fixed repr) ts layout (offsets_of layout.fields) ps fits apart
+    (IfSome_then layout.largest_niche niche (part_of_list (offsets_of layout.fields) ps)) view made.uninhabited (EachFits-lawful dl ts ps fits) lawful)
 
 -- a list is laid out where its first type and the others are
 more_laying : (dl : TargetDataLayout) (t : Tree) (ts : Trees) (p : Placed) (ps : List Placed) → IsLaying dl t (Ok p) → AreLaying dl ts (Ok ps) → AreLaying dl (more_trees t ts) (Ok (p ∷ ps))

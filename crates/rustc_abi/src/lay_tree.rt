@@ -23,7 +23,8 @@ use std::alloc::Global;
 /// `UnlawfulDataLayout` where the data layout isn't lawful. Else the first fault of a part: `NotYet` for a type that isn't
 /// laid out yet, `UnknownSpace` for a scalar that is a pointer into a space that the data layout doesn't know or whose
 /// pointers aren't lawful, `BadRange` for one whose range has an end that is no number of its width, `BadIndex` for a list
-/// of more fields than its index type can name, `SizeOverflow` for a size that is not below the data layout's bound. `OutOfMemory` where a growth of memory was refused.
+/// of more fields than its index type can name, `BadAlign` for a repr with an alignment above 2^29 bytes, `SizeOverflow` for
+/// a size that is not below the data layout's bound. `OutOfMemory` where a growth of memory was refused.
 pub fn lay_out(alloc: Global, dl: &TargetDataLayout, tree: &TypeTree) -> Result<Laid, LayError>
     // When it is refused, and for what.
     ensures lawful { IfOk result (λ _. IsLawfulDataLayout dl.now) }

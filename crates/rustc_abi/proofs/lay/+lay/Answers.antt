@@ -1,11 +1,11 @@
 use Rattle.std.proofs.Common.{inr, refl, ◌≡◌, ◌+◌, ◌++◌, ◌∷◌, [], arith, ap, sym, ◌∙◌, subst, take, map, get_or}
 use Rattle.std.proofs.lemmas.List.{take_more, map-append}
-use Rattle.std.proofs.lemmas.Result.{IfOk-weaker}
+use Rattle.std.proofs.lemmas.Result.{IfOk-weaker, IfErr-weaker}
 use Rattle.rustc_abi.specs.Tree.{tree_of, trees}
 use Rattle.rustc_abi.specs.Laying.{IsLaying, AreLaying}
 use Rattle.rustc_abi.specs.Adding.{tree_size, trees_size}
 use Rattle.rustc_abi.proofs.TreeLemmas.{tree_of-Array, tree_of-Struct, tree_of-Coroutine, trees_size-at, variants_size-at, falls-Enum}
-use Rattle.rustc_abi.proofs.LayLemmas.{EachFits-lawful, AreAdded-more, IsAdded-after, AreAdded-after}
+use Rattle.rustc_abi.proofs.LayLemmas.{EachFits-lawful, AreAdded-more, IsAdded-after, AreAdded-after, struct_refused}
 use Rattle.rustc_abi.proofs.RefusalLemmas.{each_refused, variants_refused, variants_more, laying_as, enum_refused, enum_not_yet}
 use Rattle.rustc_abi.specs.Error.{IsRefused}
 use Rattle.rustc_abi.proofs.ListLemmas.{passed_on}
@@ -103,3 +103,10 @@ lay_tree-returns-in_ok-_locals-in-Coroutine-clause-err t c =
     let prefix = rw c.deref-in-Coroutine.ensures.value at c.in_ok-_prefix-in-Coroutine.ensures.ok.exact in
     let locals = rw c.deref-in-Coroutine-2.ensures.value at c.in_ok-_locals-in-Coroutine.ensures.ok.exact in
     rw same (inr (inr (_, prefix, inr (_, locals, refl))))
+
+pub lay_tree-returns-in_ok-children-in-Struct-clause-err : goal.lay_tree-returns-in_ok-children-in-Struct-clause-err
+lay_tree-returns-in_ok-children-in-Struct-clause-err t c =
+    let before = c.in_ok-children-in-Struct.ensures.ok in
+    let same = ap tree_of c.in-Struct.is ∙ tree_of-Struct c.in-Struct.repr c.in-Struct.always_sized c.in-Struct.fields in
+    let exact = rw c.deref-in-Struct.ensures.value at before.exact in
+    rw same (IfErr-weaker c.add_fields.result _ _ (λ e refused. struct_refused c.args.dl.now c.in-Struct.repr c.in-Struct.always_sized _ _ e exact refused) c.add_fields.ensures.err)

@@ -1,16 +1,16 @@
 use Rattle.std.proofs.Common.{◌≡◌, map, All, sym, ap, ◌∙◌, subst}
+use Rattle.std.specs.Prelude.{IfSome}
 use Rattle.std.proofs.lemmas.List.Elements.{All-map}
 use Rattle.abi_index.specs.Slice.{items_of}
 use Rattle.abi_calc.specs.Apart.{AreApart, offsets_of}
 use Rattle.abi_calc.specs.ListNiche.{IsNicheOfPart}
-use Rattle.std.specs.Prelude.{IfSome}
 use Rattle.abi_scalar.specs.Lawful.{IsLawfulLayout}
 use Rattle.rustc_abi.specs.Placed.{layout_of}
-use Rattle.rustc_abi.specs.Error.{lay_error}
-use Rattle.rustc_abi.specs.Laying.{listed}
-use Rattle.rustc_abi.specs.Adding.{all_at, IsRefusal}
-use Rattle.rustc_abi.proofs.ListLemmas.{listed_by, refusal_by, answer_by, All-from_map, passed_on, sizes_by}
-use Rattle.rustc_abi.proofs.lay.fields_layout.Goals as goal
+use Rattle.rustc_abi.specs.Error.{IsRefused}
+use Rattle.rustc_abi.specs.Laying.{IsListed}
+use Rattle.rustc_abi.specs.Adding.{all_at}
+use Rattle.rustc_abi.proofs.ListLemmas.{listed_ok, listed_err, All-from_map, passed_on, sizes_by}
+use Rattle.rustc_abi.proofs.lay_fields.fields_layout.Goals as goal
 
 pub layout_of_univariant-answer-requires-clause-fields : goal.layout_of_univariant-answer-requires-clause-fields
 layout_of_univariant-answer-requires-clause-fields c =
@@ -23,24 +23,15 @@ layout_of_univariant-answer-requires-clause-fields c =
 
 pub returns-clause-ok : goal.returns-clause-ok
 returns-clause-ok c =
-    let ps = all_at c.args.nodes.now c.args.children.now in
-    let hs = items_of c.new-2.result in
-    let lent : map (λ r. r.now) hs ≡ map layout_of ps =
-    ap (map (λ r. r.now)) (c.new-2.ensures ∙ c.as_slice.ensures.value) ∙ c.in_ok-layouts.ensures in
+    let lent = ap (map (λ r. r.now)) (c.new-2.ensures ∙ c.as_slice.ensures.value) ∙ c.in_ok-layouts.ensures in
     let exact = rw c.new.ensures at c.in_ok-answer.ensures.exact in
-    ap (listed c.args.dl.now c.args.repr.now.field_shuffle_seed) (sym lent)
-    ∙ sym (listed_by (λ r. r.now) c.args.dl.now c.args.repr.now.field_shuffle_seed hs) ∙ answer_by _ _ exact
+    listed_ok (λ r. r.now) c.args.dl.now c.args.repr.now c.args.kind (items_of c.new-2.result) _ _ lent exact
 
 pub returns-in_err-answer-clause-err : goal.returns-in_err-answer-clause-err
 returns-in_err-answer-clause-err c =
-    let ps = all_at c.args.nodes.now c.args.children.now in
-    let hs = items_of c.new-2.result in
-    let lent : map (λ r. r.now) hs ≡ map layout_of ps =
-    ap (map (λ r. r.now)) (c.new-2.ensures ∙ c.as_slice.ensures.value) ∙ c.in_ok-layouts.ensures in
+    let lent = ap (map (λ r. r.now)) (c.new-2.ensures ∙ c.as_slice.ensures.value) ∙ c.in_ok-layouts.ensures in
     let exact = rw c.new.ensures at c.in_err-answer.ensures.exact in
-    let same = listed_by (λ r. r.now) c.args.dl.now c.args.repr.now.field_shuffle_seed hs
-    ∙ ap (listed c.args.dl.now c.args.repr.now.field_shuffle_seed) lent in
-    passed_on _ _ _ c.from_residual-in_err-answer.ensures.1 (subst (λ answer. IsRefusal answer (lay_error c.in_err-answer.field-0.0)) same (refusal_by _ _ exact))
+    passed_on _ _ _ c.from_residual-in_err-answer.ensures.1 (listed_err (λ r. r.now) c.args.dl.now c.args.repr.now c.args.kind (items_of c.new-2.result) _ _ lent exact)
 
 pub returns-clause-apart : goal.returns-clause-apart
 returns-clause-apart c =
