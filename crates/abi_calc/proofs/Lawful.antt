@@ -1,8 +1,7 @@
 -- Lawful data layouts and lawful answers.
-use Rattle.std.proofs.Common.{◌≡◌, ℕ, ◌*◌, ◌^◌, ◌<◌, ◌≤◌, List, [], ◌∷◌, Bool, true, Option, None, Some, map, max, arith, inl, inr}
-use Rattle.std.specs.Prelude.{◌⊎◌, All, IfSome}
-use Rattle.std.specs.Int.{next_multiple_of}
-use Rattle.std.proofs.lemmas.List.Elements.{All-get_or, All-head, All-tail}
+use Rattle.std.proofs.Common.{◌≡◌, ℕ, ◌*◌, ◌^◌, ◌<◌, ◌≤◌, Bool, Option, None, Some, arith, inl, inr}
+use Rattle.std.specs.Prelude.{◌⊎◌, IfSome}
+use Rattle.std.proofs.lemmas.List.Elements.{All-get_or}
 use Rattle.std.proofs.Math.Nat.{dvd_trans, dvd-mul_right, mul-le-mul_left}
 use Rattle.abi_base.specs.declared.data_layout.TargetDataLayout.{TargetDataLayout}
 use Rattle.abi_base.specs.DataLayout.{IsLawfulDataLayout, IsPointerWidth, bound_of_pointer, size_bound, alignments_of}
@@ -11,9 +10,6 @@ use Rattle.abi_scalar.specs.declared.niche.Niche.{Niche}
 use Rattle.abi_scalar.specs.declared.backend_repr.BackendRepr.TheVariants.{Memory}
 use Rattle.abi_scalar.specs.declared.variants.Variants.TheVariants.{Single}
 use Rattle.abi_scalar.specs.Lawful.{IsLawfulLayout, IsLawfulNiche, IsNicheOfView}
-use Rattle.abi_calc.specs.List.{list_align}
-use Rattle.abi_calc.specs.Placement.{align_from}
-use Rattle.abi_calc.proofs.Rounding.{rounded_to}
 
 bound_small_at : (bytes : ℕ) → IsPointerWidth bytes → bound_of_pointer bytes ≤ 2 ^ 61
 bound_small_at bytes (inl e) = rw e (omega arith)
@@ -63,32 +59,5 @@ array_lawful dl element layout first sized count h size bound align niche view v
   niche = niche_kept dl element.size layout.size count element.largest_niche layout.largest_niche size niche h.niche;
   view = rw view tt;
   niche_of_view = rw view (any_niche sized layout.largest_niche);
-  tag = rw variants tt;
-}
-
--- a list's alignment is no more than its own and its fields'
-pub align_small : {F V H : Type 0} (layout_of : H → LayoutData F V) (dl : TargetDataLayout) (own : ℕ) (fields : List H)
-    → own ≤ 29 → All (λ f. IsLawfulLayout dl (layout_of f)) fields → align_from own (map layout_of fields) ≤ 29
-align_small layout_of dl own [] h all = h
-align_small layout_of dl own (f ∷ fs) h all =
-    let one : IsLawfulLayout dl (layout_of f) = All-head (λ f. IsLawfulLayout dl (layout_of f)) f fs all in
-    let limit : (layout_of f).align.abi ≤ 29 = one.limit in
-    align_small layout_of dl (max own (layout_of f).align.abi) fs (omega arith) (All-tail (λ f. IsLawfulLayout dl (layout_of f)) f fs all)
-
-pub list_align_small : {F V H : Type 0} (layout_of : H → LayoutData F V) (dl : TargetDataLayout) (fields : List H)
-    → IsLawfulDataLayout dl → All (λ f. IsLawfulLayout dl (layout_of f)) fields → list_align dl (map layout_of fields) ≤ 29
-list_align_small layout_of dl fields lawful all = align_small layout_of dl dl.aggregate_align fields (aggregate_small dl lawful) all
-
--- a list's layout, by its parts
-pub list_lawful : {F V : Type 0} (dl : TargetDataLayout) (layout : LayoutData F V) (first : V) (last align : ℕ)
-    → layout.align.abi ≡ align → align ≤ 29 → layout.size ≡ next_multiple_of last (2 ^ align) → layout.size < size_bound dl
-    → IfSome layout.largest_niche (IsLawfulNiche dl layout.size) → layout.backend_repr ≡ Memory true → layout.variants ≡ Single first → IsLawfulLayout dl layout
-list_lawful dl layout first last align aligned small size bound niche view variants = record {
-  multiple = rw (size, aligned) (rounded_to last align).multiple;
-  bound = bound;
-  limit = rw aligned small;
-  niche = niche;
-  view = rw view tt;
-  niche_of_view = rw view (any_niche true layout.largest_niche);
   tag = rw variants tt;
 }

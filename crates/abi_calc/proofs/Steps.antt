@@ -7,7 +7,6 @@ use Rattle.std.proofs.lemmas.List.{drop_more, drop_all}
 use Rattle.std.proofs.lemmas.List.Sums.{sum_by-cons}
 use Rattle.abi_scalar.specs.declared.layout_data.LayoutData.{LayoutData}
 use Rattle.abi_calc.specs.List.{greater, max_repr_align_of}
-use Rattle.abi_calc.specs.Placement.{align_from}
 
 -- the fields from the k-th on begin with it
 pub rest_begins : {H : Type 0} (fields : List H) (k : ℕ) (h : H) → k < length fields → h ≡ get_or fields k h → drop k fields ≡ h ∷ drop (k + 1) fields
@@ -24,13 +23,6 @@ range_more at n =
     let one : n + 1 ≡ suc n = omega arith in
     let same : 0 + n ≡ n = omega arith in
     ap (λ m. map at (range_with_len 0 m)) one ∙ range_more_from at 0 n ∙ ap (λ i. map at (range_with_len 0 n) ++ at i ∷ []) same
-
-pub align_more : {F V H : Type 0} (layout_of : H → LayoutData F V) (own : ℕ) (fields : List H) (k : ℕ) (h : H) → k < length fields → h ≡ get_or fields k h
-    → align_from (max own (layout_of h).align.abi) (map layout_of (drop (k + 1) fields)) ≡ align_from own (map layout_of (drop k fields))
-align_more layout_of own fields k h short is = ap (λ fs. align_from own (map layout_of fs)) (sym (rest_begins fields k h short is))
-
-pub align_all : {F V H : Type 0} (layout_of : H → LayoutData F V) (own : ℕ) (fields : List H) (k : ℕ) → length fields ≤ k → align_from own (map layout_of (drop k fields)) ≡ own
-align_all layout_of own fields k long = ap (λ fs. align_from own (map layout_of fs)) (drop_all k fields long)
 
 max_assoc : (a b c : ℕ) → max (max a b) c ≡ max a (max b c)
 max_assoc a b c = omega arith

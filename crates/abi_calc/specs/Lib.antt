@@ -1,6 +1,11 @@
 pub mod Answer
 pub mod Array
 pub mod Apart
+pub mod Part
 pub mod Placement
 pub mod ListNiche
+pub mod Order
+pub mod Fault
+pub mod Run
+pub mod ListView
 pub mod List

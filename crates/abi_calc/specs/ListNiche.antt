@@ -1,12 +1,15 @@
 -- The niche of a list of parts.
-use Rattle.std.specs.Prelude.{◌≡◌, ℕ, ◌+◌, ◌-◌, ◌≤◌, ◌⊎◌, ◌&&◌, All, Bool, false, List, ◌∷◌, length, max, nat_lt, Option, Some, None, IfSome, if◌then◌else◌}
+use Rattle.std.specs.Prelude.{◌≡◌, ℕ, ◌+◌, ◌-◌, ◌≤◌, ◌⊎◌, ◌&&◌, All, Bool, false, List, ◌∷◌, max, nat_lt, Option, Some, None, IfSome, if◌then◌else◌}
 use Rattle.abi_base.specs.declared.data_layout.TargetDataLayout.{TargetDataLayout}
 use Rattle.abi_scalar.specs.declared.niche.Niche.{Niche}
 use Rattle.abi_scalar.specs.declared.layout_data.LayoutData.{LayoutData}
 use Rattle.abi_scalar.specs.Niche.{niche_size, available_in}
 use Rattle.abi_scalar.specs.Pair.{larger_niche}
-use Rattle.abi_calc.specs.declared.list_niche.NicheBias.{NicheBias}
-use Rattle.abi_calc.specs.declared.list_niche.NicheBias.TheVariants.{Start, End}
+use Rattle.abi_calc.specs.declared.order.NicheBias.{NicheBias}
+use Rattle.abi_calc.specs.declared.order.NicheBias.TheVariants.{Start, End}
+use Rattle.abi_calc.specs.declared.part.Part.{Part}
+use Rattle.abi_calc.specs.declared.list_repr.ListRepr.{ListRepr}
+use Rattle.abi_calc.specs.Placement.{in_order, offsets_from, start_of}
 
 -- a part's niche, told from the start of the whole
 abbrev pub niche_of_part : (offset : ℕ) → Option Niche → Option Niche
@@ -19,10 +22,15 @@ greater_niche Start dl earlier later = larger_niche dl earlier later
 greater_niche End dl earlier later = larger_niche dl later earlier
 
 -- the greatest niche of parts that lie at these offsets, in memory order: the first of equals, or the last
-abbrev pub greatest_niche : {F V : Type 0} → NicheBias → TargetDataLayout → (offsets : List ℕ) → List (LayoutData F V) → Option Niche
-greatest_niche bias dl (o ∷ offsets) (f ∷ fields) =
-    greater_niche bias dl (niche_of_part o f.largest_niche) (greatest_niche bias dl offsets fields)
+abbrev pub greatest_niche : NicheBias → TargetDataLayout → (offsets : List ℕ) → List Part → Option Niche
+greatest_niche bias dl (o ∷ offsets) (p ∷ parts) =
+    greater_niche bias dl (niche_of_part o p.largest_niche) (greatest_niche bias dl offsets parts)
 greatest_niche bias dl _ _ = None
+
+-- the list's niche in an order
+abbrev pub niche_in : TargetDataLayout → ListRepr → NicheBias → List Part → (order : List ℕ) → Option Niche
+niche_in dl repr bias parts order =
+    greatest_niche bias dl (offsets_from repr.pack (start_of repr.pack repr.kind) (in_order parts order)) (in_order parts order)
 
 -- the space before a niche or after it, whichever is more, in a list of so many bytes: none where it touches an edge
 abbrev pub space_beside : TargetDataLayout → (size : ℕ) → Option Niche → Option ℕ
@@ -35,23 +43,6 @@ space_beside dl size (Some niche) =
 abbrev pub begins_after : ℕ → Option Niche → Bool
 begins_after space None = false
 begins_after space (Some niche) = nat_lt space niche.offset
-
--- the niche begins after that space, where there is one
-abbrev pub begins_beyond : Option ℕ → Option Niche → Bool
-begins_beyond None niche = false
-begins_beyond (Some space) niche = begins_after space niche
-
--- the niche of a second run is taken: there are several fields, the first run's niche has space on both sides, and the
--- second's begins after either space
-abbrev pub takes_second : TargetDataLayout → (count size : ℕ) → (first second : Option Niche) → Bool
-takes_second dl count size first second = nat_lt 1 count && begins_beyond (space_beside dl size first) second
-
--- the niche of a list of so many bytes, whose parts lie at these offsets: the first greatest, or the last where that is taken
-abbrev pub list_niche : {F V : Type 0} → TargetDataLayout → (size : ℕ) → (offsets : List ℕ) → List (LayoutData F V) → Option Niche
-list_niche dl size offsets fields =
-    let first : Option Niche = greatest_niche Start dl offsets fields in
-    let last : Option Niche = greatest_niche End dl offsets fields in
-    if takes_second dl (length fields) size first last then last else first
 
 -- the niche is a part's own, told from the start of the whole
 abbrev pub IsNicheAt : (offset : ℕ) → (own : Option Niche) → Niche → Type 0

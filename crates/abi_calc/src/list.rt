@@ -1,71 +1,39 @@
 //! Lists of fields, one after another in memory.
 
-ghost use Rattle.std.specs.Prelude.{◌≡◌, ℕ, ◌+◌, ◌%◌, ◌^◌, ◌≤◌, ◌<◌, All, Err, IfOk, IfErr, IfSome, List, length, map, sum_by};
-ghost use Rattle.std.specs.List.{list_any, range_with_len};
+ghost use Rattle.std.specs.Prelude.{◌≡◌, ℕ, ◌+◌, ◌%◌, ◌^◌, ◌≤◌, ◌<◌, ◌⊎◌, All, Err, IfOk, IfErr, IfSome, IsTrue, List, length, map, sum_by};
+ghost use Rattle.std.specs.List.{list_any};
 ghost use Rattle.abi_index.specs.Slice.{items_of};
 ghost use Rattle.abi_base.specs.DataLayout.{IsLawfulDataLayout, size_bound};
 ghost use Rattle.abi_scalar.specs.Lawful.{IsLawfulLayout};
-ghost use Rattle.abi_scalar.specs.Niche.{IsReadableNiche};
 ghost use Rattle.abi_calc.specs.Answer.{IsAnswer};
 ghost use Rattle.abi_calc.specs.Apart.{AreAligned, AreApart, offsets_of};
-ghost use Rattle.abi_calc.specs.List.{IsPlainC, ArePlaced, IsFault, fault_from, list_answer, list_size, max_repr_align_of};
-ghost use Rattle.abi_calc.specs.ListNiche.{HasLargestNiche, IsNicheOfPart, greatest_niche, list_niche};
-ghost use Rattle.abi_calc.specs.Placement.{align_from, end_from, offsets_from};
+ghost use Rattle.abi_calc.specs.Fault.{IsErrorOf, IsFaultIndex};
+ghost use Rattle.abi_calc.specs.List.{AreSized, HasLawfulAligns, IsListAnswer, greater, max_repr_align_of, parts_of};
+ghost use Rattle.abi_calc.specs.ListNiche.{HasLargestNiche, IsNicheOfPart};
+ghost use Rattle.abi_calc.specs.Order.{movable};
+ghost use Rattle.abi_calc.specs.Placement.{IsAllowed, IsLawfulPrefix, IsNonEmptyIfUnsized, IsSized, cut, list_repr, size_in, start_of, sum_rounded};
 
 use crate::calculator::LayoutCalculator;
-use crate::list_niche::{NicheBias, greater_niche, niche_of_part, space_beside};
-use abi_base::{AbiAlign, Align, HasDataLayout, Size, StructKind};
+use crate::list_repr::{ListRepr, list_repr, unraised};
+use crate::list_view::{bulky_parts, list_view, transparent_align};
+use crate::part::{Part, parts_of};
+use crate::placing::{ListFault, list_align};
+use crate::run::{PlacedList, layout_of_parts};
+use abi_base::{AbiAlign, Align, HasDataLayout, Size, StructKind, TargetDataLayout};
 use abi_index::{Hash64, Idx, IndexSlice, IndexVec};
 use abi_scalar::{
-    BackendRepr, FieldsShape, LayoutCalculatorError, LayoutData, LayoutHandle, Niche, ReprOptions,
-    Variants,
+    FieldsShape, LayoutCalculatorError, LayoutData, LayoutHandle, ReprOptions, Variants,
 };
 use std::alloc::{AllocError, Global};
 
-/// Where fields lie that follow one another, where the last of them ends, and the greatest of their niches.
-#[derive(Drop)]
-struct Placed<FieldIdx: Idx> {
-    offsets: IndexVec<FieldIdx, Size>,
-    end: Size,
-    largest_niche: Option<Niche>,
-}
-
-/// The indices from 0 on, so many of them.
-fn source_order<FieldIdx: Idx>(
-    alloc: Global,
-    count: usize,
-) -> Result<IndexVec<u32, FieldIdx>, AllocError>
-    requires { count ≤ FieldIdx.MAX_INDEX + 1 }
-    ensures { IfOk result (λ order. order ≡ map FieldIdx.at (range_with_len 0 count)) }
-{
-    let mut order = IndexVec::new(alloc);
-    for index in 0..count {
-        let _place = order.push(FieldIdx::new(index))?;
-    }
-    Ok(order)
-}
-
-/// The greatest of the fields' alignments and this one.
-fn list_align<FieldIdx: Idx, VariantIdx: Idx, F: LayoutHandle<FieldIdx, VariantIdx>>(
-    own: Align,
-    fields: &[F],
-) -> Align
-    ensures { result ≡ align_from own (map F.layout_of fields.now) }
-{
-    let mut greatest = own;
-    for field in fields {
-        greatest = greatest.max(field.layout().align.abi);
-    }
-    greatest
-}
-
-/// The greatest alignment that a `repr(align)` in the fields asks for.
+/// The greatest alignment that this and a `repr(align)` in the fields asks for.
 fn max_repr_align<FieldIdx: Idx, VariantIdx: Idx, F: LayoutHandle<FieldIdx, VariantIdx>>(
+    own: Option<Align>,
     fields: &[F],
 ) -> Option<Align>
-    ensures { result ≡ max_repr_align_of (map F.layout_of fields.now) }
+    ensures { result ≡ greater own (max_repr_align_of (map F.layout_of fields.now)) }
 {
-    let mut greatest: Option<Align> = None;
+    let mut greatest = own;
     for field in fields {
         greatest = match (greatest, field.layout().max_repr_align) {
             (Some(a), Some(b)) => Some(a.max(b)),
@@ -90,8 +58,22 @@ fn any_uninhabited<FieldIdx: Idx, VariantIdx: Idx, F: LayoutHandle<FieldIdx, Var
     false
 }
 
+/// Whether some field lies as `repr(C)` has it.
+fn any_repr_c<FieldIdx: Idx, VariantIdx: Idx, F: LayoutHandle<FieldIdx, VariantIdx>>(
+    fields: &[F],
+) -> bool
+    ensures { result ≡ list_any (λ f. f.repr_c) (map F.layout_of fields.now) }
+{
+    for field in fields {
+        if field.layout().repr_c {
+            return true;
+        }
+    }
+    false
+}
+
 /// The sum of the fields' seeds and this one, modulo 2 to the 64.
-fn list_seed<FieldIdx: Idx, VariantIdx: Idx, F: LayoutHandle<FieldIdx, VariantIdx>>(
+fn seed_of<FieldIdx: Idx, VariantIdx: Idx, F: LayoutHandle<FieldIdx, VariantIdx>>(
     own: Hash64,
     fields: &[F],
 ) -> Hash64
@@ -104,89 +86,144 @@ fn list_seed<FieldIdx: Idx, VariantIdx: Idx, F: LayoutHandle<FieldIdx, VariantId
     seed.wrapping_add(own)
 }
 
-impl<Cx: HasDataLayout> LayoutCalculator<Cx> {
-    /// Places fields one after another, from offset 0 on.
-    fn place<FieldIdx: Idx, VariantIdx: Idx, F: LayoutHandle<FieldIdx, VariantIdx> + Copy>(
-        &self,
-        alloc: Global,
-        fields: &[F],
-        bias: NicheBias,
-    ) -> Result<Placed<FieldIdx>, LayoutCalculatorError<F>>
-        requires data_layout { IsLawfulDataLayout (Cx.target self.now.cx) }
-        requires fields { All (λ f. IsLawfulLayout (Cx.target self.now.cx) (F.layout_of f)) fields.now }
-        requires count { length fields.now ≤ FieldIdx.MAX_INDEX + 1 }
-        ensures ok { IfOk result (λ placed. ArePlaced F.layout_of (size_bound (Cx.target self.now.cx)) fields.now placed.offsets placed.end) }
-        ensures niche { IfOk result (λ placed. placed.largest_niche ≡ greatest_niche bias (Cx.target self.now.cx) (offsets_from 0 (map F.layout_of fields.now)) (map F.layout_of fields.now)) }
-        ensures readable { IfOk result (λ placed. IfSome placed.largest_niche (IsReadableNiche (Cx.target self.now.cx))) }
-        ensures err { IfErr result (IsFault F.layout_of (size_bound (Cx.target self.now.cx)) fields.now) }
-    {
-        let mut offsets = IndexVec::new(alloc);
-        let mut end = Size::ZERO;
-        let mut largest_niche = None;
-        for field in fields {
-            let layout = field.layout();
-            if let BackendRepr::Memory { sized: false } = layout.backend_repr {
-                return Err(LayoutCalculatorError::UnexpectedUnsized(*field));
-            }
-            let offset = end.align_to(layout.align.abi);
-            let Some(next) = offset.checked_add(layout.size, &self.cx) else {
-                return Err(LayoutCalculatorError::SizeOverflow);
-            };
-            let niche = niche_of_part(offset, layout.largest_niche);
-            largest_niche = greater_niche(&self.cx, bias, largest_niche, niche);
-            let _index = offsets.push(offset)?;
-            end = next;
-        }
-        Ok(Placed {
+/// The fields that may move: all but a last one that may be unsized.
+fn movable_fields<'a, F>(kind: StructKind, fields: &'a [F]) -> &'a [F]
+    requires { IsNonEmptyIfUnsized kind (length fields.now) }
+    ensures { result.now ≡ movable kind fields.now }
+{
+    match kind {
+        StructKind::MaybeUnsized => &fields[..fields.len() - 1],
+        _ => fields,
+    }
+}
+
+/// These offsets, as those of fields.
+fn field_offsets<FieldIdx: Idx>(
+    alloc: Global,
+    offsets: &[Size],
+) -> Result<IndexVec<FieldIdx, Size>, AllocError>
+    requires { length offsets.now ≤ FieldIdx.MAX_INDEX + 1 }
+    ensures { IfOk result (λ list. list ≡ offsets.now) }
+{
+    let mut list = IndexVec::new(alloc);
+    for offset in offsets {
+        let _index = list.push(*offset)?;
+    }
+    Ok(list)
+}
+
+/// The fields of these indices.
+fn fields_named<FieldIdx: Idx>(
+    alloc: Global,
+    order: &[usize],
+) -> Result<IndexVec<u32, FieldIdx>, AllocError>
+    requires count { length order.now ≤ FieldIdx.MAX_INDEX + 1 }
+    requires within { All (λ i. i ≤ FieldIdx.MAX_INDEX) order.now }
+    ensures { IfOk result (λ list. list ≡ map FieldIdx.at order.now) }
+{
+    let mut list = IndexVec::new(alloc);
+    for index in order {
+        let _place = list.push(FieldIdx::new(*index))?;
+    }
+    Ok(list)
+}
+
+/// The error that tells a fault.
+fn error_of<F: Copy>(fields: &[F], fault: ListFault) -> LayoutCalculatorError<F>
+    requires { IsFaultIndex (length fields.now) fault }
+    ensures { IsErrorOf fields.now fault result }
+{
+    match fault {
+        ListFault::Unsized(index) => LayoutCalculatorError::UnexpectedUnsized(fields[index]),
+        ListFault::TooLarge => LayoutCalculatorError::SizeOverflow,
+        ListFault::OutOfMemory => LayoutCalculatorError::OutOfMemory,
+    }
+}
+
+/// The layout of these fields as one list.
+fn layout_of_list<FieldIdx: Idx, VariantIdx: Idx, F: LayoutHandle<FieldIdx, VariantIdx> + Copy>(
+    alloc: Global,
+    dl: &TargetDataLayout,
+    fields: &[F],
+    repr: &ReprOptions,
+    list: &ListRepr,
+) -> Result<LayoutData<FieldIdx, VariantIdx>, LayoutCalculatorError<F>>
+    requires data_layout { IsLawfulDataLayout dl.now }
+    requires fields { All (λ f. IsLawfulLayout dl.now (F.layout_of f)) fields.now }
+    requires repr { HasLawfulAligns repr.now }
+    requires list { list.now ≡ list_repr dl.now repr.now list.now.kind }
+    requires prefix { IsLawfulPrefix list.now.kind (size_bound dl.now) }
+    requires tail { IsNonEmptyIfUnsized list.now.kind (length fields.now) }
+    requires count { length fields.now ≤ FieldIdx.MAX_INDEX + 1 }
+    ensures exact { IsListAnswer F.layout_of FieldIdx.at (VariantIdx.at 0) dl.now repr.now list.now.kind fields.now result }
+    ensures lawful { IfOk result (IsLawfulLayout dl.now) }
+    ensures apart { IfOk result (λ l. AreApart l.size (offsets_of l.fields) (map (λ f. (F.layout_of f).size) fields.now)) }
+    ensures after { IfOk result (λ l. All (λ o. start_of list.now.pack list.now.kind ≤ o) (offsets_of l.fields)) }
+    ensures aligned { IfOk result (λ l. AreAligned (offsets_of l.fields) (map (λ f. cut list.now.pack (F.layout_of f).align.abi) fields.now)) }
+    ensures niche { IfOk result (λ l. IfSome l.largest_niche (IsNicheOfPart (offsets_of l.fields) (map F.layout_of fields.now))) }
+    ensures largest { IfOk result (λ l. HasLargestNiche dl.now l.largest_niche (map F.layout_of fields.now)) }
+    ensures least { IfOk result (λ l. (other : List ℕ) → IsAllowed list.now (length fields.now) other → l.size ≤ size_in list.now (parts_of dl.now (map F.layout_of fields.now)) other) }
+    ensures too_large { result ≡ Err LayoutCalculatorError.SizeOverflow → (other : List ℕ) → IsAllowed list.now (length fields.now) other → size_bound dl.now ≤ size_in list.now (parts_of dl.now (map F.layout_of fields.now)) other }
+    ensures refused { AreSized (map F.layout_of fields.now) → ((other : List ℕ) → IsAllowed list.now (length fields.now) other → size_bound dl.now ≤ size_in list.now (parts_of dl.now (map F.layout_of fields.now)) other) → IsAnswer (Err LayoutCalculatorError.SizeOverflow) result }
+    ensures sum { IsTrue list.now.reorderable → IsSized list.now.kind → IfOk result (λ l. l.size ≡ sum_rounded list.now (parts_of dl.now (map F.layout_of fields.now))) }
+{
+    let parts = parts_of(alloc, dl, fields)?;
+    let placed = match layout_of_parts(alloc, dl, &parts, list) {
+        Ok(placed) => placed,
+        Err(fault) => return Err(error_of(fields, fault)),
+    };
+    let PlacedList {
+        offsets,
+        order,
+        size,
+        align,
+        largest_niche,
+    } = placed;
+    let bulky = bulky_parts(alloc, &parts)?;
+    let fixed = repr.inhibit_newtype_abi_optimization();
+    let view = list_view(dl, fixed, size, align, &parts, &offsets, &bulky);
+    let unadjusted_abi_align = if repr.transparent() {
+        transparent_align(size, align, &parts, &bulky)
+    } else {
+        list_align(&parts, &unraised(dl, repr, list))
+    };
+    let offsets = field_offsets(alloc, &offsets)?;
+    let in_memory_order = fields_named(alloc, &order)?;
+    Ok(LayoutData {
+        fields: FieldsShape::Arbitrary {
             offsets,
-            end,
-            largest_niche,
-        })
-    }
+            in_memory_order,
+        },
+        variants: Variants::Single {
+            index: VariantIdx::new(0),
+        },
+        backend_repr: view,
+        largest_niche,
+        uninhabited: any_uninhabited(fields),
+        align: AbiAlign::new(align),
+        size,
+        max_repr_align: max_repr_align(repr.align, fields),
+        unadjusted_abi_align,
+        repr_c: repr.c() | (repr.transparent() & any_repr_c(fields)),
+        randomization_seed: seed_of(repr.field_shuffle_seed, movable_fields(list.kind, fields)),
+    })
+}
 
-    /// The niche of a list of this size, given the first greatest of its fields' niches: that one, or the last
-    /// greatest where the first has space on both sides and the last begins after either space.
-    fn list_niche<FieldIdx: Idx, VariantIdx: Idx, F: LayoutHandle<FieldIdx, VariantIdx> + Copy>(
-        &self,
-        alloc: Global,
-        fields: &[F],
-        size: Size,
-        first: Option<Niche>,
-    ) -> Result<Option<Niche>, LayoutCalculatorError<F>>
-        requires data_layout { IsLawfulDataLayout (Cx.target self.now.cx) }
-        requires fields { All (λ f. IsLawfulLayout (Cx.target self.now.cx) (F.layout_of f)) fields.now }
-        requires count { length fields.now ≤ FieldIdx.MAX_INDEX + 1 }
-        requires faultless { fault_from F.layout_of (size_bound (Cx.target self.now.cx)) 0 fields.now ≡ None }
-        requires size { end_from 0 (map F.layout_of fields.now) ≤ size }
-        requires first { first ≡ greatest_niche NicheBias.Start (Cx.target self.now.cx) (offsets_from 0 (map F.layout_of fields.now)) (map F.layout_of fields.now) }
-        requires readable { IfSome first (IsReadableNiche (Cx.target self.now.cx)) }
-        ensures ok { IfOk result (λ niche. niche ≡ list_niche (Cx.target self.now.cx) size (offsets_from 0 (map F.layout_of fields.now)) (map F.layout_of fields.now)) }
-        ensures err { IfErr result (IsFault F.layout_of (size_bound (Cx.target self.now.cx)) fields.now) }
-    {
-        let Some(start) = first else {
-            return Ok(None);
-        };
-        if fields.len() < 2 {
-            return Ok(Some(start));
-        }
-        let Some(space) = space_beside(&self.cx, size, &start) else {
-            return Ok(Some(start));
-        };
-        let placed: Placed<FieldIdx> = self.place(alloc, fields, NicheBias::End)?;
-        let last = placed.largest_niche;
-        match last {
-            Some(end) if end.offset > space => Ok(Some(end)),
-            _ => Ok(Some(start)),
-        }
-    }
-
-    /// The layout of a struct's or a tuple's fields, one after another in source order, as `repr(C)` has them:
-    /// each at the least multiple of its alignment that no field before it reaches (Rust Reference, "The C
-    /// representation").
+impl<Cx: HasDataLayout> LayoutCalculator<Cx> {
+    /// The layout of a struct's or a tuple's fields, or of those of an enum's variant, one after another: each at
+    /// the least multiple of its alignment that no field before it reaches. With `packed` no alignment counts for
+    /// more than the pack's; fields after a prefix begin behind it.
     ///
-    /// Refused as `UnexpectedUnsized` with the first field whose size isn't known beforehand, and as `SizeOverflow`
-    /// where a field's end or the size isn't below the data layout's bound: the fault of an earlier field is told
-    /// first. `OutOfMemory` may come at any time.
+    /// Fields stay in source order where the `repr` asks for C, a vector, `linear` or an integer. Else they are
+    /// moved so that the list has the least size of all orders, the last field of a maybe-unsized list staying
+    /// last; among such orders, niches come near the start, or near the end where that leaves more room.
+    ///
+    /// Refused as `UnexpectedUnsized` with a field whose size isn't known beforehand, unless it is the last of a
+    /// maybe-unsized list, and as `SizeOverflow` where a field's end or the size isn't below the data layout's
+    /// bound: the first fault in memory order is told. `OutOfMemory` may come at any time.
+    ///
+    /// The data layout, the fields' layouts and the alignments of `repr` and `kind` have to be lawful, a prefix
+    /// smaller than the bound, and a maybe-unsized list not empty.
     pub fn layout_of_univariant<
         FieldIdx: Idx,
         VariantIdx: Idx,
@@ -198,50 +235,32 @@ impl<Cx: HasDataLayout> LayoutCalculator<Cx> {
         repr: &ReprOptions,
         kind: StructKind,
     ) -> Result<LayoutData<FieldIdx, VariantIdx>, LayoutCalculatorError<F>>
-        requires c { IsPlainC repr.now }
-        requires kind { kind ≡ StructKind.AlwaysSized }
         requires data_layout { IsLawfulDataLayout (Cx.target self.now.cx) }
         requires fields { All (λ f. IsLawfulLayout (Cx.target self.now.cx) (F.layout_of f)) (items_of fields) }
+        requires repr { HasLawfulAligns repr.now }
+        requires prefix { IsLawfulPrefix kind (size_bound (Cx.target self.now.cx)) }
+        requires tail { IsNonEmptyIfUnsized kind (length (items_of fields)) }
         requires count { length (items_of fields) ≤ FieldIdx.MAX_INDEX + 1 }
-        ensures exact { IsAnswer (list_answer F.layout_of FieldIdx.at (VariantIdx.at 0) (Cx.target self.now.cx) repr.now.field_shuffle_seed (items_of fields.entry)) result }
+        ensures exact { IsListAnswer F.layout_of FieldIdx.at (VariantIdx.at 0) (Cx.target self.now.cx) repr.now kind (items_of fields.entry) result }
         ensures lawful { IfOk result (IsLawfulLayout (Cx.target self.now.cx)) }
         ensures apart { IfOk result (λ l. AreApart l.size (offsets_of l.fields) (map (λ f. (F.layout_of f).size) (items_of fields.entry))) }
-        ensures aligned { IfOk result (λ l. AreAligned (offsets_of l.fields) (map (λ f. (F.layout_of f).align.abi) (items_of fields.entry))) }
+        ensures after { IfOk result (λ l. All (λ o. start_of repr.now.pack kind ≤ o) (offsets_of l.fields)) }
+        ensures aligned { IfOk result (λ l. AreAligned (offsets_of l.fields) (map (λ f. cut repr.now.pack (F.layout_of f).align.abi) (items_of fields.entry))) }
         ensures niche { IfOk result (λ l. IfSome l.largest_niche (IsNicheOfPart (offsets_of l.fields) (map F.layout_of (items_of fields.entry)))) }
         ensures largest { IfOk result (λ l. HasLargestNiche (Cx.target self.now.cx) l.largest_niche (map F.layout_of (items_of fields.entry))) }
-        ensures too_large { result ≡ Err LayoutCalculatorError.SizeOverflow → size_bound (Cx.target self.now.cx) ≤ list_size (Cx.target self.now.cx) (map F.layout_of (items_of fields.entry)) }
+
+        // No order that the repr and the kind allow is smaller.
+        ensures least { IfOk result (λ l. (other : List ℕ) → IsAllowed (list_repr (Cx.target self.now.cx) repr.now kind) (length (items_of fields.entry)) other → l.size ≤ size_in (list_repr (Cx.target self.now.cx) repr.now kind) (parts_of (Cx.target self.now.cx) (map F.layout_of (items_of fields.entry))) other) }
+
+        // It is refused for its size only where every such order is too large, and a list of sized fields always then.
+        ensures too_large { result ≡ Err LayoutCalculatorError.SizeOverflow → (other : List ℕ) → IsAllowed (list_repr (Cx.target self.now.cx) repr.now kind) (length (items_of fields.entry)) other → size_bound (Cx.target self.now.cx) ≤ size_in (list_repr (Cx.target self.now.cx) repr.now kind) (parts_of (Cx.target self.now.cx) (map F.layout_of (items_of fields.entry))) other }
+        ensures refused { AreSized (map F.layout_of (items_of fields.entry)) → ((other : List ℕ) → IsAllowed (list_repr (Cx.target self.now.cx) repr.now kind) (length (items_of fields.entry)) other → size_bound (Cx.target self.now.cx) ≤ size_in (list_repr (Cx.target self.now.cx) repr.now kind) (parts_of (Cx.target self.now.cx) (map F.layout_of (items_of fields.entry))) other) → IsAnswer (Err LayoutCalculatorError.SizeOverflow) result }
+
+        // Where the order is free, sized fields leave no padding but at the end.
+        ensures sum { IsTrue (list_repr (Cx.target self.now.cx) repr.now kind).reorderable → IsSized kind → IfOk result (λ l. l.size ≡ sum_rounded (list_repr (Cx.target self.now.cx) repr.now kind) (parts_of (Cx.target self.now.cx) (map F.layout_of (items_of fields.entry)))) }
     {
-        let fields = fields.as_raw();
-        let Placed {
-            offsets,
-            end,
-            largest_niche: first,
-        } = self.place(alloc, fields, NicheBias::Start)?;
-        let in_memory_order = source_order(alloc, fields.len())?;
         let dl = self.cx.data_layout();
-        let align = list_align(dl.aggregate_align, fields);
-        let size = end.align_to(align);
-        if size.bytes() >= dl.obj_size_bound() {
-            return Err(LayoutCalculatorError::SizeOverflow);
-        }
-        let largest_niche = self.list_niche(alloc, fields, size, first)?;
-        Ok(LayoutData {
-            fields: FieldsShape::Arbitrary {
-                offsets,
-                in_memory_order,
-            },
-            variants: Variants::Single {
-                index: VariantIdx::new(0),
-            },
-            backend_repr: BackendRepr::Memory { sized: true },
-            largest_niche,
-            uninhabited: any_uninhabited(fields),
-            align: AbiAlign::new(align),
-            size,
-            max_repr_align: max_repr_align(fields),
-            unadjusted_abi_align: align,
-            repr_c: true,
-            randomization_seed: list_seed(repr.field_shuffle_seed, fields),
-        })
+        let list = list_repr(dl, repr, kind);
+        layout_of_list(alloc, dl, fields.as_raw(), repr, &list)
     }
 }

@@ -6,22 +6,14 @@ ghost use Rattle.abi_scalar.specs.Niche.{IsReadableNiche};
 ghost use Rattle.abi_scalar.specs.Pair.{larger_niche};
 ghost use Rattle.abi_calc.specs.ListNiche.{niche_of_part, greater_niche, space_beside};
 
+use crate::order::NicheBias;
 use abi_base::{HasDataLayout, Size};
 use abi_scalar::Niche;
 
-/// Which niche of a list counts where several have as many free numbers.
-#[derive(Clone, Copy)]
-pub enum NicheBias {
-    /// The one that comes first in memory.
-    Start,
-    /// The one that comes last.
-    End,
-}
-
 /// A field's niche, told from the start of the list.
-pub fn niche_of_part(offset: Size, own: Option<Niche>) -> Option<Niche>
-    requires { IfSome own (λ niche. offset + niche.offset < 2 ^ 64) }
-    ensures { result ≡ niche_of_part offset own }
+pub fn niche_of_part(offset: Size, own: &Option<Niche>) -> Option<Niche>
+    requires { IfSome own.now (λ niche. offset + niche.offset < 2 ^ 64) }
+    ensures { result ≡ niche_of_part offset own.now }
 {
     match own {
         Some(niche) => Some(Niche {

@@ -13,7 +13,7 @@ use Rattle.rustc_abi.specs.declared.error.LayError.{LayError}
 use Rattle.rustc_abi.specs.declared.error.LayError.TheVariants as lay
 use Rattle.rustc_abi.specs.Tree.{Tree}
 use Rattle.rustc_abi.specs.Placed.{Placed}
-use Rattle.rustc_abi.specs.Laying.{laid_out}
+use Rattle.rustc_abi.specs.Laying.{IsLaying}
 use Rattle.program.specs.declared.answer.Answer.{Answer}
 use Rattle.program.specs.declared.fault.Fault.{Fault}
 use Rattle.program.specs.declared.fault.Fault.TheVariants.{Unreadable, NotYet, TooDeep, OutOfMemory}
@@ -44,6 +44,7 @@ error_name lay.NotYet = codes "NotYet"
 error_name lay.BadIndex = codes "BadIndex"
 error_name lay.UnknownSpace = codes "UnknownSpace"
 error_name lay.BadRange = codes "BadRange"
+error_name lay.BadAlign = codes "BadAlign"
 error_name lay.UnexpectedUnsized = codes "UnexpectedUnsized"
 error_name lay.SizeOverflow = codes "SizeOverflow"
 error_name lay.EmptyUnion = codes "EmptyUnion"
@@ -84,7 +85,7 @@ output_of_layout (Err error) = refused (error_name error)
 
 -- the output for a type under a data layout: where the data layout is lawful, its layout or its first fault
 pub record IsOutputOfTree (dl : TargetDataLayout) (tree : Tree) (output : Output) : Type 0 where
-  pub lawful : IsLawfulDataLayout dl → output ≡ output_of_layout (laid_out dl tree)
+  pub lawful : IsLawfulDataLayout dl → (r : Result Placed LayError) × IsLaying dl tree r × (output ≡ output_of_layout r)
   pub unlawful : (IsLawfulDataLayout dl → ⊥) → output ≡ refused (codes "UnlawfulDataLayout")
 
 abbrev pub IsOutputOfType : TargetDataLayout → Result Tree Fault → Output → Type 0

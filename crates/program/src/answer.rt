@@ -5,7 +5,7 @@ ghost use Rattle.std.specs.Str.{is_utf8};
 ghost use Rattle.abi_base.specs.DataLayoutText.{data_layout_in};
 ghost use Rattle.rustc_abi.specs.Laid.{placed_of};
 ghost use Rattle.rustc_abi.specs.Placed.{layout_of};
-ghost use Rattle.rustc_abi.specs.Laying.{laid_out};
+ghost use Rattle.rustc_abi.specs.Laying.{IsLaying};
 ghost use Rattle.rustc_abi.specs.Tree.{tree_of};
 ghost use Rattle.program.specs.Output.{answered_by, data_layout_error_name, error_name, IsAnswer, IsOutputOf, IsOutputOfLines, IsOutputOfTree, IsOutputOfType, IsOutputUnder, output_of_fault, output_of_layout, refused, unreadable};
 ghost use Rattle.program.specs.Reading.{read};
@@ -55,6 +55,7 @@ fn error_name(error: LayError) -> &'static str
         LayError::BadIndex => "BadIndex",
         LayError::UnknownSpace => "UnknownSpace",
         LayError::BadRange => "BadRange",
+        LayError::BadAlign => "BadAlign",
         LayError::UnexpectedUnsized => "UnexpectedUnsized",
         LayError::SizeOverflow => "SizeOverflow",
         LayError::EmptyUnion => "EmptyUnion",

@@ -13,19 +13,17 @@ use Rattle.abi_scalar.specs.declared.repr.ReprOptions.{ReprOptions}
 use Rattle.abi_scalar.specs.declared.variants.TagEncoding.{TagEncoding}
 use Rattle.abi_scalar.specs.declared.variants.TagEncoding.TheVariants.{Niche}
 use Rattle.abi_scalar.specs.declared.wrapping_range.WrappingRange.{WrappingRange}
+use Rattle.abi_scalar.specs.declared.backend_repr.BackendRepr.TheVariants.{Scalar as OneScalar}
 use Rattle.abi_scalar.specs.Range.{IsIn, full_range}
-use Rattle.std.specs.Prelude.{Result}
-use Rattle.rustc_abi.specs.declared.error.LayError.{LayError}
-use Rattle.rustc_abi.specs.Tree.{Tree, struct, no_trees, more_trees, scalar as number_type}
+use Rattle.rustc_abi.specs.Tree.{Tree, never, struct, no_trees, more_trees, scalar as number_type}
 use Rattle.rustc_abi.specs.Value.{Value, number, two, list, variant, state, bytes, no_values, more_values}
 use Rattle.rustc_abi.specs.Bytes.{picked}
-use Rattle.rustc_abi.specs.Placed.{Placed, Layout, layout_of, scalar, fields, union, states, no_parts, part, no_arms, arm, nothing}
+use Rattle.rustc_abi.specs.Placed.{Placed, Layout, layout_of, scalar, never as nowhere, fields, union, states, no_parts, part, no_arms, arm, nothing}
 use Rattle.rustc_abi.specs.Places.{is_data_place}
 use Rattle.rustc_abi.specs.Runs.{padding_of}
 use Rattle.rustc_abi.specs.Tag.{Names}
 use Rattle.rustc_abi.specs.Holding.{Holds}
-use Rattle.rustc_abi.specs.Laying.{laid_out}
-use Rattle.rustc_abi.specs.Faithful.{EachValueIsHeld}
+use Rattle.rustc_abi.specs.Faithful.{EachValueIsHeld, IsFlagTrue, IsViewTrue}
 
 -- ---- the types
 
@@ -62,15 +60,9 @@ bool_placed = scalar (sized 1) boolean
 abbrev plain_c : ReprOptions
 plain_c = record { int = None; align = None; pack = None; flags = record { 0 = 1 }; scalable = None; field_shuffle_seed = 0 }
 
-abbrev of_three : Tree
-of_three = struct plain_c true (more_trees (number_type (unsigned I8)) (more_trees (number_type (unsigned I32)) (more_trees (number_type (unsigned I16)) no_trees)))
-
-abbrev placed_or_nothing : Result Placed LayError → Placed
-placed_or_nothing (Ok placed) = placed
-placed_or_nothing (Err error) = nothing
-
 abbrev three : Placed
-three = placed_or_nothing (laid_out default_data_layout of_three)
+three =
+    fields (sized 12) (part 0 u8_placed (part 4 (scalar (sized 4) (unsigned I32)) (part 8 (scalar (sized 2) (unsigned I16)) no_parts)))
 
 first_byte_decides : is_data_place three 0 ≡ true
 first_byte_decides = refl
@@ -126,6 +118,22 @@ no_bool order (list vs) h = h
 no_bool order (variant i vs) h = h
 no_bool order (state i ps vs) h = h
 no_bool order (bytes content) h = h
+
+-- ---- a flag that is wrong: never without it, and a number with it
+
+unflagged_never : IsFlagTrue default_data_layout never (nowhere (sized 0)) → ⊥
+unflagged_never h = h.1
+
+flagged_number : IsFlagTrue default_data_layout (number_type (unsigned I8)) (scalar (record (sized 1) { uninhabited = true }) (unsigned I8)) → ⊥
+flagged_number h = h (number 0) zero_is_in
+
+-- ---- a view that is wrong: a number that is seen as a bool, where the byte is 2
+
+two_is_in_all : IsIn 1 (full_range 1) 2
+two_is_in_all = (2, refl, λ k lt e. absurd (omega (arith, lt, e)))
+
+wrong_view : IsViewTrue default_data_layout (scalar (record (sized 1) { backend_repr = OneScalar boolean }) (unsigned I8)) → ⊥
+wrong_view h = two_is_out 2 refl (h (2 ∷ []) (number 2) (refl, refl, two_is_in_all))
 
 -- ---- a niche tag: 2 names the variant without fields, and each number of the bool the one with it
 

@@ -1,5 +1,5 @@
 -- A struct's layout keeps its fields' values.
-use Rattle.std.proofs.Common.{◌≡◌, ℕ, ◌+◌, ◌≤◌, ◌⊎◌, ⊎_elim, inl, inr, Option, Some, None, List, [], ◌∷◌, length, map, arith, refl, sym, ap, ◌∙◌}
+use Rattle.std.proofs.Common.{All, suc, ◌≡◌, ℕ, ◌+◌, ◌≤◌, ◌⊎◌, ⊎_elim, inl, inr, Option, Some, None, List, [], ◌∷◌, length, map, arith, refl, sym, ap, ◌∙◌}
 use Rattle.std.specs.Prelude.{IfSome, true, Bool}
 use Rattle.std.specs.Cmp.Derive.{both_true}
 use Rattle.std.proofs.lemmas.Bool.{le-leb}
@@ -24,8 +24,10 @@ use Rattle.rustc_abi.specs.Fits.{Fits}
 use Rattle.rustc_abi.specs.Nodes.{parts_at}
 use Rattle.rustc_abi.specs.Adding.{EachFits}
 use Rattle.std.specs.List.{list_any}
-use Rattle.abi_scalar.specs.declared.backend_repr.BackendRepr.TheVariants.{Memory}
+use Rattle.abi_calc.specs.List.{parts_of}
+use Rattle.abi_calc.specs.ListView.{list_view}
 use Rattle.rustc_abi.proofs.FlagLemmas.{flag-fields}
+use Rattle.rustc_abi.proofs.ViewLemmas.{part_true, list_view_true}
 use Rattle.rustc_abi.proofs.HoldLemmas.{IsNicheAt, niche_in_part, niche_in_whole}
 use Rattle.rustc_abi.proofs.PartsLemmas.{LieBeside, FitTogether, LieInside, exist, only, unique, padding, within_parts}
 
@@ -180,14 +182,24 @@ room_of dl size (more_trees t ts) [] (p ∷ ps) apart fits = absurd apart
 room_of dl size (more_trees t ts) (o ∷ offsets) (p ∷ ps) apart fits =
     both_true (both_true (le-leb (o + size_of p) size apart.0) (Fits.room fits.0)) (room_of dl size ts offsets ps apart.2 fits.1)
 
+lengths_together : (size : ℕ) (offsets : List ℕ) (ps : List Placed) → AreApart size offsets (map size_of ps) → length offsets ≡ length ps
+lengths_together size [] [] apart = refl
+lengths_together size (o ∷ offsets) [] apart = absurd apart
+lengths_together size [] (p ∷ ps) apart = absurd apart
+lengths_together size (o ∷ offsets) (p ∷ ps) apart = ap suc (lengths_together size offsets ps apart.2)
+
 -- a layout of fields, wherever they lie
-pub Fits-fields : (dl : TargetDataLayout) (repr : ReprOptions) (always_sized : Bool) (ts : Trees) (layout : Layout) (offsets : List ℕ) (ps : List Placed) →
+pub Fits-fields : (dl : TargetDataLayout) (repr : ReprOptions) (always_sized fixed : Bool) (ts : Trees) (layout : Layout) (offsets : List ℕ) (ps : List Placed) →
     EachFits dl ts ps → AreApart layout.size offsets (map size_of ps) → IfSome layout.largest_niche (IsPartNiche (parts_at offsets ps)) →
-    layout.backend_repr ≡ Memory true → layout.uninhabited ≡ list_any (λ f. f.uninhabited) (map layout_of ps) → IsLawfulLayout dl layout →
+    layout.backend_repr ≡ list_view dl fixed layout.size layout.align.abi (parts_of dl (map layout_of ps)) offsets →
+    layout.uninhabited ≡ list_any (λ f. f.uninhabited) (map layout_of ps) → All (λ p. IsLawfulLayout dl (layout_of p)) ps → IsLawfulLayout dl layout →
     Fits dl (struct repr always_sized ts) (fields layout (parts_at offsets ps))
-Fits-fields dl repr always_sized ts layout offsets ps fits apart niche view flag lawful = record {
-  faithful = λ locals. struct_faithful dl repr always_sized ts layout (parts_at offsets ps) (together dl layout.size ts offsets ps apart fits locals) niche
-      (λ b vs h. rw view tt) (flag-fields dl repr always_sized ts layout offsets ps flag apart fits locals);
+Fits-fields dl repr always_sized fixed ts layout offsets ps fits apart niche view flag each lawful = record {
+  faithful = λ locals.
+      let fit = together dl layout.size ts offsets ps apart fits locals in
+      struct_faithful dl repr always_sized ts layout (parts_at offsets ps) fit niche
+      (λ b vs h. rw view (list_view_true dl b offsets ps each (part_true dl layout.size ts offsets ps fit (lengths_together layout.size offsets ps apart) b vs h) fixed layout.size layout.align.abi))
+      (flag-fields dl repr always_sized ts layout offsets ps flag apart fits locals);
   lawful = lawful;
   room = room_of dl layout.size ts offsets ps apart fits;
   within = within_parts layout.size (parts_at offsets ps) (inside dl layout.size ts offsets ps apart fits);

@@ -1,6 +1,6 @@
 -- How types are laid out, one after another.
 use Rattle.std.proofs.Common.{◌≡◌, ◌≢◌, ℕ, ◌-◌, ◌<◌, ◌≤◌, List, [], ◌∷◌, ◌++◌, Option, Some, None, Bool, true, false, length, map, arith, refl, sym, ap, ◌∙◌, subst, inl, inr, All, Result, Ok, Err}
-use Rattle.std.specs.Prelude.{IfSome, nat_lt, ◌==◌, ◌&&◌, if◌then◌else◌}
+use Rattle.std.specs.Prelude.{IfSome, nat_lt, ◌⊎◌, ◌==◌, ◌&&◌, ◌||◌, if◌then◌else◌}
 use Rattle.std.proofs.lemmas.Bool.{eqb-false}
 use Rattle.std.proofs.lemmas.List.{map-append}
 use Rattle.std.proofs.lemmas.List.Elements.{All-nil, All-cons, All-head, All-tail, All-append, All-weaker}
@@ -11,26 +11,30 @@ use Rattle.abi_scalar.specs.Lawful.{IsLawfulLayout}
 use Rattle.abi_scalar.specs.declared.backend_repr.BackendRepr.TheVariants.{Memory}
 use Rattle.std.specs.List.{list_any}
 use Rattle.abi_calc.specs.Apart.{AreApart, offsets_of}
+use Rattle.abi_calc.specs.List.{HasLawfulAligns, parts_of}
+use Rattle.abi_base.specs.declared.struct_kind.StructKind.TheVariants.{AlwaysSized, MaybeUnsized}
+use Rattle.abi_calc.specs.ListView.{list_view}
+use Rattle.abi_scalar.specs.Repr.{is_abi_fixed}
 use Rattle.abi_calc.specs.Array.{array_answer, elements_layout}
 use Rattle.rustc_abi.specs.declared.error.LayError.{LayError}
-use Rattle.rustc_abi.specs.declared.error.LayError.TheVariants.{NotYet, BadIndex, SizeOverflow}
+use Rattle.rustc_abi.specs.declared.error.LayError.TheVariants.{BadIndex, BadAlign, SizeOverflow}
 use Rattle.rustc_abi.specs.declared.node.Node.{Node}
 use Rattle.abi_base.specs.DataLayout.{size_bound}
 use Rattle.abi_scalar.specs.declared.scalar.Scalar.{Scalar}
 use Rattle.abi_scalar.specs.Pair.{pair_size, second_offset}
-use Rattle.std.proofs.lemmas.Bool.{lt-ltb, le-ltb}
+use Rattle.std.proofs.lemmas.Bool.{lt-ltb, le-ltb, ltb-false}
 use Rattle.rustc_abi.specs.declared.node.Shape.TheVariants.{Pair}
 use Rattle.rustc_abi.specs.ScalarFault.{scalar_fault}
 use Rattle.rustc_abi.proofs.FaultLemmas.{faultless}
 use Rattle.rustc_abi.proofs.PairLemmas.{Fits-pair}
 use Rattle.rustc_abi.specs.Tree.{Tree, pair, array, struct, Trees, no_trees, more_trees, trees}
 use Rattle.rustc_abi.specs.Placed.{Placed, Layout, layout_of, size_of, niche_of, pair as placed_pair, elements, fields, part, no_parts}
-use Rattle.rustc_abi.specs.Error.{named, and_then}
+use Rattle.rustc_abi.specs.Error.{named, IsRefused}
 use Rattle.rustc_abi.specs.Fits.{Fits}
 use Rattle.rustc_abi.specs.Nodes.{placed_in, parts_at, meaning, types_in, placed_at, root_of, Keeps}
 use Rattle.rustc_abi.specs.Values.{LocalsHaveValues}
 use Rattle.rustc_abi.specs.Faithful.{IsFaithful}
-use Rattle.rustc_abi.specs.Laying.{laid_out, laid_out_each, elements_answer, fields_answer, listed, is_plain_c, most_fields, placed_by, unless, one_scalar, two_scalars, pair_answer}
+use Rattle.rustc_abi.specs.Laying.{IsLaying, AreLaying, elements_answer, IsFieldsAnswer, IsListed, fields_fault, has_bad_align, is_above_limit, most_fields, kind_of, placed_fields, placed_by, unless, one_scalar, two_scalars, pair_answer}
 use Rattle.rustc_abi.specs.Adding.{IsRefusal, IsPut, IsAdded, EachFits, all_at, AreAdded}
 use Rattle.rustc_abi.proofs.ElementsLemmas.{IsElementNiche, Fits-elements}
 use Rattle.rustc_abi.proofs.FieldsLemmas.{part_of_list, Fits-fields}
@@ -40,12 +44,12 @@ use Rattle.rustc_abi.proofs.ListLemmas.{chosen}
 use Rattle.rustc_abi.proofs.NodesLemmas.{length-types_in, Keeps-trans}
 
 pub IsAdded-put : (dl : TargetDataLayout) (old new : List Node) (i : ℕ) (placed : Placed) (t : Tree) → IsPut old new i placed →
-    laid_out dl t ≡ Ok placed → Fits dl t placed → IsAdded dl old new i t
+    IsLaying dl t (Ok placed) → Fits dl t placed → IsAdded dl old new i t
 IsAdded-put dl old new i placed t put exact fits = record {
   kept = put.kept;
   well = put.well;
   last = put.last;
-  exact = exact ∙ ap Ok (sym put.meant);
+  exact = subst (λ p. IsLaying dl t (Ok p)) (sym put.meant) exact;
   fits = subst (Fits dl t) (sym put.meant) fits;
 }
 
@@ -65,11 +69,11 @@ array_niche count element = niche_by (count == 0) count element (λ e. eqb-false
 -- an array's layout
 pub IsAdded-elements : (dl : TargetDataLayout) (old new : List Node) (i : ℕ) (element : Placed) (count : ℕ) (layout : Layout) (t : Tree) →
     named {H = ℕ} (array_answer 0 dl (layout_of element) (Some count)) ≡ Ok layout → IsLawfulLayout dl layout →
-    IsPut old new i (elements layout count element) → laid_out dl t ≡ Ok element → Fits dl t element → IsAdded dl old new i (array count t)
+    IsPut old new i (elements layout count element) → IsLaying dl t (Ok element) → Fits dl t element → IsAdded dl old new i (array count t)
 IsAdded-elements dl old new i element count layout t answer lawful put exact fits =
     let made : layout ≡ elements_layout 0 true count (layout_of element) = chosen ℕ _ _ layout answer in
     IsAdded-put dl old new i (elements layout count element) (array count t) put
-    (ap (λ r. and_then r (elements_answer dl count)) exact ∙ ap (λ r. and_then r (λ l. Ok (elements l count element))) answer)
+    (inr (element, exact, sym (ap (placed_by (λ l. elements l count element)) answer)))
     (Fits-elements dl t element count layout fits (ap (λ l. l.size) made)
     (subst (λ n. IfSome n (IsElementNiche count element)) (sym (ap (λ l. l.largest_niche) made)) (array_niche count element))
     (ap (λ l. l.backend_repr) made) (ap (λ l. l.uninhabited) made) lawful)
@@ -82,62 +86,94 @@ EachFits-lawful dl (more_trees t ts) [] h = absurd h
 EachFits-lawful dl (more_trees t ts) (p ∷ ps) h =
     All-cons (λ p. IsLawfulLayout dl (layout_of p)) p ps (Fits.lawful h.0) (EachFits-lawful dl ts ps h.1)
 
--- what a struct's fields make
-pub fields_made : (dl : TargetDataLayout) (repr : ReprOptions) (always_sized : Bool) (ps : List Placed) (layout : Layout) → (is_plain_c repr && always_sized) ≡ true →
-    nat_lt most_fields (length ps) ≡ false → listed dl repr.field_shuffle_seed (map layout_of ps) ≡ Ok layout →
-    fields_answer dl repr always_sized ps ≡ Ok (fields layout (parts_at (offsets_of layout.fields) ps))
-fields_made dl repr always_sized ps layout known few answer =
-    ap (λ b. if b then (if nat_lt most_fields (length ps) then Err BadIndex else
-    placed_by (λ layout. fields layout (parts_at (offsets_of layout.fields) ps)) (listed dl repr.field_shuffle_seed (map layout_of ps))) else Err NotYet) known
-    ∙ ap (λ b. if b then Err BadIndex else placed_by (λ layout. fields layout (parts_at (offsets_of layout.fields) ps)) (listed dl repr.field_shuffle_seed (map layout_of ps))) few
-    ∙ ap (placed_by (λ layout. fields layout (parts_at (offsets_of layout.fields) ps))) answer
+few_of : (many bad : Bool) → (if many then Some BadIndex else (if bad then Some BadAlign else None)) ≡ None → (many ≡ false) × (bad ≡ false)
+few_of true bad e = absurd (cc)
+few_of false true e = absurd (cc)
+few_of false false e = (refl, refl)
+
+-- a struct without a fault of its own has no more fields than can be named
+pub faultless_few : (repr : ReprOptions) (ps : List Placed) → fields_fault repr ps ≡ None → length ps ≤ most_fields
+faultless_few repr ps none = ltb-false most_fields (length ps) (few_of (nat_lt most_fields (length ps)) (has_bad_align repr) none).0
+
+limited : (align : Option ℕ) → is_above_limit align ≡ false → IfSome align (λ a. a ≤ 29)
+limited None h = tt
+limited (Some a) h = ltb-false 29 a h
+
+neither : (a b : Bool) → (a || b) ≡ false → (a ≡ false) × (b ≡ false)
+neither true b h = absurd (cc)
+neither false b h = (refl, h)
+
+-- and no alignment above the limit
+pub faultless_aligns : (repr : ReprOptions) (ps : List Placed) → fields_fault repr ps ≡ None → HasLawfulAligns repr
+faultless_aligns repr ps none =
+    let both = neither (is_above_limit repr.align) (is_above_limit repr.pack) (few_of (nat_lt most_fields (length ps)) (has_bad_align repr) none).1 in
+    record { align = limited repr.align both.0; pack = limited repr.pack both.1 }
+
+-- a list of a struct is always sized, or has a field
+pub kind_cases : (always_sized : Bool) (ps : List Placed) → (kind_of always_sized ps ≡ AlwaysSized) ⊎ ((kind_of always_sized ps ≡ MaybeUnsized) × (0 < length ps))
+kind_cases always_sized [] = inl refl
+kind_cases true (p ∷ ps) = inl refl
+kind_cases false (p ∷ ps) = inr (refl, omega arith)
+
+-- the calculator's refusal is the struct's
+pub fields_refused : (dl : TargetDataLayout) (repr : ReprOptions) (always_sized : Bool) (ps : List Placed) (e : LayError) → fields_fault repr ps ≡ None →
+    IsRefused (IsListed dl repr (kind_of always_sized ps) (map layout_of ps)) e → IsRefused (IsFieldsAnswer dl repr always_sized ps) e
+fields_refused dl repr always_sized ps e faultless (inl memory) = inl memory
+fields_refused dl repr always_sized ps e faultless (inr f) = inr (rw faultless (inl (e, f, refl)))
+
+-- a struct's refusal is the tree's
+pub struct_refused : (dl : TargetDataLayout) (repr : ReprOptions) (always_sized : Bool) (ts : Trees) (ps : List Placed) (e : LayError) → AreLaying dl ts (Ok ps) →
+    IsRefused (IsFieldsAnswer dl repr always_sized ps) e → IsRefused (IsLaying dl (struct repr always_sized ts)) e
+struct_refused dl repr always_sized ts ps e exact (inl memory) = inl memory
+struct_refused dl repr always_sized ts ps e exact (inr f) = inr (inr (ps, exact, f))
 
 -- a struct's layout
 pub IsAdded-fields : (dl : TargetDataLayout) (old new : List Node) (i : ℕ) (repr : ReprOptions) (always_sized : Bool) (ps : List Placed) (layout : Layout) (ts : Trees) →
-    fields_answer dl repr always_sized ps ≡ Ok (fields layout (parts_at (offsets_of layout.fields) ps)) → IsLawfulLayout dl layout → IfSome layout.largest_niche (IsNicheOfPart (offsets_of layout.fields) (map layout_of ps)) →
-    layout.backend_repr ≡ Memory true → layout.uninhabited ≡ list_any (λ f. f.uninhabited) (map layout_of ps) → AreApart layout.size (offsets_of layout.fields) (map size_of ps) → IsPut old new i (fields layout (parts_at (offsets_of layout.fields) ps)) →
-    laid_out_each dl ts ≡ Ok ps → EachFits dl ts ps → IsAdded dl old new i (struct repr always_sized ts)
-IsAdded-fields dl old new i repr always_sized ps layout ts answer lawful niche view flag apart put exact fits =
-    IsAdded-put dl old new i (fields layout (parts_at (offsets_of layout.fields) ps)) (struct repr always_sized ts) put
-    (ap (λ r. and_then r (fields_answer dl repr always_sized)) exact ∙ answer)
-    (Fits-fields dl repr always_sized ts layout (offsets_of layout.fields) ps fits apart
-    (IfSome_then layout.largest_niche niche (part_of_list (offsets_of layout.fields) ps)) view flag lawful)
+    fields_fault repr ps ≡ None → IsListed dl repr (kind_of always_sized ps) (map layout_of ps) (Ok layout) → IsLawfulLayout dl layout →
+    IfSome layout.largest_niche (IsNicheOfPart (offsets_of layout.fields) (map layout_of ps)) → AreApart layout.size (offsets_of layout.fields) (map size_of ps) →
+    IsPut old new i (placed_fields ps layout) → AreLaying dl ts (Ok ps) → EachFits dl ts ps → IsAdded dl old new i (struct repr always_sized ts)
+IsAdded-fields dl old new i repr always_sized ps layout ts faultless listed lawful niche apart put exact fits =
+    let made = listed.2 in
+    let offsets : offsets_of layout.fields ≡ listed.1 = ap offsets_of made.shape in
+    let view = made.view ∙ ap (list_view dl (is_abi_fixed repr) layout.size layout.align.abi (parts_of dl (map layout_of ps))) (sym offsets) in
+    let answer : IsFieldsAnswer dl repr always_sized ps (Ok (placed_fields ps layout)) = rw faultless (inr (layout, listed, refl)) in
+    IsAdded-put dl old new i (placed_fields ps layout) (struct repr always_sized ts) put (inr (ps, exact, answer))
+    (Fits-fields dl repr always_sized (is_abi_fixed repr) ts layout (offsets_of layout.fields) ps fits apart
+    (IfSome_then layout.largest_niche niche (part_of_list (offsets_of layout.fields) ps)) view made.uninhabited (EachFits-lawful dl ts ps fits) lawful)
 
 -- a list is laid out where its first type and the others are
-cons_parts : (r : Result Placed LayError) (rs : Result (List Placed) LayError) (ps : List Placed) → and_then r (λ p. and_then rs (λ qs. Ok (p ∷ qs))) ≡ Ok ps →
-    (p : Placed) × (qs : List Placed) × (r ≡ Ok p) × (rs ≡ Ok qs) × (p ∷ qs ≡ ps)
-cons_parts (Ok p) (Ok qs) ps h = (p, qs, refl, refl, cc)
-cons_parts (Ok p) (Err e) ps h = absurd (cc)
-cons_parts (Err e) rs ps h = absurd (cc)
+more_laying : (dl : TargetDataLayout) (t : Tree) (ts : Trees) (p : Placed) (ps : List Placed) → IsLaying dl t (Ok p) → AreLaying dl ts (Ok ps) → AreLaying dl (more_trees t ts) (Ok (p ∷ ps))
+more_laying dl t ts p ps here later = inr (p, here, inr (ps, later, refl))
 
-cons_made : (r : Result Placed LayError) (rs : Result (List Placed) LayError) (p : Placed) (qs : List Placed) → r ≡ Ok p → rs ≡ Ok qs →
-    and_then r (λ p. and_then rs (λ qs. Ok (p ∷ qs))) ≡ Ok (p ∷ qs)
-cons_made r rs p qs e f = ap (λ r. and_then r (λ p. and_then rs (λ qs. Ok (p ∷ qs)))) e ∙ ap (λ rs. and_then rs (λ qs. Ok (p ∷ qs))) f
-
-cons_refused : (r : Result Placed LayError) (rs : Result (List Placed) LayError) (p : Placed) (e : LayError) → r ≡ Ok p → IsRefusal rs e →
-    IsRefusal (and_then r (λ p. and_then rs (λ qs. Ok (p ∷ qs)))) e
-cons_refused r rs p e ok (inl memory) = inl memory
-cons_refused r rs p e ok (inr f) = inr (ap (λ r. and_then r (λ p. and_then rs (λ qs. Ok (p ∷ qs)))) ok ∙ ap (λ rs. and_then rs (λ qs. Ok (p ∷ qs))) f)
+first_laying : (dl : TargetDataLayout) (t : Tree) (ts : Trees) (xs : List Placed) → AreLaying dl (more_trees t ts) (Ok xs) →
+    (p : Placed) × (ps : List Placed) × IsLaying dl t (Ok p) × AreLaying dl ts (Ok ps) × (xs ≡ p ∷ ps)
+first_laying dl t ts xs (inl h) = absurd (cc h.2)
+first_laying dl t ts xs (inr (p, here, inl h)) = absurd (cc h.2)
+first_laying dl t ts xs (inr (p, here, inr (ps, later, e))) = (p, ps, here, later, cc)
 
 -- one type more
-laid_out_each-push : (dl : TargetDataLayout) (ts : List Tree) (ps : List Placed) (t : Tree) (p : Placed) → laid_out_each dl (trees ts) ≡ Ok ps → laid_out dl t ≡ Ok p →
-    laid_out_each dl (trees (ts ++ t ∷ [])) ≡ Ok (ps ++ p ∷ [])
-laid_out_each-push dl [] ps t p before here =
+laying-push : (dl : TargetDataLayout) (ts : List Tree) (ps : List Placed) (t : Tree) (p : Placed) → AreLaying dl (trees ts) (Ok ps) → IsLaying dl t (Ok p) →
+    AreLaying dl (trees (ts ++ t ∷ [])) (Ok (ps ++ p ∷ []))
+laying-push dl [] ps t p before here =
     let none : [] ≡ ps = cc in
-    cons_made (laid_out dl t) (Ok []) p [] here refl ∙ ap (λ qs. Ok (qs ++ p ∷ [])) none
-laid_out_each-push dl (s ∷ ts) ps t p before here =
-    let both = cons_parts (laid_out dl s) (laid_out_each dl (trees ts)) ps before in
-    cons_made (laid_out dl s) (laid_out_each dl (trees (ts ++ t ∷ []))) both.0 (both.1 ++ p ∷ []) both.2 (laid_out_each-push dl ts both.1 t p both.3 here)
-    ∙ ap (λ qs. Ok (qs ++ p ∷ [])) both.4
+    subst (λ qs. AreLaying dl (more_trees t no_trees) (Ok (qs ++ p ∷ []))) none (more_laying dl t no_trees p [] here refl)
+laying-push dl (s ∷ ts) ps t p before here =
+    let both = first_laying dl s (trees ts) ps before in
+    subst (λ qs. AreLaying dl (trees ((s ∷ ts) ++ t ∷ [])) (Ok (qs ++ p ∷ []))) (sym both.4)
+    (more_laying dl s (trees (ts ++ t ∷ [])) both.0 (both.1 ++ p ∷ []) both.2 (laying-push dl ts both.1 t p both.3 here))
+
+later_refused : (dl : TargetDataLayout) (t : Tree) (ts : Trees) (p : Placed) (e : LayError) → IsLaying dl t (Ok p) → IsRefused (AreLaying dl ts) e → IsRefused (AreLaying dl (more_trees t ts)) e
+later_refused dl t ts p e here (inl memory) = inl memory
+later_refused dl t ts p e here (inr f) = inr (inr (p, here, inl (e, f, refl)))
 
 -- the first fault is the answer
-pub laid_out_each-refused : (dl : TargetDataLayout) (ts : List Tree) (ps : List Placed) (t : Tree) (rest : List Tree) (e : LayError) → laid_out_each dl (trees ts) ≡ Ok ps →
-    IsRefusal (laid_out dl t) e → IsRefusal (laid_out_each dl (trees (ts ++ t ∷ rest))) e
-laid_out_each-refused dl [] ps t rest e before (inl memory) = inl memory
-laid_out_each-refused dl [] ps t rest e before (inr f) = inr (ap (λ r. and_then r (λ p. and_then (laid_out_each dl (trees rest)) (λ qs. Ok (p ∷ qs)))) f)
-laid_out_each-refused dl (s ∷ ts) ps t rest e before here =
-    let both = cons_parts (laid_out dl s) (laid_out_each dl (trees ts)) ps before in
-    cons_refused (laid_out dl s) (laid_out_each dl (trees (ts ++ t ∷ rest))) both.0 e both.2 (laid_out_each-refused dl ts both.1 t rest e both.3 here)
+pub laying-refused : (dl : TargetDataLayout) (ts : List Tree) (ps : List Placed) (t : Tree) (rest : List Tree) (e : LayError) → AreLaying dl (trees ts) (Ok ps) →
+    IsRefused (IsLaying dl t) e → IsRefused (AreLaying dl (trees (ts ++ t ∷ rest))) e
+laying-refused dl ts ps t rest e before (inl memory) = inl memory
+laying-refused dl [] ps t rest e before (inr f) = inr (inl (e, f, refl))
+laying-refused dl (s ∷ ts) ps t rest e before (inr f) =
+    let both = first_laying dl s (trees ts) ps before in
+    later_refused dl s (trees (ts ++ t ∷ rest)) both.0 e both.2 (laying-refused dl ts both.1 t rest e both.3 (inr f))
 
 EachFits-push : (dl : TargetDataLayout) (ts : List Tree) (ps : List Placed) (t : Tree) (p : Placed) → EachFits dl (trees ts) ps → Fits dl t p → EachFits dl (trees (ts ++ t ∷ [])) (ps ++ p ∷ [])
 EachFits-push dl [] [] t p h fits = (fits, tt)
@@ -169,7 +205,7 @@ AreAdded-more dl first old new children ts i t h added =
           All-append (λ child. child < length new) children (i ∷ [])
           (All-weaker (λ child. child < length old) (λ child. child < length new) (λ child lt. omega arith) children h.there)
           (All-cons (λ child. child < length new) i [] (omega (arith, added.last)) (All-nil (λ child. child < length new)));
-      exact = laid_out_each-push dl ts (all_at old children) t (placed_at new i) h.exact added.exact ∙ ap Ok (sym more);
+      exact = subst (λ ps. AreLaying dl (trees (ts ++ t ∷ [])) (Ok ps)) (sym more) (laying-push dl ts (all_at old children) t (placed_at new i) h.exact added.exact);
       fits = subst (EachFits dl (trees (ts ++ t ∷ []))) (sym more) (EachFits-push dl ts (all_at old children) t (placed_at new i) h.fits added.fits);
     }
 
@@ -208,7 +244,7 @@ IsAdded-pair dl old one both new i j k a b fa fb below la lb lawful first second
     let answer : (r : Result Placed LayError) → unless (scalar_fault dl a) (unless (scalar_fault dl b) r) ≡ r =
     λ r. ap (λ f. unless f (unless (scalar_fault dl b) r)) fa ∙ ap (λ f. unless f r) fb in
     IsAdded-put dl old new k (two_scalars dl a b) (pair a b) put
-    (answer (if nat_lt (pair_size dl a b) (size_bound dl) then Ok (two_scalars dl a b) else Err SizeOverflow) ∙ ap (λ t. if t then Ok (two_scalars dl a b) else Err SizeOverflow) fits)
+    (sym (answer (if nat_lt (pair_size dl a b) (size_bound dl) then Ok (two_scalars dl a b) else Err SizeOverflow) ∙ ap (λ t. if t then Ok (two_scalars dl a b) else Err SizeOverflow) fits))
     (Fits-pair dl a b (faultless dl a fa) (faultless dl b fb) la lb lawful)
 
 -- two scalars that are too large
@@ -218,3 +254,23 @@ pair_overflows dl a b fa fb above =
     let answer : (r : Result Placed LayError) → unless (scalar_fault dl a) (unless (scalar_fault dl b) r) ≡ r =
     λ r. ap (λ f. unless f (unless (scalar_fault dl b) r)) fa ∙ ap (λ f. unless f r) fb in
     answer (if nat_lt (pair_size dl a b) (size_bound dl) then Ok (two_scalars dl a b) else Err SizeOverflow) ∙ ap (λ t. if t then Ok (two_scalars dl a b) else Err SizeOverflow) large
+
+-- a node behind a type's, and behind several types'
+pub IsAdded-after : (dl : TargetDataLayout) (first old new : List Node) (i j : ℕ) (t u : Tree) → IsAdded dl first old i t → IsAdded dl old new j u → IsAdded dl first new j u
+IsAdded-after dl first old new i j t u before added = record {
+  kept = Keeps-trans (types_in first) (types_in old) (types_in new) before.kept added.kept;
+  well = λ h. added.well (before.well h);
+  last = added.last;
+  exact = added.exact;
+  fits = added.fits;
+}
+
+pub AreAdded-after : (dl : TargetDataLayout) (first old new : List Node) (children : List ℕ) (ts : List Tree) (j : ℕ) (u : Tree) → AreAdded dl first old children ts → IsAdded dl old new j u →
+    IsAdded dl first new j u
+AreAdded-after dl first old new children ts j u before added = record {
+  kept = Keeps-trans (types_in first) (types_in old) (types_in new) before.kept added.kept;
+  well = λ h. added.well (before.well h);
+  last = added.last;
+  exact = added.exact;
+  fits = added.fits;
+}

@@ -9,6 +9,7 @@ mod FlagLemmas
 mod ElementsLemmas
 mod PartsLemmas
 mod NodesLemmas
+mod ViewLemmas
 mod FieldsLemmas
 mod TreeLemmas
 mod ListLemmas

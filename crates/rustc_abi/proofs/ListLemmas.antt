@@ -1,6 +1,6 @@
 -- The calculator's answer to a list of fields, whatever lends their layouts.
-use Rattle.std.proofs.Common.{◌≡◌, ℕ, ◌+◌, ◌<◌, List, [], ◌∷◌, Option, Some, None, Bool, true, false, map, refl, sym, ap, ◌∙◌, subst, inl, inr, All, Result, Ok, Err}
-use Rattle.std.specs.Prelude.{nat_lt, if◌then◌else◌}
+use Rattle.std.proofs.Common.{◌≡◌, ℕ, ◌<◌, List, [], ◌∷◌, Option, Some, Bool, true, false, map, refl, sym, ap, ◌∙◌, subst, inl, inr, All, Result, Ok, Err, zero, suc}
+use Rattle.std.specs.Prelude.{nat_lt, slice_get, if◌then◌else◌}
 use Rattle.std.specs.List.{list_all}
 use Rattle.std.specs.Result.{IsErrAnd, IfErr}
 use Rattle.std.proofs.lemmas.Bool.{lt-ltb}
@@ -8,78 +8,55 @@ use Rattle.std.proofs.lemmas.List.{map-id}
 use Rattle.std.specs.Cmp.Derive.{both_true}
 use Rattle.std.proofs.lemmas.List.Elements.{All-nil, All-cons, All-head, All-tail}
 use Rattle.abi_base.specs.declared.data_layout.TargetDataLayout.{TargetDataLayout}
+use Rattle.abi_base.specs.declared.struct_kind.StructKind.{StructKind}
 use Rattle.abi_base.specs.DataLayout.{size_bound}
+use Rattle.abi_scalar.specs.declared.repr.ReprOptions.{ReprOptions}
 use Rattle.abi_scalar.specs.declared.error.LayoutCalculatorError.{LayoutCalculatorError}
-use Rattle.abi_scalar.specs.declared.error.LayoutCalculatorError.TheVariants.{SizeOverflow, UnexpectedUnsized, OutOfMemory}
-use Rattle.abi_calc.specs.Answer.{IsAnswer}
-use Rattle.abi_calc.specs.List.{fault_from, is_unsized, answer_after, list_answer, list_layout}
-use Rattle.abi_calc.specs.Placement.{place_of}
+use Rattle.abi_scalar.specs.declared.error.LayoutCalculatorError.TheVariants.{SizeOverflow, UnexpectedUnsized}
+use Rattle.abi_scalar.specs.declared.error.LayoutCalculatorError.TheVariants as calculator
+use Rattle.abi_calc.specs.declared.order.NicheBias.TheVariants.{Start}
+use Rattle.abi_calc.specs.declared.placing.ListFault.{ListFault}
+use Rattle.abi_calc.specs.declared.placing.ListFault.TheVariants as fault
+use Rattle.abi_calc.specs.Fault.{IsErrorOf, fault_in}
+use Rattle.abi_calc.specs.List.{IsListAnswer, IsListError, parts_of}
+use Rattle.abi_calc.specs.Order.{IsNamedOrder}
+use Rattle.abi_calc.specs.Placement.{list_repr}
 use Rattle.rustc_abi.specs.declared.error.LayError.{LayError}
 use Rattle.rustc_abi.specs.Placed.{Placed, Layout, layout_of, size_of}
-use Rattle.rustc_abi.specs.Error.{lay_error, named}
-use Rattle.rustc_abi.specs.Laying.{listed}
-use Rattle.rustc_abi.specs.Adding.{IsRefusal}
-
--- a fault by its name
-abbrev name_of : {H : Type 0} → Option (LayoutCalculatorError H) → Option LayError
-name_of None = None
-name_of (Some e) = Some (lay_error e)
-
-fault_step : {H K : Type 0} (unsized below : Bool) (h : H) (k : K) (x : Option (LayoutCalculatorError H)) (y : Option (LayoutCalculatorError K)) → name_of x ≡ name_of y →
-    name_of (if unsized then Some (UnexpectedUnsized h) else (if below then x else Some SizeOverflow))
-    ≡ name_of (if unsized then Some (UnexpectedUnsized k) else (if below then y else Some SizeOverflow))
-fault_step true below h k x y same = refl
-fault_step false true h k x y same = same
-fault_step false false h k x y same = refl
-
-fault_same : {H : Type 0} (f : H → Layout) (bound from : ℕ) (hs : List H) → name_of (fault_from f bound from hs) ≡ name_of (fault_from (λ l. l) bound from (map f hs))
-fault_same f bound from [] = refl
-fault_same f bound from (h ∷ hs) =
-    let end : ℕ = place_of from (f h) + (f h).size in
-    fault_step (is_unsized (f h).backend_repr) (nat_lt end bound) h (f h) (fault_from f bound end hs) (fault_from (λ l. l) bound end (map f hs)) (fault_same f bound end hs)
-
-choice_same : (H K : Type 0) (b : Bool) (layout : Layout) →
-    named {H = H} (if b then Ok layout else Err SizeOverflow) ≡ named {H = K} (if b then Ok layout else Err SizeOverflow)
-choice_same H K true layout = refl
-choice_same H K false layout = refl
+use Rattle.rustc_abi.specs.Error.{lay_error, named, IsRefused}
+use Rattle.rustc_abi.specs.Laying.{IsListed}
 
 -- what a choice made
 pub chosen : (H : Type 0) (b : Bool) (layout made : Layout) → named {H = H} (if b then Ok layout else Err SizeOverflow) ≡ Ok made → made ≡ layout
 chosen H true layout made h = cc
 chosen H false layout made h = absurd (cc)
 
-after_same : {H K : Type 0} (bound : ℕ) (x : Option (LayoutCalculatorError H)) (y : Option (LayoutCalculatorError K)) (layout : Layout) → name_of x ≡ name_of y →
-    named (answer_after bound x layout) ≡ named (answer_after bound y layout)
-after_same {H} {K} bound None None layout same = choice_same H K (nat_lt layout.size bound) layout
-after_same bound None (Some e) layout same = absurd (cc)
-after_same bound (Some e) None layout same = absurd (cc)
-after_same bound (Some d) (Some e) layout same = let one : lay_error d ≡ lay_error e = cc in ap Err one
+module _ {H : Type 0} (f : H → Layout) (dl : TargetDataLayout) (repr : ReprOptions) (kind : StructKind) where
+  field_there : (hs : List H) (i : ℕ) (h : H) → slice_get hs i ≡ Some h → slice_get (map f hs) i ≡ Some (f h)
+  field_there [] i h e = absurd (cc)
+  field_there (k ∷ hs) zero h e = cc
+  field_there (k ∷ hs) (suc i) h e = field_there hs i h e
 
--- it is the answer to the list of the layouts
-pub listed_by : {H : Type 0} (f : H → Layout) (dl : TargetDataLayout) (seed : ℕ) (hs : List H) →
-    named (list_answer f (λ i. i) 0 dl seed hs) ≡ listed dl seed (map f hs)
-listed_by f dl seed hs = after_same (size_bound dl) (fault_from f (size_bound dl) 0 hs) _ (list_layout (λ i. i) 0 dl seed (map f hs)) (fault_same f (size_bound dl) 0 hs)
-    ∙ ap (λ layouts. named (answer_after (size_bound dl) (fault_from (λ l. l) (size_bound dl) 0 (map f hs)) (list_layout (λ i. i) 0 dl seed layouts))) (sym (map-id (map f hs)))
+  -- an error by its name
+  named_error : (hs : List H) (fault : ListFault) (e : LayoutCalculatorError H) → IsErrorOf hs fault e →
+      (error : LayoutCalculatorError Layout) × IsErrorOf (map f hs) fault error × (lay_error e ≡ lay_error error)
+  named_error hs (fault.Unsized i) e h = (UnexpectedUnsized (f h.0), (f h.0, field_there hs i h.0 h.1, refl), ap lay_error h.2)
+  named_error hs fault.TooLarge e h = (SizeOverflow, refl, ap lay_error h)
+  named_error hs fault.OutOfMemory e h = (calculator.OutOfMemory, refl, ap lay_error h)
 
--- a refusal of the calculator's is one of the tree's
-pub refusal_by : {H : Type 0} (answer : Result Layout (LayoutCalculatorError H)) (e : LayoutCalculatorError H) → IsAnswer answer (Err e) → IsRefusal (named answer) (lay_error e)
-refusal_by answer e (inl same) = inr (ap named (sym same))
-refusal_by answer e (inr memory) = let out : e ≡ OutOfMemory = cc in inl (ap lay_error out)
+  -- it is the answer to the list of the layouts
+  pub listed_ok : (hs : List H) (layouts : List Layout) (made : Layout) → map f hs ≡ layouts → IsListAnswer f (λ i. i) 0 dl repr kind hs (Ok made) → IsListed dl repr kind layouts (Ok made)
+  listed_ok hs layouts made same h = subst (λ ls. IsListed dl repr kind ls (Ok made)) same h
 
-pub answer_by : {H : Type 0} (answer : Result Layout (LayoutCalculatorError H)) (layout : Layout) → IsAnswer answer (Ok layout) → named answer ≡ Ok layout
-answer_by answer layout (inl same) = ap named (sym same)
-answer_by answer layout (inr memory) = absurd (cc)
-
-made_by : (H : Type 0) (bound : ℕ) (fault : Option (LayoutCalculatorError H)) (layout made : Layout) → named (answer_after bound fault layout) ≡ Ok made → made ≡ layout
-made_by H bound (Some e) layout made h = absurd (cc)
-made_by H bound None layout made h = chosen H (nat_lt layout.size bound) layout made h
-
--- the layout of a list
-pub listed-made : (dl : TargetDataLayout) (seed : ℕ) (layouts : List Layout) (made : Layout) → listed dl seed layouts ≡ Ok made →
-    made ≡ list_layout (λ i. i) 0 dl seed layouts
-listed-made dl seed layouts made h =
-    made_by Layout (size_bound dl) (fault_from (λ l. l) (size_bound dl) 0 layouts) (list_layout (λ i. i) 0 dl seed (map (λ l. l) layouts)) made h
-    ∙ ap (list_layout (λ i. i) 0 dl seed) (map-id layouts)
+  pub listed_err : (hs : List H) (layouts : List Layout) (e : LayoutCalculatorError H) → map f hs ≡ layouts → IsListAnswer f (λ i. i) 0 dl repr kind hs (Err e) →
+      IsRefused (IsListed dl repr kind layouts) (lay_error e)
+  listed_err hs layouts e same (inl (order, first, which, there, of)) =
+      let error = named_error hs which e of in
+      let whole : map (λ l. l) (map f hs) ≡ map f hs = map-id (map f hs) in
+      let order_of = subst (λ ls. IsNamedOrder (list_repr dl repr kind) Start (parts_of dl ls) order) (sym whole) first in
+      let fault_of = subst (λ ls. fault_in (list_repr dl repr kind) (size_bound dl) (parts_of dl ls) order ≡ Some which) (sym whole) there in
+      subst (λ ls. IsRefused (IsListed dl repr kind ls) (lay_error e)) same (inr (error.0, (order, order_of, which, fault_of, error.1), error.2))
+  listed_err hs layouts e same (inr memory) = inl (ap lay_error memory)
 
 -- each of these numbers is below n
 pub all_below : (n : ℕ) (children : List ℕ) → All (λ child. child < n) children → list_all (λ child. nat_lt child n) children ≡ true
@@ -93,9 +70,9 @@ All-from_map P f [] h = All-nil (λ y. P (f y))
 All-from_map P f (y ∷ ys) h = All-cons (λ y. P (f y)) y ys (All-head P (f y) (map f ys) h) (All-from_map P f ys (All-tail P (f y) (map f ys) h))
 
 -- an error that was passed on
-pub passed_on : {A B : Type 0} (answer : Result A LayError) (e : LayError) (r : Result B LayError) → IsErrAnd r (λ error. error ≡ e) → IsRefusal answer e → IfErr r (IsRefusal answer)
-passed_on answer e (Ok b) h refused = absurd h
-passed_on answer e (Err error) h refused = subst (IsRefusal answer) (sym h) refused
+pub passed_on : {B : Type 0} (P : LayError → Type 0) (e : LayError) (r : Result B LayError) → IsErrAnd r (λ error. error ≡ e) → P e → IfErr r P
+passed_on P e (Ok b) h refused = absurd h
+passed_on P e (Err error) h refused = subst P (sym h) refused
 
 map_sizes : {H : Type 0} (f : H → Layout) (hs : List H) → map (λ h. (f h).size) hs ≡ map (λ l. l.size) (map f hs)
 map_sizes f [] = refl

@@ -1,12 +1,12 @@
 -- The program's trees as the definitions see them.
-use Rattle.std.proofs.Common.{◌≡◌, ℕ, zero, suc, ◌+◌, ◌*◌, ◌<◌, ◌≤◌, List, [], ◌∷◌, map, get_or, length, Vec, refl, ap, sym, ◌∙◌, arith}
+use Rattle.std.proofs.Common.{Bool, Box, ◌≡◌, ℕ, zero, suc, ◌+◌, ◌*◌, ◌<◌, ◌≤◌, List, [], ◌∷◌, map, get_or, length, Vec, refl, ap, sym, ◌∙◌, arith}
 use Rattle.std.specs.declared.alloc.Global.{Global}
 use Rattle.abi_scalar.specs.declared.repr.ReprOptions.{ReprOptions}
-use Rattle.rustc_abi.specs.declared.tree.TypeTree.{TypeTree, Enum, fold-roll-TypeTree}
-use Rattle.rustc_abi.specs.declared.tree.TypeTree.TheVariants.{rolls-Enum}
+use Rattle.rustc_abi.specs.declared.tree.TypeTree.{TypeTree, Array, Struct, Enum, Coroutine, fold-roll-TypeTree}
+use Rattle.rustc_abi.specs.declared.tree.TypeTree.TheVariants.{rolls-Array, rolls-Struct, rolls-Enum, rolls-Coroutine}
 use Rattle.rustc_abi.specs.declared.tree.TypeTree.TheShapes.{former-TypeTree-Enum-1-at-3}
 use Rattle.rustc_abi.specs.declared.tree.TypeTree.TheOpen as layer
-use Rattle.rustc_abi.specs.Tree.{Tree, tree_of, layer_tree, trees, enum, variants, more_variants, trees_of_variants}
+use Rattle.rustc_abi.specs.Tree.{Tree, tree_of, layer_tree, trees, array, struct, enum, coroutine, variants, more_variants, trees_of_variants}
 use Rattle.rustc_abi.specs.Adding.{tree_size, trees_size, variants_size}
 
 variants-map : (all : List (ℕ × Vec TypeTree Global)) → variants (map (former-TypeTree-Enum-1-at-3.map TypeTree Tree tree_of) all) ≡ trees_of_variants all
@@ -15,6 +15,17 @@ variants-map (v ∷ all) = ap (more_variants v.0 (trees (map tree_of v.1.items))
 
 pub tree_of-Enum : (repr : ReprOptions) (all : Vec (ℕ × Vec TypeTree Global) Global) → tree_of (Enum repr all) ≡ enum repr (trees_of_variants all.items)
 tree_of-Enum repr all = ap tree_of (sym (rolls-Enum repr all)) ∙ fold-roll-TypeTree Tree layer_tree (layer.Enum repr all) ∙ ap (enum repr) (variants-map all.items)
+
+pub tree_of-Array : (count : ℕ) (element : Box TypeTree Global) → tree_of (Array count element) ≡ array count (tree_of element.value)
+tree_of-Array count element = ap tree_of (sym (rolls-Array count element)) ∙ fold-roll-TypeTree Tree layer_tree (layer.Array count element)
+
+pub tree_of-Struct : (repr : ReprOptions) (always_sized : Bool) (fields : Vec TypeTree Global) → tree_of (Struct repr always_sized fields) ≡ struct repr always_sized (trees (map tree_of fields.items))
+tree_of-Struct repr always_sized fields = ap tree_of (sym (rolls-Struct repr always_sized fields)) ∙ fold-roll-TypeTree Tree layer_tree (layer.Struct repr always_sized fields)
+
+pub tree_of-Coroutine : (prefix locals : Vec TypeTree Global) (states : Vec (Vec ℕ Global) Global) (conflicts : Vec (ℕ × ℕ) Global) →
+    tree_of (Coroutine prefix locals states conflicts) ≡ coroutine (trees (map tree_of prefix.items)) (trees (map tree_of locals.items)) (map (λ s. s.items) states.items) conflicts.items
+tree_of-Coroutine prefix locals states conflicts =
+    ap tree_of (sym (rolls-Coroutine prefix locals states conflicts)) ∙ fold-roll-TypeTree Tree layer_tree (layer.Coroutine prefix locals states conflicts)
 
 -- a list is larger than each of its types
 pub trees_size-at : (ts : List TypeTree) (i : ℕ) (d : TypeTree) → i < length ts → tree_size (tree_of (get_or ts i d)) ≤ trees_size (trees (map tree_of ts))

@@ -11,7 +11,7 @@ use Rattle.rustc_abi.specs.Tree.{Tree, array, vector, struct, union, enum, corou
 use Rattle.rustc_abi.specs.Placed.{Placed}
 use Rattle.rustc_abi.specs.Fits.{Fits}
 use Rattle.rustc_abi.specs.Nodes.{placed_in, types_in, placed_at, Keeps}
-use Rattle.rustc_abi.specs.Laying.{laid_out, laid_out_each}
+use Rattle.rustc_abi.specs.Laying.{IsLaying, AreLaying}
 
 -- a node at this place names only earlier ones
 abbrev pub is_node : ℕ → Shape → Bool
@@ -42,7 +42,7 @@ pub record IsAdded (dl : TargetDataLayout) (old new : List Node) (i : ℕ) (tree
   pub kept : Keeps (types_in old) (types_in new)
   pub well : are_nodes 0 old ≡ true → are_nodes 0 new ≡ true
   pub last : i + 1 ≡ length new
-  pub exact : laid_out dl tree ≡ Ok (placed_at new i)
+  pub exact : IsLaying dl tree (Ok (placed_at new i))
   pub fits : Fits dl tree (placed_at new i)
 
 -- each type fits its tree
@@ -60,7 +60,7 @@ pub record AreAdded (dl : TargetDataLayout) (old new : List Node) (children : Li
   pub kept : Keeps (types_in old) (types_in new)
   pub well : are_nodes 0 old ≡ true → are_nodes 0 new ≡ true
   pub there : All (λ child. child < length new) children
-  pub exact : laid_out_each dl (trees ts) ≡ Ok (all_at new children)
+  pub exact : AreLaying dl (trees ts) (Ok (all_at new children))
   pub fits : EachFits dl (trees ts) (all_at new children)
 
 abbrev mutual

@@ -1,5 +1,5 @@
 -- The calculator's refusals by the names that a tree's layout has for them.
-use Rattle.std.specs.Prelude.{Result, Ok, Err}
+use Rattle.std.specs.Prelude.{◌≡◌, ◌⊎◌, Result, Ok, Err}
 use Rattle.abi_scalar.specs.declared.error.LayoutCalculatorError.{LayoutCalculatorError}
 use Rattle.abi_scalar.specs.declared.error.LayoutCalculatorError.TheVariants as calculator
 use Rattle.rustc_abi.specs.declared.error.LayError.{LayError}
@@ -21,6 +21,9 @@ named (Ok a) = Ok a
 named (Err e) = Err (lay_error e)
 
 -- what follows an answer: nothing follows a refusal
-abbrev pub and_then : {A B : Type 0} → Result A LayError → (A → Result B LayError) → Result B LayError
-and_then (Ok a) next = next a
-and_then (Err e) next = Err e
+abbrev pub Follows : {A B : Type 0} → (Result A LayError → Type 0) → (A → Result B LayError → Type 0) → Result B LayError → Type 0
+Follows {A} P next r = ((e : LayError) × P (Err e) × (r ≡ Err e)) ⊎ ((a : A) × P (Ok a) × next a r)
+
+-- want of memory, or the refusal that is answered
+abbrev pub IsRefused : {A : Type 0} → (Result A LayError → Type 0) → LayError → Type 0
+IsRefused P e = (e ≡ OutOfMemory) ⊎ P (Err e)

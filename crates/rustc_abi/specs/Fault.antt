@@ -5,12 +5,12 @@ use Rattle.abi_base.specs.DataLayout.{IsLawfulDataLayout}
 use Rattle.rustc_abi.specs.declared.error.LayError.{LayError}
 use Rattle.rustc_abi.specs.declared.error.LayError.TheVariants.{UnlawfulDataLayout, OutOfMemory}
 use Rattle.rustc_abi.specs.Tree.{Tree}
-use Rattle.rustc_abi.specs.Laying.{laid_out}
+use Rattle.rustc_abi.specs.Laying.{IsLaying}
 
 -- The first fault: of the data layout, else of a part, children before parents and left to right.
 abbrev pub IsFirstFault : TargetDataLayout → Tree → LayError → Type 0
 IsFirstFault dl tree e =
-    ((IsLawfulDataLayout dl → ⊥) × (e ≡ UnlawfulDataLayout)) ⊎ (IsLawfulDataLayout dl × (laid_out dl tree ≡ Err e))
+    ((IsLawfulDataLayout dl → ⊥) × (e ≡ UnlawfulDataLayout)) ⊎ (IsLawfulDataLayout dl × IsLaying dl tree (Err e))
 
 -- memory aside, a refusal is the first fault
 abbrev pub IsRefusedFor : TargetDataLayout → Tree → LayError → Type 0

@@ -1,29 +1,29 @@
 -- Which layout each type has, or why it has none: children first, left to right.
-use Rattle.std.specs.Prelude.{ℕ, ◌==◌, ◌&&◌, Bool, true, List, [], ◌∷◌, length, map, nat_lt, is_none, Option, None, Some, Result, Ok, Err, if◌then◌else◌}
+use Rattle.std.specs.Prelude.{◌≡◌, ℕ, ◌||◌, MatchOption, Bool, true, false, List, [], ◌∷◌, length, map, nat_lt, Option, None, Some, Result, Ok, Err, if◌then◌else◌}
 use Rattle.abi_base.specs.declared.data_layout.TargetDataLayout.{TargetDataLayout}
 use Rattle.abi_base.specs.DataLayout.{size_bound}
 use Rattle.abi_scalar.specs.declared.scalar.Scalar.{Scalar}
 use Rattle.abi_scalar.specs.declared.repr.ReprOptions.{ReprOptions}
+use Rattle.abi_base.specs.declared.struct_kind.StructKind.{StructKind}
+use Rattle.abi_base.specs.declared.struct_kind.StructKind.TheVariants.{AlwaysSized, MaybeUnsized}
+use Rattle.abi_scalar.specs.declared.error.LayoutCalculatorError.{LayoutCalculatorError}
 use Rattle.abi_scalar.specs.Simple.{scalar_layout, never_layout, unit_layout}
 use Rattle.abi_scalar.specs.Pair.{pair_layout, pair_size, second_offset}
 use Rattle.abi_calc.specs.Apart.{offsets_of}
 use Rattle.abi_calc.specs.Array.{array_answer}
-use Rattle.abi_calc.specs.List.{list_answer}
+use Rattle.abi_calc.specs.List.{IsListError, IsListLayout}
 use Rattle.rustc_abi.specs.declared.error.LayError.{LayError}
-use Rattle.rustc_abi.specs.declared.error.LayError.TheVariants.{NotYet, BadIndex, SizeOverflow}
+use Rattle.rustc_abi.specs.declared.error.LayError.TheVariants.{NotYet, BadIndex, BadAlign, SizeOverflow}
 use Rattle.rustc_abi.specs.Tree.{Tree, scalar, pair, never, unit, array, vector, struct, union, enum, coroutine, Trees, no_trees, more_trees, Variants, no_variants, more_variants}
 use Rattle.rustc_abi.specs.Placed.{Placed, Layout, layout_of, scalar as placed_scalar, pair as placed_pair, never as placed_never, elements, fields, no_parts, part}
 use Rattle.rustc_abi.specs.Nodes.{parts_at}
-use Rattle.rustc_abi.specs.Error.{named, and_then}
+use Rattle.rustc_abi.specs.Error.{named, lay_error, Follows}
 use Rattle.rustc_abi.specs.ScalarFault.{scalar_fault}
 
 -- the type with the layout that was answered
 abbrev pub placed_by : (Layout → Placed) → Result Layout LayError → Result Placed LayError
-placed_by make answer = and_then answer (λ layout. Ok (make layout))
-
--- `repr(C)` and nothing else
-abbrev pub is_plain_c : ReprOptions → Bool
-is_plain_c repr = (repr.flags.0 == 1) && (is_none repr.int && (is_none repr.align && (is_none repr.pack && is_none repr.scalable)))
+placed_by make (Ok layout) = Ok (make layout)
+placed_by make (Err e) = Err e
 
 -- a list of fields has at most so many
 abbrev pub most_fields : ℕ
@@ -56,37 +56,67 @@ abbrev pub elements_answer : TargetDataLayout → (count : ℕ) → Placed → R
 elements_answer dl count element =
     placed_by (λ layout. elements layout count element) (named {H = ℕ} (array_answer 0 dl (layout_of element) (Some count)))
 
--- the layout of fields in source order
-abbrev pub listed : TargetDataLayout → (shuffle_seed : ℕ) → List Layout → Result Layout LayError
-listed dl shuffle_seed layouts = named (list_answer (λ layout. layout) (λ i. i) 0 dl shuffle_seed layouts)
+-- a struct's list is always sized where the struct says so, and where it has no fields; else its last field may lose its size
+abbrev pub kind_of : {A : Type 0} → (always_sized : Bool) → List A → StructKind
+kind_of always_sized [] = AlwaysSized
+kind_of true (p ∷ ps) = AlwaysSized
+kind_of false (p ∷ ps) = MaybeUnsized
 
-abbrev pub fields_answer : TargetDataLayout → ReprOptions → (always_sized : Bool) → List Placed → Result Placed LayError
-fields_answer dl repr always_sized ps =
-    if is_plain_c repr && always_sized
-    then (if nat_lt most_fields (length ps) then Err BadIndex else
-    placed_by (λ layout. fields layout (parts_at (offsets_of layout.fields) ps)) (listed dl repr.field_shuffle_seed (map layout_of ps)))
-    else Err NotYet
+-- the alignment that a repr names, if it does, is above 2 ^ 29 bytes
+abbrev pub is_above_limit : Option ℕ → Bool
+is_above_limit None = false
+is_above_limit (Some align) = nat_lt 29 align
 
--- the tree, laid out, or its first fault; a lawful data layout is a premise
+abbrev pub has_bad_align : ReprOptions → Bool
+has_bad_align repr = is_above_limit repr.align || is_above_limit repr.pack
+
+-- the calculator's answer to a list of layouts, with its refusal by that name
+abbrev pub IsListed : TargetDataLayout → ReprOptions → StructKind → List Layout → Result Layout LayError → Type 0
+IsListed dl repr kind layouts (Ok layout) =
+    (order : List ℕ) × (offsets : List ℕ) × IsListLayout (λ i. i) 0 dl repr kind layouts order offsets layout
+IsListed dl repr kind layouts (Err e) =
+    (error : LayoutCalculatorError Layout) × IsListError (λ l. l) dl repr kind layouts error × (e ≡ lay_error error)
+
+-- fields as parts of a struct with this layout
+abbrev pub placed_fields : List Placed → Layout → Placed
+placed_fields ps layout = fields layout (parts_at (offsets_of layout.fields) ps)
+
+-- a struct's own faults, in their order
+abbrev pub fields_fault : ReprOptions → List Placed → Option LayError
+fields_fault repr ps =
+    if nat_lt most_fields (length ps) then Some BadIndex else (if has_bad_align repr then Some BadAlign else None)
+
+-- the answer to a struct: its own fault, else the calculator's answer to its fields
+abbrev pub IsFieldsAnswer : TargetDataLayout → ReprOptions → (always_sized : Bool) → List Placed → Result Placed LayError → Type 0
+IsFieldsAnswer dl repr always_sized ps r =
+    MatchOption (fields_fault repr ps)
+    (Follows (IsListed dl repr (kind_of always_sized ps) (map layout_of ps)) (λ layout r. r ≡ Ok (placed_fields ps layout)) r)
+    (λ e. r ≡ Err e)
+
+-- not laid out yet, whatever its parts are
+abbrev pub IsNotYet : {A : Type 0} → A → Result Placed LayError → Type 0
+IsNotYet parts r = r ≡ Err NotYet
+
+-- the answer to a tree: its layout, or its first fault; a lawful data layout is a premise
 abbrev mutual
-  pub laid_out : TargetDataLayout → Tree → Result Placed LayError
-  laid_out dl (scalar s) = scalar_answer dl s
-  laid_out dl (array count element) = and_then (laid_out dl element) (elements_answer dl count)
-  laid_out dl (struct repr always_sized all) = and_then (laid_out_each dl all) (fields_answer dl repr always_sized)
-  laid_out dl (pair a b) = pair_answer dl a b
-  laid_out dl never = Ok (placed_never (never_layout dl))
-  laid_out dl unit = Ok (fields (unit_layout 0 dl true) no_parts)
-  laid_out dl (vector lanes packed element) = and_then (laid_out dl element) (λ p. Err NotYet)
-  laid_out dl (union repr all) = and_then (laid_out_each dl all) (λ ps. Err NotYet)
-  laid_out dl (enum repr all) = and_then (laid_out_variants dl all) (λ ps. Err NotYet)
-  laid_out dl (coroutine prefix locals states conflicts) =
-      and_then (laid_out_each dl prefix) (λ ps. and_then (laid_out_each dl locals) (λ qs. Err NotYet))
+  pub IsLaying : TargetDataLayout → Tree → Result Placed LayError → Type 0
+  IsLaying dl (scalar s) r = r ≡ scalar_answer dl s
+  IsLaying dl (pair a b) r = r ≡ pair_answer dl a b
+  IsLaying dl never r = r ≡ Ok (placed_never (never_layout dl))
+  IsLaying dl unit r = r ≡ Ok (fields (unit_layout 0 dl true) no_parts)
+  IsLaying dl (array count element) r = Follows (IsLaying dl element) (λ p r. r ≡ elements_answer dl count p) r
+  IsLaying dl (struct repr always_sized all) r = Follows (AreLaying dl all) (IsFieldsAnswer dl repr always_sized) r
+  IsLaying dl (vector lanes packed element) r = Follows (IsLaying dl element) IsNotYet r
+  IsLaying dl (union repr all) r = Follows (AreLaying dl all) IsNotYet r
+  IsLaying dl (enum repr all) r = Follows (VariantsLaying dl all) IsNotYet r
+  IsLaying dl (coroutine prefix locals states conflicts) r = Follows (AreLaying dl prefix) (λ ps. Follows (AreLaying dl locals) IsNotYet) r
 
-  pub laid_out_each : TargetDataLayout → Trees → Result (List Placed) LayError
-  laid_out_each dl no_trees = Ok []
-  laid_out_each dl (more_trees t ts) = and_then (laid_out dl t) (λ p. and_then (laid_out_each dl ts) (λ ps. Ok (p ∷ ps)))
+  -- the answer to trees, one after another
+  pub AreLaying : TargetDataLayout → Trees → Result (List Placed) LayError → Type 0
+  AreLaying dl no_trees r = r ≡ Ok []
+  AreLaying dl (more_trees t ts) r = Follows (IsLaying dl t) (λ p. Follows (AreLaying dl ts) (λ ps r. r ≡ Ok (p ∷ ps))) r
 
-  pub laid_out_variants : TargetDataLayout → Variants → Result (List (List Placed)) LayError
-  laid_out_variants dl no_variants = Ok []
-  laid_out_variants dl (more_variants discriminant ts others) =
-      and_then (laid_out_each dl ts) (λ ps. and_then (laid_out_variants dl others) (λ rest. Ok (ps ∷ rest)))
+  pub VariantsLaying : TargetDataLayout → Variants → Result (List (List Placed)) LayError → Type 0
+  VariantsLaying dl no_variants r = r ≡ Ok []
+  VariantsLaying dl (more_variants discriminant ts others) r =
+      Follows (AreLaying dl ts) (λ ps. Follows (VariantsLaying dl others) (λ rest r. r ≡ Ok (ps ∷ rest))) r

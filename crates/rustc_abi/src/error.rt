@@ -16,6 +16,8 @@ pub enum LayError {
     UnknownSpace,
     /// An end of a scalar's range is no number of its width.
     BadRange,
+    /// An alignment that a repr names is above 2^29 bytes.
+    BadAlign,
     /// A field that has to be sized is unsized, as none in a tree is.
     UnexpectedUnsized,
     /// A size is not below the data layout's bound.

@@ -1,33 +1,27 @@
 //! How trees are laid out: children before parents, left to right.
 
-ghost use Rattle.std.specs.Prelude.{◌≡◌, ◌-◌, ◌<◌, ◌≤◌, ◌&&◌, ℕ, Some, IfOk, IfErr, IfSome, IsOk, IsTrue, Err, Ok, length, vec_len, All, List, map, true, false, Bool};
-ghost use Rattle.std.specs.declared.alloc.Global.{Global};
+ghost use Rattle.std.specs.Prelude.{◌≡◌, ◌<◌, ℕ, Some, IfOk, IfErr, Ok, length, vec_len, List, map, true};
 ghost use Rattle.abi_base.specs.DataLayout.{IsLawfulDataLayout};
 ghost use Rattle.abi_scalar.specs.Lawful.{IsLawfulLayout};
-ghost use Rattle.rustc_abi.specs.Tree.{Tree, Trees, tree_of, trees, trees_of_variants, array, struct};
-ghost use Rattle.rustc_abi.specs.Placed.{layout_of, size_of};
-ghost use Rattle.rustc_abi.specs.Nodes.{types_in, placed_at, meaning};
-ghost use Rattle.rustc_abi.specs.Laying.{laid_out, laid_out_each, laid_out_variants, is_plain_c, most_fields, elements_answer, listed, fields_answer};
-ghost use Rattle.rustc_abi.specs.Error.{named};
-ghost use Rattle.rustc_abi.specs.Fits.{Fits};
 ghost use Rattle.abi_calc.specs.Array.{array_answer};
-ghost use Rattle.abi_calc.specs.Apart.{AreApart, offsets_of};
-ghost use Rattle.abi_calc.specs.ListNiche.{IsNicheOfPart};
-ghost use Rattle.rustc_abi.specs.Adding.{is_node, IsPut, IsAdded, AreAdded, IsRefusal, EachFits, all_at};
+ghost use Rattle.rustc_abi.specs.Tree.{Tree, tree_of, trees, trees_of_variants, array};
+ghost use Rattle.rustc_abi.specs.Placed.{Placed, layout_of};
+ghost use Rattle.rustc_abi.specs.Nodes.{types_in, placed_at, meaning};
+ghost use Rattle.rustc_abi.specs.Laying.{IsLaying, AreLaying, VariantsLaying, elements_answer};
+ghost use Rattle.rustc_abi.specs.Error.{named, IsRefused};
+ghost use Rattle.rustc_abi.specs.Fits.{Fits};
+ghost use Rattle.rustc_abi.specs.Adding.{is_node, IsPut, IsAdded, AreAdded, IsRefusal};
 
 use crate::error::LayError;
+use crate::lay_fields::add_fields;
 use crate::lay_scalar::{add_never, add_pair, add_scalar, add_unit};
 use crate::node::{Node, Shape};
 use crate::tree::TypeTree;
-use abi_base::{StructKind, TargetDataLayout};
+use abi_base::TargetDataLayout;
 use abi_calc::LayoutCalculator;
-use abi_index::{FieldIdx, IndexSlice, VariantIdx};
-use abi_scalar::{LayoutCalculatorError, LayoutData, ReprOptions};
-use bitflags::Flags;
-use std::alloc::{AllocError, Global};
-
-/// A list of fields has at most so many.
-const MOST_FIELDS: usize = 0xFFFF_FF01;
+use abi_index::{FieldIdx, VariantIdx};
+use abi_scalar::{LayoutCalculatorError, LayoutData};
+use std::alloc::Global;
 
 /// The layout of the node at a place.
 pub(crate) fn layout_at(nodes: &[Node], node: usize) -> &LayoutData<FieldIdx, VariantIdx>
@@ -50,24 +44,6 @@ pub(crate) fn add(
     let node = nodes.len();
     nodes.push(Node { layout, shape })?;
     Ok(node)
-}
-
-/// Whether the options are `repr(C)` and nothing else.
-fn is_plain_c(repr: &ReprOptions) -> bool
-    ensures { result ≡ is_plain_c repr.now }
-{
-    repr.flags.bits() == 1
-        && repr.int.is_none()
-        && repr.align.is_none()
-        && repr.pack.is_none()
-        && repr.scalable.is_none()
-}
-
-/// Whether fields of such a struct are laid out.
-fn is_known(repr: &ReprOptions, always_sized: bool) -> bool
-    ensures { result ≡ (is_plain_c repr.now && always_sized) }
-{
-    is_plain_c(repr) && always_sized
 }
 
 /// The layout of so many elements, each as the node `element`.
@@ -100,86 +76,13 @@ fn add_elements(
     requires there { element < vec_len nodes.old }
     requires lawful { IsLawfulLayout dl.now (layout_of (placed_at nodes.old.items element)) }
     ensures ok { IfOk result
-        (λ i. (t : Tree) → laid_out dl.now t ≡ Ok (placed_at nodes.old.items element) →
+        (λ i. (t : Tree) → IsLaying dl.now t (Ok (placed_at nodes.old.items element)) →
         Fits dl.now t (placed_at nodes.old.items element) →
         IsAdded dl.now nodes.old.items nodes.new.items i (array count t)) }
     ensures err { IfErr result (IsRefusal (elements_answer dl.now count (placed_at nodes.old.items element))) }
 {
     let layout = elements_layout(dl, nodes, count, element)?;
     add(nodes, layout, Shape::Elements { count, element })
-}
-
-/// The layouts of the nodes at these places.
-fn layouts_at<'a>(
-    alloc: Global,
-    nodes: &'a [Node],
-    children: &[usize],
-) -> Result<Vec<&'a LayoutData<FieldIdx, VariantIdx>>, AllocError>
-    requires { All (λ child. child < length nodes.now) children.now }
-    ensures { IfOk result (λ layouts. map (λ lent. lent.now) layouts.items ≡ map layout_of (all_at nodes.now children.now)) }
-{
-    let mut layouts = Vec::new(alloc);
-    for child in children {
-        layouts.push(layout_at(nodes, *child))?;
-    }
-    Ok(layouts)
-}
-
-/// The layout of fields in source order, each as one of the nodes.
-fn fields_layout(
-    alloc: Global,
-    dl: &TargetDataLayout,
-    nodes: &[Node],
-    repr: &ReprOptions,
-    children: &[usize],
-) -> Result<LayoutData<FieldIdx, VariantIdx>, LayError>
-    requires c { is_plain_c repr.now ≡ true }
-    requires count { length children.now ≤ most_fields }
-    requires data_layout { IsLawfulDataLayout dl.now }
-    requires there { All (λ child. child < length nodes.now) children.now }
-    requires lawful { All (λ p. IsLawfulLayout dl.now (layout_of p)) (all_at nodes.now children.now) }
-    ensures ok { IfOk result (λ l. listed dl.now repr.now.field_shuffle_seed (map layout_of (all_at nodes.now children.now)) ≡ Ok l) }
-    ensures err { IfErr result (IsRefusal (listed dl.now repr.now.field_shuffle_seed (map layout_of (all_at nodes.now children.now)))) }
-    ensures lawful { IfOk result (IsLawfulLayout dl.now) }
-    ensures apart { IfOk result (λ l. AreApart l.size (offsets_of l.fields) (map size_of (all_at nodes.now children.now))) }
-    ensures niche { IfOk result (λ l. IfSome l.largest_niche (IsNicheOfPart (offsets_of l.fields) (map layout_of (all_at nodes.now children.now)))) }
-{
-    let layouts = layouts_at(alloc, nodes, children)?;
-    let answer = LayoutCalculator::new(dl).layout_of_univariant(
-        alloc,
-        IndexSlice::new(layouts.as_slice()),
-        repr,
-        StructKind::AlwaysSized,
-    );
-    Ok(answer?)
-}
-
-/// A node for fields, each as one of the nodes.
-fn add_fields(
-    alloc: Global,
-    dl: &TargetDataLayout,
-    nodes: &mut Vec<Node>,
-    repr: &ReprOptions,
-    always_sized: bool,
-    children: Vec<usize>,
-) -> Result<usize, LayError>
-    requires data_layout { IsLawfulDataLayout dl.now }
-    requires there { All (λ child. child < vec_len nodes.old) children.items }
-    requires lawful { All (λ p. IsLawfulLayout dl.now (layout_of p)) (all_at nodes.old.items children.items) }
-    ensures ok { IfOk result
-        (λ i. (ts : Trees) → laid_out_each dl.now ts ≡ Ok (all_at nodes.old.items children.items) →
-        EachFits dl.now ts (all_at nodes.old.items children.items) →
-        IsAdded dl.now nodes.old.items nodes.new.items i (struct repr.now always_sized ts)) }
-    ensures err { IfErr result (IsRefusal (fields_answer dl.now repr.now always_sized (all_at nodes.old.items children.items))) }
-{
-    if !is_known(repr, always_sized) {
-        return Err(LayError::NotYet);
-    }
-    if children.len() > MOST_FIELDS {
-        return Err(LayError::BadIndex);
-    }
-    let layout = fields_layout(alloc, dl, nodes, repr, &children)?;
-    add(nodes, layout, Shape::Fields(children))
 }
 
 /// Lays out a type behind the nodes that are there.
@@ -192,7 +95,7 @@ pub(crate) fn lay_tree(
 ) -> Result<usize, LayError>
     requires { IsLawfulDataLayout dl.now }
     ensures ok { IfOk result (λ i. IsAdded dl.now nodes.old.items nodes.new.items i (tree_of tree.now)) }
-    ensures err { IfErr result (IsRefusal (laid_out dl.now (tree_of tree.now))) }
+    ensures err { IfErr result (IsRefused (IsLaying dl.now (tree_of tree.now))) }
 {
     match tree {
         TypeTree::Scalar(value) => add_scalar(dl, nodes, *value),
@@ -250,7 +153,7 @@ fn lay_each(
 ) -> Result<Vec<usize>, LayError>
     requires { IsLawfulDataLayout dl.now }
     ensures ok { IfOk result (λ children. AreAdded dl.now nodes.old.items nodes.new.items children.items (map tree_of fields.now)) }
-    ensures err { IfErr result (IsRefusal (laid_out_each dl.now (trees (map tree_of fields.now)))) }
+    ensures err { IfErr result (IsRefused (AreLaying dl.now (trees (map tree_of fields.now)))) }
 {
     let mut children = Vec::new(alloc);
     for field in fields {
@@ -269,8 +172,8 @@ fn lay_variants(
     all: &[(u128, Vec<TypeTree>)],
 ) -> Result<(), LayError>
     requires { IsLawfulDataLayout dl.now }
-    ensures ok { IfOk result (λ _. IsOk (laid_out_variants dl.now (trees_of_variants all.now))) }
-    ensures err { IfErr result (IsRefusal (laid_out_variants dl.now (trees_of_variants all.now))) }
+    ensures ok { IfOk result (λ _. (rest : List (List Placed)) × VariantsLaying dl.now (trees_of_variants all.now) (Ok rest)) }
+    ensures err { IfErr result (IsRefused (VariantsLaying dl.now (trees_of_variants all.now))) }
 {
     for variant in all {
         let _children = lay_each(alloc, dl, nodes, &variant.1)?;

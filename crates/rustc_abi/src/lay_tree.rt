@@ -8,7 +8,7 @@ ghost use Rattle.rustc_abi.specs.Faithful.{EachValueIsHeld, OnlyValuesAreHeld, N
 ghost use Rattle.abi_scalar.specs.Lawful.{IsLawfulLayout};
 ghost use Rattle.rustc_abi.specs.Placed.{layout_of};
 ghost use Rattle.rustc_abi.specs.Laid.{placed_of, endian_of};
-ghost use Rattle.rustc_abi.specs.Laying.{laid_out};
+ghost use Rattle.rustc_abi.specs.Laying.{IsLaying};
 ghost use Rattle.rustc_abi.specs.Fault.{IsRefusedFor};
 
 use crate::error::LayError;
@@ -23,14 +23,15 @@ use std::alloc::Global;
 /// `UnlawfulDataLayout` where the data layout isn't lawful. Else the first fault of a part: `NotYet` for a type that isn't
 /// laid out yet, `UnknownSpace` for a scalar that is a pointer into a space that the data layout doesn't know or whose
 /// pointers aren't lawful, `BadRange` for one whose range has an end that is no number of its width, `BadIndex` for a list
-/// of more fields than its index type can name, `SizeOverflow` for a size that is not below the data layout's bound. `OutOfMemory` where a growth of memory was refused.
+/// of more fields than its index type can name, `BadAlign` for a repr with an alignment above 2^29 bytes, `SizeOverflow` for
+/// a size that is not below the data layout's bound. `OutOfMemory` where a growth of memory was refused.
 pub fn lay_out(alloc: Global, dl: &TargetDataLayout, tree: &TypeTree) -> Result<Laid, LayError>
     // When it is refused, and for what.
     ensures lawful { IfOk result (λ _. IsLawfulDataLayout dl.now) }
     ensures refused { IfErr result (IsRefusedFor dl.now (tree_of tree.now)) }
 
     // Which layout each part has.
-    ensures laid { IfOk result (λ laid. laid_out dl.now (tree_of tree.now) ≡ Ok (placed_of laid)) }
+    ensures laid { IfOk result (λ laid. IsLaying dl.now (tree_of tree.now) (Ok (placed_of laid))) }
     ensures layout { IfOk result (λ laid. IsLawfulLayout dl.now (layout_of (placed_of laid))) }
     ensures order { IfOk result (λ laid. endian_of laid ≡ dl.now.endian) }
 

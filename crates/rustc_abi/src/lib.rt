@@ -4,6 +4,7 @@
 mod error;
 mod laid;
 mod lay;
+mod lay_fields;
 mod lay_scalar;
 mod lay_tree;
 mod node;

@@ -10,6 +10,8 @@ mod refusals;
 #[cfg(test)]
 mod seeds;
 #[cfg(test)]
+mod structs;
+#[cfg(test)]
 mod trees;
 #[cfg(test)]
 mod views;

@@ -1,9 +1,8 @@
 //! Types that are refused, and for what: those that aren't laid out yet, the first fault of several, unlawful data layouts.
 
 use crate::made::{array, as_in_c, list, unsigned};
-use abi_base::{AddressSpace, Align, Float, Integer, IntegerType, Primitive, TargetDataLayout};
-use abi_scalar::{ReprFlags, ReprOptions, Scalar, WrappingRange};
-use bitflags::Flags;
+use abi_base::{AddressSpace, Align, Float, Integer, Primitive, Size, TargetDataLayout};
+use abi_scalar::{ReprOptions, Scalar, WrappingRange};
 use rustc_abi::{LayError, TypeTree, lay_out};
 use std::alloc::Global;
 use std::process::Abort;
@@ -107,52 +106,27 @@ fn other_kinds_of_types_wait(rt: HostRuntime) -> Result<(), Fail> {
 }
 
 #[test]
-fn structs_under_other_options_wait(rt: HostRuntime) -> Result<(), Fail> {
+fn alignments_above_the_limit_are_refused(rt: HostRuntime) -> Result<(), Fail> {
     let alloc = rt.alloc();
     let dl = TargetDataLayout::default_in(alloc)?;
-    let c = as_in_c();
-    for repr in [
-        ReprOptions::default(),
-        ReprOptions {
-            flags: ReprFlags::IS_LINEAR,
-            ..c
-        },
-        ReprOptions {
-            flags: ReprFlags::IS_TRANSPARENT,
-            ..c
-        },
-        ReprOptions {
-            flags: ReprFlags::from_bits_retain(9),
-            ..c
-        },
-        ReprOptions {
-            pack: Some(Align::ONE),
-            ..c
-        },
-        ReprOptions {
-            align: Some(Align::EIGHT),
-            ..c
-        },
-        ReprOptions {
-            int: Some(IntegerType::Fixed(Integer::I8, false)),
-            ..c
-        },
-    ] {
-        let tree = TypeTree::Struct {
-            repr,
-            always_sized: true,
-            fields: vec![in alloc; unsigned(Integer::I8), unsigned(Integer::I32)]?,
-        };
-        let refused = lay_out(alloc, &dl, &tree).err();
-        assert_eq!(rt; refused, Some(LayError::NotYet), "{repr:?}");
+    let most = Size::from_bytes(1 << 29);
+    let above = Size::from_bytes(1 << 30);
+    for (bytes, wanted) in [(most, None), (above, Some(LayError::BadAlign))] {
+        let align = Some(Align::max_aligned_factor(bytes));
+        for (align, pack) in [(align, None), (None, align)] {
+            let tree = TypeTree::Struct {
+                repr: ReprOptions {
+                    align,
+                    pack,
+                    ..as_in_c()
+                },
+                always_sized: true,
+                fields: vec![in alloc]?,
+            };
+            let refused = lay_out(alloc, &dl, &tree).err();
+            assert_eq!(rt; refused, wanted, "{align:?}, {pack:?}");
+        }
     }
-    let last_may_lose_its_size = TypeTree::Struct {
-        repr: c,
-        always_sized: false,
-        fields: vec![in alloc; unsigned(Integer::I8)]?,
-    };
-    let refused = lay_out(alloc, &dl, &last_may_lose_its_size).err();
-    assert_eq!(rt; refused, Some(LayError::NotYet));
     Ok(())
 }
 

@@ -1,11 +1,13 @@
-use Rattle.std.proofs.Common.{◌≡◌, ◌+◌, ◌++◌, ◌∷◌, [], arith, ap, sym, ◌∙◌, subst, take, map, get_or}
+use Rattle.std.proofs.Common.{inr, refl, ◌≡◌, ◌+◌, ◌++◌, ◌∷◌, [], arith, ap, sym, ◌∙◌, subst, take, map, get_or}
 use Rattle.std.proofs.lemmas.List.{take_more, map-append}
+use Rattle.std.proofs.lemmas.Result.{IfOk-weaker, IfErr-weaker}
 use Rattle.rustc_abi.specs.Tree.{tree_of, trees}
-use Rattle.rustc_abi.specs.Laying.{laid_out_each}
-use Rattle.rustc_abi.specs.Adding.{IsRefusal, tree_size, trees_size}
-use Rattle.rustc_abi.proofs.TreeLemmas.{trees_size-at, variants_size-at, falls-Enum}
-use Rattle.rustc_abi.proofs.LayLemmas.{EachFits-lawful, AreAdded-more}
-use Rattle.rustc_abi.proofs.RefusalLemmas.{each_refused, variants_refused, variants_more, enum_refused, enum_not_yet}
+use Rattle.rustc_abi.specs.Laying.{IsLaying, AreLaying}
+use Rattle.rustc_abi.specs.Adding.{tree_size, trees_size}
+use Rattle.rustc_abi.proofs.TreeLemmas.{tree_of-Array, tree_of-Struct, tree_of-Coroutine, trees_size-at, variants_size-at, falls-Enum}
+use Rattle.rustc_abi.proofs.LayLemmas.{EachFits-lawful, AreAdded-more, IsAdded-after, AreAdded-after, struct_refused}
+use Rattle.rustc_abi.proofs.RefusalLemmas.{each_refused, variants_refused, variants_more, laying_as, enum_refused, enum_not_yet}
+use Rattle.rustc_abi.specs.Error.{IsRefused}
 use Rattle.rustc_abi.proofs.ListLemmas.{passed_on}
 use Rattle.rustc_abi.proofs.lay.+lay.Goals as goal
 
@@ -68,7 +70,7 @@ pub lay_variants-returns-in_err-_children-clause-err : goal.lay_variants-returns
 lay_variants-returns-in_err-_children-clause-err t c =
     let item : c.variant-item.result ≡ get_or c.args.all.now c.loop-variant.variant-index c.variant-item.result = c.variant-item.is in
     let lent : c.deref.result.now ≡ c.variant-item.result.1.items = c.deref.ensures.value in
-    let refused = subst (λ ts. IsRefusal (laid_out_each c.args.dl.now (trees (map tree_of ts))) c.in_err-_children.field-0.0) lent c.in_err-_children.ensures.err in
+    let refused = subst (λ ts. IsRefused (AreLaying c.args.dl.now (trees (map tree_of ts))) c.in_err-_children.field-0.0) lent c.in_err-_children.ensures.err in
     passed_on _ _ _ c.from_residual.ensures.1
     (variants_refused c.args.dl.now c.args.all.now c.loop-variant.variant-index c.variant-item.result _ _ (omega arith) item c.loop-variant.invariant.1 refused)
 
@@ -76,5 +78,35 @@ pub lay_variants-loop-variant-preserved : goal.lay_variants-loop-variant-preserv
 lay_variants-loop-variant-preserved t c =
     let item : c.variant-item.result ≡ get_or c.args.all.now c.loop-variant.variant-index c.variant-item.result = c.variant-item.is in
     let lent : c.deref.result.now ≡ c.variant-item.result.1.items = c.deref.ensures.value in
-    let laid = ap (λ ts. laid_out_each c.args.dl.now (trees (map tree_of ts))) (sym lent) ∙ c.in_ok-_children.ensures.ok.exact in
+    let laid = laying_as _ _ _ _ lent c.in_ok-_children.ensures.ok.exact in
     variants_more c.args.dl.now c.args.all.now c.loop-variant.variant-index c.variant-item.result _ _ (omega arith) item c.loop-variant.invariant.1 laid
+
+pub lay_tree-returns-in_ok-element-in-Array-clause-ok : goal.lay_tree-returns-in_ok-element-in-Array-clause-ok
+lay_tree-returns-in_ok-element-in-Array-clause-ok t c =
+    let before = c.in_ok-element-in-Array.ensures.ok in
+    let same = ap tree_of c.in-Array.is ∙ tree_of-Array c.in-Array.count c.in-Array.element in
+    rw same
+    (IfOk-weaker c.add_elements.result _ _
+    (λ i h. rw c.deref.ensures at (IsAdded-after _ _ _ _ _ i _ _ before (h _ before.exact before.fits))) c.add_elements.ensures.ok)
+
+pub lay_tree-returns-in_ok-children-in-Struct-clause-ok : goal.lay_tree-returns-in_ok-children-in-Struct-clause-ok
+lay_tree-returns-in_ok-children-in-Struct-clause-ok t c =
+    let before = c.in_ok-children-in-Struct.ensures.ok in
+    let same = ap tree_of c.in-Struct.is ∙ tree_of-Struct c.in-Struct.repr c.in-Struct.always_sized c.in-Struct.fields in
+    rw same
+    (IfOk-weaker c.add_fields.result _ _
+    (λ i h. rw c.deref-in-Struct.ensures.value at (AreAdded-after _ _ _ _ _ _ i _ before (h _ before.exact before.fits))) c.add_fields.ensures.ok)
+
+pub lay_tree-returns-in_ok-_locals-in-Coroutine-clause-err : goal.lay_tree-returns-in_ok-_locals-in-Coroutine-clause-err
+lay_tree-returns-in_ok-_locals-in-Coroutine-clause-err t c =
+    let same = ap tree_of c.in-Coroutine.is ∙ tree_of-Coroutine c.in-Coroutine.prefix c.in-Coroutine.locals c.in-Coroutine.states c.in-Coroutine.conflicts in
+    let prefix = rw c.deref-in-Coroutine.ensures.value at c.in_ok-_prefix-in-Coroutine.ensures.ok.exact in
+    let locals = rw c.deref-in-Coroutine-2.ensures.value at c.in_ok-_locals-in-Coroutine.ensures.ok.exact in
+    rw same (inr (inr (_, prefix, inr (_, locals, refl))))
+
+pub lay_tree-returns-in_ok-children-in-Struct-clause-err : goal.lay_tree-returns-in_ok-children-in-Struct-clause-err
+lay_tree-returns-in_ok-children-in-Struct-clause-err t c =
+    let before = c.in_ok-children-in-Struct.ensures.ok in
+    let same = ap tree_of c.in-Struct.is ∙ tree_of-Struct c.in-Struct.repr c.in-Struct.always_sized c.in-Struct.fields in
+    let exact = rw c.deref-in-Struct.ensures.value at before.exact in
+    rw same (IfErr-weaker c.add_fields.result _ _ (λ e refused. struct_refused c.args.dl.now c.in-Struct.repr c.in-Struct.always_sized _ _ e exact refused) c.add_fields.ensures.err)

@@ -1,7 +1,7 @@
 use Rattle.std.proofs.Common.{◌≡◌, ◌+◌, ◌*◌, List, Ok, map, take}
 use Rattle.rustc_abi.specs.Tree.{tree_of, trees, trees_of_variants}
 use Rattle.rustc_abi.specs.Placed.{Placed}
-use Rattle.rustc_abi.specs.Laying.{laid_out_variants}
+use Rattle.rustc_abi.specs.Laying.{VariantsLaying}
 use Rattle.rustc_abi.specs.Adding.{AreAdded, tree_size, trees_size, variants_size}
 use Rattle.rustc_abi.proofs.lay.+lay.Given as goal
 
@@ -11,7 +11,7 @@ invariant-lay_each-loop-field l =
 
 abbrev pub invariant-lay_variants-loop-variant : goal.invariant-lay_variants-loop-variant
 invariant-lay_variants-loop-variant l =
-    (rest : List (List Placed)) × (laid_out_variants l.dl (trees_of_variants (take l.variant-index l.all)) ≡ Ok rest)
+    (rest : List (List Placed)) × VariantsLaying l.dl (trees_of_variants (take l.variant-index l.all)) (Ok rest)
 
 abbrev pub decreases-lay_tree : goal.decreases-lay_tree
 decreases-lay_tree l = 3 * tree_size (tree_of l.tree.now)

@@ -11,6 +11,6 @@ returns-in-None-clause-ok c =
     let dl = c.args.dl.now in
     let none = sym c.scalar_fault.ensures ∙ c.in-None.is in
     IfOk-weaker c.add_lawful.result _ _
-    (λ i put. IsAdded-put dl _ _ i _ _ put (ap (λ fault. unless fault (Ok (one_scalar dl c.args.value))) none)
+    (λ i put. IsAdded-put dl _ _ i _ _ put (sym (ap (λ fault. unless fault (Ok (one_scalar dl c.args.value))) none))
     (Fits-scalar dl c.args.value (faultless dl c.args.value none) c.add_lawful.ensures.lawful))
     c.add_lawful.ensures.ok

@@ -1,0 +1,137 @@
+-- Views of lists.
+use Rattle.std.proofs.Common.{◌≡◌, ℕ, zero, suc, ◌+◌, ◌^◌, ◌<◌, ◌≤◌, Bool, true, false, List, [], ◌∷◌, ◌++◌, append-nil, get_or, length, refl, sym, ap, ◌∙◌, subst, arith}
+use Rattle.std.specs.Prelude.{All, filter, if◌then◌else◌}
+use Rattle.std.specs.List.{range_with_len}
+use Rattle.std.proofs.lemmas.List.Elements.{All-cons, All-head, All-nil, All-tail, filter-append}
+use Rattle.std.proofs.lemmas.List.{get_or_default}
+use Rattle.std.specs.Int.{◌∣◌}
+use Rattle.std.proofs.Math.Nat.{two-pow-succ}
+use Rattle.std.proofs.lemmas.Nat.{pow_pos}
+use Rattle.std.proofs.lemmas.Nat.Gcd.{le_of_dvd}
+use Rattle.std.proofs.lemmas.List.FromFn.{length-range_with_len, get_or-range_with_len}
+use Rattle.abi_base.specs.declared.data_layout.TargetDataLayout.{TargetDataLayout}
+use Rattle.abi_base.specs.declared.primitive.Primitive.{Primitive}
+use Rattle.abi_base.specs.declared.primitive.Primitive.TheVariants.{Int, Float, Pointer}
+use Rattle.abi_base.specs.DataLayout.{IsLawfulDataLayout}
+use Rattle.abi_base.specs.Primitive.{KnowsPrimitive, primitive_size, primitive_align, IsLawfulPrimitive}
+use Rattle.abi_scalar.specs.declared.backend_repr.BackendRepr.TheVariants.{Memory}
+use Rattle.abi_scalar.specs.declared.scalar.Scalar.{Scalar}
+use Rattle.abi_scalar.specs.Scalar.{primitive_of, scalar_size, scalar_align, IsLawfulScalar}
+use Rattle.abi_calc.specs.declared.part.Part.{Part}
+use Rattle.abi_calc.specs.ListView.{bulky_align, bulky_parts, bulky_view, is_bulky, one_view, part_at, two_view}
+use Rattle.abi_calc.proofs.NicheLemmas.{readable_size}
+use Rattle.abi_calc.specs.Placement.{no_part, source_order}
+
+range_grows : (a k : ℕ) → range_with_len a (suc k) ≡ range_with_len a k ++ (a + k) ∷ []
+range_grows a zero = ap (λ x. x ∷ []) (omega arith)
+range_grows a (suc k) = ap (λ xs. a ∷ xs) (range_grows (a + 1) k ∙ ap (λ x. range_with_len (a + 1) k ++ x ∷ []) (omega arith))
+
+pub source_more : (n : ℕ) → source_order (n + 1) ≡ source_order n ++ n ∷ []
+source_more n =
+    let one : n + 1 ≡ suc n = omega arith in
+    ap source_order one ∙ range_grows 0 n ∙ ap (λ x. source_order n ++ x ∷ []) (omega arith)
+
+filter_push : (P : ℕ → Bool) (xs : List ℕ) (x : ℕ) → filter P (xs ++ x ∷ []) ≡ (if P x then filter P xs ++ x ∷ [] else filter P xs)
+filter_push P xs x = filter-append P xs (x ∷ []) ∙ one (P x) refl
+  where
+    one : (b : Bool) → P x ≡ b → filter P xs ++ filter P (x ∷ []) ≡ (if b then filter P xs ++ x ∷ [] else filter P xs)
+    one true e = rw e refl
+    one false e = rw e (append-nil (filter P xs))
+
+pub bulky_more : (P : ℕ → Bool) (n : ℕ) → filter P (source_order (n + 1)) ≡ (if P n then filter P (source_order n) ++ n ∷ [] else filter P (source_order n))
+bulky_more P n = ap (filter P) (source_more n) ∙ filter_push P (source_order n) n
+
+-- the part that was read is the one at the index
+pub part_read : (parts : List Part) (i : ℕ) (part : Part) → i < length parts → part ≡ get_or parts i part → part ≡ part_at parts i
+part_read parts i part short is = is ∙ get_or_default parts i part no_part short
+
+pub bulky_then : (P : ℕ → Bool) (n : ℕ) (now next : List ℕ) → now ≡ filter P (source_order n) → P n ≡ true → next ≡ now ++ n ∷ [] → next ≡ filter P (source_order (n + 1))
+bulky_then P n now next inv holds pushed = pushed ∙ ap (λ xs. xs ++ n ∷ []) inv ∙ sym (rw holds at (bulky_more P n))
+
+pub bulky_else : (P : ℕ → Bool) (n : ℕ) (now next : List ℕ) → now ≡ filter P (source_order n) → P n ≡ false → next ≡ now → next ≡ filter P (source_order (n + 1))
+bulky_else P n now next inv fails same = same ∙ inv ∙ sym (rw fails at (bulky_more P n))
+
+-- ---- which parts have bytes
+
+kept_all : (b : Bool) (Q : ℕ → Type 0) (x : ℕ) (xs : List ℕ) → (b ≡ true → Q x) → All Q xs → All Q (if b then x ∷ xs else xs)
+kept_all true Q x xs here rest = All-cons Q x xs (here refl) rest
+kept_all false Q x xs here rest = rest
+
+filter_all : (P : ℕ → Bool) (Q : ℕ → Type 0) (xs : List ℕ) → All Q xs → All Q (filter P xs)
+filter_all P Q [] all = All-nil Q
+filter_all P Q (x ∷ xs) all = kept_all (P x) Q x (filter P xs) (λ e. All-head Q x xs all) (filter_all P Q xs (All-tail Q x xs all))
+
+filter_true : (P : ℕ → Bool) (xs : List ℕ) → All (λ i. P i ≡ true) (filter P xs)
+filter_true P [] = All-nil (λ i. P i ≡ true)
+filter_true P (x ∷ xs) = kept_all (P x) (λ i. P i ≡ true) x (filter P xs) (λ e. e) (filter_true P xs)
+
+source_within : (n : ℕ) → All (λ i. i < n) (source_order n)
+source_within n k d h = let short : k < n = omega (arith, length-range_with_len 0 n) in omega (arith, get_or-range_with_len 0 n k d short)
+
+pub bulky_within : (parts : List Part) → All (λ i. i < length parts) (bulky_parts parts)
+bulky_within parts = filter_all (λ i. is_bulky (part_at parts i)) (λ i. i < length parts) (source_order (length parts)) (source_within (length parts))
+
+pub bulky_are : (parts : List Part) → All (λ i. is_bulky (part_at parts i) ≡ true) (bulky_parts parts)
+bulky_are parts = filter_true (λ i. is_bulky (part_at parts i)) (source_order (length parts))
+
+-- ---- lists of one or two
+
+pub one_listed : (xs : List ℕ) → length xs ≡ 1 → xs ≡ get_or xs 0 0 ∷ []
+one_listed [] e = cc
+one_listed (x ∷ []) e = refl
+one_listed (x ∷ y ∷ xs) e = absurd (omega arith)
+
+pub two_listed : (xs : List ℕ) → length xs ≡ 2 → xs ≡ get_or xs 0 0 ∷ get_or xs 1 0 ∷ []
+two_listed [] e = cc
+two_listed (x ∷ []) e = absurd (omega arith)
+two_listed (x ∷ y ∷ []) e = refl
+two_listed (x ∷ y ∷ z ∷ xs) e = absurd (omega arith)
+
+pub others_listed : (dl : TargetDataLayout) (fixed : Bool) (size align : ℕ) (parts : List Part) (offsets : List ℕ) (xs : List ℕ) → (length xs ≡ 1 → ⊥) → (length xs ≡ 2 → ⊥)
+    → Memory true ≡ bulky_view dl fixed size align parts offsets xs
+others_listed dl fixed size align parts offsets [] one two = refl
+others_listed dl fixed size align parts offsets (x ∷ []) one two = absurd (one refl)
+others_listed dl fixed size align parts offsets (x ∷ y ∷ []) one two = absurd (two refl)
+others_listed dl fixed size align parts offsets (x ∷ y ∷ z ∷ xs) one two = refl
+
+pub unlisted_align : (align : ℕ) (parts : List Part) (xs : List ℕ) → (length xs ≡ 1 → ⊥) → align ≡ bulky_align align parts xs
+unlisted_align align parts [] one = refl
+unlisted_align align parts (x ∷ []) one = absurd (one refl)
+unlisted_align align parts (x ∷ y ∷ xs) one = refl
+
+-- ---- scalars are small
+
+below_power : (a : ℕ) → a < 2 ^ a
+below_power zero = pow_pos 0
+below_power (suc a) = omega (arith, below_power a, two-pow-succ a)
+
+primitive_multiple : (dl : TargetDataLayout) (p : Primitive) → IsLawfulDataLayout dl → IsLawfulPrimitive dl p → 2 ^ primitive_align dl p ∣ primitive_size dl p
+primitive_multiple dl (Int i s) law h = law.integers i
+primitive_multiple dl (Float f) law h = law.floats f
+primitive_multiple dl (Pointer space) law h = h.1.fits
+
+-- A scalar that is lawful is known, and small.
+pub record IsSmall (dl : TargetDataLayout) (s : Scalar) : Type 0 where
+  pub known : KnowsPrimitive dl (primitive_of s)
+  pub some : 1 ≤ scalar_size dl s
+  pub most : scalar_size dl s ≤ 16
+  pub align : scalar_align dl s ≤ 29
+
+pub scalar_small : (dl : TargetDataLayout) (s : Scalar) → IsLawfulDataLayout dl → IsLawfulScalar dl s → IsSmall dl s
+scalar_small dl s law h =
+    let r = readable_size dl (primitive_of s) h.pointer in
+    record { known = r.0; some = r.1; most = r.2; align = omega (arith, below_power (scalar_align dl s), le_of_dvd (omega (arith, r.1)) (primitive_multiple dl (primitive_of s) law h.pointer), r.2) }
+
+pub two_read : (dl : TargetDataLayout) (fixed : Bool) (size align : ℕ) (parts : List Part) (offsets bulky : List ℕ) (first second : ℕ) (one other : Part) → length bulky ≡ 2
+    → first ≡ get_or offsets (get_or bulky 0 0) 0 → second ≡ get_or offsets (get_or bulky 1 0) 0 → one ≡ part_at parts (get_or bulky 0 0) → other ≡ part_at parts (get_or bulky 1 0)
+    → two_view dl size align first one.view second other.view ≡ bulky_view dl fixed size align parts offsets bulky
+two_read dl fixed size align parts offsets bulky first second one other e f s o t =
+    let P : List ℕ → Type 0 = λ xs. two_view dl size align (get_or offsets (get_or bulky 0 0) 0) (part_at parts (get_or bulky 0 0)).view (get_or offsets (get_or bulky 1 0) 0) (part_at parts (get_or bulky 1 0)).view ≡ bulky_view dl fixed size align parts offsets xs in
+    rw (f, s, o, t) (subst P (sym (two_listed bulky e)) refl)
+
+pub one_read : (dl : TargetDataLayout) (fixed : Bool) (size align : ℕ) (parts : List Part) (offsets bulky : List ℕ) (first : ℕ) (one : Part) → length bulky ≡ 1
+    → first ≡ get_or offsets (get_or bulky 0 0) 0 → one ≡ part_at parts (get_or bulky 0 0)
+    → one_view fixed size align first one ≡ bulky_view dl fixed size align parts offsets bulky
+one_read dl fixed size align parts offsets bulky first one e f o =
+    let P : List ℕ → Type 0 = λ xs. one_view fixed size align (get_or offsets (get_or bulky 0 0) 0) (part_at parts (get_or bulky 0 0)) ≡ bulky_view dl fixed size align parts offsets xs in
+    rw (f, o) (subst P (sym (one_listed bulky e)) refl)

@@ -1,0 +1,13 @@
+-- The fields up to the index lie where the order places them.
+use Rattle.std.proofs.Common.{◌+◌, ◌^◌, ◌<◌}
+use Rattle.abi_base.specs.DataLayout.{size_bound}
+use Rattle.abi_calc.specs.Part.{max_align}
+use Rattle.abi_calc.specs.Placement.{start_of}
+use Rattle.abi_calc.proofs.PlacingLemmas.{IsPlaced}
+use Rattle.abi_calc.proofs.placing.place.Given as goal
+
+abbrev pub invariant-loop-at : goal.invariant-loop-at
+invariant-loop-at l = record {
+  placed : IsPlaced l.dl l.bias l.repr (size_bound l.dl) (start_of l.repr.pack l.repr.kind) l.parts l.order l.at l.offsets.items l.end l.largest_niche;
+  small : l.end < size_bound l.dl + 2 ^ max_align;
+}

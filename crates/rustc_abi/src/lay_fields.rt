@@ -1,0 +1,154 @@
+//! How structs are laid out, once their fields are.
+
+ghost use Rattle.std.specs.Prelude.{◌≡◌, ◌<◌, ◌≤◌, ◌⊎◌, List, IfOk, IfErr, IfSome, Ok, None, length, vec_len, All, map};
+ghost use Rattle.abi_base.specs.DataLayout.{IsLawfulDataLayout};
+ghost use Rattle.abi_scalar.specs.Lawful.{IsLawfulLayout};
+ghost use Rattle.abi_calc.specs.Apart.{AreApart, offsets_of};
+ghost use Rattle.abi_calc.specs.List.{HasLawfulAligns};
+ghost use Rattle.abi_calc.specs.ListNiche.{IsNicheOfPart};
+ghost use Rattle.rustc_abi.specs.Tree.{Trees, struct};
+ghost use Rattle.rustc_abi.specs.Placed.{Placed, layout_of, size_of};
+ghost use Rattle.rustc_abi.specs.Laying.{AreLaying, IsFieldsAnswer, IsListed, fields_fault, has_bad_align, is_above_limit, kind_of, most_fields};
+ghost use Rattle.rustc_abi.specs.Error.{IsRefused};
+ghost use Rattle.rustc_abi.specs.Adding.{IsAdded, EachFits, all_at};
+
+use crate::error::LayError;
+use crate::lay::{add, layout_at};
+use crate::node::{Node, Shape};
+use abi_base::{Align, StructKind, TargetDataLayout};
+use abi_calc::LayoutCalculator;
+use abi_index::{FieldIdx, IndexSlice, VariantIdx};
+use abi_scalar::{LayoutData, ReprOptions};
+use std::alloc::{AllocError, Global};
+
+/// A list of fields has at most so many.
+const MOST_FIELDS: usize = 0xFFFF_FF01;
+
+/// Whether an alignment that a repr names, if it does, is above 2^29 bytes.
+fn is_above_limit(align: Option<Align>) -> bool
+    ensures { result ≡ is_above_limit align }
+{
+    match align {
+        Some(align) => align > Align::MAX,
+        None => false,
+    }
+}
+
+/// A struct's own fault, if it has one.
+fn fields_fault(repr: &ReprOptions, children: &[usize]) -> Option<LayError>
+    ensures { (ps : List Placed) → length ps ≡ length children.now → result ≡ fields_fault repr.now ps }
+{
+    if children.len() > MOST_FIELDS {
+        return Some(LayError::BadIndex);
+    }
+    if is_above_limit(repr.align) || is_above_limit(repr.pack) {
+        return Some(LayError::BadAlign);
+    }
+    None
+}
+
+/// Whether the list is always sized: where the struct says so, and where it has no fields.
+fn kind_of(always_sized: bool, children: &[usize]) -> StructKind
+    ensures { (ps : List Placed) → length ps ≡ length children.now → result ≡ kind_of always_sized ps }
+{
+    if always_sized || children.is_empty() {
+        StructKind::AlwaysSized
+    } else {
+        StructKind::MaybeUnsized
+    }
+}
+
+/// The layouts of the nodes at these places.
+fn layouts_at<'a>(
+    alloc: Global,
+    nodes: &'a [Node],
+    children: &[usize],
+) -> Result<Vec<&'a LayoutData<FieldIdx, VariantIdx>>, AllocError>
+    requires { All (λ child. child < length nodes.now) children.now }
+    ensures { IfOk result (λ layouts. map (λ lent. lent.now) layouts.items ≡ map layout_of (all_at nodes.now children.now)) }
+{
+    let mut layouts = Vec::new(alloc);
+    for child in children {
+        layouts.push(layout_at(nodes, *child))?;
+    }
+    Ok(layouts)
+}
+
+/// The layout of fields, each as one of the nodes.
+fn fields_layout(
+    alloc: Global,
+    dl: &TargetDataLayout,
+    nodes: &[Node],
+    repr: &ReprOptions,
+    kind: StructKind,
+    children: &[usize],
+) -> Result<LayoutData<FieldIdx, VariantIdx>, LayError>
+    requires kind { (kind ≡ StructKind.AlwaysSized) ⊎ ((kind ≡ StructKind.MaybeUnsized) × (0 < length children.now)) }
+    requires aligns { HasLawfulAligns repr.now }
+    requires count { length children.now ≤ most_fields }
+    requires data_layout { IsLawfulDataLayout dl.now }
+    requires there { All (λ child. child < length nodes.now) children.now }
+    requires lawful { All (λ p. IsLawfulLayout dl.now (layout_of p)) (all_at nodes.now children.now) }
+    ensures ok { IfOk result (λ l. IsListed dl.now repr.now kind (map layout_of (all_at nodes.now children.now)) (Ok l)) }
+    ensures err { IfErr result (IsRefused (IsListed dl.now repr.now kind (map layout_of (all_at nodes.now children.now)))) }
+    ensures lawful { IfOk result (IsLawfulLayout dl.now) }
+    ensures apart { IfOk result (λ l. AreApart l.size (offsets_of l.fields) (map size_of (all_at nodes.now children.now))) }
+    ensures niche { IfOk result (λ l. IfSome l.largest_niche (IsNicheOfPart (offsets_of l.fields) (map layout_of (all_at nodes.now children.now)))) }
+{
+    let layouts = layouts_at(alloc, nodes, children)?;
+    let answer = LayoutCalculator::new(dl).layout_of_univariant(
+        alloc,
+        IndexSlice::new(layouts.as_slice()),
+        repr,
+        kind,
+    );
+    Ok(answer?)
+}
+
+/// A node for the fields of a struct without a fault of its own.
+fn add_faultless(
+    alloc: Global,
+    dl: &TargetDataLayout,
+    nodes: &mut Vec<Node>,
+    repr: &ReprOptions,
+    always_sized: bool,
+    children: Vec<usize>,
+) -> Result<usize, LayError>
+    requires data_layout { IsLawfulDataLayout dl.now }
+    requires there { All (λ child. child < vec_len nodes.old) children.items }
+    requires lawful { All (λ p. IsLawfulLayout dl.now (layout_of p)) (all_at nodes.old.items children.items) }
+    requires faultless { fields_fault repr.now (all_at nodes.old.items children.items) ≡ None }
+    ensures ok { IfOk result
+        (λ i. (ts : Trees) → AreLaying dl.now ts (Ok (all_at nodes.old.items children.items)) →
+        EachFits dl.now ts (all_at nodes.old.items children.items) →
+        IsAdded dl.now nodes.old.items nodes.new.items i (struct repr.now always_sized ts)) }
+    ensures err { IfErr result (IsRefused (IsFieldsAnswer dl.now repr.now always_sized (all_at nodes.old.items children.items))) }
+{
+    let kind = kind_of(always_sized, &children);
+    let layout = fields_layout(alloc, dl, nodes, repr, kind, &children)?;
+    add(nodes, layout, Shape::Fields(children))
+}
+
+/// A node for fields, each as one of the nodes.
+pub(crate) fn add_fields(
+    alloc: Global,
+    dl: &TargetDataLayout,
+    nodes: &mut Vec<Node>,
+    repr: &ReprOptions,
+    always_sized: bool,
+    children: Vec<usize>,
+) -> Result<usize, LayError>
+    requires data_layout { IsLawfulDataLayout dl.now }
+    requires there { All (λ child. child < vec_len nodes.old) children.items }
+    requires lawful { All (λ p. IsLawfulLayout dl.now (layout_of p)) (all_at nodes.old.items children.items) }
+    ensures ok { IfOk result
+        (λ i. (ts : Trees) → AreLaying dl.now ts (Ok (all_at nodes.old.items children.items)) →
+        EachFits dl.now ts (all_at nodes.old.items children.items) →
+        IsAdded dl.now nodes.old.items nodes.new.items i (struct repr.now always_sized ts)) }
+    ensures err { IfErr result (IsRefused (IsFieldsAnswer dl.now repr.now always_sized (all_at nodes.old.items children.items))) }
+{
+    match fields_fault(repr, &children) {
+        Some(fault) => Err(fault),
+        None => add_faultless(alloc, dl, nodes, repr, always_sized, children),
+    }
+}
