@@ -1,4 +1,3 @@
-use Rattle.std.proofs.Common.{rules}
 use Rattle.abi_calc.proofs.tests.laid.Goals as goal
 
 pub layout_of_univariant-requires-clause-fields : goal.layout_of_univariant-requires-clause-fields
