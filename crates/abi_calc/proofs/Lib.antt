@@ -15,3 +15,4 @@ pub mod SourceLemmas
 pub mod ListLemmas
 pub mod DeepLemmas
 pub mod LawfulList
+pub mod Facts
