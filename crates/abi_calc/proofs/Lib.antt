@@ -4,3 +4,5 @@ pub mod Placing
 pub mod Lawful
 pub mod Apart
 pub mod Answers
+pub mod UnionLemmas
+pub mod UnionLawful

@@ -3,3 +3,4 @@ pub mod Array
 pub mod Apart
 pub mod Placement
 pub mod List
+pub mod Union

@@ -6,5 +6,6 @@ mod calculator;
 mod list;
 #[cfg(test)]
 mod tests;
+mod unions;
 
 pub use calculator::LayoutCalculator;
