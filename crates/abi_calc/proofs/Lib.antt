@@ -6,3 +6,4 @@ pub mod Apart
 pub mod Answers
 pub mod UnionLemmas
 pub mod UnionLawful
+pub mod VectorLemmas

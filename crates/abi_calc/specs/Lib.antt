@@ -4,3 +4,4 @@ pub mod Apart
 pub mod Placement
 pub mod List
 pub mod Union
+pub mod Simd

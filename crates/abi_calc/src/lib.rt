@@ -4,6 +4,7 @@
 mod array;
 mod calculator;
 mod list;
+mod simd;
 #[cfg(test)]
 mod tests;
 mod unions;
