@@ -6,7 +6,13 @@ mod calculator;
 mod list;
 mod simd;
 #[cfg(test)]
+mod simd_tests;
+#[cfg(test)]
+mod slice_tests;
+#[cfg(test)]
 mod tests;
+#[cfg(test)]
+mod union_tests;
 mod unions;
 
 pub use calculator::LayoutCalculator;

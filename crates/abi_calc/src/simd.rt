@@ -120,7 +120,9 @@ impl<Cx: HasDataLayout> LayoutCalculator<Cx> {
             max_repr_align: None,
             unadjusted_abi_align: element.align.abi,
             repr_c: false,
-            randomization_seed: element.randomization_seed.wrapping_add(Hash64::new(count.as_u64())),
+            randomization_seed: element
+                .randomization_seed
+                .wrapping_add(Hash64::new(count.as_u64())),
         })
     }
 
@@ -179,14 +181,7 @@ impl<Cx: HasDataLayout> LayoutCalculator<Cx> {
         let backend_repr = simd_view(&lanes, repr_packed);
         let align = self.simd_align(&lanes, repr_packed);
         let Lanes { count, size, .. } = lanes;
-        self.layout_of_vectors(
-            alloc,
-            element.layout(),
-            backend_repr,
-            size,
-            align,
-            count,
-        )
+        self.layout_of_vectors(alloc, element.layout(), backend_repr, size, align, count)
     }
 
     /// The layout of some vectors whose length the machine decides, of so many lanes each as if it were the least: one

@@ -60,11 +60,7 @@ fn greatest_align<FieldIdx: Idx, VariantIdx: Idx, F: LayoutHandle<FieldIdx, Vari
 }
 
 /// The greatest alignment that a `repr(align)` asks for, this one or one in the fields.
-fn greatest_repr_align<
-    FieldIdx: Idx,
-    VariantIdx: Idx,
-    F: LayoutHandle<FieldIdx, VariantIdx>,
->(
+fn greatest_repr_align<FieldIdx: Idx, VariantIdx: Idx, F: LayoutHandle<FieldIdx, VariantIdx>>(
     own: Option<Align>,
     fields: &[F],
 ) -> Option<Align>
@@ -98,7 +94,7 @@ fn agrees<FieldIdx: Idx, VariantIdx: Idx>(
 {
     field.is_zst()
         || (is_same_view(&field.backend_repr, &first.backend_repr)
-        && field.align.abi == first.align.abi)
+            && field.align.abi == first.align.abi)
 }
 
 /// The first field that is no sized type without bytes.

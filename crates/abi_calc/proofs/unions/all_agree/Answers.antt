@@ -18,6 +18,8 @@ loop-field-preserved g c =
 pub returns : goal.returns
 returns g c =
     let view = union_view c.args.first.now.backend_repr in
-    let align = c.args.first.now.align.abi in
-    (λ t. All-same (λ h. CountsForView (g.F.LayoutHandle.layout_of h) → HasView view align (g.F.LayoutHandle.layout_of h))
-    c.args.fields.now _ (sym (take_all c.loop-field.field-index c.args.fields.now c.loop-field-test.false)) c.loop-field.invariant, λ h. refl)
+    let align = c.args.first.now.align.abi in (
+      λ t. All-same (λ h. CountsForView (g.F.LayoutHandle.layout_of h) → HasView view align (g.F.LayoutHandle.layout_of h))
+          c.args.fields.now _ (sym (take_all c.loop-field.field-index c.args.fields.now c.loop-field-test.false)) c.loop-field.invariant,
+      λ h. refl,
+    )

@@ -15,9 +15,10 @@ returns-then-all_agree-clause-some g c =
     let h = c.in_ok-first.first in
     let view : c.to_union.result ≡ union_view (g.F.LayoutHandle.layout_of c.in_ok-first.first).backend_repr = search rules in
     let all = c.if-all_agree.ensures.0 refl in
-    let agree = rw c.layout.ensures at all in
-    ((g.F.LayoutHandle.layout_of h).align.abi,
-    rw view (some_view g.F.LayoutHandle.layout_of c.args.fields.now h (union_view (g.F.LayoutHandle.layout_of h).backend_repr) (g.F.LayoutHandle.layout_of h).align.abi c.in_ok-first.ensures.some c.in_ok-first.ensures.counts agree))
+    let agree = rw c.layout.ensures at all in (
+      (g.F.LayoutHandle.layout_of h).align.abi,
+      rw view (some_view g.F.LayoutHandle.layout_of c.args.fields.now h (union_view (g.F.LayoutHandle.layout_of h).backend_repr) (g.F.LayoutHandle.layout_of h).align.abi c.in_ok-first.ensures.some c.in_ok-first.ensures.counts agree),
+    )
 
 pub returns-else-all_agree-clause-none : goal.returns-else-all_agree-clause-none
 returns-else-all_agree-clause-none g c none view align common =
