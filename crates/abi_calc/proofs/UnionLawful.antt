@@ -1,6 +1,6 @@
 -- The layout of a union is lawful.
-use Rattle.std.proofs.Common.{◌≡◌, ℕ, ◌+◌, ◌-◌, ◌*◌, ◌^◌, ◌<◌, ◌≤◌, List, [], ◌∷◌, Option, None, Some, Bool, true, false, length, map, max, min, refl, sym, ap, subst, ◌∙◌, arith, inl, inr, ⊎_elim}
-use Rattle.std.specs.Prelude.{◌⊎◌, All, Contains, IfSome, is_some, if◌then◌else◌}
+use Rattle.std.proofs.Common.{◌≡◌, ℕ, ◌*◌, ◌^◌, ◌<◌, ◌≤◌, List, Option, None, Some, Bool, true, false, map, refl, sym, ap, subst, ◌∙◌, arith, inl, inr, ⊎_elim}
+use Rattle.std.specs.Prelude.{All, IfSome, is_some, if◌then◌else◌}
 use Rattle.std.specs.Int.{◌∣◌, next_multiple_of}
 use Rattle.std.proofs.lemmas.Bool.{cases_lt}
 use Rattle.std.proofs.lemmas.Nat.{pow_pos}
@@ -21,8 +21,8 @@ use Rattle.abi_scalar.specs.Lawful.{IsLawfulLayout, IsLawfulView}
 use Rattle.abi_scalar.specs.Scalar.{IsLawfulScalar, primitive_of, scalar_size}
 use Rattle.abi_scalar.specs.View.{union_view}
 use Rattle.abi_calc.specs.Union.{CountsForView, HasView, IsAlignedFor, IsCommonView, IsUnionView, KeepsView, cut_to, first_align, greatest, greatest_align, greatest_size, raised_to, unraised_align, union_align, union_size}
-use Rattle.abi_calc.proofs.Lawful.{bound_small, bound_some}
-use Rattle.abi_calc.proofs.Rounding.{rounded_to, round_fits}
+use Rattle.abi_calc.proofs.Lawful.{bound_small}
+use Rattle.abi_calc.proofs.Rounding.{rounded_to}
 use Rattle.abi_calc.proofs.UnionLemmas.{common_field, greatest_above, greatest_most}
 
 -- alignments

@@ -1,30 +1,24 @@
 -- Unions: the greatest of their fields, and the view that these have in common.
-use Rattle.std.proofs.Common.{◌≡◌, ℕ, zero, suc, ◌+◌, ◌-◌, ◌*◌, ◌^◌, ◌<◌, ◌≤◌, ◌↔◌, List, [], ◌∷◌, Option, None, Some, Bool, true, false, length, map, get_or, max, min, refl, sym, ap, subst, ◌∙◌, arith, inl, inr, ⊎_elim}
-use Rattle.std.specs.Prelude.{◌⊎◌, All, Contains, IfSome, nat_lt, if◌then◌else◌, is_some}
-use Rattle.std.specs.Int.{◌∣◌, next_multiple_of}
-use Rattle.std.proofs.lemmas.Bool.{cases_lt}
-use Rattle.std.proofs.lemmas.Nat.{pow_pos}
-use Rattle.std.proofs.lemmas.List.Elements.{All-contains, All-get_or, All-head, All-map, All-tail, All-weaker}
+use Rattle.std.proofs.Common.{◌≡◌, ℕ, zero, suc, ◌≤◌, ◌↔◌, List, [], ◌∷◌, true, false, length, map, get_or, refl, sym, ap, subst, ◌∙◌, arith}
+use Rattle.std.specs.Prelude.{All, Contains}
+use Rattle.std.proofs.lemmas.List.Elements.{All-contains, All-head, All-map, All-tail}
 use Rattle.std.proofs.Math.ListN.{get_or-map}
 use Rattle.std.proofs.lemmas.List.{length-map}
 use Rattle.abi_base.specs.declared.data_layout.TargetDataLayout.{TargetDataLayout}
 use Rattle.abi_base.specs.declared.primitive.Primitive.{Primitive}
 use Rattle.abi_base.specs.declared.primitive.Primitive.TheVariants.{Int, Float, Pointer}
-use Rattle.abi_base.specs.DataLayout.{IsLawfulDataLayout, alignments_of, size_bound}
-use Rattle.abi_base.specs.Primitive.{IsLawfulPrimitive, KnowsPrimitive, primitive_align, primitive_size}
+use Rattle.abi_base.specs.Primitive.{IsLawfulPrimitive, KnowsPrimitive}
 use Rattle.abi_scalar.specs.declared.backend_repr.BackendRepr.{BackendRepr}
 use Rattle.abi_scalar.specs.declared.backend_repr.BackendRepr.TheVariants.{Scalar as OneScalar, ScalarPair, SimdScalableVector, SimdVector, Memory}
-use Rattle.abi_scalar.specs.declared.scalar.Scalar.{Scalar}
 use Rattle.abi_scalar.specs.declared.scalar.Scalar.TheVariants.{Union}
 use Rattle.abi_scalar.specs.declared.layout_data.LayoutData.{LayoutData}
 use Rattle.abi_scalar.specs.declared.repr.ReprOptions.{ReprOptions}
 use Rattle.abi_scalar.specs.Layout.{IsZst}
 use Rattle.abi_scalar.specs.Lawful.{IsLawfulLayout, IsLawfulView}
 use Rattle.abi_scalar.specs.Repr.{is_c}
-use Rattle.abi_scalar.specs.Scalar.{IsLawfulScalar, primitive_of, scalar_align, scalar_size}
+use Rattle.abi_scalar.specs.Scalar.{primitive_of}
 use Rattle.abi_scalar.specs.View.{IsSameUpToValidity, union_view}
-use Rattle.abi_calc.specs.Union.{CountsForView, HasView, IsAlignedFor, IsCommonView, IsUnionView, KeepsView, KnowsScalarsOf, cut_to, first_align, greatest, greatest_align, greatest_size, raised_to, unraised_align, union_align, union_size}
-use Rattle.abi_calc.proofs.Rounding.{rounded_to}
+use Rattle.abi_calc.specs.Union.{CountsForView, HasView, IsAlignedFor, IsCommonView, KeepsView, KnowsScalarsOf, greatest, union_align}
 
 -- what is read of each is at most the bound, and so is the greatest
 pub greatest_most : {L : Type 0} (number : L → ℕ) (most : ℕ) (ls : List L) → All (λ l. number l ≤ most) ls → greatest (map number ls) ≤ most

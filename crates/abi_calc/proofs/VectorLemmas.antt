@@ -1,11 +1,11 @@
 -- Vectors: how large and how aligned they are, and that their layouts are lawful.
-use Rattle.std.proofs.Common.{◌≡◌, ℕ, ◌+◌, ◌-◌, ◌*◌, ◌^◌, ◌<◌, ◌≤◌, List, [], ◌∷◌, ◌++◌, Option, None, Some, Ok, Err, Bool, true, false, IsTrue, map, refl, sym, ap, subst, ◌∙◌, arith, inl, inr, ⊎_elim}
-use Rattle.std.specs.Prelude.{◌⊎◌, ◌==◌, All, IfOk, IfSome, Result, drop, nat_lt, if◌then◌else◌, ⊤}
+use Rattle.std.proofs.Common.{◌≡◌, ℕ, ◌*◌, ◌^◌, ◌<◌, ◌≤◌, List, [], ◌∷◌, ◌++◌, Option, None, Some, Ok, Err, Bool, true, false, map, refl, sym, subst, arith, inl, inr, ⊎_elim}
+use Rattle.std.specs.Prelude.{◌==◌, All, IfOk, IfSome, Result, nat_lt, if◌then◌else◌}
 use Rattle.std.specs.Int.{◌∣◌, next_multiple_of}
 use Rattle.std.proofs.lemmas.Bool.{cases_lt}
 use Rattle.std.proofs.lemmas.Nat.{pow_below}
 use Rattle.std.proofs.lemmas.Bool.Decides.{nat_tests}
-use Rattle.std.proofs.lemmas.List.Elements.{All-cons, All-drop, All-head, All-nil, All-tail}
+use Rattle.std.proofs.lemmas.List.Elements.{All-cons, All-head, All-nil, All-tail}
 use Rattle.std.proofs.Math.Nat.{le_of_dvd, mul-le-mul_left}
 use Rattle.abi_base.specs.declared.data_layout.TargetDataLayout.{TargetDataLayout}
 use Rattle.abi_base.specs.declared.integer.Integer.{Integer}
@@ -23,13 +23,11 @@ use Rattle.abi_scalar.specs.declared.backend_repr.BackendRepr.{BackendRepr}
 use Rattle.abi_scalar.specs.declared.backend_repr.BackendRepr.TheVariants.{Scalar as OneScalar, ScalarPair, SimdScalableVector, SimdVector, Memory}
 use Rattle.abi_scalar.specs.declared.niche.Niche.{Niche}
 use Rattle.abi_scalar.specs.declared.scalar.Scalar.{Scalar}
-use Rattle.abi_scalar.specs.declared.variants.Variants.TheVariants.{Single}
 use Rattle.abi_scalar.specs.declared.layout_data.LayoutData.{LayoutData}
 use Rattle.abi_scalar.specs.declared.error.LayoutCalculatorError.{LayoutCalculatorError}
 use Rattle.abi_scalar.specs.declared.error.LayoutCalculatorError.TheVariants.{OversizedSimdType, SizeOverflow, ZeroLengthSimdType}
-use Rattle.abi_scalar.specs.LaneCount.{lane_count}
 use Rattle.abi_scalar.specs.Lawful.{IsLawfulLayout, IsLawfulNiche, IsLawfulView, IsNicheOfView}
-use Rattle.abi_scalar.specs.Scalar.{IsLawfulScalar, primitive_of, scalar_size}
+use Rattle.abi_scalar.specs.Scalar.{IsLawfulScalar, primitive_of}
 use Rattle.abi_calc.specs.declared.simd.Lanes.{Lanes}
 use Rattle.abi_calc.specs.Answer.{IsAnswer}
 use Rattle.abi_calc.specs.Simd.{after, element_scalar, if_below, is_tight, lanes_answer, simd_view, vector_layout}

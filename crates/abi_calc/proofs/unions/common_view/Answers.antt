@@ -1,8 +1,6 @@
-use Rattle.std.proofs.Common.{rules, refl, sym, subst, ap, map, ◌≡◌, ◌∙◌}
-use Rattle.std.specs.Prelude.{All}
+use Rattle.std.proofs.Common.{rules, refl, ◌≡◌}
 use Rattle.std.proofs.lemmas.Bool.{false≢true}
 use Rattle.abi_scalar.specs.View.{union_view}
-use Rattle.abi_calc.specs.Union.{CountsForView, HasView, IsCommonView}
 use Rattle.abi_calc.proofs.UnionLemmas.{no_view, some_view, same_view}
 use Rattle.abi_calc.proofs.unions.common_view.Goals as goal
 

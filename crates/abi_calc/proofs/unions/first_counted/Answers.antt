@@ -1,5 +1,4 @@
-use Rattle.std.proofs.Common.{rules, refl, sym, subst, take, ap}
-use Rattle.std.specs.Prelude.{All}
+use Rattle.std.proofs.Common.{rules, sym, subst}
 use Rattle.std.proofs.lemmas.List.{take_all}
 use Rattle.std.proofs.lemmas.List.Elements.{All-more, All-same}
 use Rattle.abi_scalar.specs.Layout.{IsZst}

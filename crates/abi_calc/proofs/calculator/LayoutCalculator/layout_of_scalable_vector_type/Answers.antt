@@ -1,4 +1,4 @@
-use Rattle.std.proofs.Common.{rules, refl, sym, subst, ap, ◌≡◌, ◌≤◌, ◌<◌, ◌*◌, ◌^◌, ◌∙◌, arith, Ok, IsTrue}
+use Rattle.std.proofs.Common.{rules, ap, ◌≡◌, ◌≤◌, ◌*◌, ◌∙◌, arith}
 use Rattle.abi_base.specs.DataLayout.{size_bound}
 use Rattle.std.proofs.Math.Nat.{mul-le-mul_left}
 use Rattle.abi_calc.proofs.VectorLemmas.{lanes_are, lanes_bounded, vectors_lawful}

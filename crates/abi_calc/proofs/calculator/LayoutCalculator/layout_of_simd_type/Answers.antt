@@ -1,4 +1,4 @@
-use Rattle.std.proofs.Common.{rules, refl, sym, subst, ap, ◌≡◌, ◌≤◌, ◌<◌, ◌*◌, ◌^◌, ◌∙◌, arith, Ok, IsTrue}
+use Rattle.std.proofs.Common.{sym, subst, ap, ◌≡◌, ◌*◌, ◌^◌, ◌∙◌, arith, IsTrue}
 use Rattle.std.specs.Int.{◌∣◌}
 use Rattle.abi_base.specs.DataLayout.{size_bound}
 use Rattle.abi_scalar.specs.Lawful.{IsLawfulView, IsNicheOfView}

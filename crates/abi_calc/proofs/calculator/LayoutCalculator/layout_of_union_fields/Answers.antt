@@ -1,5 +1,5 @@
-use Rattle.std.proofs.Common.{rules, refl, sym, subst, ap, map, ◌≡◌, ◌≤◌, ◌<◌, ◌^◌, arith}
-use Rattle.abi_calc.specs.Union.{greatest_size, union_align, union_size}
+use Rattle.std.proofs.Common.{rules, refl, map, ◌≡◌, arith}
+use Rattle.abi_calc.specs.Union.{union_align}
 use Rattle.abi_calc.proofs.Rounding.{round_fits}
 use Rattle.abi_calc.proofs.UnionLawful.{greatest_size_small, union_align_small, union_is_lawful}
 use Rattle.abi_calc.proofs.calculator.LayoutCalculator.layout_of_union_fields.Goals as goal

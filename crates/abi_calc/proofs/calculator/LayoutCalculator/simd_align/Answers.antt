@@ -1,4 +1,3 @@
-use Rattle.std.proofs.Common.{rules, refl, sym, subst, ap, ◌≡◌, ◌≤◌, ◌<◌, ◌*◌, ◌^◌, ◌∙◌, arith, Ok}
 use Rattle.abi_calc.proofs.VectorLemmas.{factor_small}
 use Rattle.abi_calc.proofs.calculator.LayoutCalculator.simd_align.Goals as goal
 

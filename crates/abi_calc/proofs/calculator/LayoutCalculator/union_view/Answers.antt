@@ -1,4 +1,4 @@
-use Rattle.std.proofs.Common.{rules, refl, sym, subst, ap, map, ◌≡◌, ◌∙◌, inr}
+use Rattle.std.proofs.Common.{refl, sym, subst, map, inr}
 use Rattle.std.proofs.lemmas.Bool.{false≢true}
 use Rattle.abi_calc.specs.Union.{IsAlignedFor}
 use Rattle.abi_calc.proofs.UnionLemmas.{knows_common, not_aligned, not_common, not_free}

@@ -1,4 +1,3 @@
-use Rattle.std.proofs.Common.{rules, refl, sym, subst, ap, ◌≡◌, ◌≤◌, ◌<◌, ◌*◌, ◌^◌, ◌∙◌, arith, Ok, IsTrue}
 use Rattle.abi_calc.proofs.VectorLemmas.{vector_small}
 use Rattle.abi_calc.proofs.calculator.LayoutCalculator.vector_align.Goals as goal
 
