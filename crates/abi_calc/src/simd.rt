@@ -184,8 +184,8 @@ impl<Cx: HasDataLayout> LayoutCalculator<Cx> {
         self.layout_of_vectors(alloc, element.layout(), backend_repr, size, align, count)
     }
 
-    /// The layout of some vectors whose length the machine decides, of so many lanes each as if it were the least: one
-    /// field at offset 0, all of them together rounded up to the alignment of vectors as large as one.
+    /// The layout of some vectors whose length the machine decides: their size here is that of so many lanes each, all
+    /// of them together rounded up to the alignment of vectors as large as one. They are one field at offset 0.
     ///
     /// Refused as `OversizedSimdType` for more than 32768 lanes and as `ZeroLengthSimdType` for none, else as
     /// `NonPrimitiveSimdType` with an element that is no scalar, else as `SizeOverflow` where the size of one vector or

@@ -309,7 +309,8 @@ impl<Cx: HasDataLayout> LayoutCalculator<Cx> {
     }
 
     /// The layout of a union, from the fields of its one variant: all of them at offset 0 (Rust Reference, "Type
-    /// layout"). It is as large and as aligned as its fields at most, has no niche and counts as inhabited.
+    /// layout"). It is as large and as aligned as the greatest of them, cut to `packed` and raised to `align`, has no
+    /// niche and counts as inhabited.
     ///
     /// A view that all fields with bytes have in common is the union's, holding any numbers, unless the union is
     /// `repr(C)` or aligned otherwise.
