@@ -1,5 +1,5 @@
 -- Unions: the greatest of their fields, and the view that these have in common.
-use Rattle.std.proofs.Common.{◌≡◌, ℕ, zero, suc, ◌≤◌, ◌↔◌, List, [], ◌∷◌, true, false, length, map, get_or, refl, sym, ap, subst, ◌∙◌, arith}
+use Rattle.std.proofs.Common.{◌≡◌, ℕ, zero, suc, ◌≤◌, ◌↔◌, List, [], ◌∷◌, true, false, length, map, get_or, refl, sym, ap, subst, ◌∙◌, arith, inl, inr}
 use Rattle.std.specs.Prelude.{All, Contains}
 use Rattle.std.proofs.lemmas.List.Elements.{All-contains, All-head, All-map, All-tail}
 use Rattle.std.proofs.Math.ListN.{get_or-map}
@@ -18,7 +18,7 @@ use Rattle.abi_scalar.specs.Lawful.{IsLawfulLayout, IsLawfulView}
 use Rattle.abi_scalar.specs.Repr.{is_c}
 use Rattle.abi_scalar.specs.Scalar.{primitive_of}
 use Rattle.abi_scalar.specs.View.{IsSameUpToValidity, union_view}
-use Rattle.abi_calc.specs.Union.{CountsForView, HasView, IsAlignedFor, IsCommonView, KeepsView, KnowsScalarsOf, greatest, union_align}
+use Rattle.abi_calc.specs.Union.{CountsForView, HasView, IsAlignedFor, IsCommonView, IsUnionView, KeepsView, KnowsScalarsOf, greatest, union_align}
 
 -- what is read of each is at most the bound, and so is the greatest
 pub greatest_most : {L : Type 0} (number : L → ℕ) (most : ℕ) (ls : List L) → All (λ l. number l ≤ most) ls → greatest (map number ls) ≤ most
@@ -115,6 +115,13 @@ not_common dl repr ls none kept keeps = none kept keeps.common.0 keeps.common.1
 
 pub not_free : {F V : Type 0} (dl : TargetDataLayout) (repr : ReprOptions) (ls : List (LayoutData F V)) → is_c repr ≡ true → (kept : BackendRepr) → KeepsView dl repr ls kept → ⊥
 not_free dl repr ls c kept keeps = let free : is_c repr ≡ false = keeps.free in cc
+
+-- a union has one view
+pub one_union_view : {F V : Type 0} (dl : TargetDataLayout) (repr : ReprOptions) (ls : List (LayoutData F V)) (view other : BackendRepr) → IsUnionView dl repr ls view → IsUnionView dl repr ls other → view ≡ other
+one_union_view dl repr ls view other (inl p) (inl q) = one_view ls view other p.common.0 q.common.0 p.common.1 q.common.1
+one_union_view dl repr ls view other (inl p) (inr q) = absurd (q.1 view p)
+one_union_view dl repr ls view other (inr p) (inl q) = absurd (p.1 other q)
+one_union_view dl repr ls view other (inr p) (inr q) = p.0 ∙ sym q.0
 
 -- views of unions that agree but for the numbers that they hold are the same, as they hold any
 same_to : (a b : BackendRepr) → IsSameUpToValidity (union_view a) (union_view b) → union_view a ≡ union_view b
