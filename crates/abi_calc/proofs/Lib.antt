@@ -16,3 +16,6 @@ pub mod ListLemmas
 pub mod DeepLemmas
 pub mod LawfulList
 pub mod Facts
+pub mod UnionLemmas
+pub mod UnionLawful
+pub mod VectorLemmas

@@ -9,3 +9,5 @@ pub mod Fault
 pub mod Run
 pub mod ListView
 pub mod List
+pub mod Union
+pub mod Simd

@@ -11,7 +11,15 @@ mod order;
 mod part;
 mod placing;
 mod run;
+mod simd;
+#[cfg(test)]
+mod simd_tests;
+#[cfg(test)]
+mod slice_tests;
 #[cfg(test)]
 mod tests;
+#[cfg(test)]
+mod union_tests;
+mod unions;
 
 pub use calculator::LayoutCalculator;

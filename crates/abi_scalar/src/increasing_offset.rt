@@ -142,6 +142,7 @@ mod tests {
         assert_eq!(rt; count, 1);
         assert_eq!(rt; list.as_slice(), [0].as_slice());
         let three = FieldCount::new(3).ok_or("three fields")?;
+        assert_eq!(rt; three.get(), 3);
         let (count, list) = places(rt.alloc(), &FieldsShape::Union(three))?;
         assert_eq!(rt; count, 3);
         assert_eq!(rt; list.as_slice(), [0, 1, 2].as_slice());

@@ -1,0 +1,342 @@
+//! Unions: fields that share their bytes.
+
+ghost use Rattle.std.specs.Prelude.{◌≡◌, ◌↔◌, ℕ, ◌+◌, ◌%◌, ◌^◌, ◌≤◌, All, Contains, IfOk, IfSome, IsTrue, None, false, length, map, sum_by};
+ghost use Rattle.std.specs.Int.{next_multiple_of};
+ghost use Rattle.abi_index.specs.Slice.{items_of};
+ghost use Rattle.abi_base.specs.DataLayout.{IsLawfulDataLayout};
+ghost use Rattle.abi_scalar.specs.declared.backend_repr.BackendRepr.{BackendRepr};
+ghost use Rattle.abi_scalar.specs.Layout.{IsZst};
+ghost use Rattle.abi_scalar.specs.Lawful.{IsLawfulLayout};
+ghost use Rattle.abi_scalar.specs.View.{union_view};
+ghost use Rattle.abi_calc.specs.Union.{CountsForView, HasView, IsAlignedFor, IsCommonView, IsUnionAnswer, IsUnionView, KnowsScalarsOf, first_unsized, greatest_align, greatest_repr_align, greatest_size, is_union_c, only_of, raised_to, unraised_align, union_align};
+
+use crate::calculator::LayoutCalculator;
+use abi_base::{AbiAlign, Align, HasDataLayout, Size};
+use abi_index::{Hash64, Idx, IndexSlice, IndexVec};
+use abi_scalar::{
+    BackendRepr, FieldCount, FieldsShape, LayoutCalculatorError, LayoutData, LayoutHandle,
+    ReprOptions, Variants,
+};
+
+/// The first field whose size isn't known beforehand.
+fn first_unsized<FieldIdx: Idx, VariantIdx: Idx, F: LayoutHandle<FieldIdx, VariantIdx> + Copy>(
+    fields: &[F],
+) -> Option<F>
+    ensures { result ≡ first_unsized F.layout_of fields.now }
+{
+    for field in fields {
+        if field.layout().is_unsized() {
+            return Some(*field);
+        }
+    }
+    None
+}
+
+/// The greatest of the fields' sizes.
+fn greatest_size<FieldIdx: Idx, VariantIdx: Idx, F: LayoutHandle<FieldIdx, VariantIdx>>(
+    fields: &[F],
+) -> Size
+    ensures { result ≡ greatest_size (map F.layout_of fields.now) }
+{
+    let mut greatest = Size::ZERO;
+    for field in fields {
+        greatest = greatest.max(field.layout().size);
+    }
+    greatest
+}
+
+/// The greatest of the fields' alignments and this one.
+fn greatest_align<FieldIdx: Idx, VariantIdx: Idx, F: LayoutHandle<FieldIdx, VariantIdx>>(
+    own: Align,
+    fields: &[F],
+) -> Align
+    ensures { result ≡ greatest_align own (map F.layout_of fields.now) }
+{
+    let mut greatest = own;
+    for field in fields {
+        greatest = greatest.max(field.layout().align.abi);
+    }
+    greatest
+}
+
+/// The greatest alignment that a `repr(align)` asks for, this one or one in the fields.
+fn greatest_repr_align<FieldIdx: Idx, VariantIdx: Idx, F: LayoutHandle<FieldIdx, VariantIdx>>(
+    own: Option<Align>,
+    fields: &[F],
+) -> Option<Align>
+    ensures { result ≡ greatest_repr_align own (map F.layout_of fields.now) }
+{
+    let mut greatest = own;
+    for field in fields {
+        greatest = match (greatest, field.layout().max_repr_align) {
+            (Some(a), Some(b)) => Some(a.max(b)),
+            (None, b) => b,
+            (a, None) => a,
+        };
+    }
+    greatest
+}
+
+/// Whether both views are the same, holding any numbers.
+#[tactic(auto, using(crate::proofs::UnionLemmas::same_union))]
+fn is_same_view(view: &BackendRepr, other: &BackendRepr) -> bool
+    ensures { IsTrue result ↔ (union_view view.now ≡ union_view other.now) }
+{
+    view.to_union().eq_up_to_validity(&other.to_union())
+}
+
+/// Whether the field has no bytes, or the view and the alignment of the other.
+fn agrees<FieldIdx: Idx, VariantIdx: Idx>(
+    field: &LayoutData<FieldIdx, VariantIdx>,
+    first: &LayoutData<FieldIdx, VariantIdx>,
+) -> bool
+    ensures { IsTrue result ↔ (CountsForView field.now → HasView (union_view first.now.backend_repr) first.now.align.abi field.now) }
+{
+    field.is_zst()
+        || (is_same_view(&field.backend_repr, &first.backend_repr)
+            && field.align.abi == first.align.abi)
+}
+
+/// The first field that is no sized type without bytes.
+fn first_counted<FieldIdx: Idx, VariantIdx: Idx, F: LayoutHandle<FieldIdx, VariantIdx> + Copy>(
+    fields: &[F],
+) -> Option<F>
+    ensures some { IfSome result (λ h. Contains fields.now h) }
+    ensures counts { IfSome result (λ h. CountsForView (F.layout_of h)) }
+    ensures none { result ≡ None → All (λ h. IsZst (F.layout_of h)) fields.now }
+{
+    for field in fields {
+        if !field.layout().is_zst() {
+            return Some(*field);
+        }
+    }
+    None
+}
+
+/// Whether each field has no bytes, or the view and the alignment of the other.
+fn all_agree<FieldIdx: Idx, VariantIdx: Idx, F: LayoutHandle<FieldIdx, VariantIdx>>(
+    fields: &[F],
+    first: &LayoutData<FieldIdx, VariantIdx>,
+) -> bool
+    ensures { IsTrue result ↔ All (λ h. CountsForView (F.layout_of h)
+        → HasView (union_view first.now.backend_repr) first.now.align.abi (F.layout_of h)) fields.now }
+{
+    for field in fields {
+        if !agrees(field.layout(), first) {
+            return false;
+        }
+    }
+    true
+}
+
+/// The view that the fields have in common, holding any numbers.
+fn common_view<FieldIdx: Idx, VariantIdx: Idx, F: LayoutHandle<FieldIdx, VariantIdx> + Copy>(
+    fields: &[F],
+) -> Option<BackendRepr>
+    ensures some { IfSome result (λ view. (align : ℕ) × IsCommonView (map F.layout_of fields.now) view align) }
+    ensures none { result ≡ None → (view : BackendRepr) (align : ℕ) → IsCommonView (map F.layout_of fields.now) view align → ⊥ }
+{
+    let first = first_counted(fields)?;
+    if all_agree(fields, first.layout()) {
+        Some(first.layout().backend_repr.to_union())
+    } else {
+        None
+    }
+}
+
+/// Whether one scalar or two are aligned so, and a vector's lanes no more.
+fn is_aligned_for<C: HasDataLayout>(cx: &C, view: &BackendRepr, align: Align) -> bool
+    requires { KnowsScalarsOf (C.target cx.now) view.now }
+    ensures { IsTrue result ↔ IsAlignedFor (C.target cx.now) view.now align }
+{
+    match *view {
+        BackendRepr::Scalar(scalar) => scalar.default_align(cx) == align,
+        BackendRepr::ScalarPair { a, b, b_offset: _ } => {
+            a.default_align(cx).max(b.default_align(cx)) == align
+        }
+        BackendRepr::SimdVector { element, count: _ } => element.default_align(cx) <= align,
+        BackendRepr::SimdScalableVector {
+            element: _,
+            count: _,
+            number_of_vectors: _,
+        } => true,
+        BackendRepr::Memory { sized: _ } => true,
+    }
+}
+
+/// The fields of the one variant.
+fn only_fields<'a, FieldIdx: Idx, VariantIdx: Idx, F>(
+    variants: IndexSlice<'a, VariantIdx, IndexVec<FieldIdx, F>>,
+) -> &'a [F]
+    requires { length (items_of variants) ≡ 1 }
+    ensures { result.now ≡ only_of (items_of variants.entry) }
+{
+    let variants = variants.as_raw();
+    variants[0].as_slice().as_raw()
+}
+
+/// The alignment, no less than a `repr(align)` asks for.
+fn raised_align(repr: &ReprOptions, align: Align) -> Align
+    ensures { result ≡ raised_to repr.now.align align }
+{
+    match repr.align {
+        Some(least) => align.max(least),
+        None => align,
+    }
+}
+
+/// Whether the fields lie as `repr(C)` has them.
+fn is_union_c<FieldIdx: Idx, VariantIdx: Idx, F: LayoutHandle<FieldIdx, VariantIdx>>(
+    repr: &ReprOptions,
+    fields: &[F],
+) -> bool
+    ensures { result ≡ is_union_c repr.now (map F.layout_of fields.now) }
+{
+    if repr.c() {
+        return true;
+    }
+    if !repr.transparent() {
+        return false;
+    }
+    for field in fields {
+        if field.layout().repr_c {
+            return true;
+        }
+    }
+    false
+}
+
+/// The sum of the fields' seeds and this one, modulo 2 to the 64.
+fn union_seed<FieldIdx: Idx, VariantIdx: Idx, F: LayoutHandle<FieldIdx, VariantIdx>>(
+    own: Hash64,
+    fields: &[F],
+) -> Hash64
+    ensures { result ≡ (sum_by (λ f. f.randomization_seed) (map F.layout_of fields.now) + own) % 2 ^ 64 }
+{
+    let mut seed = Hash64::ZERO;
+    for field in fields {
+        seed = seed.wrapping_add(field.layout().randomization_seed);
+    }
+    seed.wrapping_add(own)
+}
+
+impl<Cx: HasDataLayout> LayoutCalculator<Cx> {
+    /// A union's alignment before `repr(align)` raises it.
+    fn unraised_align<FieldIdx: Idx, VariantIdx: Idx, F: LayoutHandle<FieldIdx, VariantIdx>>(
+        &self,
+        repr: &ReprOptions,
+        fields: &[F],
+    ) -> Align
+        ensures { result ≡ unraised_align (Cx.target self.now.cx) repr.now (map F.layout_of fields.now) }
+    {
+        let dl = self.cx.data_layout();
+        let first = if repr.pack.is_some() {
+            dl.i8_align
+        } else {
+            dl.aggregate_align
+        };
+        let align = greatest_align(first, fields);
+        match repr.pack {
+            Some(pack) => align.min(pack),
+            None => align,
+        }
+    }
+
+    /// A union's view: the one that all fields have in common, where it goes with the union's alignment.
+    fn union_view<FieldIdx: Idx, VariantIdx: Idx, F: LayoutHandle<FieldIdx, VariantIdx> + Copy>(
+        &self,
+        repr: &ReprOptions,
+        fields: &[F],
+        align: Align,
+    ) -> BackendRepr
+        requires fields { All (λ f. IsLawfulLayout (Cx.target self.now.cx) (F.layout_of f)) fields.now }
+        requires align { align ≡ union_align (Cx.target self.now.cx) repr.now (map F.layout_of fields.now) }
+        ensures { IsUnionView (Cx.target self.now.cx) repr.now (map F.layout_of fields.now) result }
+    {
+        if !repr.inhibits_union_abi_opt() {
+            if let Some(view) = common_view(fields) {
+                if is_aligned_for(&self.cx, &view, align) {
+                    return view;
+                }
+            }
+        }
+        BackendRepr::Memory { sized: true }
+    }
+
+    /// The layout of a union of these fields.
+    fn layout_of_union_fields<
+        FieldIdx: Idx,
+        VariantIdx: Idx,
+        F: LayoutHandle<FieldIdx, VariantIdx> + Copy,
+    >(
+        &self,
+        repr: &ReprOptions,
+        fields: &[F],
+    ) -> Result<LayoutData<FieldIdx, VariantIdx>, LayoutCalculatorError<F>>
+        requires data_layout { IsLawfulDataLayout (Cx.target self.now.cx) }
+        requires fields { All (λ f. IsLawfulLayout (Cx.target self.now.cx) (F.layout_of f)) fields.now }
+        requires align { IfSome repr.now.align (λ align. align ≤ 29) }
+        ensures exact { IsUnionAnswer F.layout_of (VariantIdx.at 0) (Cx.target self.now.cx) repr.now fields.now result }
+        ensures lawful { IfOk result (IsLawfulLayout (Cx.target self.now.cx)) }
+    {
+        if let Some(field) = first_unsized(fields) {
+            return Err(LayoutCalculatorError::UnexpectedUnsized(field));
+        }
+        let Some(count) = FieldCount::new(fields.len()) else {
+            return Err(LayoutCalculatorError::EmptyUnion);
+        };
+        let unadjusted_abi_align = self.unraised_align(repr, fields);
+        let align = raised_align(repr, unadjusted_abi_align);
+        let size = greatest_size(fields).align_to(align);
+        if size.bytes() >= self.cx.data_layout().obj_size_bound() {
+            return Err(LayoutCalculatorError::SizeOverflow);
+        }
+        Ok(LayoutData {
+            fields: FieldsShape::Union(count),
+            variants: Variants::Single {
+                index: VariantIdx::new(0),
+            },
+            backend_repr: self.union_view(repr, fields, align),
+            largest_niche: None,
+            uninhabited: false,
+            align: AbiAlign::new(align),
+            size,
+            max_repr_align: greatest_repr_align(repr.align, fields),
+            unadjusted_abi_align,
+            repr_c: is_union_c(repr, fields),
+            randomization_seed: union_seed(repr.field_shuffle_seed, fields),
+        })
+    }
+
+    /// The layout of a union, from the fields of its one variant: all of them at offset 0 (Rust Reference, "Type
+    /// layout"). It is as large and as aligned as the greatest of them, cut to `packed` and raised to `align`, has no
+    /// niche and counts as inhabited.
+    ///
+    /// A view that all fields with bytes have in common is the union's, holding any numbers, unless the union is
+    /// `repr(C)` or aligned otherwise.
+    ///
+    /// Refused as `UnexpectedUnsized` with the first field whose size isn't known beforehand, else as `EmptyUnion`
+    /// where there are no fields, else as `SizeOverflow` where the size is not below the data layout's bound.
+    pub fn layout_of_union<
+        FieldIdx: Idx,
+        VariantIdx: Idx,
+        F: LayoutHandle<FieldIdx, VariantIdx> + Copy,
+    >(
+        &self,
+        repr: &ReprOptions,
+        variants: IndexSlice<'_, VariantIdx, IndexVec<FieldIdx, F>>,
+    ) -> Result<LayoutData<FieldIdx, VariantIdx>, LayoutCalculatorError<F>>
+        requires data_layout { IsLawfulDataLayout (Cx.target self.now.cx) }
+        requires one { length (items_of variants) ≡ 1 }
+        requires fields { All (λ f. IsLawfulLayout (Cx.target self.now.cx) (F.layout_of f)) (only_of (items_of variants)) }
+        requires align { IfSome repr.now.align (λ align. align ≤ 29) }
+        ensures exact { IsUnionAnswer F.layout_of (VariantIdx.at 0) (Cx.target self.now.cx) repr.now (only_of (items_of variants.entry)) result }
+        ensures size { IfOk result (λ l. l.size ≡ next_multiple_of (greatest_size (map F.layout_of (only_of (items_of variants.entry)))) (2 ^ l.align.abi)) }
+        ensures lawful { IfOk result (IsLawfulLayout (Cx.target self.now.cx)) }
+        ensures niche { IfOk result (λ l. l.largest_niche ≡ None) }
+        ensures inhabited { IfOk result (λ l. l.uninhabited ≡ false) }
+    {
+        let fields = only_fields(variants);
+        self.layout_of_union_fields(repr, fields)
+    }
+}
