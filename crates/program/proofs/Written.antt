@@ -23,10 +23,12 @@ use Rattle.program.specs.declared.type_word.TypeWord.TheVariants.{Scalar as ASca
 use Rattle.program.specs.declared.begun.Want.TheVariants.{Tree as ATree}
 use Rattle.program.specs.Numbers.{digits_from, fitting, number_in, number_to}
 use Rattle.program.specs.Printing.{integer_text}
-use Rattle.program.specs.Reading.{Begun, elements, fields, first, second, range, range_of, range_from, union_of, waiting, put, put_scalar, put_primitive, plain_c, c_struct, read_from, read}
+use Rattle.program.specs.Reading.{Begun, elements, fields, first, second, range, range_of, range_from, union_of, waiting, put, put_scalar, put_primitive, read_from, read}
 use Rattle.program.specs.Scalars.{full}
 use Rattle.program.specs.TypeWords.{type_word}
-use Rattle.program.specs.Written.{written, written_each, scalar_words, IsKnown, AreKnown, IsFullInteger}
+use Rattle.program.specs.Repr.{asked_by, parts_of, plain}
+use Rattle.program.specs.declared.repr_text.StructRepr.{StructRepr}
+use Rattle.program.specs.Written.{written, written_each, scalar_words, IsKnown, AreKnown, IsFullInteger, plain_c}
 use Rattle.program.proofs.Text.{number_some}
 
 abbrev pub read_on : ℕ → List ℕ → ℕ
@@ -76,7 +78,7 @@ not_deep begun h = grind (arith, nat_tests)
 abbrev AreTypes : List Begun → Type 0
 AreTypes [] = Unit {0}
 AreTypes (elements n ∷ begun) = Unit {0}
-AreTypes (fields ts ∷ begun) = Unit {0}
+AreTypes (fields asked ts ∷ begun) = Unit {0}
 AreTypes (b ∷ begun) = ⊥
 
 -- an integer that may be any number of its width
@@ -93,13 +95,19 @@ full_is dl I128 signed = refl
 integer_put : (dl : TargetDataLayout) (width : Integer) (signed : Bool) (begun : List Begun) → AreTypes begun → put_primitive dl (Int width signed) begun ≡ put (scalar (full_integer width signed)) begun
 integer_put dl width signed [] h = ap (λ s. put (scalar s) []) (full_is dl width signed)
 integer_put dl width signed (elements n ∷ begun) h = ap (λ s. put (scalar s) (elements n ∷ begun)) (full_is dl width signed)
-integer_put dl width signed (fields ts ∷ begun) h = ap (λ s. put (scalar s) (fields ts ∷ begun)) (full_is dl width signed)
+integer_put dl width signed (fields asked ts ∷ begun) h = ap (λ s. put (scalar s) (fields asked ts ∷ begun)) (full_is dl width signed)
 integer_put dl width signed (first ∷ begun) h = absurd h
 integer_put dl width signed (second a ∷ begun) h = absurd h
 integer_put dl width signed (range ∷ begun) h = absurd h
 integer_put dl width signed (range_of p ∷ begun) h = absurd h
 integer_put dl width signed (range_from p n ∷ begun) h = absurd h
 integer_put dl width signed (union_of ∷ begun) h = absurd h
+
+abbrev c_alone : StructRepr
+c_alone = record { repr = plain_c; always_sized = true }
+
+abbrev c_struct : List Tree → Tree
+c_struct ts = struct plain_c true (trees ts)
 
 abbrev list_in : Trees → List Tree
 list_in no_trees = []
@@ -129,11 +137,11 @@ module _ (dl : TargetDataLayout) where
   read_array count number begun rest h small = rw (not_deep begun h, number_written count small) refl
 
   read_struct : (number : ℕ) (begun : List Begun) (rest : List (List ℕ)) → length begun ≤ 200
-      → read_from dl number (waiting ATree begun) (codes "struct" ∷ codes "C" ∷ codes "(" ∷ rest) ≡ read_from dl (number + 1 + 1 + 1) (waiting ATree (fields [] ∷ begun)) rest
+      → read_from dl number (waiting ATree begun) (codes "struct" ∷ codes "C" ∷ codes "(" ∷ rest) ≡ read_from dl (number + 1 + 1 + 1) (waiting ATree (fields c_alone [] ∷ begun)) rest
   read_struct number begun rest h = rw (not_deep begun h) refl
 
   read_close : (number : ℕ) (ts : List Tree) (begun : List Begun) (rest : List (List ℕ))
-      → read_from dl number (waiting ATree (fields ts ∷ begun)) (codes ")" ∷ rest) ≡ read_from dl (number + 1) (put (c_struct ts) begun) rest
+      → read_from dl number (waiting ATree (fields c_alone ts ∷ begun)) (codes ")" ∷ rest) ≡ read_from dl (number + 1) (put (c_struct ts) begun) rest
   read_close number ts begun rest = refl
 
   read_scalar : (s : Scalar) (begun : List Begun) (number : ℕ) (rest : List (List ℕ)) → length begun ≤ 200 → AreTypes begun → IsFullInteger s
@@ -156,7 +164,7 @@ module _ (dl : TargetDataLayout) where
     read_tree (struct repr sized ts) begun number rest types h =
         let there : number + 1 + 1 + 1 + length (written_each ts) + 1 ≡ number + length (written (struct repr sized ts)) = omega (arith, length-append (written_each ts) (codes ")" ∷ [])) in
         read_struct number begun ((written_each ts ++ codes ")" ∷ []) ++ rest) h.0
-        ∙ ap (read_from dl (number + 1 + 1 + 1) (waiting ATree (fields [] ∷ begun))) (append_assoc (written_each ts) (codes ")" ∷ []) rest)
+        ∙ ap (read_from dl (number + 1 + 1 + 1) (waiting ATree (fields c_alone [] ∷ begun))) (append_assoc (written_each ts) (codes ")" ∷ []) rest)
         ∙ read_trees ts begun [] (number + 1 + 1 + 1) (codes ")" ∷ rest) (are_known_within (length begun) ts h.3)
         ∙ read_close (number + 1 + 1 + 1 + length (written_each ts)) (list_in ts) begun rest
         ∙ ap₂ (λ n t. read_from dl n (put t begun) rest) there (struct_read repr sized ts h.1 h.2)
@@ -169,16 +177,16 @@ module _ (dl : TargetDataLayout) where
     read_tree (coroutine prefix locals states conflicts) begun number rest types h = absurd h
 
     read_trees : (ts : Trees) (begun : List Begun) (done : List Tree) (number : ℕ) (rest : List (List ℕ)) → AreKnown (suc (length begun)) ts
-        → read_from dl number (waiting ATree (fields done ∷ begun)) (written_each ts ++ rest) ≡ read_from dl (number + length (written_each ts)) (waiting ATree (fields (done ++ list_in ts) ∷ begun)) rest
+        → read_from dl number (waiting ATree (fields c_alone done ∷ begun)) (written_each ts ++ rest) ≡ read_from dl (number + length (written_each ts)) (waiting ATree (fields c_alone (done ++ list_in ts) ∷ begun)) rest
     read_trees no_trees begun done number rest h =
         let there : number ≡ number + 0 = omega arith in
-        ap₂ (λ n ts. read_from dl n (waiting ATree (fields ts ∷ begun)) rest) there (sym (append-nil done))
+        ap₂ (λ n ts. read_from dl n (waiting ATree (fields c_alone ts ∷ begun)) rest) there (sym (append-nil done))
     read_trees (more_trees t ts) begun done number rest h =
         let there : number + length (written t) + length (written_each ts) ≡ number + length (written t ++ written_each ts) = omega (arith, length-append (written t) (written_each ts)) in
-        ap (read_from dl number (waiting ATree (fields done ∷ begun))) (append_assoc (written t) (written_each ts) rest)
-        ∙ read_tree t (fields done ∷ begun) number (written_each ts ++ rest) tt h.0
+        ap (read_from dl number (waiting ATree (fields c_alone done ∷ begun))) (append_assoc (written t) (written_each ts) rest)
+        ∙ read_tree t (fields c_alone done ∷ begun) number (written_each ts ++ rest) tt h.0
         ∙ read_trees ts begun (done ++ t ∷ []) (number + length (written t)) rest h.1
-        ∙ ap₂ (λ n ts. read_from dl n (waiting ATree (fields ts ∷ begun)) rest) there (append_assoc done (t ∷ []) (list_in ts))
+        ∙ ap₂ (λ n ts. read_from dl n (waiting ATree (fields c_alone ts ∷ begun)) rest) there (append_assoc done (t ∷ []) (list_in ts))
 
   -- the words that write a type read back as that type
   pub words_read : (t : Tree) → IsKnown 0 t → read dl (written t) ≡ Ok t

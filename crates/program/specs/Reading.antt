@@ -6,7 +6,6 @@ use Rattle.abi_base.specs.declared.primitive.Primitive.TheVariants.{Int, Float, 
 use Rattle.abi_base.specs.declared.data_layout.TargetDataLayout.{TargetDataLayout}
 use Rattle.abi_scalar.specs.declared.scalar.Scalar.{Scalar}
 use Rattle.abi_scalar.specs.declared.scalar.Scalar.TheVariants.{Initialized, Union}
-use Rattle.abi_scalar.specs.declared.repr.ReprOptions.{ReprOptions}
 use Rattle.rustc_abi.specs.Tree.{Tree, scalar, pair, never, unit, array, struct, trees, tree_of}
 use Rattle.program.specs.declared.fault.Fault.{Fault}
 use Rattle.program.specs.declared.fault.Fault.TheVariants.{Unreadable, NotYet, TooDeep, OutOfMemory}
@@ -14,15 +13,14 @@ use Rattle.program.specs.declared.scalar_word.ScalarWord.{ScalarWord}
 use Rattle.program.specs.declared.scalar_word.ScalarWord.TheVariants as word
 use Rattle.program.specs.declared.type_word.TypeWord.{TypeWord}
 use Rattle.program.specs.declared.type_word.TypeWord.TheVariants as type
-use Rattle.program.specs.declared.repr_text.ReprText.{ReprText}
-use Rattle.program.specs.declared.repr_text.ReprText.TheVariants as repr
+use Rattle.program.specs.declared.repr_text.StructRepr.{StructRepr}
 use Rattle.program.specs.declared.begun.Want.{Want}
 use Rattle.program.specs.declared.begun.Want.TheVariants as want
 use Rattle.program.specs.declared.begun.Open.{Open}
 use Rattle.program.specs.declared.begun.Open.TheVariants as open_type
 use Rattle.program.specs.declared.begun.Reader.{Reader}
 use Rattle.program.specs.Numbers.{number_in}
-use Rattle.program.specs.Repr.{repr_text}
+use Rattle.program.specs.Repr.{struct_repr}
 use Rattle.program.specs.ScalarWords.{scalar_word}
 use Rattle.program.specs.TypeWords.{type_word}
 use Rattle.program.specs.Scalars.{a_bool, a_char, a_ref, default_pointer, full, index_primitive}
@@ -32,7 +30,7 @@ pub data Begun : Type 0 where
   -- an array that waits for its element
   elements : (count : ℕ) → Begun
   -- a struct, with the fields so far
-  fields : List Tree → Begun
+  fields : StructRepr → List Tree → Begun
   -- a pair that waits for its first scalar, or its second
   first : Begun
   second : Scalar → Begun
@@ -55,18 +53,11 @@ waiting want begun = record { want = want; begun = begun; tree = None }
 abbrev pub start : State
 start = waiting want.Tree []
 
--- `repr(C)` and nothing else
-abbrev pub plain_c : ReprOptions
-plain_c = record { int = None; align = None; pack = None; flags = record { 0 = 1 }; scalable = None; field_shuffle_seed = 0 }
-
-abbrev pub c_struct : List Tree → Tree
-c_struct ts = struct plain_c true (trees ts)
-
 -- a complete type goes into the innermost type that is begun, and completes it where that is an array
 abbrev pub put : Tree → List Begun → State
 put t [] = record { want = want.End; begun = []; tree = Some t }
 put t (elements n ∷ begun) = put (array n t) begun
-put t (fields ts ∷ begun) = waiting want.Tree (fields (ts ++ t ∷ []) ∷ begun)
+put t (fields asked ts ∷ begun) = waiting want.Tree (fields asked (ts ++ t ∷ []) ∷ begun)
 put t (_ ∷ begun) = put t begun
 
 -- a complete scalar goes into a pair that waits for one, or is a type
@@ -77,20 +68,19 @@ put_scalar s begun = put (scalar s) begun
 
 -- a closing parenthesis completes a struct
 abbrev pub closed : (number : ℕ) → List Begun → Result State Fault
-closed number (fields ts ∷ begun) = Ok (put (c_struct ts) begun)
+closed number (fields asked ts ∷ begun) = Ok (put (struct asked.repr asked.always_sized (trees ts)) begun)
 closed number _ = Err (Unreadable number)
 
 abbrev pub at_count : (number : ℕ) → List Begun → Option ℕ → Result State Fault
 at_count number begun None = Err (Unreadable number)
 at_count number begun (Some n) = Ok (waiting want.Tree (elements n ∷ begun))
 
-abbrev pub at_repr : (number : ℕ) → List Begun → ReprText → Result State Fault
-at_repr number begun repr.PlainC = Ok (waiting want.Opening begun)
-at_repr number begun repr.Later = Err NotYet
-at_repr number begun repr.Other = Err (Unreadable number)
+abbrev pub at_repr : (number : ℕ) → List Begun → Option StructRepr → Result State Fault
+at_repr number begun None = Err (Unreadable number)
+at_repr number begun (Some asked) = Ok (waiting (want.Opening asked) begun)
 
-abbrev pub at_opening : (number : ℕ) → List Begun → (opens : Bool) → Result State Fault
-at_opening number begun opens = if opens then Ok (waiting want.Tree (fields [] ∷ begun)) else Err (Unreadable number)
+abbrev pub at_opening : (number : ℕ) → StructRepr → List Begun → (opens : Bool) → Result State Fault
+at_opening number asked begun opens = if opens then Ok (waiting want.Tree (fields asked [] ∷ begun)) else Err (Unreadable number)
 
 abbrev pub at_start : (number : ℕ) → List Begun → Option ℕ → Result State Fault
 at_start number (range_of p ∷ begun) (Some n) = Ok (waiting want.RangeEnd (range_from p n ∷ begun))
@@ -165,8 +155,8 @@ module _ (dl : TargetDataLayout) where
   next number begun w want.RangeStart = at_start number begun (number_in 128 w)
   next number begun w want.RangeEnd = at_end number begun (number_in 128 w)
   next number begun w want.Count = at_count number begun (number_in 64 w)
-  next number begun w want.Repr = at_repr number begun (repr_text w)
-  next number begun w want.Opening = at_opening number begun (bytes_eq w (codes "("))
+  next number begun w want.Repr = at_repr number begun (struct_repr w)
+  next number begun w (want.Opening asked) = at_opening number asked begun (bytes_eq w (codes "("))
   next number begun w want.End = Err (Unreadable number)
 
   abbrev pub step : (number : ℕ) → State → (word : List ℕ) → Result State Fault
@@ -193,7 +183,7 @@ read dl ws = read_from dl 1 start ws
 -- what the program keeps of a type that is begun
 abbrev pub begun_by : Open → Begun
 begun_by (open_type.Elements count) = elements count
-begun_by (open_type.Fields ts) = fields (map tree_of ts.items)
+begun_by (open_type.Fields asked ts) = fields asked (map tree_of ts.items)
 begun_by open_type.First = first
 begun_by (open_type.Second a) = second a
 begun_by open_type.Range = range

@@ -1,5 +1,5 @@
 -- How a type is written.
-use Rattle.std.specs.Prelude.{◌≡◌, ℕ, ◌+◌, ◌^◌, ◌<◌, ◌≤◌, true, List, [], ◌∷◌, ◌++◌, codes}
+use Rattle.std.specs.Prelude.{◌≡◌, ℕ, ◌+◌, ◌^◌, ◌<◌, ◌≤◌, true, List, [], ◌∷◌, ◌++◌, codes, None}
 use Rattle.std.specs.Fmt.{decimal}
 use Rattle.abi_base.specs.declared.primitive.Primitive.TheVariants.{Int}
 use Rattle.abi_base.specs.Integer.{integer_size}
@@ -8,7 +8,7 @@ use Rattle.abi_scalar.specs.declared.scalar.Scalar.TheVariants.{Initialized}
 use Rattle.abi_scalar.specs.Range.{full_range}
 use Rattle.rustc_abi.specs.Tree.{Tree, scalar, array, struct, Trees, no_trees, more_trees}
 use Rattle.program.specs.Printing.{integer_text}
-use Rattle.program.specs.Reading.{plain_c}
+use Rattle.abi_scalar.specs.declared.repr.ReprOptions.{ReprOptions}
 
 abbrev pub scalar_words : Scalar → List (List ℕ)
 scalar_words (Initialized (Int width signed) range) = integer_text width signed ∷ []
@@ -25,6 +25,10 @@ abbrev mutual
   pub written_each : Trees → List (List ℕ)
   written_each no_trees = []
   written_each (more_trees t ts) = written t ++ written_each ts
+
+-- `repr(C)` and nothing else
+abbrev pub plain_c : ReprOptions
+plain_c = record { int = None; align = None; pack = None; flags = record { 0 = 1 }; scalable = None; field_shuffle_seed = 0 }
 
 -- an integer that may be any number of its width
 abbrev pub IsFullInteger : Scalar → Type 0

@@ -5,6 +5,7 @@ ghost use Rattle.rustc_abi.specs.Tree.{tree_of};
 ghost use Rattle.program.specs.Reading.{begun_in, put, put_primitive, put_scalar, state_of, waiting};
 
 use crate::fault::Fault;
+use crate::repr_text::StructRepr;
 use crate::scalars::full;
 use abi_base::{Primitive, TargetDataLayout};
 use abi_scalar::{Scalar, WrappingRange};
@@ -25,7 +26,8 @@ pub(crate) enum Want {
     RangeEnd,
     Count,
     Repr,
-    Opening,
+    /// The fields of a struct with this repr.
+    Opening(StructRepr),
     /// Nothing: the type is complete.
     End,
 }
@@ -36,7 +38,7 @@ pub(crate) enum Open {
     /// An array, which waits for its element.
     Elements(u64),
     /// A struct, with the fields so far.
-    Fields(Vec<TypeTree>),
+    Fields(StructRepr, Vec<TypeTree>),
     /// A pair that waits for its first scalar.
     First,
     /// A pair that has its first scalar.
@@ -84,9 +86,9 @@ pub(crate) fn put(alloc: Global, tree: TypeTree, begun: Vec<Open>) -> Result<Rea
             Open::Elements(count) => {
                 tree = TypeTree::Array(count, Box::new(alloc, tree)?);
             }
-            Open::Fields(mut fields) => {
+            Open::Fields(repr, mut fields) => {
                 fields.push(tree)?;
-                begun.push(Open::Fields(fields))?;
+                begun.push(Open::Fields(repr, fields))?;
                 return Ok(waiting(Want::Tree, begun));
             }
             _ => {}

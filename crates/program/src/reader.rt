@@ -3,9 +3,9 @@
 ghost use Rattle.std.specs.Prelude.{◌≡◌, ◌∷◌, ◌⊎◌, ◌<◌, ◌≤◌, ◌+◌, ◌^◌, ℕ, IfOk, IfErr, MatchResult, codes, length};
 ghost use Rattle.std.specs.Str.{bytes_eq};
 ghost use Rattle.rustc_abi.specs.Tree.{Tree, tree_of};
-ghost use Rattle.program.specs.Reading.{Agrees, waiting, first, at_count, at_opening, at_repr, at_type, begun_in, closed, plain_c, read, start, state_of, step};
+ghost use Rattle.program.specs.Reading.{Agrees, waiting, first, at_count, at_opening, at_repr, at_type, begun_in, closed, read, start, state_of, step};
 ghost use Rattle.program.specs.Numbers.{number_in};
-ghost use Rattle.program.specs.Repr.{repr_text};
+ghost use Rattle.program.specs.Repr.{struct_repr};
 ghost use Rattle.program.specs.Words.{words_of};
 ghost use Rattle.program.specs.Written.{IsKnown, line_of, written};
 
@@ -15,31 +15,15 @@ use crate::number::decimal;
 use crate::read_scalar::{
     begin_scalar, read_end, read_primitive, read_scalar, read_space, read_start,
 };
-use crate::repr_text::{ReprText, repr_text};
+use crate::repr_text::{StructRepr, struct_repr};
 use crate::type_word::{TypeWord, type_word};
 use crate::words::next_word;
 use abi_base::TargetDataLayout;
-use abi_index::Hash64;
-use abi_scalar::{ReprFlags, ReprOptions};
 use rustc_abi::TypeTree;
 use std::alloc::Global;
 
 /// A type is nested in at most so many others.
 const MOST_NESTED: usize = 200;
-
-/// `repr(C)` and nothing else.
-fn plain_c() -> ReprOptions
-    ensures { result ≡ plain_c }
-{
-    ReprOptions {
-        int: None,
-        align: None,
-        pack: None,
-        flags: ReprFlags::IS_C,
-        scalable: None,
-        field_shuffle_seed: Hash64::ZERO,
-    }
-}
 
 /// Reads a closing parenthesis.
 fn close(alloc: Global, number: u64, begun: Vec<Open>) -> Result<Reader, Fault>
@@ -47,10 +31,10 @@ fn close(alloc: Global, number: u64, begun: Vec<Open>) -> Result<Reader, Fault>
 {
     let mut begun = begun;
     match begun.pop() {
-        Some(Open::Fields(fields)) => {
+        Some(Open::Fields(asked, fields)) => {
             let tree = TypeTree::Struct {
-                repr: plain_c(),
-                always_sized: true,
+                repr: asked.repr,
+                always_sized: asked.always_sized,
                 fields,
             };
             put(alloc, tree, begun)
@@ -116,22 +100,27 @@ fn read_count(number: u64, begun: Vec<Open>, word: &[u8]) -> Result<Reader, Faul
 
 /// Reads a struct's repr.
 fn read_repr(number: u64, begun: Vec<Open>, word: &[u8]) -> Result<Reader, Fault>
-    ensures { Agrees state_of (at_repr number (begun_in begun.items) (repr_text word.now)) result }
+    ensures { Agrees state_of (at_repr number (begun_in begun.items) (struct_repr word.now)) result }
 {
-    match repr_text(word) {
-        ReprText::PlainC => Ok(waiting(Want::Opening, begun)),
-        ReprText::Later => Err(Fault::NotYet),
-        ReprText::Other => Err(Fault::Unreadable(number)),
+    match struct_repr(word) {
+        Some(asked) => Ok(waiting(Want::Opening(asked), begun)),
+        None => Err(Fault::Unreadable(number)),
     }
 }
 
 /// Reads the parenthesis that opens a struct's fields.
-fn read_opening(alloc: Global, number: u64, begun: Vec<Open>, word: &[u8]) -> Result<Reader, Fault>
-    ensures { Agrees state_of (at_opening number (begun_in begun.items) (bytes_eq word.now (codes "("))) result }
+fn read_opening(
+    alloc: Global,
+    number: u64,
+    asked: StructRepr,
+    begun: Vec<Open>,
+    word: &[u8],
+) -> Result<Reader, Fault>
+    ensures { Agrees state_of (at_opening number asked (begun_in begun.items) (bytes_eq word.now (codes "("))) result }
 {
     let mut begun = begun;
     if word == b"(".as_slice() {
-        begun.push(Open::Fields(Vec::new(alloc)))?;
+        begun.push(Open::Fields(asked, Vec::new(alloc)))?;
         Ok(waiting(Want::Tree, begun))
     } else {
         Err(Fault::Unreadable(number))
@@ -165,7 +154,7 @@ fn step(
         Want::RangeEnd => read_end(alloc, number, begun, word),
         Want::Count => read_count(number, begun, word),
         Want::Repr => read_repr(number, begun, word),
-        Want::Opening => read_opening(alloc, number, begun, word),
+        Want::Opening(asked) => read_opening(alloc, number, asked, begun, word),
         Want::End => Err(Fault::Unreadable(number)),
     }
 }

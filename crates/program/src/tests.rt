@@ -140,17 +140,70 @@ fn words_that_do_not_fit_are_told(rt: HostRuntime) {
 
 #[test]
 fn words_that_are_not_known_yet_are_refused(rt: HostRuntime) {
-    let texts: [&[u8]; 6] = [
-        b"\nstruct - ( u8 )",
-        b"\nstruct C,packed=1 ( u8 )",
-        b"\nstruct tail,linear,align=0,isize foo",
+    let texts: [&[u8]; 4] = [
         b"\nstruct C ( simd",
+        b"\nstruct - ( enum foo",
         b"\ncoroutine",
         b"p:32:32\nunion foo",
     ];
     for text in texts {
         check(&rt, rt.alloc(), text, b"refused NotYet\n", 1);
     }
+}
+
+#[test]
+fn structs_follow_their_repr(rt: HostRuntime) {
+    let answers: [(&[u8], &[u8]); 6] = [
+        (
+            b"\nstruct packed=2 ( u8 u32 u16 )",
+            b"size 8 align 2\nfield 0 offset 6\nfield 1 offset 0\nfield 2 offset 4\nniche none\npadding 7..8\n",
+        ),
+        (
+            b"\nstruct C,packed=1 ( u8 u32 u16 )",
+            b"size 7 align 1\nfield 0 offset 0\nfield 1 offset 1\nfield 2 offset 5\nniche none\n",
+        ),
+        (
+            b"\nstruct align=16 ( u8 )",
+            b"size 16 align 16\nfield 0 offset 0\nniche none\npadding 1..16\n",
+        ),
+        (
+            b"\nstruct linear ( u8 u32 )",
+            b"size 8 align 4\nfield 0 offset 0\nfield 1 offset 4\nniche none\npadding 1..4\n",
+        ),
+        (
+            b"\nstruct - ( u8 bool )",
+            b"size 2 align 1\nfield 0 offset 1\nfield 1 offset 0\nniche 0 u8 0..=1\n",
+        ),
+        (
+            b"p:16:16\nstruct align=536870912 ( )",
+            b"size 0 align 536870912\nniche none\n",
+        ),
+    ];
+    for (text, answer) in answers {
+        check(&rt, rt.alloc(), text, answer, 0);
+    }
+    let too_large: [&[u8]; 2] = [
+        b"p:16:16\nstruct - ( array 32767 u8 u16 )",
+        b"p:16:16\nstruct align=536870912 ( u8 )",
+    ];
+    for text in too_large {
+        check(&rt, rt.alloc(), text, b"refused SizeOverflow\n", 1);
+    }
+    let unreadable: [&[u8]; 3] = [
+        b"\nstruct align=1073741824 ( u8 )",
+        b"\nstruct packed=2,packed=2 ( u8 )",
+        b"\nstruct -,C ( u8 )",
+    ];
+    for text in unreadable {
+        check(&rt, rt.alloc(), text, b"unreadable word 2\n", 2);
+    }
+    check(
+        &rt,
+        rt.alloc(),
+        b"\nstruct tail,linear,align=0,isize foo",
+        b"unreadable word 3\n",
+        2,
+    );
 }
 
 #[test]
