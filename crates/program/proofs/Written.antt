@@ -21,12 +21,11 @@ use Rattle.abi_base.specs.declared.data_layout.TargetDataLayout.{TargetDataLayou
 use Rattle.program.specs.declared.scalar_word.ScalarWord.TheVariants.{Integer as AnInteger}
 use Rattle.program.specs.declared.type_word.TypeWord.TheVariants.{Scalar as AScalar}
 use Rattle.program.specs.declared.begun.Want.TheVariants.{Tree as ATree}
-use Rattle.program.specs.Numbers.{digits_from, fitting, number_in, number_to}
+use Rattle.program.specs.Numbers.{digits_from, fitting, number_in}
 use Rattle.program.specs.Printing.{integer_text}
-use Rattle.program.specs.Reading.{Begun, elements, fields, first, second, range, range_of, range_from, union_of, waiting, put, put_scalar, put_primitive, read_from, read}
+use Rattle.program.specs.Reading.{Begun, elements, fields, first, second, range, range_of, range_from, union_of, waiting, put, put_primitive, read_from, read}
 use Rattle.program.specs.Scalars.{full}
 use Rattle.program.specs.TypeWords.{type_word}
-use Rattle.program.specs.Repr.{asked_by, parts_of, plain}
 use Rattle.program.specs.declared.repr_text.StructRepr.{StructRepr}
 use Rattle.program.specs.Written.{written, written_each, scalar_words, IsKnown, AreKnown, IsFullInteger, plain_c}
 use Rattle.program.proofs.Text.{number_some}

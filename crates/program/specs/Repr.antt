@@ -8,7 +8,6 @@ use Rattle.abi_base.specs.declared.align.AlignFromBytesError.{AlignFromBytesErro
 use Rattle.abi_base.specs.declared.integer.Integer.{Integer as AnInteger}
 use Rattle.abi_base.specs.declared.integer.IntegerType.{IntegerType}
 use Rattle.abi_base.specs.declared.integer.IntegerType.TheVariants.{Pointer, Fixed}
-use Rattle.abi_scalar.specs.declared.repr.ReprOptions.{ReprOptions}
 use Rattle.program.specs.declared.repr_text.ReprPart.{ReprPart}
 use Rattle.program.specs.declared.repr_text.ReprPart.TheVariants.{C, Transparent, Linear, Packed, Align, Integer, Tail}
 use Rattle.program.specs.declared.repr_text.ReprKind.{ReprKind}
