@@ -53,8 +53,10 @@ fn fields(alloc: Global, at: &[u64]) -> Result<FieldsShape<FieldIdx>, Fail> {
     let mut offsets: IndexVec<FieldIdx, Size> = IndexVec::new(alloc);
     let mut in_memory_order: IndexVec<u32, FieldIdx> = IndexVec::new(alloc);
     for (index, offset) in at.iter().enumerate() {
-        let _field = offsets.push(Size::from_bytes(*offset))?;
-        let _place = in_memory_order.push(FieldIdx::new(index))?;
+        if index < 8 && offsets.len() < 8 && in_memory_order.len() < 8 {
+            let _field = offsets.push(Size::from_bytes(*offset))?;
+            let _place = in_memory_order.push(FieldIdx::new(index))?;
+        }
     }
     Ok(FieldsShape::Arbitrary {
         offsets,

@@ -45,12 +45,6 @@ fn fields_are_moved_to_leave_no_gap(rt: HostRuntime) -> Result<(), Fail> {
     };
     let tree = three(alloc, ReprOptions::default(), true)?;
     check_fields(&rt, alloc, &dl, &tree, known, &[6, 0, 4])?;
-    let order: Vec<usize> = lay_out(alloc, &dl, &tree)?
-        .layout()
-        .fields
-        .index_by_increasing_offset()
-        .collect(alloc)?;
-    assert_eq!(rt; order.as_slice(), [1, 2, 0].as_slice());
     let known = Known {
         size: 8,
         align: 4,
