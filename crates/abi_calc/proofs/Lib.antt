@@ -13,6 +13,7 @@ pub mod FaultLemmas
 pub mod RunLemmas
 pub mod SourceLemmas
 pub mod ListLemmas
+pub mod OneOrder
 pub mod DeepLemmas
 pub mod LawfulList
 pub mod Facts

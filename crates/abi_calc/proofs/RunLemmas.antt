@@ -51,19 +51,6 @@ niche_inside bias dl repr parts order law p =
 
 -- ---- the choice
 
-pub named_first : (dl : TargetDataLayout) (repr : ListRepr) (parts : List Part) (order offsets : List ℕ) (size align : ℕ) (niche : Option Niche)
-    → IsNamedOrder repr Start parts order → IsPlacedIn dl repr Start parts order offsets size align niche
-    → (if may_move repr.kind (length parts) then space_beside dl size niche else None) ≡ None
-    → IsNamedLayout dl repr parts order offsets size align niche
-named_first dl repr parts order offsets size align niche named placed none =
-    let wanted : space_wanted dl repr parts order ≡ None = ap₂ (λ s n. if may_move repr.kind (length parts) then space_beside dl s n else None) (sym placed.extent) (sym placed.largest) ∙ none in
-    let P : Option ℕ → Type 0 = λ o. MatchOption o ((order ≡ order) × IsPlacedIn dl repr Start parts order offsets size align niche) (λ space.
-    (second : List ℕ) × IsNamedOrder repr End parts second
-    × MatchBool (begins_after space (niche_in dl repr End parts second))
-    ((order ≡ second) × IsPlacedIn dl repr End parts order offsets size align niche)
-    ((order ≡ order) × IsPlacedIn dl repr Start parts order offsets size align niche)) in
-    (order, named, subst P (sym wanted) (refl, placed))
-
 second_is : (b : Bool) (A B : Type 0) → b ≡ true → A → MatchBool b A B
 second_is true A B e a = a
 second_is false A B e a = cc
@@ -73,18 +60,18 @@ first_is true A B e a = cc
 first_is false A B e a = a
 
 pub named_second : (dl : TargetDataLayout) (repr : ListRepr) (parts : List Part) (first order offsets : List ℕ) (size1 size align space : ℕ) (niche1 niche : Option Niche)
-    → IsNamedOrder repr Start parts first → size1 ≡ size_in repr parts first → niche1 ≡ niche_in dl repr Start parts first
+    → IsNamedOrder repr Start parts first → fault_in repr (size_bound dl) parts first ≡ None → size1 ≡ size_in repr parts first → niche1 ≡ niche_in dl repr Start parts first
     → (if may_move repr.kind (length parts) then space_beside dl size1 niche1 else None) ≡ Some space
     → IsNamedOrder repr End parts order → IsPlacedIn dl repr End parts order offsets size align niche → begins_after space niche ≡ true
     → IsNamedLayout dl repr parts order offsets size align niche
-named_second dl repr parts first order offsets size1 size align space niche1 niche named extent largest some second placed late =
+named_second dl repr parts first order offsets size1 size align space niche1 niche named clear extent largest some second placed late =
     let wanted : space_wanted dl repr parts first ≡ Some space = ap₂ (λ s n. if may_move repr.kind (length parts) then space_beside dl s n else None) (sym extent) (sym largest) ∙ some in
     let P : Option ℕ → Type 0 = λ o. MatchOption o ((order ≡ first) × IsPlacedIn dl repr Start parts order offsets size align niche) (λ space.
     (second : List ℕ) × IsNamedOrder repr End parts second
     × MatchBool (begins_after space (niche_in dl repr End parts second))
     ((order ≡ second) × IsPlacedIn dl repr End parts order offsets size align niche)
     ((order ≡ first) × IsPlacedIn dl repr Start parts order offsets size align niche)) in
-    (first, named, subst P (sym wanted) (order, second, second_is _ _ _ (ap (begins_after space) (sym placed.largest) ∙ late) (refl, placed)))
+    (first, named, clear, subst P (sym wanted) (order, second, second_is _ _ _ (ap (begins_after space) (sym placed.largest) ∙ late) (refl, placed)))
 
 pub named_still : (dl : TargetDataLayout) (repr : ListRepr) (parts : List Part) (order second offsets : List ℕ) (size align space : ℕ) (niche niche2 : Option Niche)
     → IsNamedOrder repr Start parts order → IsPlacedIn dl repr Start parts order offsets size align niche
@@ -98,7 +85,7 @@ named_still dl repr parts order second offsets size align space niche niche2 nam
     × MatchBool (begins_after space (niche_in dl repr End parts second))
     ((order ≡ second) × IsPlacedIn dl repr End parts order offsets size align niche)
     ((order ≡ order) × IsPlacedIn dl repr Start parts order offsets size align niche)) in
-    (order, named, subst P (sym wanted) (second, ends, first_is _ _ _ (ap (begins_after space) (sym largest) ∙ late) (refl, placed)))
+    (order, named, placed.faultless, subst P (sym wanted) (second, ends, first_is _ _ _ (ap (begins_after space) (sym largest) ∙ late) (refl, placed)))
 
 -- ---- the second run doesn't fail
 
@@ -181,4 +168,4 @@ biased_of dl repr parts order offsets size align niche n =
     (λ space. (second : List ℕ) × IsNamedOrder repr End parts second
     × MatchBool (begins_after space (niche_in dl repr End parts second))
     ((order ≡ second) × IsPlacedIn dl repr End parts order offsets size align niche)
-    ((order ≡ n.0) × IsPlacedIn dl repr Start parts order offsets size align niche)) n.2)
+    ((order ≡ n.0) × IsPlacedIn dl repr Start parts order offsets size align niche)) n.3)

@@ -47,9 +47,11 @@ IsRun dl repr parts first order offsets size align niche =
     ((order ≡ second) × IsPlacedIn dl repr End parts order offsets size align niche)
     ((order ≡ first) × IsPlacedIn dl repr Start parts order offsets size align niche))
 
+-- the first order has no fault, and the layout is the one that is named
 abbrev pub IsNamedLayout : TargetDataLayout → ListRepr → List Part → (order offsets : List ℕ) → (size align : ℕ) → Option Niche → Type 0
 IsNamedLayout dl repr parts order offsets size align niche =
-    (first : List ℕ) × IsNamedOrder repr Start parts first × IsRun dl repr parts first order offsets size align niche
+    (first : List ℕ) × IsNamedOrder repr Start parts first × (fault_in repr (size_bound dl) parts first ≡ None)
+    × IsRun dl repr parts first order offsets size align niche
 
 -- the fault is the first one in the order that is named for the bias, or want of memory
 abbrev pub IsFaultOf : TargetDataLayout → ListRepr → NicheBias → List Part → ListFault → Type 0

@@ -21,3 +21,6 @@ mod RoomLemmas
 mod PaddingLemmas
 mod Facts
 mod LayLemmas
+mod AlignedLemmas
+mod OneAnswer
+mod LeastLemmas

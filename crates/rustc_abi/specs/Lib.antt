@@ -13,6 +13,7 @@ pub mod Error
 pub mod Nodes
 pub mod ScalarFault
 pub mod Laying
+pub mod Least
 pub mod Adding
 pub mod Laid
 pub mod Fault

@@ -9,6 +9,7 @@ ghost use Rattle.abi_scalar.specs.Lawful.{IsLawfulLayout};
 ghost use Rattle.rustc_abi.specs.Placed.{layout_of};
 ghost use Rattle.rustc_abi.specs.Laid.{placed_of, endian_of};
 ghost use Rattle.rustc_abi.specs.Laying.{IsLaying};
+ghost use Rattle.rustc_abi.specs.Least.{HasLeastStructs, IsTooLarge};
 ghost use Rattle.rustc_abi.specs.Fault.{IsRefusedFor};
 
 use crate::error::LayError;
@@ -34,6 +35,13 @@ pub fn lay_out(alloc: Global, dl: &TargetDataLayout, tree: &TypeTree) -> Result<
     ensures laid { IfOk result (λ laid. IsLaying dl.now (tree_of tree.now) (Ok (placed_of laid))) }
     ensures layout { IfOk result (λ laid. IsLawfulLayout dl.now (layout_of (placed_of laid))) }
     ensures order { IfOk result (λ laid. endian_of laid ≡ dl.now.endian) }
+
+    // How large it is: each struct has the least size of all orders that its repr and kind allow, and is refused for its
+    // size exactly where every such order is too large.
+    ensures least { IfOk result (λ laid. HasLeastStructs dl.now (tree_of tree.now) (placed_of laid)) }
+    ensures overflow { IfErr result (λ e. e ≡ LayError.SizeOverflow → IsTooLarge dl.now (tree_of tree.now)) }
+    ensures too_large { IsLawfulDataLayout dl.now → IsTooLarge dl.now (tree_of tree.now) →
+        IsErrAnd result (λ e. (e ≡ LayError.SizeOverflow) ⊎ (e ≡ LayError.OutOfMemory)) }
 
     // What the layout keeps of the values, where each local of a coroutine has one.
     ensures exists { IfOk result (λ laid. LocalsHaveValues dl.now (tree_of tree.now) →

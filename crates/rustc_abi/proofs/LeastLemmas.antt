@@ -1,0 +1,339 @@
+-- Each struct has its least size, and is too large only where every order is.
+use Rattle.std.proofs.Common.{◌≡◌, ℕ, ◌*◌, ◌<◌, ◌≤◌, Bool, true, false, List, [], ◌∷◌, Option, Some, None, length, map, inl, inr, refl, sym, ap, ◌∙◌, subst, arith, All, Result, Ok, Err}
+use Rattle.std.specs.Prelude.{◌⊎◌, nat_lt, if◌then◌else◌, MatchOption}
+use Rattle.std.specs.Result.{IsErrAnd}
+use Rattle.std.proofs.lemmas.List.{length-map, map-id}
+use Rattle.std.proofs.lemmas.Bool.{ltb-false, le-ltb}
+use Rattle.abi_base.specs.declared.data_layout.TargetDataLayout.{TargetDataLayout}
+use Rattle.abi_base.specs.DataLayout.{IsLawfulDataLayout, size_bound}
+use Rattle.abi_scalar.specs.declared.error.LayoutCalculatorError.{LayoutCalculatorError}
+use Rattle.abi_scalar.specs.declared.error.LayoutCalculatorError.TheVariants as calculator
+use Rattle.abi_scalar.specs.declared.repr.ReprOptions.{ReprOptions}
+use Rattle.abi_scalar.specs.declared.scalar.Scalar.{Scalar}
+use Rattle.abi_scalar.specs.Pair.{pair_size}
+use Rattle.abi_scalar.specs.Scalar.{primitive_of}
+use Rattle.abi_calc.specs.declared.order.NicheBias.TheVariants.{Start}
+use Rattle.abi_calc.specs.declared.placing.ListFault.{ListFault}
+use Rattle.abi_calc.specs.declared.placing.ListFault.TheVariants.{Unsized, TooLarge, OutOfMemory}
+use Rattle.abi_calc.specs.Array.{elements_layout}
+use Rattle.abi_calc.specs.Apart.{offsets_of}
+use Rattle.abi_calc.specs.Fault.{IsErrorOf, fault_in}
+use Rattle.abi_calc.specs.List.{AreSized, parts_of as asked_of}
+use Rattle.abi_calc.specs.Order.{IsNamedOrder}
+use Rattle.abi_calc.specs.Placement.{IsAllowed, IsNonEmptyIfUnsized, list_repr, size_in}
+use Rattle.abi_calc.proofs.DeepLemmas.{biased_fits, sized_fault}
+use Rattle.abi_calc.proofs.FaultLemmas.{large_in, memory_in}
+use Rattle.abi_calc.proofs.Least.{all_too_large, named_allowed, named_least}
+use Rattle.abi_calc.proofs.RunLemmas.{biased_of}
+use Rattle.rustc_abi.specs.declared.error.LayError.{LayError}
+use Rattle.rustc_abi.specs.declared.error.LayError.TheVariants.{SizeOverflow, BadIndex, BadAlign, UnknownSpace, BadRange}
+use Rattle.rustc_abi.specs.Tree.{Tree, scalar, pair, never, unit, array, vector, struct, union, enum, coroutine, Trees, no_trees, more_trees, Variants, no_variants, more_variants}
+use Rattle.rustc_abi.specs.Placed.{Placed, Layout, layout_of, size_of, elements, fields, no_parts, part, never as placed_never}
+use Rattle.rustc_abi.specs.Nodes.{parts_at}
+use Rattle.rustc_abi.specs.Error.{Follows, named, lay_error}
+use Rattle.rustc_abi.specs.ScalarFault.{is_lawful_primitive, has_range_within, scalar_fault}
+use Rattle.rustc_abi.specs.Laying.{IsLaying, AreLaying, VariantsLaying, IsFieldsAnswer, IsListed, IsNotYet, elements_answer, fields_fault, kind_of, one_scalar, pair_answer, placed_by, placed_fields, scalar_answer, two_scalars, unless}
+use Rattle.rustc_abi.specs.Least.{IsOrderOf, size_by, IsLeastSize, IsEachOrderTooLarge, fields_of, HasLeastStructs, HaveLeastStructs, IsTooLarge, AreTooLarge, AreVariantsTooLarge}
+use Rattle.rustc_abi.proofs.AlignedLemmas.{IsWhole, all_aligned, asked_aligned, asked_sized, length-asked, some_field}
+use Rattle.rustc_abi.proofs.LayLemmas.{pair_overflows}
+use Rattle.rustc_abi.proofs.OneAnswer.{one_answer, one_list}
+
+-- the parts are the types that were put at the offsets
+fields_at : (offsets : List ℕ) (ps : List Placed) → length offsets ≡ length ps → fields_of (parts_at offsets ps) ≡ ps
+fields_at [] [] e = refl
+fields_at [] (p ∷ ps) e = absurd (omega arith)
+fields_at (o ∷ offsets) [] e = absurd (omega arith)
+fields_at (o ∷ offsets) (p ∷ ps) e = ap (λ rest. p ∷ rest) (fields_at offsets ps (omega arith))
+
+-- ---- one list of fields
+
+module _ (dl : TargetDataLayout) (repr : ReprOptions) (always_sized : Bool) (ps : List Placed) (whole : All (IsWhole dl) ps) where
+  some : IsNonEmptyIfUnsized (kind_of always_sized ps) (length (asked_of dl (map layout_of ps)))
+  some = subst (IsNonEmptyIfUnsized (kind_of always_sized ps)) (sym (length-asked dl ps)) (some_field always_sized ps)
+
+  asked : (order : List ℕ) → IsOrderOf dl repr always_sized ps order → IsAllowed (list_repr dl repr (kind_of always_sized ps)) (length (asked_of dl (map layout_of ps))) order
+  asked order q = subst (λ n. IsAllowed (list_repr dl repr (kind_of always_sized ps)) n order) (sym (length-asked dl ps)) q
+
+  allowed : (order : List ℕ) → IsAllowed (list_repr dl repr (kind_of always_sized ps)) (length (asked_of dl (map layout_of ps))) order → IsOrderOf dl repr always_sized ps order
+  allowed order q = subst (λ n. IsAllowed (list_repr dl repr (kind_of always_sized ps)) n order) (length-asked dl ps) q
+
+  -- a struct has its least size
+  listed_least : (layout : Layout) → IsListed dl repr (kind_of always_sized ps) (map layout_of ps) (Ok layout) → IsLeastSize dl repr always_sized ps layout.size
+  listed_least layout listed =
+      let list = list_repr dl repr (kind_of always_sized ps) in
+      let parts = asked_of dl (map layout_of ps) in
+      let made = biased_of dl list parts listed.0 listed.1 layout.size layout.align.abi layout.largest_niche listed.2.named in
+      record {
+        some = (listed.0, allowed listed.0 (named_allowed list made.bias parts listed.0 some made.named), made.placed.extent);
+        least = λ other q. rw made.placed.extent (named_least list made.bias parts listed.0 other (asked_aligned dl ps whole) some made.named (asked other q));
+      }
+
+  -- each field has an offset
+  listed_count : (layout : Layout) → IsListed dl repr (kind_of always_sized ps) (map layout_of ps) (Ok layout) → length (offsets_of layout.fields) ≡ length ps
+  listed_count layout listed =
+      let made = biased_of dl (list_repr dl repr (kind_of always_sized ps)) (asked_of dl (map layout_of ps)) listed.0 listed.1 layout.size layout.align.abi layout.largest_niche listed.2.named in
+      ap (λ shape. length (offsets_of shape)) listed.2.shape ∙ made.placed.count ∙ length-asked dl ps
+
+  -- what is laid out is not too large in each order
+  listed_small : (layout : Layout) → IsListed dl repr (kind_of always_sized ps) (map layout_of ps) (Ok layout) → IsEachOrderTooLarge dl repr always_sized ps → ⊥
+  listed_small layout listed all =
+      let list = list_repr dl repr (kind_of always_sized ps) in
+      let parts = asked_of dl (map layout_of ps) in
+      biased_fits dl list parts listed.0 listed.1 layout.size layout.align.abi layout.largest_niche some
+      (biased_of dl list parts listed.0 listed.1 layout.size layout.align.abi layout.largest_niche listed.2.named) (λ other q. all other (allowed other q))
+
+  plain : map (λ (l : Layout). l) (map layout_of ps) ≡ map layout_of ps
+  plain = map-id (map layout_of ps)
+
+  -- an error is of the size
+  large_of : (fault : ListFault) (error : LayoutCalculatorError Layout) → IsErrorOf (map layout_of ps) fault error → SizeOverflow ≡ lay_error error → fault ≡ TooLarge
+  large_of (Unsized i) error h e = let other : lay_error error ≡ lay_error (calculator.UnexpectedUnsized h.0) = ap lay_error h.2 in absurd (cc)
+  large_of TooLarge error h e = refl
+  large_of OutOfMemory error h e = let other : lay_error error ≡ lay_error calculator.OutOfMemory = ap lay_error h in absurd (cc)
+
+  -- a list that is refused for its size is too large in each order
+  refused_large : IsListed dl repr (kind_of always_sized ps) (map layout_of ps) (Err SizeOverflow) → IsEachOrderTooLarge dl repr always_sized ps
+  refused_large (error, (first, named, fault, there, of), e) other q =
+      let list = list_repr dl repr (kind_of always_sized ps) in
+      let ls = map (λ (l : Layout). l) (map layout_of ps) in
+      let large : fault ≡ TooLarge = large_of fault error of e in
+      let over : size_bound dl ≤ size_in list (asked_of dl ls) first = large_in list (size_bound dl) (asked_of dl ls) first (there ∙ ap (λ f. Some f) large) in
+      let bound : size_bound dl ≤ size_in list (asked_of dl (map layout_of ps)) first = subst (λ layouts. size_bound dl ≤ size_in list (asked_of dl layouts) first) plain over in
+      let order = subst (λ layouts. IsNamedOrder list Start (asked_of dl layouts) first) plain named in
+      all_too_large list Start (asked_of dl (map layout_of ps)) first (size_bound dl) (asked_aligned dl ps whole) some order bound other (asked other q)
+
+  name_of : (order : List ℕ) (fault : ListFault) (error : LayoutCalculatorError Layout) → IsErrorOf (map layout_of ps) fault error
+      → fault_in (list_repr dl repr (kind_of always_sized ps)) (size_bound dl) (asked_of dl (map (λ (l : Layout). l) (map layout_of ps))) order ≡ Some fault
+      → (fault ≡ TooLarge) ⊎ (fault ≡ OutOfMemory) → lay_error error ≡ SizeOverflow
+  name_of order (Unsized i) error h there large = cc
+  name_of order TooLarge error h there large = ap lay_error h
+  name_of order OutOfMemory error h there large =
+      absurd (memory_in (list_repr dl repr (kind_of always_sized ps)) (size_bound dl) (asked_of dl (map (λ (l : Layout). l) (map layout_of ps))) order there)
+
+  -- a refusal of sized fields is one for their size
+  refused_for_size : (e : LayError) → IsListed dl repr (kind_of always_sized ps) (map layout_of ps) (Err e) → e ≡ SizeOverflow
+  refused_for_size e (error, (first, named, fault, there, of), is) =
+      let list = list_repr dl repr (kind_of always_sized ps) in
+      let sized = subst AreSized (sym plain) (asked_sized dl ps whole) in
+      let full = subst (λ layouts. IsNonEmptyIfUnsized (kind_of always_sized ps) (length (asked_of dl layouts))) (sym plain) some in
+      is ∙ name_of first fault error of there (sized_fault (λ (l : Layout). l) dl list (map layout_of ps) fault sized full (inl (first, named, there)))
+
+-- ---- whole types
+
+-- what can't be: a refusal for the size, where there is another one or none
+not_scalar : (b c : Bool) → (if b then (if c then None else Some BadRange) else Some UnknownSpace) ≡ Some SizeOverflow → ⊥
+not_scalar true true e = absurd (cc)
+not_scalar true false e = absurd (cc)
+not_scalar false c e = absurd (cc)
+
+not_fields : (b c : Bool) → (if b then Some BadIndex else (if c then Some BadAlign else None)) ≡ Some SizeOverflow → ⊥
+not_fields true c e = absurd (cc)
+not_fields false true e = absurd (cc)
+not_fields false false e = absurd (cc)
+
+-- a refusal is the fault, or comes later
+refused_by : (fault : Option LayError) (r : Result Placed LayError) → Err SizeOverflow ≡ unless fault r → (fault ≡ Some SizeOverflow) ⊎ ((fault ≡ None) × (Err SizeOverflow ≡ r))
+refused_by None r e = inr (refl, e)
+refused_by (Some f) r e = inl (cc)
+
+unfit : (b : Bool) (p : Placed) → Err SizeOverflow ≡ (if b then Ok p else Err SizeOverflow) → b ≡ false
+unfit true p e = absurd (cc)
+unfit false p e = refl
+
+-- elements that are laid out, and those that are not
+elements_there : (b : Bool) (count : ℕ) (layout : Layout) (q p : Placed)
+    → Ok p ≡ placed_by (λ l. elements l count q) (named {H = ℕ} (if b then Ok layout else Err calculator.SizeOverflow)) → elements layout count q ≡ p
+elements_there true count layout q p e = cc
+elements_there false count layout q p e = absurd (cc)
+
+elements_large : (b : Bool) (count : ℕ) (layout : Layout) (q : Placed)
+    → Err SizeOverflow ≡ placed_by (λ l. elements l count q) (named {H = ℕ} (if b then Ok layout else Err calculator.SizeOverflow)) → b ≡ false
+elements_large true count layout q e = absurd (cc)
+elements_large false count layout q e = refl
+
+-- a refusal that was followed by nothing
+follows_refused : {A B : Type 0} (P : Result A LayError → Type 0) (next : A → Result B LayError → Type 0) (r : Result B LayError)
+    → ((x : Result A LayError) → P x → x ≡ Err SizeOverflow) → Follows P next r → r ≡ Err SizeOverflow
+follows_refused P next r all (inl (e, p, is)) = let same : Err e ≡ Err SizeOverflow = all (Err e) p in is ∙ ap (λ x. Err x) (cc)
+follows_refused P next r all (inr (a, p, n)) = let same : Ok a ≡ Err SizeOverflow = all (Ok a) p in absurd (cc)
+
+-- what follows the one answer
+follows_on : {A B : Type 0} (P : Result A LayError → Type 0) (next : A → Result B LayError → Type 0) (r : Result B LayError) (a : A) → P (Ok a)
+    → ((x y : Result A LayError) → P x → P y → x ≡ y) → Follows P next r → next a r
+follows_on P next r a there one (inl (e, p, is)) = let same : Err e ≡ Ok a = one (Err e) (Ok a) p there in absurd (cc)
+follows_on P next r a there one (inr (b, p, n)) =
+    let same : Ok b ≡ Ok a = one (Ok b) (Ok a) p there in
+    let first : b ≡ a = cc in
+    subst (λ x. next x r) first n
+
+module _ (dl : TargetDataLayout) (law : IsLawfulDataLayout dl) where
+  overflow_scalar : (s : Scalar) → Err SizeOverflow ≡ scalar_answer dl s → ⊥
+  overflow_scalar s e = of_fault (refused_by (scalar_fault dl s) (Ok (one_scalar dl s)) e)
+    where
+      of_fault : (scalar_fault dl s ≡ Some SizeOverflow) ⊎ ((scalar_fault dl s ≡ None) × (Err SizeOverflow ≡ Ok (one_scalar dl s))) → ⊥
+      of_fault (inl f) = not_scalar (is_lawful_primitive dl (primitive_of s)) (has_range_within dl s) f
+      of_fault (inr f) = let no : Err SizeOverflow ≡ Ok (one_scalar dl s) = f.1 in absurd (cc)
+
+  overflow_pair : (a b : Scalar) → Err SizeOverflow ≡ pair_answer dl a b → IsTooLarge dl (pair a b)
+  overflow_pair a b e = first (refused_by (scalar_fault dl a) (unless (scalar_fault dl b) last) e)
+    where
+      last : Result Placed LayError
+      last = if nat_lt (pair_size dl a b) (size_bound dl) then Ok (two_scalars dl a b) else Err SizeOverflow
+      second : scalar_fault dl a ≡ None → (scalar_fault dl b ≡ Some SizeOverflow) ⊎ ((scalar_fault dl b ≡ None) × (Err SizeOverflow ≡ last)) → IsTooLarge dl (pair a b)
+      second fa (inl f) = absurd (not_scalar (is_lawful_primitive dl (primitive_of b)) (has_range_within dl b) f)
+      second fa (inr f) = (fa, f.0, ltb-false (pair_size dl a b) (size_bound dl) (unfit (nat_lt (pair_size dl a b) (size_bound dl)) (two_scalars dl a b) f.1))
+      first : (scalar_fault dl a ≡ Some SizeOverflow) ⊎ ((scalar_fault dl a ≡ None) × (Err SizeOverflow ≡ unless (scalar_fault dl b) last)) → IsTooLarge dl (pair a b)
+      first (inl f) = absurd (not_scalar (is_lawful_primitive dl (primitive_of a)) (has_range_within dl a) f)
+      first (inr f) = second f.0 (refused_by (scalar_fault dl b) last f.1)
+
+  overflow_fields : (fault : Option LayError) (repr : ReprOptions) (always_sized : Bool) (all : Trees) (ps : List Placed) → fields_fault repr ps ≡ fault → AreLaying dl all (Ok ps)
+      → MatchOption fault (Follows (IsListed dl repr (kind_of always_sized ps) (map layout_of ps)) (λ layout r. r ≡ Ok (placed_fields ps layout)) (Err SizeOverflow)) (λ e. Err SizeOverflow ≡ Err e)
+      → IsTooLarge dl (struct repr always_sized all)
+  overflow_fields None repr always_sized all ps none there (inl (e, listed, is)) =
+      let same : e ≡ SizeOverflow = cc in
+      inr (ps, there, none, refused_large dl repr always_sized ps (all_aligned dl law all ps there) (subst (λ x. IsListed dl repr (kind_of always_sized ps) (map layout_of ps) (Err x)) same listed))
+  overflow_fields None repr always_sized all ps none there (inr (layout, listed, is)) = absurd (cc)
+  overflow_fields (Some f) repr always_sized all ps fault there e =
+      let same : Some f ≡ Some SizeOverflow = cc in
+      absurd (not_fields _ _ (fault ∙ same))
+
+  least_fields : (fault : Option LayError) (repr : ReprOptions) (always_sized : Bool) (all : Trees) (ps : List Placed) (p : Placed) → AreLaying dl all (Ok ps)
+      → ((offsets : List ℕ) → length offsets ≡ length ps → HaveLeastStructs dl all (parts_at offsets ps))
+      → MatchOption fault (Follows (IsListed dl repr (kind_of always_sized ps) (map layout_of ps)) (λ layout r. r ≡ Ok (placed_fields ps layout)) (Ok p)) (λ e. Ok p ≡ Err e)
+      → HasLeastStructs dl (struct repr always_sized all) p
+  least_fields None repr always_sized all ps p there each (inl f) = absurd (cc f.2)
+  least_fields None repr always_sized all ps p there each (inr (layout, listed, e)) =
+      let same : placed_fields ps layout ≡ p = cc in
+      let whole = all_aligned dl law all ps there in
+      let count = listed_count dl repr always_sized ps whole layout listed in
+      subst (HasLeastStructs dl (struct repr always_sized all)) same
+      (subst (λ qs. IsLeastSize dl repr always_sized qs layout.size) (sym (fields_at (offsets_of layout.fields) ps count)) (listed_least dl repr always_sized ps whole layout listed),
+      each (offsets_of layout.fields) count)
+  least_fields (Some f) repr always_sized all ps p there each e = absurd (cc)
+
+  refused_fields : (fault : Option LayError) (repr : ReprOptions) (always_sized : Bool) (all : Trees) (ps : List Placed) (r : Result Placed LayError) → fault ≡ None → AreLaying dl all (Ok ps)
+      → IsEachOrderTooLarge dl repr always_sized ps
+      → MatchOption fault (Follows (IsListed dl repr (kind_of always_sized ps) (map layout_of ps)) (λ layout r. r ≡ Ok (placed_fields ps layout)) r) (λ e. r ≡ Err e) → r ≡ Err SizeOverflow
+  refused_fields None repr always_sized all ps r none there large (inl (e, listed, is)) =
+      is ∙ ap (λ x. Err x) (refused_for_size dl repr always_sized ps (all_aligned dl law all ps there) e listed)
+  refused_fields None repr always_sized all ps r none there large (inr (layout, listed, is)) =
+      absurd (listed_small dl repr always_sized ps (all_aligned dl law all ps there) layout listed large)
+  refused_fields (Some f) repr always_sized all ps r none there large e = absurd (cc)
+
+  refused_elements : (count : ℕ) (p : Placed) (r : Result Placed LayError) → size_bound dl ≤ size_of p * count → r ≡ elements_answer dl count p → r ≡ Err SizeOverflow
+  refused_elements count p r large e =
+      let no : nat_lt (size_of p * count) (size_bound dl) ≡ false = le-ltb (size_of p * count) (size_bound dl) large in
+      e ∙ ap (λ b. placed_by (λ l. elements l count p) (named {H = ℕ} (if b then Ok (elements_layout 0 true count (layout_of p)) else Err calculator.SizeOverflow))) no
+
+  refused_pair : (a b : Scalar) (r : Result Placed LayError) → IsTooLarge dl (pair a b) → r ≡ pair_answer dl a b → r ≡ Err SizeOverflow
+  refused_pair a b r (fa, fb, large) e = e ∙ pair_overflows dl a b fa fb large
+
+  mutual
+    -- each struct has its least size
+    pub laid_least : (t : Tree) (p : Placed) → IsLaying dl t (Ok p) → HasLeastStructs dl t p
+    laid_least (scalar s) p h = tt
+    laid_least (pair a b) p h = tt
+    laid_least never p h = tt
+    laid_least unit p h = tt
+    laid_least (array count element) p (inl f) = absurd (cc f.2)
+    laid_least (array count element) p (inr (q, there, e)) =
+        subst (HasLeastStructs dl (array count element)) (elements_there (nat_lt (size_of q * count) (size_bound dl)) count (elements_layout 0 true count (layout_of q)) q p e)
+        (laid_least element q there)
+    laid_least (struct repr always_sized all) p (inl f) = absurd (cc f.2)
+    laid_least (struct repr always_sized all) p (inr (ps, there, answer)) =
+        least_fields (fields_fault repr ps) repr always_sized all ps p there (λ offsets e. all_least all ps offsets e there) answer
+    laid_least (vector lanes packed element) p (inl f) = absurd (cc f.2)
+    laid_least (vector lanes packed element) p (inr f) = absurd (cc f.2)
+    laid_least (union repr all) p (inl f) = absurd (cc f.2)
+    laid_least (union repr all) p (inr f) = absurd (cc f.2)
+    laid_least (enum repr all) p h = tt
+    laid_least (coroutine prefix locals states conflicts) p h = tt
+
+    all_least : (ts : Trees) (ps : List Placed) (offsets : List ℕ) → length offsets ≡ length ps → AreLaying dl ts (Ok ps) → HaveLeastStructs dl ts (parts_at offsets ps)
+    all_least no_trees ps offsets e h = tt
+    all_least (more_trees t ts) ps offsets e (inl f) = absurd (cc f.2)
+    all_least (more_trees t ts) ps offsets e (inr (p, here, inl f)) = absurd (cc f.2)
+    all_least (more_trees t ts) ps offsets e (inr (p, here, inr (rest, later, is))) =
+        let same : p ∷ rest ≡ ps = cc in
+        subst (λ qs. HaveLeastStructs dl (more_trees t ts) (parts_at offsets qs)) same
+        (put offsets (e ∙ ap (λ qs. length qs) (sym same)))
+      where
+        put : (offsets : List ℕ) → length offsets ≡ length (p ∷ rest) → HaveLeastStructs dl (more_trees t ts) (parts_at offsets (p ∷ rest))
+        put [] count = absurd (omega arith)
+        put (o ∷ offsets) count = (laid_least t p here, all_least ts rest offsets (omega arith) later)
+
+  mutual
+    -- a tree that is refused for a size is too large
+    pub refused_overflow : (t : Tree) → IsLaying dl t (Err SizeOverflow) → IsTooLarge dl t
+    refused_overflow (scalar s) h = absurd (overflow_scalar s h)
+    refused_overflow (pair a b) h = overflow_pair a b h
+    refused_overflow never h = absurd (cc)
+    refused_overflow unit h = absurd (cc)
+    refused_overflow (array count element) (inl (e, there, is)) = let same : e ≡ SizeOverflow = cc in inl (refused_overflow element (subst (λ x. IsLaying dl element (Err x)) same there))
+    refused_overflow (array count element) (inr (q, there, e)) =
+        inr (q, there, ltb-false (size_of q * count) (size_bound dl) (elements_large (nat_lt (size_of q * count) (size_bound dl)) count (elements_layout 0 true count (layout_of q)) q e))
+    refused_overflow (struct repr always_sized all) (inl (e, there, is)) = let same : e ≡ SizeOverflow = cc in inl (list_overflow all (subst (λ x. AreLaying dl all (Err x)) same there))
+    refused_overflow (struct repr always_sized all) (inr (ps, there, answer)) = overflow_fields (fields_fault repr ps) repr always_sized all ps refl there answer
+    refused_overflow (vector lanes packed element) (inl (e, there, is)) = let same : e ≡ SizeOverflow = cc in refused_overflow element (subst (λ x. IsLaying dl element (Err x)) same there)
+    refused_overflow (vector lanes packed element) (inr f) = absurd (cc f.2)
+    refused_overflow (union repr all) (inl (e, there, is)) = let same : e ≡ SizeOverflow = cc in list_overflow all (subst (λ x. AreLaying dl all (Err x)) same there)
+    refused_overflow (union repr all) (inr f) = absurd (cc f.2)
+    refused_overflow (enum repr all) (inl (e, there, is)) = let same : e ≡ SizeOverflow = cc in variants_overflow all (subst (λ x. VariantsLaying dl all (Err x)) same there)
+    refused_overflow (enum repr all) (inr f) = absurd (cc f.2)
+    refused_overflow (coroutine prefix locals states conflicts) (inl (e, there, is)) =
+        let same : e ≡ SizeOverflow = cc in inl (list_overflow prefix (subst (λ x. AreLaying dl prefix (Err x)) same there))
+    refused_overflow (coroutine prefix locals states conflicts) (inr (ps, before, inl (e, there, is))) =
+        let same : e ≡ SizeOverflow = cc in inr (ps, before, list_overflow locals (subst (λ x. AreLaying dl locals (Err x)) same there))
+    refused_overflow (coroutine prefix locals states conflicts) (inr (ps, before, inr f)) = absurd (cc f.2)
+
+    list_overflow : (ts : Trees) → AreLaying dl ts (Err SizeOverflow) → AreTooLarge dl ts
+    list_overflow no_trees h = absurd (cc)
+    list_overflow (more_trees t ts) (inl (e, there, is)) = let same : e ≡ SizeOverflow = cc in inl (refused_overflow t (subst (λ x. IsLaying dl t (Err x)) same there))
+    list_overflow (more_trees t ts) (inr (p, here, inl (e, there, is))) = let same : e ≡ SizeOverflow = cc in inr (p, here, list_overflow ts (subst (λ x. AreLaying dl ts (Err x)) same there))
+    list_overflow (more_trees t ts) (inr (p, here, inr f)) = absurd (cc f.2)
+
+    variants_overflow : (all : Variants) → VariantsLaying dl all (Err SizeOverflow) → AreVariantsTooLarge dl all
+    variants_overflow no_variants h = absurd (cc)
+    variants_overflow (more_variants discriminant ts others) (inl (e, there, is)) = let same : e ≡ SizeOverflow = cc in inl (list_overflow ts (subst (λ x. AreLaying dl ts (Err x)) same there))
+    variants_overflow (more_variants discriminant ts others) (inr (ps, here, inl (e, there, is))) =
+        let same : e ≡ SizeOverflow = cc in inr (ps, here, variants_overflow others (subst (λ x. VariantsLaying dl others (Err x)) same there))
+    variants_overflow (more_variants discriminant ts others) (inr (ps, here, inr f)) = absurd (cc f.2)
+
+  mutual
+    -- a tree that is too large is refused for its size
+    pub large_refused : (t : Tree) (r : Result Placed LayError) → IsTooLarge dl t → IsLaying dl t r → r ≡ Err SizeOverflow
+    large_refused (scalar s) r large h = absurd large
+    large_refused (pair a b) r large h = refused_pair a b r large h
+    large_refused never r large h = absurd large
+    large_refused unit r large h = absurd large
+    large_refused (array count element) r (inl large) h = follows_refused (IsLaying dl element) (λ p r. r ≡ elements_answer dl count p) r (λ x there. large_refused element x large there) h
+    large_refused (array count element) r (inr (p, there, large)) h =
+        refused_elements count p r large (follows_on (IsLaying dl element) (λ p r. r ≡ elements_answer dl count p) r p there (λ x y a b. one_answer dl element x y a b) h)
+    large_refused (struct repr always_sized all) r (inl large) h = follows_refused (AreLaying dl all) (IsFieldsAnswer dl repr always_sized) r (λ x there. list_refused all x large there) h
+    large_refused (struct repr always_sized all) r (inr (ps, there, none, large)) h =
+        refused_fields (fields_fault repr ps) repr always_sized all ps r none there large
+        (follows_on (AreLaying dl all) (IsFieldsAnswer dl repr always_sized) r ps there (λ x y a b. one_list dl all x y a b) h)
+    large_refused (vector lanes packed element) r large h = follows_refused (IsLaying dl element) IsNotYet r (λ x there. large_refused element x large there) h
+    large_refused (union repr all) r large h = follows_refused (AreLaying dl all) IsNotYet r (λ x there. list_refused all x large there) h
+    large_refused (enum repr all) r large h = follows_refused (VariantsLaying dl all) IsNotYet r (λ x there. variants_refused all x large there) h
+    large_refused (coroutine prefix locals states conflicts) r (inl large) h =
+        follows_refused (AreLaying dl prefix) (λ ps. Follows (AreLaying dl locals) IsNotYet) r (λ x there. list_refused prefix x large there) h
+    large_refused (coroutine prefix locals states conflicts) r (inr (ps, there, large)) h =
+        follows_refused (AreLaying dl locals) IsNotYet r (λ x here. list_refused locals x large here)
+        (follows_on (AreLaying dl prefix) (λ ps. Follows (AreLaying dl locals) IsNotYet) r ps there (λ x y a b. one_list dl prefix x y a b) h)
+
+    list_refused : (ts : Trees) (r : Result (List Placed) LayError) → AreTooLarge dl ts → AreLaying dl ts r → r ≡ Err SizeOverflow
+    list_refused no_trees r large h = absurd large
+    list_refused (more_trees t ts) r (inl large) h =
+        follows_refused (IsLaying dl t) (λ p. Follows (AreLaying dl ts) (λ ps z. z ≡ Ok (p ∷ ps))) r (λ x there. large_refused t x large there) h
+    list_refused (more_trees t ts) r (inr (p, there, large)) h =
+        follows_refused (AreLaying dl ts) (λ ps z. z ≡ Ok (p ∷ ps)) r (λ x here. list_refused ts x large here)
+        (follows_on (IsLaying dl t) (λ p. Follows (AreLaying dl ts) (λ ps z. z ≡ Ok (p ∷ ps))) r p there (λ x y a b. one_answer dl t x y a b) h)
+
+    variants_refused : (all : Variants) (r : Result (List (List Placed)) LayError) → AreVariantsTooLarge dl all → VariantsLaying dl all r → r ≡ Err SizeOverflow
+    variants_refused no_variants r large h = absurd large
+    variants_refused (more_variants discriminant ts others) r (inl large) h =
+        follows_refused (AreLaying dl ts) (λ ps. Follows (VariantsLaying dl others) (λ rest z. z ≡ Ok (ps ∷ rest))) r (λ x there. list_refused ts x large there) h
+    variants_refused (more_variants discriminant ts others) r (inr (ps, there, large)) h =
+        follows_refused (VariantsLaying dl others) (λ rest z. z ≡ Ok (ps ∷ rest)) r (λ x here. variants_refused others x large here)
+        (follows_on (AreLaying dl ts) (λ ps. Follows (VariantsLaying dl others) (λ rest z. z ≡ Ok (ps ∷ rest))) r ps there (λ x y a b. one_list dl ts x y a b) h)

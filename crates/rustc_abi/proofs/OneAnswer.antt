@@ -1,0 +1,109 @@
+-- A tree has one answer: its layout, or its first fault.
+use Rattle.std.proofs.Common.{◌≡◌, ℕ, Bool, true, false, List, [], ◌∷◌, Option, Some, None, length, map, inl, inr, refl, sym, ap, ◌∙◌, subst, Result, Ok, Err}
+use Rattle.std.specs.Prelude.{◌⊎◌, MatchOption}
+use Rattle.std.proofs.lemmas.List.{map-id}
+use Rattle.abi_base.specs.declared.data_layout.TargetDataLayout.{TargetDataLayout}
+use Rattle.abi_base.specs.declared.struct_kind.StructKind.{StructKind}
+use Rattle.abi_base.specs.DataLayout.{size_bound}
+use Rattle.abi_scalar.specs.declared.error.LayoutCalculatorError.{LayoutCalculatorError}
+use Rattle.abi_scalar.specs.declared.repr.ReprOptions.{ReprOptions}
+use Rattle.abi_calc.specs.declared.order.NicheBias.TheVariants.{Start}
+use Rattle.abi_calc.specs.declared.placing.ListFault.{ListFault}
+use Rattle.abi_calc.specs.declared.placing.ListFault.TheVariants.{Unsized, TooLarge, OutOfMemory}
+use Rattle.abi_calc.specs.Fault.{IsErrorOf, fault_in}
+use Rattle.abi_calc.specs.List.{IsListError, parts_of}
+use Rattle.abi_calc.specs.Order.{IsNamedOrder}
+use Rattle.abi_calc.specs.Placement.{IsNonEmptyIfUnsized, list_repr}
+use Rattle.abi_calc.proofs.OneOrder.{one_layout, one_named, never_refused}
+use Rattle.rustc_abi.specs.declared.error.LayError.{LayError}
+use Rattle.rustc_abi.specs.Tree.{Tree, scalar, pair, never, unit, array, vector, struct, union, enum, coroutine, Trees, no_trees, more_trees, Variants, no_variants, more_variants}
+use Rattle.rustc_abi.specs.Placed.{Placed, Layout, layout_of}
+use Rattle.rustc_abi.specs.Error.{Follows, lay_error}
+use Rattle.rustc_abi.specs.Laying.{IsLaying, AreLaying, VariantsLaying, IsFieldsAnswer, IsListed, IsNotYet, fields_fault, kind_of, placed_fields}
+use Rattle.rustc_abi.proofs.AlignedLemmas.{length-asked, some_field}
+
+-- what has one answer goes on to one answer
+follows_one : {A B : Type 0} (P : Result A LayError → Type 0) (next : A → Result B LayError → Type 0) (r s : Result B LayError)
+    → ((x y : Result A LayError) → P x → P y → x ≡ y) → ((a : A) → next a r → next a s → r ≡ s) → Follows P next r → Follows P next s → r ≡ s
+follows_one P next r s one then_one (inl (e, p, is)) (inl (f, q, that)) =
+    let same : Err e ≡ Err f = one (Err e) (Err f) p q in
+    is ∙ same ∙ sym that
+follows_one P next r s one then_one (inl (e, p, is)) (inr (a, q, n)) =
+    let same : Err e ≡ Ok a = one (Err e) (Ok a) p q in
+    absurd (cc)
+follows_one P next r s one then_one (inr (a, p, m)) (inl (f, q, that)) =
+    let same : Ok a ≡ Err f = one (Ok a) (Err f) p q in
+    absurd (cc)
+follows_one P next r s one then_one (inr (a, p, m)) (inr (b, q, n)) =
+    let same : Ok b ≡ Ok a = one (Ok b) (Ok a) q p in
+    let first : b ≡ a = cc in
+    then_one a m (subst (λ x. next x s) first n)
+
+-- ---- a list has one answer
+
+module _ (dl : TargetDataLayout) (repr : ReprOptions) (kind : StructKind) (layouts : List Layout) (some : IsNonEmptyIfUnsized kind (length (parts_of dl layouts))) where
+  -- one fault has one name
+  one_name : (fault : ListFault) (e f : LayoutCalculatorError Layout) → IsErrorOf layouts fault e → IsErrorOf layouts fault f → lay_error e ≡ lay_error f
+  one_name (Unsized i) e f h k = ap lay_error h.2 ∙ sym (ap lay_error k.2)
+  one_name TooLarge e f h k = ap lay_error (h ∙ sym k)
+  one_name OutOfMemory e f h k = ap lay_error (h ∙ sym k)
+
+  whole : map (λ (l : Layout). l) layouts ≡ layouts
+  whole = map-id layouts
+
+  one_error : (e f : LayoutCalculatorError Layout) → IsListError (λ l. l) dl repr kind layouts e → IsListError (λ l. l) dl repr kind layouts f → lay_error e ≡ lay_error f
+  one_error e f (order, named, fault, there, of) (order2, named2, fault2, there2, of2) =
+      let same : order2 ≡ order = one_named (list_repr dl repr kind) Start (parts_of dl (map (λ l. l) layouts)) order2 order named2 named in
+      let found : fault_in (list_repr dl repr kind) (size_bound dl) (parts_of dl (map (λ l. l) layouts)) order ≡ Some fault2 =
+      ap (fault_in (list_repr dl repr kind) (size_bound dl) (parts_of dl (map (λ l. l) layouts))) (sym same) ∙ there2 in
+      let one : fault2 ≡ fault = cc in
+      one_name fault e f of (subst (λ x. IsErrorOf layouts x f) one of2)
+
+  one_listed : (r s : Result Layout LayError) → IsListed dl repr kind layouts r → IsListed dl repr kind layouts s → r ≡ s
+  one_listed (Ok a) (Ok b) (order, offsets, made) (order2, offsets2, made2) =
+      ap (λ l. Ok l) (one_layout (λ i. i) 0 dl repr kind layouts order order2 offsets offsets2 a b some made made2)
+  one_listed (Ok a) (Err f) (order, offsets, made) (error, (first, named, fault, there, of), e) =
+      absurd (never_refused dl (list_repr dl repr kind) (parts_of dl layouts) some order offsets first a.size a.align.abi a.largest_niche fault made.named
+      (subst (λ ls. IsNamedOrder (list_repr dl repr kind) Start (parts_of dl ls) first) whole named)
+      (subst (λ ls. fault_in (list_repr dl repr kind) (size_bound dl) (parts_of dl ls) first ≡ Some fault) whole there))
+  one_listed (Err e) (Ok b) h k = sym (one_listed (Ok b) (Err e) k h)
+  one_listed (Err e) (Err f) (error, refused, named) (error2, refused2, named2) = ap (λ x. Err x) (named ∙ one_error error error2 refused refused2 ∙ sym named2)
+
+module _ (dl : TargetDataLayout) where
+  one_fields : (fault : Option LayError) (repr : ReprOptions) (always_sized : Bool) (ps : List Placed) (r s : Result Placed LayError) →
+      MatchOption fault (Follows (IsListed dl repr (kind_of always_sized ps) (map layout_of ps)) (λ layout r. r ≡ Ok (placed_fields ps layout)) r) (λ e. r ≡ Err e) →
+      MatchOption fault (Follows (IsListed dl repr (kind_of always_sized ps) (map layout_of ps)) (λ layout r. r ≡ Ok (placed_fields ps layout)) s) (λ e. s ≡ Err e) → r ≡ s
+  one_fields None repr always_sized ps r s h k =
+      follows_one (IsListed dl repr (kind_of always_sized ps) (map layout_of ps)) (λ layout r. r ≡ Ok (placed_fields ps layout)) r s
+      (one_listed dl repr (kind_of always_sized ps) (map layout_of ps) (subst (IsNonEmptyIfUnsized (kind_of always_sized ps)) (sym (length-asked dl ps)) (some_field always_sized ps)))
+      (λ layout a b. a ∙ sym b) h k
+  one_fields (Some f) repr always_sized ps r s h k = h ∙ sym k
+
+  mutual
+    -- a tree has one answer
+    pub one_answer : (t : Tree) (r s : Result Placed LayError) → IsLaying dl t r → IsLaying dl t s → r ≡ s
+    one_answer (scalar a) r s h k = h ∙ sym k
+    one_answer (pair a b) r s h k = h ∙ sym k
+    one_answer never r s h k = h ∙ sym k
+    one_answer unit r s h k = h ∙ sym k
+    one_answer (array count element) r s h k = follows_one _ _ r s (λ x y p q. one_answer element x y p q) (λ p a b. a ∙ sym b) h k
+    one_answer (struct repr always_sized all) r s h k =
+        follows_one _ _ r s (λ x y p q. one_list all x y p q) (λ ps a b. one_fields (fields_fault repr ps) repr always_sized ps r s a b) h k
+    one_answer (vector lanes packed element) r s h k = follows_one _ _ r s (λ x y p q. one_answer element x y p q) (λ p a b. a ∙ sym b) h k
+    one_answer (union repr all) r s h k = follows_one _ _ r s (λ x y p q. one_list all x y p q) (λ ps a b. a ∙ sym b) h k
+    one_answer (enum repr all) r s h k = follows_one _ _ r s (λ x y p q. one_list_each all x y p q) (λ ps a b. a ∙ sym b) h k
+    one_answer (coroutine prefix locals states conflicts) r s h k =
+        follows_one _ _ r s (λ x y p q. one_list prefix x y p q)
+        (λ ps a b. follows_one (AreLaying dl locals) IsNotYet r s (λ x y p q. one_list locals x y p q) (λ qs c d. c ∙ sym d) a b) h k
+
+    pub one_list : (ts : Trees) (r s : Result (List Placed) LayError) → AreLaying dl ts r → AreLaying dl ts s → r ≡ s
+    one_list no_trees r s h k = h ∙ sym k
+    one_list (more_trees t ts) r s h k =
+        follows_one _ _ r s (λ x y p q. one_answer t x y p q)
+        (λ p a b. follows_one (AreLaying dl ts) (λ ps z. z ≡ Ok (p ∷ ps)) r s (λ x y u v. one_list ts x y u v) (λ ps c d. c ∙ sym d) a b) h k
+
+    one_list_each : (all : Variants) (r s : Result (List (List Placed)) LayError) → VariantsLaying dl all r → VariantsLaying dl all s → r ≡ s
+    one_list_each no_variants r s h k = h ∙ sym k
+    one_list_each (more_variants discriminant ts others) r s h k =
+        follows_one _ _ r s (λ x y p q. one_list ts x y p q)
+        (λ ps a b. follows_one (VariantsLaying dl others) (λ rest z. z ≡ Ok (ps ∷ rest)) r s (λ x y u v. one_list_each others x y u v) (λ rest c d. c ∙ sym d) a b) h k
