@@ -1,15 +1,12 @@
 -- Each type that is laid out is sized, and its size is a multiple of its alignment, which has its limit.
-use Rattle.std.proofs.Common.{◌≡◌, ℕ, ◌*◌, ◌^◌, ◌<◌, ◌≤◌, Bool, true, false, List, [], ◌∷◌, Option, Some, None, length, map, inl, inr, refl, sym, ap, ◌∙◌, subst, arith, All, Result, Ok, Err}
-use Rattle.std.specs.Prelude.{◌⊎◌, ◌||◌, ◌==◌, nat_lt, if◌then◌else◌, slice_index, MatchOption}
-use Rattle.std.specs.Int.{◌∣◌, next_multiple_of}
+use Rattle.std.proofs.Common.{◌≡◌, ℕ, ◌*◌, ◌^◌, Bool, true, false, List, [], ◌∷◌, Option, Some, None, length, map, inl, inr, refl, sym, ap, ◌∙◌, subst, arith, All, Result, Ok, Err}
+use Rattle.std.specs.Prelude.{◌||◌, ◌==◌, nat_lt, if◌then◌else◌, slice_index, MatchOption}
 use Rattle.std.proofs.lemmas.List.{length-map}
 use Rattle.std.proofs.lemmas.List.Elements.{All-nil, All-cons, All-head, All-tail, All-map, All-weaker}
 use Rattle.std.proofs.lemmas.Bool.{ltb-true}
 use Rattle.std.proofs.Math.Nat.{dvd_trans, dvd-mul_right}
 use Rattle.abi_base.specs.declared.data_layout.TargetDataLayout.{TargetDataLayout}
 use Rattle.abi_base.specs.DataLayout.{IsLawfulDataLayout, size_bound}
-use Rattle.abi_base.specs.declared.struct_kind.StructKind.{StructKind}
-use Rattle.abi_base.specs.declared.struct_kind.StructKind.TheVariants.{AlwaysSized, MaybeUnsized}
 use Rattle.abi_scalar.specs.declared.repr.ReprOptions.{ReprOptions}
 use Rattle.abi_scalar.specs.declared.scalar.Scalar.{Scalar}
 use Rattle.abi_scalar.specs.declared.error.LayoutCalculatorError.TheVariants as calculator
@@ -22,7 +19,7 @@ use Rattle.abi_scalar.specs.Simple.{scalar_layout, never_layout, unit_layout}
 use Rattle.abi_scalar.proofs.LawfulLemmas.{scalar_lawful, empty_lawful}
 use Rattle.abi_scalar.proofs.PairLemmas.{pair_lawful_at}
 use Rattle.abi_calc.specs.declared.part.Part.{Part}
-use Rattle.abi_calc.specs.Array.{array_answer, elements_layout}
+use Rattle.abi_calc.specs.Array.{elements_layout}
 use Rattle.abi_calc.specs.List.{AreSized, parts_of}
 use Rattle.abi_calc.specs.ListView.{any_unsized, bulky_parts, bulky_view, kept_view, list_view, pair_view, part_at, two_view}
 use Rattle.abi_calc.specs.Part.{IsAlignedPart, is_unsized, part_of}
@@ -37,7 +34,7 @@ use Rattle.rustc_abi.specs.Tree.{Tree, scalar, pair, never, unit, array, vector,
 use Rattle.rustc_abi.specs.Placed.{Placed, Layout, layout_of, size_of, elements, fields, no_parts, never as placed_never}
 use Rattle.rustc_abi.specs.ScalarFault.{scalar_fault}
 use Rattle.rustc_abi.specs.Error.{named, Follows}
-use Rattle.rustc_abi.specs.Laying.{IsLaying, AreLaying, IsFieldsAnswer, IsListed, elements_answer, fields_fault, kind_of, one_scalar, pair_answer, placed_by, placed_fields, scalar_answer, two_scalars, unless}
+use Rattle.rustc_abi.specs.Laying.{IsLaying, AreLaying, IsListed, fields_fault, kind_of, one_scalar, pair_answer, placed_by, placed_fields, scalar_answer, two_scalars, unless}
 use Rattle.rustc_abi.proofs.FaultLemmas.{faultless}
 use Rattle.rustc_abi.proofs.LayLemmas.{faultless_aligns}
 use Rattle.rustc_abi.proofs.RoomForPair.{lawful_readable}

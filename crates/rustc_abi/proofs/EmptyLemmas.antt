@@ -1,15 +1,14 @@
 -- The layouts of types without bytes: one with no value, and one with one.
-use Rattle.std.proofs.Common.{◌≡◌, ℕ, ◌<◌, List, [], length, refl, arith, sym, ◌∙◌}
+use Rattle.std.proofs.Common.{◌≡◌, ℕ, List, [], length, refl, arith}
 use Rattle.std.specs.Prelude.{true}
 use Rattle.std.proofs.lemmas.Bool.{ltb-true}
 use Rattle.abi_base.specs.declared.data_layout.TargetDataLayout.{TargetDataLayout}
 use Rattle.abi_scalar.specs.Simple.{never_layout, unit_layout}
 use Rattle.abi_scalar.specs.Lawful.{IsLawfulLayout}
-use Rattle.rustc_abi.specs.Tree.{Tree, never, unit}
+use Rattle.rustc_abi.specs.Tree.{never, unit}
 use Rattle.rustc_abi.specs.Bytes.{AreBytes}
 use Rattle.rustc_abi.specs.Value.{Value, number, two, list, variant, state, bytes, no_values, more_values}
 use Rattle.rustc_abi.specs.Placed.{Placed, size_of, never as placed_never, fields, no_parts}
-use Rattle.rustc_abi.specs.Places.{is_data_place}
 use Rattle.rustc_abi.specs.Values.{IsValueOf}
 use Rattle.rustc_abi.specs.Holding.{Holds}
 use Rattle.rustc_abi.specs.Faithful.{AgreeOn, IsFaithful}

@@ -1,5 +1,5 @@
 -- Worked facts: the definitions, tried on small types in both directions.
-use Rattle.std.proofs.Common.{◌≡◌, ℕ, List, [], ◌∷◌, true, false, None, Ok, Err, inl, inr, arith, refl}
+use Rattle.std.proofs.Common.{◌≡◌, ℕ, List, [], ◌∷◌, true, false, None, inl, inr, arith, refl}
 use Rattle.abi_base.specs.declared.endian.Endian.{Endian}
 use Rattle.abi_base.specs.declared.endian.Endian.TheVariants.{Little, Big}
 use Rattle.abi_base.specs.declared.primitive.Primitive.TheVariants.{Int}

@@ -1,7 +1,6 @@
 -- A scalar without a fault is lawful, and the tests for it say so.
-use Rattle.std.proofs.Common.{◌≡◌, ℕ, ◌+◌, ◌*◌, ◌%◌, ◌^◌, ◌-◌, ◌<◌, ◌≤◌, Bool, true, false, Option, Some, None, arith, refl, sym, ap, ◌∙◌}
+use Rattle.std.proofs.Common.{◌≡◌, ℕ, ◌*◌, ◌%◌, ◌^◌, ◌-◌, Bool, true, false, Option, Some, None, arith, refl, sym}
 use Rattle.std.specs.Prelude.{◌==◌, ◌&&◌, nat_le, nat_lt, unwrap_or, IsTrue, IsSome, ◌↔◌, if◌then◌else◌}
-use Rattle.std.specs.Int.{◌∣◌}
 use Rattle.std.specs.Cmp.Derive.{both_true}
 use Rattle.std.proofs.lemmas.Bool.{leb-true, le-leb, ltb-true, eqb-true, eq-eqb, and_parts}
 use Rattle.std.proofs.lemmas.Nat.{pow_pos}
@@ -11,9 +10,8 @@ use Rattle.abi_base.specs.declared.pointer_spec.PointerSpec.{PointerSpec}
 use Rattle.abi_base.specs.declared.address_space.AddressSpace.{AddressSpace}
 use Rattle.abi_base.specs.declared.primitive.Primitive.{Primitive}
 use Rattle.abi_base.specs.declared.primitive.Primitive.TheVariants.{Int, Float, Pointer}
-use Rattle.abi_base.specs.DataLayout.{known_spec, pointer_spec_of, HasLawfulPointer, IsLawfulSpec}
+use Rattle.abi_base.specs.DataLayout.{known_spec, HasLawfulPointer, IsLawfulSpec}
 use Rattle.abi_base.specs.Primitive.{primitive_size, IsLawfulPrimitive}
-use Rattle.abi_scalar.specs.declared.wrapping_range.WrappingRange.{WrappingRange}
 use Rattle.abi_scalar.specs.declared.scalar.Scalar.{Scalar}
 use Rattle.abi_scalar.specs.declared.scalar.Scalar.TheVariants.{Initialized, Union}
 use Rattle.abi_scalar.specs.Range.{numbers_of, AreWithin}

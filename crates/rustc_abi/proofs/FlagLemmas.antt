@@ -1,5 +1,5 @@
 -- A type without values is flagged, and no other.
-use Rattle.std.proofs.Common.{◌≡◌, ◌≢◌, ℕ, zero, suc, ◌+◌, ◌≤◌, List, [], ◌∷◌, length, map, Bool, true, false, arith, refl, sym, ap, ◌∙◌, subst}
+use Rattle.std.proofs.Common.{◌≡◌, ◌≢◌, ℕ, zero, suc, List, [], ◌∷◌, map, Bool, true, false, arith, refl, sym}
 use Rattle.std.specs.Prelude.{◌==◌, ◌&&◌, ◌||◌, not, MatchBool}
 use Rattle.std.specs.List.{list_any}
 use Rattle.std.proofs.lemmas.Bool.{eqb-true, eqb-false}
@@ -10,8 +10,7 @@ use Rattle.rustc_abi.specs.Tree.{Tree, array, struct, Trees, no_trees, more_tree
 use Rattle.rustc_abi.specs.Value.{Value, number, two, list, variant, state, bytes, Values, no_values, more_values, value_count, Each}
 use Rattle.rustc_abi.specs.Placed.{Placed, Layout, layout_of, size_of, elements, fields}
 use Rattle.rustc_abi.specs.Values.{IsValueOf, AreValuesOf, LocalsOfEach, VectorsOfEach}
-use Rattle.rustc_abi.specs.Faithful.{IsFaithful, IsFlagTrue}
-use Rattle.rustc_abi.specs.Fits.{Fits}
+use Rattle.rustc_abi.specs.Faithful.{IsFlagTrue}
 use Rattle.rustc_abi.specs.Nodes.{parts_at}
 use Rattle.rustc_abi.specs.Adding.{EachFits}
 

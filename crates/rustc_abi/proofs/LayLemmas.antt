@@ -1,6 +1,6 @@
 -- How types are laid out, one after another.
 use Rattle.std.proofs.Common.{◌≡◌, ◌≢◌, ℕ, ◌-◌, ◌<◌, ◌≤◌, List, [], ◌∷◌, ◌++◌, Option, Some, None, Bool, true, false, length, map, arith, refl, sym, ap, ◌∙◌, subst, inl, inr, All, Result, Ok, Err}
-use Rattle.std.specs.Prelude.{IfSome, nat_lt, ◌⊎◌, ◌==◌, ◌&&◌, ◌||◌, if◌then◌else◌}
+use Rattle.std.specs.Prelude.{IfSome, nat_lt, ◌⊎◌, ◌==◌, ◌||◌, if◌then◌else◌}
 use Rattle.std.proofs.lemmas.Bool.{eqb-false}
 use Rattle.std.proofs.lemmas.List.{map-append}
 use Rattle.std.proofs.lemmas.List.Elements.{All-nil, All-cons, All-head, All-tail, All-append, All-weaker}
@@ -8,8 +8,6 @@ use Rattle.abi_base.specs.declared.data_layout.TargetDataLayout.{TargetDataLayou
 use Rattle.abi_scalar.specs.declared.repr.ReprOptions.{ReprOptions}
 use Rattle.abi_scalar.specs.declared.niche.Niche.{Niche}
 use Rattle.abi_scalar.specs.Lawful.{IsLawfulLayout}
-use Rattle.abi_scalar.specs.declared.backend_repr.BackendRepr.TheVariants.{Memory}
-use Rattle.std.specs.List.{list_any}
 use Rattle.abi_calc.specs.Apart.{AreApart, offsets_of}
 use Rattle.abi_calc.specs.List.{HasLawfulAligns, parts_of}
 use Rattle.abi_base.specs.declared.struct_kind.StructKind.TheVariants.{AlwaysSized, MaybeUnsized}
@@ -28,14 +26,14 @@ use Rattle.rustc_abi.specs.ScalarFault.{scalar_fault}
 use Rattle.rustc_abi.proofs.FaultLemmas.{faultless}
 use Rattle.rustc_abi.proofs.PairLemmas.{Fits-pair}
 use Rattle.rustc_abi.specs.Tree.{Tree, pair, array, struct, Trees, no_trees, more_trees, trees}
-use Rattle.rustc_abi.specs.Placed.{Placed, Layout, layout_of, size_of, niche_of, pair as placed_pair, elements, fields, part, no_parts}
+use Rattle.rustc_abi.specs.Placed.{Placed, Layout, layout_of, size_of, niche_of, pair as placed_pair, elements, part, no_parts}
 use Rattle.rustc_abi.specs.Error.{named, IsRefused}
 use Rattle.rustc_abi.specs.Fits.{Fits}
-use Rattle.rustc_abi.specs.Nodes.{placed_in, parts_at, meaning, types_in, placed_at, root_of, Keeps}
+use Rattle.rustc_abi.specs.Nodes.{placed_in, meaning, types_in, placed_at, root_of, Keeps}
 use Rattle.rustc_abi.specs.Values.{LocalsHaveValues}
 use Rattle.rustc_abi.specs.Faithful.{IsFaithful}
-use Rattle.rustc_abi.specs.Laying.{IsLaying, AreLaying, elements_answer, IsFieldsAnswer, IsListed, fields_fault, has_bad_align, is_above_limit, most_fields, kind_of, placed_fields, placed_by, unless, one_scalar, two_scalars, pair_answer}
-use Rattle.rustc_abi.specs.Adding.{IsRefusal, IsPut, IsAdded, EachFits, all_at, AreAdded}
+use Rattle.rustc_abi.specs.Laying.{IsLaying, AreLaying, IsFieldsAnswer, IsListed, fields_fault, has_bad_align, is_above_limit, most_fields, kind_of, placed_fields, placed_by, unless, one_scalar, two_scalars, pair_answer}
+use Rattle.rustc_abi.specs.Adding.{IsPut, IsAdded, EachFits, all_at, AreAdded}
 use Rattle.rustc_abi.proofs.ElementsLemmas.{IsElementNiche, Fits-elements}
 use Rattle.rustc_abi.proofs.FieldsLemmas.{part_of_list, Fits-fields}
 use Rattle.abi_calc.specs.ListNiche.{IsNicheOfPart}
@@ -222,6 +220,12 @@ pub lawful_root : (dl : TargetDataLayout) (old new : List Node) (i : ℕ) (t : T
 lawful_root dl old new i t placed added is =
     let root : i ≡ length new - 1 = omega (arith, added.last) in
     subst (λ p. IsLawfulLayout dl (layout_of p)) (ap (placed_at new) root ∙ sym is) added.fits.lawful
+
+-- the last node is the answer to the tree
+pub laid_root : (dl : TargetDataLayout) (old new : List Node) (i : ℕ) (t : Tree) (placed : Placed) → IsAdded dl old new i t → placed ≡ root_of new → IsLaying dl t (Ok placed)
+laid_root dl old new i t placed added is =
+    let root : i ≡ length new - 1 = omega (arith, added.last) in
+    subst (λ p. IsLaying dl t (Ok p)) (ap (placed_at new) root ∙ sym is) added.exact
 
 -- two scalars' layout
 pub IsAdded-pair : (dl : TargetDataLayout) (old one both new : List Node) (i j k : ℕ) (a b : Scalar) → scalar_fault dl a ≡ None → scalar_fault dl b ≡ None →

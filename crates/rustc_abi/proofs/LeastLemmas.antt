@@ -1,8 +1,8 @@
 -- Each struct has its least size, and is too large only where every order is.
-use Rattle.std.proofs.Common.{◌≡◌, ℕ, ◌*◌, ◌<◌, ◌≤◌, Bool, true, false, List, [], ◌∷◌, Option, Some, None, length, map, inl, inr, refl, sym, ap, ◌∙◌, subst, arith, All, Result, Ok, Err}
+use Rattle.std.proofs.Common.{◌≡◌, ℕ, ◌*◌, ◌≤◌, Bool, true, false, List, [], ◌∷◌, Option, Some, None, length, map, inl, inr, refl, sym, ap, ◌∙◌, subst, arith, All, Result, Ok, Err}
 use Rattle.std.specs.Prelude.{◌⊎◌, nat_lt, if◌then◌else◌, MatchOption}
 use Rattle.std.specs.Result.{IsErrAnd}
-use Rattle.std.proofs.lemmas.List.{length-map, map-id}
+use Rattle.std.proofs.lemmas.List.{map-id}
 use Rattle.std.proofs.lemmas.Bool.{ltb-false, le-ltb}
 use Rattle.abi_base.specs.declared.data_layout.TargetDataLayout.{TargetDataLayout}
 use Rattle.abi_base.specs.DataLayout.{IsLawfulDataLayout, size_bound}
@@ -26,14 +26,14 @@ use Rattle.abi_calc.proofs.FaultLemmas.{large_in, memory_in}
 use Rattle.abi_calc.proofs.Least.{all_too_large, named_allowed, named_least}
 use Rattle.abi_calc.proofs.RunLemmas.{biased_of}
 use Rattle.rustc_abi.specs.declared.error.LayError.{LayError}
-use Rattle.rustc_abi.specs.declared.error.LayError.TheVariants.{SizeOverflow, BadIndex, BadAlign, UnknownSpace, BadRange}
+use Rattle.rustc_abi.specs.declared.error.LayError.TheVariants.{SizeOverflow, UnexpectedUnsized, BadIndex, BadAlign, UnknownSpace, BadRange}
 use Rattle.rustc_abi.specs.Tree.{Tree, scalar, pair, never, unit, array, vector, struct, union, enum, coroutine, Trees, no_trees, more_trees, Variants, no_variants, more_variants}
-use Rattle.rustc_abi.specs.Placed.{Placed, Layout, layout_of, size_of, elements, fields, no_parts, part, never as placed_never}
+use Rattle.rustc_abi.specs.Placed.{Placed, Layout, layout_of, size_of, elements}
 use Rattle.rustc_abi.specs.Nodes.{parts_at}
-use Rattle.rustc_abi.specs.Error.{Follows, named, lay_error}
+use Rattle.rustc_abi.specs.Error.{Follows, IsRefused, named, lay_error}
 use Rattle.rustc_abi.specs.ScalarFault.{is_lawful_primitive, has_range_within, scalar_fault}
 use Rattle.rustc_abi.specs.Laying.{IsLaying, AreLaying, VariantsLaying, IsFieldsAnswer, IsListed, IsNotYet, elements_answer, fields_fault, kind_of, one_scalar, pair_answer, placed_by, placed_fields, scalar_answer, two_scalars, unless}
-use Rattle.rustc_abi.specs.Least.{IsOrderOf, size_by, IsLeastSize, IsEachOrderTooLarge, fields_of, HasLeastStructs, HaveLeastStructs, IsTooLarge, AreTooLarge, AreVariantsTooLarge}
+use Rattle.rustc_abi.specs.Least.{IsOrderOf, IsLeastSize, IsEachOrderTooLarge, fields_of, HasLeastStructs, HaveLeastStructs, IsTooLarge, AreTooLarge, AreVariantsTooLarge}
 use Rattle.rustc_abi.proofs.AlignedLemmas.{IsWhole, all_aligned, asked_aligned, asked_sized, length-asked, some_field}
 use Rattle.rustc_abi.proofs.LayLemmas.{pair_overflows}
 use Rattle.rustc_abi.proofs.OneAnswer.{one_answer, one_list}
@@ -44,6 +44,13 @@ fields_at [] [] e = refl
 fields_at [] (p ∷ ps) e = absurd (omega arith)
 fields_at (o ∷ offsets) [] e = absurd (omega arith)
 fields_at (o ∷ offsets) (p ∷ ps) e = ap (λ rest. p ∷ rest) (fields_at offsets ps (omega arith))
+
+-- errors of one list
+not_size : SizeOverflow ≡ UnexpectedUnsized → ⊥
+not_size e = absurd (cc)
+
+not_size_either : SizeOverflow ≡ LayError.OutOfMemory → ⊥
+not_size_either e = absurd (cc)
 
 -- ---- one list of fields
 
@@ -87,9 +94,9 @@ module _ (dl : TargetDataLayout) (repr : ReprOptions) (always_sized : Bool) (ps 
 
   -- an error is of the size
   large_of : (fault : ListFault) (error : LayoutCalculatorError Layout) → IsErrorOf (map layout_of ps) fault error → SizeOverflow ≡ lay_error error → fault ≡ TooLarge
-  large_of (Unsized i) error h e = let other : lay_error error ≡ lay_error (calculator.UnexpectedUnsized h.0) = ap lay_error h.2 in absurd (cc)
+  large_of (Unsized i) error h e = let other : lay_error error ≡ lay_error {H = Layout} (calculator.UnexpectedUnsized h.0) = ap lay_error h.2 in absurd (not_size (e ∙ other))
   large_of TooLarge error h e = refl
-  large_of OutOfMemory error h e = let other : lay_error error ≡ lay_error calculator.OutOfMemory = ap lay_error h in absurd (cc)
+  large_of OutOfMemory error h e = let other : lay_error error ≡ lay_error {H = Layout} calculator.OutOfMemory = ap lay_error h in absurd (not_size_either (e ∙ other))
 
   -- a list that is refused for its size is too large in each order
   refused_large : IsListed dl repr (kind_of always_sized ps) (map layout_of ps) (Err SizeOverflow) → IsEachOrderTooLarge dl repr always_sized ps
@@ -105,7 +112,8 @@ module _ (dl : TargetDataLayout) (repr : ReprOptions) (always_sized : Bool) (ps 
   name_of : (order : List ℕ) (fault : ListFault) (error : LayoutCalculatorError Layout) → IsErrorOf (map layout_of ps) fault error
       → fault_in (list_repr dl repr (kind_of always_sized ps)) (size_bound dl) (asked_of dl (map (λ (l : Layout). l) (map layout_of ps))) order ≡ Some fault
       → (fault ≡ TooLarge) ⊎ (fault ≡ OutOfMemory) → lay_error error ≡ SizeOverflow
-  name_of order (Unsized i) error h there large = cc
+  name_of order (Unsized i) error h there (inl e) = absurd (cc)
+  name_of order (Unsized i) error h there (inr e) = absurd (cc)
   name_of order TooLarge error h there large = ap lay_error h
   name_of order OutOfMemory error h there large =
       absurd (memory_in (list_repr dl repr (kind_of always_sized ps)) (size_bound dl) (asked_of dl (map (λ (l : Layout). l) (map layout_of ps))) order there)
@@ -186,8 +194,13 @@ module _ (dl : TargetDataLayout) (law : IsLawfulDataLayout dl) where
       first (inl f) = absurd (not_scalar (is_lawful_primitive dl (primitive_of a)) (has_range_within dl a) f)
       first (inr f) = second f.0 (refused_by (scalar_fault dl b) last f.1)
 
+  -- the answer to a struct whose own fault is this
+  abbrev AnswersBy : Option LayError → ReprOptions → (always_sized : Bool) → List Placed → Result Placed LayError → Type 0
+  AnswersBy fault repr always_sized ps r =
+      MatchOption fault (Follows (IsListed dl repr (kind_of always_sized ps) (map layout_of ps)) (λ layout z. z ≡ Ok (placed_fields ps layout)) r) (λ e. r ≡ Err e)
+
   overflow_fields : (fault : Option LayError) (repr : ReprOptions) (always_sized : Bool) (all : Trees) (ps : List Placed) → fields_fault repr ps ≡ fault → AreLaying dl all (Ok ps)
-      → MatchOption fault (Follows (IsListed dl repr (kind_of always_sized ps) (map layout_of ps)) (λ layout r. r ≡ Ok (placed_fields ps layout)) (Err SizeOverflow)) (λ e. Err SizeOverflow ≡ Err e)
+      → AnswersBy fault repr always_sized ps (Err SizeOverflow)
       → IsTooLarge dl (struct repr always_sized all)
   overflow_fields None repr always_sized all ps none there (inl (e, listed, is)) =
       let same : e ≡ SizeOverflow = cc in
@@ -199,7 +212,7 @@ module _ (dl : TargetDataLayout) (law : IsLawfulDataLayout dl) where
 
   least_fields : (fault : Option LayError) (repr : ReprOptions) (always_sized : Bool) (all : Trees) (ps : List Placed) (p : Placed) → AreLaying dl all (Ok ps)
       → ((offsets : List ℕ) → length offsets ≡ length ps → HaveLeastStructs dl all (parts_at offsets ps))
-      → MatchOption fault (Follows (IsListed dl repr (kind_of always_sized ps) (map layout_of ps)) (λ layout r. r ≡ Ok (placed_fields ps layout)) (Ok p)) (λ e. Ok p ≡ Err e)
+      → AnswersBy fault repr always_sized ps (Ok p)
       → HasLeastStructs dl (struct repr always_sized all) p
   least_fields None repr always_sized all ps p there each (inl f) = absurd (cc f.2)
   least_fields None repr always_sized all ps p there each (inr (layout, listed, e)) =
@@ -213,7 +226,7 @@ module _ (dl : TargetDataLayout) (law : IsLawfulDataLayout dl) where
 
   refused_fields : (fault : Option LayError) (repr : ReprOptions) (always_sized : Bool) (all : Trees) (ps : List Placed) (r : Result Placed LayError) → fault ≡ None → AreLaying dl all (Ok ps)
       → IsEachOrderTooLarge dl repr always_sized ps
-      → MatchOption fault (Follows (IsListed dl repr (kind_of always_sized ps) (map layout_of ps)) (λ layout r. r ≡ Ok (placed_fields ps layout)) r) (λ e. r ≡ Err e) → r ≡ Err SizeOverflow
+      → AnswersBy fault repr always_sized ps r → r ≡ Err SizeOverflow
   refused_fields None repr always_sized all ps r none there large (inl (e, listed, is)) =
       is ∙ ap (λ x. Err x) (refused_for_size dl repr always_sized ps (all_aligned dl law all ps there) e listed)
   refused_fields None repr always_sized all ps r none there large (inr (layout, listed, is)) =
@@ -253,14 +266,11 @@ module _ (dl : TargetDataLayout) (law : IsLawfulDataLayout dl) where
     all_least no_trees ps offsets e h = tt
     all_least (more_trees t ts) ps offsets e (inl f) = absurd (cc f.2)
     all_least (more_trees t ts) ps offsets e (inr (p, here, inl f)) = absurd (cc f.2)
-    all_least (more_trees t ts) ps offsets e (inr (p, here, inr (rest, later, is))) =
+    all_least (more_trees t ts) ps [] e (inr (p, here, inr (rest, later, is))) = let same : p ∷ rest ≡ ps = cc in absurd (omega (arith, ap (λ qs. length qs) same))
+    all_least (more_trees t ts) ps (o ∷ offsets) e (inr (p, here, inr (rest, later, is))) =
         let same : p ∷ rest ≡ ps = cc in
-        subst (λ qs. HaveLeastStructs dl (more_trees t ts) (parts_at offsets qs)) same
-        (put offsets (e ∙ ap (λ qs. length qs) (sym same)))
-      where
-        put : (offsets : List ℕ) → length offsets ≡ length (p ∷ rest) → HaveLeastStructs dl (more_trees t ts) (parts_at offsets (p ∷ rest))
-        put [] count = absurd (omega arith)
-        put (o ∷ offsets) count = (laid_least t p here, all_least ts rest offsets (omega arith) later)
+        subst (λ qs. HaveLeastStructs dl (more_trees t ts) (parts_at (o ∷ offsets) qs)) same
+        (laid_least t p here, all_least ts rest offsets (omega (arith, e, ap (λ qs. length qs) same)) later)
 
   mutual
     -- a tree that is refused for a size is too large
@@ -337,3 +347,20 @@ module _ (dl : TargetDataLayout) (law : IsLawfulDataLayout dl) where
     variants_refused (more_variants discriminant ts others) r (inr (ps, there, large)) h =
         follows_refused (VariantsLaying dl others) (λ rest z. z ≡ Ok (ps ∷ rest)) r (λ x here. variants_refused others x large here)
         (follows_on (AreLaying dl ts) (λ ps. Follows (VariantsLaying dl others) (λ rest z. z ≡ Ok (ps ∷ rest))) r ps there (λ x y a b. one_list dl ts x y a b) h)
+
+  -- what a refusal tells of sizes, and a layout
+  pub told_overflow : (t : Tree) (e : LayError) → IsRefused (IsLaying dl t) e → e ≡ SizeOverflow → IsTooLarge dl t
+  told_overflow t e (inl memory) size = absurd (not_size_either (sym size ∙ memory))
+  told_overflow t e (inr refused) size = refused_overflow t (subst (λ x. IsLaying dl t (Err x)) size refused)
+
+  pub told_large : (t : Tree) (e : LayError) → IsRefused (IsLaying dl t) e → IsTooLarge dl t → (e ≡ SizeOverflow) ⊎ (e ≡ LayError.OutOfMemory)
+  told_large t e (inl memory) large = inr memory
+  told_large t e (inr refused) large = let same : Err e ≡ Err SizeOverflow = large_refused t (Err e) large refused in inl (cc)
+
+  pub never_large : (t : Tree) (p : Placed) → IsLaying dl t (Ok p) → IsTooLarge dl t → ⊥
+  never_large t p laid large = let same : Ok p ≡ Err SizeOverflow = large_refused t (Ok p) large laid in absurd (cc)
+
+-- an error that was passed on, as one of these
+pub passed_as : {B : Type 0} (P : LayError → Type 0) (e : LayError) (r : Result B LayError) → IsErrAnd r (λ error. error ≡ e) → P e → IsErrAnd r P
+passed_as P e (Ok b) h p = absurd h
+passed_as P e (Err error) h p = subst P (sym h) p

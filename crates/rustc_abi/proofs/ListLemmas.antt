@@ -1,5 +1,5 @@
 -- The calculator's answer to a list of fields, whatever lends their layouts.
-use Rattle.std.proofs.Common.{◌≡◌, ℕ, ◌<◌, List, [], ◌∷◌, Option, Some, Bool, true, false, map, refl, sym, ap, ◌∙◌, subst, inl, inr, All, Result, Ok, Err, zero, suc}
+use Rattle.std.proofs.Common.{◌≡◌, ℕ, ◌<◌, List, [], ◌∷◌, Some, Bool, true, false, map, refl, sym, ap, ◌∙◌, subst, inl, inr, All, Result, Ok, Err, zero, suc}
 use Rattle.std.specs.Prelude.{nat_lt, slice_get, if◌then◌else◌}
 use Rattle.std.specs.List.{list_all}
 use Rattle.std.specs.Result.{IsErrAnd, IfErr}
@@ -18,7 +18,7 @@ use Rattle.abi_calc.specs.declared.order.NicheBias.TheVariants.{Start}
 use Rattle.abi_calc.specs.declared.placing.ListFault.{ListFault}
 use Rattle.abi_calc.specs.declared.placing.ListFault.TheVariants as fault
 use Rattle.abi_calc.specs.Fault.{IsErrorOf, fault_in}
-use Rattle.abi_calc.specs.List.{IsListAnswer, IsListError, parts_of}
+use Rattle.abi_calc.specs.List.{IsListAnswer, parts_of}
 use Rattle.abi_calc.specs.Order.{IsNamedOrder}
 use Rattle.abi_calc.specs.Placement.{list_repr}
 use Rattle.rustc_abi.specs.declared.error.LayError.{LayError}

@@ -1,6 +1,6 @@
 -- A tree has one answer: its layout, or its first fault.
-use Rattle.std.proofs.Common.{◌≡◌, ℕ, Bool, true, false, List, [], ◌∷◌, Option, Some, None, length, map, inl, inr, refl, sym, ap, ◌∙◌, subst, Result, Ok, Err}
-use Rattle.std.specs.Prelude.{◌⊎◌, MatchOption}
+use Rattle.std.proofs.Common.{◌≡◌, Bool, List, ◌∷◌, Option, Some, None, length, map, inl, inr, sym, ap, ◌∙◌, subst, Result, Ok, Err}
+use Rattle.std.specs.Prelude.{MatchOption}
 use Rattle.std.proofs.lemmas.List.{map-id}
 use Rattle.abi_base.specs.declared.data_layout.TargetDataLayout.{TargetDataLayout}
 use Rattle.abi_base.specs.declared.struct_kind.StructKind.{StructKind}
@@ -19,7 +19,7 @@ use Rattle.rustc_abi.specs.declared.error.LayError.{LayError}
 use Rattle.rustc_abi.specs.Tree.{Tree, scalar, pair, never, unit, array, vector, struct, union, enum, coroutine, Trees, no_trees, more_trees, Variants, no_variants, more_variants}
 use Rattle.rustc_abi.specs.Placed.{Placed, Layout, layout_of}
 use Rattle.rustc_abi.specs.Error.{Follows, lay_error}
-use Rattle.rustc_abi.specs.Laying.{IsLaying, AreLaying, VariantsLaying, IsFieldsAnswer, IsListed, IsNotYet, fields_fault, kind_of, placed_fields}
+use Rattle.rustc_abi.specs.Laying.{IsLaying, AreLaying, VariantsLaying, IsFieldsAnswer, IsListed, IsNotYet, elements_answer, fields_fault, kind_of, placed_fields}
 use Rattle.rustc_abi.proofs.AlignedLemmas.{length-asked, some_field}
 
 -- what has one answer goes on to one answer
@@ -27,7 +27,8 @@ follows_one : {A B : Type 0} (P : Result A LayError → Type 0) (next : A → Re
     → ((x y : Result A LayError) → P x → P y → x ≡ y) → ((a : A) → next a r → next a s → r ≡ s) → Follows P next r → Follows P next s → r ≡ s
 follows_one P next r s one then_one (inl (e, p, is)) (inl (f, q, that)) =
     let same : Err e ≡ Err f = one (Err e) (Err f) p q in
-    is ∙ same ∙ sym that
+    let name : e ≡ f = cc in
+    is ∙ ap (λ x. Err x) name ∙ sym that
 follows_one P next r s one then_one (inl (e, p, is)) (inr (a, q, n)) =
     let same : Err e ≡ Ok a = one (Err e) (Ok a) p q in
     absurd (cc)
@@ -59,14 +60,17 @@ module _ (dl : TargetDataLayout) (repr : ReprOptions) (kind : StructKind) (layou
       let one : fault2 ≡ fault = cc in
       one_name fault e f of (subst (λ x. IsErrorOf layouts x f) one of2)
 
+  never_both : (a : Layout) (f : LayError) → IsListed dl repr kind layouts (Ok a) → IsListed dl repr kind layouts (Err f) → ⊥
+  never_both a f (order, offsets, made) (error, (first, named, fault, there, of), e) =
+      never_refused dl (list_repr dl repr kind) (parts_of dl layouts) some order offsets first a.size a.align.abi a.largest_niche fault made.named
+      (subst (λ ls. IsNamedOrder (list_repr dl repr kind) Start (parts_of dl ls) first) whole named)
+      (subst (λ ls. fault_in (list_repr dl repr kind) (size_bound dl) (parts_of dl ls) first ≡ Some fault) whole there)
+
   one_listed : (r s : Result Layout LayError) → IsListed dl repr kind layouts r → IsListed dl repr kind layouts s → r ≡ s
   one_listed (Ok a) (Ok b) (order, offsets, made) (order2, offsets2, made2) =
       ap (λ l. Ok l) (one_layout (λ i. i) 0 dl repr kind layouts order order2 offsets offsets2 a b some made made2)
-  one_listed (Ok a) (Err f) (order, offsets, made) (error, (first, named, fault, there, of), e) =
-      absurd (never_refused dl (list_repr dl repr kind) (parts_of dl layouts) some order offsets first a.size a.align.abi a.largest_niche fault made.named
-      (subst (λ ls. IsNamedOrder (list_repr dl repr kind) Start (parts_of dl ls) first) whole named)
-      (subst (λ ls. fault_in (list_repr dl repr kind) (size_bound dl) (parts_of dl ls) first ≡ Some fault) whole there))
-  one_listed (Err e) (Ok b) h k = sym (one_listed (Ok b) (Err e) k h)
+  one_listed (Ok a) (Err f) h k = absurd (never_both a f h k)
+  one_listed (Err e) (Ok b) h k = absurd (never_both b e k h)
   one_listed (Err e) (Err f) (error, refused, named) (error2, refused2, named2) = ap (λ x. Err x) (named ∙ one_error error error2 refused refused2 ∙ sym named2)
 
 module _ (dl : TargetDataLayout) where
@@ -79,6 +83,10 @@ module _ (dl : TargetDataLayout) where
       (λ layout a b. a ∙ sym b) h k
   one_fields (Some f) repr always_sized ps r s h k = h ∙ sym k
 
+  -- nothing but `NotYet` is answered
+  one_not_yet : {A : Type 0} (a : A) (r s : Result Placed LayError) → IsNotYet a r → IsNotYet a s → r ≡ s
+  one_not_yet a r s h k = h ∙ sym k
+
   mutual
     -- a tree has one answer
     pub one_answer : (t : Tree) (r s : Result Placed LayError) → IsLaying dl t r → IsLaying dl t s → r ≡ s
@@ -86,24 +94,28 @@ module _ (dl : TargetDataLayout) where
     one_answer (pair a b) r s h k = h ∙ sym k
     one_answer never r s h k = h ∙ sym k
     one_answer unit r s h k = h ∙ sym k
-    one_answer (array count element) r s h k = follows_one _ _ r s (λ x y p q. one_answer element x y p q) (λ p a b. a ∙ sym b) h k
+    one_answer (array count element) r s h k =
+        follows_one (IsLaying dl element) (λ p z. z ≡ elements_answer dl count p) r s (λ x y p q. one_answer element x y p q) (λ p (a : r ≡ elements_answer dl count p) b. a ∙ sym b) h k
     one_answer (struct repr always_sized all) r s h k =
-        follows_one _ _ r s (λ x y p q. one_list all x y p q) (λ ps a b. one_fields (fields_fault repr ps) repr always_sized ps r s a b) h k
-    one_answer (vector lanes packed element) r s h k = follows_one _ _ r s (λ x y p q. one_answer element x y p q) (λ p a b. a ∙ sym b) h k
-    one_answer (union repr all) r s h k = follows_one _ _ r s (λ x y p q. one_list all x y p q) (λ ps a b. a ∙ sym b) h k
-    one_answer (enum repr all) r s h k = follows_one _ _ r s (λ x y p q. one_list_each all x y p q) (λ ps a b. a ∙ sym b) h k
+        follows_one (AreLaying dl all) (IsFieldsAnswer dl repr always_sized) r s (λ x y p q. one_list all x y p q)
+        (λ ps a b. one_fields (fields_fault repr ps) repr always_sized ps r s a b) h k
+    one_answer (vector lanes packed element) r s h k =
+        follows_one (IsLaying dl element) IsNotYet r s (λ x y p q. one_answer element x y p q) (λ p a b. one_not_yet p r s a b) h k
+    one_answer (union repr all) r s h k = follows_one (AreLaying dl all) IsNotYet r s (λ x y p q. one_list all x y p q) (λ ps a b. one_not_yet ps r s a b) h k
+    one_answer (enum repr all) r s h k = follows_one (VariantsLaying dl all) IsNotYet r s (λ x y p q. one_list_each all x y p q) (λ ps a b. one_not_yet ps r s a b) h k
     one_answer (coroutine prefix locals states conflicts) r s h k =
-        follows_one _ _ r s (λ x y p q. one_list prefix x y p q)
-        (λ ps a b. follows_one (AreLaying dl locals) IsNotYet r s (λ x y p q. one_list locals x y p q) (λ qs c d. c ∙ sym d) a b) h k
+        follows_one (AreLaying dl prefix) (λ ps. Follows (AreLaying dl locals) IsNotYet) r s (λ x y p q. one_list prefix x y p q)
+        (λ ps a b. follows_one (AreLaying dl locals) IsNotYet r s (λ x y p q. one_list locals x y p q) (λ qs c d. one_not_yet qs r s c d) a b) h k
 
     pub one_list : (ts : Trees) (r s : Result (List Placed) LayError) → AreLaying dl ts r → AreLaying dl ts s → r ≡ s
     one_list no_trees r s h k = h ∙ sym k
     one_list (more_trees t ts) r s h k =
-        follows_one _ _ r s (λ x y p q. one_answer t x y p q)
-        (λ p a b. follows_one (AreLaying dl ts) (λ ps z. z ≡ Ok (p ∷ ps)) r s (λ x y u v. one_list ts x y u v) (λ ps c d. c ∙ sym d) a b) h k
+        follows_one (IsLaying dl t) (λ p. Follows (AreLaying dl ts) (λ ps z. z ≡ Ok (p ∷ ps))) r s (λ x y p q. one_answer t x y p q)
+        (λ p a b. follows_one (AreLaying dl ts) (λ ps z. z ≡ Ok (p ∷ ps)) r s (λ x y u v. one_list ts x y u v) (λ ps (c : r ≡ Ok (p ∷ ps)) d. c ∙ sym d) a b) h k
 
     one_list_each : (all : Variants) (r s : Result (List (List Placed)) LayError) → VariantsLaying dl all r → VariantsLaying dl all s → r ≡ s
     one_list_each no_variants r s h k = h ∙ sym k
     one_list_each (more_variants discriminant ts others) r s h k =
-        follows_one _ _ r s (λ x y p q. one_list ts x y p q)
-        (λ ps a b. follows_one (VariantsLaying dl others) (λ rest z. z ≡ Ok (ps ∷ rest)) r s (λ x y u v. one_list_each others x y u v) (λ rest c d. c ∙ sym d) a b) h k
+        follows_one (AreLaying dl ts) (λ ps. Follows (VariantsLaying dl others) (λ rest z. z ≡ Ok (ps ∷ rest))) r s (λ x y p q. one_list ts x y p q)
+        (λ ps a b. follows_one (VariantsLaying dl others) (λ rest z. z ≡ Ok (ps ∷ rest)) r s (λ x y u v. one_list_each others x y u v)
+        (λ rest (c : r ≡ Ok (ps ∷ rest)) d. c ∙ sym d) a b) h k

@@ -1,5 +1,5 @@
 -- Lawful scalars: what tests tell of them, and what may be asked of them.
-use Rattle.std.proofs.Common.{◌≡◌, ℕ, ◌+◌, ◌-◌, ◌*◌, ◌%◌, ◌/◌, ◌^◌, ◌<◌, ◌≤◌, arith, sym, ap, lit≤, lit<, zero, suc}
+use Rattle.std.proofs.Common.{ℕ, ◌+◌, ◌-◌, ◌%◌, ◌^◌, ◌<◌, ◌≤◌, arith, lit<, zero, suc}
 use Rattle.std.specs.Int.{◌∣◌, next_multiple_of}
 use Rattle.std.proofs.Math.Nat.{two-pow-succ, pow-le-pow_right}
 use Rattle.std.proofs.lemmas.Nat.{pow_pos, mod_below}

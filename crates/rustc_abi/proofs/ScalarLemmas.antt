@@ -1,23 +1,18 @@
 -- A scalar's layout keeps its numbers.
 use Rattle.std.proofs.Common.{◌≤◌, ◌≡◌, ℕ, ◌+◌, ◌<◌, List, length, Some, None, arith, refl, sym, ap, ◌∙◌, subst, ◌*◌, ◌%◌}
-use Rattle.std.specs.Prelude.{IfSome, true, false, Bool, ◌==◌, ◌-◌, if◌then◌else◌}
+use Rattle.std.specs.Prelude.{IfSome, true, false, Bool, ◌==◌, if◌then◌else◌}
 use Rattle.std.proofs.lemmas.List.{take_all}
 use Rattle.std.proofs.Math.Nat.{mod-eq_of_lt}
 use Rattle.std.proofs.lemmas.Nat.{mod_below, pow_pos}
 use Rattle.std.proofs.lemmas.Option.{IfSome_then}
-use Rattle.std.proofs.lemmas.Bool.{ltb-true, lt-ltb, eqb-true, and_parts}
-use Rattle.abi_base.specs.declared.integer.Integer.{Integer}
-use Rattle.abi_base.specs.declared.integer.Integer.TheVariants.{I8, I16, I32, I64, I128}
-use Rattle.abi_base.specs.declared.primitive.Primitive.TheVariants.{Int, Float, Pointer}
-use Rattle.abi_base.specs.Integer.{integer_size}
+use Rattle.std.proofs.lemmas.Bool.{ltb-true, lt-ltb}
 use Rattle.abi_base.specs.Primitive.{primitive_size}
-use Rattle.abi_scalar.specs.declared.wrapping_range.WrappingRange.{WrappingRange}
 use Rattle.abi_base.specs.declared.data_layout.TargetDataLayout.{TargetDataLayout}
 use Rattle.abi_scalar.specs.declared.scalar.Scalar.{Scalar}
 use Rattle.abi_scalar.specs.declared.scalar.Scalar.TheVariants.{Initialized, Union}
 use Rattle.abi_scalar.specs.declared.niche.Niche.{Niche}
-use Rattle.abi_scalar.specs.Range.{numbers_of, IsIn, AreWithin, free_count}
-use Rattle.abi_scalar.specs.Scalar.{scalar_size, IsNumberOf, IsReadable, IsLawfulScalar}
+use Rattle.abi_scalar.specs.Range.{numbers_of, IsIn, free_count}
+use Rattle.abi_scalar.specs.Scalar.{scalar_size, IsNumberOf, IsLawfulScalar}
 use Rattle.abi_scalar.specs.Niche.{niche_size, niche_at}
 use Rattle.abi_scalar.specs.Lawful.{IsLawfulLayout}
 use Rattle.rustc_abi.specs.Tree.{Tree, scalar}

@@ -1,12 +1,11 @@
 -- Why a scalar has no layout.
-use Rattle.std.specs.Prelude.{ℕ, ◌%◌, ◌^◌, ◌==◌, ◌&&◌, Bool, true, false, nat_le, nat_lt, Option, Some, None, if◌then◌else◌}
+use Rattle.std.specs.Prelude.{◌%◌, ◌^◌, ◌==◌, ◌&&◌, Bool, true, false, nat_le, nat_lt, Option, Some, None, if◌then◌else◌}
 use Rattle.abi_base.specs.declared.data_layout.TargetDataLayout.{TargetDataLayout}
 use Rattle.abi_base.specs.declared.pointer_spec.PointerSpec.{PointerSpec}
 use Rattle.abi_base.specs.declared.primitive.Primitive.{Primitive}
 use Rattle.abi_base.specs.declared.primitive.Primitive.TheVariants.{Int, Float, Pointer}
 use Rattle.abi_base.specs.DataLayout.{known_spec}
 use Rattle.abi_base.specs.Primitive.{primitive_size}
-use Rattle.abi_scalar.specs.declared.wrapping_range.WrappingRange.{WrappingRange}
 use Rattle.abi_scalar.specs.declared.scalar.Scalar.{Scalar}
 use Rattle.abi_scalar.specs.declared.scalar.Scalar.TheVariants.{Initialized, Union}
 use Rattle.abi_scalar.specs.Range.{numbers_of}

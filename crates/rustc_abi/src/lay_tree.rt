@@ -1,12 +1,14 @@
 //! The layout of a tree.
 
-ghost use Rattle.std.specs.Prelude.{◌≡◌, IfOk, IfErr, Err, Ok};
+ghost use Rattle.std.specs.Prelude.{◌≡◌, ◌⊎◌, IfOk, IfErr, Err, Ok, Result};
+ghost use Rattle.std.specs.Result.{IsErrAnd};
 ghost use Rattle.abi_base.specs.DataLayout.{IsLawfulDataLayout};
 ghost use Rattle.rustc_abi.specs.Tree.{tree_of};
 ghost use Rattle.rustc_abi.specs.Values.{LocalsHaveValues, VectorsHaveValues};
 ghost use Rattle.rustc_abi.specs.Faithful.{EachValueIsHeld, OnlyValuesAreHeld, NoBytesHoldTwo, IsNicheTrue, IsNicheInside, PaddingDecidesNothing, IsViewTrue, IsFlagTrue};
 ghost use Rattle.abi_scalar.specs.Lawful.{IsLawfulLayout};
-ghost use Rattle.rustc_abi.specs.Placed.{layout_of};
+ghost use Rattle.rustc_abi.specs.declared.error.LayError.{LayError};
+ghost use Rattle.rustc_abi.specs.Placed.{Placed, layout_of};
 ghost use Rattle.rustc_abi.specs.Laid.{placed_of, endian_of};
 ghost use Rattle.rustc_abi.specs.Laying.{IsLaying};
 ghost use Rattle.rustc_abi.specs.Least.{HasLeastStructs, IsTooLarge};
@@ -31,7 +33,8 @@ pub fn lay_out(alloc: Global, dl: &TargetDataLayout, tree: &TypeTree) -> Result<
     ensures lawful { IfOk result (λ _. IsLawfulDataLayout dl.now) }
     ensures refused { IfErr result (IsRefusedFor dl.now (tree_of tree.now)) }
 
-    // Which layout each part has.
+    // Which layout each part has: there is one answer.
+    ensures one { (a b : Result Placed LayError) → IsLaying dl.now (tree_of tree.now) a → IsLaying dl.now (tree_of tree.now) b → a ≡ b }
     ensures laid { IfOk result (λ laid. IsLaying dl.now (tree_of tree.now) (Ok (placed_of laid))) }
     ensures layout { IfOk result (λ laid. IsLawfulLayout dl.now (layout_of (placed_of laid))) }
     ensures order { IfOk result (λ laid. endian_of laid ≡ dl.now.endian) }

@@ -1,4 +1,4 @@
-use Rattle.std.proofs.Common.{◌≡◌, ◌+◌, ◌*◌, List, Ok, map, take}
+use Rattle.std.proofs.Common.{◌+◌, ◌*◌, List, Ok, map, take}
 use Rattle.rustc_abi.specs.Tree.{tree_of, trees, trees_of_variants}
 use Rattle.rustc_abi.specs.Placed.{Placed}
 use Rattle.rustc_abi.specs.Laying.{VariantsLaying}

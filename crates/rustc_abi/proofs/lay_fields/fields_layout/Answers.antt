@@ -6,8 +6,6 @@ use Rattle.abi_calc.specs.Apart.{AreApart, offsets_of}
 use Rattle.abi_calc.specs.ListNiche.{IsNicheOfPart}
 use Rattle.abi_scalar.specs.Lawful.{IsLawfulLayout}
 use Rattle.rustc_abi.specs.Placed.{layout_of}
-use Rattle.rustc_abi.specs.Error.{IsRefused}
-use Rattle.rustc_abi.specs.Laying.{IsListed}
 use Rattle.rustc_abi.specs.Adding.{all_at}
 use Rattle.rustc_abi.proofs.ListLemmas.{listed_ok, listed_err, All-from_map, passed_on, sizes_by}
 use Rattle.rustc_abi.proofs.lay_fields.fields_layout.Goals as goal

@@ -1,4 +1,4 @@
-use Rattle.std.proofs.Common.{◌≡◌, ◌<◌, ◌≤◌, arith, ap, sym, ◌∙◌, subst}
+use Rattle.std.proofs.Common.{◌≡◌, ◌<◌, arith, ap, subst}
 use Rattle.std.specs.Cmp.Derive.{both_true}
 use Rattle.std.proofs.lemmas.Bool.{lt-ltb}
 use Rattle.std.proofs.lemmas.Result.{IfOk-weaker}
@@ -11,7 +11,7 @@ use Rattle.rustc_abi.specs.Adding.{IsPut}
 use Rattle.rustc_abi.proofs.NodesLemmas.{length-types_in}
 use Rattle.rustc_abi.proofs.FaultLemmas.{faultless}
 use Rattle.rustc_abi.proofs.RoomForPair.{lawful_readable, lawful_room}
-use Rattle.rustc_abi.proofs.LayLemmas.{IsAdded-pair, pair_overflows}
+use Rattle.rustc_abi.proofs.LayLemmas.{IsAdded-pair}
 use Rattle.rustc_abi.proofs.lay_scalar.add_two.Goals as goal
 
 pub scalar_pair-requires-clause-first : goal.scalar_pair-requires-clause-first

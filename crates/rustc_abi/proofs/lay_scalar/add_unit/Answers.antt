@@ -1,4 +1,4 @@
-use Rattle.std.proofs.Common.{ap, sym, refl, subst, Ok}
+use Rattle.std.proofs.Common.{refl, subst}
 use Rattle.std.proofs.lemmas.Result.{IfOk-weaker}
 use Rattle.abi_calc.specs.Apart.{offsets_of}
 use Rattle.abi_scalar.specs.Lawful.{IsLawfulLayout}

@@ -1,4 +1,8 @@
-use Rattle.rustc_abi.proofs.LayLemmas.{faithful_root, lawful_root}
+use Rattle.rustc_abi.specs.Tree.{tree_of}
+use Rattle.rustc_abi.proofs.LayLemmas.{faithful_root, laid_root, lawful_root}
+use Rattle.rustc_abi.proofs.LeastLemmas.{laid_least, never_large, passed_as, told_large, told_overflow}
+use Rattle.rustc_abi.proofs.ListLemmas.{passed_on}
+use Rattle.rustc_abi.proofs.OneAnswer.{one_answer}
 use Rattle.rustc_abi.proofs.lay_tree.lay_out.Goals as goal
 
 pub returns-clause-exists : goal.returns-clause-exists
@@ -21,3 +25,33 @@ returns-clause-uninhabited c = λ locals vectors. (faithful_root _ _ _ _ _ _ c.i
 
 pub returns-clause-layout : goal.returns-clause-layout
 returns-clause-layout c = lawful_root _ _ _ _ _ _ c.in_ok-_root.ensures.ok c.new.ensures.placed
+
+pub returns-clause-inside : goal.returns-clause-inside
+returns-clause-inside c = λ locals. (faithful_root _ _ _ _ _ _ c.in_ok-_root.ensures.ok c.new.ensures.placed locals).inside
+
+pub returns-clause-least : goal.returns-clause-least
+returns-clause-least c =
+    let law = c.is_lawful.ensures.0 c.if-not-is_lawful.false in
+    laid_least c.args.dl.now law (tree_of c.args.tree.now) _ (laid_root _ _ _ _ _ _ c.in_ok-_root.ensures.ok c.new.ensures.placed)
+
+pub returns-clause-too_large : goal.returns-clause-too_large
+returns-clause-too_large c law large =
+    never_large c.args.dl.now law (tree_of c.args.tree.now) _ (laid_root _ _ _ _ _ _ c.in_ok-_root.ensures.ok c.new.ensures.placed) large
+
+pub returns-in_err-_root-clause-overflow : goal.returns-in_err-_root-clause-overflow
+returns-in_err-_root-clause-overflow c =
+    let law = c.is_lawful.ensures.0 c.if-not-is_lawful.false in
+    passed_on _ _ _ c.from_residual.ensures.1 (λ size. told_overflow c.args.dl.now law (tree_of c.args.tree.now) _ c.in_err-_root.ensures.err size)
+
+pub returns-in_err-_root-clause-too_large : goal.returns-in_err-_root-clause-too_large
+returns-in_err-_root-clause-too_large c law large =
+    passed_as _ _ _ c.from_residual.ensures.1 (told_large c.args.dl.now law (tree_of c.args.tree.now) _ c.in_err-_root.ensures.err large)
+
+pub returns-clause-one : goal.returns-clause-one
+returns-clause-one c a b h k = one_answer c.args.dl.now (tree_of c.args.tree.now) a b h k
+
+pub returns-in_err-_root-clause-one : goal.returns-in_err-_root-clause-one
+returns-in_err-_root-clause-one c a b h k = one_answer c.args.dl.now (tree_of c.args.tree.now) a b h k
+
+pub returns-then-not-is_lawful-clause-one : goal.returns-then-not-is_lawful-clause-one
+returns-then-not-is_lawful-clause-one c a b h k = one_answer c.args.dl.now (tree_of c.args.tree.now) a b h k
