@@ -21,3 +21,10 @@ mod RoomLemmas
 mod PaddingLemmas
 mod Facts
 mod LayLemmas
+mod PickedLemmas
+mod CommonLemmas
+mod UnionLemmas
+mod AnywhereLemmas
+mod VectorLemmas
+mod CalcLemmas
+mod TogetherLemmas

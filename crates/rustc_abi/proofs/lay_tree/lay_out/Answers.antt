@@ -1,4 +1,4 @@
-use Rattle.rustc_abi.proofs.LayLemmas.{faithful_root, lawful_root}
+use Rattle.rustc_abi.proofs.LayLemmas.{faithful_root, lawful_root, begins_root, common_root}
 use Rattle.rustc_abi.proofs.lay_tree.lay_out.Goals as goal
 
 pub returns-clause-exists : goal.returns-clause-exists
@@ -18,6 +18,12 @@ returns-clause-view c = λ locals. (faithful_root _ _ _ _ _ _ c.in_ok-_root.ensu
 
 pub returns-clause-uninhabited : goal.returns-clause-uninhabited
 returns-clause-uninhabited c = λ locals vectors. (faithful_root _ _ _ _ _ _ c.in_ok-_root.ensures.ok c.new.ensures.placed locals).flag vectors
+
+pub returns-clause-begins : goal.returns-clause-begins
+returns-clause-begins c = begins_root _ _ _ _ _ _ c.in_ok-_root.ensures.ok c.new.ensures.placed
+
+pub returns-clause-common : goal.returns-clause-common
+returns-clause-common c = λ locals. common_root _ _ _ _ _ _ c.in_ok-_root.ensures.ok c.new.ensures.placed locals
 
 pub returns-clause-layout : goal.returns-clause-layout
 returns-clause-layout c = lawful_root _ _ _ _ _ _ c.in_ok-_root.ensures.ok c.new.ensures.placed
