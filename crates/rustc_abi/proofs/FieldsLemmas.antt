@@ -21,6 +21,7 @@ use Rattle.rustc_abi.specs.Values.{IsValueOf, LocalsOfEach, VectorsOfEach}
 use Rattle.rustc_abi.specs.Holding.{Holds, HoldParts}
 use Rattle.rustc_abi.specs.Faithful.{AgreeOn, IsFaithful, IsFlagTrue, IsTrueOf}
 use Rattle.rustc_abi.specs.Fits.{Fits}
+use Rattle.rustc_abi.specs.Unions.{IsCommon, InUnionsOf}
 use Rattle.rustc_abi.specs.Nodes.{parts_at}
 use Rattle.rustc_abi.specs.Adding.{EachFits}
 use Rattle.std.specs.List.{list_any}
@@ -188,6 +189,13 @@ lengths_together size (o ∷ offsets) [] apart = absurd apart
 lengths_together size [] (p ∷ ps) apart = absurd apart
 lengths_together size (o ∷ offsets) (p ∷ ps) apart = ap suc (lengths_together size offsets ps apart.2)
 
+-- what each type keeps in its unions
+pub common_each : (dl : TargetDataLayout) (ts : Trees) (offsets : List ℕ) (ps : List Placed) → EachFits dl ts ps → LocalsOfEach dl ts → InUnionsOf (IsCommon dl.endian) (parts_at offsets ps)
+common_each dl ts [] ps fits locals = tt
+common_each dl ts (o ∷ offsets) [] fits locals = tt
+common_each dl no_trees (o ∷ offsets) (p ∷ ps) fits locals = absurd fits
+common_each dl (more_trees t ts) (o ∷ offsets) (p ∷ ps) fits locals = (Fits.common fits.0 locals.0, common_each dl ts offsets ps fits.1 locals.1)
+
 -- a layout of fields, wherever they lie
 pub Fits-fields : (dl : TargetDataLayout) (repr : ReprOptions) (always_sized fixed : Bool) (ts : Trees) (layout : Layout) (offsets : List ℕ) (ps : List Placed) →
     EachFits dl ts ps → AreApart layout.size offsets (map size_of ps) → IfSome layout.largest_niche (IsPartNiche (parts_at offsets ps)) →
@@ -203,4 +211,5 @@ Fits-fields dl repr always_sized fixed ts layout offsets ps fits apart niche vie
   lawful = lawful;
   room = room_of dl layout.size ts offsets ps apart fits;
   within = within_parts layout.size (parts_at offsets ps) (inside dl layout.size ts offsets ps apart fits);
+  common = common_each dl ts offsets ps fits;
 }

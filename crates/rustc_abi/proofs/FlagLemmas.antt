@@ -15,7 +15,7 @@ use Rattle.rustc_abi.specs.Nodes.{parts_at}
 use Rattle.rustc_abi.specs.Adding.{EachFits}
 
 -- so many values, all alike
-alike : (P : Value → Type 0) (v : Value) → P v → (count : ℕ) → (vs : Values) × (value_count vs ≡ count) × Each P vs
+pub alike : (P : Value → Type 0) (v : Value) → P v → (count : ℕ) → (vs : Values) × (value_count vs ≡ count) × Each P vs
 alike P v h zero = (no_values, refl, tt)
 alike P v h (suc n) = let rest = alike P v h n in (more_values v rest.0, omega (arith, rest.1), (h, rest.2))
 

@@ -33,6 +33,8 @@ use Rattle.rustc_abi.specs.Nodes.{placed_in, meaning, types_in, placed_at, root_
 use Rattle.rustc_abi.specs.Values.{LocalsHaveValues}
 use Rattle.rustc_abi.specs.Faithful.{IsFaithful}
 use Rattle.rustc_abi.specs.Laying.{IsLaying, AreLaying, IsFieldsAnswer, IsListed, fields_fault, has_bad_align, is_above_limit, most_fields, kind_of, placed_fields, placed_by, unless, one_scalar, two_scalars, pair_answer}
+use Rattle.rustc_abi.specs.Unions.{Begins, IsCommon, InUnions}
+use Rattle.rustc_abi.proofs.CommonLemmas.{begins_room}
 use Rattle.rustc_abi.specs.Adding.{IsPut, IsAdded, EachFits, all_at, AreAdded}
 use Rattle.rustc_abi.proofs.ElementsLemmas.{IsElementNiche, Fits-elements}
 use Rattle.rustc_abi.proofs.FieldsLemmas.{part_of_list, Fits-fields}
@@ -226,6 +228,19 @@ pub laid_root : (dl : TargetDataLayout) (old new : List Node) (i : ℕ) (t : Tre
 laid_root dl old new i t placed added is =
     let root : i ≡ length new - 1 = omega (arith, added.last) in
     subst (λ p. IsLaying dl t (Ok p)) (ap (placed_at new) root ∙ sym is) added.exact
+
+-- the last node's type, with what each union in it keeps
+pub begins_root : (dl : TargetDataLayout) (old new : List Node) (i : ℕ) (t : Tree) (placed : Placed) → IsAdded dl old new i t → placed ≡ root_of new →
+    InUnions (Begins dl.endian) placed
+begins_root dl old new i t placed added is =
+    let root : i ≡ length new - 1 = omega (arith, added.last) in
+    subst (InUnions (Begins dl.endian)) (ap (placed_at new) root ∙ sym is) (begins_room dl.endian (placed_at new i) added.fits.room)
+
+pub common_root : (dl : TargetDataLayout) (old new : List Node) (i : ℕ) (t : Tree) (placed : Placed) → IsAdded dl old new i t → placed ≡ root_of new →
+    LocalsHaveValues dl t → InUnions (IsCommon dl.endian) placed
+common_root dl old new i t placed added is locals =
+    let root : i ≡ length new - 1 = omega (arith, added.last) in
+    subst (InUnions (IsCommon dl.endian)) (ap (placed_at new) root ∙ sym is) (added.fits.common locals)
 
 -- two scalars' layout
 pub IsAdded-pair : (dl : TargetDataLayout) (old one both new : List Node) (i j k : ℕ) (a b : Scalar) → scalar_fault dl a ≡ None → scalar_fault dl b ≡ None →

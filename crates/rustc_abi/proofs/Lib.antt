@@ -21,6 +21,13 @@ mod RoomLemmas
 mod PaddingLemmas
 mod Facts
 mod LayLemmas
+mod PickedLemmas
+mod CommonLemmas
+mod UnionLemmas
+mod AnywhereLemmas
+mod VectorLemmas
+mod CalcLemmas
+mod TogetherLemmas
 mod AlignedLemmas
 mod OneAnswer
 mod LeastLemmas

@@ -9,10 +9,10 @@ use Rattle.std.proofs.lemmas.Bool.{and_parts}
 use Rattle.std.specs.List.{list_all}
 use Rattle.abi_calc.specs.Apart.{offsets_of}
 use Rattle.rustc_abi.specs.declared.node.Shape.{Shape}
-use Rattle.rustc_abi.specs.declared.node.Shape.TheVariants.{Scalar, Pair, Never, Elements, Fields}
+use Rattle.rustc_abi.specs.declared.node.Shape.TheVariants.{Scalar, Pair, Never, Elements, Fields, Union, Vector}
 use Rattle.rustc_abi.specs.declared.node.Node.{Node}
-use Rattle.rustc_abi.specs.Placed.{Placed, Layout, layout_of, pair, elements, fields, nothing}
-use Rattle.rustc_abi.specs.Nodes.{placed_in, parts_at, meaning, meanings, types_in, placed_at, Keeps}
+use Rattle.rustc_abi.specs.Placed.{Placed, Layout, layout_of, pair, elements, vector, fields, union, nothing}
+use Rattle.rustc_abi.specs.Nodes.{placed_in, parts_at, parts_at_0, meaning, meanings, types_in, placed_at, Keeps}
 use Rattle.rustc_abi.specs.Adding.{is_node, are_nodes, IsPut}
 
 meanings-push : (done : List Placed) (ns : List Node) (n : Node) →
@@ -41,6 +41,8 @@ layout_of-meaning done layout (Pair first second) = refl
 layout_of-meaning done layout Never = refl
 layout_of-meaning done layout (Elements count element) = refl
 layout_of-meaning done layout (Fields children) = refl
+layout_of-meaning done layout (Union children) = refl
+layout_of-meaning done layout (Vector lanes) = refl
 
 layout_in : (done : List Placed) (ns : List Node) (i j : ℕ) (d : Node) → j ≡ length done + i → i < length ns →
     layout_of (placed_in (meanings done ns) j) ≡ (get_or ns i d).layout
@@ -133,6 +135,8 @@ meaning-same xs ys n same layout Never is = refl
 meaning-same xs ys n same layout (Elements count element) is = ap (elements layout count) (same element (ltb-true element n is))
 meaning-same xs ys n same layout (Fields children) is =
     ap (λ ps. fields layout (parts_at (offsets_of layout.fields) ps)) (children-same xs ys n same children.items is)
+meaning-same xs ys n same layout (Union children) is = ap (λ ps. union layout (parts_at_0 ps)) (children-same xs ys n same children.items is)
+meaning-same xs ys n same layout (Vector lanes) is = ap (vector layout) (same lanes (ltb-true lanes n is))
 
 placed_in-meanings : (done : List Placed) (ns : List Node) (i j : ℕ) (d : Node) → j ≡ length done + i → i < length ns → is_node j (get_or ns i d).shape ≡ true →
     placed_in (meanings done ns) j ≡ meaning (meanings done ns) (get_or ns i d).layout (get_or ns i d).shape

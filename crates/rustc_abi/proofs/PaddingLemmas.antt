@@ -1,5 +1,5 @@
 -- What each kind of node has of data places.
-use Rattle.std.proofs.Common.{◌≡◌, ℕ, zero, suc, ◌+◌, ◌-◌, ◌*◌, ◌/◌, ◌%◌, ◌<◌, ◌≤◌, List, [], ◌∷◌, ◌++◌, Bool, true, false, length, get_or, take, min, arith, refl, sym, ap, ◌∙◌, subst, All}
+use Rattle.std.proofs.Common.{◌≡◌, ℕ, zero, suc, ◌+◌, ◌-◌, ◌*◌, ◌/◌, ◌%◌, ◌<◌, ◌≤◌, List, [], ◌∷◌, ◌++◌, Bool, true, false, length, map, replicate, get_or, take, min, arith, refl, sym, ap, ◌∙◌, subst, All}
 use Rattle.std.specs.Prelude.{◌==◌, ◌&&◌, ◌||◌, nat_le, nat_lt, not, None}
 use Rattle.std.specs.List.{list_all}
 use Rattle.std.proofs.lemmas.Bool.{ltb-true, le-ltb, eqb-true, and_parts}
@@ -8,14 +8,14 @@ use Rattle.std.proofs.lemmas.List.Elements.{All-nil, All-cons}
 use Rattle.std.proofs.Math.Bool.{or-false}
 use Rattle.abi_calc.specs.Apart.{offsets_of}
 use Rattle.abi_scalar.specs.declared.scalar.Scalar.{Scalar}
-use Rattle.rustc_abi.specs.declared.node.Shape.TheVariants.{Scalar as Number, Pair, Never, Elements, Fields}
+use Rattle.rustc_abi.specs.declared.node.Shape.TheVariants.{Scalar as Number, Pair, Never, Elements, Fields, Union, Vector}
 use Rattle.rustc_abi.specs.declared.node.Node.{Node}
 use Rattle.rustc_abi.specs.declared.runs.Run.{Run}
 use Rattle.std.specs.Prelude.{Vec}
 use Rattle.std.specs.declared.alloc.Global.{Global}
-use Rattle.rustc_abi.specs.Placed.{Placed, Layout, scalar, pair, never, elements, fields, size_of, part, nothing}
+use Rattle.rustc_abi.specs.Placed.{Placed, Layout, scalar, pair, never, elements, vector, fields, union, size_of, part, nothing}
 use Rattle.rustc_abi.specs.Places.{is_data_place, is_place_of_part}
-use Rattle.rustc_abi.specs.Nodes.{parts_at, placed_at}
+use Rattle.rustc_abi.specs.Nodes.{parts_at, parts_at_0, placed_at}
 use Rattle.rustc_abi.specs.Room.{has_room, have_room}
 use Rattle.rustc_abi.specs.Adding.{are_nodes, all_at}
 use Rattle.rustc_abi.specs.Runs.{covers, repeats, Ascend, runs_from, is_beside, padding_of}
@@ -50,6 +50,19 @@ module _ (ns : List Node) (well : are_nodes 0 ns ≡ true) (i : ℕ) (n : Node) 
       let is = placed_at-node ns well i n (Fields children) lt at e in
       (all_before children.items is.0, is.1, ap has_room (sym is.1) ∙ room)
 
+  pub union_node : (children : Vec ℕ Global) → n.shape ≡ Union children →
+      All (λ child. child < i) children.items × (placed_at ns i ≡ union n.layout (parts_at_0 (all_at ns children.items)))
+      × (have_room n.layout.size (parts_at_0 (all_at ns children.items)) ≡ true)
+  union_node children e =
+      let is = placed_at-node ns well i n (Union children) lt at e in
+      (all_before children.items is.0, is.1, ap has_room (sym is.1) ∙ room)
+
+  pub vector_node : (lanes : ℕ) → n.shape ≡ Vector lanes → (lanes < i) × (placed_at ns i ≡ vector n.layout (placed_at ns lanes)) × (has_room (placed_at ns lanes) ≡ true)
+  vector_node lanes e =
+      let is = placed_at-node ns well i n (Vector lanes) lt at e in
+      let both = and_parts (nat_le (size_of (placed_at ns lanes)) n.layout.size) (has_room (placed_at ns lanes)) (ap has_room (sym is.1) ∙ room) in
+      (ltb-true lanes i is.0, is.1, both.1)
+
   pub pair_node : (first second : ℕ) → n.shape ≡ Pair first second →
       All (λ child. child < i) (first ∷ second ∷ []) × (placed_at ns i ≡ pair n.layout (parts_at (offsets_of n.layout.fields) (all_at ns (first ∷ second ∷ []))))
       × (have_room n.layout.size (parts_at (offsets_of n.layout.fields) (all_at ns (first ∷ second ∷ []))) ≡ true)
@@ -61,6 +74,18 @@ module _ (ns : List Node) (well : are_nodes 0 ns ≡ true) (i : ℕ) (n : Node) 
 pub places_of_elements : (layout : Layout) (count : ℕ) (element : Placed) (runs : List Run) → ((k : ℕ) → covers runs k ≡ is_data_place element k) → (k : ℕ) →
     repeats runs count (size_of element) k ≡ is_data_place (elements layout count element) k
 places_of_elements layout count element runs same k = ap (λ b. nat_lt (k / size_of element) count && b) (same (k % size_of element))
+
+-- as many zeros as types
+zeros_at : (ps : List Placed) (n : ℕ) → length ps ≡ n → map {B = ℕ} (λ p. 0) ps ≡ replicate n 0
+zeros_at [] zero e = refl
+zeros_at [] (suc n) e = absurd (omega arith)
+zeros_at (p ∷ ps) zero e = absurd (omega arith)
+zeros_at (p ∷ ps) (suc n) e = ap (λ zeros. 0 ∷ zeros) (zeros_at ps n (omega arith))
+
+-- a union's fields lie at as many zeros
+pub parts_at-zeros : (ns : List Node) (children : List ℕ) → parts_at (replicate (length children) 0) (all_at ns children) ≡ parts_at_0 (all_at ns children)
+parts_at-zeros ns children =
+    ap (λ zeros. parts_at zeros (all_at ns children)) (sym (zeros_at (all_at ns children) (length children) (length-map children (placed_at ns))))
 
 -- an array of nothing has no place
 pub places_of_none : (layout : Layout) (element : Placed) (k : ℕ) → false ≡ is_data_place (elements layout 0 element) k

@@ -95,13 +95,13 @@ module _ (dl : TargetDataLayout) where
       cc
 
   -- place j of a part at the offset is one of the parts
-  place_here : (o : ℕ) (placed : Placed) (parts : Parts) (j : ℕ) → is_data_place placed j ≡ true → is_place_of_part (part o placed parts) (o + j) ≡ true
+  pub place_here : (o : ℕ) (placed : Placed) (parts : Parts) (j : ℕ) → is_data_place placed j ≡ true → is_place_of_part (part o placed parts) (o + j) ≡ true
   place_here o placed parts j place =
       let at : o + j - o ≡ j = omega arith in
       ap (λ x. x || is_place_of_part parts (o + j))
       (both_true (le-leb o (o + j) (omega arith)) (ap (is_data_place placed) at ∙ place))
 
-  place_later : (o : ℕ) (placed : Placed) (parts : Parts) (k : ℕ) → is_place_of_part parts k ≡ true → is_place_of_part (part o placed parts) k ≡ true
+  pub place_later : (o : ℕ) (placed : Placed) (parts : Parts) (k : ℕ) → is_place_of_part parts k ≡ true → is_place_of_part (part o placed parts) k ≡ true
   place_later o placed parts k place =
       ap (λ x. (nat_le o k && is_data_place placed (k - o)) || x) place ∙ or-true (nat_le o k && is_data_place placed (k - o))
 

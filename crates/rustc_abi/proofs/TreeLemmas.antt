@@ -2,11 +2,11 @@
 use Rattle.std.proofs.Common.{Bool, Box, ◌≡◌, ℕ, zero, suc, ◌+◌, ◌*◌, ◌<◌, ◌≤◌, List, [], ◌∷◌, map, get_or, length, Vec, refl, ap, sym, ◌∙◌, arith}
 use Rattle.std.specs.declared.alloc.Global.{Global}
 use Rattle.abi_scalar.specs.declared.repr.ReprOptions.{ReprOptions}
-use Rattle.rustc_abi.specs.declared.tree.TypeTree.{TypeTree, Array, Struct, Enum, Coroutine, fold-roll-TypeTree}
-use Rattle.rustc_abi.specs.declared.tree.TypeTree.TheVariants.{rolls-Array, rolls-Struct, rolls-Enum, rolls-Coroutine}
+use Rattle.rustc_abi.specs.declared.tree.TypeTree.{TypeTree, Array, Vector, Struct, Union, Enum, Coroutine, fold-roll-TypeTree}
+use Rattle.rustc_abi.specs.declared.tree.TypeTree.TheVariants.{rolls-Array, rolls-Vector, rolls-Struct, rolls-Union, rolls-Enum, rolls-Coroutine}
 use Rattle.rustc_abi.specs.declared.tree.TypeTree.TheShapes.{former-TypeTree-Enum-1-at-3}
 use Rattle.rustc_abi.specs.declared.tree.TypeTree.TheOpen as layer
-use Rattle.rustc_abi.specs.Tree.{Tree, tree_of, layer_tree, trees, array, struct, enum, coroutine, variants, more_variants, trees_of_variants}
+use Rattle.rustc_abi.specs.Tree.{Tree, tree_of, layer_tree, trees, array, vector, struct, union, enum, coroutine, variants, more_variants, trees_of_variants}
 use Rattle.rustc_abi.specs.Adding.{tree_size, trees_size, variants_size}
 
 variants-map : (all : List (ℕ × Vec TypeTree Global)) → variants (map (former-TypeTree-Enum-1-at-3.map TypeTree Tree tree_of) all) ≡ trees_of_variants all
@@ -21,6 +21,12 @@ tree_of-Array count element = ap tree_of (sym (rolls-Array count element)) ∙ f
 
 pub tree_of-Struct : (repr : ReprOptions) (always_sized : Bool) (fields : Vec TypeTree Global) → tree_of (Struct repr always_sized fields) ≡ struct repr always_sized (trees (map tree_of fields.items))
 tree_of-Struct repr always_sized fields = ap tree_of (sym (rolls-Struct repr always_sized fields)) ∙ fold-roll-TypeTree Tree layer_tree (layer.Struct repr always_sized fields)
+
+pub tree_of-Vector : (lanes : ℕ) (packed : Bool) (element : Box TypeTree Global) → tree_of (Vector lanes packed element) ≡ vector lanes packed (tree_of element.value)
+tree_of-Vector lanes packed element = ap tree_of (sym (rolls-Vector lanes packed element)) ∙ fold-roll-TypeTree Tree layer_tree (layer.Vector lanes packed element)
+
+pub tree_of-Union : (repr : ReprOptions) (fields : Vec TypeTree Global) → tree_of (Union repr fields) ≡ union repr (trees (map tree_of fields.items))
+tree_of-Union repr fields = ap tree_of (sym (rolls-Union repr fields)) ∙ fold-roll-TypeTree Tree layer_tree (layer.Union repr fields)
 
 pub tree_of-Coroutine : (prefix locals : Vec TypeTree Global) (states : Vec (Vec ℕ Global) Global) (conflicts : Vec (ℕ × ℕ) Global) →
     tree_of (Coroutine prefix locals states conflicts) ≡ coroutine (trees (map tree_of prefix.items)) (trees (map tree_of locals.items)) (map (λ s. s.items) states.items) conflicts.items

@@ -5,7 +5,7 @@ use Rattle.abi_base.specs.declared.data_layout.TargetDataLayout.{TargetDataLayou
 use Rattle.rustc_abi.specs.declared.error.LayError.{LayError}
 use Rattle.rustc_abi.specs.declared.error.LayError.TheVariants.{OutOfMemory}
 use Rattle.rustc_abi.specs.declared.node.Shape.{Shape}
-use Rattle.rustc_abi.specs.declared.node.Shape.TheVariants.{Scalar, Pair, Never, Elements, Fields}
+use Rattle.rustc_abi.specs.declared.node.Shape.TheVariants.{Scalar, Pair, Never, Elements, Fields, Union, Vector}
 use Rattle.rustc_abi.specs.declared.node.Node.{Node}
 use Rattle.rustc_abi.specs.Tree.{Tree, array, vector, struct, union, enum, coroutine, Trees, no_trees, more_trees, trees, Variants, no_variants, more_variants}
 use Rattle.rustc_abi.specs.Placed.{Placed}
@@ -20,6 +20,8 @@ is_node i (Pair first second) = nat_lt first i && nat_lt second i
 is_node i Never = true
 is_node i (Elements count element) = nat_lt element i
 is_node i (Fields children) = list_all (λ child. nat_lt child i) children.items
+is_node i (Union children) = list_all (λ child. nat_lt child i) children.items
+is_node i (Vector lanes) = nat_lt lanes i
 
 -- each node, from this place on, names only earlier ones
 abbrev pub are_nodes : ℕ → List Node → Bool

@@ -8,10 +8,13 @@ use Rattle.rustc_abi.specs.Places.{is_data_place}
 use Rattle.rustc_abi.specs.Values.{LocalsHaveValues}
 use Rattle.rustc_abi.specs.Room.{has_room}
 use Rattle.rustc_abi.specs.Faithful.{IsFaithful}
+use Rattle.rustc_abi.specs.Unions.{IsCommon, InUnions}
 
--- The laid-out type keeps the tree's values, its layout is lawful, each part ends inside, and its data places lie inside it.
+-- The laid-out type keeps the tree's values, its layout is lawful, each part ends inside, its data places lie inside it, and
+-- byte lists that hold one value of a union in it hold the same values of the union's fields.
 pub record Fits (dl : TargetDataLayout) (tree : Tree) (placed : Placed) : Type 0 where
   pub faithful : LocalsHaveValues dl tree → IsFaithful dl tree placed
   pub lawful : IsLawfulLayout dl (layout_of placed)
   pub room : has_room placed ≡ true
   pub within : (k : ℕ) → is_data_place placed k ≡ true → k < size_of placed
+  pub common : LocalsHaveValues dl tree → InUnions (IsCommon dl.endian) placed

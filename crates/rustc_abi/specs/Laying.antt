@@ -10,13 +10,15 @@ use Rattle.abi_scalar.specs.declared.error.LayoutCalculatorError.{LayoutCalculat
 use Rattle.abi_scalar.specs.Simple.{scalar_layout, never_layout, unit_layout}
 use Rattle.abi_scalar.specs.Pair.{pair_layout, pair_size, second_offset}
 use Rattle.abi_calc.specs.Apart.{offsets_of}
-use Rattle.abi_calc.specs.Array.{array_answer}
+use Rattle.abi_calc.specs.Array.{array_answer, elements_layout}
 use Rattle.abi_calc.specs.List.{IsListError, IsListLayout}
+use Rattle.abi_calc.specs.Simd.{simd_answer}
+use Rattle.abi_calc.specs.Union.{IsUnionAnswer}
 use Rattle.rustc_abi.specs.declared.error.LayError.{LayError}
 use Rattle.rustc_abi.specs.declared.error.LayError.TheVariants.{NotYet, BadIndex, BadAlign, SizeOverflow}
 use Rattle.rustc_abi.specs.Tree.{Tree, scalar, pair, never, unit, array, vector, struct, union, enum, coroutine, Trees, no_trees, more_trees, Variants, no_variants, more_variants}
-use Rattle.rustc_abi.specs.Placed.{Placed, Layout, layout_of, scalar as placed_scalar, pair as placed_pair, never as placed_never, elements, fields, no_parts, part}
-use Rattle.rustc_abi.specs.Nodes.{parts_at}
+use Rattle.rustc_abi.specs.Placed.{Placed, Layout, layout_of, scalar as placed_scalar, pair as placed_pair, never as placed_never, elements, vector as placed_vector, fields, union as placed_union, no_parts, part}
+use Rattle.rustc_abi.specs.Nodes.{parts_at, parts_at_0}
 use Rattle.rustc_abi.specs.Error.{named, lay_error, Follows}
 use Rattle.rustc_abi.specs.ScalarFault.{scalar_fault}
 
@@ -81,7 +83,7 @@ IsListed dl repr kind layouts (Err e) =
 abbrev pub placed_fields : List Placed → Layout → Placed
 placed_fields ps layout = fields layout (parts_at (offsets_of layout.fields) ps)
 
--- a struct's own faults, in their order
+-- the own faults of a struct or union, in their order
 abbrev pub fields_fault : ReprOptions → List Placed → Option LayError
 fields_fault repr ps =
     if nat_lt most_fields (length ps) then Some BadIndex else (if has_bad_align repr then Some BadAlign else None)
@@ -92,6 +94,32 @@ IsFieldsAnswer dl repr always_sized ps r =
     MatchOption (fields_fault repr ps)
     (Follows (IsListed dl repr (kind_of always_sized ps) (map layout_of ps)) (λ layout r. r ≡ Ok (placed_fields ps layout)) r)
     (λ e. r ≡ Err e)
+
+-- the calculator's answer to a union of fields with these layouts, with its refusal by that name
+abbrev pub IsUnited : TargetDataLayout → ReprOptions → List Layout → Result Layout LayError → Type 0
+IsUnited dl repr layouts (Ok layout) = IsUnionAnswer (λ l. l) 0 dl repr layouts (Ok layout)
+IsUnited dl repr layouts (Err e) =
+    (error : LayoutCalculatorError Layout) × IsUnionAnswer (λ l. l) 0 dl repr layouts (Err error) × (e ≡ lay_error error)
+
+-- fields as parts of a union with this layout
+abbrev pub placed_together : List Placed → Layout → Placed
+placed_together ps layout = placed_union layout (parts_at_0 ps)
+
+-- the answer to a union: its own fault, else the calculator's answer to its fields
+abbrev pub IsUnionOf : TargetDataLayout → ReprOptions → List Placed → Result Placed LayError → Type 0
+IsUnionOf dl repr ps r =
+    MatchOption (fields_fault repr ps)
+    (Follows (IsUnited dl repr (map layout_of ps)) (λ layout r. r ≡ Ok (placed_together ps layout)) r)
+    (λ e. r ≡ Err e)
+
+-- the array of a vector's lanes
+abbrev pub lanes_of : (lanes : ℕ) → Placed → Placed
+lanes_of lanes element = elements (elements_layout 0 true lanes (layout_of element)) lanes element
+
+-- the answer to a vector: the calculator's, over the array of its lanes
+abbrev pub vector_answer : TargetDataLayout → (lanes : ℕ) → (packed : Bool) → Placed → Result Placed LayError
+vector_answer dl lanes packed element =
+    placed_by (λ layout. placed_vector layout (lanes_of lanes element)) (named (simd_answer (λ l. l) 0 0 dl (layout_of element) lanes packed))
 
 -- not laid out yet, whatever its parts are
 abbrev pub IsNotYet : {A : Type 0} → A → Result Placed LayError → Type 0
@@ -106,8 +134,8 @@ abbrev mutual
   IsLaying dl unit r = r ≡ Ok (fields (unit_layout 0 dl true) no_parts)
   IsLaying dl (array count element) r = Follows (IsLaying dl element) (λ p r. r ≡ elements_answer dl count p) r
   IsLaying dl (struct repr always_sized all) r = Follows (AreLaying dl all) (IsFieldsAnswer dl repr always_sized) r
-  IsLaying dl (vector lanes packed element) r = Follows (IsLaying dl element) IsNotYet r
-  IsLaying dl (union repr all) r = Follows (AreLaying dl all) IsNotYet r
+  IsLaying dl (vector lanes packed element) r = Follows (IsLaying dl element) (λ p r. r ≡ vector_answer dl lanes packed p) r
+  IsLaying dl (union repr all) r = Follows (AreLaying dl all) (IsUnionOf dl repr) r
   IsLaying dl (enum repr all) r = Follows (VariantsLaying dl all) IsNotYet r
   IsLaying dl (coroutine prefix locals states conflicts) r = Follows (AreLaying dl prefix) (λ ps. Follows (AreLaying dl locals) IsNotYet) r
 

@@ -7,6 +7,7 @@ pub mod Places
 pub mod Values
 pub mod Holding
 pub mod Faithful
+pub mod Unions
 pub mod Room
 pub mod Fits
 pub mod Error

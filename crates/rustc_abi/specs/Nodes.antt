@@ -1,9 +1,9 @@
 -- What the nodes of a vector mean, each of which names only earlier ones.
 use Rattle.std.specs.Prelude.{◌≡◌, ℕ, ◌-◌, ◌<◌, ◌≤◌, List, [], ◌∷◌, ◌++◌, get_or, length, map}
 use Rattle.abi_calc.specs.Apart.{offsets_of}
-use Rattle.rustc_abi.specs.Placed.{Placed, Layout, scalar, pair, never, elements, fields, Parts, no_parts, part, nothing}
+use Rattle.rustc_abi.specs.Placed.{Placed, Layout, scalar, pair, never, elements, vector, fields, union, Parts, no_parts, part, nothing}
 use Rattle.rustc_abi.specs.declared.node.Shape.{Shape}
-use Rattle.rustc_abi.specs.declared.node.Shape.TheVariants.{Scalar, Pair, Never, Elements, Fields}
+use Rattle.rustc_abi.specs.declared.node.Shape.TheVariants.{Scalar, Pair, Never, Elements, Fields, Union, Vector}
 use Rattle.rustc_abi.specs.declared.node.Node.{Node}
 
 -- the type that stands at this place
@@ -15,6 +15,10 @@ abbrev pub parts_at : (offsets : List ℕ) → List Placed → Parts
 parts_at (o ∷ offsets) (p ∷ ps) = part o p (parts_at offsets ps)
 parts_at _ _ = no_parts
 
+-- types that all begin at offset 0
+abbrev pub parts_at_0 : List Placed → Parts
+parts_at_0 ps = parts_at (map (λ p. 0) ps) ps
+
 -- what a node means, after those before it
 abbrev pub meaning : List Placed → Layout → Shape → Placed
 meaning done layout (Scalar s) = scalar layout s
@@ -23,6 +27,8 @@ meaning done layout (Pair first second) =
 meaning done layout Never = never layout
 meaning done layout (Elements count element) = elements layout count (placed_in done element)
 meaning done layout (Fields children) = fields layout (parts_at (offsets_of layout.fields) (map (placed_in done) children.items))
+meaning done layout (Union children) = union layout (parts_at_0 (map (placed_in done) children.items))
+meaning done layout (Vector lanes) = vector layout (placed_in done lanes)
 
 -- the meanings of all nodes, after those that are done
 abbrev pub meanings : List Placed → List Node → List Placed

@@ -15,6 +15,8 @@ ghost use Rattle.rustc_abi.specs.Adding.{is_node, IsPut, IsAdded, AreAdded, IsRe
 use crate::error::LayError;
 use crate::lay_fields::add_fields;
 use crate::lay_scalar::{add_never, add_pair, add_scalar, add_unit};
+use crate::lay_union::add_union;
+use crate::lay_vector::add_vector;
 use crate::node::{Node, Shape};
 use crate::tree::TypeTree;
 use abi_base::TargetDataLayout;
@@ -47,7 +49,7 @@ pub(crate) fn add(
 }
 
 /// The layout of so many elements, each as the node `element`.
-fn elements_layout(
+pub(crate) fn elements_layout(
     dl: &TargetDataLayout,
     nodes: &[Node],
     count: u64,
@@ -115,16 +117,16 @@ pub(crate) fn lay_tree(
             add_fields(alloc, dl, nodes, repr, *always_sized, children)
         }
         TypeTree::Vector {
-            lanes: _,
-            packed: _,
+            lanes,
+            packed,
             element,
         } => {
-            let _element = lay_tree(alloc, dl, nodes, element)?;
-            Err(LayError::NotYet)
+            let element = lay_tree(alloc, dl, nodes, element)?;
+            add_vector(alloc, dl, nodes, *lanes, *packed, element)
         }
-        TypeTree::Union { repr: _, fields } => {
-            let _children = lay_each(alloc, dl, nodes, fields)?;
-            Err(LayError::NotYet)
+        TypeTree::Union { repr, fields } => {
+            let children = lay_each(alloc, dl, nodes, fields)?;
+            add_union(alloc, dl, nodes, repr, children)
         }
         TypeTree::Enum { repr: _, variants } => {
             lay_variants(alloc, dl, nodes, variants)?;

@@ -34,8 +34,8 @@ fn is_above_limit(align: Option<Align>) -> bool
     }
 }
 
-/// A struct's own fault, if it has one.
-fn fields_fault(repr: &ReprOptions, children: &[usize]) -> Option<LayError>
+/// The own fault of a struct or union, if it has one.
+pub(crate) fn fields_fault(repr: &ReprOptions, children: &[usize]) -> Option<LayError>
     ensures { (ps : List Placed) → length ps ≡ length children.now → result ≡ fields_fault repr.now ps }
 {
     if children.len() > MOST_FIELDS {

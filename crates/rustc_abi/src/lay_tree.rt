@@ -12,6 +12,7 @@ ghost use Rattle.rustc_abi.specs.Placed.{Placed, layout_of};
 ghost use Rattle.rustc_abi.specs.Laid.{placed_of, endian_of};
 ghost use Rattle.rustc_abi.specs.Laying.{IsLaying};
 ghost use Rattle.rustc_abi.specs.Least.{HasLeastStructs, IsTooLarge};
+ghost use Rattle.rustc_abi.specs.Unions.{Begins, IsCommon, InUnions};
 ghost use Rattle.rustc_abi.specs.Fault.{IsRefusedFor};
 
 use crate::error::LayError;
@@ -26,8 +27,10 @@ use std::alloc::Global;
 /// `UnlawfulDataLayout` where the data layout isn't lawful. Else the first fault of a part: `NotYet` for a type that isn't
 /// laid out yet, `UnknownSpace` for a scalar that is a pointer into a space that the data layout doesn't know or whose
 /// pointers aren't lawful, `BadRange` for one whose range has an end that is no number of its width, `BadIndex` for a list
-/// of more fields than its index type can name, `BadAlign` for a repr with an alignment above 2^29 bytes, `SizeOverflow` for
-/// a size that is not below the data layout's bound. `OutOfMemory` where a growth of memory was refused.
+/// of more fields than its index type can name, `BadAlign` for a repr with an alignment above 2^29 bytes, `EmptyUnion` for a
+/// union without fields, `OversizedSimdType` and `ZeroLengthSimdType` for a vector of more than 32768 lanes or of none,
+/// `NonPrimitiveSimdType` for one whose element is no scalar, `SizeOverflow` for a size that is not below the data layout's
+/// bound. `OutOfMemory` where a growth of memory was refused.
 pub fn lay_out(alloc: Global, dl: &TargetDataLayout, tree: &TypeTree) -> Result<Laid, LayError>
     // When it is refused, and for what.
     ensures lawful { IfOk result (λ _. IsLawfulDataLayout dl.now) }
@@ -59,6 +62,11 @@ pub fn lay_out(alloc: Global, dl: &TargetDataLayout, tree: &TypeTree) -> Result<
     ensures view { IfOk result (λ laid. LocalsHaveValues dl.now (tree_of tree.now) → IsViewTrue dl.now (placed_of laid)) }
     ensures uninhabited { IfOk result (λ laid. LocalsHaveValues dl.now (tree_of tree.now) → VectorsHaveValues dl.now (tree_of tree.now) →
         IsFlagTrue dl.now (tree_of tree.now) (placed_of laid)) }
+
+    // What each union in it keeps of its fields' bytes.
+    ensures begins { IfOk result (λ laid. InUnions (Begins dl.now.endian) (placed_of laid)) }
+    ensures common { IfOk result (λ laid. LocalsHaveValues dl.now (tree_of tree.now) →
+        InUnions (IsCommon dl.now.endian) (placed_of laid)) }
 {
     if !dl.is_lawful() {
         return Err(LayError::UnlawfulDataLayout);

@@ -7,6 +7,8 @@ mod lay;
 mod lay_fields;
 mod lay_scalar;
 mod lay_tree;
+mod lay_union;
+mod lay_vector;
 mod node;
 mod padding;
 mod runs;

@@ -16,6 +16,10 @@ pub(crate) enum Shape {
     Elements { count: u64, element: usize },
     /// A child for each field, in source order; the layout says where they lie.
     Fields(Vec<usize>),
+    /// A child for each field, in source order, all at offset 0.
+    Union(Vec<usize>),
+    /// Lanes; the child is their array, which stands directly before.
+    Vector(usize),
 }
 
 /// A type that was laid out.

@@ -1,6 +1,6 @@
 //! The padding of a type: the bytes that decide nothing.
 
-ghost use Rattle.std.specs.Prelude.{◌≡◌, ℕ, ◌+◌, ◌*◌, ◌^◌, ◌<◌, ◌≤◌, ◌++◌, All, IfOk, OnOk, length, map, nat_lt, true};
+ghost use Rattle.std.specs.Prelude.{◌≡◌, ℕ, ◌+◌, ◌*◌, ◌^◌, ◌<◌, ◌≤◌, ◌++◌, All, IfOk, OnOk, length, map, nat_lt, replicate, true};
 ghost use Rattle.abi_calc.specs.Apart.{offsets_of};
 ghost use Rattle.rustc_abi.specs.Placed.{size_of, layout_of};
 ghost use Rattle.rustc_abi.specs.Places.{is_data_place, is_place_of_part};
@@ -28,6 +28,17 @@ fn offsets(layout: &LayoutData<FieldIdx, VariantIdx>) -> &[Size]
         } => offsets.as_slice().as_raw(),
         _ => &[],
     }
+}
+
+/// So many offsets, each 0.
+fn zeros(alloc: Global, count: usize) -> Result<Vec<Size>, AllocError>
+    ensures { IfOk result (λ zeros. zeros.items ≡ replicate count 0) }
+{
+    let mut zeros = Vec::new(alloc);
+    for _i in 0..count {
+        zeros.push(Size::ZERO)?;
+    }
+    Ok(zeros)
 }
 
 /// All bytes of the size, as one run where there are any.
@@ -118,6 +129,11 @@ pub(crate) fn data_runs(alloc: Global, nodes: &[Node], node: usize) -> Result<Ve
         Shape::Fields(children) => {
             fields_runs(alloc, nodes, node, size, offsets(&here.layout), children)
         }
+        Shape::Union(children) => {
+            let zeros = zeros(alloc, children.len())?;
+            fields_runs(alloc, nodes, node, size, &zeros, children)
+        }
+        Shape::Vector(lanes) => data_runs(alloc, nodes, *lanes),
     }
 }
 

@@ -14,4 +14,6 @@ mod structs;
 #[cfg(test)]
 mod trees;
 #[cfg(test)]
+mod unions;
+#[cfg(test)]
 mod views;

@@ -33,9 +33,9 @@ fn scalar(value: Primitive, start: u128, end: u128) -> Scalar {
 
 /// A type that isn't laid out yet.
 fn later(alloc: Global) -> Result<TypeTree, Fail> {
-    Ok(TypeTree::Union {
+    Ok(TypeTree::Enum {
         repr: ReprOptions::default(),
-        fields: vec![in alloc]?,
+        variants: vec![in alloc]?,
     })
 }
 
@@ -69,24 +69,6 @@ fn scalars_that_are_not_lawful_are_refused(rt: HostRuntime) -> Result<(), Fail> 
 fn other_kinds_of_types_wait(rt: HostRuntime) -> Result<(), Fail> {
     let alloc = rt.alloc();
     let trees = vec![in alloc;
-        TypeTree::Vector {
-            lanes: 4,
-            packed: false,
-            element: Box::new(alloc, unsigned(Integer::I32))?,
-        },
-        TypeTree::Vector {
-            lanes: 0,
-            packed: true,
-            element: Box::new(alloc, unsigned(Integer::I32))?,
-        },
-        TypeTree::Union {
-            repr: as_in_c(),
-            fields: vec![in alloc; unsigned(Integer::I8), unsigned(Integer::I32)]?,
-        },
-        TypeTree::Union {
-            repr: ReprOptions::default(),
-            fields: vec![in alloc]?,
-        },
         TypeTree::Enum {
             repr: ReprOptions::default(),
             variants: vec![in alloc]?,

@@ -4,10 +4,11 @@ use Rattle.std.proofs.lemmas.Result.{IfOk-weaker, IfErr-weaker}
 use Rattle.rustc_abi.specs.Tree.{tree_of, trees}
 use Rattle.rustc_abi.specs.Laying.{AreLaying}
 use Rattle.rustc_abi.specs.Adding.{tree_size, trees_size}
-use Rattle.rustc_abi.proofs.TreeLemmas.{tree_of-Array, tree_of-Struct, tree_of-Coroutine, trees_size-at, variants_size-at, falls-Enum}
+use Rattle.rustc_abi.proofs.TreeLemmas.{tree_of-Array, tree_of-Vector, tree_of-Struct, tree_of-Union, tree_of-Coroutine, trees_size-at, variants_size-at, falls-Enum}
 use Rattle.rustc_abi.proofs.LayLemmas.{EachFits-lawful, AreAdded-more, IsAdded-after, AreAdded-after, struct_refused}
 use Rattle.rustc_abi.proofs.RefusalLemmas.{each_refused, variants_refused, variants_more, laying_as, enum_refused, enum_not_yet}
 use Rattle.rustc_abi.specs.Error.{IsRefused}
+use Rattle.rustc_abi.proofs.TogetherLemmas.{union_tree_refused}
 use Rattle.rustc_abi.proofs.ListLemmas.{passed_on}
 use Rattle.rustc_abi.proofs.lay.+lay.Goals as goal
 
@@ -34,6 +35,32 @@ lay_each-loop-field-preserved t c =
 
 pub lay_tree-add_fields-requires-clause-lawful : goal.lay_tree-add_fields-requires-clause-lawful
 lay_tree-add_fields-requires-clause-lawful t c = EachFits-lawful _ _ _ c.in_ok-children-in-Struct.ensures.ok.fits
+
+pub lay_tree-add_union-requires-clause-lawful : goal.lay_tree-add_union-requires-clause-lawful
+lay_tree-add_union-requires-clause-lawful t c = EachFits-lawful _ _ _ c.in_ok-children-in-Union.ensures.ok.fits
+
+pub lay_tree-returns-in_ok-element-in-Vector-clause-ok : goal.lay_tree-returns-in_ok-element-in-Vector-clause-ok
+lay_tree-returns-in_ok-element-in-Vector-clause-ok t c =
+    let before = c.in_ok-element-in-Vector.ensures.ok in
+    let same = ap tree_of c.in-Vector.is ∙ tree_of-Vector c.in-Vector.lanes c.in-Vector.packed c.in-Vector.element in
+    rw same
+    (IfOk-weaker c.add_vector.result _ _
+    (λ i h. rw c.deref-in-Vector.ensures at (IsAdded-after _ _ _ _ _ i _ _ before (h _ before.exact before.fits))) c.add_vector.ensures.ok)
+
+pub lay_tree-returns-in_ok-children-in-Union-clause-ok : goal.lay_tree-returns-in_ok-children-in-Union-clause-ok
+lay_tree-returns-in_ok-children-in-Union-clause-ok t c =
+    let before = c.in_ok-children-in-Union.ensures.ok in
+    let same = ap tree_of c.in-Union.is ∙ tree_of-Union c.in-Union.repr c.in-Union.fields in
+    rw same
+    (IfOk-weaker c.add_union.result _ _
+    (λ i h. rw c.deref-in-Union.ensures.value at (AreAdded-after _ _ _ _ _ _ i _ before (h _ before.exact before.fits))) c.add_union.ensures.ok)
+
+pub lay_tree-returns-in_ok-children-in-Union-clause-err : goal.lay_tree-returns-in_ok-children-in-Union-clause-err
+lay_tree-returns-in_ok-children-in-Union-clause-err t c =
+    let before = c.in_ok-children-in-Union.ensures.ok in
+    let same = ap tree_of c.in-Union.is ∙ tree_of-Union c.in-Union.repr c.in-Union.fields in
+    let exact = rw c.deref-in-Union.ensures.value at before.exact in
+    rw same (IfErr-weaker c.add_union.result _ _ (λ e refused. union_tree_refused c.args.dl.now c.in-Union.repr _ _ e exact refused) c.add_union.ensures.err)
 
 pub lay_tree-lay_variants-requires : goal.lay_tree-lay_variants-requires
 lay_tree-lay_variants-requires t c =

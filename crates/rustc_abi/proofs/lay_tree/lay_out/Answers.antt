@@ -1,5 +1,5 @@
 use Rattle.rustc_abi.specs.Tree.{tree_of}
-use Rattle.rustc_abi.proofs.LayLemmas.{faithful_root, laid_root, lawful_root}
+use Rattle.rustc_abi.proofs.LayLemmas.{begins_root, common_root, faithful_root, laid_root, lawful_root}
 use Rattle.rustc_abi.proofs.LeastLemmas.{laid_least, never_large, passed_as, told_large, told_overflow}
 use Rattle.rustc_abi.proofs.ListLemmas.{passed_on}
 use Rattle.rustc_abi.proofs.OneAnswer.{one_answer}
@@ -22,6 +22,12 @@ returns-clause-view c = λ locals. (faithful_root _ _ _ _ _ _ c.in_ok-_root.ensu
 
 pub returns-clause-uninhabited : goal.returns-clause-uninhabited
 returns-clause-uninhabited c = λ locals vectors. (faithful_root _ _ _ _ _ _ c.in_ok-_root.ensures.ok c.new.ensures.placed locals).flag vectors
+
+pub returns-clause-begins : goal.returns-clause-begins
+returns-clause-begins c = begins_root _ _ _ _ _ _ c.in_ok-_root.ensures.ok c.new.ensures.placed
+
+pub returns-clause-common : goal.returns-clause-common
+returns-clause-common c = λ locals. common_root _ _ _ _ _ _ c.in_ok-_root.ensures.ok c.new.ensures.placed locals
 
 pub returns-clause-layout : goal.returns-clause-layout
 returns-clause-layout c = lawful_root _ _ _ _ _ _ c.in_ok-_root.ensures.ok c.new.ensures.placed

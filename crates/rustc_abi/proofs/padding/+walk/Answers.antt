@@ -1,4 +1,4 @@
-use Rattle.std.proofs.Common.{◌≡◌, ℕ, ◌++◌, ◌+◌, ◌*◌, ◌<◌, ◌≤◌, List, [], ◌∷◌, length, get_or, take, map, arith, ap, sym, ◌∙◌, subst, All}
+use Rattle.std.proofs.Common.{◌≡◌, ℕ, ◌++◌, ◌+◌, ◌*◌, ◌<◌, ◌≤◌, List, [], ◌∷◌, length, get_or, take, map, replicate, true, arith, ap, sym, ◌∙◌, subst, All}
 use Rattle.std.proofs.lemmas.Result.{IfOk-weaker}
 use Rattle.rustc_abi.specs.Placed.{Placed, elements, size_of}
 use Rattle.rustc_abi.specs.Places.{is_data_place, is_place_of_part}
@@ -6,14 +6,15 @@ use Rattle.rustc_abi.specs.declared.runs.Run.{Run}
 use Rattle.abi_calc.specs.Apart.{offsets_of}
 use Rattle.rustc_abi.specs.Adding.{all_at}
 use Rattle.std.specs.Prelude.{nat_lt, nat_le, ◌&&◌, ◌||◌, ◌-◌, Bool}
-use Rattle.rustc_abi.specs.Nodes.{placed_at, parts_at}
+use Rattle.rustc_abi.specs.Nodes.{placed_at, parts_at, parts_at_0}
+use Rattle.rustc_abi.specs.Room.{have_room}
 use Rattle.rustc_abi.specs.Runs.{covers, repeats, shifted}
 use Rattle.std.proofs.lemmas.List.{length-map, length-append}
 use Rattle.std.proofs.lemmas.List.Elements.{All-append}
 use Rattle.rustc_abi.proofs.WalkLemmas.{covers-put, some-shifted}
 use Rattle.std.proofs.lemmas.Slice.Zip.{zip_turn, zip_end}
 use Rattle.rustc_abi.proofs.RoomLemmas.{each_some}
-use Rattle.rustc_abi.proofs.PaddingLemmas.{scalar_node, never_node, pair_node, elements_node, fields_node, places_of_elements, places_of_none, runs_inside, field_at, fields_more, parts_at-all}
+use Rattle.rustc_abi.proofs.PaddingLemmas.{scalar_node, never_node, pair_node, elements_node, fields_node, union_node, vector_node, parts_at-zeros, places_of_elements, places_of_none, runs_inside, field_at, fields_more, parts_at-all}
 use Rattle.rustc_abi.proofs.padding.+walk.Goals as goal
 
 pub data_runs-layout_at-requires : goal.data_runs-layout_at-requires
@@ -58,6 +59,42 @@ pub data_runs-fields_runs-requires-in-Fields : goal.data_runs-fields_runs-requir
 data_runs-fields_runs-requires-in-Fields t c =
     let facts = fields_node c.args.nodes.now c.requires.well c.args.node _ c.requires.there c.index-nodes-node.is c.requires.room c.in-Fields.children c.in-Fields.is in
     (omega (arith, c.decreases), (c.requires.there, (rw c.deref-in-Fields.ensures.value facts.0, (c.requires.well, rw c.bytes-size.ensures (rw c.offsets-in-Fields.ensures (rw c.deref-in-Fields.ensures.value facts.2))))))
+
+pub data_runs-fields_runs-requires-in-Union : goal.data_runs-fields_runs-requires-in-Union
+data_runs-fields_runs-requires-in-Union t c =
+    let ns = c.args.nodes.now in
+    let children : List ℕ = c.in-Union.children.items in
+    let facts = union_node ns c.requires.well c.args.node _ c.requires.there c.index-nodes-node.is c.requires.room c.in-Union.children c.in-Union.is in
+    let many : c.len.result ≡ length children = omega arith in
+    let zeros : c.deref-in-Union.result.now ≡ replicate (length children) 0 = c.deref-in-Union.ensures.value ∙ c.in_ok-zeros-in-Union.ensures ∙ ap (λ n. replicate n 0) many in
+    let room : have_room c.index-nodes-node.result.layout.size (parts_at (replicate (length children) 0) (all_at ns children)) ≡ true =
+    subst (λ parts. have_room c.index-nodes-node.result.layout.size parts ≡ true) (sym (parts_at-zeros ns children)) facts.2 in
+    (omega (arith, c.decreases), (c.requires.there, (rw c.deref-in-Union-2.ensures.value facts.0, (c.requires.well, rw c.bytes-size.ensures (rw (zeros, c.deref-in-Union-2.ensures.value) room)))))
+
+pub data_runs-data_runs-requires-in-Vector : goal.data_runs-data_runs-requires-in-Vector
+data_runs-data_runs-requires-in-Vector t c =
+    let facts = vector_node c.args.nodes.now c.requires.well c.args.node _ c.requires.there c.index-nodes-node.is c.requires.room c.in-Vector.lanes c.in-Vector.is in
+    (omega (arith, facts.0, c.decreases), (omega (arith, facts.0), (c.requires.well, facts.2)))
+
+pub data_runs-returns-in_ok-zeros-in-Union-clause-covers : goal.data_runs-returns-in_ok-zeros-in-Union-clause-covers
+data_runs-returns-in_ok-zeros-in-Union-clause-covers t c =
+    let ns = c.args.nodes.now in
+    let children : List ℕ = c.in-Union.children.items in
+    let facts = union_node ns c.requires.well c.args.node _ c.requires.there c.index-nodes-node.is c.requires.room c.in-Union.children c.in-Union.is in
+    let many : c.len.result ≡ length children = omega arith in
+    let zeros : c.deref-in-Union.result.now ≡ replicate (length children) 0 = c.deref-in-Union.ensures.value ∙ c.in_ok-zeros-in-Union.ensures ∙ ap (λ n. replicate n 0) many in
+    IfOk-weaker c.fields_runs-in-Union.result _ _
+    (λ runs same k. same k
+    ∙ ap (λ os. is_place_of_part (parts_at os (all_at ns c.deref-in-Union-2.result.now)) k) zeros
+    ∙ ap (λ cs. is_place_of_part (parts_at (replicate (length children) 0) (all_at ns cs)) k) c.deref-in-Union-2.ensures.value
+    ∙ ap (λ parts. is_place_of_part parts k) (parts_at-zeros ns children)
+    ∙ ap (λ p. is_data_place p k) (sym facts.1))
+    c.fields_runs-in-Union.ensures.covers
+
+pub data_runs-returns-in-Vector-clause-covers : goal.data_runs-returns-in-Vector-clause-covers
+data_runs-returns-in-Vector-clause-covers t c =
+    let facts = vector_node c.args.nodes.now c.requires.well c.args.node _ c.requires.there c.index-nodes-node.is c.requires.room c.in-Vector.lanes c.in-Vector.is in
+    IfOk-weaker c.data_runs-in-Vector.result _ _ (λ runs same k. same k ∙ ap (λ p. is_data_place p k) (sym facts.1)) c.data_runs-in-Vector.ensures.covers
 
 pub data_runs-returns-in-Never-clause-covers : goal.data_runs-returns-in-Never-clause-covers
 data_runs-returns-in-Never-clause-covers t c =

@@ -1,0 +1,36 @@
+use Rattle.std.proofs.Common.{◌≡◌, ℕ, map, length, arith}
+use Rattle.std.proofs.lemmas.List.{length-map}
+use Rattle.std.proofs.lemmas.Result.{IfOk-weaker}
+use Rattle.rustc_abi.specs.Nodes.{placed_in, types_in}
+use Rattle.rustc_abi.specs.Adding.{all_at}
+use Rattle.rustc_abi.proofs.LayLemmas.{faultless_few, faultless_aligns}
+use Rattle.rustc_abi.proofs.TogetherLemmas.{IsAdded-union, union_refused}
+use Rattle.rustc_abi.proofs.ListLemmas.{all_below, passed_on}
+use Rattle.rustc_abi.proofs.lay_union.add_faultless.Goals as goal
+
+pub union_layout-requires-clause-aligns : goal.union_layout-requires-clause-aligns
+union_layout-requires-clause-aligns c = faultless_aligns c.args.repr.now _ c.requires.faultless
+
+pub union_layout-requires-clause-count : goal.union_layout-requires-clause-count
+union_layout-requires-clause-count c =
+    let ps = all_at c.args.nodes.now.items c.args.children.items in
+    let as_many : length ps ≡ length c.args.children.items = length-map c.args.children.items (placed_in (types_in c.args.nodes.now.items)) in
+    rw c.deref-2.ensures.value (omega (arith, faultless_few c.args.repr.now ps c.requires.faultless, as_many))
+
+pub union_layout-requires-clause-lawful : goal.union_layout-requires-clause-lawful
+union_layout-requires-clause-lawful c = rw (c.deref.ensures.value, c.deref-2.ensures.value) c.requires.lawful
+
+pub add-requires : goal.add-requires
+add-requires c = all_below _ c.args.children.items c.requires.there
+
+pub returns-clause-ok : goal.returns-clause-ok
+returns-clause-ok c =
+    let united = rw (c.deref.ensures.value, c.deref-2.ensures.value) at c.in_ok-layout.ensures.ok in
+    IfOk-weaker c.add.result _ _
+    (λ i put ts laid fits. IsAdded-union c.args.dl.now _ _ i c.args.repr.now _ _ ts c.requires.faultless united c.in_ok-layout.ensures.lawful put laid fits)
+    c.add.ensures.ok
+
+pub returns-in_err-layout-clause-err : goal.returns-in_err-layout-clause-err
+returns-in_err-layout-clause-err c =
+    let refused = rw (c.deref.ensures.value, c.deref-2.ensures.value) at c.in_err-layout.ensures.err in
+    passed_on _ _ _ c.from_residual.ensures.1 (union_refused c.args.dl.now c.args.repr.now _ _ c.requires.faultless refused)

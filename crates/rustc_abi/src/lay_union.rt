@@ -1,0 +1,105 @@
+//! How unions are laid out, once their fields are.
+
+ghost use Rattle.std.specs.Prelude.{◌≡◌, ◌<◌, ◌≤◌, IfOk, IfErr, Ok, None, length, vec_len, All, map};
+ghost use Rattle.abi_base.specs.DataLayout.{IsLawfulDataLayout};
+ghost use Rattle.abi_scalar.specs.Lawful.{IsLawfulLayout};
+ghost use Rattle.abi_calc.specs.List.{HasLawfulAligns};
+ghost use Rattle.rustc_abi.specs.Tree.{Trees, union};
+ghost use Rattle.rustc_abi.specs.Placed.{layout_of};
+ghost use Rattle.rustc_abi.specs.Laying.{AreLaying, IsUnionOf, IsUnited, fields_fault, most_fields};
+ghost use Rattle.rustc_abi.specs.Error.{IsRefused};
+ghost use Rattle.rustc_abi.specs.Adding.{IsAdded, EachFits, all_at};
+
+use crate::error::LayError;
+use crate::lay::{add, layout_at};
+use crate::lay_fields::fields_fault;
+use crate::node::{Node, Shape};
+use abi_base::TargetDataLayout;
+use abi_calc::LayoutCalculator;
+use abi_index::{FieldIdx, IndexSlice, IndexVec, VariantIdx};
+use abi_scalar::{LayoutData, ReprOptions};
+use std::alloc::{AllocError, Global};
+
+/// The layouts of the nodes at these places, as a union's fields.
+fn union_fields<'a>(
+    alloc: Global,
+    nodes: &'a [Node],
+    children: &[usize],
+) -> Result<IndexVec<FieldIdx, &'a LayoutData<FieldIdx, VariantIdx>>, AllocError>
+    requires count { length children.now ≤ most_fields }
+    requires there { All (λ child. child < length nodes.now) children.now }
+    ensures { IfOk result (λ layouts. map (λ lent. lent.now) layouts ≡ map layout_of (all_at nodes.now children.now)) }
+{
+    let mut layouts = IndexVec::new(alloc);
+    for child in children {
+        let _field: FieldIdx = layouts.push(layout_at(nodes, *child))?;
+    }
+    Ok(layouts)
+}
+
+/// The layout of a union of fields, each as one of the nodes.
+fn union_layout(
+    alloc: Global,
+    dl: &TargetDataLayout,
+    nodes: &[Node],
+    repr: &ReprOptions,
+    children: &[usize],
+) -> Result<LayoutData<FieldIdx, VariantIdx>, LayError>
+    requires aligns { HasLawfulAligns repr.now }
+    requires count { length children.now ≤ most_fields }
+    requires data_layout { IsLawfulDataLayout dl.now }
+    requires there { All (λ child. child < length nodes.now) children.now }
+    requires lawful { All (λ p. IsLawfulLayout dl.now (layout_of p)) (all_at nodes.now children.now) }
+    ensures ok { IfOk result (λ l. IsUnited dl.now repr.now (map layout_of (all_at nodes.now children.now)) (Ok l)) }
+    ensures err { IfErr result (IsRefused (IsUnited dl.now repr.now (map layout_of (all_at nodes.now children.now)))) }
+    ensures lawful { IfOk result (IsLawfulLayout dl.now) }
+{
+    let variants = [union_fields(alloc, nodes, children)?];
+    let answer = LayoutCalculator::new(dl).layout_of_union(repr, IndexSlice::new(&variants));
+    Ok(answer?)
+}
+
+/// A node for a union without a fault of its own.
+fn add_faultless(
+    alloc: Global,
+    dl: &TargetDataLayout,
+    nodes: &mut Vec<Node>,
+    repr: &ReprOptions,
+    children: Vec<usize>,
+) -> Result<usize, LayError>
+    requires data_layout { IsLawfulDataLayout dl.now }
+    requires there { All (λ child. child < vec_len nodes.old) children.items }
+    requires lawful { All (λ p. IsLawfulLayout dl.now (layout_of p)) (all_at nodes.old.items children.items) }
+    requires faultless { fields_fault repr.now (all_at nodes.old.items children.items) ≡ None }
+    ensures ok { IfOk result
+        (λ i. (ts : Trees) → AreLaying dl.now ts (Ok (all_at nodes.old.items children.items)) →
+        EachFits dl.now ts (all_at nodes.old.items children.items) →
+        IsAdded dl.now nodes.old.items nodes.new.items i (union repr.now ts)) }
+    ensures err { IfErr result (IsRefused (IsUnionOf dl.now repr.now (all_at nodes.old.items children.items))) }
+{
+    let layout = union_layout(alloc, dl, nodes, repr, &children)?;
+    add(nodes, layout, Shape::Union(children))
+}
+
+/// A node for a union of fields, each as one of the nodes.
+pub(crate) fn add_union(
+    alloc: Global,
+    dl: &TargetDataLayout,
+    nodes: &mut Vec<Node>,
+    repr: &ReprOptions,
+    children: Vec<usize>,
+) -> Result<usize, LayError>
+    requires data_layout { IsLawfulDataLayout dl.now }
+    requires there { All (λ child. child < vec_len nodes.old) children.items }
+    requires lawful { All (λ p. IsLawfulLayout dl.now (layout_of p)) (all_at nodes.old.items children.items) }
+    ensures ok { IfOk result
+        (λ i. (ts : Trees) → AreLaying dl.now ts (Ok (all_at nodes.old.items children.items)) →
+        EachFits dl.now ts (all_at nodes.old.items children.items) →
+        IsAdded dl.now nodes.old.items nodes.new.items i (union repr.now ts)) }
+    ensures err { IfErr result (IsRefused (IsUnionOf dl.now repr.now (all_at nodes.old.items children.items))) }
+{
+    match fields_fault(repr, &children) {
+        Some(fault) => Err(fault),
+        None => add_faultless(alloc, dl, nodes, repr, children),
+    }
+}

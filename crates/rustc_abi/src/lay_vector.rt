@@ -1,0 +1,78 @@
+//! How vectors are laid out, once their element is.
+
+ghost use Rattle.std.specs.Prelude.{◌≡◌, ◌<◌, IfOk, IfErr, Ok, length, vec_len};
+ghost use Rattle.abi_base.specs.DataLayout.{IsLawfulDataLayout};
+ghost use Rattle.abi_scalar.specs.Lawful.{IsLawfulLayout};
+ghost use Rattle.abi_calc.specs.Simd.{simd_answer};
+ghost use Rattle.rustc_abi.specs.Tree.{Tree, vector};
+ghost use Rattle.rustc_abi.specs.Placed.{layout_of};
+ghost use Rattle.rustc_abi.specs.Nodes.{placed_at};
+ghost use Rattle.rustc_abi.specs.Laying.{IsLaying, vector_answer};
+ghost use Rattle.rustc_abi.specs.Error.{named};
+ghost use Rattle.rustc_abi.specs.Fits.{Fits};
+ghost use Rattle.rustc_abi.specs.Adding.{IsAdded, IsRefusal};
+
+use crate::error::LayError;
+use crate::lay::{add, elements_layout, layout_at};
+use crate::node::{Node, Shape};
+use abi_base::TargetDataLayout;
+use abi_calc::LayoutCalculator;
+use abi_index::{FieldIdx, VariantIdx};
+use abi_scalar::LayoutData;
+use std::alloc::Global;
+
+/// The layout of a vector of so many lanes, each as the node `element`.
+fn vector_layout(
+    alloc: Global,
+    dl: &TargetDataLayout,
+    nodes: &[Node],
+    lanes: u64,
+    packed: bool,
+    element: usize,
+) -> Result<LayoutData<FieldIdx, VariantIdx>, LayError>
+    requires data_layout { IsLawfulDataLayout dl.now }
+    requires there { element < length nodes.now }
+    requires lawful { IsLawfulLayout dl.now (layout_of (placed_at nodes.now element)) }
+    ensures ok { IfOk result (λ l. named (simd_answer (λ h. h) 0 0 dl.now (layout_of (placed_at nodes.now element)) lanes packed) ≡ Ok l) }
+    ensures err { IfErr result (IsRefusal (named (simd_answer (λ h. h) 0 0 dl.now (layout_of (placed_at nodes.now element)) lanes packed))) }
+    ensures lawful { IfOk result (IsLawfulLayout dl.now) }
+{
+    let answer = LayoutCalculator::new(dl).layout_of_simd_type(
+        alloc,
+        layout_at(nodes, element),
+        lanes,
+        packed,
+    );
+    Ok(answer?)
+}
+
+/// A node for a vector of so many lanes, each as the node `element`, behind one for the array of the lanes.
+pub(crate) fn add_vector(
+    alloc: Global,
+    dl: &TargetDataLayout,
+    nodes: &mut Vec<Node>,
+    lanes: u64,
+    packed: bool,
+    element: usize,
+) -> Result<usize, LayError>
+    requires data_layout { IsLawfulDataLayout dl.now }
+    requires there { element < vec_len nodes.old }
+    requires lawful { IsLawfulLayout dl.now (layout_of (placed_at nodes.old.items element)) }
+    ensures ok { IfOk result
+        (λ i. (t : Tree) → IsLaying dl.now t (Ok (placed_at nodes.old.items element)) →
+        Fits dl.now t (placed_at nodes.old.items element) →
+        IsAdded dl.now nodes.old.items nodes.new.items i (vector lanes packed t)) }
+    ensures err { IfErr result (IsRefusal (vector_answer dl.now lanes packed (placed_at nodes.old.items element))) }
+{
+    let layout = vector_layout(alloc, dl, nodes, lanes, packed, element)?;
+    let array = elements_layout(dl, nodes, lanes, element)?;
+    let node = add(
+        nodes,
+        array,
+        Shape::Elements {
+            count: lanes,
+            element,
+        },
+    )?;
+    add(nodes, layout, Shape::Vector(node))
+}
