@@ -1,12 +1,15 @@
--- Worked facts: which orders are allowed.
-use Rattle.std.proofs.Common.{◌≡◌, ◌≢◌, ℕ, zero, suc, ◌-◌, ◌<◌, Bool, true, false, List, [], ◌∷◌, None, inl, inr, length, refl, sym, ap, ◌∙◌, arith}
+-- Worked facts: which orders are allowed, and that one of them has the least size.
+use Rattle.std.proofs.Common.{◌≡◌, ◌≢◌, ℕ, zero, suc, ◌-◌, ◌<◌, ◌≤◌, Bool, true, false, List, [], ◌∷◌, None, inl, inr, length, refl, sym, ap, ◌∙◌, arith, ⊎_elim}
 use Rattle.std.specs.Prelude.{◌⊎◌, All, AllPairs, IsPermutation, MatchBool, slice_index}
 use Rattle.std.proofs.lemmas.List.FromFn.{get_or-range_with_len}
 use Rattle.std.proofs.lemmas.List.Sorted.{IsPermutation-refl, length_permutation}
 use Rattle.abi_base.specs.declared.struct_kind.StructKind.{StructKind}
 use Rattle.abi_base.specs.declared.struct_kind.StructKind.TheVariants.{AlwaysSized, MaybeUnsized, Prefixed}
+use Rattle.std.proofs.lemmas.Bool.{cases_lt}
 use Rattle.abi_calc.specs.declared.list_repr.ListRepr.{ListRepr}
-use Rattle.abi_calc.specs.Placement.{IsAllowed, IsNonEmptyIfUnsized, KeepsTail, source_order}
+use Rattle.abi_calc.specs.declared.part.Part.{Part}
+use Rattle.abi_calc.specs.Placement.{IsAllowed, IsNonEmptyIfUnsized, KeepsTail, size_in, source_order}
+use Rattle.abi_calc.proofs.Orders.{least_order}
 use Rattle.abi_calc.proofs.PlacingLemmas.{order_differs}
 use Rattle.abi_calc.proofs.Sorting.{within_order}
 
@@ -24,6 +27,30 @@ source_cases false kind n some = refl
 
 pub source_allowed : (repr : ListRepr) (n : ℕ) → IsNonEmptyIfUnsized repr.kind n → IsAllowed repr n (source_order n)
 source_allowed repr n some = source_cases repr.reorderable repr.kind n some
+
+-- ---- some allowed order has the least size
+
+keeps_decided : (kind : StructKind) (n : ℕ) (order : List ℕ) → KeepsTail kind n order ⊎ (KeepsTail kind n order → ⊥)
+keeps_decided AlwaysSized n order = inl tt
+keeps_decided MaybeUnsized n order = ⊎_elim
+    (λ (l : slice_index order (n - 1) < n - 1). inr (λ e. omega arith))
+    (λ (h : n - 1 ≤ slice_index order (n - 1)). ⊎_elim (λ (l : n - 1 < slice_index order (n - 1)). inr (λ e. omega arith)) (λ (l : slice_index order (n - 1) ≤ n - 1). inl (omega arith)) (cases_lt (n - 1) (slice_index order (n - 1))))
+    (cases_lt (slice_index order (n - 1)) (n - 1))
+keeps_decided (Prefixed size align) n order = inl tt
+
+least_cases : (b : Bool) (kind : StructKind) (n : ℕ) (size : List ℕ → ℕ) → IsNonEmptyIfUnsized kind n
+    → (order : List ℕ) × MatchBool b (IsPermutation (source_order n) order × KeepsTail kind n order) (order ≡ source_order n)
+    × ((other : List ℕ) → MatchBool b (IsPermutation (source_order n) other × KeepsTail kind n other) (other ≡ source_order n) → size order ≤ size other)
+least_cases true kind n size some =
+    least_order n (λ order. IsPermutation (source_order n) order × KeepsTail kind n order) size (λ order q. q.0)
+    (λ order p. ⊎_elim (λ (keeps : KeepsTail kind n order). inl (p, keeps)) (λ (no : KeepsTail kind n order → ⊥). inr (λ q. no q.1)) (keeps_decided kind n order))
+    (source_order n) (IsPermutation-refl (source_order n), source_keeps kind n some)
+least_cases false kind n size some = (source_order n, refl, λ other is. let same : size other ≡ size (source_order n) = ap size is in omega arith)
+
+-- whatever the fields, some allowed order has the least size of all allowed orders
+pub some_least : (repr : ListRepr) (fields : List Part) → IsNonEmptyIfUnsized repr.kind (length fields)
+    → (order : List ℕ) × IsAllowed repr (length fields) order × ((other : List ℕ) → IsAllowed repr (length fields) other → size_in repr fields order ≤ size_in repr fields other)
+some_least repr fields some = least_cases repr.reorderable repr.kind (length fields) (size_in repr fields) some
 
 -- ---- three fields in free order have these six orders, and no other
 

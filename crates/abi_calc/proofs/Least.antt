@@ -221,7 +221,7 @@ end_too_large repr fields order bound over =
 
 -- ---- alignments have their limit
 
-cut_small : (pack : Option ℕ) (align : ℕ) → align ≤ max_align → cut pack align ≤ max_align
+pub cut_small : (pack : Option ℕ) (align : ℕ) → align ≤ max_align → cut pack align ≤ max_align
 cut_small None align h = h
 cut_small (Some pack) align h = omega arith
 

@@ -9,6 +9,7 @@ pub mod Steps
 pub mod Lawful
 pub mod ViewLemmas
 pub mod PlacingLemmas
+pub mod Orders
 pub mod FaultLemmas
 pub mod RunLemmas
 pub mod SourceLemmas

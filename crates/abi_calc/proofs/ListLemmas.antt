@@ -46,7 +46,7 @@ length-parts layout_of dl fields = length-map (map layout_of fields) (λ f. part
 byte_small : (dl : TargetDataLayout) → IsLawfulDataLayout dl → dl.i8_align ≤ 29
 byte_small dl h = All-get_or (λ a. a ≤ 29) (alignments_of dl) 1 0 (omega arith) h.limit
 
-own_small : (b : Bool) (dl : TargetDataLayout) → IsLawfulDataLayout dl → (if b then dl.i8_align else dl.aggregate_align) ≤ 29
+pub own_small : (b : Bool) (dl : TargetDataLayout) → IsLawfulDataLayout dl → (if b then dl.i8_align else dl.aggregate_align) ≤ 29
 own_small true dl h = byte_small dl h
 own_small false dl h = aggregate_small dl h
 

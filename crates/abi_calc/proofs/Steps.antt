@@ -6,7 +6,7 @@ use Rattle.std.proofs.Math.Nat.{mod-add-mod}
 use Rattle.std.proofs.lemmas.List.{drop_more, drop_all}
 use Rattle.std.proofs.lemmas.List.Sums.{sum_by-cons}
 use Rattle.abi_scalar.specs.declared.layout_data.LayoutData.{LayoutData}
-use Rattle.abi_calc.specs.List.{greater, max_repr_align_of}
+use Rattle.abi_calc.specs.Fields.{greater, greatest_asked}
 
 -- the fields from the k-th on begin with it
 pub rest_begins : {H : Type 0} (fields : List H) (k : ℕ) (h : H) → k < length fields → h ≡ get_or fields k h → drop k fields ≡ h ∷ drop (k + 1) fields
@@ -38,13 +38,13 @@ greater_none None = refl
 greater_none (Some a) = refl
 
 pub repr_more : {F V H : Type 0} (layout_of : H → LayoutData F V) (own : Option ℕ) (fields : List H) (k : ℕ) (h : H) → k < length fields → h ≡ get_or fields k h
-    → greater (greater own (layout_of h).max_repr_align) (max_repr_align_of (map layout_of (drop (k + 1) fields))) ≡ greater own (max_repr_align_of (map layout_of (drop k fields)))
+    → greater (greater own (layout_of h).max_repr_align) (greatest_asked (map layout_of (drop (k + 1) fields))) ≡ greater own (greatest_asked (map layout_of (drop k fields)))
 repr_more layout_of own fields k h short is =
-    greater_assoc own (layout_of h).max_repr_align (max_repr_align_of (map layout_of (drop (k + 1) fields)))
-    ∙ ap (λ fs. greater own (max_repr_align_of (map layout_of fs))) (sym (rest_begins fields k h short is))
+    greater_assoc own (layout_of h).max_repr_align (greatest_asked (map layout_of (drop (k + 1) fields)))
+    ∙ ap (λ fs. greater own (greatest_asked (map layout_of fs))) (sym (rest_begins fields k h short is))
 
-pub repr_all : {F V H : Type 0} (layout_of : H → LayoutData F V) (own : Option ℕ) (fields : List H) (k : ℕ) → length fields ≤ k → greater own (max_repr_align_of (map layout_of (drop k fields))) ≡ own
-repr_all layout_of own fields k long = ap (λ fs. greater own (max_repr_align_of (map layout_of fs))) (drop_all k fields long) ∙ greater_none own
+pub repr_all : {F V H : Type 0} (layout_of : H → LayoutData F V) (own : Option ℕ) (fields : List H) (k : ℕ) → length fields ≤ k → greater own (greatest_asked (map layout_of (drop k fields))) ≡ own
+repr_all layout_of own fields k long = ap (λ fs. greater own (greatest_asked (map layout_of fs))) (drop_all k fields long) ∙ greater_none own
 
 pub seed_more : {F V H : Type 0} (layout_of : H → LayoutData F V) (own : ℕ) (fields : List H) (k : ℕ) (h : H) → k < length fields → h ≡ get_or fields k h
     → ((own + (layout_of h).randomization_seed) % 2 ^ 64 + sum_by (λ f. f.randomization_seed) (map layout_of (drop (k + 1) fields))) % 2 ^ 64

@@ -1,14 +1,14 @@
 -- The layout of a union is lawful.
-use Rattle.std.proofs.Common.{◌≡◌, ℕ, ◌*◌, ◌^◌, ◌<◌, ◌≤◌, List, Option, None, Some, Bool, true, false, map, refl, sym, ap, subst, ◌∙◌, arith, inl, inr, ⊎_elim}
-use Rattle.std.specs.Prelude.{All, IfSome, is_some, if◌then◌else◌}
+use Rattle.std.proofs.Common.{◌≡◌, ℕ, ◌*◌, ◌^◌, ◌<◌, ◌≤◌, List, Option, None, Some, map, refl, sym, ap, subst, ◌∙◌, arith, inl, inr, ⊎_elim}
+use Rattle.std.specs.Prelude.{All, IfSome, is_some}
 use Rattle.std.specs.Int.{◌∣◌, next_multiple_of}
 use Rattle.std.proofs.lemmas.Bool.{cases_lt}
 use Rattle.std.proofs.lemmas.Nat.{pow_pos}
-use Rattle.std.proofs.lemmas.List.Elements.{All-contains, All-get_or, All-map, All-weaker}
+use Rattle.std.proofs.lemmas.List.Elements.{All-contains, All-map, All-weaker}
 use Rattle.abi_base.specs.declared.data_layout.TargetDataLayout.{TargetDataLayout}
 use Rattle.abi_base.specs.declared.primitive.Primitive.{Primitive}
 use Rattle.abi_base.specs.declared.primitive.Primitive.TheVariants.{Int, Float, Pointer}
-use Rattle.abi_base.specs.DataLayout.{IsLawfulDataLayout, alignments_of, size_bound}
+use Rattle.abi_base.specs.DataLayout.{IsLawfulDataLayout, size_bound}
 use Rattle.abi_base.specs.Primitive.{IsLawfulPrimitive, primitive_align, primitive_size}
 use Rattle.abi_scalar.specs.declared.backend_repr.BackendRepr.{BackendRepr}
 use Rattle.abi_scalar.specs.declared.backend_repr.BackendRepr.TheVariants.{Scalar as OneScalar, ScalarPair, SimdScalableVector, SimdVector, Memory}
@@ -20,29 +20,19 @@ use Rattle.abi_scalar.specs.declared.repr.ReprOptions.{ReprOptions}
 use Rattle.abi_scalar.specs.Lawful.{IsLawfulLayout, IsLawfulView}
 use Rattle.abi_scalar.specs.Scalar.{IsLawfulScalar, primitive_of, scalar_size}
 use Rattle.abi_scalar.specs.View.{union_view}
-use Rattle.abi_calc.specs.Union.{CountsForView, HasView, IsAlignedFor, IsCommonView, IsUnionView, KeepsView, cut_to, first_align, greatest, greatest_align, greatest_size, raised_to, unraised_align, union_align, union_size}
+use Rattle.abi_calc.specs.Union.{CountsForView, HasView, IsAlignedFor, IsCommonView, IsUnionView, KeepsView, greatest, greatest_align, greatest_size, raised_to, unraised_align, union_align, union_size}
+use Rattle.abi_calc.specs.Placement.{own_align}
 use Rattle.abi_calc.proofs.Lawful.{bound_small}
+use Rattle.abi_calc.proofs.Least.{cut_small}
+use Rattle.abi_calc.proofs.ListLemmas.{own_small}
 use Rattle.abi_calc.proofs.Rounding.{rounded_to}
 use Rattle.abi_calc.proofs.UnionLemmas.{common_field, greatest_above, greatest_most}
 
 -- alignments
 
-cut_small : (pack : Option ℕ) (align : ℕ) → align ≤ 29 → cut_to pack align ≤ 29
-cut_small None align h = h
-cut_small (Some pack) align h = omega arith
-
 raised_small : (least : Option ℕ) (align : ℕ) → IfSome least (λ a. a ≤ 29) → align ≤ 29 → raised_to least align ≤ 29
 raised_small None align l h = h
 raised_small (Some least) align l h = let small : least ≤ 29 = l in omega arith
-
-first_small_at : (packed : Bool) (one other : ℕ) → one ≤ 29 → other ≤ 29 → (if packed then one else other) ≤ 29
-first_small_at true one other a b = a
-first_small_at false one other a b = b
-
-first_small : (dl : TargetDataLayout) (repr : ReprOptions) → IsLawfulDataLayout dl → first_align dl repr ≤ 29
-first_small dl repr lawful =
-    first_small_at (is_some repr.pack) dl.i8_align dl.aggregate_align
-    (All-get_or (λ a. a ≤ 29) (alignments_of dl) 1 0 (omega arith) lawful.limit) (All-get_or (λ a. a ≤ 29) (alignments_of dl) 10 0 (omega arith) lawful.limit)
 
 pub union_align_small : {F V H : Type 0} (layout_of : H → LayoutData F V) (dl : TargetDataLayout) (repr : ReprOptions) (fields : List H) → IsLawfulDataLayout dl
     → All (λ h. IsLawfulLayout dl (layout_of h)) fields → IfSome repr.align (λ a. a ≤ 29) → union_align dl repr (map layout_of fields) ≤ 29
@@ -50,8 +40,8 @@ union_align_small layout_of dl repr fields lawful all least =
     let ls = map layout_of fields in
     let each = All-weaker (λ l. IsLawfulLayout dl l) (λ l. l.align.abi ≤ 29) (λ l h. h.limit) ls (All-map (λ l. IsLawfulLayout dl l) layout_of fields all) in
     let most : greatest (map (λ l. l.align.abi) (map layout_of fields)) ≤ 29 = greatest_most (λ l. l.align.abi) 29 ls each in
-    let first : first_align dl repr ≤ 29 = first_small dl repr lawful in
-    raised_small repr.align (unraised_align dl repr ls) least (cut_small repr.pack (greatest_align (first_align dl repr) ls) (omega arith))
+    let first : own_align dl repr ≤ 29 = own_small (is_some repr.pack) dl lawful in
+    raised_small repr.align (unraised_align dl repr ls) least (cut_small repr.pack (greatest_align (own_align dl repr) ls) (omega arith))
 
 -- sizes
 

@@ -8,6 +8,7 @@ pub mod Order
 pub mod Fault
 pub mod Run
 pub mod ListView
+pub mod Fields
 pub mod List
 pub mod Union
 pub mod Simd

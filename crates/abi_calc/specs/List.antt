@@ -1,5 +1,5 @@
 -- The layout of a list of fields.
-use Rattle.std.specs.Prelude.{◌≡◌, ◌⊎◌, ℕ, ◌+◌, ◌%◌, ◌^◌, ◌≤◌, false, List, [], ◌∷◌, ◌&&◌, ◌||◌, map, max, sum_by, All, IfSome, Option, Some, None, Result, Ok, Err, if◌then◌else◌}
+use Rattle.std.specs.Prelude.{◌≡◌, ◌⊎◌, ℕ, ◌≤◌, false, List, map, All, IfSome, Some, Result, Ok, Err, if◌then◌else◌}
 use Rattle.std.specs.List.{list_any}
 use Rattle.abi_base.specs.declared.data_layout.TargetDataLayout.{TargetDataLayout}
 use Rattle.abi_base.specs.declared.struct_kind.StructKind.{StructKind}
@@ -10,27 +10,17 @@ use Rattle.abi_scalar.specs.declared.layout_data.LayoutData.{LayoutData}
 use Rattle.abi_scalar.specs.declared.error.LayoutCalculatorError.{LayoutCalculatorError}
 use Rattle.abi_scalar.specs.declared.error.LayoutCalculatorError.TheVariants.{OutOfMemory}
 use Rattle.abi_scalar.specs.declared.repr.ReprOptions.{ReprOptions}
-use Rattle.abi_scalar.specs.Repr.{is_abi_fixed, is_c, is_transparent}
+use Rattle.abi_scalar.specs.Repr.{is_abi_fixed, is_transparent}
 use Rattle.abi_calc.specs.declared.order.NicheBias.TheVariants.{Start}
 use Rattle.abi_calc.specs.declared.part.Part.{Part}
 use Rattle.abi_calc.specs.declared.placing.ListFault.{ListFault}
+use Rattle.abi_calc.specs.Fields.{greatest_repr_align, lies_as_in_c, seed_with}
 use Rattle.abi_calc.specs.Fault.{IsErrorOf, fault_in}
 use Rattle.abi_calc.specs.ListView.{list_view, transparent_align}
 use Rattle.abi_calc.specs.Order.{IsNamedOrder, movable}
 use Rattle.abi_calc.specs.Part.{is_unsized, max_align, part_of}
 use Rattle.abi_calc.specs.Placement.{align_of, list_repr, unraised}
 use Rattle.abi_calc.specs.Run.{IsNamedLayout}
-
--- the greater of two alignments, where there are any
-abbrev pub greater : Option ℕ → Option ℕ → Option ℕ
-greater None b = b
-greater (Some a) None = Some a
-greater (Some a) (Some b) = Some (max a b)
-
--- the greatest alignment that a `repr(align)` in the fields asks for
-abbrev pub max_repr_align_of : {F V : Type 0} → List (LayoutData F V) → Option ℕ
-max_repr_align_of [] = None
-max_repr_align_of (f ∷ fs) = greater f.max_repr_align (max_repr_align_of fs)
 
 -- the alignments that a `repr` names have their limit
 pub record HasLawfulAligns (repr : ReprOptions) : Type 0 where
@@ -48,7 +38,7 @@ unadjusted_of dl repr kind size align parts =
 
 -- the sum of the seeds of the fields that may move, and the type's own
 abbrev pub list_seed : {F V : Type 0} → ReprOptions → StructKind → List (LayoutData F V) → ℕ
-list_seed repr kind fields = (sum_by (λ f. f.randomization_seed) (movable kind fields) + repr.field_shuffle_seed) % 2 ^ 64
+list_seed repr kind fields = seed_with repr.field_shuffle_seed (movable kind fields)
 
 -- The layout of these fields as one list, which lie in memory in this order, at these offsets; `at` makes the index of a field.
 pub record IsListLayout {F V : Type 0} (at : ℕ → F) (first : V) (dl : TargetDataLayout) (repr : ReprOptions) (kind : StructKind) (fields : List (LayoutData F V)) (order offsets : List ℕ) (layout : LayoutData F V) : Type 0 where
@@ -57,9 +47,9 @@ pub record IsListLayout {F V : Type 0} (at : ℕ → F) (first : V) (dl : Target
   pub variants : layout.variants ≡ Single first
   pub view : layout.backend_repr ≡ list_view dl (is_abi_fixed repr) layout.size layout.align.abi (parts_of dl fields) offsets
   pub uninhabited : layout.uninhabited ≡ list_any (λ f. f.uninhabited) fields
-  pub max_repr_align : layout.max_repr_align ≡ greater repr.align (max_repr_align_of fields)
+  pub max_repr_align : layout.max_repr_align ≡ greatest_repr_align repr.align fields
   pub unadjusted_abi_align : layout.unadjusted_abi_align ≡ unadjusted_of dl repr kind layout.size layout.align.abi (parts_of dl fields)
-  pub repr_c : layout.repr_c ≡ (is_c repr || (is_transparent repr && list_any (λ f. f.repr_c) fields))
+  pub repr_c : layout.repr_c ≡ lies_as_in_c repr fields
   pub seed : layout.randomization_seed ≡ list_seed repr kind fields
 
 -- the error tells the first fault of the fields in the order that is named for a bias to the start

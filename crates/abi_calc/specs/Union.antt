@@ -1,7 +1,7 @@
 -- The layout of a union: all fields at offset 0.
-use Rattle.std.specs.Prelude.{◌≡◌, ℕ, ◌+◌, ◌%◌, ◌^◌, ◌≤◌, ◌==◌, ◌&&◌, ◌||◌, ⊤, ◌⊎◌, All, Contains, Bool, true, false, List, [], ◌∷◌, length, map, max, min, sum_by, nat_lt, Option, Some, None, is_some, Result, Ok, Err, if◌then◌else◌}
+use Rattle.std.specs.Prelude.{◌≡◌, ℕ, ◌^◌, ◌≤◌, ◌==◌, ⊤, ◌⊎◌, All, Contains, true, false, List, [], ◌∷◌, length, map, max, nat_lt, Option, Some, None, Result, Ok, Err, if◌then◌else◌}
 use Rattle.std.specs.Int.{next_multiple_of}
-use Rattle.std.specs.List.{find, list_any}
+use Rattle.std.specs.List.{find}
 use Rattle.abi_base.specs.declared.data_layout.TargetDataLayout.{TargetDataLayout}
 use Rattle.abi_base.specs.DataLayout.{size_bound}
 use Rattle.abi_scalar.specs.declared.backend_repr.BackendRepr.{BackendRepr}
@@ -13,10 +13,13 @@ use Rattle.abi_scalar.specs.declared.error.LayoutCalculatorError.{LayoutCalculat
 use Rattle.abi_scalar.specs.declared.error.LayoutCalculatorError.TheVariants.{EmptyUnion, SizeOverflow, UnexpectedUnsized}
 use Rattle.abi_scalar.specs.declared.repr.ReprOptions.{ReprOptions}
 use Rattle.abi_scalar.specs.Layout.{IsZst}
-use Rattle.abi_scalar.specs.Repr.{is_c, is_transparent}
+use Rattle.abi_scalar.specs.Repr.{is_c}
 use Rattle.abi_base.specs.Primitive.{KnowsPrimitive}
 use Rattle.abi_scalar.specs.Scalar.{primitive_of, scalar_align}
 use Rattle.abi_scalar.specs.View.{union_view}
+use Rattle.abi_calc.specs.Fields.{greatest_repr_align, lies_as_in_c, seed_with}
+use Rattle.abi_calc.specs.Part.{is_unsized}
+use Rattle.abi_calc.specs.Placement.{cut, own_align}
 
 -- the fields of the one variant that a union has
 abbrev pub only_of : {H : Type 0} → List (List H) → List H
@@ -36,30 +39,6 @@ greatest_size fields = greatest (map (λ f. f.size) fields)
 abbrev pub greatest_align : {F V : Type 0} → (own : ℕ) → List (LayoutData F V) → ℕ
 greatest_align own fields = max own (greatest (map (λ f. f.align.abi) fields))
 
--- the greater of two alignments, where there are any
-abbrev pub greater_of : Option ℕ → Option ℕ → Option ℕ
-greater_of None b = b
-greater_of (Some a) None = Some a
-greater_of (Some a) (Some b) = Some (max a b)
-
--- the greatest of some alignments, where there are any
-abbrev pub greatest_asked : List (Option ℕ) → Option ℕ
-greatest_asked [] = None
-greatest_asked (a ∷ asked) = greater_of a (greatest_asked asked)
-
--- the greatest alignment that a `repr(align)` asks for, this one or one in the fields
-abbrev pub greatest_repr_align : {F V : Type 0} → (own : Option ℕ) → List (LayoutData F V) → Option ℕ
-greatest_repr_align own fields = greater_of own (greatest_asked (map (λ f. f.max_repr_align) fields))
-
--- where a union's alignment begins: at the data layout's for aggregates, at that of an i8 where it is packed
-abbrev pub first_align : TargetDataLayout → ReprOptions → ℕ
-first_align dl repr = if is_some repr.pack then dl.i8_align else dl.aggregate_align
-
--- no more than the packing, where there is one
-abbrev pub cut_to : Option ℕ → ℕ → ℕ
-cut_to None align = align
-cut_to (Some pack) align = min align pack
-
 -- no less than asked for, where that is
 abbrev pub raised_to : Option ℕ → ℕ → ℕ
 raised_to None align = align
@@ -67,7 +46,7 @@ raised_to (Some least) align = max align least
 
 -- a union's alignment before `repr(align)` raises it: the greatest of its fields', cut to the packing
 abbrev pub unraised_align : {F V : Type 0} → TargetDataLayout → ReprOptions → List (LayoutData F V) → ℕ
-unraised_align dl repr fields = cut_to repr.pack (greatest_align (first_align dl repr) fields)
+unraised_align dl repr fields = cut repr.pack (greatest_align (own_align dl repr) fields)
 
 -- a union's alignment
 abbrev pub union_align : {F V : Type 0} → TargetDataLayout → ReprOptions → List (LayoutData F V) → ℕ
@@ -117,10 +96,6 @@ abbrev pub IsUnionView : {F V : Type 0} → TargetDataLayout → ReprOptions →
 IsUnionView dl repr fields view =
     KeepsView dl repr fields view ⊎ ((view ≡ Memory true) × ((kept : BackendRepr) → KeepsView dl repr fields kept → ⊥))
 
--- the fields lie as `repr(C)` has them
-abbrev pub is_union_c : {F V : Type 0} → ReprOptions → List (LayoutData F V) → Bool
-is_union_c repr fields = is_c repr || is_transparent repr && list_any (λ f. f.repr_c) fields
-
 -- the layout of a union of these fields with this view; `first` is the index of its one variant
 abbrev pub union_layout : {F V : Type 0} → (first : V) → TargetDataLayout → ReprOptions → List (LayoutData F V) → BackendRepr → LayoutData F V
 union_layout first dl repr fields view = record {
@@ -133,18 +108,13 @@ union_layout first dl repr fields view = record {
   size = union_size dl repr fields;
   max_repr_align = greatest_repr_align repr.align fields;
   unadjusted_abi_align = unraised_align dl repr fields;
-  repr_c = is_union_c repr fields;
-  randomization_seed = (sum_by (λ f. f.randomization_seed) fields + repr.field_shuffle_seed) % 2 ^ 64;
+  repr_c = lies_as_in_c repr fields;
+  randomization_seed = seed_with repr.field_shuffle_seed fields;
 }
-
--- the size isn't known beforehand
-abbrev pub is_unsized_view : BackendRepr → Bool
-is_unsized_view (Memory false) = true
-is_unsized_view _ = false
 
 -- the first unsized field
 abbrev pub first_unsized : {F V H : Type 0} → (layout_of : H → LayoutData F V) → List H → Option H
-first_unsized layout_of fields = find (λ h. is_unsized_view (layout_of h).backend_repr) fields
+first_unsized layout_of fields = find (λ h. is_unsized (layout_of h).backend_repr) fields
 
 -- why a union of sized fields has no layout: it has no fields, or is too large
 abbrev pub sized_fault : {F V H : Type 0} → TargetDataLayout → ReprOptions → List (LayoutData F V) → Option (LayoutCalculatorError H)

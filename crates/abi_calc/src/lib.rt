@@ -3,6 +3,7 @@
 
 mod array;
 mod calculator;
+mod fields;
 mod list;
 mod list_niche;
 mod list_repr;

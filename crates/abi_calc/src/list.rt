@@ -1,6 +1,6 @@
 //! Lists of fields, one after another in memory.
 
-ghost use Rattle.std.specs.Prelude.{◌≡◌, ℕ, ◌+◌, ◌%◌, ◌^◌, ◌≤◌, ◌<◌, ◌⊎◌, All, Err, IfOk, IfErr, IfSome, IsTrue, List, length, map, sum_by};
+ghost use Rattle.std.specs.Prelude.{◌≡◌, ℕ, ◌+◌, ◌≤◌, ◌<◌, All, Err, IfOk, IfSome, IsTrue, List, length, map};
 ghost use Rattle.std.specs.List.{list_any};
 ghost use Rattle.abi_index.specs.Slice.{items_of};
 ghost use Rattle.abi_base.specs.DataLayout.{IsLawfulDataLayout, size_bound};
@@ -8,41 +8,24 @@ ghost use Rattle.abi_scalar.specs.Lawful.{IsLawfulLayout};
 ghost use Rattle.abi_calc.specs.Answer.{IsAnswer};
 ghost use Rattle.abi_calc.specs.Apart.{AreAligned, AreApart, offsets_of};
 ghost use Rattle.abi_calc.specs.Fault.{IsErrorOf, IsFaultIndex};
-ghost use Rattle.abi_calc.specs.List.{AreSized, HasLawfulAligns, IsListAnswer, greater, max_repr_align_of, parts_of};
+ghost use Rattle.abi_calc.specs.List.{AreSized, HasLawfulAligns, IsListAnswer, parts_of};
 ghost use Rattle.abi_calc.specs.ListNiche.{HasLargestNiche, IsNicheOfPart};
 ghost use Rattle.abi_calc.specs.Order.{movable};
 ghost use Rattle.abi_calc.specs.Placement.{IsAllowed, IsLawfulPrefix, IsNonEmptyIfUnsized, IsSized, cut, list_repr, size_in, start_of, sum_rounded};
 
 use crate::calculator::LayoutCalculator;
+use crate::fields::{greatest_repr_align, lies_as_in_c, seed_with};
 use crate::list_repr::{ListRepr, list_repr, unraised};
 use crate::list_view::{bulky_parts, list_view, transparent_align};
 use crate::part::{Part, parts_of};
 use crate::placing::{ListFault, list_align};
 use crate::run::{PlacedList, layout_of_parts};
 use abi_base::{AbiAlign, Align, HasDataLayout, Size, StructKind, TargetDataLayout};
-use abi_index::{Hash64, Idx, IndexSlice, IndexVec};
+use abi_index::{Idx, IndexSlice, IndexVec};
 use abi_scalar::{
     FieldsShape, LayoutCalculatorError, LayoutData, LayoutHandle, ReprOptions, Variants,
 };
 use std::alloc::{AllocError, Global};
-
-/// The greatest alignment that this and a `repr(align)` in the fields asks for.
-fn max_repr_align<FieldIdx: Idx, VariantIdx: Idx, F: LayoutHandle<FieldIdx, VariantIdx>>(
-    own: Option<Align>,
-    fields: &[F],
-) -> Option<Align>
-    ensures { result ≡ greater own (max_repr_align_of (map F.layout_of fields.now)) }
-{
-    let mut greatest = own;
-    for field in fields {
-        greatest = match (greatest, field.layout().max_repr_align) {
-            (Some(a), Some(b)) => Some(a.max(b)),
-            (None, b) => b,
-            (a, None) => a,
-        };
-    }
-    greatest
-}
 
 /// Whether some field has no values.
 fn any_uninhabited<FieldIdx: Idx, VariantIdx: Idx, F: LayoutHandle<FieldIdx, VariantIdx>>(
@@ -56,34 +39,6 @@ fn any_uninhabited<FieldIdx: Idx, VariantIdx: Idx, F: LayoutHandle<FieldIdx, Var
         }
     }
     false
-}
-
-/// Whether some field lies as `repr(C)` has it.
-fn any_repr_c<FieldIdx: Idx, VariantIdx: Idx, F: LayoutHandle<FieldIdx, VariantIdx>>(
-    fields: &[F],
-) -> bool
-    ensures { result ≡ list_any (λ f. f.repr_c) (map F.layout_of fields.now) }
-{
-    for field in fields {
-        if field.layout().repr_c {
-            return true;
-        }
-    }
-    false
-}
-
-/// The sum of the fields' seeds and this one, modulo 2 to the 64.
-fn seed_of<FieldIdx: Idx, VariantIdx: Idx, F: LayoutHandle<FieldIdx, VariantIdx>>(
-    own: Hash64,
-    fields: &[F],
-) -> Hash64
-    ensures { result ≡ (sum_by (λ f. f.randomization_seed) (map F.layout_of fields.now) + own) % 2 ^ 64 }
-{
-    let mut seed = Hash64::ZERO;
-    for field in fields {
-        seed = seed.wrapping_add(field.layout().randomization_seed);
-    }
-    seed.wrapping_add(own)
 }
 
 /// The fields that may move: all but a last one that may be unsized.
@@ -202,10 +157,10 @@ fn layout_of_list<FieldIdx: Idx, VariantIdx: Idx, F: LayoutHandle<FieldIdx, Vari
         uninhabited: any_uninhabited(fields),
         align: AbiAlign::new(align),
         size,
-        max_repr_align: max_repr_align(repr.align, fields),
+        max_repr_align: greatest_repr_align(repr.align, fields),
         unadjusted_abi_align,
-        repr_c: repr.c() | (repr.transparent() & any_repr_c(fields)),
-        randomization_seed: seed_of(repr.field_shuffle_seed, movable_fields(list.kind, fields)),
+        repr_c: lies_as_in_c(repr, fields),
+        randomization_seed: seed_with(repr.field_shuffle_seed, movable_fields(list.kind, fields)),
     })
 }
 

@@ -1,6 +1,6 @@
 //! Unions: fields that share their bytes.
 
-ghost use Rattle.std.specs.Prelude.{◌≡◌, ◌↔◌, ℕ, ◌+◌, ◌%◌, ◌^◌, ◌≤◌, All, Contains, IfOk, IfSome, IsTrue, None, false, length, map, sum_by};
+ghost use Rattle.std.specs.Prelude.{◌≡◌, ◌↔◌, ℕ, ◌+◌, ◌^◌, ◌≤◌, All, Contains, IfOk, IfSome, IsTrue, None, false, length, map};
 ghost use Rattle.std.specs.Int.{next_multiple_of};
 ghost use Rattle.abi_index.specs.Slice.{items_of};
 ghost use Rattle.abi_base.specs.DataLayout.{IsLawfulDataLayout};
@@ -8,11 +8,13 @@ ghost use Rattle.abi_scalar.specs.declared.backend_repr.BackendRepr.{BackendRepr
 ghost use Rattle.abi_scalar.specs.Layout.{IsZst};
 ghost use Rattle.abi_scalar.specs.Lawful.{IsLawfulLayout};
 ghost use Rattle.abi_scalar.specs.View.{union_view};
-ghost use Rattle.abi_calc.specs.Union.{CountsForView, HasView, IsAlignedFor, IsCommonView, IsUnionAnswer, IsUnionView, KnowsScalarsOf, first_unsized, greatest_align, greatest_repr_align, greatest_size, is_union_c, only_of, raised_to, unraised_align, union_align};
+ghost use Rattle.abi_calc.specs.Union.{CountsForView, HasView, IsAlignedFor, IsCommonView, IsUnionAnswer, IsUnionView, KnowsScalarsOf, first_unsized, greatest_align, greatest_size, only_of, raised_to, unraised_align, union_align};
 
 use crate::calculator::LayoutCalculator;
+use crate::fields::{greatest_repr_align, lies_as_in_c, seed_with};
+use crate::list_repr::{cut_to, own_align};
 use abi_base::{AbiAlign, Align, HasDataLayout, Size};
-use abi_index::{Hash64, Idx, IndexSlice, IndexVec};
+use abi_index::{Idx, IndexSlice, IndexVec};
 use abi_scalar::{
     BackendRepr, FieldCount, FieldsShape, LayoutCalculatorError, LayoutData, LayoutHandle,
     ReprOptions, Variants,
@@ -55,24 +57,6 @@ fn greatest_align<FieldIdx: Idx, VariantIdx: Idx, F: LayoutHandle<FieldIdx, Vari
     let mut greatest = own;
     for field in fields {
         greatest = greatest.max(field.layout().align.abi);
-    }
-    greatest
-}
-
-/// The greatest alignment that a `repr(align)` asks for, this one or one in the fields.
-fn greatest_repr_align<FieldIdx: Idx, VariantIdx: Idx, F: LayoutHandle<FieldIdx, VariantIdx>>(
-    own: Option<Align>,
-    fields: &[F],
-) -> Option<Align>
-    ensures { result ≡ greatest_repr_align own (map F.layout_of fields.now) }
-{
-    let mut greatest = own;
-    for field in fields {
-        greatest = match (greatest, field.layout().max_repr_align) {
-            (Some(a), Some(b)) => Some(a.max(b)),
-            (None, b) => b,
-            (a, None) => a,
-        };
     }
     greatest
 }
@@ -185,41 +169,6 @@ fn raised_align(repr: &ReprOptions, align: Align) -> Align
     }
 }
 
-/// Whether the fields lie as `repr(C)` has them.
-fn is_union_c<FieldIdx: Idx, VariantIdx: Idx, F: LayoutHandle<FieldIdx, VariantIdx>>(
-    repr: &ReprOptions,
-    fields: &[F],
-) -> bool
-    ensures { result ≡ is_union_c repr.now (map F.layout_of fields.now) }
-{
-    if repr.c() {
-        return true;
-    }
-    if !repr.transparent() {
-        return false;
-    }
-    for field in fields {
-        if field.layout().repr_c {
-            return true;
-        }
-    }
-    false
-}
-
-/// The sum of the fields' seeds and this one, modulo 2 to the 64.
-fn union_seed<FieldIdx: Idx, VariantIdx: Idx, F: LayoutHandle<FieldIdx, VariantIdx>>(
-    own: Hash64,
-    fields: &[F],
-) -> Hash64
-    ensures { result ≡ (sum_by (λ f. f.randomization_seed) (map F.layout_of fields.now) + own) % 2 ^ 64 }
-{
-    let mut seed = Hash64::ZERO;
-    for field in fields {
-        seed = seed.wrapping_add(field.layout().randomization_seed);
-    }
-    seed.wrapping_add(own)
-}
-
 impl<Cx: HasDataLayout> LayoutCalculator<Cx> {
     /// A union's alignment before `repr(align)` raises it.
     fn unraised_align<FieldIdx: Idx, VariantIdx: Idx, F: LayoutHandle<FieldIdx, VariantIdx>>(
@@ -229,17 +178,8 @@ impl<Cx: HasDataLayout> LayoutCalculator<Cx> {
     ) -> Align
         ensures { result ≡ unraised_align (Cx.target self.now.cx) repr.now (map F.layout_of fields.now) }
     {
-        let dl = self.cx.data_layout();
-        let first = if repr.pack.is_some() {
-            dl.i8_align
-        } else {
-            dl.aggregate_align
-        };
-        let align = greatest_align(first, fields);
-        match repr.pack {
-            Some(pack) => align.min(pack),
-            None => align,
-        }
+        let own = own_align(self.cx.data_layout(), repr);
+        cut_to(greatest_align(own, fields), repr.pack)
     }
 
     /// A union's view: the one that all fields have in common, where it goes with the union's alignment.
@@ -303,8 +243,8 @@ impl<Cx: HasDataLayout> LayoutCalculator<Cx> {
             size,
             max_repr_align: greatest_repr_align(repr.align, fields),
             unadjusted_abi_align,
-            repr_c: is_union_c(repr, fields),
-            randomization_seed: union_seed(repr.field_shuffle_seed, fields),
+            repr_c: lies_as_in_c(repr, fields),
+            randomization_seed: seed_with(repr.field_shuffle_seed, fields),
         })
     }
 

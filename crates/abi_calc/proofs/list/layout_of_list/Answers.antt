@@ -1,4 +1,4 @@
-use Rattle.std.proofs.Common.{rules, arith, ◌≡◌, ℕ, ◌^◌, ◌<◌, ◌≤◌, List, length, map, sym, ap, ap₂, subst, ◌∙◌, refl}
+use Rattle.std.proofs.Common.{arith, ◌≡◌, ℕ, ◌^◌, ◌<◌, ◌≤◌, List, length, map, sym, ap, ap₂, subst, ◌∙◌, refl}
 use Rattle.std.specs.Prelude.{All}
 use Rattle.abi_base.specs.DataLayout.{size_bound}
 use Rattle.abi_calc.specs.declared.list_repr.ListRepr.{ListRepr}
@@ -124,7 +124,7 @@ returns-clause-exact g c =
             ∙ view_same c.args.dl.now c.inhibit_newtype_abi_optimization-fixed.result _ c.in-Ok.placed.size c.in-Ok.placed.align c.new-2.result.abi c.deref-3.result.now (parts_of c.args.dl.now (map g.F.LayoutHandle.layout_of c.args.fields.now)) c.deref-4.result.now c.in-Ok.placed.offsets.items
             c.inhibit_newtype_abi_optimization-fixed.ensures (sym c.new-2.ensures) (c.deref-3.ensures.value ∙ c.in_ok-parts.ensures) c.deref-4.ensures.value;
         uninhabited = c.any_uninhabited.ensures;
-        max_repr_align = c.max_repr_align.ensures;
+        max_repr_align = c.greatest_repr_align.ensures;
         unadjusted_abi_align = elim c.if-transparent.branch [
           | then-transparent w ↦
               w.unadjusted_abi_align-is ∙ w.transparent_align-unadjusted_abi_align.ensures
@@ -135,8 +135,8 @@ returns-clause-exact g c =
               ∙ unadjusted_else c.args.dl.now c.args.repr.now c.args.list.now.kind c.in-Ok.placed.size c.new-2.result.abi w.unraised.result w.deref-else-transparent.result.now (parts_of c.args.dl.now (map g.F.LayoutHandle.layout_of c.args.fields.now)) (sym c.transparent.ensures ∙ w.if-transparent.false)
               w.unraised.ensures (w.deref-else-transparent.ensures.value ∙ c.in_ok-parts.ensures)
         ];
-        repr_c = search rules;
-        seed = c.seed_of.ensures ∙ seed_same g.F.LayoutHandle.layout_of c.args.repr.now c.args.list.now.kind c.args.fields.now c.movable_fields.result.now c.movable_fields.ensures;
+        repr_c = c.lies_as_in_c.ensures;
+        seed = c.seed_with.ensures ∙ seed_same g.F.LayoutHandle.layout_of c.args.repr.now c.args.list.now.kind c.args.fields.now c.movable_fields.result.now c.movable_fields.ensures;
       },
     )
 

@@ -1,7 +1,7 @@
 -- The rest of the fields gives the sum.
 use Rattle.std.proofs.Common.{◌≡◌, ◌+◌, ◌%◌, ◌^◌, map, drop}
 use Rattle.std.specs.Prelude.{sum_by}
-use Rattle.abi_calc.proofs.unions.union_seed.Given as goal
+use Rattle.abi_calc.proofs.fields.seed_with.Given as goal
 
 abbrev pub invariant-loop-field : goal.invariant-loop-field
 invariant-loop-field g l =

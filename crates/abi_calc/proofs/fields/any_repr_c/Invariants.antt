@@ -1,7 +1,7 @@
--- No field before lies as `repr(C)` has it.
+-- No field before lies as C has it.
 use Rattle.std.proofs.Common.{◌≡◌, map, drop}
 use Rattle.std.specs.List.{list_any}
-use Rattle.abi_calc.proofs.unions.is_union_c.Given as goal
+use Rattle.abi_calc.proofs.fields.any_repr_c.Given as goal
 
 abbrev pub invariant-loop-field : goal.invariant-loop-field
 invariant-loop-field g l =
