@@ -16,8 +16,9 @@ use Rattle.abi_scalar.specs.declared.error.LayoutCalculatorError.TheVariants.{Si
 use Rattle.abi_scalar.specs.declared.error.LayoutCalculatorError.TheVariants as calculator
 use Rattle.abi_scalar.specs.LaneCount.{lane_count}
 use Rattle.abi_calc.specs.Answer.{IsAnswer}
+use Rattle.abi_calc.specs.Part.{is_unsized}
 use Rattle.abi_calc.specs.Simd.{after, element_scalar, lanes_answer, vector_layout, if_below, is_tight, simd_view, simd_align, simd_answer}
-use Rattle.abi_calc.specs.Union.{IsUnionAnswer, IsUnionView, is_unsized_view, first_unsized, sized_fault, fault_before, union_fault, union_layout, union_size}
+use Rattle.abi_calc.specs.Union.{IsUnionAnswer, IsUnionView, first_unsized, sized_fault, fault_before, union_fault, union_layout, union_size}
 use Rattle.rustc_abi.specs.declared.error.LayError.{LayError}
 use Rattle.rustc_abi.specs.declared.error.LayError.TheVariants.{OutOfMemory}
 use Rattle.rustc_abi.specs.Placed.{Layout}
@@ -59,7 +60,7 @@ module _ {H : Type 0} (f : H → Layout) (dl : TargetDataLayout) (repr : ReprOpt
       fault_name (fault_before (first_unsized f hs) later) ≡ fault_name (fault_before (first_unsized (λ l. l) (map f hs)) after)
   unsized_same [] later after same = same
   unsized_same (h ∷ hs) later after same =
-      unsized_by (is_unsized_view (f h).backend_repr) h (first_unsized f hs) (first_unsized (λ l. l) (map f hs)) later after (unsized_same hs later after same)
+      unsized_by (is_unsized (f h).backend_repr) h (first_unsized f hs) (first_unsized (λ l. l) (map f hs)) later after (unsized_same hs later after same)
 
   -- the fault is that of the layouts
   fault_same : (hs : List H) → fault_name (union_fault f dl repr hs) ≡ fault_name (union_fault (λ l. l) dl repr (map f hs))
@@ -94,7 +95,7 @@ united_layout dl repr ls made h = (
 
 -- ---- vectors
 
-named-ok : {A H : Type 0} (r : Result A (LayoutCalculatorError H)) (x : A) → named r ≡ Ok x → r ≡ Ok x
+pub named-ok : {A H : Type 0} (r : Result A (LayoutCalculatorError H)) (x : A) → named r ≡ Ok x → r ≡ Ok x
 named-ok (Ok a) x e = let same : a ≡ x = cc in ap Ok same
 named-ok (Err error) x e = absurd (cc)
 
@@ -136,11 +137,11 @@ simd_same {H} f dl h count packed =
     let made = vector_layout 0 0 (f h) (simd_view packed lanes) lanes.size (simd_align dl packed lanes) lanes.count in
     choice_same H Layout (nat_lt made.size (size_bound dl)) made)
 
-after_ok : {A B E : Type 0} (a : Result A E) (next : A → Result B E) (y : B) → after a next ≡ Ok y → (x : A) × (a ≡ Ok x) × (next x ≡ Ok y)
+pub after_ok : {A B E : Type 0} (a : Result A E) (next : A → Result B E) (y : B) → after a next ≡ Ok y → (x : A) × (a ≡ Ok x) × (next x ≡ Ok y)
 after_ok (Ok x) next y e = (x, refl, e)
 after_ok (Err f) next y e = absurd (cc)
 
-chosen_ok : {A E : Type 0} (t : Bool) (x y : A) (error : E) → (if t then Ok x else Err error) ≡ Ok y → (t ≡ true) × (x ≡ y)
+pub chosen_ok : {A E : Type 0} (t : Bool) (x y : A) (error : E) → (if t then Ok x else Err error) ≡ Ok y → (t ≡ true) × (x ≡ y)
 chosen_ok true x y error e = (refl, cc)
 chosen_ok false x y error e = absurd (cc)
 

@@ -20,6 +20,7 @@ use Rattle.abi_calc.specs.Apart.{offsets_of}
 use Rattle.abi_calc.specs.Fault.{IsErrorOf, fault_in}
 use Rattle.abi_calc.specs.List.{AreSized, parts_of as asked_of}
 use Rattle.abi_calc.specs.Order.{IsNamedOrder}
+use Rattle.abi_calc.specs.Simd.{simd_answer}
 use Rattle.abi_calc.specs.Placement.{IsAllowed, IsNonEmptyIfUnsized, list_repr, size_in}
 use Rattle.abi_calc.proofs.DeepLemmas.{biased_fits, sized_fault}
 use Rattle.abi_calc.proofs.FaultLemmas.{large_in, memory_in}
@@ -28,15 +29,15 @@ use Rattle.abi_calc.proofs.RunLemmas.{biased_of}
 use Rattle.rustc_abi.specs.declared.error.LayError.{LayError}
 use Rattle.rustc_abi.specs.declared.error.LayError.TheVariants.{SizeOverflow, UnexpectedUnsized, BadIndex, BadAlign, UnknownSpace, BadRange}
 use Rattle.rustc_abi.specs.Tree.{Tree, scalar, pair, never, unit, array, vector, struct, union, enum, coroutine, Trees, no_trees, more_trees, Variants, no_variants, more_variants}
-use Rattle.rustc_abi.specs.Placed.{Placed, Layout, layout_of, size_of, elements}
-use Rattle.rustc_abi.specs.Nodes.{parts_at}
+use Rattle.rustc_abi.specs.Placed.{Placed, Layout, layout_of, size_of, elements, vector as placed_vector}
+use Rattle.rustc_abi.specs.Nodes.{parts_at, parts_at_0}
 use Rattle.rustc_abi.specs.Error.{Follows, IsRefused, named, lay_error}
 use Rattle.rustc_abi.specs.ScalarFault.{is_lawful_primitive, has_range_within, scalar_fault}
-use Rattle.rustc_abi.specs.Laying.{IsLaying, AreLaying, VariantsLaying, IsFieldsAnswer, IsListed, IsNotYet, elements_answer, fields_fault, kind_of, one_scalar, pair_answer, placed_by, placed_fields, scalar_answer, two_scalars, unless}
+use Rattle.rustc_abi.specs.Laying.{AreLaying, IsFieldsAnswer, IsLaying, IsListed, IsNotYet, IsUnionOf, IsUnited, VariantsLaying, elements_answer, fields_fault, kind_of, lanes_of, one_scalar, pair_answer, placed_by, placed_fields, placed_together, scalar_answer, two_scalars, unless, vector_answer}
 use Rattle.rustc_abi.specs.Least.{IsOrderOf, IsLeastSize, IsEachOrderTooLarge, fields_of, HasLeastStructs, HaveLeastStructs, IsTooLarge, AreTooLarge, AreVariantsTooLarge}
-use Rattle.rustc_abi.proofs.AlignedLemmas.{IsWhole, all_aligned, asked_aligned, asked_sized, length-asked, some_field}
+use Rattle.rustc_abi.proofs.LaidLemmas.{IsWhole, all_whole, placed_back, asked_aligned, asked_sized, length-asked, some_field}
 use Rattle.rustc_abi.proofs.LayLemmas.{pair_overflows}
-use Rattle.rustc_abi.proofs.OneAnswer.{one_answer, one_list}
+use Rattle.rustc_abi.proofs.OneAnswer.{one_answer, one_list, one_union}
 
 -- the parts are the types that were put at the offsets
 fields_at : (offsets : List ℕ) (ps : List Placed) → length offsets ≡ length ps → fields_of (parts_at offsets ps) ≡ ps
@@ -204,7 +205,7 @@ module _ (dl : TargetDataLayout) (law : IsLawfulDataLayout dl) where
       → IsTooLarge dl (struct repr always_sized all)
   overflow_fields None repr always_sized all ps none there (inl (e, listed, is)) =
       let same : e ≡ SizeOverflow = cc in
-      inr (ps, there, none, refused_large dl repr always_sized ps (all_aligned dl law all ps there) (subst (λ x. IsListed dl repr (kind_of always_sized ps) (map layout_of ps) (Err x)) same listed))
+      inr (ps, there, none, refused_large dl repr always_sized ps (all_whole dl law all ps there) (subst (λ x. IsListed dl repr (kind_of always_sized ps) (map layout_of ps) (Err x)) same listed))
   overflow_fields None repr always_sized all ps none there (inr (layout, listed, is)) = absurd (cc)
   overflow_fields (Some f) repr always_sized all ps fault there e =
       let same : Some f ≡ Some SizeOverflow = cc in
@@ -217,20 +218,26 @@ module _ (dl : TargetDataLayout) (law : IsLawfulDataLayout dl) where
   least_fields None repr always_sized all ps p there each (inl f) = absurd (cc f.2)
   least_fields None repr always_sized all ps p there each (inr (layout, listed, e)) =
       let same : placed_fields ps layout ≡ p = cc in
-      let whole = all_aligned dl law all ps there in
+      let whole = all_whole dl law all ps there in
       let count = listed_count dl repr always_sized ps whole layout listed in
       subst (HasLeastStructs dl (struct repr always_sized all)) same
       (subst (λ qs. IsLeastSize dl repr always_sized qs layout.size) (sym (fields_at (offsets_of layout.fields) ps count)) (listed_least dl repr always_sized ps whole layout listed),
       each (offsets_of layout.fields) count)
   least_fields (Some f) repr always_sized all ps p there each e = absurd (cc)
 
+  least_union : (fault : Option LayError) (repr : ReprOptions) (all : Trees) (ps : List Placed) (p : Placed) → HaveLeastStructs dl all (parts_at_0 ps)
+      → MatchOption fault (Follows (IsUnited dl repr (map layout_of ps)) (λ layout z. z ≡ Ok (placed_together ps layout)) (Ok p)) (λ e. Ok p ≡ Err e) → HasLeastStructs dl (union repr all) p
+  least_union None repr all ps p each (inl f) = absurd (cc f.2)
+  least_union None repr all ps p each (inr (layout, united, e)) = let same : placed_together ps layout ≡ p = cc in subst (HasLeastStructs dl (union repr all)) same each
+  least_union (Some f) repr all ps p each e = absurd (cc)
+
   refused_fields : (fault : Option LayError) (repr : ReprOptions) (always_sized : Bool) (all : Trees) (ps : List Placed) (r : Result Placed LayError) → fault ≡ None → AreLaying dl all (Ok ps)
       → IsEachOrderTooLarge dl repr always_sized ps
       → AnswersBy fault repr always_sized ps r → r ≡ Err SizeOverflow
   refused_fields None repr always_sized all ps r none there large (inl (e, listed, is)) =
-      is ∙ ap (λ x. Err x) (refused_for_size dl repr always_sized ps (all_aligned dl law all ps there) e listed)
+      is ∙ ap (λ x. Err x) (refused_for_size dl repr always_sized ps (all_whole dl law all ps there) e listed)
   refused_fields None repr always_sized all ps r none there large (inr (layout, listed, is)) =
-      absurd (listed_small dl repr always_sized ps (all_aligned dl law all ps there) layout listed large)
+      absurd (listed_small dl repr always_sized ps (all_whole dl law all ps there) layout listed large)
   refused_fields (Some f) repr always_sized all ps r none there large e = absurd (cc)
 
   refused_elements : (count : ℕ) (p : Placed) (r : Result Placed LayError) → size_bound dl ≤ size_of p * count → r ≡ elements_answer dl count p → r ≡ Err SizeOverflow
@@ -256,9 +263,12 @@ module _ (dl : TargetDataLayout) (law : IsLawfulDataLayout dl) where
     laid_least (struct repr always_sized all) p (inr (ps, there, answer)) =
         least_fields (fields_fault repr ps) repr always_sized all ps p there (λ offsets e. all_least all ps offsets e there) answer
     laid_least (vector lanes packed element) p (inl f) = absurd (cc f.2)
-    laid_least (vector lanes packed element) p (inr f) = absurd (cc f.2)
+    laid_least (vector lanes packed element) p (inr (q, there, e)) =
+        let found = placed_back dl law (λ layout. placed_vector layout (lanes_of lanes q)) (named (simd_answer {H = Layout} (λ l. l) 0 0 dl (layout_of q) lanes packed)) p e in
+        subst (HasLeastStructs dl (vector lanes packed element)) found.2 (laid_least element q there)
     laid_least (union repr all) p (inl f) = absurd (cc f.2)
-    laid_least (union repr all) p (inr f) = absurd (cc f.2)
+    laid_least (union repr all) p (inr (ps, there, answer)) =
+        least_union (fields_fault repr ps) repr all ps p (all_least all ps (map (λ q. 0) ps) (length-map ps (λ q. 0)) there) answer
     laid_least (enum repr all) p h = tt
     laid_least (coroutine prefix locals states conflicts) p h = tt
 
@@ -284,10 +294,10 @@ module _ (dl : TargetDataLayout) (law : IsLawfulDataLayout dl) where
         inr (q, there, ltb-false (size_of q * count) (size_bound dl) (elements_large (nat_lt (size_of q * count) (size_bound dl)) count (elements_layout 0 true count (layout_of q)) q e))
     refused_overflow (struct repr always_sized all) (inl (e, there, is)) = let same : e ≡ SizeOverflow = cc in inl (list_overflow all (subst (λ x. AreLaying dl all (Err x)) same there))
     refused_overflow (struct repr always_sized all) (inr (ps, there, answer)) = overflow_fields (fields_fault repr ps) repr always_sized all ps refl there answer
-    refused_overflow (vector lanes packed element) (inl (e, there, is)) = let same : e ≡ SizeOverflow = cc in refused_overflow element (subst (λ x. IsLaying dl element (Err x)) same there)
-    refused_overflow (vector lanes packed element) (inr f) = absurd (cc f.2)
-    refused_overflow (union repr all) (inl (e, there, is)) = let same : e ≡ SizeOverflow = cc in list_overflow all (subst (λ x. AreLaying dl all (Err x)) same there)
-    refused_overflow (union repr all) (inr f) = absurd (cc f.2)
+    refused_overflow (vector lanes packed element) (inl (e, there, is)) = let same : e ≡ SizeOverflow = cc in inl (refused_overflow element (subst (λ x. IsLaying dl element (Err x)) same there))
+    refused_overflow (vector lanes packed element) (inr (q, there, e)) = inr (q, there, sym e)
+    refused_overflow (union repr all) (inl (e, there, is)) = let same : e ≡ SizeOverflow = cc in inl (list_overflow all (subst (λ x. AreLaying dl all (Err x)) same there))
+    refused_overflow (union repr all) (inr f) = inr f
     refused_overflow (enum repr all) (inl (e, there, is)) = let same : e ≡ SizeOverflow = cc in variants_overflow all (subst (λ x. VariantsLaying dl all (Err x)) same there)
     refused_overflow (enum repr all) (inr f) = absurd (cc f.2)
     refused_overflow (coroutine prefix locals states conflicts) (inl (e, there, is)) =
@@ -323,8 +333,13 @@ module _ (dl : TargetDataLayout) (law : IsLawfulDataLayout dl) where
     large_refused (struct repr always_sized all) r (inr (ps, there, none, large)) h =
         refused_fields (fields_fault repr ps) repr always_sized all ps r none there large
         (follows_on (AreLaying dl all) (IsFieldsAnswer dl repr always_sized) r ps there (λ x y a b. one_list dl all x y a b) h)
-    large_refused (vector lanes packed element) r large h = follows_refused (IsLaying dl element) IsNotYet r (λ x there. large_refused element x large there) h
-    large_refused (union repr all) r large h = follows_refused (AreLaying dl all) IsNotYet r (λ x there. list_refused all x large there) h
+    large_refused (vector lanes packed element) r (inl large) h =
+        follows_refused (IsLaying dl element) (λ p z. z ≡ vector_answer dl lanes packed p) r (λ x there. large_refused element x large there) h
+    large_refused (vector lanes packed element) r (inr (p, there, e)) h =
+        follows_on (IsLaying dl element) (λ p z. z ≡ vector_answer dl lanes packed p) r p there (λ x y a b. one_answer dl element x y a b) h ∙ e
+    large_refused (union repr all) r (inl large) h = follows_refused (AreLaying dl all) (IsUnionOf dl repr) r (λ x there. list_refused all x large there) h
+    large_refused (union repr all) r (inr (ps, there, refused)) h =
+        one_union dl repr ps r (Err SizeOverflow) (follows_on (AreLaying dl all) (IsUnionOf dl repr) r ps there (λ x y a b. one_list dl all x y a b) h) refused
     large_refused (enum repr all) r large h = follows_refused (VariantsLaying dl all) IsNotYet r (λ x there. variants_refused all x large there) h
     large_refused (coroutine prefix locals states conflicts) r (inl large) h =
         follows_refused (AreLaying dl prefix) (λ ps. Follows (AreLaying dl locals) IsNotYet) r (λ x there. list_refused prefix x large there) h

@@ -28,6 +28,6 @@ mod AnywhereLemmas
 mod VectorLemmas
 mod CalcLemmas
 mod TogetherLemmas
-mod AlignedLemmas
+mod LaidLemmas
 mod OneAnswer
 mod LeastLemmas

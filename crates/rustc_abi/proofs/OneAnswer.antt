@@ -14,13 +14,16 @@ use Rattle.abi_calc.specs.Fault.{IsErrorOf, fault_in}
 use Rattle.abi_calc.specs.List.{IsListError, parts_of}
 use Rattle.abi_calc.specs.Order.{IsNamedOrder}
 use Rattle.abi_calc.specs.Placement.{IsNonEmptyIfUnsized, list_repr}
+use Rattle.abi_calc.specs.Union.{union_fault, union_layout}
+use Rattle.abi_calc.proofs.UnionLemmas.{one_union_view}
 use Rattle.abi_calc.proofs.OneOrder.{one_layout, one_named, never_refused}
 use Rattle.rustc_abi.specs.declared.error.LayError.{LayError}
 use Rattle.rustc_abi.specs.Tree.{Tree, scalar, pair, never, unit, array, vector, struct, union, enum, coroutine, Trees, no_trees, more_trees, Variants, no_variants, more_variants}
 use Rattle.rustc_abi.specs.Placed.{Placed, Layout, layout_of}
 use Rattle.rustc_abi.specs.Error.{Follows, lay_error}
-use Rattle.rustc_abi.specs.Laying.{IsLaying, AreLaying, VariantsLaying, IsFieldsAnswer, IsListed, IsNotYet, elements_answer, fields_fault, kind_of, placed_fields}
-use Rattle.rustc_abi.proofs.AlignedLemmas.{length-asked, some_field}
+use Rattle.rustc_abi.specs.Laying.{IsLaying, AreLaying, VariantsLaying, IsFieldsAnswer, IsListed, IsNotYet, IsUnionOf, IsUnited, elements_answer, fields_fault, kind_of, placed_fields, placed_together, vector_answer}
+use Rattle.rustc_abi.proofs.CalcLemmas.{united_layout}
+use Rattle.rustc_abi.proofs.LaidLemmas.{length-asked, some_field}
 
 -- what has one answer goes on to one answer
 follows_one : {A B : Type 0} (P : Result A LayError → Type 0) (next : A → Result B LayError → Type 0) (r s : Result B LayError)
@@ -74,14 +77,35 @@ module _ (dl : TargetDataLayout) (repr : ReprOptions) (kind : StructKind) (layou
   one_listed (Err e) (Err f) (error, refused, named) (error2, refused2, named2) = ap (λ x. Err x) (named ∙ one_error error error2 refused refused2 ∙ sym named2)
 
 module _ (dl : TargetDataLayout) where
-  one_fields : (fault : Option LayError) (repr : ReprOptions) (always_sized : Bool) (ps : List Placed) (r s : Result Placed LayError) →
-      MatchOption fault (Follows (IsListed dl repr (kind_of always_sized ps) (map layout_of ps)) (λ layout r. r ≡ Ok (placed_fields ps layout)) r) (λ e. r ≡ Err e) →
-      MatchOption fault (Follows (IsListed dl repr (kind_of always_sized ps) (map layout_of ps)) (λ layout r. r ≡ Ok (placed_fields ps layout)) s) (λ e. s ≡ Err e) → r ≡ s
-  one_fields None repr always_sized ps r s h k =
-      follows_one (IsListed dl repr (kind_of always_sized ps) (map layout_of ps)) (λ layout r. r ≡ Ok (placed_fields ps layout)) r s
-      (one_listed dl repr (kind_of always_sized ps) (map layout_of ps) (subst (IsNonEmptyIfUnsized (kind_of always_sized ps)) (sym (length-asked dl ps)) (some_field always_sized ps)))
-      (λ layout a b. a ∙ sym b) h k
-  one_fields (Some f) repr always_sized ps r s h k = h ∙ sym k
+  -- fields whose own fault is this have one answer
+  one_by : (fault : Option LayError) (P : Result Layout LayError → Type 0) (make : Layout → Placed) (r s : Result Placed LayError)
+      → ((x y : Result Layout LayError) → P x → P y → x ≡ y)
+      → MatchOption fault (Follows P (λ layout z. z ≡ Ok (make layout)) r) (λ e. r ≡ Err e)
+      → MatchOption fault (Follows P (λ layout z. z ≡ Ok (make layout)) s) (λ e. s ≡ Err e) → r ≡ s
+  one_by None P make r s one h k = follows_one P (λ layout z. z ≡ Ok (make layout)) r s one (λ layout (a : r ≡ Ok (make layout)) b. a ∙ sym b) h k
+  one_by (Some f) P make r s one h k = h ∙ sym k
+
+  full : (always_sized : Bool) (ps : List Placed) → IsNonEmptyIfUnsized (kind_of always_sized ps) (length (parts_of dl (map layout_of ps)))
+  full always_sized ps = subst (IsNonEmptyIfUnsized (kind_of always_sized ps)) (sym (length-asked dl ps)) (some_field always_sized ps)
+
+  one_united : (repr : ReprOptions) (ls : List Layout) (r s : Result Layout LayError) → IsUnited dl repr ls r → IsUnited dl repr ls s → r ≡ s
+  one_united repr ls (Ok a) (Ok b) h k =
+      let one = united_layout dl repr ls a h in
+      let two = united_layout dl repr ls b k in
+      let view : a.backend_repr ≡ b.backend_repr = one_union_view dl repr ls a.backend_repr b.backend_repr one.0 two.0 in
+      ap (λ l. Ok l) (one.1 ∙ ap (union_layout 0 dl repr ls) view ∙ sym two.1)
+  one_united repr ls (Ok a) (Err f) h (error, refused, e) = let none = h.0 in let some : union_fault (λ l. l) dl repr ls ≡ Some error = refused in absurd (cc)
+  one_united repr ls (Err e) (Ok b) (error, refused, is) k = let none = k.0 in let some : union_fault (λ l. l) dl repr ls ≡ Some error = refused in absurd (cc)
+  one_united repr ls (Err e) (Err f) (error, refused, is) (error2, refused2, that) =
+      let some : union_fault (λ l. l) dl repr ls ≡ Some error = refused in
+      let also : union_fault (λ l. l) dl repr ls ≡ Some error2 = refused2 in
+      let same : error ≡ error2 = cc in
+      ap (λ x. Err x) (is ∙ ap lay_error same ∙ sym that)
+
+  -- a union of these fields has one answer
+  pub one_union : (repr : ReprOptions) (ps : List Placed) (r s : Result Placed LayError) → IsUnionOf dl repr ps r → IsUnionOf dl repr ps s → r ≡ s
+  one_union repr ps r s h k =
+      one_by (fields_fault repr ps) (IsUnited dl repr (map layout_of ps)) (placed_together ps) r s (λ x y p q. one_united repr (map layout_of ps) x y p q) h k
 
   -- nothing but `NotYet` is answered
   one_not_yet : {A : Type 0} (a : A) (r s : Result Placed LayError) → IsNotYet a r → IsNotYet a s → r ≡ s
@@ -98,10 +122,14 @@ module _ (dl : TargetDataLayout) where
         follows_one (IsLaying dl element) (λ p z. z ≡ elements_answer dl count p) r s (λ x y p q. one_answer element x y p q) (λ p (a : r ≡ elements_answer dl count p) b. a ∙ sym b) h k
     one_answer (struct repr always_sized all) r s h k =
         follows_one (AreLaying dl all) (IsFieldsAnswer dl repr always_sized) r s (λ x y p q. one_list all x y p q)
-        (λ ps a b. one_fields (fields_fault repr ps) repr always_sized ps r s a b) h k
+        (λ ps a b. one_by (fields_fault repr ps) (IsListed dl repr (kind_of always_sized ps) (map layout_of ps)) (placed_fields ps) r s
+        (λ x y p q. one_listed dl repr (kind_of always_sized ps) (map layout_of ps) (full always_sized ps) x y p q) a b) h k
     one_answer (vector lanes packed element) r s h k =
-        follows_one (IsLaying dl element) IsNotYet r s (λ x y p q. one_answer element x y p q) (λ p a b. one_not_yet p r s a b) h k
-    one_answer (union repr all) r s h k = follows_one (AreLaying dl all) IsNotYet r s (λ x y p q. one_list all x y p q) (λ ps a b. one_not_yet ps r s a b) h k
+        follows_one (IsLaying dl element) (λ p z. z ≡ vector_answer dl lanes packed p) r s (λ x y p q. one_answer element x y p q)
+        (λ p (a : r ≡ vector_answer dl lanes packed p) b. a ∙ sym b) h k
+    one_answer (union repr all) r s h k =
+        follows_one (AreLaying dl all) (IsUnionOf dl repr) r s (λ x y p q. one_list all x y p q)
+        (λ ps a b. one_union repr ps r s a b) h k
     one_answer (enum repr all) r s h k = follows_one (VariantsLaying dl all) IsNotYet r s (λ x y p q. one_list_each all x y p q) (λ ps a b. one_not_yet ps r s a b) h k
     one_answer (coroutine prefix locals states conflicts) r s h k =
         follows_one (AreLaying dl prefix) (λ ps. Follows (AreLaying dl locals) IsNotYet) r s (λ x y p q. one_list prefix x y p q)

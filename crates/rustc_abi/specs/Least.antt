@@ -1,15 +1,16 @@
 -- How large structs are: of all orders of the fields that the repr and the kind allow, one of the least.
-use Rattle.std.specs.Prelude.{◌≡◌, ℕ, ◌*◌, ◌≤◌, ◌⊎◌, Bool, List, [], ◌∷◌, length, map, None, Ok, ⊤}
+use Rattle.std.specs.Prelude.{◌≡◌, ℕ, ◌*◌, ◌≤◌, ◌⊎◌, Bool, List, [], ◌∷◌, length, map, None, Ok, Err, ⊤}
 use Rattle.abi_base.specs.declared.data_layout.TargetDataLayout.{TargetDataLayout}
 use Rattle.abi_base.specs.DataLayout.{size_bound}
 use Rattle.abi_scalar.specs.declared.repr.ReprOptions.{ReprOptions}
 use Rattle.abi_scalar.specs.Pair.{pair_size}
 use Rattle.abi_calc.specs.List.{parts_of as asked_of}
 use Rattle.abi_calc.specs.Placement.{IsAllowed, list_repr, size_in}
+use Rattle.rustc_abi.specs.declared.error.LayError.TheVariants.{SizeOverflow}
 use Rattle.rustc_abi.specs.Tree.{Tree, pair, array, vector, struct, union, enum, coroutine, Trees, no_trees, more_trees, Variants, no_variants, more_variants}
 use Rattle.rustc_abi.specs.Placed.{Placed, Parts, no_parts, part, layout_of, size_of, element_of, parts_of, first_part, more_parts}
 use Rattle.rustc_abi.specs.ScalarFault.{scalar_fault}
-use Rattle.rustc_abi.specs.Laying.{IsLaying, AreLaying, fields_fault, kind_of}
+use Rattle.rustc_abi.specs.Laying.{IsLaying, AreLaying, IsUnionOf, fields_fault, kind_of, vector_answer}
 
 -- an order that the repr and the kind allow these fields
 abbrev pub IsOrderOf : TargetDataLayout → ReprOptions → (always_sized : Bool) → List Placed → List ℕ → Type 0
@@ -50,15 +51,17 @@ module _ (dl : TargetDataLayout) where
     HaveLeastStructs (more_trees t ts) parts = HasLeastStructs t (first_part parts) × HaveLeastStructs ts (more_parts parts)
 
   abbrev mutual
-    -- The first fault is a size: of two scalars, of so many elements, or of a struct that is too large in every order.
+    -- The first fault is a size: of two scalars, of so many elements, of a struct that is too large in every order, or one that
+    -- the calculator tells of a vector or a union.
     pub IsTooLarge : Tree → Type 0
     IsTooLarge (pair a b) = (scalar_fault dl a ≡ None) × (scalar_fault dl b ≡ None) × (size_bound dl ≤ pair_size dl a b)
     IsTooLarge (array count element) =
         IsTooLarge element ⊎ ((p : Placed) × IsLaying dl element (Ok p) × (size_bound dl ≤ size_of p * count))
     IsTooLarge (struct repr always_sized all) =
         AreTooLarge all ⊎ ((ps : List Placed) × AreLaying dl all (Ok ps) × (fields_fault repr ps ≡ None) × IsEachOrderTooLarge dl repr always_sized ps)
-    IsTooLarge (vector lanes packed element) = IsTooLarge element
-    IsTooLarge (union repr all) = AreTooLarge all
+    IsTooLarge (vector lanes packed element) =
+        IsTooLarge element ⊎ ((p : Placed) × IsLaying dl element (Ok p) × (vector_answer dl lanes packed p ≡ Err SizeOverflow))
+    IsTooLarge (union repr all) = AreTooLarge all ⊎ ((ps : List Placed) × AreLaying dl all (Ok ps) × IsUnionOf dl repr ps (Err SizeOverflow))
     IsTooLarge (enum repr all) = AreVariantsTooLarge all
     IsTooLarge (coroutine prefix locals states conflicts) =
         AreTooLarge prefix ⊎ ((ps : List Placed) × AreLaying dl prefix (Ok ps) × AreTooLarge locals)
