@@ -2,7 +2,7 @@ use Rattle.std.proofs.Common.{inr, refl, ◌≡◌, ◌+◌, ◌++◌, ◌∷◌
 use Rattle.std.proofs.lemmas.List.{take_more, map-append}
 use Rattle.std.proofs.lemmas.Result.{IfOk-weaker, IfErr-weaker}
 use Rattle.rustc_abi.specs.Tree.{tree_of, trees}
-use Rattle.rustc_abi.specs.Laying.{IsLaying, AreLaying}
+use Rattle.rustc_abi.specs.Laying.{AreLaying}
 use Rattle.rustc_abi.specs.Adding.{tree_size, trees_size}
 use Rattle.rustc_abi.proofs.TreeLemmas.{tree_of-Array, tree_of-Vector, tree_of-Struct, tree_of-Union, tree_of-Coroutine, trees_size-at, variants_size-at, falls-Enum}
 use Rattle.rustc_abi.proofs.LayLemmas.{EachFits-lawful, AreAdded-more, IsAdded-after, AreAdded-after, struct_refused}
