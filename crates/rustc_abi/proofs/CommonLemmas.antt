@@ -1,21 +1,17 @@
 -- What unions keep of their fields' bytes, wherever they stand in a type.
-use Rattle.std.proofs.Common.{◌≡◌, ℕ, ◌+◌, ◌-◌, ◌*◌, ◌<◌, ◌≤◌, List, [], ◌∷◌, ◌++◌, Bool, true, length, replicate, get_or, take, arith, refl, sym, ap, ◌∙◌, subst, length-append}
+use Rattle.std.proofs.Common.{◌≡◌, ℕ, ◌+◌, ◌-◌, ◌*◌, ◌<◌, ◌≤◌, List, ◌++◌, true, length, replicate, get_or, arith, refl, sym, ◌∙◌, subst, length-append}
 use Rattle.std.specs.Prelude.{◌==◌, ◌&&◌, nat_le}
 use Rattle.std.proofs.lemmas.Bool.{and_parts, leb-true}
 use Rattle.std.proofs.lemmas.List.{length-replicate}
 use Rattle.std.proofs.lemmas.List.Elements.{All-replicate}
 use Rattle.abi_base.specs.declared.data_layout.TargetDataLayout.{TargetDataLayout}
 use Rattle.abi_base.specs.declared.endian.Endian.{Endian}
-use Rattle.rustc_abi.specs.Tree.{Tree, Trees, no_trees, more_trees}
-use Rattle.rustc_abi.specs.Bytes.{AreBytes, bytes_at, picked}
-use Rattle.rustc_abi.specs.Value.{Value, number, two, list, variant, state, bytes}
+use Rattle.rustc_abi.specs.Bytes.{bytes_at, picked}
+use Rattle.rustc_abi.specs.Value.{number, two, list, variant, state, bytes}
 use Rattle.rustc_abi.specs.Placed.{Placed, Layout, scalar, pair, never, elements, vector, fields, union, single, tagged, states, Parts, no_parts, part, Arms, no_arms, arm, size_of}
 use Rattle.rustc_abi.specs.Places.{is_data_place, is_place_of_part}
-use Rattle.rustc_abi.specs.Values.{LocalsOfEach}
-use Rattle.rustc_abi.specs.Holding.{Holds}
 use Rattle.rustc_abi.specs.Room.{has_room, have_room, arms_have_room}
-use Rattle.rustc_abi.specs.Nodes.{parts_at, parts_at_0}
-use Rattle.rustc_abi.specs.Faithful.{AgreeOn, PaddingDecidesNothing}
+use Rattle.rustc_abi.specs.Faithful.{PaddingDecidesNothing}
 use Rattle.rustc_abi.specs.Unions.{Begins, IsCommon, EachPart, InUnions, InUnionsOf, InUnionsOfArms}
 use Rattle.rustc_abi.proofs.HoldLemmas.{length-Holds, length-bytes_at, AgreeOn-bytes_at}
 use Rattle.rustc_abi.proofs.PickedLemmas.{picked-agree}

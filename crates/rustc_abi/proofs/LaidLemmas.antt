@@ -7,7 +7,7 @@ use Rattle.std.proofs.lemmas.List.Elements.{All-nil, All-cons, All-contains, All
 use Rattle.std.proofs.lemmas.Bool.{eqb-false, ltb-true}
 use Rattle.abi_base.specs.declared.data_layout.TargetDataLayout.{TargetDataLayout}
 use Rattle.abi_base.specs.Align.{IsLeastPower, next_exponent, factor_exponent}
-use Rattle.abi_base.specs.DataLayout.{IsLawfulDataLayout, listed_align, size_bound, vector_align_of}
+use Rattle.abi_base.specs.DataLayout.{IsLawfulDataLayout, size_bound, vector_align_of}
 use Rattle.abi_base.proofs.Powers.{factor_divides, least_power}
 use Rattle.abi_scalar.specs.declared.repr.ReprOptions.{ReprOptions}
 use Rattle.abi_scalar.specs.declared.scalar.Scalar.{Scalar}
@@ -30,7 +30,7 @@ use Rattle.abi_calc.specs.ListView.{any_unsized, bulky_parts, bulky_view, kept_v
 use Rattle.abi_calc.specs.Part.{IsAlignedPart, IsLawfulPart, is_unsized, part_of}
 use Rattle.abi_calc.specs.Placement.{IsLawfulPrefix, IsNonEmptyIfUnsized, align_of, end_from, in_order, list_repr, size_in, start_of}
 use Rattle.abi_calc.specs.Simd.{if_below, is_tight, lanes_answer, simd_align, simd_answer, simd_view, vector_layout}
-use Rattle.abi_calc.specs.Union.{CountsForView, HasView, IsUnionView, fault_before, first_unsized, sized_fault, union_align, union_fault, union_layout, union_size}
+use Rattle.abi_calc.specs.Union.{CountsForView, HasView, IsUnionView, fault_before, first_unsized, sized_fault, union_size}
 use Rattle.abi_calc.proofs.DeepLemmas.{biased_index, biased_inside}
 use Rattle.abi_calc.proofs.FaultLemmas.{clear_of}
 use Rattle.abi_calc.proofs.LawfulList.{made_lawful}

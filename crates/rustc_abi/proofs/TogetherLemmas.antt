@@ -1,31 +1,28 @@
 -- How unions and vectors are laid out, once their parts are.
-use Rattle.std.proofs.Common.{All, ◌≡◌, ℕ, ◌*◌, ◌^◌, ◌<◌, ◌≤◌, List, Option, Some, None, Bool, true, false, length, map, arith, refl, sym, ap, ◌∙◌, subst, inl, inr, Result, Ok, Err}
+use Rattle.std.proofs.Common.{◌≡◌, ℕ, ◌*◌, ◌≤◌, List, Option, Some, None, Bool, true, false, map, arith, refl, sym, ap, ◌∙◌, subst, inl, inr, Ok, Err}
 use Rattle.std.specs.Prelude.{nat_lt, ◌==◌, if◌then◌else◌}
 use Rattle.abi_scalar.specs.declared.niche.Niche.{Niche}
-use Rattle.std.specs.Int.{next_multiple_of}
 use Rattle.std.proofs.lemmas.Bool.{eqb-true}
 use Rattle.abi_base.specs.declared.data_layout.TargetDataLayout.{TargetDataLayout}
 use Rattle.abi_base.specs.DataLayout.{size_bound}
-use Rattle.abi_scalar.specs.declared.backend_repr.BackendRepr.TheVariants.{SimdVector, Memory}
 use Rattle.abi_scalar.specs.declared.repr.ReprOptions.{ReprOptions}
 use Rattle.abi_scalar.specs.declared.error.LayoutCalculatorError.TheVariants as calculator
 use Rattle.abi_scalar.specs.Lawful.{IsLawfulLayout}
 use Rattle.abi_calc.specs.Array.{array_answer, elements_layout}
-use Rattle.abi_calc.specs.Simd.{is_tight, simd_view, simd_answer}
+use Rattle.abi_calc.specs.Simd.{simd_answer}
 use Rattle.rustc_abi.specs.declared.error.LayError.{LayError}
 use Rattle.rustc_abi.specs.declared.node.Node.{Node}
 use Rattle.rustc_abi.specs.Tree.{Tree, array, vector, union, Trees}
-use Rattle.rustc_abi.specs.Placed.{Placed, Layout, layout_of, niche_of, elements, vector as placed_vector}
+use Rattle.rustc_abi.specs.Placed.{Placed, Layout, layout_of, elements, vector as placed_vector}
 use Rattle.rustc_abi.specs.Error.{named, IsRefused}
-use Rattle.rustc_abi.specs.Faithful.{IsTrueOf}
 use Rattle.rustc_abi.specs.Fits.{Fits}
-use Rattle.rustc_abi.specs.Nodes.{placed_in, types_in, placed_at, parts_at_0}
+use Rattle.rustc_abi.specs.Nodes.{placed_in, types_in}
 use Rattle.rustc_abi.specs.Laying.{IsLaying, AreLaying, IsUnionOf, IsUnited, fields_fault, placed_together, lanes_of, placed_by, vector_answer}
 use Rattle.rustc_abi.specs.Adding.{IsPut, IsAdded, IsRefusal, EachFits}
 use Rattle.rustc_abi.proofs.ListLemmas.{chosen}
 use Rattle.rustc_abi.proofs.NodesLemmas.{Keeps-trans}
 use Rattle.rustc_abi.proofs.LayLemmas.{IsAdded-put, IsAdded-elements}
-use Rattle.rustc_abi.proofs.CalcLemmas.{united_layout, IsVectorOf, vector_made}
+use Rattle.rustc_abi.proofs.CalcLemmas.{united_layout, vector_made}
 use Rattle.rustc_abi.proofs.UnionLemmas.{Fits-union}
 use Rattle.rustc_abi.proofs.VectorLemmas.{Fits-vector}
 

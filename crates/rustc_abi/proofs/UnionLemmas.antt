@@ -13,7 +13,7 @@ use Rattle.abi_scalar.specs.Lawful.{IsLawfulLayout}
 use Rattle.abi_scalar.specs.View.{union_view}
 use Rattle.abi_calc.specs.Union.{CountsForView, HasView, IsUnionView, greatest, union_layout}
 use Rattle.rustc_abi.specs.Tree.{Tree, union, Trees, no_trees, more_trees}
-use Rattle.rustc_abi.specs.Bytes.{AreBytes, place_count, picked}
+use Rattle.rustc_abi.specs.Bytes.{AreBytes, place_count}
 use Rattle.rustc_abi.specs.Value.{Value, number, two, list, variant, state, bytes}
 use Rattle.rustc_abi.specs.Placed.{Placed, Layout, Parts, part, layout_of, size_of, union as placed_union}
 use Rattle.rustc_abi.specs.Places.{is_data_place, is_place_of_part}
@@ -79,8 +79,8 @@ module _ (dl : TargetDataLayout) (repr : ReprOptions) (ts : Trees) (layout : Lay
   union_padding xs ys (bytes content) ex ey agree h = (
     ey,
     h.1
-    ∙ picked-same (is_data_place placed) 0 xs ys (ex ∙ sym ey)
-    (λ j place. let at : 0 + j ≡ j = omega arith in agree j (subst (λ i. is_data_place placed i ≡ true) at place)),
+        ∙ picked-same (is_data_place placed) 0 xs ys (ex ∙ sym ey)
+        (λ j place. let at : 0 + j ≡ j = omega arith in agree j (subst (λ i. is_data_place placed i ≡ true) at place)),
   )
   union_padding xs ys (list vs) ex ey agree h = absurd h
   union_padding xs ys (number n) ex ey agree h = absurd h

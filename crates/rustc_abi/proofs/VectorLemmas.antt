@@ -1,6 +1,6 @@
 -- A vector's layout keeps its lanes' values, as the array of the lanes does.
-use Rattle.std.proofs.Common.{◌≡◌, ◌≢◌, ℕ, zero, suc, ◌+◌, ◌-◌, ◌<◌, ◌≤◌, List, [], ◌∷◌, length, replicate, get_or, Bool, true, false, arith, refl, sym, ap, ◌∙◌, subst, Option, None, Some}
-use Rattle.std.specs.Prelude.{IfSome, MatchBool, ◌==◌, not, ◌&&◌}
+use Rattle.std.proofs.Common.{◌≡◌, ℕ, ◌+◌, ◌<◌, ◌≤◌, List, length, replicate, get_or, Bool, false, arith, refl, sym, ap, ◌∙◌, subst, Option, None, Some}
+use Rattle.std.specs.Prelude.{IfSome, MatchBool}
 use Rattle.std.specs.Cmp.Derive.{both_true}
 use Rattle.std.proofs.lemmas.Bool.{le-leb}
 use Rattle.std.proofs.lemmas.List.{length-replicate}
@@ -13,9 +13,8 @@ use Rattle.abi_scalar.specs.Niche.{niche_size}
 use Rattle.abi_scalar.specs.Lawful.{IsLawfulLayout}
 use Rattle.rustc_abi.specs.Tree.{Tree, array, vector}
 use Rattle.rustc_abi.specs.Bytes.{AreBytes, bytes_at, number_of}
-use Rattle.rustc_abi.specs.Value.{Value, number, two, list, variant, state, bytes, Values, no_values, more_values, value_count, Each}
-use Rattle.rustc_abi.specs.Placed.{Placed, Layout, layout_of, size_of, niche_of, elements, vector as placed_vector}
-use Rattle.rustc_abi.specs.Places.{is_data_place}
+use Rattle.rustc_abi.specs.Value.{Value, number, two, list, variant, state, bytes}
+use Rattle.rustc_abi.specs.Placed.{Placed, Layout, size_of, niche_of, elements, vector as placed_vector}
 use Rattle.rustc_abi.specs.Values.{IsValueOf, HasValue}
 use Rattle.rustc_abi.specs.Holding.{Holds}
 use Rattle.rustc_abi.specs.Faithful.{AgreeOn, IsFaithful, IsTrueOf}

@@ -29,12 +29,7 @@ fn union_of(align: Option<Align>, fields: Vec<TypeTree>) -> TypeTree {
 }
 
 /// A vector of so many lanes.
-fn vector(
-    alloc: Global,
-    lanes: u64,
-    packed: bool,
-    element: TypeTree,
-) -> Result<TypeTree, Fail> {
+fn vector(alloc: Global, lanes: u64, packed: bool, element: TypeTree) -> Result<TypeTree, Fail> {
     Ok(TypeTree::Vector {
         lanes,
         packed,

@@ -1,5 +1,10 @@
-use Rattle.std.proofs.Common.{sym}
+use Rattle.std.proofs.Common.{◌≡◌, Some, Ok, ℕ, sym, subst}
 use Rattle.std.proofs.lemmas.Result.{IfOk-weaker}
+use Rattle.abi_calc.specs.Array.{array_answer}
+use Rattle.abi_calc.specs.Simd.{simd_answer}
+use Rattle.rustc_abi.specs.Placed.{layout_of}
+use Rattle.rustc_abi.specs.Error.{named}
+use Rattle.rustc_abi.specs.Nodes.{placed_at}
 use Rattle.rustc_abi.proofs.TogetherLemmas.{IsAdded-vector}
 use Rattle.rustc_abi.proofs.lay_vector.add_vector.Goals as goal
 
@@ -11,8 +16,12 @@ elements_layout-requires-clause-lawful c = rw c.deref-2.ensures.value c.requires
 
 pub returns-clause-ok : goal.returns-clause-ok
 returns-clause-ok c =
-    let answer = rw c.deref.ensures.value at c.in_ok-layout.ensures.ok in
-    let listed = rw c.deref-2.ensures.value at c.in_ok-array.ensures.exact in
+    let dl = c.args.dl.now in
+    let answer =
+    subst (λ ns. named (simd_answer (λ h. h) 0 0 dl (layout_of (placed_at ns c.args.element)) c.args.lanes c.args.packed) ≡ Ok c.in_ok-layout.layout) c.deref.ensures.value c.in_ok-layout.ensures.ok in
+    let listed =
+    subst (λ ns. Ok c.in_ok-array.array ≡ named {H = ℕ} (array_answer 0 dl (layout_of (placed_at ns c.args.element)) (Some c.args.lanes))) c.deref-2.ensures.value c.in_ok-array.ensures.exact in
+    let element = placed_at c.args.nodes.now.items c.args.element in
     IfOk-weaker c.add-2.result _ _
-    (λ j put t laid fits. IsAdded-vector c.args.dl.now _ _ _ _ j _ c.args.lanes c.args.packed _ _ t answer c.in_ok-layout.ensures.lawful (sym listed) c.in_ok-array.ensures.lawful c.in_ok-node.ensures.ok put laid fits)
+    (λ j put t laid fits. IsAdded-vector dl _ _ _ _ j element c.args.lanes c.args.packed c.in_ok-array.array c.in_ok-layout.layout t answer c.in_ok-layout.ensures.lawful (sym listed) c.in_ok-array.ensures.lawful c.in_ok-node.ensures.ok put laid fits)
     c.add-2.ensures.ok

@@ -6,7 +6,7 @@ use Rattle.rustc_abi.specs.declared.runs.Run.{Run}
 use Rattle.abi_calc.specs.Apart.{offsets_of}
 use Rattle.rustc_abi.specs.Adding.{all_at}
 use Rattle.std.specs.Prelude.{nat_lt, nat_le, ◌&&◌, ◌||◌, ◌-◌, Bool}
-use Rattle.rustc_abi.specs.Nodes.{placed_at, parts_at, parts_at_0}
+use Rattle.rustc_abi.specs.Nodes.{placed_at, parts_at}
 use Rattle.rustc_abi.specs.Room.{have_room}
 use Rattle.rustc_abi.specs.Runs.{covers, repeats, shifted}
 use Rattle.std.proofs.lemmas.List.{length-map, length-append}
