@@ -1,6 +1,8 @@
 pub mod Text
 pub mod Parts
+pub mod Fields
 pub mod Utf8
 pub mod Written
 pub mod ReadBack
 pub mod Sending
+pub mod OneOutput

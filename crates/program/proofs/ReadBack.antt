@@ -105,8 +105,10 @@ mutual
   written_words (pair a b) n h = absurd h
   written_words never n h = absurd h
   written_words unit n h = absurd h
-  written_words (vector lanes packed t) n h = absurd h
-  written_words (union repr ts) n h = absurd h
+  written_words (vector lanes true t) n h = (inl refl, (number_word lanes h.1, written_words t (n + 1) h.2))
+  written_words (vector lanes false t) n h = (inl refl, (number_word lanes h.1, written_words t (n + 1) h.2))
+  written_words (union repr ts) n h =
+      (inl refl, (inl refl, (inr (inl refl), words_append (written_each ts) (codes ")" ∷ []) (each_words ts (n + 1) h.2) (inr (inr refl), tt))))
   written_words (enum repr vs) n h = absurd h
   written_words (coroutine prefix locals states conflicts) n h = absurd h
 

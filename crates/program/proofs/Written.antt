@@ -23,11 +23,11 @@ use Rattle.program.specs.declared.type_word.TypeWord.TheVariants.{Scalar as ASca
 use Rattle.program.specs.declared.begun.Want.TheVariants.{Tree as ATree}
 use Rattle.program.specs.Numbers.{digits_from, fitting, number_in}
 use Rattle.program.specs.Printing.{integer_text}
-use Rattle.program.specs.Reading.{Begun, elements, fields, first, second, range, range_of, range_from, union_of, waiting, put, put_primitive, read_from, read}
+use Rattle.program.specs.Reading.{Begun, elements, lanes, fields, members, first, second, range, range_of, range_from, union_of, waiting, put, put_primitive, read_from, read}
 use Rattle.program.specs.Scalars.{full}
 use Rattle.program.specs.TypeWords.{type_word}
 use Rattle.program.specs.declared.repr_text.StructRepr.{StructRepr}
-use Rattle.program.specs.Written.{written, written_each, scalar_words, IsKnown, AreKnown, IsFullInteger, plain_c}
+use Rattle.program.specs.Written.{written, written_each, scalar_words, IsKnown, AreKnown, IsFullInteger, plain_c, vector_word}
 use Rattle.program.proofs.Text.{number_some}
 
 abbrev pub read_on : ℕ → List ℕ → ℕ
@@ -78,6 +78,8 @@ abbrev AreTypes : List Begun → Type 0
 AreTypes [] = Unit {0}
 AreTypes (elements n ∷ begun) = Unit {0}
 AreTypes (fields asked ts ∷ begun) = Unit {0}
+AreTypes (lanes n packed ∷ begun) = Unit {0}
+AreTypes (members repr ts ∷ begun) = Unit {0}
 AreTypes (b ∷ begun) = ⊥
 
 -- an integer that may be any number of its width
@@ -95,6 +97,8 @@ integer_put : (dl : TargetDataLayout) (width : Integer) (signed : Bool) (begun :
 integer_put dl width signed [] h = ap (λ s. put (scalar s) []) (full_is dl width signed)
 integer_put dl width signed (elements n ∷ begun) h = ap (λ s. put (scalar s) (elements n ∷ begun)) (full_is dl width signed)
 integer_put dl width signed (fields asked ts ∷ begun) h = ap (λ s. put (scalar s) (fields asked ts ∷ begun)) (full_is dl width signed)
+integer_put dl width signed (lanes n packed ∷ begun) h = ap (λ s. put (scalar s) (lanes n packed ∷ begun)) (full_is dl width signed)
+integer_put dl width signed (members repr ts ∷ begun) h = ap (λ s. put (scalar s) (members repr ts ∷ begun)) (full_is dl width signed)
 integer_put dl width signed (first ∷ begun) h = absurd h
 integer_put dl width signed (second a ∷ begun) h = absurd h
 integer_put dl width signed (range ∷ begun) h = absurd h
@@ -119,6 +123,23 @@ trees_in (more_trees t ts) = ap (more_trees t) (trees_in ts)
 struct_read : (repr : ReprOptions) (sized : Bool) (ts : Trees) → repr ≡ plain_c → sized ≡ true → c_struct (list_in ts) ≡ struct repr sized ts
 struct_read repr sized ts r s = ap (struct plain_c true) (trees_in ts) ∙ ap₂ (λ a b. struct a b ts) (sym r) (sym s)
 
+abbrev c_union : List Tree → Tree
+c_union ts = union plain_c (trees ts)
+
+union_read : (repr : ReprOptions) (ts : Trees) → repr ≡ plain_c → c_union (list_in ts) ≡ union repr ts
+union_read repr ts r = ap (union plain_c) (trees_in ts) ∙ ap (λ a. union a ts) (sym r)
+
+-- a struct or a union that takes a type as its next field
+abbrev TakesMore : (List Tree → Begun) → Type 0
+TakesMore top = ((t : Tree) (ts : List Tree) (begun : List Begun) → put t (top ts ∷ begun) ≡ waiting ATree (top (ts ++ t ∷ []) ∷ begun))
+    × ((ts : List Tree) (begun : List Begun) → AreTypes (top ts ∷ begun))
+
+takes_fields : TakesMore (fields c_alone)
+takes_fields = (λ t ts begun. refl, λ ts begun. tt)
+
+takes_members : TakesMore (members plain_c)
+takes_members = (λ t ts begun. refl, λ ts begun. tt)
+
 known_within : (n : ℕ) (t : Tree) → IsKnown (n + 1) t → IsKnown (suc n) t
 known_within n t h = subst (λ m. IsKnown m t) (add-one n) h
 
@@ -138,6 +159,19 @@ module _ (dl : TargetDataLayout) where
   read_struct : (number : ℕ) (begun : List Begun) (rest : List (List ℕ)) → length begun ≤ 200
       → read_from dl number (waiting ATree begun) (codes "struct" ∷ codes "C" ∷ codes "(" ∷ rest) ≡ read_from dl (number + 1 + 1 + 1) (waiting ATree (fields c_alone [] ∷ begun)) rest
   read_struct number begun rest h = rw (not_deep begun h) refl
+
+  read_vector : (count : ℕ) (packed : Bool) (number : ℕ) (begun : List Begun) (rest : List (List ℕ)) → length begun ≤ 200 → count < 2 ^ 64
+      → read_from dl number (waiting ATree begun) (vector_word packed ∷ decimal count ∷ rest) ≡ read_from dl (number + 1 + 1) (waiting ATree (lanes count packed ∷ begun)) rest
+  read_vector count true number begun rest h small = rw (not_deep begun h, number_written count small) refl
+  read_vector count false number begun rest h small = rw (not_deep begun h, number_written count small) refl
+
+  read_union : (number : ℕ) (begun : List Begun) (rest : List (List ℕ)) → length begun ≤ 200
+      → read_from dl number (waiting ATree begun) (codes "union" ∷ codes "C" ∷ codes "(" ∷ rest) ≡ read_from dl (number + 1 + 1 + 1) (waiting ATree (members plain_c [] ∷ begun)) rest
+  read_union number begun rest h = rw (not_deep begun h) refl
+
+  read_close_union : (number : ℕ) (ts : List Tree) (begun : List Begun) (rest : List (List ℕ))
+      → read_from dl number (waiting ATree (members plain_c ts ∷ begun)) (codes ")" ∷ rest) ≡ read_from dl (number + 1) (put (c_union ts) begun) rest
+  read_close_union number ts begun rest = refl
 
   read_close : (number : ℕ) (ts : List Tree) (begun : List Begun) (rest : List (List ℕ))
       → read_from dl number (waiting ATree (fields c_alone ts ∷ begun)) (codes ")" ∷ rest) ≡ read_from dl (number + 1) (put (c_struct ts) begun) rest
@@ -164,28 +198,39 @@ module _ (dl : TargetDataLayout) where
         let there : number + 1 + 1 + 1 + length (written_each ts) + 1 ≡ number + length (written (struct repr sized ts)) = omega (arith, length-append (written_each ts) (codes ")" ∷ [])) in
         read_struct number begun ((written_each ts ++ codes ")" ∷ []) ++ rest) h.0
         ∙ ap (read_from dl (number + 1 + 1 + 1) (waiting ATree (fields c_alone [] ∷ begun))) (append_assoc (written_each ts) (codes ")" ∷ []) rest)
-        ∙ read_trees ts begun [] (number + 1 + 1 + 1) (codes ")" ∷ rest) (are_known_within (length begun) ts h.3)
+        ∙ read_trees ts (fields c_alone) takes_fields begun [] (number + 1 + 1 + 1) (codes ")" ∷ rest) (are_known_within (length begun) ts h.3)
         ∙ read_close (number + 1 + 1 + 1 + length (written_each ts)) (list_in ts) begun rest
         ∙ ap₂ (λ n t. read_from dl n (put t begun) rest) there (struct_read repr sized ts h.1 h.2)
     read_tree (pair a b) begun number rest types h = absurd h
     read_tree never begun number rest types h = absurd h
     read_tree unit begun number rest types h = absurd h
-    read_tree (vector lanes packed t) begun number rest types h = absurd h
-    read_tree (union repr ts) begun number rest types h = absurd h
+    read_tree (vector count packed t) begun number rest types h =
+        let there : number + 1 + 1 + length (written t) ≡ number + length (written (vector count packed t)) = omega arith in
+        read_vector count packed number begun (written t ++ rest) h.0 h.1
+        ∙ read_tree t (lanes count packed ∷ begun) (number + 1 + 1) rest tt (known_within (length begun) t h.2)
+        ∙ ap (λ n. read_from dl n (put (vector count packed t) begun) rest) there
+    read_tree (union repr ts) begun number rest types h =
+        let there : number + 1 + 1 + 1 + length (written_each ts) + 1 ≡ number + length (written (union repr ts)) = omega (arith, length-append (written_each ts) (codes ")" ∷ [])) in
+        read_union number begun ((written_each ts ++ codes ")" ∷ []) ++ rest) h.0
+        ∙ ap (read_from dl (number + 1 + 1 + 1) (waiting ATree (members plain_c [] ∷ begun))) (append_assoc (written_each ts) (codes ")" ∷ []) rest)
+        ∙ read_trees ts (members plain_c) takes_members begun [] (number + 1 + 1 + 1) (codes ")" ∷ rest) (are_known_within (length begun) ts h.2)
+        ∙ read_close_union (number + 1 + 1 + 1 + length (written_each ts)) (list_in ts) begun rest
+        ∙ ap₂ (λ n t. read_from dl n (put t begun) rest) there (union_read repr ts h.1)
     read_tree (enum repr vs) begun number rest types h = absurd h
     read_tree (coroutine prefix locals states conflicts) begun number rest types h = absurd h
 
-    read_trees : (ts : Trees) (begun : List Begun) (done : List Tree) (number : ℕ) (rest : List (List ℕ)) → AreKnown (suc (length begun)) ts
-        → read_from dl number (waiting ATree (fields c_alone done ∷ begun)) (written_each ts ++ rest) ≡ read_from dl (number + length (written_each ts)) (waiting ATree (fields c_alone (done ++ list_in ts) ∷ begun)) rest
-    read_trees no_trees begun done number rest h =
+    read_trees : (ts : Trees) (top : List Tree → Begun) → TakesMore top → (begun : List Begun) (done : List Tree) (number : ℕ) (rest : List (List ℕ)) → AreKnown (suc (length begun)) ts
+        → read_from dl number (waiting ATree (top done ∷ begun)) (written_each ts ++ rest) ≡ read_from dl (number + length (written_each ts)) (waiting ATree (top (done ++ list_in ts) ∷ begun)) rest
+    read_trees no_trees top takes begun done number rest h =
         let there : number ≡ number + 0 = omega arith in
-        ap₂ (λ n ts. read_from dl n (waiting ATree (fields c_alone ts ∷ begun)) rest) there (sym (append-nil done))
-    read_trees (more_trees t ts) begun done number rest h =
+        ap₂ (λ n ts. read_from dl n (waiting ATree (top ts ∷ begun)) rest) there (sym (append-nil done))
+    read_trees (more_trees t ts) top takes begun done number rest h =
         let there : number + length (written t) + length (written_each ts) ≡ number + length (written t ++ written_each ts) = omega (arith, length-append (written t) (written_each ts)) in
-        ap (read_from dl number (waiting ATree (fields c_alone done ∷ begun))) (append_assoc (written t) (written_each ts) rest)
-        ∙ read_tree t (fields c_alone done ∷ begun) number (written_each ts ++ rest) tt h.0
-        ∙ read_trees ts begun (done ++ t ∷ []) (number + length (written t)) rest h.1
-        ∙ ap₂ (λ n ts. read_from dl n (waiting ATree (fields c_alone ts ∷ begun)) rest) there (append_assoc done (t ∷ []) (list_in ts))
+        ap (read_from dl number (waiting ATree (top done ∷ begun))) (append_assoc (written t) (written_each ts) rest)
+        ∙ read_tree t (top done ∷ begun) number (written_each ts ++ rest) (takes.1 done begun) h.0
+        ∙ ap (λ state. read_from dl (number + length (written t)) state (written_each ts ++ rest)) (takes.0 t done begun)
+        ∙ read_trees ts top takes begun (done ++ t ∷ []) (number + length (written t)) rest h.1
+        ∙ ap₂ (λ n ts. read_from dl n (waiting ATree (top ts ∷ begun)) rest) there (append_assoc done (t ∷ []) (list_in ts))
 
   -- the words that write a type read back as that type
   pub words_read : (t : Tree) → IsKnown 0 t → read dl (written t) ≡ Ok t

@@ -1,5 +1,5 @@
 -- How a laid-out type is written, one line for each fact.
-use Rattle.std.specs.Prelude.{ℕ, ◌+◌, ◌^◌, ◌==◌, Bool, true, false, List, [], ◌∷◌, ◌++◌, codes, nat_lt, Option, None, Some, if◌then◌else◌}
+use Rattle.std.specs.Prelude.{ℕ, ◌+◌, ◌^◌, ◌==◌, Bool, true, false, List, [], ◌∷◌, ◌++◌, codes, nat_lt, replicate, Option, None, Some, if◌then◌else◌}
 use Rattle.std.specs.Fmt.{decimal}
 use Rattle.abi_base.specs.declared.primitive.Primitive.{Primitive}
 use Rattle.abi_base.specs.declared.primitive.Primitive.TheVariants.{Int, Float, Pointer}
@@ -31,7 +31,7 @@ field_lines index (o ∷ offsets) = codes "field " ++ decimal index ++ codes " o
 -- a union's fields, each at offset 0
 abbrev pub shape_lines : {F : Type 0} → FieldsShape F → List ℕ
 shape_lines NoFields = []
-shape_lines (Union count) = []
+shape_lines (Union count) = field_lines 0 (replicate count 0)
 shape_lines (Array stride count) = codes "elements stride " ++ decimal stride ++ codes " count " ++ decimal count ++ codes "\n"
 shape_lines (Arbitrary offsets order) = field_lines 0 offsets
 

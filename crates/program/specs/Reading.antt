@@ -6,7 +6,8 @@ use Rattle.abi_base.specs.declared.primitive.Primitive.TheVariants.{Int, Float, 
 use Rattle.abi_base.specs.declared.data_layout.TargetDataLayout.{TargetDataLayout}
 use Rattle.abi_scalar.specs.declared.scalar.Scalar.{Scalar}
 use Rattle.abi_scalar.specs.declared.scalar.Scalar.TheVariants.{Initialized, Union}
-use Rattle.rustc_abi.specs.Tree.{Tree, scalar, pair, never, unit, array, struct, trees, tree_of}
+use Rattle.abi_scalar.specs.declared.repr.ReprOptions.{ReprOptions}
+use Rattle.rustc_abi.specs.Tree.{Tree, scalar, pair, never, unit, array, vector, struct, union, trees, tree_of}
 use Rattle.program.specs.declared.fault.Fault.{Fault}
 use Rattle.program.specs.declared.fault.Fault.TheVariants.{Unreadable, NotYet, TooDeep, OutOfMemory}
 use Rattle.program.specs.declared.scalar_word.ScalarWord.{ScalarWord}
@@ -20,7 +21,7 @@ use Rattle.program.specs.declared.begun.Open.{Open}
 use Rattle.program.specs.declared.begun.Open.TheVariants as open_type
 use Rattle.program.specs.declared.begun.Reader.{Reader}
 use Rattle.program.specs.Numbers.{number_in}
-use Rattle.program.specs.Repr.{struct_repr}
+use Rattle.program.specs.Repr.{struct_repr, union_repr}
 use Rattle.program.specs.ScalarWords.{scalar_word}
 use Rattle.program.specs.TypeWords.{type_word}
 use Rattle.program.specs.Scalars.{a_bool, a_char, a_ref, default_pointer, full, index_primitive}
@@ -29,8 +30,12 @@ use Rattle.program.specs.Scalars.{a_bool, a_char, a_ref, default_pointer, full, 
 pub data Begun : Type 0 where
   -- an array that waits for its element
   elements : (count : ℕ) → Begun
+  -- a vector that waits for its element
+  lanes : (count : ℕ) → (packed : Bool) → Begun
   -- a struct, with the fields so far
   fields : StructRepr → List Tree → Begun
+  -- a union, with the fields so far
+  members : ReprOptions → List Tree → Begun
   -- a pair that waits for its first scalar, or its second
   first : Begun
   second : Scalar → Begun
@@ -53,11 +58,13 @@ waiting want begun = record { want = want; begun = begun; tree = None }
 abbrev pub start : State
 start = waiting want.Tree []
 
--- a complete type goes into the innermost type that is begun, and completes it where that is an array
+-- a complete type goes into the innermost type that is begun, and completes it where that is an array or a vector
 abbrev pub put : Tree → List Begun → State
 put t [] = record { want = want.End; begun = []; tree = Some t }
 put t (elements n ∷ begun) = put (array n t) begun
+put t (lanes n packed ∷ begun) = put (vector n packed t) begun
 put t (fields asked ts ∷ begun) = waiting want.Tree (fields asked (ts ++ t ∷ []) ∷ begun)
+put t (members repr ts ∷ begun) = waiting want.Tree (members repr (ts ++ t ∷ []) ∷ begun)
 put t (_ ∷ begun) = put t begun
 
 -- a complete scalar goes into a pair that waits for one, or is a type
@@ -66,21 +73,33 @@ put_scalar s (first ∷ begun) = waiting want.Scalar (second s ∷ begun)
 put_scalar s (second a ∷ begun) = put (pair a s) begun
 put_scalar s begun = put (scalar s) begun
 
--- a closing parenthesis completes a struct
+-- a closing parenthesis completes a struct or a union
 abbrev pub closed : (number : ℕ) → List Begun → Result State Fault
 closed number (fields asked ts ∷ begun) = Ok (put (struct asked.repr asked.always_sized (trees ts)) begun)
+closed number (members repr ts ∷ begun) = Ok (put (union repr (trees ts)) begun)
 closed number _ = Err (Unreadable number)
 
 abbrev pub at_count : (number : ℕ) → List Begun → Option ℕ → Result State Fault
 at_count number begun None = Err (Unreadable number)
 at_count number begun (Some n) = Ok (waiting want.Tree (elements n ∷ begun))
 
+abbrev pub at_lanes : (number : ℕ) → (packed : Bool) → List Begun → Option ℕ → Result State Fault
+at_lanes number packed begun None = Err (Unreadable number)
+at_lanes number packed begun (Some n) = Ok (waiting want.Tree (lanes n packed ∷ begun))
+
 abbrev pub at_repr : (number : ℕ) → List Begun → Option StructRepr → Result State Fault
 at_repr number begun None = Err (Unreadable number)
 at_repr number begun (Some asked) = Ok (waiting (want.Opening asked) begun)
 
+abbrev pub at_union_repr : (number : ℕ) → List Begun → Option ReprOptions → Result State Fault
+at_union_repr number begun None = Err (Unreadable number)
+at_union_repr number begun (Some repr) = Ok (waiting (want.UnionOpening repr) begun)
+
 abbrev pub at_opening : (number : ℕ) → StructRepr → List Begun → (opens : Bool) → Result State Fault
 at_opening number asked begun opens = if opens then Ok (waiting want.Tree (fields asked [] ∷ begun)) else Err (Unreadable number)
+
+abbrev pub at_union_opening : (number : ℕ) → ReprOptions → List Begun → (opens : Bool) → Result State Fault
+at_union_opening number repr begun opens = if opens then Ok (waiting want.Tree (members repr [] ∷ begun)) else Err (Unreadable number)
 
 abbrev pub at_start : (number : ℕ) → List Begun → Option ℕ → Result State Fault
 at_start number (range_of p ∷ begun) (Some n) = Ok (waiting want.RangeEnd (range_from p n ∷ begun))
@@ -138,7 +157,9 @@ module _ (dl : TargetDataLayout) where
   begin begun type.Never = Ok (put never begun)
   begin begun type.Unit = Ok (put unit begun)
   begin begun type.Array = Ok (waiting want.Count begun)
+  begin begun (type.Vector packed) = Ok (waiting (want.Lanes packed) begun)
   begin begun type.Struct = Ok (waiting want.Repr begun)
+  begin begun type.Union = Ok (waiting want.UnionRepr begun)
   begin begun _ = Err NotYet
 
   -- no type stands in more than 200 others
@@ -155,8 +176,11 @@ module _ (dl : TargetDataLayout) where
   next number begun w want.RangeStart = at_start number begun (number_in 128 w)
   next number begun w want.RangeEnd = at_end number begun (number_in 128 w)
   next number begun w want.Count = at_count number begun (number_in 64 w)
+  next number begun w (want.Lanes packed) = at_lanes number packed begun (number_in 64 w)
   next number begun w want.Repr = at_repr number begun (struct_repr w)
+  next number begun w want.UnionRepr = at_union_repr number begun (union_repr w)
   next number begun w (want.Opening asked) = at_opening number asked begun (bytes_eq w (codes "("))
+  next number begun w (want.UnionOpening repr) = at_union_opening number repr begun (bytes_eq w (codes "("))
   next number begun w want.End = Err (Unreadable number)
 
   abbrev pub step : (number : ℕ) → State → (word : List ℕ) → Result State Fault
@@ -183,7 +207,9 @@ read dl ws = read_from dl 1 start ws
 -- what the program keeps of a type that is begun
 abbrev pub begun_by : Open → Begun
 begun_by (open_type.Elements count) = elements count
+begun_by (open_type.Lanes count packed) = lanes count packed
 begun_by (open_type.Fields asked ts) = fields asked (map tree_of ts.items)
+begun_by (open_type.Members repr ts) = members repr (map tree_of ts.items)
 begun_by open_type.First = first
 begun_by (open_type.Second a) = second a
 begun_by open_type.Range = range

@@ -1,4 +1,4 @@
--- How a struct's repr is written: words with commas between them, no kind of word twice.
+-- How the repr of a struct, and of a union, is written: words with commas between them, no kind of word twice.
 use Rattle.std.specs.Prelude.{ℕ, ◌==◌, ◌&&◌, Bool, true, false, List, [], ◌∷◌, codes, count_by, drop, length, take, Option, None, Some, is_some, nat_le, option_map, Result, Ok, Err, if◌then◌else◌}
 use Rattle.std.specs.Int.RustNames.{bit_or}
 use Rattle.std.specs.List.{list_all}
@@ -13,6 +13,7 @@ use Rattle.program.specs.declared.repr_text.ReprPart.TheVariants.{C, Transparent
 use Rattle.program.specs.declared.repr_text.ReprKind.{ReprKind}
 use Rattle.program.specs.declared.repr_text.ReprKind.TheVariants as kind
 use Rattle.program.specs.declared.repr_text.StructRepr.{StructRepr}
+use Rattle.abi_scalar.specs.declared.repr.ReprOptions.{ReprOptions}
 use Rattle.program.specs.Numbers.{number_in}
 use Rattle.program.specs.ScalarWords.{first_of, integer_named}
 
@@ -125,6 +126,15 @@ abbrev pub struct_repr : List ℕ → Option StructRepr
 struct_repr w =
     if bytes_eq w (codes "-") then Some plain
     else (if are_repr_words (parts_of w) then Some (asked_by plain (parts_of w)) else None)
+
+-- the options of a repr that has no `tail`
+abbrev pub without_tail : Option StructRepr → Option ReprOptions
+without_tail None = None
+without_tail (Some asked) = if asked.always_sized then Some asked.repr else None
+
+-- what a word asks for where a union's repr stands: a struct's repr, without `tail`
+abbrev pub union_repr : List ℕ → Option ReprOptions
+union_repr w = without_tail (struct_repr w)
 
 -- the parts that are left
 abbrev pub parts_left : Option (List ℕ) → List (List ℕ)

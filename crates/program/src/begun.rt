@@ -8,7 +8,7 @@ use crate::fault::Fault;
 use crate::repr_text::StructRepr;
 use crate::scalars::full;
 use abi_base::{Primitive, TargetDataLayout};
-use abi_scalar::{Scalar, WrappingRange};
+use abi_scalar::{ReprOptions, Scalar, WrappingRange};
 use rustc_abi::TypeTree;
 use std::alloc::Global;
 
@@ -24,10 +24,17 @@ pub(crate) enum Want {
     Space,
     RangeStart,
     RangeEnd,
+    /// An array's count.
     Count,
+    /// How many lanes a vector has, a packed one or another.
+    Lanes(bool),
+    /// A struct's repr.
     Repr,
+    UnionRepr,
     /// The fields of a struct with this repr.
     Opening(StructRepr),
+    /// The fields of a union with this repr.
+    UnionOpening(ReprOptions),
     /// Nothing: the type is complete.
     End,
 }
@@ -37,8 +44,12 @@ pub(crate) enum Want {
 pub(crate) enum Open {
     /// An array, which waits for its element.
     Elements(u64),
+    /// A vector of so many lanes, packed or not, which waits for its element.
+    Lanes(u64, bool),
     /// A struct, with the fields so far.
     Fields(StructRepr, Vec<TypeTree>),
+    /// A union, with the fields so far.
+    Members(ReprOptions, Vec<TypeTree>),
     /// A pair that waits for its first scalar.
     First,
     /// A pair that has its first scalar.
@@ -86,9 +97,22 @@ pub(crate) fn put(alloc: Global, tree: TypeTree, begun: Vec<Open>) -> Result<Rea
             Open::Elements(count) => {
                 tree = TypeTree::Array(count, Box::new(alloc, tree)?);
             }
+            Open::Lanes(lanes, packed) => {
+                let element = Box::new(alloc, tree)?;
+                tree = TypeTree::Vector {
+                    lanes,
+                    packed,
+                    element,
+                };
+            }
             Open::Fields(repr, mut fields) => {
                 fields.push(tree)?;
                 begun.push(Open::Fields(repr, fields))?;
+                return Ok(waiting(Want::Tree, begun));
+            }
+            Open::Members(repr, mut fields) => {
+                fields.push(tree)?;
+                begun.push(Open::Members(repr, fields))?;
                 return Ok(waiting(Want::Tree, begun));
             }
             _ => {}

@@ -1,6 +1,6 @@
 //! How a laid-out type is written.
 
-ghost use Rattle.std.specs.Prelude.{◌≡◌, ◌<◌, ◌++◌, OnOk, IfOk, string_bytes};
+ghost use Rattle.std.specs.Prelude.{◌≡◌, ◌<◌, ◌++◌, OnOk, IfOk, replicate, string_bytes};
 ghost use Rattle.program.specs.Printing.{field_lines, float_text, integer_text, layout_lines, niche_line, padding_lines, primitive_text, range_lines, shape_lines, size_line, type_text, uninhabited_line};
 ghost use Rattle.rustc_abi.specs.Laid.{placed_of};
 ghost use Rattle.rustc_abi.specs.Placed.{layout_of};
@@ -46,6 +46,17 @@ fn write_fields(out: &mut String, offsets: &[Size]) -> Result<(), AllocError>
     Ok(())
 }
 
+/// Writes the offset of each of so many fields of a union.
+fn write_union_fields(out: &mut String, count: usize) -> Result<(), AllocError>
+    ensures { OnOk result (string_bytes out.new ≡ string_bytes out.old ++ field_lines 0 (replicate count 0)) }
+{
+    let offset = 0u64;
+    for index in 0..count {
+        write!(out, "field {index} offset {offset}\n")?;
+    }
+    Ok(())
+}
+
 /// Writes where the elements or fields lie.
 fn write_shape(out: &mut String, shape: &FieldsShape<FieldIdx>) -> Result<(), AllocError>
     ensures { OnOk result (string_bytes out.new ≡ string_bytes out.old ++ shape_lines shape.now) }
@@ -61,7 +72,7 @@ fn write_shape(out: &mut String, shape: &FieldsShape<FieldIdx>) -> Result<(), Al
             in_memory_order: _,
         } => write_fields(out, offsets.as_slice().as_raw()),
         FieldsShape::Primitive => Ok(()),
-        FieldsShape::Union(_) => Ok(()),
+        FieldsShape::Union(count) => write_union_fields(out, count.get()),
     }
 }
 

@@ -3,9 +3,9 @@
 ghost use Rattle.std.specs.Prelude.{◌≡◌, ◌∷◌, ◌⊎◌, ◌<◌, ◌≤◌, ◌+◌, ◌^◌, ℕ, IfOk, IfErr, MatchResult, codes, length};
 ghost use Rattle.std.specs.Str.{bytes_eq};
 ghost use Rattle.rustc_abi.specs.Tree.{Tree, tree_of};
-ghost use Rattle.program.specs.Reading.{Agrees, waiting, first, at_count, at_opening, at_repr, at_type, begun_in, closed, read, start, state_of, step};
+ghost use Rattle.program.specs.Reading.{Agrees, waiting, first, at_count, at_lanes, at_opening, at_repr, at_type, at_union_opening, at_union_repr, begun_in, closed, read, start, state_of, step};
 ghost use Rattle.program.specs.Numbers.{number_in};
-ghost use Rattle.program.specs.Repr.{struct_repr};
+ghost use Rattle.program.specs.Repr.{struct_repr, union_repr};
 ghost use Rattle.program.specs.Words.{words_of};
 ghost use Rattle.program.specs.Written.{IsKnown, line_of, written};
 
@@ -15,10 +15,11 @@ use crate::number::decimal;
 use crate::read_scalar::{
     begin_scalar, read_end, read_primitive, read_scalar, read_space, read_start,
 };
-use crate::repr_text::{StructRepr, struct_repr};
+use crate::repr_text::{StructRepr, struct_repr, union_repr};
 use crate::type_word::{TypeWord, type_word};
 use crate::words::next_word;
 use abi_base::TargetDataLayout;
+use abi_scalar::ReprOptions;
 use rustc_abi::TypeTree;
 use std::alloc::Global;
 
@@ -39,6 +40,7 @@ fn close(alloc: Global, number: u64, begun: Vec<Open>) -> Result<Reader, Fault>
             };
             put(alloc, tree, begun)
         }
+        Some(Open::Members(repr, fields)) => put(alloc, TypeTree::Union { repr, fields }, begun),
         _ => Err(Fault::Unreadable(number)),
     }
 }
@@ -79,7 +81,9 @@ fn read_type_word(
         TypeWord::Never => put(alloc, TypeTree::Never, begun),
         TypeWord::Unit => put(alloc, TypeTree::Unit, begun),
         TypeWord::Array => Ok(waiting(Want::Count, begun)),
+        TypeWord::Vector(packed) => Ok(waiting(Want::Lanes(packed), begun)),
         TypeWord::Struct => Ok(waiting(Want::Repr, begun)),
+        TypeWord::Union => Ok(waiting(Want::UnionRepr, begun)),
         _ => Err(Fault::NotYet),
     }
 }
@@ -98,12 +102,36 @@ fn read_count(number: u64, begun: Vec<Open>, word: &[u8]) -> Result<Reader, Faul
     }
 }
 
+/// Reads how many lanes a vector has.
+fn read_lanes(number: u64, packed: bool, begun: Vec<Open>, word: &[u8]) -> Result<Reader, Fault>
+    ensures { Agrees state_of (at_lanes number packed (begun_in begun.items) (number_in 64 word.now)) result }
+{
+    let mut begun = begun;
+    match decimal(word) {
+        Some(lanes) => {
+            begun.push(Open::Lanes(lanes, packed))?;
+            Ok(waiting(Want::Tree, begun))
+        }
+        None => Err(Fault::Unreadable(number)),
+    }
+}
+
 /// Reads a struct's repr.
 fn read_repr(number: u64, begun: Vec<Open>, word: &[u8]) -> Result<Reader, Fault>
     ensures { Agrees state_of (at_repr number (begun_in begun.items) (struct_repr word.now)) result }
 {
     match struct_repr(word) {
         Some(asked) => Ok(waiting(Want::Opening(asked), begun)),
+        None => Err(Fault::Unreadable(number)),
+    }
+}
+
+/// Reads a union's repr.
+fn read_union_repr(number: u64, begun: Vec<Open>, word: &[u8]) -> Result<Reader, Fault>
+    ensures { Agrees state_of (at_union_repr number (begun_in begun.items) (union_repr word.now)) result }
+{
+    match union_repr(word) {
+        Some(repr) => Ok(waiting(Want::UnionOpening(repr), begun)),
         None => Err(Fault::Unreadable(number)),
     }
 }
@@ -121,6 +149,25 @@ fn read_opening(
     let mut begun = begun;
     if word == b"(".as_slice() {
         begun.push(Open::Fields(asked, Vec::new(alloc)))?;
+        Ok(waiting(Want::Tree, begun))
+    } else {
+        Err(Fault::Unreadable(number))
+    }
+}
+
+/// Reads the parenthesis that opens a union's fields.
+fn read_union_opening(
+    alloc: Global,
+    number: u64,
+    repr: ReprOptions,
+    begun: Vec<Open>,
+    word: &[u8],
+) -> Result<Reader, Fault>
+    ensures { Agrees state_of (at_union_opening number repr (begun_in begun.items) (bytes_eq word.now (codes "("))) result }
+{
+    let mut begun = begun;
+    if word == b"(".as_slice() {
+        begun.push(Open::Members(repr, Vec::new(alloc)))?;
         Ok(waiting(Want::Tree, begun))
     } else {
         Err(Fault::Unreadable(number))
@@ -153,8 +200,11 @@ fn step(
         Want::RangeStart => read_start(number, begun, word),
         Want::RangeEnd => read_end(alloc, number, begun, word),
         Want::Count => read_count(number, begun, word),
+        Want::Lanes(packed) => read_lanes(number, packed, begun, word),
         Want::Repr => read_repr(number, begun, word),
+        Want::UnionRepr => read_union_repr(number, begun, word),
         Want::Opening(asked) => read_opening(alloc, number, asked, begun, word),
+        Want::UnionOpening(repr) => read_union_opening(alloc, number, repr, begun, word),
         Want::End => Err(Fault::Unreadable(number)),
     }
 }

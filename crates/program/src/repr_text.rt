@@ -1,8 +1,8 @@
-//! How a struct's repr is written.
+//! How the repr of a struct, and of a union, is written.
 
 ghost use Rattle.std.specs.Prelude.{◌≡◌, is_some};
 ghost use Rattle.std.specs.List.{list_all};
-ghost use Rattle.program.specs.Repr.{alignment_after, are_repr_words, asked_by, has_kind, integer_type_named, is_single, kind_of, flagged, part_of, parts_of, plain, struct_repr, valued_part, with_part};
+ghost use Rattle.program.specs.Repr.{alignment_after, are_repr_words, asked_by, has_kind, integer_type_named, is_single, kind_of, flagged, part_of, parts_of, plain, struct_repr, union_repr, valued_part, with_part};
 
 use crate::lines::cut;
 use crate::number::decimal;
@@ -253,5 +253,22 @@ pub(crate) fn struct_repr(word: &[u8]) -> Option<StructRepr>
         Some(asked_by(word))
     } else {
         None
+    }
+}
+
+/// What a word asks for where a union's repr stands: what a struct's repr asks for, without `tail`. None where it is no
+/// such repr.
+pub(crate) fn union_repr(word: &[u8]) -> Option<ReprOptions>
+    ensures { result ≡ union_repr word.now }
+{
+    match struct_repr(word) {
+        Some(asked) => {
+            if asked.always_sized {
+                Some(asked.repr)
+            } else {
+                None
+            }
+        }
+        None => None,
     }
 }

@@ -141,13 +141,61 @@ fn words_that_do_not_fit_are_told(rt: HostRuntime) {
 #[test]
 fn words_that_are_not_known_yet_are_refused(rt: HostRuntime) {
     let texts: [&[u8]; 4] = [
-        b"\nstruct C ( simd",
-        b"\nstruct - ( enum foo",
+        b"\nstruct C ( coroutine",
+        b"\nunion - ( enum foo",
         b"\ncoroutine",
-        b"p:32:32\nunion foo",
+        b"p:32:32\nsimd 2 enum",
     ];
     for text in texts {
         check(&rt, rt.alloc(), text, b"refused NotYet\n", 1);
+    }
+}
+
+#[test]
+fn words_of_unions_that_do_not_fit_are_told(rt: HostRuntime) {
+    let rows: [(&[u8], &[u8]); 14] = [
+        (b"\nunion", b"unreadable word 2\n"),
+        (b"\nunion ( u8 )", b"unreadable word 2\n"),
+        (b"\nunion tail ( u8 )", b"unreadable word 2\n"),
+        (b"\nunion C,tail ( u8 )", b"unreadable word 2\n"),
+        (b"\nunion C,C ( u8 )", b"unreadable word 2\n"),
+        (b"\nunion align=3 ( u8 )", b"unreadable word 2\n"),
+        (b"\nunion packed=1073741824 ( u8 )", b"unreadable word 2\n"),
+        (
+            b"\nunion transparent,linear,packed=2,align=0,u8 u8",
+            b"unreadable word 3\n",
+        ),
+        (b"\nunion C", b"unreadable word 3\n"),
+        (b"\nunion - ( foo )", b"unreadable word 4\n"),
+        (b"\nunion - ( u8", b"unreadable word 5\n"),
+        (b"\nunion - ( u8 (", b"unreadable word 5\n"),
+        (b"\nunion - ( u8 ) )", b"unreadable word 6\n"),
+        (
+            b"\nstruct - ( union - ( ) union tail ( ) )",
+            b"unreadable word 9\n",
+        ),
+    ];
+    for (text, wanted) in rows {
+        check(&rt, rt.alloc(), text, wanted, 2);
+    }
+}
+
+#[test]
+fn words_of_vectors_that_do_not_fit_are_told(rt: HostRuntime) {
+    let rows: [(&[u8], &[u8]); 10] = [
+        (b"\nsimd", b"unreadable word 2\n"),
+        (b"\npsimd", b"unreadable word 2\n"),
+        (b"\nsimd u8", b"unreadable word 2\n"),
+        (b"\nsimd -1 u8", b"unreadable word 2\n"),
+        (b"\npsimd +1 u8", b"unreadable word 2\n"),
+        (b"\npsimd 18446744073709551616 u8", b"unreadable word 2\n"),
+        (b"\nsimd 18446744073709551615", b"unreadable word 3\n"),
+        (b"\npsimd 3 )", b"unreadable word 3\n"),
+        (b"\nsimd 4 u8 u8", b"unreadable word 4\n"),
+        (b"\nunion - ( psimd 003 )", b"unreadable word 6\n"),
+    ];
+    for (text, wanted) in rows {
+        check(&rt, rt.alloc(), text, wanted, 2);
     }
 }
 
@@ -433,6 +481,20 @@ fn types_nest_two_hundred_deep(rt: HostRuntime) -> Result<(), Fail> {
     deeper.truncate(deeper.len() - 4);
     deeper.extend_from_slice(b"foo")?;
     check(&rt, rt.alloc(), &deeper, b"unreadable word 403\n", 2);
+    Ok(())
+}
+
+#[test]
+fn vectors_and_unions_are_nested_types(rt: HostRuntime) -> Result<(), Fail> {
+    let mut text = b"\n".to_vec(rt.alloc())?;
+    for _ in 0..67 {
+        text.extend_from_slice(b"union - ( simd 1 psimd 1 ")?;
+    }
+    text.extend_from_slice(b"u8")?;
+    check(&rt, rt.alloc(), &text, b"refused TooDeep\n", 1);
+    text.truncate(text.len() - 2);
+    text.extend_from_slice(b")")?;
+    check(&rt, rt.alloc(), &text, b"unreadable word 470\n", 2);
     Ok(())
 }
 

@@ -15,8 +15,12 @@ pub(crate) enum TypeWord {
     Unit,
     /// An array: a count and a type follow.
     Array,
+    /// A vector, packed or not: a count of lanes and a type follow.
+    Vector(bool),
     /// A struct: a repr and fields follow.
     Struct,
+    /// A union: a repr and fields follow.
+    Union,
     /// A type that the program doesn't know yet.
     Later,
     /// No type.
@@ -27,11 +31,7 @@ pub(crate) enum TypeWord {
 fn is_later_word(word: &[u8]) -> bool
     ensures { result ≡ is_later_word word.now }
 {
-    word == b"simd".as_slice()
-        || word == b"psimd".as_slice()
-        || word == b"union".as_slice()
-        || word == b"enum".as_slice()
-        || word == b"coroutine".as_slice()
+    word == b"enum".as_slice() || word == b"coroutine".as_slice()
 }
 
 /// What a word means that begins no scalar.
@@ -46,8 +46,14 @@ fn other_word(word: &[u8]) -> TypeWord
         TypeWord::Unit
     } else if word == b"array".as_slice() {
         TypeWord::Array
+    } else if word == b"simd".as_slice() {
+        TypeWord::Vector(false)
+    } else if word == b"psimd".as_slice() {
+        TypeWord::Vector(true)
     } else if word == b"struct".as_slice() {
         TypeWord::Struct
+    } else if word == b"union".as_slice() {
+        TypeWord::Union
     } else if is_later_word(word) {
         TypeWord::Later
     } else {
