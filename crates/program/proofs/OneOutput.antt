@@ -1,4 +1,4 @@
--- One output for each input, where each tree has one answer.
+-- An input has one output, as a tree has one answer.
 use Rattle.std.proofs.Common.{◌≡◌, ℕ, Bool, true, false, List, ◌∷◌, Result, Ok, Err, refl, sym, ap, ap₂, ◌∙◌}
 use Rattle.std.specs.Prelude.{◌&&◌, MatchBool}
 use Rattle.std.specs.Str.{bytes_eq, is_utf8}
@@ -7,19 +7,13 @@ use Rattle.abi_base.specs.declared.data_layout.TargetDataLayout.{TargetDataLayou
 use Rattle.abi_base.specs.DataLayout.{IsLawfulDataLayout}
 use Rattle.abi_base.specs.DataLayoutFault.{Fault as Flaw}
 use Rattle.abi_base.specs.DataLayoutText.{data_layout_in}
-use Rattle.rustc_abi.specs.declared.error.LayError.{LayError}
 use Rattle.rustc_abi.specs.Tree.{Tree}
-use Rattle.rustc_abi.specs.Placed.{Placed}
-use Rattle.rustc_abi.specs.Laying.{IsLaying}
+use Rattle.rustc_abi.proofs.OneAnswer.{one_answer}
 use Rattle.program.specs.declared.fault.Fault.{Fault}
 use Rattle.program.specs.Lines.{first_line, second_line}
 use Rattle.program.specs.Output.{Output, IsOutputOf, IsOutputOfTree, IsOutputOfType, IsOutputUnder, output_of_layout, unreadable}
 use Rattle.program.specs.Reading.{read}
 use Rattle.program.specs.Words.{words_of}
-
--- under a lawful data layout a tree has one answer
-abbrev pub OneAnswer : Type 0
-OneAnswer = (dl : TargetDataLayout) (t : Tree) (r r2 : Result Placed LayError) → IsLawfulDataLayout dl → IsLaying dl t r → IsLaying dl t r2 → r ≡ r2
 
 -- status and text
 abbrev whole : Output → List ℕ
@@ -43,31 +37,30 @@ one_list_at xs ys false e h = absurd (h (λ p. let yes = (bytes_eq-Decides xs ys
 one_of_two : (a b : Output) → ((a ≡ b → ⊥) → ⊥) → a ≡ b
 one_of_two a b h = same_output a b (one_list_at (whole a) (whole b) (bytes_eq (whole a) (whole b)) refl (λ no. h (λ e. no (ap whole e))))
 
-module _ (one_answer : OneAnswer) where
-  where_lawful : (dl : TargetDataLayout) (t : Tree) (a b : Output) → IsOutputOfTree dl t a → IsOutputOfTree dl t b → IsLawfulDataLayout dl → a ≡ b
-  where_lawful dl t a b h g lawful =
-      let x = h.lawful lawful in
-      let y = g.lawful lawful in
-      x.2 ∙ ap output_of_layout (one_answer dl t x.0 y.0 lawful x.1 y.1) ∙ sym y.2
+where_lawful : (dl : TargetDataLayout) (t : Tree) (a b : Output) → IsOutputOfTree dl t a → IsOutputOfTree dl t b → IsLawfulDataLayout dl → a ≡ b
+where_lawful dl t a b h g lawful =
+    let x = h.lawful lawful in
+    let y = g.lawful lawful in
+    x.2 ∙ ap output_of_layout (one_answer dl t x.0 y.0 x.1 y.1) ∙ sym y.2
 
-  of_tree : (dl : TargetDataLayout) (t : Tree) (a b : Output) → IsOutputOfTree dl t a → IsOutputOfTree dl t b → a ≡ b
-  of_tree dl t a b h g =
-      one_of_two a b (λ no. no (h.unlawful (λ lawful. no (where_lawful dl t a b h g lawful)) ∙ sym (g.unlawful (λ lawful. no (where_lawful dl t a b h g lawful)))))
+of_tree : (dl : TargetDataLayout) (t : Tree) (a b : Output) → IsOutputOfTree dl t a → IsOutputOfTree dl t b → a ≡ b
+of_tree dl t a b h g =
+    one_of_two a b (λ no. no (h.unlawful (λ lawful. no (where_lawful dl t a b h g lawful)) ∙ sym (g.unlawful (λ lawful. no (where_lawful dl t a b h g lawful)))))
 
-  of_type : (dl : TargetDataLayout) (r : Result Tree Fault) (a b : Output) → IsOutputOfType dl r a → IsOutputOfType dl r b → a ≡ b
-  of_type dl (Ok t) a b h g = of_tree dl t a b h g
-  of_type dl (Err fault) a b h g = h ∙ sym g
+of_type : (dl : TargetDataLayout) (r : Result Tree Fault) (a b : Output) → IsOutputOfType dl r a → IsOutputOfType dl r b → a ≡ b
+of_type dl (Ok t) a b h g = of_tree dl t a b h g
+of_type dl (Err fault) a b h g = h ∙ sym g
 
-  under : (r : Result TargetDataLayout Flaw) (second : List ℕ) (a b : Output) → IsOutputUnder r second a → IsOutputUnder r second b → a ≡ b
-  under (Ok dl) second a b h g = of_type dl (read dl (words_of second)) a b h g
-  under (Err flaw) second a b h g = h ∙ sym g
+under : (r : Result TargetDataLayout Flaw) (second : List ℕ) (a b : Output) → IsOutputUnder r second a → IsOutputUnder r second b → a ≡ b
+under (Ok dl) second a b h g = of_type dl (read dl (words_of second)) a b h g
+under (Err flaw) second a b h g = h ∙ sym g
 
-  of_lines : (utf8 : Bool) (r : Result TargetDataLayout Flaw) (second : List ℕ) (a b : Output) → MatchBool utf8 (IsOutputUnder r second a) (a ≡ unreadable 0)
-      → MatchBool utf8 (IsOutputUnder r second b) (b ≡ unreadable 0) → a ≡ b
-  of_lines true r second a b h g = under r second a b h g
-  of_lines false r second a b h g = h ∙ sym g
+of_lines : (utf8 : Bool) (r : Result TargetDataLayout Flaw) (second : List ℕ) (a b : Output) → MatchBool utf8 (IsOutputUnder r second a) (a ≡ unreadable 0)
+    → MatchBool utf8 (IsOutputUnder r second b) (b ≡ unreadable 0) → a ≡ b
+of_lines true r second a b h g = under r second a b h g
+of_lines false r second a b h g = h ∙ sym g
 
-  -- an input has one output
-  pub one_output : (input : List ℕ) (a b : Output) → IsOutputOf input a → IsOutputOf input b → a ≡ b
-  one_output input a b h g =
-      of_lines (is_utf8 (first_line input) && is_utf8 (second_line input)) (data_layout_in (record { 0 = 0 }) (first_line input)) (second_line input) a b h g
+-- an input has one output
+pub one_output : (input : List ℕ) (a b : Output) → IsOutputOf input a → IsOutputOf input b → a ≡ b
+one_output input a b h g =
+    of_lines (is_utf8 (first_line input) && is_utf8 (second_line input)) (data_layout_in (record { 0 = 0 }) (first_line input)) (second_line input) a b h g

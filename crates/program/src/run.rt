@@ -1,8 +1,8 @@
 //! The program over any reader and writer.
 
-ghost use Rattle.std.specs.Prelude.{◌≤◌, IfSome, MatchOption, length, take};
+ghost use Rattle.std.specs.Prelude.{◌≡◌, ◌≤◌, ℕ, IfSome, List, MatchOption, length, take};
 ghost use Rattle.std.specs.Io.KnownBytes.{Appends, Keeps};
-ghost use Rattle.program.specs.Output.{Answered, Sent, IsOutputOf};
+ghost use Rattle.program.specs.Output.{Answered, Output, Sent, IsOutputOf};
 
 use crate::answer::answer_input;
 use std::alloc::Global;
@@ -48,7 +48,8 @@ fn send<W: Write>(output: &mut W, text: &[u8], status: u8) -> u8
 /// written. Where reading fails it is `refused Input`, where memory is wanting `refused OutOfMemory`; where writing fails
 /// the status is 1, and nothing more is written.
 pub fn run<R: Read, W: Write>(alloc: Global, input: &mut R, output: &mut W) -> u8
-    ensures { IfSome (R.remaining input.old) (λ all. Answered (W.contents output.old) (W.contents output.new) (IsOutputOf all) result) }
+    ensures answered { IfSome (R.remaining input.old) (λ all. Answered (W.contents output.old) (W.contents output.new) (IsOutputOf all) result) }
+    ensures one { (all : List ℕ) (a b : Output) → IsOutputOf all a → IsOutputOf all b → a ≡ b }
 {
     let mut text = Vec::new(alloc);
     match input.read_to_end(&mut text) {

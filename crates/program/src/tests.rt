@@ -6,7 +6,7 @@ use std::process::Abort;
 use std::test::Fail;
 
 /// Runs the program on a text, and asserts what it writes and its status.
-fn check(rt: &impl Abort, alloc: Global, mut text: &[u8], wanted: &[u8], status: u8) {
+pub(crate) fn check(rt: &impl Abort, alloc: Global, mut text: &[u8], wanted: &[u8], status: u8) {
     let mut output = Vec::new(alloc);
     assert_eq!(rt; run(alloc, &mut text, &mut output), status);
     assert_eq!(rt; output.as_slice(), wanted);

@@ -29,5 +29,5 @@ mod VectorLemmas
 mod CalcLemmas
 mod TogetherLemmas
 mod LaidLemmas
-mod OneAnswer
+pub mod OneAnswer
 mod LeastLemmas
