@@ -15,7 +15,7 @@ use Rattle.abi_calc.proofs.Sorting.{within_order}
 
 -- ---- source order is always allowed
 
-source_keeps : (kind : StructKind) (n : ℕ) → IsNonEmptyIfUnsized kind n → KeepsTail kind n (source_order n)
+pub source_keeps : (kind : StructKind) (n : ℕ) → IsNonEmptyIfUnsized kind n → KeepsTail kind n (source_order n)
 source_keeps AlwaysSized n some = tt
 source_keeps MaybeUnsized n some = get_or-range_with_len 0 n (n - 1) 0 (omega arith) ∙ (omega arith)
 source_keeps (Prefixed size align) n some = tt
