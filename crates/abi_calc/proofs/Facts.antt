@@ -1,4 +1,4 @@
--- Worked facts: which orders are allowed, and that one of them has the least size.
+-- Worked facts: which orders are allowed, that one of them has the least size, and which sizes some have.
 use Rattle.std.proofs.Common.{◌≡◌, ◌≢◌, ℕ, zero, suc, ◌-◌, ◌<◌, ◌≤◌, Bool, true, false, List, [], ◌∷◌, None, inl, inr, length, refl, sym, ap, ◌∙◌, arith, ⊎_elim}
 use Rattle.std.specs.Prelude.{◌⊎◌, All, AllPairs, IsPermutation, MatchBool, slice_index}
 use Rattle.std.proofs.lemmas.List.FromFn.{get_or-range_with_len}
@@ -7,6 +7,7 @@ use Rattle.abi_base.specs.declared.struct_kind.StructKind.{StructKind}
 use Rattle.abi_base.specs.declared.struct_kind.StructKind.TheVariants.{AlwaysSized, MaybeUnsized, Prefixed}
 use Rattle.std.proofs.lemmas.Bool.{cases_lt}
 use Rattle.abi_calc.specs.declared.list_repr.ListRepr.{ListRepr}
+use Rattle.abi_scalar.specs.declared.backend_repr.BackendRepr.TheVariants.{Memory}
 use Rattle.abi_calc.specs.declared.part.Part.{Part}
 use Rattle.abi_calc.specs.Placement.{IsAllowed, IsNonEmptyIfUnsized, KeepsTail, size_in, source_order}
 use Rattle.abi_calc.proofs.Orders.{least_order}
@@ -15,7 +16,7 @@ use Rattle.abi_calc.proofs.Sorting.{within_order}
 
 -- ---- source order is always allowed
 
-source_keeps : (kind : StructKind) (n : ℕ) → IsNonEmptyIfUnsized kind n → KeepsTail kind n (source_order n)
+pub source_keeps : (kind : StructKind) (n : ℕ) → IsNonEmptyIfUnsized kind n → KeepsTail kind n (source_order n)
 source_keeps AlwaysSized n some = tt
 source_keeps MaybeUnsized n some = get_or-range_with_len 0 n (n - 1) 0 (omega arith) ∙ (omega arith)
 source_keeps (Prefixed size align) n some = tt
@@ -145,3 +146,31 @@ two_orders order allowed = two_of_six order (six_orders order allowed.0) allowed
 
 pub one_order : (kind : StructKind) (order : List ℕ) → IsAllowed (fixed_list kind) 3 order → order ≡ 0 ∷ 1 ∷ 2 ∷ []
 one_order kind order allowed = allowed
+
+-- ---- so the clauses on sizes refuse these bodies
+
+-- bytes in memory of this size and alignment
+abbrev pub bytes : (size align : ℕ) → Part
+bytes size align = record { size = size; align = align; unadjusted_align = align; view = Memory true; largest_niche = None; free = 0; after = 0 }
+
+-- one that keeps source order: u8, u32, u16 take 12 bytes in it, and 8 as u32, u16, u8
+pub source_is_larger : size_in (free_list AlwaysSized) (bytes 1 0 ∷ bytes 4 2 ∷ bytes 2 1 ∷ []) (0 ∷ 1 ∷ 2 ∷ []) ≡ 12
+source_is_larger = refl
+
+pub moved_is_smaller : size_in (free_list AlwaysSized) (bytes 1 0 ∷ bytes 4 2 ∷ bytes 2 1 ∷ []) (1 ∷ 2 ∷ 0 ∷ []) ≡ 8
+moved_is_smaller = refl
+
+-- one that sorts down behind a prefix: behind one byte [u8; 4], u16, u32 take 16 bytes as [u8; 4], u32, u16, and 12 as u16, [u8; 4], u32
+pub descending_is_larger : size_in (free_list (Prefixed 1 0)) (bytes 4 0 ∷ bytes 2 1 ∷ bytes 4 2 ∷ []) (0 ∷ 2 ∷ 1 ∷ []) ≡ 16
+descending_is_larger = refl
+
+pub ascending_is_smaller : size_in (free_list (Prefixed 1 0)) (bytes 4 0 ∷ bytes 2 1 ∷ bytes 4 2 ∷ []) (1 ∷ 0 ∷ 2 ∷ []) ≡ 12
+ascending_is_smaller = refl
+
+-- one that tests the bound before rounding: 32767 bytes in a list aligned to two take 32768 in their only order
+pub rounding_reaches_the_bound : size_in (record { kind = AlwaysSized; pack = None; align = 1; reorderable = true }) (bytes 32767 0 ∷ []) (0 ∷ []) ≡ 32768
+rounding_reaches_the_bound = refl
+
+-- one that always refuses: no fields take no bytes in their only order
+pub nothing_is_small : size_in (free_list AlwaysSized) [] [] ≡ 0
+nothing_is_small = refl

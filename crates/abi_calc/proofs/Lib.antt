@@ -10,6 +10,7 @@ pub mod Lawful
 pub mod ViewLemmas
 pub mod PlacingLemmas
 pub mod Orders
+pub mod EveryOrder
 pub mod FaultLemmas
 pub mod RunLemmas
 pub mod SourceLemmas

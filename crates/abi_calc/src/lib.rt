@@ -2,8 +2,14 @@
 #![tactic(auto)]
 
 mod array;
+#[cfg(test)]
+mod bound_tests;
 mod calculator;
+#[cfg(test)]
+mod every_order;
 mod fields;
+#[cfg(test)]
+mod least_tests;
 mod list;
 mod list_niche;
 mod list_repr;

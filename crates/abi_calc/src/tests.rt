@@ -15,10 +15,10 @@ use abi_scalar::{
 use std::alloc::Global;
 use std::test::Fail;
 
-type Laid = LayoutData<FieldIdx, VariantIdx>;
+pub type Laid = LayoutData<FieldIdx, VariantIdx>;
 
 /// The unsigned integer whose greatest number this is.
-fn unsigned(dl: &TargetDataLayout, integer: Integer, greatest: u128) -> Laid
+pub fn unsigned(dl: &TargetDataLayout, integer: Integer, greatest: u128) -> Laid
     requires lawful { IsLawfulDataLayout dl.now }
     requires fits { greatest < numbers_of (integer_size integer) }
     ensures { IsLawfulLayout dl.now result }
@@ -36,7 +36,7 @@ fn unsigned(dl: &TargetDataLayout, integer: Integer, greatest: u128) -> Laid
 }
 
 /// Whether each of these is lawful.
-fn are_lawful(dl: &TargetDataLayout, layouts: &[&Laid]) -> bool
+pub fn are_lawful(dl: &TargetDataLayout, layouts: &[&Laid]) -> bool
     requires { IsLawfulDataLayout dl.now }
     ensures { IsTrue result → All (λ layout. IsLawfulLayout dl.now layout.now) layouts.now }
 {
@@ -49,7 +49,7 @@ fn are_lawful(dl: &TargetDataLayout, layouts: &[&Laid]) -> bool
 }
 
 /// Whether a list of so many fields may be of this kind.
-fn is_lawful_kind(dl: &TargetDataLayout, kind: &StructKind, count: usize) -> bool
+pub fn is_lawful_kind(dl: &TargetDataLayout, kind: &StructKind, count: usize) -> bool
     requires { IsLawfulDataLayout dl.now }
     ensures prefix { IsTrue result → IsLawfulPrefix kind.now (size_bound dl.now) }
     ensures tail { IsTrue result → IsNonEmptyIfUnsized kind.now count }
@@ -64,7 +64,7 @@ fn is_lawful_kind(dl: &TargetDataLayout, kind: &StructKind, count: usize) -> boo
 }
 
 /// Whether the alignment, if there is one, is within the limit.
-fn is_lawful_align(align: Option<Align>) -> bool
+pub fn is_lawful_align(align: Option<Align>) -> bool
     ensures { IsTrue result → IfSome align (λ a. a ≤ 29) }
 {
     match align {
@@ -74,7 +74,7 @@ fn is_lawful_align(align: Option<Align>) -> bool
 }
 
 /// The list of these, where what a list asks is met; `EmptyUnion` where it isn't.
-fn laid(
+pub fn laid(
     alloc: Global,
     dl: &TargetDataLayout,
     fields: &[&Laid],
@@ -98,7 +98,7 @@ fn laid(
 }
 
 /// Asks for these flags alone.
-fn flagged(flags: ReprFlags) -> ReprOptions {
+pub fn flagged(flags: ReprFlags) -> ReprOptions {
     ReprOptions {
         int: None,
         align: None,
@@ -118,7 +118,7 @@ fn list_of(alloc: Global, dl: &TargetDataLayout, fields: &[&Laid]) -> Option<Lai
 }
 
 /// Whether the list's fields lie at these offsets, and it has this size and alignment.
-fn lies(
+pub fn lies(
     list: &Result<Laid, LayoutCalculatorError<()>>,
     offsets: &[u64],
     size: u64,
@@ -154,7 +154,7 @@ fn has_offsets(list: &Laid, wanted: &[u64]) -> bool {
 }
 
 /// So many of these, one after another.
-fn array(dl: &TargetDataLayout, element: &Laid, count: u64) -> Option<Laid>
+pub fn array(dl: &TargetDataLayout, element: &Laid, count: u64) -> Option<Laid>
     requires lawful { IsLawfulDataLayout dl.now }
     requires element { IsLawfulLayout dl.now element.now }
 {
