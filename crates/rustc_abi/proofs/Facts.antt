@@ -24,6 +24,7 @@ use Rattle.rustc_abi.specs.Runs.{padding_of}
 use Rattle.rustc_abi.specs.Tag.{Names}
 use Rattle.rustc_abi.specs.Holding.{Holds}
 use Rattle.rustc_abi.specs.Faithful.{EachValueIsHeld, IsFlagTrue, IsViewTrue}
+use Rattle.rustc_abi.specs.Unions.{IsCommon}
 
 -- ---- the types
 
@@ -164,6 +165,16 @@ data_bytes = refl
 
 union_held : Holds Little either (10 ∷ 11 ∷ 12 ∷ 13 ∷ []) (bytes (10 ∷ 12 ∷ 13 ∷ []))
 union_held = (refl, refl)
+
+-- ---- a union that misses its field's byte: bytes that hold its one value hold other numbers of the field
+
+abbrev missing : Placed
+missing = union (sized 1) no_parts
+
+field_missing : IsCommon Little u8_placed missing → ⊥
+field_missing h =
+    let other : Holds Little u8_placed (1 ∷ []) (number 0) = h (0 ∷ []) (1 ∷ []) (bytes []) (number 0) (refl, refl) (refl, refl) (refl, refl, zero_is_in) in
+    absurd (omega (arith, other.1))
 
 -- ---- two states of a coroutine, whose locals share the byte after the tag
 

@@ -119,12 +119,8 @@ pub(crate) fn data_runs(alloc: Global, nodes: &[Node], node: usize) -> Result<Ve
                 return Ok(Vec::new(alloc));
             }
             let runs = data_runs(alloc, nodes, *element)?;
-            repeated(
-                alloc,
-                &runs,
-                *count,
-                layout_at(nodes, *element).size.bytes(),
-            )
+            let stride = layout_at(nodes, *element).size.bytes();
+            repeated(alloc, &runs, *count, stride)
         }
         Shape::Fields(children) => {
             fields_runs(alloc, nodes, node, size, offsets(&here.layout), children)

@@ -37,14 +37,14 @@ data_runs-returns-then-count-eq0-clause-covers t c k =
 pub data_runs-repeated-requires-clause-fits : goal.data_runs-repeated-requires-clause-fits
 data_runs-repeated-requires-clause-fits t c =
     let facts = elements_node c.args.nodes.now c.requires.well c.args.node _ c.requires.there c.index-nodes-node.is c.requires.room c.in-Elements.count c.in-Elements.element c.in-Elements.is in
-    let size : c.bytes.result ≡ size_of (placed_at c.args.nodes.now c.in-Elements.element) = rw c.bytes.ensures (ap (λ l. l.size) c.layout_at.ensures) in
+    let size : c.bytes-stride.result ≡ size_of (placed_at c.args.nodes.now c.in-Elements.element) = rw c.bytes-stride.ensures (ap (λ l. l.size) c.layout_at.ensures) in
     let all : size_of (placed_at c.args.nodes.now c.in-Elements.element) * c.in-Elements.count < 18446744073709551616 = omega (arith, facts.2, c.bytes-size.ensures, c.bytes-size.type_inv) in
     rw size omega (arith, all)
 
 pub data_runs-repeated-requires-clause-inside : goal.data_runs-repeated-requires-clause-inside
 data_runs-repeated-requires-clause-inside t c =
     let facts = elements_node c.args.nodes.now c.requires.well c.args.node _ c.requires.there c.index-nodes-node.is c.requires.room c.in-Elements.count c.in-Elements.element c.in-Elements.is in
-    let size : c.bytes.result ≡ size_of (placed_at c.args.nodes.now c.in-Elements.element) = rw c.bytes.ensures (ap (λ l. l.size) c.layout_at.ensures) in
+    let size : c.bytes-stride.result ≡ size_of (placed_at c.args.nodes.now c.in-Elements.element) = rw c.bytes-stride.ensures (ap (λ l. l.size) c.layout_at.ensures) in
     rw c.deref.ensures.value (rw size (runs_inside (placed_at c.args.nodes.now c.in-Elements.element) c.in_ok-runs-in-Elements.runs.items facts.3 c.in_ok-runs-in-Elements.ensures.ascend c.in_ok-runs-in-Elements.ensures.covers))
 
 pub data_runs-repeated-requires-clause-some : goal.data_runs-repeated-requires-clause-some
@@ -118,11 +118,11 @@ data_runs-returns-in-Scalar-clause-covers t c =
 pub data_runs-returns-in_ok-runs-in-Elements-clause-covers : goal.data_runs-returns-in_ok-runs-in-Elements-clause-covers
 data_runs-returns-in_ok-runs-in-Elements-clause-covers t c =
     let facts = elements_node c.args.nodes.now c.requires.well c.args.node _ c.requires.there c.index-nodes-node.is c.requires.room c.in-Elements.count c.in-Elements.element c.in-Elements.is in
-    let size : c.bytes.result ≡ size_of (placed_at c.args.nodes.now c.in-Elements.element) = rw c.bytes.ensures (ap (λ l. l.size) c.layout_at.ensures) in
+    let size : c.bytes-stride.result ≡ size_of (placed_at c.args.nodes.now c.in-Elements.element) = rw c.bytes-stride.ensures (ap (λ l. l.size) c.layout_at.ensures) in
     let placed : Placed = placed_at c.args.nodes.now c.in-Elements.element in
     IfOk-weaker c.repeated.result _ _
     (λ runs same k. same k
-    ∙ ap (λ rs. repeats rs c.in-Elements.count c.bytes.result k) c.deref.ensures.value
+    ∙ ap (λ rs. repeats rs c.in-Elements.count c.bytes-stride.result k) c.deref.ensures.value
     ∙ ap (λ n. repeats c.in_ok-runs-in-Elements.runs.items c.in-Elements.count n k) size
     ∙ places_of_elements c.index-nodes-node.result.layout c.in-Elements.count placed c.in_ok-runs-in-Elements.runs.items c.in_ok-runs-in-Elements.ensures.covers k
     ∙ ap (λ p. is_data_place p k) (sym facts.1))
