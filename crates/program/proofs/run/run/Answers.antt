@@ -1,4 +1,5 @@
 use Rattle.std.proofs.Common.{inl, inr}
+use Rattle.program.proofs.OneOutput.{one_output}
 use Rattle.program.proofs.Sending.{anyway}
 use Rattle.program.proofs.run.run.Goals as goal
 
@@ -10,3 +11,15 @@ returns-in-Err-clause-answered g c = anyway _ _ (λ all. inr (inl c.send-in-Err.
 
 pub returns-clause-answered : goal.returns-clause-answered
 returns-clause-answered g c = anyway _ _ (λ all. inr (inr c.send-in-Err-2.ensures))
+
+pub returns-in-Ok-answer_input-clause-one : goal.returns-in-Ok-answer_input-clause-one
+returns-in-Ok-answer_input-clause-one g c all a b h k = one_output all a b h k
+
+pub returns-in-Ok-clause-one : goal.returns-in-Ok-clause-one
+returns-in-Ok-clause-one g c all a b h k = one_output all a b h k
+
+pub returns-in-Err-clause-one : goal.returns-in-Err-clause-one
+returns-in-Err-clause-one g c all a b h k = one_output all a b h k
+
+pub returns-clause-one : goal.returns-clause-one
+returns-clause-one g c all a b h k = one_output all a b h k
