@@ -17,8 +17,8 @@ use Rattle.rustc_abi.specs.Placed.{Placed, Layout, layout_of, elements, vector a
 use Rattle.rustc_abi.specs.Error.{named, IsRefused}
 use Rattle.rustc_abi.specs.Fits.{Fits}
 use Rattle.rustc_abi.specs.Nodes.{placed_in, types_in}
-use Rattle.rustc_abi.specs.Laying.{IsLaying, AreLaying, IsUnionOf, IsUnited, fields_fault, placed_together, lanes_of, placed_by, vector_answer}
-use Rattle.rustc_abi.specs.Adding.{IsPut, IsAdded, IsRefusal, EachFits}
+use Rattle.rustc_abi.specs.Laying.{IsLaying, AreLaying, IsUnionOf, IsUnited, fields_fault, placed_together, lanes_of, placed_by}
+use Rattle.rustc_abi.specs.Adding.{IsPut, IsAdded, EachFits}
 use Rattle.rustc_abi.proofs.ListLemmas.{chosen}
 use Rattle.rustc_abi.proofs.NodesLemmas.{Keeps-trans}
 use Rattle.rustc_abi.proofs.LayLemmas.{IsAdded-put, IsAdded-elements}
@@ -63,19 +63,6 @@ lanes_answered dl element count packed layout answer =
 not_zero : (count : ℕ) → 1 ≤ count → (none : Bool) → (none ≡ true → count ≡ 0) → none ≡ false
 not_zero count some true is = absurd (omega (arith, some, is refl))
 not_zero count some false is = refl
-
--- the calculator's refusal is the vector's
-pub vector_refused : (dl : TargetDataLayout) (count : ℕ) (packed : Bool) (element : Placed) (e : LayError) →
-    IsRefusal (named (simd_answer (λ l. l) 0 0 dl (layout_of element) count packed)) e → IsRefusal (vector_answer dl count packed element) e
-vector_refused dl count packed element e (inl memory) = inl memory
-vector_refused dl count packed element e (inr f) = inr (ap (placed_by (λ l. placed_vector l (lanes_of count element))) f)
-
--- and the array of the lanes has none
-pub lanes_not_refused : (dl : TargetDataLayout) (element : Layout) (count : ℕ) (packed : Bool) (layout : Layout) (e : LayError) → named (simd_answer (λ l. l) 0 0 dl element count packed) ≡ Ok layout →
-    named {H = ℕ} (array_answer 0 dl element (Some count)) ≡ Err e → ⊥
-lanes_not_refused dl element count packed layout e answer refused =
-    let listed = lanes_answered dl element count packed layout answer in
-    cc
 
 niche_by : (none : Bool) (niche : Option Niche) → none ≡ false → (if none then None else niche) ≡ niche
 niche_by true niche is = absurd (cc)
