@@ -59,10 +59,7 @@ fn unions_are_refused(rt: HostRuntime) {
             b"\nunion - ( array 2305843009213693952 u8 union C ( ) )",
             b"refused SizeOverflow\n",
         ),
-        (
-            b"\nsimd 0 union transparent ( )",
-            b"refused EmptyUnion\n",
-        ),
+        (b"\nsimd 0 union transparent ( )", b"refused EmptyUnion\n"),
         (
             b"p:16:16\nunion align=2 ( array 32767 u8 )",
             b"refused SizeOverflow\n",

@@ -170,9 +170,10 @@ vector_whole dl element layout count packed law lawful e =
     let made = vector_layout 0 0 element (simd_view packed lanes) lanes.size (simd_align dl packed lanes) lanes.count in
     let all = vectors_lawful {H = Layout} dl element count lanes 0 0 (simd_view packed lanes) lanes.size (simd_align dl packed lanes) (if_below (size_bound dl) made) lawful are (omega arith) align
     (λ n h. simd_viewed dl packed lanes n h) (λ n. simd_of_view packed lanes n) (inl refl) in
-    let last = chosen_ok (nat_lt made.size (size_bound dl)) made layout calculator.SizeOverflow whole.2 in
-    (subst (λ r. IfOk r (IsLawfulLayout dl)) whole.2 all,
-    subst (λ (l : Layout). is_unsized l.backend_repr ≡ false) last.1 (view_of_lanes (is_tight packed lanes.count) lanes.scalar lanes.count))
+    let last = chosen_ok (nat_lt made.size (size_bound dl)) made layout calculator.SizeOverflow whole.2 in (
+      subst (λ r. IfOk r (IsLawfulLayout dl)) whole.2 all,
+      subst (λ (l : Layout). is_unsized l.backend_repr ≡ false) last.1 (view_of_lanes (is_tight packed lanes.count) lanes.scalar lanes.count),
+    )
 
 module _ (dl : TargetDataLayout) (law : IsLawfulDataLayout dl) where
   -- what an answer is where it is no refusal
@@ -198,9 +199,11 @@ module _ (dl : TargetDataLayout) (law : IsLawfulDataLayout dl) where
       let fits = fitted (nat_lt (pair_size dl a b) (size_bound dl)) (two_scalars dl a b) p SizeOverflow two.1 in
       let la = faultless dl a one.0 in
       let lb = faultless dl b two.0 in
-      subst (IsWhole dl) (sym fits.1)
-      (pair_lawful_at 0 0 1 dl a b (pair_layout 0 0 1 dl a b) (lawful_readable dl a la) (lawful_readable dl b lb) law la lb
-      (ltb-true (pair_size dl a b) (size_bound dl) fits.0) refl, refl)
+      subst (IsWhole dl) (sym fits.1) (
+        pair_lawful_at 0 0 1 dl a b (pair_layout 0 0 1 dl a b) (lawful_readable dl a la) (lawful_readable dl b lb) law la lb
+            (ltb-true (pair_size dl a b) (size_bound dl) fits.0) refl,
+        refl,
+      )
 
   whole_never : IsWhole dl (placed_never (never_layout dl))
   whole_never = (empty_lawful dl true (never_layout dl) law refl refl refl refl tt, refl)
@@ -236,12 +239,13 @@ module _ (dl : TargetDataLayout) (law : IsLawfulDataLayout dl) where
       let small : align_of list parts ≤ 29 = align_small list parts (length parts) (size_bound dl) (asked_aligned dl ps h) lawful in
       let last : ℕ = end_from list.pack (start_of list.pack list.kind) (in_order parts listed.0) in
       let size : layout.size ≡ next_multiple_of last (2 ^ layout.align.abi) = made.placed.extent ∙ ap (λ a. next_multiple_of last (2 ^ a)) (sym made.placed.alignment) in
-      let below : size_in list parts listed.0 < size_bound dl = (clear_of list (size_bound dl) parts listed.0 made.placed.faultless).1 in
-      (made_lawful dl layout 0 last layout.align.abi (is_abi_fixed repr) parts listed.1 (asked_lawful dl ps h) refl (omega (arith, made.placed.alignment, small)) size
-      (omega (arith, below, made.placed.extent))
-      (biased_inside dl list parts listed.0 listed.1 layout.size layout.align.abi layout.largest_niche (asked_lawful dl ps h) some made)
-      (biased_index dl list parts listed.0 listed.1 layout.size layout.align.abi layout.largest_niche some made) listed.2.view listed.2.variants,
-      rw listed.2.view (view_sized dl (is_abi_fixed repr) layout.size layout.align.abi (map layout_of ps) listed.1 (asked_sized dl ps h)))
+      let below : size_in list parts listed.0 < size_bound dl = (clear_of list (size_bound dl) parts listed.0 made.placed.faultless).1 in (
+        made_lawful dl layout 0 last layout.align.abi (is_abi_fixed repr) parts listed.1 (asked_lawful dl ps h) refl (omega (arith, made.placed.alignment, small)) size
+            (omega (arith, below, made.placed.extent))
+            (biased_inside dl list parts listed.0 listed.1 layout.size layout.align.abi layout.largest_niche (asked_lawful dl ps h) some made)
+            (biased_index dl list parts listed.0 listed.1 layout.size layout.align.abi layout.largest_niche some made) listed.2.view listed.2.variants,
+        rw listed.2.view (view_sized dl (is_abi_fixed repr) layout.size layout.align.abi (map layout_of ps) listed.1 (asked_sized dl ps h)),
+      )
 
   -- the answer to fields whose own fault is this, laid out by this relation and put together so
   abbrev AnswersBy : Option LayError → (Result Layout LayError → Type 0) → (Layout → Placed) → Result Placed LayError → Type 0
@@ -270,10 +274,11 @@ module _ (dl : TargetDataLayout) (law : IsLawfulDataLayout dl) where
       let unfaulted : sized_fault {H = Layout} dl repr (map (λ (l : Layout). l) ls) ≡ None = later_none (first_unsized (λ (l : Layout). l) ls) (sized_fault dl repr (map (λ (l : Layout). l) ls)) united.0 in
       let below : nat_lt (union_size dl repr ls) (size_bound dl) ≡ true =
       subst (λ xs. nat_lt (union_size dl repr xs) (size_bound dl) ≡ true) (map-id ls) (fault_none (length (map (λ (l : Layout). l) ls) == 0) _ calculator.EmptyUnion calculator.SizeOverflow unfaulted) in
-      let size : layout.size ≡ union_size dl repr ls = ap (λ l. l.size) made.1 in
-      (union_is_lawful layout_of dl repr ps layout 0 law (whole_lawful dl ps h) (faultless_aligns repr ps none).align (ap (λ l. l.align.abi) made.1) size
-      (omega (arith, size, ltb-true (union_size dl repr ls) (size_bound dl) below)) (ap (λ l. l.largest_niche) made.1) (ap (λ l. l.variants) made.1) made.0,
-      union_sized dl repr ls layout.backend_repr made.0)
+      let size : layout.size ≡ union_size dl repr ls = ap (λ l. l.size) made.1 in (
+        union_is_lawful layout_of dl repr ps layout 0 law (whole_lawful dl ps h) (faultless_aligns repr ps none).align (ap (λ l. l.align.abi) made.1) size
+            (omega (arith, size, ltb-true (union_size dl repr ls) (size_bound dl) below)) (ap (λ l. l.largest_niche) made.1) (ap (λ l. l.variants) made.1) made.0,
+        union_sized dl repr ls layout.backend_repr made.0,
+      )
 
   pub placed_back : (make : Layout → Placed) (r : Result Layout LayError) (p : Placed) → Ok p ≡ placed_by make r → (layout : Layout) × (r ≡ Ok layout) × (make layout ≡ p)
   placed_back make (Ok layout) p e = (layout, refl, cc)

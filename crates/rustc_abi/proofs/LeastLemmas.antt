@@ -188,9 +188,11 @@ module _ (dl : TargetDataLayout) (law : IsLawfulDataLayout dl) where
     where
       last : Result Placed LayError
       last = if nat_lt (pair_size dl a b) (size_bound dl) then Ok (two_scalars dl a b) else Err SizeOverflow
+
       second : scalar_fault dl a ≡ None → (scalar_fault dl b ≡ Some SizeOverflow) ⊎ ((scalar_fault dl b ≡ None) × (Err SizeOverflow ≡ last)) → IsTooLarge dl (pair a b)
       second fa (inl f) = absurd (not_scalar (is_lawful_primitive dl (primitive_of b)) (has_range_within dl b) f)
       second fa (inr f) = (fa, f.0, ltb-false (pair_size dl a b) (size_bound dl) (unfit (nat_lt (pair_size dl a b) (size_bound dl)) (two_scalars dl a b) f.1))
+
       first : (scalar_fault dl a ≡ Some SizeOverflow) ⊎ ((scalar_fault dl a ≡ None) × (Err SizeOverflow ≡ unless (scalar_fault dl b) last)) → IsTooLarge dl (pair a b)
       first (inl f) = absurd (not_scalar (is_lawful_primitive dl (primitive_of a)) (has_range_within dl a) f)
       first (inr f) = second f.0 (refused_by (scalar_fault dl b) last f.1)
@@ -220,9 +222,10 @@ module _ (dl : TargetDataLayout) (law : IsLawfulDataLayout dl) where
       let same : placed_fields ps layout ≡ p = cc in
       let whole = all_whole dl law all ps there in
       let count = listed_count dl repr always_sized ps whole layout listed in
-      subst (HasLeastStructs dl (struct repr always_sized all)) same
-      (subst (λ qs. IsLeastSize dl repr always_sized qs layout.size) (sym (fields_at (offsets_of layout.fields) ps count)) (listed_least dl repr always_sized ps whole layout listed),
-      each (offsets_of layout.fields) count)
+      subst (HasLeastStructs dl (struct repr always_sized all)) same (
+        subst (λ qs. IsLeastSize dl repr always_sized qs layout.size) (sym (fields_at (offsets_of layout.fields) ps count)) (listed_least dl repr always_sized ps whole layout listed),
+        each (offsets_of layout.fields) count,
+      )
   least_fields (Some f) repr always_sized all ps p there each e = absurd (cc)
 
   least_union : (fault : Option LayError) (repr : ReprOptions) (all : Trees) (ps : List Placed) (p : Placed) → HaveLeastStructs dl all (parts_at_0 ps)

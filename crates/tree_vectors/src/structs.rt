@@ -1,12 +1,13 @@
 //! The layouts of structs of every repr: offsets, order in memory, sizes, padding, niches.
 
-use crate::made::{Known, as_in_c, check_fields, run, unsigned};
+use crate::made::{Known, check_fields};
 use abi_base::{Align, Integer, Primitive, Size, TargetDataLayout};
 use abi_index::Hash64;
 use abi_scalar::{ReprFlags, ReprOptions, Scalar, WrappingRange};
 use rustc_abi::{TypeTree, lay_out};
 use std::alloc::Global;
 use std::test::Fail;
+use tree_samples::{as_in_c, run, unsigned};
 
 /// A byte, a number of 4 bytes and one of 2.
 fn three(alloc: Global, repr: ReprOptions, always_sized: bool) -> Result<TypeTree, Fail> {

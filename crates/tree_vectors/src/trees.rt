@@ -1,11 +1,12 @@
 //! The layouts of integers, of arrays and of fields as in C: sizes, alignments, offsets, padding.
 
-use crate::made::{Known, array, check_elements, check_fields, list, run, signed, unsigned};
+use crate::made::{Known, check_elements, check_fields};
 use abi_base::{AbiAlign, Align, Endian, Integer, Size, TargetDataLayout};
 use abi_index::{FieldIdx, Hash64, Idx, IndexVec, VariantIdx};
 use abi_scalar::{BackendRepr, FieldsShape, LayoutData, Variants};
 use rustc_abi::{LayError, lay_out};
 use std::test::Fail;
+use tree_samples::{array, list, run, signed, unsigned};
 
 #[test]
 fn integers_are_as_wide_as_their_names_say(rt: HostRuntime) -> Result<(), Fail> {

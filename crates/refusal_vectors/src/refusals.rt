@@ -1,12 +1,12 @@
 //! Types that are refused, and for what: those that aren't laid out yet, the first fault of several, unlawful data layouts.
 
-use crate::made::{array, as_in_c, list, unsigned};
 use abi_base::{AddressSpace, Align, Float, Integer, Primitive, Size, TargetDataLayout};
 use abi_scalar::{ReprOptions, Scalar, WrappingRange};
 use rustc_abi::{LayError, TypeTree, lay_out};
 use std::alloc::Global;
 use std::process::Abort;
 use std::test::Fail;
+use tree_samples::{array, as_in_c, list, unsigned};
 
 /// Asserts that no tree has a layout under the default data layout, and that each is refused for this.
 fn check(rt: &impl Abort, alloc: Global, trees: &[TypeTree], wanted: LayError) -> Result<(), Fail> {
@@ -20,7 +20,7 @@ fn check(rt: &impl Abort, alloc: Global, trees: &[TypeTree], wanted: LayError) -
 
 /// An array of one byte too many.
 fn too_large(alloc: Global) -> Result<TypeTree, Fail> {
-    array(alloc, 2_305_843_009_213_693_952, unsigned(Integer::I8))
+    Ok(array(alloc, 2_305_843_009_213_693_952, unsigned(Integer::I8))?)
 }
 
 /// A scalar that is a number from `start` to `end`.

@@ -1,11 +1,11 @@
 //! What views of types tell, and layouts.
 
-use crate::made::{array, list, unsigned};
 use abi_base::{Align, Integer, NumScalableVectors, Primitive, Size, TargetDataLayout};
 use abi_index::{FieldIdx, VariantIdx};
 use abi_scalar::{BackendLaneCount, BackendRepr, LayoutData, Scalar, WrappingRange};
 use rustc_abi::lay_out;
 use std::test::Fail;
+use tree_samples::{array, list, unsigned};
 
 /// A byte that is 0 or 1.
 const TRUTH: Scalar = Scalar::Initialized {

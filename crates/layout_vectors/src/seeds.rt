@@ -1,12 +1,12 @@
 //! The hashes of types, that seed shuffles of fields: sums that wrap.
 
-use crate::made::{array, as_in_c, list, signed, unsigned};
 use abi_base::{Integer, TargetDataLayout};
 use abi_index::Hash64;
 use abi_scalar::ReprOptions;
 use rustc_abi::{TypeTree, lay_out};
 use std::alloc::Global;
 use std::test::Fail;
+use tree_samples::{array, as_in_c, list, signed, unsigned};
 
 /// Fields as in C, with a seed of their own.
 fn seeded(seed: u64, fields: Vec<TypeTree>) -> TypeTree {

@@ -1,6 +1,5 @@
 //! The layouts of unions and vectors: sizes, alignments, views, padding, refusals.
 
-use crate::made::{array, as_in_c, list, run, unsigned};
 use abi_base::{AbiAlign, AddressSpace, Align, Integer, Primitive, Size, TargetDataLayout};
 use abi_index::{FieldIdx, Hash64, Idx, IndexVec, VariantIdx};
 use abi_scalar::{
@@ -11,6 +10,7 @@ use rustc_abi::{LayError, Run, TypeTree, lay_out};
 use std::alloc::Global;
 use std::process::Abort;
 use std::test::Fail;
+use tree_samples::{array, as_in_c, list, run, unsigned};
 
 /// An alignment of so many bytes.
 fn align(bytes: u64) -> Option<Align> {

@@ -1,6 +1,5 @@
 //! The whole layouts of scalars, of pairs, of types without bytes, and of what has them as parts.
 
-use crate::made::{array, list, run, unsigned};
 use abi_base::{AbiAlign, Align, Integer, Primitive, Size, TargetDataLayout};
 use abi_index::{FieldIdx, Hash64, Idx, IndexVec, VariantIdx};
 use abi_scalar::{BackendRepr, FieldsShape, LayoutData, Niche, Scalar, Variants, WrappingRange};
@@ -8,6 +7,7 @@ use rustc_abi::{Run, TypeTree, lay_out};
 use std::alloc::Global;
 use std::process::Abort;
 use std::test::Fail;
+use tree_samples::{array, list, run, unsigned};
 
 type Layout = LayoutData<FieldIdx, VariantIdx>;
 
