@@ -18,7 +18,7 @@ use std::test::Fail;
 pub type Laid = LayoutData<FieldIdx, VariantIdx>;
 
 /// The unsigned integer whose greatest number this is.
-pub fn unsigned(dl: &TargetDataLayout, integer: Integer, greatest: u128) -> Laid
+pub(crate) fn unsigned(dl: &TargetDataLayout, integer: Integer, greatest: u128) -> Laid
     requires lawful { IsLawfulDataLayout dl.now }
     requires fits { greatest < numbers_of (integer_size integer) }
     ensures { IsLawfulLayout dl.now result }
@@ -36,7 +36,7 @@ pub fn unsigned(dl: &TargetDataLayout, integer: Integer, greatest: u128) -> Laid
 }
 
 /// Whether each of these is lawful.
-pub fn are_lawful(dl: &TargetDataLayout, layouts: &[&Laid]) -> bool
+pub(crate) fn are_lawful(dl: &TargetDataLayout, layouts: &[&Laid]) -> bool
     requires { IsLawfulDataLayout dl.now }
     ensures { IsTrue result → All (λ layout. IsLawfulLayout dl.now layout.now) layouts.now }
 {
@@ -49,7 +49,7 @@ pub fn are_lawful(dl: &TargetDataLayout, layouts: &[&Laid]) -> bool
 }
 
 /// Whether a list of so many fields may be of this kind.
-pub fn is_lawful_kind(dl: &TargetDataLayout, kind: &StructKind, count: usize) -> bool
+pub(crate) fn is_lawful_kind(dl: &TargetDataLayout, kind: &StructKind, count: usize) -> bool
     requires { IsLawfulDataLayout dl.now }
     ensures prefix { IsTrue result → IsLawfulPrefix kind.now (size_bound dl.now) }
     ensures tail { IsTrue result → IsNonEmptyIfUnsized kind.now count }
@@ -64,7 +64,7 @@ pub fn is_lawful_kind(dl: &TargetDataLayout, kind: &StructKind, count: usize) ->
 }
 
 /// Whether the alignment, if there is one, is within the limit.
-pub fn is_lawful_align(align: Option<Align>) -> bool
+pub(crate) fn is_lawful_align(align: Option<Align>) -> bool
     ensures { IsTrue result → IfSome align (λ a. a ≤ 29) }
 {
     match align {
@@ -74,7 +74,7 @@ pub fn is_lawful_align(align: Option<Align>) -> bool
 }
 
 /// The list of these, where what a list asks is met; `EmptyUnion` where it isn't.
-pub fn laid(
+pub(crate) fn laid(
     alloc: Global,
     dl: &TargetDataLayout,
     fields: &[&Laid],
@@ -98,7 +98,7 @@ pub fn laid(
 }
 
 /// Asks for these flags alone.
-pub fn flagged(flags: ReprFlags) -> ReprOptions {
+pub(crate) fn flagged(flags: ReprFlags) -> ReprOptions {
     ReprOptions {
         int: None,
         align: None,
@@ -118,7 +118,7 @@ fn list_of(alloc: Global, dl: &TargetDataLayout, fields: &[&Laid]) -> Option<Lai
 }
 
 /// Whether the list's fields lie at these offsets, and it has this size and alignment.
-pub fn lies(
+pub(crate) fn lies(
     list: &Result<Laid, LayoutCalculatorError<()>>,
     offsets: &[u64],
     size: u64,
@@ -154,7 +154,7 @@ fn has_offsets(list: &Laid, wanted: &[u64]) -> bool {
 }
 
 /// So many of these, one after another.
-pub fn array(dl: &TargetDataLayout, element: &Laid, count: u64) -> Option<Laid>
+pub(crate) fn array(dl: &TargetDataLayout, element: &Laid, count: u64) -> Option<Laid>
     requires lawful { IsLawfulDataLayout dl.now }
     requires element { IsLawfulLayout dl.now element.now }
 {
