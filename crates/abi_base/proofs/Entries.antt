@@ -1,7 +1,7 @@
 -- Entries replaced, or added last.
 use Rattle.std.proofs.Common.{◌≡◌, ℕ, zero, suc, ◌<◌, List, [], ◌∷◌, ◌++◌, length, take, drop, get_or, Bool, true, refl, ap, arith}
 use Rattle.std.specs.Prelude.{slice_set}
-use Rattle.abi_base.specs.DataLayoutText.{put_entry}
+use Rattle.abi_base.specs.KeyedList.{put_entry}
 
 -- an entry of the key
 pub put_set : {K V : Type 0} (same : K → K → Bool) (key : K) (value : V) (xs : List (K × V)) (i : ℕ) (d : K × V) → i < length xs → same (get_or xs i d).0 key ≡ true

@@ -8,8 +8,9 @@ use Rattle.abi_base.specs.declared.address_space.AddressSpace.{AddressSpace}
 use Rattle.abi_base.specs.declared.pointer_spec.PointerSpec.{PointerSpec}
 use Rattle.abi_base.specs.declared.setting.Setting.{Setting}
 use Rattle.abi_base.specs.declared.setting.Setting.TheVariants.{Order, Instructions, Aligned, Pointer, Integer, Vector, Nothing}
-use Rattle.abi_base.specs.DataLayout.{entry_of, listed_align}
-use Rattle.abi_base.specs.DataLayoutText.{last_of, put_entry, put_space, put_vector, same_space, spaces_after, vectors_after, wide_bits, wider, widest}
+use Rattle.abi_base.specs.DataLayout.{entry_of, listed_align, same_space}
+use Rattle.abi_base.specs.DataLayoutText.{last_of, put_space, put_vector, spaces_after, vectors_after, wide_bits, wider, widest}
+use Rattle.abi_base.specs.KeyedList.{value_of, put_entry}
 use Rattle.abi_base.proofs.Settings.{wider_is, wider_least}
 
 -- where no setting says anything, the default stays
@@ -22,29 +23,25 @@ pub last_says : {A : Type 0} (says : Setting → Option A) (earlier later : List
 last_says says [] later s x d e h = ap (λ o. last_of says later (unwrap_or o d)) e ∙ none_says says later x h
 last_says says (t ∷ earlier) later s x d e h = last_says says earlier later s x (unwrap_or (says t) d) e h
 
-abbrev look : {K V : Type 0} → (K → K → Bool) → K → List (K × V) → Option V
-look same k [] = None
-look same k (e ∷ entries) = if same e.0 k then Some e.1 else look same k entries
-
 module _ {K V : Type 0} (same : K → K → Bool) (like : (a b c : K) → same a b ≡ true → same a c ≡ same b c) (meet : (a b c : K) → same a c ≡ true → same b c ≡ true → same a b ≡ true) (key k : K) (value : V) where
-  replaced : (e : K × V) (entries : List (K × V)) (t : Bool) → same key k ≡ t → same e.0 key ≡ true → (if same key k then Some value else look same k entries) ≡ (if same key k then Some value else look same k (e ∷ entries))
+  replaced : (e : K × V) (entries : List (K × V)) (t : Bool) → same key k ≡ t → same e.0 key ≡ true → (if same key k then Some value else value_of same entries k) ≡ (if same key k then Some value else value_of same (e ∷ entries) k)
   replaced e entries true t h = rw t refl
   replaced e entries false t h = let other : same e.0 k ≡ false = like e.0 key k h ∙ t in rw (t, other) refl
 
-  kept : (e : K × V) (entries : List (K × V)) (t u : Bool) → same key k ≡ t → same e.0 k ≡ u → same e.0 key ≡ false → look same k (put_entry same key value entries) ≡ (if same key k then Some value else look same k entries)
-      → look same k (e ∷ put_entry same key value entries) ≡ (if same key k then Some value else look same k (e ∷ entries))
+  kept : (e : K × V) (entries : List (K × V)) (t u : Bool) → same key k ≡ t → same e.0 k ≡ u → same e.0 key ≡ false → value_of same (put_entry same key value entries) k ≡ (if same key k then Some value else value_of same entries k)
+      → value_of same (e ∷ put_entry same key value entries) k ≡ (if same key k then Some value else value_of same (e ∷ entries) k)
   kept e entries true true t u h later = let yes : same e.0 key ≡ true = meet e.0 key k u t in (cc)
   kept e entries false true t u h later = rw (t, u) refl
   kept e entries true false t u h later = rw u later
   kept e entries false false t u h later = rw u later
 
-  put_at : (e : K × V) (entries : List (K × V)) (t : Bool) → same e.0 key ≡ t → look same k (put_entry same key value entries) ≡ (if same key k then Some value else look same k entries)
-      → look same k (if same e.0 key then (key, value) ∷ entries else e ∷ put_entry same key value entries) ≡ (if same key k then Some value else look same k (e ∷ entries))
+  put_at : (e : K × V) (entries : List (K × V)) (t : Bool) → same e.0 key ≡ t → value_of same (put_entry same key value entries) k ≡ (if same key k then Some value else value_of same entries k)
+      → value_of same (if same e.0 key then (key, value) ∷ entries else e ∷ put_entry same key value entries) k ≡ (if same key k then Some value else value_of same (e ∷ entries) k)
   put_at e entries true t later = rw t (replaced e entries (same key k) refl t)
   put_at e entries false t later = rw t (kept e entries (same key k) (same e.0 k) refl refl t later)
 
   -- what is found after an entry was put in
-  put_look : (entries : List (K × V)) → look same k (put_entry same key value entries) ≡ (if same key k then Some value else look same k entries)
+  put_look : (entries : List (K × V)) → value_of same (put_entry same key value entries) k ≡ (if same key k then Some value else value_of same entries k)
   put_look [] = refl
   put_look (e ∷ entries) = put_at e entries (same e.0 key) refl (put_look entries)
 
@@ -58,14 +55,6 @@ nat_like a b c h = let e : a ≡ b = grind (arith, nat_tests) in ap (λ n. nat_e
 nat_meet : (a b c : ℕ) → nat_eq a c ≡ true → nat_eq b c ≡ true → nat_eq a b ≡ true
 nat_meet a b c h k = grind (arith, nat_tests)
 
-look_listed : (size : ℕ) (entries : List (ℕ × ℕ)) → listed_align entries size ≡ look nat_eq size entries
-look_listed size [] = refl
-look_listed size (e ∷ entries) = ap (λ o. if nat_eq e.0 size then Some e.1 else o) (look_listed size entries)
-
-look_entry : (space : AddressSpace) (entries : List (AddressSpace × PointerSpec)) → entry_of entries space ≡ look same_space space entries
-look_entry space [] = refl
-look_entry space (e ∷ entries) = ap (λ o. if same_space e.0 space then Some e.1 else o) (look_entry space entries)
-
 -- the alignment that is set for vectors of the size
 abbrev pub vector_said : (size : ℕ) → Setting → Option (Option ℕ)
 vector_said size (Vector named align) = if nat_eq named size then Some (Some align) else None
@@ -78,8 +67,7 @@ pointers_said space _ = None
 
 put_listed : (size named align : ℕ) (entries : List (ℕ × ℕ)) → listed_align (put_vector named align entries) size ≡ unwrap_or (if nat_eq named size then Some (Some align) else None) (listed_align entries size)
 put_listed size named align entries =
-    look_listed size (put_vector named align entries) ∙ put_look nat_eq nat_like nat_meet named size align entries
-    ∙ ap (λ o. if nat_eq named size then Some align else o) (sym (look_listed size entries)) ∙ said_at (nat_eq named size) align (listed_align entries size)
+    put_look nat_eq nat_like nat_meet named size align entries ∙ said_at (nat_eq named size) align (listed_align entries size)
 
 -- the alignment of vectors of a size is that of the last spec of that size, or as it was
 pub vector_listed : (size : ℕ) (entries : List (ℕ × ℕ)) (ss : List Setting) → listed_align (vectors_after entries ss) size ≡ last_of (vector_said size) ss (listed_align entries size)
@@ -94,8 +82,8 @@ vector_listed size entries (Nothing ∷ ss) = vector_listed size entries ss
 
 put_entered : (space named : AddressSpace) (spec : PointerSpec) (entries : List (AddressSpace × PointerSpec)) → entry_of (put_space named spec entries) space ≡ unwrap_or (if same_space named space then Some (Some spec) else None) (entry_of entries space)
 put_entered space named spec entries =
-    look_entry space (put_space named spec entries) ∙ put_look same_space (λ a b c. nat_like a.0 b.0 c.0) (λ a b c. nat_meet a.0 b.0 c.0) named space spec entries
-    ∙ ap (λ o. if same_space named space then Some spec else o) (sym (look_entry space entries)) ∙ said_at (same_space named space) spec (entry_of entries space)
+    put_look same_space (λ a b c. nat_like a.0 b.0 c.0) (λ a b c. nat_meet a.0 b.0 c.0) named space spec entries
+    ∙ said_at (same_space named space) spec (entry_of entries space)
 
 default_at : (space default named : AddressSpace) (spec : PointerSpec) (entries : List (AddressSpace × PointerSpec)) (t : Bool) → same_space space default ≡ false → same_space named default ≡ t
     → entry_of (if same_space named default then entries else put_space named spec entries) space ≡ unwrap_or (if same_space named space then Some (Some spec) else None) (entry_of entries space)

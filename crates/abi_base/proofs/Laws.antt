@@ -9,6 +9,7 @@ use Rattle.abi_base.specs.declared.integer.Integer.TheVariants.{I8, I16, I32, I6
 use Rattle.abi_base.specs.declared.float.Float.{Float}
 use Rattle.abi_base.specs.declared.float.Float.TheVariants.{F16, F16B, F32, F64, F128, PpcF128}
 use Rattle.abi_base.specs.declared.data_layout.TargetDataLayout.{TargetDataLayout}
+use Rattle.abi_base.specs.Align.{max_exponent}
 use Rattle.abi_base.specs.Integer.{integer_size, integer_align}
 use Rattle.abi_base.specs.Float.{float_size, float_align}
 use Rattle.abi_base.specs.DataLayout.{IsLawfulDataLayout, HasLawfulDefault, alignments_of, default_data_layout, IsLawfulSpec}
@@ -38,7 +39,7 @@ pub each_float : (dl : TargetDataLayout) (b : Bool) → (IsTrue b ↔ (2 ^ dl.f1
 each_float dl b h = (λ t. float_of dl (h.0 t), λ all. h.1 (all F16, all F32, all F64, all F128))
 
 -- the laws part by part
-pub in_parts : (dl : TargetDataLayout) (b : Bool) → (IsTrue b ↔ ((i : Integer) → 2 ^ integer_align dl i ∣ integer_size i) × ((f : Float) → 2 ^ float_align dl f ∣ float_size f) × HasLawfulDefault dl × All (λ a. a ≤ 29) (alignments_of dl)) → (IsTrue b ↔ IsLawfulDataLayout dl)
+pub in_parts : (dl : TargetDataLayout) (b : Bool) → (IsTrue b ↔ ((i : Integer) → 2 ^ integer_align dl i ∣ integer_size i) × ((f : Float) → 2 ^ float_align dl f ∣ float_size f) × HasLawfulDefault dl × All (λ a. a ≤ max_exponent) (alignments_of dl)) → (IsTrue b ↔ IsLawfulDataLayout dl)
 in_parts dl b h = (
   λ t. record { integers = (h.0 t).0; floats = (h.0 t).1; pointer = (h.0 t).2.0; index = (h.0 t).2.1; pointer_fits = (h.0 t).2.2; limit = (h.0 t).3 },
   λ l. h.1 (l.integers, l.floats, (l.pointer, l.index, l.pointer_fits), l.limit),
@@ -52,7 +53,7 @@ lawful_default = record {
   pointer = inr (inr refl);
   index = inr (inr refl);
   pointer_fits = dvd_of_mod-eq-zero 8 refl;
-  limit = All-from_recursion (λ a. a ≤ 29) (alignments_of default_data_layout) (search rules);
+  limit = All-from_recursion (λ a. a ≤ max_exponent) (alignments_of default_data_layout) (search rules);
 }
 
 pub when_default : {E : Type 0} (r : Result TargetDataLayout E) → IfOk r (λ dl. dl ≡ default_data_layout) → IfOk r IsLawfulDataLayout

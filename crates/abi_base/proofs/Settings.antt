@@ -7,7 +7,8 @@ use Rattle.abi_base.specs.declared.pointer_spec.PointerSpec.{PointerSpec}
 use Rattle.abi_base.specs.declared.setting.Setting.{Setting}
 use Rattle.abi_base.specs.declared.setting.Setting.TheVariants.{Order, Instructions, Aligned, Pointer, Integer, Vector, Nothing}
 use Rattle.abi_base.specs.declared.data_layout.TargetDataLayout.{TargetDataLayout}
-use Rattle.abi_base.specs.DataLayoutText.{integer_set, last_of, pointers_set, put_space, put_vector, same_space, spaces_after, wide_bits, wider, widest, with_settings}
+use Rattle.abi_base.specs.DataLayout.{same_space}
+use Rattle.abi_base.specs.DataLayoutText.{integer_set, last_of, pointers_set, put_space, put_vector, spaces_after, wide_bits, wider, widest, with_settings}
 use Rattle.abi_base.specs.Setting.{IsWide, with_integer}
 
 pub wider_least : (o : Option ℕ) (n : ℕ) → n ≤ wider o n

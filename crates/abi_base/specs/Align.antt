@@ -9,13 +9,17 @@ use Rattle.abi_base.specs.declared.align.AlignFromBytesError.TheVariants.{NotPow
 abbrev pub factor_exponent : ℕ → ℕ
 factor_exponent bytes = trailing_zeros w64 bytes
 
+-- the exponent of the greatest alignment that a type can ask for
+abbrev pub max_exponent : ℕ
+max_exponent = 29
+
 -- the exponent of an alignment of so many bytes, 0 bytes read as 1, or why there is none
 abbrev pub align_of_bytes : ℕ → Result ℕ AlignFromBytesError
 align_of_bytes bytes =
     if bytes == 0 then Ok 0
     else (
     if 2 ^ factor_exponent bytes == bytes
-    then (if nat_lt 29 (factor_exponent bytes) then Err (TooLarge bytes) else Ok (factor_exponent bytes))
+    then (if nat_lt max_exponent (factor_exponent bytes) then Err (TooLarge bytes) else Ok (factor_exponent bytes))
     else Err (NotPowerOfTwo bytes)
     )
 

@@ -1,9 +1,8 @@
 -- What a data layout says, and when its types have layouts at all.
-use Rattle.std.specs.Prelude.{◌≡◌, ℕ, ◌^◌, ◌≤◌, ◌⊎◌, ◌==◌, List, [], ◌∷◌, ◌++◌, All, Option, Some, None, Bool, false, map, IsSome, if◌then◌else◌, unwrap_or}
+use Rattle.std.specs.Prelude.{◌≡◌, ℕ, ◌^◌, ◌≤◌, ◌⊎◌, ◌==◌, List, [], ◌∷◌, ◌++◌, All, Option, Some, Bool, false, map, IsSome, if◌then◌else◌, unwrap_or}
 use Rattle.std.specs.Int.{◌∣◌}
-use Rattle.std.specs.Ordering.{on, eq_of_both}
+use Rattle.std.specs.Ordering.{on}
 use Rattle.std.specs.Prelude.{nat_eq}
-use Rattle.std.proofs.Math.Bool.{beq}
 use Rattle.abi_base.specs.declared.address_space.AddressSpace.{AddressSpace}
 use Rattle.abi_base.specs.declared.pointer_spec.PointerSpec.{PointerSpec}
 use Rattle.abi_base.specs.declared.data_layout.TargetDataLayout.{TargetDataLayout}
@@ -11,14 +10,18 @@ use Rattle.abi_base.specs.declared.integer.Integer.{Integer}
 use Rattle.abi_base.specs.declared.integer.Integer.TheVariants.{I16, I32, I64}
 use Rattle.abi_base.specs.declared.endian.Endian.TheVariants.{Big}
 use Rattle.abi_base.specs.declared.float.Float.{Float}
-use Rattle.abi_base.specs.Align.{next_exponent}
+use Rattle.abi_base.specs.Align.{max_exponent, next_exponent}
+use Rattle.abi_base.specs.KeyedList.{value_of}
 use Rattle.abi_base.specs.Integer.{integer_size, integer_align}
 use Rattle.abi_base.specs.Float.{float_size, float_align}
 
--- the entry of a space other than the default one, if there is one: the first of its number
+-- the same space
+abbrev pub same_space : AddressSpace → AddressSpace → Bool
+same_space = on (λ space. space.0) nat_eq
+
+-- the entry of a space other than the default one, if there is one
 abbrev pub entry_of : List (AddressSpace × PointerSpec) → AddressSpace → Option PointerSpec
-entry_of [] space = None
-entry_of (e ∷ entries) space = if e.0.0 == space.0 then Some e.1 else entry_of entries space
+entry_of entries space = value_of same_space entries space
 
 -- how the pointers of a space are represented, if the data layout knows it
 abbrev pub known_spec : TargetDataLayout → AddressSpace → Option PointerSpec
@@ -51,26 +54,13 @@ IsPointerWidth bytes = (bytes ≡ 2) ⊎ (bytes ≡ 4) ⊎ (bytes ≡ 8)
 abbrev pub index_integer : ℕ → Integer
 index_integer bytes = if bytes == 2 then I16 else (if bytes == 4 then I32 else I64)
 
--- the listed alignment of vectors of a size: the first of that size
+-- the listed alignment of vectors of a size
 abbrev pub listed_align : List (ℕ × ℕ) → ℕ → Option ℕ
-listed_align [] size = None
-listed_align (e ∷ entries) size = if e.0 == size then Some e.1 else listed_align entries size
+listed_align entries size = value_of nat_eq entries size
 
 -- the alignment of vectors of a size: the listed one, else the next power of two
 abbrev pub vector_align_of : TargetDataLayout → ℕ → ℕ
 vector_align_of dl size = unwrap_or (listed_align dl.vector_align size) (next_exponent size)
-
--- the same size and alignment
-abbrev pub same_vector : ℕ × ℕ → ℕ × ℕ → Bool
-same_vector = eq_of_both (on (λ e. e.0) nat_eq) (on (λ e. e.1) nat_eq)
-
--- pointers represented in the same way, fat ones among them
-abbrev pub same_spec : PointerSpec → PointerSpec → Bool
-same_spec = eq_of_both (eq_of_both (eq_of_both (on (λ p. p.pointer_size) nat_eq) (on (λ p. p.pointer_align) nat_eq)) (on (λ p. p.pointer_offset) nat_eq)) (on (λ p. p.is_fat) beq)
-
--- the same space, with pointers represented in the same way
-abbrev pub same_entry : AddressSpace × PointerSpec → AddressSpace × PointerSpec → Bool
-same_entry = eq_of_both (on (λ e. e.0.0) nat_eq) (on (λ e. e.1) same_spec)
 
 -- each alignment of a scalar or a list of fields, as an exponent of two
 abbrev pub scalar_alignments_of : TargetDataLayout → List ℕ
@@ -106,7 +96,7 @@ pub record IsLawfulDataLayout (dl : TargetDataLayout) : Type 0 where
   -- their size is a multiple of their alignment
   pub pointer_fits : 2 ^ dl.default_address_space_pointer_spec.pointer_align ∣ dl.default_address_space_pointer_spec.pointer_size
   -- no alignment is above 2 ^ 29 bytes
-  pub limit : All (λ a. a ≤ 29) (alignments_of dl)
+  pub limit : All (λ a. a ≤ max_exponent) (alignments_of dl)
 
 -- a lawful pointer has 1 to 16 bytes, a multiple of its alignment
 pub record IsLawfulSpec (spec : PointerSpec) : Type 0 where

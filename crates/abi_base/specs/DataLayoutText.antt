@@ -1,6 +1,5 @@
 -- What a data layout string means: the data layout that its specs make together.
 use Rattle.std.specs.Prelude.{ℕ, ◌==◌, ◌&&◌, Bool, true, false, List, [], ◌∷◌, ◌++◌, max, nat_eq, nat_le, Option, Some, None, is_some, unwrap_or, Result, Ok, if◌then◌else◌}
-use Rattle.std.specs.Ordering.{on}
 use Rattle.abi_base.specs.declared.address_space.AddressSpace.{AddressSpace}
 use Rattle.abi_base.specs.declared.pointer_spec.PointerSpec.{PointerSpec}
 use Rattle.abi_base.specs.declared.data_layout.TargetDataLayout.{TargetDataLayout}
@@ -9,7 +8,8 @@ use Rattle.abi_base.specs.declared.setting.AlignedWord.{AlignedWord}
 use Rattle.abi_base.specs.declared.setting.AlignedWord.TheVariants.{Aggregate, F16, F32, F64, F128}
 use Rattle.abi_base.specs.declared.setting.Setting.{Setting}
 use Rattle.abi_base.specs.declared.setting.Setting.TheVariants.{Order, Instructions, Aligned, Pointer, Integer, Vector}
-use Rattle.abi_base.specs.DataLayout.{default_data_layout, known_spec}
+use Rattle.abi_base.specs.KeyedList.{put_entry}
+use Rattle.abi_base.specs.DataLayout.{default_data_layout, known_spec, same_space}
 use Rattle.abi_base.specs.DataLayoutFault.{Fault}
 use Rattle.abi_base.specs.DataLayoutSpec.{◌>>=◌, parts_of, settings_of}
 
@@ -61,19 +61,10 @@ abbrev pub widest : (least : ℕ) → List Setting → ℕ
 widest least [] = least
 widest least (s ∷ ss) = wider (wide_bits s) (widest least ss)
 
--- the same space
-abbrev pub same_space : AddressSpace → AddressSpace → Bool
-same_space = on (λ space. space.0) nat_eq
-
 -- how the pointers of the space are set
 abbrev pub pointers_set : AddressSpace → Setting → Option PointerSpec
 pointers_set space (Pointer named spec) = if same_space named space then Some spec else None
 pointers_set space _ = None
-
--- the value of the key replaced, or added last
-abbrev pub put_entry : {K V : Type 0} → (same : K → K → Bool) → (key : K) → (value : V) → List (K × V) → List (K × V)
-put_entry same key value [] = (key, value) ∷ []
-put_entry same key value (e ∷ entries) = if same e.0 key then (key, value) ∷ entries else e ∷ put_entry same key value entries
 
 -- the alignment of vectors of a size replaced, or added last
 abbrev pub put_vector : (size align : ℕ) → List (ℕ × ℕ) → List (ℕ × ℕ)

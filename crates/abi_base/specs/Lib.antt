@@ -1,6 +1,7 @@
 pub mod Size
 pub mod Align
 pub mod Integer
+pub mod KeyedList
 pub mod Float
 pub mod Primitive
 pub mod DataLayout

@@ -4,7 +4,7 @@ ghost use Rattle.std.specs.Prelude.{◌≡◌, ◌≢◌, ℕ, ◌<◌, ◌≤�
 ghost use Rattle.std.specs.Int.{◌∣◌, div_ceil};
 ghost use Rattle.std.specs.Fmt.{decimal};
 ghost use Rattle.abi_base.specs.declared.align.AlignFromBytesError.TheVariants.{NotPowerOfTwo, TooLarge};
-ghost use Rattle.abi_base.specs.Align.{align_of_bytes, align_error_text, factor_exponent, next_exponent, IsLeastPower};
+ghost use Rattle.abi_base.specs.Align.{align_of_bytes, align_error_text, factor_exponent, max_exponent, next_exponent, IsLeastPower};
 
 use crate::data_layout::TargetDataLayout;
 use crate::size::Size;
@@ -64,9 +64,9 @@ impl Align {
 
     /// Whether it is no greater than `MAX`.
     pub(crate) fn within_limit(self) -> bool
-        ensures { IsTrue result ↔ self ≤ 29 }
+        ensures { IsTrue result ↔ self ≤ max_exponent }
     {
-        self.pow2 <= 29
+        self <= Align::MAX
     }
 
     /// Whether the size is just so many bytes, whatever the exponent.
@@ -109,10 +109,10 @@ impl Align {
     pub fn max_for_target(tdl: &TargetDataLayout) -> Align
         requires some { 1 ≤ tdl.now.default_address_space_pointer_spec.pointer_size }
         requires most { tdl.now.default_address_space_pointer_spec.pointer_size * 8 ≤ 255 }
-        ensures { result ≡ min (tdl.now.default_address_space_pointer_spec.pointer_size * 8 - 1) 29 }
+        ensures { result ≡ min (tdl.now.default_address_space_pointer_spec.pointer_size * 8 - 1) max_exponent }
     {
         let pow2 = (tdl.pointer_size().bits() - 1) as u8;
-        if pow2 < 29 {
+        if pow2 < Align::MAX.pow2 {
             Align { pow2 }
         } else {
             Align::MAX
@@ -132,7 +132,7 @@ impl Align {
     pub fn from_bytes(bytes: u64) -> Result<Align, AlignFromBytesError>
         ensures value { result ≡ align_of_bytes bytes }
         ensures zero { bytes ≡ 0 → result ≡ Ok 0 }
-        ensures power { (k : ℕ) → bytes ≡ 2 ^ k → result ≡ (if nat_lt 29 k then Err (TooLarge bytes) else Ok k) }
+        ensures power { (k : ℕ) → bytes ≡ 2 ^ k → result ≡ (if nat_lt max_exponent k then Err (TooLarge bytes) else Ok k) }
         ensures not_power { 0 < bytes → ((k : ℕ) → bytes ≢ 2 ^ k) → result ≡ Err (NotPowerOfTwo bytes) }
     {
         if bytes == 0 {
@@ -142,10 +142,12 @@ impl Align {
         if 1 << pow2 != bytes {
             return Err(AlignFromBytesError::NotPowerOfTwo(bytes));
         }
-        if pow2 > 29 {
-            return Err(AlignFromBytesError::TooLarge(bytes));
+        let align = Align { pow2: pow2 as u8 };
+        if align.within_limit() {
+            Ok(align)
+        } else {
+            Err(AlignFromBytesError::TooLarge(bytes))
         }
-        Ok(Align { pow2: pow2 as u8 })
     }
 
     /// The alignment in bytes.
@@ -297,74 +299,5 @@ impl Debug for AbiAlign {
 
     fn fmt<W: fmt::Write>(&self, f: &mut fmt::Formatter<W>) -> fmt::Result {
         self.abi.fmt(f)
-    }
-}
-
-#[cfg(test)]
-mod tests {
-    use super::*;
-    use std::test::Fail;
-
-    #[test]
-    fn reads_bytes_and_bits(rt: HostRuntime) {
-        assert_eq!(rt; Align::from_bytes(0), Ok(Align::ONE));
-        assert_eq!(rt; Align::from_bytes(1), Ok(Align::ONE));
-        assert_eq!(rt; Align::from_bytes(8), Ok(Align::EIGHT));
-        assert_eq!(rt; Align::from_bytes(1 << 29), Ok(Align::MAX));
-        assert_eq!(rt;
-            Align::from_bytes(3),
-            Err(AlignFromBytesError::NotPowerOfTwo(3))
-        );
-        assert_eq!(rt;
-            Align::from_bytes(1 << 30),
-            Err(AlignFromBytesError::TooLarge(1 << 30))
-        );
-        assert_eq!(rt; Align::from_bits(32), Ok(Align::FOUR));
-        assert_eq!(rt;
-            Align::from_bits(24),
-            Err(AlignFromBytesError::NotPowerOfTwo(3))
-        );
-    }
-
-    #[test]
-    fn finds_factors(rt: HostRuntime) {
-        assert_eq!(rt;
-            Align::max_aligned_factor(Size::from_bytes(24)),
-            Align::EIGHT
-        );
-        assert_eq!(rt;
-            Align::EIGHT.restrict_for_offset(Size::from_bytes(4)),
-            Align::FOUR
-        );
-        assert_eq!(rt;
-            Align::FOUR.restrict_for_offset(Size::from_bytes(24)),
-            Align::FOUR
-        );
-        assert_eq!(rt; Align::FOUR.restrict_for_offset(Size::ZERO), Align::FOUR);
-    }
-
-    #[test]
-    fn is_limited_by_the_target(rt: HostRuntime) -> Result<(), Fail> {
-        let mut dl = TargetDataLayout::default_in(rt.alloc())?;
-        assert_eq!(rt; Align::max_for_target(&dl), Align::MAX);
-        dl.default_address_space_pointer_spec.pointer_size = Size::from_bytes(2);
-        assert_eq!(rt; Align::max_for_target(&dl).bytes(), 1 << 15);
-        Ok(())
-    }
-
-    #[test]
-    fn is_written_in_bytes(rt: HostRuntime) -> Result<(), Fail> {
-        let text = format!(in rt.alloc(); "{:?} {:?}", Align::FOUR, AbiAlign::new(Align::EIGHT))?;
-        assert_eq!(rt; text.as_str(), "Align(4 bytes) Align(8 bytes)");
-        let not_power = AlignFromBytesError::NotPowerOfTwo(3);
-        let too_large = AlignFromBytesError::TooLarge(1 << 30);
-        let errors = format!(in rt.alloc();
-            "{not_power}, {not_power:?}, {too_large}, {too_large:?}"
-        )?;
-        assert_eq!(rt;
-            errors.as_str(),
-            "3 is not a power of 2, 3 is not a power of 2, 1073741824 is too large, 1073741824 is too large"
-        );
-        Ok(())
     }
 }

@@ -7,14 +7,19 @@ ghost use Rattle.abi_base.specs.Align.{IsLeastPower};
 ghost use Rattle.abi_base.specs.DataLayout.{IsPointerWidth, Knows, IsLawfulDataLayout, bound_of_pointer, default_data_layout, index_integer, known_spec, listed_align, pointer_spec_of, size_bound, vector_align_of};
 
 use crate::address_space::AddressSpace;
-use crate::address_spaces::AddressSpaces;
 use crate::align::Align;
 use crate::endian::Endian;
 use crate::integer::Integer;
+use crate::keyed_list::KeyedList;
 use crate::pointer_spec::PointerSpec;
 use crate::size::Size;
-use crate::vector_aligns::VectorAligns;
 use std::alloc::{AllocError, Global};
+
+/// The alignments of vectors by their sizes.
+pub type VectorAligns = KeyedList<Size, Align>;
+
+/// The pointers of the address spaces other than the default one.
+pub type AddressSpaces = KeyedList<AddressSpace, PointerSpec>;
 
 /// What a target says of its types, as the data layout section of LLVM's LangRef has it.
 #[derive(Drop, PartialEq, Eq, Debug)]
@@ -91,7 +96,7 @@ impl TargetDataLayout {
             f64_align: Align::EIGHT,
             f128_align: sixteen,
             aggregate_align: Align::ONE,
-            vector_align: VectorAligns { entries: vectors },
+            vector_align: KeyedList::from(vectors),
             default_address_space: AddressSpace::ZERO,
             default_address_space_pointer_spec: PointerSpec {
                 pointer_size: Size::from_bytes(8),
@@ -99,9 +104,7 @@ impl TargetDataLayout {
                 pointer_offset: Size::from_bytes(8),
                 is_fat: false,
             },
-            address_space_info: AddressSpaces {
-                entries: Vec::new(alloc),
-            },
+            address_space_info: KeyedList::new(alloc),
             instruction_address_space: AddressSpace::ZERO,
             c_enum_min_size: Integer::I32,
         })
@@ -114,7 +117,7 @@ impl TargetDataLayout {
         if space.0 == self.default_address_space.0 {
             Some(self.default_address_space_pointer_spec)
         } else {
-            self.address_space_info.entry(space)
+            self.address_space_info.get(space)
         }
     }
 
@@ -225,7 +228,7 @@ impl TargetDataLayout {
         ensures listed { (align : ℕ) → listed_align self.now.vector_align size ≡ Some align → result ≡ align }
         ensures unlisted { listed_align self.now.vector_align size ≡ None → IsLeastPower size result }
     {
-        match self.vector_align.listed(size) {
+        match self.vector_align.get(size) {
             Some(align) => align,
             None => Align::next_power(size),
         }
@@ -281,88 +284,5 @@ impl HasDataLayout for &TargetDataLayout {
 
     fn data_layout(&self) -> &TargetDataLayout {
         *self
-    }
-}
-
-#[cfg(test)]
-mod tests {
-    use super::*;
-    use std::test::Fail;
-
-    #[test]
-    fn aligns_by_default(rt: HostRuntime) -> Result<(), Fail> {
-        let dl = TargetDataLayout::default_in(rt.alloc())?;
-        let two = Align::exponent(1);
-        let sixteen = Align::exponent(4);
-        assert_eq!(rt;
-            [dl.i1_align, dl.i8_align, dl.aggregate_align],
-            [Align::ONE, Align::ONE, Align::ONE]
-        );
-        assert_eq!(rt; [dl.i16_align, dl.f16_align], [two, two]);
-        assert_eq!(rt;
-            [dl.i32_align, dl.i64_align, dl.i128_align, dl.f32_align],
-            [Align::FOUR, Align::FOUR, Align::FOUR, Align::FOUR]
-        );
-        assert_eq!(rt; [dl.f64_align, dl.f128_align], [Align::EIGHT, sixteen]);
-        let vectors = [
-            (Size::from_bytes(8), Align::EIGHT),
-            (Size::from_bytes(16), sixteen),
-        ];
-        assert_eq!(rt; dl.vector_align.as_slice(), vectors.as_slice());
-        Ok(())
-    }
-
-    #[test]
-    fn has_defaults(rt: HostRuntime) -> Result<(), Fail> {
-        let dl = TargetDataLayout::default_in(rt.alloc())?;
-        assert_eq!(rt; dl.endian, Endian::Big);
-        assert_eq!(rt; dl.default_address_space, AddressSpace::ZERO);
-        assert_eq!(rt; dl.instruction_address_space, AddressSpace::ZERO);
-        assert_eq!(rt; dl.c_enum_min_size, Integer::I32);
-        assert_eq!(rt; dl, TargetDataLayout::default_in(rt.alloc())?);
-        Ok(())
-    }
-
-    #[test]
-    fn has_pointers_of_64_bits(rt: HostRuntime) -> Result<(), Fail> {
-        let dl = TargetDataLayout::default_in(rt.alloc())?;
-        assert_eq!(rt; dl.pointer_size(), Size::from_bytes(8));
-        assert_eq!(rt; dl.pointer_offset(), Size::from_bytes(8));
-        assert_eq!(rt; dl.pointer_align(), Align::EIGHT);
-        assert_eq!(rt; dl.obj_size_bound(), 1 << 61);
-        assert_eq!(rt; dl.ptr_sized_integer(), Integer::I64);
-        assert!(rt; dl.knows(AddressSpace::ZERO));
-        assert!(rt; !dl.knows(AddressSpace(7)));
-        Ok(())
-    }
-
-    #[test]
-    fn aligns_vectors(rt: HostRuntime) -> Result<(), Fail> {
-        let dl = TargetDataLayout::default_in(rt.alloc())?;
-        for (size, bytes) in [(8, 8), (16, 16), (0, 1), (12, 16), (32, 32), (33, 64)] {
-            let align = dl.rust_vector_align(Size::from_bytes(size));
-            assert_eq!(rt; Align::from_bytes(bytes), Ok(align), "at {size}");
-        }
-        Ok(())
-    }
-
-    #[test]
-    fn knows_its_spaces(rt: HostRuntime) -> Result<(), Fail> {
-        let mut dl = TargetDataLayout::default_in(rt.alloc())?;
-        let spec = PointerSpec {
-            pointer_size: Size::from_bytes(16),
-            pointer_align: Align::EIGHT,
-            pointer_offset: Size::from_bytes(4),
-            is_fat: true,
-        };
-        dl.address_space_info.entries.push((AddressSpace(7), spec))?;
-        let space = AddressSpace(7);
-        assert!(rt; dl.knows(space));
-        assert_eq!(rt; dl.pointer_size_in(space), Size::from_bytes(16));
-        assert_eq!(rt; dl.pointer_align_in(space), Align::EIGHT);
-        assert_eq!(rt; dl.pointer_offset_in(space), Size::from_bytes(4));
-        assert_eq!(rt; dl.ptr_sized_integer_in(space), Integer::I32);
-        assert_eq!(rt; dl.obj_size_bound_in(AddressSpace::ZERO), 1 << 61);
-        Ok(())
     }
 }

@@ -49,10 +49,9 @@ impl FromStr for Endian {
 
     /// The order of this name. `UnknownEndian` where it is no order's name.
     fn from_str(s: &str) -> Result<Endian, UnknownEndian> {
-        match s {
-            "little" => Ok(Endian::Little),
-            "big" => Ok(Endian::Big),
-            _ => Err(UnknownEndian),
+        match Endian::from_text(s) {
+            Ok(endian) => Ok(endian),
+            Err(_) => Err(UnknownEndian),
         }
     }
 }
@@ -89,34 +88,5 @@ impl Debug for Endian {
 
     fn fmt<W: fmt::Write>(&self, f: &mut fmt::Formatter<W>) -> fmt::Result {
         f.write_str(self.as_str())
-    }
-}
-
-#[cfg(test)]
-mod tests {
-    use super::*;
-    use std::test::Fail;
-
-    #[test]
-    fn reads_names(rt: HostRuntime) {
-        assert!(rt; Endian::from_text("little") == Ok(Endian::Little));
-        assert!(rt; Endian::from_text("x") == Err(UnknownEndianText { text: "x" }));
-        let big: Result<Endian, UnknownEndian> = "big".parse();
-        assert_eq!(rt; big, Ok(Endian::Big));
-        let unknown: Result<Endian, UnknownEndian> = "Big".parse();
-        assert_eq!(rt; unknown, Err(UnknownEndian));
-    }
-
-    #[test]
-    fn is_written_by_name(rt: HostRuntime) -> Result<(), Fail> {
-        let names = format!(in rt.alloc(); "{:?} {:?}", Endian::Little, Endian::Big)?;
-        assert_eq!(rt; names.as_str(), "little big");
-        let errors = format!(in rt.alloc();
-            "{} {}",
-            UnknownEndian,
-            UnknownEndianText { text: "x" }
-        )?;
-        assert_eq!(rt; errors.as_str(), "unknown endian unknown endian: \"x\"");
-        Ok(())
     }
 }

@@ -5,13 +5,14 @@ ghost use Rattle.std.specs.Int.{◌∣◌};
 ghost use Rattle.std.specs.List.{All};
 ghost use Rattle.abi_base.specs.declared.integer.Integer.{Integer};
 ghost use Rattle.abi_base.specs.declared.float.Float.{Float};
+ghost use Rattle.abi_base.specs.Align.{max_exponent};
 ghost use Rattle.abi_base.specs.Integer.{integer_size, integer_align};
 ghost use Rattle.abi_base.specs.Float.{float_size, float_align};
 ghost use Rattle.abi_base.specs.DataLayout.{IsPointerWidth, HasLawfulPointer, IsLawfulDataLayout, HasLawfulDefault, alignments_of};
 
 use crate::address_space::AddressSpace;
 use crate::align::Align;
-use crate::data_layout::TargetDataLayout;
+use crate::data_layout::{AddressSpaces, TargetDataLayout, VectorAligns};
 use crate::size::Size;
 
 impl TargetDataLayout {
@@ -69,7 +70,7 @@ impl TargetDataLayout {
 
     /// Whether no alignment is above the greatest.
     fn within_limit(&self) -> bool
-        ensures { IsTrue result ↔ All (λ a. a ≤ 29) (alignments_of self.now) }
+        ensures { IsTrue result ↔ All (λ a. a ≤ max_exponent) (alignments_of self.now) }
     {
         let scalars = [
             self.i1_align,
@@ -86,16 +87,33 @@ impl TargetDataLayout {
             self.default_address_space_pointer_spec.pointer_align,
         ];
         all_within_limit(&scalars)
-            & self.vector_align.within_limit()
-            & self.address_space_info.within_limit()
+            & vectors_within_limit(&self.vector_align)
+            & spaces_within_limit(&self.address_space_info)
     }
 }
 
 /// Whether no alignment is above the greatest.
 fn all_within_limit(aligns: &[Align]) -> bool
-    ensures { IsTrue result ↔ All (λ a. a ≤ 29) aligns.now }
+    ensures { IsTrue result ↔ All (λ a. a ≤ max_exponent) aligns.now }
 {
     aligns.iter().all(|align| align.within_limit())
+}
+
+/// Whether no alignment of vectors is above the greatest.
+fn vectors_within_limit(aligns: &VectorAligns) -> bool
+    ensures { IsTrue result ↔ All (λ e. e.1 ≤ max_exponent) aligns.now }
+{
+    aligns.as_slice().iter().all(|entry| entry.1.within_limit())
+}
+
+/// Whether no alignment of the spaces' pointers is above the greatest.
+fn spaces_within_limit(spaces: &AddressSpaces) -> bool
+    ensures { IsTrue result ↔ All (λ e. e.1.pointer_align ≤ max_exponent) spaces.now }
+{
+    spaces
+        .as_slice()
+        .iter()
+        .all(|entry| entry.1.pointer_align.within_limit())
 }
 
 /// Whether it is 16, 32 or 64 bits.
@@ -104,70 +122,4 @@ fn is_pointer_width(size: Size) -> bool
 {
     let bytes = size.bytes();
     bytes == 2 || bytes == 4 || bytes == 8
-}
-
-#[cfg(test)]
-mod tests {
-    use super::*;
-    use crate::address_space::AddressSpace;
-    use crate::pointer_spec::PointerSpec;
-    use std::test::Fail;
-
-    #[test]
-    fn asks_each_law(rt: HostRuntime) -> Result<(), Fail> {
-        let mut dl = TargetDataLayout::default_in(rt.alloc())?;
-        assert!(rt; dl.is_lawful());
-        dl.i8_align = Align::FOUR;
-        assert!(rt; !dl.is_lawful(), "an integer");
-        dl.i8_align = Align::ONE;
-        dl.f32_align = Align::EIGHT;
-        assert!(rt; !dl.is_lawful(), "a float");
-        dl.f32_align = Align::FOUR;
-        dl.aggregate_align = Align::exponent(30);
-        assert!(rt; !dl.is_lawful(), "the limit");
-        dl.aggregate_align = Align::MAX;
-        assert!(rt; dl.is_lawful());
-        Ok(())
-    }
-
-    #[test]
-    fn asks_of_the_default_pointers(rt: HostRuntime) -> Result<(), Fail> {
-        let mut dl = TargetDataLayout::default_in(rt.alloc())?;
-        for (size, align, offset, lawful) in [
-            (8, Align::EIGHT, 8, true),
-            (4, Align::FOUR, 2, true),
-            (16, Align::EIGHT, 8, false),
-            (8, Align::EIGHT, 3, false),
-            (4, Align::EIGHT, 4, false),
-        ] {
-            dl.default_address_space_pointer_spec = PointerSpec {
-                pointer_size: Size::from_bytes(size),
-                pointer_align: align,
-                pointer_offset: Size::from_bytes(offset),
-                is_fat: false,
-            };
-            assert_eq!(rt; dl.is_lawful(), lawful, "at {size}");
-        }
-        Ok(())
-    }
-
-    #[test]
-    fn asks_of_a_space(rt: HostRuntime) -> Result<(), Fail> {
-        let mut dl = TargetDataLayout::default_in(rt.alloc())?;
-        let zero = AddressSpace::ZERO;
-        assert!(rt; dl.has_lawful_pointer(zero));
-        assert!(rt; !dl.has_lawful_pointer(AddressSpace(7)), "an unknown space");
-        for (size, align, lawful) in [
-            (16, Align::EIGHT, true),
-            (1, Align::ONE, true),
-            (0, Align::ONE, false),
-            (17, Align::ONE, false),
-            (12, Align::EIGHT, false),
-        ] {
-            dl.default_address_space_pointer_spec.pointer_size = Size::from_bytes(size);
-            dl.default_address_space_pointer_spec.pointer_align = align;
-            assert_eq!(rt; dl.has_lawful_pointer(zero), lawful, "at {size}");
-        }
-        Ok(())
-    }
 }

@@ -3,12 +3,12 @@
 
 mod abi_from_str_err;
 mod address_space;
-mod address_spaces;
 mod align;
 mod data_layout;
 mod endian;
 mod float;
 mod integer;
+mod keyed_list;
 mod lawful;
 mod niche_optimizations;
 mod numeric;
@@ -16,8 +16,6 @@ mod parse;
 mod parse_error;
 mod parse_number;
 mod parse_spec;
-#[cfg(test)]
-mod parse_tests;
 mod parse_text;
 mod pointee;
 mod pointer_spec;
@@ -27,16 +25,15 @@ mod setting;
 mod simd;
 mod size;
 mod struct_kind;
-mod vector_aligns;
 
 pub use abi_from_str_err::AbiFromStrErr;
 pub use address_space::AddressSpace;
-pub use address_spaces::AddressSpaces;
 pub use align::{AbiAlign, Align, AlignFromBytesError};
-pub use data_layout::{HasDataLayout, TargetDataLayout};
+pub use data_layout::{AddressSpaces, HasDataLayout, TargetDataLayout, VectorAligns};
 pub use endian::{Endian, UnknownEndian, UnknownEndianText};
 pub use float::Float;
 pub use integer::{Integer, IntegerType, NoSuchInteger};
+pub use keyed_list::KeyedList;
 pub use niche_optimizations::NicheOptimizations;
 pub use numeric::Numeric;
 pub use parse_error::TargetDataLayoutError;
@@ -48,4 +45,3 @@ pub use scalable::{NumScalableVectors, ScalableElt};
 pub use simd::MAX_SIMD_LANES;
 pub use size::Size;
 pub use struct_kind::StructKind;
-pub use vector_aligns::VectorAligns;

@@ -122,10 +122,11 @@ impl TargetDataLayout {
         ensures { IfOk result (λ dl. dl ≡ with_instructions self) }
     {
         let space = self.instruction_address_space;
-        if !self.knows(space) {
-            let spec = self.default_address_space_pointer_spec;
-            self.address_space_info.entries.push((space, spec))?;
+        if self.knows(space) {
+            return Ok(self);
         }
+        let spec = self.default_address_space_pointer_spec;
+        self.address_space_info.push(space, spec)?;
         Ok(self)
     }
 

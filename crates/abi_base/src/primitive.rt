@@ -62,28 +62,3 @@ impl Debug for Primitive {
         }
     }
 }
-
-#[cfg(test)]
-mod tests {
-    use super::*;
-    use std::test::Fail;
-
-    #[test]
-    fn is_written_by_name(rt: HostRuntime) -> Result<(), Fail> {
-        for (primitive, name) in [
-            (Primitive::Int(Integer::I8, false), "u8"),
-            (Primitive::Int(Integer::I64, true), "i64"),
-            (Primitive::Float(Float::F32), "f32"),
-            (Primitive::Float(Float::PpcF128), "ppcf128"),
-            (Primitive::Pointer(AddressSpace::ZERO), "pointer"),
-            (
-                Primitive::Pointer(AddressSpace(5)),
-                "pointer(AddressSpace(5))",
-            ),
-        ] {
-            let text = format!(in rt.alloc(); "{primitive:?}")?;
-            assert_eq!(rt; text.as_str(), name);
-        }
-        Ok(())
-    }
-}

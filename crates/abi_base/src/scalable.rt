@@ -35,19 +35,3 @@ pub enum ScalableElt {
     /// Scalable vectors.
     Container,
 }
-
-#[cfg(test)]
-mod tests {
-    use super::*;
-
-    #[test]
-    fn counts_fields(rt: HostRuntime) {
-        assert_eq!(rt;
-            NumScalableVectors::from_field_count(8),
-            Some(NumScalableVectors(8))
-        );
-        assert_eq!(rt; NumScalableVectors::from_field_count(1), None);
-        assert_eq!(rt; NumScalableVectors::from_field_count(9), None);
-        assert_eq!(rt; NumScalableVectors::for_non_tuple(), NumScalableVectors(1));
-    }
-}

@@ -31,7 +31,8 @@ bound_some dl h = bound_some_at dl.default_address_space_pointer_spec.pointer_si
 pub aggregate_small : (dl : TargetDataLayout) → IsLawfulDataLayout dl → dl.aggregate_align ≤ 29
 aggregate_small dl h = All-get_or (λ a. a ≤ 29) (alignments_of dl) 10 0 (omega arith) h.limit
 
-niche_within : (dl : TargetDataLayout) (small large : ℕ) (niche : Option Niche) → small ≤ large → IfSome niche (IsLawfulNiche dl small) → IfSome niche (IsLawfulNiche dl large)
+-- a lawful niche of a type is one of a larger type
+pub niche_within : (dl : TargetDataLayout) (small large : ℕ) (niche : Option Niche) → small ≤ large → IfSome niche (IsLawfulNiche dl small) → IfSome niche (IsLawfulNiche dl large)
 niche_within dl small large None le h = tt
 niche_within dl small large (Some niche) le h = record { inside = omega (arith, h.inside); pointer = h.pointer; within = h.within; free = h.free }
 

@@ -1,8 +1,7 @@
 -- The named order is allowed, and no allowed order is smaller.
-use Rattle.std.proofs.Common.{◌≡◌, ℕ, zero, suc, ◌+◌, ◌-◌, ◌^◌, ◌<◌, ◌≤◌, Bool, true, false, List, [], ◌∷◌, ◌++◌, Option, None, Some, length, take, map, get_or, max, refl, sym, ap, ap₂, subst, ◌∙◌, arith, length-take, append-nil}
+use Rattle.std.proofs.Common.{◌≡◌, ℕ, suc, ◌+◌, ◌-◌, ◌^◌, ◌<◌, ◌≤◌, Bool, true, false, List, [], ◌∷◌, ◌++◌, Option, None, Some, length, take, map, get_or, max, refl, sym, ap, ap₂, subst, ◌∙◌, arith, length-take, append-nil}
 use Rattle.std.specs.Prelude.{All, IsPermutation, IsTrue, MatchBool}
 use Rattle.std.specs.Int.{next_multiple_of}
-use Rattle.std.specs.List.{range_with_len}
 use Rattle.std.proofs.lemmas.List.{map-append, get_or_at, get_or-take, length-map, take_more}
 use Rattle.std.proofs.Math.Seq.{take-length}
 use Rattle.std.proofs.lemmas.Bool.{false≢true}
@@ -23,13 +22,10 @@ use Rattle.abi_calc.specs.Order.{sort_key, descending_key, group_of, movable, ta
 use Rattle.abi_calc.proofs.Rounding.{round_mono, rounded_to}
 use Rattle.abi_calc.proofs.Ends.{total, Capped, end_from-above, end_from-append, end_from-mono}
 use Rattle.abi_calc.proofs.Sorting.{within_order, in_order-permutation}
+use Rattle.abi_calc.proofs.Steps.{range-more}
 use Rattle.abi_calc.proofs.Tight.{Sorts, greatest, greatest_above, capped, end_from-descending, end_from-ascending}
 
 -- ---- source order
-
-range-more : (a k : ℕ) → range_with_len a (suc k) ≡ range_with_len a k ++ (a + k) ∷ []
-range-more a zero = ap (λ x. x ∷ []) (omega arith)
-range-more a (suc k) = ap (λ xs. a ∷ xs) (range-more (a + 1) k ∙ ap (λ x. range_with_len (a + 1) k ++ x ∷ []) (omega arith))
 
 source_order-last : (n : ℕ) → 0 < n → source_order (n - 1) ++ (n - 1) ∷ [] ≡ source_order n
 source_order-last n h = let split : suc (n - 1) ≡ n = omega arith in sym (subst (λ x. source_order x ≡ source_order (n - 1) ++ (n - 1) ∷ []) split (range-more 0 (n - 1) ∙ ap (λ x. source_order (n - 1) ++ x ∷ []) (omega arith)))
@@ -232,7 +228,7 @@ greatest_small pack a (f ∷ fs) h law =
     let small : cut pack f.align ≤ 29 = cut_small pack f.align one.aligned in
     greatest_small pack (max a (cut pack f.align)) fs (omega arith) (All-tail IsAlignedPart f fs law)
 
-prefix_small : (pack : Option ℕ) (kind : StructKind) (bound : ℕ) → IsLawfulPrefix kind bound → prefix_align pack kind ≤ max_align
+pub prefix_small : (pack : Option ℕ) (kind : StructKind) (bound : ℕ) → IsLawfulPrefix kind bound → prefix_align pack kind ≤ max_align
 prefix_small pack AlwaysSized bound h = omega arith
 prefix_small pack MaybeUnsized bound h = omega arith
 prefix_small pack (Prefixed size align) bound h = cut_small pack align h.1

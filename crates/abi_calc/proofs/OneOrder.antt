@@ -1,9 +1,8 @@
 -- There is one order that is named for a list, and so one layout.
-use Rattle.std.proofs.Common.{◌≡◌, ℕ, zero, suc, ◌<◌, ◌≤◌, Bool, true, false, List, [], ◌∷◌, ◌++◌, Option, Some, None, length, map, get_or, inl, inr, refl, sym, ap, ◌∙◌, subst, arith}
-use Rattle.std.specs.Prelude.{◌⊎◌, ◌&&◌, not, cond, filter, All, IsPermutation, MatchBool, MatchOption, slice_index}
+use Rattle.std.proofs.Common.{◌≡◌, ℕ, zero, suc, ◌<◌, ◌≤◌, Bool, true, false, List, [], ◌∷◌, ◌++◌, Option, Some, None, length, map, get_or, refl, sym, ap, ◌∙◌, subst, arith}
+use Rattle.std.specs.Prelude.{cond, filter, All, IsPermutation, MatchBool, MatchOption, slice_index}
 use Rattle.std.specs.List.Sorted.{ties}
 use Rattle.std.specs.Cmp.{IsStrictWeakOrder, IsTotalOrder, nat_cmp_total, on_total, then_total}
-use Rattle.std.specs.Ordering.{is_lt}
 use Rattle.std.proofs.lemmas.List.Elements.{All-nil, All-cons}
 use Rattle.std.proofs.lemmas.List.FromFn.{length-range_with_len, get_or-range_with_len}
 use Rattle.std.proofs.lemmas.List.Sorted.{All-permutation, IsPermutation-sym, ranks_by, sorted_far}
@@ -84,7 +83,7 @@ module _ {X : Type 0} (lt : X → X → Bool) (o : IsStrictWeakOrder lt) where
       (subst (λ y. filter (ties lt x) (a ∷ xs) ≡ filter (ties lt x) (y ∷ ys)) first (same x))) in
       cc
 
-keys_total : IsTotalOrder compare_keys
+pub keys_total : IsTotalOrder compare_keys
 keys_total =
     then_total (on_total (λ (k : SortKey). k.group) nat_cmp_total) (then_total (on_total (λ (k : SortKey). k.niche) nat_cmp_total) (on_total (λ (k : SortKey). k.distance) nat_cmp_total))
 
@@ -115,7 +114,7 @@ agree_along : (xs ys order : List ℕ) → map (slice_index xs) order ≡ map (s
 agree_along xs ys [] e = All-nil (Agree xs ys)
 agree_along xs ys (i ∷ is) e = All-cons (Agree xs ys) i is (cc) (agree_along xs ys is (cc))
 
-alike : (xs ys : List ℕ) → length xs ≡ length ys → ((k : ℕ) → k < length xs → Agree xs ys k) → xs ≡ ys
+pub alike : (xs ys : List ℕ) → length xs ≡ length ys → ((k : ℕ) → k < length xs → Agree xs ys k) → xs ≡ ys
 alike [] [] e h = refl
 alike [] (y ∷ ys) e h = absurd (omega arith)
 alike (x ∷ xs) [] e h = absurd (omega arith)

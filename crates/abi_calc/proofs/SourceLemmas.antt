@@ -80,7 +80,7 @@ lies_at pack from parts order offsets i l short =
     let long : s.0 < length (in_order parts order) = omega (arith, length-in parts order, s.1) in
     rw (← offset_at pack from parts order offsets s.0 i l s.1 s.2, ← part_in parts order s.0 i s.1 s.2) (field_at pack from (in_order parts order) s.0 long)
 
-ordered : (pack : Option ℕ) (from : ℕ) (parts : List Part) (order offsets : List ℕ) (a b i j : ℕ) → Lies pack from parts order offsets → a < b → b < length order → get_or order a 0 ≡ i → get_or order b 0 ≡ j
+pub ordered : (pack : Option ℕ) (from : ℕ) (parts : List Part) (order offsets : List ℕ) (a b i j : ℕ) → Lies pack from parts order offsets → a < b → b < length order → get_or order a 0 ≡ i → get_or order b 0 ≡ j
     → get_or offsets i 0 + (get_or parts i no_part).size ≤ get_or offsets j 0
 ordered pack from parts order offsets a b i j l low short ai bj =
     let long : b < length (in_order parts order) = omega (arith, length-in parts order) in

@@ -3,26 +3,29 @@ use Rattle.std.proofs.Common.{◌≡◌, ℕ, zero, suc, ◌+◌, ◌%◌, ◌^�
 use Rattle.std.specs.Prelude.{sum_by}
 use Rattle.std.specs.List.{range_with_len}
 use Rattle.std.proofs.Math.Nat.{mod-add-mod}
-use Rattle.std.proofs.lemmas.List.{drop_more, drop_all}
+use Rattle.std.proofs.lemmas.List.{drop_more, drop_all, map-append}
 use Rattle.std.proofs.lemmas.List.Sums.{sum_by-cons}
 use Rattle.abi_scalar.specs.declared.layout_data.LayoutData.{LayoutData}
 use Rattle.abi_calc.specs.Fields.{greater, greatest_asked}
+use Rattle.abi_calc.specs.Placement.{source_order}
 
 -- the fields from the k-th on begin with it
 pub rest_begins : {H : Type 0} (fields : List H) (k : ℕ) (h : H) → k < length fields → h ≡ get_or fields k h → drop k fields ≡ h ∷ drop (k + 1) fields
 rest_begins fields k h short is = drop_more fields k h short ∙ ap (λ x. x ∷ drop (k + 1) fields) (sym is)
 
-range_more_from : {X : Type 0} (at : ℕ → X) (from n : ℕ) → map at (range_with_len from (suc n)) ≡ map at (range_with_len from n) ++ at (from + n) ∷ []
-range_more_from at from zero = let same : from + 0 ≡ from = omega arith in ap (λ i. at i ∷ []) (sym same)
-range_more_from at from (suc n) =
-    let shift : (from + 1) + n ≡ from + suc n = omega arith in
-    ap (λ xs. at from ∷ xs) (range_more_from at (from + 1) n ∙ ap (λ i. map at (range_with_len (from + 1) n) ++ at i ∷ []) shift)
+pub range-more : (from k : ℕ) → range_with_len from (suc k) ≡ range_with_len from k ++ (from + k) ∷ []
+range-more from zero = ap (λ x. x ∷ []) (omega arith)
+range-more from (suc k) = ap (λ xs. from ∷ xs) (range-more (from + 1) k ∙ ap (λ x. range_with_len (from + 1) k ++ x ∷ []) (omega arith))
 
-pub range_more : {X : Type 0} (at : ℕ → X) (n : ℕ) → map at (range_with_len 0 (n + 1)) ≡ map at (range_with_len 0 n) ++ at n ∷ []
-range_more at n =
+-- the indices of one more field
+pub source_more : (n : ℕ) → source_order (n + 1) ≡ source_order n ++ n ∷ []
+source_more n =
     let one : n + 1 ≡ suc n = omega arith in
     let same : 0 + n ≡ n = omega arith in
-    ap (λ m. map at (range_with_len 0 m)) one ∙ range_more_from at 0 n ∙ ap (λ i. map at (range_with_len 0 n) ++ at i ∷ []) same
+    ap source_order one ∙ range-more 0 n ∙ ap (λ i. source_order n ++ i ∷ []) same
+
+pub range_more : {X : Type 0} (at : ℕ → X) (n : ℕ) → map at (range_with_len 0 (n + 1)) ≡ map at (range_with_len 0 n) ++ at n ∷ []
+range_more at n = ap (map at) (source_more n) ∙ map-append at (source_order n) (n ∷ [])
 
 max_assoc : (a b c : ℕ) → max (max a b) c ≡ max a (max b c)
 max_assoc a b c = omega arith

@@ -25,7 +25,7 @@ use Rattle.abi_calc.specs.Placement.{own_align}
 use Rattle.abi_calc.proofs.Lawful.{bound_small}
 use Rattle.abi_calc.proofs.Least.{cut_small}
 use Rattle.abi_calc.proofs.ListLemmas.{own_small}
-use Rattle.abi_calc.proofs.Rounding.{rounded_to}
+use Rattle.abi_calc.proofs.Rounding.{round_multiple, rounded_to}
 use Rattle.abi_calc.proofs.UnionLemmas.{common_field, greatest_above, greatest_most}
 
 -- alignments
@@ -53,14 +53,6 @@ greatest_size_small layout_of dl fields lawful all =
     let each = All-weaker (λ l. IsLawfulLayout dl l) (λ l. l.size ≤ 2 ^ 61) (λ l h. let below : l.size < size_bound dl = h.bound in omega arith) ls
     (All-map (λ l. IsLawfulLayout dl l) layout_of fields all) in
     let most : greatest (map (λ l. l.size) (map layout_of fields)) ≤ 2 ^ 61 = greatest_most (λ l. l.size) (2 ^ 61) ls each in
-    omega arith
-
--- a number that is a multiple is rounded already
-pub rounded_already : (n align : ℕ) → 2 ^ align ∣ n → next_multiple_of n (2 ^ align) ≡ n
-rounded_already n align d =
-    let r = rounded_to n align in
-    let low : next_multiple_of n (2 ^ align) ≤ n = r.least n d (omega arith) in
-    let high : n ≤ next_multiple_of n (2 ^ align) = r.above in
     omega arith
 
 -- views
@@ -125,7 +117,7 @@ whole_union dl repr ls view align lawful all common fits value e pointer =
     let same : primitive_align dl value ≡ union_align dl repr ls = subst (λ v. IsAlignedFor dl v (union_align dl repr ls)) e fits in
     let size : greatest_size ls ≡ primitive_size dl value = scalar_whole dl value align ls all (subst (λ v. IsCommonView ls v align) e common) in
     let d : 2 ^ union_align dl repr ls ∣ primitive_size dl value = subst (λ a. 2 ^ a ∣ primitive_size dl value) same (whole dl value lawful pointer) in
-    sym (ap (λ n. next_multiple_of n (2 ^ union_align dl repr ls)) size ∙ rounded_already (primitive_size dl value) (union_align dl repr ls) d)
+    sym (ap (λ n. next_multiple_of n (2 ^ union_align dl repr ls)) size ∙ round_multiple (primitive_size dl value) (union_align dl repr ls) d)
 
 kept_lawful : {F V : Type 0} (dl : TargetDataLayout) (repr : ReprOptions) (ls : List (LayoutData F V)) (view : BackendRepr) → IsLawfulDataLayout dl
     → All (λ l. IsLawfulLayout dl l) ls → KeepsView dl repr ls view → IsLawfulView dl (union_size dl repr ls) view

@@ -26,11 +26,12 @@ use Rattle.abi_scalar.specs.declared.scalar.Scalar.{Scalar}
 use Rattle.abi_scalar.specs.declared.layout_data.LayoutData.{LayoutData}
 use Rattle.abi_scalar.specs.declared.error.LayoutCalculatorError.{LayoutCalculatorError}
 use Rattle.abi_scalar.specs.declared.error.LayoutCalculatorError.TheVariants.{OversizedSimdType, SizeOverflow, ZeroLengthSimdType}
-use Rattle.abi_scalar.specs.Lawful.{IsLawfulLayout, IsLawfulNiche, IsLawfulView, IsNicheOfView}
+use Rattle.abi_scalar.specs.Lawful.{IsLawfulLayout, IsLawfulView, IsNicheOfView}
 use Rattle.abi_scalar.specs.Scalar.{IsLawfulScalar, primitive_of}
 use Rattle.abi_calc.specs.declared.simd.Lanes.{Lanes}
 use Rattle.abi_calc.specs.Answer.{IsAnswer}
 use Rattle.abi_calc.specs.Simd.{after, element_scalar, if_below, is_tight, lanes_answer, simd_view, vector_layout}
+use Rattle.abi_calc.proofs.Lawful.{niche_within}
 use Rattle.abi_calc.proofs.Rounding.{rounded_to}
 
 -- powers
@@ -166,10 +167,6 @@ lanes_bounded dl element count lanes lawful are =
 
 -- lawful vectors
 
-niche_in : (dl : TargetDataLayout) (small large : ℕ) (niche : Option Niche) → small ≤ large → IfSome niche (IsLawfulNiche dl small) → IfSome niche (IsLawfulNiche dl large)
-niche_in dl small large None le h = tt
-niche_in dl small large (Some niche) le h = record { inside = omega (arith, h.inside); pointer = h.pointer; within = h.within; free = h.free }
-
 any_of_view : (view : BackendRepr) (niche : Option Niche) → ((n : Niche) → IsNicheOfView view n) → IfSome niche (IsNicheOfView view)
 any_of_view view None h = tt
 any_of_view view (Some niche) h = h niche
@@ -198,7 +195,7 @@ vectors_lawful dl element count lanes first field view bytes align result lawful
       multiple = r.multiple;
       bound = bound;
       limit = small;
-      niche = niche_in dl element.size (next_multiple_of bytes (2 ^ align)) element.largest_niche (omega arith) lawful.niche;
+      niche = niche_within dl element.size (next_multiple_of bytes (2 ^ align)) element.largest_niche (omega arith) lawful.niche;
       view = viewed (next_multiple_of bytes (2 ^ align)) scalar.0;
       niche_of_view = any_of_view view element.largest_niche of_view;
       tag = tt;

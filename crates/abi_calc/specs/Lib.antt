@@ -10,5 +10,6 @@ pub mod Run
 pub mod ListView
 pub mod Fields
 pub mod List
+pub mod Least
 pub mod Union
 pub mod Simd

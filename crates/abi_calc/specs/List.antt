@@ -1,5 +1,5 @@
 -- The layout of a list of fields.
-use Rattle.std.specs.Prelude.{◌≡◌, ◌⊎◌, ℕ, ◌≤◌, false, List, map, All, IfSome, Some, Result, Ok, Err, if◌then◌else◌}
+use Rattle.std.specs.Prelude.{◌≡◌, ◌⊎◌, ℕ, ◌≤◌, false, List, map, All, IfSome, Some, None, Result, Ok, Err, if◌then◌else◌}
 use Rattle.std.specs.List.{list_any}
 use Rattle.abi_base.specs.declared.data_layout.TargetDataLayout.{TargetDataLayout}
 use Rattle.abi_base.specs.declared.struct_kind.StructKind.{StructKind}
@@ -57,6 +57,12 @@ abbrev pub IsListError : {F V H : Type 0} → (layout_of : H → LayoutData F V)
 IsListError layout_of dl repr kind fields error =
     (order : List ℕ) × IsNamedOrder (list_repr dl repr kind) Start (parts_of dl (map layout_of fields)) order
     × (fault : ListFault) × (fault_in (list_repr dl repr kind) (size_bound dl) (parts_of dl (map layout_of fields)) order ≡ Some fault) × IsErrorOf fields fault error
+
+-- the fields have no fault in the order that is named for a bias to the start
+abbrev pub IsFirstFaultless : {F V : Type 0} → TargetDataLayout → ReprOptions → StructKind → List (LayoutData F V) → Type 0
+IsFirstFaultless dl repr kind fields =
+    (order : List ℕ) × IsNamedOrder (list_repr dl repr kind) Start (parts_of dl fields) order
+    × (fault_in (list_repr dl repr kind) (size_bound dl) (parts_of dl fields) order ≡ None)
 
 -- the answer to a list of fields, memory aside
 abbrev pub IsListAnswer : {F V H : Type 0} → (layout_of : H → LayoutData F V) → (at : ℕ → F) → (first : V) → TargetDataLayout → ReprOptions → StructKind → List H

@@ -1,5 +1,5 @@
 -- The layouts of vectors.
-use Rattle.std.specs.Prelude.{ℕ, ◌+◌, ◌*◌, ◌%◌, ◌^◌, ◌&&◌, not, Bool, true, false, [], ◌∷◌, nat_lt, None, Result, Ok, Err, if◌then◌else◌}
+use Rattle.std.specs.Prelude.{◌≡◌, ℕ, ◌+◌, ◌*◌, ◌%◌, ◌^◌, ◌≤◌, ◌&&◌, not, Bool, true, false, [], ◌∷◌, nat_lt, None, Result, Ok, Err, if◌then◌else◌}
 use Rattle.std.specs.Int.{is_power_of_two, next_multiple_of}
 use Rattle.abi_base.specs.declared.data_layout.TargetDataLayout.{TargetDataLayout}
 use Rattle.abi_base.specs.declared.scalable.NumScalableVectors.{NumScalableVectors}
@@ -63,9 +63,25 @@ is_tight packed lanes = packed && not (is_power_of_two lanes)
 abbrev pub simd_view : (packed : Bool) → Lanes → BackendRepr
 simd_view packed lanes = if is_tight packed lanes.count then Memory true else SimdVector lanes.scalar lanes.count
 
--- its alignment: that of vectors of its size, or the greatest power of two in its size
+-- the alignment of so many lanes in so many bytes: that of vectors of this size, or the greatest power of two in it
+abbrev pub lanes_align : TargetDataLayout → (packed : Bool) → (lanes bytes : ℕ) → ℕ
+lanes_align dl packed lanes bytes = if is_tight packed lanes then factor_exponent bytes else vector_align_of dl bytes
+
+-- the vector's alignment
 abbrev pub simd_align : TargetDataLayout → (packed : Bool) → Lanes → ℕ
-simd_align dl packed lanes = if is_tight packed lanes.count then factor_exponent lanes.size else vector_align_of dl lanes.size
+simd_align dl packed lanes = lanes_align dl packed lanes.count lanes.size
+
+-- the size of a vector of so many of the elements
+abbrev pub vector_size : {F V : Type 0} → TargetDataLayout → LayoutData F V → (count : ℕ) → (packed : Bool) → ℕ
+vector_size dl element count packed = next_multiple_of (element.size * count) (2 ^ lanes_align dl packed count (element.size * count))
+
+-- so many of the elements make a vector: one is a scalar, and there are 1 to 32768 of them
+abbrev pub MakesVector : {F V : Type 0} → LayoutData F V → (count : ℕ) → Type 0
+MakesVector element count = ((scalar : Scalar) × (element.backend_repr ≡ OneScalar scalar)) × (1 ≤ count) × (count ≤ 32768)
+
+-- a vector that is too large
+abbrev pub IsVectorTooLarge : {F V : Type 0} → TargetDataLayout → LayoutData F V → (count : ℕ) → (packed : Bool) → Type 0
+IsVectorTooLarge dl element count packed = MakesVector element count × (size_bound dl ≤ vector_size dl element count packed)
 
 -- the layout of a vector of so many lanes, or why it has none
 abbrev pub simd_answer : {F V H : Type 0} → (layout_of : H → LayoutData F V) → (first : V) → (field : F) → TargetDataLayout → H → (count : ℕ) → (packed : Bool)

@@ -18,6 +18,7 @@ use Rattle.abi_base.specs.Primitive.{KnowsPrimitive}
 use Rattle.abi_scalar.specs.Scalar.{primitive_of, scalar_align}
 use Rattle.abi_scalar.specs.View.{union_view}
 use Rattle.abi_calc.specs.Fields.{greatest_repr_align, lies_as_in_c, seed_with}
+use Rattle.abi_calc.specs.List.{AreSized}
 use Rattle.abi_calc.specs.Part.{is_unsized}
 use Rattle.abi_calc.specs.Placement.{cut, own_align}
 
@@ -55,6 +56,10 @@ union_align dl repr fields = raised_to repr.align (unraised_align dl repr fields
 -- a union's size: the greatest of its fields', rounded up to its alignment
 abbrev pub union_size : {F V : Type 0} → TargetDataLayout → ReprOptions → List (LayoutData F V) → ℕ
 union_size dl repr fields = next_multiple_of (greatest_size fields) (2 ^ union_align dl repr fields)
+
+-- a union of sized fields that are too large
+abbrev pub IsUnionTooLarge : {F V : Type 0} → TargetDataLayout → ReprOptions → List (LayoutData F V) → Type 0
+IsUnionTooLarge dl repr fields = AreSized fields × (size_bound dl ≤ union_size dl repr fields)
 
 -- the field is no sized type without bytes
 abbrev pub CountsForView : {F V : Type 0} → LayoutData F V → Type 0

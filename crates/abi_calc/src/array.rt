@@ -3,6 +3,7 @@
 ghost use Rattle.std.specs.Prelude.{◌≡◌, ℕ, ◌*◌, IfOk, unwrap_or};
 ghost use Rattle.abi_base.specs.DataLayout.{IsLawfulDataLayout};
 ghost use Rattle.abi_scalar.specs.Lawful.{IsLawfulLayout};
+ghost use Rattle.abi_scalar.specs.Order.{HasPlaceForEach, IsAscending};
 ghost use Rattle.abi_calc.specs.Array.{array_answer};
 
 use crate::calculator::LayoutCalculator;
@@ -28,6 +29,8 @@ impl<Cx: HasDataLayout> LayoutCalculator<Cx> {
         ensures exact { result ≡ array_answer (VariantIdx.at 0) (Cx.target self.now.cx) element.now count_if_sized }
         ensures size { IfOk result (λ array. array.size ≡ element.now.size * unwrap_or count_if_sized 0) }
         ensures lawful { IfOk result (IsLawfulLayout (Cx.target self.now.cx)) }
+        ensures places { IfOk result (λ array. HasPlaceForEach array.fields) }
+        ensures ascending { IfOk result (λ array. IsAscending FieldIdx.number array.fields) }
     {
         let count = count_if_sized.unwrap_or(0);
         let Some(size) = element.size.checked_mul(count, &self.cx) else {

@@ -1,22 +1,25 @@
 //! Lists of fields, one after another in memory.
 
-ghost use Rattle.std.specs.Prelude.{◌≡◌, ℕ, ◌+◌, ◌≤◌, ◌<◌, All, Err, IfOk, IfSome, IsTrue, List, length, map};
+ghost use Rattle.std.specs.Prelude.{◌≡◌, ℕ, ◌+◌, ◌≤◌, ◌<◌, ◌⊎◌, All, Err, IfErr, IfOk, IfSome, IsTrue, length, map};
 ghost use Rattle.std.specs.List.{list_any};
 ghost use Rattle.abi_index.specs.Slice.{items_of};
 ghost use Rattle.abi_base.specs.DataLayout.{IsLawfulDataLayout, size_bound};
 ghost use Rattle.abi_scalar.specs.Lawful.{IsLawfulLayout};
+ghost use Rattle.abi_scalar.specs.Order.{HasPlaceForEach, IsAscending};
 ghost use Rattle.abi_calc.specs.Answer.{IsAnswer};
 ghost use Rattle.abi_calc.specs.Apart.{AreAligned, AreApart, offsets_of};
 ghost use Rattle.abi_calc.specs.Fault.{IsErrorOf, IsFaultIndex};
-ghost use Rattle.abi_calc.specs.List.{AreSized, HasLawfulAligns, IsListAnswer, parts_of};
+ghost use Rattle.abi_calc.specs.Least.{IsEachOrderTooLarge, IsLeastSize, LiesInSomeOrder};
+ghost use Rattle.abi_calc.specs.List.{AreSized, HasLawfulAligns, IsFirstFaultless, IsListAnswer, parts_of, unadjusted_of};
+ghost use Rattle.abi_calc.specs.ListView.{bulky_parts};
 ghost use Rattle.abi_calc.specs.ListNiche.{HasLargestNiche, IsNicheOfPart};
-ghost use Rattle.abi_calc.specs.Order.{movable};
-ghost use Rattle.abi_calc.specs.Placement.{IsAllowed, IsLawfulPrefix, IsNonEmptyIfUnsized, IsSized, cut, list_repr, size_in, start_of, sum_rounded};
+ghost use Rattle.abi_calc.specs.Placement.{IsLawfulPrefix, IsNonEmptyIfUnsized, IsSized, cut, list_repr, start_of, sum_rounded};
 
 use crate::calculator::LayoutCalculator;
 use crate::fields::{greatest_repr_align, lies_as_in_c, seed_with};
 use crate::list_repr::{ListRepr, list_repr, unraised};
 use crate::list_view::{bulky_parts, list_view, transparent_align};
+use crate::order::movable;
 use crate::part::{Part, parts_of};
 use crate::placing::{ListFault, list_align};
 use crate::run::{PlacedList, layout_of_parts};
@@ -39,17 +42,6 @@ fn any_uninhabited<FieldIdx: Idx, VariantIdx: Idx, F: LayoutHandle<FieldIdx, Var
         }
     }
     false
-}
-
-/// The fields that may move: all but a last one that may be unsized.
-fn movable_fields<'a, F>(kind: StructKind, fields: &'a [F]) -> &'a [F]
-    requires { IsNonEmptyIfUnsized kind (length fields.now) }
-    ensures { result.now ≡ movable kind fields.now }
-{
-    match kind {
-        StructKind::MaybeUnsized => &fields[..fields.len() - 1],
-        _ => fields,
-    }
 }
 
 /// These offsets, as those of fields.
@@ -95,6 +87,26 @@ fn error_of<F: Copy>(fields: &[F], fault: ListFault) -> LayoutCalculatorError<F>
     }
 }
 
+/// The list's alignment before `repr(align)` raised it.
+fn unadjusted_align(
+    dl: &TargetDataLayout,
+    repr: &ReprOptions,
+    list: &ListRepr,
+    size: Size,
+    align: Align,
+    parts: &[Part],
+    bulky: &[usize],
+) -> Align
+    requires { bulky.now ≡ bulky_parts parts.now }
+    ensures { result ≡ unadjusted_of dl.now repr.now list.now.kind size align parts.now }
+{
+    if repr.transparent() {
+        transparent_align(size, align, parts, bulky)
+    } else {
+        list_align(parts, &unraised(dl, repr, list))
+    }
+}
+
 /// The layout of these fields as one list.
 fn layout_of_list<FieldIdx: Idx, VariantIdx: Idx, F: LayoutHandle<FieldIdx, VariantIdx> + Copy>(
     alloc: Global,
@@ -112,15 +124,6 @@ fn layout_of_list<FieldIdx: Idx, VariantIdx: Idx, F: LayoutHandle<FieldIdx, Vari
     requires count { length fields.now ≤ FieldIdx.MAX_INDEX + 1 }
     ensures exact { IsListAnswer F.layout_of FieldIdx.at (VariantIdx.at 0) dl.now repr.now list.now.kind fields.now result }
     ensures lawful { IfOk result (IsLawfulLayout dl.now) }
-    ensures apart { IfOk result (λ l. AreApart l.size (offsets_of l.fields) (map (λ f. (F.layout_of f).size) fields.now)) }
-    ensures after { IfOk result (λ l. All (λ o. start_of list.now.pack list.now.kind ≤ o) (offsets_of l.fields)) }
-    ensures aligned { IfOk result (λ l. AreAligned (offsets_of l.fields) (map (λ f. cut list.now.pack (F.layout_of f).align.abi) fields.now)) }
-    ensures niche { IfOk result (λ l. IfSome l.largest_niche (IsNicheOfPart (offsets_of l.fields) (map F.layout_of fields.now))) }
-    ensures largest { IfOk result (λ l. HasLargestNiche dl.now l.largest_niche (map F.layout_of fields.now)) }
-    ensures least { IfOk result (λ l. (other : List ℕ) → IsAllowed list.now (length fields.now) other → l.size ≤ size_in list.now (parts_of dl.now (map F.layout_of fields.now)) other) }
-    ensures too_large { result ≡ Err LayoutCalculatorError.SizeOverflow → (other : List ℕ) → IsAllowed list.now (length fields.now) other → size_bound dl.now ≤ size_in list.now (parts_of dl.now (map F.layout_of fields.now)) other }
-    ensures refused { AreSized (map F.layout_of fields.now) → ((other : List ℕ) → IsAllowed list.now (length fields.now) other → size_bound dl.now ≤ size_in list.now (parts_of dl.now (map F.layout_of fields.now)) other) → IsAnswer (Err LayoutCalculatorError.SizeOverflow) result }
-    ensures sum { IsTrue list.now.reorderable → IsSized list.now.kind → IfOk result (λ l. l.size ≡ sum_rounded list.now (parts_of dl.now (map F.layout_of fields.now))) }
 {
     let parts = parts_of(alloc, dl, fields)?;
     let placed = match layout_of_parts(alloc, dl, &parts, list) {
@@ -137,11 +140,7 @@ fn layout_of_list<FieldIdx: Idx, VariantIdx: Idx, F: LayoutHandle<FieldIdx, Vari
     let bulky = bulky_parts(alloc, &parts)?;
     let fixed = repr.inhibit_newtype_abi_optimization();
     let view = list_view(dl, fixed, size, align, &parts, &offsets, &bulky);
-    let unadjusted_abi_align = if repr.transparent() {
-        transparent_align(size, align, &parts, &bulky)
-    } else {
-        list_align(&parts, &unraised(dl, repr, list))
-    };
+    let unadjusted_abi_align = unadjusted_align(dl, repr, list, size, align, &parts, &bulky);
     let offsets = field_offsets(alloc, &offsets)?;
     let in_memory_order = fields_named(alloc, &order)?;
     Ok(LayoutData {
@@ -160,7 +159,7 @@ fn layout_of_list<FieldIdx: Idx, VariantIdx: Idx, F: LayoutHandle<FieldIdx, Vari
         max_repr_align: greatest_repr_align(repr.align, fields),
         unadjusted_abi_align,
         repr_c: lies_as_in_c(repr, fields),
-        randomization_seed: seed_with(repr.field_shuffle_seed, movable_fields(list.kind, fields)),
+        randomization_seed: seed_with(repr.field_shuffle_seed, movable(list.kind, fields)),
     })
 }
 
@@ -195,7 +194,6 @@ impl<Cx: HasDataLayout> LayoutCalculator<Cx> {
         requires repr { HasLawfulAligns repr.now }
         requires prefix { IsLawfulPrefix kind (size_bound (Cx.target self.now.cx)) }
         requires tail { IsNonEmptyIfUnsized kind (length (items_of fields)) }
-        requires count { length (items_of fields) ≤ FieldIdx.MAX_INDEX + 1 }
         ensures exact { IsListAnswer F.layout_of FieldIdx.at (VariantIdx.at 0) (Cx.target self.now.cx) repr.now kind (items_of fields.entry) result }
         ensures lawful { IfOk result (IsLawfulLayout (Cx.target self.now.cx)) }
         ensures apart { IfOk result (λ l. AreApart l.size (offsets_of l.fields) (map (λ f. (F.layout_of f).size) (items_of fields.entry))) }
@@ -204,15 +202,28 @@ impl<Cx: HasDataLayout> LayoutCalculator<Cx> {
         ensures niche { IfOk result (λ l. IfSome l.largest_niche (IsNicheOfPart (offsets_of l.fields) (map F.layout_of (items_of fields.entry)))) }
         ensures largest { IfOk result (λ l. HasLargestNiche (Cx.target self.now.cx) l.largest_niche (map F.layout_of (items_of fields.entry))) }
 
-        // No order that the repr and the kind allow is smaller.
-        ensures least { IfOk result (λ l. (other : List ℕ) → IsAllowed (list_repr (Cx.target self.now.cx) repr.now kind) (length (items_of fields.entry)) other → l.size ≤ size_in (list_repr (Cx.target self.now.cx) repr.now kind) (parts_of (Cx.target self.now.cx) (map F.layout_of (items_of fields.entry))) other) }
+        // The fields lie one after another in an order that the repr and the kind allow, which is the memory order, and the
+        // alignment is the list's.
+        ensures placed { IfOk result (LiesInSomeOrder FieldIdx.at (Cx.target self.now.cx) repr.now kind (map F.layout_of (items_of fields.entry))) }
 
-        // It is refused for its size only where every such order is too large, and a list of sized fields always then.
-        ensures too_large { result ≡ Err LayoutCalculatorError.SizeOverflow → (other : List ℕ) → IsAllowed (list_repr (Cx.target self.now.cx) repr.now kind) (length (items_of fields.entry)) other → size_bound (Cx.target self.now.cx) ≤ size_in (list_repr (Cx.target self.now.cx) repr.now kind) (parts_of (Cx.target self.now.cx) (map F.layout_of (items_of fields.entry))) other }
-        ensures refused { AreSized (map F.layout_of (items_of fields.entry)) → ((other : List ℕ) → IsAllowed (list_repr (Cx.target self.now.cx) repr.now kind) (length (items_of fields.entry)) other → size_bound (Cx.target self.now.cx) ≤ size_in (list_repr (Cx.target self.now.cx) repr.now kind) (parts_of (Cx.target self.now.cx) (map F.layout_of (items_of fields.entry))) other) → IsAnswer (Err LayoutCalculatorError.SizeOverflow) result }
+        // Some order that is allowed has the size, and none a smaller one.
+        ensures least { IfOk result (λ l. IsLeastSize (Cx.target self.now.cx) repr.now kind (map F.layout_of (items_of fields.entry)) l.size) }
+
+        // It is refused for its size only where every such order is too large, and a list of sized fields always then; sized
+        // fields are refused by no other name.
+        ensures too_large { result ≡ Err LayoutCalculatorError.SizeOverflow → IsEachOrderTooLarge (Cx.target self.now.cx) repr.now kind (map F.layout_of (items_of fields.entry)) }
+        ensures refused { AreSized (map F.layout_of (items_of fields.entry)) → IsEachOrderTooLarge (Cx.target self.now.cx) repr.now kind (map F.layout_of (items_of fields.entry)) → IsAnswer (Err LayoutCalculatorError.SizeOverflow) result }
+        ensures no_other { AreSized (map F.layout_of (items_of fields.entry)) → IfErr result (λ e. (e ≡ LayoutCalculatorError.SizeOverflow) ⊎ (e ≡ LayoutCalculatorError.OutOfMemory)) }
+
+        // The second order, of a bias to the end, never fails where the first one has no fault.
+        ensures second { IsFirstFaultless (Cx.target self.now.cx) repr.now kind (map F.layout_of (items_of fields.entry)) → IfErr result (λ e. e ≡ LayoutCalculatorError.OutOfMemory) }
 
         // Where the order is free, sized fields leave no padding but at the end.
         ensures sum { IsTrue (list_repr (Cx.target self.now.cx) repr.now kind).reorderable → IsSized kind → IfOk result (λ l. l.size ≡ sum_rounded (list_repr (Cx.target self.now.cx) repr.now kind) (parts_of (Cx.target self.now.cx) (map F.layout_of (items_of fields.entry)))) }
+
+        // The memory order has a place for each field and never steps back.
+        ensures places { IfOk result (λ l. HasPlaceForEach l.fields) }
+        ensures ascending { IfOk result (λ l. IsAscending FieldIdx.number l.fields) }
     {
         let dl = self.cx.data_layout();
         let list = list_repr(dl, repr, kind);

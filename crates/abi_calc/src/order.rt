@@ -122,7 +122,7 @@ fn sort_keys(alloc: Global, parts: &[Part], rule: SortRule) -> Result<Vec<SortKe
     requires { All IsAlignedPart parts.now }
     ensures { IfOk result (λ keys. keys.items ≡ map (sort_key rule) parts.now) }
 {
-    let mut keys = Vec::new(alloc);
+    let mut keys = Vec::with_capacity(alloc, parts.len())?;
     for part in parts {
         keys.push(rule.key_of(part))?;
     }
@@ -139,28 +139,34 @@ fn key_at(keys: &[SortKey], index: usize) -> SortKey
     })
 }
 
-fn indices(alloc: Global, count: usize) -> Result<Vec<usize>, AllocError>
+/// The first `count` indices, with room for so many.
+#[tactic(auto, using(crate::proofs::Steps::source_more))]
+fn indices(alloc: Global, room: usize, count: usize) -> Result<Vec<usize>, AllocError>
     ensures { IfOk result (λ order. order.items ≡ source_order count) }
 {
-    (0..count).collect(alloc)
+    let mut order = Vec::with_capacity(alloc, room)?;
+    for index in 0..count {
+        order.push(index)?;
+    }
+    Ok(order)
 }
 
-fn sorted_order(alloc: Global, keys: &[SortKey]) -> Result<Vec<usize>, AllocError>
+fn sorted_order(alloc: Global, room: usize, keys: &[SortKey]) -> Result<Vec<usize>, AllocError>
     ensures { IfOk result (λ order. IsSortedOrder keys.now order.items) }
 {
-    let mut order = indices(alloc, keys.len())?;
+    let mut order = indices(alloc, room, keys.len())?;
     order.sort_by_key(|&index| key_at(keys, index))?;
     Ok(order)
 }
 
 /// The fields that may move: all but a last one that may be unsized.
-fn movable<'a>(kind: StructKind, parts: &'a [Part]) -> &'a [Part]
-    requires { IsNonEmptyIfUnsized kind (length parts.now) }
-    ensures { result.now ≡ movable kind parts.now }
+pub fn movable<'a, F>(kind: StructKind, fields: &'a [F]) -> &'a [F]
+    requires { IsNonEmptyIfUnsized kind (length fields.now) }
+    ensures { result.now ≡ movable kind fields.now }
 {
     match kind {
-        StructKind::MaybeUnsized => &parts[..parts.len() - 1],
-        _ => parts,
+        StructKind::MaybeUnsized => &fields[..fields.len() - 1],
+        _ => fields,
     }
 }
 
@@ -211,7 +217,7 @@ fn sorted_before(
 {
     let movable = movable(repr.kind, parts);
     let keys = sort_keys(alloc, movable, SortRule::new(repr, bias, movable))?;
-    let mut order = sorted_order(alloc, &keys)?;
+    let mut order = sorted_order(alloc, parts.len(), &keys)?;
     if movable.len() < parts.len() {
         order.push(movable.len())?;
     }
@@ -232,6 +238,6 @@ pub fn memory_order(
     if repr.reorderable {
         sorted_before(alloc, parts, repr, bias)
     } else {
-        indices(alloc, parts.len())
+        indices(alloc, parts.len(), parts.len())
     }
 }

@@ -91,7 +91,7 @@ pub fn parts_of<
     requires { All (λ f. IsLawfulLayout (C.target cx.now) (F.layout_of f)) fields.now }
     ensures { IfOk result (λ parts. parts.items ≡ map (λ f. part_of (C.target cx.now) f) (map F.layout_of fields.now)) }
 {
-    let mut parts = Vec::new(alloc);
+    let mut parts = Vec::with_capacity(alloc, fields.len())?;
     for field in fields {
         parts.push(part_of(cx, field.layout()))?;
     }

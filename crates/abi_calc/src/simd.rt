@@ -4,8 +4,9 @@ ghost use Rattle.std.specs.Prelude.{◌≡◌, ◌≢◌, ℕ, ◌*◌, ◌^◌,
 ghost use Rattle.std.specs.Int.{◌∣◌, next_multiple_of};
 ghost use Rattle.abi_base.specs.DataLayout.{IsLawfulDataLayout, size_bound, vector_align_of};
 ghost use Rattle.abi_scalar.specs.Lawful.{IsLawfulLayout};
+ghost use Rattle.abi_scalar.specs.Order.{HasPlaceForEach, IsAscending};
 ghost use Rattle.abi_calc.specs.Answer.{IsAnswer};
-ghost use Rattle.abi_calc.specs.Simd.{if_below, is_tight, lanes_answer, scalable_answer, simd_align, simd_answer, simd_view, vector_layout};
+ghost use Rattle.abi_calc.specs.Simd.{IsVectorTooLarge, if_below, is_tight, lanes_answer, scalable_answer, simd_align, simd_answer, simd_view, vector_layout};
 
 use crate::calculator::LayoutCalculator;
 use abi_base::{AbiAlign, Align, HasDataLayout, NumScalableVectors, Size};
@@ -176,6 +177,12 @@ impl<Cx: HasDataLayout> LayoutCalculator<Cx> {
         ensures size { IfOk result (λ l. l.size ≡ next_multiple_of ((F.layout_of element).size * count) (2 ^ l.align.abi)) }
         ensures tight { IsTrue (is_tight repr_packed count) → IfOk result (λ l. l.size ≡ (F.layout_of element).size * count) }
         ensures lawful { IfOk result (IsLawfulLayout (Cx.target self.now.cx)) }
+
+        // It is refused for its size exactly where so many of the elements make a vector and it is too large, memory aside.
+        ensures too_large { result ≡ Err LayoutCalculatorError.SizeOverflow → IsVectorTooLarge (Cx.target self.now.cx) (F.layout_of element) count repr_packed }
+        ensures refused { IsVectorTooLarge (Cx.target self.now.cx) (F.layout_of element) count repr_packed → IsAnswer (Err LayoutCalculatorError.SizeOverflow) result }
+        ensures places { IfOk result (λ l. HasPlaceForEach l.fields) }
+        ensures ascending { IfOk result (λ l. IsAscending FieldIdx.number l.fields) }
     {
         let lanes = self.lanes(element, count)?;
         let backend_repr = simd_view(&lanes, repr_packed);
@@ -206,6 +213,8 @@ impl<Cx: HasDataLayout> LayoutCalculator<Cx> {
         ensures exact { IsAnswer (scalable_answer F.layout_of (VariantIdx.at 0) (FieldIdx.at 0) (Cx.target self.now.cx) element count number_of_vectors) result }
         ensures size { IfOk result (λ l. l.size ≡ next_multiple_of ((F.layout_of element).size * count * number_of_vectors.0) (2 ^ l.align.abi)) }
         ensures lawful { number_of_vectors.0 ≢ 0 → IfOk result (IsLawfulLayout (Cx.target self.now.cx)) }
+        ensures places { IfOk result (λ l. HasPlaceForEach l.fields) }
+        ensures ascending { IfOk result (λ l. IsAscending FieldIdx.number l.fields) }
     {
         let lanes = self.lanes(element, count)?;
         let bytes = lanes.size * u64::from(number_of_vectors.0);

@@ -1,14 +1,15 @@
 //! Unions: fields that share their bytes.
 
-ghost use Rattle.std.specs.Prelude.{◌≡◌, ◌↔◌, ℕ, ◌+◌, ◌^◌, ◌≤◌, All, Contains, IfOk, IfSome, IsTrue, None, false, length, map};
+ghost use Rattle.std.specs.Prelude.{◌≡◌, ◌↔◌, ℕ, ◌+◌, ◌^◌, ◌≤◌, All, Contains, Err, IfOk, IfSome, IsTrue, None, false, length, map};
 ghost use Rattle.std.specs.Int.{next_multiple_of};
 ghost use Rattle.abi_index.specs.Slice.{items_of};
 ghost use Rattle.abi_base.specs.DataLayout.{IsLawfulDataLayout};
 ghost use Rattle.abi_scalar.specs.declared.backend_repr.BackendRepr.{BackendRepr};
 ghost use Rattle.abi_scalar.specs.Layout.{IsZst};
 ghost use Rattle.abi_scalar.specs.Lawful.{IsLawfulLayout};
+ghost use Rattle.abi_scalar.specs.Order.{HasPlaceForEach, IsAscending};
 ghost use Rattle.abi_scalar.specs.View.{union_view};
-ghost use Rattle.abi_calc.specs.Union.{CountsForView, HasView, IsAlignedFor, IsCommonView, IsUnionAnswer, IsUnionView, KnowsScalarsOf, first_unsized, greatest_align, greatest_size, only_of, raised_to, unraised_align, union_align};
+ghost use Rattle.abi_calc.specs.Union.{CountsForView, HasView, IsAlignedFor, IsCommonView, IsUnionAnswer, IsUnionTooLarge, IsUnionView, KnowsScalarsOf, first_unsized, greatest_align, greatest_size, only_of, raised_to, unraised_align, union_align};
 
 use crate::calculator::LayoutCalculator;
 use crate::fields::{greatest_repr_align, lies_as_in_c, seed_with};
@@ -19,6 +20,7 @@ use abi_scalar::{
     BackendRepr, FieldCount, FieldsShape, LayoutCalculatorError, LayoutData, LayoutHandle,
     ReprOptions, Variants,
 };
+use std::alloc::Global;
 
 /// The first field whose size isn't known beforehand.
 fn first_unsized<FieldIdx: Idx, VariantIdx: Idx, F: LayoutHandle<FieldIdx, VariantIdx> + Copy>(
@@ -256,13 +258,15 @@ impl<Cx: HasDataLayout> LayoutCalculator<Cx> {
     /// `repr(C)` or aligned otherwise.
     ///
     /// Refused as `UnexpectedUnsized` with the first field whose size isn't known beforehand, else as `EmptyUnion`
-    /// where there are no fields, else as `SizeOverflow` where the size is not below the data layout's bound.
+    /// where there are no fields, else as `SizeOverflow` where the size is not below the data layout's bound. No memory
+    /// is asked for: `alloc` stands where the neighbouring calls have it.
     pub fn layout_of_union<
         FieldIdx: Idx,
         VariantIdx: Idx,
         F: LayoutHandle<FieldIdx, VariantIdx> + Copy,
     >(
         &self,
+        _alloc: Global,
         repr: &ReprOptions,
         variants: IndexSlice<'_, VariantIdx, IndexVec<FieldIdx, F>>,
     ) -> Result<LayoutData<FieldIdx, VariantIdx>, LayoutCalculatorError<F>>
@@ -275,6 +279,12 @@ impl<Cx: HasDataLayout> LayoutCalculator<Cx> {
         ensures lawful { IfOk result (IsLawfulLayout (Cx.target self.now.cx)) }
         ensures niche { IfOk result (λ l. l.largest_niche ≡ None) }
         ensures inhabited { IfOk result (λ l. l.uninhabited ≡ false) }
+
+        // It is refused for its size exactly where its fields are sized and it is too large.
+        ensures too_large { result ≡ Err LayoutCalculatorError.SizeOverflow → IsUnionTooLarge (Cx.target self.now.cx) repr.now (map F.layout_of (only_of (items_of variants.entry))) }
+        ensures refused { IsUnionTooLarge (Cx.target self.now.cx) repr.now (map F.layout_of (only_of (items_of variants.entry))) → result ≡ Err LayoutCalculatorError.SizeOverflow }
+        ensures places { IfOk result (λ l. HasPlaceForEach l.fields) }
+        ensures ascending { IfOk result (λ l. IsAscending FieldIdx.number l.fields) }
     {
         let fields = only_fields(variants);
         self.layout_of_union_fields(repr, fields)

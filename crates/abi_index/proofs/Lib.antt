@@ -1,1 +1,5 @@
 pub mod IndicesLemmas
+pub mod BitSetLemmas
+pub mod AscendingLemmas
+pub mod BitMatrixLemmas
+pub mod RangeSetLemmas

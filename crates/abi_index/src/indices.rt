@@ -3,25 +3,26 @@
 ghost use Rattle.std.specs.Prelude.{◌≡◌, ◌≤◌, ◌+◌, ℕ, map};
 ghost use Rattle.std.specs.List.{range_with_len};
 ghost use Rattle.std.specs.Iterator.{YieldsFirst, item_count};
-ghost use Rattle.abi_index.specs.Indices.{indices_left, last_left};
 
 use crate::idx::Idx;
 use std::marker::PhantomData;
 
 /// The indices of a list's places, in order.
-#[derive(Drop)]
-pub struct Indices<I> {
+#[derive(Drop, PartialEq, Eq, Debug)]
+pub struct Indices<I: Idx> {
     next: usize,
     end: usize,
     of: PhantomData<I>,
+    ghost within: { end ≤ I.MAX_INDEX + 1 },
 }
 
 impl<I: Idx> Indices<I> {
+    ghost use Rattle.abi_index.specs.Indices.{indices_left};
+
     /// The indices of so many places.
     pub(crate) fn below(count: usize) -> Self
         requires { count ≤ I.MAX_INDEX + 1 }
-        ensures left { indices_left I.at result ≡ map I.at (range_with_len 0 count) }
-        ensures last { last_left result ≤ I.MAX_INDEX + 1 }
+        ensures { indices_left I.at result ≡ map I.at (range_with_len 0 count) }
     {
         Indices {
             next: 0,
@@ -32,9 +33,9 @@ impl<I: Idx> Indices<I> {
 }
 
 impl<I: Idx> Iterator for Indices<I> {
-    type Item = I;
+    ghost use Rattle.abi_index.specs.Indices.{indices_left};
 
-    ghost can_next = { λ s. last_left s ≤ I.MAX_INDEX + 1 };
+    type Item = I;
 
     ghost next_gives = { YieldsFirst (λ s. indices_left I.at s) };
 

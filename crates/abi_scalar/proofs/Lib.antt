@@ -5,5 +5,6 @@ pub mod ReserveLemmas
 pub mod CountLemmas
 pub mod LeastLemmas
 pub mod NicheLemmas
+pub mod ReadableLemmas
 pub mod PairLemmas
 pub mod OrderLemmas

@@ -8,7 +8,7 @@ use Rattle.std.proofs.Math.Nat.{mul-le-mul_left}
 use Rattle.abi_scalar.specs.declared.fields_shape.FieldsShape.{FieldsShape}
 use Rattle.abi_scalar.specs.declared.fields_shape.FieldsShape.TheVariants.{Primitive, Union, Array, Arbitrary}
 use Rattle.abi_scalar.specs.Shape.{field_offset}
-use Rattle.abi_scalar.specs.Order.{indices_by_offset, place_count, HasPlaceForEach, IsAscending, NeverStepsBack}
+use Rattle.abi_scalar.specs.Order.{indices_by_offset, place_count, HasPlaceForEach, HasOrder, IsAscending, NeverStepsBack}
 
 -- the first of the places from `next` to before `end`
 pub places_begin : (next end : ℕ) → next < end → range_with_len next (end - next) ≡ next ∷ range_with_len (next + 1) (end - (next + 1))
@@ -55,3 +55,14 @@ places_ascend number (Union count) h = counted (λ i j. 0 ≤ 0) count (λ i j b
 places_ascend number (Array stride count) h =
     counted (λ i j. stride * i ≤ stride * j) count (λ i j before. mul-le-mul_left stride (omega arith))
 places_ascend number (Arbitrary offsets order) h = pairs_of number (λ i j. field_offset (Arbitrary offsets order) i ≤ field_offset (Arbitrary offsets order) j) order h
+
+-- two fields, the first at the front, are in order
+pub pair_order : {F : Type 0} (number : F → ℕ) (first second : F) (offset : ℕ) → number first ≡ 0 → number second ≡ 1
+    → HasOrder number (Arbitrary (0 ∷ offset ∷ []) (first ∷ second ∷ []))
+pair_order number first second offset front next = (
+  refl,
+  λ i j d before below.
+      let last : j ≡ 1 = omega arith in
+      let earlier : i ≡ 0 = omega arith in
+      rw (last, earlier, front, next) (omega arith),
+)

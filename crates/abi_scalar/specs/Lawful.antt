@@ -2,6 +2,7 @@
 use Rattle.std.specs.Prelude.{◌≡◌, ℕ, ◌+◌, ◌^◌, ◌<◌, ◌≤◌, ◌⊎◌, IfSome, ⊤}
 use Rattle.std.specs.Int.{◌∣◌}
 use Rattle.abi_base.specs.declared.data_layout.TargetDataLayout.{TargetDataLayout}
+use Rattle.abi_base.specs.Align.{max_exponent}
 use Rattle.abi_base.specs.DataLayout.{size_bound}
 use Rattle.abi_base.specs.Primitive.{IsLawfulPrimitive}
 use Rattle.abi_scalar.specs.declared.scalar.Scalar.TheVariants.{Initialized}
@@ -54,7 +55,7 @@ pub record IsLawfulLayout {F V : Type 0} (dl : TargetDataLayout) (layout : Layou
   -- and below the data layout's bound
   pub bound : layout.size < size_bound dl
   -- the alignment is at most 2 ^ 29 bytes
-  pub limit : layout.align.abi ≤ 29
+  pub limit : layout.align.abi ≤ max_exponent
   pub niche : IfSome layout.largest_niche (IsLawfulNiche dl layout.size)
   pub view : IsLawfulView dl layout.size layout.backend_repr
   pub niche_of_view : IfSome layout.largest_niche (IsNicheOfView layout.backend_repr)

@@ -1,5 +1,5 @@
 -- The least of all ranges that hold some values.
-use Rattle.std.specs.Prelude.{◌≡◌, ℕ, ◌<◌, ◌≤◌, ◌⊎◌, List, All}
+use Rattle.std.specs.Prelude.{◌≡◌, ℕ, ◌<◌, ◌≤◌, ◌⊎◌, List, [], All, length, Option, MatchOption}
 use Rattle.abi_scalar.specs.declared.wrapping_range.WrappingRange.{WrappingRange}
 use Rattle.abi_scalar.specs.Range.{IsIn, AreWithin}
 use Rattle.abi_scalar.specs.Count.{AreSoMany}
@@ -19,3 +19,8 @@ pub record IsLeastRange (width : ℕ) (values : List ℕ) (range : WrappingRange
   pub within : AreWithin width range
   pub holds : All (IsIn width range) values
   pub least : (other : WrappingRange) → AreWithin width other → All (IsIn width other) values → IsNoWorse width range other
+
+-- the least range of the values; nothing where there are none, and only there
+abbrev pub IsSmallestOf : (width : ℕ) → (values : List ℕ) → Option WrappingRange → Type 0
+IsSmallestOf width values found =
+    MatchOption found (values ≡ []) (λ range. (0 < length values) × IsLeastRange width values range)

@@ -31,6 +31,10 @@ IsAscending number (Arbitrary offsets in_memory_order) =
     AllPairs (λ a b. field_offset (Arbitrary offsets in_memory_order) (number a) ≤ field_offset (Arbitrary offsets in_memory_order) (number b)) in_memory_order
 IsAscending number _ = ⊤
 
+-- each field has a place in memory order, and that order never steps back
+abbrev pub HasOrder : {F : Type 0} → (number : F → ℕ) → FieldsShape F → Type 0
+HasOrder number shape = HasPlaceForEach shape × IsAscending number shape
+
 -- of two of the places, the field at the first lies no further on than that at the second
 abbrev pub NeverStepsBack : {F : Type 0} → FieldsShape F → (places : List ℕ) → Type 0
 NeverStepsBack shape places = AllPairs (λ i j. field_offset shape i ≤ field_offset shape j) places

@@ -1,5 +1,5 @@
 -- The layout of two scalars.
-use Rattle.std.specs.Prelude.{ℕ, ◌+◌, ◌^◌, ◌<◌, [], ◌∷◌, Option, Some, None, false, max, nat_lt, if◌then◌else◌}
+use Rattle.std.specs.Prelude.{ℕ, ◌+◌, ◌^◌, [], ◌∷◌, Option, Some, None, false, max, nat_lt, if◌then◌else◌}
 use Rattle.std.specs.Int.{next_multiple_of}
 use Rattle.abi_base.specs.declared.data_layout.TargetDataLayout.{TargetDataLayout}
 use Rattle.abi_scalar.specs.declared.niche.Niche.{Niche}
@@ -22,14 +22,6 @@ second_offset dl a b = next_multiple_of (scalar_size dl a) (2 ^ scalar_align dl 
 -- the end of the second, rounded up to the pair's alignment
 abbrev pub pair_size : TargetDataLayout → (a b : Scalar) → ℕ
 pair_size dl a b = next_multiple_of (second_offset dl a b + scalar_size dl b) (2 ^ pair_align dl a b)
-
--- The offset and the size can be written in 64 bits.
-pub record HasRoomForPair (dl : TargetDataLayout) (a b : Scalar) : Type 0 where
-  pub second_align : scalar_align dl b < 64
-  pub align : pair_align dl a b < 64
-  pub offset : second_offset dl a b < 2 ^ 64
-  pub end : second_offset dl a b + scalar_size dl b < 2 ^ 64
-  pub size : pair_size dl a b < 2 ^ 64
 
 -- the niche with more free numbers, the first where both have as many
 abbrev pub larger_niche : TargetDataLayout → (first second : Option Niche) → Option Niche

@@ -1,5 +1,5 @@
 -- Scalars, and the numbers that they hold.
-use Rattle.std.specs.Prelude.{◌≡◌, ℕ, ◌<◌, ◌≤◌, ⊤, IsTrue, false}
+use Rattle.std.specs.Prelude.{◌≡◌, ℕ, ◌<◌, ◌≤◌, ⊤, Bool, IsTrue, false}
 use Rattle.abi_base.specs.declared.primitive.Primitive.{Primitive}
 use Rattle.abi_base.specs.declared.primitive.Primitive.TheVariants.{Int, Float, Pointer}
 use Rattle.abi_base.specs.declared.integer.Integer.TheVariants.{I8}
@@ -24,16 +24,25 @@ IsUnion (Union value) = ⊤
 abbrev pub IsBool : Scalar → Type 0
 IsBool scalar = scalar ≡ Initialized (Int I8 false) (record { start = 0; end = 1 })
 
+-- whether the primitive is a signed integer
+abbrev pub is_signed_integer : Primitive → Bool
+is_signed_integer (Int integer signed) = signed
+is_signed_integer (Float float) = false
+is_signed_integer (Pointer space) = false
+
 -- the primitive is a signed integer
 abbrev pub IsSignedInteger : Primitive → Type 0
-IsSignedInteger (Int integer signed) = IsTrue signed
-IsSignedInteger (Float float) = ⊥
-IsSignedInteger (Pointer space) = ⊥
+IsSignedInteger primitive = IsTrue (is_signed_integer primitive)
 
 -- the scalar with that range, where it has one
 abbrev pub with_range : Scalar → WrappingRange → Scalar
 with_range (Initialized value range) new = Initialized value new
 with_range (Union value) new = Union value
+
+-- it holds the numbers of this range
+abbrev pub HasRange : Scalar → WrappingRange → Type 0
+HasRange (Initialized value range) numbers = range ≡ numbers
+HasRange (Union value) numbers = ⊥
 
 -- it holds numbers of a range
 abbrev pub IsInitialized : Scalar → Type 0

@@ -1,5 +1,5 @@
 -- How a scalar is written.
-use Rattle.std.specs.Prelude.{ℕ, ◌-◌, ◌*◌, ◌%◌, ◌^◌, ◌==◌, ◌&&◌, ℤ, Bool, false, List, codes, ◌++◌, if◌then◌else◌}
+use Rattle.std.specs.Prelude.{ℕ, ◌-◌, ◌*◌, ◌%◌, ◌^◌, ◌==◌, ◌&&◌, ℤ, List, codes, ◌++◌, if◌then◌else◌}
 use Rattle.std.specs.Int.Signed.{lt_z}
 use Rattle.std.specs.Fmt.{signed_decimal}
 use Rattle.abi_base.specs.declared.primitive.Primitive.{Primitive}
@@ -12,6 +12,7 @@ use Rattle.abi_scalar.specs.declared.scalar.Scalar.{Scalar}
 use Rattle.abi_scalar.specs.declared.scalar.Scalar.TheVariants.{Initialized, Union}
 use Rattle.abi_scalar.specs.declared.wrapping_range.WrappingRange.{WrappingRange}
 use Rattle.abi_scalar.specs.Range.{numbers_of}
+use Rattle.abi_scalar.specs.Scalar.{is_signed_integer}
 use Rattle.abi_scalar.specs.RangeText.{range_text}
 
 -- how many bytes the range is read at; those of a pointer are not known here, so they are taken to be 16
@@ -19,12 +20,6 @@ abbrev pub text_width : Primitive → ℕ
 text_width (Int integer signed) = integer_size integer
 text_width (Float float) = float_size float
 text_width (Pointer space) = 16
-
--- whether the bounds are written as signed numbers
-abbrev pub is_written_signed : Primitive → Bool
-is_written_signed (Int integer signed) = signed
-is_written_signed (Float float) = false
-is_written_signed (Pointer space) = false
 
 -- a range of signed numbers, in two parts where it wraps round
 abbrev pub signed_range_text : (start end : ℤ) → List ℕ
@@ -40,7 +35,7 @@ low_signed width n = signed_value (width * 8) (n % 2 ^ (width * 8))
 abbrev pub bounds_text : Primitive → WrappingRange → List ℕ
 bounds_text value range =
     if (range.start == 0) && (range.end == numbers_of (text_width value) - 1) then codes ".."
-    else (if is_written_signed value
+    else (if is_signed_integer value
     then signed_range_text (low_signed (text_width value) range.start) (low_signed (text_width value) range.end)
     else range_text range.start range.end)
 

@@ -1,11 +1,12 @@
 -- The layout of one variant, by itself and as a part of its type's.
-use Rattle.std.specs.Prelude.{List, []}
+use Rattle.std.specs.Prelude.{ℕ, List, []}
 use Rattle.abi_scalar.specs.declared.fields_shape.FieldsShape.TheVariants.{Arbitrary}
 use Rattle.abi_scalar.specs.declared.variants.Variants.{Variants}
 use Rattle.abi_scalar.specs.declared.variants.Variants.TheVariants.{Single, Multiple}
 use Rattle.abi_scalar.specs.declared.variants.VariantLayout.{VariantLayout}
 use Rattle.abi_scalar.specs.declared.layout_data.LayoutData.{LayoutData}
 use Rattle.abi_scalar.specs.Shape.{listed_offsets, listed_order}
+use Rattle.abi_scalar.specs.Order.{HasOrder}
 
 -- what the layout of a list of fields has of its own
 abbrev pub variant_of : {F V : Type 0} → LayoutData F V → VariantLayout F
@@ -17,6 +18,10 @@ variant_of layout = record {
   largest_niche = layout.largest_niche;
   uninhabited = layout.uninhabited;
 }
+
+-- each field of the variant has a place in memory order, and that order never steps back
+abbrev pub IsOrderedVariant : {F : Type 0} → (number : F → ℕ) → VariantLayout F → Type 0
+IsOrderedVariant number variant = HasOrder number (Arbitrary variant.field_offsets variant.fields_in_memory_order)
 
 -- the variants that a tag tells apart
 abbrev pub variants_of : {F V : Type 0} → Variants F V → List (VariantLayout F)

@@ -21,7 +21,7 @@ pub enum LayoutCalculatorError<F> {
     /// A vector has no lane.
     ZeroLengthSimdType,
     /// A vector has more lanes than the greatest number.
-    OversizedSimdType { max_lanes: u16 },
+    OversizedSimdType { max_lanes: usize },
     /// A vector's element is no scalar.
     NonPrimitiveSimdType(F),
     /// A growth of memory was refused.
@@ -80,43 +80,5 @@ impl<F> From<AllocError> for LayoutCalculatorError<F> {
 
     fn from(_error: AllocError) -> Self {
         LayoutCalculatorError::OutOfMemory
-    }
-}
-
-#[cfg(test)]
-mod tests {
-    use super::*;
-    use std::fmt::Display;
-    use std::test::Fail;
-
-    /// An error, displayed in plain words.
-    #[derive(Clone, Copy)]
-    struct Plain(LayoutCalculatorError<u8>);
-
-    impl Display for Plain {
-        fn fmt<W: fmt::Write>(&self, f: &mut fmt::Formatter<W>) -> fmt::Result {
-            self.0.fallback_fmt(f)
-        }
-    }
-
-    #[test]
-    fn says_what_is_wrong(rt: HostRuntime) -> Result<(), Fail> {
-        let unsized_field = Plain(LayoutCalculatorError::UnexpectedUnsized(1));
-        let too_large = Plain(LayoutCalculatorError::SizeOverflow);
-        let text = format!(in rt.alloc(); "{unsized_field}; {too_large}")?;
-        assert_eq!(rt;
-            text.as_str(),
-            "an unsized type was found where a sized type was expected; size overflow"
-        );
-        let no_lane = Plain(LayoutCalculatorError::ZeroLengthSimdType);
-        let no_memory = Plain(LayoutCalculatorError::OutOfMemory);
-        let text = format!(in rt.alloc(); "{no_lane}; {no_memory}")?;
-        assert_eq!(rt;
-            text.as_str(),
-            "invalid simd type definition; out of memory"
-        );
-        let bare = LayoutCalculatorError::NonPrimitiveSimdType(1u8).without_payload();
-        assert_eq!(rt; bare, LayoutCalculatorError::NonPrimitiveSimdType(()));
-        Ok(())
     }
 }

@@ -9,7 +9,7 @@ use crate::fields_shape::FieldsShape;
 use abi_index::Idx;
 
 /// Which fields are still to come.
-#[derive(Drop)]
+#[derive(Drop, PartialEq, Eq, Debug)]
 enum Order<'a, FieldIdx> {
     /// These, in this order.
     Listed(&'a [FieldIdx]),
@@ -18,7 +18,7 @@ enum Order<'a, FieldIdx> {
 }
 
 /// The places of fields in source order, in the order in which the fields follow one another in memory.
-#[derive(Drop)]
+#[derive(Drop, PartialEq, Eq, Debug)]
 pub struct IncreasingOffset<'a, FieldIdx> {
     order: Order<'a, FieldIdx>,
 }
@@ -111,74 +111,5 @@ impl<'a, FieldIdx: Idx> ExactSizeIterator for IncreasingOffset<'a, FieldIdx> {
             Order::Listed(order) => order.len(),
             Order::Counted { next, end } => end.saturating_sub(*next),
         }
-    }
-}
-
-#[cfg(test)]
-mod tests {
-    use super::*;
-    use crate::fields_shape::FieldCount;
-    use abi_base::Size;
-    use abi_index::{FieldIdx, IndexVec};
-    use std::alloc::{AllocError, Global};
-    use std::test::Fail;
-
-    /// The places of the shape's fields, after a look at how many there are.
-    fn places(
-        alloc: Global,
-        shape: &FieldsShape<FieldIdx>,
-    ) -> Result<(usize, Vec<usize>), AllocError>
-        requires { HasPlaceForEach shape.now }
-    {
-        let order = shape.index_by_increasing_offset();
-        let count = order.len();
-        let list: Vec<usize> = order.collect(alloc)?;
-        Ok((count, list))
-    }
-
-    #[test]
-    fn goes_up_in_memory(rt: HostRuntime) -> Result<(), Fail> {
-        let (count, list) = places(rt.alloc(), &FieldsShape::Primitive)?;
-        assert_eq!(rt; count, 1);
-        assert_eq!(rt; list.as_slice(), [0].as_slice());
-        let three = FieldCount::new(3).ok_or("three fields")?;
-        assert_eq!(rt; three.get(), 3);
-        let (count, list) = places(rt.alloc(), &FieldsShape::Union(three))?;
-        assert_eq!(rt; count, 3);
-        assert_eq!(rt; list.as_slice(), [0, 1, 2].as_slice());
-        let stride = Size::from_bytes(4);
-        let (count, list) = places(rt.alloc(), &FieldsShape::Array { stride, count: 2 })?;
-        assert_eq!(rt; count, 2);
-        assert_eq!(rt; list.as_slice(), [0, 1].as_slice());
-        let (count, list) = places(rt.alloc(), &FieldsShape::Array { stride, count: 0 })?;
-        assert_eq!(rt; count, 0);
-        assert!(rt; list.is_empty());
-        Ok(())
-    }
-
-    #[test]
-    fn follows_the_memory_order(rt: HostRuntime) -> Result<(), Fail> {
-        let mut offsets: IndexVec<FieldIdx, Size> = IndexVec::new(rt.alloc());
-        let _first = offsets.push(Size::from_bytes(6))?;
-        let _second = offsets.push(Size::from_bytes(0))?;
-        let _third = offsets.push(Size::from_bytes(4))?;
-        let mut in_memory_order: IndexVec<u32, FieldIdx> = IndexVec::new(rt.alloc());
-        let _first = in_memory_order.push(FieldIdx::from_u32(1))?;
-        let _second = in_memory_order.push(FieldIdx::from_u32(2))?;
-        let _third = in_memory_order.push(FieldIdx::from_u32(0))?;
-        let shape = FieldsShape::Arbitrary {
-            offsets,
-            in_memory_order,
-        };
-        let mut order = shape.index_by_increasing_offset();
-        assert_eq!(rt; order.next(), Some(1));
-        assert_eq!(rt; order.size_hint(), (2, Some(2)));
-        assert_eq!(rt; order.next(), Some(2));
-        assert_eq!(rt; order.len(), 1);
-        assert_eq!(rt; order.next(), Some(0));
-        assert_eq!(rt; order.next(), None);
-        assert_eq!(rt; order.next(), None);
-        assert_eq!(rt; order.size_hint(), (0, Some(0)));
-        Ok(())
     }
 }

@@ -16,6 +16,7 @@ pub struct BackendLaneCount {
 
 impl Model for BackendLaneCount {
     ghost use Rattle.std.specs.Prelude.{ℕ, ◌≤◌};
+    ghost use Rattle.abi_scalar.specs.LaneCount.{max_lanes};
 
     ghost Value = { ℕ };
 
@@ -23,7 +24,7 @@ impl Model for BackendLaneCount {
 
     ghost inverse = { λ n. record { lanes = n } };
 
-    ghost invariant = { λ a. (1 ≤ a.lanes) × (a.lanes ≤ 32768) };
+    ghost invariant = { λ a. (1 ≤ a.lanes) × (a.lanes ≤ max_lanes) };
 }
 
 impl BackendLaneCount {
@@ -31,9 +32,9 @@ impl BackendLaneCount {
     pub fn new<N>(count: u64) -> Result<BackendLaneCount, LayoutCalculatorError<N>>
         ensures { result ≡ lane_count count }
     {
-        if count > 32768 {
+        if count > u64::from(MAX_SIMD_LANES) {
             return Err(LayoutCalculatorError::OversizedSimdType {
-                max_lanes: MAX_SIMD_LANES,
+                max_lanes: usize::from(MAX_SIMD_LANES),
             });
         }
         if count == 0 {
@@ -63,31 +64,5 @@ impl BackendLaneCount {
         ensures { result ≡ self }
     {
         u32::from(self.lanes)
-    }
-}
-
-#[cfg(test)]
-mod tests {
-    use super::*;
-    use std::test::Fail;
-
-    #[test]
-    fn counts_lanes(rt: HostRuntime) -> Result<(), Fail> {
-        let none: Result<BackendLaneCount, LayoutCalculatorError<u8>> = BackendLaneCount::new(0);
-        assert_eq!(rt; none, Err(LayoutCalculatorError::ZeroLengthSimdType));
-        let many: Result<BackendLaneCount, LayoutCalculatorError<u8>> = BackendLaneCount::new(
-            32769,
-        );
-        assert_eq!(rt;
-            many,
-            Err(LayoutCalculatorError::OversizedSimdType { max_lanes: 32768 })
-        );
-        for (count, power) in [(1, true), (3, false), (32768, true)] {
-            let lanes = BackendLaneCount::new::<u8>(count)?;
-            assert_eq!(rt; lanes.as_u64(), count);
-            assert_eq!(rt; u64::from(lanes.as_u32()), count);
-            assert_eq!(rt; lanes.is_power_of_two(), power, "at {count}");
-        }
-        Ok(())
     }
 }

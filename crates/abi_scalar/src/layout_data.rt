@@ -70,26 +70,3 @@ impl<FieldIdx: Idx, VariantIdx: Idx> Debug for LayoutData<FieldIdx, VariantIdx> 
             .finish()
     }
 }
-
-#[cfg(test)]
-mod tests {
-    use super::*;
-    use abi_base::TargetDataLayout;
-    use abi_index::{FieldIdx, VariantIdx};
-    use std::test::Fail;
-
-    #[test]
-    fn is_written_part_by_part(rt: HostRuntime) -> Result<(), Fail> {
-        let dl = TargetDataLayout::default_in(rt.alloc())?;
-        let never: LayoutData<FieldIdx, VariantIdx> = LayoutData::never_type(&dl);
-        let text = format!(in rt.alloc(); "{never:?}")?;
-        assert_eq!(rt;
-            text.as_str(),
-            "Layout { size: Size(0 bytes), align: Align(1 bytes), backend_repr: Memory { sized: true }, \
-             fields: Primitive, largest_niche: None, uninhabited: true, variants: Empty, \
-             max_repr_align: None, unadjusted_abi_align: Align(1 bytes), repr_c: false, \
-             randomization_seed: Hash64 { inner: 0 } }"
-        );
-        Ok(())
-    }
-}

@@ -5,7 +5,8 @@ ghost use Rattle.abi_base.specs.DataLayout.{IsLawfulDataLayout, size_bound};
 ghost use Rattle.abi_scalar.specs.Scalar.{IsReadable, IsLawfulScalar};
 ghost use Rattle.abi_scalar.specs.Lawful.{IsLawfulLayout};
 ghost use Rattle.abi_scalar.specs.Niche.{niche_at};
-ghost use Rattle.abi_scalar.specs.Pair.{HasRoomForPair, second_offset, pair_size, larger_niche, pair_layout};
+ghost use Rattle.abi_scalar.specs.Order.{HasOrder};
+ghost use Rattle.abi_scalar.specs.Pair.{second_offset, pair_size, larger_niche, pair_layout};
 
 use crate::backend_repr::BackendRepr;
 use crate::fields_shape::FieldsShape;
@@ -53,28 +54,28 @@ fn two<I: Idx, T: Copy>(alloc: Global, first: T, second: T) -> Result<IndexVec<I
 
 impl<FieldIdx: Idx, VariantIdx: Idx> LayoutData<FieldIdx, VariantIdx> {
     /// The layout of two scalars: the second begins after the first, at its own alignment, and the whole is as
-    /// aligned as both and as a list of fields.
+    /// aligned as both and as a list of fields. `AllocError` where memory for the offsets is refused.
     pub fn scalar_pair<C: HasDataLayout>(
         alloc: Global,
         cx: &C,
         a: Scalar,
         b: Scalar,
     ) -> Result<Self, AllocError>
+        requires data_layout { IsLawfulDataLayout (C.target cx.now) }
         requires first { IsReadable (C.target cx.now) a }
         requires second { IsReadable (C.target cx.now) b }
-        requires room { HasRoomForPair (C.target cx.now) a b }
         ensures exact { IfOk result (λ layout.
             layout ≡ pair_layout (VariantIdx.at 0) (FieldIdx.at 0) (FieldIdx.at 1) (C.target cx.now) a b) }
         // Where the size is below the data layout's bound.
-        ensures lawful { IsLawfulDataLayout (C.target cx.now) → IsLawfulScalar (C.target cx.now) a
-            → IsLawfulScalar (C.target cx.now) b → pair_size (C.target cx.now) a b < size_bound (C.target cx.now)
+        ensures lawful { IsLawfulScalar (C.target cx.now) a → IsLawfulScalar (C.target cx.now) b
+            → pair_size (C.target cx.now) a b < size_bound (C.target cx.now)
             → IfOk result (IsLawfulLayout (C.target cx.now)) }
+        ensures order { IfOk result (λ layout. HasOrder FieldIdx.number layout.fields) }
     {
         let own = cx.data_layout().aggregate_align;
         let align = a.default_align(cx).max(b.default_align(cx)).max(own);
         let b_offset = a.size(cx).align_to(b.default_align(cx));
         let end = b_offset + b.size(cx);
-        let seed = a.size(cx).bytes() + b.size(cx).bytes();
         Ok(LayoutData {
             fields: FieldsShape::Arbitrary {
                 offsets: two(alloc, Size::ZERO, b_offset)?,
@@ -91,53 +92,7 @@ impl<FieldIdx: Idx, VariantIdx: Idx> LayoutData<FieldIdx, VariantIdx> {
             max_repr_align: None,
             unadjusted_abi_align: align,
             repr_c: false,
-            randomization_seed: Hash64::new(seed),
+            randomization_seed: Hash64::new(a.size(cx).bytes() + b.size(cx).bytes()),
         })
-    }
-}
-
-#[cfg(test)]
-mod tests {
-    use super::*;
-    use crate::wrapping_range::WrappingRange;
-    use abi_base::{Integer, Primitive, TargetDataLayout};
-    use abi_index::{FieldIdx, VariantIdx};
-    use std::test::Fail;
-
-    #[test]
-    fn lays_out_pairs(rt: HostRuntime) -> Result<(), Fail> {
-        let dl = TargetDataLayout::default_in(rt.alloc())?;
-        let truth = Scalar::Initialized {
-            value: Primitive::Int(Integer::I8, false),
-            valid_range: WrappingRange { start: 0, end: 1 },
-        };
-        let byte = Scalar::Union {
-            value: Primitive::Int(Integer::I8, false),
-        };
-        let word = Scalar::Union {
-            value: Primitive::Int(Integer::I32, false),
-        };
-        let rows = [
-            ((truth, word), (4, 8), Some(0)),
-            ((byte, truth), (1, 2), Some(1)),
-            ((truth, truth), (1, 2), Some(0)),
-            ((word, byte), (4, 8), None),
-        ];
-        for ((a, b), (offset, size), niche) in rows {
-            let layout: LayoutData<FieldIdx, VariantIdx> = LayoutData::scalar_pair(
-                rt.alloc(),
-                &dl,
-                a,
-                b,
-            )?;
-            assert_eq!(rt; layout.fields.count(), 2);
-            assert_eq!(rt; layout.fields.offset(1), Size::from_bytes(offset));
-            assert_eq!(rt; layout.size, Size::from_bytes(size));
-            assert_eq!(rt;
-                layout.largest_niche.map(|niche| niche.offset.bytes()),
-                niche
-            );
-        }
-        Ok(())
     }
 }

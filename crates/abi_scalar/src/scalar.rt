@@ -4,7 +4,7 @@ ghost use Rattle.std.specs.Prelude.{◌≡◌, ◌↔◌, IsTrue};
 ghost use Rattle.std.specs.Borrow.{sem};
 ghost use Rattle.abi_base.specs.Primitive.{KnowsPrimitive};
 ghost use Rattle.abi_scalar.specs.declared.scalar.Scalar.TheVariants.{Union};
-ghost use Rattle.abi_scalar.specs.Scalar.{primitive_of, scalar_size, scalar_align, range_of, IsUnion, IsInitialized, IsBool, IsSignedInteger, IsAlwaysValid, IsReadable};
+ghost use Rattle.abi_scalar.specs.Scalar.{primitive_of, scalar_size, scalar_align, range_of, IsUnion, HasRange, IsInitialized, IsBool, is_signed_integer, IsSignedInteger, IsAlwaysValid, IsReadable};
 ghost use Rattle.abi_scalar.specs.Lending.{LendsRange};
 
 use crate::wrapping_range::WrappingRange;
@@ -22,6 +22,17 @@ pub enum Scalar {
     Union {
         value: Primitive,
     },
+}
+
+/// Whether the primitive is a signed integer.
+pub(crate) fn is_signed_integer(value: Primitive) -> bool
+    ensures { result ≡ is_signed_integer value }
+{
+    match value {
+        Primitive::Int(_, signed) => signed,
+        Primitive::Float(_) => false,
+        Primitive::Pointer(_) => false,
+    }
 }
 
 impl Scalar {
@@ -100,13 +111,14 @@ impl Scalar {
     /// Lends its range for writing, which a union's scalar doesn't have.
     pub fn valid_range_mut(&mut self) -> &mut WrappingRange
         requires { IsInitialized self.old }
-        ensures* { sem 𝓛 (LendsRange self.entry result) }
+        ensures own { HasRange self.old result.now }
+        ensures* written { sem 𝓛 (LendsRange self.entry result) }
     {
         match self {
             Scalar::Initialized {
                 value: _,
-                valid_range,
-            } => valid_range,
+                valid_range: lent,
+            } => lent,
             Scalar::Union { value: _ } => unreachable!(),
         }
     }
@@ -139,83 +151,6 @@ impl Scalar {
     pub fn is_signed(&self) -> bool
         ensures { IsTrue result ↔ IsSignedInteger (primitive_of self.now) }
     {
-        match self.primitive() {
-            Primitive::Int(_, signed) => signed,
-            Primitive::Float(_) => false,
-            Primitive::Pointer(_) => false,
-        }
-    }
-}
-
-#[cfg(test)]
-mod tests {
-    use super::*;
-    use abi_base::{AddressSpace, Float, TargetDataLayout};
-    use std::test::Fail;
-
-    /// A scalar of this primitive.
-    fn scalar(value: Primitive, start: u128, end: u128) -> Scalar
-        ensures { IsInitialized result }
-    {
-        Scalar::Initialized {
-            value,
-            valid_range: WrappingRange { start, end },
-        }
-    }
-
-    #[test]
-    fn tells_its_kind(rt: HostRuntime) {
-        let byte = Primitive::Int(Integer::I8, false);
-        assert!(rt; scalar(byte, 0, 1).is_bool());
-        assert!(rt; !scalar(byte, 0, 2).is_bool());
-        assert!(rt; !scalar(byte, 1, 1).is_bool());
-        assert!(rt; !scalar(Primitive::Int(Integer::I8, true), 0, 1).is_bool());
-        assert!(rt; !scalar(Primitive::Int(Integer::I16, false), 0, 1).is_bool());
-        assert!(rt; scalar(Primitive::Int(Integer::I32, true), 0, 1).is_signed());
-        assert!(rt; !scalar(Primitive::Float(Float::F64), 0, 1).is_signed());
-        let union = scalar(byte, 0, 1).to_union();
-        assert_eq!(rt; union, Scalar::Union { value: byte });
-        assert!(rt; union.is_uninit_valid());
-        assert!(rt; !scalar(byte, 0, 1).is_uninit_valid());
-        assert_eq!(rt; union.primitive(), byte);
-    }
-
-    #[test]
-    fn tells_its_numbers(rt: HostRuntime) -> Result<(), Fail> {
-        let dl = TargetDataLayout::default_in(rt.alloc())?;
-        let value = Primitive::Int(Integer::I64, false);
-        let union = Scalar::Union { value };
-        assert_eq!(rt; union.size(&dl), Size::from_bytes(8));
-        assert_eq!(rt; union.default_align(&dl).bytes(), 4);
-        assert_eq!(rt;
-            union.valid_range(&dl),
-            WrappingRange {
-                start: 0,
-                end: 0xFFFF_FFFF_FFFF_FFFF
-            }
-        );
-        assert!(rt; union.is_always_valid(&dl));
-        let byte = Primitive::Int(Integer::I8, false);
-        let turned = Scalar::Initialized {
-            value: byte,
-            valid_range: WrappingRange { start: 5, end: 4 },
-        };
-        assert!(rt; turned.is_always_valid(&dl));
-        let pointer = Scalar::Union {
-            value: Primitive::Pointer(AddressSpace(3)),
-        };
-        assert!(rt; !dl.knows(AddressSpace(3)));
-        assert!(rt; pointer.is_uninit_valid());
-        Ok(())
-    }
-
-    #[test]
-    fn lends_its_range(rt: HostRuntime) {
-        let byte = Primitive::Int(Integer::I8, false);
-        let mut truth = scalar(byte, 0, 1);
-        *truth.valid_range_mut() = WrappingRange { start: 0, end: 7 };
-        assert_eq!(rt; truth, scalar(byte, 0, 7));
-        truth.valid_range_mut().start = 3;
-        assert_eq!(rt; truth, scalar(byte, 3, 7));
+        is_signed_integer(self.primitive())
     }
 }

@@ -5,6 +5,7 @@ ghost use Rattle.abi_base.specs.DataLayout.{IsLawfulDataLayout};
 ghost use Rattle.abi_scalar.specs.Scalar.{IsReadable, IsLawfulScalar};
 ghost use Rattle.abi_scalar.specs.Simple.{kind_of, mixed, scalar_seed, scalar_layout, unit_layout, never_layout, uninhabited_layout};
 ghost use Rattle.abi_scalar.specs.Lawful.{IsLawfulLayout};
+ghost use Rattle.abi_scalar.specs.Order.{HasOrder};
 
 use crate::backend_repr::BackendRepr;
 use crate::fields_shape::{FieldCount, FieldsShape};
@@ -53,6 +54,7 @@ impl<FieldIdx: Idx, VariantIdx: Idx> LayoutData<FieldIdx, VariantIdx> {
     pub fn unit<C: HasDataLayout>(alloc: Global, cx: &C, sized: bool) -> Self
         ensures exact { result ≡ unit_layout (VariantIdx.at 0) (C.target cx.now) sized }
         ensures lawful { IsLawfulDataLayout (C.target cx.now) → IsLawfulLayout (C.target cx.now) result }
+        ensures order { HasOrder FieldIdx.number result.fields }
     {
         let align = cx.data_layout().i8_align;
         LayoutData {
@@ -79,6 +81,7 @@ impl<FieldIdx: Idx, VariantIdx: Idx> LayoutData<FieldIdx, VariantIdx> {
     pub fn never_type<C: HasDataLayout>(cx: &C) -> Self
         ensures exact { result ≡ never_layout (C.target cx.now) }
         ensures lawful { IsLawfulDataLayout (C.target cx.now) → IsLawfulLayout (C.target cx.now) result }
+        ensures order { HasOrder FieldIdx.number result.fields }
     {
         let align = cx.data_layout().i8_align;
         LayoutData {
@@ -106,6 +109,7 @@ impl<FieldIdx: Idx, VariantIdx: Idx> LayoutData<FieldIdx, VariantIdx> {
     ) -> Self
         ensures exact { result ≡ uninhabited_layout index (C.target cx.now) fields }
         ensures lawful { IsLawfulDataLayout (C.target cx.now) → IsLawfulLayout (C.target cx.now) result }
+        ensures order { HasOrder FieldIdx.number result.fields }
     {
         let align = cx.data_layout().i8_align;
         let fields = match FieldCount::new(fields) {
@@ -136,6 +140,7 @@ impl<FieldIdx: Idx, VariantIdx: Idx> LayoutData<FieldIdx, VariantIdx> {
         ensures exact { result ≡ scalar_layout (VariantIdx.at 0) (C.target cx.now) scalar }
         ensures lawful { IsLawfulDataLayout (C.target cx.now) → IsLawfulScalar (C.target cx.now) scalar
             → IsLawfulLayout (C.target cx.now) result }
+        ensures order { HasOrder FieldIdx.number result.fields }
     {
         let align = scalar.default_align(cx);
         LayoutData {
@@ -153,64 +158,5 @@ impl<FieldIdx: Idx, VariantIdx: Idx> LayoutData<FieldIdx, VariantIdx> {
             repr_c: false,
             randomization_seed: seed(cx, scalar),
         }
-    }
-}
-
-#[cfg(test)]
-mod tests {
-    use super::*;
-    use crate::wrapping_range::WrappingRange;
-    use abi_base::{Integer, TargetDataLayout};
-    use abi_index::{FieldIdx, VariantIdx};
-    use std::test::Fail;
-
-    #[test]
-    fn lays_out_scalars(rt: HostRuntime) -> Result<(), Fail> {
-        let dl = TargetDataLayout::default_in(rt.alloc())?;
-        assert!(rt; dl.is_lawful());
-        let value = Primitive::Int(Integer::I32, false);
-        let valid_range = WrappingRange {
-            start: 0,
-            end: 1_114_111,
-        };
-        let character = Scalar::Initialized { value, valid_range };
-        let layout: LayoutData<FieldIdx, VariantIdx> = LayoutData::scalar(&dl, character);
-        assert!(rt; layout.is_lawful(&dl));
-        let niche = Niche {
-            offset: Size::ZERO,
-            value,
-            valid_range,
-        };
-        let LayoutData {
-            size,
-            align,
-            backend_repr,
-            largest_niche,
-            uninhabited,
-            ..
-        } = layout;
-        assert_eq!(rt; size, Size::from_bytes(4));
-        assert_eq!(rt; align.abi.bytes(), 4);
-        assert_eq!(rt; backend_repr, BackendRepr::Scalar(character));
-        assert_eq!(rt; largest_niche, Some(niche));
-        assert!(rt; !uninhabited);
-        let byte = Primitive::Int(Integer::I8, false);
-        let all = WrappingRange { start: 0, end: 255 };
-        let full = Scalar::Initialized {
-            value: byte,
-            valid_range: all,
-        };
-        let bytes: LayoutData<FieldIdx, VariantIdx> = LayoutData::scalar(&dl, full);
-        assert!(rt; bytes.is_lawful(&dl));
-        let none = bytes.largest_niche;
-        let seed = bytes.randomization_seed;
-        assert_eq!(rt; none, None);
-        assert_eq!(rt; seed.as_u64(), 0x00FF_0002_0000_0001);
-        let odd = LayoutData {
-            size: Size::from_bytes(2),
-            ..bytes
-        };
-        assert!(rt; !odd.is_lawful(&dl));
-        Ok(())
     }
 }

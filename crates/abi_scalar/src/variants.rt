@@ -2,7 +2,8 @@
 
 ghost use Rattle.std.specs.Prelude.{◌≡◌, ◌<◌, ◌↔◌, IsTrue, length};
 ghost use Rattle.abi_scalar.specs.Shape.{IsListed};
-ghost use Rattle.abi_scalar.specs.Variant.{variant_of};
+ghost use Rattle.abi_scalar.specs.Order.{HasOrder};
+ghost use Rattle.abi_scalar.specs.Variant.{IsOrderedVariant, variant_of};
 
 use crate::backend_repr::BackendRepr;
 use crate::fields_shape::FieldsShape;
@@ -68,7 +69,8 @@ impl<FieldIdx: Idx> VariantLayout<FieldIdx> {
     /// order and niche, and whether it is marked as having no value. Asked of fields that are listed one by one.
     pub fn from_layout<V: Idx>(layout: LayoutData<FieldIdx, V>) -> Self
         requires { IsListed layout.fields }
-        ensures { result ≡ variant_of layout }
+        ensures exact { result ≡ variant_of layout }
+        ensures order { HasOrder FieldIdx.number layout.fields → IsOrderedVariant FieldIdx.number result }
     {
         let LayoutData {
             fields,

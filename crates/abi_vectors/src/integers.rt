@@ -18,6 +18,7 @@ fn integers_have_sizes_names_and_limits(rt: HostRuntime) {
     }
     for (integer, least, greatest) in [
         (Integer::I8, -128, 127),
+        (Integer::I16, -32_768, 32_767),
         (Integer::I32, -2_147_483_648, 2_147_483_647),
         (
             Integer::I64,
@@ -53,10 +54,33 @@ fn integers_are_aligned_by_default(rt: HostRuntime) -> Result<(), Fail> {
 }
 
 #[test]
+fn integers_are_found_by_their_size(rt: HostRuntime) {
+    for (bytes, found) in [
+        (1, Ok(Integer::I8)),
+        (2, Ok(Integer::I16)),
+        (4, Ok(Integer::I32)),
+        (8, Ok(Integer::I64)),
+        (16, Ok(Integer::I128)),
+        (0, Err(NoSuchInteger(0))),
+        (3, Err(NoSuchInteger(24))),
+        (5, Err(NoSuchInteger(40))),
+        (32, Err(NoSuchInteger(256))),
+    ] {
+        assert_eq!(rt;
+            Integer::from_size(Size::from_bytes(bytes)),
+            found,
+            "{bytes} bytes"
+        );
+    }
+}
+
+#[test]
 fn the_least_integer_is_found(rt: HostRuntime) {
     for (number, integer) in [
         (0, Integer::I8),
         (127, Integer::I8),
+        (-128, Integer::I8),
+        (128, Integer::I16),
         (-129, Integer::I16),
         (32_767, Integer::I16),
         (32_768, Integer::I32),
@@ -66,16 +90,20 @@ fn the_least_integer_is_found(rt: HostRuntime) {
         (9_223_372_036_854_775_807, Integer::I64),
         (9_223_372_036_854_775_808, Integer::I128),
         (-9_223_372_036_854_775_809, Integer::I128),
+        (i128::MIN, Integer::I128),
     ] {
         assert_eq!(rt; Integer::fit_signed(number), integer, "{number}");
     }
     for (number, integer) in [
         (0, Integer::I8),
+        (255, Integer::I8),
+        (256, Integer::I16),
         (65_535, Integer::I16),
         (65_536, Integer::I32),
         (4_294_967_295, Integer::I32),
         (4_294_967_296, Integer::I64),
         (18_446_744_073_709_551_615, Integer::I64),
+        (18_446_744_073_709_551_616, Integer::I128),
         (u128::MAX, Integer::I128),
     ] {
         assert_eq!(rt; Integer::fit_unsigned(number), integer, "{number}");
@@ -83,61 +111,66 @@ fn the_least_integer_is_found(rt: HostRuntime) {
 }
 
 #[test]
-fn alignments_name_integers(rt: HostRuntime) -> Result<(), Fail> {
-    let mut dl = TargetDataLayout::default_in(rt.alloc())?;
-    assert_eq!(rt; Integer::for_align(&dl, Align::ONE), Some(Integer::I8));
-    assert_eq!(rt; Integer::for_align(&dl, dl.i16_align), Some(Integer::I16));
-    assert_eq!(rt; Integer::for_align(&dl, dl.f128_align), None);
-    assert_eq!(rt; Integer::for_align(&dl, Align::MAX), None);
-    assert_eq!(rt; Integer::approximate_align(&dl, dl.i16_align), Integer::I16);
-    assert_eq!(rt; Integer::approximate_align(&dl, Align::MAX), Integer::I64);
-    dl.i64_align = Align::EIGHT;
-    dl.i128_align = dl.f128_align;
-    assert_eq!(rt; Integer::for_align(&dl, Align::EIGHT), Some(Integer::I64));
-    assert_eq!(rt; Integer::for_align(&dl, dl.f128_align), Some(Integer::I128));
-    assert_eq!(rt; Integer::approximate_align(&dl, Align::FOUR), Integer::I32);
-    assert_eq!(rt;
-        Integer::approximate_align(&dl, dl.f128_align),
-        Integer::I64
-    );
-    Ok(())
-}
-
-#[test]
-fn sizes_name_integers(rt: HostRuntime) {
-    for (bytes, integer) in [
-        (1, Integer::I8),
-        (2, Integer::I16),
-        (4, Integer::I32),
-        (8, Integer::I64),
-    ] {
-        assert_eq!(rt;
-            Integer::from_size(Size::from_bytes(bytes)),
-            Ok(integer),
-            "at {bytes}"
-        );
-    }
-    for (bytes, bits) in [(0, 0), (5, 40), (32, 256)] {
-        assert_eq!(rt;
-            Integer::from_size(Size::from_bytes(bytes)),
-            Err(NoSuchInteger(bits)),
-            "at {bytes}"
-        );
-    }
-}
-
-#[test]
-fn attributes_name_integers(rt: HostRuntime) -> Result<(), Fail> {
+fn alignments_and_attributes_name_integers(rt: HostRuntime) -> Result<(), Fail> {
     let dl = TargetDataLayout::default_in(rt.alloc())?;
-    assert_eq!(rt;
-        Integer::from_attr(&dl, IntegerType::Pointer(false)),
-        Integer::I64
-    );
-    assert_eq!(rt;
-        Integer::from_attr(&dl, IntegerType::Fixed(Integer::I128, true)),
-        Integer::I128
-    );
-    assert!(rt; !IntegerType::Pointer(false).is_signed());
-    assert!(rt; IntegerType::Fixed(Integer::I64, true).is_signed());
+    let mut wide = TargetDataLayout::default_in(rt.alloc())?;
+    wide.i64_align = Align::EIGHT;
+    wide.i128_align = dl.f128_align;
+    for (align, exact, near, wide_exact, wide_near) in [
+        (
+            Align::ONE,
+            Some(Integer::I8),
+            Integer::I8,
+            Some(Integer::I8),
+            Integer::I8,
+        ),
+        (
+            dl.i16_align,
+            Some(Integer::I16),
+            Integer::I16,
+            Some(Integer::I16),
+            Integer::I16,
+        ),
+        (
+            Align::FOUR,
+            Some(Integer::I32),
+            Integer::I32,
+            Some(Integer::I32),
+            Integer::I32,
+        ),
+        (
+            Align::EIGHT,
+            None,
+            Integer::I64,
+            Some(Integer::I64),
+            Integer::I64,
+        ),
+        (
+            dl.f128_align,
+            None,
+            Integer::I64,
+            Some(Integer::I128),
+            Integer::I64,
+        ),
+        (Align::MAX, None, Integer::I64, None, Integer::I64),
+    ] {
+        assert_eq!(rt; Integer::for_align(&dl, align), exact, "{align:?}");
+        assert_eq!(rt; Integer::approximate_align(&dl, align), near, "{align:?}");
+        assert_eq!(rt; Integer::for_align(&wide, align), wide_exact, "{align:?}");
+        assert_eq!(rt;
+            Integer::approximate_align(&wide, align),
+            wide_near,
+            "{align:?}"
+        );
+    }
+    for (named, integer, signed) in [
+        (IntegerType::Pointer(true), Integer::I64, true),
+        (IntegerType::Pointer(false), Integer::I64, false),
+        (IntegerType::Fixed(Integer::I16, false), Integer::I16, false),
+        (IntegerType::Fixed(Integer::I128, true), Integer::I128, true),
+    ] {
+        assert_eq!(rt; Integer::from_attr(&dl, named), integer, "{integer:?}");
+        assert_eq!(rt; named.is_signed(), signed, "{integer:?}");
+    }
     Ok(())
 }

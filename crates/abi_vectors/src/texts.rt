@@ -1,6 +1,11 @@
-//! The texts of refusals.
+//! What is written of sizes, scalars, layouts and errors.
 
-use abi_scalar::LayoutCalculatorError;
+use abi_base::{
+    AbiAlign, AddressSpace, Align, AlignFromBytesError, Endian, Float, Integer, NoSuchInteger,
+    Primitive, Size, TargetDataLayout, UnknownEndian, UnknownEndianText,
+};
+use abi_index::{FieldIdx, VariantIdx};
+use abi_scalar::{LayoutCalculatorError, LayoutData, Scalar, WrappingRange};
 use std::fmt;
 use std::fmt::Display;
 use std::test::Fail;
@@ -17,26 +22,145 @@ impl Display for Plain {
 
 #[test]
 fn refusals_have_texts(rt: HostRuntime) -> Result<(), Fail> {
-    for (refusal, wanted) in [
+    let simd = "invalid simd type definition";
+    for (refusal, bare, wanted) in [
         (
+            LayoutCalculatorError::UnexpectedUnsized(1),
+            LayoutCalculatorError::UnexpectedUnsized(()),
+            "an unsized type was found where a sized type was expected",
+        ),
+        (
+            LayoutCalculatorError::SizeOverflow,
+            LayoutCalculatorError::SizeOverflow,
+            "size overflow",
+        ),
+        (
+            LayoutCalculatorError::EmptyUnion,
             LayoutCalculatorError::EmptyUnion,
             "type is a union with no fields",
         ),
         (
             LayoutCalculatorError::ReprConflict,
+            LayoutCalculatorError::ReprConflict,
             "type has an invalid repr",
         ),
         (
-            LayoutCalculatorError::OversizedSimdType { max_lanes: 32768 },
-            "invalid simd type definition",
+            LayoutCalculatorError::ZeroLengthSimdType,
+            LayoutCalculatorError::ZeroLengthSimdType,
+            simd,
+        ),
+        (
+            LayoutCalculatorError::OversizedSimdType { max_lanes: 32_768 },
+            LayoutCalculatorError::OversizedSimdType { max_lanes: 32_768 },
+            simd,
         ),
         (
             LayoutCalculatorError::NonPrimitiveSimdType(1),
-            "invalid simd type definition",
+            LayoutCalculatorError::NonPrimitiveSimdType(()),
+            simd,
+        ),
+        (
+            LayoutCalculatorError::OutOfMemory,
+            LayoutCalculatorError::OutOfMemory,
+            "out of memory",
         ),
     ] {
         let text = format!(in rt.alloc(); "{}", Plain(refusal))?;
         assert_eq!(rt; text.as_str(), wanted);
+        assert_eq!(rt; refusal.without_payload(), bare, "{wanted}");
     }
+    Ok(())
+}
+
+#[test]
+fn scalars_and_primitives_have_texts(rt: HostRuntime) -> Result<(), Fail> {
+    let unsigned = Primitive::Int(Integer::I8, false);
+    let signed = Primitive::Int(Integer::I8, true);
+    let pointer = Primitive::Pointer(AddressSpace::ZERO);
+    let float = Primitive::Float(Float::F32);
+    for (value, start, end, text) in [
+        (unsigned, 0, 1, "u8 is 0..=1"),
+        (unsigned, 0, 255, "u8 is .."),
+        (unsigned, 1, 0, "u8 is (..=0) | (1..)"),
+        (signed, 0, 255, "i8 is .."),
+        (signed, 255, 1, "i8 is -1..=1"),
+        (signed, 100, 200, "i8 is (..=-56) | (100..)"),
+        (pointer, 0, u128::MAX, "pointer is .."),
+        (pointer, 0, 65_535, "pointer is 0..=65535"),
+        (float, 0, 0xFFFF_FFFF, "f32 is .."),
+    ] {
+        let valid_range = WrappingRange { start, end };
+        let written = format!(in rt.alloc(); "{:?}", Scalar::Initialized { value, valid_range })?;
+        assert_eq!(rt; written.as_str(), text);
+    }
+    for (value, text) in [
+        (unsigned, "union u8"),
+        (Primitive::Int(Integer::I64, true), "union i64"),
+        (float, "union f32"),
+        (Primitive::Float(Float::PpcF128), "union ppcf128"),
+        (pointer, "union pointer"),
+        (
+            Primitive::Pointer(AddressSpace(5)),
+            "union pointer(AddressSpace(5))",
+        ),
+    ] {
+        let written = format!(in rt.alloc(); "{:?}", Scalar::Union { value })?;
+        assert_eq!(rt; written.as_str(), text);
+        let alone = format!(in rt.alloc(); "union {value:?}")?;
+        assert_eq!(rt; alone.as_str(), text);
+    }
+    Ok(())
+}
+
+#[test]
+fn values_and_errors_have_texts(rt: HostRuntime) -> Result<(), Fail> {
+    let text = format!(in rt.alloc();
+        "{:?} {:?} {:?}",
+        Size::from_bytes(4),
+        Align::FOUR,
+        AbiAlign::new(Align::EIGHT)
+    )?;
+    assert_eq!(rt;
+        text.as_str(),
+        "Size(4 bytes) Align(4 bytes) Align(8 bytes)"
+    );
+    let plain = WrappingRange { start: 0, end: 1 };
+    let wrapping = WrappingRange { start: 255, end: 1 };
+    let text = format!(in rt.alloc(); "{plain:?}, {wrapping:?}")?;
+    assert_eq!(rt; text.as_str(), "0..=1, (..=1) | (255..)");
+    let not_power = AlignFromBytesError::NotPowerOfTwo(3);
+    let too_large = AlignFromBytesError::TooLarge(1 << 30);
+    let text = format!(in rt.alloc(); "{not_power}, {not_power:?}, {too_large}")?;
+    assert_eq!(rt;
+        text.as_str(),
+        "3 is not a power of 2, 3 is not a power of 2, 1073741824 is too large"
+    );
+    let text = format!(in rt.alloc();
+        "{:?} {:?} {}: {}; {}",
+        Endian::Little,
+        Endian::Big,
+        UnknownEndian,
+        UnknownEndianText { text: "x" },
+        NoSuchInteger(24)
+    )?;
+    assert_eq!(rt;
+        text.as_str(),
+        "little big unknown endian: unknown endian: \"x\"; rust does not support integers with 24 bits"
+    );
+    Ok(())
+}
+
+#[test]
+fn layouts_are_written_part_by_part(rt: HostRuntime) -> Result<(), Fail> {
+    let dl = TargetDataLayout::default_in(rt.alloc())?;
+    let never: LayoutData<FieldIdx, VariantIdx> = LayoutData::never_type(&dl);
+    let text = format!(in rt.alloc(); "{never:?}")?;
+    assert_eq!(rt;
+        text.as_str(),
+        "Layout { size: Size(0 bytes), align: Align(1 bytes), backend_repr: Memory { sized: true }, \
+         fields: Primitive, largest_niche: None, uninhabited: true, variants: Empty, \
+         max_repr_align: None, unadjusted_abi_align: Align(1 bytes), repr_c: false, \
+         randomization_seed: Hash64 { inner: 0 } }"
+    );
     Ok(())
 }

@@ -2,7 +2,11 @@ pub mod Text
 pub mod Parts
 pub mod Fields
 pub mod Utf8
+pub mod Numerals
+pub mod ScalarsRead
 pub mod Written
+pub mod ReprWords
 pub mod ReadBack
 pub mod Sending
 pub mod OneOutput
+pub mod SomeOutput

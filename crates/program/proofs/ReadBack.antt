@@ -1,28 +1,28 @@
 -- The line that writes a type reads back as that type.
-use Rattle.std.proofs.Common.{◌≡◌, ℕ, ◌+◌, ◌^◌, ◌<◌, Bool, true, false, List, [], ◌∷◌, ◌++◌, length, Result, Ok, Err, refl, ap, ◌∙◌, arith, rules, inl, inr}
+use Rattle.std.proofs.Common.{◌≡◌, ℕ, ◌^◌, ◌<◌, ◌≤◌, Bool, true, false, List, [], ◌∷◌, ◌++◌, length, Result, Ok, Err, refl, ap, ◌∙◌, arith, inl, inr}
 use Rattle.std.specs.Prelude.{◌&&◌, ◌⊎◌, codes, MatchResult}
-use Rattle.std.specs.Fmt.{decimal}
 use Rattle.std.specs.Char.{is_ascii_digit}
 use Rattle.std.specs.List.{list_all}
 use Rattle.std.specs.Str.{all_ascii_digits}
-use Rattle.std.proofs.lemmas.Bool.Decides.{nat_tests}
-use Rattle.std.proofs.lemmas.Fmt.{digits_decimal, decimal_nonempty}
+use Rattle.abi_base.specs.declared.data_layout.TargetDataLayout.{TargetDataLayout}
+use Rattle.abi_base.specs.declared.float.Float.{Float as Format}
+use Rattle.abi_base.specs.declared.float.Float.TheVariants.{F16, F16B, F32, F64, F128, PpcF128}
 use Rattle.abi_base.specs.declared.integer.Integer.{Integer}
 use Rattle.abi_base.specs.declared.integer.Integer.TheVariants.{I8, I16, I32, I64, I128}
-use Rattle.abi_base.specs.declared.data_layout.TargetDataLayout.{TargetDataLayout}
-use Rattle.abi_base.specs.declared.primitive.Primitive.TheVariants.{Int, Float, Pointer}
+use Rattle.abi_base.specs.declared.primitive.Primitive.{Primitive}
 use Rattle.abi_scalar.specs.declared.scalar.Scalar.{Scalar}
-use Rattle.abi_scalar.specs.declared.scalar.Scalar.TheVariants.{Initialized, Union}
 use Rattle.rustc_abi.specs.declared.tree.TypeTree.{TypeTree}
-use Rattle.rustc_abi.specs.Tree.{Tree, scalar, pair, never, unit, array, vector, struct, union, enum, coroutine, Trees, no_trees, more_trees, tree_of}
+use Rattle.rustc_abi.specs.Tree.{Tree, Trees, tree_of}
 use Rattle.program.specs.declared.fault.Fault.{Fault}
 use Rattle.program.specs.declared.fault.Fault.TheVariants.{OutOfMemory}
-use Rattle.program.specs.Printing.{integer_text}
+use Rattle.program.specs.Printing.{integer_text, float_text}
 use Rattle.program.specs.Reading.{Agrees, read}
-use Rattle.program.specs.Words.{grown, is_plain, words_of}
-use Rattle.program.specs.Written.{written, written_each, scalar_words, line_of, IsKnown, AreKnown, IsFullInteger}
+use Rattle.program.specs.Words.{begins_plain, grown, is_plain, words_of}
+use Rattle.program.specs.Written.{IsNumeral, IsPrimitiveWrittenAs, IsScalarWrittenAs, IsWrittenAs, AreWrittenAs, an_integer, an_index, a_float, a_pointer, a_pointer_in, every_number, the_bool, the_char, the_ref, a_range, of_a_union, a_scalar, a_pair, no_value, one_value, an_array, a_vector, a_struct, a_union, no_more, one_more, index_text, IsLineOf, no_words, a_space, an_opening, a_closing, a_word, nesting, vector_word}
+use Rattle.program.proofs.Numerals.{numeral_digits}
+use Rattle.program.proofs.ReprWords.{IsPlain, both, digit_plain, struct_repr_plain, union_repr_plain}
 use Rattle.program.proofs.Text.{words_alone, words_grow}
-use Rattle.program.proofs.Written.{own, words_read}
+use Rattle.program.proofs.Written.{words_read}
 
 -- bytes of a word, at least one
 abbrev is_run : List ℕ → Bool
@@ -36,47 +36,43 @@ abbrev AreWords : List (List ℕ) → Type 0
 AreWords [] = Unit {0}
 AreWords (w ∷ ws) = IsWord w × AreWords ws
 
-both : (a b : Bool) → (a && b) ≡ true → (a ≡ true) × (b ≡ true)
-both true b h = (refl, h)
-both false b h = cc
-
-run_line : (b : ℕ) (w rest : List ℕ) → is_plain b ≡ true → list_all is_plain w ≡ true → words_of ((b ∷ w) ++ 32 ∷ rest) ≡ (b ∷ w) ∷ words_of rest
-run_line b [] rest here all = words_alone b (32 ∷ rest) here refl
-run_line b (c ∷ w) rest here all =
+run_line : (b : ℕ) (w line : List ℕ) → is_plain b ≡ true → list_all is_plain w ≡ true → begins_plain line ≡ false → words_of ((b ∷ w) ++ line) ≡ (b ∷ w) ∷ words_of line
+run_line b [] line here all ends = words_alone b line here ends
+run_line b (c ∷ w) line here all ends =
     let p = both (is_plain c) (list_all is_plain w) all in
-    words_grow b ((c ∷ w) ++ 32 ∷ rest) here p.0 ∙ ap (grown b) (run_line c w rest p.0 p.1)
+    words_grow b ((c ∷ w) ++ line) here p.0 ∙ ap (grown b) (run_line c w line p.0 p.1 ends)
 
-word_line : (w rest : List ℕ) → IsWord w → words_of (w ++ 32 ∷ rest) ≡ w ∷ words_of rest
-word_line [] rest (inl h) = cc
-word_line (b ∷ w) rest (inl h) = let p = both (is_plain b) (list_all is_plain w) h in run_line b w rest p.0 p.1
-word_line w rest (inr (inl e)) = rw e refl
-word_line w rest (inr (inr e)) = rw e refl
+word_line : (w line : List ℕ) → IsWord w → begins_plain line ≡ false → words_of (w ++ line) ≡ w ∷ words_of line
+word_line [] line (inl h) ends = cc
+word_line (b ∷ w) line (inl h) ends = let p = both (is_plain b) (list_all is_plain w) h in run_line b w line p.0 p.1 ends
+word_line w line (inr (inl e)) ends = rw e refl
+word_line w line (inr (inr e)) ends = rw e refl
 
-words_line : (ws : List (List ℕ)) → AreWords ws → words_of (line_of ws) ≡ ws
-words_line [] h = refl
-words_line (w ∷ ws) h = word_line w (line_of ws) h.0 ∙ ap (λ rest. w ∷ rest) (words_line ws h.1)
+words_line : (words : List (List ℕ)) (line : List ℕ) → IsLineOf words line → AreWords words → words_of line ≡ words
+words_line words line no_words h = refl
+words_line words line (a_space more rest is) h = words_line more rest is h
+words_line words line (an_opening more rest is) h = ap (λ ws. codes "(" ∷ ws) (words_line more rest is h.1)
+words_line words line (a_closing more rest is) h = ap (λ ws. codes ")" ∷ ws) (words_line more rest is h.1)
+words_line words line (a_word w more rest is ends) h = word_line w rest h.0 ends ∙ ap (λ ws. w ∷ ws) (words_line more rest is h.1)
 
 words_append : (vs ws : List (List ℕ)) → AreWords vs → AreWords ws → AreWords (vs ++ ws)
 words_append [] ws a b = b
 words_append (v ∷ vs) ws a b = (a.0, words_append vs ws a.1 b)
 
-digit_plain : (c : ℕ) → is_ascii_digit c ≡ true → is_plain c ≡ true
-digit_plain c h = grind (arith, nat_tests)
+plain_word : (w : List ℕ) → (0 < length w) × IsPlain w → IsWord w
+plain_word [] h = absurd (omega arith)
+plain_word (b ∷ w) h = inl h.1
 
-digits_plain : (ds : List ℕ) → all_ascii_digits ds ≡ true → list_all is_plain ds ≡ true
+digits_plain : (ds : List ℕ) → all_ascii_digits ds ≡ true → IsPlain ds
 digits_plain [] h = refl
 digits_plain (c ∷ cs) h =
     let p = both (is_ascii_digit c) (all_ascii_digits cs) h in
     rw (digit_plain c p.0) (digits_plain cs p.1)
 
-digits_run : (ds : List ℕ) → 0 < length ds → all_ascii_digits ds ≡ true → is_run ds ≡ true
-digits_run [] some h = absurd (omega arith)
-digits_run (c ∷ cs) some h = digits_plain (c ∷ cs) h
-
-number_word : (n : ℕ) → n < 2 ^ 64 → IsWord (decimal n)
-number_word n small =
-    let digits : all_ascii_digits (decimal n) ≡ true = search (rules, digits_decimal own) in
-    inl (digits_run (decimal n) (decimal_nonempty n small) digits)
+numeral_word : (bits n : ℕ) (w : List ℕ) → 2 ^ bits ≤ 2 ^ 128 → IsNumeral bits n w → IsWord w
+numeral_word bits n w wide h =
+    let digits = numeral_digits bits n w wide h in
+    plain_word w (digits.0, digits_plain w digits.1)
 
 integer_word : (width : Integer) (signed : Bool) → IsWord (integer_text width signed)
 integer_word I8 true = inl refl
@@ -90,34 +86,58 @@ integer_word I64 false = inl refl
 integer_word I128 true = inl refl
 integer_word I128 false = inl refl
 
-scalar_word : (s : Scalar) → IsFullInteger s → AreWords (scalar_words s)
-scalar_word (Initialized (Int width signed) range) full = (integer_word width signed, tt)
-scalar_word (Initialized (Float float) range) full = absurd full
-scalar_word (Initialized (Pointer space) range) full = absurd full
-scalar_word (Union value) full = absurd full
+index_word : (signed : Bool) → IsWord (index_text signed)
+index_word true = inl refl
+index_word false = inl refl
 
-mutual
-  written_words : (t : Tree) (n : ℕ) → IsKnown n t → AreWords (written t)
-  written_words (scalar s) n h = scalar_word s h.1
-  written_words (array count t) n h = (inl refl, (number_word count h.1, written_words t (n + 1) h.2))
-  written_words (struct repr sized ts) n h =
-      (inl refl, (inl refl, (inr (inl refl), words_append (written_each ts) (codes ")" ∷ []) (each_words ts (n + 1) h.3) (inr (inr refl), tt))))
-  written_words (pair a b) n h = absurd h
-  written_words never n h = absurd h
-  written_words unit n h = absurd h
-  written_words (vector lanes true t) n h = (inl refl, (number_word lanes h.1, written_words t (n + 1) h.2))
-  written_words (vector lanes false t) n h = (inl refl, (number_word lanes h.1, written_words t (n + 1) h.2))
-  written_words (union repr ts) n h =
-      (inl refl, (inl refl, (inr (inl refl), words_append (written_each ts) (codes ")" ∷ []) (each_words ts (n + 1) h.2) (inr (inr refl), tt))))
-  written_words (enum repr vs) n h = absurd h
-  written_words (coroutine prefix locals states conflicts) n h = absurd h
+float_word : (format : Format) → IsWord (float_text format)
+float_word F16 = inl refl
+float_word F16B = inl refl
+float_word F32 = inl refl
+float_word F64 = inl refl
+float_word F128 = inl refl
+float_word PpcF128 = inl refl
 
-  each_words : (ts : Trees) (n : ℕ) → AreKnown n ts → AreWords (written_each ts)
-  each_words no_trees n h = tt
-  each_words (more_trees t ts) n h = words_append (written t) (written_each ts) (written_words t n h.0) (each_words ts n h.1)
+vector_word_word : (packed : Bool) → IsWord (vector_word packed)
+vector_word_word true = inl refl
+vector_word_word false = inl refl
 
-line_read : (dl : TargetDataLayout) (t : Tree) (line : List ℕ) → IsKnown 0 t → line ≡ line_of (written t) → read dl (words_of line) ≡ Ok t
-line_read dl t line h e = ap (λ l. read dl (words_of l)) e ∙ ap (read dl) (words_line (written t) (written_words t 0 h)) ∙ words_read dl t h
+module _ (dl : TargetDataLayout) where
+  primitive_words : (p : Primitive) (words : List (List ℕ)) → IsPrimitiveWrittenAs dl p words → AreWords words
+  primitive_words p words (an_integer width signed) = (integer_word width signed, tt)
+  primitive_words p words (an_index signed) = (index_word signed, tt)
+  primitive_words p words (a_float format) = (float_word format, tt)
+  primitive_words p words a_pointer = (inl refl, tt)
+  primitive_words p words (a_pointer_in space text is) = (inl refl, (numeral_word 32 space text (omega arith) is, tt))
+
+  scalar_words : (s : Scalar) (words : List (List ℕ)) → IsScalarWrittenAs dl s words → AreWords words
+  scalar_words s words (every_number p text is) = primitive_words p text is
+  scalar_words s words the_bool = (inl refl, tt)
+  scalar_words s words the_char = (inl refl, tt)
+  scalar_words s words the_ref = (inl refl, tt)
+  scalar_words s words (a_range p text start end low high is from to) =
+      (inl refl, words_append text (low ∷ high ∷ []) (primitive_words p text is) (numeral_word 128 start low (omega arith) from, (numeral_word 128 end high (omega arith) to, tt)))
+  scalar_words s words (of_a_union p text is) = (inl refl, primitive_words p text is)
+
+  mutual
+    tree_words : (t : Tree) (words : List (List ℕ)) → IsWrittenAs dl t words → AreWords words
+    tree_words t words (a_scalar s text is) = scalar_words s text is
+    tree_words t words (a_pair a b one two is also) = (inl refl, words_append one two (scalar_words a one is) (scalar_words b two also))
+    tree_words t words no_value = (inl refl, tt)
+    tree_words t words one_value = (inl refl, tt)
+    tree_words t words (an_array count text e more said is) = (inl refl, (numeral_word 64 count text (omega arith) said, tree_words e more is))
+    tree_words t words (a_vector count packed text e more said is) = (vector_word_word packed, (numeral_word 64 count text (omega arith) said, tree_words e more is))
+    tree_words t words (a_struct asked text ts more said are) =
+        (inl refl, (plain_word text (struct_repr_plain text asked said), (inr (inl refl), words_append more (codes ")" ∷ []) (each_words ts more are) (inr (inr refl), tt))))
+    tree_words t words (a_union repr text ts more said are) =
+        (inl refl, (plain_word text (union_repr_plain text repr said), (inr (inl refl), words_append more (codes ")" ∷ []) (each_words ts more are) (inr (inr refl), tt))))
+
+    each_words : (ts : Trees) (words : List (List ℕ)) → AreWrittenAs dl ts words → AreWords words
+    each_words ts words no_more = tt
+    each_words ts words (one_more t others text more is are) = words_append text more (tree_words t text is) (each_words others more are)
+
+line_read : (dl : TargetDataLayout) (t : Tree) (words : List (List ℕ)) (line : List ℕ) → IsWrittenAs dl t words → nesting t ≤ 200 → IsLineOf words line → read dl (words_of line) ≡ Ok t
+line_read dl t words line is shallow stand = ap (read dl) (words_line words line stand (tree_words dl t words is)) ∙ words_read dl t words is shallow
 
 agrees_back : (t : Tree) (answer : Result Tree Fault) (result : Result TypeTree Fault) → Agrees tree_of answer result → answer ≡ Ok t
     → MatchResult result (λ tree. tree_of tree ≡ t) (λ fault. fault ≡ OutOfMemory)
@@ -125,6 +145,6 @@ agrees_back t answer (Ok tree) a e = cc
 agrees_back t answer (Err fault) (inl a) e = cc
 agrees_back t answer (Err fault) (inr a) e = a
 
-pub reads_back : (dl : TargetDataLayout) (t : Tree) (line : List ℕ) (result : Result TypeTree Fault) → Agrees tree_of (read dl (words_of line)) result → IsKnown 0 t → line ≡ line_of (written t)
-    → MatchResult result (λ tree. tree_of tree ≡ t) (λ fault. fault ≡ OutOfMemory)
-reads_back dl t line result a h e = agrees_back t (read dl (words_of line)) result a (line_read dl t line h e)
+pub reads_back : (dl : TargetDataLayout) (t : Tree) (words : List (List ℕ)) (line : List ℕ) (result : Result TypeTree Fault) → Agrees tree_of (read dl (words_of line)) result
+    → IsWrittenAs dl t words → nesting t ≤ 200 → IsLineOf words line → MatchResult result (λ tree. tree_of tree ≡ t) (λ fault. fault ≡ OutOfMemory)
+reads_back dl t words line result a is shallow stand = agrees_back t (read dl (words_of line)) result a (line_read dl t words line is shallow stand)

@@ -1,62 +1,101 @@
--- How a type is written.
-use Rattle.std.specs.Prelude.{◌≡◌, ℕ, ◌+◌, ◌^◌, ◌<◌, ◌≤◌, Bool, true, List, [], ◌∷◌, ◌++◌, codes, None, if◌then◌else◌}
+-- How a type is written: which words write which type.
+use Rattle.std.specs.Prelude.{◌≡◌, ℕ, ◌+◌, ◌^◌, ◌<◌, Bool, false, List, [], ◌∷◌, ◌++◌, codes, max, replicate, Some, if◌then◌else◌}
 use Rattle.std.specs.Fmt.{decimal}
-use Rattle.abi_base.specs.declared.primitive.Primitive.TheVariants.{Int}
-use Rattle.abi_base.specs.Integer.{integer_size}
-use Rattle.abi_scalar.specs.declared.scalar.Scalar.{Scalar}
-use Rattle.abi_scalar.specs.declared.scalar.Scalar.TheVariants.{Initialized}
-use Rattle.abi_scalar.specs.Range.{full_range}
-use Rattle.rustc_abi.specs.Tree.{Tree, scalar, array, vector, struct, union, Trees, no_trees, more_trees}
-use Rattle.program.specs.Printing.{integer_text}
+use Rattle.abi_base.specs.declared.data_layout.TargetDataLayout.{TargetDataLayout}
+use Rattle.abi_base.specs.declared.float.Float.{Float as Format}
+use Rattle.abi_base.specs.declared.integer.Integer.{Integer}
+use Rattle.abi_base.specs.declared.primitive.Primitive.{Primitive}
+use Rattle.abi_base.specs.declared.primitive.Primitive.TheVariants.{Int, Float, Pointer}
 use Rattle.abi_scalar.specs.declared.repr.ReprOptions.{ReprOptions}
+use Rattle.abi_scalar.specs.declared.scalar.Scalar.{Scalar}
+use Rattle.abi_scalar.specs.declared.scalar.Scalar.TheVariants.{Initialized, Union}
+use Rattle.rustc_abi.specs.Tree.{Tree, scalar, pair, never, unit, array, vector, struct, union, Trees, no_trees, more_trees}
+use Rattle.program.specs.declared.repr_text.StructRepr.{StructRepr}
+use Rattle.program.specs.Printing.{integer_text, float_text}
+use Rattle.program.specs.Repr.{struct_repr, union_repr}
+use Rattle.program.specs.Scalars.{a_bool, a_char, a_ref, default_pointer, full, index_primitive}
+use Rattle.program.specs.Words.{begins_plain}
 
-abbrev pub scalar_words : Scalar → List (List ℕ)
-scalar_words (Initialized (Int width signed) range) = integer_text width signed ∷ []
-scalar_words _ = []
+-- the word says the number, which has at most so many bits: its decimal digits, with any zeros in front
+abbrev pub IsNumeral : (bits n : ℕ) → (word : List ℕ) → Type 0
+IsNumeral bits n word = (n < 2 ^ bits) × (zeros : ℕ) × (word ≡ replicate zeros 48 ++ decimal n)
+
+-- the word of an integer as wide as an index
+abbrev pub index_text : (signed : Bool) → List ℕ
+index_text signed = if signed then codes "isize" else codes "usize"
+
+-- the words write the primitive
+pub data IsPrimitiveWrittenAs (dl : TargetDataLayout) : Primitive → (words : List (List ℕ)) → Type 0 where
+  an_integer : (width : Integer) (signed : Bool) → IsPrimitiveWrittenAs dl (Int width signed) (integer_text width signed ∷ [])
+  an_index : (signed : Bool) → IsPrimitiveWrittenAs dl (index_primitive dl signed) (index_text signed ∷ [])
+  a_float : (format : Format) → IsPrimitiveWrittenAs dl (Float format) (float_text format ∷ [])
+  -- a pointer into space 0, and one into any space
+  a_pointer : IsPrimitiveWrittenAs dl default_pointer (codes "ptr" ∷ [])
+  a_pointer_in : (space : ℕ) (word : List ℕ) → IsNumeral 32 space word
+      → IsPrimitiveWrittenAs dl (Pointer (record { 0 = space })) (codes "ptrin" ∷ word ∷ [])
+
+-- the words write the scalar
+pub data IsScalarWrittenAs (dl : TargetDataLayout) : Scalar → (words : List (List ℕ)) → Type 0 where
+  -- a primitive alone stands for every number of its width
+  every_number : (p : Primitive) (words : List (List ℕ)) → IsPrimitiveWrittenAs dl p words → IsScalarWrittenAs dl (full dl p) words
+  the_bool : IsScalarWrittenAs dl a_bool (codes "bool" ∷ [])
+  the_char : IsScalarWrittenAs dl a_char (codes "char" ∷ [])
+  the_ref : IsScalarWrittenAs dl (a_ref dl) (codes "ref" ∷ [])
+  -- a primitive with the start and the end of its range
+  a_range : (p : Primitive) (words : List (List ℕ)) (start end : ℕ) (first last : List ℕ)
+      → IsPrimitiveWrittenAs dl p words → IsNumeral 128 start first → IsNumeral 128 end last
+      → IsScalarWrittenAs dl (Initialized p (record { start = start; end = end })) (codes "range" ∷ (words ++ first ∷ last ∷ []))
+  -- a primitive of a union
+  of_a_union : (p : Primitive) (words : List (List ℕ)) → IsPrimitiveWrittenAs dl p words → IsScalarWrittenAs dl (Union p) (codes "unionof" ∷ words)
 
 -- the word that begins a vector
 abbrev pub vector_word : (packed : Bool) → List ℕ
 vector_word packed = if packed then codes "psimd" else codes "simd"
 
+mutual
+  -- the words write the type; no words write an enum or a coroutine
+  pub data IsWrittenAs (dl : TargetDataLayout) : Tree → (words : List (List ℕ)) → Type 0 where
+    a_scalar : (s : Scalar) (words : List (List ℕ)) → IsScalarWrittenAs dl s words → IsWrittenAs dl (scalar s) words
+    a_pair : (a b : Scalar) (first second : List (List ℕ)) → IsScalarWrittenAs dl a first → IsScalarWrittenAs dl b second
+        → IsWrittenAs dl (pair a b) (codes "pair" ∷ (first ++ second))
+    no_value : IsWrittenAs dl never (codes "never" ∷ [])
+    one_value : IsWrittenAs dl unit (codes "unit" ∷ [])
+    an_array : (count : ℕ) (word : List ℕ) (t : Tree) (words : List (List ℕ)) → IsNumeral 64 count word → IsWrittenAs dl t words
+        → IsWrittenAs dl (array count t) (codes "array" ∷ word ∷ words)
+    a_vector : (lanes : ℕ) (packed : Bool) (word : List ℕ) (t : Tree) (words : List (List ℕ)) → IsNumeral 64 lanes word → IsWrittenAs dl t words
+        → IsWrittenAs dl (vector lanes packed t) (vector_word packed ∷ word ∷ words)
+    -- a struct, and a union, with the options that the word of its repr asks for
+    a_struct : (asked : StructRepr) (word : List ℕ) (ts : Trees) (words : List (List ℕ)) → struct_repr word ≡ Some asked → AreWrittenAs dl ts words
+        → IsWrittenAs dl (struct asked.repr asked.always_sized ts) (codes "struct" ∷ word ∷ codes "(" ∷ (words ++ codes ")" ∷ []))
+    a_union : (repr : ReprOptions) (word : List ℕ) (ts : Trees) (words : List (List ℕ)) → union_repr word ≡ Some repr → AreWrittenAs dl ts words
+        → IsWrittenAs dl (union repr ts) (codes "union" ∷ word ∷ codes "(" ∷ (words ++ codes ")" ∷ []))
+
+  -- the words write the types, one after the other
+  pub data AreWrittenAs (dl : TargetDataLayout) : Trees → (words : List (List ℕ)) → Type 0 where
+    no_more : AreWrittenAs dl no_trees []
+    one_more : (t : Tree) (ts : Trees) (words rest : List (List ℕ)) → IsWrittenAs dl t words → AreWrittenAs dl ts rest
+        → AreWrittenAs dl (more_trees t ts) (words ++ rest)
+
 abbrev mutual
-  -- the words that write a type
-  pub written : Tree → List (List ℕ)
-  written (scalar s) = scalar_words s
-  written (array count t) = codes "array" ∷ decimal count ∷ written t
-  written (struct repr sized ts) = codes "struct" ∷ codes "C" ∷ codes "(" ∷ (written_each ts ++ codes ")" ∷ [])
-  written (vector lanes packed t) = vector_word packed ∷ decimal lanes ∷ written t
-  written (union repr ts) = codes "union" ∷ codes "C" ∷ codes "(" ∷ (written_each ts ++ codes ")" ∷ [])
-  written _ = []
+  -- how many types stand around the one that is nested deepest; what no words write counts as a type with none in it
+  pub nesting : Tree → ℕ
+  nesting (array count t) = nesting t + 1
+  nesting (vector lanes packed t) = nesting t + 1
+  nesting (struct repr sized ts) = nesting_of_fields ts
+  nesting (union repr ts) = nesting_of_fields ts
+  nesting _ = 0
 
-  pub written_each : Trees → List (List ℕ)
-  written_each no_trees = []
-  written_each (more_trees t ts) = written t ++ written_each ts
+  pub nesting_of_fields : Trees → ℕ
+  nesting_of_fields no_trees = 0
+  nesting_of_fields (more_trees t ts) = max (nesting t + 1) (nesting_of_fields ts)
 
--- `repr(C)` and nothing else
-abbrev pub plain_c : ReprOptions
-plain_c = record { int = None; align = None; pack = None; flags = record { 0 = 1 }; scalable = None; field_shuffle_seed = 0 }
-
--- an integer that may be any number of its width
-abbrev pub IsFullInteger : Scalar → Type 0
-IsFullInteger (Initialized (Int width signed) range) = range ≡ full_range (integer_size width)
-IsFullInteger _ = ⊥
-
-abbrev mutual
-  -- the type is made of full integers, arrays, vectors, C structs and C unions, and stands, nested in so many others, in no
-  -- more than 200
-  pub IsKnown : (nested : ℕ) → Tree → Type 0
-  IsKnown nested (scalar s) = (nested ≤ 200) × IsFullInteger s
-  IsKnown nested (array count t) = (nested ≤ 200) × (count < 2 ^ 64) × IsKnown (nested + 1) t
-  IsKnown nested (struct repr sized ts) = (nested ≤ 200) × (repr ≡ plain_c) × (sized ≡ true) × AreKnown (nested + 1) ts
-  IsKnown nested (vector lanes packed t) = (nested ≤ 200) × (lanes < 2 ^ 64) × IsKnown (nested + 1) t
-  IsKnown nested (union repr ts) = (nested ≤ 200) × (repr ≡ plain_c) × AreKnown (nested + 1) ts
-  IsKnown nested _ = ⊥
-
-  pub AreKnown : (nested : ℕ) → Trees → Type 0
-  AreKnown nested no_trees = Unit {0}
-  AreKnown nested (more_trees t ts) = IsKnown nested t × AreKnown nested ts
-
--- words in a line, each with a space behind it
-abbrev pub line_of : List (List ℕ) → List ℕ
-line_of [] = []
-line_of (w ∷ ws) = w ++ 32 ∷ line_of ws
+-- the words stand in the line, in their order: spaces may stand anywhere but within a word, and none is needed beside a
+-- parenthesis
+pub data IsLineOf : (words : List (List ℕ)) → (line : List ℕ) → Type 0 where
+  no_words : IsLineOf [] []
+  a_space : (words : List (List ℕ)) (line : List ℕ) → IsLineOf words line → IsLineOf words (codes " " ++ line)
+  an_opening : (words : List (List ℕ)) (line : List ℕ) → IsLineOf words line → IsLineOf (codes "(" ∷ words) (codes "(" ++ line)
+  a_closing : (words : List (List ℕ)) (line : List ℕ) → IsLineOf words line → IsLineOf (codes ")" ∷ words) (codes ")" ++ line)
+  -- no byte of a word follows
+  a_word : (word : List ℕ) (words : List (List ℕ)) (line : List ℕ) → IsLineOf words line → begins_plain line ≡ false
+      → IsLineOf (word ∷ words) (word ++ line)

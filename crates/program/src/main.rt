@@ -16,8 +16,6 @@ mod scalars;
 #[cfg(test)]
 mod tests;
 mod type_word;
-#[cfg(test)]
-mod union_tests;
 mod words;
 
 pub use run::run;

@@ -1,13 +1,13 @@
 //! Reads a type, word by word.
 
-ghost use Rattle.std.specs.Prelude.{◌≡◌, ◌∷◌, ◌⊎◌, ◌<◌, ◌≤◌, ◌+◌, ◌^◌, ℕ, IfOk, IfErr, MatchResult, codes, length};
+ghost use Rattle.std.specs.Prelude.{◌≡◌, ◌∷◌, ◌⊎◌, ◌<◌, ◌≤◌, ◌+◌, ◌^◌, ℕ, IfOk, IfErr, List, MatchResult, codes, length};
 ghost use Rattle.std.specs.Str.{bytes_eq};
 ghost use Rattle.rustc_abi.specs.Tree.{Tree, tree_of};
 ghost use Rattle.program.specs.Reading.{Agrees, waiting, first, at_count, at_lanes, at_opening, at_repr, at_type, at_union_opening, at_union_repr, begun_in, closed, read, start, state_of, step};
 ghost use Rattle.program.specs.Numbers.{number_in};
 ghost use Rattle.program.specs.Repr.{struct_repr, union_repr};
 ghost use Rattle.program.specs.Words.{words_of};
-ghost use Rattle.program.specs.Written.{IsKnown, line_of, written};
+ghost use Rattle.program.specs.Written.{IsLineOf, IsWrittenAs, nesting};
 
 use crate::begun::{Open, Reader, Want, put, waiting};
 use crate::fault::Fault;
@@ -243,7 +243,7 @@ pub(crate) fn read_type(
     line: &[u8],
 ) -> Result<TypeTree, Fault>
     ensures exact { Agrees tree_of (read dl.now (words_of line.now)) result }
-    ensures written { (t : Tree) → IsKnown 0 t → line.now ≡ line_of (written t) →
+    ensures written { (t : Tree) → (words : List (List ℕ)) → IsWrittenAs dl.now t words → nesting t ≤ 200 → IsLineOf words line.now →
         MatchResult result (λ tree. tree_of tree ≡ t) (λ fault. fault ≡ Fault.OutOfMemory) }
 {
     read_words(alloc, dl, line)

@@ -49,6 +49,7 @@ fn send<W: Write>(output: &mut W, text: &[u8], status: u8) -> u8
 /// the status is 1, and nothing more is written.
 pub fn run<R: Read, W: Write>(alloc: Global, input: &mut R, output: &mut W) -> u8
     ensures answered { IfSome (R.remaining input.old) (λ all. Answered (W.contents output.old) (W.contents output.new) (IsOutputOf all) result) }
+    ensures some { (all : List ℕ) → (output : Output) × IsOutputOf all output }
     ensures one { (all : List ℕ) (a b : Output) → IsOutputOf all a → IsOutputOf all b → a ≡ b }
 {
     let mut text = Vec::new(alloc);

@@ -174,7 +174,7 @@ module _ (dl : TargetDataLayout) (t : Tree) (element : Placed) (faithful : IsFai
     inside = IfSome_then layout.largest_niche niche array_inside;
     padding = array_padding;
     view = λ b v h. rw view tt;
-    flag = λ vectors. flag-elements dl t element count layout flag (faithful.flag vectors);
+    flag = flag-elements dl t element count layout flag faithful.flag;
   }
 
 -- an array's data places lie inside it

@@ -27,7 +27,7 @@ module _ (dl : TargetDataLayout) where
     inside = tt;
     padding = λ xs ys v ex ey agree h. absurd h;
     view = λ b v h. tt;
-    flag = λ _ v h. absurd h;
+    flag = λ v h. absurd h;
   }
 
   -- a type with no value

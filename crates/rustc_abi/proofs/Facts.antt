@@ -123,7 +123,7 @@ no_bool order (bytes content) h = h
 -- ---- a flag that is wrong: never without it, and a number with it
 
 unflagged_never : IsFlagTrue default_data_layout never (nowhere (sized 0)) → ⊥
-unflagged_never h = h.1
+unflagged_never h = (h tt).1
 
 flagged_number : IsFlagTrue default_data_layout (number_type (unsigned I8)) (scalar (record (sized 1) { uninhabited = true }) (unsigned I8)) → ⊥
 flagged_number h = h (number 0) zero_is_in

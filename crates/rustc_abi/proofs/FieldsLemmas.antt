@@ -17,7 +17,7 @@ use Rattle.rustc_abi.specs.Tree.{Tree, struct, Trees, no_trees, more_trees}
 use Rattle.rustc_abi.specs.Bytes.{AreBytes, bytes_at, number_of}
 use Rattle.rustc_abi.specs.Value.{Value, number, two, list, variant, state, bytes, Values, no_values, more_values}
 use Rattle.rustc_abi.specs.Placed.{Placed, Layout, Parts, no_parts, part, layout_of, size_of, niche_of, fields}
-use Rattle.rustc_abi.specs.Values.{IsValueOf, LocalsOfEach, VectorsOfEach}
+use Rattle.rustc_abi.specs.Values.{IsValueOf, LocalsOfEach}
 use Rattle.rustc_abi.specs.Holding.{Holds, HoldParts}
 use Rattle.rustc_abi.specs.Faithful.{AgreeOn, IsFaithful, IsFlagTrue, IsTrueOf}
 use Rattle.rustc_abi.specs.Fits.{Fits}
@@ -72,7 +72,7 @@ part_niche_inside dl size (more_trees t ts) (part o placed parts) fit n has =
 module _ (dl : TargetDataLayout) (repr : ReprOptions) (always_sized : Bool) (ts : Trees) (layout : Layout) (parts : Parts)
     (fit : FitTogether dl layout.size ts parts) (niche : IfSome layout.largest_niche (IsPartNiche parts))
     (view : (b : List ℕ) (vs : Values) → HoldParts dl.endian parts b vs → IsTrueOf dl layout.backend_repr b)
-    (flag : VectorsOfEach dl ts → IsFlagTrue dl (struct repr always_sized ts) (fields layout parts)) where
+    (flag : IsFlagTrue dl (struct repr always_sized ts) (fields layout parts)) where
   abbrev tree : Tree
   tree = struct repr always_sized ts
 

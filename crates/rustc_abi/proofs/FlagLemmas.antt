@@ -9,7 +9,7 @@ use Rattle.abi_calc.specs.Apart.{AreApart}
 use Rattle.rustc_abi.specs.Tree.{Tree, array, struct, Trees, no_trees, more_trees}
 use Rattle.rustc_abi.specs.Value.{Value, number, two, list, variant, state, bytes, Values, no_values, more_values, value_count, Each}
 use Rattle.rustc_abi.specs.Placed.{Placed, Layout, layout_of, size_of, elements, fields}
-use Rattle.rustc_abi.specs.Values.{IsValueOf, AreValuesOf, LocalsOfEach, VectorsOfEach}
+use Rattle.rustc_abi.specs.Values.{IsValueOf, AreValuesOf, LocalsOfEach, VectorsHaveValues, VectorsOfEach}
 use Rattle.rustc_abi.specs.Faithful.{IsFlagTrue}
 use Rattle.rustc_abi.specs.Nodes.{parts_at}
 use Rattle.rustc_abi.specs.Adding.{EachFits}
@@ -19,23 +19,24 @@ pub alike : (P : Value → Type 0) (v : Value) → P v → (count : ℕ) → (vs
 alike P v h zero = (no_values, refl, tt)
 alike P v h (suc n) = let rest = alike P v h n in (more_values v rest.0, omega (arith, rest.1), (h, rest.2))
 
--- there are so many values with the fact, or none, as the flag says
-abbrev AreSome : (P : Value → Type 0) → (count : ℕ) → Bool → Type 0
-AreSome P count flag = MatchBool flag ((vs : Values) → value_count vs ≡ count → Each P vs → ⊥) ((vs : Values) × (value_count vs ≡ count) × Each P vs)
+-- there are so many values with the fact, where the premise holds, or none, as the flag says
+abbrev AreSome : (C : Type 0) → (P : Value → Type 0) → (count : ℕ) → Bool → Type 0
+AreSome C P count flag = MatchBool flag ((vs : Values) → value_count vs ≡ count → Each P vs → ⊥) (C → (vs : Values) × (value_count vs ≡ count) × Each P vs)
 
-some_elements : (P : Value → Type 0) (flag : Bool) → MatchBool flag ((v : Value) → P v → ⊥) ((v : Value) × P v) → (count : ℕ) (none : Bool) →
-    (none ≡ true → count ≡ 0) → (none ≡ false → count ≢ 0) → AreSome P count (flag && not none)
-some_elements P true h count true is isnt = let zero : count ≡ 0 = is refl in (no_values, sym zero, tt)
-some_elements P true h count false is isnt = λ vs many each. no_first vs many each
+some_elements : (C : Type 0) (P : Value → Type 0) (flag : Bool) → MatchBool flag ((v : Value) → P v → ⊥) (C → (v : Value) × P v) → (count : ℕ) (none : Bool) →
+    (none ≡ true → count ≡ 0) → (none ≡ false → count ≢ 0) → AreSome C P count (flag && not none)
+some_elements C P true h count true is isnt = λ _. let zero : count ≡ 0 = is refl in (no_values, sym zero, tt)
+some_elements C P true h count false is isnt = λ vs many each. no_first vs many each
   where
     no_first : (vs : Values) → value_count vs ≡ count → Each P vs → ⊥
     no_first no_values many each = isnt refl (sym many)
     no_first (more_values v vs) many each = h v each.0
-some_elements P false h count none is isnt = alike P h.0 h.1 count
+some_elements C P false h count none is isnt = λ c. alike P (h c).0 (h c).1 count
 
 module _ (dl : TargetDataLayout) (t : Tree) (element : Placed) (count : ℕ) (layout : Layout) where
-  of_array : (flag : Bool) → AreSome (IsValueOf dl t element) count flag →
-      MatchBool flag ((v : Value) → IsValueOf dl (array count t) (elements layout count element) v → ⊥) ((v : Value) × IsValueOf dl (array count t) (elements layout count element) v)
+  of_array : (flag : Bool) → AreSome (VectorsHaveValues dl t) (IsValueOf dl t element) count flag →
+      MatchBool flag ((v : Value) → IsValueOf dl (array count t) (elements layout count element) v → ⊥)
+      (VectorsHaveValues dl t → (v : Value) × IsValueOf dl (array count t) (elements layout count element) v)
   of_array true h = none_of
     where
       none_of : (v : Value) → IsValueOf dl (array count t) (elements layout count element) v → ⊥
@@ -45,13 +46,13 @@ module _ (dl : TargetDataLayout) (t : Tree) (element : Placed) (count : ℕ) (la
       none_of (variant i vs) k = k
       none_of (state i ps vs) k = k
       none_of (bytes content) k = k
-  of_array false h = (list h.0, (h.1, h.2))
+  of_array false h = λ c. let some = h c in (list some.0, (some.1, some.2))
 
   -- an array has no value where it has elements, and they have none
   pub flag-elements : layout.uninhabited ≡ ((layout_of element).uninhabited && not (count == 0)) → IsFlagTrue dl t element → IsFlagTrue dl (array count t) (elements layout count element)
   flag-elements e h =
       rw e (of_array ((layout_of element).uninhabited && not (count == 0))
-      (some_elements (IsValueOf dl t element) (layout_of element).uninhabited h count (count == 0) (λ is. eqb-true count 0 is) (λ isnt. eqb-false count 0 isnt)))
+      (some_elements (VectorsHaveValues dl t) (IsValueOf dl t element) (layout_of element).uninhabited h count (count == 0) (λ is. eqb-true count 0 is) (λ isnt. eqb-false count 0 isnt)))
 
 -- each type's flag is true
 abbrev AreFlagsTrue : TargetDataLayout → Trees → List Placed → Type 0
@@ -59,16 +60,16 @@ AreFlagsTrue dl no_trees ps = Unit {0}
 AreFlagsTrue dl (more_trees t ts) [] = Unit {0}
 AreFlagsTrue dl (more_trees t ts) (p ∷ ps) = IsFlagTrue dl t p × AreFlagsTrue dl ts ps
 
-flags_true : (dl : TargetDataLayout) (ts : Trees) (ps : List Placed) → EachFits dl ts ps → LocalsOfEach dl ts → VectorsOfEach dl ts → AreFlagsTrue dl ts ps
-flags_true dl no_trees ps fits locals vectors = tt
-flags_true dl (more_trees t ts) [] fits locals vectors = tt
-flags_true dl (more_trees t ts) (p ∷ ps) fits locals vectors =
-    ((fits.0.faithful locals.0).flag vectors.0, flags_true dl ts ps fits.1 locals.1 vectors.1)
+flags_true : (dl : TargetDataLayout) (ts : Trees) (ps : List Placed) → EachFits dl ts ps → LocalsOfEach dl ts → AreFlagsTrue dl ts ps
+flags_true dl no_trees ps fits locals = tt
+flags_true dl (more_trees t ts) [] fits locals = tt
+flags_true dl (more_trees t ts) (p ∷ ps) fits locals = ((fits.0.faithful locals.0).flag, flags_true dl ts ps fits.1 locals.1)
 
 module _ (dl : TargetDataLayout) where
-  -- the types have values, or they have none, as the flag says
+  -- the types have values, where their vectors' elements do, or they have none, as the flag says
   abbrev HaveSome : Trees → (offsets : List ℕ) → List Placed → Bool → Type 0
-  HaveSome ts offsets ps flag = MatchBool flag ((vs : Values) → AreValuesOf dl ts (parts_at offsets ps) vs → ⊥) ((vs : Values) × AreValuesOf dl ts (parts_at offsets ps) vs)
+  HaveSome ts offsets ps flag =
+      MatchBool flag ((vs : Values) → AreValuesOf dl ts (parts_at offsets ps) vs → ⊥) (VectorsOfEach dl ts → (vs : Values) × AreValuesOf dl ts (parts_at offsets ps) vs)
 
   module _ (t : Tree) (ts : Trees) (o : ℕ) (offsets : List ℕ) (p : Placed) (ps : List Placed) where
     abbrev All : Type 0
@@ -82,15 +83,15 @@ module _ (dl : TargetDataLayout) where
     none_later h no_values k = k
     none_later h (more_values v vs) k = h vs k.1
 
-    some_more : (a b : Bool) → MatchBool a ((v : Value) → IsValueOf dl t p v → ⊥) ((v : Value) × IsValueOf dl t p v) → HaveSome ts offsets ps b →
+    some_more : (a b : Bool) → MatchBool a ((v : Value) → IsValueOf dl t p v → ⊥) (VectorsHaveValues dl t → (v : Value) × IsValueOf dl t p v) → HaveSome ts offsets ps b →
         HaveSome (more_trees t ts) (o ∷ offsets) (p ∷ ps) (a || b)
     some_more true b h k = none_first h
     some_more false true h k = none_later k
-    some_more false false h k = (more_values h.0 k.0, (h.1, k.1))
+    some_more false false h k = λ c. let v = h c.0 in let vs = k c.1 in (more_values v.0 vs.0, (v.1, vs.1))
 
   each_flag : (size : ℕ) (ts : Trees) (offsets : List ℕ) (ps : List Placed) → AreApart size offsets (map size_of ps) → EachFits dl ts ps → AreFlagsTrue dl ts ps →
       HaveSome ts offsets ps (list_any (λ f. f.uninhabited) (map layout_of ps))
-  each_flag size no_trees [] [] apart fits flags = (no_values, tt)
+  each_flag size no_trees [] [] apart fits flags = λ _. (no_values, tt)
   each_flag size no_trees (o ∷ offsets) [] apart fits flags = absurd apart
   each_flag size no_trees offsets (p ∷ ps) apart fits flags = absurd fits
   each_flag size (more_trees t ts) offsets [] apart fits flags = absurd fits
@@ -101,7 +102,7 @@ module _ (dl : TargetDataLayout) where
   module _ (repr : ReprOptions) (always_sized : Bool) (ts : Trees) (layout : Layout) (offsets : List ℕ) (ps : List Placed) where
     of_struct : (flag : Bool) → HaveSome ts offsets ps flag →
         MatchBool flag ((v : Value) → IsValueOf dl (struct repr always_sized ts) (fields layout (parts_at offsets ps)) v → ⊥)
-        ((v : Value) × IsValueOf dl (struct repr always_sized ts) (fields layout (parts_at offsets ps)) v)
+        (VectorsOfEach dl ts → (v : Value) × IsValueOf dl (struct repr always_sized ts) (fields layout (parts_at offsets ps)) v)
     of_struct true h = none_of
       where
         none_of : (v : Value) → IsValueOf dl (struct repr always_sized ts) (fields layout (parts_at offsets ps)) v → ⊥
@@ -111,10 +112,10 @@ module _ (dl : TargetDataLayout) where
         none_of (variant i vs) k = k
         none_of (state i xs vs) k = k
         none_of (bytes content) k = k
-    of_struct false h = (list h.0, h.1)
+    of_struct false h = λ c. let some = h c in (list some.0, some.1)
 
     -- a struct has no value where some field has none
     pub flag-fields : layout.uninhabited ≡ list_any (λ f. f.uninhabited) (map layout_of ps) → AreApart layout.size offsets (map size_of ps) → EachFits dl ts ps →
-        LocalsOfEach dl ts → VectorsOfEach dl ts → IsFlagTrue dl (struct repr always_sized ts) (fields layout (parts_at offsets ps))
-    flag-fields e apart fits locals vectors =
-        rw e (of_struct (list_any (λ f. f.uninhabited) (map layout_of ps)) (each_flag layout.size ts offsets ps apart fits (flags_true dl ts ps fits locals vectors)))
+        LocalsOfEach dl ts → IsFlagTrue dl (struct repr always_sized ts) (fields layout (parts_at offsets ps))
+    flag-fields e apart fits locals =
+        rw e (of_struct (list_any (λ f. f.uninhabited) (map layout_of ps)) (each_flag layout.size ts offsets ps apart fits (flags_true dl ts ps fits locals)))

@@ -50,7 +50,7 @@ use Rattle.rustc_abi.specs.Laying.{IsLaying, AreLaying, IsListed, IsUnited, fiel
 use Rattle.rustc_abi.proofs.CalcLemmas.{after_ok, chosen_ok, named-ok, united_layout}
 use Rattle.rustc_abi.proofs.FaultLemmas.{faultless}
 use Rattle.rustc_abi.proofs.LayLemmas.{faultless_aligns}
-use Rattle.rustc_abi.proofs.RoomForPair.{lawful_readable}
+use Rattle.abi_scalar.proofs.ReadableLemmas.{lawful_readable}
 
 -- the type's layout is lawful, and it is sized
 abbrev pub IsWhole : TargetDataLayout → Placed → Type 0

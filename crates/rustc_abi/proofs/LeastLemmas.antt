@@ -22,10 +22,15 @@ use Rattle.abi_calc.specs.List.{AreSized, parts_of as asked_of}
 use Rattle.abi_calc.specs.Order.{IsNamedOrder}
 use Rattle.abi_calc.specs.Simd.{simd_answer}
 use Rattle.abi_calc.specs.Placement.{IsAllowed, IsNonEmptyIfUnsized, list_repr, size_in}
-use Rattle.abi_calc.proofs.DeepLemmas.{biased_fits, sized_fault}
+use Rattle.abi_calc.proofs.DeepLemmas.{sized_fault}
 use Rattle.abi_calc.proofs.FaultLemmas.{large_in, memory_in}
-use Rattle.abi_calc.proofs.Least.{all_too_large, named_allowed, named_least}
+use Rattle.abi_calc.proofs.Least.{all_too_large}
+use Rattle.abi_calc.specs.Least.{IsOrderOf}
+use Rattle.abi_calc.specs.Simd.{IsVectorTooLarge}
+use Rattle.abi_calc.specs.Union.{IsUnionTooLarge}
+use Rattle.abi_calc.proofs.LeastLemmas.{has_least, never_large as listed_never_large}
 use Rattle.abi_calc.proofs.RunLemmas.{biased_of}
+use Rattle.abi_calc.proofs.TooLarge.{tells_size, union_large, union_refused}
 use Rattle.rustc_abi.specs.declared.error.LayError.{LayError}
 use Rattle.rustc_abi.specs.declared.error.LayError.TheVariants.{SizeOverflow, UnexpectedUnsized, BadIndex, BadAlign, UnknownSpace, BadRange}
 use Rattle.rustc_abi.specs.Tree.{Tree, scalar, pair, never, unit, array, vector, struct, union, enum, coroutine, Trees, no_trees, more_trees, Variants, no_variants, more_variants}
@@ -34,10 +39,10 @@ use Rattle.rustc_abi.specs.Nodes.{parts_at, parts_at_0}
 use Rattle.rustc_abi.specs.Error.{Follows, IsRefused, named, lay_error}
 use Rattle.rustc_abi.specs.ScalarFault.{is_lawful_primitive, has_range_within, scalar_fault}
 use Rattle.rustc_abi.specs.Laying.{AreLaying, IsFieldsAnswer, IsLaying, IsListed, IsNotYet, IsUnionOf, IsUnited, VariantsLaying, elements_answer, fields_fault, kind_of, lanes_of, one_scalar, pair_answer, placed_by, placed_fields, placed_together, scalar_answer, two_scalars, unless, vector_answer}
-use Rattle.rustc_abi.specs.Least.{IsOrderOf, IsLeastSize, IsEachOrderTooLarge, fields_of, HasLeastStructs, HaveLeastStructs, IsTooLarge, AreTooLarge, AreVariantsTooLarge}
-use Rattle.rustc_abi.proofs.LaidLemmas.{IsWhole, all_whole, placed_back, asked_aligned, asked_sized, length-asked, some_field}
+use Rattle.rustc_abi.specs.Least.{IsLeastStruct, IsStructTooLarge, fields_of, HasLeastStructs, HaveLeastStructs, IsTooLarge, AreTooLarge, AreVariantsTooLarge}
+use Rattle.rustc_abi.proofs.LaidLemmas.{IsWhole, all_whole, whole_lawful, placed_back, asked_aligned, asked_sized, length-asked, some_field}
 use Rattle.rustc_abi.proofs.LayLemmas.{pair_overflows}
-use Rattle.rustc_abi.proofs.OneAnswer.{one_answer, one_list, one_union}
+use Rattle.rustc_abi.proofs.OneAnswer.{one_answer, one_list}
 
 -- the parts are the types that were put at the offsets
 fields_at : (offsets : List ℕ) (ps : List Placed) → length offsets ≡ length ps → fields_of (parts_at offsets ps) ≡ ps
@@ -59,22 +64,12 @@ module _ (dl : TargetDataLayout) (repr : ReprOptions) (always_sized : Bool) (ps 
   some : IsNonEmptyIfUnsized (kind_of always_sized ps) (length (asked_of dl (map layout_of ps)))
   some = subst (IsNonEmptyIfUnsized (kind_of always_sized ps)) (sym (length-asked dl ps)) (some_field always_sized ps)
 
-  asked : (order : List ℕ) → IsOrderOf dl repr always_sized ps order → IsAllowed (list_repr dl repr (kind_of always_sized ps)) (length (asked_of dl (map layout_of ps))) order
-  asked order q = subst (λ n. IsAllowed (list_repr dl repr (kind_of always_sized ps)) n order) (sym (length-asked dl ps)) q
-
-  allowed : (order : List ℕ) → IsAllowed (list_repr dl repr (kind_of always_sized ps)) (length (asked_of dl (map layout_of ps))) order → IsOrderOf dl repr always_sized ps order
-  allowed order q = subst (λ n. IsAllowed (list_repr dl repr (kind_of always_sized ps)) n order) (length-asked dl ps) q
+  asked : (order : List ℕ) → IsOrderOf dl repr (kind_of always_sized ps) (length (map layout_of ps)) order → IsAllowed (list_repr dl repr (kind_of always_sized ps)) (length (asked_of dl (map layout_of ps))) order
+  asked order q = subst (λ n. IsAllowed (list_repr dl repr (kind_of always_sized ps)) n order) (length-map ps layout_of ∙ sym (length-asked dl ps)) q
 
   -- a struct has its least size
-  listed_least : (layout : Layout) → IsListed dl repr (kind_of always_sized ps) (map layout_of ps) (Ok layout) → IsLeastSize dl repr always_sized ps layout.size
-  listed_least layout listed =
-      let list = list_repr dl repr (kind_of always_sized ps) in
-      let parts = asked_of dl (map layout_of ps) in
-      let made = biased_of dl list parts listed.0 listed.1 layout.size layout.align.abi layout.largest_niche listed.2.named in
-      record {
-        some = (listed.0, allowed listed.0 (named_allowed list made.bias parts listed.0 some made.named), made.placed.extent);
-        least = λ other q. rw made.placed.extent (named_least list made.bias parts listed.0 other (asked_aligned dl ps whole) some made.named (asked other q));
-      }
+  listed_least : (layout : Layout) → IsListed dl repr (kind_of always_sized ps) (map layout_of ps) (Ok layout) → IsLeastStruct dl repr always_sized ps layout.size
+  listed_least layout listed = has_least layout_of (λ i. i) 0 dl repr (kind_of always_sized ps) ps listed.0 listed.1 layout (whole_lawful dl ps whole) (some_field always_sized ps) listed.2
 
   -- each field has an offset
   listed_count : (layout : Layout) → IsListed dl repr (kind_of always_sized ps) (map layout_of ps) (Ok layout) → length (offsets_of layout.fields) ≡ length ps
@@ -83,12 +78,8 @@ module _ (dl : TargetDataLayout) (repr : ReprOptions) (always_sized : Bool) (ps 
       ap (λ shape. length (offsets_of shape)) listed.2.shape ∙ made.placed.count ∙ length-asked dl ps
 
   -- what is laid out is not too large in each order
-  listed_small : (layout : Layout) → IsListed dl repr (kind_of always_sized ps) (map layout_of ps) (Ok layout) → IsEachOrderTooLarge dl repr always_sized ps → ⊥
-  listed_small layout listed all =
-      let list = list_repr dl repr (kind_of always_sized ps) in
-      let parts = asked_of dl (map layout_of ps) in
-      biased_fits dl list parts listed.0 listed.1 layout.size layout.align.abi layout.largest_niche some
-      (biased_of dl list parts listed.0 listed.1 layout.size layout.align.abi layout.largest_niche listed.2.named) (λ other q. all other (allowed other q))
+  listed_small : (layout : Layout) → IsListed dl repr (kind_of always_sized ps) (map layout_of ps) (Ok layout) → IsStructTooLarge dl repr always_sized ps → ⊥
+  listed_small layout listed all = listed_never_large layout_of (λ i. i) 0 dl repr (kind_of always_sized ps) ps listed.0 listed.1 layout (some_field always_sized ps) listed.2 all
 
   plain : map (λ (l : Layout). l) (map layout_of ps) ≡ map layout_of ps
   plain = map-id (map layout_of ps)
@@ -100,7 +91,7 @@ module _ (dl : TargetDataLayout) (repr : ReprOptions) (always_sized : Bool) (ps 
   large_of OutOfMemory error h e = let other : lay_error error ≡ lay_error {H = Layout} calculator.OutOfMemory = ap lay_error h in absurd (not_size_either (e ∙ other))
 
   -- a list that is refused for its size is too large in each order
-  refused_large : IsListed dl repr (kind_of always_sized ps) (map layout_of ps) (Err SizeOverflow) → IsEachOrderTooLarge dl repr always_sized ps
+  refused_large : IsListed dl repr (kind_of always_sized ps) (map layout_of ps) (Err SizeOverflow) → IsStructTooLarge dl repr always_sized ps
   refused_large (error, (first, named, fault, there, of), e) other q =
       let list = list_repr dl repr (kind_of always_sized ps) in
       let ls = map (λ (l : Layout). l) (map layout_of ps) in
@@ -223,7 +214,7 @@ module _ (dl : TargetDataLayout) (law : IsLawfulDataLayout dl) where
       let whole = all_whole dl law all ps there in
       let count = listed_count dl repr always_sized ps whole layout listed in
       subst (HasLeastStructs dl (struct repr always_sized all)) same (
-        subst (λ qs. IsLeastSize dl repr always_sized qs layout.size) (sym (fields_at (offsets_of layout.fields) ps count)) (listed_least dl repr always_sized ps whole layout listed),
+        subst (λ qs. IsLeastStruct dl repr always_sized qs layout.size) (sym (fields_at (offsets_of layout.fields) ps count)) (listed_least dl repr always_sized ps whole layout listed),
         each (offsets_of layout.fields) count,
       )
   least_fields (Some f) repr always_sized all ps p there each e = absurd (cc)
@@ -235,7 +226,7 @@ module _ (dl : TargetDataLayout) (law : IsLawfulDataLayout dl) where
   least_union (Some f) repr all ps p each e = absurd (cc)
 
   refused_fields : (fault : Option LayError) (repr : ReprOptions) (always_sized : Bool) (all : Trees) (ps : List Placed) (r : Result Placed LayError) → fault ≡ None → AreLaying dl all (Ok ps)
-      → IsEachOrderTooLarge dl repr always_sized ps
+      → IsStructTooLarge dl repr always_sized ps
       → AnswersBy fault repr always_sized ps r → r ≡ Err SizeOverflow
   refused_fields None repr always_sized all ps r none there large (inl (e, listed, is)) =
       is ∙ ap (λ x. Err x) (refused_for_size dl repr always_sized ps (all_whole dl law all ps there) e listed)
@@ -247,6 +238,53 @@ module _ (dl : TargetDataLayout) (law : IsLawfulDataLayout dl) where
   refused_elements count p r large e =
       let no : nat_lt (size_of p * count) (size_bound dl) ≡ false = le-ltb (size_of p * count) (size_bound dl) large in
       e ∙ ap (λ b. placed_by (λ l. elements l count p) (named {H = ℕ} (if b then Ok (elements_layout 0 true count (layout_of p)) else Err calculator.SizeOverflow))) no
+
+  -- a vector is refused for its size where it is too large
+  named_large : (answer : Result Layout (LayoutCalculatorError Layout)) (make : Layout → Placed) → placed_by make (named answer) ≡ Err SizeOverflow → answer ≡ Err calculator.SizeOverflow
+  named_large (Ok l) make e = absurd (cc)
+  named_large (Err (calculator.UnexpectedUnsized f)) make e = absurd (cc)
+  named_large (Err calculator.SizeOverflow) make e = refl
+  named_large (Err calculator.EmptyUnion) make e = absurd (cc)
+  named_large (Err calculator.ReprConflict) make e = absurd (cc)
+  named_large (Err calculator.ZeroLengthSimdType) make e = absurd (cc)
+  named_large (Err (calculator.OversizedSimdType n)) make e = absurd (cc)
+  named_large (Err (calculator.NonPrimitiveSimdType f)) make e = absurd (cc)
+  named_large (Err calculator.OutOfMemory) make e = absurd (cc)
+
+  large_vector : (lanes : ℕ) (packed : Bool) (p : Placed) → vector_answer dl lanes packed p ≡ Err SizeOverflow → IsVectorTooLarge dl (layout_of p) lanes packed
+  large_vector lanes packed p e =
+      (tells_size (λ (l : Layout). l) 0 0 dl (layout_of p) lanes packed).0 (named_large (simd_answer (λ l. l) 0 0 dl (layout_of p) lanes packed) (λ layout. placed_vector layout (lanes_of lanes p)) e)
+
+  refused_vector : (lanes : ℕ) (packed : Bool) (p : Placed) → IsVectorTooLarge dl (layout_of p) lanes packed → vector_answer dl lanes packed p ≡ Err SizeOverflow
+  refused_vector lanes packed p large =
+      ap (λ answer. placed_by (λ layout. placed_vector layout (lanes_of lanes p)) (named answer)) ((tells_size (λ (l : Layout). l) 0 0 dl (layout_of p) lanes packed).1 large)
+
+  -- and so is a union
+  module _ (repr : ReprOptions) (ps : List Placed) where
+    abbrev UnionAnswersBy : Option LayError → Result Placed LayError → Type 0
+    UnionAnswersBy fault r = MatchOption fault (Follows (IsUnited dl repr (map layout_of ps)) (λ layout z. z ≡ Ok (placed_together ps layout)) r) (λ e. r ≡ Err e)
+
+    all_same : map (λ (l : Layout). l) (map layout_of ps) ≡ map layout_of ps
+    all_same = map-id (map layout_of ps)
+
+    large_union : (fault : Option LayError) → fields_fault repr ps ≡ fault → UnionAnswersBy fault (Err SizeOverflow) → (fields_fault repr ps ≡ None) × IsUnionTooLarge dl repr (map layout_of ps)
+    large_union None none (inl (e, (error, answer, name), is)) =
+        let same : SizeOverflow ≡ e = cc in
+        let size : named {A = Layout} (Err error) ≡ Err SizeOverflow = ap (λ x. Err x) (sym name ∙ sym same) in
+        let told : Err error ≡ Err calculator.SizeOverflow = named_large (Err error) (λ layout. placed_together ps layout) (ap (placed_by (placed_together ps)) size) in
+        (none, subst (IsUnionTooLarge dl repr) all_same (union_large (λ (l : Layout). l) 0 dl repr (map layout_of ps) (Err error) answer told))
+    large_union None none (inr (layout, united, is)) = absurd (cc)
+    large_union (Some f) there e = absurd (not_fields _ _ (there ∙ cc))
+
+    refused_union : (fault : Option LayError) (r : Result Placed LayError) → fault ≡ None → IsUnionTooLarge dl repr (map layout_of ps) → UnionAnswersBy fault r → r ≡ Err SizeOverflow
+    refused_union None r none large (inl (e, (error, answer, name), is)) =
+        let told : Err error ≡ Err calculator.SizeOverflow = union_refused (λ (l : Layout). l) 0 dl repr (map layout_of ps) (Err error) law answer (subst (IsUnionTooLarge dl repr) (sym all_same) large) in
+        let named_so : error ≡ calculator.SizeOverflow = cc in
+        is ∙ ap (λ x. Err x) (name ∙ ap lay_error named_so)
+    refused_union None r none large (inr (layout, united, is)) =
+        let told : Ok layout ≡ Err calculator.SizeOverflow = union_refused (λ (l : Layout). l) 0 dl repr (map layout_of ps) (Ok layout) law united (subst (IsUnionTooLarge dl repr) (sym all_same) large) in
+        absurd (cc)
+    refused_union (Some f) r none large e = absurd (cc)
 
   refused_pair : (a b : Scalar) (r : Result Placed LayError) → IsTooLarge dl (pair a b) → r ≡ pair_answer dl a b → r ≡ Err SizeOverflow
   refused_pair a b r (fa, fb, large) e = e ∙ pair_overflows dl a b fa fb large
@@ -298,9 +336,9 @@ module _ (dl : TargetDataLayout) (law : IsLawfulDataLayout dl) where
     refused_overflow (struct repr always_sized all) (inl (e, there, is)) = let same : e ≡ SizeOverflow = cc in inl (list_overflow all (subst (λ x. AreLaying dl all (Err x)) same there))
     refused_overflow (struct repr always_sized all) (inr (ps, there, answer)) = overflow_fields (fields_fault repr ps) repr always_sized all ps refl there answer
     refused_overflow (vector lanes packed element) (inl (e, there, is)) = let same : e ≡ SizeOverflow = cc in inl (refused_overflow element (subst (λ x. IsLaying dl element (Err x)) same there))
-    refused_overflow (vector lanes packed element) (inr (q, there, e)) = inr (q, there, sym e)
+    refused_overflow (vector lanes packed element) (inr (q, there, e)) = inr (q, there, large_vector lanes packed q (sym e))
     refused_overflow (union repr all) (inl (e, there, is)) = let same : e ≡ SizeOverflow = cc in inl (list_overflow all (subst (λ x. AreLaying dl all (Err x)) same there))
-    refused_overflow (union repr all) (inr f) = inr f
+    refused_overflow (union repr all) (inr (ps, there, answer)) = let large = large_union repr ps (fields_fault repr ps) refl answer in inr (ps, there, large.0, large.1)
     refused_overflow (enum repr all) (inl (e, there, is)) = let same : e ≡ SizeOverflow = cc in variants_overflow all (subst (λ x. VariantsLaying dl all (Err x)) same there)
     refused_overflow (enum repr all) (inr f) = absurd (cc f.2)
     refused_overflow (coroutine prefix locals states conflicts) (inl (e, there, is)) =
@@ -339,10 +377,11 @@ module _ (dl : TargetDataLayout) (law : IsLawfulDataLayout dl) where
     large_refused (vector lanes packed element) r (inl large) h =
         follows_refused (IsLaying dl element) (λ p z. z ≡ vector_answer dl lanes packed p) r (λ x there. large_refused element x large there) h
     large_refused (vector lanes packed element) r (inr (p, there, e)) h =
-        follows_on (IsLaying dl element) (λ p z. z ≡ vector_answer dl lanes packed p) r p there (λ x y a b. one_answer dl element x y a b) h ∙ e
+        follows_on (IsLaying dl element) (λ p z. z ≡ vector_answer dl lanes packed p) r p there (λ x y a b. one_answer dl element x y a b) h
+        ∙ refused_vector lanes packed p e
     large_refused (union repr all) r (inl large) h = follows_refused (AreLaying dl all) (IsUnionOf dl repr) r (λ x there. list_refused all x large there) h
-    large_refused (union repr all) r (inr (ps, there, refused)) h =
-        one_union dl repr ps r (Err SizeOverflow) (follows_on (AreLaying dl all) (IsUnionOf dl repr) r ps there (λ x y a b. one_list dl all x y a b) h) refused
+    large_refused (union repr all) r (inr (ps, there, none, large)) h =
+        refused_union repr ps (fields_fault repr ps) r none large (follows_on (AreLaying dl all) (IsUnionOf dl repr) r ps there (λ x y a b. one_list dl all x y a b) h)
     large_refused (enum repr all) r large h = follows_refused (VariantsLaying dl all) IsNotYet r (λ x there. variants_refused all x large there) h
     large_refused (coroutine prefix locals states conflicts) r (inl large) h =
         follows_refused (AreLaying dl prefix) (λ ps. Follows (AreLaying dl locals) IsNotYet) r (λ x there. list_refused prefix x large there) h

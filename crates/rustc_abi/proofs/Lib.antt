@@ -1,7 +1,6 @@
 mod BytesLemmas
 mod HoldLemmas
 mod ScalarLemmas
-mod RoomForPair
 mod FaultLemmas
 mod PairLemmas
 mod EmptyLemmas
@@ -30,4 +29,5 @@ mod CalcLemmas
 mod TogetherLemmas
 mod LaidLemmas
 pub mod OneAnswer
+pub mod SomeAnswer
 mod LeastLemmas

@@ -128,7 +128,7 @@ module _ (dl : TargetDataLayout) (s : Scalar) (layout : Layout) (size : layout.s
   true_view b (bytes content) h = absurd h
 
   true_flag : IsFlagTrue dl tree placed
-  true_flag = let some = some_number dl s here in rw flag (number some.0, some.1)
+  true_flag = let some = some_number dl s here in rw flag (λ _. (number some.0, some.1))
 
   faithful : IsFaithful dl tree placed
   faithful = record {
@@ -139,7 +139,7 @@ module _ (dl : TargetDataLayout) (s : Scalar) (layout : Layout) (size : layout.s
     inside = IfSome_then layout.largest_niche niche inside_niche;
     padding = padding;
     view = true_view;
-    flag = λ _. true_flag;
+    flag = true_flag;
   }
 
   within : (k : ℕ) → is_data_place placed k ≡ true → k < size_of placed

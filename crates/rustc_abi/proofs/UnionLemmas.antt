@@ -17,7 +17,7 @@ use Rattle.rustc_abi.specs.Bytes.{AreBytes, place_count}
 use Rattle.rustc_abi.specs.Value.{Value, number, two, list, variant, state, bytes}
 use Rattle.rustc_abi.specs.Placed.{Placed, Layout, Parts, part, layout_of, size_of, union as placed_union}
 use Rattle.rustc_abi.specs.Places.{is_data_place, is_place_of_part}
-use Rattle.rustc_abi.specs.Values.{IsValueOf, LocalsOfEach}
+use Rattle.rustc_abi.specs.Values.{IsValueOf, LocalsOfEach, VectorsHaveValues}
 use Rattle.rustc_abi.specs.Unions.{IsCommon, EachPart}
 use Rattle.rustc_abi.specs.Holding.{Holds}
 use Rattle.rustc_abi.specs.Faithful.{AgreeOn, IsFaithful, IsTrueOf}
@@ -103,8 +103,9 @@ module _ (dl : TargetDataLayout) (repr : ReprOptions) (ts : Trees) (layout : Lay
     inside = IfSome-none _ layout.largest_niche none;
     padding = union_padding;
     view = λ b v h. view b;
-    flag = λ vectors.
-        subst (λ f. MatchBool f ((v : Value) → IsValueOf dl tree placed v → ⊥) ((v : Value) × IsValueOf dl tree placed v)) (sym inhabited) some_value;
+    flag =
+        subst (λ f. MatchBool f ((v : Value) → IsValueOf dl tree placed v → ⊥) (VectorsHaveValues dl tree → (v : Value) × IsValueOf dl tree placed v)) (sym inhabited)
+        (λ _. some_value);
   }
 
 -- a view that holds any numbers is true of any bytes

@@ -15,7 +15,7 @@ use Rattle.rustc_abi.specs.Tree.{Tree, array, vector}
 use Rattle.rustc_abi.specs.Bytes.{AreBytes, bytes_at, number_of}
 use Rattle.rustc_abi.specs.Value.{Value, number, two, list, variant, state, bytes}
 use Rattle.rustc_abi.specs.Placed.{Placed, Layout, size_of, niche_of, elements, vector as placed_vector}
-use Rattle.rustc_abi.specs.Values.{IsValueOf, HasValue}
+use Rattle.rustc_abi.specs.Values.{IsValueOf, HasValue, VectorsHaveValues}
 use Rattle.rustc_abi.specs.Holding.{Holds}
 use Rattle.rustc_abi.specs.Faithful.{AgreeOn, IsFaithful, IsTrueOf}
 use Rattle.rustc_abi.specs.Fits.{Fits}
@@ -114,8 +114,9 @@ module _ (dl : TargetDataLayout) (t : Tree) (count : ℕ) (packed : Bool) (own :
     inside = IfSome_then layout.largest_niche niche vector_inside;
     padding = vector_padding;
     view = λ b v h. view b;
-    flag = λ vectors.
-        subst (λ f. MatchBool f ((v : Value) → IsValueOf dl tree placed v → ⊥) ((v : Value) × IsValueOf dl tree placed v)) (sym inhabited) (some_lanes vectors.1);
+    flag =
+        subst (λ f. MatchBool f ((v : Value) → IsValueOf dl tree placed v → ⊥) (VectorsHaveValues dl tree → (v : Value) × IsValueOf dl tree placed v)) (sym inhabited)
+        (λ vectors. some_lanes vectors.1);
   }
 
 same_niche : (lanes : Placed) (niche : Option Niche) → niche ≡ niche_of lanes → IfSome niche (IsNicheAt 0 lanes)

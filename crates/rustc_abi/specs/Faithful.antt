@@ -59,10 +59,12 @@ IsTrueOf dl _ b = ⊤
 abbrev pub IsViewTrue : TargetDataLayout → Placed → Type 0
 IsViewTrue dl placed = (b : List ℕ) (v : Value) → Holds dl.endian placed b v → IsTrueOf dl (layout_of placed).backend_repr b
 
--- flagged as uninhabited, the type has no value; not flagged, it has one
+-- flagged as uninhabited, the type has no value; not flagged, it has one, where each vector's element has one: a vector is never
+-- flagged, whatever its element is
 abbrev pub IsFlagTrue : TargetDataLayout → Tree → Placed → Type 0
 IsFlagTrue dl tree placed =
-    MatchBool (layout_of placed).uninhabited ((v : Value) → IsValueOf dl tree placed v → ⊥) ((v : Value) × IsValueOf dl tree placed v)
+    MatchBool (layout_of placed).uninhabited ((v : Value) → IsValueOf dl tree placed v → ⊥)
+    (VectorsHaveValues dl tree → (v : Value) × IsValueOf dl tree placed v)
 
 -- byte lists of the type's size that agree at each data place hold the same values
 abbrev pub PaddingDecidesNothing : TargetDataLayout → Placed → Type 0
@@ -78,5 +80,4 @@ pub record IsFaithful (dl : TargetDataLayout) (tree : Tree) (placed : Placed) : 
   pub inside : IsNicheInside dl placed
   pub padding : PaddingDecidesNothing dl placed
   pub view : IsViewTrue dl placed
-  -- a vector is never flagged, whatever its element is
-  pub flag : VectorsHaveValues dl tree → IsFlagTrue dl tree placed
+  pub flag : IsFlagTrue dl tree placed

@@ -5,8 +5,7 @@ ghost use Rattle.rustc_abi.specs.Nodes.{root_of};
 ghost use Rattle.rustc_abi.specs.Adding.{are_nodes};
 ghost use Rattle.rustc_abi.specs.Room.{has_room};
 
-use crate::lay::layout_at;
-use crate::node::Node;
+use crate::node::{Node, layout_at};
 use crate::padding::data_runs;
 use crate::runs::{Run, gaps};
 use abi_base::Endian;

@@ -1,184 +1,77 @@
-//! How trees are laid out: children before parents, left to right.
+//! The layout of a tree.
 
-ghost use Rattle.std.specs.Prelude.{◌≡◌, ◌<◌, ℕ, Some, IfOk, IfErr, Ok, length, vec_len, List, map, true};
+ghost use Rattle.std.specs.Prelude.{◌≡◌, ◌⊎◌, IfOk, IfErr, Err, Ok, Result};
+ghost use Rattle.std.specs.Result.{IsErrAnd};
 ghost use Rattle.abi_base.specs.DataLayout.{IsLawfulDataLayout};
+ghost use Rattle.rustc_abi.specs.Tree.{tree_of};
+ghost use Rattle.rustc_abi.specs.Values.{LocalsHaveValues};
+ghost use Rattle.rustc_abi.specs.Faithful.{EachValueIsHeld, OnlyValuesAreHeld, NoBytesHoldTwo, IsNicheTrue, IsNicheInside, PaddingDecidesNothing, IsViewTrue, IsFlagTrue};
 ghost use Rattle.abi_scalar.specs.Lawful.{IsLawfulLayout};
-ghost use Rattle.abi_calc.specs.Array.{array_answer};
-ghost use Rattle.rustc_abi.specs.Tree.{Tree, tree_of, trees, trees_of_variants, array};
+ghost use Rattle.rustc_abi.specs.declared.error.LayError.{LayError};
 ghost use Rattle.rustc_abi.specs.Placed.{Placed, layout_of};
-ghost use Rattle.rustc_abi.specs.Nodes.{types_in, placed_at, meaning};
-ghost use Rattle.rustc_abi.specs.Laying.{IsLaying, AreLaying, VariantsLaying, elements_answer};
-ghost use Rattle.rustc_abi.specs.Error.{named, IsRefused};
-ghost use Rattle.rustc_abi.specs.Fits.{Fits};
-ghost use Rattle.rustc_abi.specs.Adding.{is_node, IsPut, IsAdded, AreAdded, IsRefusal};
+ghost use Rattle.rustc_abi.specs.Laid.{placed_of, endian_of};
+ghost use Rattle.rustc_abi.specs.Laying.{IsLaying};
+ghost use Rattle.rustc_abi.specs.Least.{HasLeastStructs, IsTooLarge};
+ghost use Rattle.rustc_abi.specs.Unions.{Begins, IsCommon, InUnions};
+ghost use Rattle.rustc_abi.specs.Fault.{IsRefusedFor};
 
 use crate::error::LayError;
-use crate::lay_fields::add_fields;
-use crate::lay_scalar::{add_never, add_pair, add_scalar, add_unit};
-use crate::lay_union::add_union;
-use crate::lay_vector::add_vector;
-use crate::node::{Node, Shape};
+use crate::laid::Laid;
+use crate::lay_tree::lay_tree;
 use crate::tree::TypeTree;
 use abi_base::TargetDataLayout;
-use abi_calc::LayoutCalculator;
-use abi_index::{FieldIdx, VariantIdx};
-use abi_scalar::{LayoutCalculatorError, LayoutData};
 use std::alloc::Global;
 
-/// The layout of the node at a place.
-pub(crate) fn layout_at(nodes: &[Node], node: usize) -> &LayoutData<FieldIdx, VariantIdx>
-    requires { node < length nodes.now }
-    ensures { result.now ≡ layout_of (placed_at nodes.now node) }
-{
-    &nodes[node].layout
-}
+/// Lays out a tree under a data layout: children before parents, left to right.
+///
+/// `UnlawfulDataLayout` where the data layout isn't lawful. Else the first fault of a part: `NotYet` for a type that isn't
+/// laid out yet, `UnknownSpace` for a scalar that is a pointer into a space that the data layout doesn't know or whose
+/// pointers aren't lawful, `BadRange` for one whose range has an end that is no number of its width, `BadIndex` for a list
+/// of more fields than its index type can name, `BadAlign` for a repr with an alignment above 2^29 bytes, `EmptyUnion` for a
+/// union without fields, `OversizedSimdType` and `ZeroLengthSimdType` for a vector of more than 32768 lanes or of none,
+/// `NonPrimitiveSimdType` for one whose element is no scalar, `SizeOverflow` for a size that is not below the data layout's
+/// bound. `OutOfMemory` where a growth of memory was refused.
+pub fn lay_out(alloc: Global, dl: &TargetDataLayout, tree: &TypeTree) -> Result<Laid, LayError>
+    // When it is refused, and for what.
+    ensures lawful { IfOk result (λ _. IsLawfulDataLayout dl.now) }
+    ensures refused { IfErr result (IsRefusedFor dl.now (tree_of tree.now)) }
 
-/// Puts a node behind the others.
-pub(crate) fn add(
-    nodes: &mut Vec<Node>,
-    layout: LayoutData<FieldIdx, VariantIdx>,
-    shape: Shape,
-) -> Result<usize, LayError>
-    requires { is_node (vec_len nodes.old) shape ≡ true }
-    ensures ok { IfOk result (λ i. IsPut nodes.old.items nodes.new.items i (meaning (types_in nodes.old.items) layout shape)) }
-    ensures err { IfErr result (λ e. e ≡ LayError.OutOfMemory) }
-{
-    let node = nodes.len();
-    nodes.push(Node { layout, shape })?;
-    Ok(node)
-}
+    // Which layout each part has: there is one answer, and no other.
+    ensures some { IsLawfulDataLayout dl.now → (r : Result Placed LayError) × IsLaying dl.now (tree_of tree.now) r }
+    ensures one { (a b : Result Placed LayError) → IsLaying dl.now (tree_of tree.now) a → IsLaying dl.now (tree_of tree.now) b → a ≡ b }
+    ensures laid { IfOk result (λ laid. IsLaying dl.now (tree_of tree.now) (Ok (placed_of laid))) }
+    ensures layout { IfOk result (λ laid. IsLawfulLayout dl.now (layout_of (placed_of laid))) }
+    ensures order { IfOk result (λ laid. endian_of laid ≡ dl.now.endian) }
 
-/// The layout of so many elements, each as the node `element`.
-pub(crate) fn elements_layout(
-    dl: &TargetDataLayout,
-    nodes: &[Node],
-    count: u64,
-    element: usize,
-) -> Result<LayoutData<FieldIdx, VariantIdx>, LayError>
-    requires data_layout { IsLawfulDataLayout dl.now }
-    requires there { element < length nodes.now }
-    requires lawful { IsLawfulLayout dl.now (layout_of (placed_at nodes.now element)) }
-    ensures exact { result ≡ named {H = ℕ} (array_answer 0 dl.now (layout_of (placed_at nodes.now element)) (Some count)) }
-    ensures lawful { IfOk result (IsLawfulLayout dl.now) }
-{
-    let answer: Result<_, LayoutCalculatorError<u32>> = LayoutCalculator::new(
-        dl,
-    ).layout_of_array_like(layout_at(nodes, element), Some(count));
-    Ok(answer?)
-}
+    // How large it is: each struct has the least size of all orders that its repr and kind allow, and is refused for its
+    // size exactly where every such order is too large.
+    ensures least { IfOk result (λ laid. HasLeastStructs dl.now (tree_of tree.now) (placed_of laid)) }
+    ensures overflow { IfErr result (λ e. e ≡ LayError.SizeOverflow → IsTooLarge dl.now (tree_of tree.now)) }
+    ensures too_large { IsLawfulDataLayout dl.now → IsTooLarge dl.now (tree_of tree.now) →
+        IsErrAnd result (λ e. (e ≡ LayError.SizeOverflow) ⊎ (e ≡ LayError.OutOfMemory)) }
 
-/// A node for so many elements, each as the node `element`.
-fn add_elements(
-    dl: &TargetDataLayout,
-    nodes: &mut Vec<Node>,
-    count: u64,
-    element: usize,
-) -> Result<usize, LayError>
-    requires data_layout { IsLawfulDataLayout dl.now }
-    requires there { element < vec_len nodes.old }
-    requires lawful { IsLawfulLayout dl.now (layout_of (placed_at nodes.old.items element)) }
-    ensures ok { IfOk result
-        (λ i. (t : Tree) → IsLaying dl.now t (Ok (placed_at nodes.old.items element)) →
-        Fits dl.now t (placed_at nodes.old.items element) →
-        IsAdded dl.now nodes.old.items nodes.new.items i (array count t)) }
-    ensures err { IfErr result (IsRefusal (elements_answer dl.now count (placed_at nodes.old.items element))) }
-{
-    let layout = elements_layout(dl, nodes, count, element)?;
-    add(nodes, layout, Shape::Elements { count, element })
-}
+    // What the layout keeps of the values, where each local of a coroutine has one.
+    ensures exists { IfOk result (λ laid. LocalsHaveValues dl.now (tree_of tree.now) →
+        EachValueIsHeld dl.now (tree_of tree.now) (placed_of laid)) }
+    ensures only { IfOk result (λ laid. LocalsHaveValues dl.now (tree_of tree.now) →
+        OnlyValuesAreHeld dl.now (tree_of tree.now) (placed_of laid)) }
+    ensures unique { IfOk result (λ laid. LocalsHaveValues dl.now (tree_of tree.now) → NoBytesHoldTwo dl.now (placed_of laid)) }
+    ensures niche { IfOk result (λ laid. LocalsHaveValues dl.now (tree_of tree.now) → IsNicheTrue dl.now (placed_of laid)) }
+    ensures inside { IfOk result (λ laid. LocalsHaveValues dl.now (tree_of tree.now) → IsNicheInside dl.now (placed_of laid)) }
+    ensures padding { IfOk result (λ laid. LocalsHaveValues dl.now (tree_of tree.now) →
+        PaddingDecidesNothing dl.now (placed_of laid)) }
+    ensures view { IfOk result (λ laid. LocalsHaveValues dl.now (tree_of tree.now) → IsViewTrue dl.now (placed_of laid)) }
+    ensures uninhabited { IfOk result (λ laid. LocalsHaveValues dl.now (tree_of tree.now) → IsFlagTrue dl.now (tree_of tree.now) (placed_of laid)) }
 
-/// Lays out a type behind the nodes that are there.
-#[cycle(lay)]
-pub(crate) fn lay_tree(
-    alloc: Global,
-    dl: &TargetDataLayout,
-    nodes: &mut Vec<Node>,
-    tree: &TypeTree,
-) -> Result<usize, LayError>
-    requires { IsLawfulDataLayout dl.now }
-    ensures ok { IfOk result (λ i. IsAdded dl.now nodes.old.items nodes.new.items i (tree_of tree.now)) }
-    ensures err { IfErr result (IsRefused (IsLaying dl.now (tree_of tree.now))) }
+    // What each union in it keeps of its fields' bytes.
+    ensures begins { IfOk result (λ laid. InUnions (Begins dl.now.endian) (placed_of laid)) }
+    ensures common { IfOk result (λ laid. LocalsHaveValues dl.now (tree_of tree.now) →
+        InUnions (IsCommon dl.now.endian) (placed_of laid)) }
 {
-    match tree {
-        TypeTree::Scalar(value) => add_scalar(dl, nodes, *value),
-        TypeTree::Pair(a, b) => add_pair(alloc, dl, nodes, *a, *b),
-        TypeTree::Never => add_never(dl, nodes),
-        TypeTree::Unit => add_unit(alloc, dl, nodes),
-        TypeTree::Array(count, element) => {
-            let element = lay_tree(alloc, dl, nodes, element)?;
-            add_elements(dl, nodes, *count, element)
-        }
-        TypeTree::Struct {
-            repr,
-            always_sized,
-            fields,
-        } => {
-            let children = lay_each(alloc, dl, nodes, fields)?;
-            add_fields(alloc, dl, nodes, repr, *always_sized, children)
-        }
-        TypeTree::Vector {
-            lanes,
-            packed,
-            element,
-        } => {
-            let element = lay_tree(alloc, dl, nodes, element)?;
-            add_vector(alloc, dl, nodes, *lanes, *packed, element)
-        }
-        TypeTree::Union { repr, fields } => {
-            let children = lay_each(alloc, dl, nodes, fields)?;
-            add_union(alloc, dl, nodes, repr, children)
-        }
-        TypeTree::Enum { repr: _, variants } => {
-            lay_variants(alloc, dl, nodes, variants)?;
-            Err(LayError::NotYet)
-        }
-        TypeTree::Coroutine {
-            prefix,
-            locals,
-            states: _,
-            conflicts: _,
-        } => {
-            let _prefix = lay_each(alloc, dl, nodes, prefix)?;
-            let _locals = lay_each(alloc, dl, nodes, locals)?;
-            Err(LayError::NotYet)
-        }
+    if !dl.is_lawful() {
+        return Err(LayError::UnlawfulDataLayout);
     }
-}
-
-/// Lays out types, one after another, and answers their nodes.
-#[cycle(lay)]
-fn lay_each(
-    alloc: Global,
-    dl: &TargetDataLayout,
-    nodes: &mut Vec<Node>,
-    fields: &[TypeTree],
-) -> Result<Vec<usize>, LayError>
-    requires { IsLawfulDataLayout dl.now }
-    ensures ok { IfOk result (λ children. AreAdded dl.now nodes.old.items nodes.new.items children.items (map tree_of fields.now)) }
-    ensures err { IfErr result (IsRefused (AreLaying dl.now (trees (map tree_of fields.now)))) }
-{
-    let mut children = Vec::new(alloc);
-    for field in fields {
-        let child = lay_tree(alloc, dl, nodes, field)?;
-        children.push(child)?;
-    }
-    Ok(children)
-}
-
-/// Lays out the fields of variants, one after another.
-#[cycle(lay)]
-fn lay_variants(
-    alloc: Global,
-    dl: &TargetDataLayout,
-    nodes: &mut Vec<Node>,
-    all: &[(u128, Vec<TypeTree>)],
-) -> Result<(), LayError>
-    requires { IsLawfulDataLayout dl.now }
-    ensures ok { IfOk result (λ _. (rest : List (List Placed)) × VariantsLaying dl.now (trees_of_variants all.now) (Ok rest)) }
-    ensures err { IfErr result (IsRefused (VariantsLaying dl.now (trees_of_variants all.now))) }
-{
-    for variant in all {
-        let _children = lay_each(alloc, dl, nodes, &variant.1)?;
-    }
-    Ok(())
+    let mut nodes = Vec::new(alloc);
+    let _root = lay_tree(alloc, dl, &mut nodes, tree)?;
+    Ok(Laid::new(nodes, dl.endian))
 }

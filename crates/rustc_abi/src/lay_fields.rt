@@ -13,13 +13,12 @@ ghost use Rattle.rustc_abi.specs.Error.{IsRefused};
 ghost use Rattle.rustc_abi.specs.Adding.{IsAdded, EachFits, all_at};
 
 use crate::error::LayError;
-use crate::lay::{add, layout_at};
-use crate::node::{Node, Shape};
+use crate::node::{Node, Shape, add, layouts_at};
 use abi_base::{Align, StructKind, TargetDataLayout};
 use abi_calc::LayoutCalculator;
-use abi_index::{FieldIdx, IndexSlice, VariantIdx};
+use abi_index::{FieldIdx, VariantIdx};
 use abi_scalar::{LayoutData, ReprOptions};
-use std::alloc::{AllocError, Global};
+use std::alloc::Global;
 
 /// A list of fields has at most so many.
 const MOST_FIELDS: usize = 0xFFFF_FF01;
@@ -58,22 +57,6 @@ fn kind_of(always_sized: bool, children: &[usize]) -> StructKind
     }
 }
 
-/// The layouts of the nodes at these places.
-fn layouts_at<'a>(
-    alloc: Global,
-    nodes: &'a [Node],
-    children: &[usize],
-) -> Result<Vec<&'a LayoutData<FieldIdx, VariantIdx>>, AllocError>
-    requires { All (λ child. child < length nodes.now) children.now }
-    ensures { IfOk result (λ layouts. map (λ lent. lent.now) layouts.items ≡ map layout_of (all_at nodes.now children.now)) }
-{
-    let mut layouts = Vec::new(alloc);
-    for child in children {
-        layouts.push(layout_at(nodes, *child))?;
-    }
-    Ok(layouts)
-}
-
 /// The layout of fields, each as one of the nodes.
 fn fields_layout(
     alloc: Global,
@@ -98,7 +81,7 @@ fn fields_layout(
     let layouts = layouts_at(alloc, nodes, children)?;
     let answer = LayoutCalculator::new(dl).layout_of_univariant(
         alloc,
-        IndexSlice::new(layouts.as_slice()),
+        layouts.as_slice(),
         repr,
         kind,
     );

@@ -11,8 +11,7 @@ ghost use Rattle.rustc_abi.specs.ScalarFault.{is_lawful_primitive, has_range_wit
 ghost use Rattle.rustc_abi.specs.Adding.{IsPut, IsAdded, IsRefusal};
 
 use crate::error::LayError;
-use crate::lay::add;
-use crate::node::{Node, Shape};
+use crate::node::{Node, Shape, add};
 use abi_base::{Primitive, TargetDataLayout};
 use abi_scalar::{LayoutData, Scalar};
 use std::alloc::Global;

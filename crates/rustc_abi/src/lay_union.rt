@@ -11,31 +11,13 @@ ghost use Rattle.rustc_abi.specs.Error.{IsRefused};
 ghost use Rattle.rustc_abi.specs.Adding.{IsAdded, EachFits, all_at};
 
 use crate::error::LayError;
-use crate::lay::{add, layout_at};
 use crate::lay_fields::fields_fault;
-use crate::node::{Node, Shape};
+use crate::node::{Node, Shape, add, layouts_at};
 use abi_base::TargetDataLayout;
 use abi_calc::LayoutCalculator;
-use abi_index::{FieldIdx, IndexSlice, IndexVec, VariantIdx};
+use abi_index::{FieldIdx, IndexSlice, VariantIdx};
 use abi_scalar::{LayoutData, ReprOptions};
-use std::alloc::{AllocError, Global};
-
-/// The layouts of the nodes at these places, as a union's fields.
-fn union_fields<'a>(
-    alloc: Global,
-    nodes: &'a [Node],
-    children: &[usize],
-) -> Result<IndexVec<FieldIdx, &'a LayoutData<FieldIdx, VariantIdx>>, AllocError>
-    requires count { length children.now ≤ most_fields }
-    requires there { All (λ child. child < length nodes.now) children.now }
-    ensures { IfOk result (λ layouts. map (λ lent. lent.now) layouts ≡ map layout_of (all_at nodes.now children.now)) }
-{
-    let mut layouts = IndexVec::new(alloc);
-    for child in children {
-        let _field: FieldIdx = layouts.push(layout_at(nodes, *child))?;
-    }
-    Ok(layouts)
-}
+use std::alloc::Global;
 
 /// The layout of a union of fields, each as one of the nodes.
 fn union_layout(
@@ -54,8 +36,8 @@ fn union_layout(
     ensures err { IfErr result (IsRefused (IsUnited dl.now repr.now (map layout_of (all_at nodes.now children.now)))) }
     ensures lawful { IfOk result (IsLawfulLayout dl.now) }
 {
-    let variants = [union_fields(alloc, nodes, children)?];
-    let answer = LayoutCalculator::new(dl).layout_of_union(repr, IndexSlice::new(&variants));
+    let variants = [layouts_at(alloc, nodes, children)?];
+    let answer = LayoutCalculator::new(dl).layout_of_union(alloc, repr, IndexSlice::new(&variants));
     Ok(answer?)
 }
 

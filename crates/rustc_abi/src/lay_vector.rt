@@ -13,8 +13,8 @@ ghost use Rattle.rustc_abi.specs.Fits.{Fits};
 ghost use Rattle.rustc_abi.specs.Adding.{IsAdded, IsRefusal};
 
 use crate::error::LayError;
-use crate::lay::{add, elements_layout, layout_at};
-use crate::node::{Node, Shape};
+use crate::lay_array::elements_layout;
+use crate::node::{Node, Shape, add, layout_at};
 use abi_base::TargetDataLayout;
 use abi_calc::LayoutCalculator;
 use abi_index::{FieldIdx, VariantIdx};

@@ -4,6 +4,7 @@
 mod error;
 mod laid;
 mod lay;
+mod lay_array;
 mod lay_fields;
 mod lay_scalar;
 mod lay_tree;
@@ -16,14 +17,15 @@ mod tree;
 
 pub use abi_base::{
     AbiAlign, AbiFromStrErr, AddressSpace, AddressSpaces, Align, AlignFromBytesError, Endian,
-    Float, HasDataLayout, Integer, IntegerType, MAX_SIMD_LANES, NicheOptimizations, NoSuchInteger,
-    NumScalableVectors, NumberError, Numeric, PointeeInfo, PointerKind, PointerSpec, Primitive,
-    ScalableElt, Size, StructKind, TargetDataLayout, TargetDataLayoutError, UnknownEndian,
-    UnknownEndianText, VectorAligns,
+    Float, HasDataLayout, Integer, IntegerType, KeyedList, MAX_SIMD_LANES, NicheOptimizations,
+    NoSuchInteger, NumScalableVectors, NumberError, Numeric, PointeeInfo, PointerKind, PointerSpec,
+    Primitive, ScalableElt, Size, StructKind, TargetDataLayout, TargetDataLayoutError,
+    UnknownEndian, UnknownEndianText, VectorAligns,
 };
 pub use abi_calc::LayoutCalculator;
 pub use abi_index::{
-    FIRST_VARIANT, FieldIdx, Hash64, Idx, IndexSlice, IndexVec, Indices, TryClone, VariantIdx,
+    BitMatrix, BitRowIter, BitSetIter, DenseBitSet, FIRST_VARIANT, FieldIdx, Hash64, Idx,
+    IndexSlice, IndexVec, Indices, RangeSet, TryClone, VariantIdx,
 };
 pub use abi_scalar::{
     BackendLaneCount, BackendRepr, FieldCount, FieldsShape, IncreasingOffset,
@@ -32,6 +34,6 @@ pub use abi_scalar::{
 };
 pub use error::LayError;
 pub use laid::Laid;
-pub use lay_tree::lay_out;
+pub use lay::lay_out;
 pub use runs::Run;
 pub use tree::TypeTree;

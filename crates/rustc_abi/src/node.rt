@@ -1,7 +1,15 @@
 //! Types that were laid out, as nodes that name earlier ones by number.
 
-use abi_index::{FieldIdx, VariantIdx};
+ghost use Rattle.std.specs.Prelude.{◌≡◌, ◌<◌, ◌≤◌, All, IfErr, IfOk, length, map, true, vec_len};
+ghost use Rattle.rustc_abi.specs.Placed.{layout_of};
+ghost use Rattle.rustc_abi.specs.Nodes.{types_in, placed_at, meaning};
+ghost use Rattle.rustc_abi.specs.Laying.{most_fields};
+ghost use Rattle.rustc_abi.specs.Adding.{all_at, is_node, IsPut};
+
+use crate::error::LayError;
+use abi_index::{FieldIdx, IndexVec, VariantIdx};
 use abi_scalar::{LayoutData, Scalar};
+use std::alloc::{AllocError, Global};
 
 /// What a node consists of. Children are named by their places among the nodes.
 #[derive(Drop)]
@@ -27,4 +35,44 @@ pub(crate) enum Shape {
 pub(crate) struct Node {
     pub(crate) layout: LayoutData<FieldIdx, VariantIdx>,
     pub(crate) shape: Shape,
+}
+
+/// The layout of the node at a place.
+pub(crate) fn layout_at(nodes: &[Node], node: usize) -> &LayoutData<FieldIdx, VariantIdx>
+    requires { node < length nodes.now }
+    ensures { result.now ≡ layout_of (placed_at nodes.now node) }
+{
+    &nodes[node].layout
+}
+
+/// Puts a node behind the others.
+pub(crate) fn add(
+    nodes: &mut Vec<Node>,
+    layout: LayoutData<FieldIdx, VariantIdx>,
+    shape: Shape,
+) -> Result<usize, LayError>
+    requires { is_node (vec_len nodes.old) shape ≡ true }
+    ensures ok { IfOk result (λ i. IsPut nodes.old.items nodes.new.items i (meaning (types_in nodes.old.items) layout shape)) }
+    ensures err { IfErr result (λ e. e ≡ LayError.OutOfMemory) }
+{
+    let node = nodes.len();
+    nodes.push(Node { layout, shape })?;
+    Ok(node)
+}
+
+/// The layouts of the nodes at these places, as those of fields.
+pub(crate) fn layouts_at<'a>(
+    alloc: Global,
+    nodes: &'a [Node],
+    children: &[usize],
+) -> Result<IndexVec<FieldIdx, &'a LayoutData<FieldIdx, VariantIdx>>, AllocError>
+    requires count { length children.now ≤ most_fields }
+    requires there { All (λ child. child < length nodes.now) children.now }
+    ensures { IfOk result (λ layouts. map (λ lent. lent.now) layouts ≡ map layout_of (all_at nodes.now children.now)) }
+{
+    let mut layouts = IndexVec::new(alloc);
+    for child in children {
+        let _field: FieldIdx = layouts.push(layout_at(nodes, *child))?;
+    }
+    Ok(layouts)
 }

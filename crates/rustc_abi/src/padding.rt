@@ -9,8 +9,7 @@ ghost use Rattle.rustc_abi.specs.Adding.{all_at, are_nodes};
 ghost use Rattle.rustc_abi.specs.Room.{has_room, have_room};
 ghost use Rattle.rustc_abi.specs.Runs.{covers, shifted, repeats, Ascend};
 
-use crate::lay::layout_at;
-use crate::node::{Node, Shape};
+use crate::node::{Node, Shape, layout_at};
 use crate::runs::{Run, joined};
 use abi_base::Size;
 use abi_index::{FieldIdx, VariantIdx};

@@ -1,9 +1,10 @@
-//! Layouts of trees that were known beforehand. It has tests and nothing else.
+//! What calls on trees tell that the program doesn't print: whole layouts, views, memory orders, seeds, and refusals of trees that
+//! no text writes. It has tests and nothing else.
 #![tactic(auto)]
 
 #[cfg(test)]
-mod made;
+mod layouts;
 #[cfg(test)]
-mod structs;
+mod refusals;
 #[cfg(test)]
-mod trees;
+mod seeds;

@@ -2,8 +2,8 @@ use Rattle.std.proofs.Common.{arith, ◌≡◌, ℕ, ◌^◌, ◌<◌, ◌≤◌
 use Rattle.std.specs.Prelude.{All}
 use Rattle.abi_base.specs.DataLayout.{size_bound}
 use Rattle.abi_calc.specs.declared.list_repr.ListRepr.{ListRepr}
-use Rattle.abi_calc.specs.List.{parts_of}
-use Rattle.abi_calc.specs.Placement.{IsAllowed, IsLawfulRepr, IsNonEmptyIfUnsized, align_of, end_from, in_order, source_order, start_of}
+use Rattle.abi_calc.specs.List.{parts_of, unadjusted_of}
+use Rattle.abi_calc.specs.Placement.{IsLawfulRepr, IsNonEmptyIfUnsized, align_of, end_from, in_order, source_order, start_of}
 use Rattle.abi_calc.specs.Run.{IsFaultOf, IsNamedLayout}
 use Rattle.abi_calc.specs.declared.part.Part.{Part}
 use Rattle.abi_calc.specs.declared.order.NicheBias.TheVariants.{Start}
@@ -11,15 +11,14 @@ use Rattle.abi_scalar.specs.declared.fields_shape.FieldsShape.TheVariants.{Arbit
 use Rattle.abi_scalar.specs.declared.variants.Variants.TheVariants.{Single}
 use Rattle.std.proofs.lemmas.List.FromFn.{length-range_with_len}
 use Rattle.std.proofs.lemmas.List.Sorted.{length_permutation}
-use Rattle.abi_calc.proofs.DeepLemmas.{biased_aligned, biased_after, biased_apart, biased_fits, biased_index, biased_inside, biased_largest, biased_least, biased_of_part, biased_permutes, biased_sum, fault_large_all, sized_fault}
-use Rattle.abi_calc.proofs.ListLemmas.{seed_same, unadjusted_else, unadjusted_then, view_same, error_answer, error_exact, error_large, fault_named, length-parts, parts_lawful, repr_lawful}
+use Rattle.abi_calc.proofs.DeepLemmas.{biased_index, biased_inside, biased_permutes}
+use Rattle.abi_calc.proofs.ListLemmas.{seed_same, view_same, error_exact, fault_named, length-parts, parts_lawful, repr_lawful}
 use Rattle.abi_calc.proofs.RunLemmas.{IsBiased, aligned_parts, biased_of}
 use Rattle.abi_calc.proofs.Least.{align_small}
 use Rattle.abi_calc.proofs.LawfulList.{made_lawful}
 use Rattle.std.specs.Int.{next_multiple_of}
 use Rattle.abi_calc.proofs.Sorting.{within_order}
 use Rattle.abi_calc.proofs.list.layout_of_list.Goals as goal
-use Rattle.abi_calc.proofs.list.layout_of_list.Goals.{then-transparent, else-transparent}
 
 pub layout_of_parts-requires-clause-lawful : goal.layout_of_parts-requires-clause-lawful
 layout_of_parts-requires-clause-lawful g c =
@@ -46,23 +45,6 @@ returns-in-Err-clause-exact g c =
     let fault : IsFaultOf c.args.dl.now c.args.list.now Start (parts_of c.args.dl.now (map g.F.LayoutHandle.layout_of c.args.fields.now)) c.in-Err.fault = subst (λ (ps : List Part). IsFaultOf c.args.dl.now c.args.list.now Start ps c.in-Err.fault) read c.in-Err.ensures.fault in
     error_exact g.F.LayoutHandle.layout_of c.args.dl.now c.args.repr.now c.args.list.now.kind c.args.list.now c.args.fields.now c.in-Err.fault c.error_of.result fault c.error_of.ensures c.requires.list
 
-pub returns-in-Err-clause-too_large : goal.returns-in-Err-clause-too_large
-returns-in-Err-clause-too_large g c e other q =
-    let read : c.deref.result.now ≡ parts_of c.args.dl.now (map g.F.LayoutHandle.layout_of c.args.fields.now) = c.deref.ensures.value ∙ c.in_ok-parts.ensures in
-    let many : length (parts_of c.args.dl.now (map g.F.LayoutHandle.layout_of c.args.fields.now)) ≡ length c.args.fields.now = length-parts g.F.LayoutHandle.layout_of c.args.dl.now c.args.fields.now in
-    let tail : IsNonEmptyIfUnsized c.args.list.now.kind (length (parts_of c.args.dl.now (map g.F.LayoutHandle.layout_of c.args.fields.now))) = subst (IsNonEmptyIfUnsized c.args.list.now.kind) (sym many) c.requires.tail in
-    let fault : IsFaultOf c.args.dl.now c.args.list.now Start (parts_of c.args.dl.now (map g.F.LayoutHandle.layout_of c.args.fields.now)) c.in-Err.fault = subst (λ (ps : List Part). IsFaultOf c.args.dl.now c.args.list.now Start ps c.in-Err.fault) read c.in-Err.ensures.fault in
-    let large = error_large c.args.fields.now c.in-Err.fault c.error_of.result c.error_of.ensures (cc) in
-    fault_large_all c.args.dl.now c.args.list.now (parts_of c.args.dl.now (map g.F.LayoutHandle.layout_of c.args.fields.now)) c.in-Err.fault (parts_lawful g.F.LayoutHandle.layout_of c.args.dl.now c.args.fields.now c.requires.fields) tail fault large other (subst (λ (n : ℕ). IsAllowed c.args.list.now n other) (sym many) q)
-
-pub returns-in-Err-clause-refused : goal.returns-in-Err-clause-refused
-returns-in-Err-clause-refused g c sized all =
-    let read : c.deref.result.now ≡ parts_of c.args.dl.now (map g.F.LayoutHandle.layout_of c.args.fields.now) = c.deref.ensures.value ∙ c.in_ok-parts.ensures in
-    let many : length (parts_of c.args.dl.now (map g.F.LayoutHandle.layout_of c.args.fields.now)) ≡ length c.args.fields.now = length-parts g.F.LayoutHandle.layout_of c.args.dl.now c.args.fields.now in
-    let tail : IsNonEmptyIfUnsized c.args.list.now.kind (length (parts_of c.args.dl.now (map g.F.LayoutHandle.layout_of c.args.fields.now))) = subst (IsNonEmptyIfUnsized c.args.list.now.kind) (sym many) c.requires.tail in
-    let fault : IsFaultOf c.args.dl.now c.args.list.now Start (parts_of c.args.dl.now (map g.F.LayoutHandle.layout_of c.args.fields.now)) c.in-Err.fault = subst (λ (ps : List Part). IsFaultOf c.args.dl.now c.args.list.now Start ps c.in-Err.fault) read c.in-Err.ensures.fault in
-    error_answer c.args.fields.now c.in-Err.fault c.error_of.result (sized_fault g.F.LayoutHandle.layout_of c.args.dl.now c.args.list.now c.args.fields.now c.in-Err.fault sized tail fault) c.error_of.ensures
-
 pub list_view-view-requires-clause-parts : goal.list_view-view-requires-clause-parts
 list_view-view-requires-clause-parts g c = rw (c.deref-3.ensures.value, c.in_ok-parts.ensures) (parts_lawful g.F.LayoutHandle.layout_of c.args.dl.now c.args.fields.now c.requires.fields)
 
@@ -82,7 +64,7 @@ field_offsets-requires g c =
     let tail : IsNonEmptyIfUnsized c.args.list.now.kind (length (parts_of c.args.dl.now (map g.F.LayoutHandle.layout_of c.args.fields.now))) = subst (IsNonEmptyIfUnsized c.args.list.now.kind) (sym many) c.requires.tail in
     let b : IsBiased c.args.dl.now c.args.list.now (parts_of c.args.dl.now (map g.F.LayoutHandle.layout_of c.args.fields.now)) c.in-Ok.placed.order.items c.in-Ok.placed.offsets.items c.in-Ok.placed.size c.in-Ok.placed.align c.in-Ok.placed.largest_niche
     = biased_of c.args.dl.now c.args.list.now (parts_of c.args.dl.now (map g.F.LayoutHandle.layout_of c.args.fields.now)) c.in-Ok.placed.order.items c.in-Ok.placed.offsets.items c.in-Ok.placed.size c.in-Ok.placed.align c.in-Ok.placed.largest_niche (subst (λ (ps : List Part). IsNamedLayout c.args.dl.now c.args.list.now ps c.in-Ok.placed.order.items c.in-Ok.placed.offsets.items c.in-Ok.placed.size c.in-Ok.placed.align c.in-Ok.placed.largest_niche) read c.in-Ok.ensures.named) in
-    let long : length c.deref-6.result.now ≡ length c.args.fields.now = ap length c.deref-6.ensures.value ∙ b.placed.count ∙ many in
+    let long : length c.deref-8.result.now ≡ length c.args.fields.now = ap length c.deref-8.ensures.value ∙ b.placed.count ∙ many in
     omega (arith, long, c.requires.count)
 
 pub fields_named-requires-clause-count : goal.fields_named-requires-clause-count
@@ -93,7 +75,7 @@ fields_named-requires-clause-count g c =
     let b : IsBiased c.args.dl.now c.args.list.now (parts_of c.args.dl.now (map g.F.LayoutHandle.layout_of c.args.fields.now)) c.in-Ok.placed.order.items c.in-Ok.placed.offsets.items c.in-Ok.placed.size c.in-Ok.placed.align c.in-Ok.placed.largest_niche
     = biased_of c.args.dl.now c.args.list.now (parts_of c.args.dl.now (map g.F.LayoutHandle.layout_of c.args.fields.now)) c.in-Ok.placed.order.items c.in-Ok.placed.offsets.items c.in-Ok.placed.size c.in-Ok.placed.align c.in-Ok.placed.largest_niche (subst (λ (ps : List Part). IsNamedLayout c.args.dl.now c.args.list.now ps c.in-Ok.placed.order.items c.in-Ok.placed.offsets.items c.in-Ok.placed.size c.in-Ok.placed.align c.in-Ok.placed.largest_niche) read c.in-Ok.ensures.named) in
     let p = biased_permutes c.args.dl.now c.args.list.now (parts_of c.args.dl.now (map g.F.LayoutHandle.layout_of c.args.fields.now)) c.in-Ok.placed.order.items c.in-Ok.placed.offsets.items c.in-Ok.placed.size c.in-Ok.placed.align c.in-Ok.placed.largest_niche tail b in
-    let long : length c.deref-7.result.now ≡ length c.args.fields.now = ap length c.deref-7.ensures.value ∙ length_permutation (source_order (length (parts_of c.args.dl.now (map g.F.LayoutHandle.layout_of c.args.fields.now)))) c.in-Ok.placed.order.items p ∙ length-range_with_len 0 (length (parts_of c.args.dl.now (map g.F.LayoutHandle.layout_of c.args.fields.now))) ∙ many in
+    let long : length c.deref-9.result.now ≡ length c.args.fields.now = ap length c.deref-9.ensures.value ∙ length_permutation (source_order (length (parts_of c.args.dl.now (map g.F.LayoutHandle.layout_of c.args.fields.now)))) c.in-Ok.placed.order.items p ∙ length-range_with_len 0 (length (parts_of c.args.dl.now (map g.F.LayoutHandle.layout_of c.args.fields.now))) ∙ many in
     omega (arith, long, c.requires.count)
 
 pub fields_named-requires-clause-within : goal.fields_named-requires-clause-within
@@ -105,19 +87,19 @@ fields_named-requires-clause-within g c k d h =
     = biased_of c.args.dl.now c.args.list.now (parts_of c.args.dl.now (map g.F.LayoutHandle.layout_of c.args.fields.now)) c.in-Ok.placed.order.items c.in-Ok.placed.offsets.items c.in-Ok.placed.size c.in-Ok.placed.align c.in-Ok.placed.largest_niche (subst (λ (ps : List Part). IsNamedLayout c.args.dl.now c.args.list.now ps c.in-Ok.placed.order.items c.in-Ok.placed.offsets.items c.in-Ok.placed.size c.in-Ok.placed.align c.in-Ok.placed.largest_niche) read c.in-Ok.ensures.named) in
     let p = biased_permutes c.args.dl.now c.args.list.now (parts_of c.args.dl.now (map g.F.LayoutHandle.layout_of c.args.fields.now)) c.in-Ok.placed.order.items c.in-Ok.placed.offsets.items c.in-Ok.placed.size c.in-Ok.placed.align c.in-Ok.placed.largest_niche tail b in
     let within = within_order (length (parts_of c.args.dl.now (map g.F.LayoutHandle.layout_of c.args.fields.now))) c.in-Ok.placed.order.items p in
-    let there = subst (λ (xs : List ℕ). All (λ i. i < length (parts_of c.args.dl.now (map g.F.LayoutHandle.layout_of c.args.fields.now))) xs) (sym c.deref-7.ensures.value) within in
+    let there = subst (λ (xs : List ℕ). All (λ i. i < length (parts_of c.args.dl.now (map g.F.LayoutHandle.layout_of c.args.fields.now))) xs) (sym c.deref-9.ensures.value) within in
     omega (arith, there k d h, many, c.requires.count)
 
 pub returns-clause-exact : goal.returns-clause-exact
 returns-clause-exact g c =
     let read : c.deref.result.now ≡ parts_of c.args.dl.now (map g.F.LayoutHandle.layout_of c.args.fields.now) = c.deref.ensures.value ∙ c.in_ok-parts.ensures in
-    let offs : c.in_ok-offsets.offsets ≡ c.in-Ok.placed.offsets.items = c.in_ok-offsets.ensures ∙ c.deref-6.ensures.value in
+    let offs : c.in_ok-offsets.offsets ≡ c.in-Ok.placed.offsets.items = c.in_ok-offsets.ensures ∙ c.deref-8.ensures.value in
     let named = subst (λ (r : ListRepr). IsNamedLayout c.args.dl.now r (parts_of c.args.dl.now (map g.F.LayoutHandle.layout_of c.args.fields.now)) c.in-Ok.placed.order.items c.in-Ok.placed.offsets.items c.in-Ok.placed.size c.in-Ok.placed.align c.in-Ok.placed.largest_niche) c.requires.list (subst (λ (ps : List Part). IsNamedLayout c.args.dl.now c.args.list.now ps c.in-Ok.placed.order.items c.in-Ok.placed.offsets.items c.in-Ok.placed.size c.in-Ok.placed.align c.in-Ok.placed.largest_niche) read c.in-Ok.ensures.named) in (
       c.in-Ok.placed.order.items,
       c.in-Ok.placed.offsets.items,
       record {
         named = rw c.new-2.ensures named;
-        shape = ap₂ Arbitrary offs (c.in_ok-in_memory_order.ensures ∙ ap (map g.FieldIdx.Idx.at) c.deref-7.ensures.value);
+        shape = ap₂ Arbitrary offs (c.in_ok-in_memory_order.ensures ∙ ap (map g.FieldIdx.Idx.at) c.deref-9.ensures.value);
         variants = ap Single c.new.ensures;
         view =
             c.list_view-view.ensures
@@ -125,18 +107,11 @@ returns-clause-exact g c =
             c.inhibit_newtype_abi_optimization-fixed.ensures (sym c.new-2.ensures) (c.deref-3.ensures.value ∙ c.in_ok-parts.ensures) c.deref-4.ensures.value;
         uninhabited = c.any_uninhabited.ensures;
         max_repr_align = c.greatest_repr_align.ensures;
-        unadjusted_abi_align = elim c.if-transparent.branch [
-          | then-transparent w ↦
-              w.unadjusted_abi_align-is ∙ w.transparent_align-unadjusted_abi_align.ensures
-              ∙ unadjusted_then c.args.dl.now c.args.repr.now c.args.list.now.kind c.in-Ok.placed.size c.in-Ok.placed.align c.new-2.result.abi w.deref-then-transparent.result.now (parts_of c.args.dl.now (map g.F.LayoutHandle.layout_of c.args.fields.now)) (sym c.transparent.ensures ∙ w.if-transparent.true)
-              (sym c.new-2.ensures) (w.deref-then-transparent.ensures.value ∙ c.in_ok-parts.ensures)
-          | else-transparent w ↦
-              w.unadjusted_abi_align-is ∙ w.list_align-unadjusted_abi_align.ensures
-              ∙ unadjusted_else c.args.dl.now c.args.repr.now c.args.list.now.kind c.in-Ok.placed.size c.new-2.result.abi w.unraised.result w.deref-else-transparent.result.now (parts_of c.args.dl.now (map g.F.LayoutHandle.layout_of c.args.fields.now)) (sym c.transparent.ensures ∙ w.if-transparent.false)
-              w.unraised.ensures (w.deref-else-transparent.ensures.value ∙ c.in_ok-parts.ensures)
-        ];
+        unadjusted_abi_align =
+            c.unadjusted_align-unadjusted_abi_align.ensures
+            ∙ (λ i. unadjusted_of c.args.dl.now c.args.repr.now c.args.list.now.kind c.in-Ok.placed.size (sym c.new-2.ensures i) ((c.deref-6.ensures.value ∙ c.in_ok-parts.ensures) i));
         repr_c = c.lies_as_in_c.ensures;
-        seed = c.seed_with.ensures ∙ seed_same g.F.LayoutHandle.layout_of c.args.repr.now c.args.list.now.kind c.args.fields.now c.movable_fields.result.now c.movable_fields.ensures;
+        seed = c.seed_with.ensures ∙ seed_same g.F.LayoutHandle.layout_of c.args.repr.now c.args.list.now.kind c.args.fields.now c.movable.result.now c.movable.ensures;
       },
     )
 
@@ -158,79 +133,3 @@ returns-clause-lawful g c =
     made_lawful c.args.dl.now _ c.new.result _ c.in-Ok.placed.align c.inhibit_newtype_abi_optimization-fixed.result (parts_of c.args.dl.now (map g.F.LayoutHandle.layout_of c.args.fields.now)) c.in-Ok.placed.offsets.items
     (parts_lawful g.F.LayoutHandle.layout_of c.args.dl.now c.args.fields.now c.requires.fields) c.new-2.ensures least size c.in-Ok.ensures.fits
     (biased_inside c.args.dl.now c.args.list.now (parts_of c.args.dl.now (map g.F.LayoutHandle.layout_of c.args.fields.now)) c.in-Ok.placed.order.items c.in-Ok.placed.offsets.items c.in-Ok.placed.size c.in-Ok.placed.align c.in-Ok.placed.largest_niche (parts_lawful g.F.LayoutHandle.layout_of c.args.dl.now c.args.fields.now c.requires.fields) tail b) (biased_index c.args.dl.now c.args.list.now (parts_of c.args.dl.now (map g.F.LayoutHandle.layout_of c.args.fields.now)) c.in-Ok.placed.order.items c.in-Ok.placed.offsets.items c.in-Ok.placed.size c.in-Ok.placed.align c.in-Ok.placed.largest_niche tail b) view refl
-
-pub returns-clause-apart : goal.returns-clause-apart
-returns-clause-apart g c =
-    let read : c.deref.result.now ≡ parts_of c.args.dl.now (map g.F.LayoutHandle.layout_of c.args.fields.now) = c.deref.ensures.value ∙ c.in_ok-parts.ensures in
-    let many : length (parts_of c.args.dl.now (map g.F.LayoutHandle.layout_of c.args.fields.now)) ≡ length c.args.fields.now = length-parts g.F.LayoutHandle.layout_of c.args.dl.now c.args.fields.now in
-    let tail : IsNonEmptyIfUnsized c.args.list.now.kind (length (parts_of c.args.dl.now (map g.F.LayoutHandle.layout_of c.args.fields.now))) = subst (IsNonEmptyIfUnsized c.args.list.now.kind) (sym many) c.requires.tail in
-    let b : IsBiased c.args.dl.now c.args.list.now (parts_of c.args.dl.now (map g.F.LayoutHandle.layout_of c.args.fields.now)) c.in-Ok.placed.order.items c.in-Ok.placed.offsets.items c.in-Ok.placed.size c.in-Ok.placed.align c.in-Ok.placed.largest_niche
-    = biased_of c.args.dl.now c.args.list.now (parts_of c.args.dl.now (map g.F.LayoutHandle.layout_of c.args.fields.now)) c.in-Ok.placed.order.items c.in-Ok.placed.offsets.items c.in-Ok.placed.size c.in-Ok.placed.align c.in-Ok.placed.largest_niche (subst (λ (ps : List Part). IsNamedLayout c.args.dl.now c.args.list.now ps c.in-Ok.placed.order.items c.in-Ok.placed.offsets.items c.in-Ok.placed.size c.in-Ok.placed.align c.in-Ok.placed.largest_niche) read c.in-Ok.ensures.named) in
-    let offs : c.in_ok-offsets.offsets ≡ c.in-Ok.placed.offsets.items = c.in_ok-offsets.ensures ∙ c.deref-6.ensures.value in
-    rw offs (biased_apart g.F.LayoutHandle.layout_of c.args.dl.now c.args.list.now c.args.fields.now c.in-Ok.placed.order.items c.in-Ok.placed.offsets.items c.in-Ok.placed.size c.in-Ok.placed.align c.in-Ok.placed.largest_niche tail b)
-
-pub returns-clause-after : goal.returns-clause-after
-returns-clause-after g c =
-    let read : c.deref.result.now ≡ parts_of c.args.dl.now (map g.F.LayoutHandle.layout_of c.args.fields.now) = c.deref.ensures.value ∙ c.in_ok-parts.ensures in
-    let many : length (parts_of c.args.dl.now (map g.F.LayoutHandle.layout_of c.args.fields.now)) ≡ length c.args.fields.now = length-parts g.F.LayoutHandle.layout_of c.args.dl.now c.args.fields.now in
-    let tail : IsNonEmptyIfUnsized c.args.list.now.kind (length (parts_of c.args.dl.now (map g.F.LayoutHandle.layout_of c.args.fields.now))) = subst (IsNonEmptyIfUnsized c.args.list.now.kind) (sym many) c.requires.tail in
-    let b : IsBiased c.args.dl.now c.args.list.now (parts_of c.args.dl.now (map g.F.LayoutHandle.layout_of c.args.fields.now)) c.in-Ok.placed.order.items c.in-Ok.placed.offsets.items c.in-Ok.placed.size c.in-Ok.placed.align c.in-Ok.placed.largest_niche
-    = biased_of c.args.dl.now c.args.list.now (parts_of c.args.dl.now (map g.F.LayoutHandle.layout_of c.args.fields.now)) c.in-Ok.placed.order.items c.in-Ok.placed.offsets.items c.in-Ok.placed.size c.in-Ok.placed.align c.in-Ok.placed.largest_niche (subst (λ (ps : List Part). IsNamedLayout c.args.dl.now c.args.list.now ps c.in-Ok.placed.order.items c.in-Ok.placed.offsets.items c.in-Ok.placed.size c.in-Ok.placed.align c.in-Ok.placed.largest_niche) read c.in-Ok.ensures.named) in
-    let offs : c.in_ok-offsets.offsets ≡ c.in-Ok.placed.offsets.items = c.in_ok-offsets.ensures ∙ c.deref-6.ensures.value in
-    rw offs (biased_after c.args.dl.now c.args.list.now (parts_of c.args.dl.now (map g.F.LayoutHandle.layout_of c.args.fields.now)) c.in-Ok.placed.order.items c.in-Ok.placed.offsets.items c.in-Ok.placed.size c.in-Ok.placed.align c.in-Ok.placed.largest_niche tail b)
-
-pub returns-clause-aligned : goal.returns-clause-aligned
-returns-clause-aligned g c =
-    let read : c.deref.result.now ≡ parts_of c.args.dl.now (map g.F.LayoutHandle.layout_of c.args.fields.now) = c.deref.ensures.value ∙ c.in_ok-parts.ensures in
-    let many : length (parts_of c.args.dl.now (map g.F.LayoutHandle.layout_of c.args.fields.now)) ≡ length c.args.fields.now = length-parts g.F.LayoutHandle.layout_of c.args.dl.now c.args.fields.now in
-    let tail : IsNonEmptyIfUnsized c.args.list.now.kind (length (parts_of c.args.dl.now (map g.F.LayoutHandle.layout_of c.args.fields.now))) = subst (IsNonEmptyIfUnsized c.args.list.now.kind) (sym many) c.requires.tail in
-    let b : IsBiased c.args.dl.now c.args.list.now (parts_of c.args.dl.now (map g.F.LayoutHandle.layout_of c.args.fields.now)) c.in-Ok.placed.order.items c.in-Ok.placed.offsets.items c.in-Ok.placed.size c.in-Ok.placed.align c.in-Ok.placed.largest_niche
-    = biased_of c.args.dl.now c.args.list.now (parts_of c.args.dl.now (map g.F.LayoutHandle.layout_of c.args.fields.now)) c.in-Ok.placed.order.items c.in-Ok.placed.offsets.items c.in-Ok.placed.size c.in-Ok.placed.align c.in-Ok.placed.largest_niche (subst (λ (ps : List Part). IsNamedLayout c.args.dl.now c.args.list.now ps c.in-Ok.placed.order.items c.in-Ok.placed.offsets.items c.in-Ok.placed.size c.in-Ok.placed.align c.in-Ok.placed.largest_niche) read c.in-Ok.ensures.named) in
-    let offs : c.in_ok-offsets.offsets ≡ c.in-Ok.placed.offsets.items = c.in_ok-offsets.ensures ∙ c.deref-6.ensures.value in
-    rw offs (biased_aligned g.F.LayoutHandle.layout_of c.args.dl.now c.args.list.now c.args.fields.now c.in-Ok.placed.order.items c.in-Ok.placed.offsets.items c.in-Ok.placed.size c.in-Ok.placed.align c.in-Ok.placed.largest_niche tail b)
-
-pub returns-clause-niche : goal.returns-clause-niche
-returns-clause-niche g c =
-    let read : c.deref.result.now ≡ parts_of c.args.dl.now (map g.F.LayoutHandle.layout_of c.args.fields.now) = c.deref.ensures.value ∙ c.in_ok-parts.ensures in
-    let many : length (parts_of c.args.dl.now (map g.F.LayoutHandle.layout_of c.args.fields.now)) ≡ length c.args.fields.now = length-parts g.F.LayoutHandle.layout_of c.args.dl.now c.args.fields.now in
-    let tail : IsNonEmptyIfUnsized c.args.list.now.kind (length (parts_of c.args.dl.now (map g.F.LayoutHandle.layout_of c.args.fields.now))) = subst (IsNonEmptyIfUnsized c.args.list.now.kind) (sym many) c.requires.tail in
-    let b : IsBiased c.args.dl.now c.args.list.now (parts_of c.args.dl.now (map g.F.LayoutHandle.layout_of c.args.fields.now)) c.in-Ok.placed.order.items c.in-Ok.placed.offsets.items c.in-Ok.placed.size c.in-Ok.placed.align c.in-Ok.placed.largest_niche
-    = biased_of c.args.dl.now c.args.list.now (parts_of c.args.dl.now (map g.F.LayoutHandle.layout_of c.args.fields.now)) c.in-Ok.placed.order.items c.in-Ok.placed.offsets.items c.in-Ok.placed.size c.in-Ok.placed.align c.in-Ok.placed.largest_niche (subst (λ (ps : List Part). IsNamedLayout c.args.dl.now c.args.list.now ps c.in-Ok.placed.order.items c.in-Ok.placed.offsets.items c.in-Ok.placed.size c.in-Ok.placed.align c.in-Ok.placed.largest_niche) read c.in-Ok.ensures.named) in
-    let offs : c.in_ok-offsets.offsets ≡ c.in-Ok.placed.offsets.items = c.in_ok-offsets.ensures ∙ c.deref-6.ensures.value in
-    rw offs (biased_of_part g.F.LayoutHandle.layout_of c.args.dl.now c.args.list.now c.args.fields.now c.in-Ok.placed.order.items c.in-Ok.placed.offsets.items c.in-Ok.placed.size c.in-Ok.placed.align c.in-Ok.placed.largest_niche tail b)
-
-pub returns-clause-largest : goal.returns-clause-largest
-returns-clause-largest g c =
-    let read : c.deref.result.now ≡ parts_of c.args.dl.now (map g.F.LayoutHandle.layout_of c.args.fields.now) = c.deref.ensures.value ∙ c.in_ok-parts.ensures in
-    let many : length (parts_of c.args.dl.now (map g.F.LayoutHandle.layout_of c.args.fields.now)) ≡ length c.args.fields.now = length-parts g.F.LayoutHandle.layout_of c.args.dl.now c.args.fields.now in
-    let tail : IsNonEmptyIfUnsized c.args.list.now.kind (length (parts_of c.args.dl.now (map g.F.LayoutHandle.layout_of c.args.fields.now))) = subst (IsNonEmptyIfUnsized c.args.list.now.kind) (sym many) c.requires.tail in
-    let b : IsBiased c.args.dl.now c.args.list.now (parts_of c.args.dl.now (map g.F.LayoutHandle.layout_of c.args.fields.now)) c.in-Ok.placed.order.items c.in-Ok.placed.offsets.items c.in-Ok.placed.size c.in-Ok.placed.align c.in-Ok.placed.largest_niche
-    = biased_of c.args.dl.now c.args.list.now (parts_of c.args.dl.now (map g.F.LayoutHandle.layout_of c.args.fields.now)) c.in-Ok.placed.order.items c.in-Ok.placed.offsets.items c.in-Ok.placed.size c.in-Ok.placed.align c.in-Ok.placed.largest_niche (subst (λ (ps : List Part). IsNamedLayout c.args.dl.now c.args.list.now ps c.in-Ok.placed.order.items c.in-Ok.placed.offsets.items c.in-Ok.placed.size c.in-Ok.placed.align c.in-Ok.placed.largest_niche) read c.in-Ok.ensures.named) in
-    biased_largest g.F.LayoutHandle.layout_of c.args.dl.now c.args.list.now c.args.fields.now c.in-Ok.placed.order.items c.in-Ok.placed.offsets.items c.in-Ok.placed.size c.in-Ok.placed.align c.in-Ok.placed.largest_niche tail b
-
-pub returns-clause-least : goal.returns-clause-least
-returns-clause-least g c other q =
-    let read : c.deref.result.now ≡ parts_of c.args.dl.now (map g.F.LayoutHandle.layout_of c.args.fields.now) = c.deref.ensures.value ∙ c.in_ok-parts.ensures in
-    let many : length (parts_of c.args.dl.now (map g.F.LayoutHandle.layout_of c.args.fields.now)) ≡ length c.args.fields.now = length-parts g.F.LayoutHandle.layout_of c.args.dl.now c.args.fields.now in
-    let tail : IsNonEmptyIfUnsized c.args.list.now.kind (length (parts_of c.args.dl.now (map g.F.LayoutHandle.layout_of c.args.fields.now))) = subst (IsNonEmptyIfUnsized c.args.list.now.kind) (sym many) c.requires.tail in
-    let b : IsBiased c.args.dl.now c.args.list.now (parts_of c.args.dl.now (map g.F.LayoutHandle.layout_of c.args.fields.now)) c.in-Ok.placed.order.items c.in-Ok.placed.offsets.items c.in-Ok.placed.size c.in-Ok.placed.align c.in-Ok.placed.largest_niche
-    = biased_of c.args.dl.now c.args.list.now (parts_of c.args.dl.now (map g.F.LayoutHandle.layout_of c.args.fields.now)) c.in-Ok.placed.order.items c.in-Ok.placed.offsets.items c.in-Ok.placed.size c.in-Ok.placed.align c.in-Ok.placed.largest_niche (subst (λ (ps : List Part). IsNamedLayout c.args.dl.now c.args.list.now ps c.in-Ok.placed.order.items c.in-Ok.placed.offsets.items c.in-Ok.placed.size c.in-Ok.placed.align c.in-Ok.placed.largest_niche) read c.in-Ok.ensures.named) in
-    biased_least c.args.dl.now c.args.list.now (parts_of c.args.dl.now (map g.F.LayoutHandle.layout_of c.args.fields.now)) c.in-Ok.placed.order.items c.in-Ok.placed.offsets.items c.in-Ok.placed.size c.in-Ok.placed.align c.in-Ok.placed.largest_niche other (parts_lawful g.F.LayoutHandle.layout_of c.args.dl.now c.args.fields.now c.requires.fields) tail b (subst (λ (n : ℕ). IsAllowed c.args.list.now n other) (sym many) q)
-
-pub returns-clause-refused : goal.returns-clause-refused
-returns-clause-refused g c sized all =
-    let read : c.deref.result.now ≡ parts_of c.args.dl.now (map g.F.LayoutHandle.layout_of c.args.fields.now) = c.deref.ensures.value ∙ c.in_ok-parts.ensures in
-    let many : length (parts_of c.args.dl.now (map g.F.LayoutHandle.layout_of c.args.fields.now)) ≡ length c.args.fields.now = length-parts g.F.LayoutHandle.layout_of c.args.dl.now c.args.fields.now in
-    let tail : IsNonEmptyIfUnsized c.args.list.now.kind (length (parts_of c.args.dl.now (map g.F.LayoutHandle.layout_of c.args.fields.now))) = subst (IsNonEmptyIfUnsized c.args.list.now.kind) (sym many) c.requires.tail in
-    let b : IsBiased c.args.dl.now c.args.list.now (parts_of c.args.dl.now (map g.F.LayoutHandle.layout_of c.args.fields.now)) c.in-Ok.placed.order.items c.in-Ok.placed.offsets.items c.in-Ok.placed.size c.in-Ok.placed.align c.in-Ok.placed.largest_niche
-    = biased_of c.args.dl.now c.args.list.now (parts_of c.args.dl.now (map g.F.LayoutHandle.layout_of c.args.fields.now)) c.in-Ok.placed.order.items c.in-Ok.placed.offsets.items c.in-Ok.placed.size c.in-Ok.placed.align c.in-Ok.placed.largest_niche (subst (λ (ps : List Part). IsNamedLayout c.args.dl.now c.args.list.now ps c.in-Ok.placed.order.items c.in-Ok.placed.offsets.items c.in-Ok.placed.size c.in-Ok.placed.align c.in-Ok.placed.largest_niche) read c.in-Ok.ensures.named) in
-    absurd (biased_fits c.args.dl.now c.args.list.now (parts_of c.args.dl.now (map g.F.LayoutHandle.layout_of c.args.fields.now)) c.in-Ok.placed.order.items c.in-Ok.placed.offsets.items c.in-Ok.placed.size c.in-Ok.placed.align c.in-Ok.placed.largest_niche tail b (λ other q. all other (subst (λ (n : ℕ). IsAllowed c.args.list.now n other) many q)))
-
-pub returns-clause-sum : goal.returns-clause-sum
-returns-clause-sum g c free sized =
-    let read : c.deref.result.now ≡ parts_of c.args.dl.now (map g.F.LayoutHandle.layout_of c.args.fields.now) = c.deref.ensures.value ∙ c.in_ok-parts.ensures in
-    let many : length (parts_of c.args.dl.now (map g.F.LayoutHandle.layout_of c.args.fields.now)) ≡ length c.args.fields.now = length-parts g.F.LayoutHandle.layout_of c.args.dl.now c.args.fields.now in
-    let tail : IsNonEmptyIfUnsized c.args.list.now.kind (length (parts_of c.args.dl.now (map g.F.LayoutHandle.layout_of c.args.fields.now))) = subst (IsNonEmptyIfUnsized c.args.list.now.kind) (sym many) c.requires.tail in
-    let b : IsBiased c.args.dl.now c.args.list.now (parts_of c.args.dl.now (map g.F.LayoutHandle.layout_of c.args.fields.now)) c.in-Ok.placed.order.items c.in-Ok.placed.offsets.items c.in-Ok.placed.size c.in-Ok.placed.align c.in-Ok.placed.largest_niche
-    = biased_of c.args.dl.now c.args.list.now (parts_of c.args.dl.now (map g.F.LayoutHandle.layout_of c.args.fields.now)) c.in-Ok.placed.order.items c.in-Ok.placed.offsets.items c.in-Ok.placed.size c.in-Ok.placed.align c.in-Ok.placed.largest_niche (subst (λ (ps : List Part). IsNamedLayout c.args.dl.now c.args.list.now ps c.in-Ok.placed.order.items c.in-Ok.placed.offsets.items c.in-Ok.placed.size c.in-Ok.placed.align c.in-Ok.placed.largest_niche) read c.in-Ok.ensures.named) in
-    biased_sum c.args.dl.now c.args.list.now (parts_of c.args.dl.now (map g.F.LayoutHandle.layout_of c.args.fields.now)) c.in-Ok.placed.order.items c.in-Ok.placed.offsets.items c.in-Ok.placed.size c.in-Ok.placed.align c.in-Ok.placed.largest_niche (parts_lawful g.F.LayoutHandle.layout_of c.args.dl.now c.args.fields.now c.requires.fields) free sized b

@@ -1,4 +1,4 @@
-use Rattle.std.proofs.Common.{ℕ, ◌<◌, List, subst, sym, All}
+use Rattle.std.proofs.Common.{ℕ, ◌<◌, List, subst, sym, All, rules}
 use Rattle.std.specs.List.Sorted.{IsNonDecreasing}
 use Rattle.std.proofs.lemmas.List.Sorted.{All-permutation, IsNonDecreasingBy-from_sort}
 use Rattle.abi_scalar.specs.Range.{numbers_of}
@@ -21,5 +21,7 @@ least_of_ascending-requires-clause-ascending c =
 pub returns : goal.returns
 returns c =
     let P : List ℕ → Type 0 = λ xs. IsLeastRange c.args.size xs c.least_of_ascending.result in
+    let least : IsLeastRange c.args.size c.args.values.items c.least_of_ascending.result =
     least_in_order c.args.size c.args.values.items c.sort_unstable.new.self.items c.least_of_ascending.result
-    c.sort_unstable.ensures.permutation (subst P c.as_slice.ensures.value c.least_of_ascending.ensures)
+    c.sort_unstable.ensures.permutation (subst P c.as_slice.ensures.value c.least_of_ascending.ensures) in
+    (search rules, least)

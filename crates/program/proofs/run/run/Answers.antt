@@ -1,5 +1,6 @@
 use Rattle.std.proofs.Common.{inl, inr}
 use Rattle.program.proofs.OneOutput.{one_output}
+use Rattle.program.proofs.SomeOutput.{some_output}
 use Rattle.program.proofs.Sending.{anyway}
 use Rattle.program.proofs.run.run.Goals as goal
 
@@ -23,3 +24,15 @@ returns-in-Err-clause-one g c all a b h k = one_output all a b h k
 
 pub returns-clause-one : goal.returns-clause-one
 returns-clause-one g c all a b h k = one_output all a b h k
+
+pub returns-in-Ok-answer_input-clause-some : goal.returns-in-Ok-answer_input-clause-some
+returns-in-Ok-answer_input-clause-some g c all = some_output all
+
+pub returns-in-Ok-clause-some : goal.returns-in-Ok-clause-some
+returns-in-Ok-clause-some g c all = some_output all
+
+pub returns-in-Err-clause-some : goal.returns-in-Err-clause-some
+returns-in-Err-clause-some g c all = some_output all
+
+pub returns-clause-some : goal.returns-clause-some
+returns-clause-some g c all = some_output all

@@ -13,33 +13,33 @@ use Rattle.rustc_abi.proofs.lay_fields.fields_layout.Goals as goal
 pub layout_of_univariant-answer-requires-clause-fields : goal.layout_of_univariant-answer-requires-clause-fields
 layout_of_univariant-answer-requires-clause-fields c =
     let ps = all_at c.args.nodes.now c.args.children.now in
-    let lent : map (λ r. r.now) (items_of c.new-2.result) ≡ map layout_of ps =
-    ap (map (λ r. r.now)) (c.new-2.ensures ∙ c.as_slice.ensures.value) ∙ c.in_ok-layouts.ensures in
+    let lent : map (λ r. r.now) (items_of c.as_slice.result) ≡ map layout_of ps =
+    ap (map (λ r. r.now)) c.as_slice.ensures ∙ c.in_ok-layouts.ensures in
     rw c.new.ensures
-    (All-from_map (IsLawfulLayout c.args.dl.now) (λ r. r.now) (items_of c.new-2.result)
+    (All-from_map (IsLawfulLayout c.args.dl.now) (λ r. r.now) (items_of c.as_slice.result)
     (subst (All (IsLawfulLayout c.args.dl.now)) (sym lent) (All-map (IsLawfulLayout c.args.dl.now) layout_of ps c.requires.lawful)))
 
 pub returns-clause-ok : goal.returns-clause-ok
 returns-clause-ok c =
-    let lent = ap (map (λ r. r.now)) (c.new-2.ensures ∙ c.as_slice.ensures.value) ∙ c.in_ok-layouts.ensures in
+    let lent = ap (map (λ r. r.now)) c.as_slice.ensures ∙ c.in_ok-layouts.ensures in
     let exact = rw c.new.ensures at c.in_ok-answer.ensures.exact in
-    listed_ok (λ r. r.now) c.args.dl.now c.args.repr.now c.args.kind (items_of c.new-2.result) _ _ lent exact
+    listed_ok (λ r. r.now) c.args.dl.now c.args.repr.now c.args.kind (items_of c.as_slice.result) _ _ lent exact
 
 pub returns-in_err-answer-clause-err : goal.returns-in_err-answer-clause-err
 returns-in_err-answer-clause-err c =
-    let lent = ap (map (λ r. r.now)) (c.new-2.ensures ∙ c.as_slice.ensures.value) ∙ c.in_ok-layouts.ensures in
+    let lent = ap (map (λ r. r.now)) c.as_slice.ensures ∙ c.in_ok-layouts.ensures in
     let exact = rw c.new.ensures at c.in_err-answer.ensures.exact in
-    passed_on _ _ _ c.from_residual-in_err-answer.ensures.1 (listed_err (λ r. r.now) c.args.dl.now c.args.repr.now c.args.kind (items_of c.new-2.result) _ _ lent exact)
+    passed_on _ _ _ c.from_residual-in_err-answer.ensures.1 (listed_err (λ r. r.now) c.args.dl.now c.args.repr.now c.args.kind (items_of c.as_slice.result) _ _ lent exact)
 
 pub returns-clause-apart : goal.returns-clause-apart
 returns-clause-apart c =
     let ps = all_at c.args.nodes.now c.args.children.now in
-    let hs = items_of c.new-2.result in
+    let hs = items_of c.as_slice.result in
     let lent : map (λ r. r.now) hs ≡ map layout_of ps =
-    ap (map (λ r. r.now)) (c.new-2.ensures ∙ c.as_slice.ensures.value) ∙ c.in_ok-layouts.ensures in
+    ap (map (λ r. r.now)) c.as_slice.ensures ∙ c.in_ok-layouts.ensures in
     subst (AreApart c.in_ok-answer.field-0.size (offsets_of c.in_ok-answer.field-0.fields)) (sizes_by (λ r. r.now) hs ps lent) c.in_ok-answer.ensures.apart
 
 pub returns-clause-niche : goal.returns-clause-niche
 returns-clause-niche c =
-    let lent = ap (map (λ r. r.now)) (c.new-2.ensures ∙ c.as_slice.ensures.value) ∙ c.in_ok-layouts.ensures in
+    let lent = ap (map (λ r. r.now)) c.as_slice.ensures ∙ c.in_ok-layouts.ensures in
     subst (λ layouts. IfSome c.in_ok-answer.field-0.largest_niche (IsNicheOfPart (offsets_of c.in_ok-answer.field-0.fields) layouts)) lent c.in_ok-answer.ensures.niche

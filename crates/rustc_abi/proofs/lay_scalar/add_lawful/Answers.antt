@@ -1,7 +1,7 @@
 use Rattle.std.proofs.Common.{subst}
 use Rattle.abi_scalar.specs.Lawful.{IsLawfulLayout}
 use Rattle.rustc_abi.proofs.FaultLemmas.{faultless}
-use Rattle.rustc_abi.proofs.RoomForPair.{lawful_readable}
+use Rattle.abi_scalar.proofs.ReadableLemmas.{lawful_readable}
 use Rattle.rustc_abi.proofs.lay_scalar.add_lawful.Goals as goal
 
 pub scalar-requires : goal.scalar-requires

@@ -5,12 +5,12 @@ use Rattle.std.proofs.lemmas.Result.{IfOk-weaker}
 use Rattle.abi_base.specs.DataLayout.{size_bound}
 use Rattle.abi_scalar.specs.Lawful.{IsLawfulLayout}
 use Rattle.abi_scalar.specs.Pair.{pair_size}
+use Rattle.abi_scalar.proofs.ReadableLemmas.{lawful_readable}
 use Rattle.rustc_abi.specs.declared.node.Shape.TheVariants.{Pair}
 use Rattle.rustc_abi.specs.Nodes.{meaning, types_in}
 use Rattle.rustc_abi.specs.Adding.{IsPut}
 use Rattle.rustc_abi.proofs.NodesLemmas.{length-types_in}
 use Rattle.rustc_abi.proofs.FaultLemmas.{faultless}
-use Rattle.rustc_abi.proofs.RoomForPair.{lawful_readable, lawful_room}
 use Rattle.rustc_abi.proofs.LayLemmas.{IsAdded-pair}
 use Rattle.rustc_abi.proofs.lay_scalar.add_two.Goals as goal
 
@@ -19,11 +19,6 @@ scalar_pair-requires-clause-first c = lawful_readable c.args.dl.now c.args.a (fa
 
 pub scalar_pair-requires-clause-second : goal.scalar_pair-requires-clause-second
 scalar_pair-requires-clause-second c = lawful_readable c.args.dl.now c.args.b (faultless c.args.dl.now c.args.b c.requires.second)
-
-pub scalar_pair-requires-clause-room : goal.scalar_pair-requires-clause-room
-scalar_pair-requires-clause-room c =
-    let dl = c.args.dl.now in
-    lawful_room dl c.requires.data_layout c.args.a c.args.b (faultless dl c.args.a c.requires.first) (faultless dl c.args.b c.requires.second)
 
 pub add-requires : goal.add-requires
 add-requires c =
@@ -40,7 +35,7 @@ returns-clause-ok c =
     let made = c.in_ok-layout.ensures.exact in
     let size : c.in_ok-layout.layout.size ≡ pair_size dl a b = ap (λ l. l.size) made in
     let below : pair_size dl a b < size_bound dl = omega (arith, size, c.bytes.ensures, c.obj_size_bound.ensures, c.if-bytes-obj_size_bound.false) in
-    let lawful = subst (IsLawfulLayout dl) made (c.in_ok-layout.ensures.lawful c.requires.data_layout (faultless dl a c.requires.first) (faultless dl b c.requires.second) below) in
+    let lawful = subst (IsLawfulLayout dl) made (c.in_ok-layout.ensures.lawful (faultless dl a c.requires.first) (faultless dl b c.requires.second) below) in
     IfOk-weaker c.add.result _ _
     (λ i put. IsAdded-pair dl _ _ _ _ c.in_ok-first.first c.in_ok-second.second i a b c.requires.first c.requires.second below c.add_lawful.ensures.lawful c.add_lawful-2.ensures.lawful lawful
     c.in_ok-first.ensures.ok c.in_ok-second.ensures.ok

@@ -12,12 +12,12 @@ returns-then-pow2-bytes-clause-power c k e =
     let power : 2 ^ count_trailing_zeros 64 c.args.bytes ≡ c.args.bytes = ap (λ (j : ℕ). 2 ^ j) (exponent_is c.args.bytes k fits e) ∙ sym e in
     absurd (c.if-pow2-bytes.true (omega (arith, fits, power)))
 
-pub returns-then-pow2-gt29-clause-power : goal.returns-then-pow2-gt29-clause-power
-returns-then-pow2-gt29-clause-power c k e =
+pub returns-then-within_limit-clause-power : goal.returns-then-within_limit-clause-power
+returns-then-within_limit-clause-power c k e =
     let same : count_trailing_zeros 64 c.args.bytes ≡ k = exponent_is c.args.bytes k (Fits-lt-pow c.ranges.bytes) e in
     grind (arith, common_steps, nat_tests, same)
 
-pub returns-clause-power : goal.returns-clause-power
-returns-clause-power c k e =
+pub returns-else-within_limit-clause-power : goal.returns-else-within_limit-clause-power
+returns-else-within_limit-clause-power c k e =
     let same : count_trailing_zeros 64 c.args.bytes ≡ k = exponent_is c.args.bytes k (Fits-lt-pow c.ranges.bytes) e in
     grind (arith, common_steps, nat_tests, same)

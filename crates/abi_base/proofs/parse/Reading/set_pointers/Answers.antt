@@ -1,5 +1,5 @@
 use Rattle.std.proofs.Common.{◌≡◌, true, false, rules}
-use Rattle.abi_base.specs.DataLayoutText.{same_space}
+use Rattle.abi_base.specs.DataLayout.{same_space}
 use Rattle.abi_base.proofs.Settings.{default_put, space_put, then_ok}
 use Rattle.abi_base.proofs.parse.Reading.set_pointers.Goals as goal
 

@@ -1,8 +1,47 @@
-use Rattle.std.proofs.Common.{rules}
+use Rattle.std.proofs.Common.{◌≡◌, ◌+◌, ◌∙◌, ap, arith, rules}
+use Rattle.abi_scalar.specs.Scalar.{scalar_size}
+use Rattle.abi_scalar.specs.Pair.{pair_align, second_offset}
+use Rattle.abi_scalar.proofs.OrderLemmas.{pair_order}
 use Rattle.abi_scalar.proofs.PairLemmas.{pair_lawful_at}
+use Rattle.abi_scalar.proofs.ReadableLemmas.{readable_room}
 use Rattle.abi_scalar.proofs.layout_data.LayoutData.scalar_pair.Goals as goal
 
+pub align_to-b_offset-requires-clause-shift : goal.align_to-b_offset-requires-clause-shift
+align_to-b_offset-requires-clause-shift g c =
+    let room = readable_room (g.C.HasDataLayout.target c.args.cx.now) c.requires.data_layout c.args.a c.args.b c.requires.first c.requires.second in
+    search rules
+
+pub align_to-b_offset-requires-clause-fits : goal.align_to-b_offset-requires-clause-fits
+align_to-b_offset-requires-clause-fits g c =
+    let room = readable_room (g.C.HasDataLayout.target c.args.cx.now) c.requires.data_layout c.args.a c.args.b c.requires.first c.requires.second in
+    search rules
+
+pub add-end-requires : goal.add-end-requires
+add-end-requires g c =
+    let room = readable_room (g.C.HasDataLayout.target c.args.cx.now) c.requires.data_layout c.args.a c.args.b c.requires.first c.requires.second in
+    search rules
+
+pub align_to-requires-clause-shift : goal.align_to-requires-clause-shift
+align_to-requires-clause-shift g c =
+    let room = readable_room (g.C.HasDataLayout.target c.args.cx.now) c.requires.data_layout c.args.a c.args.b c.requires.first c.requires.second in
+    search rules
+
+pub align_to-requires-clause-fits : goal.align_to-requires-clause-fits
+align_to-requires-clause-fits g c =
+    let dl = g.C.HasDataLayout.target c.args.cx.now in
+    let room = readable_room dl c.requires.data_layout c.args.a c.args.b c.requires.first c.requires.second in
+    let end : c.add-end.result ≡ second_offset dl c.args.a c.args.b + scalar_size dl c.args.b = search rules in
+    let align : c.max-align.result ≡ pair_align dl c.args.a c.args.b = search rules in
+    rw (end, align) room.size
+
+pub returns-clause-order : goal.returns-clause-order
+returns-clause-order g c =
+    let number = g.FieldIdx.Idx.number in
+    let laws = g.met.FieldIdx.Idx in
+    rw (c.in_ok-two.ensures, c.in_ok-two-2.ensures) (pair_order number c.new.result c.new-2.result c.align_to-b_offset.result
+    (ap number c.new.ensures ∙ laws.number_at 0 (omega (arith, laws.positive))) (ap number c.new-2.ensures ∙ laws.number_at 1 laws.positive))
+
 pub returns-clause-lawful : goal.returns-clause-lawful
-returns-clause-lawful g c law first second bound =
+returns-clause-lawful g c first second bound =
     pair_lawful_at (g.VariantIdx.Idx.at 0) (g.FieldIdx.Idx.at 0) (g.FieldIdx.Idx.at 1) (g.C.HasDataLayout.target c.args.cx.now)
-    c.args.a c.args.b _ c.requires.first c.requires.second law first second bound (search rules)
+    c.args.a c.args.b _ c.requires.first c.requires.second c.requires.data_layout first second bound (search rules)

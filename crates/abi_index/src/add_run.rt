@@ -1,0 +1,39 @@
+//! Runs of bytes with one more.
+
+ghost use Rattle.std.specs.Prelude.{◌≡◌, ℕ, ◌<◌, ◌-◌, ◌^◌, ◌||◌, IfOk};
+ghost use Rattle.abi_index.specs.RangeSet.{is_in_run, is_in_ranges, AreMaximalRuns};
+
+use std::alloc::{AllocError, Global};
+
+/// These runs and the one from a byte on up to another and without it, joined to those that it meets.
+pub(crate) fn with_run(
+    alloc: Global,
+    runs: &[(u64, u64)],
+    from: u64,
+    to: u64,
+) -> Result<Vec<(u64, u64)>, AllocError>
+    requires some { from < to }
+    requires maximal { AreMaximalRuns 0 runs.now }
+    ensures bytes { IfOk result (λ made. (k : ℕ) → is_in_ranges made.items k ≡ (is_in_run k (from, to - from) || is_in_ranges runs.now k)) }
+    ensures maximal { IfOk result (λ made. AreMaximalRuns 0 made.items) }
+{
+    let mut start = from;
+    let mut end = to;
+    let mut made = Vec::with_capacity(alloc, runs.len() + 1)?;
+    for i in 0..runs.len() {
+        let (first, size) = runs[i];
+        if end < first {
+            made.push((start, end - start))?;
+            made.extend_from_slice(&runs[i..])?;
+            return Ok(made);
+        }
+        if first + size < start {
+            made.push((first, size))?;
+        } else {
+            start = start.min(first);
+            end = end.max(first + size);
+        }
+    }
+    made.push((start, end - start))?;
+    Ok(made)
+}

@@ -1,0 +1,59 @@
+//! Sets of bytes, kept as runs.
+
+ghost use Rattle.std.specs.Prelude.{◌≡◌, ℕ, ◌<◌, ◌+◌, ◌^◌, ◌||◌, [], OnOk, OnErr};
+ghost use Rattle.abi_index.specs.RangeSet.{is_in_run, is_in_ranges, AreMaximalRuns};
+
+use crate::add_run::with_run;
+use std::alloc::{AllocError, Global};
+use std::marker::Model;
+
+/// A set of byte numbers, kept as ascending maximal runs of bytes.
+#[derive(Drop)]
+pub struct RangeSet {
+    alloc: Global,
+    runs: Vec<(u64, u64)>,
+}
+
+impl Model for RangeSet {
+    ghost use Rattle.std.specs.Prelude.{List, ℕ};
+    ghost use Rattle.abi_index.specs.RangeSet.{AreMaximalRuns};
+
+    ghost Value = { List (ℕ × ℕ) };
+
+    ghost view = { λ a. a.runs.items };
+
+    ghost invariant = { λ a. AreMaximalRuns 0 a.runs.items };
+}
+
+impl RangeSet {
+    /// The empty set.
+    pub fn new(alloc: Global) -> Self
+        ensures { result ≡ [] }
+    {
+        RangeSet {
+            alloc,
+            runs: Vec::new(alloc),
+        }
+    }
+
+    /// Puts in the `size` bytes from `offset` on. Where memory is refused the set is as it was.
+    pub fn add_range(&mut self, offset: u64, size: u64) -> Result<(), AllocError>
+        requires { offset + size < 2 ^ 64 }
+        ensures bytes { OnOk result ((k : ℕ) → is_in_ranges self.new k ≡ (is_in_run k (offset, size) || is_in_ranges self.old k)) }
+        ensures err { OnErr result (self.new ≡ self.old) }
+    {
+        if size > 0 {
+            let runs = with_run(self.alloc, self.runs.as_slice(), offset, offset + size)?;
+            self.runs = runs;
+        }
+        Ok(())
+    }
+
+    /// The runs, each as its offset and its size: ascending, none empty, no two of them meet.
+    pub fn as_slice(&self) -> &[(u64, u64)]
+        ensures runs { result.now ≡ self.now }
+        ensures maximal { AreMaximalRuns 0 result.now }
+    {
+        self.runs.as_slice()
+    }
+}

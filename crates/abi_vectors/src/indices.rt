@@ -1,0 +1,153 @@
+//! Index types, a caller's own among them; lists named by them; layouts that a caller's handle lends; hashes.
+
+ghost use Rattle.std.specs.Prelude.{◌≡◌, ◌∷◌, [], IfOk};
+
+use abi_base::{Integer, Primitive, Size, TargetDataLayout};
+use abi_index::{FIRST_VARIANT, FieldIdx, Hash64, Idx, IndexVec, VariantIdx};
+use abi_scalar::{LayoutData, LayoutHandle, Scalar};
+use std::alloc::{AllocError, Global};
+use std::test::Fail;
+
+/// The place of one of a few fields or variants.
+#[derive(Clone, Copy, PartialEq, Eq, Hash, Debug)]
+struct Place {
+    number: u8,
+}
+
+impl Idx for Place {
+    ghost use Rattle.std.specs.Prelude.{refl};
+    ghost use Rattle.std.proofs.Common.{rules};
+
+    ghost number = { λ place. place.number };
+
+    ghost at = { λ i. record { number = i } };
+
+    ghost MAX_INDEX = { 255 };
+
+    const MAX_INDEX: usize = 255;
+
+    ghost number_at = { λ i h. refl };
+
+    ghost at_number = { λ x h. refl };
+
+    ghost positive = { Prim.search rules };
+
+    ghost small = { Prim.search rules };
+
+    fn new(index: usize) -> Place {
+        Place {
+            number: index as u8,
+        }
+    }
+
+    fn index(self) -> usize {
+        usize::from(self.number)
+    }
+
+    fn plus(self, amount: usize) -> Place {
+        Place {
+            number: (usize::from(self.number) + amount) as u8,
+        }
+    }
+}
+
+/// A layout with a name.
+#[derive(Drop)]
+struct Named<'a> {
+    layout: &'a LayoutData<Place, Place>,
+    name: &'static str,
+}
+
+impl<'a> LayoutHandle<Place, Place> for Named<'a> {
+    ghost layout_of = { λ named. named.layout.now };
+
+    fn layout(&self) -> &LayoutData<Place, Place> {
+        self.layout
+    }
+}
+
+/// The size of what the handle lends.
+fn size_of<F: Idx, V: Idx, H: LayoutHandle<F, V>>(handle: &H) -> Size
+    ensures { result ≡ (H.layout_of handle.now).size }
+{
+    handle.layout().size
+}
+
+#[test]
+fn types_and_handles_of_a_caller_are_taken(rt: HostRuntime) -> Result<(), Fail> {
+    let dl = TargetDataLayout::default_in(rt.alloc())?;
+    let word = Scalar::Union {
+        value: Primitive::Int(Integer::I32, false),
+    };
+    let byte = Scalar::Union {
+        value: Primitive::Int(Integer::I8, false),
+    };
+    let pair: LayoutData<Place, Place> = LayoutData::scalar_pair(rt.alloc(), &dl, byte, word)?;
+    assert_eq!(rt; pair.fields.count(), 2);
+    assert_eq!(rt; pair.fields.offset(1), Size::from_bytes(4));
+    let places: Vec<usize> = pair
+        .fields
+        .index_by_increasing_offset()
+        .collect(rt.alloc())?;
+    assert_eq!(rt; places.as_slice(), [0, 1].as_slice());
+    assert!(rt; pair.is_variant_uninhabited(Place { number: 1 }));
+    let named = Named {
+        layout: &pair,
+        name: "pair",
+    };
+    assert_eq!(rt; size_of(&named), Size::from_bytes(8), "{}", named.name);
+    assert_eq!(rt; size_of(&&pair), Size::from_bytes(8));
+    Ok(())
+}
+
+/// A list of three numbers.
+fn three(alloc: Global) -> Result<IndexVec<FieldIdx, u8>, AllocError>
+    ensures { IfOk result (λ list. list ≡ 5 ∷ 6 ∷ 9 ∷ []) }
+{
+    let mut list = IndexVec::new(alloc);
+    let _first: FieldIdx = list.push(5)?;
+    let _second = list.push(6)?;
+    let _third = list.push(9)?;
+    Ok(list)
+}
+
+#[test]
+fn lists_are_named_by_indices(rt: HostRuntime) -> Result<(), Fail> {
+    let mut list = three(rt.alloc())?;
+    let copy = list.try_clone(rt.alloc())?;
+    assert!(rt; copy == list);
+    assert_eq!(rt; list.next_index(), FieldIdx::from_u32(3));
+    assert_eq!(rt; list.get(FieldIdx::ONE).copied(), Some(6));
+    assert_eq!(rt; list.get(FieldIdx::from_u32(3)).copied(), None);
+    let view = list.as_slice();
+    assert_eq!(rt; (view.len(), list.iter().count()), (3, 3));
+    assert_eq!(rt; view.get(FieldIdx::ZERO).copied(), Some(5));
+    assert_eq!(rt; view.next_index(), FieldIdx::from_u32(3));
+    assert_eq!(rt; view.indices().size_hint(), (3, Some(3)));
+    let indices: Vec<FieldIdx> = list.indices().collect(rt.alloc())?;
+    let wanted = [FieldIdx::ZERO, FieldIdx::ONE, FieldIdx::from_u32(2)];
+    assert_eq!(rt; indices.as_slice(), wanted.as_slice());
+    let text = format!(in rt.alloc(); "{list:?}")?;
+    assert_eq!(rt; text.as_str(), "[5, 6, 9]");
+    let pushed = list.push(1)?;
+    assert_eq!(rt; pushed, FieldIdx::from_u32(3));
+    assert_eq!(rt; list.as_slice().as_raw(), [5, 6, 9, 1].as_slice());
+    Ok(())
+}
+
+#[test]
+fn indices_name_places(rt: HostRuntime) {
+    assert_eq!(rt; FieldIdx::from_u32(3).as_usize(), 3);
+    assert_eq!(rt; FieldIdx::from_usize(0xFFFF_FF00).as_u32(), 0xFFFF_FF00);
+    assert_eq!(rt; FieldIdx::new(2).plus(5), FieldIdx::from_u32(7));
+    assert_eq!(rt; FieldIdx::ZERO.plus(1), FieldIdx::ONE);
+    assert_eq!(rt; VariantIdx::from_u32(9).as_usize(), 9);
+    assert_eq!(rt; VariantIdx::from_usize(4).as_u32(), 4);
+    assert_eq!(rt; FIRST_VARIANT, VariantIdx::ZERO);
+    assert_eq!(rt; u32::new(6).plus(1).index(), 7);
+    assert!(rt; FieldIdx::ZERO < FieldIdx::ONE);
+    assert!(rt; VariantIdx::from_u32(2) < VariantIdx::from_u32(10));
+    let most = Hash64::new(u64::MAX);
+    assert_eq!(rt; most.wrapping_add(Hash64::new(2)).as_u64(), 1);
+    assert_eq!(rt; most.wrapping_add(Hash64::ZERO), most);
+}

@@ -1,0 +1,168 @@
+-- A tree has an answer: its layout, or its first fault.
+use Rattle.std.proofs.Common.{◌≡◌, ℕ, List, [], ◌∷◌, Option, Some, None, length, map, inl, inr, refl, sym, ap, ◌∙◌, subst, All, Result, Ok, Err}
+use Rattle.std.specs.Prelude.{◌⊎◌, MatchOption, Bool}
+use Rattle.std.specs.List.{list_any}
+use Rattle.std.proofs.lemmas.List.{map-id}
+use Rattle.abi_base.specs.declared.data_layout.TargetDataLayout.{TargetDataLayout}
+use Rattle.abi_base.specs.DataLayout.{IsLawfulDataLayout, size_bound}
+use Rattle.abi_scalar.specs.declared.error.LayoutCalculatorError.{LayoutCalculatorError}
+use Rattle.abi_scalar.specs.declared.error.LayoutCalculatorError.TheVariants as calculator
+use Rattle.abi_scalar.specs.declared.fields_shape.FieldsShape.TheVariants.{Arbitrary}
+use Rattle.abi_scalar.specs.declared.niche.Niche.{Niche}
+use Rattle.abi_scalar.specs.declared.repr.ReprOptions.{ReprOptions}
+use Rattle.abi_scalar.specs.declared.variants.Variants.TheVariants.{Single}
+use Rattle.abi_scalar.specs.Repr.{is_abi_fixed}
+use Rattle.abi_calc.specs.declared.order.NicheBias.TheVariants.{Start}
+use Rattle.abi_calc.specs.declared.placing.ListFault.{ListFault}
+use Rattle.abi_calc.specs.declared.placing.ListFault.TheVariants.{Unsized, TooLarge, OutOfMemory}
+use Rattle.abi_calc.specs.Fault.{IsErrorOf, fault_in}
+use Rattle.abi_calc.specs.Fields.{greatest_repr_align, lies_as_in_c}
+use Rattle.abi_calc.specs.List.{AreSized, IsListLayout, list_seed, parts_of as asked_of, unadjusted_of}
+use Rattle.abi_calc.specs.ListView.{list_view}
+use Rattle.abi_calc.specs.Order.{IsNamedOrder}
+use Rattle.abi_calc.specs.Placement.{IsNonEmptyIfUnsized, list_repr}
+use Rattle.abi_calc.specs.Run.{IsNamedLayout}
+use Rattle.abi_calc.specs.Union.{union_fault, union_layout}
+use Rattle.abi_calc.proofs.DeepLemmas.{sized_fault}
+use Rattle.abi_calc.proofs.FaultLemmas.{memory_in}
+use Rattle.abi_calc.proofs.SomeOrder.{some_layout}
+use Rattle.abi_calc.proofs.SomeView.{some_union_view}
+use Rattle.rustc_abi.specs.declared.error.LayError.{LayError}
+use Rattle.rustc_abi.specs.declared.error.LayError.TheVariants.{SizeOverflow}
+use Rattle.rustc_abi.specs.Tree.{Tree, scalar, pair, never, unit, array, vector, struct, union, enum, coroutine, Trees, no_trees, more_trees, Variants, no_variants, more_variants}
+use Rattle.rustc_abi.specs.Placed.{Placed, Layout, layout_of}
+use Rattle.rustc_abi.specs.Error.{Follows, lay_error}
+use Rattle.rustc_abi.specs.Laying.{AreLaying, IsFieldsAnswer, IsLaying, IsListed, IsNotYet, IsUnionOf, IsUnited, VariantsLaying, elements_answer, fields_fault, kind_of, placed_fields, placed_together, vector_answer}
+use Rattle.rustc_abi.proofs.LaidLemmas.{IsWhole, all_whole, asked_lawful, asked_sized, length-asked, some_field}
+
+-- some result has the property
+abbrev HasAnswer : {A : Type 0} → (Result A LayError → Type 0) → Type 0
+HasAnswer {A} P = (r : Result A LayError) × P r
+
+-- what has an answer goes on to an answer
+some_follows : {A B : Type 0} (P : Result A LayError → Type 0) (next : A → Result B LayError → Type 0) → HasAnswer P → ((a : A) → P (Ok a) → HasAnswer (next a)) → HasAnswer (Follows P next)
+some_follows P next (Ok a, p) go = let later = go a p in (later.0, inr (a, p, later.1))
+some_follows P next (Err e, p) go = (Err e, inl (e, p, refl))
+
+-- a fault of the node's own is told, else what follows
+some_by : {A : Type 0} (fault : Option LayError) (P : Result A LayError → Type 0) (make : A → Placed) → HasAnswer P
+    → HasAnswer (λ r. MatchOption fault (Follows P (λ a r. r ≡ Ok (make a)) r) (λ e. r ≡ Err e))
+some_by None P make answer = some_follows P (λ a r. r ≡ Ok (make a)) answer (λ a p. (Ok (make a), refl))
+some_by (Some e) P make answer = (Err e, refl)
+
+module _ (dl : TargetDataLayout) (law : IsLawfulDataLayout dl) where
+  -- ---- a list of fields
+
+  module _ (repr : ReprOptions) (always_sized : Bool) (ps : List Placed) (whole : All (IsWhole dl) ps) where
+    abbrev layouts : List Layout
+    layouts = map layout_of ps
+
+    full : IsNonEmptyIfUnsized (kind_of always_sized ps) (length (asked_of dl layouts))
+    full = subst (IsNonEmptyIfUnsized (kind_of always_sized ps)) (sym (length-asked dl ps)) (some_field always_sized ps)
+
+    plain : map (λ (l : Layout). l) layouts ≡ layouts
+    plain = map-id layouts
+
+    told_as : (fault : ListFault) → (fault ≡ TooLarge) ⊎ (fault ≡ OutOfMemory) → (fault ≡ OutOfMemory → ⊥) → IsErrorOf layouts fault calculator.SizeOverflow
+    told_as (Unsized i) (inl e) other = absurd (cc)
+    told_as (Unsized i) (inr e) other = absurd (cc)
+    told_as TooLarge h other = refl
+    told_as OutOfMemory h other = absurd (other refl)
+
+    refused : (first : List ℕ) (fault : ListFault) → IsNamedOrder (list_repr dl repr (kind_of always_sized ps)) Start (asked_of dl layouts) first
+        → fault_in (list_repr dl repr (kind_of always_sized ps)) (size_bound dl) (asked_of dl layouts) first ≡ Some fault
+        → HasAnswer (IsListed dl repr (kind_of always_sized ps) layouts)
+    refused first fault named there =
+        let list = list_repr dl repr (kind_of always_sized ps) in
+        let same_named = subst (λ ls. IsNamedOrder list Start (asked_of dl ls) first) (sym plain) named in
+        let same_there = subst (λ ls. fault_in list (size_bound dl) (asked_of dl ls) first ≡ Some fault) (sym plain) there in
+        let sized = subst AreSized (sym plain) (asked_sized dl ps whole) in
+        let tail = subst (λ ls. IsNonEmptyIfUnsized (kind_of always_sized ps) (length (asked_of dl ls))) (sym plain) full in
+        let known = sized_fault (λ (l : Layout). l) dl list layouts fault sized tail (inl (first, same_named, same_there)) in
+        let other : fault ≡ OutOfMemory → ⊥ = λ e. memory_in list (size_bound dl) (asked_of dl layouts) first (there ∙ ap (λ f. Some f) e) in
+        (Err SizeOverflow, (calculator.SizeOverflow, (first, same_named, fault, same_there, told_as fault known other), refl))
+
+    laid : (order offsets : List ℕ) (size align : ℕ) (niche : Option Niche) → IsNamedLayout dl (list_repr dl repr (kind_of always_sized ps)) (asked_of dl layouts) order offsets size align niche
+        → HasAnswer (IsListed dl repr (kind_of always_sized ps) layouts)
+    laid order offsets size align niche named =
+        let made : Layout = record {
+          fields = Arbitrary offsets (map (λ i. i) order);
+          variants = Single 0;
+          backend_repr = list_view dl (is_abi_fixed repr) size align (asked_of dl layouts) offsets;
+          largest_niche = niche;
+          uninhabited = list_any (λ (f : Layout). f.uninhabited) layouts;
+          align = record { abi = align };
+          size = size;
+          max_repr_align = greatest_repr_align repr.align layouts;
+          unadjusted_abi_align = unadjusted_of dl repr (kind_of always_sized ps) size align (asked_of dl layouts);
+          repr_c = lies_as_in_c repr layouts;
+          randomization_seed = list_seed repr (kind_of always_sized ps) layouts;
+        } in
+        let is : IsListLayout (λ i. i) 0 dl repr (kind_of always_sized ps) layouts order offsets made = record {
+          named = named;
+          shape = refl;
+          variants = refl;
+          view = refl;
+          uninhabited = refl;
+          max_repr_align = refl;
+          unadjusted_abi_align = refl;
+          repr_c = refl;
+          seed = refl;
+        } in
+        (Ok made, (order, offsets, is))
+
+    some_listed : HasAnswer (IsListed dl repr (kind_of always_sized ps) layouts)
+    some_listed = either (some_layout dl (list_repr dl repr (kind_of always_sized ps)) (asked_of dl layouts) (asked_lawful dl ps whole) full)
+      where
+        either : ((first : List ℕ) × IsNamedOrder (list_repr dl repr (kind_of always_sized ps)) Start (asked_of dl layouts) first
+            × ((fault : ListFault) × (fault_in (list_repr dl repr (kind_of always_sized ps)) (size_bound dl) (asked_of dl layouts) first ≡ Some fault)))
+            ⊎ ((order : List ℕ) × (offsets : List ℕ) × (size : ℕ) × (align : ℕ) × (niche : Option Niche)
+            × IsNamedLayout dl (list_repr dl repr (kind_of always_sized ps)) (asked_of dl layouts) order offsets size align niche)
+            → HasAnswer (IsListed dl repr (kind_of always_sized ps) layouts)
+        either (inl (first, named, (fault, there))) = refused first fault named there
+        either (inr (order, offsets, size, align, niche, named)) = laid order offsets size align niche named
+
+  -- ---- the fields of a union
+
+  some_united : (repr : ReprOptions) (layouts : List Layout) → HasAnswer (IsUnited dl repr layouts)
+  some_united repr layouts = by_fault (union_fault (λ (l : Layout). l) dl repr layouts) refl
+    where
+      by_fault : (fault : Option (LayoutCalculatorError Layout)) → union_fault (λ (l : Layout). l) dl repr layouts ≡ fault → HasAnswer (IsUnited dl repr layouts)
+      by_fault None none =
+          let view = some_union_view dl repr (map (λ (l : Layout). l) layouts) in
+          (Ok (union_layout 0 dl repr (map (λ (l : Layout). l) layouts) view.0), (none, view.1, refl))
+      by_fault (Some error) there = (Err (lay_error error), (error, there, refl))
+
+  -- ---- trees
+
+  mutual
+    pub some_answer : (t : Tree) → HasAnswer (IsLaying dl t)
+    some_answer (scalar s) = (_, refl)
+    some_answer (pair a b) = (_, refl)
+    some_answer never = (_, refl)
+    some_answer unit = (_, refl)
+    some_answer (array count element) = some_follows (IsLaying dl element) (λ p r. r ≡ elements_answer dl count p) (some_answer element) (λ p h. (elements_answer dl count p, refl))
+    some_answer (struct repr always_sized all) =
+        some_follows (AreLaying dl all) (IsFieldsAnswer dl repr always_sized) (some_list all)
+        (λ ps h. some_by (fields_fault repr ps) (IsListed dl repr (kind_of always_sized ps) (map layout_of ps)) (placed_fields ps) (some_listed repr always_sized ps (all_whole dl law all ps h)))
+    some_answer (vector lanes packed element) =
+        some_follows (IsLaying dl element) (λ p r. r ≡ vector_answer dl lanes packed p) (some_answer element) (λ p h. (vector_answer dl lanes packed p, refl))
+    some_answer (union repr all) =
+        some_follows (AreLaying dl all) (IsUnionOf dl repr) (some_list all)
+        (λ ps h. some_by (fields_fault repr ps) (IsUnited dl repr (map layout_of ps)) (placed_together ps) (some_united repr (map layout_of ps)))
+    some_answer (enum repr all) = some_follows (VariantsLaying dl all) IsNotYet (some_variants all) (λ rest h. (_, refl))
+    some_answer (coroutine prefix locals states conflicts) =
+        some_follows (AreLaying dl prefix) (λ ps. Follows (AreLaying dl locals) IsNotYet) (some_list prefix)
+        (λ ps h. some_follows (AreLaying dl locals) IsNotYet (some_list locals) (λ qs k. (_, refl)))
+
+    some_list : (ts : Trees) → HasAnswer (AreLaying dl ts)
+    some_list no_trees = (Ok [], refl)
+    some_list (more_trees t ts) =
+        some_follows (IsLaying dl t) (λ p. Follows (AreLaying dl ts) (λ ps r. r ≡ Ok (p ∷ ps))) (some_answer t)
+        (λ p h. some_follows (AreLaying dl ts) (λ ps r. r ≡ Ok (p ∷ ps)) (some_list ts) (λ ps k. (Ok (p ∷ ps), refl)))
+
+    some_variants : (all : Variants) → HasAnswer (VariantsLaying dl all)
+    some_variants no_variants = (Ok [], refl)
+    some_variants (more_variants discriminant ts others) =
+        some_follows (AreLaying dl ts) (λ ps. Follows (VariantsLaying dl others) (λ rest r. r ≡ Ok (ps ∷ rest))) (some_list ts)
+        (λ ps h. some_follows (VariantsLaying dl others) (λ rest r. r ≡ Ok (ps ∷ rest)) (some_variants others) (λ rest k. (Ok (ps ∷ rest), refl)))

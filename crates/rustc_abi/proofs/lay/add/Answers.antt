@@ -1,9 +1,0 @@
-use Rattle.std.proofs.Common.{◌≡◌, length, arith, subst, sym, true}
-use Rattle.rustc_abi.specs.Adding.{is_node}
-use Rattle.rustc_abi.proofs.NodesLemmas.{IsPut-push}
-use Rattle.rustc_abi.proofs.lay.add.Goals as goal
-
-pub returns-clause-ok : goal.returns-clause-ok
-returns-clause-ok c =
-    let at : c.len-node.result ≡ length c.args.nodes.now.items = omega arith in
-    rw c.in_ok-push.ensures.items (IsPut-push c.args.nodes.now.items _ c.len-node.result (subst (λ i. is_node i c.args.shape ≡ true) (sym c.len-node.ensures) c.requires) at)

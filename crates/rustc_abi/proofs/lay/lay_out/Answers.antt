@@ -1,0 +1,73 @@
+use Rattle.rustc_abi.specs.Tree.{tree_of}
+use Rattle.rustc_abi.proofs.LayLemmas.{begins_root, common_root, faithful_root, laid_root, lawful_root}
+use Rattle.rustc_abi.proofs.LeastLemmas.{laid_least, never_large, passed_as, told_large, told_overflow}
+use Rattle.rustc_abi.proofs.ListLemmas.{passed_on}
+use Rattle.rustc_abi.proofs.OneAnswer.{one_answer}
+use Rattle.rustc_abi.proofs.SomeAnswer.{some_answer}
+use Rattle.rustc_abi.proofs.lay.lay_out.Goals as goal
+
+pub returns-clause-exists : goal.returns-clause-exists
+returns-clause-exists c = λ locals. (faithful_root _ _ _ _ _ _ c.in_ok-_root.ensures.ok c.new.ensures.placed locals).exists
+
+pub returns-clause-only : goal.returns-clause-only
+returns-clause-only c = λ locals. (faithful_root _ _ _ _ _ _ c.in_ok-_root.ensures.ok c.new.ensures.placed locals).only
+
+pub returns-clause-unique : goal.returns-clause-unique
+returns-clause-unique c = λ locals. (faithful_root _ _ _ _ _ _ c.in_ok-_root.ensures.ok c.new.ensures.placed locals).unique
+
+pub returns-clause-padding : goal.returns-clause-padding
+returns-clause-padding c = λ locals. (faithful_root _ _ _ _ _ _ c.in_ok-_root.ensures.ok c.new.ensures.placed locals).padding
+
+pub returns-clause-view : goal.returns-clause-view
+returns-clause-view c = λ locals. (faithful_root _ _ _ _ _ _ c.in_ok-_root.ensures.ok c.new.ensures.placed locals).view
+
+pub returns-clause-uninhabited : goal.returns-clause-uninhabited
+returns-clause-uninhabited c = λ locals. (faithful_root _ _ _ _ _ _ c.in_ok-_root.ensures.ok c.new.ensures.placed locals).flag
+
+pub returns-clause-begins : goal.returns-clause-begins
+returns-clause-begins c = begins_root _ _ _ _ _ _ c.in_ok-_root.ensures.ok c.new.ensures.placed
+
+pub returns-clause-common : goal.returns-clause-common
+returns-clause-common c = λ locals. common_root _ _ _ _ _ _ c.in_ok-_root.ensures.ok c.new.ensures.placed locals
+
+pub returns-clause-layout : goal.returns-clause-layout
+returns-clause-layout c = lawful_root _ _ _ _ _ _ c.in_ok-_root.ensures.ok c.new.ensures.placed
+
+pub returns-clause-inside : goal.returns-clause-inside
+returns-clause-inside c = λ locals. (faithful_root _ _ _ _ _ _ c.in_ok-_root.ensures.ok c.new.ensures.placed locals).inside
+
+pub returns-clause-least : goal.returns-clause-least
+returns-clause-least c =
+    let law = c.is_lawful.ensures.0 c.if-not-is_lawful.false in
+    laid_least c.args.dl.now law (tree_of c.args.tree.now) _ (laid_root _ _ _ _ _ _ c.in_ok-_root.ensures.ok c.new.ensures.placed)
+
+pub returns-clause-too_large : goal.returns-clause-too_large
+returns-clause-too_large c law large =
+    never_large c.args.dl.now law (tree_of c.args.tree.now) _ (laid_root _ _ _ _ _ _ c.in_ok-_root.ensures.ok c.new.ensures.placed) large
+
+pub returns-in_err-_root-clause-overflow : goal.returns-in_err-_root-clause-overflow
+returns-in_err-_root-clause-overflow c =
+    let law = c.is_lawful.ensures.0 c.if-not-is_lawful.false in
+    passed_on _ _ _ c.from_residual.ensures.1 (λ size. told_overflow c.args.dl.now law (tree_of c.args.tree.now) _ c.in_err-_root.ensures.err size)
+
+pub returns-in_err-_root-clause-too_large : goal.returns-in_err-_root-clause-too_large
+returns-in_err-_root-clause-too_large c law large =
+    passed_as _ _ _ c.from_residual.ensures.1 (told_large c.args.dl.now law (tree_of c.args.tree.now) _ c.in_err-_root.ensures.err large)
+
+pub returns-clause-one : goal.returns-clause-one
+returns-clause-one c a b h k = one_answer c.args.dl.now (tree_of c.args.tree.now) a b h k
+
+pub returns-in_err-_root-clause-one : goal.returns-in_err-_root-clause-one
+returns-in_err-_root-clause-one c a b h k = one_answer c.args.dl.now (tree_of c.args.tree.now) a b h k
+
+pub returns-then-not-is_lawful-clause-one : goal.returns-then-not-is_lawful-clause-one
+returns-then-not-is_lawful-clause-one c a b h k = one_answer c.args.dl.now (tree_of c.args.tree.now) a b h k
+
+pub returns-clause-some : goal.returns-clause-some
+returns-clause-some c law = some_answer c.args.dl.now law (tree_of c.args.tree.now)
+
+pub returns-in_err-_root-clause-some : goal.returns-in_err-_root-clause-some
+returns-in_err-_root-clause-some c law = some_answer c.args.dl.now law (tree_of c.args.tree.now)
+
+pub returns-then-not-is_lawful-clause-some : goal.returns-then-not-is_lawful-clause-some
+returns-then-not-is_lawful-clause-some c law = some_answer c.args.dl.now law (tree_of c.args.tree.now)

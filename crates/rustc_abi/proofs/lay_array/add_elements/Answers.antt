@@ -1,0 +1,14 @@
+use Rattle.std.proofs.Common.{sym}
+use Rattle.std.proofs.lemmas.Result.{IfOk-weaker}
+use Rattle.rustc_abi.proofs.LayLemmas.{IsAdded-elements}
+use Rattle.rustc_abi.proofs.lay_array.add_elements.Goals as goal
+
+pub elements_layout-requires-clause-lawful : goal.elements_layout-requires-clause-lawful
+elements_layout-requires-clause-lawful c = rw c.deref.ensures.value c.requires.lawful
+
+pub returns-clause-ok : goal.returns-clause-ok
+returns-clause-ok c =
+    let exact = rw c.deref.ensures.value at c.in_ok-layout.ensures.exact in
+    IfOk-weaker c.add.result _ _
+    (λ i put t laid fits. IsAdded-elements _ _ _ i _ c.args.count _ t (sym exact) c.in_ok-layout.ensures.lawful put laid fits)
+    c.add.ensures.ok

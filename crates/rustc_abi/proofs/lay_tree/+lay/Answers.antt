@@ -1,0 +1,139 @@
+use Rattle.std.proofs.Common.{inr, refl, ◌≡◌, ◌+◌, ◌++◌, ◌∷◌, [], arith, ap, sym, ◌∙◌, subst, take, map, get_or}
+use Rattle.std.proofs.lemmas.List.{take_more, map-append}
+use Rattle.std.proofs.lemmas.Result.{IfOk-weaker, IfErr-weaker}
+use Rattle.rustc_abi.specs.Tree.{tree_of, trees}
+use Rattle.rustc_abi.specs.Laying.{AreLaying}
+use Rattle.rustc_abi.specs.Adding.{tree_size, trees_size}
+use Rattle.rustc_abi.proofs.TreeLemmas.{tree_of-Array, tree_of-Vector, tree_of-Struct, tree_of-Union, tree_of-Coroutine, trees_size-at, variants_size-at, falls-Enum}
+use Rattle.rustc_abi.proofs.LayLemmas.{EachFits-lawful, AreAdded-more, IsAdded-after, AreAdded-after, struct_refused}
+use Rattle.rustc_abi.proofs.RefusalLemmas.{each_refused, variants_refused, variants_more, laying_as, enum_refused, enum_not_yet}
+use Rattle.rustc_abi.specs.Error.{IsRefused}
+use Rattle.rustc_abi.proofs.TogetherLemmas.{union_tree_refused}
+use Rattle.rustc_abi.proofs.ListLemmas.{passed_on}
+use Rattle.rustc_abi.proofs.lay_tree.+lay.Goals as goal
+
+pub lay_each-lay_tree-requires : goal.lay_each-lay_tree-requires
+lay_each-lay_tree-requires t c =
+    let item : c.field-item.result ≡ get_or c.args.fields.now c.loop-field.field-index c.field-item.result = c.field-item.is in
+    let size = trees_size-at c.args.fields.now c.loop-field.field-index c.field-item.result (omega arith) in
+    (omega (arith, c.decreases, size, ap (λ x. tree_size (tree_of x)) item), c.requires)
+
+pub lay_each-returns-in_err-child-clause-err : goal.lay_each-returns-in_err-child-clause-err
+lay_each-returns-in_err-child-clause-err t c =
+    let item : c.field-item.result ≡ get_or c.args.fields.now c.loop-field.field-index c.field-item.result = c.field-item.is in
+    passed_on _ _ _ c.from_residual.ensures.1
+    (each_refused c.args.dl.now c.args.fields.now c.loop-field.field-index c.field-item.result _ _ (omega arith) item c.loop-field.invariant.exact c.in_err-child.ensures.err)
+
+pub lay_each-loop-field-preserved : goal.lay_each-loop-field-preserved
+lay_each-loop-field-preserved t c =
+    let more : take (c.loop-field.field-index + 1) c.args.fields.now ≡ take c.loop-field.field-index c.args.fields.now ++ c.field-item.result ∷ [] =
+    take_more c.args.fields.now c.loop-field.field-index c.field-item.result (omega arith)
+    ∙ ap (λ x. take c.loop-field.field-index c.args.fields.now ++ x ∷ []) (sym c.field-item.is) in
+    let mapped : map tree_of (take (c.loop-field.field-index + 1) c.args.fields.now) ≡ map tree_of (take c.loop-field.field-index c.args.fields.now) ++ tree_of c.field-item.result ∷ [] =
+    ap (map tree_of) more ∙ map-append tree_of (take c.loop-field.field-index c.args.fields.now) (c.field-item.result ∷ []) in
+    rw (mapped, c.in_ok-push.ensures.items) (AreAdded-more _ _ _ _ _ _ _ _ c.loop-field.invariant c.in_ok-child.ensures.ok)
+
+pub lay_tree-add_fields-requires-clause-lawful : goal.lay_tree-add_fields-requires-clause-lawful
+lay_tree-add_fields-requires-clause-lawful t c = EachFits-lawful _ _ _ c.in_ok-children-in-Struct.ensures.ok.fits
+
+pub lay_tree-add_union-requires-clause-lawful : goal.lay_tree-add_union-requires-clause-lawful
+lay_tree-add_union-requires-clause-lawful t c = EachFits-lawful _ _ _ c.in_ok-children-in-Union.ensures.ok.fits
+
+pub lay_tree-returns-in_ok-element-in-Vector-clause-ok : goal.lay_tree-returns-in_ok-element-in-Vector-clause-ok
+lay_tree-returns-in_ok-element-in-Vector-clause-ok t c =
+    let before = c.in_ok-element-in-Vector.ensures.ok in
+    let same = ap tree_of c.in-Vector.is ∙ tree_of-Vector c.in-Vector.lanes c.in-Vector.packed c.in-Vector.element in
+    rw same
+    (IfOk-weaker c.add_vector.result _ _
+    (λ i h. rw c.deref-in-Vector.ensures at (IsAdded-after _ _ _ _ _ i _ _ before (h _ before.exact before.fits))) c.add_vector.ensures.ok)
+
+pub lay_tree-returns-in_ok-children-in-Union-clause-ok : goal.lay_tree-returns-in_ok-children-in-Union-clause-ok
+lay_tree-returns-in_ok-children-in-Union-clause-ok t c =
+    let before = c.in_ok-children-in-Union.ensures.ok in
+    let same = ap tree_of c.in-Union.is ∙ tree_of-Union c.in-Union.repr c.in-Union.fields in
+    rw same
+    (IfOk-weaker c.add_union.result _ _
+    (λ i h. rw c.deref-in-Union.ensures.value at (AreAdded-after _ _ _ _ _ _ i _ before (h _ before.exact before.fits))) c.add_union.ensures.ok)
+
+pub lay_tree-returns-in_ok-children-in-Union-clause-err : goal.lay_tree-returns-in_ok-children-in-Union-clause-err
+lay_tree-returns-in_ok-children-in-Union-clause-err t c =
+    let before = c.in_ok-children-in-Union.ensures.ok in
+    let same = ap tree_of c.in-Union.is ∙ tree_of-Union c.in-Union.repr c.in-Union.fields in
+    let exact = rw c.deref-in-Union.ensures.value at before.exact in
+    rw same (IfErr-weaker c.add_union.result _ _ (λ e refused. union_tree_refused c.args.dl.now c.in-Union.repr _ _ e exact refused) c.add_union.ensures.err)
+
+pub lay_tree-lay_variants-requires : goal.lay_tree-lay_variants-requires
+lay_tree-lay_variants-requires t c =
+    let falls = falls-Enum c.args.tree.now c.in-Enum.repr c.in-Enum.variants c.in-Enum.is in
+    (rw c.deref-in-Enum.ensures.value (omega (arith, c.decreases, falls)), c.requires)
+
+pub lay_tree-returns-in_err-lay_variants-in-Enum-clause-err : goal.lay_tree-returns-in_err-lay_variants-in-Enum-clause-err
+lay_tree-returns-in_err-lay_variants-in-Enum-clause-err t c =
+    let refused = rw c.deref-in-Enum.ensures.value at c.in_err-lay_variants-in-Enum.ensures.err in
+    passed_on _ _ _ c.from_residual-in_err-lay_variants-in-Enum.ensures.1
+    (enum_refused c.args.dl.now c.args.tree.now c.in-Enum.repr c.in-Enum.variants _ c.in-Enum.is refused)
+
+pub lay_tree-returns-in_ok-lay_variants-in-Enum-clause-err : goal.lay_tree-returns-in_ok-lay_variants-in-Enum-clause-err
+lay_tree-returns-in_ok-lay_variants-in-Enum-clause-err t c =
+    let laid = rw c.deref-in-Enum.ensures.value at c.in_ok-lay_variants-in-Enum.ensures.ok in
+    enum_not_yet c.args.dl.now c.args.tree.now c.in-Enum.repr c.in-Enum.variants c.in-Enum.is laid
+
+pub lay_variants-lay_each-requires : goal.lay_variants-lay_each-requires
+lay_variants-lay_each-requires t c =
+    let item : c.variant-item.result ≡ get_or c.args.all.now c.loop-variant.variant-index c.variant-item.result = c.variant-item.is in
+    let size = variants_size-at c.args.all.now c.loop-variant.variant-index c.variant-item.result (omega arith) in
+    let lent : c.deref.result.now ≡ c.variant-item.result.1.items = c.deref.ensures.value in (
+      omega (
+        arith,
+        c.decreases,
+        size,
+        ap (λ ts. trees_size (trees (map tree_of ts))) lent,
+        ap (λ x. trees_size (trees (map tree_of x.1.items))) item,
+      ),
+      c.requires,
+    )
+
+pub lay_variants-returns-in_err-_children-clause-err : goal.lay_variants-returns-in_err-_children-clause-err
+lay_variants-returns-in_err-_children-clause-err t c =
+    let item : c.variant-item.result ≡ get_or c.args.all.now c.loop-variant.variant-index c.variant-item.result = c.variant-item.is in
+    let lent : c.deref.result.now ≡ c.variant-item.result.1.items = c.deref.ensures.value in
+    let refused = subst (λ ts. IsRefused (AreLaying c.args.dl.now (trees (map tree_of ts))) c.in_err-_children.field-0.0) lent c.in_err-_children.ensures.err in
+    passed_on _ _ _ c.from_residual.ensures.1
+    (variants_refused c.args.dl.now c.args.all.now c.loop-variant.variant-index c.variant-item.result _ _ (omega arith) item c.loop-variant.invariant.1 refused)
+
+pub lay_variants-loop-variant-preserved : goal.lay_variants-loop-variant-preserved
+lay_variants-loop-variant-preserved t c =
+    let item : c.variant-item.result ≡ get_or c.args.all.now c.loop-variant.variant-index c.variant-item.result = c.variant-item.is in
+    let lent : c.deref.result.now ≡ c.variant-item.result.1.items = c.deref.ensures.value in
+    let laid = laying_as _ _ _ _ lent c.in_ok-_children.ensures.ok.exact in
+    variants_more c.args.dl.now c.args.all.now c.loop-variant.variant-index c.variant-item.result _ _ (omega arith) item c.loop-variant.invariant.1 laid
+
+pub lay_tree-returns-in_ok-element-in-Array-clause-ok : goal.lay_tree-returns-in_ok-element-in-Array-clause-ok
+lay_tree-returns-in_ok-element-in-Array-clause-ok t c =
+    let before = c.in_ok-element-in-Array.ensures.ok in
+    let same = ap tree_of c.in-Array.is ∙ tree_of-Array c.in-Array.count c.in-Array.element in
+    rw same
+    (IfOk-weaker c.add_elements.result _ _
+    (λ i h. rw c.deref.ensures at (IsAdded-after _ _ _ _ _ i _ _ before (h _ before.exact before.fits))) c.add_elements.ensures.ok)
+
+pub lay_tree-returns-in_ok-children-in-Struct-clause-ok : goal.lay_tree-returns-in_ok-children-in-Struct-clause-ok
+lay_tree-returns-in_ok-children-in-Struct-clause-ok t c =
+    let before = c.in_ok-children-in-Struct.ensures.ok in
+    let same = ap tree_of c.in-Struct.is ∙ tree_of-Struct c.in-Struct.repr c.in-Struct.always_sized c.in-Struct.fields in
+    rw same
+    (IfOk-weaker c.add_fields.result _ _
+    (λ i h. rw c.deref-in-Struct.ensures.value at (AreAdded-after _ _ _ _ _ _ i _ before (h _ before.exact before.fits))) c.add_fields.ensures.ok)
+
+pub lay_tree-returns-in_ok-_locals-in-Coroutine-clause-err : goal.lay_tree-returns-in_ok-_locals-in-Coroutine-clause-err
+lay_tree-returns-in_ok-_locals-in-Coroutine-clause-err t c =
+    let same = ap tree_of c.in-Coroutine.is ∙ tree_of-Coroutine c.in-Coroutine.prefix c.in-Coroutine.locals c.in-Coroutine.states c.in-Coroutine.conflicts in
+    let prefix = rw c.deref-in-Coroutine.ensures.value at c.in_ok-_prefix-in-Coroutine.ensures.ok.exact in
+    let locals = rw c.deref-in-Coroutine-2.ensures.value at c.in_ok-_locals-in-Coroutine.ensures.ok.exact in
+    rw same (inr (inr (_, prefix, inr (_, locals, refl))))
+
+pub lay_tree-returns-in_ok-children-in-Struct-clause-err : goal.lay_tree-returns-in_ok-children-in-Struct-clause-err
+lay_tree-returns-in_ok-children-in-Struct-clause-err t c =
+    let before = c.in_ok-children-in-Struct.ensures.ok in
+    let same = ap tree_of c.in-Struct.is ∙ tree_of-Struct c.in-Struct.repr c.in-Struct.always_sized c.in-Struct.fields in
+    let exact = rw c.deref-in-Struct.ensures.value at before.exact in
+    rw same (IfErr-weaker c.add_fields.result _ _ (λ e refused. struct_refused c.args.dl.now c.in-Struct.repr c.in-Struct.always_sized _ _ e exact refused) c.add_fields.ensures.err)

@@ -1,0 +1,59 @@
+//! How arrays are laid out, once their element is.
+
+ghost use Rattle.std.specs.Prelude.{◌≡◌, ◌<◌, ℕ, Some, IfOk, IfErr, Ok, length, vec_len};
+ghost use Rattle.abi_base.specs.DataLayout.{IsLawfulDataLayout};
+ghost use Rattle.abi_scalar.specs.Lawful.{IsLawfulLayout};
+ghost use Rattle.abi_calc.specs.Array.{array_answer};
+ghost use Rattle.rustc_abi.specs.Tree.{Tree, array};
+ghost use Rattle.rustc_abi.specs.Placed.{layout_of};
+ghost use Rattle.rustc_abi.specs.Nodes.{placed_at};
+ghost use Rattle.rustc_abi.specs.Laying.{IsLaying, elements_answer};
+ghost use Rattle.rustc_abi.specs.Error.{named};
+ghost use Rattle.rustc_abi.specs.Fits.{Fits};
+ghost use Rattle.rustc_abi.specs.Adding.{IsAdded, IsRefusal};
+
+use crate::error::LayError;
+use crate::node::{Node, Shape, add, layout_at};
+use abi_base::TargetDataLayout;
+use abi_calc::LayoutCalculator;
+use abi_index::{FieldIdx, VariantIdx};
+use abi_scalar::{LayoutCalculatorError, LayoutData};
+
+/// The layout of so many elements, each as the node `element`.
+pub(crate) fn elements_layout(
+    dl: &TargetDataLayout,
+    nodes: &[Node],
+    count: u64,
+    element: usize,
+) -> Result<LayoutData<FieldIdx, VariantIdx>, LayError>
+    requires data_layout { IsLawfulDataLayout dl.now }
+    requires there { element < length nodes.now }
+    requires lawful { IsLawfulLayout dl.now (layout_of (placed_at nodes.now element)) }
+    ensures exact { result ≡ named {H = ℕ} (array_answer 0 dl.now (layout_of (placed_at nodes.now element)) (Some count)) }
+    ensures lawful { IfOk result (IsLawfulLayout dl.now) }
+{
+    let answer: Result<_, LayoutCalculatorError<u32>> = LayoutCalculator::new(
+        dl,
+    ).layout_of_array_like(layout_at(nodes, element), Some(count));
+    Ok(answer?)
+}
+
+/// A node for so many elements, each as the node `element`.
+pub(crate) fn add_elements(
+    dl: &TargetDataLayout,
+    nodes: &mut Vec<Node>,
+    count: u64,
+    element: usize,
+) -> Result<usize, LayError>
+    requires data_layout { IsLawfulDataLayout dl.now }
+    requires there { element < vec_len nodes.old }
+    requires lawful { IsLawfulLayout dl.now (layout_of (placed_at nodes.old.items element)) }
+    ensures ok { IfOk result
+        (λ i. (t : Tree) → IsLaying dl.now t (Ok (placed_at nodes.old.items element)) →
+        Fits dl.now t (placed_at nodes.old.items element) →
+        IsAdded dl.now nodes.old.items nodes.new.items i (array count t)) }
+    ensures err { IfErr result (IsRefusal (elements_answer dl.now count (placed_at nodes.old.items element))) }
+{
+    let layout = elements_layout(dl, nodes, count, element)?;
+    add(nodes, layout, Shape::Elements { count, element })
+}
