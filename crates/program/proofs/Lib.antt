@@ -10,3 +10,4 @@ pub mod ReadBack
 pub mod Sending
 pub mod OneOutput
 pub mod SomeOutput
+mod Facts

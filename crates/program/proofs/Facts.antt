@@ -1,0 +1,65 @@
+-- What writes a type, tried on one line.
+use Rattle.std.proofs.Common.{ℕ, false, List, [], ◌∷◌, ◌++◌, ◌+◌, ◌^◌, ◌<◌, None, refl, sym, ap, arith}
+use Rattle.std.specs.Prelude.{codes}
+use Rattle.std.proofs.lemmas.Fmt.{decimal_digit}
+use Rattle.abi_base.specs.declared.data_layout.TargetDataLayout.{TargetDataLayout}
+use Rattle.abi_base.specs.declared.integer.Integer.TheVariants.{I8}
+use Rattle.abi_base.specs.declared.primitive.Primitive.TheVariants.{Int, Pointer}
+use Rattle.abi_scalar.specs.declared.scalar.Scalar.{Scalar}
+use Rattle.abi_scalar.specs.declared.scalar.Scalar.TheVariants.{Initialized}
+use Rattle.rustc_abi.specs.Tree.{scalar, pair, struct, Trees, no_trees, more_trees}
+use Rattle.program.specs.declared.repr_text.StructRepr.{StructRepr}
+use Rattle.program.specs.Scalars.{a_bool, full}
+use Rattle.program.specs.Written.{IsNumeral, IsScalarWrittenAs, IsWrittenAs, AreWrittenAs, IsLineOf, a_scalar, a_pair, a_struct, no_more, one_more, an_integer, a_pointer_in, every_number, the_bool, a_range, no_words, a_space, an_opening, a_closing, a_word}
+
+-- `C,tail`
+abbrev asked : StructRepr
+asked = record { repr = record { int = None; align = None; pack = None; flags = record { 0 = 1 }; scalable = None; field_shuffle_seed = 0 }; always_sized = false }
+
+-- a pointer into space 5, from 0 to 9
+abbrev low_pointer : Scalar
+low_pointer = Initialized (Pointer (record { 0 = 5 })) (record { start = 0; end = 9 })
+
+abbrev pointer_words : List (List ℕ)
+pointer_words = codes "range" ∷ codes "ptrin" ∷ codes "05" ∷ codes "0" ∷ codes "9" ∷ []
+
+abbrev pair_words : List (List ℕ)
+pair_words = codes "pair" ∷ codes "u8" ∷ codes "bool" ∷ []
+
+abbrev struct_words : List (List ℕ)
+struct_words = codes "struct" ∷ codes "C,tail" ∷ codes "(" ∷ ((pointer_words ++ pair_words) ++ codes ")" ∷ [])
+
+digit_is_numeral : (bits n : ℕ) → n < 10 → n < 2 ^ bits → IsNumeral bits n ((48 + n) ∷ [])
+digit_is_numeral bits n digit small = (small, 0, sym (decimal_digit n digit))
+
+padded : IsNumeral 32 5 (codes "05")
+padded = (omega arith, 1, ap (λ ds. 48 ∷ ds) (sym (decimal_digit 5 (omega arith))))
+
+module _ (dl : TargetDataLayout) where
+  pointer_written : IsScalarWrittenAs dl low_pointer pointer_words
+  pointer_written =
+      a_range (Pointer (record { 0 = 5 })) (codes "ptrin" ∷ codes "05" ∷ []) 0 9 (codes "0") (codes "9") (a_pointer_in 5 (codes "05") padded)
+      (digit_is_numeral 128 0 (omega arith) (omega arith)) (digit_is_numeral 128 9 (omega arith) (omega arith))
+
+  pair_written : IsWrittenAs dl (pair (full dl (Int I8 false)) a_bool) pair_words
+  pair_written = a_pair (full dl (Int I8 false)) a_bool (codes "u8" ∷ []) (codes "bool" ∷ []) (every_number (Int I8 false) (codes "u8" ∷ []) (an_integer I8 false)) the_bool
+
+  abbrev two_fields : Trees
+  two_fields = more_trees (scalar low_pointer) (more_trees (pair (full dl (Int I8 false)) a_bool) no_trees)
+
+  fields_written : AreWrittenAs dl two_fields (pointer_words ++ pair_words)
+  fields_written =
+      one_more (scalar low_pointer) (more_trees (pair (full dl (Int I8 false)) a_bool) no_trees) pointer_words pair_words (a_scalar low_pointer pointer_words pointer_written)
+      (one_more (pair (full dl (Int I8 false)) a_bool) no_trees pair_words [] pair_written no_more)
+
+  -- a struct whose last field stays last
+  pub struct_written : IsWrittenAs dl (struct asked.repr false two_fields) struct_words
+  struct_written = a_struct asked (codes "C,tail") two_fields (pointer_words ++ pair_words) refl fields_written
+
+-- a line with no spaces beside parentheses, and two within
+pub stands_in_line : IsLineOf (codes "struct" ∷ codes "C,tail" ∷ codes "(" ∷ codes "u8" ∷ codes ")" ∷ []) (codes "struct  C,tail(u8)")
+stands_in_line =
+    a_word (codes "struct") (codes "C,tail" ∷ codes "(" ∷ codes "u8" ∷ codes ")" ∷ []) (codes "  C,tail(u8)")
+    (a_space (codes "C,tail" ∷ codes "(" ∷ codes "u8" ∷ codes ")" ∷ []) (codes " C,tail(u8)") (a_space (codes "C,tail" ∷ codes "(" ∷ codes "u8" ∷ codes ")" ∷ []) (codes "C,tail(u8)")
+    (a_word (codes "C,tail") (codes "(" ∷ codes "u8" ∷ codes ")" ∷ []) (codes "(u8)")
+    (an_opening (codes "u8" ∷ codes ")" ∷ []) (codes "u8)") (a_word (codes "u8") (codes ")" ∷ []) (codes ")") (a_closing [] [] no_words) refl)) refl))) refl
