@@ -27,6 +27,8 @@ mod reprs;
 #[cfg(test)]
 mod scalars;
 #[cfg(test)]
+mod sets;
+#[cfg(test)]
 mod sizes;
 #[cfg(test)]
 mod texts;
