@@ -1,6 +1,6 @@
 //! Runs of bytes.
 
-ghost use Rattle.std.specs.Prelude.{◌≡◌, ℕ, ◌<◌, ◌≤◌, All, IfOk, None};
+ghost use Rattle.std.specs.Prelude.{◌≡◌, ℕ, ◌<◌, ◌≤◌, ◌++◌, ◌∷◌, [], All, IfOk, OnOk, None};
 ghost use Rattle.rustc_abi.specs.Runs.{covers, is_beside, runs_from, Ascend, Joins};
 
 use std::alloc::{AllocError, Global};
@@ -48,6 +48,14 @@ pub(crate) fn joined(alloc: Global, runs: Vec<Run>) -> Result<Vec<Run>, AllocErr
     Ok(made)
 }
 
+/// Puts the run of these bytes behind the others.
+fn put(made: &mut Vec<Run>, start: u64, end: u64) -> Result<(), AllocError>
+    ensures { OnOk result (made.new.items ≡ made.old.items ++ record { start = start; end = end } ∷ []) }
+{
+    made.push(Run { start, end })?;
+    Ok(())
+}
+
 /// The runs of the bytes below the size that no run covers.
 pub(crate) fn gaps(alloc: Global, runs: &[Run], size: u64) -> Result<Vec<Run>, AllocError>
     requires ascend { Ascend 0 runs.now }
@@ -58,18 +66,12 @@ pub(crate) fn gaps(alloc: Global, runs: &[Run], size: u64) -> Result<Vec<Run>, A
     let mut from = 0;
     for run in runs {
         if from < run.start {
-            made.push(Run {
-                start: from,
-                end: run.start,
-            })?;
+            put(&mut made, from, run.start)?;
         }
         from = run.end;
     }
     if from < size {
-        made.push(Run {
-            start: from,
-            end: size,
-        })?;
+        put(&mut made, from, size)?;
     }
     Ok(made)
 }
