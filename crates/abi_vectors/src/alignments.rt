@@ -1,12 +1,14 @@
 //! Alignments: what makes one, and what is made of one.
 
+use crate::data_layout_strings::{is, parse};
 use abi_base::AlignFromBytesError::{NotPowerOfTwo, TooLarge};
-use abi_base::{AbiAlign, AddressSpace, Align, Size, TargetDataLayout};
+use abi_base::{AbiAlign, Align, Size, TargetDataLayout};
+use std::alloc::Global;
 use std::test::Fail;
 
 #[test]
-fn bytes_and_bits_make_alignments(rt: HostRuntime) {
-    for (bytes, made) in [
+fn bytes_make_alignments(rt: HostRuntime) {
+    for &(bytes, made) in &[
         (0, Ok(Align::ONE)),
         (1, Ok(Align::ONE)),
         (4, Ok(Align::FOUR)),
@@ -21,9 +23,13 @@ fn bytes_and_bits_make_alignments(rt: HostRuntime) {
         (536_870_911, Err(NotPowerOfTwo(536_870_911))),
         (u64::MAX, Err(NotPowerOfTwo(u64::MAX))),
     ] {
-        assert_eq!(rt; Align::from_bytes(bytes), made, "{bytes} bytes");
+        assert!(rt; Align::from_bytes(bytes) == made, "{bytes} bytes");
     }
-    for (bits, made) in [
+}
+
+#[test]
+fn bits_make_alignments(rt: HostRuntime) {
+    for &(bits, made) in &[
         (0, Ok(Align::ONE)),
         (1, Ok(Align::ONE)),
         (8, Ok(Align::ONE)),
@@ -34,78 +40,88 @@ fn bytes_and_bits_make_alignments(rt: HostRuntime) {
         (4_294_967_296, Ok(Align::MAX)),
         (8_589_934_592, Err(TooLarge(1_073_741_824))),
     ] {
-        assert_eq!(rt; Align::from_bits(bits), made, "{bits} bits");
+        assert!(rt; Align::from_bits(bits) == made, "{bits} bits");
     }
 }
 
 #[test]
 fn alignments_are_told_in_bits_and_bytes(rt: HostRuntime) {
-    assert_eq!(rt; (Align::EIGHT.bytes(), Align::EIGHT.bits()), (8, 64));
-    assert_eq!(rt;
-        (Align::EIGHT.bytes_usize(), Align::EIGHT.bits_usize()),
-        (8, 64)
-    );
-    assert_eq!(rt;
-        (Align::MAX.bytes(), Align::MAX.bits()),
-        (536_870_912, 4_294_967_296)
-    );
+    for &(align, bytes, bits) in &[
+        (Align::EIGHT, 8, 64),
+        (Align::MAX, 536_870_912, 4_294_967_296),
+    ] {
+        assert!(rt;
+            align.bytes() == bytes && align.bits() == bits,
+            "{bytes} bytes"
+        );
+    }
+    assert!(rt; Align::EIGHT.bytes_usize() == 8 && Align::EIGHT.bits_usize() == 64);
     assert!(rt; Align::FOUR < Align::EIGHT);
+}
+
+#[test]
+fn alignments_are_compared(rt: HostRuntime) {
     let four = AbiAlign::new(Align::FOUR);
     let eight = AbiAlign::new(Align::EIGHT);
-    assert_eq!(rt; four.max(eight), eight);
-    assert_eq!(rt; eight.max(four), eight);
-    assert_eq!(rt; four.min(eight), four);
-    assert_eq!(rt; eight.min(four), four);
-    assert_eq!(rt; (eight.bytes(), eight.bits()), (8, 64));
+    for &(found, wanted) in &[
+        (four.max(eight), eight),
+        (eight.max(four), eight),
+        (four.min(eight), four),
+        (eight.min(four), four),
+    ] {
+        assert!(rt; found == wanted);
+    }
+    assert!(rt; eight.bytes() == 8 && eight.bits() == 64);
+}
+
+/// Whether the offset keeps this factor of the greatest alignment, this one of four bytes, and none of one byte.
+fn keeps(bytes: u64, factor: Align, of_four: Align) -> bool {
+    let offset = Size::from_bytes(bytes);
+    Align::max_aligned_factor(offset) == factor
+        && Align::MAX.restrict_for_offset(offset) == factor
+        && Align::FOUR.restrict_for_offset(offset) == of_four
+        && Align::ONE.restrict_for_offset(offset) == Align::ONE
 }
 
 #[test]
 fn offsets_keep_the_factor_that_divides_them(rt: HostRuntime) {
-    for (bytes, factor, of_four) in [
+    for &(bytes, factor, of_four) in &[
         (1, Align::ONE, Align::ONE),
         (4, Align::FOUR, Align::FOUR),
         (12, Align::FOUR, Align::FOUR),
         (24, Align::EIGHT, Align::FOUR),
         (40, Align::EIGHT, Align::FOUR),
     ] {
-        let offset = Size::from_bytes(bytes);
-        assert_eq!(rt; Align::max_aligned_factor(offset), factor, "{bytes} bytes");
-        assert_eq!(rt;
-            Align::MAX.restrict_for_offset(offset),
-            factor,
-            "{bytes} bytes"
-        );
-        assert_eq!(rt;
-            Align::FOUR.restrict_for_offset(offset),
-            of_four,
-            "{bytes} bytes"
-        );
-        assert_eq!(rt;
-            Align::ONE.restrict_for_offset(offset),
-            Align::ONE,
-            "{bytes} bytes"
-        );
+        assert!(rt; keeps(bytes, factor, of_four), "{bytes} bytes");
     }
     assert!(rt; Align::max_aligned_factor(Size::ZERO) > Align::MAX);
-    assert_eq!(rt; Align::MAX.restrict_for_offset(Size::ZERO), Align::MAX);
+    assert!(rt; Align::MAX.restrict_for_offset(Size::ZERO) == Align::MAX);
+}
+
+/// Whether the target takes alignments up to so many bytes, and has pointers of 1 to 16.
+fn takes(alloc: Global, text: &str, bytes: u64) -> bool {
+    let Ok(dl) = parse(alloc, text) else {
+        return false;
+    };
+    let pointer = dl.pointer_size().bytes();
+    1 <= pointer && pointer <= 16 && is(Align::max_for_target(&dl), bytes)
 }
 
 #[test]
-fn targets_limit_alignments_and_align_vectors(rt: HostRuntime) -> Result<(), Fail> {
-    let zero = AddressSpace::ZERO;
-    for (text, bytes) in [
+fn targets_limit_alignments(rt: HostRuntime) {
+    for &(text, bytes) in &[
         ("p:16:16", 32_768),
         ("p:32:32", 536_870_912),
         ("", 536_870_912),
     ] {
-        let dl = TargetDataLayout::parse_from_llvm_datalayout_string(rt.alloc(), text, zero)?;
-        let pointer = dl.pointer_size().bytes();
-        assert!(rt; 1 <= pointer && pointer <= 16);
-        let most = Align::max_for_target(&dl);
-        assert_eq!(rt; Align::from_bytes(bytes), Ok(most), "{text}");
+        assert!(rt; takes(rt.alloc(), text, bytes), "{text}");
     }
+}
+
+#[test]
+fn targets_align_vectors(rt: HostRuntime) -> Result<(), Fail> {
     let dl = TargetDataLayout::default_in(rt.alloc())?;
-    for (size, bytes) in [
+    for &(size, bytes) in &[
         (0u16, 1),
         (1, 1),
         (2, 2),
@@ -120,7 +136,7 @@ fn targets_limit_alignments_and_align_vectors(rt: HostRuntime) -> Result<(), Fai
         (32_768, 32_768),
     ] {
         let align = dl.rust_vector_align(Size::from_bytes(u64::from(size)));
-        assert_eq!(rt; Align::from_bytes(bytes), Ok(align), "{size} bytes");
+        assert!(rt; is(align, bytes), "{size} bytes");
     }
     Ok(())
 }

@@ -8,17 +8,20 @@ use std::alloc::Global;
 use std::test::Fail;
 
 /// The data layout of the text, with space 0 as the default one.
-fn parse<'a>(alloc: Global, text: &'a str) -> Result<TargetDataLayout, TargetDataLayoutError<'a>> {
+pub(crate) fn parse<'a>(
+    alloc: Global,
+    text: &'a str,
+) -> Result<TargetDataLayout, TargetDataLayoutError<'a>> {
     TargetDataLayout::parse_from_llvm_datalayout_string(alloc, text, AddressSpace::ZERO)
 }
 
 /// Whether the alignment is so many bytes.
-fn is(align: Align, bytes: u64) -> bool {
+pub(crate) fn is(align: Align, bytes: u64) -> bool {
     Align::from_bytes(bytes) == Ok(align)
 }
 
 /// Whether the alignments of i1 to i128, of f16 to f128 and of lists of fields are so many bytes.
-fn aligns_as(dl: &TargetDataLayout, bytes: [u64; 11]) -> bool {
+pub(crate) fn aligns_as(dl: &TargetDataLayout, bytes: [u64; 11]) -> bool {
     let aligns = [
         dl.i1_align,
         dl.i8_align,
@@ -89,19 +92,50 @@ const TARGETS: [(&str, [u64; 11], [u64; 3]); 14] = [
     (SPARC64, [1, 1, 2, 4, 8, 16, 2, 4, 8, 16, 1], [8, 8, 8]),
 ];
 
+/// Whether pointers have these bytes, alignment and index.
+fn points_as(dl: &TargetDataLayout, [size, align, index]: [u64; 3]) -> bool {
+    dl.pointer_size() == Size::from_bytes(size)
+        && is(dl.pointer_align(), align)
+        && dl.pointer_offset() == Size::from_bytes(index)
+}
+
+/// Whether the text reads as a lawful data layout with these alignments and pointers, big endian where it begins so.
+fn reads_as(alloc: Global, text: &str, aligns: [u64; 11], pointer: [u64; 3]) -> bool {
+    let Ok(dl) = parse(alloc, text) else {
+        return false;
+    };
+    let big = text.starts_with('E');
+    aligns_as(&dl, aligns)
+        && points_as(&dl, pointer)
+        && dl.is_lawful()
+        && (dl.endian == Endian::Big) == big
+}
+
 #[test]
-fn targets_are_read(rt: HostRuntime) -> Result<(), Fail> {
-    for (text, aligns, [size, align, index]) in TARGETS {
-        let dl = parse(rt.alloc(), text)?;
-        assert!(rt; aligns_as(&dl, aligns), "{text}");
-        assert_eq!(rt; dl.pointer_size(), Size::from_bytes(size), "{text}");
-        assert!(rt; is(dl.pointer_align(), align), "{text}");
-        assert_eq!(rt; dl.pointer_offset(), Size::from_bytes(index), "{text}");
-        assert!(rt; dl.is_lawful(), "{text}");
-        let big = text.starts_with('E');
-        assert_eq!(rt; dl.endian == Endian::Big, big, "{text}");
+fn targets_are_read(rt: HostRuntime) {
+    for &(text, aligns, pointer) in &TARGETS {
+        assert!(rt; reads_as(rt.alloc(), text, aligns, pointer), "{text}");
     }
-    for (text, space, [size, align, index], lawful) in [
+}
+
+/// Whether the text's data layout knows the space, and pointers into it have these bytes, alignment and index and are
+/// lawful or not.
+fn has_space(alloc: Global, text: &str, space: u32, pointer: [u64; 3], lawful: bool) -> bool {
+    let Ok(dl) = parse(alloc, text) else {
+        return false;
+    };
+    let space = AddressSpace(space);
+    let [size, align, index] = pointer;
+    dl.knows(space)
+        && dl.pointer_size_in(space) == Size::from_bytes(size)
+        && is(dl.pointer_align_in(space), align)
+        && dl.pointer_offset_in(space) == Size::from_bytes(index)
+        && dl.has_lawful_pointer(space) == lawful
+}
+
+#[test]
+fn spaces_are_read(rt: HostRuntime) {
+    for &(text, space, pointer, lawful) in &[
         (X86_64, 270, [4, 4, 4], true),
         (X86_64, 272, [8, 8, 8], true),
         (WASM32, 10, [1, 1, 1], true),
@@ -119,24 +153,22 @@ fn targets_are_read(rt: HostRuntime) -> Result<(), Fail> {
         ("P7-p:32:32", 7, [4, 4, 4], true),
         ("p7:16:16-P1-P7", 7, [2, 2, 2], true),
     ] {
-        let dl = parse(rt.alloc(), text)?;
-        let space = AddressSpace(space);
-        assert!(rt; dl.knows(space), "{text}");
-        assert_eq!(rt; dl.pointer_size_in(space), Size::from_bytes(size), "{text}");
-        assert!(rt; is(dl.pointer_align_in(space), align), "{text}");
-        assert_eq!(rt;
-            dl.pointer_offset_in(space),
-            Size::from_bytes(index),
-            "{text}"
-        );
-        assert_eq!(rt; dl.has_lawful_pointer(space), lawful, "{text}");
+        let read = has_space(rt.alloc(), text, space, pointer, lawful);
+        assert!(rt; read, "{text}: {space}");
     }
-    Ok(())
+}
+
+/// Whether the text's data layout lists vectors of so many bytes with this alignment.
+fn lists(alloc: Global, text: &str, size: u64, align: u64) -> bool {
+    let Ok(dl) = parse(alloc, text) else {
+        return false;
+    };
+    dl.vector_align.get(Size::from_bytes(size)) == Align::from_bytes(align).ok()
 }
 
 #[test]
-fn vectors_are_listed_by_size(rt: HostRuntime) -> Result<(), Fail> {
-    for (text, size, align) in [
+fn vectors_are_listed_by_size(rt: HostRuntime) {
+    for &(text, size, align) in &[
         (ARMV7, 16, 8),
         (ARMV7, 8, 8),
         (POWERPC64, 16, 16),
@@ -152,10 +184,12 @@ fn vectors_are_listed_by_size(rt: HostRuntime) -> Result<(), Fail> {
         (AMDGCN, 256, 256),
         ("v24:32-v48:64-p7:32:32-p8:16:16-P9", 6, 8),
     ] {
-        let dl = parse(rt.alloc(), text)?;
-        let listed = dl.vector_align.get(Size::from_bytes(size));
-        assert_eq!(rt; listed, Align::from_bytes(align).ok(), "{text}: {size}");
+        assert!(rt; lists(rt.alloc(), text, size, align), "{text}: {size}");
     }
+}
+
+#[test]
+fn vectors_are_listed_in_order(rt: HostRuntime) -> Result<(), Fail> {
     let dl = parse(rt.alloc(), "v64:32-v32:32-v64:16-v9:8")?;
     let vectors = [
         (Size::from_bytes(8), dl.i16_align),
@@ -163,13 +197,21 @@ fn vectors_are_listed_by_size(rt: HostRuntime) -> Result<(), Fail> {
         (Size::from_bytes(4), Align::FOUR),
         (Size::from_bytes(2), Align::ONE),
     ];
-    assert_eq!(rt; dl.vector_align.as_slice(), vectors.as_slice());
+    assert!(rt; dl.vector_align.as_slice() == vectors.as_slice());
     Ok(())
 }
 
+/// Whether the text reads as a data layout with these alignments.
+fn has_aligns(alloc: Global, text: &str, aligns: [u64; 11]) -> bool {
+    let Ok(dl) = parse(alloc, text) else {
+        return false;
+    };
+    aligns_as(&dl, aligns)
+}
+
 #[test]
-fn single_specs_are_read(rt: HostRuntime) -> Result<(), Fail> {
-    for (text, aligns) in [
+fn single_specs_are_read(rt: HostRuntime) {
+    for &(text, aligns) in &[
         ("i1:16", [2, 1, 2, 4, 4, 4, 2, 4, 8, 16, 1]),
         ("i8:16", [1, 2, 2, 4, 4, 4, 2, 4, 8, 16, 1]),
         ("i32:64", [1, 1, 2, 8, 4, 4, 2, 4, 8, 16, 1]),
@@ -187,26 +229,40 @@ fn single_specs_are_read(rt: HostRuntime) -> Result<(), Fail> {
         ("a:0", [1, 1, 2, 4, 4, 4, 2, 4, 8, 16, 1]),
         ("a:9", [1, 1, 2, 4, 4, 4, 2, 4, 8, 16, 2]),
     ] {
-        let dl = parse(rt.alloc(), text)?;
-        assert!(rt; aligns_as(&dl, aligns), "{text}");
+        assert!(rt; has_aligns(rt.alloc(), text, aligns), "{text}");
     }
-    for (text, size, index) in [
+}
+
+/// Whether the text reads as a data layout whose pointers have these bytes and this index.
+fn has_pointer(alloc: Global, text: &str, size: u64, index: u64) -> bool {
+    let Ok(dl) = parse(alloc, text) else {
+        return false;
+    };
+    dl.pointer_size() == Size::from_bytes(size) && dl.pointer_offset() == Size::from_bytes(index)
+}
+
+#[test]
+fn single_pointers_are_read(rt: HostRuntime) {
+    for &(text, size, index) in &[
         ("p:32:32:32:16", 4, 2),
         ("p:64:64:64:32", 8, 4),
         ("p:64:64:64", 8, 8),
         ("p:64:64:64:32:0", 8, 8),
         ("pf:64:64", 8, 8),
     ] {
-        let dl = parse(rt.alloc(), text)?;
-        assert_eq!(rt; dl.pointer_size(), Size::from_bytes(size), "{text}");
-        assert_eq!(rt; dl.pointer_offset(), Size::from_bytes(index), "{text}");
+        assert!(rt; has_pointer(rt.alloc(), text, size, index), "{text}");
     }
-    Ok(())
+}
+
+/// Whether the text's data layout is the default one; none where it is refused.
+fn is_default(alloc: Global, text: &str) -> Option<bool> {
+    let dl = parse(alloc, text).ok()?;
+    Some(dl == TargetDataLayout::default_in(alloc).ok()?)
 }
 
 #[test]
-fn what_is_not_said_stays_as_it_was(rt: HostRuntime) -> Result<(), Fail> {
-    for (text, same) in [
+fn what_is_not_said_stays_as_it_was(rt: HostRuntime) {
+    for &(text, same) in &[
         ("", true),
         ("-", true),
         ("E", true),
@@ -223,51 +279,57 @@ fn what_is_not_said_stays_as_it_was(rt: HostRuntime) -> Result<(), Fail> {
         ("P7", false),
         ("i18446744073709551615:8", true),
     ] {
-        let dl = parse(rt.alloc(), text)?;
-        assert_eq!(rt;
-            dl == TargetDataLayout::default_in(rt.alloc())?,
-            same,
-            "{text}"
-        );
+        assert!(rt; is_default(rt.alloc(), text) == Some(same), "{text}");
     }
-    Ok(())
+}
+
+/// Whether functions lie in this space by the text's data layout, which doesn't know space 1.
+fn has_functions_in(alloc: Global, text: &str, space: u32) -> bool {
+    let Ok(dl) = parse(alloc, text) else {
+        return false;
+    };
+    dl.instruction_address_space == AddressSpace(space) && !dl.knows(AddressSpace(1))
 }
 
 #[test]
-fn spaces_of_data_and_functions_are_named(rt: HostRuntime) -> Result<(), Fail> {
-    for (text, functions) in [("P7", 7), ("P7-p:32:32", 7), ("p7:16:16-P1-P7", 7), ("", 0)] {
-        let dl = parse(rt.alloc(), text)?;
-        assert_eq!(rt;
-            dl.instruction_address_space,
-            AddressSpace(functions),
-            "{text}"
-        );
-        assert!(rt; !dl.knows(AddressSpace(1)), "{text}");
+fn spaces_of_functions_are_named(rt: HostRuntime) {
+    for &(text, space) in &[("P7", 7), ("P7-p:32:32", 7), ("p7:16:16-P1-P7", 7), ("", 0)] {
+        assert!(rt; has_functions_in(rt.alloc(), text, space), "{text}");
     }
-    for (text, data, functions) in [("", 8, 8), ("p5:32:32", 4, 4), ("p5:32:32-p:16:16", 4, 2)] {
-        let five = AddressSpace(5);
-        let zero = AddressSpace::ZERO;
-        let dl = TargetDataLayout::parse_from_llvm_datalayout_string(rt.alloc(), text, five)?;
-        assert_eq!(rt; dl.default_address_space, five, "{text}");
-        assert_eq!(rt; dl.pointer_size(), Size::from_bytes(data), "{text}");
-        assert!(rt; dl.knows(zero), "{text}");
-        assert_eq!(rt;
-            dl.pointer_size_in(zero),
-            Size::from_bytes(functions),
-            "{text}"
-        );
-    }
-    Ok(())
 }
 
-/// The error that the text is refused with, if it is.
-fn refusal<'a>(alloc: Global, text: &'a str) -> Option<TargetDataLayoutError<'a>> {
-    parse(alloc, text).err()
+/// Whether pointers into space 5, the default one, have so many bytes, and those into space 0 so many.
+fn has_data_in_five(alloc: Global, text: &str, data: u64, functions: u64) -> bool {
+    let five = AddressSpace(5);
+    let zero = AddressSpace::ZERO;
+    let read = TargetDataLayout::parse_from_llvm_datalayout_string(alloc, text, five);
+    let Ok(dl) = read else {
+        return false;
+    };
+    dl.default_address_space == five
+        && dl.pointer_size() == Size::from_bytes(data)
+        && dl.knows(zero)
+        && dl.pointer_size_in(zero) == Size::from_bytes(functions)
 }
 
 #[test]
-fn texts_that_are_no_numbers_are_told(rt: HostRuntime) {
-    for (text, addr_space, cause, err) in [
+fn spaces_of_data_are_named(rt: HostRuntime) {
+    for &(text, data, functions) in &[("", 8, 8), ("p5:32:32", 4, 4), ("p5:32:32-p:16:16", 4, 2)] {
+        assert!(rt;
+            has_data_in_five(rt.alloc(), text, data, functions),
+            "{text}"
+        );
+    }
+}
+
+/// Whether the text is refused with this error.
+fn is_refused<'a>(alloc: Global, text: &'a str, error: TargetDataLayoutError<'a>) -> bool {
+    parse(alloc, text).err() == Some(error)
+}
+
+#[test]
+fn spaces_that_are_no_numbers_are_told(rt: HostRuntime) {
+    for &(text, addr_space, cause, err) in &[
         ("P", "", "P", Empty),
         ("P-1", "", "P", Empty),
         ("P+", "+", "P", InvalidDigit),
@@ -281,9 +343,13 @@ fn texts_that_are_no_numbers_are_told(rt: HostRuntime) {
             cause,
             err,
         };
-        assert_eq!(rt; refusal(rt.alloc(), text), Some(error), "{text}");
+        assert!(rt; is_refused(rt.alloc(), text, error), "{text}");
     }
-    for (text, kind, bit, cause, err) in [
+}
+
+#[test]
+fn bits_that_are_no_numbers_are_told(rt: HostRuntime) {
+    for &(text, kind, bit, cause, err) in &[
         ("ix:32", "size", "x", "i", InvalidDigit),
         ("ix", "size", "x", "i", InvalidDigit),
         ("i", "size", "", "i", Empty),
@@ -315,13 +381,13 @@ fn texts_that_are_no_numbers_are_told(rt: HostRuntime) {
             cause,
             err,
         };
-        assert_eq!(rt; refusal(rt.alloc(), text), Some(error), "{text}");
+        assert!(rt; is_refused(rt.alloc(), text, error), "{text}");
     }
 }
 
 #[test]
-fn bad_alignments_and_pointers_are_told(rt: HostRuntime) {
-    for (text, cause) in [
+fn missing_alignments_are_told(rt: HostRuntime) {
+    for &(text, cause) in &[
         ("p:64", "p-"),
         ("i64", "i64"),
         ("a", "a"),
@@ -329,9 +395,13 @@ fn bad_alignments_and_pointers_are_told(rt: HostRuntime) {
         ("i8-a:24", "i8"),
     ] {
         let error = TargetDataLayoutError::MissingAlignment { cause };
-        assert_eq!(rt; refusal(rt.alloc(), text), Some(error), "{text}");
+        assert!(rt; is_refused(rt.alloc(), text, error), "{text}");
     }
-    for (text, cause, err) in [
+}
+
+#[test]
+fn bad_alignments_are_told(rt: HostRuntime) {
+    for &(text, cause, err) in &[
         ("a:24", "a", AlignFromBytesError::NotPowerOfTwo(3)),
         ("v64:24", "v64", AlignFromBytesError::NotPowerOfTwo(3)),
         (
@@ -341,15 +411,19 @@ fn bad_alignments_and_pointers_are_told(rt: HostRuntime) {
         ),
     ] {
         let error = TargetDataLayoutError::InvalidAlignment { cause, err };
-        assert_eq!(rt; refusal(rt.alloc(), text), Some(error), "{text}");
+        assert!(rt; is_refused(rt.alloc(), text, error), "{text}");
     }
-    for (text, err) in [
+}
+
+#[test]
+fn unknown_pointers_are_told(rt: HostRuntime) {
+    for &(text, err) in &[
         ("px:64:64", "x"),
         ("pff:x", "f"),
         ("pfé7:64:64", "é7"),
         ("pé:64", "é"),
     ] {
         let error = TargetDataLayoutError::UnknownPointerSpecification { err };
-        assert_eq!(rt; refusal(rt.alloc(), text), Some(error), "{text}");
+        assert!(rt; is_refused(rt.alloc(), text, error), "{text}");
     }
 }

@@ -1,48 +1,51 @@
 //! Data layouts: what the default one says, and which ones are lawful.
 
+use crate::data_layout_strings::{aligns_as, is, parse};
 use abi_base::{AddressSpace, Align, Endian, Integer, Size, TargetDataLayout, VectorAligns};
+use std::alloc::Global;
 use std::test::Fail;
+
+/// Whether there is one space, with pointers of eight bytes, and the least C enum is of 32 bits.
+fn has_one_space(dl: &TargetDataLayout) -> bool {
+    dl.default_address_space == AddressSpace::ZERO
+        && dl.instruction_address_space == AddressSpace::ZERO
+        && dl.c_enum_min_size == Integer::I32
+        && dl.pointer_size() == Size::from_bytes(8)
+        && dl.pointer_offset() == Size::from_bytes(8)
+        && is(dl.pointer_align(), 8)
+        && dl.knows(AddressSpace::ZERO)
+        && !dl.knows(AddressSpace(7))
+}
 
 #[test]
 fn defaults_are_those_of_llvm(rt: HostRuntime) -> Result<(), Fail> {
     let dl = TargetDataLayout::default_in(rt.alloc())?;
-    for (align, bytes) in [
-        (dl.i1_align, 1),
-        (dl.i8_align, 1),
-        (dl.i16_align, 2),
-        (dl.i32_align, 4),
-        (dl.i64_align, 4),
-        (dl.i128_align, 4),
-        (dl.f16_align, 2),
-        (dl.f32_align, 4),
-        (dl.f64_align, 8),
-        (dl.f128_align, 16),
-        (dl.aggregate_align, 1),
-        (dl.pointer_align(), 8),
-    ] {
-        assert_eq!(rt; Align::from_bytes(bytes), Ok(align), "{bytes} bytes");
-    }
-    let vectors = [
-        (Size::from_bytes(8), dl.f64_align),
-        (Size::from_bytes(16), dl.f128_align),
-    ];
-    assert_eq!(rt; dl.vector_align.as_slice(), vectors.as_slice());
-    assert_eq!(rt; dl.endian, Endian::Big);
-    assert_eq!(rt; dl.default_address_space, AddressSpace::ZERO);
-    assert_eq!(rt; dl.instruction_address_space, AddressSpace::ZERO);
-    assert_eq!(rt; dl.c_enum_min_size, Integer::I32);
-    assert_eq!(rt;
-        [dl.pointer_size(), dl.pointer_offset()],
-        [Size::from_bytes(8), Size::from_bytes(8)]
-    );
-    assert!(rt; dl.knows(AddressSpace::ZERO) && !dl.knows(AddressSpace(7)));
-    assert_eq!(rt; dl, TargetDataLayout::default_in(rt.alloc())?);
+    assert!(rt; aligns_as(&dl, [1, 1, 2, 4, 4, 4, 2, 4, 8, 16, 1]));
+    assert!(rt; has_one_space(&dl) && dl.endian == Endian::Big);
     Ok(())
 }
 
 #[test]
-fn each_law_is_asked(rt: HostRuntime) -> Result<(), Fail> {
-    for (text, lawful) in [
+fn vectors_of_8_and_16_bytes_are_listed_by_default(rt: HostRuntime) -> Result<(), Fail> {
+    let dl = TargetDataLayout::default_in(rt.alloc())?;
+    let vectors = [
+        (Size::from_bytes(8), dl.f64_align),
+        (Size::from_bytes(16), dl.f128_align),
+    ];
+    assert!(rt; dl.vector_align.as_slice() == vectors.as_slice());
+    assert!(rt; dl == TargetDataLayout::default_in(rt.alloc())?);
+    Ok(())
+}
+
+/// Whether the text's data layout is lawful; none where it is refused.
+fn is_lawful(alloc: Global, text: &str) -> Option<bool> {
+    let dl = parse(alloc, text).ok()?;
+    Some(dl.is_lawful())
+}
+
+#[test]
+fn each_law_is_asked(rt: HostRuntime) {
+    for &(text, lawful) in &[
         ("", true),
         ("i8:16", false),
         ("i16:32", false),
@@ -65,10 +68,12 @@ fn each_law_is_asked(rt: HostRuntime) -> Result<(), Fail> {
         ("v64:4294967296", true),
         ("p7:192:256:256:32", true),
     ] {
-        let zero = AddressSpace::ZERO;
-        let dl = TargetDataLayout::parse_from_llvm_datalayout_string(rt.alloc(), text, zero)?;
-        assert_eq!(rt; dl.is_lawful(), lawful, "{text}");
+        assert!(rt; is_lawful(rt.alloc(), text) == Some(lawful), "{text}");
     }
+}
+
+#[test]
+fn alignments_above_the_limit_are_unlawful(rt: HostRuntime) -> Result<(), Fail> {
     let above = Align::max_aligned_factor(Size::from_bytes(1 << 30));
     let mut dl = TargetDataLayout::default_in(rt.alloc())?;
     dl.aggregate_align = above;
@@ -78,14 +83,20 @@ fn each_law_is_asked(rt: HostRuntime) -> Result<(), Fail> {
     let mut entries = Vec::new(rt.alloc());
     entries.push((Size::from_bytes(8), above))?;
     dl.vector_align = VectorAligns::from(entries);
-    assert_eq!(rt; dl.vector_align.get(Size::from_bytes(8)), Some(above));
+    assert!(rt; dl.vector_align.get(Size::from_bytes(8)) == Some(above));
     assert!(rt; !dl.is_lawful(), "vectors");
     Ok(())
 }
 
+/// Whether pointers into the space are lawful; none where the text is refused.
+fn has_lawful_pointer(alloc: Global, text: &str, space: u32) -> Option<bool> {
+    let dl = parse(alloc, text).ok()?;
+    Some(dl.has_lawful_pointer(AddressSpace(space)))
+}
+
 #[test]
-fn spaces_have_pointers_of_their_own(rt: HostRuntime) -> Result<(), Fail> {
-    for (text, space, lawful) in [
+fn spaces_have_lawful_pointers_or_not(rt: HostRuntime) {
+    for &(text, space, lawful) in &[
         ("", 0, true),
         ("", 7, false),
         ("p7:128:64", 7, true),
@@ -94,41 +105,58 @@ fn spaces_have_pointers_of_their_own(rt: HostRuntime) -> Result<(), Fail> {
         ("p7:136:8", 7, false),
         ("p7:96:64", 7, false),
     ] {
-        let zero = AddressSpace::ZERO;
-        let dl = TargetDataLayout::parse_from_llvm_datalayout_string(rt.alloc(), text, zero)?;
-        assert_eq!(rt;
-            dl.has_lawful_pointer(AddressSpace(space)),
-            lawful,
-            "{text}"
-        );
+        let found = has_lawful_pointer(rt.alloc(), text, space);
+        assert!(rt; found == Some(lawful), "{text}: {space}");
     }
-    for (text, bound, index) in [
+}
+
+/// Whether objects in space 7 are below this bound, and this integer indexes them.
+fn bounds_seven(alloc: Global, text: &str, bound: u64, index: Integer) -> bool {
+    let Ok(dl) = parse(alloc, text) else {
+        return false;
+    };
+    let seven = AddressSpace(7);
+    if !dl.knows(seven) {
+        return false;
+    }
+    let pointer = dl.pointer_size_in(seven).bytes();
+    if !(pointer == 2 || pointer == 4 || pointer == 8) {
+        return false;
+    }
+    let offset = dl.pointer_offset_in(seven).bytes();
+    if !(offset == 2 || offset == 4 || offset == 8) {
+        return false;
+    }
+    dl.obj_size_bound_in(seven) == bound && dl.ptr_sized_integer_in(seven) == index
+}
+
+#[test]
+fn spaces_have_bounds_of_their_own(rt: HostRuntime) {
+    for &(text, bound, index) in &[
         ("p7:16:16", 1 << 15, Integer::I16),
         ("p7:32:32:32:16", 1 << 31, Integer::I16),
         ("p7:64:64:64:32", 1 << 61, Integer::I32),
         ("p7:64:64", 1 << 61, Integer::I64),
     ] {
-        let seven = AddressSpace(7);
-        let zero = AddressSpace::ZERO;
-        let dl = TargetDataLayout::parse_from_llvm_datalayout_string(rt.alloc(), text, zero)?;
-        assert!(rt; dl.knows(seven), "{text}");
-        let pointer = dl.pointer_size_in(seven).bytes();
-        assert!(rt; pointer == 2 || pointer == 4 || pointer == 8, "{text}");
-        assert_eq!(rt; dl.obj_size_bound_in(seven), bound, "{text}");
-        let offset = dl.pointer_offset_in(seven).bytes();
-        assert!(rt; offset == 2 || offset == 4 || offset == 8, "{text}");
-        assert_eq!(rt; dl.ptr_sized_integer_in(seven), index, "{text}");
+        assert!(rt; bounds_seven(rt.alloc(), text, bound, index), "{text}");
     }
-    for (text, bound, index) in [
+}
+
+/// Whether objects are below this bound, and this integer indexes them, by a lawful data layout.
+fn bounds(alloc: Global, text: &str, bound: u64, index: Integer) -> bool {
+    let Ok(dl) = parse(alloc, text) else {
+        return false;
+    };
+    dl.is_lawful() && dl.obj_size_bound() == bound && dl.ptr_sized_integer() == index
+}
+
+#[test]
+fn the_default_space_has_a_bound(rt: HostRuntime) {
+    for &(text, bound, index) in &[
         ("p:16:16", 1 << 15, Integer::I16),
         ("p:32:32:32:16", 1 << 31, Integer::I16),
         ("p:64:64", 1 << 61, Integer::I64),
     ] {
-        let zero = AddressSpace::ZERO;
-        let dl = TargetDataLayout::parse_from_llvm_datalayout_string(rt.alloc(), text, zero)?;
-        assert!(rt; dl.is_lawful(), "{text}");
-        assert_eq!(rt; dl.obj_size_bound(), bound, "{text}");
-        assert_eq!(rt; dl.ptr_sized_integer(), index, "{text}");
+        assert!(rt; bounds(rt.alloc(), text, bound, index), "{text}");
     }
-    Ok(())
 }

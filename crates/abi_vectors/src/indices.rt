@@ -73,30 +73,40 @@ fn size_of<F: Idx, V: Idx, H: LayoutHandle<F, V>>(handle: &H) -> Size
     handle.layout().size
 }
 
+/// A union's word of 32 bits.
+const WORD: Scalar = Scalar::Union {
+    value: Primitive::Int(Integer::I32, false),
+};
+
+/// A union's byte.
+const BYTE: Scalar = Scalar::Union {
+    value: Primitive::Int(Integer::I8, false),
+};
+
 #[test]
-fn types_and_handles_of_a_caller_are_taken(rt: HostRuntime) -> Result<(), Fail> {
+fn types_of_a_caller_are_taken(rt: HostRuntime) -> Result<(), Fail> {
     let dl = TargetDataLayout::default_in(rt.alloc())?;
-    let word = Scalar::Union {
-        value: Primitive::Int(Integer::I32, false),
-    };
-    let byte = Scalar::Union {
-        value: Primitive::Int(Integer::I8, false),
-    };
-    let pair: LayoutData<Place, Place> = LayoutData::scalar_pair(rt.alloc(), &dl, byte, word)?;
-    assert_eq!(rt; pair.fields.count(), 2);
-    assert_eq!(rt; pair.fields.offset(1), Size::from_bytes(4));
+    let pair: LayoutData<Place, Place> = LayoutData::scalar_pair(rt.alloc(), &dl, BYTE, WORD)?;
+    assert!(rt; pair.fields.count() == 2 && pair.fields.offset(1) == Size::from_bytes(4));
+    assert!(rt; pair.is_variant_uninhabited(Place { number: 1 }));
     let places: Vec<usize> = pair
         .fields
         .index_by_increasing_offset()
         .collect(rt.alloc())?;
-    assert_eq!(rt; places.as_slice(), [0, 1].as_slice());
-    assert!(rt; pair.is_variant_uninhabited(Place { number: 1 }));
+    assert!(rt; places.as_slice() == [0, 1].as_slice());
+    Ok(())
+}
+
+#[test]
+fn handles_of_a_caller_are_taken(rt: HostRuntime) -> Result<(), Fail> {
+    let dl = TargetDataLayout::default_in(rt.alloc())?;
+    let pair: LayoutData<Place, Place> = LayoutData::scalar_pair(rt.alloc(), &dl, BYTE, WORD)?;
     let named = Named {
         layout: &pair,
         name: "pair",
     };
-    assert_eq!(rt; size_of(&named), Size::from_bytes(8), "{}", named.name);
-    assert_eq!(rt; size_of(&&pair), Size::from_bytes(8));
+    assert!(rt; size_of(&named) == Size::from_bytes(8), "{}", named.name);
+    assert!(rt; size_of(&&pair) == Size::from_bytes(8));
     Ok(())
 }
 
@@ -113,41 +123,63 @@ fn three(alloc: Global) -> Result<IndexVec<FieldIdx, u8>, AllocError>
 
 #[test]
 fn lists_are_named_by_indices(rt: HostRuntime) -> Result<(), Fail> {
-    let mut list = three(rt.alloc())?;
-    let copy = list.try_clone(rt.alloc())?;
-    assert!(rt; copy == list);
-    assert_eq!(rt; list.next_index(), FieldIdx::from_u32(3));
-    assert_eq!(rt; list.get(FieldIdx::ONE).copied(), Some(6));
-    assert_eq!(rt; list.get(FieldIdx::from_u32(3)).copied(), None);
-    let view = list.as_slice();
-    assert_eq!(rt; (view.len(), list.iter().count()), (3, 3));
-    assert_eq!(rt; view.get(FieldIdx::ZERO).copied(), Some(5));
-    assert_eq!(rt; view.next_index(), FieldIdx::from_u32(3));
-    assert_eq!(rt; view.indices().size_hint(), (3, Some(3)));
-    let indices: Vec<FieldIdx> = list.indices().collect(rt.alloc())?;
-    let wanted = [FieldIdx::ZERO, FieldIdx::ONE, FieldIdx::from_u32(2)];
-    assert_eq!(rt; indices.as_slice(), wanted.as_slice());
-    let text = format!(in rt.alloc(); "{list:?}")?;
-    assert_eq!(rt; text.as_str(), "[5, 6, 9]");
-    let pushed = list.push(1)?;
-    assert_eq!(rt; pushed, FieldIdx::from_u32(3));
-    assert_eq!(rt; list.as_slice().as_raw(), [5, 6, 9, 1].as_slice());
+    let list = three(rt.alloc())?;
+    assert!(rt; list.try_clone(rt.alloc())? == list);
+    assert!(rt; list.next_index() == FieldIdx::from_u32(3) && list.iter().count() == 3);
+    assert!(rt; list.get(FieldIdx::ONE).copied() == Some(6));
+    assert!(rt; list.get(FieldIdx::from_u32(3)).copied() == None);
     Ok(())
 }
 
 #[test]
-fn indices_name_places(rt: HostRuntime) {
-    assert_eq!(rt; FieldIdx::from_u32(3).as_usize(), 3);
-    assert_eq!(rt; FieldIdx::from_usize(0xFFFF_FF00).as_u32(), 0xFFFF_FF00);
-    assert_eq!(rt; FieldIdx::new(2).plus(5), FieldIdx::from_u32(7));
-    assert_eq!(rt; FieldIdx::ZERO.plus(1), FieldIdx::ONE);
-    assert_eq!(rt; VariantIdx::from_u32(9).as_usize(), 9);
-    assert_eq!(rt; VariantIdx::from_usize(4).as_u32(), 4);
-    assert_eq!(rt; FIRST_VARIANT, VariantIdx::ZERO);
-    assert_eq!(rt; u32::new(6).plus(1).index(), 7);
-    assert!(rt; FieldIdx::ZERO < FieldIdx::ONE);
+fn slices_are_named_by_indices(rt: HostRuntime) -> Result<(), Fail> {
+    let list = three(rt.alloc())?;
+    let view = list.as_slice();
+    assert!(rt; view.len() == 3 && view.next_index() == FieldIdx::from_u32(3));
+    assert!(rt; view.get(FieldIdx::ZERO).copied() == Some(5));
+    assert!(rt; view.indices().size_hint() == (3, Some(3)));
+    Ok(())
+}
+
+#[test]
+fn indices_of_lists_ascend(rt: HostRuntime) -> Result<(), Fail> {
+    let list = three(rt.alloc())?;
+    let indices: Vec<FieldIdx> = list.indices().collect(rt.alloc())?;
+    let wanted = [FieldIdx::ZERO, FieldIdx::ONE, FieldIdx::from_u32(2)];
+    assert!(rt; indices.as_slice() == wanted.as_slice());
+    Ok(())
+}
+
+#[test]
+fn lists_are_written_and_grow(rt: HostRuntime) -> Result<(), Fail> {
+    let mut list = three(rt.alloc())?;
+    let text = format!(in rt.alloc(); "{list:?}")?;
+    assert!(rt; text.as_str() == "[5, 6, 9]");
+    assert!(rt; list.push(1)? == FieldIdx::from_u32(3));
+    assert!(rt; list.as_slice().as_raw() == [5, 6, 9, 1].as_slice());
+    Ok(())
+}
+
+#[test]
+fn fields_are_named_by_numbers(rt: HostRuntime) {
+    assert!(rt; FieldIdx::from_u32(3).as_usize() == 3);
+    assert!(rt; FieldIdx::from_usize(0xFFFF_FF00).as_u32() == 0xFFFF_FF00);
+    assert!(rt; FieldIdx::new(2).plus(5) == FieldIdx::from_u32(7));
+    assert!(rt; FieldIdx::ZERO.plus(1) == FieldIdx::ONE && FieldIdx::ZERO < FieldIdx::ONE);
+    assert!(rt; u32::new(6).plus(1).index() == 7);
+}
+
+#[test]
+fn variants_are_named_by_numbers(rt: HostRuntime) {
+    assert!(rt; VariantIdx::from_u32(9).as_usize() == 9);
+    assert!(rt; VariantIdx::from_usize(4).as_u32() == 4);
+    assert!(rt; FIRST_VARIANT == VariantIdx::ZERO);
     assert!(rt; VariantIdx::from_u32(2) < VariantIdx::from_u32(10));
+}
+
+#[test]
+fn hashes_wrap_round(rt: HostRuntime) {
     let most = Hash64::new(u64::MAX);
-    assert_eq!(rt; most.wrapping_add(Hash64::new(2)).as_u64(), 1);
-    assert_eq!(rt; most.wrapping_add(Hash64::ZERO), most);
+    assert!(rt; most.wrapping_add(Hash64::new(2)).as_u64() == 1);
+    assert!(rt; most.wrapping_add(Hash64::ZERO) == most);
 }

@@ -1,6 +1,10 @@
 //! Layouts: those of types without parts and of two scalars, what they tell, and which ones are lawful.
 
+ghost use Rattle.std.specs.Prelude.{◌≡◌, IfOk, length};
+ghost use Rattle.abi_base.specs.DataLayout.{IsLawfulDataLayout};
 ghost use Rattle.abi_scalar.specs.Order.{HasPlaceForEach};
+ghost use Rattle.abi_scalar.specs.Scalar.{IsReadable};
+ghost use Rattle.abi_scalar.specs.Variant.{variants_of};
 
 use abi_base::{AbiAlign, AddressSpace, Align, Integer, Primitive, Size, TargetDataLayout};
 use abi_index::{FieldIdx, Hash64, IndexVec, TryClone, VariantIdx};
@@ -102,101 +106,178 @@ fn laid(align: Align, size: u64, view: BackendRepr, niche: Option<Niche>) -> Lay
     }
 }
 
+/// Whether the two are one layout.
+fn same(found: &Layout, wanted: &Layout) -> bool {
+    found == wanted
+}
+
+/// Whether the shape's fields have these places, in memory order.
+fn has_places(
+    alloc: Global,
+    shape: &FieldsShape<FieldIdx>,
+    places: &[usize],
+) -> Result<bool, AllocError>
+    requires { HasPlaceForEach shape.now }
+{
+    let order = shape.index_by_increasing_offset();
+    let count = order.len();
+    let list: Vec<usize> = order.collect(alloc)?;
+    Ok(count == places.len() && list.as_slice() == places)
+}
+
+/// The layout of two scalars, the second at this offset.
+fn pair_laid(
+    alloc: Global,
+    (a, b): (Scalar, Scalar),
+    align: Align,
+    (offset, size): (u64, u64),
+    niche: Option<Niche>,
+) -> Result<Layout, AllocError> {
+    let view = BackendRepr::ScalarPair {
+        a,
+        b,
+        b_offset: Size::from_bytes(offset),
+    };
+    Ok(LayoutData {
+        fields: two_fields(alloc, offset)?,
+        ..laid(align, size, view, niche)
+    })
+}
+
+/// Whether two scalars have the wanted layout but for its seed, this seed, and their fields in source order.
+fn pair_is(
+    alloc: Global,
+    dl: &TargetDataLayout,
+    a: Scalar,
+    b: Scalar,
+    seed: u64,
+    wanted: Layout,
+) -> Result<bool, AllocError>
+    requires data_layout { IsLawfulDataLayout dl.now }
+    requires first { IsReadable dl.now a }
+    requires second { IsReadable dl.now b }
+{
+    let mut wanted = wanted;
+    wanted.randomization_seed = Hash64::new(seed);
+    let found: Layout = LayoutData::scalar_pair(alloc, &dl, a, b)?;
+    Ok(same(&found, &wanted) && has_places(alloc, &found.fields, &[0, 1])?)
+}
+
 #[test]
 fn pairs_have_layouts(rt: HostRuntime) -> Result<(), Fail> {
     let dl = TargetDataLayout::default_in(rt.alloc())?;
-    for (a, b, align, (offset, size), niche, seed) in [
-        (TRUTH, WORD, Align::FOUR, (4, 8), Some(0), 5),
-        (SHARED, TRUTH, Align::ONE, (1, 2), Some(1), 2),
-        (TRUTH, TRUTH, Align::ONE, (1, 2), Some(0), 2),
-        (WORD, SHARED, Align::FOUR, (4, 8), None, 5),
-    ] {
-        let found: Layout = LayoutData::scalar_pair(rt.alloc(), &dl, a, b)?;
-        let view = BackendRepr::ScalarPair {
-            a,
-            b,
-            b_offset: Size::from_bytes(offset),
-        };
-        let largest_niche = niche.and_then(|at| niche_of(at, BYTE, 0, 1));
-        let wanted = LayoutData {
-            fields: two_fields(rt.alloc(), offset)?,
-            randomization_seed: Hash64::new(seed),
-            ..laid(align, size, view, largest_niche)
-        };
-        assert!(rt; found == wanted, "{offset}");
-        let order: Vec<usize> = found
-            .fields
-            .index_by_increasing_offset()
-            .collect(rt.alloc())?;
-        assert_eq!(rt; order.as_slice(), [0, 1].as_slice());
-    }
+    let wanted = pair_laid(rt.alloc(), (TRUTH, WORD), Align::FOUR, (4, 8), bool_at(0))?;
+    assert!(rt; pair_is(rt.alloc(), &dl, TRUTH, WORD, 5, wanted)?);
+    let wanted = pair_laid(rt.alloc(), (SHARED, TRUTH), Align::ONE, (1, 2), bool_at(1))?;
+    assert!(rt; pair_is(rt.alloc(), &dl, SHARED, TRUTH, 2, wanted)?);
+    let wanted = pair_laid(rt.alloc(), (TRUTH, TRUTH), Align::ONE, (1, 2), bool_at(0))?;
+    assert!(rt; pair_is(rt.alloc(), &dl, TRUTH, TRUTH, 2, wanted)?);
+    let wanted = pair_laid(rt.alloc(), (WORD, SHARED), Align::FOUR, (4, 8), None)?;
+    assert!(rt; pair_is(rt.alloc(), &dl, WORD, SHARED, 5, wanted)?);
     Ok(())
+}
+
+/// Whether the layout is sized or not, and of no bytes or not: without bytes it stands alone.
+fn is_sized_as(layout: &Layout, sized: bool, zst: bool) -> bool {
+    layout.is_sized() == sized
+        && layout.is_unsized() == !sized
+        && layout.is_zst() == zst
+        && layout.is_1zst() == zst
+        && layout.is_ssa_standalone() == zst
+}
+
+/// Whether the layout is uninhabited or not, and so each of its first two variants.
+fn is_uninhabited_as(layout: &Layout, [whole, first, second]: [bool; 3]) -> bool {
+    layout.is_uninhabited() == whole
+        && layout.is_variant_uninhabited(VariantIdx::ZERO) == first
+        && layout.is_variant_uninhabited(VariantIdx::from_u32(1)) == second
+}
+
+/// Whether the layout is that of bytes in memory, without a `repr`.
+fn is_plain(layout: &Layout) -> bool {
+    layout.is_aggregate()
+        && !layout.is_repr_c()
+        && !layout.is_scalable_vector()
+        && layout.scalable_vector_element_count().is_none()
+}
+
+/// Whether the layout is lawful, equal to its copy, and passed as the unit's is where it is sized, and there alone.
+fn is_kept(
+    alloc: Global,
+    dl: &TargetDataLayout,
+    layout: &Layout,
+    sized: bool,
+) -> Result<bool, AllocError>
+    requires { IsLawfulDataLayout dl.now }
+{
+    let unit: Layout = LayoutData::unit(alloc, &dl, true);
+    let copy = layout.try_clone(alloc)?;
+    Ok(layout.eq_abi(&unit) == sized && layout.is_lawful(dl) && same(&copy, layout))
+}
+
+/// Whether the layout tells all this.
+fn tells(
+    alloc: Global,
+    dl: &TargetDataLayout,
+    layout: Layout,
+    sized: bool,
+    zst: bool,
+    uninhabited: [bool; 3],
+) -> Result<bool, AllocError>
+    requires { IsLawfulDataLayout dl.now }
+{
+    let told = is_sized_as(&layout, sized, zst) && is_uninhabited_as(&layout, uninhabited);
+    Ok(told && is_plain(&layout) && is_kept(alloc, dl, &layout, sized)?)
 }
 
 #[test]
 fn layouts_without_parts_tell_what_they_are(rt: HostRuntime) -> Result<(), Fail> {
     let dl = TargetDataLayout::default_in(rt.alloc())?;
     let two = VariantIdx::from_u32(2);
-    let zero = VariantIdx::ZERO;
-    let unit = || LayoutData::unit(rt.alloc(), &dl, true);
-    for (layout, sized, zst, uninhabited, absent) in [
-        (unit(), true, true, false, (false, true)),
-        (
-            LayoutData::unit(rt.alloc(), &dl, false),
-            false,
-            false,
-            false,
-            (false, true),
-        ),
-        (LayoutData::never_type(&dl), true, true, true, (true, true)),
-        (
-            LayoutData::uninhabited_variant(rt.alloc(), &dl, two, 3),
-            true,
-            true,
-            true,
-            (true, true),
-        ),
-        (
-            LayoutData::uninhabited_variant(rt.alloc(), &dl, two, 0),
-            true,
-            true,
-            true,
-            (true, true),
-        ),
-    ] {
-        let layout: Layout = layout;
-        assert_eq!(rt; (layout.is_sized(), layout.is_unsized()), (sized, !sized));
-        assert_eq!(rt; (layout.is_zst(), layout.is_1zst()), (zst, zst));
-        assert_eq!(rt; layout.is_ssa_standalone(), zst);
-        assert_eq!(rt; layout.is_uninhabited(), uninhabited);
-        assert_eq!(rt;
-            (
-                layout.is_variant_uninhabited(zero),
-                layout.is_variant_uninhabited(VariantIdx::from_u32(1))
-            ),
-            absent
-        );
-        assert!(rt; layout.is_aggregate() && !layout.is_repr_c() && !layout.is_scalable_vector());
-        assert!(rt; layout.scalable_vector_element_count().is_none());
-        assert_eq!(rt; layout.eq_abi(&unit()), sized);
-        assert!(rt; layout.is_lawful(&dl));
-        assert!(rt; layout.try_clone(rt.alloc())? == layout);
-    }
-    let three: Layout = LayoutData::uninhabited_variant(rt.alloc(), &dl, two, 3);
-    let none: Layout = LayoutData::uninhabited_variant(rt.alloc(), &dl, two, 0);
-    assert_eq!(rt; (three.fields.count(), none.fields.count()), (3, 0));
-    let order: Vec<usize> = three
-        .fields
-        .index_by_increasing_offset()
-        .collect(rt.alloc())?;
-    assert_eq!(rt; order.as_slice(), [0, 1, 2].as_slice());
+    let inhabited = [false, false, true];
+    let layout = LayoutData::unit(rt.alloc(), &dl, true);
+    assert!(rt; tells(rt.alloc(), &dl, layout, true, true, inhabited)?);
+    let layout = LayoutData::unit(rt.alloc(), &dl, false);
+    assert!(rt; tells(rt.alloc(), &dl, layout, false, false, inhabited)?);
+    let uninhabited = [true, true, true];
+    let layout = LayoutData::never_type(&dl);
+    assert!(rt; tells(rt.alloc(), &dl, layout, true, true, uninhabited)?);
+    let layout = LayoutData::uninhabited_variant(rt.alloc(), &dl, two, 3);
+    assert!(rt; tells(rt.alloc(), &dl, layout, true, true, uninhabited)?);
+    let layout = LayoutData::uninhabited_variant(rt.alloc(), &dl, two, 0);
+    assert!(rt; tells(rt.alloc(), &dl, layout, true, true, uninhabited)?);
     Ok(())
+}
+
+#[test]
+fn uninhabited_variants_have_fields(rt: HostRuntime) -> Result<(), Fail> {
+    let dl = TargetDataLayout::default_in(rt.alloc())?;
+    let two = VariantIdx::from_u32(2);
+    let none: Layout = LayoutData::uninhabited_variant(rt.alloc(), &dl, two, 0);
+    assert!(rt; none.fields.count() == 0);
+    let three: Layout = LayoutData::uninhabited_variant(rt.alloc(), &dl, two, 3);
+    assert!(rt; three.fields.count() == 3);
+    assert!(rt; has_places(rt.alloc(), &three.fields, &[0, 1, 2])?);
+    Ok(())
+}
+
+/// Whether the layout without fields that has these is lawful.
+fn is_lawful(
+    dl: &TargetDataLayout,
+    align: Align,
+    size: u64,
+    view: BackendRepr,
+    niche: Option<Niche>,
+) -> bool
+    requires { IsLawfulDataLayout dl.now }
+{
+    laid(align, size, view, niche).is_lawful(dl)
 }
 
 #[test]
 fn each_law_of_layouts_is_asked(rt: HostRuntime) -> Result<(), Fail> {
     let dl = TargetDataLayout::default_in(rt.alloc())?;
-    for (align, size, view, niche, lawful) in [
+    for &(align, size, view, niche, lawful) in &[
         (Align::FOUR, 8, MEMORY, None, true),
         (Align::FOUR, 6, MEMORY, None, false),
         (Align::ONE, (1 << 61) - 1, MEMORY, None, true),
@@ -238,59 +319,75 @@ fn each_law_of_layouts_is_asked(rt: HostRuntime) -> Result<(), Fail> {
             true,
         ),
     ] {
-        let layout = laid(align, size, view, niche);
-        assert_eq!(rt;
-            layout.is_lawful(&dl),
-            lawful,
-            "{size} bytes, {view:?}, {niche:?}"
+        assert!(rt;
+            is_lawful(&dl, align, size, view, niche) == lawful,
+            "{size} bytes"
         );
     }
     let above = Align::max_aligned_factor(Size::from_bytes(1 << 30));
-    assert!(rt; !laid(above, 0, MEMORY, None).is_lawful(&dl));
-    for (tag, lawful) in [
-        (TRUTH, true),
-        (
-            Scalar::Initialized {
-                value: BYTE,
-                valid_range: WrappingRange { start: 0, end: 256 },
-            },
-            false,
-        ),
-    ] {
-        let variants = Variants::Multiple {
-            tag,
-            tag_encoding: TagEncoding::Direct,
-            tag_field: FieldIdx::ZERO,
-            variants: IndexVec::new(rt.alloc()),
-        };
-        let layout = LayoutData {
-            variants,
-            ..laid(Align::ONE, 1, MEMORY, None)
-        };
-        assert_eq!(rt; layout.is_lawful(&dl), lawful, "{tag:?}");
-    }
+    assert!(rt; !is_lawful(&dl, above, 0, MEMORY, None));
     Ok(())
 }
 
+/// A byte that is the tag of these variants.
+fn tagged(tag: Scalar, variants: IndexVec<VariantIdx, VariantLayout<FieldIdx>>) -> Layout {
+    LayoutData {
+        variants: Variants::Multiple {
+            tag,
+            tag_encoding: TagEncoding::Direct,
+            tag_field: FieldIdx::ZERO,
+            variants,
+        },
+        ..laid(Align::ONE, 1, MEMORY, None)
+    }
+}
+
 #[test]
-fn variants_are_taken_out(rt: HostRuntime) -> Result<(), Fail> {
+fn tags_of_lawful_layouts_are_lawful(rt: HostRuntime) -> Result<(), Fail> {
+    let dl = TargetDataLayout::default_in(rt.alloc())?;
+    assert!(rt; tagged(TRUTH, IndexVec::new(rt.alloc())).is_lawful(&dl));
+    let wide = Scalar::Initialized {
+        value: BYTE,
+        valid_range: WrappingRange { start: 0, end: 256 },
+    };
+    assert!(rt; !tagged(wide, IndexVec::new(rt.alloc())).is_lawful(&dl));
+    Ok(())
+}
+
+/// A variant with two fields, a truth and a word.
+fn second_variant(
+    alloc: Global,
+    dl: &TargetDataLayout,
+) -> Result<VariantLayout<FieldIdx>, AllocError>
+    requires { IsLawfulDataLayout dl.now }
+{
+    let pair: Layout = LayoutData::scalar_pair(alloc, &dl, TRUTH, WORD)?;
+    Ok(VariantLayout::from_layout(pair))
+}
+
+#[test]
+fn variants_have_what_their_layouts_have(rt: HostRuntime) -> Result<(), Fail> {
     let dl = TargetDataLayout::default_in(rt.alloc())?;
     let unit: Layout = LayoutData::unit(rt.alloc(), &dl, true);
-    let pair: Layout = LayoutData::scalar_pair(rt.alloc(), &dl, TRUTH, WORD)?;
     let first = VariantLayout::from_layout(unit);
-    let second = VariantLayout::from_layout(pair);
-    assert!(rt; !first.is_uninhabited() && !first.has_fields());
+    assert!(rt; !first.is_uninhabited() && !first.has_fields() && first.size == Size::ZERO);
+    let second = second_variant(rt.alloc(), &dl)?;
     assert!(rt; !second.is_uninhabited() && second.has_fields());
-    assert_eq!(rt;
-        [first.size, second.size],
-        [Size::ZERO, Size::from_bytes(8)]
-    );
-    assert_eq!(rt; second.field_offsets.len(), 2);
-    assert_eq!(rt; second.try_clone(rt.alloc())?, second);
-    let mut variants: IndexVec<VariantIdx, VariantLayout<FieldIdx>> = IndexVec::new(rt.alloc());
-    let _first = variants.push(first)?;
-    let _second = variants.push(second)?;
-    let parent = LayoutData {
+    assert!(rt; second.size == Size::from_bytes(8) && second.field_offsets.len() == 2);
+    assert!(rt; second.try_clone(rt.alloc())? == second);
+    Ok(())
+}
+
+/// A type of two variants, a unit and a variant with two fields.
+fn two_variants(alloc: Global, dl: &TargetDataLayout) -> Result<Layout, AllocError>
+    requires { IsLawfulDataLayout dl.now }
+    ensures { IfOk result (λ parent. length (variants_of parent.variants) ≡ 2) }
+{
+    let mut variants: IndexVec<VariantIdx, VariantLayout<FieldIdx>> = IndexVec::new(alloc);
+    let unit: Layout = LayoutData::unit(alloc, &dl, true);
+    let _first = variants.push(VariantLayout::from_layout(unit))?;
+    let _second = variants.push(second_variant(alloc, dl)?)?;
+    Ok(LayoutData {
         variants: Variants::Multiple {
             tag: TRUTH,
             tag_encoding: TagEncoding::Direct,
@@ -303,82 +400,85 @@ fn variants_are_taken_out(rt: HostRuntime) -> Result<(), Fail> {
         repr_c: true,
         randomization_seed: Hash64::new(5),
         ..laid(Align::EIGHT, 16, BackendRepr::Memory { sized: false }, None)
-    };
-    assert_eq!(rt; parent.variants.try_clone(rt.alloc())?, parent.variants);
-    let found = LayoutData::for_variant(rt.alloc(), &parent, VariantIdx::from_u32(1))?;
-    let view = BackendRepr::ScalarPair {
-        a: TRUTH,
-        b: WORD,
-        b_offset: Size::from_bytes(4),
-    };
-    let wanted = LayoutData {
-        fields: two_fields(rt.alloc(), 4)?,
+    })
+}
+
+/// The layout of the second of them.
+fn taken_out(alloc: Global) -> Result<Layout, AllocError> {
+    let pair = pair_laid(alloc, (TRUTH, WORD), Align::EIGHT, (4, 8), bool_at(0))?;
+    Ok(LayoutData {
         variants: Variants::Single {
             index: VariantIdx::from_u32(1),
         },
         max_repr_align: Some(Align::EIGHT),
         unadjusted_abi_align: Align::FOUR,
         repr_c: true,
-        ..laid(Align::EIGHT, 8, view, niche_of(0, BYTE, 0, 1))
-    };
-    assert!(rt; found == wanted);
-    Ok(())
+        ..pair
+    })
 }
 
-/// The places of the shape's fields, after a look at how many there are.
-fn places(alloc: Global, shape: &FieldsShape<FieldIdx>) -> Result<(usize, Vec<usize>), AllocError>
-    requires { HasPlaceForEach shape.now }
-{
-    let order = shape.index_by_increasing_offset();
-    let count = order.len();
-    let list: Vec<usize> = order.collect(alloc)?;
-    Ok((count, list))
+#[test]
+fn variants_are_taken_out(rt: HostRuntime) -> Result<(), Fail> {
+    let dl = TargetDataLayout::default_in(rt.alloc())?;
+    let parent = two_variants(rt.alloc(), &dl)?;
+    assert!(rt; parent.variants.try_clone(rt.alloc())? == parent.variants);
+    let found = LayoutData::for_variant(rt.alloc(), &parent, VariantIdx::from_u32(1))?;
+    assert!(rt; same(&found, &taken_out(rt.alloc())?));
+    Ok(())
 }
 
 #[test]
 fn fields_follow_one_another_in_memory(rt: HostRuntime) -> Result<(), Fail> {
     let three = FieldCount::new(3).ok_or("three fields")?;
-    assert_eq!(rt; three.get(), 3);
+    assert!(rt; three.get() == 3);
     let stride = Size::from_bytes(4);
-    let (count, list) = places(rt.alloc(), &FieldsShape::Primitive)?;
-    assert_eq!(rt; (count, list.as_slice()), (1, [0].as_slice()));
-    let (count, list) = places(rt.alloc(), &FieldsShape::Union(three))?;
-    assert_eq!(rt; (count, list.as_slice()), (3, [0, 1, 2].as_slice()));
-    let (count, list) = places(rt.alloc(), &FieldsShape::Array { stride, count: 2 })?;
-    assert_eq!(rt; (count, list.as_slice()), (2, [0, 1].as_slice()));
-    let (count, list) = places(rt.alloc(), &FieldsShape::Array { stride, count: 0 })?;
-    assert!(rt; count == 0 && list.is_empty());
-    let row: FieldsShape<FieldIdx> = FieldsShape::Array { stride, count: 7 };
-    assert_eq!(rt; row.count(), 7);
-    assert_eq!(rt; row.offset(6), Size::from_bytes(24));
+    assert!(rt; has_places(rt.alloc(), &FieldsShape::Primitive, &[0])?);
+    assert!(rt; has_places(rt.alloc(), &FieldsShape::Union(three), &[0, 1, 2])?);
+    let shape = FieldsShape::Array { stride, count: 2 };
+    assert!(rt; has_places(rt.alloc(), &shape, &[0, 1])?);
+    let shape = FieldsShape::Array { stride, count: 0 };
+    assert!(rt; has_places(rt.alloc(), &shape, &[])?);
     Ok(())
 }
 
 #[test]
-fn listed_fields_follow_their_memory_order(rt: HostRuntime) -> Result<(), Fail> {
-    let mut offsets: IndexVec<FieldIdx, Size> = IndexVec::new(rt.alloc());
+fn elements_follow_one_another(rt: HostRuntime) {
+    let stride = Size::from_bytes(4);
+    let row: FieldsShape<FieldIdx> = FieldsShape::Array { stride, count: 7 };
+    assert!(rt; row.count() == 7 && row.offset(6) == Size::from_bytes(24));
+}
+
+/// Three fields: the second comes first in memory, and the first one last.
+fn turned(alloc: Global) -> Result<FieldsShape<FieldIdx>, AllocError>
+    ensures { IfOk result HasPlaceForEach }
+{
+    let mut offsets: IndexVec<FieldIdx, Size> = IndexVec::new(alloc);
     let _first = offsets.push(Size::from_bytes(6))?;
     let _second = offsets.push(Size::from_bytes(0))?;
     let _third = offsets.push(Size::from_bytes(4))?;
-    let mut in_memory_order: IndexVec<u32, FieldIdx> = IndexVec::new(rt.alloc());
+    let mut in_memory_order: IndexVec<u32, FieldIdx> = IndexVec::new(alloc);
     let _first = in_memory_order.push(FieldIdx::from_u32(1))?;
     let _second = in_memory_order.push(FieldIdx::from_u32(2))?;
     let _third = in_memory_order.push(FieldIdx::from_u32(0))?;
-    let shape = FieldsShape::Arbitrary {
+    Ok(FieldsShape::Arbitrary {
         offsets,
         in_memory_order,
-    };
+    })
+}
+
+#[test]
+fn listed_fields_follow_their_memory_order(rt: HostRuntime) -> Result<(), Fail> {
+    let shape = turned(rt.alloc())?;
     let mut order = shape.index_by_increasing_offset();
     assert!(rt; order == shape.index_by_increasing_offset());
-    for (place, left) in [
+    for &(place, left) in &[
         (Some(1), 2),
         (Some(2), 1),
         (Some(0), 0),
         (None, 0),
         (None, 0),
     ] {
-        assert_eq!(rt; order.next(), place);
-        assert_eq!(rt; order.size_hint(), (left, Some(left)));
+        assert!(rt; order.next() == place && order.size_hint() == (left, Some(left)));
     }
     Ok(())
 }

@@ -22,10 +22,34 @@ fn byte(dl: &TargetDataLayout, start: u8, end: u8) -> Niche
     }
 }
 
+/// Whether so many numbers are free in a niche of a byte, and so many of them are handed out as wanted: the first one,
+/// and the byte's range then.
+fn hands_out(
+    dl: &TargetDataLayout,
+    (start, end): (u8, u8),
+    free: u128,
+    count: u128,
+    want: Option<(u128, (u128, u128))>,
+) -> bool {
+    let niche = byte(dl, start, end);
+    if count == 0 || niche.available(dl) != free {
+        return false;
+    }
+    match (niche.reserve(dl, count), want) {
+        (Some((number, scalar)), Some((first, (start, end)))) => {
+            let valid_range = WrappingRange { start, end };
+            let value = BYTE;
+            number == first && scalar == Scalar::Initialized { value, valid_range }
+        }
+        (None, None) => true,
+        _ => false,
+    }
+}
+
 #[test]
 fn free_numbers_are_handed_out(rt: HostRuntime) -> Result<(), Fail> {
     let dl = TargetDataLayout::default_in(rt.alloc())?;
-    for ((start, end), free, count, want) in [
+    for &(range, free, count, want) in &[
         ((2, 3), 254, 2, Some((0, (0, 3)))),
         ((2, 3), 254, 3, Some((4, (2, 6)))),
         ((250, 252), 253, 4, Some((253, (250, 0)))),
@@ -36,17 +60,10 @@ fn free_numbers_are_handed_out(rt: HostRuntime) -> Result<(), Fail> {
         ((0, 254), 1, 1, Some((255, (255, 254)))),
         ((7, 6), 0, 1, None),
     ] {
-        let niche = byte(&dl, start, end);
-        assert_eq!(rt; niche.available(&dl), free, "{start} to {end}");
-        let wanted = want.map(|(first, (start, end))| (
-            first,
-            Scalar::Initialized {
-                value: BYTE,
-                valid_range: WrappingRange { start, end },
-            },
-        ));
-        let handed = niche.reserve(&dl, count);
-        assert_eq!(rt; handed, wanted, "{count} of {start} to {end}");
+        assert!(rt;
+            hands_out(&dl, range, free, count, want),
+            "{count} of {free}"
+        );
     }
     Ok(())
 }
@@ -68,10 +85,13 @@ fn scalars_have_their_free_numbers_as_niche(rt: HostRuntime) -> Result<(), Fail>
         start: 0xFFFF_FFFF,
         end: 0x10_FFFF,
     };
-    assert_eq!(rt;
-        handed,
-        Some((0xFFFF_FFFF, Scalar::Initialized { value, valid_range }))
-    );
+    assert!(rt; handed == Some((0xFFFF_FFFF, Scalar::Initialized { value, valid_range })));
+    Ok(())
+}
+
+#[test]
+fn references_have_one_free_number(rt: HostRuntime) -> Result<(), Fail> {
+    let dl = TargetDataLayout::default_in(rt.alloc())?;
     let reference = Scalar::Initialized {
         value: Primitive::Pointer(AddressSpace::ZERO),
         valid_range: WrappingRange {
@@ -80,7 +100,7 @@ fn scalars_have_their_free_numbers_as_niche(rt: HostRuntime) -> Result<(), Fail>
         },
     };
     let niche = Niche::from_scalar(&dl, Size::ZERO, reference);
-    assert_eq!(rt; niche.map(|niche| niche.available(&dl)), Some(1));
+    assert!(rt; niche.map(|niche| niche.available(&dl)) == Some(1));
     let full = Scalar::Initialized {
         value: BYTE,
         valid_range: WrappingRange {
@@ -88,8 +108,8 @@ fn scalars_have_their_free_numbers_as_niche(rt: HostRuntime) -> Result<(), Fail>
             end: 254,
         },
     };
-    assert_eq!(rt; Niche::from_scalar(&dl, Size::ZERO, full), None);
+    assert!(rt; Niche::from_scalar(&dl, Size::ZERO, full) == None);
     let shared = Scalar::Union { value: BYTE };
-    assert_eq!(rt; Niche::from_scalar(&dl, Size::ZERO, shared), None);
+    assert!(rt; Niche::from_scalar(&dl, Size::ZERO, shared) == None);
     Ok(())
 }

@@ -26,7 +26,7 @@ fn wide(start: u128, end: u128) -> WrappingRange
 
 #[test]
 fn ranges_include_ranges(rt: HostRuntime) {
-    for ((start, end), (from, to), want) in [
+    for &((start, end), (from, to), want) in &[
         ((0, 255), (128, 127), true),
         ((0, 255), (0, 1), true),
         ((0, 255), (255, 1), true),
@@ -41,9 +41,13 @@ fn ranges_include_ranges(rt: HostRuntime) {
         ((255, 1), (128, 127), false),
     ] {
         let holds = byte(start, end).contains_range(byte(from, to), Size::from_bytes(1));
-        assert_eq!(rt; holds, want, "{start} to {end}, {from} to {to}");
+        assert!(rt; holds == want, "{start} to {end}, {from} to {to}");
     }
-    for ((start, end), (from, to), want) in [
+}
+
+#[test]
+fn wide_ranges_include_ranges(rt: HostRuntime) {
+    for &((start, end), (from, to), want) in &[
         ((10, 20), (10, 20), true),
         ((10, 20), (11, 19), true),
         ((10, 20), (10, 10), true),
@@ -74,39 +78,40 @@ fn ranges_include_ranges(rt: HostRuntime) {
         ((0, 255), (128, 127), false),
     ] {
         let holds = wide(start, end).contains_range(wide(from, to), Size::from_bytes(16));
-        assert_eq!(rt; holds, want, "{start} to {end}, {from} to {to}");
+        assert!(rt; holds == want, "{start} to {end}, {from} to {to}");
     }
+}
+
+/// Whether a range of bytes has no gap in the unsigned and in the signed order, or is full.
+fn tells(
+    (start, end): (u8, u8),
+    unsigned: Result<bool, RangeFull>,
+    signed: Result<bool, RangeFull>,
+) -> bool {
+    let one = Size::from_bytes(1);
+    let range = byte(start, end);
+    range.no_unsigned_wraparound(one) == unsigned
+        && range.no_signed_wraparound(one) == signed
+        && range.is_full_for(one) == unsigned.is_err()
 }
 
 #[test]
 fn gaps_are_told(rt: HostRuntime) {
-    let one = Size::from_bytes(1);
-    for (start, end, unsigned, signed) in [
-        (100, 200, Ok(true), Ok(false)),
-        (200, 100, Ok(false), Ok(true)),
-        (5, 4, Err(RangeFull), Err(RangeFull)),
-        (0, 255, Err(RangeFull), Err(RangeFull)),
-        (5, 3, Ok(false), Ok(false)),
-    ] {
-        let range = byte(start, end);
-        assert_eq!(rt;
-            range.no_unsigned_wraparound(one),
-            unsigned,
-            "{start} to {end}"
-        );
-        assert_eq!(rt; range.no_signed_wraparound(one), signed, "{start} to {end}");
-        assert_eq!(rt;
-            range.is_full_for(one),
-            unsigned.is_err(),
-            "{start} to {end}"
-        );
-    }
+    assert!(rt; tells((100, 200), Ok(true), Ok(false)));
+    assert!(rt; tells((200, 100), Ok(false), Ok(true)));
+    assert!(rt; tells((5, 4), Err(RangeFull), Err(RangeFull)));
+    assert!(rt; tells((0, 255), Err(RangeFull), Err(RangeFull)));
+    assert!(rt; tells((5, 3), Ok(false), Ok(false)));
     let words = WrappingRange {
         start: 100,
         end: 200,
     };
-    assert_eq!(rt; words.no_signed_wraparound(Size::from_bytes(2)), Ok(true));
-    for (start, end, number, held) in [
+    assert!(rt; words.no_signed_wraparound(Size::from_bytes(2)) == Ok(true));
+}
+
+#[test]
+fn ranges_have_members(rt: HostRuntime) {
+    for &(start, end, number, held) in &[
         (255, 1, 0, true),
         (255, 1, 1, true),
         (255, 1, 255, true),
@@ -114,9 +119,9 @@ fn gaps_are_told(rt: HostRuntime) {
         (3, 5, 5, true),
         (3, 5, 6, false),
     ] {
-        assert_eq!(rt; byte(start, end).contains(number), held, "{number}");
+        assert!(rt; byte(start, end).contains(number) == held, "{number}");
     }
-    assert_eq!(rt; WrappingRange::full(one), byte(0, 255));
+    assert!(rt; WrappingRange::full(Size::from_bytes(1)) == byte(0, 255));
 }
 
 /// The least range of bytes, as its two ends.
@@ -155,7 +160,7 @@ fn of_wide(alloc: Global, values: Vec<u128>) -> Result<Option<(u128, u128)>, All
 
 #[test]
 fn least_ranges_are_found(rt: HostRuntime) -> Result<(), Fail> {
-    for (values, want) in [
+    for &(values, want) in &[
         (b"".as_slice(), None),
         (b"\x0a\x64\xa0\xdc".as_slice(), Some((100, 10))),
         (b"\x00\x80".as_slice(), Some((0, 128))),
@@ -177,44 +182,74 @@ fn least_ranges_are_found(rt: HostRuntime) -> Result<(), Fail> {
         (b"\xc8\x32\x7d".as_slice(), Some((50, 200))),
     ] {
         let found = of_bytes(rt.alloc(), values)?;
-        assert_eq!(rt; found, want);
+        assert!(rt; found == want);
     }
-    let found = of_words(rt.alloc(), &[0, 255])?;
-    assert_eq!(rt; found, Some((0, 255)));
-    let found = of_words(rt.alloc(), &[0, 65_535])?;
-    assert_eq!(rt; found, Some((65_535, 0)));
-    let found = of_doubles(rt.alloc(), &[0, 65_535])?;
-    assert_eq!(rt; found, Some((0, 65_535)));
-    let found = of_doubles(rt.alloc(), &[0, u32::MAX])?;
-    assert_eq!(rt; found, Some((4_294_967_295, 0)));
-    let found = of_quads(rt.alloc(), &[0, 4_294_967_295])?;
-    assert_eq!(rt; found, Some((0, 4_294_967_295)));
+    Ok(())
+}
+
+#[test]
+fn least_ranges_of_wider_numbers_are_found(rt: HostRuntime) -> Result<(), Fail> {
+    assert!(rt; of_words(rt.alloc(), &[0, 255])? == Some((0, 255)));
+    assert!(rt; of_words(rt.alloc(), &[0, 65_535])? == Some((65_535, 0)));
+    assert!(rt; of_doubles(rt.alloc(), &[0, 65_535])? == Some((0, 65_535)));
+    assert!(rt; of_doubles(rt.alloc(), &[0, u32::MAX])? == Some((4_294_967_295, 0)));
+    assert!(rt; of_quads(rt.alloc(), &[0, 4_294_967_295])? == Some((0, 4_294_967_295)));
+    Ok(())
+}
+
+/// The numbers below 128.
+fn low(alloc: Global) -> Result<Vec<u8>, AllocError> {
+    let mut low = Vec::new(alloc);
+    for n in 0..128u8 {
+        low.push(n)?;
+    }
+    Ok(low)
+}
+
+/// Two numbers, 64 times each.
+fn ends(alloc: Global) -> Result<Vec<u8>, AllocError> {
+    let mut ends = Vec::new(alloc);
+    for n in 0..128u8 {
+        ends.push(if n % 2 == 0 { 50 } else { 200 })?;
+    }
+    Ok(ends)
+}
+
+/// The powers of two below 2^64, twice each.
+fn powers(alloc: Global) -> Result<Vec<u64>, AllocError> {
+    let mut powers = Vec::new(alloc);
+    for n in 0..128u8 {
+        powers.push(1u64 << (n % 64))?;
+    }
+    Ok(powers)
+}
+
+/// The numbers up to 100 and their negations.
+fn around(alloc: Global) -> Result<Vec<u128>, AllocError> {
+    let mut around = Vec::new(alloc);
+    for n in 0..128u8 {
+        around.push(u128::from(n % 101))?;
+        around.push(u128::from(n % 101).wrapping_neg())?;
+    }
+    Ok(around)
+}
+
+#[test]
+fn least_ranges_of_many_bytes_are_found(rt: HostRuntime) -> Result<(), Fail> {
+    let mut low = low(rt.alloc())?;
+    assert!(rt; of_bytes(rt.alloc(), low.as_slice())? == Some((0, 127)));
+    low.push(255)?;
+    assert!(rt; of_bytes(rt.alloc(), low.as_slice())? == Some((255, 127)));
     Ok(())
 }
 
 #[test]
 fn least_ranges_of_many_numbers_are_found(rt: HostRuntime) -> Result<(), Fail> {
-    let mut low = Vec::new(rt.alloc());
-    let mut ends = Vec::new(rt.alloc());
-    let mut powers = Vec::new(rt.alloc());
-    let mut around = Vec::new(rt.alloc());
-    for n in 0..128u8 {
-        low.push(n)?;
-        ends.push(if n % 2 == 0 { 50 } else { 200 })?;
-        powers.push(1u64 << (n % 64))?;
-        around.push(u128::from(n % 101))?;
-        around.push(u128::from(n % 101).wrapping_neg())?;
-    }
-    let found = of_bytes(rt.alloc(), low.as_slice())?;
-    assert_eq!(rt; found, Some((0, 127)));
-    low.push(255)?;
-    let found = of_bytes(rt.alloc(), low.as_slice())?;
-    assert_eq!(rt; found, Some((255, 127)));
-    let found = of_bytes(rt.alloc(), ends.as_slice())?;
-    assert_eq!(rt; found, Some((200, 50)));
-    let found = of_quads(rt.alloc(), powers.as_slice())?;
-    assert_eq!(rt; found, Some((1, 1 << 63)));
-    let found = of_wide(rt.alloc(), around)?;
-    assert_eq!(rt; found, Some((100u128.wrapping_neg(), 100)));
+    let ends = ends(rt.alloc())?;
+    assert!(rt; of_bytes(rt.alloc(), ends.as_slice())? == Some((200, 50)));
+    let powers = powers(rt.alloc())?;
+    assert!(rt; of_quads(rt.alloc(), powers.as_slice())? == Some((1, 1 << 63)));
+    let found = of_wide(rt.alloc(), around(rt.alloc())?)?;
+    assert!(rt; found == Some((100u128.wrapping_neg(), 100)));
     Ok(())
 }

@@ -4,29 +4,51 @@ use abi_base::{Integer, IntegerType};
 use abi_index::Hash64;
 use abi_scalar::{ReprFlags, ReprOptions};
 use bitflags::Flags;
+use std::alloc::{AllocError, Global};
 use std::test::Fail;
 
+/// A repr with these flags.
+fn flagged(bits: u8) -> ReprOptions {
+    let mut repr = ReprOptions::default();
+    repr.flags = ReprFlags::from_bits_retain(bits);
+    repr
+}
+
+/// Whether the flags say this of C, vectors, transparent types, the fields' order, scalable vectors and Rust.
+fn say(bits: u8, [c, simd, transparent, linear, scalable, rust]: [bool; 6]) -> bool {
+    let repr = flagged(bits);
+    repr.c() == c
+        && repr.simd() == simd
+        && repr.transparent() == transparent
+        && repr.linear() == linear
+        && repr.scalable() == scalable
+        && repr.rust() == rust
+        && repr.inhibits_union_abi_opt() == c
+}
+
 #[test]
-fn flags_are_read_and_written(rt: HostRuntime) -> Result<(), Fail> {
-    for (bits, c, simd, transparent, linear, scalable, rust) in [
-        (0, false, false, false, false, false, true),
-        (1, true, false, false, false, false, false),
-        (2, false, true, false, false, false, false),
-        (4, false, false, true, false, false, false),
-        (8, false, false, false, true, false, true),
-        (64, false, false, false, false, true, false),
+fn flags_are_read(rt: HostRuntime) {
+    for &(bits, said) in &[
+        (0, [false, false, false, false, false, true]),
+        (1, [true, false, false, false, false, false]),
+        (2, [false, true, false, false, false, false]),
+        (4, [false, false, true, false, false, false]),
+        (8, [false, false, false, true, false, true]),
+        (64, [false, false, false, false, true, false]),
     ] {
-        let mut repr = ReprOptions::default();
-        repr.flags = ReprFlags::from_bits_retain(bits);
-        assert_eq!(rt; repr.c(), c, "{bits}");
-        assert_eq!(rt; repr.simd(), simd, "{bits}");
-        assert_eq!(rt; repr.transparent(), transparent, "{bits}");
-        assert_eq!(rt; repr.linear(), linear, "{bits}");
-        assert_eq!(rt; repr.scalable(), scalable, "{bits}");
-        assert_eq!(rt; repr.rust(), rust, "{bits}");
-        assert_eq!(rt; repr.inhibits_union_abi_opt(), c, "{bits}");
+        assert!(rt; say(bits, said), "{bits}");
     }
-    for (bits, text) in [
+}
+
+/// Whether the flags are written so.
+fn are_written(alloc: Global, bits: u8, text: &str) -> Result<bool, AllocError> {
+    let written = format!(in alloc; "{:?}", ReprFlags::from_bits_retain(bits))?;
+    Ok(written.as_str() == text)
+}
+
+#[test]
+fn flags_are_written(rt: HostRuntime) -> Result<(), Fail> {
+    for &(bits, text) in &[
         (0, ""),
         (1, "IS_C"),
         (3, "IS_C | IS_SIMD"),
@@ -37,48 +59,54 @@ fn flags_are_read_and_written(rt: HostRuntime) -> Result<(), Fail> {
         ),
         (128, "0x80"),
     ] {
-        let written = format!(in rt.alloc(); "{:?}", ReprFlags::from_bits_retain(bits))?;
-        assert_eq!(rt; written.as_str(), text);
+        assert!(rt; are_written(rt.alloc(), bits, text)?, "{text}");
     }
     Ok(())
+}
+
+/// Whether flags and an integer fix the fields' order and the layout of a newtype, and allow a random order.
+fn fix(bits: u8, int: Option<IntegerType>, [order, newtype, random]: [bool; 3]) -> bool {
+    let mut repr = flagged(bits);
+    repr.int = int;
+    repr.inhibit_struct_field_reordering() == order
+        && repr.inhibit_newtype_abi_optimization() == newtype
+        && repr.can_randomize_type_layout() == random
+        && repr.inhibit_enum_layout_opt() == (bits == 1 || int.is_some())
+        && repr.discr_type() == int.unwrap_or(IntegerType::Pointer(true))
+        && !repr.packed()
+}
+
+/// Whether reprs are told apart by these flags, and not by the seed.
+fn are_told_apart(bits: u8, int: Option<IntegerType>) -> bool {
+    let mut repr = flagged(bits);
+    repr.int = int;
+    let mut other = repr;
+    other.field_shuffle_seed = Hash64::new(5);
+    if !repr.equal_up_to_seed(&other) {
+        return false;
+    }
+    other.flags = ReprFlags::from_bits_retain(128);
+    !repr.equal_up_to_seed(&other)
 }
 
 #[test]
 fn flags_and_integers_fix_the_order(rt: HostRuntime) {
     let byte = IntegerType::Fixed(Integer::I8, false);
-    for (bits, int, fixed, newtype, random) in [
-        (0, None, false, false, false),
-        (1, None, true, true, false),
-        (2, None, true, true, false),
-        (4, None, false, false, false),
-        (8, None, true, false, false),
-        (16, None, false, false, true),
-        (32, None, false, false, false),
-        (64, None, true, false, false),
-        (16, Some(byte), true, false, false),
-        (24, None, true, false, false),
+    for &(bits, int, fixed) in &[
+        (0, None, [false, false, false]),
+        (1, None, [true, true, false]),
+        (2, None, [true, true, false]),
+        (4, None, [false, false, false]),
+        (8, None, [true, false, false]),
+        (16, None, [false, false, true]),
+        (32, None, [false, false, false]),
+        (64, None, [true, false, false]),
+        (16, Some(byte), [true, false, false]),
+        (24, None, [true, false, false]),
     ] {
-        let mut repr = ReprOptions::default();
-        repr.flags = ReprFlags::from_bits_retain(bits);
-        repr.int = int;
-        assert_eq!(rt; repr.inhibit_struct_field_reordering(), fixed, "{bits}");
-        assert_eq!(rt; repr.inhibit_newtype_abi_optimization(), newtype, "{bits}");
-        assert_eq!(rt; repr.can_randomize_type_layout(), random, "{bits}");
-        assert_eq!(rt;
-            repr.inhibit_enum_layout_opt(),
-            bits == 1 || int.is_some(),
+        assert!(rt;
+            fix(bits, int, fixed) && are_told_apart(bits, int),
             "{bits}"
         );
-        assert_eq!(rt;
-            repr.discr_type(),
-            int.unwrap_or(IntegerType::Pointer(true)),
-            "{bits}"
-        );
-        assert!(rt; !repr.packed());
-        let mut other = repr;
-        other.field_shuffle_seed = Hash64::new(5);
-        assert!(rt; repr.equal_up_to_seed(&other));
-        other.flags = ReprFlags::from_bits_retain(128);
-        assert!(rt; !repr.equal_up_to_seed(&other));
     }
 }

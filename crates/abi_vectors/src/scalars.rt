@@ -1,6 +1,8 @@
 //! Scalars: what they tell, the range that they lend, and their layouts.
 
 ghost use Rattle.std.specs.Prelude.{◌≡◌};
+ghost use Rattle.abi_base.specs.DataLayout.{IsLawfulDataLayout};
+ghost use Rattle.abi_scalar.specs.Scalar.{IsReadable};
 ghost use Rattle.abi_scalar.specs.declared.scalar.Scalar.TheVariants.{Initialized};
 
 use abi_base::{AbiAlign, AddressSpace, Align, Float, Integer, Primitive, Size, TargetDataLayout};
@@ -22,10 +24,33 @@ fn scalar(value: Primitive, start: u128, end: u128) -> Scalar
     }
 }
 
+/// Whether a scalar with this range tells this, and what it consists of.
+fn tells(value: Primitive, (start, end): (u128, u128), is_bool: bool, is_signed: bool) -> bool {
+    let lent = scalar(value, start, end);
+    let union = lent.to_union();
+    lent.is_bool() == is_bool
+        && lent.is_signed() == is_signed
+        && lent.primitive() == value
+        && union == Scalar::Union { value }
+        && union.is_uninit_valid()
+        && !lent.is_uninit_valid()
+}
+
+/// Whether a scalar with this range lends it to be read and written.
+fn lends(value: Primitive, (start, end): (u128, u128)) -> bool {
+    let mut lent = scalar(value, start, end);
+    if lent.valid_range_mut().end != end {
+        return false;
+    }
+    *lent.valid_range_mut() = WrappingRange { start: 0, end: 7 };
+    lent.valid_range_mut().start = 3;
+    lent == scalar(value, 3, 7)
+}
+
 #[test]
 fn scalars_tell_their_kind(rt: HostRuntime) {
     let int = |integer, signed| Primitive::Int(integer, signed);
-    for (value, start, end, is_bool, is_signed) in [
+    for &(value, start, end, is_bool, is_signed) in &[
         (int(Integer::I8, false), 0, 1, true, false),
         (int(Integer::I8, false), 0, 2, false, false),
         (int(Integer::I8, false), 1, 1, false, false),
@@ -35,39 +60,22 @@ fn scalars_tell_their_kind(rt: HostRuntime) {
         (Primitive::Float(Float::F64), 0, 1, false, false),
         (Primitive::Pointer(AddressSpace::ZERO), 0, 1, false, false),
     ] {
-        let mut lent = scalar(value, start, end);
-        assert_eq!(rt; (lent.is_bool(), lent.is_signed()), (is_bool, is_signed));
-        assert_eq!(rt; lent.primitive(), value);
-        let union = lent.to_union();
-        assert_eq!(rt; union, Scalar::Union { value });
-        assert!(rt; union.is_uninit_valid() && !lent.is_uninit_valid());
-        assert_eq!(rt; lent.valid_range_mut().end, end);
-        *lent.valid_range_mut() = WrappingRange { start: 0, end: 7 };
-        lent.valid_range_mut().start = 3;
-        assert_eq!(rt; lent, scalar(value, 3, 7));
+        assert!(rt; tells(value, (start, end), is_bool, is_signed));
+        assert!(rt; lends(value, (start, end)));
     }
 }
 
 #[test]
 fn scalars_tell_their_numbers(rt: HostRuntime) -> Result<(), Fail> {
     let dl = TargetDataLayout::default_in(rt.alloc())?;
-    let value = Primitive::Int(Integer::I64, false);
-    let union = Scalar::Union { value };
-    assert_eq!(rt; union.size(&dl), Size::from_bytes(8));
-    assert_eq!(rt; union.default_align(&dl), Align::FOUR);
+    let union = Scalar::Union {
+        value: Primitive::Int(Integer::I64, false),
+    };
     let full = WrappingRange::full(Size::from_bytes(8));
-    assert_eq!(rt; union.valid_range(&dl), full);
-    assert!(rt; union.is_always_valid(&dl));
-    let turned = Scalar::Initialized {
-        value: BYTE,
-        valid_range: WrappingRange { start: 5, end: 4 },
-    };
-    assert!(rt; turned.is_always_valid(&dl));
-    let gap = Scalar::Initialized {
-        value: BYTE,
-        valid_range: WrappingRange { start: 5, end: 3 },
-    };
-    assert!(rt; !gap.is_always_valid(&dl));
+    assert!(rt; union.size(&dl) == Size::from_bytes(8) && union.default_align(&dl) == Align::FOUR);
+    assert!(rt; union.valid_range(&dl) == full && union.is_always_valid(&dl));
+    assert!(rt; scalar(BYTE, 5, 4).is_always_valid(&dl));
+    assert!(rt; !scalar(BYTE, 5, 3).is_always_valid(&dl));
     Ok(())
 }
 
@@ -98,39 +106,33 @@ fn laid(scalar: Scalar, size: u64, align: Align, has_niche: bool, seed: u64) -> 
     }
 }
 
+/// Whether the scalar has the wanted layout, which is lawful.
+fn has_layout(dl: &TargetDataLayout, scalar: Scalar, wanted: &Layout) -> bool
+    requires data_layout { IsLawfulDataLayout dl.now }
+    requires scalar { IsReadable dl.now scalar }
+{
+    let found: Layout = LayoutData::scalar(&dl, scalar);
+    found == *wanted && found.is_lawful(dl)
+}
+
 #[test]
 fn bytes_and_words_have_layouts(rt: HostRuntime) -> Result<(), Fail> {
     let dl = TargetDataLayout::default_in(rt.alloc())?;
     let truth = scalar(BYTE, 0, 1);
+    let wanted = laid(truth, 1, Align::ONE, true, 0x0001_0002_0000_0001);
+    assert!(rt; has_layout(&dl, truth, &wanted));
     let turned = scalar(BYTE, 5, 4);
+    let wanted = laid(turned, 1, Align::ONE, false, 0x0009_0002_0000_0001);
+    assert!(rt; has_layout(&dl, turned, &wanted));
     let every = scalar(BYTE, 0, 255);
+    let wanted = laid(every, 1, Align::ONE, false, 0x00FF_0002_0000_0001);
+    assert!(rt; has_layout(&dl, every, &wanted));
     let shared = Scalar::Union { value: BYTE };
+    let wanted = laid(shared, 1, Align::ONE, false, 0x00FF_0002_0000_0001);
+    assert!(rt; has_layout(&dl, shared, &wanted));
     let character = scalar(Primitive::Int(Integer::I32, false), 0, 0x10_FFFF);
-    for (found, wanted) in [
-        (
-            LayoutData::scalar(&dl, truth),
-            laid(truth, 1, Align::ONE, true, 0x0001_0002_0000_0001),
-        ),
-        (
-            LayoutData::scalar(&dl, turned),
-            laid(turned, 1, Align::ONE, false, 0x0009_0002_0000_0001),
-        ),
-        (
-            LayoutData::scalar(&dl, every),
-            laid(every, 1, Align::ONE, false, 0x00FF_0002_0000_0001),
-        ),
-        (
-            LayoutData::scalar(&dl, shared),
-            laid(shared, 1, Align::ONE, false, 0x00FF_0002_0000_0001),
-        ),
-        (
-            LayoutData::scalar(&dl, character),
-            laid(character, 4, Align::FOUR, true, 0xFFFF_0002_0000_0014),
-        ),
-    ] {
-        assert!(rt; found == wanted);
-        assert!(rt; found.is_lawful(&dl));
-    }
+    let wanted = laid(character, 4, Align::FOUR, true, 0xFFFF_0002_0000_0014);
+    assert!(rt; has_layout(&dl, character, &wanted));
     Ok(())
 }
 
@@ -140,16 +142,13 @@ fn floats_and_pointers_have_layouts(rt: HostRuntime) -> Result<(), Fail> {
     let pointer = Primitive::Pointer(AddressSpace::ZERO);
     let most = 0xFFFF_FFFF_FFFF_FFFF;
     let number = scalar(Primitive::Float(Float::F64), 0, most);
-    let layout = LayoutData::scalar(&dl, number);
     let wanted = laid(number, 8, Align::EIGHT, false, 0x0000_0003_0000_0007);
-    assert!(rt; layout == wanted && layout.is_lawful(&dl));
+    assert!(rt; has_layout(&dl, number, &wanted));
     let address = scalar(pointer, 0, most);
-    let layout = LayoutData::scalar(&dl, address);
     let wanted = laid(address, 8, Align::EIGHT, false, 0x0000_0004_0000_0007);
-    assert!(rt; layout == wanted && layout.is_lawful(&dl));
+    assert!(rt; has_layout(&dl, address, &wanted));
     let reference = scalar(pointer, 1, most);
-    let layout = LayoutData::scalar(&dl, reference);
     let wanted = laid(reference, 8, Align::EIGHT, true, 0x0001_0004_0000_0007);
-    assert!(rt; layout == wanted && layout.is_lawful(&dl));
+    assert!(rt; has_layout(&dl, reference, &wanted));
     Ok(())
 }

@@ -1,17 +1,41 @@
 //! Relations between indices, sets of indices, and sets of bytes.
 
+ghost use Rattle.std.specs.Prelude.{◌≡◌, IfOk};
+ghost use Rattle.abi_index.specs.Relation.{row_count, column_count};
+
 use abi_index::{BitMatrix, DenseBitSet, FieldIdx, RangeSet, VariantIdx};
+use std::alloc::{AllocError, Global};
 use std::test::Fail;
 
 #[test]
-fn relations_have_the_entries_put_in(rt: HostRuntime) -> Result<(), Fail> {
+fn entries_are_new_once(rt: HostRuntime) -> Result<(), Fail> {
     let mut clashes: BitMatrix<VariantIdx, FieldIdx> = BitMatrix::new(rt.alloc(), 3, 4)?;
     let (second, third) = (VariantIdx::from_u32(1), VariantIdx::from_u32(2));
     assert!(rt; clashes.insert(second, FieldIdx::from_u32(2))?);
     assert!(rt; clashes.insert(second, FieldIdx::from_u32(0))?);
     assert!(rt; !clashes.insert(second, FieldIdx::from_u32(2))?);
     assert!(rt; clashes.insert(third, FieldIdx::from_u32(3))?);
-    for (row, column, related) in [
+    Ok(())
+}
+
+/// A relation between three variants and four fields, with entries.
+fn clashes(alloc: Global) -> Result<BitMatrix<VariantIdx, FieldIdx>, AllocError>
+    ensures rows { IfOk result (λ clashes. row_count clashes ≡ 3) }
+    ensures columns { IfOk result (λ clashes. column_count clashes ≡ 4) }
+{
+    let mut clashes = BitMatrix::new(alloc, 3, 4)?;
+    let (second, third) = (VariantIdx::from_u32(1), VariantIdx::from_u32(2));
+    let _new = clashes.insert(second, FieldIdx::from_u32(2))?;
+    let _new = clashes.insert(second, FieldIdx::from_u32(0))?;
+    let _old = clashes.insert(second, FieldIdx::from_u32(2))?;
+    let _new = clashes.insert(third, FieldIdx::from_u32(3))?;
+    Ok(clashes)
+}
+
+#[test]
+fn relations_have_the_entries_put_in(rt: HostRuntime) -> Result<(), Fail> {
+    let clashes = clashes(rt.alloc())?;
+    for &(row, column, related) in &[
         (0, 0, false),
         (1, 0, true),
         (1, 1, false),
@@ -21,33 +45,49 @@ fn relations_have_the_entries_put_in(rt: HostRuntime) -> Result<(), Fail> {
     ] {
         assert!(rt; row < 3 && column < 4);
         let found = clashes.contains(VariantIdx::from_u32(row), FieldIdx::from_u32(column));
-        assert_eq!(rt; found, related, "row {row}, column {column}");
+        assert!(rt; found == related, "row {row}, column {column}");
     }
-    assert_eq!(rt; (clashes.count(second), clashes.count(third)), (2, 1));
-    let mut columns = clashes.iter(second);
-    assert_eq!(rt; columns.next(), Some(FieldIdx::from_u32(0)));
-    assert_eq!(rt; columns.next(), Some(FieldIdx::from_u32(2)));
-    assert_eq!(rt; columns.next(), None);
     Ok(())
 }
 
 #[test]
-fn sets_have_the_members_put_in(rt: HostRuntime) -> Result<(), Fail> {
+fn columns_of_rows_ascend(rt: HostRuntime) -> Result<(), Fail> {
+    let clashes = clashes(rt.alloc())?;
+    let (second, third) = (VariantIdx::from_u32(1), VariantIdx::from_u32(2));
+    assert!(rt; clashes.count(second) == 2 && clashes.count(third) == 1);
+    let mut columns = clashes.iter(second);
+    assert!(rt; columns.next() == Some(FieldIdx::from_u32(0)));
+    assert!(rt; columns.next() == Some(FieldIdx::from_u32(2)));
+    assert!(rt; columns.next() == None);
+    Ok(())
+}
+
+#[test]
+fn members_are_new_once(rt: HostRuntime) -> Result<(), Fail> {
     let mut set: DenseBitSet<FieldIdx> = DenseBitSet::new_empty(rt.alloc(), 5)?;
     assert!(rt; set.insert(FieldIdx::from_u32(4)));
     assert!(rt; set.insert(FieldIdx::from_u32(1)));
     assert!(rt; !set.insert(FieldIdx::from_u32(4)));
-    for (item, is_member) in [(0, false), (1, true), (3, false), (4, true)] {
+    for &(item, is_member) in &[(0, false), (1, true), (3, false), (4, true)] {
         assert!(rt; item < 5);
-        assert_eq!(rt; set.contains(FieldIdx::from_u32(item)), is_member, "{item}");
+        let found = set.contains(FieldIdx::from_u32(item));
+        assert!(rt; found == is_member, "{item}");
     }
-    assert_eq!(rt; set.count(), 2);
+    Ok(())
+}
+
+#[test]
+fn members_ascend(rt: HostRuntime) -> Result<(), Fail> {
+    let mut set: DenseBitSet<FieldIdx> = DenseBitSet::new_empty(rt.alloc(), 5)?;
+    let _new = set.insert(FieldIdx::from_u32(4));
+    let _new = set.insert(FieldIdx::from_u32(1));
+    assert!(rt; set.count() == 2);
     let mut members = set.iter();
-    assert_eq!(rt; members.next(), Some(FieldIdx::from_u32(1)));
-    assert_eq!(rt; members.next(), Some(FieldIdx::from_u32(4)));
-    assert_eq!(rt; members.next(), None);
+    assert!(rt; members.next() == Some(FieldIdx::from_u32(1)));
+    assert!(rt; members.next() == Some(FieldIdx::from_u32(4)));
+    assert!(rt; members.next() == None);
     set.insert_all();
-    assert_eq!(rt; set.count(), 5);
+    assert!(rt; set.count() == 5);
     Ok(())
 }
 
@@ -56,7 +96,7 @@ fn runs_of_bytes_are_joined_where_they_meet(rt: HostRuntime) -> Result<(), Fail>
     let mut bytes = RangeSet::new(rt.alloc());
     assert!(rt; bytes.as_slice().is_empty());
     // What is put in, as its offset and its size, and the runs that there are then.
-    for (offset, size, runs) in [
+    for &(offset, size, runs) in &[
         (4, 4, [(4, 4)].as_slice()),
         (0, 2, &[(0, 2), (4, 4)]),
         (10, 0, &[(0, 2), (4, 4)]),
@@ -70,7 +110,7 @@ fn runs_of_bytes_are_joined_where_they_meet(rt: HostRuntime) -> Result<(), Fail>
     ] {
         assert!(rt; offset < 100 && size < 100);
         bytes.add_range(offset, size)?;
-        assert_eq!(rt; bytes.as_slice(), runs, "{size} bytes at {offset}");
+        assert!(rt; bytes.as_slice() == runs, "{size} bytes at {offset}");
     }
     Ok(())
 }
