@@ -2,7 +2,7 @@
 
 use crate::data_layout_strings::{aligns_as, is, parse};
 use abi_base::{AddressSpace, Align, Endian, Integer, Size, TargetDataLayout, VectorAligns};
-use std::alloc::Global;
+use std::alloc::{AllocError, Global};
 use std::test::Fail;
 
 /// Whether there is one space, with pointers of eight bytes, and the least C enum is of 32 bits.
@@ -72,19 +72,32 @@ fn each_law_is_asked(rt: HostRuntime) {
     }
 }
 
+/// Whether the default data layout is lawful with this alignment of lists of fields.
+fn is_lawful_for_lists(alloc: Global, align: Align) -> Result<bool, AllocError> {
+    let mut dl = TargetDataLayout::default_in(alloc)?;
+    dl.aggregate_align = align;
+    Ok(dl.is_lawful())
+}
+
+/// Whether the default data layout is lawful with this one alignment of vectors of 8 bytes; none where it isn't listed.
+fn is_lawful_for_vectors(alloc: Global, align: Align) -> Result<Option<bool>, AllocError> {
+    let mut entries = Vec::new(alloc);
+    entries.push((Size::from_bytes(8), align))?;
+    let mut dl = TargetDataLayout::default_in(alloc)?;
+    dl.vector_align = VectorAligns::from(entries);
+    if dl.vector_align.get(Size::from_bytes(8)) == Some(align) {
+        Ok(Some(dl.is_lawful()))
+    } else {
+        Ok(None)
+    }
+}
+
 #[test]
 fn alignments_above_the_limit_are_unlawful(rt: HostRuntime) -> Result<(), Fail> {
     let above = Align::max_aligned_factor(Size::from_bytes(1 << 30));
-    let mut dl = TargetDataLayout::default_in(rt.alloc())?;
-    dl.aggregate_align = above;
-    assert!(rt; !dl.is_lawful(), "lists");
-    dl.aggregate_align = Align::MAX;
-    assert!(rt; dl.is_lawful(), "lists");
-    let mut entries = Vec::new(rt.alloc());
-    entries.push((Size::from_bytes(8), above))?;
-    dl.vector_align = VectorAligns::from(entries);
-    assert!(rt; dl.vector_align.get(Size::from_bytes(8)) == Some(above));
-    assert!(rt; !dl.is_lawful(), "vectors");
+    assert!(rt; !is_lawful_for_lists(rt.alloc(), above)?);
+    assert!(rt; is_lawful_for_lists(rt.alloc(), Align::MAX)?);
+    assert!(rt; is_lawful_for_vectors(rt.alloc(), above)? == Some(false));
     Ok(())
 }
 

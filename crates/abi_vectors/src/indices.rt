@@ -83,30 +83,40 @@ const BYTE: Scalar = Scalar::Union {
     value: Primitive::Int(Integer::I8, false),
 };
 
-#[test]
-fn types_of_a_caller_are_taken(rt: HostRuntime) -> Result<(), Fail> {
-    let dl = TargetDataLayout::default_in(rt.alloc())?;
-    let pair: LayoutData<Place, Place> = LayoutData::scalar_pair(rt.alloc(), &dl, BYTE, WORD)?;
-    assert!(rt; pair.fields.count() == 2 && pair.fields.offset(1) == Size::from_bytes(4));
-    assert!(rt; pair.is_variant_uninhabited(Place { number: 1 }));
-    let places: Vec<usize> = pair
-        .fields
-        .index_by_increasing_offset()
-        .collect(rt.alloc())?;
-    assert!(rt; places.as_slice() == [0, 1].as_slice());
-    Ok(())
+/// Whether a pair's fields and variants are named by the caller's type.
+fn pair_is_named(alloc: Global) -> Result<bool, AllocError> {
+    let dl = TargetDataLayout::default_in(alloc)?;
+    let pair: LayoutData<Place, Place> = LayoutData::scalar_pair(alloc, &dl, BYTE, WORD)?;
+    let places: Vec<usize> = pair.fields.index_by_increasing_offset().collect(alloc)?;
+    Ok(
+        pair.fields.count() == 2
+            && pair.fields.offset(1) == Size::from_bytes(4)
+            && places.as_slice() == [0, 1].as_slice()
+            && pair.is_variant_uninhabited(Place { number: 1 }),
+    )
 }
 
 #[test]
-fn handles_of_a_caller_are_taken(rt: HostRuntime) -> Result<(), Fail> {
-    let dl = TargetDataLayout::default_in(rt.alloc())?;
-    let pair: LayoutData<Place, Place> = LayoutData::scalar_pair(rt.alloc(), &dl, BYTE, WORD)?;
+fn types_of_a_caller_are_taken(rt: HostRuntime) -> Result<(), Fail> {
+    assert!(rt; pair_is_named(rt.alloc())?);
+    Ok(())
+}
+
+/// Whether the size is read through a caller's handle, and through a reference.
+fn pair_is_lent(alloc: Global) -> Result<bool, AllocError> {
+    let dl = TargetDataLayout::default_in(alloc)?;
+    let pair: LayoutData<Place, Place> = LayoutData::scalar_pair(alloc, &dl, BYTE, WORD)?;
     let named = Named {
         layout: &pair,
         name: "pair",
     };
-    assert!(rt; size_of(&named) == Size::from_bytes(8), "{}", named.name);
-    assert!(rt; size_of(&&pair) == Size::from_bytes(8));
+    let size = Size::from_bytes(8);
+    Ok(named.name == "pair" && size_of(&named) == size && size_of(&&pair) == size)
+}
+
+#[test]
+fn handles_of_a_caller_are_taken(rt: HostRuntime) -> Result<(), Fail> {
+    assert!(rt; pair_is_lent(rt.alloc())?);
     Ok(())
 }
 
@@ -121,10 +131,17 @@ fn three(alloc: Global) -> Result<IndexVec<FieldIdx, u8>, AllocError>
     Ok(list)
 }
 
+/// Whether the list is equal to its copy.
+fn is_copied(alloc: Global) -> Result<bool, AllocError> {
+    let list = three(alloc)?;
+    let copy = list.try_clone(alloc)?;
+    Ok(copy == list)
+}
+
 #[test]
 fn lists_are_named_by_indices(rt: HostRuntime) -> Result<(), Fail> {
+    assert!(rt; is_copied(rt.alloc())?);
     let list = three(rt.alloc())?;
-    assert!(rt; list.try_clone(rt.alloc())? == list);
     assert!(rt; list.next_index() == FieldIdx::from_u32(3) && list.iter().count() == 3);
     assert!(rt; list.get(FieldIdx::ONE).copied() == Some(6));
     assert!(rt; list.get(FieldIdx::from_u32(3)).copied() == None);
@@ -150,11 +167,21 @@ fn indices_of_lists_ascend(rt: HostRuntime) -> Result<(), Fail> {
     Ok(())
 }
 
+/// The list, written.
+fn text_of_three(alloc: Global) -> Result<String, AllocError> {
+    let list = three(alloc)?;
+    format!(in alloc; "{list:?}")
+}
+
 #[test]
-fn lists_are_written_and_grow(rt: HostRuntime) -> Result<(), Fail> {
+fn lists_are_written(rt: HostRuntime) -> Result<(), Fail> {
+    assert!(rt; text_of_three(rt.alloc())?.as_str() == "[5, 6, 9]");
+    Ok(())
+}
+
+#[test]
+fn lists_grow(rt: HostRuntime) -> Result<(), Fail> {
     let mut list = three(rt.alloc())?;
-    let text = format!(in rt.alloc(); "{list:?}")?;
-    assert!(rt; text.as_str() == "[5, 6, 9]");
     assert!(rt; list.push(1)? == FieldIdx::from_u32(3));
     assert!(rt; list.as_slice().as_raw() == [5, 6, 9, 1].as_slice());
     Ok(())

@@ -1,7 +1,7 @@
 //! Layouts: those of types without parts and of two scalars, what they tell, and which ones are lawful.
 
 ghost use Rattle.std.specs.Prelude.{◌≡◌, IfOk, length};
-ghost use Rattle.abi_base.specs.DataLayout.{IsLawfulDataLayout};
+ghost use Rattle.abi_base.specs.DataLayout.{IsLawfulDataLayout, default_data_layout};
 ghost use Rattle.abi_scalar.specs.Order.{HasPlaceForEach};
 ghost use Rattle.abi_scalar.specs.Scalar.{IsReadable};
 ghost use Rattle.abi_scalar.specs.Variant.{variants_of};
@@ -132,6 +132,7 @@ fn pair_laid(
     align: Align,
     (offset, size): (u64, u64),
     niche: Option<Niche>,
+    seed: u64,
 ) -> Result<Layout, AllocError> {
     let view = BackendRepr::ScalarPair {
         a,
@@ -140,40 +141,39 @@ fn pair_laid(
     };
     Ok(LayoutData {
         fields: two_fields(alloc, offset)?,
+        randomization_seed: Hash64::new(seed),
         ..laid(align, size, view, niche)
     })
 }
 
-/// Whether two scalars have the wanted layout but for its seed, this seed, and their fields in source order.
-fn pair_is(
-    alloc: Global,
-    dl: &TargetDataLayout,
-    a: Scalar,
-    b: Scalar,
-    seed: u64,
-    wanted: Layout,
-) -> Result<bool, AllocError>
-    requires data_layout { IsLawfulDataLayout dl.now }
-    requires first { IsReadable dl.now a }
-    requires second { IsReadable dl.now b }
+/// Whether two scalars have the wanted layout, with the fields in source order.
+fn pair_is(alloc: Global, a: Scalar, b: Scalar, wanted: &Layout) -> Result<bool, AllocError>
+    requires first { IsReadable default_data_layout a }
+    requires second { IsReadable default_data_layout b }
 {
-    let mut wanted = wanted;
-    wanted.randomization_seed = Hash64::new(seed);
+    let dl = TargetDataLayout::default_in(alloc)?;
     let found: Layout = LayoutData::scalar_pair(alloc, &dl, a, b)?;
-    Ok(same(&found, &wanted) && has_places(alloc, &found.fields, &[0, 1])?)
+    Ok(same(&found, wanted) && has_places(alloc, &found.fields, &[0, 1])?)
+}
+
+/// Whether a truth and a word, and a shared byte and a truth, have their layouts.
+fn pairs_with_a_truth(alloc: Global) -> Result<bool, AllocError> {
+    let first = pair_laid(alloc, (TRUTH, WORD), Align::FOUR, (4, 8), bool_at(0), 5)?;
+    let second = pair_laid(alloc, (SHARED, TRUTH), Align::ONE, (1, 2), bool_at(1), 2)?;
+    Ok(pair_is(alloc, TRUTH, WORD, &first)? && pair_is(alloc, SHARED, TRUTH, &second)?)
+}
+
+/// Whether two truths, and a word and a shared byte, have their layouts.
+fn pairs_alike(alloc: Global) -> Result<bool, AllocError> {
+    let first = pair_laid(alloc, (TRUTH, TRUTH), Align::ONE, (1, 2), bool_at(0), 2)?;
+    let second = pair_laid(alloc, (WORD, SHARED), Align::FOUR, (4, 8), None, 5)?;
+    Ok(pair_is(alloc, TRUTH, TRUTH, &first)? && pair_is(alloc, WORD, SHARED, &second)?)
 }
 
 #[test]
 fn pairs_have_layouts(rt: HostRuntime) -> Result<(), Fail> {
-    let dl = TargetDataLayout::default_in(rt.alloc())?;
-    let wanted = pair_laid(rt.alloc(), (TRUTH, WORD), Align::FOUR, (4, 8), bool_at(0))?;
-    assert!(rt; pair_is(rt.alloc(), &dl, TRUTH, WORD, 5, wanted)?);
-    let wanted = pair_laid(rt.alloc(), (SHARED, TRUTH), Align::ONE, (1, 2), bool_at(1))?;
-    assert!(rt; pair_is(rt.alloc(), &dl, SHARED, TRUTH, 2, wanted)?);
-    let wanted = pair_laid(rt.alloc(), (TRUTH, TRUTH), Align::ONE, (1, 2), bool_at(0))?;
-    assert!(rt; pair_is(rt.alloc(), &dl, TRUTH, TRUTH, 2, wanted)?);
-    let wanted = pair_laid(rt.alloc(), (WORD, SHARED), Align::FOUR, (4, 8), None)?;
-    assert!(rt; pair_is(rt.alloc(), &dl, WORD, SHARED, 5, wanted)?);
+    assert!(rt; pairs_with_a_truth(rt.alloc())?);
+    assert!(rt; pairs_alike(rt.alloc())?);
     Ok(())
 }
 
@@ -233,12 +233,18 @@ fn tells(
 #[test]
 fn layouts_without_parts_tell_what_they_are(rt: HostRuntime) -> Result<(), Fail> {
     let dl = TargetDataLayout::default_in(rt.alloc())?;
-    let two = VariantIdx::from_u32(2);
     let inhabited = [false, false, true];
     let layout = LayoutData::unit(rt.alloc(), &dl, true);
     assert!(rt; tells(rt.alloc(), &dl, layout, true, true, inhabited)?);
     let layout = LayoutData::unit(rt.alloc(), &dl, false);
     assert!(rt; tells(rt.alloc(), &dl, layout, false, false, inhabited)?);
+    Ok(())
+}
+
+#[test]
+fn layouts_without_values_tell_what_they_are(rt: HostRuntime) -> Result<(), Fail> {
+    let dl = TargetDataLayout::default_in(rt.alloc())?;
+    let two = VariantIdx::from_u32(2);
     let uninhabited = [true, true, true];
     let layout = LayoutData::never_type(&dl);
     assert!(rt; tells(rt.alloc(), &dl, layout, true, true, uninhabited)?);
@@ -249,15 +255,21 @@ fn layouts_without_parts_tell_what_they_are(rt: HostRuntime) -> Result<(), Fail>
     Ok(())
 }
 
+/// The fields of an uninhabited variant with so many.
+fn uninhabited_fields(alloc: Global, count: usize) -> Result<FieldsShape<FieldIdx>, AllocError>
+    ensures { IfOk result HasPlaceForEach }
+{
+    let dl = TargetDataLayout::default_in(alloc)?;
+    let two = VariantIdx::from_u32(2);
+    let layout: Layout = LayoutData::uninhabited_variant(alloc, &dl, two, count);
+    Ok(layout.fields)
+}
+
 #[test]
 fn uninhabited_variants_have_fields(rt: HostRuntime) -> Result<(), Fail> {
-    let dl = TargetDataLayout::default_in(rt.alloc())?;
-    let two = VariantIdx::from_u32(2);
-    let none: Layout = LayoutData::uninhabited_variant(rt.alloc(), &dl, two, 0);
-    assert!(rt; none.fields.count() == 0);
-    let three: Layout = LayoutData::uninhabited_variant(rt.alloc(), &dl, two, 3);
-    assert!(rt; three.fields.count() == 3);
-    assert!(rt; has_places(rt.alloc(), &three.fields, &[0, 1, 2])?);
+    assert!(rt; uninhabited_fields(rt.alloc(), 0)?.count() == 0);
+    let three = uninhabited_fields(rt.alloc(), 3)?;
+    assert!(rt; three.count() == 3 && has_places(rt.alloc(), &three, &[0, 1, 2])?);
     Ok(())
 }
 
@@ -371,6 +383,12 @@ fn variants_have_what_their_layouts_have(rt: HostRuntime) -> Result<(), Fail> {
     let unit: Layout = LayoutData::unit(rt.alloc(), &dl, true);
     let first = VariantLayout::from_layout(unit);
     assert!(rt; !first.is_uninhabited() && !first.has_fields() && first.size == Size::ZERO);
+    Ok(())
+}
+
+#[test]
+fn variants_have_the_fields_of_their_layouts(rt: HostRuntime) -> Result<(), Fail> {
+    let dl = TargetDataLayout::default_in(rt.alloc())?;
     let second = second_variant(rt.alloc(), &dl)?;
     assert!(rt; !second.is_uninhabited() && second.has_fields());
     assert!(rt; second.size == Size::from_bytes(8) && second.field_offsets.len() == 2);
@@ -379,14 +397,14 @@ fn variants_have_what_their_layouts_have(rt: HostRuntime) -> Result<(), Fail> {
 }
 
 /// A type of two variants, a unit and a variant with two fields.
-fn two_variants(alloc: Global, dl: &TargetDataLayout) -> Result<Layout, AllocError>
-    requires { IsLawfulDataLayout dl.now }
+fn two_variants(alloc: Global) -> Result<Layout, AllocError>
     ensures { IfOk result (λ parent. length (variants_of parent.variants) ≡ 2) }
 {
+    let dl = TargetDataLayout::default_in(alloc)?;
     let mut variants: IndexVec<VariantIdx, VariantLayout<FieldIdx>> = IndexVec::new(alloc);
     let unit: Layout = LayoutData::unit(alloc, &dl, true);
     let _first = variants.push(VariantLayout::from_layout(unit))?;
-    let _second = variants.push(second_variant(alloc, dl)?)?;
+    let _second = variants.push(second_variant(alloc, &dl)?)?;
     Ok(LayoutData {
         variants: Variants::Multiple {
             tag: TRUTH,
@@ -405,7 +423,7 @@ fn two_variants(alloc: Global, dl: &TargetDataLayout) -> Result<Layout, AllocErr
 
 /// The layout of the second of them.
 fn taken_out(alloc: Global) -> Result<Layout, AllocError> {
-    let pair = pair_laid(alloc, (TRUTH, WORD), Align::EIGHT, (4, 8), bool_at(0))?;
+    let pair = pair_laid(alloc, (TRUTH, WORD), Align::EIGHT, (4, 8), bool_at(0), 0)?;
     Ok(LayoutData {
         variants: Variants::Single {
             index: VariantIdx::from_u32(1),
@@ -417,27 +435,52 @@ fn taken_out(alloc: Global) -> Result<Layout, AllocError> {
     })
 }
 
+/// Whether the second variant of such a type is taken out as wanted.
+fn is_taken_out(alloc: Global, parent: &Layout) -> Result<bool, AllocError>
+    requires { length (variants_of parent.now.variants) ≡ 2 }
+{
+    let found = LayoutData::for_variant(alloc, parent, VariantIdx::from_u32(1))?;
+    let wanted = taken_out(alloc)?;
+    Ok(same(&found, &wanted))
+}
+
+/// Whether the variants are equal to their copy.
+fn are_copied(alloc: Global, parent: &Layout) -> Result<bool, AllocError> {
+    let copy = parent.variants.try_clone(alloc)?;
+    Ok(copy == parent.variants)
+}
+
 #[test]
 fn variants_are_taken_out(rt: HostRuntime) -> Result<(), Fail> {
-    let dl = TargetDataLayout::default_in(rt.alloc())?;
-    let parent = two_variants(rt.alloc(), &dl)?;
-    assert!(rt; parent.variants.try_clone(rt.alloc())? == parent.variants);
-    let found = LayoutData::for_variant(rt.alloc(), &parent, VariantIdx::from_u32(1))?;
-    assert!(rt; same(&found, &taken_out(rt.alloc())?));
+    let parent = two_variants(rt.alloc())?;
+    assert!(rt; are_copied(rt.alloc(), &parent)?);
+    assert!(rt; is_taken_out(rt.alloc(), &parent)?);
     Ok(())
+}
+
+/// Whether the fields of the shape have these places, in memory order.
+fn follow(alloc: Global, shape: FieldsShape<FieldIdx>, places: &[usize]) -> Result<bool, AllocError>
+    requires { HasPlaceForEach shape }
+{
+    has_places(alloc, &shape, places)
 }
 
 #[test]
 fn fields_follow_one_another_in_memory(rt: HostRuntime) -> Result<(), Fail> {
+    let stride = Size::from_bytes(4);
+    assert!(rt; follow(rt.alloc(), FieldsShape::Primitive, &[0])?);
+    let two = FieldsShape::Array { stride, count: 2 };
+    assert!(rt; follow(rt.alloc(), two, &[0, 1])?);
+    let none = FieldsShape::Array { stride, count: 0 };
+    assert!(rt; follow(rt.alloc(), none, &[])?);
+    Ok(())
+}
+
+#[test]
+fn fields_of_unions_follow_one_another(rt: HostRuntime) -> Result<(), Fail> {
     let three = FieldCount::new(3).ok_or("three fields")?;
     assert!(rt; three.get() == 3);
-    let stride = Size::from_bytes(4);
-    assert!(rt; has_places(rt.alloc(), &FieldsShape::Primitive, &[0])?);
-    assert!(rt; has_places(rt.alloc(), &FieldsShape::Union(three), &[0, 1, 2])?);
-    let shape = FieldsShape::Array { stride, count: 2 };
-    assert!(rt; has_places(rt.alloc(), &shape, &[0, 1])?);
-    let shape = FieldsShape::Array { stride, count: 0 };
-    assert!(rt; has_places(rt.alloc(), &shape, &[])?);
+    assert!(rt; follow(rt.alloc(), FieldsShape::Union(three), &[0, 1, 2])?);
     Ok(())
 }
 

@@ -158,6 +158,11 @@ fn of_wide(alloc: Global, values: Vec<u128>) -> Result<Option<(u128, u128)>, All
     Ok(found.map(|range| (range.start, range.end)))
 }
 
+/// Whether this is the least range of the bytes.
+fn is_least(alloc: Global, values: &[u8], want: Option<(u128, u128)>) -> Result<bool, AllocError> {
+    Ok(of_bytes(alloc, values)? == want)
+}
+
 #[test]
 fn least_ranges_are_found(rt: HostRuntime) -> Result<(), Fail> {
     for &(values, want) in &[
@@ -181,18 +186,31 @@ fn least_ranges_are_found(rt: HostRuntime) -> Result<(), Fail> {
         (b"\xc8\x32\x3c".as_slice(), Some((200, 60))),
         (b"\xc8\x32\x7d".as_slice(), Some((50, 200))),
     ] {
-        let found = of_bytes(rt.alloc(), values)?;
-        assert!(rt; found == want);
+        assert!(rt; is_least(rt.alloc(), values, want)?);
     }
     Ok(())
 }
 
+/// Whether the least ranges of some numbers of 2 bytes are found.
+fn are_found_of_words(alloc: Global) -> Result<bool, AllocError> {
+    Ok(
+        of_words(alloc, &[0, 255])? == Some((0, 255))
+            && of_words(alloc, &[0, 65_535])? == Some((65_535, 0)),
+    )
+}
+
+/// Whether the least ranges of some numbers of 4 bytes are found.
+fn are_found_of_doubles(alloc: Global) -> Result<bool, AllocError> {
+    Ok(
+        of_doubles(alloc, &[0, 65_535])? == Some((0, 65_535))
+            && of_doubles(alloc, &[0, u32::MAX])? == Some((4_294_967_295, 0)),
+    )
+}
+
 #[test]
 fn least_ranges_of_wider_numbers_are_found(rt: HostRuntime) -> Result<(), Fail> {
-    assert!(rt; of_words(rt.alloc(), &[0, 255])? == Some((0, 255)));
-    assert!(rt; of_words(rt.alloc(), &[0, 65_535])? == Some((65_535, 0)));
-    assert!(rt; of_doubles(rt.alloc(), &[0, 65_535])? == Some((0, 65_535)));
-    assert!(rt; of_doubles(rt.alloc(), &[0, u32::MAX])? == Some((4_294_967_295, 0)));
+    assert!(rt; are_found_of_words(rt.alloc())?);
+    assert!(rt; are_found_of_doubles(rt.alloc())?);
     assert!(rt; of_quads(rt.alloc(), &[0, 4_294_967_295])? == Some((0, 4_294_967_295)));
     Ok(())
 }
@@ -234,21 +252,36 @@ fn around(alloc: Global) -> Result<Vec<u128>, AllocError> {
     Ok(around)
 }
 
+/// The least range of the numbers below 128, and that of them and 255.
+fn of_low(alloc: Global) -> Result<[Option<(u128, u128)>; 2], AllocError> {
+    let mut low = low(alloc)?;
+    let first = of_bytes(alloc, low.as_slice())?;
+    low.push(255)?;
+    Ok([first, of_bytes(alloc, low.as_slice())?])
+}
+
+/// The least range of two numbers, 64 times each.
+fn of_ends(alloc: Global) -> Result<Option<(u128, u128)>, AllocError> {
+    let ends = ends(alloc)?;
+    of_bytes(alloc, ends.as_slice())
+}
+
+/// The least range of the powers of two.
+fn of_powers(alloc: Global) -> Result<Option<(u128, u128)>, AllocError> {
+    let powers = powers(alloc)?;
+    of_quads(alloc, powers.as_slice())
+}
+
 #[test]
 fn least_ranges_of_many_bytes_are_found(rt: HostRuntime) -> Result<(), Fail> {
-    let mut low = low(rt.alloc())?;
-    assert!(rt; of_bytes(rt.alloc(), low.as_slice())? == Some((0, 127)));
-    low.push(255)?;
-    assert!(rt; of_bytes(rt.alloc(), low.as_slice())? == Some((255, 127)));
+    assert!(rt; of_low(rt.alloc())? == [Some((0, 127)), Some((255, 127))]);
+    assert!(rt; of_ends(rt.alloc())? == Some((200, 50)));
     Ok(())
 }
 
 #[test]
 fn least_ranges_of_many_numbers_are_found(rt: HostRuntime) -> Result<(), Fail> {
-    let ends = ends(rt.alloc())?;
-    assert!(rt; of_bytes(rt.alloc(), ends.as_slice())? == Some((200, 50)));
-    let powers = powers(rt.alloc())?;
-    assert!(rt; of_quads(rt.alloc(), powers.as_slice())? == Some((1, 1 << 63)));
+    assert!(rt; of_powers(rt.alloc())? == Some((1, 1 << 63)));
     let found = of_wide(rt.alloc(), around(rt.alloc())?)?;
     assert!(rt; found == Some((100u128.wrapping_neg(), 100)));
     Ok(())

@@ -106,33 +106,35 @@ fn laid(scalar: Scalar, size: u64, align: Align, has_niche: bool, seed: u64) -> 
     }
 }
 
-/// Whether the scalar has the wanted layout, which is lawful.
-fn has_layout(dl: &TargetDataLayout, scalar: Scalar, wanted: &Layout) -> bool
+/// Whether the scalar has a layout of so many bytes, so aligned, with a niche or not and this seed, and it is lawful.
+fn has_layout(
+    dl: &TargetDataLayout,
+    scalar: Scalar,
+    size: u64,
+    align: Align,
+    has_niche: bool,
+    seed: u64,
+) -> bool
     requires data_layout { IsLawfulDataLayout dl.now }
     requires scalar { IsReadable dl.now scalar }
 {
     let found: Layout = LayoutData::scalar(&dl, scalar);
-    found == *wanted && found.is_lawful(dl)
+    found == laid(scalar, size, align, has_niche, seed) && found.is_lawful(dl)
 }
 
 #[test]
 fn bytes_and_words_have_layouts(rt: HostRuntime) -> Result<(), Fail> {
     let dl = TargetDataLayout::default_in(rt.alloc())?;
     let truth = scalar(BYTE, 0, 1);
-    let wanted = laid(truth, 1, Align::ONE, true, 0x0001_0002_0000_0001);
-    assert!(rt; has_layout(&dl, truth, &wanted));
+    assert!(rt; has_layout(&dl, truth, 1, Align::ONE, true, 0x0001_0002_0000_0001));
     let turned = scalar(BYTE, 5, 4);
-    let wanted = laid(turned, 1, Align::ONE, false, 0x0009_0002_0000_0001);
-    assert!(rt; has_layout(&dl, turned, &wanted));
+    assert!(rt; has_layout(&dl, turned, 1, Align::ONE, false, 0x0009_0002_0000_0001));
     let every = scalar(BYTE, 0, 255);
-    let wanted = laid(every, 1, Align::ONE, false, 0x00FF_0002_0000_0001);
-    assert!(rt; has_layout(&dl, every, &wanted));
+    assert!(rt; has_layout(&dl, every, 1, Align::ONE, false, 0x00FF_0002_0000_0001));
     let shared = Scalar::Union { value: BYTE };
-    let wanted = laid(shared, 1, Align::ONE, false, 0x00FF_0002_0000_0001);
-    assert!(rt; has_layout(&dl, shared, &wanted));
+    assert!(rt; has_layout(&dl, shared, 1, Align::ONE, false, 0x00FF_0002_0000_0001));
     let character = scalar(Primitive::Int(Integer::I32, false), 0, 0x10_FFFF);
-    let wanted = laid(character, 4, Align::FOUR, true, 0xFFFF_0002_0000_0014);
-    assert!(rt; has_layout(&dl, character, &wanted));
+    assert!(rt; has_layout(&dl, character, 4, Align::FOUR, true, 0xFFFF_0002_0000_0014));
     Ok(())
 }
 
@@ -142,13 +144,10 @@ fn floats_and_pointers_have_layouts(rt: HostRuntime) -> Result<(), Fail> {
     let pointer = Primitive::Pointer(AddressSpace::ZERO);
     let most = 0xFFFF_FFFF_FFFF_FFFF;
     let number = scalar(Primitive::Float(Float::F64), 0, most);
-    let wanted = laid(number, 8, Align::EIGHT, false, 0x0000_0003_0000_0007);
-    assert!(rt; has_layout(&dl, number, &wanted));
+    assert!(rt; has_layout(&dl, number, 8, Align::EIGHT, false, 0x0000_0003_0000_0007));
     let address = scalar(pointer, 0, most);
-    let wanted = laid(address, 8, Align::EIGHT, false, 0x0000_0004_0000_0007);
-    assert!(rt; has_layout(&dl, address, &wanted));
+    assert!(rt; has_layout(&dl, address, 8, Align::EIGHT, false, 0x0000_0004_0000_0007));
     let reference = scalar(pointer, 1, most);
-    let wanted = laid(reference, 8, Align::EIGHT, true, 0x0001_0004_0000_0007);
-    assert!(rt; has_layout(&dl, reference, &wanted));
+    assert!(rt; has_layout(&dl, reference, 8, Align::EIGHT, true, 0x0001_0004_0000_0007));
     Ok(())
 }

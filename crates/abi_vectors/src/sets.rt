@@ -7,14 +7,21 @@ use abi_index::{BitMatrix, DenseBitSet, FieldIdx, RangeSet, VariantIdx};
 use std::alloc::{AllocError, Global};
 use std::test::Fail;
 
+/// Whether each of some entries was new when it was put in.
+fn were_new(alloc: Global) -> Result<[bool; 4], AllocError> {
+    let mut clashes: BitMatrix<VariantIdx, FieldIdx> = BitMatrix::new(alloc, 3, 4)?;
+    let (second, third) = (VariantIdx::from_u32(1), VariantIdx::from_u32(2));
+    Ok([
+        clashes.insert(second, FieldIdx::from_u32(2))?,
+        clashes.insert(second, FieldIdx::from_u32(0))?,
+        clashes.insert(second, FieldIdx::from_u32(2))?,
+        clashes.insert(third, FieldIdx::from_u32(3))?,
+    ])
+}
+
 #[test]
 fn entries_are_new_once(rt: HostRuntime) -> Result<(), Fail> {
-    let mut clashes: BitMatrix<VariantIdx, FieldIdx> = BitMatrix::new(rt.alloc(), 3, 4)?;
-    let (second, third) = (VariantIdx::from_u32(1), VariantIdx::from_u32(2));
-    assert!(rt; clashes.insert(second, FieldIdx::from_u32(2))?);
-    assert!(rt; clashes.insert(second, FieldIdx::from_u32(0))?);
-    assert!(rt; !clashes.insert(second, FieldIdx::from_u32(2))?);
-    assert!(rt; clashes.insert(third, FieldIdx::from_u32(3))?);
+    assert!(rt; were_new(rt.alloc())? == [true, true, false, true]);
     Ok(())
 }
 

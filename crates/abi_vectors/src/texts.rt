@@ -21,6 +21,17 @@ impl Display for Plain {
     }
 }
 
+/// Whether the refusal has this text, and is this one without what it tells.
+fn is_told(
+    alloc: Global,
+    refusal: LayoutCalculatorError<u8>,
+    bare: LayoutCalculatorError<()>,
+    text: &str,
+) -> Result<bool, AllocError> {
+    let written = format!(in alloc; "{}", Plain(refusal))?;
+    Ok(written.as_str() == text && refusal.without_payload() == bare)
+}
+
 #[test]
 fn refusals_have_texts(rt: HostRuntime) -> Result<(), Fail> {
     let simd = "invalid simd type definition";
@@ -66,9 +77,7 @@ fn refusals_have_texts(rt: HostRuntime) -> Result<(), Fail> {
             "out of memory",
         ),
     ] {
-        let text = format!(in rt.alloc(); "{}", Plain(refusal))?;
-        assert!(rt; text.as_str() == wanted);
-        assert!(rt; refusal.without_payload() == bare, "{wanted}");
+        assert!(rt; is_told(rt.alloc(), refusal, bare, wanted)?, "{wanted}");
     }
     Ok(())
 }
@@ -127,38 +136,58 @@ fn primitives_have_texts(rt: HostRuntime) -> Result<(), Fail> {
     Ok(())
 }
 
-#[test]
-fn values_have_texts(rt: HostRuntime) -> Result<(), Fail> {
-    let text = format!(in rt.alloc();
+/// A size and alignments.
+fn text_of_sizes(alloc: Global) -> Result<String, AllocError> {
+    format!(in alloc;
         "{:?} {:?} {:?}",
         Size::from_bytes(4),
         Align::FOUR,
         AbiAlign::new(Align::EIGHT)
-    )?;
-    assert!(rt; text.as_str() == "Size(4 bytes) Align(4 bytes) Align(8 bytes)");
-    let plain = WrappingRange { start: 0, end: 1 };
-    let wrapping = WrappingRange { start: 255, end: 1 };
-    let text = format!(in rt.alloc(); "{plain:?}, {wrapping:?}")?;
-    assert!(rt; text.as_str() == "0..=1, (..=1) | (255..)");
-    Ok(())
+    )
 }
 
-#[test]
-fn errors_have_texts(rt: HostRuntime) -> Result<(), Fail> {
+/// A range, and one that wraps round.
+fn text_of_ranges(alloc: Global) -> Result<String, AllocError> {
+    let plain = WrappingRange { start: 0, end: 1 };
+    let wrapping = WrappingRange { start: 255, end: 1 };
+    format!(in alloc; "{plain:?}, {wrapping:?}")
+}
+
+/// Bytes that are no alignments.
+fn text_of_alignments(alloc: Global) -> Result<String, AllocError> {
     let not_power = AlignFromBytesError::NotPowerOfTwo(3);
     let too_large = AlignFromBytesError::TooLarge(1 << 30);
-    let text = format!(in rt.alloc(); "{not_power}, {not_power:?}, {too_large}")?;
-    assert!(rt;
-        text.as_str() == "3 is not a power of 2, 3 is not a power of 2, 1073741824 is too large"
-    );
-    let text = format!(in rt.alloc();
+    format!(in alloc; "{not_power}, {not_power:?}, {too_large}")
+}
+
+/// Byte orders, texts that are none, and a size that no integer has.
+fn text_of_byte_orders(alloc: Global) -> Result<String, AllocError> {
+    format!(in alloc;
         "{:?} {:?} {}: {}; {}",
         Endian::Little,
         Endian::Big,
         UnknownEndian,
         UnknownEndianText { text: "x" },
         NoSuchInteger(24)
-    )?;
+    )
+}
+
+#[test]
+fn values_have_texts(rt: HostRuntime) -> Result<(), Fail> {
+    let text = text_of_sizes(rt.alloc())?;
+    assert!(rt; text.as_str() == "Size(4 bytes) Align(4 bytes) Align(8 bytes)");
+    let text = text_of_ranges(rt.alloc())?;
+    assert!(rt; text.as_str() == "0..=1, (..=1) | (255..)");
+    Ok(())
+}
+
+#[test]
+fn errors_have_texts(rt: HostRuntime) -> Result<(), Fail> {
+    let text = text_of_alignments(rt.alloc())?;
+    assert!(rt;
+        text.as_str() == "3 is not a power of 2, 3 is not a power of 2, 1073741824 is too large"
+    );
+    let text = text_of_byte_orders(rt.alloc())?;
     assert!(rt;
         text.as_str()
             == "little big unknown endian: unknown endian: \"x\"; rust does not support integers with 24 bits"
@@ -166,17 +195,22 @@ fn errors_have_texts(rt: HostRuntime) -> Result<(), Fail> {
     Ok(())
 }
 
+/// The layout of a type with no values.
+fn text_of_never(alloc: Global) -> Result<String, AllocError> {
+    let dl = TargetDataLayout::default_in(alloc)?;
+    let never: LayoutData<FieldIdx, VariantIdx> = LayoutData::never_type(&dl);
+    format!(in alloc; "{never:?}")
+}
+
 #[test]
 fn layouts_are_written_part_by_part(rt: HostRuntime) -> Result<(), Fail> {
-    let dl = TargetDataLayout::default_in(rt.alloc())?;
-    let never: LayoutData<FieldIdx, VariantIdx> = LayoutData::never_type(&dl);
-    let text = format!(in rt.alloc(); "{never:?}")?;
+    let text = text_of_never(rt.alloc())?;
     assert!(rt;
         text.as_str()
             == "Layout { size: Size(0 bytes), align: Align(1 bytes), backend_repr: Memory { sized: true }, \
-         fields: Primitive, largest_niche: None, uninhabited: true, variants: Empty, \
-         max_repr_align: None, unadjusted_abi_align: Align(1 bytes), repr_c: false, \
-         randomization_seed: Hash64 { inner: 0 } }"
+                fields: Primitive, largest_niche: None, uninhabited: true, variants: Empty, \
+                max_repr_align: None, unadjusted_abi_align: Align(1 bytes), repr_c: false, \
+                randomization_seed: Hash64 { inner: 0 } }"
     );
     Ok(())
 }
