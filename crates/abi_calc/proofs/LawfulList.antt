@@ -37,7 +37,7 @@ second_of_and true b e = e
 second_of_and false b e = cc
 
 -- what holds of both branches, the first where the test holds
-by_test : (b : Bool) {A : Type 0} (P : A → Type 0) (x y : A) → (b ≡ true → P x) → P y → P (if b then x else y)
+pub by_test : (b : Bool) {A : Type 0} (P : A → Type 0) (x y : A) → (b ≡ true → P x) → P y → P (if b then x else y)
 by_test true P x y hx hy = hx refl
 by_test false P x y hx hy = hy
 
@@ -58,7 +58,7 @@ one_lawful dl fixed size align offset p law =
     (λ e. let same : size ≡ p.size = eqb-true size p.size (second_of_and ((offset == 0) && (align == p.align)) (size == p.size) e) in
     rw same (kept_lawful dl fixed p.size p.view law.view)) tt
 
-pair_lawful : (dl : TargetDataLayout) (size align low high : ℕ) (a b : Scalar) → IsLawfulView dl (scalar_size dl a) (OneScalar a) → IsLawfulView dl (scalar_size dl b) (OneScalar b)
+pub pair_lawful : (dl : TargetDataLayout) (size align low high : ℕ) (a b : Scalar) → IsLawfulView dl (scalar_size dl a) (OneScalar a) → IsLawfulView dl (scalar_size dl b) (OneScalar b)
     → IsLawfulView dl size (pair_view dl size align low a high b)
 pair_lawful dl size align low high a b ha hb =
     by_test ((low == 0) && (high == second_offset dl a b) && (align == pair_align dl a b) && (size == pair_size dl a b)) (IsLawfulView dl size) (ScalarPair a b (second_offset dl a b)) (Memory true)

@@ -20,7 +20,8 @@ use Rattle.abi_scalar.specs.declared.repr.ReprOptions.{ReprOptions}
 use Rattle.abi_scalar.specs.Lawful.{IsLawfulLayout, IsLawfulView}
 use Rattle.abi_scalar.specs.Scalar.{IsLawfulScalar, primitive_of, scalar_size}
 use Rattle.abi_scalar.specs.View.{union_view}
-use Rattle.abi_calc.specs.Union.{CountsForView, HasView, IsAlignedFor, IsCommonView, IsUnionView, KeepsView, greatest, greatest_align, greatest_size, raised_to, unraised_align, union_align, union_size}
+use Rattle.abi_calc.specs.Fields.{greatest, greatest_align, greatest_size}
+use Rattle.abi_calc.specs.Union.{CountsForView, HasView, IsAlignedFor, IsCommonView, IsUnionView, KeepsView, raised_to, unraised_align, union_align, union_size}
 use Rattle.abi_calc.specs.Placement.{own_align}
 use Rattle.abi_calc.proofs.Lawful.{bound_small}
 use Rattle.abi_calc.proofs.Least.{cut_small}

@@ -18,7 +18,8 @@ use Rattle.abi_scalar.specs.Lawful.{IsLawfulLayout, IsLawfulView}
 use Rattle.abi_scalar.specs.Repr.{is_c}
 use Rattle.abi_scalar.specs.Scalar.{primitive_of}
 use Rattle.abi_scalar.specs.View.{IsSameUpToValidity, union_view}
-use Rattle.abi_calc.specs.Union.{CountsForView, HasView, IsAlignedFor, IsCommonView, IsUnionView, KeepsView, KnowsScalarsOf, greatest, union_align}
+use Rattle.abi_calc.specs.Fields.{greatest}
+use Rattle.abi_calc.specs.Union.{CountsForView, HasView, IsAlignedFor, IsCommonView, IsUnionView, KeepsView, KnowsScalarsOf, union_align}
 
 -- what is read of each is at most the bound, and so is the greatest
 pub greatest_most : {L : Type 0} (number : L → ℕ) (most : ℕ) (ls : List L) → All (λ l. number l ≤ most) ls → greatest (map number ls) ≤ most

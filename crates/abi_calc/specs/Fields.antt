@@ -1,9 +1,26 @@
 -- What a type takes over from all of its fields together, be it a list or a union.
-use Rattle.std.specs.Prelude.{ℕ, ◌+◌, ◌%◌, ◌^◌, Bool, List, [], ◌∷◌, ◌&&◌, ◌||◌, max, sum_by, Option, Some, None}
+use Rattle.std.specs.Prelude.{ℕ, ◌+◌, ◌%◌, ◌^◌, Bool, List, [], ◌∷◌, ◌&&◌, ◌||◌, map, max, sum_by, Option, Some, None}
 use Rattle.std.specs.List.{list_any}
 use Rattle.abi_scalar.specs.declared.layout_data.LayoutData.{LayoutData}
 use Rattle.abi_scalar.specs.declared.repr.ReprOptions.{ReprOptions}
 use Rattle.abi_scalar.specs.Repr.{is_c, is_transparent}
+
+-- the greatest of some numbers, 0 where there is none
+abbrev pub greatest : List ℕ → ℕ
+greatest [] = 0
+greatest (n ∷ ns) = max n (greatest ns)
+
+-- the greatest of the fields' sizes
+abbrev pub greatest_size : {F V : Type 0} → List (LayoutData F V) → ℕ
+greatest_size fields = greatest (map (λ f. f.size) fields)
+
+-- the greatest of the fields' alignments and this one, as exponents of two
+abbrev pub greatest_align : {F V : Type 0} → (own : ℕ) → List (LayoutData F V) → ℕ
+greatest_align own fields = max own (greatest (map (λ f. f.align.abi) fields))
+
+-- the same of the alignments before `repr(align)` raised them
+abbrev pub greatest_unadjusted : {F V : Type 0} → (own : ℕ) → List (LayoutData F V) → ℕ
+greatest_unadjusted own fields = max own (greatest (map (λ f. f.unadjusted_abi_align) fields))
 
 -- the greater of two alignments, where there are any
 abbrev pub greater : Option ℕ → Option ℕ → Option ℕ

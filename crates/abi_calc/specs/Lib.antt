@@ -13,3 +13,4 @@ pub mod List
 pub mod Least
 pub mod Union
 pub mod Simd
+pub mod Enums

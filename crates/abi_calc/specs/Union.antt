@@ -17,7 +17,7 @@ use Rattle.abi_scalar.specs.Repr.{is_c}
 use Rattle.abi_base.specs.Primitive.{KnowsPrimitive}
 use Rattle.abi_scalar.specs.Scalar.{primitive_of, scalar_align}
 use Rattle.abi_scalar.specs.View.{union_view}
-use Rattle.abi_calc.specs.Fields.{greatest_repr_align, lies_as_in_c, seed_with}
+use Rattle.abi_calc.specs.Fields.{greatest_align, greatest_repr_align, greatest_size, lies_as_in_c, seed_with}
 use Rattle.abi_calc.specs.List.{AreSized}
 use Rattle.abi_calc.specs.Part.{is_unsized}
 use Rattle.abi_calc.specs.Placement.{cut, own_align}
@@ -26,19 +26,6 @@ use Rattle.abi_calc.specs.Placement.{cut, own_align}
 abbrev pub only_of : {H : Type 0} → List (List H) → List H
 only_of [] = []
 only_of (fields ∷ others) = fields
-
--- the greatest of some numbers, 0 where there is none
-abbrev pub greatest : List ℕ → ℕ
-greatest [] = 0
-greatest (n ∷ ns) = max n (greatest ns)
-
--- the greatest of the fields' sizes
-abbrev pub greatest_size : {F V : Type 0} → List (LayoutData F V) → ℕ
-greatest_size fields = greatest (map (λ f. f.size) fields)
-
--- the greatest of the fields' alignments and this one, as exponents of two
-abbrev pub greatest_align : {F V : Type 0} → (own : ℕ) → List (LayoutData F V) → ℕ
-greatest_align own fields = max own (greatest (map (λ f. f.align.abi) fields))
 
 -- no less than asked for, where that is
 abbrev pub raised_to : Option ℕ → ℕ → ℕ

@@ -2,11 +2,52 @@
 
 ghost use Rattle.std.specs.Prelude.{◌≡◌, map};
 ghost use Rattle.std.specs.List.{list_any};
-ghost use Rattle.abi_calc.specs.Fields.{greatest_repr_align, lies_as_in_c, seed_with};
+ghost use Rattle.abi_calc.specs.Fields.{greatest_align, greatest_repr_align, greatest_size, greatest_unadjusted, lies_as_in_c, seed_with};
 
-use abi_base::Align;
+use abi_base::{Align, Size};
 use abi_index::{Hash64, Idx};
 use abi_scalar::{LayoutHandle, ReprOptions};
+
+/// The greatest of the fields' sizes.
+pub fn greatest_size<FieldIdx: Idx, VariantIdx: Idx, F: LayoutHandle<FieldIdx, VariantIdx>>(
+    fields: &[F],
+) -> Size
+    ensures { result ≡ greatest_size (map F.layout_of fields.now) }
+{
+    let mut greatest = Size::ZERO;
+    for field in fields {
+        greatest = greatest.max(field.layout().size);
+    }
+    greatest
+}
+
+/// The greatest of the fields' alignments and this one.
+pub fn greatest_align<FieldIdx: Idx, VariantIdx: Idx, F: LayoutHandle<FieldIdx, VariantIdx>>(
+    own: Align,
+    fields: &[F],
+) -> Align
+    ensures { result ≡ greatest_align own (map F.layout_of fields.now) }
+{
+    let mut greatest = own;
+    for field in fields {
+        greatest = greatest.max(field.layout().align.abi);
+    }
+    greatest
+}
+
+/// The greatest of the fields' alignments before `repr(align)` raised them, and this one.
+pub fn greatest_unadjusted<FieldIdx: Idx, VariantIdx: Idx, F: LayoutHandle<FieldIdx, VariantIdx>>(
+    own: Align,
+    fields: &[F],
+) -> Align
+    ensures { result ≡ greatest_unadjusted own (map F.layout_of fields.now) }
+{
+    let mut greatest = own;
+    for field in fields {
+        greatest = greatest.max(field.layout().unadjusted_abi_align);
+    }
+    greatest
+}
 
 /// The greatest alignment that a `repr(align)` asks for, this one or one in the fields.
 pub fn greatest_repr_align<FieldIdx: Idx, VariantIdx: Idx, F: LayoutHandle<FieldIdx, VariantIdx>>(

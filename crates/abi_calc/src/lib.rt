@@ -3,6 +3,7 @@
 
 mod array;
 mod calculator;
+mod enums;
 mod fields;
 mod list;
 mod list_niche;

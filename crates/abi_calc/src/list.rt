@@ -31,7 +31,7 @@ use abi_scalar::{
 use std::alloc::{AllocError, Global};
 
 /// Whether some field has no values.
-fn any_uninhabited<FieldIdx: Idx, VariantIdx: Idx, F: LayoutHandle<FieldIdx, VariantIdx>>(
+pub fn any_uninhabited<FieldIdx: Idx, VariantIdx: Idx, F: LayoutHandle<FieldIdx, VariantIdx>>(
     fields: &[F],
 ) -> bool
     ensures { result ≡ list_any (λ f. f.uninhabited) (map F.layout_of fields.now) }

@@ -77,7 +77,7 @@ fn one_view(fixed: bool, size: Size, align: Align, offset: Size, part: &Part) ->
 }
 
 /// The view of a list with two scalars, in memory order.
-fn pair_view(
+pub fn pair_view(
     dl: &TargetDataLayout,
     size: Size,
     align: Align,

@@ -9,10 +9,11 @@ ghost use Rattle.abi_scalar.specs.Layout.{IsZst};
 ghost use Rattle.abi_scalar.specs.Lawful.{IsLawfulLayout};
 ghost use Rattle.abi_scalar.specs.Order.{HasPlaceForEach, IsAscending};
 ghost use Rattle.abi_scalar.specs.View.{union_view};
-ghost use Rattle.abi_calc.specs.Union.{CountsForView, HasView, IsAlignedFor, IsCommonView, IsUnionAnswer, IsUnionTooLarge, IsUnionView, KnowsScalarsOf, first_unsized, greatest_align, greatest_size, only_of, raised_to, unraised_align, union_align};
+ghost use Rattle.abi_calc.specs.Fields.{greatest_align, greatest_size};
+ghost use Rattle.abi_calc.specs.Union.{CountsForView, HasView, IsAlignedFor, IsCommonView, IsUnionAnswer, IsUnionTooLarge, IsUnionView, KnowsScalarsOf, first_unsized, only_of, raised_to, unraised_align, union_align};
 
 use crate::calculator::LayoutCalculator;
-use crate::fields::{greatest_repr_align, lies_as_in_c, seed_with};
+use crate::fields::{greatest_align, greatest_repr_align, greatest_size, lies_as_in_c, seed_with};
 use crate::list_repr::{cut_to, own_align};
 use abi_base::{AbiAlign, Align, HasDataLayout, Size};
 use abi_index::{Idx, IndexSlice, IndexVec};
@@ -34,33 +35,6 @@ fn first_unsized<FieldIdx: Idx, VariantIdx: Idx, F: LayoutHandle<FieldIdx, Varia
         }
     }
     None
-}
-
-/// The greatest of the fields' sizes.
-fn greatest_size<FieldIdx: Idx, VariantIdx: Idx, F: LayoutHandle<FieldIdx, VariantIdx>>(
-    fields: &[F],
-) -> Size
-    ensures { result ≡ greatest_size (map F.layout_of fields.now) }
-{
-    let mut greatest = Size::ZERO;
-    for field in fields {
-        greatest = greatest.max(field.layout().size);
-    }
-    greatest
-}
-
-/// The greatest of the fields' alignments and this one.
-fn greatest_align<FieldIdx: Idx, VariantIdx: Idx, F: LayoutHandle<FieldIdx, VariantIdx>>(
-    own: Align,
-    fields: &[F],
-) -> Align
-    ensures { result ≡ greatest_align own (map F.layout_of fields.now) }
-{
-    let mut greatest = own;
-    for field in fields {
-        greatest = greatest.max(field.layout().align.abi);
-    }
-    greatest
 }
 
 /// Whether both views are the same, holding any numbers.

@@ -24,3 +24,12 @@ impl<FieldIdx: Idx, VariantIdx: Idx> LayoutHandle<FieldIdx, VariantIdx>
         *self
     }
 }
+
+impl<FieldIdx: Idx, VariantIdx: Idx> LayoutHandle<FieldIdx, VariantIdx>
+    for LayoutData<FieldIdx, VariantIdx> {
+    ghost layout_of = { λ layout. layout };
+
+    fn layout(&self) -> &LayoutData<FieldIdx, VariantIdx> {
+        self
+    }
+}

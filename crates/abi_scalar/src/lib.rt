@@ -33,5 +33,7 @@ pub use layout_data::LayoutData;
 pub use niche::Niche;
 pub use repr::{ReprFlags, ReprOptions};
 pub use scalar::Scalar;
-pub use variants::{RangeInclusive, TagEncoding, VariantLayout, Variants};
+pub use variants::{
+    RangeFrom, RangeInclusive, RangeToInclusive, TagEncoding, VariantLayout, Variants,
+};
 pub use wrapping_range::{RangeFull, WrappingRange};

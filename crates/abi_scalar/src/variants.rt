@@ -21,6 +21,18 @@ pub struct RangeInclusive<I> {
     pub last: I,
 }
 
+/// The numbers from `start` on.
+#[derive(Clone, Copy, PartialEq, Eq, Hash, Debug)]
+pub struct RangeFrom<I> {
+    pub start: I,
+}
+
+/// The numbers up to `last`, itself in it.
+#[derive(Clone, Copy, PartialEq, Eq, Hash, Debug)]
+pub struct RangeToInclusive<I> {
+    pub last: I,
+}
+
 /// How a tag's number names a variant.
 #[derive(Clone, Copy, PartialEq, Eq, Hash, Debug)]
 pub enum TagEncoding<VariantIdx: Idx> {

@@ -1,7 +1,7 @@
 -- The rest of the fields gives the greatest.
 use Rattle.std.proofs.Common.{◌≡◌, map, drop, max}
-use Rattle.abi_calc.specs.Union.{greatest}
-use Rattle.abi_calc.proofs.unions.greatest_align.Given as goal
+use Rattle.abi_calc.specs.Fields.{greatest}
+use Rattle.abi_calc.proofs.fields.greatest_align.Given as goal
 
 abbrev pub invariant-loop-field : goal.invariant-loop-field
 invariant-loop-field g l =

@@ -1,0 +1,81 @@
+-- The data layout is the calculator's; the lists are those of the variants.
+use Rattle.std.proofs.Common.{◌≡◌, ◌∙◌, ap, map, refl, subst}
+use Rattle.std.specs.Prelude.{◌⊎◌, IfErr, IfOk}
+use Rattle.abi_base.specs.declared.data_layout.TargetDataLayout.{TargetDataLayout}
+use Rattle.abi_base.specs.declared.struct_kind.StructKind.{StructKind}
+use Rattle.abi_scalar.specs.declared.error.LayoutCalculatorError.TheVariants.{OutOfMemory}
+use Rattle.abi_calc.specs.Enums.Lists.{AreGoodLists, IsFirstListError, behind_tag}
+use Rattle.abi_calc.proofs.EnumAnswers.{HasGoodLists, IsBy, IsWholeFault, by_apart, by_differ, by_lawful, by_no_other, by_numbers, by_refused, by_size, by_too_large, by_view, list_no_other, list_refused, list_too_large}
+use Rattle.abi_calc.proofs.EnumTagged.{tagged_answer}
+use Rattle.abi_calc.proofs.calculator.LayoutCalculator.layout_of_tagged.Goals as goal
+
+pub layout_of_lists-requires-clause-fields : goal.layout_of_lists-requires-clause-fields
+layout_of_lists-requires-clause-fields g c = rw c.data_layout-dl.ensures c.requires.fields
+
+pub layout_of_lists-requires-clause-lawful : goal.layout_of_lists-requires-clause-lawful
+layout_of_lists-requires-clause-lawful g c = rw c.data_layout-dl.ensures c.in-Ok.ensures.lawful
+
+pub returns-in-Ok : goal.returns-in-Ok
+returns-in-Ok g c =
+    let layout_of = g.F.LayoutHandle.layout_of in
+    let at = g.FieldIdx.Idx.at in
+    let number = g.FieldIdx.Idx.number in
+    let first = g.VariantIdx.Idx.at 0 in
+    let dl : TargetDataLayout = g.Cx.HasDataLayout.target c.args.self.now.cx in
+    let told : TargetDataLayout = c.data_layout-dl.result.now in
+    let same : told ≡ dl = c.data_layout-dl.ensures in
+    let vs = map (map layout_of) c.args.variants.now in
+    let behind : StructKind = behind_tag dl c.args.repr.now c.args.asked vs in
+    let kind : c.behind_tag-kind.result ≡ behind = ◌∙◌ {b = behind_tag told c.args.repr.now c.args.asked vs} c.behind_tag-kind.ensures.kind (ap (λ d. behind_tag d c.args.repr.now c.args.asked vs) same) in
+    let h : HasGoodLists layout_of at number first dl c.args.repr.now c.args.asked c.args.signed c.args.values.now behind c.args.variants.now c.in-Ok.lists.items = record {
+      good = subst (λ k. AreGoodLists layout_of at first dl c.args.repr.now k c.args.variants.now c.in-Ok.lists.items) kind c.in-Ok.ensures.good;
+      some = c.requires.some;
+      unpacked = c.requires.unpacked;
+    } in
+    let by : IfOk c.layout_of_lists.result (IsBy layout_of at number first dl c.args.repr.now c.args.asked c.args.signed c.args.values.now behind c.args.variants.now c.in-Ok.lists.items)
+    = subst (λ d. IfOk c.layout_of_lists.result (IsBy layout_of at number first d c.args.repr.now c.args.asked c.args.signed c.args.values.now behind c.args.variants.now c.in-Ok.lists.items)) same c.layout_of_lists.ensures.exact in
+    let fault : IfErr c.layout_of_lists.result (IsWholeFault layout_of at number first dl c.args.repr.now c.args.asked c.args.signed c.args.values.now behind c.args.variants.now c.in-Ok.lists.items)
+    = subst (λ d. IfErr c.layout_of_lists.result (IsWholeFault layout_of at number first d c.args.repr.now c.args.asked c.args.signed c.args.values.now behind c.args.variants.now c.in-Ok.lists.items)) same c.layout_of_lists.ensures.fault in
+    record {
+      exact = tagged_answer layout_of at number first dl told c.args.repr.now c.args.asked c.args.signed c.args.values.now c.args.variants.now c.behind_tag-kind.result c.in-Ok.lists.items c.layout_of_lists.result
+          same c.behind_tag-kind.ensures.kind c.in-Ok.ensures.exact c.layout_of_lists.ensures.exact c.layout_of_lists.ensures.fault;
+      size = by_size layout_of at number first dl c.args.repr.now c.args.asked c.args.signed c.args.values.now behind c.args.variants.now c.in-Ok.lists.items c.layout_of_lists.result h by;
+      lawful = by_lawful layout_of at number first dl c.args.repr.now c.args.asked c.args.signed c.args.values.now behind c.args.variants.now c.in-Ok.lists.items g.FieldIdx.Idx.MAX_INDEX g.met.FieldIdx.Idx.number_at c.requires.data_layout refl c.in-Ok.ensures.within c.requires.fields c.in-Ok.ensures.lawful c.layout_of_lists.result h by;
+      view = by_view layout_of at number first dl c.args.repr.now c.args.asked c.args.signed c.args.values.now behind c.args.variants.now c.in-Ok.lists.items c.layout_of_lists.result by;
+      apart = by_apart layout_of at number first dl c.args.repr.now c.args.asked c.args.signed c.args.values.now behind c.args.variants.now c.in-Ok.lists.items g.FieldIdx.Idx.MAX_INDEX g.met.FieldIdx.Idx.number_at c.requires.data_layout refl c.in-Ok.ensures.within c.layout_of_lists.result h by;
+      numbers = by_numbers layout_of at number first dl c.args.repr.now c.args.asked c.args.signed c.args.values.now behind c.args.variants.now c.in-Ok.lists.items c.layout_of_lists.result by;
+      differ = by_differ layout_of at number first dl c.args.repr.now c.args.asked c.args.signed c.args.values.now behind c.args.variants.now c.in-Ok.lists.items c.layout_of_lists.result by;
+      too_large = by_too_large layout_of at number first dl c.args.repr.now c.args.asked c.args.signed c.args.values.now behind c.args.variants.now c.in-Ok.lists.items c.layout_of_lists.result h fault;
+      refused = λ sized large. by_refused layout_of at number first dl c.args.repr.now c.args.asked c.args.signed c.args.values.now behind c.args.variants.now c.in-Ok.lists.items c.layout_of_lists.result h by fault large;
+      no_other = λ sized. by_no_other layout_of at number first dl c.args.repr.now c.args.asked c.args.signed c.args.values.now behind c.args.variants.now c.in-Ok.lists.items c.layout_of_lists.result fault;
+    }
+
+pub returns-in-Err-clause-too_large : goal.returns-in-Err-clause-too_large
+returns-in-Err-clause-too_large g c is =
+    let dl : TargetDataLayout = g.Cx.HasDataLayout.target c.args.self.now.cx in
+    let told : TargetDataLayout = c.data_layout-dl.result.now in
+    let vs = map (map g.F.LayoutHandle.layout_of) c.args.variants.now in
+    let kind : c.behind_tag-kind.result ≡ behind_tag dl c.args.repr.now c.args.asked vs
+    = ◌∙◌ {b = behind_tag told c.args.repr.now c.args.asked vs} c.behind_tag-kind.ensures.kind (ap (λ d. behind_tag d c.args.repr.now c.args.asked vs) c.data_layout-dl.ensures) in
+    let fault = subst (λ k. IsFirstListError g.F.LayoutHandle.layout_of g.FieldIdx.Idx.at (g.VariantIdx.Idx.at 0) dl c.args.repr.now k c.args.variants.now c.in-Err.error ⊎ (c.in-Err.error ≡ OutOfMemory)) kind c.in-Err.ensures.fault in
+    list_too_large g.F.LayoutHandle.layout_of g.FieldIdx.Idx.at (g.VariantIdx.Idx.at 0) dl c.args.repr.now (behind_tag dl c.args.repr.now c.args.asked vs) c.args.variants.now c.in-Err.error c.requires.fields tt fault is
+
+pub returns-in-Err-clause-refused : goal.returns-in-Err-clause-refused
+returns-in-Err-clause-refused g c all large =
+    let dl : TargetDataLayout = g.Cx.HasDataLayout.target c.args.self.now.cx in
+    let told : TargetDataLayout = c.data_layout-dl.result.now in
+    let vs = map (map g.F.LayoutHandle.layout_of) c.args.variants.now in
+    let kind : c.behind_tag-kind.result ≡ behind_tag dl c.args.repr.now c.args.asked vs
+    = ◌∙◌ {b = behind_tag told c.args.repr.now c.args.asked vs} c.behind_tag-kind.ensures.kind (ap (λ d. behind_tag d c.args.repr.now c.args.asked vs) c.data_layout-dl.ensures) in
+    let fault = subst (λ k. IsFirstListError g.F.LayoutHandle.layout_of g.FieldIdx.Idx.at (g.VariantIdx.Idx.at 0) dl c.args.repr.now k c.args.variants.now c.in-Err.error ⊎ (c.in-Err.error ≡ OutOfMemory)) kind c.in-Err.ensures.fault in
+    list_refused g.F.LayoutHandle.layout_of g.FieldIdx.Idx.at (g.VariantIdx.Idx.at 0) dl c.args.repr.now (behind_tag dl c.args.repr.now c.args.asked vs) c.args.variants.now c.in-Err.error all tt fault
+
+pub returns-in-Err-clause-no_other : goal.returns-in-Err-clause-no_other
+returns-in-Err-clause-no_other g c all =
+    let dl : TargetDataLayout = g.Cx.HasDataLayout.target c.args.self.now.cx in
+    let told : TargetDataLayout = c.data_layout-dl.result.now in
+    let vs = map (map g.F.LayoutHandle.layout_of) c.args.variants.now in
+    let kind : c.behind_tag-kind.result ≡ behind_tag dl c.args.repr.now c.args.asked vs
+    = ◌∙◌ {b = behind_tag told c.args.repr.now c.args.asked vs} c.behind_tag-kind.ensures.kind (ap (λ d. behind_tag d c.args.repr.now c.args.asked vs) c.data_layout-dl.ensures) in
+    let fault = subst (λ k. IsFirstListError g.F.LayoutHandle.layout_of g.FieldIdx.Idx.at (g.VariantIdx.Idx.at 0) dl c.args.repr.now k c.args.variants.now c.in-Err.error ⊎ (c.in-Err.error ≡ OutOfMemory)) kind c.in-Err.ensures.fault in
+    list_no_other g.F.LayoutHandle.layout_of g.FieldIdx.Idx.at (g.VariantIdx.Idx.at 0) dl c.args.repr.now (behind_tag dl c.args.repr.now c.args.asked vs) c.args.variants.now c.in-Err.error all tt fault

@@ -1,0 +1,33 @@
+use Rattle.std.proofs.Common.{◌≡◌, ◌<◌, length, arith, map, sym, rules, ◌∙◌}
+use Rattle.abi_calc.proofs.EnumGrowth.{list_at, lists_count, start_end, start_most, start_step}
+use Rattle.abi_calc.proofs.enums.growth.start_align.Goals as goal
+
+pub loop-index-init : goal.loop-index-init
+loop-index-init g c = record {
+  within = omega arith;
+  least = omega (arith, start_most g.FieldIdx.Idx.number (map (map g.F.LayoutHandle.layout_of) c.args.variants.now) c.args.lists.now);
+}
+
+pub bounds-variants-index : goal.bounds-variants-index
+bounds-variants-index g c = omega (arith, lists_count c.args.variants.now c.args.lists.now c.requires)
+
+pub offset_bounds-variants-index : goal.offset_bounds-variants-index
+offset_bounds-variants-index g c =
+    let count : length c.args.lists.now ≡ length c.args.variants.now = lists_count c.args.variants.now c.args.lists.now c.requires in
+    let fits : c.loop-index.index < length c.args.variants.now = omega arith in
+    search rules
+
+pub first_align-first-requires : goal.first_align-first-requires
+first_align-first-requires g c = (list_at c.args.variants.now c.args.lists.now c.loop-index.index c.index-variants-index.result c.index-lists-index.result c.requires c.loop-index-test.true).places
+
+pub loop-index-preserved : goal.loop-index-preserved
+loop-index-preserved g c =
+    let step = start_step g.FieldIdx.Idx.number g.F.LayoutHandle.layout_of c.args.variants.now c.args.lists.now c.loop-index.index c.index-variants-index.result c.index-lists-index.result c.loop-index.least _ c.requires
+    c.loop-index-test.true c.index-variants-index.is c.index-lists-index.is c.loop-index.invariant.least in
+    record {
+      within = omega arith;
+      least = rw (c.least_with-least.ensures, c.first_align-first.ensures, c.as_raw.ensures.items, c.as_slice.ensures, ← c.index-lists-index.is) step;
+    }
+
+pub returns : goal.returns
+returns g c = sym (start_end g.FieldIdx.Idx.number g.F.LayoutHandle.layout_of c.args.variants.now c.args.lists.now c.loop-index.index c.loop-index.least c.loop-index-test.false c.loop-index.invariant.within) ∙ c.loop-index.invariant.least

@@ -1,0 +1,23 @@
+use Rattle.std.proofs.Common.{◌∙◌, sym}
+use Rattle.abi_calc.proofs.EnumPayload.{common_begin, common_end, common_none, common_step}
+use Rattle.abi_calc.proofs.enums.payload.common_of.Goals as goal
+
+pub returns-then-is_empty-clause-value : goal.returns-then-is_empty-clause-value
+returns-then-is_empty-clause-value g c =
+    common_none c.args.dl.now c.args.old c.args.new g.F.LayoutHandle.layout_of c.args.variants.now c.args.lists.now (sym c.is_empty.ensures ∙ c.if-is_empty.true)
+
+pub loop-index-init : goal.loop-index-init
+loop-index-init g c = record {
+  value = common_begin c.args.dl.now _ c.variant_payload-shared.result c.variant_payload-shared.ensures.value;
+  lawful = c.variant_payload-shared.ensures.lawful;
+}
+
+pub loop-index-preserved : goal.loop-index-preserved
+loop-index-preserved g c = record {
+  value = rw c.common-shared.ensures.value (common_step c.args.dl.now _ c.loop-index.index c.loop-index.shared c.variant_payload.result _ c.variant_payload.ensures.value c.loop-index.invariant.value);
+  lawful = c.common-shared.ensures.lawful;
+}
+
+pub returns-clause-value : goal.returns-clause-value
+returns-clause-value g c =
+    common_end c.args.dl.now c.args.old c.args.new g.F.LayoutHandle.layout_of c.args.variants.now c.args.lists.now c.loop-index.index c.loop-index.shared _ c.requires.lists c.loop-index-test.false c.loop-index.invariant.value

@@ -1,0 +1,34 @@
+use Rattle.std.proofs.Common.{◌≡◌, ◌<◌, ◌∙◌, All, ap, arith, length, rules, subst, sym}
+use Rattle.abi_scalar.specs.Lawful.{IsLawfulLayout}
+use Rattle.abi_calc.proofs.EnumGrowth.{list_at, lists_count}
+use Rattle.abi_calc.proofs.EnumPayload.{payload_there}
+use Rattle.abi_calc.proofs.enums.payload.variant_payload.Goals as goal
+
+pub bounds-variants-index : goal.bounds-variants-index
+bounds-variants-index g c = omega (arith, lists_count c.args.variants.now c.args.lists.now c.requires.lists)
+
+pub offset_bounds-variants-index : goal.offset_bounds-variants-index
+offset_bounds-variants-index g c =
+    let count : length c.args.lists.now ≡ length c.args.variants.now = lists_count c.args.variants.now c.args.lists.now c.requires.lists in
+    let fits : c.args.index < length c.args.variants.now = omega arith in
+    search rules
+
+pub listed_offsets-requires : goal.listed_offsets-requires
+listed_offsets-requires g c = (list_at c.args.variants.now c.args.lists.now c.args.index c.index-variants-index.result c.index-lists-index.result c.requires.lists c.requires.within).listed
+
+pub payload_of-requires-clause-fields : goal.payload_of-requires-clause-fields
+payload_of-requires-clause-fields g c =
+    let fields = c.as_raw-fields.ensures.items ∙ c.as_slice.ensures ∙ c.index-variants-index.is in
+    let fits : c.args.index < length c.args.variants.now = omega (arith, lists_count c.args.variants.now c.args.lists.now c.requires.lists) in
+    subst (λ fs. All (λ f. IsLawfulLayout c.args.dl.now (g.F.LayoutHandle.layout_of f)) fs) (sym fields) (c.requires.fields c.args.index c.index-variants-index.result fits)
+
+pub payload_of-requires-clause-count : goal.payload_of-requires-clause-count
+payload_of-requires-clause-count g c =
+    let fields = c.as_raw-fields.ensures.items ∙ c.as_slice.ensures ∙ c.index-variants-index.is in
+    ap length c.listed_offsets.ensures ∙ (list_at c.args.variants.now c.args.lists.now c.args.index c.index-variants-index.result c.index-lists-index.result c.requires.lists c.requires.within).count ∙ ap length (sym fields)
+
+pub returns-clause-value : goal.returns-clause-value
+returns-clause-value g c =
+    let fields = c.as_raw-fields.ensures.items ∙ c.as_slice.ensures ∙ c.index-variants-index.is in
+    rw (c.payload_of.ensures.value, fields, c.listed_offsets.ensures)
+    (payload_there c.args.dl.now c.args.old c.args.new g.F.LayoutHandle.layout_of c.args.variants.now c.args.lists.now c.args.index c.index-variants-index.result c.index-lists-index.result c.requires.lists c.requires.within)

@@ -1,0 +1,8 @@
+-- The variants before have no values.
+use Rattle.std.proofs.Common.{◌≡◌, drop}
+use Rattle.std.specs.List.{list_all}
+use Rattle.abi_calc.proofs.enums.tagged.all_uninhabited.Given as goal
+
+abbrev pub invariant-loop-list : goal.invariant-loop-list
+invariant-loop-list g l =
+    list_all (λ list. list.uninhabited) (drop l.list-index l.lists) ≡ list_all (λ list. list.uninhabited) l.lists

@@ -1,0 +1,32 @@
+-- The layout has what its parts are told to be.
+use Rattle.std.proofs.Common.{◌∙◌, ap, map, refl}
+use Rattle.std.specs.List.{list_all}
+use Rattle.std.proofs.lemmas.List.{map-id}
+use Rattle.abi_scalar.specs.Scalar.{primitive_of, scalar_size}
+use Rattle.abi_scalar.proofs.ReadableLemmas.{lawful_readable}
+use Rattle.abi_calc.specs.Fields.{greatest_repr_align, greatest_unadjusted, seed_with}
+use Rattle.abi_calc.specs.Enums.Tagged.{layout_seen_as}
+use Rattle.abi_calc.proofs.EnumTagged.{same_parts}
+use Rattle.abi_calc.proofs.NicheLemmas.{readable_size}
+use Rattle.abi_calc.proofs.enums.tagged.layout_seen_as.Goals as goal
+
+pub size-requires : goal.size-requires
+size-requires g c = (readable_size c.args.dl.now (primitive_of c.args.tag) c.requires.tag.pointer).0
+
+pub from_scalar-requires : goal.from_scalar-requires
+from_scalar-requires g c = lawful_readable c.args.dl.now c.args.tag c.requires.tag
+
+pub returns : goal.returns
+returns g c =
+    same_parts _ (layout_seen_as (g.FieldIdx.Idx.at 0) c.args.dl.now c.args.repr.now c.args.old c.args.tag (scalar_size c.args.dl.now c.args.tag) c.args.lists.items c.args.view)
+    (rw (c.in_ok-one_item.ensures, c.in_ok-one_item-2.ensures, c.new-first.ensures) refl)
+    (rw (c.new-first.ensures, c.in_ok-variants.ensures, c.size.ensures, c.requires.size) refl)
+    refl
+    c.from_scalar.ensures.exact
+    (c.all_uninhabited-uninhabited.ensures ∙ ap (list_all (λ list. list.uninhabited)) c.deref.ensures.value)
+    (ap (λ a. record { abi = a }) (c.new.ensures ∙ c.requires.align))
+    c.requires.size
+    (c.greatest_repr_align-max_repr_align.ensures ∙ ap (λ ls. greatest_repr_align c.args.repr.now.align ls) (ap (map (λ l. l)) c.as_slice.ensures.value ∙ map-id c.args.lists.items))
+    (c.greatest_unadjusted-unadjusted_abi_align.ensures ∙ ap (λ ls. greatest_unadjusted c.args.dl.now.aggregate_align ls) (ap (map (λ l. l)) c.as_slice-2.ensures.value ∙ map-id c.args.lists.items))
+    c.c.ensures
+    (c.seed_with-randomization_seed.ensures ∙ ap (λ ls. seed_with c.args.repr.now.field_shuffle_seed ls) (ap (map (λ l. l)) c.as_slice-3.ensures.value ∙ map-id c.args.lists.items))

@@ -1,0 +1,11 @@
+-- Types with variants.
+pub mod Path
+pub mod Single
+pub mod Discriminants
+pub mod Lists
+pub mod Growth
+pub mod Payload
+pub mod Tagged
+pub mod Sizes
+pub mod Places
+pub mod Several

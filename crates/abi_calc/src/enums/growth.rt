@@ -1,0 +1,141 @@
+//! A tag that grows into the space before the variants' fields.
+
+ghost use Rattle.std.specs.Prelude.{◌≡◌, ◌+◌, ◌≤◌, IfOk, None, Some, length, map, min, slice_get, unwrap_or};
+ghost use Rattle.abi_scalar.specs.Order.{HasPlaceForEach, indices_by_offset};
+ghost use Rattle.abi_calc.specs.Enums.Growth.{align_or, first_align, grown_tag, grown_variant, moved, start_align};
+ghost use Rattle.abi_calc.specs.Enums.Lists.{AreListsOf};
+ghost use Rattle.abi_calc.specs.Part.{max_align};
+
+use crate::enums::path::{is_free, takes_no_room};
+use abi_base::{Align, Integer, Size, TargetDataLayout};
+use abi_index::{Idx, IndexVec};
+use abi_scalar::{FieldsShape, LayoutData, LayoutHandle, ReprOptions, VariantLayout};
+use std::alloc::{AllocError, Global};
+
+/// The field's alignment, if it takes room.
+fn room_align<FieldIdx: Idx, VariantIdx: Idx>(
+    field: &LayoutData<FieldIdx, VariantIdx>,
+) -> Option<Align>
+    ensures { result ≡ align_or (Some field.now) None }
+{
+    if takes_no_room(field) {
+        None
+    } else {
+        Some(field.align.abi)
+    }
+}
+
+/// The alignment of the field at this place, where there is one that takes room.
+fn align_at<FieldIdx: Idx, VariantIdx: Idx, F: LayoutHandle<FieldIdx, VariantIdx>>(
+    fields: &[F],
+    index: usize,
+) -> Option<Align>
+    ensures { result ≡ align_or (slice_get (map F.layout_of fields.now) index) None }
+{
+    match fields.get(index) {
+        Some(field) => room_align(field.layout()),
+        None => None,
+    }
+}
+
+/// The alignment of the first field in memory order that takes room.
+fn first_align<FieldIdx: Idx, VariantIdx: Idx, F: LayoutHandle<FieldIdx, VariantIdx>>(
+    fields: &[F],
+    shape: &FieldsShape<FieldIdx>,
+) -> Option<Align>
+    requires { HasPlaceForEach shape.now }
+    ensures { result ≡ first_align (map F.layout_of fields.now) (indices_by_offset FieldIdx.number shape.now) }
+{
+    for index in shape.index_by_increasing_offset() {
+        if let Some(align) = align_at(fields, index) {
+            return Some(align);
+        }
+    }
+    None
+}
+
+/// The lesser of the two, the first where there is no second; the first is an alignment that a type can have.
+fn least_with(least: Align, other: Option<Align>) -> Align
+    requires { least ≤ max_align }
+    ensures { result ≡ min least (unwrap_or other max_align) }
+{
+    match other {
+        Some(other) => least.min(other),
+        None => least,
+    }
+}
+
+/// The least of those alignments over the variants, whose lists these are; where no variant has one the greatest there
+/// is, which no integer has.
+pub fn start_align<FieldIdx: Idx, VariantIdx: Idx, F: LayoutHandle<FieldIdx, VariantIdx>>(
+    variants: &[IndexVec<FieldIdx, F>],
+    lists: &[LayoutData<FieldIdx, VariantIdx>],
+) -> Align
+    requires { AreListsOf variants.now lists.now }
+    ensures { result ≡ start_align FieldIdx.number (map (map F.layout_of) variants.now) lists.now }
+{
+    let mut least = Align::MAX;
+    for index in 0..lists.len() {
+        let first = first_align(variants[index].as_slice().as_raw(), &lists[index].fields);
+        least = least_with(least, first);
+    }
+    least
+}
+
+/// The tag's integer: the one that was asked for, or where the layout is free a larger one of this size and alignment.
+pub fn grown_tag(dl: &TargetDataLayout, repr: &ReprOptions, asked: Integer, start: Align) -> Integer
+    ensures { result ≡ grown_tag dl.now repr.now asked start }
+{
+    if !is_free(repr) {
+        return asked;
+    }
+    match Integer::for_align(dl, start) {
+        Some(integer) if integer.size() > asked.size() => integer,
+        _ => asked,
+    }
+}
+
+/// Where a field lies beside a tag that grew from the old size to the new one.
+pub fn moved(old: Size, new: Size, offset: Size) -> Size
+    ensures { result ≡ moved old new offset }
+{
+    if offset == old { new } else { offset }
+}
+
+/// These offsets beside a tag that grew.
+fn moved_offsets<FieldIdx: Idx>(
+    alloc: Global,
+    old: Size,
+    new: Size,
+    offsets: &[Size],
+) -> Result<IndexVec<FieldIdx, Size>, AllocError>
+    requires { length offsets.now ≤ FieldIdx.MAX_INDEX + 1 }
+    ensures { IfOk result (λ list. list ≡ map (moved old new) offsets.now) }
+{
+    let mut list = IndexVec::new(alloc);
+    for offset in offsets {
+        let _index = list.push(moved(old, new, *offset))?;
+    }
+    Ok(list)
+}
+
+/// The variant beside a tag that grew from the old size to the new one.
+pub fn grown_variant<FieldIdx: Idx>(
+    alloc: Global,
+    old: Size,
+    new: Size,
+    mut variant: VariantLayout<FieldIdx>,
+) -> Result<VariantLayout<FieldIdx>, AllocError>
+    ensures { IfOk result (λ grown. grown ≡ grown_variant old new variant) }
+{
+    if old < new {
+        variant.field_offsets = moved_offsets(
+            alloc,
+            old,
+            new,
+            variant.field_offsets.as_slice().as_raw(),
+        )?;
+        variant.size = variant.size.max(new);
+    }
+    Ok(variant)
+}

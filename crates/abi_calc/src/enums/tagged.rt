@@ -1,0 +1,240 @@
+//! The layout of an enum with a tag.
+
+ghost use Rattle.std.specs.Prelude.{◌≡◌, ◌≤◌, ◌<◌, ◌+◌, ◌∷◌, ◌⊎◌, [], All, Err, IfErr, IfOk, None, length, map};
+ghost use Rattle.std.specs.List.{list_all};
+ghost use Rattle.abi_base.specs.DataLayout.{IsLawfulDataLayout, size_bound};
+ghost use Rattle.abi_base.specs.Integer.{integer_size};
+ghost use Rattle.abi_scalar.specs.Lawful.{IsLawfulLayout};
+ghost use Rattle.abi_scalar.specs.Scalar.{IsLawfulScalar, scalar_size};
+ghost use Rattle.abi_scalar.specs.Shape.{IsListed};
+ghost use Rattle.abi_scalar.specs.Variant.{variant_of};
+ghost use Rattle.abi_calc.specs.Answer.{IsAnswer};
+ghost use Rattle.abi_calc.specs.List.{AreSized, HasLawfulAligns};
+ghost use Rattle.abi_calc.specs.Enums.Growth.{grown_variant};
+ghost use Rattle.abi_calc.specs.Enums.Lists.{AreListsOf, behind_tag};
+ghost use Rattle.abi_calc.specs.Enums.Payload.{seen_as};
+ghost use Rattle.abi_calc.specs.Enums.Places.{AreApartAmong, AreNumbersAmong, DifferAmong, HasTrueView};
+ghost use Rattle.abi_calc.specs.Enums.Sizes.{IsTaggedSize, IsTaggedTooLarge};
+ghost use Rattle.abi_calc.specs.Enums.Tagged.{IsTaggedAnswer, IsTaggedBy, layout_seen_as, lists_align, lists_size};
+
+use crate::calculator::LayoutCalculator;
+use crate::enums::discriminants::tag_range;
+use crate::enums::growth::{grown_tag, grown_variant, start_align};
+use crate::enums::lists::behind_tag;
+use crate::enums::payload::{seen_as, tagged_view};
+use crate::fields::{
+    greatest_align, greatest_repr_align, greatest_size, greatest_unadjusted, seed_with,
+};
+use crate::list_repr::rounded;
+use abi_base::{AbiAlign, Align, HasDataLayout, Integer, Primitive, Size, TargetDataLayout};
+use abi_index::{Idx, IndexVec};
+use abi_scalar::{
+    BackendRepr, FieldsShape, LayoutCalculatorError, LayoutData, LayoutHandle, Niche, ReprOptions,
+    Scalar, TagEncoding, VariantLayout, Variants,
+};
+use std::alloc::{AllocError, Global};
+
+/// The greatest size of the variants' lists, rounded up to the greatest alignment.
+fn lists_size<FieldIdx: Idx, VariantIdx: Idx>(
+    dl: &TargetDataLayout,
+    lists: &[LayoutData<FieldIdx, VariantIdx>],
+    align: Align,
+) -> Size
+    requires data_layout { IsLawfulDataLayout dl.now }
+    requires lists { All (IsLawfulLayout dl.now) lists.now }
+    requires align { align ≡ lists_align dl.now lists.now }
+    ensures { result ≡ lists_size dl.now lists.now }
+{
+    rounded(greatest_size(lists), align)
+}
+
+/// Whether no variant has values.
+fn all_uninhabited<FieldIdx: Idx, VariantIdx: Idx>(
+    lists: &[LayoutData<FieldIdx, VariantIdx>],
+) -> bool
+    ensures { result ≡ list_all (λ list. list.uninhabited) lists.now }
+{
+    for list in lists {
+        if !list.uninhabited {
+            return false;
+        }
+    }
+    true
+}
+
+/// The variants, as parts of an enum of this view and size, beside a tag that grew from the old size to the new one.
+fn variants_of<FieldIdx: Idx, VariantIdx: Idx>(
+    alloc: Global,
+    old: Size,
+    new: Size,
+    view: &BackendRepr,
+    size: Size,
+    lists: Vec<LayoutData<FieldIdx, VariantIdx>>,
+) -> Result<IndexVec<VariantIdx, VariantLayout<FieldIdx>>, AllocError>
+    requires count { length lists.items ≤ VariantIdx.MAX_INDEX + 1 }
+    requires listed { All (λ l. IsListed l.fields) lists.items }
+    ensures { IfOk result (λ variants. variants ≡ map (λ l. seen_as view.now size (grown_variant old new (variant_of l))) lists.items) }
+{
+    let mut variants = IndexVec::new(alloc);
+    for list in lists {
+        let variant = grown_variant(alloc, old, new, VariantLayout::from_layout(list))?;
+        let _index = variants.push(seen_as(*view, size, variant))?;
+    }
+    Ok(variants)
+}
+
+/// A list with one item.
+fn one_item<I: Idx, T: Copy>(alloc: Global, item: T) -> Result<IndexVec<I, T>, AllocError>
+    ensures { IfOk result (λ list. list ≡ item ∷ []) }
+{
+    let mut list = IndexVec::new(alloc);
+    let _index = list.push(item)?;
+    Ok(list)
+}
+
+/// The layout of an enum of this view, alignment and size, whose tag grew from the old size, and whose variants have these
+/// lists.
+fn layout_seen_as<FieldIdx: Idx, VariantIdx: Idx>(
+    alloc: Global,
+    dl: &TargetDataLayout,
+    repr: &ReprOptions,
+    old: Size,
+    tag: Scalar,
+    view: BackendRepr,
+    align: Align,
+    size: Size,
+    lists: Vec<LayoutData<FieldIdx, VariantIdx>>,
+) -> Result<LayoutData<FieldIdx, VariantIdx>, AllocError>
+    requires data_layout { IsLawfulDataLayout dl.now }
+    requires tag { IsLawfulScalar dl.now tag }
+    requires align { align ≡ lists_align dl.now lists.items }
+    requires size { size ≡ lists_size dl.now lists.items }
+    requires count { length lists.items ≤ VariantIdx.MAX_INDEX + 1 }
+    requires listed { All (λ l. IsListed l.fields) lists.items }
+    ensures { IfOk result (λ l. l ≡ layout_seen_as (FieldIdx.at 0) dl.now repr.now old tag (scalar_size dl.now tag) lists.items view) }
+{
+    let uninhabited = all_uninhabited(&lists);
+    let max_repr_align = greatest_repr_align(repr.align, lists.as_slice());
+    let unadjusted_abi_align = greatest_unadjusted(dl.aggregate_align, lists.as_slice());
+    let randomization_seed = seed_with(repr.field_shuffle_seed, lists.as_slice());
+    let variants = variants_of(alloc, old, tag.size(dl), &view, size, lists)?;
+    let first = FieldIdx::new(0);
+    Ok(LayoutData {
+        fields: FieldsShape::Arbitrary {
+            offsets: one_item(alloc, Size::ZERO)?,
+            in_memory_order: one_item(alloc, first)?,
+        },
+        variants: Variants::Multiple {
+            tag,
+            tag_encoding: TagEncoding::Direct,
+            tag_field: first,
+            variants,
+        },
+        backend_repr: view,
+        largest_niche: Niche::from_scalar(dl, Size::ZERO, tag),
+        uninhabited,
+        align: AbiAlign::new(align),
+        size,
+        max_repr_align,
+        unadjusted_abi_align,
+        repr_c: repr.c(),
+        randomization_seed,
+    })
+}
+
+/// The layout of an enum whose variants have these lists behind a tag, which is asked for as this integer and holds these
+/// discriminants.
+fn layout_of_lists<FieldIdx: Idx, VariantIdx: Idx, F: LayoutHandle<FieldIdx, VariantIdx> + Copy>(
+    alloc: Global,
+    dl: &TargetDataLayout,
+    variants: &[IndexVec<FieldIdx, F>],
+    repr: &ReprOptions,
+    asked: Integer,
+    signed: bool,
+    values: &[u128],
+    lists: Vec<LayoutData<FieldIdx, VariantIdx>>,
+) -> Result<LayoutData<FieldIdx, VariantIdx>, LayoutCalculatorError<F>>
+    requires data_layout { IsLawfulDataLayout dl.now }
+    requires fields { All (All (λ f. IsLawfulLayout dl.now (F.layout_of f))) variants.now }
+    requires lists { AreListsOf variants.now lists.items }
+    requires lawful { All (IsLawfulLayout dl.now) lists.items }
+    requires count { length variants.now ≤ VariantIdx.MAX_INDEX + 1 }
+    ensures exact { IfOk result (IsTaggedBy FieldIdx.number (FieldIdx.at 0) dl.now repr.now asked signed values.now (map (map F.layout_of) variants.now) lists.items) }
+    ensures fault { IfErr result (λ e. ((size_bound dl.now ≤ lists_size dl.now lists.items) × (e ≡ LayoutCalculatorError.SizeOverflow)) ⊎ (e ≡ LayoutCalculatorError.OutOfMemory)) }
+{
+    let align = greatest_align(dl.aggregate_align, lists.as_slice());
+    let size = lists_size(dl, &lists, align);
+    if size.bytes() >= dl.obj_size_bound() {
+        return Err(LayoutCalculatorError::SizeOverflow);
+    }
+    let integer = grown_tag(dl, repr, asked, start_align(variants, &lists));
+    let range = tag_range(alloc, integer.size(), values)?;
+    let tag = Scalar::Initialized {
+        value: Primitive::Int(integer, signed),
+        valid_range: range,
+    };
+    let view = tagged_view(dl, tag, size, align, asked.size(), variants, &lists);
+    match layout_seen_as(alloc, dl, repr, asked.size(), tag, view, align, size, lists) {
+        Ok(layout) => Ok(layout),
+        Err(error) => Err(error.into()),
+    }
+}
+
+impl<Cx: HasDataLayout> LayoutCalculator<Cx> {
+    /// The layout of an enum with a tag, which is asked for as this integer and holds these discriminants, those that
+    /// count: the variants' fields are lists behind the tag, and where their layout is free it grows up to their first
+    /// fields.
+    ///
+    /// Refused as the first variant is whose fields have no layout, and as `SizeOverflow` where the greatest list's
+    /// size, rounded up, isn't below the bound. `OutOfMemory` may come at any time.
+    pub(crate) fn layout_of_tagged<
+        FieldIdx: Idx,
+        VariantIdx: Idx,
+        F: LayoutHandle<FieldIdx, VariantIdx> + Copy,
+    >(
+        &self,
+        alloc: Global,
+        variants: &[IndexVec<FieldIdx, F>],
+        repr: &ReprOptions,
+        asked: Integer,
+        signed: bool,
+        values: &[u128],
+    ) -> Result<LayoutData<FieldIdx, VariantIdx>, LayoutCalculatorError<F>>
+        requires data_layout { IsLawfulDataLayout (Cx.target self.now.cx) }
+        requires fields { All (All (λ f. IsLawfulLayout (Cx.target self.now.cx) (F.layout_of f))) variants.now }
+        requires count { length variants.now ≤ VariantIdx.MAX_INDEX + 1 }
+        requires repr { HasLawfulAligns repr.now }
+        requires unpacked { repr.now.pack ≡ None }
+        requires some { 0 < length variants.now }
+        ensures exact { IsTaggedAnswer F.layout_of FieldIdx.at FieldIdx.number (VariantIdx.at 0) (Cx.target self.now.cx) repr.now asked signed values.now variants.now result }
+
+        // The size is the greatest least size of the variants' lists, rounded up to the greatest of their alignments.
+        ensures size { IfOk result (λ l. IsTaggedSize (Cx.target self.now.cx) repr.now (behind_tag (Cx.target self.now.cx) repr.now asked (map (map F.layout_of) variants.now)) (map (map F.layout_of) variants.now) l.size) }
+
+        ensures lawful { IfOk result (IsLawfulLayout (Cx.target self.now.cx)) }
+
+        // A view of scalars is true of each variant: it begins with the tag, and what stands beside it holds anything.
+        ensures view { IfOk result (λ l. HasTrueView (Cx.target self.now.cx) l) }
+
+        // The tag and the fields of each variant share no byte, and end inside.
+        ensures apart { IfOk result (λ l. AreApartAmong (Cx.target self.now.cx) l.size (map (map F.layout_of) variants.now) l.variants) }
+
+        // Each discriminant that counts is a number of the tag, cut to its width, and those that differ by the integer that was
+        // asked for differ there too.
+        ensures numbers { IfOk result (λ l. AreNumbersAmong (Cx.target self.now.cx) values.now l.variants) }
+        ensures differ { IfOk result (λ l. DifferAmong (Cx.target self.now.cx) (integer_size asked) values.now l.variants) }
+
+        // It is refused for its size only where every allowed order of some list is too large, or that size is, and sized fields
+        // always then; sized fields are refused by no other name.
+        ensures too_large { result ≡ Err LayoutCalculatorError.SizeOverflow → IsTaggedTooLarge (Cx.target self.now.cx) repr.now (behind_tag (Cx.target self.now.cx) repr.now asked (map (map F.layout_of) variants.now)) (map (map F.layout_of) variants.now) }
+        ensures refused { All AreSized (map (map F.layout_of) variants.now) → IsTaggedTooLarge (Cx.target self.now.cx) repr.now (behind_tag (Cx.target self.now.cx) repr.now asked (map (map F.layout_of) variants.now)) (map (map F.layout_of) variants.now) → IsAnswer (Err LayoutCalculatorError.SizeOverflow) result }
+        ensures no_other { All AreSized (map (map F.layout_of) variants.now) → IfErr result (λ e. (e ≡ LayoutCalculatorError.SizeOverflow) ⊎ (e ≡ LayoutCalculatorError.OutOfMemory)) }
+    {
+        let dl = self.cx.data_layout();
+        let kind = behind_tag(dl, repr, asked, variants);
+        match self.layouts_of_lists(alloc, variants, repr, &kind) {
+            Ok(lists) => layout_of_lists(alloc, dl, variants, repr, asked, signed, values, lists),
+            Err(error) => Err(error),
+        }
+    }
+}
