@@ -26,6 +26,8 @@ pub mod EnumLists
 pub mod EnumTagged
 pub mod EnumSizes
 pub mod EnumAnswers
+pub mod EnumNiche
+pub mod EnumInNiche
 pub mod EnumPlaces
 pub mod EnumViews
 pub mod Facts

@@ -9,3 +9,5 @@ pub mod Tagged
 pub mod Sizes
 pub mod Places
 pub mod Several
+pub mod Niche
+pub mod Choice

@@ -38,7 +38,7 @@ pub fn is_unsized(view: BackendRepr) -> bool
 
 /// How many numbers the niche has free, 0 where there is none.
 #[tactic(auto, using(crate::proofs::NicheLemmas::lawful_readable))]
-fn free_numbers<C: HasDataLayout>(cx: &C, size: Size, niche: Option<Niche>) -> u128
+pub fn free_numbers<C: HasDataLayout>(cx: &C, size: Size, niche: Option<Niche>) -> u128
     requires { IfSome niche (IsLawfulNiche (C.target cx.now) size) }
     ensures { result ≡ free_numbers (C.target cx.now) niche }
 {

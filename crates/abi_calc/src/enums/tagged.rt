@@ -35,7 +35,7 @@ use abi_scalar::{
 use std::alloc::{AllocError, Global};
 
 /// The greatest size of the variants' lists, rounded up to the greatest alignment.
-fn lists_size<FieldIdx: Idx, VariantIdx: Idx>(
+pub fn lists_size<FieldIdx: Idx, VariantIdx: Idx>(
     dl: &TargetDataLayout,
     lists: &[LayoutData<FieldIdx, VariantIdx>],
     align: Align,
@@ -49,7 +49,7 @@ fn lists_size<FieldIdx: Idx, VariantIdx: Idx>(
 }
 
 /// Whether no variant has values.
-fn all_uninhabited<FieldIdx: Idx, VariantIdx: Idx>(
+pub fn all_uninhabited<FieldIdx: Idx, VariantIdx: Idx>(
     lists: &[LayoutData<FieldIdx, VariantIdx>],
 ) -> bool
     ensures { result ≡ list_all (λ list. list.uninhabited) lists.now }
@@ -84,7 +84,7 @@ fn variants_of<FieldIdx: Idx, VariantIdx: Idx>(
 }
 
 /// A list with one item.
-fn one_item<I: Idx, T: Copy>(alloc: Global, item: T) -> Result<IndexVec<I, T>, AllocError>
+pub fn one_item<I: Idx, T: Copy>(alloc: Global, item: T) -> Result<IndexVec<I, T>, AllocError>
     ensures { IfOk result (λ list. list ≡ item ∷ []) }
 {
     let mut list = IndexVec::new(alloc);

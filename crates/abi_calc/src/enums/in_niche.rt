@@ -1,0 +1,249 @@
+//! Enums whose tag lies in a niche of one variant: whether there is such a layout, and which.
+
+ghost use Rattle.std.specs.Prelude.{◌≡◌, ◌+◌, ◌^◌, ◌<◌, ◌≤◌, ◌==◌, ◌&&◌, All, IfErr, IfOk, Some, true, length, map, slice_get, if◌then◌else◌};
+ghost use Rattle.abi_base.specs.DataLayout.{IsLawfulDataLayout};
+ghost use Rattle.abi_scalar.specs.Lawful.{IsLawfulLayout};
+ghost use Rattle.abi_scalar.specs.declared.backend_repr.BackendRepr.TheVariants.{Memory};
+ghost use Rattle.abi_scalar.specs.declared.variants.TagEncoding.TheVariants.{Niche as InNiche};
+ghost use Rattle.abi_scalar.specs.Niche.{IsReadableNiche, niche_size};
+ghost use Rattle.abi_scalar.specs.Reserve.{reserved};
+ghost use Rattle.abi_scalar.specs.Scalar.{IsLawfulScalar};
+ghost use Rattle.abi_calc.specs.List.{HasLawfulAligns};
+ghost use Rattle.abi_calc.specs.Enums.Choice.{IsNicheAnswer};
+ghost use Rattle.abi_calc.specs.Enums.Niche.{IsRoomy, IsSmallList, if_placed, niche_layout, niche_of_list, others_empty, room_beside, span_count, variants_from, view_with};
+
+use crate::calculator::LayoutCalculator;
+use crate::enums::niche::{Room, others_empty, placed_variants, span_of, untagged_of, view_with};
+use crate::enums::path::is_free;
+use crate::enums::tagged::{all_uninhabited, lists_size, one_item};
+use crate::fields::{greatest_align, greatest_repr_align, greatest_unadjusted, seed_with};
+use abi_base::{AbiAlign, Align, HasDataLayout, Size, StructKind, TargetDataLayout};
+use abi_index::{Idx, IndexVec};
+use abi_scalar::{
+    BackendRepr, FieldsShape, LayoutCalculatorError, LayoutData, LayoutHandle, Niche,
+    RangeInclusive, ReprOptions, Scalar, TagEncoding, VariantLayout, Variants,
+};
+use std::alloc::{AllocError, Global};
+
+/// The room beside a niche of the untagged variant, in an enum of this size.
+fn room_beside(dl: &TargetDataLayout, niche: Niche, whole: Size) -> Room
+    requires readable { IsReadableNiche dl.now niche }
+    requires offset { niche.offset < 2 ^ 61 }
+    ensures before { result.before ≡ niche.offset }
+    ensures after { result.after ≡ niche.offset + niche_size dl.now niche }
+    ensures whole { result.whole ≡ whole }
+    ensures roomy { IsRoomy result }
+{
+    Room {
+        before: niche.offset,
+        after: niche.offset + niche.value.size(dl),
+        whole,
+    }
+}
+
+/// How a variant is named: by the numbers from the first that is handed out on, in the span; else it is the untagged one.
+fn niche_encoding<VariantIdx: Idx>(
+    untagged: usize,
+    span: (usize, usize),
+    start: u128,
+) -> TagEncoding<VariantIdx>
+    requires untagged { untagged ≤ VariantIdx.MAX_INDEX }
+    requires first { span.0 ≤ VariantIdx.MAX_INDEX }
+    requires last { span.1 ≤ VariantIdx.MAX_INDEX }
+    ensures { result ≡ InNiche (VariantIdx.at untagged) (record { start = VariantIdx.at span.0; last = VariantIdx.at span.1 }) start }
+{
+    TagEncoding::Niche {
+        untagged_variant: VariantIdx::new(untagged),
+        niche_variants: RangeInclusive {
+            start: VariantIdx::new(span.0),
+            last: VariantIdx::new(span.1),
+        },
+        niche_start: start,
+    }
+}
+
+/// How a code generator sees the enum, whose untagged variant may fill it.
+fn niche_view<FieldIdx: Idx, VariantIdx: Idx>(
+    fills: bool,
+    untagged: usize,
+    own_view: BackendRepr,
+    offset: Size,
+    tag: Scalar,
+    variants: &IndexVec<VariantIdx, VariantLayout<FieldIdx>>,
+) -> BackendRepr
+    ensures { result ≡ (if fills && others_empty untagged 0 variants.now then view_with offset tag own_view else Memory true) }
+{
+    if fills && others_empty(untagged, variants.as_slice().as_raw()) {
+        view_with(offset, tag, own_view)
+    } else {
+        BackendRepr::Memory { sized: true }
+    }
+}
+
+/// Whether the list fills an enum of this size and alignment.
+fn fills<FieldIdx: Idx, VariantIdx: Idx>(
+    list: &LayoutData<FieldIdx, VariantIdx>,
+    size: Size,
+    align: Align,
+) -> bool
+    ensures { result ≡ ((size == list.now.size) && (align == list.now.align.abi)) }
+{
+    size == list.size && align == list.align.abi
+}
+
+/// Whether the list at a place fills an enum of this size and alignment, and its view.
+fn untagged_view<FieldIdx: Idx, VariantIdx: Idx>(
+    lists: &[LayoutData<FieldIdx, VariantIdx>],
+    untagged: usize,
+    size: Size,
+    align: Align,
+) -> (bool, BackendRepr)
+    requires { untagged < length lists.now }
+    ensures fills { (list : LayoutData FieldIdx VariantIdx) → slice_get lists.now untagged ≡ Some list → result.0 ≡ ((size == list.size) && (align == list.align.abi)) }
+    ensures view { (list : LayoutData FieldIdx VariantIdx) → slice_get lists.now untagged ≡ Some list → result.1 ≡ list.backend_repr }
+{
+    let list = &lists[untagged];
+    (fills(list, size, align), list.backend_repr)
+}
+
+/// The layout with this niche of the untagged variant, from which these numbers are handed out, if there is room for each
+/// other variant.
+fn layout_in_niche<FieldIdx: Idx, VariantIdx: Idx>(
+    alloc: Global,
+    dl: &TargetDataLayout,
+    repr: &ReprOptions,
+    untagged: usize,
+    span: (usize, usize),
+    niche: Niche,
+    handed: (u128, Scalar),
+    lists: Vec<LayoutData<FieldIdx, VariantIdx>>,
+) -> Result<Option<LayoutData<FieldIdx, VariantIdx>>, AllocError>
+    requires data_layout { IsLawfulDataLayout dl.now }
+    requires lawful { All (IsLawfulLayout dl.now) lists.items }
+    requires small { All IsSmallList lists.items }
+    requires count { length lists.items ≤ VariantIdx.MAX_INDEX + 1 }
+    requires untagged { untagged < length lists.items }
+    requires first { span.0 ≤ VariantIdx.MAX_INDEX }
+    requires last { span.1 ≤ VariantIdx.MAX_INDEX }
+    requires readable { IsReadableNiche dl.now niche }
+    requires offset { niche.offset < 2 ^ 61 }
+    requires handed { handed ≡ reserved dl.now niche (span_count span) }
+    requires tag { IsLawfulScalar dl.now handed.1 }
+    ensures { IfOk result (λ found. (list : LayoutData FieldIdx VariantIdx) → slice_get lists.items untagged ≡ Some list
+        → found ≡ if_placed (FieldIdx.at 0) VariantIdx.at dl.now repr.now untagged span lists.items list niche (variants_from (room_beside dl.now niche lists.items) untagged 0 lists.items)) }
+{
+    let align = greatest_align(dl.aggregate_align, lists.as_slice());
+    let size = lists_size(dl, &lists, align);
+    let (fills, own_view) = untagged_view(&lists, untagged, size, align);
+    let uninhabited = all_uninhabited(&lists);
+    let max_repr_align = greatest_repr_align(repr.align, lists.as_slice());
+    let unadjusted_abi_align = greatest_unadjusted(dl.aggregate_align, lists.as_slice());
+    let randomization_seed = seed_with(repr.field_shuffle_seed, lists.as_slice());
+    let room = room_beside(dl, niche, size);
+    let Some(variants) = placed_variants(alloc, &room, untagged, lists)? else {
+        return Ok(None);
+    };
+    let (start, tag) = handed;
+    let backend_repr = niche_view(fills, untagged, own_view, niche.offset, tag, &variants);
+    let first = FieldIdx::new(0);
+    Ok(Some(LayoutData {
+        fields: FieldsShape::Arbitrary {
+            offsets: one_item(alloc, niche.offset)?,
+            in_memory_order: one_item(alloc, first)?,
+        },
+        variants: Variants::Multiple {
+            tag,
+            tag_encoding: niche_encoding(untagged, span, start),
+            tag_field: first,
+            variants,
+        },
+        backend_repr,
+        largest_niche: Niche::from_scalar(dl, niche.offset, tag),
+        uninhabited,
+        align: AbiAlign::new(align),
+        size,
+        max_repr_align,
+        unadjusted_abi_align,
+        repr_c: repr.c(),
+        randomization_seed,
+    }))
+}
+
+/// The greatest niche of the list at a place.
+fn niche_at<FieldIdx: Idx, VariantIdx: Idx>(
+    lists: &[LayoutData<FieldIdx, VariantIdx>],
+    place: usize,
+) -> Option<Niche>
+    ensures { result ≡ niche_of_list (slice_get lists.now place) }
+{
+    match lists.get(place) {
+        Some(list) => list.largest_niche,
+        None => None,
+    }
+}
+
+/// The layout with a niche, where there is one, of variants whose fields have these layouts as always sized lists.
+pub fn niche_of_lists<FieldIdx: Idx, VariantIdx: Idx, F: LayoutHandle<FieldIdx, VariantIdx>>(
+    alloc: Global,
+    dl: &TargetDataLayout,
+    repr: &ReprOptions,
+    variants: &[IndexVec<FieldIdx, F>],
+    lists: Vec<LayoutData<FieldIdx, VariantIdx>>,
+) -> Result<Option<LayoutData<FieldIdx, VariantIdx>>, AllocError>
+    requires data_layout { IsLawfulDataLayout dl.now }
+    requires lawful { All (IsLawfulLayout dl.now) lists.items }
+    requires small { All IsSmallList lists.items }
+    requires count { length lists.items ≤ VariantIdx.MAX_INDEX + 1 }
+    requires each { length lists.items ≡ length variants.now }
+    ensures { IfOk result (λ found. found ≡ niche_layout (FieldIdx.at 0) VariantIdx.at dl.now repr.now (map (map F.layout_of) variants.now) lists.items) }
+{
+    let untagged = untagged_of(&lists);
+    let Some(span) = span_of(untagged, variants) else {
+        return Ok(None);
+    };
+    let Some(niche) = niche_at(&lists, untagged) else {
+        return Ok(None);
+    };
+    let count = (span.1 - span.0) as u128 + 1;
+    let Some(handed) = niche.reserve(dl, count) else {
+        return Ok(None);
+    };
+    layout_in_niche(alloc, dl, repr, untagged, span, niche, handed, lists)
+}
+
+impl<Cx: HasDataLayout> LayoutCalculator<Cx> {
+    /// The layout of an enum with a niche, where there is one: none where C or an integer is asked for, or where some
+    /// variant's fields have no layout as an always sized list. Only want of memory is an error.
+    pub(crate) fn layout_of_niche<
+        FieldIdx: Idx,
+        VariantIdx: Idx,
+        F: LayoutHandle<FieldIdx, VariantIdx> + Copy,
+    >(
+        &self,
+        alloc: Global,
+        variants: &[IndexVec<FieldIdx, F>],
+        repr: &ReprOptions,
+    ) -> Result<Option<LayoutData<FieldIdx, VariantIdx>>, LayoutCalculatorError<F>>
+        requires data_layout { IsLawfulDataLayout (Cx.target self.now.cx) }
+        requires fields { All (All (λ f. IsLawfulLayout (Cx.target self.now.cx) (F.layout_of f))) variants.now }
+        requires count { length variants.now ≤ VariantIdx.MAX_INDEX + 1 }
+        requires repr { HasLawfulAligns repr.now }
+        ensures exact { IfOk result (IsNicheAnswer F.layout_of FieldIdx.at VariantIdx.at (Cx.target self.now.cx) repr.now variants.now) }
+        ensures memory { IfErr result (λ e. e ≡ LayoutCalculatorError.OutOfMemory) }
+    {
+        if !is_free(repr) {
+            return Ok(None);
+        }
+        match self.layouts_of_lists(alloc, variants, repr, &StructKind::AlwaysSized) {
+            Ok(lists) => {
+                let dl = self.cx.data_layout();
+                match niche_of_lists(alloc, dl, repr, variants, lists) {
+                    Ok(found) => Ok(found),
+                    Err(error) => Err(error.into()),
+                }
+            }
+            Err(LayoutCalculatorError::OutOfMemory) => Err(LayoutCalculatorError::OutOfMemory),
+            Err(_) => Ok(None),
+        }
+    }
+}
