@@ -89,7 +89,7 @@ fn fields_layout(
 }
 
 /// A node for the fields of a struct without a fault of its own.
-fn add_faultless(
+fn add_faultless_fields(
     alloc: Global,
     dl: &TargetDataLayout,
     nodes: &mut Vec<Node>,
@@ -132,6 +132,6 @@ pub(crate) fn add_fields(
 {
     match fields_fault(repr, &children) {
         Some(fault) => Err(fault),
-        None => add_faultless(alloc, dl, nodes, repr, always_sized, children),
+        None => add_faultless_fields(alloc, dl, nodes, repr, always_sized, children),
     }
 }

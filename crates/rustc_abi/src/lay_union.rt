@@ -42,7 +42,7 @@ fn union_layout(
 }
 
 /// A node for a union without a fault of its own.
-fn add_faultless(
+fn add_faultless_union(
     alloc: Global,
     dl: &TargetDataLayout,
     nodes: &mut Vec<Node>,
@@ -82,6 +82,6 @@ pub(crate) fn add_union(
 {
     match fields_fault(repr, &children) {
         Some(fault) => Err(fault),
-        None => add_faultless(alloc, dl, nodes, repr, children),
+        None => add_faultless_union(alloc, dl, nodes, repr, children),
     }
 }

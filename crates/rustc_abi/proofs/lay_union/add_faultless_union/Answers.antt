@@ -6,7 +6,7 @@ use Rattle.rustc_abi.specs.Adding.{all_at}
 use Rattle.rustc_abi.proofs.LayLemmas.{faultless_few, faultless_aligns}
 use Rattle.rustc_abi.proofs.TogetherLemmas.{IsAdded-union, union_refused}
 use Rattle.rustc_abi.proofs.ListLemmas.{all_below, passed_on}
-use Rattle.rustc_abi.proofs.lay_union.add_faultless.Goals as goal
+use Rattle.rustc_abi.proofs.lay_union.add_faultless_union.Goals as goal
 
 pub union_layout-requires-clause-aligns : goal.union_layout-requires-clause-aligns
 union_layout-requires-clause-aligns c = faultless_aligns c.args.repr.now _ c.requires.faultless

@@ -8,7 +8,7 @@ use Rattle.rustc_abi.specs.Error.{IsRefused}
 use Rattle.rustc_abi.specs.Adding.{all_at}
 use Rattle.rustc_abi.proofs.LayLemmas.{IsAdded-fields, faultless_few, faultless_aligns, kind_cases, fields_refused}
 use Rattle.rustc_abi.proofs.ListLemmas.{all_below, passed_on}
-use Rattle.rustc_abi.proofs.lay_fields.add_faultless.Goals as goal
+use Rattle.rustc_abi.proofs.lay_fields.add_faultless_fields.Goals as goal
 
 pub fields_layout-requires-clause-kind : goal.fields_layout-requires-clause-kind
 fields_layout-requires-clause-kind c =
