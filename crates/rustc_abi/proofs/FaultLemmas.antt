@@ -83,3 +83,14 @@ module _ (dl : TargetDataLayout) where
   -- a scalar without a fault is lawful
   pub faultless : (s : Scalar) → scalar_fault dl s ≡ None → IsLawfulScalar dl s
   faultless s none = by_tests s (is_lawful_primitive dl (primitive_of s)) (has_range_within dl s) refl refl none
+
+  -- what is no pointer is lawful
+  pub no_pointer : (p : Primitive) → ((space : AddressSpace) → p ≡ Pointer space → ⊥) → is_lawful_primitive dl p ≡ true
+  no_pointer (Int i signed) h = refl
+  no_pointer (Float f) h = refl
+  no_pointer (Pointer space) h = absurd (h space refl)
+
+  -- the fault of a scalar whose primitive is lawful is its range's
+  pub range_fault : (s : Scalar) (fits : Bool) → is_lawful_primitive dl (primitive_of s) ≡ true → fits ≡ has_range_within dl s →
+      (if fits then None else Some BadRange) ≡ scalar_fault dl s
+  range_fault s fits h k = rw (h, sym k) refl

@@ -16,17 +16,6 @@ use abi_base::{Primitive, TargetDataLayout};
 use abi_scalar::{LayoutData, Scalar};
 use std::alloc::Global;
 
-/// Whether it is no pointer, or one into a space that the data layout knows, with lawful pointers.
-fn is_lawful_primitive(dl: &TargetDataLayout, value: Primitive) -> bool
-    ensures { result ≡ is_lawful_primitive dl.now value }
-{
-    match value {
-        Primitive::Int(_, _) => true,
-        Primitive::Float(_) => true,
-        Primitive::Pointer(space) => dl.has_lawful_pointer(space),
-    }
-}
-
 /// Whether both ends of its range, if it has one, are numbers of its width.
 fn has_range_within(dl: &TargetDataLayout, value: Scalar) -> bool
     requires { is_lawful_primitive dl.now (primitive_of value) ≡ true }
@@ -41,17 +30,28 @@ fn has_range_within(dl: &TargetDataLayout, value: Scalar) -> bool
     }
 }
 
+/// The fault, if it has one, of a scalar whose pointer has none: its range's.
+fn range_fault(dl: &TargetDataLayout, value: Scalar) -> Option<LayError>
+    requires { is_lawful_primitive dl.now (primitive_of value) ≡ true }
+    ensures { result ≡ scalar_fault dl.now value }
+{
+    if has_range_within(dl, value) {
+        None
+    } else {
+        Some(LayError::BadRange)
+    }
+}
+
 /// The scalar's fault, if it has one: its pointer's before its range's.
 fn scalar_fault(dl: &TargetDataLayout, value: Scalar) -> Option<LayError>
     ensures { result ≡ scalar_fault dl.now value }
 {
-    if !is_lawful_primitive(dl, value.primitive()) {
-        return Some(LayError::UnknownSpace);
+    if let Primitive::Pointer(space) = value.primitive() {
+        if !dl.has_lawful_pointer(space) {
+            return Some(LayError::UnknownSpace);
+        }
     }
-    if !has_range_within(dl, value) {
-        return Some(LayError::BadRange);
-    }
-    None
+    range_fault(dl, value)
 }
 
 /// A node for a scalar without a fault.
