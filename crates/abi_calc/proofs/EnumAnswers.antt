@@ -17,7 +17,7 @@ use Rattle.abi_scalar.specs.Scalar.{IsLawfulScalar}
 use Rattle.abi_calc.specs.Enums.Discriminants.{IsTagRange}
 use Rattle.abi_calc.specs.Enums.Growth.{grown_tag, start_align}
 use Rattle.abi_calc.specs.Enums.Payload.{tagged_view}
-use Rattle.abi_calc.specs.Enums.Places.{AreApartAmong, AreNumbersAmong, DifferAmong, HasTrueView}
+use Rattle.abi_calc.specs.Enums.Places.{AreApartAmong, AreNumbersAmong, DifferAmong, HasViewOfTag}
 use Rattle.abi_calc.proofs.EnumGrowth.{grown_size}
 use Rattle.abi_calc.proofs.EnumPlaces.{greatest_within, new_fits, tagged_apart}
 use Rattle.abi_calc.proofs.EnumTagged.{align_of_lists_small, tag_lawful}
@@ -35,7 +35,7 @@ use Rattle.abi_scalar.specs.Lawful.{IsLawfulLayout}
 use Rattle.abi_calc.specs.Answer.{IsAnswer}
 use Rattle.abi_calc.specs.List.{AreSized}
 use Rattle.abi_calc.specs.Placement.{IsSized}
-use Rattle.abi_calc.specs.Enums.Lists.{AreGoodLists, IsFirstListError, behind_tag}
+use Rattle.abi_calc.specs.Enums.Lists.{AreGoodLists, HaveGoodLists, IsFirstListError, behind_tag}
 use Rattle.abi_calc.specs.Enums.Sizes.{IsTaggedSize, IsTaggedTooLarge}
 use Rattle.abi_calc.specs.Enums.Tagged.{IsTaggedBy, lists_align, lists_size, payloads_of}
 use Rattle.abi_calc.specs.Fields.{greatest_size}
@@ -86,6 +86,10 @@ module _ {F V H : Type 0} (layout_of : H → LayoutData F V) (at : ℕ → F) (n
 
   abbrev pub IsBy : LayoutData F V → Type 0
   IsBy = IsTaggedBy number (at 0) dl repr asked signed values (map (map layout_of) variants) lists
+
+  pub by_good : (r : Result (LayoutData F V) (LayoutCalculatorError H)) → HasGoodLists → IfOk r (λ l. HaveGoodLists layout_of at first dl repr kind variants)
+  by_good (Ok l) h = (lists, h.good)
+  by_good (Err e) h = tt
 
   pub by_size : (r : Result (LayoutData F V) (LayoutCalculatorError H)) → HasGoodLists → IfOk r IsBy → IfOk r (λ l. IsTaggedSize dl repr kind (map (map layout_of) variants) l.size)
   by_size (Ok l) h by =
@@ -141,11 +145,11 @@ module _ {F V H : Type 0} (layout_of : H → LayoutData F V) (at : ℕ → F) (n
   by_lawful most law lawful is small fields all (Err e) h by = tt
 
   -- its view is true of each variant
-  pub by_view : (r : Result (LayoutData F V) (LayoutCalculatorError H)) → IfOk r IsBy → IfOk r (HasTrueView dl)
+  pub by_view : (r : Result (LayoutData F V) (LayoutCalculatorError H)) → IfOk r IsBy → IfOk r (HasViewOfTag dl)
   by_view (Ok l) by =
       let vs = map (map layout_of) variants in
       let grown = grown_tag dl repr asked (start_align number vs lists) in
-      subst (HasTrueView dl) (sym by.ranged.2) (view_true dl (Initialized (Int grown signed) by.ranged.0) (lists_size dl lists) (lists_align dl lists) (payloads_of dl (integer_size asked) (integer_size grown) vs lists)
+      subst (HasViewOfTag dl) (sym by.ranged.2) (view_true dl (Initialized (Int grown signed) by.ranged.0) (lists_size dl lists) (lists_align dl lists) (payloads_of dl (integer_size asked) (integer_size grown) vs lists)
       (payloads_wide dl (integer_size asked) (integer_size grown) vs lists))
   by_view (Err e) by = tt
 

@@ -1,9 +1,9 @@
 -- A tag that grows into the space before the variants' fields.
 use Rattle.std.proofs.Common.{◌≡◌, ℕ, zero, suc, ◌+◌, ◌^◌, ◌<◌, ◌≤◌, Bool, true, false, List, [], ◌∷◌, add-one, ap, arith, drop, drop-cons, get_or, length, map, min, refl, subst, sym, ◌∙◌}
-use Rattle.std.specs.Prelude.{◌==◌, ◌&&◌, All, None, Option, Some, cond, if◌then◌else◌, nat_lt, option_map, slice_get, unwrap_or}
+use Rattle.std.specs.Prelude.{◌==◌, ◌&&◌, None, Option, Some, cond, if◌then◌else◌, nat_lt, option_map, slice_get, unwrap_or}
 use Rattle.std.specs.List.{find}
 use Rattle.std.proofs.lemmas.Bool.{eqb-true, ltb-false, ltb-true}
-use Rattle.std.proofs.lemmas.List.{drop_all, length-map}
+use Rattle.std.proofs.lemmas.List.{drop_all}
 use Rattle.std.proofs.lemmas.Option.{slice_get-get_or, slice_get-map, slice_get_past}
 use Rattle.abi_base.specs.declared.data_layout.TargetDataLayout.{TargetDataLayout}
 use Rattle.abi_base.specs.declared.integer.Integer.{Integer}
@@ -138,13 +138,6 @@ pub moved_up : (old new : ℕ) (offsets : List ℕ) → old ≤ new → (k d : �
 moved_up old new [] grows k d short = absurd (omega arith)
 moved_up old new (o ∷ offsets) grows zero d short = moved_one old new o grows
 moved_up old new (o ∷ offsets) grows (suc k) d short = moved_up old new offsets grows k d (omega arith)
-
--- where the offsets lie behind the old tag, so do the moved ones
-pub moved_behind : (old new : ℕ) (offsets : List ℕ) → old ≤ new → All (λ o. old ≤ o) offsets → All (λ o. old ≤ o) (map (moved old new) offsets)
-moved_behind old new offsets grows behind k d short =
-    let count : length (map (moved old new) offsets) ≡ length offsets = length-map offsets (moved old new) in
-    let fits : k < length offsets = omega arith in
-    omega (arith, behind k d fits, moved_up old new offsets grows k d fits)
 
 -- ---- the field at a place
 

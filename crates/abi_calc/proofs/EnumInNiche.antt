@@ -102,7 +102,8 @@ handed_cases : (b : Bool) (niche : Niche) (m n : ℕ) (start end : WrappingRange
 handed_cases true niche m n start end = refl
 handed_cases false niche m n start end = refl
 
-handed_from : (dl : TargetDataLayout) (niche : Niche) (count : ℕ) → primitive_of (reserved dl niche count).1 ≡ niche.value
+-- the tag has the niche's primitive
+pub handed_from : (dl : TargetDataLayout) (niche : Niche) (count : ℕ) → primitive_of (reserved dl niche count).1 ≡ niche.value
 handed_from dl niche count = handed_cases (moves_start (niche_size dl niche) niche.valid_range count) niche _ _ _ _
 
 -- the tag is lawful
@@ -162,7 +163,8 @@ there_cases P xs i x all is (inr h) = absurd (cc)
 pub holds_there : {A : Type 0} (P : A → Type 0) (xs : List A) (i : ℕ) (x : A) → All P xs → slice_get xs i ≡ Some x → P x × (i < length xs)
 holds_there P xs i x all is = there_cases P xs i x all is (slice_get_cases xs i).1
 
-of_some : {A : Type 0} (P : A → Type 0) (o : Option A) (x : A) → o ≡ Some x → IfSome o P → P x
+-- what holds of the item that is there, holds of it where it is known
+pub of_some : {A : Type 0} (P : A → Type 0) (o : Option A) (x : A) → o ≡ Some x → IfSome o P → P x
 of_some P o x e h = subst (λ q. IfSome q P) e h
 
 module _ {F V : Type 0} (first : F) (index : ℕ → V) (dl : TargetDataLayout) (repr : ReprOptions) (variants : List (List (LayoutData F V))) (lists : List (LayoutData F V)) where

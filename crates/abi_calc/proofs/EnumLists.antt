@@ -1,6 +1,6 @@
 -- The lists of an enum's variants.
 use Rattle.std.proofs.Common.{◌≡◌, ℕ, ◌+◌, ◌<◌, ◌≤◌, List, [], ◌∷◌, ◌++◌, ◌∙◌, ap, arith, drop, inl, inr, length, map, refl, slice_index_or, subst, suc, sym, take}
-use Rattle.std.specs.Prelude.{◌⊎◌, All, IfErr, IfOk, Result, Ok, Err}
+use Rattle.std.specs.Prelude.{◌⊎◌, All, IfErr, IfOk, IfSome, Result, Ok, Err}
 use Rattle.std.proofs.lemmas.List.{length-map, take-append-drop, take_more}
 use Rattle.std.proofs.Math.Seq.{drop-cons}
 use Rattle.std.proofs.lemmas.List.Elements.{All-append, All-cons, All-get_or, All-head, All-nil, All-tail}
@@ -20,6 +20,7 @@ use Rattle.abi_scalar.specs.Lawful.{IsLawfulLayout}
 use Rattle.abi_scalar.specs.Order.{HasPlaceForEach}
 use Rattle.abi_scalar.specs.Shape.{IsListed, listed_offsets}
 use Rattle.abi_calc.specs.Apart.{AreApart, offsets_of}
+use Rattle.abi_calc.specs.ListNiche.{HasLargestNiche, IsNicheOfPart}
 use Rattle.abi_calc.specs.Least.{IsLeastSize, LiesInSomeOrder}
 use Rattle.abi_calc.specs.Placement.{start_of}
 use Rattle.abi_calc.specs.List.{IsListAnswer, IsListError}
@@ -119,9 +120,10 @@ is_listed shape offsets order e = rw e tt
 pub good_of : {F V H : Type 0} (layout_of : H → LayoutData F V) (at : ℕ → F) (first : V) (dl : TargetDataLayout) (repr : ReprOptions) (kind : StructKind) (fields : List H) (r : Result (LayoutData F V) (LayoutCalculatorError H))
     → IsListAnswer layout_of at first dl repr kind fields r → IfOk r (IsLawfulLayout dl) → IfOk r (LiesInSomeOrder at dl repr kind (map layout_of fields)) → IfOk r (λ l. HasPlaceForEach l.fields)
     → IfOk r (λ l. IsLeastSize dl repr kind (map layout_of fields) l.size) → IfOk r (λ l. AreApart l.size (offsets_of l.fields) (map (λ f. (layout_of f).size) fields))
-    → IfOk r (λ l. All (λ o. start_of repr.pack kind ≤ o) (offsets_of l.fields))
+    → IfOk r (λ l. All (λ o. start_of repr.pack kind ≤ o) (offsets_of l.fields)) → IfOk r (λ l. IfSome l.largest_niche (IsNicheOfPart (offsets_of l.fields) (map layout_of fields)))
+    → IfOk r (λ l. HasLargestNiche dl l.largest_niche (map layout_of fields))
     → IfOk r (IsGoodList layout_of at first dl repr kind fields)
-good_of layout_of at first dl repr kind fields (Ok l) exact lawful placed places least apart after = record {
+good_of layout_of at first dl repr kind fields (Ok l) exact lawful placed places least apart after niche largest = record {
   exact = exact;
   listed = record {
     listed = is_listed l.fields (offsets_of l.fields) (map at placed.0) placed.1;
@@ -133,8 +135,10 @@ good_of layout_of at first dl repr kind fields (Ok l) exact lawful placed places
   least = least;
   apart = subst (λ offsets. AreApart l.size offsets (map (λ f. (layout_of f).size) fields)) (sym (offsets_listed l.fields (offsets_of l.fields) (map at placed.0) placed.1)) apart;
   after = subst (All (λ o. start_of repr.pack kind ≤ o)) (sym (offsets_listed l.fields (offsets_of l.fields) (map at placed.0) placed.1)) after;
+  niche = niche;
+  largest = largest;
 }
-good_of layout_of at first dl repr kind fields (Err e) exact lawful placed places least apart after = tt
+good_of layout_of at first dl repr kind fields (Err e) exact lawful placed places least apart after niche largest = tt
 
 pub fault_of : {F V H : Type 0} (layout_of : H → LayoutData F V) (at : ℕ → F) (first : V) (dl : TargetDataLayout) (repr : ReprOptions) (kind : StructKind) (fields : List H) (r : Result (LayoutData F V) (LayoutCalculatorError H))
     → IsListAnswer layout_of at first dl repr kind fields r → IfErr r (λ e. IsListError layout_of dl repr kind fields e ⊎ (e ≡ OutOfMemory))

@@ -92,7 +92,7 @@ AreClearAmong layout_of old new (fields ∷ variants) (list ∷ lists) =
 AreClearAmong layout_of old new _ _ = ⊥
 
 -- parts inside a smaller whole
-wider : (small whole : ℕ) (offsets sizes : List ℕ) → small ≤ whole → AreApart small offsets sizes → AreApart whole offsets sizes
+pub wider : (small whole : ℕ) (offsets sizes : List ℕ) → small ≤ whole → AreApart small offsets sizes → AreApart whole offsets sizes
 wider small whole [] [] more h = tt
 wider small whole [] (m ∷ sizes) more h = absurd h
 wider small whole (o ∷ offsets) [] more h = absurd h
@@ -214,7 +214,7 @@ pub greatest_within : {F V : Type 0} (dl : TargetDataLayout) (lists : List (Layo
 greatest_within dl lists = (rounded_to (greatest_size lists) (lists_align dl lists)).above
 
 -- the fields' sizes, one by one
-sizes_as : {F V H : Type 0} (layout_of : H → LayoutData F V) (fields : List H) → map (λ (f : LayoutData F V). f.size) (map layout_of fields) ≡ map (λ f. (layout_of f).size) fields
+pub sizes_as : {F V H : Type 0} (layout_of : H → LayoutData F V) (fields : List H) → map (λ (f : LayoutData F V). f.size) (map layout_of fields) ≡ map (λ f. (layout_of f).size) fields
 sizes_as layout_of [] = refl
 sizes_as layout_of (f ∷ fs) = ap (λ xs. (layout_of f).size ∷ xs) (sizes_as layout_of fs)
 
@@ -336,7 +336,7 @@ clear_all old new (o ∷ offsets) (m ∷ sizes) e each = (each 0 (omega arith), 
 -- ---- small facts
 
 -- two words for the offsets of fields that are listed one by one
-same_offsets : {F : Type 0} (shape : FieldsShape F) → listed_offsets shape ≡ offsets_of shape
+pub same_offsets : {F : Type 0} (shape : FieldsShape F) → listed_offsets shape ≡ offsets_of shape
 same_offsets Primitive = refl
 same_offsets (Union count) = refl
 same_offsets (Array stride count) = refl

@@ -18,7 +18,7 @@ use Rattle.abi_scalar.specs.Scalar.{IsLawfulScalar}
 use Rattle.abi_scalar.specs.Shape.{IsListed}
 use Rattle.abi_calc.specs.Enums.Discriminants.{IsTagRange}
 use Rattle.abi_calc.specs.Enums.Growth.{grown_tag, start_align}
-use Rattle.abi_calc.specs.Enums.Lists.{AreListLayouts, AreListsOf, IsFirstListError, behind_tag}
+use Rattle.abi_calc.specs.Enums.Lists.{AreListLayouts, AreListsOf, behind_tag}
 use Rattle.abi_calc.specs.Enums.Payload.{tagged_view}
 use Rattle.std.proofs.lemmas.List.{append_assoc, length-append, length-map, map-id}
 use Rattle.abi_base.specs.declared.data_layout.TargetDataLayout.{TargetDataLayout}
@@ -147,13 +147,3 @@ tagged_answer layout_of at number first dl same repr asked signed values variant
       subst (λ d. size_bound d ≤ lists_size d lists) e large.0,
       large.1,
     ))
-
--- of the first variant without a list
-pub tagged_error : {F V H : Type 0} (layout_of : H → LayoutData F V) (at : ℕ → F) (number : F → ℕ) (first : V) (dl same : TargetDataLayout) (repr : ReprOptions) (asked : Integer) (signed : Bool) (values : List ℕ)
-    (variants : List (List H)) (kind : StructKind) (error : LayoutCalculatorError H)
-    → same ≡ dl → kind ≡ behind_tag same repr asked (map (map layout_of) variants)
-    → IsFirstListError layout_of at first dl repr kind variants error ⊎ (error ≡ OutOfMemory)
-    → IsTaggedAnswer layout_of at number first dl repr asked signed values variants (Err error)
-tagged_error layout_of at number first dl same repr asked signed values variants kind error e is (inl fault) =
-    inl (subst (λ k. IsFirstListError layout_of at first dl repr k variants error) (is ∙ ap (λ d. behind_tag d repr asked (map (map layout_of) variants)) e) fault)
-tagged_error layout_of at number first dl same repr asked signed values variants kind error e is (inr want) = inr (inr want)

@@ -23,7 +23,7 @@ use Rattle.abi_scalar.proofs.LawfulLemmas.{niche_lawful, niche_viewed}
 use Rattle.abi_calc.specs.declared.enums.payload.Payload.{Payload}
 use Rattle.abi_calc.specs.declared.enums.payload.Payload.TheVariants.{Nothing, One, Other}
 use Rattle.abi_calc.specs.Enums.Growth.{moved}
-use Rattle.abi_calc.specs.Enums.Payload.{IsLawfulPayload, IsTrueOfTag, IsWide, beside, beside_tag, common, common_of, has_same_place, is_initialized, is_same_float, payload_at, payload_of, payload_of_field, payload_of_view, scalar_of, shared_primitive, tagged_view}
+use Rattle.abi_calc.specs.Enums.Payload.{IsLawfulPayload, BeginsWithTag, IsWide, beside, beside_tag, common, common_of, has_same_place, is_initialized, is_same_float, payload_at, payload_of, payload_of_field, payload_of_view, scalar_of, shared_primitive, tagged_view}
 use Rattle.abi_calc.specs.Enums.Single.{widened}
 use Rattle.abi_calc.specs.Enums.Tagged.{payloads_of}
 use Rattle.abi_calc.specs.Part.{is_empty_view}
@@ -115,17 +115,17 @@ common_of_wide dl (p ∷ ps) wide = fold_wide dl p ps (All-head (IsWidePayload d
 -- ---- the view is true
 
 -- beside the tag there is a wide scalar
-beside_true : (dl : TargetDataLayout) (tag : Scalar) (size align : ℕ) (p : Payload) → IsWidePayload dl p → IsTrueOfTag dl tag (beside_tag dl tag size align p)
+beside_true : (dl : TargetDataLayout) (tag : Scalar) (size align : ℕ) (p : Payload) → IsWidePayload dl p → BeginsWithTag dl tag (beside_tag dl tag size align p)
 beside_true dl tag size align Nothing wide = tt
 beside_true dl tag size align (One b j) wide =
-    by_test ((0 == 0) && (j == second_offset dl tag b) && (align == pair_align dl tag b) && (size == pair_size dl tag b)) (IsTrueOfTag dl tag) (ScalarPair tag b (second_offset dl tag b)) (Memory true)
+    by_test ((0 == 0) && (j == second_offset dl tag b) && (align == pair_align dl tag b) && (size == pair_size dl tag b)) (BeginsWithTag dl tag) (ScalarPair tag b (second_offset dl tag b)) (Memory true)
     (λ e. (refl, wide)) tt
 beside_true dl tag size align Other wide = tt
 
 -- an enum's view is true of each of its variants
-pub view_true : (dl : TargetDataLayout) (tag : Scalar) (size align : ℕ) (payloads : List Payload) → All (IsWidePayload dl) payloads → IsTrueOfTag dl tag (tagged_view dl tag size align payloads)
+pub view_true : (dl : TargetDataLayout) (tag : Scalar) (size align : ℕ) (payloads : List Payload) → All (IsWidePayload dl) payloads → BeginsWithTag dl tag (tagged_view dl tag size align payloads)
 view_true dl tag size align payloads wide =
-    by_test (scalar_size dl tag == size) (IsTrueOfTag dl tag) (OneScalar tag) (beside_tag dl tag size align (common_of dl payloads)) (λ e. refl)
+    by_test (scalar_size dl tag == size) (BeginsWithTag dl tag) (OneScalar tag) (beside_tag dl tag size align (common_of dl payloads)) (λ e. refl)
     (beside_true dl tag size align (common_of dl payloads) (common_of_wide dl payloads wide))
 
 -- ---- lawful payloads
@@ -241,7 +241,7 @@ some_always None h = tt
 some_always (Some x) h = h x
 
 -- the tag's niche is that of a view that is true of each variant
-pub niche_of_tag : (dl : TargetDataLayout) (tag : Scalar) (view : BackendRepr) → IsTrueOfTag dl tag view → IfSome (niche_at dl 0 tag) (IsNicheOfView view)
+pub niche_of_tag : (dl : TargetDataLayout) (tag : Scalar) (view : BackendRepr) → BeginsWithTag dl tag view → IfSome (niche_at dl 0 tag) (IsNicheOfView view)
 niche_of_tag dl tag (OneScalar scalar) h = rw h (niche_viewed dl tag)
 niche_of_tag dl tag (ScalarPair a b b_offset) h =
     let same : a ≡ tag = h.0 in

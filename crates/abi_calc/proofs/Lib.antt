@@ -28,6 +28,13 @@ pub mod EnumSizes
 pub mod EnumAnswers
 pub mod EnumNiche
 pub mod EnumInNiche
+pub mod EnumLess
+pub mod EnumBeside
+pub mod EnumNicheLawful
+pub mod EnumRoom
+pub mod EnumTold
+pub mod EnumSeveral
+pub mod EnumType
 pub mod EnumPlaces
 pub mod EnumViews
 pub mod Facts

@@ -16,7 +16,7 @@ use Rattle.abi_calc.proofs.Rounding.{pow_dvd, rounded_to}
 use Rattle.abi_calc.proofs.Tight.{greatest}
 
 -- a number is rounded up no further to a lower power of two
-round_lower : (m n low high : ℕ) → m ≤ n → low ≤ high → next_multiple_of m (2 ^ low) ≤ next_multiple_of n (2 ^ high)
+pub round_lower : (m n low high : ℕ) → m ≤ n → low ≤ high → next_multiple_of m (2 ^ low) ≤ next_multiple_of n (2 ^ high)
 round_lower m n low high le h =
     let s = rounded_to n high in
     let up : n ≤ next_multiple_of n (2 ^ high) = s.above in

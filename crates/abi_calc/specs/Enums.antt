@@ -11,3 +11,6 @@ pub mod Places
 pub mod Several
 pub mod Niche
 pub mod Choice
+pub mod Room
+pub mod Beside
+pub mod Answer

@@ -11,3 +11,138 @@ mod payload;
 mod several;
 mod single;
 mod tagged;
+
+ghost use Rattle.std.specs.Prelude.{◌≡◌, ◌⊎◌, All, Err, IfErr, IfOk, IsSome, IsTrue, None, false, length, map};
+ghost use Rattle.std.specs.Iterator.{IsFinite};
+ghost use Rattle.std.specs.Iterator.Runs.{EachRunFrom, WholeRun};
+ghost use Rattle.abi_index.specs.Slice.{items_of};
+ghost use Rattle.abi_base.specs.DataLayout.{IsLawfulDataLayout};
+ghost use Rattle.abi_scalar.specs.Lawful.{IsLawfulLayout};
+ghost use Rattle.abi_calc.specs.Answer.{IsAnswer};
+ghost use Rattle.abi_calc.specs.Least.{IsEachOrderTooLarge};
+ghost use Rattle.abi_calc.specs.List.{AreSized, HasLawfulAligns};
+ghost use Rattle.abi_calc.specs.Enums.Answer.{HasOneEach, IsGoodSingle, IsTypeAnswer, kind_at};
+ghost use Rattle.abi_calc.specs.Enums.Beside.{AreToldApart};
+ghost use Rattle.abi_calc.specs.Enums.Discriminants.{counting_of};
+ghost use Rattle.abi_calc.specs.Enums.Path.{path_of, variant_at};
+ghost use Rattle.abi_calc.specs.Enums.Several.{AreLawfulTags, HasEnumSize, IsAlwaysTooLarge, IsAskedTooLarge};
+ghost use Rattle.abi_calc.specs.declared.enums.path.Path.TheVariants.{OneList as IsOneList, Several as AreSeveral};
+
+use crate::calculator::LayoutCalculator;
+use crate::enums::path::{Path, path_of};
+use crate::enums::single::single_kind;
+use abi_base::{HasDataLayout, Integer, NicheOptimizations};
+use abi_index::{Idx, IndexSlice, IndexVec};
+use abi_scalar::{
+    LayoutCalculatorError, LayoutData, LayoutHandle, RangeFrom, RangeToInclusive, ReprOptions,
+};
+use std::alloc::Global;
+
+impl<Cx: HasDataLayout> LayoutCalculator<Cx> {
+    /// The layout of a struct, from the fields of its one variant, or of an enum, from those of each.
+    ///
+    /// A variant is absent where some of its fields has no values and none takes room, unless C or an integer is asked
+    /// for. An enum without a present variant is `never_type`. A struct, and an enum with one present variant that asks for
+    /// neither C nor an integer, is the list of that variant's fields; a struct's is maybe unsized where it has fields and
+    /// `always_sized` is false. There alone `niche_optimizations` counts: where niches are disabled, the type has none.
+    ///
+    /// Every other enum has a tag before the fields of its variants, or one that lies in a niche of the variant that is
+    /// greatest, the last of equals. The layout with a niche is taken where it is smaller, or as large with more free
+    /// numbers left. `discr_range_of_repr` tells the tag's integer, and whether it is signed, from the least and the
+    /// greatest number that it has to hold, and `discriminants` gives each variant's discriminant, as the number of 128
+    /// bits that it is in two's complement (Rust Reference, "Type layout" and "Enumerations").
+    ///
+    /// A list is refused as by `layout_of_univariant`. Another enum is refused as `ReprConflict` where it is packed,
+    /// else as the first of its variants is, laid out behind the tag, and as `SizeOverflow` where the greatest of them,
+    /// rounded up to the greatest alignment, isn't below the data layout's bound, though there be a layout with a niche.
+    /// `OutOfMemory` may come at any time.
+    ///
+    /// The data layout, the fields' layouts and the alignments of `repr` have to be lawful, and a struct has one variant.
+    /// Each variant has one discriminant; the integer is no wider than the type that `repr` names for discriminants, and by
+    /// it those of the variants that may have values differ.
+    pub fn layout_of_struct_or_enum<
+        FieldIdx: Idx,
+        VariantIdx: Idx,
+        F: LayoutHandle<FieldIdx, VariantIdx> + Copy,
+        D: Fn(RangeFrom<i128>, RangeToInclusive<u128>) -> (Integer, bool),
+        I: Iterator<Item = (VariantIdx, u128)>,
+    >(
+        &self,
+        alloc: Global,
+        repr: &ReprOptions,
+        variants: IndexSlice<'_, VariantIdx, IndexVec<FieldIdx, F>>,
+        is_enum: bool,
+        niche_optimizations: NicheOptimizations,
+        discr_range_of_repr: D,
+        discriminants: I,
+        always_sized: bool,
+    ) -> Result<LayoutData<FieldIdx, VariantIdx>, LayoutCalculatorError<F>>
+    where
+        D: Drop,
+        I: Drop,
+        requires data_layout { IsLawfulDataLayout (Cx.target self.now.cx) }
+        requires fields { All (All (λ f. IsLawfulLayout (Cx.target self.now.cx) (F.layout_of f))) (items_of variants) }
+        requires repr { HasLawfulAligns repr.now }
+        requires one { is_enum ≡ false → length (items_of variants) ≡ 1 }
+        requires callable { D.IsAlwaysCallable discr_range_of_repr }
+        requires can { I.can_next discriminants }
+        requires ends { IsFinite (I.remaining discriminants) }
+        requires each { EachRunFrom I.next_gives discriminants (λ run. IsTrue run.whole → HasOneEach VariantIdx.number (length (items_of variants)) run.items
+            × AreLawfulTags VariantIdx.number (Cx.target self.now.cx) repr.now (D.post discr_range_of_repr) (map (map F.layout_of) (items_of variants)) run.items) }
+        ensures exact { IsTypeAnswer F.layout_of FieldIdx.at FieldIdx.number VariantIdx.at VariantIdx.number (Cx.target self.now.cx) repr.now (items_of variants.entry) is_enum always_sized niche_optimizations
+            (D.post discr_range_of_repr) (λ items. WholeRun I.next_gives discriminants (λ run. items ≡ run.items)) (path_of is_enum repr.now (map (map F.layout_of) (items_of variants.entry))) result }
+        ensures lawful { IfOk result (IsLawfulLayout (Cx.target self.now.cx)) }
+
+        // One list is laid out and refused as `layout_of_univariant` does it.
+        ensures listed { (i : _) → path_of is_enum repr.now (map (map F.layout_of) (items_of variants.entry)) ≡ IsOneList i → IfOk result (IsGoodSingle F.layout_of FieldIdx.at FieldIdx.number (Cx.target self.now.cx) repr.now
+            (kind_at is_enum always_sized (items_of variants.entry) i) (variant_at (items_of variants.entry) i)) }
+        ensures list_too_large { (i : _) → path_of is_enum repr.now (map (map F.layout_of) (items_of variants.entry)) ≡ IsOneList i → result ≡ Err LayoutCalculatorError.SizeOverflow
+            → IsEachOrderTooLarge (Cx.target self.now.cx) repr.now (kind_at is_enum always_sized (items_of variants.entry) i) (map F.layout_of (variant_at (items_of variants.entry) i)) }
+        ensures list_refused { (i : _) → path_of is_enum repr.now (map (map F.layout_of) (items_of variants.entry)) ≡ IsOneList i → AreSized (map F.layout_of (variant_at (items_of variants.entry) i))
+            → IsEachOrderTooLarge (Cx.target self.now.cx) repr.now (kind_at is_enum always_sized (items_of variants.entry) i) (map F.layout_of (variant_at (items_of variants.entry) i)) → IsAnswer (Err LayoutCalculatorError.SizeOverflow) result }
+        ensures list_no_other { (i : _) → path_of is_enum repr.now (map (map F.layout_of) (items_of variants.entry)) ≡ IsOneList i → AreSized (map F.layout_of (variant_at (items_of variants.entry) i))
+            → IfErr result (λ e. (e ≡ LayoutCalculatorError.SizeOverflow) ⊎ (e ≡ LayoutCalculatorError.OutOfMemory)) }
+
+        // Several variants are told apart by a tag of its own, behind which their fields lie, or by a niche of the untagged one.
+        ensures told { path_of is_enum repr.now (map (map F.layout_of) (items_of variants.entry)) ≡ AreSeveral
+            → IfOk result (λ l. WholeRun I.next_gives discriminants (λ run. AreToldApart (Cx.target self.now.cx) VariantIdx.number (map (map F.layout_of) (items_of variants.entry)) run.items l)) }
+
+        // Their size is that of the variants' always sized lists where these leave room for a niche, else the tagged size.
+        ensures size { path_of is_enum repr.now (map (map F.layout_of) (items_of variants.entry)) ≡ AreSeveral
+            → IfOk result (λ l. WholeRun I.next_gives discriminants (λ run. HasEnumSize F.layout_of FieldIdx.at (VariantIdx.at 0) (Cx.target self.now.cx) repr.now (D.post discr_range_of_repr)
+            (counting_of VariantIdx.number repr.now (map (map F.layout_of) (items_of variants.entry)) run.items) (items_of variants.entry) l.size)) }
+
+        // They are refused where they are packed, and for their size only where a list behind the tag, or the tagged size, is
+        // too large, and sized fields always then; sized fields are refused by no other name.
+        ensures packed { path_of is_enum repr.now (map (map F.layout_of) (items_of variants.entry)) ≡ AreSeveral → IsSome repr.now.pack → result ≡ Err LayoutCalculatorError.ReprConflict }
+        ensures too_large { path_of is_enum repr.now (map (map F.layout_of) (items_of variants.entry)) ≡ AreSeveral → result ≡ Err LayoutCalculatorError.SizeOverflow
+            → WholeRun I.next_gives discriminants (λ run. IsAskedTooLarge (Cx.target self.now.cx) repr.now (D.post discr_range_of_repr)
+            (counting_of VariantIdx.number repr.now (map (map F.layout_of) (items_of variants.entry)) run.items) (map (map F.layout_of) (items_of variants.entry))) }
+        ensures refused { path_of is_enum repr.now (map (map F.layout_of) (items_of variants.entry)) ≡ AreSeveral → (repr.now.pack ≡ None) → All AreSized (map (map F.layout_of) (items_of variants.entry))
+            → EachRunFrom I.next_gives discriminants (λ run. IsTrue run.whole → IsAlwaysTooLarge (Cx.target self.now.cx) repr.now (D.post discr_range_of_repr)
+            (counting_of VariantIdx.number repr.now (map (map F.layout_of) (items_of variants.entry)) run.items) (map (map F.layout_of) (items_of variants.entry)))
+            → IsAnswer (Err LayoutCalculatorError.SizeOverflow) result }
+        ensures no_other { path_of is_enum repr.now (map (map F.layout_of) (items_of variants.entry)) ≡ AreSeveral → (repr.now.pack ≡ None) → All AreSized (map (map F.layout_of) (items_of variants.entry))
+            → IfErr result (λ e. (e ≡ LayoutCalculatorError.SizeOverflow) ⊎ (e ≡ LayoutCalculatorError.OutOfMemory)) }
+    {
+        let all = variants.as_raw();
+        match path_of(is_enum, repr, all) {
+            Path::NoValue => Ok(LayoutData::never_type(&self.cx)),
+            Path::OneList(index) => {
+                let fields = &all[index];
+                let kind = single_kind(is_enum, always_sized, fields.len());
+                self.layout_of_single(
+                    alloc,
+                    fields.as_slice(),
+                    VariantIdx::new(index),
+                    repr,
+                    kind,
+                    niche_optimizations,
+                )
+            }
+            Path::Several => {
+                self.layout_of_several(alloc, repr, all, discr_range_of_repr, discriminants)
+            }
+        }
+    }
+}

@@ -9,6 +9,7 @@ mod list;
 mod list_niche;
 mod list_repr;
 mod list_view;
+mod one_item;
 mod order;
 mod part;
 mod placing;

@@ -9,6 +9,7 @@ ghost use Rattle.abi_calc.specs.Answer.{IsAnswer};
 ghost use Rattle.abi_calc.specs.Simd.{IsVectorTooLarge, if_below, is_tight, lanes_answer, scalable_answer, simd_align, simd_answer, simd_view, vector_layout};
 
 use crate::calculator::LayoutCalculator;
+use crate::one_item::one;
 use abi_base::{AbiAlign, Align, HasDataLayout, NumScalableVectors, Size};
 use abi_index::{Hash64, Idx, IndexVec};
 use abi_scalar::{
@@ -25,15 +26,6 @@ struct Lanes {
     count: BackendLaneCount,
     /// All of them, in bytes.
     size: Size,
-}
-
-/// A list of one item.
-fn one<I: Idx, T: Copy>(alloc: Global, item: T) -> Result<IndexVec<I, T>, AllocError>
-    ensures { IfOk result (λ list. list ≡ item ∷ []) }
-{
-    let mut list = IndexVec::new(alloc);
-    let _only: I = list.push(item)?;
-    Ok(list)
 }
 
 /// Whether it is packed, and its lanes are no power of two.

@@ -20,6 +20,10 @@ counts number repr variants item = is_c repr || not (has_no_value (variant_at va
 abbrev pub counting_of : {F V : Type 0} → (number : V → ℕ) → ReprOptions → List (List (LayoutData F V)) → List (V × ℕ) → List ℕ
 counting_of number repr variants items = map (λ item. item.1) (filter (counts number repr variants) items)
 
+-- the discriminants of the variants whose every field may have values
+abbrev pub inhabited_of : {F V : Type 0} → (number : V → ℕ) → List (List (LayoutData F V)) → List (V × ℕ) → List ℕ
+inhabited_of number variants items = map (λ item. item.1) (filter (λ item. not (has_no_value (variant_at variants (number item.0)))) items)
+
 -- how many bits the type of the enum's discriminants has
 abbrev pub discr_bits : TargetDataLayout → ReprOptions → ℕ
 discr_bits dl repr = integer_size (integer_of_type dl (discr_type_of repr)) * 8

@@ -1,5 +1,5 @@
 -- The lists of an enum's variants.
-use Rattle.std.specs.Prelude.{◌≡◌, ℕ, ◌≤◌, ◌⊎◌, ⊤, List, [], ◌∷◌, fold, length, map, All, Ok, if◌then◌else◌}
+use Rattle.std.specs.Prelude.{◌≡◌, ℕ, ◌≤◌, ◌⊎◌, ⊤, List, [], ◌∷◌, fold, length, map, All, IfSome, Ok, if◌then◌else◌}
 use Rattle.abi_base.specs.declared.data_layout.TargetDataLayout.{TargetDataLayout}
 use Rattle.abi_base.specs.declared.integer.Integer.{Integer}
 use Rattle.abi_base.specs.declared.struct_kind.StructKind.{StructKind}
@@ -12,10 +12,11 @@ use Rattle.abi_scalar.specs.Lawful.{IsLawfulLayout}
 use Rattle.abi_scalar.specs.Order.{HasPlaceForEach}
 use Rattle.abi_scalar.specs.Repr.{is_c}
 use Rattle.abi_scalar.specs.Shape.{IsListed, listed_offsets}
-use Rattle.abi_calc.specs.Apart.{AreApart}
+use Rattle.abi_calc.specs.Apart.{AreApart, offsets_of}
 use Rattle.abi_calc.specs.Fields.{greatest_align}
 use Rattle.abi_calc.specs.Least.{IsLeastSize, LiesInSomeOrder}
 use Rattle.abi_calc.specs.List.{IsListAnswer, IsListError}
+use Rattle.abi_calc.specs.ListNiche.{HasLargestNiche, IsNicheOfPart}
 use Rattle.abi_calc.specs.Placement.{start_of}
 
 -- the greatest alignment of all variants' fields, and no less than this one
@@ -54,7 +55,8 @@ pub record IsListOf {A F V : Type 0} (fields : List A) (list : LayoutData F V) :
   pub places : HasPlaceForEach list.fields
 
 -- The fields' layout as a list of the kind: lawful, listed one by one in some allowed order, of the least size that such an
--- order has, and with fields that share no byte and lie behind what the list lies behind.
+-- order has, with fields that share no byte and lie behind what the list lies behind, and with the niche of a field that has
+-- the most free numbers.
 pub record IsGoodList {F V H : Type 0} (layout_of : H → LayoutData F V) (at : ℕ → F) (first : V) (dl : TargetDataLayout) (repr : ReprOptions) (kind : StructKind) (fields : List H) (list : LayoutData F V) : Type 0 where
   pub exact : IsListAnswer layout_of at first dl repr kind fields (Ok list)
   pub listed : IsListOf fields list
@@ -63,6 +65,8 @@ pub record IsGoodList {F V H : Type 0} (layout_of : H → LayoutData F V) (at : 
   pub least : IsLeastSize dl repr kind (map layout_of fields) list.size
   pub apart : AreApart list.size (listed_offsets list.fields) (map (λ f. (layout_of f).size) fields)
   pub after : All (λ o. start_of repr.pack kind ≤ o) (listed_offsets list.fields)
+  pub niche : IfSome list.largest_niche (IsNicheOfPart (offsets_of list.fields) (map layout_of fields))
+  pub largest : HasLargestNiche dl list.largest_niche (map layout_of fields)
 
 -- each variant's fields have one
 abbrev pub AreGoodLists : {F V H : Type 0} → (layout_of : H → LayoutData F V) → (at : ℕ → F) → (first : V) → TargetDataLayout → ReprOptions → StructKind
@@ -71,6 +75,11 @@ AreGoodLists layout_of at first dl repr kind [] [] = ⊤
 AreGoodLists layout_of at first dl repr kind (fields ∷ variants) (list ∷ lists) =
     IsGoodList layout_of at first dl repr kind fields list × AreGoodLists layout_of at first dl repr kind variants lists
 AreGoodLists layout_of at first dl repr kind _ _ = ⊥
+
+-- there are such lists
+abbrev pub HaveGoodLists : {F V H : Type 0} → (layout_of : H → LayoutData F V) → (at : ℕ → F) → (first : V) → TargetDataLayout → ReprOptions → StructKind
+    → (variants : List (List H)) → Type 0
+HaveGoodLists layout_of at first dl repr kind variants = (lists : List (LayoutData _ _)) × AreGoodLists layout_of at first dl repr kind variants lists
 
 -- each variant has a list of its own
 abbrev pub AreListsOf : {A F V : Type 0} → (variants : List (List A)) → (lists : List (LayoutData F V)) → Type 0

@@ -137,9 +137,9 @@ abbrev pub IsWide : TargetDataLayout → Scalar → Type 0
 IsWide dl (Initialized value range) = range ≡ full_range (primitive_size dl value)
 IsWide dl (Union value) = ⊤
 
--- the view is true of each variant: one scalar is the tag, and of two the first is the tag and the second holds anything
-abbrev pub IsTrueOfTag : TargetDataLayout → (tag : Scalar) → BackendRepr → Type 0
-IsTrueOfTag dl tag (OneScalar scalar) = scalar ≡ tag
-IsTrueOfTag dl tag (ScalarPair a b b_offset) = (a ≡ tag) × IsWide dl b
-IsTrueOfTag dl tag (Memory sized) = ⊤
-IsTrueOfTag dl tag _ = ⊥
+-- a view of scalars begins with the tag: one scalar is the tag, and of two the first is the tag and the second holds anything
+abbrev pub BeginsWithTag : TargetDataLayout → (tag : Scalar) → BackendRepr → Type 0
+BeginsWithTag dl tag (OneScalar scalar) = scalar ≡ tag
+BeginsWithTag dl tag (ScalarPair a b b_offset) = (a ≡ tag) × IsWide dl b
+BeginsWithTag dl tag (Memory sized) = ⊤
+BeginsWithTag dl tag _ = ⊥

@@ -10,7 +10,7 @@ use Rattle.abi_scalar.specs.declared.variants.Variants.TheVariants.{Multiple}
 use Rattle.abi_scalar.specs.Range.{numbers_of}
 use Rattle.abi_scalar.specs.Scalar.{IsNumberOf, scalar_size}
 use Rattle.abi_calc.specs.Apart.{AreApart}
-use Rattle.abi_calc.specs.Enums.Payload.{IsTrueOfTag}
+use Rattle.abi_calc.specs.Enums.Payload.{BeginsWithTag}
 
 -- a tag of so many bytes at the start, and each variant's fields: parts that share no byte and end inside the whole
 abbrev pub AreApartBehind : {F V : Type 0} → (whole tag : ℕ) → (variants : List (List (LayoutData F V))) → (layouts : List (VariantLayout F)) → Type 0
@@ -37,11 +37,11 @@ DifferAmong dl width values (Multiple tag encoding field layouts) =
     → AllPairs (λ v w. v % numbers_of (scalar_size dl tag) ≢ w % numbers_of (scalar_size dl tag)) values
 DifferAmong dl width values _ = ⊥
 
--- the view is true of the tag among the variants
-abbrev pub IsTrueAmong : {F V : Type 0} → TargetDataLayout → Variants F V → BackendRepr → Type 0
-IsTrueAmong dl (Multiple tag encoding field layouts) view = IsTrueOfTag dl tag view
-IsTrueAmong dl _ view = ⊥
+-- a view of scalars begins with the tag that tells the variants apart
+abbrev pub BeginsWithTagOf : {F V : Type 0} → TargetDataLayout → Variants F V → BackendRepr → Type 0
+BeginsWithTagOf dl (Multiple tag encoding field layouts) view = BeginsWithTag dl tag view
+BeginsWithTagOf dl _ view = ⊥
 
--- and so is the layout's own
-abbrev pub HasTrueView : {F V : Type 0} → TargetDataLayout → LayoutData F V → Type 0
-HasTrueView dl layout = IsTrueAmong dl layout.variants layout.backend_repr
+-- and so does the layout's own
+abbrev pub HasViewOfTag : {F V : Type 0} → TargetDataLayout → LayoutData F V → Type 0
+HasViewOfTag dl layout = BeginsWithTagOf dl layout.variants layout.backend_repr

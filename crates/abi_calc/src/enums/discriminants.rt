@@ -1,6 +1,8 @@
 //! The discriminants of an enum that count, what is asked with them, and the numbers of the tag.
 
 ghost use Rattle.std.specs.Prelude.{◌≡◌, ◌*◌, ◌%◌, ◌^◌, ◌<◌, ◌≤◌, ◌∷◌, All, IfOk, length, map, pos};
+ghost use Rattle.std.specs.Iterator.{IsFinite};
+ghost use Rattle.std.specs.Iterator.Runs.{WholeRun};
 ghost use Rattle.abi_base.specs.DataLayout.{IsLawfulDataLayout};
 ghost use Rattle.abi_base.specs.Size.{signed_value};
 ghost use Rattle.abi_calc.specs.Enums.Discriminants.{IsAskedWith, IsGreatestOf, IsLeastOf, IsTagRange, counting_of, counts};
@@ -17,6 +19,25 @@ pub struct Asked {
     /// 0 or less.
     pub least: i128,
     pub greatest: u128,
+}
+
+/// The discriminants that the iterator gives, so many at most.
+pub fn listed<VariantIdx: Idx, I: Iterator<Item = (VariantIdx, u128)>>(
+    alloc: Global,
+    count: usize,
+    discriminants: I,
+) -> Result<Vec<(VariantIdx, u128)>, AllocError>
+where
+    I: Drop,
+    requires can { I.can_next discriminants }
+    requires ends { IsFinite (I.remaining discriminants) }
+    ensures { IfOk result (λ list. WholeRun I.next_gives discriminants (λ run. list.items ≡ run.items)) }
+{
+    let mut list = Vec::with_capacity(alloc, count)?;
+    for item in discriminants {
+        list.push(item)?;
+    }
+    Ok(list)
 }
 
 /// Whether the discriminant of the variant at an index counts: under C each does, else those of variants whose every

@@ -9,14 +9,16 @@ ghost use Rattle.abi_scalar.specs.Niche.{IsReadableNiche, niche_size};
 ghost use Rattle.abi_scalar.specs.Reserve.{reserved};
 ghost use Rattle.abi_scalar.specs.Scalar.{IsLawfulScalar};
 ghost use Rattle.abi_calc.specs.List.{HasLawfulAligns};
-ghost use Rattle.abi_calc.specs.Enums.Choice.{IsNicheAnswer};
+ghost use Rattle.abi_calc.specs.Enums.Choice.{IsGoodNicheAnswer, IsNicheAnswer};
+ghost use Rattle.abi_calc.specs.Enums.Path.{is_free};
 ghost use Rattle.abi_calc.specs.Enums.Niche.{IsRoomy, IsSmallList, if_placed, niche_layout, niche_of_list, others_empty, room_beside, span_count, variants_from, view_with};
 
 use crate::calculator::LayoutCalculator;
 use crate::enums::niche::{Room, others_empty, placed_variants, span_of, untagged_of, view_with};
 use crate::enums::path::is_free;
-use crate::enums::tagged::{all_uninhabited, lists_size, one_item};
+use crate::enums::tagged::{all_uninhabited, lists_size};
 use crate::fields::{greatest_align, greatest_repr_align, greatest_unadjusted, seed_with};
+use crate::one_item::one;
 use abi_base::{AbiAlign, Align, HasDataLayout, Size, StructKind, TargetDataLayout};
 use abi_index::{Idx, IndexVec};
 use abi_scalar::{
@@ -148,8 +150,8 @@ fn layout_in_niche<FieldIdx: Idx, VariantIdx: Idx>(
     let first = FieldIdx::new(0);
     Ok(Some(LayoutData {
         fields: FieldsShape::Arbitrary {
-            offsets: one_item(alloc, niche.offset)?,
-            in_memory_order: one_item(alloc, first)?,
+            offsets: one(alloc, niche.offset)?,
+            in_memory_order: one(alloc, first)?,
         },
         variants: Variants::Multiple {
             tag,
@@ -229,6 +231,7 @@ impl<Cx: HasDataLayout> LayoutCalculator<Cx> {
         requires count { length variants.now ≤ VariantIdx.MAX_INDEX + 1 }
         requires repr { HasLawfulAligns repr.now }
         ensures exact { IfOk result (IsNicheAnswer F.layout_of FieldIdx.at VariantIdx.at (Cx.target self.now.cx) repr.now variants.now) }
+        ensures good { is_free repr.now ≡ true → IfOk result (IsGoodNicheAnswer F.layout_of FieldIdx.at VariantIdx.at (Cx.target self.now.cx) repr.now variants.now) }
         ensures memory { IfErr result (λ e. e ≡ LayoutCalculatorError.OutOfMemory) }
     {
         if !is_free(repr) {

@@ -1,13 +1,20 @@
-//! Enums whose variants are told apart by a tag.
+//! Enums of several variants: with a tag, or with a niche where that is the better layout.
 
-ghost use Rattle.std.specs.Prelude.{◌≡◌, ◌<◌, ◌≤◌, ◌+◌, ◌⊎◌, All, Err, IfOk, IsSome, length, map};
+ghost use Rattle.std.specs.Prelude.{◌≡◌, ◌<◌, ◌≤◌, ◌+◌, ◌⊎◌, All, Err, IfErr, IfOk, IsSome, IsTrue, None, length, map};
+ghost use Rattle.std.specs.Iterator.{IsFinite};
+ghost use Rattle.std.specs.Iterator.Runs.{EachRunFrom, WholeRun};
 ghost use Rattle.abi_base.specs.DataLayout.{IsLawfulDataLayout};
 ghost use Rattle.abi_scalar.specs.Lawful.{IsLawfulLayout};
-ghost use Rattle.abi_calc.specs.List.{HasLawfulAligns};
-ghost use Rattle.abi_calc.specs.Enums.Several.{IsSeveralAnswer};
+ghost use Rattle.abi_calc.specs.Answer.{IsAnswer};
+ghost use Rattle.abi_calc.specs.List.{AreSized, HasLawfulAligns};
+ghost use Rattle.abi_calc.specs.Enums.Beside.{AreToldApart, IsToldByTag};
+ghost use Rattle.abi_calc.specs.Enums.Answer.{HasOneEach};
+ghost use Rattle.abi_calc.specs.Enums.Discriminants.{counting_of};
+ghost use Rattle.abi_calc.specs.Enums.Several.{AreLawfulTags, HasEnumSize, HasTaggedSize, IsAlwaysTooLarge, IsAskedAnswer, IsAskedTooLarge, IsEnumAnswer, IsSeveralAnswer};
 
 use crate::calculator::LayoutCalculator;
-use crate::enums::discriminants::{asked_with, counting_of};
+use crate::enums::choice::better;
+use crate::enums::discriminants::{asked_with, counting_of, listed};
 use abi_base::{HasDataLayout, Integer};
 use abi_index::{Idx, IndexVec};
 use abi_scalar::{
@@ -16,11 +23,9 @@ use abi_scalar::{
 use std::alloc::Global;
 
 impl<Cx: HasDataLayout> LayoutCalculator<Cx> {
-    /// The layout of an enum of several variants, told apart by a tag, from the discriminants of all. The tag's integer, and
-    /// whether it is signed, is asked for with the least and the greatest number that it has to hold.
-    ///
-    /// Refused as `ReprConflict` where the enum is packed, whatever its fields; else as the layout with that tag is.
-    pub(crate) fn layout_of_several<
+    /// The layout of an enum of several variants with a tag, from the discriminants of all. The tag's integer, and whether
+    /// it is signed, is asked for with the least and the greatest number that it has to hold.
+    fn layout_with_tag<
         FieldIdx: Idx,
         VariantIdx: Idx,
         F: LayoutHandle<FieldIdx, VariantIdx> + Copy,
@@ -38,17 +43,20 @@ impl<Cx: HasDataLayout> LayoutCalculator<Cx> {
         requires data_layout { IsLawfulDataLayout (Cx.target self.now.cx) }
         requires fields { All (All (λ f. IsLawfulLayout (Cx.target self.now.cx) (F.layout_of f))) variants.now }
         requires repr { HasLawfulAligns repr.now }
+        requires unpacked { repr.now.pack ≡ None }
         requires count { length variants.now ≤ VariantIdx.MAX_INDEX + 1 }
         requires some { 0 < length variants.now }
         requires named { All (λ item. VariantIdx.number item.0 < length variants.now) discriminants.now }
         requires callable { D.IsAlwaysCallable discr_range_of_repr }
-        ensures exact { IsSeveralAnswer F.layout_of FieldIdx.at FieldIdx.number VariantIdx.number (VariantIdx.at 0) (Cx.target self.now.cx) repr.now (D.post discr_range_of_repr) variants.now discriminants.now result }
+        requires tags { AreLawfulTags VariantIdx.number (Cx.target self.now.cx) repr.now (D.post discr_range_of_repr) (map (map F.layout_of) variants.now) discriminants.now }
+        ensures exact { (result ≡ Err LayoutCalculatorError.OutOfMemory) ⊎ IsAskedAnswer F.layout_of FieldIdx.at FieldIdx.number (VariantIdx.at 0) (Cx.target self.now.cx) repr.now (D.post discr_range_of_repr) (counting_of VariantIdx.number repr.now (map (map F.layout_of) variants.now) discriminants.now) variants.now result }
         ensures lawful { IfOk result (IsLawfulLayout (Cx.target self.now.cx)) }
-        ensures packed { IsSome repr.now.pack → result ≡ Err LayoutCalculatorError.ReprConflict }
+        ensures told { IfOk result (IsToldByTag (Cx.target self.now.cx) VariantIdx.number (map (map F.layout_of) variants.now) discriminants.now) }
+        ensures size { IfOk result (λ l. HasTaggedSize F.layout_of FieldIdx.at (VariantIdx.at 0) (Cx.target self.now.cx) repr.now (D.post discr_range_of_repr) (counting_of VariantIdx.number repr.now (map (map F.layout_of) variants.now) discriminants.now) variants.now l.size) }
+        ensures too_large { result ≡ Err LayoutCalculatorError.SizeOverflow → IsAskedTooLarge (Cx.target self.now.cx) repr.now (D.post discr_range_of_repr) (counting_of VariantIdx.number repr.now (map (map F.layout_of) variants.now) discriminants.now) (map (map F.layout_of) variants.now) }
+        ensures refused { All AreSized (map (map F.layout_of) variants.now) → IsAlwaysTooLarge (Cx.target self.now.cx) repr.now (D.post discr_range_of_repr) (counting_of VariantIdx.number repr.now (map (map F.layout_of) variants.now) discriminants.now) (map (map F.layout_of) variants.now) → IsAnswer (Err LayoutCalculatorError.SizeOverflow) result }
+        ensures no_other { All AreSized (map (map F.layout_of) variants.now) → IfErr result (λ e. (e ≡ LayoutCalculatorError.SizeOverflow) ⊎ (e ≡ LayoutCalculatorError.OutOfMemory)) }
     {
-        if repr.packed() {
-            return Err(LayoutCalculatorError::ReprConflict);
-        }
         let values = counting_of(alloc, repr, variants, discriminants)?;
         let asked = asked_with(self.cx.data_layout(), repr, &values);
         let (integer, signed) = discr_range_of_repr(
@@ -58,5 +66,97 @@ impl<Cx: HasDataLayout> LayoutCalculator<Cx> {
             },
         );
         self.layout_of_tagged(alloc, variants, repr, integer, signed, &values)
+    }
+
+    /// The layout of an enum of several variants that isn't packed, from the discriminants of all: the better of the one
+    /// with a tag and, if there is one, that with a niche. Refused as the layout with a tag is, though there be one with a
+    /// niche.
+    fn layout_of_enum<
+        FieldIdx: Idx,
+        VariantIdx: Idx,
+        F: LayoutHandle<FieldIdx, VariantIdx> + Copy,
+        D: Fn(RangeFrom<i128>, RangeToInclusive<u128>) -> (Integer, bool),
+    >(
+        &self,
+        alloc: Global,
+        repr: &ReprOptions,
+        variants: &[IndexVec<FieldIdx, F>],
+        discr_range_of_repr: D,
+        discriminants: &[(VariantIdx, u128)],
+    ) -> Result<LayoutData<FieldIdx, VariantIdx>, LayoutCalculatorError<F>>
+    where
+        D: Drop,
+        requires data_layout { IsLawfulDataLayout (Cx.target self.now.cx) }
+        requires fields { All (All (λ f. IsLawfulLayout (Cx.target self.now.cx) (F.layout_of f))) variants.now }
+        requires repr { HasLawfulAligns repr.now }
+        requires unpacked { repr.now.pack ≡ None }
+        requires count { length variants.now ≤ VariantIdx.MAX_INDEX + 1 }
+        requires some { 0 < length variants.now }
+        requires named { All (λ item. VariantIdx.number item.0 < length variants.now) discriminants.now }
+        requires callable { D.IsAlwaysCallable discr_range_of_repr }
+        requires tags { AreLawfulTags VariantIdx.number (Cx.target self.now.cx) repr.now (D.post discr_range_of_repr) (map (map F.layout_of) variants.now) discriminants.now }
+        ensures exact { IsEnumAnswer F.layout_of FieldIdx.at FieldIdx.number VariantIdx.at VariantIdx.number (Cx.target self.now.cx) repr.now (D.post discr_range_of_repr) variants.now discriminants.now result }
+        ensures lawful { IfOk result (IsLawfulLayout (Cx.target self.now.cx)) }
+        ensures told { IfOk result (AreToldApart (Cx.target self.now.cx) VariantIdx.number (map (map F.layout_of) variants.now) discriminants.now) }
+        ensures size { IfOk result (λ l. HasEnumSize F.layout_of FieldIdx.at (VariantIdx.at 0) (Cx.target self.now.cx) repr.now (D.post discr_range_of_repr) (counting_of VariantIdx.number repr.now (map (map F.layout_of) variants.now) discriminants.now) variants.now l.size) }
+        ensures too_large { result ≡ Err LayoutCalculatorError.SizeOverflow → IsAskedTooLarge (Cx.target self.now.cx) repr.now (D.post discr_range_of_repr) (counting_of VariantIdx.number repr.now (map (map F.layout_of) variants.now) discriminants.now) (map (map F.layout_of) variants.now) }
+        ensures refused { All AreSized (map (map F.layout_of) variants.now) → IsAlwaysTooLarge (Cx.target self.now.cx) repr.now (D.post discr_range_of_repr) (counting_of VariantIdx.number repr.now (map (map F.layout_of) variants.now) discriminants.now) (map (map F.layout_of) variants.now) → IsAnswer (Err LayoutCalculatorError.SizeOverflow) result }
+        ensures no_other { All AreSized (map (map F.layout_of) variants.now) → IfErr result (λ e. (e ≡ LayoutCalculatorError.SizeOverflow) ⊎ (e ≡ LayoutCalculatorError.OutOfMemory)) }
+    {
+        let niche = match self.layout_of_niche(alloc, variants, repr) {
+            Ok(found) => found,
+            Err(error) => return Err(error),
+        };
+        match self.layout_with_tag(alloc, repr, variants, discr_range_of_repr, discriminants) {
+            Ok(tagged) => Ok(better(self.cx.data_layout(), tagged, niche)),
+            Err(error) => Err(error),
+        }
+    }
+
+    /// The layout of an enum of several variants, from the discriminants of all, which the iterator gives. Refused as
+    /// `ReprConflict` where the enum is packed, whatever its fields.
+    pub(crate) fn layout_of_several<
+        FieldIdx: Idx,
+        VariantIdx: Idx,
+        F: LayoutHandle<FieldIdx, VariantIdx> + Copy,
+        D: Fn(RangeFrom<i128>, RangeToInclusive<u128>) -> (Integer, bool),
+        I: Iterator<Item = (VariantIdx, u128)>,
+    >(
+        &self,
+        alloc: Global,
+        repr: &ReprOptions,
+        variants: &[IndexVec<FieldIdx, F>],
+        discr_range_of_repr: D,
+        discriminants: I,
+    ) -> Result<LayoutData<FieldIdx, VariantIdx>, LayoutCalculatorError<F>>
+    where
+        D: Drop,
+        I: Drop,
+        requires data_layout { IsLawfulDataLayout (Cx.target self.now.cx) }
+        requires fields { All (All (λ f. IsLawfulLayout (Cx.target self.now.cx) (F.layout_of f))) variants.now }
+        requires repr { HasLawfulAligns repr.now }
+        requires count { length variants.now ≤ VariantIdx.MAX_INDEX + 1 }
+        requires some { 0 < length variants.now }
+        requires callable { D.IsAlwaysCallable discr_range_of_repr }
+        requires can { I.can_next discriminants }
+        requires ends { IsFinite (I.remaining discriminants) }
+        requires each { EachRunFrom I.next_gives discriminants (λ run. IsTrue run.whole → HasOneEach VariantIdx.number (length variants.now) run.items
+            × AreLawfulTags VariantIdx.number (Cx.target self.now.cx) repr.now (D.post discr_range_of_repr) (map (map F.layout_of) variants.now) run.items) }
+        ensures exact { IsSeveralAnswer F.layout_of FieldIdx.at FieldIdx.number VariantIdx.at VariantIdx.number (Cx.target self.now.cx) repr.now (D.post discr_range_of_repr) variants.now (λ items. WholeRun I.next_gives discriminants (λ run. items ≡ run.items)) result }
+        ensures lawful { IfOk result (IsLawfulLayout (Cx.target self.now.cx)) }
+        ensures told { IfOk result (λ l. WholeRun I.next_gives discriminants (λ run. AreToldApart (Cx.target self.now.cx) VariantIdx.number (map (map F.layout_of) variants.now) run.items l)) }
+        ensures size { IfOk result (λ l. WholeRun I.next_gives discriminants (λ run. HasEnumSize F.layout_of FieldIdx.at (VariantIdx.at 0) (Cx.target self.now.cx) repr.now (D.post discr_range_of_repr) (counting_of VariantIdx.number repr.now (map (map F.layout_of) variants.now) run.items) variants.now l.size)) }
+        ensures packed { IsSome repr.now.pack → result ≡ Err LayoutCalculatorError.ReprConflict }
+        ensures too_large { result ≡ Err LayoutCalculatorError.SizeOverflow → WholeRun I.next_gives discriminants (λ run. IsAskedTooLarge (Cx.target self.now.cx) repr.now (D.post discr_range_of_repr) (counting_of VariantIdx.number repr.now (map (map F.layout_of) variants.now) run.items) (map (map F.layout_of) variants.now)) }
+        ensures refused { (repr.now.pack ≡ None) → All AreSized (map (map F.layout_of) variants.now)
+            → EachRunFrom I.next_gives discriminants (λ run. IsTrue run.whole → IsAlwaysTooLarge (Cx.target self.now.cx) repr.now (D.post discr_range_of_repr) (counting_of VariantIdx.number repr.now (map (map F.layout_of) variants.now) run.items) (map (map F.layout_of) variants.now))
+            → IsAnswer (Err LayoutCalculatorError.SizeOverflow) result }
+        ensures no_other { (repr.now.pack ≡ None) → All AreSized (map (map F.layout_of) variants.now) → IfErr result (λ e. (e ≡ LayoutCalculatorError.SizeOverflow) ⊎ (e ≡ LayoutCalculatorError.OutOfMemory)) }
+    {
+        if repr.packed() {
+            return Err(LayoutCalculatorError::ReprConflict);
+        }
+        let items = listed(alloc, variants.len(), discriminants)?;
+        self.layout_of_enum(alloc, repr, variants, discr_range_of_repr, &items)
     }
 }

@@ -11,9 +11,9 @@ ghost use Rattle.abi_scalar.specs.Variant.{variant_of};
 ghost use Rattle.abi_calc.specs.Answer.{IsAnswer};
 ghost use Rattle.abi_calc.specs.List.{AreSized, HasLawfulAligns};
 ghost use Rattle.abi_calc.specs.Enums.Growth.{grown_variant};
-ghost use Rattle.abi_calc.specs.Enums.Lists.{AreListsOf, behind_tag};
+ghost use Rattle.abi_calc.specs.Enums.Lists.{AreListsOf, HaveGoodLists, behind_tag};
 ghost use Rattle.abi_calc.specs.Enums.Payload.{seen_as};
-ghost use Rattle.abi_calc.specs.Enums.Places.{AreApartAmong, AreNumbersAmong, DifferAmong, HasTrueView};
+ghost use Rattle.abi_calc.specs.Enums.Places.{AreApartAmong, AreNumbersAmong, DifferAmong, HasViewOfTag};
 ghost use Rattle.abi_calc.specs.Enums.Sizes.{IsTaggedSize, IsTaggedTooLarge};
 ghost use Rattle.abi_calc.specs.Enums.Tagged.{IsTaggedAnswer, IsTaggedBy, layout_seen_as, lists_align, lists_size};
 
@@ -26,6 +26,7 @@ use crate::fields::{
     greatest_align, greatest_repr_align, greatest_size, greatest_unadjusted, seed_with,
 };
 use crate::list_repr::rounded;
+use crate::one_item::one;
 use abi_base::{AbiAlign, Align, HasDataLayout, Integer, Primitive, Size, TargetDataLayout};
 use abi_index::{Idx, IndexVec};
 use abi_scalar::{
@@ -83,15 +84,6 @@ fn variants_of<FieldIdx: Idx, VariantIdx: Idx>(
     Ok(variants)
 }
 
-/// A list with one item.
-pub fn one_item<I: Idx, T: Copy>(alloc: Global, item: T) -> Result<IndexVec<I, T>, AllocError>
-    ensures { IfOk result (λ list. list ≡ item ∷ []) }
-{
-    let mut list = IndexVec::new(alloc);
-    let _index = list.push(item)?;
-    Ok(list)
-}
-
 /// The layout of an enum of this view, alignment and size, whose tag grew from the old size, and whose variants have these
 /// lists.
 fn layout_seen_as<FieldIdx: Idx, VariantIdx: Idx>(
@@ -121,8 +113,8 @@ fn layout_seen_as<FieldIdx: Idx, VariantIdx: Idx>(
     let first = FieldIdx::new(0);
     Ok(LayoutData {
         fields: FieldsShape::Arbitrary {
-            offsets: one_item(alloc, Size::ZERO)?,
-            in_memory_order: one_item(alloc, first)?,
+            offsets: one(alloc, Size::ZERO)?,
+            in_memory_order: one(alloc, first)?,
         },
         variants: Variants::Multiple {
             tag,
@@ -207,14 +199,15 @@ impl<Cx: HasDataLayout> LayoutCalculator<Cx> {
         requires unpacked { repr.now.pack ≡ None }
         requires some { 0 < length variants.now }
         ensures exact { IsTaggedAnswer F.layout_of FieldIdx.at FieldIdx.number (VariantIdx.at 0) (Cx.target self.now.cx) repr.now asked signed values.now variants.now result }
+        ensures good { IfOk result (λ l. HaveGoodLists F.layout_of FieldIdx.at (VariantIdx.at 0) (Cx.target self.now.cx) repr.now (behind_tag (Cx.target self.now.cx) repr.now asked (map (map F.layout_of) variants.now)) variants.now) }
 
         // The size is the greatest least size of the variants' lists, rounded up to the greatest of their alignments.
         ensures size { IfOk result (λ l. IsTaggedSize (Cx.target self.now.cx) repr.now (behind_tag (Cx.target self.now.cx) repr.now asked (map (map F.layout_of) variants.now)) (map (map F.layout_of) variants.now) l.size) }
 
         ensures lawful { IfOk result (IsLawfulLayout (Cx.target self.now.cx)) }
 
-        // A view of scalars is true of each variant: it begins with the tag, and what stands beside it holds anything.
-        ensures view { IfOk result (λ l. HasTrueView (Cx.target self.now.cx) l) }
+        // A view of scalars begins with the tag, and what stands beside it holds anything.
+        ensures view { IfOk result (λ l. HasViewOfTag (Cx.target self.now.cx) l) }
 
         // The tag and the fields of each variant share no byte, and end inside.
         ensures apart { IfOk result (λ l. AreApartAmong (Cx.target self.now.cx) l.size (map (map F.layout_of) variants.now) l.variants) }

@@ -1,30 +1,66 @@
--- Nothing is packed; the discriminants that count are the ones that are asked with.
-use Rattle.std.proofs.Common.{rules, ◌∙◌, inr, map, subst}
-use Rattle.std.proofs.lemmas.Int.{to_z-of_z}
-use Rattle.std.specs.Int.{w128}
+-- The discriminants that are listed are those that a whole run gives.
+use Rattle.std.proofs.Common.{◌∙◌, inr, length, map, sym, ℕ}
+use Rattle.std.specs.Prelude.{Bool, ℤ}
 use Rattle.abi_base.specs.declared.data_layout.TargetDataLayout.{TargetDataLayout}
-use Rattle.abi_calc.specs.Enums.Discriminants.{IsAskedWith, counting_of}
-use Rattle.abi_calc.specs.Enums.Tagged.{IsTaggedAnswer}
-use Rattle.abi_calc.proofs.EnumAnswers.{none_packed}
+use Rattle.abi_base.specs.declared.integer.Integer.{Integer}
+use Rattle.abi_scalar.specs.declared.variants.RangeFrom.{RangeFrom}
+use Rattle.abi_scalar.specs.declared.variants.RangeToInclusive.{RangeToInclusive}
+use Rattle.abi_calc.specs.Enums.Answer.{HasOneEach}
+use Rattle.abi_calc.specs.Enums.Beside.{AreToldApart}
+use Rattle.abi_calc.specs.Enums.Discriminants.{counting_of}
+use Rattle.abi_calc.specs.Enums.Several.{AreLawfulTags, HasEnumSize, IsAlwaysTooLarge, IsAskedTooLarge}
+use Rattle.abi_calc.proofs.EnumType.{each_named, list_given, list_of_each, none_there, whole_if_ok, whole_of_list}
 use Rattle.abi_calc.proofs.calculator.LayoutCalculator.layout_of_several.Goals as goal
+
+pub layout_of_enum-requires-clause-named : goal.layout_of_enum-requires-clause-named
+layout_of_enum-requires-clause-named g c =
+    let asks : RangeFrom ℤ → RangeToInclusive ℕ → Integer × Bool → Type 0 = λ least greatest answer. g.D.Fn.post c.args.discr_range_of_repr (least, (greatest, tt)) answer in
+    let vs = map (map g.F.LayoutHandle.layout_of) c.args.variants.now in
+    let count = length c.args.variants.now in
+    each_named g.VariantIdx.Idx.number count c.deref.result.now
+    (list_of_each g.I.Iterator.next_gives c.args.discriminants c.deref.result.now c.in_ok-items.items.items c.deref.ensures.value c.in_ok-items.ensures
+    (λ items. HasOneEach g.VariantIdx.Idx.number count items × AreLawfulTags g.VariantIdx.Idx.number (g.Cx.HasDataLayout.target c.args.self.now.cx) c.args.repr.now asks vs items) c.requires.each).0
+
+pub layout_of_enum-requires-clause-tags : goal.layout_of_enum-requires-clause-tags
+layout_of_enum-requires-clause-tags g c =
+    let asks : RangeFrom ℤ → RangeToInclusive ℕ → Integer × Bool → Type 0 = λ least greatest answer. g.D.Fn.post c.args.discr_range_of_repr (least, (greatest, tt)) answer in
+    let vs = map (map g.F.LayoutHandle.layout_of) c.args.variants.now in
+    let count = length c.args.variants.now in
+    (list_of_each g.I.Iterator.next_gives c.args.discriminants c.deref.result.now c.in_ok-items.items.items c.deref.ensures.value c.in_ok-items.ensures
+    (λ items. HasOneEach g.VariantIdx.Idx.number count items × AreLawfulTags g.VariantIdx.Idx.number (g.Cx.HasDataLayout.target c.args.self.now.cx) c.args.repr.now asks vs items) c.requires.each).1
 
 pub returns-clause-exact : goal.returns-clause-exact
 returns-clause-exact g c =
-    let layout_of = g.F.LayoutHandle.layout_of in
+    let given = list_given g.I.Iterator.next_gives c.args.discriminants c.deref.result.now c.in_ok-items.items.items c.deref.ensures.value c.in_ok-items.ensures in
+    inr (inr (none_there c.args.repr.now.pack (sym c.packed.ensures ∙ c.if-packed.false), c.deref.result.now, given, c.layout_of_enum.ensures.exact))
+
+pub returns-clause-told : goal.returns-clause-told
+returns-clause-told g c =
     let dl : TargetDataLayout = g.Cx.HasDataLayout.target c.args.self.now.cx in
-    let values = counting_of g.VariantIdx.Idx.number c.args.repr.now (map (map layout_of) c.args.variants.now) c.args.discriminants.now in
-    let asked = subst (λ d. IsAskedWith d c.args.repr.now c.deref.result.now c.asked_with-asked.result.least c.asked_with-asked.result.greatest) c.data_layout.ensures c.asked_with-asked.ensures in
-    inr (inr (
-      none_packed c.args.repr.now.pack c.packed.result c.packed.ensures c.if-packed.false,
-      (
-        c.asked_with-asked.result.least,
-        c.asked_with-asked.result.greatest,
-        subst (λ vs. IsAskedWith dl c.args.repr.now vs c.asked_with-asked.result.least c.asked_with-asked.result.greatest) (c.deref.ensures.value ∙ c.in_ok-values.ensures) asked,
-        c.discr_range_of_repr-integer.result.0,
-        c.discr_range_of_repr-integer.result.1,
-        subst (λ z. g.D.Fn.post c.args.discr_range_of_repr (record { start = z }, (record { last = c.asked_with-asked.result.greatest }, tt)) c.discr_range_of_repr-integer.result)
-            (to_z-of_z w128 c.asked_with-asked.result.least (search rules)) c.discr_range_of_repr-integer.ensures,
-        subst (λ vs. IsTaggedAnswer layout_of g.FieldIdx.Idx.at g.FieldIdx.Idx.number (g.VariantIdx.Idx.at 0) dl c.args.repr.now c.discr_range_of_repr-integer.result.0 c.discr_range_of_repr-integer.result.1 vs c.args.variants.now c.layout_of_tagged.result)
-            (c.deref-2.ensures.value ∙ c.in_ok-values.ensures) c.layout_of_tagged.ensures.exact,
-      ),
-    ))
+    let vs = map (map g.F.LayoutHandle.layout_of) c.args.variants.now in
+    whole_if_ok g.I.Iterator.next_gives c.args.discriminants c.deref.result.now c.in_ok-items.items.items c.deref.ensures.value c.in_ok-items.ensures
+    (λ l items. AreToldApart dl g.VariantIdx.Idx.number vs items l) c.layout_of_enum.result c.layout_of_enum.ensures.told
+
+pub returns-clause-size : goal.returns-clause-size
+returns-clause-size g c =
+    let dl : TargetDataLayout = g.Cx.HasDataLayout.target c.args.self.now.cx in
+    let asks : RangeFrom ℤ → RangeToInclusive ℕ → Integer × Bool → Type 0 = λ least greatest answer. g.D.Fn.post c.args.discr_range_of_repr (least, (greatest, tt)) answer in
+    let vs = map (map g.F.LayoutHandle.layout_of) c.args.variants.now in
+    whole_if_ok g.I.Iterator.next_gives c.args.discriminants c.deref.result.now c.in_ok-items.items.items c.deref.ensures.value c.in_ok-items.ensures
+    (λ l items. HasEnumSize g.F.LayoutHandle.layout_of g.FieldIdx.Idx.at (g.VariantIdx.Idx.at 0) dl c.args.repr.now asks (counting_of g.VariantIdx.Idx.number c.args.repr.now vs items) c.args.variants.now l.size)
+    c.layout_of_enum.result c.layout_of_enum.ensures.size
+
+pub returns-clause-too_large : goal.returns-clause-too_large
+returns-clause-too_large g c is =
+    let asks : RangeFrom ℤ → RangeToInclusive ℕ → Integer × Bool → Type 0 = λ least greatest answer. g.D.Fn.post c.args.discr_range_of_repr (least, (greatest, tt)) answer in
+    let vs = map (map g.F.LayoutHandle.layout_of) c.args.variants.now in
+    whole_of_list g.I.Iterator.next_gives c.args.discriminants c.deref.result.now c.in_ok-items.items.items c.deref.ensures.value c.in_ok-items.ensures
+    (λ items. IsAskedTooLarge (g.Cx.HasDataLayout.target c.args.self.now.cx) c.args.repr.now asks (counting_of g.VariantIdx.Idx.number c.args.repr.now vs items) vs) (c.layout_of_enum.ensures.too_large is)
+
+pub returns-clause-refused : goal.returns-clause-refused
+returns-clause-refused g c free sized each =
+    let asks : RangeFrom ℤ → RangeToInclusive ℕ → Integer × Bool → Type 0 = λ least greatest answer. g.D.Fn.post c.args.discr_range_of_repr (least, (greatest, tt)) answer in
+    let vs = map (map g.F.LayoutHandle.layout_of) c.args.variants.now in
+    c.layout_of_enum.ensures.refused sized
+    (list_of_each g.I.Iterator.next_gives c.args.discriminants c.deref.result.now c.in_ok-items.items.items c.deref.ensures.value c.in_ok-items.ensures
+    (λ items. IsAlwaysTooLarge (g.Cx.HasDataLayout.target c.args.self.now.cx) c.args.repr.now asks (counting_of g.VariantIdx.Idx.number c.args.repr.now vs items) vs) each)

@@ -5,7 +5,7 @@ use Rattle.abi_base.specs.declared.data_layout.TargetDataLayout.{TargetDataLayou
 use Rattle.abi_base.specs.declared.struct_kind.StructKind.{StructKind}
 use Rattle.abi_scalar.specs.declared.error.LayoutCalculatorError.TheVariants.{OutOfMemory}
 use Rattle.abi_calc.specs.Enums.Lists.{AreGoodLists, IsFirstListError, behind_tag}
-use Rattle.abi_calc.proofs.EnumAnswers.{HasGoodLists, IsBy, IsWholeFault, by_apart, by_differ, by_lawful, by_no_other, by_numbers, by_refused, by_size, by_too_large, by_view, list_no_other, list_refused, list_too_large}
+use Rattle.abi_calc.proofs.EnumAnswers.{HasGoodLists, IsBy, IsWholeFault, by_apart, by_differ, by_good, by_lawful, by_no_other, by_numbers, by_refused, by_size, by_too_large, by_view, list_no_other, list_refused, list_too_large}
 use Rattle.abi_calc.proofs.EnumTagged.{tagged_answer}
 use Rattle.abi_calc.proofs.calculator.LayoutCalculator.layout_of_tagged.Goals as goal
 
@@ -39,6 +39,7 @@ returns-in-Ok g c =
     record {
       exact = tagged_answer layout_of at number first dl told c.args.repr.now c.args.asked c.args.signed c.args.values.now c.args.variants.now c.behind_tag-kind.result c.in-Ok.lists.items c.layout_of_lists.result
           same c.behind_tag-kind.ensures.kind c.in-Ok.ensures.exact c.layout_of_lists.ensures.exact c.layout_of_lists.ensures.fault;
+      good = by_good layout_of at number first dl c.args.repr.now c.args.asked c.args.signed c.args.values.now behind c.args.variants.now c.in-Ok.lists.items c.layout_of_lists.result h;
       size = by_size layout_of at number first dl c.args.repr.now c.args.asked c.args.signed c.args.values.now behind c.args.variants.now c.in-Ok.lists.items c.layout_of_lists.result h by;
       lawful = by_lawful layout_of at number first dl c.args.repr.now c.args.asked c.args.signed c.args.values.now behind c.args.variants.now c.in-Ok.lists.items g.FieldIdx.Idx.MAX_INDEX g.met.FieldIdx.Idx.number_at c.requires.data_layout refl c.in-Ok.ensures.within c.requires.fields c.in-Ok.ensures.lawful c.layout_of_lists.result h by;
       view = by_view layout_of at number first dl c.args.repr.now c.args.asked c.args.signed c.args.values.now behind c.args.variants.now c.in-Ok.lists.items c.layout_of_lists.result by;

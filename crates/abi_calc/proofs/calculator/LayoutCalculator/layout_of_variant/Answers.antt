@@ -13,7 +13,7 @@ returns-clause-good g c =
     c.layout_of_univariant.result (rw (sym c.as_slice.ensures) c.layout_of_univariant.ensures.exact) c.layout_of_univariant.ensures.lawful
     (rw (sym c.as_slice.ensures) c.layout_of_univariant.ensures.placed) c.layout_of_univariant.ensures.places
     (rw (sym c.as_slice.ensures) c.layout_of_univariant.ensures.least) (rw (sym c.as_slice.ensures) c.layout_of_univariant.ensures.apart)
-    c.layout_of_univariant.ensures.after
+    c.layout_of_univariant.ensures.after (rw (sym c.as_slice.ensures) c.layout_of_univariant.ensures.niche) (rw (sym c.as_slice.ensures) c.layout_of_univariant.ensures.largest)
 
 pub returns-clause-fault : goal.returns-clause-fault
 returns-clause-fault g c =

@@ -47,7 +47,7 @@ returns g c = λ list is.
     let view = c.untagged_view-fills.ensures.view list there in
     let made = layout_in_niche (g.FieldIdx.Idx.at 0) g.VariantIdx.Idx.at dl c.args.repr.now c.args.untagged c.args.span lists list c.args.niche (reserved dl c.args.niche (span_count c.args.span)) c.in-Some.variants in
     ap (λ l. Some l) (same_parts _ made
-    (rw (c.in_ok-one_item.ensures, c.in_ok-one_item-2.ensures, c.new-first.ensures) refl)
+    (rw (c.in_ok-one.ensures, c.in_ok-one-2.ensures, c.new-first.ensures) refl)
     (rw (c.niche_encoding.ensures, c.new-first.ensures, c.requires.handed) refl)
     (c.niche_view-backend_repr.ensures ∙ (λ i. if◌then◌else◌ (fills i && others_empty c.args.untagged 0 c.in-Some.variants) (view_with c.args.niche.offset (c.requires.handed i).1 (view i)) (Memory true)))
     (c.from_scalar.ensures.exact ∙ ap (λ h. niche_at dl c.args.niche.offset h.1) c.requires.handed)
