@@ -1,10 +1,8 @@
 //! Enums and structs whose layouts were worked out by hand.
 
-ghost use Rattle.abi_base.specs.DataLayout.{IsLawfulDataLayout};
-
 use crate::row::{Asks, List, Row, Told, View};
-use crate::samples::{Answer, Field, Laid, data_layout, fields};
-use abi_base::{AddressSpace, Integer, Primitive, TargetDataLayout};
+use crate::samples::{Answer, Field, data_layout, fields};
+use abi_base::{AddressSpace, Integer, Primitive};
 use abi_scalar::{LayoutCalculatorError, LayoutData, Scalar, WrappingRange};
 use std::alloc::{AllocError, Global};
 use std::process::Abort;
@@ -149,7 +147,7 @@ const ALONE: Row = Row {
 };
 
 /// Types of one variant, under the default data layout.
-const SINGLE: [Row; 9] = [
+static SINGLE: [Row; 9] = [
     Row {
         variants: &[(0, &[Field::Never]), (1, &[Field::U8])],
         told: Told::Single(1),
@@ -240,7 +238,7 @@ const SINGLE: [Row; 9] = [
 ];
 
 /// Enums that are told apart by a tag, under the default data layout.
-const DIRECT: [Row; 9] = [
+static DIRECT: [Row; 9] = [
     Row {
         variants: &[(0, &[]), (0xFFFF_FFFF_FFFF_FFFF_FFFF_FFFF_FFFF_FFFF, &[])],
         integer: (Integer::I8, true),
@@ -452,7 +450,7 @@ const LONG_AT_FOUR: List = List {
 };
 
 /// Enums that are told apart by a niche, under the default data layout.
-const IN_NICHE: [Row; 6] = [
+static IN_NICHE: [Row; 6] = [
     Row {
         variants: &[(0, &[]), (1, &[Field::Bool])],
         told: Told::Niche(TRIT, 0, 1, (0, 0), 2),
@@ -582,7 +580,7 @@ const IN_NICHE: [Row; 6] = [
 ];
 
 /// An enum under a data layout that aligns integers of eight bytes to as many: the tag grows to one of these.
-const WIDE: [Row; 1] = [Row {
+static WIDE: [Row; 1] = [Row {
     variants: &[(0, &[Field::U64]), (1, &[Field::U64])],
     told: Told::Tag(Scalar::Initialized {
         value: LONG,
@@ -618,7 +616,7 @@ const LONG_AT_EIGHT: List = List {
 };
 
 /// An enum under pointers of 16 bits.
-const NARROW: [Row; 1] = [Row {
+static NARROW: [Row; 1] = [Row {
     asks: Asks::C,
     variants: &[(0, &[])],
     integer: (Integer::I16, false),
@@ -642,7 +640,7 @@ const NARROW: [Row; 1] = [Row {
 }];
 
 /// Enums without a present variant.
-const EMPTY: [Row; 2] = [
+static EMPTY: [Row; 2] = [
     TAGGED,
     Row {
         variants: &[(0, &[Field::Never]), (1, &[Field::Never, Field::Unit])],
@@ -651,88 +649,107 @@ const EMPTY: [Row; 2] = [
 ];
 
 /// An enum that is packed.
-const PACKED: Row = Row {
+static PACKED: [Row; 1] = [Row {
     asks: Asks::Packed,
     variants: &[(0, &[]), (1, &[])],
     ..TAGGED
-};
+}];
 
 /// An enum whose list behind the tag reaches the bound of pointers of 16 bits, while a niche would do.
-const LARGE: Row = Row {
+static LARGE: [Row; 1] = [Row {
     variants: &[(0, &[Field::Many, Field::Bool]), (1, &[])],
     ..TAGGED
-};
+}];
 
-/// Compares each row's whole layout.
-fn compare(
-    rt: &impl Abort,
-    alloc: Global,
-    dl: &TargetDataLayout,
-    rows: &[Row],
-) -> Result<(), AllocError>
-    requires { IsLawfulDataLayout dl.now }
-{
-    let all = fields(rt, alloc, dl)?;
+/// Tables of rows.
+#[derive(Clone, Copy)]
+enum Table {
+    Single,
+    Direct,
+    InNiche,
+    Wide,
+    Narrow,
+    Empty,
+    Packed,
+    Large,
+}
+
+/// The rows of a table.
+fn rows_of(table: Table) -> &'static [Row] {
+    match table {
+        Table::Single => &SINGLE,
+        Table::Direct => &DIRECT,
+        Table::InNiche => &IN_NICHE,
+        Table::Wide => &WIDE,
+        Table::Narrow => &NARROW,
+        Table::Empty => &EMPTY,
+        Table::Packed => &PACKED,
+        Table::Large => &LARGE,
+    }
+}
+
+/// Compares each row's whole layout, under the data layout that this text tells.
+fn compare(rt: &impl Abort, alloc: Global, text: &str, rows: &[Row]) -> Result<(), AllocError> {
+    let dl = data_layout(rt, alloc, text);
+    let all = fields(rt, alloc, &dl)?;
     for (at, row) in rows.iter().enumerate() {
-        assert!(rt; row.is_met(rt, alloc, dl, &all)?, "row {at}");
+        assert!(rt; row.is_met(rt, alloc, &dl, &all)?, "row {at}");
     }
     Ok(())
 }
 
-/// The calculator's answer to one row.
-fn answered(
+/// Whether each row is answered so, under pointers of 16 bits.
+fn compare_answer(
     rt: &impl Abort,
     alloc: Global,
-    dl: &TargetDataLayout,
-    row: &Row,
-) -> Result<Answer, AllocError>
-    requires { IsLawfulDataLayout dl.now }
-{
-    let all = fields(rt, alloc, dl)?;
-    row.answered(rt, alloc, dl, &all)
+    rows: &[Row],
+    wanted: &Answer,
+) -> Result<(), AllocError> {
+    let dl = data_layout(rt, alloc, "p:16:16");
+    let all = fields(rt, alloc, &dl)?;
+    for (at, row) in rows.iter().enumerate() {
+        assert!(rt; row.answered(rt, alloc, &dl, &all)? == *wanted, "row {at}");
+    }
+    Ok(())
 }
 
 #[test]
 fn one_variant_is_a_list(rt: HostRuntime) -> Result<(), Fail> {
-    let dl = data_layout(&rt, rt.alloc(), "");
-    compare(&rt, rt.alloc(), &dl, &SINGLE)?;
+    compare(&rt, rt.alloc(), "", rows_of(Table::Single))?;
     Ok(())
 }
 
 #[test]
 fn tags_tell_variants_apart(rt: HostRuntime) -> Result<(), Fail> {
-    let dl = data_layout(&rt, rt.alloc(), "");
-    compare(&rt, rt.alloc(), &dl, &DIRECT)?;
-    let dl = data_layout(&rt, rt.alloc(), "e-m:e-i64:64-n32:64-S128");
-    compare(&rt, rt.alloc(), &dl, &WIDE)?;
-    let dl = data_layout(&rt, rt.alloc(), "p:16:16");
-    compare(&rt, rt.alloc(), &dl, &NARROW)?;
-    Ok(())
-}
-
-#[test]
-fn niches_tell_variants_apart(rt: HostRuntime) -> Result<(), Fail> {
-    let dl = data_layout(&rt, rt.alloc(), "");
-    compare(&rt, rt.alloc(), &dl, &IN_NICHE)?;
-    Ok(())
-}
-
-#[test]
-fn enums_without_variants_have_no_value(rt: HostRuntime) -> Result<(), Fail> {
-    let dl = data_layout(&rt, rt.alloc(), "");
-    for row in &EMPTY {
-        let never: Laid = LayoutData::never_type(&dl);
-        assert!(rt; answered(&rt, rt.alloc(), &dl, row)? == Ok(never));
+    for (text, table) in [
+        ("", Table::Direct),
+        ("e-m:e-i64:64-n32:64-S128", Table::Wide),
+        ("p:16:16", Table::Narrow),
+    ] {
+        compare(&rt, rt.alloc(), text, rows_of(table))?;
     }
     Ok(())
 }
 
 #[test]
-fn enums_are_refused(rt: HostRuntime) -> Result<(), Fail> {
+fn niches_tell_variants_apart(rt: HostRuntime) -> Result<(), Fail> {
+    compare(&rt, rt.alloc(), "", rows_of(Table::InNiche))?;
+    Ok(())
+}
+
+#[test]
+fn enums_without_variants_have_no_value(rt: HostRuntime) -> Result<(), Fail> {
     let dl = data_layout(&rt, rt.alloc(), "p:16:16");
-    let packed: Answer = Err(LayoutCalculatorError::ReprConflict);
-    assert!(rt; answered(&rt, rt.alloc(), &dl, &PACKED)? == packed);
-    let large: Answer = Err(LayoutCalculatorError::SizeOverflow);
-    assert!(rt; answered(&rt, rt.alloc(), &dl, &LARGE)? == large);
+    let never = Ok(LayoutData::never_type(&dl));
+    compare_answer(&rt, rt.alloc(), rows_of(Table::Empty), &never)?;
+    Ok(())
+}
+
+#[test]
+fn enums_are_refused(rt: HostRuntime) -> Result<(), Fail> {
+    let packed = Err(LayoutCalculatorError::ReprConflict);
+    compare_answer(&rt, rt.alloc(), rows_of(Table::Packed), &packed)?;
+    let large = Err(LayoutCalculatorError::SizeOverflow);
+    compare_answer(&rt, rt.alloc(), rows_of(Table::Large), &large)?;
     Ok(())
 }
