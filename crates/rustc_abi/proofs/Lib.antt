@@ -31,3 +31,5 @@ mod LaidLemmas
 pub mod OneAnswer
 pub mod SomeAnswer
 mod LeastLemmas
+pub mod TaggedLemmas
+pub mod InNicheLemmas

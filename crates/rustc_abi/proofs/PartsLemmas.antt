@@ -32,7 +32,7 @@ FitTogether dl size _ _ = ⊥
 
 module _ (dl : TargetDataLayout) where
   -- parts beside a place see nothing of what is put there
-  HoldParts-beside : (ts : Trees) (parts : Parts) (offset : ℕ) (b own : List ℕ) → LieBeside offset (length own) parts →
+  pub HoldParts-beside : (ts : Trees) (parts : Parts) (offset : ℕ) (b own : List ℕ) → LieBeside offset (length own) parts →
       offset + length own ≤ length b → (vs : Values) → HoldParts dl.endian parts b vs → HoldParts dl.endian parts (put b offset own) vs
   HoldParts-beside ts no_parts offset b own beside fits no_values h = h
   HoldParts-beside ts no_parts offset b own beside fits (more_values v vs) h = absurd h
