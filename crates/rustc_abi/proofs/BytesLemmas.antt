@@ -8,7 +8,7 @@ use Rattle.abi_base.specs.declared.endian.Endian.TheVariants.{Little, Big}
 use Rattle.abi_scalar.specs.Range.{numbers_of}
 use Rattle.rustc_abi.specs.Bytes.{AreBytes, bytes_at, little, number_of}
 
-numbers_of-suc : (w : ℕ) → numbers_of (suc w) ≡ numbers_of w * 256
+pub numbers_of-suc : (w : ℕ) → numbers_of (suc w) ≡ numbers_of w * 256
 numbers_of-suc w =
     let e : 8 * suc w ≡ 8 * w + 8 = omega arith in
     ap (λ k. 2 ^ k) e ∙ pow-add 2 (8 * w) 8
@@ -33,7 +33,7 @@ AreBytes-spelled : (w n : ℕ) → AreBytes (spelled w n)
 AreBytes-spelled zero n = All-nil (λ b. b < 256)
 AreBytes-spelled (suc w) n = All-cons (λ b. b < 256) (n % 256) (spelled w (n / 256)) (mod_below n 256 (omega arith)) (AreBytes-spelled w (n / 256))
 
-AreBytes-reverse : (bytes : List ℕ) → AreBytes bytes → AreBytes (reverse bytes)
+pub AreBytes-reverse : (bytes : List ℕ) → AreBytes bytes → AreBytes (reverse bytes)
 AreBytes-reverse bytes all = λ k d lt.
     let inside : k < length bytes = omega (arith, length-reverse bytes) in
     subst (λ b. b < 256) (sym (get_or-reverse bytes k d inside)) (all (length bytes - 1 - k) d (omega arith))

@@ -33,3 +33,4 @@ pub mod SomeAnswer
 mod LeastLemmas
 pub mod TaggedLemmas
 pub mod InNicheLemmas
+pub mod TagViewLemmas
