@@ -25,7 +25,7 @@ use Rattle.abi_scalar.specs.Shape.{listed_offsets}
 use Rattle.abi_scalar.specs.Variant.{variant_of}
 use Rattle.abi_scalar.proofs.ReserveLemmas.{reserved_hands_out}
 use Rattle.abi_calc.specs.declared.enums.niche.Room.{Room}
-use Rattle.abi_calc.specs.Apart.{AreApart, IsBeside, offsets_of}
+use Rattle.abi_calc.specs.Apart.{AreApart, IsBeside}
 use Rattle.abi_calc.specs.Enums.Beside.{AreApartBeside, AreNumbersInNiche, HasTagAt, IsToldByNiche}
 use Rattle.abi_calc.specs.Enums.Lists.{AreGoodLists, IsGoodList}
 use Rattle.abi_calc.specs.Enums.Niche.{beside_niche, last_or, layout_in_niche, moved_on, needing_numbers, niche_of_list, place_after, room_beside, span_count, span_of, untagged_of, variants_from, with_first, without_niche}
@@ -36,7 +36,7 @@ use Rattle.abi_calc.specs.ListNiche.{IsNicheOfPart}
 use Rattle.abi_calc.specs.Placement.{source_order}
 use Rattle.abi_calc.proofs.EnumInNiche.{handed_from, holds_there, needing_ascends, needing_within, niche_known, of_some, span_holds}
 use Rattle.abi_calc.proofs.EnumNicheLawful.{size_at_most, tag_size}
-use Rattle.abi_calc.proofs.EnumPlaces.{greatest_within, same_offsets, sizes_as, wider}
+use Rattle.abi_calc.proofs.EnumPlaces.{greatest_within, sizes_as, wider}
 use Rattle.abi_calc.proofs.Rounding.{rounded_to}
 
 -- ---- parts that share no byte, in a larger whole beside a niche
@@ -150,8 +150,7 @@ module _ {F V H : Type 0} (layout_of : H → LayoutData F V) (at : ℕ → F) (f
   own_list : (fields : List H) (list : LayoutData F V) (niche : Niche) → IsGoodList layout_of at first dl repr kind fields list → list.largest_niche ≡ Some niche
       → IsNicheOfPart (listed_offsets list.fields) (map layout_of fields) niche
   own_list fields list niche good known =
-      subst (λ offsets. IsNicheOfPart offsets (map layout_of fields) niche) (sym (same_offsets list.fields))
-      (of_some (IsNicheOfPart (offsets_of list.fields) (map layout_of fields)) list.largest_niche niche known good.niche)
+      of_some (IsNicheOfPart (listed_offsets list.fields) (map layout_of fields)) list.largest_niche niche known good.niche
 
   -- which it has where it is placed
   own_placed : (b : Bool) (room : Room) (fields : List H) (list : LayoutData F V) (niche : Niche) (variant : VariantLayout F) → IsGoodList layout_of at first dl repr kind fields list → list.largest_niche ≡ Some niche

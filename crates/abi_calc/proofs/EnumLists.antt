@@ -1,5 +1,5 @@
 -- The lists of an enum's variants.
-use Rattle.std.proofs.Common.{◌≡◌, ℕ, ◌+◌, ◌<◌, ◌≤◌, List, [], ◌∷◌, ◌++◌, ◌∙◌, ap, arith, drop, inl, inr, length, map, refl, slice_index_or, subst, suc, sym, take}
+use Rattle.std.proofs.Common.{◌≡◌, ℕ, ◌+◌, ◌<◌, ◌≤◌, List, [], ◌∷◌, ◌++◌, ◌∙◌, ap, arith, drop, inl, inr, length, map, slice_index_or, subst, suc, sym, take}
 use Rattle.std.specs.Prelude.{◌⊎◌, All, IfErr, IfOk, IfSome, Result, Ok, Err}
 use Rattle.std.proofs.lemmas.List.{length-map, take-append-drop, take_more}
 use Rattle.std.proofs.Math.Seq.{drop-cons}
@@ -19,7 +19,7 @@ use Rattle.abi_scalar.specs.declared.fields_shape.FieldsShape.TheVariants.{Arbit
 use Rattle.abi_scalar.specs.Lawful.{IsLawfulLayout}
 use Rattle.abi_scalar.specs.Order.{HasPlaceForEach}
 use Rattle.abi_scalar.specs.Shape.{IsListed, listed_offsets}
-use Rattle.abi_calc.specs.Apart.{AreApart, offsets_of}
+use Rattle.abi_calc.specs.Apart.{AreApart}
 use Rattle.abi_calc.specs.ListNiche.{HasLargestNiche, IsNicheOfPart}
 use Rattle.abi_calc.specs.Least.{IsLeastSize, LiesInSomeOrder}
 use Rattle.abi_calc.specs.Placement.{start_of}
@@ -110,31 +110,28 @@ first_error layout_of at first dl repr kind (w ∷ vs) (l ∷ ls) v more e h is 
 
 -- ---- one list
 
-offsets_listed : {F : Type 0} (shape : FieldsShape F) (offsets : List ℕ) (order : List F) → shape ≡ Arbitrary offsets order → listed_offsets shape ≡ offsets
-offsets_listed shape offsets order e = rw e refl
-
 is_listed : {F : Type 0} (shape : FieldsShape F) (offsets : List ℕ) (order : List F) → shape ≡ Arbitrary offsets order → IsListed shape
 is_listed shape offsets order e = rw e tt
 
 -- a list's layout is lawful and has an offset and a place for each field
 pub good_of : {F V H : Type 0} (layout_of : H → LayoutData F V) (at : ℕ → F) (first : V) (dl : TargetDataLayout) (repr : ReprOptions) (kind : StructKind) (fields : List H) (r : Result (LayoutData F V) (LayoutCalculatorError H))
     → IsListAnswer layout_of at first dl repr kind fields r → IfOk r (IsLawfulLayout dl) → IfOk r (LiesInSomeOrder at dl repr kind (map layout_of fields)) → IfOk r (λ l. HasPlaceForEach l.fields)
-    → IfOk r (λ l. IsLeastSize dl repr kind (map layout_of fields) l.size) → IfOk r (λ l. AreApart l.size (offsets_of l.fields) (map (λ f. (layout_of f).size) fields))
-    → IfOk r (λ l. All (λ o. start_of repr.pack kind ≤ o) (offsets_of l.fields)) → IfOk r (λ l. IfSome l.largest_niche (IsNicheOfPart (offsets_of l.fields) (map layout_of fields)))
+    → IfOk r (λ l. IsLeastSize dl repr kind (map layout_of fields) l.size) → IfOk r (λ l. AreApart l.size (listed_offsets l.fields) (map (λ f. (layout_of f).size) fields))
+    → IfOk r (λ l. All (λ o. start_of repr.pack kind ≤ o) (listed_offsets l.fields)) → IfOk r (λ l. IfSome l.largest_niche (IsNicheOfPart (listed_offsets l.fields) (map layout_of fields)))
     → IfOk r (λ l. HasLargestNiche dl l.largest_niche (map layout_of fields))
     → IfOk r (IsGoodList layout_of at first dl repr kind fields)
 good_of layout_of at first dl repr kind fields (Ok l) exact lawful placed places least apart after niche largest = record {
   exact = exact;
   listed = record {
-    listed = is_listed l.fields (offsets_of l.fields) (map at placed.0) placed.1;
-    count = ap length (offsets_listed l.fields (offsets_of l.fields) (map at placed.0) placed.1) ∙ placed.2.count ∙ length-map fields layout_of;
+    listed = is_listed l.fields (listed_offsets l.fields) (map at placed.0) placed.1;
+    count = placed.2.count ∙ length-map fields layout_of;
     places = places;
   };
   lawful = lawful;
   placed = placed;
   least = least;
-  apart = subst (λ offsets. AreApart l.size offsets (map (λ f. (layout_of f).size) fields)) (sym (offsets_listed l.fields (offsets_of l.fields) (map at placed.0) placed.1)) apart;
-  after = subst (All (λ o. start_of repr.pack kind ≤ o)) (sym (offsets_listed l.fields (offsets_of l.fields) (map at placed.0) placed.1)) after;
+  apart = apart;
+  after = after;
   niche = niche;
   largest = largest;
 }

@@ -18,14 +18,12 @@ use Rattle.abi_scalar.specs.declared.repr.ReprOptions.{ReprOptions}
 use Rattle.abi_scalar.specs.declared.scalar.Scalar.TheVariants.{Initialized}
 use Rattle.abi_scalar.specs.declared.variants.VariantLayout.{VariantLayout}
 use Rattle.abi_scalar.specs.declared.wrapping_range.WrappingRange.{WrappingRange}
-use Rattle.abi_scalar.specs.declared.fields_shape.FieldsShape.{FieldsShape}
-use Rattle.abi_scalar.specs.declared.fields_shape.FieldsShape.TheVariants.{Primitive, Union, Array, Arbitrary}
 use Rattle.abi_scalar.specs.Repr.{is_c}
 use Rattle.abi_scalar.specs.Order.{indices_by_offset}
 use Rattle.abi_scalar.specs.Shape.{listed_offsets}
 use Rattle.abi_scalar.specs.Variant.{variant_of}
 use Rattle.abi_calc.specs.declared.part.Part.{Part}
-use Rattle.abi_calc.specs.Apart.{AreApart, IsBeside, offsets_of}
+use Rattle.abi_calc.specs.Apart.{AreApart, IsBeside}
 use Rattle.abi_calc.specs.Enums.Growth.{align_or, first_align, grown_tag, grown_variant, moved, start_align}
 use Rattle.abi_calc.specs.Enums.Lists.{AreGoodLists, IsGoodList, align_with_all, behind_tag, tag_align}
 use Rattle.abi_calc.specs.Enums.Path.{is_free, takes_no_room}
@@ -335,13 +333,6 @@ clear_all old new (o ∷ offsets) (m ∷ sizes) e each = (each 0 (omega arith), 
 
 -- ---- small facts
 
--- two words for the offsets of fields that are listed one by one
-pub same_offsets : {F : Type 0} (shape : FieldsShape F) → listed_offsets shape ≡ offsets_of shape
-same_offsets Primitive = refl
-same_offsets (Union count) = refl
-same_offsets (Array stride count) = refl
-same_offsets (Arbitrary offsets order) = refl
-
 -- an integer has at least one byte
 some_bytes : (i : Integer) → 0 < integer_size i
 some_bytes I8 = omega arith
@@ -396,7 +387,7 @@ module _ {F V H : Type 0} (layout_of : H → LayoutData F V) (at : ℕ → F) (n
     (most : ℕ) (law : (i : ℕ) → i ≤ most → number (at i) ≡ i) (lawful : IsLawfulDataLayout dl) (packed : repr.pack ≡ None) where
   -- a list's fields lie one after another behind the tag
   lies_good : (fields : List H) (list : LayoutData F V) (good : IsGoodList layout_of at first dl repr (behind_tag dl repr asked vs) fields list)
-      → Lies repr.pack (start_of repr.pack (behind_tag dl repr asked vs)) (parts_of dl (map layout_of fields)) good.placed.0 (offsets_of list.fields)
+      → Lies repr.pack (start_of repr.pack (behind_tag dl repr asked vs)) (parts_of dl (map layout_of fields)) good.placed.0 (listed_offsets list.fields)
   lies_good fields list good =
       let many : length (parts_of dl (map layout_of fields)) ≡ length (map layout_of fields) = length-map (map layout_of fields) (λ f. part_of dl f) in
       record {
@@ -408,10 +399,10 @@ module _ {F V H : Type 0} (layout_of : H → LayoutData F V) (at : ℕ → F) (n
 
   -- under a free layout right behind it
   lies_old : (fields : List H) (list : LayoutData F V) (good : IsGoodList layout_of at first dl repr (behind_tag dl repr asked vs) fields list) → is_free repr ≡ true
-      → Lies None (integer_size asked) (parts_of dl (map layout_of fields)) good.placed.0 (offsets_of list.fields)
+      → Lies None (integer_size asked) (parts_of dl (map layout_of fields)) good.placed.0 (listed_offsets list.fields)
   lies_old fields list good free =
-      subst (λ from. Lies None from (parts_of dl (map layout_of fields)) good.placed.0 (offsets_of list.fields)) (start_old dl repr asked vs lawful free)
-      (subst (λ p. Lies p (start_of p (behind_tag dl repr asked vs)) (parts_of dl (map layout_of fields)) good.placed.0 (offsets_of list.fields)) packed (lies_good fields list good))
+      subst (λ from. Lies None from (parts_of dl (map layout_of fields)) good.placed.0 (listed_offsets list.fields)) (start_old dl repr asked vs lawful free)
+      (subst (λ p. Lies p (start_of p (behind_tag dl repr asked vs)) (parts_of dl (map layout_of fields)) good.placed.0 (listed_offsets list.fields)) packed (lies_good fields list good))
 
   -- as many parts as fields
   many_parts : (fields : List H) → length (parts_of dl (map layout_of fields)) ≡ length fields
@@ -438,11 +429,11 @@ module _ {F V H : Type 0} (layout_of : H → LayoutData F V) (at : ℕ → F) (n
       let lies = lies_old fields list good free in
       let low : start ≤ unwrap_or (first_align (map layout_of fields) good.placed.0) max_align
       = subst (λ o. start ≤ unwrap_or (first_align (map layout_of fields) o) max_align) (order_good fields list good small) least in
-      let each = clear_of_lies (integer_size asked) start (parts_of dl (map layout_of fields)) good.placed.0 (offsets_of list.fields) lies
+      let each = clear_of_lies (integer_size asked) start (parts_of dl (map layout_of fields)) good.placed.0 (listed_offsets list.fields) lies
       (clear_in_order dl (map layout_of fields) good.placed.0 (integer_size asked) start (some_bytes asked) (within_good fields list good) low) in
       let count : length (map (λ f. (layout_of f).size) fields) ≡ length fields = length-map fields (λ f. (layout_of f).size) in
-      rw (same_offsets list.fields) (clear_all (integer_size asked) (2 ^ start) (offsets_of list.fields) (map (λ f. (layout_of f).size) fields) (lies.count ∙ many_parts fields ∙ sym count)
-      (λ k short. let within : k < length fields = omega (arith, short, count) in rw (size_at layout_of dl fields k within) (each k (omega (arith, within, many_parts fields)))))
+      clear_all (integer_size asked) (2 ^ start) (listed_offsets list.fields) (map (λ f. (layout_of f).size) fields) (lies.count ∙ many_parts fields ∙ sym count)
+      (λ k short. let within : k < length fields = omega (arith, short, count) in rw (size_at layout_of dl fields k within) (each k (omega (arith, within, many_parts fields))))
 
   -- the same of all variants, where no first alignment is lower
   clear_lists : (start : ℕ) (variants : List (List H)) (lists : List (LayoutData F V)) → AreGoodLists layout_of at first dl repr (behind_tag dl repr asked vs) variants lists → is_free repr ≡ true

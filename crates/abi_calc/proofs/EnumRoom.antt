@@ -15,9 +15,9 @@ use Rattle.abi_scalar.specs.declared.repr.ReprOptions.{ReprOptions}
 use Rattle.abi_scalar.specs.declared.variants.VariantLayout.{VariantLayout}
 use Rattle.abi_scalar.specs.Niche.{available_in, niche_size}
 use Rattle.abi_scalar.specs.Range.{free_count}
+use Rattle.abi_scalar.specs.Shape.{listed_offsets}
 use Rattle.abi_scalar.specs.Variant.{variant_of}
 use Rattle.abi_calc.specs.declared.enums.niche.Room.{Room}
-use Rattle.abi_calc.specs.Apart.{offsets_of}
 use Rattle.abi_calc.specs.Enums.Lists.{AreGoodLists, IsGoodList}
 use Rattle.abi_calc.specs.Enums.Niche.{beside_niche, if_list, if_niche, if_placed, if_span, moved_on, needing_numbers, niche_layout, niche_of_list, place_after, room_beside, span_count, span_of, untagged_of, variants_from, with_first, without_niche}
 use Rattle.abi_calc.specs.Enums.Path.{variant_at}
@@ -161,8 +161,8 @@ module _ {F V H : Type 0} (layout_of : H → LayoutData F V) (at : ℕ → F) (f
       → slice_get lists i ≡ Some list → list.largest_niche ≡ Some niche → count ≤ available_in dl niche → HasFreeNumbers dl count (variant_at (map (map layout_of) variants) i)
   field_enough variants lists i list niche count good is known much =
       let there = good_at variants lists i list good is in
-      let part = of_some (IsNicheOfPart (offsets_of list.fields) (map layout_of there.0)) list.largest_niche niche known there.1.niche in
-      subst (HasFreeNumbers dl count) (sym there.2) (fewer_numbers dl count (available_in dl niche) (map layout_of there.0) much (part_numbers dl (offsets_of list.fields) (map layout_of there.0) niche part))
+      let part = of_some (IsNicheOfPart (listed_offsets list.fields) (map layout_of there.0)) list.largest_niche niche known there.1.niche in
+      subst (HasFreeNumbers dl count) (sym there.2) (fewer_numbers dl count (available_in dl niche) (map layout_of there.0) much (part_numbers dl (listed_offsets list.fields) (map layout_of there.0) niche part))
 
   -- and the other way round
   niche_enough : (variants : List (List H)) (lists : List (LayoutData F V)) (i : ℕ) (list : LayoutData F V) (niche : Niche) (count : ℕ) → AreGoodLists layout_of at first dl repr kind variants lists

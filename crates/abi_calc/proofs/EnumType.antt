@@ -15,9 +15,10 @@ use Rattle.abi_scalar.specs.declared.repr.ReprOptions.{ReprOptions}
 use Rattle.abi_scalar.specs.declared.variants.RangeFrom.{RangeFrom}
 use Rattle.abi_scalar.specs.declared.variants.RangeToInclusive.{RangeToInclusive}
 use Rattle.abi_scalar.specs.Order.{HasPlaceForEach, IsAscending}
+use Rattle.abi_scalar.specs.Shape.{listed_offsets}
 use Rattle.abi_calc.specs.declared.enums.path.Path.{Path}
 use Rattle.abi_calc.specs.declared.enums.path.Path.TheVariants.{NoValue, OneList, Several}
-use Rattle.abi_calc.specs.Apart.{AreApart, offsets_of}
+use Rattle.abi_calc.specs.Apart.{AreApart}
 use Rattle.abi_calc.specs.Enums.Answer.{HasOneEach, IsGoodSingle, IsTypeAnswer, kind_at}
 use Rattle.abi_calc.specs.Enums.Path.{is_free, is_present, path_among, path_of, present_of, variant_at}
 use Rattle.abi_calc.specs.Enums.Several.{IsSeveralAnswer}
@@ -105,7 +106,7 @@ at_listed P is_enum always_sized variants path i kind fields read h j there =
 
 -- what is promised of one list
 pub good_single : {F V H : Type 0} (layout_of : H → LayoutData F V) (at : ℕ → F) (number : F → ℕ) (dl : TargetDataLayout) (repr : ReprOptions) (kind : StructKind) (fields : List H) (r : Result (LayoutData F V) (LayoutCalculatorError H))
-    → IfOk r (λ l. AreApart l.size (offsets_of l.fields) (map (λ f. (layout_of f).size) fields)) → IfOk r (LiesInSomeOrder at dl repr kind (map layout_of fields))
+    → IfOk r (λ l. AreApart l.size (listed_offsets l.fields) (map (λ f. (layout_of f).size) fields)) → IfOk r (LiesInSomeOrder at dl repr kind (map layout_of fields))
     → IfOk r (λ l. IsLeastSize dl repr kind (map layout_of fields) l.size) → IfOk r (λ l. HasPlaceForEach l.fields) → IfOk r (λ l. IsAscending number l.fields)
     → IfOk r (IsGoodSingle layout_of at number dl repr kind fields)
 good_single layout_of at number dl repr kind fields (Ok l) apart placed least places ascending = record { apart = apart; placed = placed; least = least; places = places; ascending = ascending }

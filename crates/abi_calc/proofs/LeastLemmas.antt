@@ -12,9 +12,10 @@ use Rattle.abi_scalar.specs.declared.layout_data.LayoutData.{LayoutData}
 use Rattle.abi_scalar.specs.declared.repr.ReprOptions.{ReprOptions}
 use Rattle.abi_scalar.specs.Lawful.{IsLawfulLayout}
 use Rattle.abi_scalar.specs.Order.{HasPlaceForEach, IsAscending}
+use Rattle.abi_scalar.specs.Shape.{listed_offsets}
 use Rattle.abi_calc.specs.declared.order.NicheBias.TheVariants.{Start}
 use Rattle.abi_calc.specs.Answer.{IsAnswer}
-use Rattle.abi_calc.specs.Apart.{AreAligned, AreApart, offsets_of}
+use Rattle.abi_calc.specs.Apart.{AreAligned, AreApart}
 use Rattle.abi_calc.specs.Fault.{fault_in}
 use Rattle.abi_calc.specs.Least.{IsEachOrderTooLarge, IsLeastSize, IsOrderOf, IsPlacedBy, LiesInSomeOrder}
 use Rattle.abi_calc.specs.List.{AreSized, IsFirstFaultless, IsListAnswer, IsListError, IsListLayout, parts_of}
@@ -71,7 +72,7 @@ module _ {F V H : Type 0} (layout_of : H → LayoutData F V) (at : ℕ → F) (f
   pub lies_in_order : (order offsets : List ℕ) (l : LayoutData F V) → IsNonEmptyIfUnsized kind (length hs) → IsListLayout at first dl repr kind (map layout_of hs) order offsets l
       → LiesInSomeOrder at dl repr kind (map layout_of hs) l
   lies_in_order order offsets l tail r =
-      let own : offsets_of l.fields ≡ offsets = ap offsets_of r.shape in (
+      let own : listed_offsets l.fields ≡ offsets = ap listed_offsets r.shape in (
         order,
         r.shape ∙ ap (λ os. Arbitrary os (map at order)) (sym own),
         subst (λ os. IsPlacedBy dl repr kind (map layout_of hs) order os l.size l.align.abi) (sym own) (placed_by order offsets l tail r),
@@ -91,25 +92,25 @@ module _ {F V H : Type 0} (layout_of : H → LayoutData F V) (at : ℕ → F) (f
 
   -- its fields share no byte, and lie inside
   pub keeps_apart : (order offsets : List ℕ) (l : LayoutData F V) → IsNonEmptyIfUnsized kind (length hs) → IsListLayout at first dl repr kind (map layout_of hs) order offsets l
-      → AreApart l.size (offsets_of l.fields) (map (λ h. (layout_of h).size) hs)
+      → AreApart l.size (listed_offsets l.fields) (map (λ h. (layout_of h).size) hs)
   keeps_apart order offsets l tail r =
       rw r.shape (biased_apart layout_of dl (list_repr dl repr kind) hs order offsets l.size l.align.abi l.largest_niche (tailed tail) (biased order offsets l r))
 
   -- behind the prefix
   pub lies_after : (order offsets : List ℕ) (l : LayoutData F V) → IsNonEmptyIfUnsized kind (length hs) → IsListLayout at first dl repr kind (map layout_of hs) order offsets l
-      → All (λ o. start_of repr.pack kind ≤ o) (offsets_of l.fields)
+      → All (λ o. start_of repr.pack kind ≤ o) (listed_offsets l.fields)
   lies_after order offsets l tail r =
       rw r.shape (biased_after dl (list_repr dl repr kind) (parts_of dl (map layout_of hs)) order offsets l.size l.align.abi l.largest_niche (tailed tail) (biased order offsets l r))
 
   -- each at a multiple of its alignment
   pub lies_aligned : (order offsets : List ℕ) (l : LayoutData F V) → IsNonEmptyIfUnsized kind (length hs) → IsListLayout at first dl repr kind (map layout_of hs) order offsets l
-      → AreAligned (offsets_of l.fields) (map (λ h. cut repr.pack (layout_of h).align.abi) hs)
+      → AreAligned (listed_offsets l.fields) (map (λ h. cut repr.pack (layout_of h).align.abi) hs)
   lies_aligned order offsets l tail r =
       rw r.shape (biased_aligned layout_of dl (list_repr dl repr kind) hs order offsets l.size l.align.abi l.largest_niche (tailed tail) (biased order offsets l r))
 
   -- its niche is that of a field
   pub has_own_niche : (order offsets : List ℕ) (l : LayoutData F V) → IsNonEmptyIfUnsized kind (length hs) → IsListLayout at first dl repr kind (map layout_of hs) order offsets l
-      → IfSome l.largest_niche (IsNicheOfPart (offsets_of l.fields) (map layout_of hs))
+      → IfSome l.largest_niche (IsNicheOfPart (listed_offsets l.fields) (map layout_of hs))
   has_own_niche order offsets l tail r =
       rw r.shape (biased_of_part layout_of dl (list_repr dl repr kind) hs order offsets l.size l.align.abi l.largest_niche (tailed tail) (biased order offsets l r))
 

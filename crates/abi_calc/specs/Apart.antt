@@ -1,8 +1,6 @@
 -- Parts that share no byte.
 use Rattle.std.specs.Prelude.{ℕ, ◌+◌, ◌^◌, ◌≤◌, ◌⊎◌, List, [], ◌∷◌, ⊤}
 use Rattle.std.specs.Int.{◌∣◌}
-use Rattle.abi_scalar.specs.declared.fields_shape.FieldsShape.{FieldsShape}
-use Rattle.abi_scalar.specs.declared.fields_shape.FieldsShape.TheVariants.{Arbitrary}
 
 -- n bytes at the offset lie before or after each of the parts, which lie at these offsets and have these sizes
 abbrev pub IsBeside : (offset n : ℕ) → (offsets sizes : List ℕ) → Type 0
@@ -21,8 +19,3 @@ abbrev pub AreAligned : (offsets aligns : List ℕ) → Type 0
 AreAligned [] [] = ⊤
 AreAligned (o ∷ offsets) (a ∷ aligns) = (2 ^ a ∣ o) × AreAligned offsets aligns
 AreAligned _ _ = ⊥
-
--- the offsets of fields that are listed one by one
-abbrev pub offsets_of : {F : Type 0} → FieldsShape F → List ℕ
-offsets_of (Arbitrary offsets in_memory_order) = offsets
-offsets_of _ = []

@@ -6,7 +6,7 @@ use Rattle.abi_base.specs.DataLayout.{size_bound}
 use Rattle.abi_scalar.specs.declared.fields_shape.FieldsShape.TheVariants.{Arbitrary}
 use Rattle.abi_scalar.specs.declared.layout_data.LayoutData.{LayoutData}
 use Rattle.abi_scalar.specs.declared.repr.ReprOptions.{ReprOptions}
-use Rattle.abi_calc.specs.Apart.{offsets_of}
+use Rattle.abi_scalar.specs.Shape.{listed_offsets}
 use Rattle.abi_calc.specs.List.{parts_of}
 use Rattle.abi_calc.specs.Placement.{IsAllowed, align_of, in_order, list_repr, offsets_from, size_in, start_of}
 
@@ -48,5 +48,5 @@ pub record IsPlacedBy {F V : Type 0} (dl : TargetDataLayout) (repr : ReprOptions
 -- the layout's fields lie one after another in some allowed order, which is its memory order; `at` makes the index of a field
 abbrev pub LiesInSomeOrder : {F V : Type 0} → (at : ℕ → F) → TargetDataLayout → ReprOptions → StructKind → List (LayoutData F V) → LayoutData F V → Type 0
 LiesInSomeOrder at dl repr kind fields layout =
-    (order : List ℕ) × (layout.fields ≡ Arbitrary (offsets_of layout.fields) (map at order))
-    × IsPlacedBy dl repr kind fields order (offsets_of layout.fields) layout.size layout.align.abi
+    (order : List ℕ) × (layout.fields ≡ Arbitrary (listed_offsets layout.fields) (map at order))
+    × IsPlacedBy dl repr kind fields order (listed_offsets layout.fields) layout.size layout.align.abi

@@ -1,13 +1,14 @@
 //! Lists of fields, one after another in memory.
 
-ghost use Rattle.std.specs.Prelude.{◌≡◌, ℕ, ◌+◌, ◌≤◌, ◌<◌, ◌⊎◌, All, Err, IfErr, IfOk, IfSome, IsTrue, length, map};
+ghost use Rattle.std.specs.Prelude.{◌≡◌, ◌+◌, ◌≤◌, ◌<◌, ◌⊎◌, All, Err, IfErr, IfOk, IfSome, IsTrue, length, map};
 ghost use Rattle.std.specs.List.{list_any};
 ghost use Rattle.abi_index.specs.Slice.{items_of};
 ghost use Rattle.abi_base.specs.DataLayout.{IsLawfulDataLayout, size_bound};
 ghost use Rattle.abi_scalar.specs.Lawful.{IsLawfulLayout};
 ghost use Rattle.abi_scalar.specs.Order.{HasPlaceForEach, IsAscending};
+ghost use Rattle.abi_scalar.specs.Shape.{listed_offsets};
 ghost use Rattle.abi_calc.specs.Answer.{IsAnswer};
-ghost use Rattle.abi_calc.specs.Apart.{AreAligned, AreApart, offsets_of};
+ghost use Rattle.abi_calc.specs.Apart.{AreAligned, AreApart};
 ghost use Rattle.abi_calc.specs.Fault.{IsErrorOf, IsFaultIndex};
 ghost use Rattle.abi_calc.specs.Least.{IsEachOrderTooLarge, IsLeastSize, LiesInSomeOrder};
 ghost use Rattle.abi_calc.specs.List.{AreSized, HasLawfulAligns, IsFirstFaultless, IsListAnswer, parts_of, unadjusted_of};
@@ -196,10 +197,10 @@ impl<Cx: HasDataLayout> LayoutCalculator<Cx> {
         requires tail { IsNonEmptyIfUnsized kind (length (items_of fields)) }
         ensures exact { IsListAnswer F.layout_of FieldIdx.at (VariantIdx.at 0) (Cx.target self.now.cx) repr.now kind (items_of fields.entry) result }
         ensures lawful { IfOk result (IsLawfulLayout (Cx.target self.now.cx)) }
-        ensures apart { IfOk result (λ l. AreApart l.size (offsets_of l.fields) (map (λ f. (F.layout_of f).size) (items_of fields.entry))) }
-        ensures after { IfOk result (λ l. All (λ o. start_of repr.now.pack kind ≤ o) (offsets_of l.fields)) }
-        ensures aligned { IfOk result (λ l. AreAligned (offsets_of l.fields) (map (λ f. cut repr.now.pack (F.layout_of f).align.abi) (items_of fields.entry))) }
-        ensures niche { IfOk result (λ l. IfSome l.largest_niche (IsNicheOfPart (offsets_of l.fields) (map F.layout_of (items_of fields.entry)))) }
+        ensures apart { IfOk result (λ l. AreApart l.size (listed_offsets l.fields) (map (λ f. (F.layout_of f).size) (items_of fields.entry))) }
+        ensures after { IfOk result (λ l. All (λ o. start_of repr.now.pack kind ≤ o) (listed_offsets l.fields)) }
+        ensures aligned { IfOk result (λ l. AreAligned (listed_offsets l.fields) (map (λ f. cut repr.now.pack (F.layout_of f).align.abi) (items_of fields.entry))) }
+        ensures niche { IfOk result (λ l. IfSome l.largest_niche (IsNicheOfPart (listed_offsets l.fields) (map F.layout_of (items_of fields.entry)))) }
         ensures largest { IfOk result (λ l. HasLargestNiche (Cx.target self.now.cx) l.largest_niche (map F.layout_of (items_of fields.entry))) }
 
         // The fields lie one after another in an order that the repr and the kind allow, which is the memory order, and the

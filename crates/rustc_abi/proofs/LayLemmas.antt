@@ -8,7 +8,7 @@ use Rattle.abi_base.specs.declared.data_layout.TargetDataLayout.{TargetDataLayou
 use Rattle.abi_scalar.specs.declared.repr.ReprOptions.{ReprOptions}
 use Rattle.abi_scalar.specs.declared.niche.Niche.{Niche}
 use Rattle.abi_scalar.specs.Lawful.{IsLawfulLayout}
-use Rattle.abi_calc.specs.Apart.{AreApart, offsets_of}
+use Rattle.abi_calc.specs.Apart.{AreApart}
 use Rattle.abi_calc.specs.List.{HasLawfulAligns, parts_of}
 use Rattle.abi_base.specs.declared.struct_kind.StructKind.TheVariants.{AlwaysSized, MaybeUnsized}
 use Rattle.abi_calc.specs.ListView.{list_view}
@@ -40,6 +40,7 @@ use Rattle.rustc_abi.proofs.ElementsLemmas.{IsElementNiche, Fits-elements}
 use Rattle.rustc_abi.proofs.FieldsLemmas.{part_of_list, Fits-fields}
 use Rattle.abi_calc.specs.ListNiche.{IsNicheOfPart}
 use Rattle.std.proofs.lemmas.Option.{IfSome_then}
+use Rattle.abi_scalar.specs.Shape.{listed_offsets}
 use Rattle.rustc_abi.proofs.ListLemmas.{chosen}
 use Rattle.rustc_abi.proofs.NodesLemmas.{length-types_in, Keeps-trans}
 
@@ -130,16 +131,16 @@ struct_refused dl repr always_sized ts ps e exact (inr f) = inr (inr (ps, exact,
 -- a struct's layout
 pub IsAdded-fields : (dl : TargetDataLayout) (old new : List Node) (i : ℕ) (repr : ReprOptions) (always_sized : Bool) (ps : List Placed) (layout : Layout) (ts : Trees) →
     fields_fault repr ps ≡ None → IsListed dl repr (kind_of always_sized ps) (map layout_of ps) (Ok layout) → IsLawfulLayout dl layout →
-    IfSome layout.largest_niche (IsNicheOfPart (offsets_of layout.fields) (map layout_of ps)) → AreApart layout.size (offsets_of layout.fields) (map size_of ps) →
+    IfSome layout.largest_niche (IsNicheOfPart (listed_offsets layout.fields) (map layout_of ps)) → AreApart layout.size (listed_offsets layout.fields) (map size_of ps) →
     IsPut old new i (placed_fields ps layout) → AreLaying dl ts (Ok ps) → EachFits dl ts ps → IsAdded dl old new i (struct repr always_sized ts)
 IsAdded-fields dl old new i repr always_sized ps layout ts faultless listed lawful niche apart put exact fits =
     let made = listed.2 in
-    let offsets : offsets_of layout.fields ≡ listed.1 = ap offsets_of made.shape in
+    let offsets : listed_offsets layout.fields ≡ listed.1 = ap listed_offsets made.shape in
     let view = made.view ∙ ap (list_view dl (is_abi_fixed repr) layout.size layout.align.abi (parts_of dl (map layout_of ps))) (sym offsets) in
     let answer : IsFieldsAnswer dl repr always_sized ps (Ok (placed_fields ps layout)) = rw faultless (inr (layout, listed, refl)) in
     IsAdded-put dl old new i (placed_fields ps layout) (struct repr always_sized ts) put (inr (ps, exact, answer))
-    (Fits-fields dl repr always_sized (is_abi_fixed repr) ts layout (offsets_of layout.fields) ps fits apart
-    (IfSome_then layout.largest_niche niche (part_of_list (offsets_of layout.fields) ps)) view made.uninhabited (EachFits-lawful dl ts ps fits) lawful)
+    (Fits-fields dl repr always_sized (is_abi_fixed repr) ts layout (listed_offsets layout.fields) ps fits apart
+    (IfSome_then layout.largest_niche niche (part_of_list (listed_offsets layout.fields) ps)) view made.uninhabited (EachFits-lawful dl ts ps fits) lawful)
 
 -- a list is laid out where its first type and the others are
 more_laying : (dl : TargetDataLayout) (t : Tree) (ts : Trees) (p : Placed) (ps : List Placed) → IsLaying dl t (Ok p) → AreLaying dl ts (Ok ps) → AreLaying dl (more_trees t ts) (Ok (p ∷ ps))

@@ -12,11 +12,11 @@ use Rattle.abi_scalar.specs.declared.repr.ReprOptions.{ReprOptions}
 use Rattle.abi_scalar.specs.declared.scalar.Scalar.{Scalar}
 use Rattle.abi_scalar.specs.Pair.{pair_size}
 use Rattle.abi_scalar.specs.Scalar.{primitive_of}
+use Rattle.abi_scalar.specs.Shape.{listed_offsets}
 use Rattle.abi_calc.specs.declared.order.NicheBias.TheVariants.{Start}
 use Rattle.abi_calc.specs.declared.placing.ListFault.{ListFault}
 use Rattle.abi_calc.specs.declared.placing.ListFault.TheVariants.{Unsized, TooLarge, OutOfMemory}
 use Rattle.abi_calc.specs.Array.{elements_layout}
-use Rattle.abi_calc.specs.Apart.{offsets_of}
 use Rattle.abi_calc.specs.Fault.{IsErrorOf, fault_in}
 use Rattle.abi_calc.specs.List.{AreSized, parts_of as asked_of}
 use Rattle.abi_calc.specs.Order.{IsNamedOrder}
@@ -72,10 +72,10 @@ module _ (dl : TargetDataLayout) (repr : ReprOptions) (always_sized : Bool) (ps 
   listed_least layout listed = has_least layout_of (λ i. i) 0 dl repr (kind_of always_sized ps) ps listed.0 listed.1 layout (whole_lawful dl ps whole) (some_field always_sized ps) listed.2
 
   -- each field has an offset
-  listed_count : (layout : Layout) → IsListed dl repr (kind_of always_sized ps) (map layout_of ps) (Ok layout) → length (offsets_of layout.fields) ≡ length ps
+  listed_count : (layout : Layout) → IsListed dl repr (kind_of always_sized ps) (map layout_of ps) (Ok layout) → length (listed_offsets layout.fields) ≡ length ps
   listed_count layout listed =
       let made = biased_of dl (list_repr dl repr (kind_of always_sized ps)) (asked_of dl (map layout_of ps)) listed.0 listed.1 layout.size layout.align.abi layout.largest_niche listed.2.named in
-      ap (λ shape. length (offsets_of shape)) listed.2.shape ∙ made.placed.count ∙ length-asked dl ps
+      ap (λ shape. length (listed_offsets shape)) listed.2.shape ∙ made.placed.count ∙ length-asked dl ps
 
   -- what is laid out is not too large in each order
   listed_small : (layout : Layout) → IsListed dl repr (kind_of always_sized ps) (map layout_of ps) (Ok layout) → IsStructTooLarge dl repr always_sized ps → ⊥
@@ -214,8 +214,8 @@ module _ (dl : TargetDataLayout) (law : IsLawfulDataLayout dl) where
       let whole = all_whole dl law all ps there in
       let count = listed_count dl repr always_sized ps whole layout listed in
       subst (HasLeastStructs dl (struct repr always_sized all)) same (
-        subst (λ qs. IsLeastStruct dl repr always_sized qs layout.size) (sym (fields_at (offsets_of layout.fields) ps count)) (listed_least dl repr always_sized ps whole layout listed),
-        each (offsets_of layout.fields) count,
+        subst (λ qs. IsLeastStruct dl repr always_sized qs layout.size) (sym (fields_at (listed_offsets layout.fields) ps count)) (listed_least dl repr always_sized ps whole layout listed),
+        each (listed_offsets layout.fields) count,
       )
   least_fields (Some f) repr always_sized all ps p there each e = absurd (cc)
 

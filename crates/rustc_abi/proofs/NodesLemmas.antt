@@ -7,7 +7,7 @@ use Rattle.std.specs.Cmp.Derive.{both_true}
 use Rattle.std.proofs.lemmas.List.{get_or_append_left, get_or_push}
 use Rattle.std.proofs.lemmas.Bool.{and_parts}
 use Rattle.std.specs.List.{list_all}
-use Rattle.abi_calc.specs.Apart.{offsets_of}
+use Rattle.abi_scalar.specs.Shape.{listed_offsets}
 use Rattle.rustc_abi.specs.declared.node.Shape.{Shape}
 use Rattle.rustc_abi.specs.declared.node.Shape.TheVariants.{Scalar, Pair, Never, Elements, Fields, Union, Vector}
 use Rattle.rustc_abi.specs.declared.node.Node.{Node}
@@ -130,11 +130,11 @@ meaning-same : (xs ys : List Placed) (n : ℕ) → ((i : ℕ) → i < n → plac
     meaning xs layout shape ≡ meaning ys layout shape
 meaning-same xs ys n same layout (Scalar s) is = refl
 meaning-same xs ys n same layout (Pair first second) is =
-    ap (λ ps. pair layout (parts_at (offsets_of layout.fields) ps)) (children-same xs ys n same (first ∷ second ∷ []) (pair_before n first second is))
+    ap (λ ps. pair layout (parts_at (listed_offsets layout.fields) ps)) (children-same xs ys n same (first ∷ second ∷ []) (pair_before n first second is))
 meaning-same xs ys n same layout Never is = refl
 meaning-same xs ys n same layout (Elements count element) is = ap (elements layout count) (same element (ltb-true element n is))
 meaning-same xs ys n same layout (Fields children) is =
-    ap (λ ps. fields layout (parts_at (offsets_of layout.fields) ps)) (children-same xs ys n same children.items is)
+    ap (λ ps. fields layout (parts_at (listed_offsets layout.fields) ps)) (children-same xs ys n same children.items is)
 meaning-same xs ys n same layout (Union children) is = ap (λ ps. union layout (parts_at_0 ps)) (children-same xs ys n same children.items is)
 meaning-same xs ys n same layout (Vector lanes) is = ap (vector layout) (same lanes (ltb-true lanes n is))
 

@@ -6,13 +6,13 @@ use Rattle.std.proofs.lemmas.Bool.{ltb-true, le-ltb, eqb-true, and_parts}
 use Rattle.std.proofs.lemmas.List.{take_more, length-take-le, length-map, get_or-map}
 use Rattle.std.proofs.lemmas.List.Elements.{All-nil, All-cons}
 use Rattle.std.proofs.Math.Bool.{or-false}
-use Rattle.abi_calc.specs.Apart.{offsets_of}
 use Rattle.abi_scalar.specs.declared.scalar.Scalar.{Scalar}
 use Rattle.rustc_abi.specs.declared.node.Shape.TheVariants.{Scalar as Number, Pair, Never, Elements, Fields, Union, Vector}
 use Rattle.rustc_abi.specs.declared.node.Node.{Node}
 use Rattle.rustc_abi.specs.declared.runs.Run.{Run}
 use Rattle.std.specs.Prelude.{Vec}
 use Rattle.std.specs.declared.alloc.Global.{Global}
+use Rattle.abi_scalar.specs.Shape.{listed_offsets}
 use Rattle.rustc_abi.specs.Placed.{Placed, Layout, scalar, pair, never, elements, vector, fields, union, size_of, part, nothing}
 use Rattle.rustc_abi.specs.Places.{is_data_place, is_place_of_part}
 use Rattle.rustc_abi.specs.Nodes.{parts_at, parts_at_0, placed_at}
@@ -44,8 +44,8 @@ module _ (ns : List Node) (well : are_nodes 0 ns ≡ true) (i : ℕ) (n : Node) 
       All-cons (λ child. child < i) c cs (ltb-true c i both.0) (all_before cs both.1)
 
   pub fields_node : (children : Vec ℕ Global) → n.shape ≡ Fields children →
-      All (λ child. child < i) children.items × (placed_at ns i ≡ fields n.layout (parts_at (offsets_of n.layout.fields) (all_at ns children.items)))
-      × (have_room n.layout.size (parts_at (offsets_of n.layout.fields) (all_at ns children.items)) ≡ true)
+      All (λ child. child < i) children.items × (placed_at ns i ≡ fields n.layout (parts_at (listed_offsets n.layout.fields) (all_at ns children.items)))
+      × (have_room n.layout.size (parts_at (listed_offsets n.layout.fields) (all_at ns children.items)) ≡ true)
   fields_node children e =
       let is = placed_at-node ns well i n (Fields children) lt at e in
       (all_before children.items is.0, is.1, ap has_room (sym is.1) ∙ room)
@@ -64,8 +64,8 @@ module _ (ns : List Node) (well : are_nodes 0 ns ≡ true) (i : ℕ) (n : Node) 
       (ltb-true lanes i is.0, is.1, both.1)
 
   pub pair_node : (first second : ℕ) → n.shape ≡ Pair first second →
-      All (λ child. child < i) (first ∷ second ∷ []) × (placed_at ns i ≡ pair n.layout (parts_at (offsets_of n.layout.fields) (all_at ns (first ∷ second ∷ []))))
-      × (have_room n.layout.size (parts_at (offsets_of n.layout.fields) (all_at ns (first ∷ second ∷ []))) ≡ true)
+      All (λ child. child < i) (first ∷ second ∷ []) × (placed_at ns i ≡ pair n.layout (parts_at (listed_offsets n.layout.fields) (all_at ns (first ∷ second ∷ []))))
+      × (have_room n.layout.size (parts_at (listed_offsets n.layout.fields) (all_at ns (first ∷ second ∷ []))) ≡ true)
   pair_node first second e =
       let is = placed_at-node ns well i n (Pair first second) lt at e in
       (all_before (first ∷ second ∷ []) (pair_before i first second is.0), is.1, ap has_room (sym is.1) ∙ room)

@@ -9,7 +9,7 @@ use Rattle.abi_base.specs.declared.struct_kind.StructKind.TheVariants.{AlwaysSiz
 use Rattle.abi_scalar.specs.declared.error.LayoutCalculatorError.{LayoutCalculatorError}
 use Rattle.abi_scalar.specs.Simple.{scalar_layout, never_layout, unit_layout}
 use Rattle.abi_scalar.specs.Pair.{pair_layout, pair_size, second_offset}
-use Rattle.abi_calc.specs.Apart.{offsets_of}
+use Rattle.abi_scalar.specs.Shape.{listed_offsets}
 use Rattle.abi_calc.specs.Array.{array_answer, elements_layout}
 use Rattle.abi_calc.specs.List.{IsListError, IsListLayout}
 use Rattle.abi_calc.specs.Simd.{simd_answer}
@@ -81,7 +81,7 @@ IsListed dl repr kind layouts (Err e) =
 
 -- fields as parts of a struct with this layout
 abbrev pub placed_fields : List Placed → Layout → Placed
-placed_fields ps layout = fields layout (parts_at (offsets_of layout.fields) ps)
+placed_fields ps layout = fields layout (parts_at (listed_offsets layout.fields) ps)
 
 -- the own faults of a struct or union, in their order
 abbrev pub fields_fault : ReprOptions → List Placed → Option LayError

@@ -1,6 +1,6 @@
 -- What the nodes of a vector mean, each of which names only earlier ones.
 use Rattle.std.specs.Prelude.{◌≡◌, ℕ, ◌-◌, ◌<◌, ◌≤◌, List, [], ◌∷◌, ◌++◌, get_or, length, map}
-use Rattle.abi_calc.specs.Apart.{offsets_of}
+use Rattle.abi_scalar.specs.Shape.{listed_offsets}
 use Rattle.rustc_abi.specs.Placed.{Placed, Layout, scalar, pair, never, elements, vector, fields, union, Parts, no_parts, part, nothing}
 use Rattle.rustc_abi.specs.declared.node.Shape.{Shape}
 use Rattle.rustc_abi.specs.declared.node.Shape.TheVariants.{Scalar, Pair, Never, Elements, Fields, Union, Vector}
@@ -23,10 +23,10 @@ parts_at_0 ps = parts_at (map (λ p. 0) ps) ps
 abbrev pub meaning : List Placed → Layout → Shape → Placed
 meaning done layout (Scalar s) = scalar layout s
 meaning done layout (Pair first second) =
-    pair layout (parts_at (offsets_of layout.fields) (placed_in done first ∷ placed_in done second ∷ []))
+    pair layout (parts_at (listed_offsets layout.fields) (placed_in done first ∷ placed_in done second ∷ []))
 meaning done layout Never = never layout
 meaning done layout (Elements count element) = elements layout count (placed_in done element)
-meaning done layout (Fields children) = fields layout (parts_at (offsets_of layout.fields) (map (placed_in done) children.items))
+meaning done layout (Fields children) = fields layout (parts_at (listed_offsets layout.fields) (map (placed_in done) children.items))
 meaning done layout (Union children) = union layout (parts_at_0 (map (placed_in done) children.items))
 meaning done layout (Vector lanes) = vector layout (placed_in done lanes)
 

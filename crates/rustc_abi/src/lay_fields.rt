@@ -3,7 +3,8 @@
 ghost use Rattle.std.specs.Prelude.{◌≡◌, ◌<◌, ◌≤◌, ◌⊎◌, List, IfOk, IfErr, IfSome, Ok, None, length, vec_len, All, map};
 ghost use Rattle.abi_base.specs.DataLayout.{IsLawfulDataLayout};
 ghost use Rattle.abi_scalar.specs.Lawful.{IsLawfulLayout};
-ghost use Rattle.abi_calc.specs.Apart.{AreApart, offsets_of};
+ghost use Rattle.abi_scalar.specs.Shape.{listed_offsets};
+ghost use Rattle.abi_calc.specs.Apart.{AreApart};
 ghost use Rattle.abi_calc.specs.List.{HasLawfulAligns};
 ghost use Rattle.abi_calc.specs.ListNiche.{IsNicheOfPart};
 ghost use Rattle.rustc_abi.specs.Tree.{Trees, struct};
@@ -75,8 +76,8 @@ fn fields_layout(
     ensures ok { IfOk result (λ l. IsListed dl.now repr.now kind (map layout_of (all_at nodes.now children.now)) (Ok l)) }
     ensures err { IfErr result (IsRefused (IsListed dl.now repr.now kind (map layout_of (all_at nodes.now children.now)))) }
     ensures lawful { IfOk result (IsLawfulLayout dl.now) }
-    ensures apart { IfOk result (λ l. AreApart l.size (offsets_of l.fields) (map size_of (all_at nodes.now children.now))) }
-    ensures niche { IfOk result (λ l. IfSome l.largest_niche (IsNicheOfPart (offsets_of l.fields) (map layout_of (all_at nodes.now children.now)))) }
+    ensures apart { IfOk result (λ l. AreApart l.size (listed_offsets l.fields) (map size_of (all_at nodes.now children.now))) }
+    ensures niche { IfOk result (λ l. IfSome l.largest_niche (IsNicheOfPart (listed_offsets l.fields) (map layout_of (all_at nodes.now children.now)))) }
 {
     let layouts = layouts_at(alloc, nodes, children)?;
     let answer = LayoutCalculator::new(dl).layout_of_univariant(

@@ -1,7 +1,7 @@
 //! The padding of a type: the bytes that decide nothing.
 
 ghost use Rattle.std.specs.Prelude.{◌≡◌, ℕ, ◌+◌, ◌*◌, ◌^◌, ◌<◌, ◌≤◌, ◌++◌, All, IfOk, OnOk, length, map, nat_lt, replicate, true};
-ghost use Rattle.abi_calc.specs.Apart.{offsets_of};
+ghost use Rattle.abi_scalar.specs.Shape.{listed_offsets};
 ghost use Rattle.rustc_abi.specs.Placed.{size_of, layout_of};
 ghost use Rattle.rustc_abi.specs.Places.{is_data_place, is_place_of_part};
 ghost use Rattle.rustc_abi.specs.Nodes.{parts_at, placed_at};
@@ -18,7 +18,7 @@ use std::alloc::{AllocError, Global};
 
 /// The offsets of fields that are listed one by one.
 fn offsets(layout: &LayoutData<FieldIdx, VariantIdx>) -> &[Size]
-    ensures { result.now ≡ offsets_of layout.now.fields }
+    ensures { result.now ≡ listed_offsets layout.now.fields }
 {
     match &layout.fields {
         FieldsShape::Arbitrary {

@@ -10,10 +10,11 @@ use Rattle.abi_scalar.specs.declared.repr.ReprOptions.{ReprOptions}
 use Rattle.abi_scalar.specs.declared.variants.RangeFrom.{RangeFrom}
 use Rattle.abi_scalar.specs.declared.variants.RangeToInclusive.{RangeToInclusive}
 use Rattle.abi_scalar.specs.Order.{HasPlaceForEach, IsAscending}
+use Rattle.abi_scalar.specs.Shape.{listed_offsets}
 use Rattle.abi_scalar.specs.Simple.{never_layout}
 use Rattle.abi_calc.specs.declared.enums.path.Path.{Path}
 use Rattle.abi_calc.specs.declared.enums.path.Path.TheVariants.{NoValue, OneList, Several}
-use Rattle.abi_calc.specs.Apart.{AreApart, offsets_of}
+use Rattle.abi_calc.specs.Apart.{AreApart}
 use Rattle.abi_calc.specs.Enums.Path.{variant_at}
 use Rattle.abi_calc.specs.Enums.Several.{IsSeveralAnswer}
 use Rattle.abi_calc.specs.Enums.Single.{IsSingleAnswer, single_kind}
@@ -42,7 +43,7 @@ IsTypeAnswer layout_of at number index place dl repr variants is_enum always_siz
 -- What is promised of the layout of one list: its fields share no byte and end inside; they lie one after another in some allowed
 -- order, which is the memory order, and which has the least size.
 pub record IsGoodSingle {F V H : Type 0} (layout_of : H → LayoutData F V) (at : ℕ → F) (number : F → ℕ) (dl : TargetDataLayout) (repr : ReprOptions) (kind : StructKind) (fields : List H) (layout : LayoutData F V) : Type 0 where
-  pub apart : AreApart layout.size (offsets_of layout.fields) (map (λ f. (layout_of f).size) fields)
+  pub apart : AreApart layout.size (listed_offsets layout.fields) (map (λ f. (layout_of f).size) fields)
   pub placed : LiesInSomeOrder at dl repr kind (map layout_of fields) layout
   pub least : IsLeastSize dl repr kind (map layout_of fields) layout.size
   pub places : HasPlaceForEach layout.fields

@@ -12,7 +12,7 @@ use Rattle.abi_scalar.specs.Lawful.{IsLawfulLayout}
 use Rattle.abi_scalar.specs.Order.{HasPlaceForEach}
 use Rattle.abi_scalar.specs.Repr.{is_c}
 use Rattle.abi_scalar.specs.Shape.{IsListed, listed_offsets}
-use Rattle.abi_calc.specs.Apart.{AreApart, offsets_of}
+use Rattle.abi_calc.specs.Apart.{AreApart}
 use Rattle.abi_calc.specs.Fields.{greatest_align}
 use Rattle.abi_calc.specs.Least.{IsLeastSize, LiesInSomeOrder}
 use Rattle.abi_calc.specs.List.{IsListAnswer, IsListError}
@@ -65,7 +65,7 @@ pub record IsGoodList {F V H : Type 0} (layout_of : H → LayoutData F V) (at : 
   pub least : IsLeastSize dl repr kind (map layout_of fields) list.size
   pub apart : AreApart list.size (listed_offsets list.fields) (map (λ f. (layout_of f).size) fields)
   pub after : All (λ o. start_of repr.pack kind ≤ o) (listed_offsets list.fields)
-  pub niche : IfSome list.largest_niche (IsNicheOfPart (offsets_of list.fields) (map layout_of fields))
+  pub niche : IfSome list.largest_niche (IsNicheOfPart (listed_offsets list.fields) (map layout_of fields))
   pub largest : HasLargestNiche dl list.largest_niche (map layout_of fields)
 
 -- each variant's fields have one

@@ -6,8 +6,9 @@ ghost use Rattle.abi_base.specs.DataLayout.{IsLawfulDataLayout, size_bound};
 ghost use Rattle.abi_scalar.specs.Lawful.{IsLawfulLayout};
 ghost use Rattle.abi_scalar.specs.Scalar.{IsLawfulScalar};
 ghost use Rattle.abi_scalar.specs.Order.{HasPlaceForEach, IsAscending};
+ghost use Rattle.abi_scalar.specs.Shape.{listed_offsets};
 ghost use Rattle.abi_calc.specs.Answer.{IsAnswer};
-ghost use Rattle.abi_calc.specs.Apart.{AreApart, offsets_of};
+ghost use Rattle.abi_calc.specs.Apart.{AreApart};
 ghost use Rattle.abi_calc.specs.Least.{IsEachOrderTooLarge, IsLeastSize, LiesInSomeOrder};
 ghost use Rattle.abi_calc.specs.List.{AreSized, HasLawfulAligns};
 ghost use Rattle.abi_calc.specs.Placement.{IsLawfulPrefix, IsNonEmptyIfUnsized};
@@ -128,7 +129,7 @@ impl<Cx: HasDataLayout> LayoutCalculator<Cx> {
         requires tail { IsNonEmptyIfUnsized kind (length (items_of fields)) }
         ensures exact { IsSingleAnswer F.layout_of FieldIdx.at (VariantIdx.at 0) index (Cx.target self.now.cx) repr.now kind optimizations (items_of fields.entry) result }
         ensures lawful { IfOk result (IsLawfulLayout (Cx.target self.now.cx)) }
-        ensures apart { IfOk result (λ l. AreApart l.size (offsets_of l.fields) (map (λ f. (F.layout_of f).size) (items_of fields.entry))) }
+        ensures apart { IfOk result (λ l. AreApart l.size (listed_offsets l.fields) (map (λ f. (F.layout_of f).size) (items_of fields.entry))) }
         ensures placed { IfOk result (LiesInSomeOrder FieldIdx.at (Cx.target self.now.cx) repr.now kind (map F.layout_of (items_of fields.entry))) }
         ensures least { IfOk result (λ l. IsLeastSize (Cx.target self.now.cx) repr.now kind (map F.layout_of (items_of fields.entry)) l.size) }
         ensures too_large { result ≡ Err LayoutCalculatorError.SizeOverflow → IsEachOrderTooLarge (Cx.target self.now.cx) repr.now kind (map F.layout_of (items_of fields.entry)) }

@@ -2,9 +2,10 @@ use Rattle.std.proofs.Common.{◌≡◌, map, All, sym, ap, ◌∙◌, subst}
 use Rattle.std.specs.Prelude.{IfSome}
 use Rattle.std.proofs.lemmas.List.Elements.{All-map}
 use Rattle.abi_index.specs.Slice.{items_of}
-use Rattle.abi_calc.specs.Apart.{AreApart, offsets_of}
+use Rattle.abi_calc.specs.Apart.{AreApart}
 use Rattle.abi_calc.specs.ListNiche.{IsNicheOfPart}
 use Rattle.abi_scalar.specs.Lawful.{IsLawfulLayout}
+use Rattle.abi_scalar.specs.Shape.{listed_offsets}
 use Rattle.rustc_abi.specs.Placed.{layout_of}
 use Rattle.rustc_abi.specs.Adding.{all_at}
 use Rattle.rustc_abi.proofs.ListLemmas.{listed_ok, listed_err, All-from_map, passed_on, sizes_by}
@@ -37,9 +38,9 @@ returns-clause-apart c =
     let hs = items_of c.as_slice.result in
     let lent : map (λ r. r.now) hs ≡ map layout_of ps =
     ap (map (λ r. r.now)) c.as_slice.ensures ∙ c.in_ok-layouts.ensures in
-    subst (AreApart c.in_ok-answer.field-0.size (offsets_of c.in_ok-answer.field-0.fields)) (sizes_by (λ r. r.now) hs ps lent) c.in_ok-answer.ensures.apart
+    subst (AreApart c.in_ok-answer.field-0.size (listed_offsets c.in_ok-answer.field-0.fields)) (sizes_by (λ r. r.now) hs ps lent) c.in_ok-answer.ensures.apart
 
 pub returns-clause-niche : goal.returns-clause-niche
 returns-clause-niche c =
     let lent = ap (map (λ r. r.now)) c.as_slice.ensures ∙ c.in_ok-layouts.ensures in
-    subst (λ layouts. IfSome c.in_ok-answer.field-0.largest_niche (IsNicheOfPart (offsets_of c.in_ok-answer.field-0.fields) layouts)) lent c.in_ok-answer.ensures.niche
+    subst (λ layouts. IfSome c.in_ok-answer.field-0.largest_niche (IsNicheOfPart (listed_offsets c.in_ok-answer.field-0.fields) layouts)) lent c.in_ok-answer.ensures.niche

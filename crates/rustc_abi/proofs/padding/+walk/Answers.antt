@@ -3,7 +3,6 @@ use Rattle.std.proofs.lemmas.Result.{IfOk-weaker}
 use Rattle.rustc_abi.specs.Placed.{Placed, elements, size_of}
 use Rattle.rustc_abi.specs.Places.{is_data_place, is_place_of_part}
 use Rattle.rustc_abi.specs.declared.runs.Run.{Run}
-use Rattle.abi_calc.specs.Apart.{offsets_of}
 use Rattle.rustc_abi.specs.Adding.{all_at}
 use Rattle.std.specs.Prelude.{nat_lt, nat_le, ◌&&◌, ◌||◌, ◌-◌, Bool}
 use Rattle.rustc_abi.specs.Nodes.{placed_at, parts_at}
@@ -13,6 +12,7 @@ use Rattle.std.proofs.lemmas.List.{length-map, length-append}
 use Rattle.std.proofs.lemmas.List.Elements.{All-append}
 use Rattle.rustc_abi.proofs.WalkLemmas.{covers-put, some-shifted}
 use Rattle.std.proofs.lemmas.Slice.Zip.{zip_turn, zip_end}
+use Rattle.abi_scalar.specs.Shape.{listed_offsets}
 use Rattle.rustc_abi.proofs.RoomLemmas.{each_some}
 use Rattle.rustc_abi.proofs.PaddingLemmas.{scalar_node, never_node, pair_node, elements_node, fields_node, union_node, vector_node, parts_at-zeros, places_of_elements, places_of_none, runs_inside, field_at, fields_more, parts_at-all}
 use Rattle.rustc_abi.proofs.padding.+walk.Goals as goal
@@ -134,7 +134,7 @@ data_runs-returns-in-Fields-clause-covers t c =
     IfOk-weaker c.fields_runs-in-Fields.result _ _
     (λ runs same k. same k
     ∙ ap (λ os. is_place_of_part (parts_at os (all_at c.args.nodes.now c.deref-in-Fields.result.now)) k) c.offsets-in-Fields.ensures
-    ∙ ap (λ cs. is_place_of_part (parts_at (offsets_of c.index-nodes-node.result.layout.fields) (all_at c.args.nodes.now cs)) k) c.deref-in-Fields.ensures.value
+    ∙ ap (λ cs. is_place_of_part (parts_at (listed_offsets c.index-nodes-node.result.layout.fields) (all_at c.args.nodes.now cs)) k) c.deref-in-Fields.ensures.value
     ∙ ap (λ p. is_data_place p k) (sym facts.1))
     c.fields_runs-in-Fields.ensures.covers
 
