@@ -121,6 +121,17 @@ never_empty None more e = absurd (cc)
 never_empty (Some y) None e = absurd (cc)
 never_empty (Some y) (Some ys) e = absurd (cc)
 
+-- a list that is placed has a variant
+placed_there : {F V : Type 0} (room : Room) (untagged from i : ℕ) (lists : List (LayoutData F V)) (placed : List (VariantLayout F)) (list : LayoutData F V) → variants_from room untagged from lists ≡ Some placed
+    → slice_get lists i ≡ Some list → (variant : VariantLayout F) × (slice_get placed i ≡ Some variant)
+placed_there room untagged from i [] placed list e there = absurd (cc)
+placed_there room untagged from i (l ∷ lists) [] list e there =
+    absurd (never_empty (if from == untagged then Some (variant_of l) else beside_niche room l) (variants_from room untagged (from + 1) lists) e)
+placed_there room untagged from zero (l ∷ lists) (v ∷ placed) list e there = (v, refl)
+placed_there room untagged from (suc i) (l ∷ lists) (v ∷ placed) list e there =
+    let parts = first_parts (if from == untagged then Some (variant_of l) else beside_niche room l) (variants_from room untagged (from + 1) lists) v placed e in
+    placed_there room untagged (from + 1) i lists placed list parts.1 there
+
 module _ {F V H : Type 0} (layout_of : H → LayoutData F V) (at : ℕ → F) (first : V) (dl : TargetDataLayout) (repr : ReprOptions) (kind : StructKind) where
   -- there are as many lists as variants
   good_count : (variants : List (List H)) (lists : List (LayoutData F V)) → AreGoodLists layout_of at first dl repr kind variants lists → length lists ≡ length variants
@@ -298,6 +309,7 @@ module _ {F V H : Type 0} (layout_of : H → LayoutData F V) (at : ℕ → F) (i
       let at_untagged : number (index (untagged_of lists)) ≡ untagged_of lists = named (untagged_of lists) (omega (arith, within, count, small)) in
       let at_first : number (index span.0) ≡ span.0 = named span.0 (omega (arith, ends.0, long, small)) in
       let at_last : number (index span.1) ≡ span.1 = named span.1 (omega (arith, ends.1, long, small)) in
+      let own = placed_there (room_beside dl niche lists) (untagged_of lists) 0 (untagged_of lists) lists placed list e is in
       subst (λ (m : LayoutData F V). HasTagAt niche.offset (reserved dl niche (span_count span)).1 m.backend_repr → IsToldByNiche dl number vs m) (sym so)
       (λ seen. record {
         niche = niche;
@@ -309,7 +321,9 @@ module _ {F V H : Type 0} (layout_of : H → LayoutData F V) (at : ℕ → F) (i
         start = (reserved dl niche (span_count span)).0;
         layouts = placed;
         told = refl;
-        own = subst (λ u. (variant : VariantLayout F) → slice_get placed u ≡ Some variant → IsNicheOfPart variant.field_offsets (variant_at vs u) niche) (sym at_untagged) (own_niche good list is known placed e);
+        variant = own.0;
+        own = subst (λ u. slice_get placed u ≡ Some own.0) (sym at_untagged) own.1;
+        niche_of = subst (λ u. IsNicheOfPart own.0.field_offsets (variant_at vs u) niche) (sym at_untagged) (own_niche good list is known placed e own.0 own.1);
         apart = subst (λ u. AreApartBeside (lists_size dl lists) niche.offset (scalar_size dl (reserved dl niche (span_count span)).1) u 0 vs placed) (sym at_untagged)
             (subst (λ w. AreApartBeside (lists_size dl lists) niche.offset w (untagged_of lists) 0 vs placed) (sym (tag_size dl niche (span_count span))) (placed_apart law good lawful greatest placed e));
         numbers = numbers_named dl vs (untagged_of lists) (number (index (untagged_of lists))) span.0 (number (index span.0)) span.1 (number (index span.1)) (reserved dl niche (span_count span)).0 niche

@@ -64,8 +64,8 @@ pub record IsToldByTag {F V : Type 0} (dl : TargetDataLayout) (number : V → �
   pub differ : AllPairs (λ v w. v % numbers_of (scalar_size dl tag) ≢ w % numbers_of (scalar_size dl tag)) (inhabited_of number variants items)
   pub view : BeginsWithTag dl tag layout.backend_repr
 
--- An enum whose variants are told apart by a niche: it is that of a field of the untagged variant, whose place the tag takes;
--- `number` tells the place of a variant.
+-- An enum whose variants are told apart by a niche: it is that of a field of `variant`, the untagged one, and the tag takes its
+-- place; `number` tells the place of a variant.
 pub record IsToldByNiche {F V : Type 0} (dl : TargetDataLayout) (number : V → ℕ) (variants : List (List (LayoutData F V))) (layout : LayoutData F V) : Type 0 where
   pub niche : Niche
   pub tag : Scalar
@@ -76,8 +76,9 @@ pub record IsToldByNiche {F V : Type 0} (dl : TargetDataLayout) (number : V → 
   pub start : ℕ
   pub layouts : List (VariantLayout F)
   pub told : layout.variants ≡ Multiple tag (InNiche untagged span start) field layouts
-  pub own : (variant : VariantLayout F) → slice_get layouts (number untagged) ≡ Some variant
-      → IsNicheOfPart variant.field_offsets (variant_at variants (number untagged)) niche
+  pub variant : VariantLayout F
+  pub own : slice_get layouts (number untagged) ≡ Some variant
+  pub niche_of : IsNicheOfPart variant.field_offsets (variant_at variants (number untagged)) niche
   pub apart : AreApartBeside layout.size niche.offset (scalar_size dl tag) (number untagged) 0 variants layouts
   pub numbers : AreNumbersInNiche dl variants (number untagged) (number span.start) (number span.last) start niche tag
   pub view : HasTagAt niche.offset tag layout.backend_repr
