@@ -10,7 +10,6 @@ use Rattle.std.proofs.lemmas.Nat.{mod_below, pow_pos}
 use Rattle.abi_base.specs.declared.data_layout.TargetDataLayout.{TargetDataLayout}
 use Rattle.abi_base.specs.declared.struct_kind.StructKind.{StructKind}
 use Rattle.abi_base.specs.declared.struct_kind.StructKind.TheVariants.{AlwaysSized}
-use Rattle.abi_base.specs.DataLayout.{IsLawfulDataLayout}
 use Rattle.abi_scalar.specs.declared.layout_data.LayoutData.{LayoutData}
 use Rattle.abi_scalar.specs.declared.niche.Niche.{Niche}
 use Rattle.abi_scalar.specs.declared.repr.ReprOptions.{ReprOptions}
@@ -262,10 +261,10 @@ module _ {F V H : Type 0} (layout_of : H → LayoutData F V) (at : ℕ → F) (i
       omega (arith, inside, size_at_most lists (untagged_of lists) known.0 known.1, greatest_within dl lists)
 
   -- the places of the fields: no byte is shared, and all end inside
-  pub placed_apart : IsLawfulDataLayout dl → AreGoodLists layout_of at (index 0) dl repr AlwaysSized variants lists → All (IsLawfulLayout dl) lists → niche_of_list (slice_get lists (untagged_of lists)) ≡ Some niche
+  pub placed_apart : AreGoodLists layout_of at (index 0) dl repr AlwaysSized variants lists → All (IsLawfulLayout dl) lists → niche_of_list (slice_get lists (untagged_of lists)) ≡ Some niche
       → (placed : List (VariantLayout F)) → variants_from (room_beside dl niche lists) (untagged_of lists) 0 lists ≡ Some placed
       → AreApartBeside (lists_size dl lists) niche.offset (niche_size dl niche) (untagged_of lists) 0 (map (map layout_of) variants) placed
-  placed_apart law good lawful e placed is =
+  placed_apart good lawful e placed is =
       apart_from layout_of at (index 0) dl repr AlwaysSized (room_beside dl niche lists) (untagged_of lists) (niche_size dl niche) 0 variants lists placed (omega arith) (niche_inside lawful e) (greatest_within dl lists) good is
 
   -- the untagged variant keeps its offsets, so the niche is that of one of its fields
@@ -276,10 +275,10 @@ module _ {F V H : Type 0} (layout_of : H → LayoutData F V) (at : ℕ → F) (i
       own_from layout_of at (index 0) dl repr AlwaysSized (room_beside dl niche lists) (untagged_of lists) 0 (untagged_of lists) variants lists placed list niche variant (omega arith) good is known e there
 
   -- the numbers that name the variants
-  pub niche_numbers : IsLawfulDataLayout dl → All (IsLawfulLayout dl) lists → niche_of_list (slice_get lists (untagged_of lists)) ≡ Some niche
+  pub niche_numbers : All (IsLawfulLayout dl) lists → niche_of_list (slice_get lists (untagged_of lists)) ≡ Some niche
       → span_of (needing_numbers (untagged_of lists) (map (map layout_of) variants)) ≡ Some span → span_count span ≤ available_in dl niche
       → AreNumbersInNiche dl (map (map layout_of) variants) (untagged_of lists) span.0 span.1 (reserved dl niche (span_count span)).0 niche (reserved dl niche (span_count span)).1
-  niche_numbers law lawful e found enough =
+  niche_numbers lawful e found enough =
       let known = niche_known (slice_get lists (untagged_of lists)) niche e in
       let there = holds_there (IsLawfulLayout dl) lists (untagged_of lists) known.0 lawful known.1 in
       let here = of_some (IsLawfulNiche dl known.0.size) known.0.largest_niche niche known.2 there.0.niche in
@@ -293,13 +292,13 @@ module _ {F V H : Type 0} (layout_of : H → LayoutData F V) (at : ℕ → F) (i
       }
 
   -- an enum in a niche is told apart by it
-  pub told_by_niche : (most : ℕ) → ((i : ℕ) → i ≤ most → number (index i) ≡ i) → length variants ≤ most + 1 → IsLawfulDataLayout dl → AreGoodLists layout_of at (index 0) dl repr AlwaysSized variants lists
+  pub told_by_niche : (most : ℕ) → ((i : ℕ) → i ≤ most → number (index i) ≡ i) → length variants ≤ most + 1 → AreGoodLists layout_of at (index 0) dl repr AlwaysSized variants lists
       → All (IsLawfulLayout dl) lists → (list : LayoutData F V) (placed : List (VariantLayout F)) → slice_get lists (untagged_of lists) ≡ Some list → list.largest_niche ≡ Some niche
       → span_of (needing_numbers (untagged_of lists) (map (map layout_of) variants)) ≡ Some span → span_count span ≤ available_in dl niche
       → variants_from (room_beside dl niche lists) (untagged_of lists) 0 lists ≡ Some placed
       → (l : LayoutData F V) → l ≡ layout_in_niche (at 0) index dl repr (untagged_of lists) span lists list niche (reserved dl niche (span_count span)) placed
       → HasTagAt niche.offset (reserved dl niche (span_count span)).1 l.backend_repr → IsToldByNiche dl number (map (map layout_of) variants) l
-  told_by_niche most named small law good lawful list placed is known found enough e l so view =
+  told_by_niche most named small good lawful list placed is known found enough e l so view =
       let vs : List (List (LayoutData F V)) = map (map layout_of) variants in
       let greatest : niche_of_list (slice_get lists (untagged_of lists)) ≡ Some niche = ap niche_of_list is ∙ known in
       let within : untagged_of lists < length lists = (holds_there (IsLawfulLayout dl) lists (untagged_of lists) list lawful is).1 in
@@ -325,9 +324,9 @@ module _ {F V H : Type 0} (layout_of : H → LayoutData F V) (at : ℕ → F) (i
         own = subst (λ u. slice_get placed u ≡ Some own.0) (sym at_untagged) own.1;
         niche_of = subst (λ u. IsNicheOfPart own.0.field_offsets (variant_at vs u) niche) (sym at_untagged) (own_niche good list is known placed e own.0 own.1);
         apart = subst (λ u. AreApartBeside (lists_size dl lists) niche.offset (scalar_size dl (reserved dl niche (span_count span)).1) u 0 vs placed) (sym at_untagged)
-            (subst (λ w. AreApartBeside (lists_size dl lists) niche.offset w (untagged_of lists) 0 vs placed) (sym (tag_size dl niche (span_count span))) (placed_apart law good lawful greatest placed e));
+            (subst (λ w. AreApartBeside (lists_size dl lists) niche.offset w (untagged_of lists) 0 vs placed) (sym (tag_size dl niche (span_count span))) (placed_apart good lawful greatest placed e));
         numbers = numbers_named dl vs (untagged_of lists) (number (index (untagged_of lists))) span.0 (number (index span.0)) span.1 (number (index span.1)) (reserved dl niche (span_count span)).0 niche
-            (reserved dl niche (span_count span)).1 at_untagged at_first at_last (niche_numbers law lawful greatest found enough);
+            (reserved dl niche (span_count span)).1 at_untagged at_first at_last (niche_numbers lawful greatest found enough);
         view = seen;
       })
       view

@@ -242,13 +242,13 @@ module _ {F V : Type 0} (first : F) (index : ℕ → V) (dl : TargetDataLayout) 
       (handed_from dl p.niche (span_count p.span)) own.view (of_some (IsNicheOfView p.list.backend_repr) p.list.largest_niche p.niche p.known own.niche_of_view)
 
   -- a view of scalars has the tag where the niche lay
-  pub niche_view_tag : IsLawfulDataLayout dl → All (IsLawfulLayout dl) lists → (l : LayoutData F V) (p : IsInNiche first index dl repr variants lists l)
+  pub niche_view_tag : All (IsLawfulLayout dl) lists → (l : LayoutData F V) (p : IsInNiche first index dl repr variants lists l)
       → HasTagAt p.niche.offset (reserved dl p.niche (span_count p.span)).1 l.backend_repr
-  niche_view_tag law all l p = subst (λ m. HasTagAt p.niche.offset (reserved dl p.niche (span_count p.span)).1 m.backend_repr) (sym p.is) (own_view all l p).1
+  niche_view_tag all l p = subst (λ m. HasTagAt p.niche.offset (reserved dl p.niche (span_count p.span)).1 m.backend_repr) (sym p.is) (own_view all l p).1
 
   -- the niche that is left is a lawful one
-  pub niche_of_niche : IsLawfulDataLayout dl → All (IsLawfulLayout dl) lists → (l : LayoutData F V) → niche_layout first index dl repr variants lists ≡ Some l → IfSome l.largest_niche (IsLawfulNiche dl l.size)
-  niche_of_niche law all l e =
+  pub niche_of_niche : All (IsLawfulLayout dl) lists → (l : LayoutData F V) → niche_layout first index dl repr variants lists ≡ Some l → IfSome l.largest_niche (IsLawfulNiche dl l.size)
+  niche_of_niche all l e =
       let p = niche_parts first index dl repr variants lists l e in
       subst (λ m. IfSome m.largest_niche (IsLawfulNiche dl m.size)) (sym p.is)
       (niche_at_lawful dl p.niche.offset (lists_size dl lists) (reserved dl p.niche (span_count p.span)).1 (own_tag all l p) (tag_inside all l p))

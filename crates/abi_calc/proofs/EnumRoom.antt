@@ -7,7 +7,6 @@ use Rattle.std.proofs.lemmas.List.Elements.{All-contains}
 use Rattle.abi_base.specs.declared.data_layout.TargetDataLayout.{TargetDataLayout}
 use Rattle.abi_base.specs.declared.struct_kind.StructKind.{StructKind}
 use Rattle.abi_base.specs.declared.struct_kind.StructKind.TheVariants.{AlwaysSized}
-use Rattle.abi_base.specs.DataLayout.{IsLawfulDataLayout}
 use Rattle.abi_base.specs.Primitive.{primitive_size}
 use Rattle.abi_scalar.specs.declared.layout_data.LayoutData.{LayoutData}
 use Rattle.abi_scalar.specs.declared.niche.Niche.{Niche}
@@ -222,9 +221,9 @@ module _ {F V H : Type 0} (layout_of : H → LayoutData F V) (at : ℕ → F) (i
   from_span good l (Some span) ends e = from_list good l span ends (slice_get lists (untagged_of lists)) refl e
 
   -- where there is a layout with a niche, the lists leave room for it
-  pub leaves_room : IsLawfulDataLayout dl → AreGoodLists layout_of at (index 0) dl repr AlwaysSized variants lists → (l : LayoutData F V)
+  pub leaves_room : AreGoodLists layout_of at (index 0) dl repr AlwaysSized variants lists → (l : LayoutData F V)
       → niche_layout (at 0) index dl repr (map (map layout_of) variants) lists ≡ Some l → LeaveRoom dl (map (map layout_of) variants) lists
-  leaves_room law good l e = from_span good l (span_of (needing_numbers (untagged_of lists) (map (map layout_of) variants))) refl e
+  leaves_room good l e = from_span good l (span_of (needing_numbers (untagged_of lists) (map (map layout_of) variants))) refl e
 
   -- variants that each have room are placed
   never_none : (span : ℕ × ℕ) (list : LayoutData F V) (niche : Niche)
@@ -235,9 +234,9 @@ module _ {F V H : Type 0} (layout_of : H → LayoutData F V) (at : ℕ → F) (i
   never_none span list niche beside (Some placed) all e = absurd (cc)
 
   -- and where there is none, they leave no room
-  pub leaves_none : IsLawfulDataLayout dl → AreGoodLists layout_of at (index 0) dl repr AlwaysSized variants lists
+  pub leaves_none : AreGoodLists layout_of at (index 0) dl repr AlwaysSized variants lists
       → niche_layout (at 0) index dl repr (map (map layout_of) variants) lists ≡ None → LeaveRoom dl (map (map layout_of) variants) lists → ⊥
-  leaves_none law good e room =
+  leaves_none good e room =
       let there = niche_known (slice_get lists (untagged_of lists)) room.niche room.largest in
       let much : span_count room.span ≤ available_in dl room.niche
       = niche_enough layout_of at (index 0) dl repr AlwaysSized variants lists (untagged_of lists) there.0 room.niche (span_count room.span) good there.1 there.2 room.numbers in

@@ -89,7 +89,7 @@ module _ {F V H : Type 0} (layout_of : H → LayoutData F V) (at : ℕ → F) (i
   found_niche None law exact good = tt
   found_niche (Some l) law exact good =
       let h : IsFound l = found_of (Some l) l refl (is_free repr) refl exact good in
-      niche_of_niche (at 0) index dl repr (map (map layout_of) variants) h.lists law h.lawful l h.is
+      niche_of_niche (at 0) index dl repr (map (map layout_of) variants) h.lists h.lawful l h.is
 
   -- the better layout is lawful
   pub better_lawful : (tagged : LayoutData F V) (found : Option (LayoutData F V)) → IsLawfulDataLayout dl → IsNicheAnswer layout_of at index dl repr variants found
@@ -111,8 +111,8 @@ module _ {F V H : Type 0} (layout_of : H → LayoutData F V) (at : ℕ → F) (i
       let h : IsFound l = found_of (Some l) l refl (is_free repr) refl exact good in
       let p : IsInNiche (at 0) index dl repr (map (map layout_of) variants) h.lists l = niche_parts (at 0) index dl repr (map (map layout_of) variants) h.lists l h.is in
       by_both (AreToldApart dl place (map (map layout_of) variants) items) (takes_niche dl tagged l) l tagged
-      (λ takes. inr (told_by_niche layout_of at index place dl repr variants h.lists p.niche p.span most laws few law h.good h.lawful p.list p.placed p.there p.known p.ends p.enough p.beside l p.is
-      (niche_view_tag (at 0) index dl repr (map (map layout_of) variants) h.lists law h.lawful l p)))
+      (λ takes. inr (told_by_niche layout_of at index place dl repr variants h.lists p.niche p.span most laws few h.good h.lawful p.list p.placed p.there p.known p.ends p.enough p.beside l p.is
+      (niche_view_tag (at 0) index dl repr (map (map layout_of) variants) h.lists h.lawful l p)))
       (λ leaves. inl told)
 
   -- ---- the size
@@ -138,14 +138,14 @@ module _ {F V H : Type 0} (layout_of : H → LayoutData F V) (at : ℕ → F) (i
         → niche_layout (at 0) index dl repr (map (map layout_of) variants) lists ≡ found → IsTaggedSize dl repr behind (map (map layout_of) variants) tagged.size
         → IsEnumSize layout_of at (index 0) dl repr behind variants (better dl tagged found).size
     by_niche lists None law some unpacked free good is size =
-        inr (free, lists, good_exact layout_of at (index 0) dl repr AlwaysSized variants lists good, inr (leaves_none layout_of at index dl repr variants lists law good is, size))
+        inr (free, lists, good_exact layout_of at (index 0) dl repr AlwaysSized variants lists good, inr (leaves_none layout_of at index dl repr variants lists good is, size))
     by_niche lists (Some l) law some unpacked free good is size =
         inr (
           free,
           lists,
           good_exact layout_of at (index 0) dl repr AlwaysSized variants lists good,
           inl (
-            leaves_room layout_of at index dl repr variants lists law good l is,
+            leaves_room layout_of at index dl repr variants lists good l is,
             size_taken lists l some unpacked good is size,
             λ t behind_size. tagged_less dl repr (integer_size asked) (tag_align dl repr asked (map (map layout_of) variants)) (map (map layout_of) variants) (better dl tagged (Some l)).size t
                 (size_taken lists l some unpacked good is size) behind_size,
