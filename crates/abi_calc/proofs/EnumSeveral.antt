@@ -16,9 +16,9 @@ use Rattle.abi_scalar.specs.declared.variants.RangeFrom.{RangeFrom}
 use Rattle.abi_scalar.specs.declared.variants.RangeToInclusive.{RangeToInclusive}
 use Rattle.abi_scalar.specs.Lawful.{IsLawfulLayout, IsLawfulNiche}
 use Rattle.abi_calc.specs.Enums.Beside.{AreToldApart, IsToldByTag}
-use Rattle.abi_calc.specs.Enums.Choice.{IsGoodNicheAnswer, IsNicheAnswer, better, takes_niche}
+use Rattle.abi_calc.specs.Enums.Choice.{IsNicheAnswer, better, takes_niche}
 use Rattle.abi_calc.specs.Enums.Discriminants.{counting_of}
-use Rattle.abi_calc.specs.Enums.Lists.{AreGoodLists, behind_tag, tag_align}
+use Rattle.abi_calc.specs.Enums.Lists.{AreGoodLists, AreListLayouts, behind_tag, tag_align}
 use Rattle.abi_calc.specs.Enums.Niche.{niche_layout}
 use Rattle.abi_calc.specs.Enums.Path.{is_free}
 use Rattle.abi_calc.specs.Enums.Room.{IsEnumSize}
@@ -27,7 +27,7 @@ use Rattle.abi_calc.specs.Enums.Several.{HasEnumSize, HasTaggedSize, IsAskedAnsw
 use Rattle.abi_calc.specs.Enums.Sizes.{IsTaggedSize}
 use Rattle.abi_calc.specs.Enums.Tagged.{lists_size}
 use Rattle.abi_calc.proofs.EnumBeside.{told_by_niche}
-use Rattle.abi_calc.proofs.EnumLists.{good_exact}
+use Rattle.abi_calc.proofs.EnumLists.{good_exact, good_lawful}
 use Rattle.abi_calc.proofs.EnumLess.{no_first_error, tagged_less}
 use Rattle.abi_calc.proofs.EnumNicheLawful.{IsInNiche, niche_lawful, niche_of_niche, niche_parts, niche_size_is, niche_view_tag}
 use Rattle.abi_calc.proofs.EnumRoom.{leaves_none, leaves_room}
@@ -68,47 +68,37 @@ module _ {F V H : Type 0} (layout_of : H → LayoutData F V) (at : ℕ → F) (i
     pub lawful : All (IsLawfulLayout dl) lists
     pub is : niche_layout (at 0) index dl repr (map (map layout_of) variants) lists ≡ Some l
 
-  from_good : (found : Option (LayoutData F V)) (l : LayoutData F V) → found ≡ Some l → IsGoodNicheAnswer layout_of at index dl repr variants found → IsFound l
-  from_good found l e (inl none) = let never : found ≡ None = none.2 in absurd (cc)
-  from_good found l e (inr some) = record { lists = some.0; good = some.1; lawful = some.2; is = sym some.3 ∙ e }
-
-  no_niche : (found : Option (LayoutData F V)) → is_free repr ≡ false → IsNicheAnswer layout_of at index dl repr variants found → found ≡ None
-  no_niche found fixed (inl none) = none.1
-  no_niche found fixed (inr (inl none)) = none.3
-  no_niche found fixed (inr (inr some)) = let free : is_free repr ≡ true = some.0 in absurd (cc)
-
   -- a layout with a niche comes from lists that are good
-  pub found_of : (found : Option (LayoutData F V)) (l : LayoutData F V) → found ≡ Some l → (free : Bool) → is_free repr ≡ free → IsNicheAnswer layout_of at index dl repr variants found
-      → (is_free repr ≡ true → IsGoodNicheAnswer layout_of at index dl repr variants found) → IsFound l
-  found_of found l e true free exact good = from_good found l e (good free)
-  found_of found l e false fixed exact good = let none : found ≡ None = no_niche found fixed exact in absurd (cc)
+  found_of : (found : Option (LayoutData F V)) (l : LayoutData F V) → found ≡ Some l → IsNicheAnswer AreGoodLists layout_of at index dl repr variants found → IsFound l
+  found_of found l e (inl fixed) = let never : found ≡ None = fixed.1 in absurd (cc)
+  found_of found l e (inr (inl none)) = let never : found ≡ None = none.3 in absurd (cc)
+  found_of found l e (inr (inr some)) = record { lists = some.1; good = some.2; lawful = good_lawful layout_of at (index 0) dl repr AlwaysSized variants some.1 some.2; is = sym some.3 ∙ e }
 
   -- its own niche is lawful
-  pub found_niche : (found : Option (LayoutData F V)) → IsLawfulDataLayout dl → IsNicheAnswer layout_of at index dl repr variants found
-      → (is_free repr ≡ true → IsGoodNicheAnswer layout_of at index dl repr variants found) → IfSome found (λ l. IfSome l.largest_niche (IsLawfulNiche dl l.size))
-  found_niche None law exact good = tt
-  found_niche (Some l) law exact good =
-      let h : IsFound l = found_of (Some l) l refl (is_free repr) refl exact good in
+  pub found_niche : (found : Option (LayoutData F V)) → IsNicheAnswer AreGoodLists layout_of at index dl repr variants found → IfSome found (λ l. IfSome l.largest_niche (IsLawfulNiche dl l.size))
+  found_niche None good = tt
+  found_niche (Some l) good =
+      let h : IsFound l = found_of (Some l) l refl good in
       niche_of_niche (at 0) index dl repr (map (map layout_of) variants) h.lists h.lawful l h.is
 
   -- the better layout is lawful
-  pub better_lawful : (tagged : LayoutData F V) (found : Option (LayoutData F V)) → IsLawfulDataLayout dl → IsNicheAnswer layout_of at index dl repr variants found
-      → (is_free repr ≡ true → IsGoodNicheAnswer layout_of at index dl repr variants found) → IsLawfulLayout dl tagged → IsLawfulLayout dl (better dl tagged found)
-  better_lawful tagged None law exact good lawful = lawful
-  better_lawful tagged (Some l) law exact good lawful =
-      let h : IsFound l = found_of (Some l) l refl (is_free repr) refl exact good in
+  pub better_lawful : (tagged : LayoutData F V) (found : Option (LayoutData F V)) → IsLawfulDataLayout dl → IsNicheAnswer AreGoodLists layout_of at index dl repr variants found → IsLawfulLayout dl tagged
+      → IsLawfulLayout dl (better dl tagged found)
+  better_lawful tagged None law good lawful = lawful
+  better_lawful tagged (Some l) law good lawful =
+      let h : IsFound l = found_of (Some l) l refl good in
       by_both (IsLawfulLayout dl) (takes_niche dl tagged l) l tagged
       (λ takes. niche_lawful (at 0) index dl repr (map (map layout_of) variants) h.lists law h.lawful l h.is
       (let small : l.size ≤ tagged.size = taken_small dl tagged l takes in let below : tagged.size < size_bound dl = lawful.bound in omega (arith, small, below)))
       (λ leaves. lawful)
 
   -- its variants are told apart
-  pub better_told : (most : ℕ) → ((i : ℕ) → i ≤ most → place (index i) ≡ i) → length variants ≤ most + 1 → (items : List (V × ℕ)) (tagged : LayoutData F V) (found : Option (LayoutData F V)) → IsLawfulDataLayout dl
-      → IsNicheAnswer layout_of at index dl repr variants found → (is_free repr ≡ true → IsGoodNicheAnswer layout_of at index dl repr variants found)
-      → IsToldByTag dl place (map (map layout_of) variants) items tagged → AreToldApart dl place (map (map layout_of) variants) items (better dl tagged found)
-  better_told most laws few items tagged None law exact good told = inl told
-  better_told most laws few items tagged (Some l) law exact good told =
-      let h : IsFound l = found_of (Some l) l refl (is_free repr) refl exact good in
+  pub better_told : (most : ℕ) → ((i : ℕ) → i ≤ most → place (index i) ≡ i) → length variants ≤ most + 1 → (items : List (V × ℕ)) (tagged : LayoutData F V) (found : Option (LayoutData F V))
+      → IsNicheAnswer AreGoodLists layout_of at index dl repr variants found → IsToldByTag dl place (map (map layout_of) variants) items tagged
+      → AreToldApart dl place (map (map layout_of) variants) items (better dl tagged found)
+  better_told most laws few items tagged None good told = inl told
+  better_told most laws few items tagged (Some l) good told =
+      let h : IsFound l = found_of (Some l) l refl good in
       let p : IsInNiche (at 0) index dl repr (map (map layout_of) variants) h.lists l = niche_parts (at 0) index dl repr (map (map layout_of) variants) h.lists l h.is in
       by_both (AreToldApart dl place (map (map layout_of) variants) items) (takes_niche dl tagged l) l tagged
       (λ takes. inr (told_by_niche layout_of at index place dl repr variants h.lists p.niche p.span most laws few h.good h.lawful p.list p.placed p.there p.known p.ends p.enough p.beside l p.is
@@ -134,12 +124,12 @@ module _ {F V H : Type 0} (layout_of : H → LayoutData F V) (at : ℕ → F) (i
         (λ leaves. subst (IsTaggedSize dl repr AlwaysSized (map (map layout_of) variants))
         (let large : tagged.size ≤ l.size = left_large dl tagged l leaves in let same : lists_size dl lists ≡ tagged.size = omega (arith, whole, less, large) in same) own)
 
-    by_niche : (lists : List (LayoutData F V)) (found : Option (LayoutData F V)) → IsLawfulDataLayout dl → 0 < length variants → repr.pack ≡ None → is_free repr ≡ true → AreGoodLists layout_of at (index 0) dl repr AlwaysSized variants lists
+    by_niche : (lists : List (LayoutData F V)) (found : Option (LayoutData F V)) → 0 < length variants → repr.pack ≡ None → is_free repr ≡ true → AreGoodLists layout_of at (index 0) dl repr AlwaysSized variants lists
         → niche_layout (at 0) index dl repr (map (map layout_of) variants) lists ≡ found → IsTaggedSize dl repr behind (map (map layout_of) variants) tagged.size
         → IsEnumSize layout_of at (index 0) dl repr behind variants (better dl tagged found).size
-    by_niche lists None law some unpacked free good is size =
+    by_niche lists None some unpacked free good is size =
         inr (free, lists, good_exact layout_of at (index 0) dl repr AlwaysSized variants lists good, inr (leaves_none layout_of at index dl repr variants lists good is, size))
-    by_niche lists (Some l) law some unpacked free good is size =
+    by_niche lists (Some l) some unpacked free good is size =
         inr (
           free,
           lists,
@@ -152,30 +142,23 @@ module _ {F V H : Type 0} (layout_of : H → LayoutData F V) (at : ℕ → F) (i
           ),
         )
 
-    by_good : (found : Option (LayoutData F V)) (lists : List (LayoutData F V)) → IsLawfulDataLayout dl → All (All (λ f. IsLawfulLayout dl (layout_of f))) variants → 0 < length variants → repr.pack ≡ None → is_free repr ≡ true
-        → IsGoodNicheAnswer layout_of at index dl repr variants found → IsTaggedSize dl repr behind (map (map layout_of) variants) tagged.size → AreGoodLists layout_of at (index 0) dl repr behind variants lists
+    by_good : (found : Option (LayoutData F V)) (lists : List (LayoutData F V)) → All (All (λ f. IsLawfulLayout dl (layout_of f))) variants → 0 < length variants → repr.pack ≡ None
+        → IsNicheAnswer AreGoodLists layout_of at index dl repr variants found → IsTaggedSize dl repr behind (map (map layout_of) variants) tagged.size → AreGoodLists layout_of at (index 0) dl repr behind variants lists
         → IsEnumSize layout_of at (index 0) dl repr behind variants (better dl tagged found).size
-    by_good found lists law fields some unpacked free (inl none) size good =
-        absurd (no_first_error layout_of at (index 0) dl repr (integer_size asked) (tag_align dl repr asked (map (map layout_of) variants)) variants lists none.0 fields good none.1)
-    by_good found lists law fields some unpacked free (inr h) size good = by_niche h.0 found law some unpacked free h.1 (sym h.3) size
-
-    by_free : (free : Bool) → is_free repr ≡ free → (found : Option (LayoutData F V)) (lists : List (LayoutData F V)) → IsLawfulDataLayout dl → All (All (λ f. IsLawfulLayout dl (layout_of f))) variants → 0 < length variants → repr.pack ≡ None
-        → IsNicheAnswer layout_of at index dl repr variants found → (is_free repr ≡ true → IsGoodNicheAnswer layout_of at index dl repr variants found)
-        → IsTaggedSize dl repr behind (map (map layout_of) variants) tagged.size → AreGoodLists layout_of at (index 0) dl repr behind variants lists
-        → IsEnumSize layout_of at (index 0) dl repr behind variants (better dl tagged found).size
-    by_free true free found lists law fields some unpacked exact niche size good = by_good found lists law fields some unpacked free (niche free) size good
-    by_free false fixed found lists law fields some unpacked exact niche size good =
-        subst (λ o. IsEnumSize layout_of at (index 0) dl repr behind variants (better dl tagged o).size) (sym (no_niche found fixed exact)) (inl (fixed, size))
+    by_good found lists fields some unpacked (inl fixed) size good =
+        subst (λ o. IsEnumSize layout_of at (index 0) dl repr behind variants (better dl tagged o).size) (sym fixed.1) (inl (fixed.0, size))
+    by_good found lists fields some unpacked (inr (inl none)) size good =
+        absurd (no_first_error layout_of at (index 0) dl repr (integer_size asked) (tag_align dl repr asked (map (map layout_of) variants)) variants lists none.1 fields good none.2)
+    by_good found lists fields some unpacked (inr (inr h)) size good = by_niche h.1 found some unpacked h.0 h.2 (sym h.3) size
 
   -- the better layout has the enum's size
-  pub better_size : (asks : RangeFrom ℤ → RangeToInclusive ℕ → Integer × Bool → Type 0) (values : List ℕ) (tagged : LayoutData F V) (found : Option (LayoutData F V)) → IsLawfulDataLayout dl → All (All (λ f. IsLawfulLayout dl (layout_of f))) variants
-      → 0 < length variants → repr.pack ≡ None → IsNicheAnswer layout_of at index dl repr variants found → (is_free repr ≡ true → IsGoodNicheAnswer layout_of at index dl repr variants found)
+  pub better_size : (asks : RangeFrom ℤ → RangeToInclusive ℕ → Integer × Bool → Type 0) (values : List ℕ) (tagged : LayoutData F V) (found : Option (LayoutData F V)) → All (All (λ f. IsLawfulLayout dl (layout_of f))) variants
+      → 0 < length variants → repr.pack ≡ None → IsNicheAnswer AreGoodLists layout_of at index dl repr variants found
       → HasTaggedSize layout_of at (index 0) dl repr asks values variants tagged.size → HasEnumSize layout_of at (index 0) dl repr asks values variants (better dl tagged found).size
-  better_size asks values tagged found law fields some unpacked exact niche h =
-      (h.0, h.1, h.2, by_free h.0 tagged (is_free repr) refl found h.4.0 law fields some unpacked exact niche h.3 h.4.1)
+  better_size asks values tagged found fields some unpacked niche h = (h.0, h.1, h.2, by_good h.0 tagged found h.4.0 fields some unpacked niche h.3 h.4.1)
 
   -- the answer is the better layout, or the error of that with a tag
-  pub enum_answer : (number : F → ℕ) (asks : RangeFrom ℤ → RangeToInclusive ℕ → Integer × Bool → Type 0) (items : List (V × ℕ)) (found : Option (LayoutData F V)) → IsNicheAnswer layout_of at index dl repr variants found
+  pub enum_answer : (number : F → ℕ) (asks : RangeFrom ℤ → RangeToInclusive ℕ → Integer × Bool → Type 0) (items : List (V × ℕ)) (found : Option (LayoutData F V)) → IsNicheAnswer AreListLayouts layout_of at index dl repr variants found
       → (tagged result : Result (LayoutData F V) (LayoutCalculatorError H))
       → (tagged ≡ Err OutOfMemory) ⊎ IsAskedAnswer layout_of at number (index 0) dl repr asks (counting_of place repr (map (map layout_of) variants) items) variants tagged
       → result ≡ better_of dl tagged found → IsEnumAnswer layout_of at number index place dl repr asks variants items result

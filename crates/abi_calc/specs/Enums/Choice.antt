@@ -1,12 +1,12 @@
 -- The choice between the layout of an enum with a tag and the one with a niche.
-use Rattle.std.specs.Prelude.{◌≡◌, ℕ, ◌==◌, ◌&&◌, ◌||◌, ◌⊎◌, All, Bool, List, map, nat_lt, true, false, Option, None, Some, if◌then◌else◌}
+use Rattle.std.specs.Prelude.{◌≡◌, ℕ, ◌==◌, ◌&&◌, ◌||◌, ◌⊎◌, Bool, List, map, nat_lt, true, false, Option, None, Some, if◌then◌else◌}
 use Rattle.abi_base.specs.declared.data_layout.TargetDataLayout.{TargetDataLayout}
+use Rattle.abi_base.specs.declared.struct_kind.StructKind.{StructKind}
 use Rattle.abi_base.specs.declared.struct_kind.StructKind.TheVariants.{AlwaysSized}
 use Rattle.abi_scalar.specs.declared.error.LayoutCalculatorError.{LayoutCalculatorError}
 use Rattle.abi_scalar.specs.declared.layout_data.LayoutData.{LayoutData}
 use Rattle.abi_scalar.specs.declared.repr.ReprOptions.{ReprOptions}
-use Rattle.abi_scalar.specs.Lawful.{IsLawfulLayout}
-use Rattle.abi_calc.specs.Enums.Lists.{AreGoodLists, AreListLayouts, IsFirstListError}
+use Rattle.abi_calc.specs.Enums.Lists.{IsFirstListError}
 use Rattle.abi_calc.specs.Enums.Niche.{niche_layout}
 use Rattle.abi_calc.specs.Enums.Path.{is_free}
 use Rattle.abi_calc.specs.Part.{free_numbers}
@@ -22,17 +22,11 @@ better dl tagged None = tagged
 better dl tagged (Some niche) = if takes_niche dl tagged niche then niche else tagged
 
 -- the layout with a niche, where there is one: none unless the layout is free, nor where some variant's fields have no layout as
--- an always sized list
-abbrev pub IsNicheAnswer : {F V H : Type 0} → (layout_of : H → LayoutData F V) → (at : ℕ → F) → (index : ℕ → V) → TargetDataLayout → ReprOptions → (variants : List (List H)) → Option (LayoutData F V) → Type 0
-IsNicheAnswer layout_of at index dl repr variants found =
+-- an always sized list; `are_lists` says what the variants' lists are
+abbrev pub IsNicheAnswer : {F V H : Type 0} → (are_lists : (H → LayoutData F V) → (ℕ → F) → V → TargetDataLayout → ReprOptions → StructKind → List (List H) → List (LayoutData F V) → Type 0)
+    → (layout_of : H → LayoutData F V) → (at : ℕ → F) → (index : ℕ → V) → TargetDataLayout → ReprOptions → (variants : List (List H)) → Option (LayoutData F V) → Type 0
+IsNicheAnswer are_lists layout_of at index dl repr variants found =
     ((is_free repr ≡ false) × (found ≡ None))
     ⊎ ((is_free repr ≡ true) × (error : LayoutCalculatorError _) × IsFirstListError layout_of at (index 0) dl repr AlwaysSized variants error × (found ≡ None))
-    ⊎ ((is_free repr ≡ true) × (lists : List (LayoutData _ _)) × AreListLayouts layout_of at (index 0) dl repr AlwaysSized variants lists
+    ⊎ ((is_free repr ≡ true) × (lists : List (LayoutData _ _)) × are_lists layout_of at (index 0) dl repr AlwaysSized variants lists
     × (found ≡ niche_layout (at 0) index dl repr (map (map layout_of) variants) lists))
-
--- the same from lists that are good: where the layout is free, that of such lists, or none where some variant has no list
-abbrev pub IsGoodNicheAnswer : {F V H : Type 0} → (layout_of : H → LayoutData F V) → (at : ℕ → F) → (index : ℕ → V) → TargetDataLayout → ReprOptions → (variants : List (List H)) → Option (LayoutData F V) → Type 0
-IsGoodNicheAnswer layout_of at index dl repr variants found =
-    ((error : LayoutCalculatorError _) × IsFirstListError layout_of at (index 0) dl repr AlwaysSized variants error × (found ≡ None))
-    ⊎ ((lists : List (LayoutData _ _)) × AreGoodLists layout_of at (index 0) dl repr AlwaysSized variants lists
-    × All (IsLawfulLayout dl) lists × (found ≡ niche_layout (at 0) index dl repr (map (map layout_of) variants) lists))

@@ -15,7 +15,7 @@ use Rattle.abi_scalar.specs.Range.{numbers_of}
 use Rattle.abi_scalar.specs.Repr.{discr_type_of}
 use Rattle.abi_calc.specs.Enums.Choice.{IsNicheAnswer, better}
 use Rattle.abi_calc.specs.Enums.Discriminants.{IsAskedWith, counting_of, inhabited_of}
-use Rattle.abi_calc.specs.Enums.Lists.{HaveGoodLists, behind_tag}
+use Rattle.abi_calc.specs.Enums.Lists.{AreListLayouts, HaveGoodLists, behind_tag}
 use Rattle.abi_calc.specs.Enums.Room.{IsEnumSize}
 use Rattle.abi_calc.specs.Enums.Sizes.{IsTaggedSize, IsTaggedTooLarge}
 use Rattle.abi_calc.specs.Enums.Tagged.{IsTaggedAnswer}
@@ -55,7 +55,7 @@ abbrev pub IsEnumAnswer : {F V H : Type 0} → (layout_of : H → LayoutData F V
     → (asks : RangeFrom ℤ → RangeToInclusive ℕ → Integer × Bool → Type 0) → (variants : List (List H)) → (items : List (V × ℕ)) → Result (LayoutData F V) (LayoutCalculatorError H) → Type 0
 IsEnumAnswer layout_of at number index place dl repr asks variants items result =
     (result ≡ Err OutOfMemory)
-    ⊎ ((niche : Option (LayoutData _ _)) × IsNicheAnswer layout_of at index dl repr variants niche
+    ⊎ ((niche : Option (LayoutData _ _)) × IsNicheAnswer AreListLayouts layout_of at index dl repr variants niche
     × (tagged : Result (LayoutData _ _) (LayoutCalculatorError _)) × IsAskedAnswer layout_of at number (index 0) dl repr asks (counting_of place repr (map (map layout_of) variants) items) variants tagged
     × (result ≡ better_of dl tagged niche))
 

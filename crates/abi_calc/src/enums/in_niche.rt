@@ -9,8 +9,8 @@ ghost use Rattle.abi_scalar.specs.Niche.{IsReadableNiche, niche_size};
 ghost use Rattle.abi_scalar.specs.Reserve.{reserved};
 ghost use Rattle.abi_scalar.specs.Scalar.{IsLawfulScalar};
 ghost use Rattle.abi_calc.specs.List.{HasLawfulAligns};
-ghost use Rattle.abi_calc.specs.Enums.Choice.{IsGoodNicheAnswer, IsNicheAnswer};
-ghost use Rattle.abi_calc.specs.Enums.Path.{is_free};
+ghost use Rattle.abi_calc.specs.Enums.Choice.{IsNicheAnswer};
+ghost use Rattle.abi_calc.specs.Enums.Lists.{AreGoodLists, AreListLayouts};
 ghost use Rattle.abi_calc.specs.Enums.Niche.{IsRoomy, IsSmallList, if_placed, niche_layout, niche_of_list, others_empty, room_beside, span_count, variants_from, view_with};
 
 use crate::calculator::LayoutCalculator;
@@ -230,8 +230,8 @@ impl<Cx: HasDataLayout> LayoutCalculator<Cx> {
         requires fields { All (All (λ f. IsLawfulLayout (Cx.target self.now.cx) (F.layout_of f))) variants.now }
         requires count { length variants.now ≤ VariantIdx.MAX_INDEX + 1 }
         requires repr { HasLawfulAligns repr.now }
-        ensures exact { IfOk result (IsNicheAnswer F.layout_of FieldIdx.at VariantIdx.at (Cx.target self.now.cx) repr.now variants.now) }
-        ensures good { is_free repr.now ≡ true → IfOk result (IsGoodNicheAnswer F.layout_of FieldIdx.at VariantIdx.at (Cx.target self.now.cx) repr.now variants.now) }
+        ensures exact { IfOk result (IsNicheAnswer AreListLayouts F.layout_of FieldIdx.at VariantIdx.at (Cx.target self.now.cx) repr.now variants.now) }
+        ensures good { IfOk result (IsNicheAnswer AreGoodLists F.layout_of FieldIdx.at VariantIdx.at (Cx.target self.now.cx) repr.now variants.now) }
         ensures memory { IfErr result (λ e. e ≡ LayoutCalculatorError.OutOfMemory) }
     {
         if !is_free(repr) {

@@ -11,7 +11,7 @@ use Rattle.abi_calc.proofs.calculator.LayoutCalculator.layout_of_enum.Goals as g
 pub better-requires-clause-niche : goal.better-requires-clause-niche
 better-requires-clause-niche g c =
     rw c.data_layout.ensures (found_niche g.F.LayoutHandle.layout_of g.FieldIdx.Idx.at g.VariantIdx.Idx.at g.VariantIdx.Idx.number (g.Cx.HasDataLayout.target c.args.self.now.cx) c.args.repr.now c.args.variants.now
-    c.in-Ok.found c.requires.data_layout c.in-Ok.ensures.exact c.in-Ok.ensures.good)
+    c.in-Ok.found c.in-Ok.ensures.good)
 
 pub returns-in-Ok-layout_with_tag-clause-exact : goal.returns-in-Ok-layout_with_tag-clause-exact
 returns-in-Ok-layout_with_tag-clause-exact g c =
@@ -23,19 +23,19 @@ returns-in-Ok-layout_with_tag-clause-exact g c =
 pub returns-in-Ok-layout_with_tag-clause-lawful : goal.returns-in-Ok-layout_with_tag-clause-lawful
 returns-in-Ok-layout_with_tag-clause-lawful g c =
     rw (c.better.ensures, c.data_layout.ensures) (better_lawful g.F.LayoutHandle.layout_of g.FieldIdx.Idx.at g.VariantIdx.Idx.at g.VariantIdx.Idx.number (g.Cx.HasDataLayout.target c.args.self.now.cx) c.args.repr.now c.args.variants.now
-    c.in-Ok-layout_with_tag.tagged c.in-Ok.found c.requires.data_layout c.in-Ok.ensures.exact c.in-Ok.ensures.good c.in-Ok-layout_with_tag.ensures.lawful)
+    c.in-Ok-layout_with_tag.tagged c.in-Ok.found c.requires.data_layout c.in-Ok.ensures.good c.in-Ok-layout_with_tag.ensures.lawful)
 
 pub returns-in-Ok-layout_with_tag-clause-told : goal.returns-in-Ok-layout_with_tag-clause-told
 returns-in-Ok-layout_with_tag-clause-told g c =
     rw (c.better.ensures, c.data_layout.ensures) (better_told g.F.LayoutHandle.layout_of g.FieldIdx.Idx.at g.VariantIdx.Idx.at g.VariantIdx.Idx.number (g.Cx.HasDataLayout.target c.args.self.now.cx) c.args.repr.now c.args.variants.now
-    g.VariantIdx.Idx.MAX_INDEX g.met.VariantIdx.Idx.number_at c.requires.count c.args.discriminants.now c.in-Ok-layout_with_tag.tagged c.in-Ok.found c.requires.data_layout c.in-Ok.ensures.exact c.in-Ok.ensures.good
+    g.VariantIdx.Idx.MAX_INDEX g.met.VariantIdx.Idx.number_at c.requires.count c.args.discriminants.now c.in-Ok-layout_with_tag.tagged c.in-Ok.found c.in-Ok.ensures.good
     c.in-Ok-layout_with_tag.ensures.told)
 
 pub returns-in-Ok-layout_with_tag-clause-size : goal.returns-in-Ok-layout_with_tag-clause-size
 returns-in-Ok-layout_with_tag-clause-size g c =
     let asks : RangeFrom ℤ → RangeToInclusive ℕ → Integer × Bool → Type 0 = λ least greatest answer. g.D.Fn.post c.args.discr_range_of_repr (least, (greatest, tt)) answer in
     rw (c.better.ensures, c.data_layout.ensures) (better_size g.F.LayoutHandle.layout_of g.FieldIdx.Idx.at g.VariantIdx.Idx.at g.VariantIdx.Idx.number (g.Cx.HasDataLayout.target c.args.self.now.cx) c.args.repr.now c.args.variants.now
-    asks (counting_of g.VariantIdx.Idx.number c.args.repr.now (map (map g.F.LayoutHandle.layout_of) c.args.variants.now) c.args.discriminants.now) c.in-Ok-layout_with_tag.tagged c.in-Ok.found c.requires.data_layout c.requires.fields c.requires.some c.requires.unpacked c.in-Ok.ensures.exact c.in-Ok.ensures.good c.in-Ok-layout_with_tag.ensures.size)
+    asks (counting_of g.VariantIdx.Idx.number c.args.repr.now (map (map g.F.LayoutHandle.layout_of) c.args.variants.now) c.args.discriminants.now) c.in-Ok-layout_with_tag.tagged c.in-Ok.found c.requires.fields c.requires.some c.requires.unpacked c.in-Ok.ensures.good c.in-Ok-layout_with_tag.ensures.size)
 
 pub returns-in-Ok-layout_with_tag-clause-refused : goal.returns-in-Ok-layout_with_tag-clause-refused
 returns-in-Ok-layout_with_tag-clause-refused g c sized large =
