@@ -21,7 +21,7 @@ pub struct Asked {
     pub greatest: u128,
 }
 
-/// The discriminants that the iterator gives, so many at most.
+/// The discriminants that the iterator gives; there is room for `count` of them before any is asked for.
 pub fn listed<VariantIdx: Idx, I: Iterator<Item = (VariantIdx, u128)>>(
     alloc: Global,
     count: usize,
