@@ -1,6 +1,6 @@
 -- What an enum with a tag is answered with, by the lists of its variants.
-use Rattle.std.proofs.Common.{◌≡◌, ◌≢◌, ℕ, ◌+◌, ◌*◌, ◌%◌, ◌<◌, ◌≤◌, ◌∙◌, List, ap, arith, inl, inr, length, map, refl, subst, sym}
-use Rattle.std.specs.Prelude.{◌⊎◌, All, Bool, false, IfErr, IfOk, Option, None, Some, Result, Ok, Err, is_some, slice_index_or, unwrap_or}
+use Rattle.std.proofs.Common.{◌≡◌, ◌≢◌, ℕ, ◌+◌, ◌*◌, ◌%◌, ◌<◌, ◌≤◌, ◌∙◌, List, ap, arith, inl, inr, length, map, subst, sym}
+use Rattle.std.specs.Prelude.{◌⊎◌, All, Bool, IfErr, IfOk, Option, None, Some, Result, Ok, Err, slice_index_or, unwrap_or}
 use Rattle.std.specs.Int.{◌∣◌}
 use Rattle.std.specs.List.{AllPairs}
 use Rattle.std.proofs.lemmas.List.{get_or-map, length-map}
@@ -182,10 +182,3 @@ module _ {F V H : Type 0} (layout_of : H → LayoutData F V) (at : ℕ → F) (f
 
   pub list_refused : All AreSized (map (map layout_of) variants) → IsSized kind → IsFirstListError layout_of at first dl repr kind variants e ⊎ (e ≡ OutOfMemory) → IsAnswer {A = LayoutData F V} (Err SizeOverflow) (Err e)
   list_refused all sized fault = named (list_no_other all sized fault)
-
--- ---- packing
-
--- what isn't packed names no packing
-pub none_packed : {A : Type 0} (pack : Option A) (packed : Bool) → packed ≡ is_some pack → packed ≡ false → pack ≡ None
-none_packed None packed is other = refl
-none_packed (Some a) packed is other = cc

@@ -11,7 +11,7 @@ use Rattle.abi_base.specs.Integer.{integer_align, integer_size, integers, is_of_
 use Rattle.abi_scalar.specs.declared.layout_data.LayoutData.{LayoutData}
 use Rattle.abi_scalar.specs.declared.repr.ReprOptions.{ReprOptions}
 use Rattle.abi_scalar.specs.Order.{indices_by_offset}
-use Rattle.abi_calc.specs.Enums.Growth.{first_align, grown_tag, larger_integer, moved, start_align}
+use Rattle.abi_calc.specs.Enums.Growth.{first_align, grown_tag, larger_integer, start_align}
 use Rattle.abi_calc.specs.Enums.Lists.{AreListsOf, IsListOf}
 use Rattle.abi_calc.specs.Enums.Path.{is_free}
 use Rattle.abi_calc.specs.Part.{max_align}
@@ -122,22 +122,6 @@ grown_size dl repr asked start = by (is_free repr) refl
     by : (b : Bool) → is_free repr ≡ b → IsGrown dl repr asked start (if b then larger_integer asked (unwrap_or (find (is_of_align dl start) integers) asked) else asked)
     by true free = grows_if dl repr asked start (find (is_of_align dl start) integers) free refl
     by false fixed = stays dl repr asked start
-
--- ---- the moved fields
-
--- an offset behind the old tag is moved no further down
-pub moved_one : (old new offset : ℕ) → old ≤ new → offset ≤ moved old new offset
-moved_one old new offset grows = by (offset == old) refl
-  where
-    by : (b : Bool) → (offset == old) ≡ b → offset ≤ (if b then new else offset)
-    by true same = omega (arith, eqb-true offset old same)
-    by false other = omega arith
-
--- each of the moved offsets is no less than the one that it came from
-pub moved_up : (old new : ℕ) (offsets : List ℕ) → old ≤ new → (k d : ℕ) → k < length offsets → get_or offsets k d ≤ get_or (map (moved old new) offsets) k d
-moved_up old new [] grows k d short = absurd (omega arith)
-moved_up old new (o ∷ offsets) grows zero d short = moved_one old new o grows
-moved_up old new (o ∷ offsets) grows (suc k) d short = moved_up old new offsets grows k d (omega arith)
 
 -- ---- the field at a place
 

@@ -6,7 +6,6 @@ use Rattle.std.proofs.lemmas.Option.{get_or_from_slice_get, slice_get_cases}
 use Rattle.std.specs.List.{AllPairs, list_any}
 use Rattle.std.proofs.lemmas.List.FromFn.{get_or-range_with_len, length-range_with_len}
 use Rattle.std.proofs.lemmas.List.Kept.{AllPairs-filter}
-use Rattle.std.proofs.lemmas.List.{length-map}
 use Rattle.std.proofs.lemmas.List.Sorted.{IsPermutation-refl}
 use Rattle.std.proofs.lemmas.List.Elements.{All-cons, All-filter, All-head, All-nil, All-tail}
 use Rattle.abi_base.specs.declared.data_layout.TargetDataLayout.{TargetDataLayout}
@@ -49,13 +48,6 @@ some_of_any n (m ∷ ms) h = omega arith
 pub greatest_within : (ns : List ℕ) → 0 < length ns → last_greatest ns < length ns
 greatest_within [] some = absurd (omega arith)
 greatest_within (n ∷ ns) some = greatest_there n ns (list_any (λ m. nat_le n m) ns) (greatest_within ns) (some_of_any n ns)
-
--- and so the untagged variant is one of the variants
-pub untagged_within : {F V : Type 0} (lists : List (LayoutData F V)) → 0 < length lists → untagged_of lists < length lists
-untagged_within lists some =
-    let same : length (map (λ l. l.size) lists) ≡ length lists = length-map lists (λ l. l.size) in
-    let below : untagged_of lists < length (map (λ l. l.size) lists) = greatest_within (map (λ l. l.size) lists) (omega (arith, same, some)) in
-    omega (arith, same, below)
 
 -- ---- the span
 

@@ -19,12 +19,6 @@ use Rattle.abi_scalar.specs.Shape.{listed_offsets}
 
 -- ---- one variant
 
--- nothing beside a payload is that payload
-pub beside_nothing : (p : Payload) → beside p Nothing ≡ p
-beside_nothing Nothing = refl
-beside_nothing (One scalar offset) = refl
-beside_nothing Other = refl
-
 -- of three payloads it doesn't matter which two are taken together first
 pub beside_three : (p q r : Payload) → beside (beside p q) r ≡ beside p (beside q r)
 beside_three Nothing q r = refl

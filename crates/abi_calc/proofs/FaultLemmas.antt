@@ -109,14 +109,6 @@ no_memory_fault repr bound parts from (i ∷ is) e =
 
 -- ---- with the size
 
-pub fault_in-field : (repr : ListRepr) (bound : ℕ) (parts : List Part) (order : List ℕ) (fault : ListFault) → fault_from repr bound parts (start_of repr.pack repr.kind) order ≡ Some fault → fault_in repr bound parts order ≡ Some fault
-fault_in-field repr bound parts order fault e = ap (fault_or_size repr bound parts order) e
-
-pub fault_in-size : (repr : ListRepr) (bound : ℕ) (parts : List Part) (order : List ℕ) → fault_from repr bound parts (start_of repr.pack repr.kind) order ≡ None → bound ≤ size_in repr parts order → fault_in repr bound parts order ≡ Some TooLarge
-fault_in-size repr bound parts order e large =
-    let over : nat_lt (size_in repr parts order) bound ≡ false = grind (arith, nat_tests) in
-    ap (fault_or_size repr bound parts order) e ∙ rw over refl
-
 pub fault_in-none : (repr : ListRepr) (bound : ℕ) (parts : List Part) (order : List ℕ) → fault_from repr bound parts (start_of repr.pack repr.kind) order ≡ None → size_in repr parts order < bound → fault_in repr bound parts order ≡ None
 fault_in-none repr bound parts order e small =
     let below : nat_lt (size_in repr parts order) bound ≡ true = grind (arith, nat_tests) in

@@ -184,9 +184,6 @@ niche_bulky : (dl : TargetDataLayout) (p : Part) (own : Option Niche) (offset : 
 niche_bulky dl p None offset n h at = absurd at
 niche_bulky dl p (Some o) offset n h at = let r = readable_size dl o.value h.pointer in empty_not p.view p.size (omega (arith, h.inside, r.1))
 
-stands_more : (x k : ℕ) (xs : List ℕ) → StandsIn xs k → StandsIn (x ∷ xs) k
-stands_more x k xs s = (suc s.0, omega (arith, s.1), s.2)
-
 -- what stands in a list and meets the test stands among those that meet it
 filter_has : (P : ℕ → Bool) (xs : List ℕ) (k : ℕ) → P k ≡ true → StandsIn xs k → StandsIn (filter P xs) k
 filter_has P [] k e s = absurd (omega (arith, s.1))

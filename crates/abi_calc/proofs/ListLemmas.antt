@@ -1,5 +1,5 @@
 -- Lists of fields with layouts.
-use Rattle.std.proofs.Common.{◌≡◌, ℕ, ◌+◌, ◌-◌, ◌%◌, ◌^◌, ◌<◌, ◌≤◌, Bool, true, false, List, [], ◌∷◌, Option, None, Some, Err, inl, inr, length, map, take, refl, sym, ap, ap₂, subst, ◌∙◌, arith}
+use Rattle.std.proofs.Common.{◌≡◌, ℕ, ◌+◌, ◌-◌, ◌%◌, ◌^◌, ◌<◌, ◌≤◌, Bool, true, false, List, [], ◌∷◌, Option, None, Some, Err, inl, inr, length, map, take, refl, sym, ap, subst, ◌∙◌, arith}
 use Rattle.std.specs.Prelude.{◌⊎◌, All, IfSome, is_some, unwrap_or, if◌then◌else◌, sum_by}
 use Rattle.std.proofs.lemmas.List.{length-map, take-map}
 use Rattle.std.proofs.lemmas.List.Elements.{All-head, All-tail, All-nil, All-cons, All-get_or}
@@ -19,12 +19,11 @@ use Rattle.abi_scalar.specs.declared.error.LayoutCalculatorError.{LayoutCalculat
 use Rattle.abi_scalar.specs.declared.error.LayoutCalculatorError.TheVariants.{SizeOverflow, UnexpectedUnsized, OutOfMemory as NoMemory}
 use Rattle.abi_calc.specs.Answer.{IsAnswer}
 use Rattle.abi_calc.specs.Fault.{IsErrorOf, IsFaultIndex, fault_in}
-use Rattle.abi_calc.specs.List.{HasLawfulAligns, IsListError, list_seed, parts_of, unadjusted_of}
-use Rattle.abi_calc.specs.ListView.{list_view, transparent_align}
-use Rattle.abi_scalar.specs.Repr.{is_transparent}
+use Rattle.abi_calc.specs.List.{HasLawfulAligns, IsListError, list_seed, parts_of}
+use Rattle.abi_calc.specs.ListView.{list_view}
 use Rattle.abi_calc.specs.Order.{IsNamedOrder, movable}
 use Rattle.abi_calc.specs.Part.{IsLawfulPart, part_of}
-use Rattle.abi_calc.specs.Placement.{IsLawfulPrefix, IsLawfulRepr, IsNonEmptyIfUnsized, align_of, list_repr, own_align, unraised}
+use Rattle.abi_calc.specs.Placement.{IsLawfulPrefix, IsLawfulRepr, IsNonEmptyIfUnsized, list_repr, own_align}
 use Rattle.abi_calc.specs.Run.{IsFaultOf}
 use Rattle.abi_calc.proofs.FaultLemmas.{unsized_in}
 use Rattle.abi_calc.proofs.Lawful.{aggregate_small}
@@ -117,22 +116,6 @@ error_exact layout_of dl repr kind list fields fault error (inr m) h e = inr (me
 pub view_same : (dl : TargetDataLayout) (fixed fixed2 : Bool) (size align align2 : ℕ) (ps ps2 : List Part) (os os2 : List ℕ) → fixed ≡ fixed2 → align ≡ align2 → ps ≡ ps2 → os ≡ os2
     → list_view dl fixed size align ps os ≡ list_view dl fixed2 size align2 ps2 os2
 view_same dl fixed fixed2 size align align2 ps ps2 os os2 a b c d = rw (a, b, c, d) refl
-
-pub unadjusted_then : (dl : TargetDataLayout) (repr : ReprOptions) (kind : StructKind) (size align abi : ℕ) (ps ps2 : List Part) → is_transparent repr ≡ true → align ≡ abi → ps ≡ ps2
-    → transparent_align size align ps ≡ unadjusted_of dl repr kind size abi ps2
-unadjusted_then dl repr kind size align abi ps ps2 t a p = rw (a, p) (if_then (is_transparent repr) (transparent_align size abi ps2) (align_of (unraised dl repr kind) ps2) t)
-  where
-    if_then : (b : Bool) (x y : ℕ) → b ≡ true → x ≡ (if b then x else y)
-    if_then true x y e = refl
-    if_then false x y e = cc
-
-pub unadjusted_else : (dl : TargetDataLayout) (repr : ReprOptions) (kind : StructKind) (size abi : ℕ) (r : ListRepr) (ps ps2 : List Part) → is_transparent repr ≡ false → r ≡ unraised dl repr kind → ps ≡ ps2
-    → align_of r ps ≡ unadjusted_of dl repr kind size abi ps2
-unadjusted_else dl repr kind size abi r ps ps2 t a p = ap₂ align_of a p ∙ if_else (is_transparent repr) (transparent_align size abi ps2) (align_of (unraised dl repr kind) ps2) t
-  where
-    if_else : (b : Bool) (x y : ℕ) → b ≡ false → y ≡ (if b then x else y)
-    if_else true x y e = cc
-    if_else false x y e = refl
 
 movable-map : {F V H : Type 0} (layout_of : H → LayoutData F V) (kind : StructKind) (fields : List H) → map layout_of (movable kind fields) ≡ movable kind (map layout_of fields)
 movable-map layout_of AlwaysSized fields = refl

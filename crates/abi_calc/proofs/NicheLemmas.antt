@@ -22,10 +22,6 @@ use Rattle.abi_calc.specs.List.{parts_of}
 use Rattle.abi_calc.specs.Part.{part_of}
 use Rattle.abi_calc.specs.Placement.{no_part}
 
--- a choice of two niches by a test
-pick : (b : Bool) (x y : Niche) → Option Niche
-pick b x y = if b then Some y else Some x
-
 larger_by : (dl : TargetDataLayout) (x : Option Niche) (b : Bool) (y z : Niche) → larger_niche dl x (if b then Some z else Some y) ≡ (if b then larger_niche dl x (Some z) else larger_niche dl x (Some y))
 larger_by dl x true y z = refl
 larger_by dl x false y z = refl

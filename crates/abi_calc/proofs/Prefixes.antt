@@ -1,5 +1,5 @@
--- Lists behind a prefix: a smaller one, aligned to no more, makes no list larger, in the same order.
-use Rattle.std.proofs.Common.{ℕ, ◌^◌, ◌≤◌, Bool, List, [], ◌∷◌, Option, None, Some, arith, max}
+-- Lists behind a prefix: a list without one is no larger, in the same order.
+use Rattle.std.proofs.Common.{ℕ, ◌^◌, ◌≤◌, Bool, List, [], ◌∷◌, Option, arith, max}
 use Rattle.std.specs.Int.{next_multiple_of}
 use Rattle.std.proofs.Math.Nat.{dvd_trans}
 use Rattle.abi_base.specs.declared.data_layout.TargetDataLayout.{TargetDataLayout}
@@ -8,7 +8,7 @@ use Rattle.abi_base.specs.declared.struct_kind.StructKind.TheVariants.{AlwaysSiz
 use Rattle.abi_scalar.specs.declared.layout_data.LayoutData.{LayoutData}
 use Rattle.abi_scalar.specs.declared.repr.ReprOptions.{ReprOptions}
 use Rattle.abi_calc.specs.declared.part.Part.{Part}
-use Rattle.abi_calc.specs.Least.{align_by, size_by}
+use Rattle.abi_calc.specs.Least.{size_by}
 use Rattle.abi_calc.specs.List.{parts_of}
 use Rattle.abi_calc.specs.Placement.{align_of, cut, in_order, list_repr, prefix_align, size_in, start_of}
 use Rattle.abi_calc.proofs.Ends.{end_from-mono}
@@ -21,10 +21,6 @@ round_lower m n low high le h =
     let s = rounded_to n high in
     let up : n ≤ next_multiple_of n (2 ^ high) = s.above in
     (rounded_to m low).least _ (dvd_trans (2 ^ low) (pow_dvd low high h) s.multiple) (omega arith)
-
-cut_mono : (pack : Option ℕ) (a b : ℕ) → a ≤ b → cut pack a ≤ cut pack b
-cut_mono None a b h = h
-cut_mono (Some pack) a b h = omega arith
 
 greatest_mono : (f : Part → ℕ) (a b : ℕ) (parts : List Part) → a ≤ b → greatest f a parts ≤ greatest f b parts
 greatest_mono f a b [] h = h
@@ -48,20 +44,6 @@ size_in-grows pack align reorderable kind larger parts order starts aligns =
     round_lower _ _ _ _ (end_from-mono pack (start_of pack kind) (start_of pack larger) (in_order parts order) starts) (align_of-grows pack align reorderable kind larger parts aligns)
 
 -- ---- lists of fields
-
--- a list's alignment grows with its prefix's
-pub align_by-grows : {F V : Type 0} (dl : TargetDataLayout) (repr : ReprOptions) (fields : List (LayoutData F V)) (m n a b : ℕ) → a ≤ b
-    → align_by dl repr (Prefixed m a) fields ≤ align_by dl repr (Prefixed n b) fields
-align_by-grows dl repr fields m n a b h =
-    align_of-grows repr.pack (list_repr dl repr AlwaysSized).align (list_repr dl repr AlwaysSized).reorderable (Prefixed m a) (Prefixed n b) (parts_of dl fields) (cut_mono repr.pack a b h)
-
--- in the same order a list is no larger behind a prefix that is no larger and aligned to no more
-pub size_by-grows : {F V : Type 0} (dl : TargetDataLayout) (repr : ReprOptions) (fields : List (LayoutData F V)) (order : List ℕ) (m n a b : ℕ) → m ≤ n → a ≤ b
-    → size_by dl repr (Prefixed m a) fields order ≤ size_by dl repr (Prefixed n b) fields order
-size_by-grows dl repr fields order m n a b le h =
-    let aligns : cut repr.pack a ≤ cut repr.pack b = cut_mono repr.pack a b h in
-    size_in-grows repr.pack (list_repr dl repr AlwaysSized).align (list_repr dl repr AlwaysSized).reorderable (Prefixed m a) (Prefixed n b) (parts_of dl fields) order
-    (round_lower m n (cut repr.pack a) (cut repr.pack b) le aligns) aligns
 
 -- and a list without a prefix is no larger than behind one
 pub size_by-prefixed : {F V : Type 0} (dl : TargetDataLayout) (repr : ReprOptions) (fields : List (LayoutData F V)) (order : List ℕ) (n b : ℕ)

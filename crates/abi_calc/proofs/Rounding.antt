@@ -40,12 +40,6 @@ rounded_by n m p (inr q) =
 pub rounded : (n m : ℕ) → 0 < m → IsRounded n m (next_multiple_of n m)
 rounded n m p = rounded_by n m p (⊎_elim (λ l. inr l) (λ l. inl (omega arith)) (cases_lt 0 (n % m)))
 
-pub rounded_unique : (n m r s : ℕ) → IsRounded n m r → IsRounded n m s → r ≡ s
-rounded_unique n m r s a b =
-    let one : r ≤ s = a.least s b.multiple b.above in
-    let two : s ≤ r = b.least r a.multiple a.above in
-    omega arith
-
 -- a lower power of two divides a higher one
 pub pow_dvd : (i j : ℕ) → i ≤ j → 2 ^ i ∣ 2 ^ j
 pow_dvd i j h =

@@ -152,8 +152,3 @@ module _ {F V H : Type 0} (layout_of : H → LayoutData F V) (first : V) (field 
       → IsVectorTooLarge dl (layout_of h) count packed
   vector_large result (inl e) is = tells_size.0 (sym e ∙ is)
   vector_large result (inr e) is = let bad : Err OutOfMemory ≡ Err SizeOverflow = sym e ∙ is in absurd (cc)
-
-  pub vector_refused : (result : Result (LayoutData F V) (LayoutCalculatorError H)) → IsAnswer (simd_answer layout_of first field dl h count packed) result
-      → IsVectorTooLarge dl (layout_of h) count packed → IsAnswer (Err SizeOverflow) result
-  vector_refused result (inl e) large = inl (e ∙ tells_size.1 large)
-  vector_refused result (inr e) large = inr e

@@ -14,11 +14,10 @@ use Rattle.abi_base.specs.declared.primitive.Primitive.{Primitive}
 use Rattle.abi_base.specs.declared.primitive.Primitive.TheVariants.{Int, Float, Pointer}
 use Rattle.abi_base.specs.DataLayout.{IsLawfulDataLayout}
 use Rattle.abi_base.specs.Primitive.{KnowsPrimitive, primitive_size, primitive_align, IsLawfulPrimitive}
-use Rattle.abi_scalar.specs.declared.backend_repr.BackendRepr.TheVariants.{Memory}
 use Rattle.abi_scalar.specs.declared.scalar.Scalar.{Scalar}
 use Rattle.abi_scalar.specs.Scalar.{primitive_of, scalar_size, scalar_align, IsLawfulScalar}
 use Rattle.abi_calc.specs.declared.part.Part.{Part}
-use Rattle.abi_calc.specs.ListView.{bulky_align, bulky_parts, bulky_view, is_bulky, one_view, part_at, two_view}
+use Rattle.abi_calc.specs.ListView.{bulky_parts, bulky_view, is_bulky, part_at, two_view}
 use Rattle.abi_calc.proofs.NicheLemmas.{readable_size}
 use Rattle.abi_calc.specs.Placement.{no_part, source_order}
 
@@ -61,18 +60,11 @@ filter_all : (P : ℕ → Bool) (Q : ℕ → Type 0) (xs : List ℕ) → All Q x
 filter_all P Q [] all = All-nil Q
 filter_all P Q (x ∷ xs) all = kept_all (P x) Q x (filter P xs) (λ e. All-head Q x xs all) (filter_all P Q xs (All-tail Q x xs all))
 
-filter_true : (P : ℕ → Bool) (xs : List ℕ) → All (λ i. P i ≡ true) (filter P xs)
-filter_true P [] = All-nil (λ i. P i ≡ true)
-filter_true P (x ∷ xs) = kept_all (P x) (λ i. P i ≡ true) x (filter P xs) (λ e. e) (filter_true P xs)
-
 source_within : (n : ℕ) → All (λ i. i < n) (source_order n)
 source_within n k d h = let short : k < n = omega (arith, length-range_with_len 0 n) in omega (arith, get_or-range_with_len 0 n k d short)
 
 pub bulky_within : (parts : List Part) → All (λ i. i < length parts) (bulky_parts parts)
 bulky_within parts = filter_all (λ i. is_bulky (part_at parts i)) (λ i. i < length parts) (source_order (length parts)) (source_within (length parts))
-
-pub bulky_are : (parts : List Part) → All (λ i. is_bulky (part_at parts i) ≡ true) (bulky_parts parts)
-bulky_are parts = filter_true (λ i. is_bulky (part_at parts i)) (source_order (length parts))
 
 -- ---- lists of one or two
 
@@ -86,18 +78,6 @@ two_listed [] e = cc
 two_listed (x ∷ []) e = absurd (omega arith)
 two_listed (x ∷ y ∷ []) e = refl
 two_listed (x ∷ y ∷ z ∷ xs) e = absurd (omega arith)
-
-pub others_listed : (dl : TargetDataLayout) (fixed : Bool) (size align : ℕ) (parts : List Part) (offsets : List ℕ) (xs : List ℕ) → (length xs ≡ 1 → ⊥) → (length xs ≡ 2 → ⊥)
-    → Memory true ≡ bulky_view dl fixed size align parts offsets xs
-others_listed dl fixed size align parts offsets [] one two = refl
-others_listed dl fixed size align parts offsets (x ∷ []) one two = absurd (one refl)
-others_listed dl fixed size align parts offsets (x ∷ y ∷ []) one two = absurd (two refl)
-others_listed dl fixed size align parts offsets (x ∷ y ∷ z ∷ xs) one two = refl
-
-pub unlisted_align : (align : ℕ) (parts : List Part) (xs : List ℕ) → (length xs ≡ 1 → ⊥) → align ≡ bulky_align align parts xs
-unlisted_align align parts [] one = refl
-unlisted_align align parts (x ∷ []) one = absurd (one refl)
-unlisted_align align parts (x ∷ y ∷ xs) one = refl
 
 -- ---- scalars are small
 
@@ -128,10 +108,3 @@ pub two_read : (dl : TargetDataLayout) (fixed : Bool) (size align : ℕ) (parts 
 two_read dl fixed size align parts offsets bulky first second one other e f s o t =
     let P : List ℕ → Type 0 = λ xs. two_view dl size align (get_or offsets (get_or bulky 0 0) 0) (part_at parts (get_or bulky 0 0)).view (get_or offsets (get_or bulky 1 0) 0) (part_at parts (get_or bulky 1 0)).view ≡ bulky_view dl fixed size align parts offsets xs in
     rw (f, s, o, t) (subst P (sym (two_listed bulky e)) refl)
-
-pub one_read : (dl : TargetDataLayout) (fixed : Bool) (size align : ℕ) (parts : List Part) (offsets bulky : List ℕ) (first : ℕ) (one : Part) → length bulky ≡ 1
-    → first ≡ get_or offsets (get_or bulky 0 0) 0 → one ≡ part_at parts (get_or bulky 0 0)
-    → one_view fixed size align first one ≡ bulky_view dl fixed size align parts offsets bulky
-one_read dl fixed size align parts offsets bulky first one e f o =
-    let P : List ℕ → Type 0 = λ xs. one_view fixed size align (get_or offsets (get_or bulky 0 0) 0) (part_at parts (get_or bulky 0 0)) ≡ bulky_view dl fixed size align parts offsets xs in
-    rw (f, o) (subst P (sym (one_listed bulky e)) refl)
