@@ -48,3 +48,4 @@ pub mod EnumDiscriminants
 pub mod EnumSingle
 pub mod EnumGrowth
 pub mod EnumPayload
+pub mod OneRange
