@@ -49,3 +49,4 @@ pub mod EnumSingle
 pub mod EnumGrowth
 pub mod EnumPayload
 pub mod OneRange
+pub mod OneEnum

@@ -1,5 +1,5 @@
 -- There is one least range of some values.
-use Rattle.std.proofs.Common.{◌≡◌, ◌≢◌, ℕ, ◌+◌, ◌<◌, ◌≤◌, List, [], ◌∷◌, Option, Some, None, Bool, true, false, nat_eq, length, get_or, arith, inl, inr, refl, sym, ap, ◌∙◌, subst}
+use Rattle.std.proofs.Common.{◌≡◌, ◌≢◌, ℕ, ◌+◌, ◌<◌, ◌≤◌, List, Option, Some, None, false, nat_eq, length, get_or, arith, inl, inr, refl, sym, ap, ◌∙◌}
 use Rattle.std.specs.Prelude.{◌%◌, All, map, unwrap_or}
 use Rattle.std.specs.List.{AllPairs, IsDistinct}
 use Rattle.std.specs.Cmp.{nat_eq_equiv}
@@ -11,9 +11,9 @@ use Rattle.abi_scalar.specs.declared.wrapping_range.WrappingRange.{WrappingRange
 use Rattle.abi_scalar.specs.Range.{AreWithin, IsIn, numbers_of, steps_between}
 use Rattle.abi_scalar.specs.Count.{AreSoMany}
 use Rattle.abi_scalar.specs.LeastRange.{IsLeastRange, IsNoWorse, IsPreferred, IsSmallestOf}
-use Rattle.abi_calc.specs.Enums.Discriminants.{IsTagRange}
 use Rattle.abi_scalar.proofs.CountLemmas.{range_counted}
 use Rattle.abi_scalar.proofs.RangeLemmas.{between_from_in, in_from_between, steps_are}
+use Rattle.abi_calc.specs.Enums.Discriminants.{IsTagRange}
 
 -- ---- a set has one number of members
 
@@ -72,9 +72,9 @@ plain_one width values a b some s t p q first last =
     let meet : WrappingRange = from_to b.start a.end in
     let within : AreWithin width meet = (t.within.0, s.within.1) in
     let holds : All (IsIn width meet) values = λ i d l.
-        let x = plain_in width a (get_or values i d) s.within p (s.holds i d l) in
-        let y = plain_in width b (get_or values i d) t.within q (t.holds i d l) in
-        in_from_between width meet (get_or values i d) within (omega (arith, x.1, s.within.1)) (inl (omega (arith, x, y), y.0, x.1)) in
+    let x = plain_in width a (get_or values i d) s.within p (s.holds i d l) in
+    let y = plain_in width b (get_or values i d) t.within q (t.holds i d l) in
+    in_from_between width meet (get_or values i d) within (omega (arith, x.1, s.within.1)) (inl (omega (arith, x, y), y.0, x.1)) in
     let worse = told width a meet s.within within (s.least meet within holds) in
     let d = steps_are width a.start a.end s.within.0 s.within.1 in
     let e = steps_are width b.start a.end t.within.0 s.within.1 in
