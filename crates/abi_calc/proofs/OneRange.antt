@@ -1,8 +1,11 @@
--- There is one least range of some values.
-use Rattle.std.proofs.Common.{◌≡◌, ◌≢◌, ℕ, ◌+◌, ◌<◌, ◌≤◌, List, Option, Some, None, false, nat_eq, length, get_or, arith, inl, inr, refl, sym, ap, ◌∙◌}
+-- Some values have a least range, and one only.
+use Rattle.std.proofs.Common.{◌≡◌, ◌≢◌, ℕ, zero, suc, subst, [], ◌∷◌, ◌-◌, ◌+◌, ◌<◌, ◌≤◌, List, Option, Some, None, false, nat_eq, length, get_or, arith, inl, inr, refl, sym, ap, ◌∙◌}
 use Rattle.std.specs.Prelude.{◌%◌, All, map, unwrap_or}
 use Rattle.std.specs.List.{AllPairs, IsDistinct}
-use Rattle.std.specs.Cmp.{nat_eq_equiv}
+use Rattle.std.specs.List.Sorted.{IsNonDecreasing}
+use Rattle.std.specs.Cmp.{nat_cmp_total, nat_eq_equiv}
+use Rattle.std.specs.Ordering.{is_lt, nat_cmp}
+use Rattle.std.proofs.lemmas.List.Sorted.{All-permutation, IsNonDecreasingBy-from_sort, length_permutation, ranks_by}
 use Rattle.std.proofs.lemmas.Bool.{cases_lt}
 use Rattle.std.proofs.lemmas.Bool.Decides.{Decides-eqb, eqb_tells}
 use Rattle.std.proofs.lemmas.Map.Keys.{IsDistinct-from_apart}
@@ -12,8 +15,11 @@ use Rattle.abi_scalar.specs.Range.{AreWithin, IsIn, numbers_of, steps_between}
 use Rattle.abi_scalar.specs.Count.{AreSoMany}
 use Rattle.abi_scalar.specs.LeastRange.{IsLeastRange, IsNoWorse, IsPreferred, IsSmallestOf}
 use Rattle.abi_scalar.proofs.CountLemmas.{range_counted}
+use Rattle.abi_scalar.proofs.LeastLemmas.{IsBestSoFar, best_first, best_kept, best_taken, least_from_best, least_in_order}
 use Rattle.abi_scalar.proofs.RangeLemmas.{between_from_in, in_from_between, steps_are}
 use Rattle.abi_calc.specs.Enums.Discriminants.{IsTagRange}
+use Rattle.abi_calc.proofs.EnumDiscriminants.{cut_within}
+use Rattle.abi_calc.proofs.SomeOrder.{some_sorted_list}
 
 -- ---- a set has one number of members
 
@@ -135,3 +141,68 @@ pub one_tag_range : (width : ℕ) (values : List ℕ) (range other : WrappingRan
 one_tag_range width values range other h k =
     let same : h.0 ≡ k.0 = one_smallest width (map (λ v. v % numbers_of width) values) h.0 k.0 h.1 k.1 in
     h.2 ∙ ap (λ found. unwrap_or found (from_to 0 0)) same ∙ sym k.2
+
+-- ---- there is a best range
+
+-- the best range that is known from the gaps among the first k values
+abbrev HasBest : (all : ℕ) (xs : List ℕ) (k : ℕ) → Type 0
+HasBest all xs k = (range : WrappingRange) × (fewest : ℕ) × IsBestSoFar all xs k range.start range.end fewest
+
+module _ (all : ℕ) (xs : List ℕ) (sorted : IsNonDecreasing xs) (some : 0 < length xs) (below : All (λ v. v < all) xs) where
+  best_of_one : HasBest all xs 1
+  best_of_one =
+      let start = get_or xs 0 0 in
+      let end = get_or xs (length xs - 1) 0 in
+      let order : start ≤ end = sorted 0 (length xs - 1) 0 (omega arith) (omega (arith, some)) in
+      (from_to start end, end - start, best_first all xs start end (end - start) (refl, refl, omega (arith, order)))
+
+  best_of_more : (k : ℕ) → 1 ≤ k → k < length xs → HasBest all xs k → HasBest all xs (k + 1)
+  best_of_more k low high best =
+      let range = best.0 in
+      let fewest = best.1 in
+      let end = get_or xs (k - 1) 0 in
+      let start = get_or xs k 0 in
+      let small : start < all = below k 0 high in
+      elim (cases_lt end start) [
+        | inl gap ↦ elim (cases_lt (end + all - start) fewest) [
+          | inl shorter ↦ (
+            from_to start end,
+            end + all - start,
+            best_taken all xs k range.start range.end fewest start end (end + all - start) low high best.2 refl refl gap (omega (arith, small)) shorter,
+          )
+          | inr longer ↦ (range, fewest, best_kept all xs k range.start range.end fewest sorted low high best.2 (λ up. omega (arith, longer, small)))
+        ]
+        | inr none ↦ (range, fewest, best_kept all xs k range.start range.end fewest sorted low high best.2 (λ up. absurd (omega (arith, up, none))))
+      ]
+
+  best_of_all : (m k : ℕ) → k ≡ suc m → k ≤ length xs → HasBest all xs k
+  best_of_all zero k e h = subst (HasBest all xs) (sym e) best_of_one
+  best_of_all (suc m) k e h =
+      let before : HasBest all xs (k - 1) = best_of_all m (k - 1) (omega arith) (omega arith) in
+      subst (HasBest all xs) (omega arith) (best_of_more (k - 1) (omega arith) (omega arith) before)
+
+-- ascending values have a least range
+some_least_sorted : (width : ℕ) (xs : List ℕ) → IsNonDecreasing xs → 0 < length xs → All (λ v. v < numbers_of width) xs → (range : WrappingRange) × IsLeastRange width xs range
+some_least_sorted width xs sorted some below =
+    let best = best_of_all (numbers_of width) xs sorted some below (length xs - 1) (length xs) (omega (arith, some)) (omega arith) in
+    (best.0, least_from_best width xs best.0 best.1 sorted some below best.2)
+
+-- some values have a least range
+pub some_least : (width : ℕ) (values : List ℕ) → 0 < length values → All (λ v. v < numbers_of width) values → (range : WrappingRange) × IsLeastRange width values range
+some_least width values some below =
+    let found = some_sorted_list (λ x y. is_lt (nat_cmp x y)) (ranks_by nat_cmp_total (λ x. x)) values in
+    let xs = found.0 in
+    let long = length_permutation values xs found.1 in
+    let least = some_least_sorted width xs (IsNonDecreasingBy-from_sort (λ x. x) xs found.2) (omega (arith, some, long)) (All-permutation (λ v. v < numbers_of width) values xs found.1 below) in
+    (least.0, least_in_order width values xs least.0 found.1 least.1)
+
+-- there is a least range of the values, or nothing where there are none
+pub some_smallest : (width : ℕ) (values : List ℕ) → All (λ v. v < numbers_of width) values → (found : Option WrappingRange) × IsSmallestOf width values found
+some_smallest width [] below = (None, refl)
+some_smallest width (v ∷ values) below = let least = some_least width (v ∷ values) (omega arith) below in (Some least.0, (omega arith, least.1))
+
+-- a tag has a range
+pub some_tag_range : (width : ℕ) (values : List ℕ) → (range : WrappingRange) × IsTagRange width values range
+some_tag_range width values =
+    let found = some_smallest width (map (λ v. v % numbers_of width) values) (cut_within width values) in
+    (unwrap_or found.0 (from_to 0 0), (found.0, found.1, refl))
