@@ -50,3 +50,4 @@ pub mod EnumGrowth
 pub mod EnumPayload
 pub mod OneRange
 pub mod OneEnum
+pub mod SomeEnum

@@ -1,7 +1,6 @@
 -- A type with variants has one answer, memory aside.
 use Rattle.std.proofs.Common.{◌≡◌, ℕ, zero, suc, ◌<◌, ◌≤◌, List, [], ◌∷◌, Option, Some, None, Bool, true, false, length, map, arith, inl, inr, refl, sym, ap, ◌∙◌, subst}
 use Rattle.std.specs.Prelude.{◌==◌, ◌||◌, All, IsSome, ℤ, pos, ◌≤ℤ◌, Result, Ok, Err, if◌then◌else◌, slice_get, slice_index_or}
-use Rattle.std.proofs.lemmas.List.{length-map}
 use Rattle.std.proofs.lemmas.List.Elements.{All-head, All-tail}
 use Rattle.std.proofs.lemmas.Int.{ints}
 use Rattle.abi_base.specs.declared.data_layout.TargetDataLayout.{TargetDataLayout}
@@ -24,7 +23,6 @@ use Rattle.abi_calc.specs.declared.enums.path.Path.{Path}
 use Rattle.abi_calc.specs.declared.enums.path.Path.TheVariants.{NoValue, OneList, Several}
 use Rattle.abi_calc.specs.Fault.{IsErrorOf, fault_in}
 use Rattle.abi_calc.specs.List.{IsListAnswer, IsListError, parts_of}
-use Rattle.abi_calc.specs.Part.{part_of}
 use Rattle.abi_calc.specs.Placement.{IsNonEmptyIfUnsized, IsSized, list_repr}
 use Rattle.abi_calc.specs.Enums.Lists.{AreListLayouts, IsFirstListError, behind_tag}
 use Rattle.abi_calc.specs.Enums.Answer.{IsTypeAnswer, kind_at}
@@ -36,6 +34,7 @@ use Rattle.abi_calc.specs.Enums.Path.{variant_at}
 use Rattle.abi_calc.specs.Enums.Several.{IsAskedAnswer, IsAskedFor, IsEnumAnswer, IsSeveralAnswer, better_of}
 use Rattle.abi_calc.specs.Enums.Single.{IsSingleAnswer, single_kind, single_layout}
 use Rattle.abi_calc.specs.Enums.Tagged.{IsTaggedAnswer, IsTaggedBy, lists_size, tagged_layout}
+use Rattle.abi_calc.proofs.ListLemmas.{length-parts}
 use Rattle.abi_calc.proofs.OneOrder.{never_refused, one_layout, one_named}
 use Rattle.abi_calc.proofs.OneRange.{one_tag_range}
 
@@ -70,8 +69,8 @@ all_full kind variants h = λ k d short. full_at kind (length (slice_index_or va
 
 module _ {H : Type 0} (layout_of : H → LayoutData ℕ ℕ) (dl : TargetDataLayout) (repr : ReprOptions) (kind : StructKind) where
   -- what is asked of these fields
-  full_parts : (fields : List H) → IsNonEmptyIfUnsized kind (length fields) → IsNonEmptyIfUnsized kind (length (parts_of dl (map layout_of fields)))
-  full_parts fields some = subst (IsNonEmptyIfUnsized kind) (sym (length-map (map layout_of fields) (λ f. part_of dl f) ∙ length-map fields layout_of)) some
+  pub full_parts : (fields : List H) → IsNonEmptyIfUnsized kind (length fields) → IsNonEmptyIfUnsized kind (length (parts_of dl (map layout_of fields)))
+  full_parts fields some = subst (IsNonEmptyIfUnsized kind) (sym (length-parts layout_of dl fields)) some
 
   pub one_list_layout : (fields : List H) (a b : LayoutData ℕ ℕ) → IsNonEmptyIfUnsized kind (length fields)
       → IsListAnswer layout_of (λ i. i) 0 dl repr kind fields (Ok a) → IsListAnswer layout_of (λ i. i) 0 dl repr kind fields (Ok b) → a ≡ b
