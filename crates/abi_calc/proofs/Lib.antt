@@ -51,3 +51,4 @@ pub mod EnumPayload
 pub mod OneRange
 pub mod OneEnum
 pub mod SomeEnum
+pub mod SameType
