@@ -48,3 +48,7 @@ pub mod EnumDiscriminants
 pub mod EnumSingle
 pub mod EnumGrowth
 pub mod EnumPayload
+pub mod OneRange
+pub mod OneEnum
+pub mod SomeEnum
+pub mod SameType

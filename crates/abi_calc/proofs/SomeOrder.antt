@@ -94,6 +94,10 @@ module _ {X : Type 0} (lt : X → X → Bool) (o : IsStrictWeakOrder lt) where
   sort_rises [] = tt
   sort_rises (x ∷ xs) = insert_rises x (sort xs) (sort_rises xs)
 
+  -- the list can be sorted
+  pub some_sorted_list : (xs : List X) → (ys : List X) × IsPermutation xs ys × IsSortedBy lt ys
+  some_sorted_list xs = (sort xs, sort_permutes xs, rises_sorted (sort xs) (sort_rises xs))
+
   -- neither is less
   no_less : (a b : Bool) → not a && not b ≡ true → (a ≡ false) × (b ≡ false)
   no_less true b h = absurd (cc)
