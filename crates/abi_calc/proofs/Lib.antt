@@ -26,6 +26,7 @@ pub mod EnumLists
 pub mod EnumTagged
 pub mod EnumSizes
 pub mod EnumAnswers
+pub mod GoodLists
 pub mod EnumNiche
 pub mod EnumInNiche
 pub mod EnumLess
