@@ -35,6 +35,7 @@ pub mod EnumNicheLawful
 pub mod EnumRoom
 pub mod EnumTold
 pub mod EnumSeveral
+pub mod EnumDeep
 pub mod EnumType
 pub mod EnumPlaces
 pub mod EnumViews
