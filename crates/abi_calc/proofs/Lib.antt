@@ -26,6 +26,7 @@ pub mod EnumLists
 pub mod EnumTagged
 pub mod EnumSizes
 pub mod EnumAnswers
+pub mod GoodLists
 pub mod EnumNiche
 pub mod EnumInNiche
 pub mod EnumLess
@@ -34,6 +35,7 @@ pub mod EnumNicheLawful
 pub mod EnumRoom
 pub mod EnumTold
 pub mod EnumSeveral
+pub mod EnumDeep
 pub mod EnumType
 pub mod EnumPlaces
 pub mod EnumViews
