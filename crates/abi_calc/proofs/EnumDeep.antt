@@ -30,7 +30,7 @@ use Rattle.abi_calc.specs.declared.enums.payload.Payload.TheVariants.{Nothing, O
 use Rattle.abi_calc.specs.Answer.{IsAnswer}
 use Rattle.abi_calc.specs.Enums.Answer.{HasOneEach}
 use Rattle.abi_calc.specs.Enums.Beside.{AreToldApart, IsToldByTag}
-use Rattle.abi_calc.specs.Enums.Choice.{IsGoodNicheAnswer, IsNicheAnswer, better, takes_niche}
+use Rattle.abi_calc.specs.Enums.Choice.{IsNicheAnswer, better, takes_niche}
 use Rattle.abi_calc.specs.Enums.Discriminants.{counting_of}
 use Rattle.abi_calc.specs.Enums.Growth.{grown_tag, start_align}
 use Rattle.abi_calc.specs.Enums.Lists.{AreGoodLists, AreListLayouts, behind_tag}
@@ -180,18 +180,16 @@ module _ {H : Type 0} (layout_of : H → LayoutData ℕ ℕ) (dl : TargetDataLay
   -- ---- the layout with a niche
 
   abbrev IsNiche : Option (LayoutData ℕ ℕ) → Type 0
-  IsNiche found = IsNicheAnswer layout_of (λ i. i) (λ i. i) dl repr variants found
+  IsNiche found = IsNicheAnswer AreListLayouts layout_of (λ i. i) (λ i. i) dl repr variants found
 
   -- the lists that it comes from are good
   good_alone : (lists : List (LayoutData ℕ ℕ)) → AreListLayouts layout_of (λ i. i) 0 dl repr AlwaysSized variants lists → AreGoodLists layout_of (λ i. i) 0 dl repr AlwaysSized variants lists
   good_alone lists h = good_lists layout_of (λ i. i) 0 dl repr AlwaysSized variants lists law fields aligns tt tt h
 
-  good_niche : (found : Option (LayoutData ℕ ℕ)) → IsNiche found → is_free repr ≡ true → IsGoodNicheAnswer layout_of (λ i. i) (λ i. i) dl repr variants found
-  good_niche found (inl fixed) free = absurd (cc fixed.0)
-  good_niche found (inr (inl none)) free = inl (none.1, none.2, none.3)
-  good_niche found (inr (inr h)) free =
-      let good = good_alone h.1 h.2 in
-      inr (h.1, good, good_lawful layout_of (λ i. i) 0 dl repr AlwaysSized variants h.1 good, h.3)
+  good_niche : (found : Option (LayoutData ℕ ℕ)) → IsNiche found → IsNicheAnswer AreGoodLists layout_of (λ i. i) (λ i. i) dl repr variants found
+  good_niche found (inl fixed) = inl fixed
+  good_niche found (inr (inl none)) = inr (inl none)
+  good_niche found (inr (inr h)) = inr (inr (h.0, h.1, good_alone h.1 h.2, h.3))
 
   -- what holds of the layout with a tag, and of one with a niche, holds of the better one
   better_holds : (P : LayoutData ℕ ℕ → Type 0) (tagged : LayoutData ℕ ℕ) (found : Option (LayoutData ℕ ℕ)) → IsNiche found → P tagged
@@ -200,7 +198,7 @@ module _ {H : Type 0} (layout_of : H → LayoutData ℕ ℕ) (dl : TargetDataLay
   better_holds P tagged None niche one other = one
   better_holds P tagged (Some l) niche one other =
       let h : IsFound layout_of (λ i. i) (λ i. i) (λ v. v) dl repr variants l
-      = found_of layout_of (λ i. i) (λ i. i) (λ v. v) dl repr variants (Some l) l refl (is_free repr) refl niche (good_niche (Some l) niche) in
+      = found_of layout_of (λ i. i) (λ i. i) (λ v. v) dl repr variants (Some l) l refl (good_niche (Some l) niche) in
       by_both P (takes_niche dl tagged l) l tagged (λ takes. other h.lists l (good_exact layout_of (λ i. i) 0 dl repr AlwaysSized variants h.lists h.good) h.is) (λ leaves. one)
 
   -- ---- the answer
@@ -236,14 +234,14 @@ module _ {H : Type 0} (layout_of : H → LayoutData ℕ ℕ) (dl : TargetDataLay
   enum_lawful l h =
       let b = from_answer l h in
       subst (IsLawfulLayout dl) b.same
-      (better_lawful layout_of (λ i. i) (λ i. i) (λ v. v) dl repr variants b.tagged b.found law b.niche (good_niche b.found b.niche) (tagged_lawful b.asked b.signed b.tagged b.unpacked b.with_tag))
+      (better_lawful layout_of (λ i. i) (λ i. i) (λ v. v) dl repr variants b.tagged b.found law (good_niche b.found b.niche) (tagged_lawful b.asked b.signed b.tagged b.unpacked b.with_tag))
 
   -- a tag or a niche tells its variants apart
   pub enum_told : (l : LayoutData ℕ ℕ) → Answers (Ok l) → AreToldApart dl (λ v. v) (map (map layout_of) variants) items l
   enum_told l h =
       let b = from_answer l h in
       subst (AreToldApart dl (λ v. v) (map (map layout_of) variants) items) b.same
-      (better_told layout_of (λ i. i) (λ i. i) (λ v. v) dl repr variants (length variants) (λ i le. refl) (omega arith) items b.tagged b.found law b.niche (good_niche b.found b.niche)
+      (better_told layout_of (λ i. i) (λ i. i) (λ v. v) dl repr variants (length variants) (λ i le. refl) (omega arith) items b.tagged b.found (good_niche b.found b.niche)
       (tagged_told b.asked b.signed b.tagged b.unpacked b.is b.with_tag))
 
   -- it has the enum's size
@@ -251,7 +249,7 @@ module _ {H : Type 0} (layout_of : H → LayoutData ℕ ℕ) (dl : TargetDataLay
   enum_size l h =
       let b = from_answer l h in
       subst (λ (m : LayoutData ℕ ℕ). HasEnumSize layout_of (λ i. i) 0 dl repr asks values variants m.size) b.same
-      (better_size layout_of (λ i. i) (λ i. i) (λ v. v) dl repr variants asks values b.tagged b.found law fields some b.unpacked b.niche (good_niche b.found b.niche)
+      (better_size layout_of (λ i. i) (λ i. i) (λ v. v) dl repr variants asks values b.tagged b.found fields some b.unpacked (good_niche b.found b.niche)
       (tagged_sized b.asked b.signed b.tagged b.unpacked b.is b.with_tag))
 
   -- it is sized

@@ -69,7 +69,7 @@ module _ {F V H : Type 0} (layout_of : H → LayoutData F V) (at : ℕ → F) (i
     pub is : niche_layout (at 0) index dl repr (map (map layout_of) variants) lists ≡ Some l
 
   -- a layout with a niche comes from lists that are good
-  found_of : (found : Option (LayoutData F V)) (l : LayoutData F V) → found ≡ Some l → IsNicheAnswer AreGoodLists layout_of at index dl repr variants found → IsFound l
+  pub found_of : (found : Option (LayoutData F V)) (l : LayoutData F V) → found ≡ Some l → IsNicheAnswer AreGoodLists layout_of at index dl repr variants found → IsFound l
   found_of found l e (inl fixed) = let never : found ≡ None = fixed.1 in absurd (cc)
   found_of found l e (inr (inl none)) = let never : found ≡ None = none.3 in absurd (cc)
   found_of found l e (inr (inr some)) = record { lists = some.1; good = some.2; lawful = good_lawful layout_of at (index 0) dl repr AlwaysSized variants some.1 some.2; is = sym some.3 ∙ e }

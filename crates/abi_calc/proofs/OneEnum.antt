@@ -218,7 +218,7 @@ module _ {H : Type 0} (layout_of : H → LayoutData ℕ ℕ) (dl : TargetDataLay
     one_tagged (Err e) (Err f) h (inr (inr want)) p q = absurd (q (ap (λ x. Err x) want))
 
   -- there is one layout with a niche, or none
-  pub one_niche : (found other : Option (LayoutData ℕ ℕ)) → IsNicheAnswer layout_of (λ i. i) (λ i. i) dl repr variants found → IsNicheAnswer layout_of (λ i. i) (λ i. i) dl repr variants other → found ≡ other
+  pub one_niche : (found other : Option (LayoutData ℕ ℕ)) → IsNicheAnswer AreListLayouts layout_of (λ i. i) (λ i. i) dl repr variants found → IsNicheAnswer AreListLayouts layout_of (λ i. i) (λ i. i) dl repr variants other → found ≡ other
   one_niche found other (inl (bound, is)) (inl (bound2, is2)) = is ∙ sym is2
   one_niche found other (inl (bound, is)) (inr (inl (free, e2, error2, is2))) = absurd (cc)
   one_niche found other (inl (bound, is)) (inr (inr (free, ys, lists2, is2))) = absurd (cc)

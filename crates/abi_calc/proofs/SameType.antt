@@ -169,7 +169,7 @@ module _ {H K : Type 0} (f : H → LayoutData ℕ ℕ) (g : K → LayoutData ℕ
 
     module _ (hs : List (List H)) (ks : List (List K)) (same : map (map f) hs ≡ map (map g) ks) where
       -- there is the same layout with a niche, or none
-      pub niche_by : (found : Option (LayoutData ℕ ℕ)) → IsNicheAnswer f (λ i. i) (λ i. i) dl repr hs found → IsNicheAnswer g (λ i. i) (λ i. i) dl repr ks found
+      pub niche_by : (found : Option (LayoutData ℕ ℕ)) → IsNicheAnswer AreListLayouts f (λ i. i) (λ i. i) dl repr hs found → IsNicheAnswer AreListLayouts g (λ i. i) (λ i. i) dl repr ks found
       niche_by found (inl bound) = inl bound
       niche_by found (inr (inl (free, e, error, is))) =
           let other = first_error_by AlwaysSized hs ks same e error in

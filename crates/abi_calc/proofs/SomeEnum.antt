@@ -206,14 +206,14 @@ module _ {H : Type 0} (layout_of : H → LayoutData ℕ ℕ) (dl : TargetDataLay
       ]
 
   -- there is a layout with a niche, or none
-  pub some_niche : (found : Option (LayoutData ℕ ℕ)) × IsNicheAnswer layout_of (λ i. i) (λ i. i) dl repr variants found
+  pub some_niche : (found : Option (LayoutData ℕ ℕ)) × IsNicheAnswer AreListLayouts layout_of (λ i. i) (λ i. i) dl repr variants found
   some_niche = by (is_free repr) refl
     where
-      listed : is_free repr ≡ true → AreListed layout_of dl repr AlwaysSized variants → (found : Option (LayoutData ℕ ℕ)) × IsNicheAnswer layout_of (λ i. i) (λ i. i) dl repr variants found
+      listed : is_free repr ≡ true → AreListed layout_of dl repr AlwaysSized variants → (found : Option (LayoutData ℕ ℕ)) × IsNicheAnswer AreListLayouts layout_of (λ i. i) (λ i. i) dl repr variants found
       listed free (inl (lists, are)) = (niche_layout 0 (λ i. i) dl repr (map (map layout_of) variants) lists, inr (inr (free, lists, are, refl)))
       listed free (inr (error, is, other)) = (None, inr (inl (free, error, is, refl)))
 
-      by : (b : Bool) → is_free repr ≡ b → (found : Option (LayoutData ℕ ℕ)) × IsNicheAnswer layout_of (λ i. i) (λ i. i) dl repr variants found
+      by : (b : Bool) → is_free repr ≡ b → (found : Option (LayoutData ℕ ℕ)) × IsNicheAnswer AreListLayouts layout_of (λ i. i) (λ i. i) dl repr variants found
       by false bound = (None, inl (bound, refl))
       by true free = listed free (some_lists layout_of dl repr AlwaysSized variants law (all_full AlwaysSized variants tt))
 
