@@ -328,5 +328,6 @@ module _ {F V H : Type 0} (layout_of : H → LayoutData F V) (at : ℕ → F) (i
         numbers = numbers_named dl vs (untagged_of lists) (number (index (untagged_of lists))) span.0 (number (index span.0)) span.1 (number (index span.1)) (reserved dl niche (span_count span)).0 niche
             (reserved dl niche (span_count span)).1 at_untagged at_first at_last (niche_numbers lawful greatest found enough);
         view = seen;
+        left = refl;
       })
       view

@@ -176,7 +176,7 @@ moved_with_tag old new small whole offsets sizes grows fits more cs h =
 -- ---- a variant beside the tag
 
 -- how a variant is seen moves no field
-seen_offsets : {F : Type 0} (view : BackendRepr) (size : ℕ) (variant : VariantLayout F) → (seen_as view size variant).field_offsets ≡ variant.field_offsets
+pub seen_offsets : {F : Type 0} (view : BackendRepr) (size : ℕ) (variant : VariantLayout F) → (seen_as view size variant).field_offsets ≡ variant.field_offsets
 seen_offsets view size variant = by (is_of_scalars view && is_memory variant.backend_repr && nat_lt 0 (length variant.field_offsets))
   where
     by : (b : Bool) → (if b then (record variant { backend_repr = view; size = max variant.size size }) else variant).field_offsets ≡ variant.field_offsets

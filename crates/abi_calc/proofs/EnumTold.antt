@@ -17,9 +17,10 @@ use Rattle.abi_scalar.specs.declared.variants.RangeToInclusive.{RangeToInclusive
 use Rattle.abi_scalar.specs.Range.{numbers_of}
 use Rattle.abi_scalar.specs.Repr.{is_c}
 use Rattle.abi_scalar.specs.Scalar.{IsNumberOf, scalar_size}
-use Rattle.abi_scalar.specs.Variant.{variant_of}
+use Rattle.abi_scalar.specs.Variant.{variant_of, variants_of}
 use Rattle.abi_calc.specs.Enums.Beside.{IsToldByTag}
 use Rattle.abi_calc.specs.Enums.Discriminants.{counting_of, counts, inhabited_of}
+use Rattle.abi_calc.specs.Enums.Filled.{IsFilled}
 use Rattle.abi_calc.specs.Enums.Growth.{grown_tag, grown_variant, start_align}
 use Rattle.abi_calc.specs.Enums.Lists.{HaveGoodLists, behind_tag}
 use Rattle.abi_calc.specs.Enums.Payload.{seen_as, tagged_view}
@@ -29,6 +30,7 @@ use Rattle.abi_calc.specs.Enums.Path.{has_no_value, variant_at}
 use Rattle.abi_calc.specs.Enums.Places.{AreApartAmong, AreNumbersAmong, BeginsWithTagOf, HasViewOfTag}
 use Rattle.abi_calc.specs.Enums.Tagged.{IsTaggedAnswer, lists_align, lists_size, payloads_of}
 use Rattle.abi_calc.proofs.EnumAnswers.{differ_wider}
+use Rattle.abi_calc.proofs.EnumFilled.{listed_count, tagged_filled}
 use Rattle.abi_calc.proofs.EnumGrowth.{grown_size}
 
 -- ---- the discriminants of variants that may have values
@@ -75,6 +77,10 @@ module _ {F V H : Type 0} (layout_of : H → LayoutData F V) (at : ℕ → F) (n
         numbers = inhabited_count (λ v. IsNumberOf (scalar_size dl tag) tag (v % numbers_of (scalar_size dl tag))) place repr vs items (subst (AreNumbersAmong dl (counting_of place repr vs items)) told numbers);
         differ = differ_wider (integer_size asked) (integer_size grown) (inhabited_of place vs items) (grown_size dl repr asked (start_align number vs exact.0)).no_less differ;
         view = subst (λ v. BeginsWithTagOf dl v l.backend_repr) told view;
+        filled = subst (λ v. IsFilled dl l.backend_repr (variants_of v) vs) told
+            (tagged_filled number (at 0) dl repr asked signed (counting_of place repr vs items) vs exact.0 l
+            (listed_count layout_of at first dl repr (behind_tag dl repr asked vs) variants exact.0 exact.1) by);
+        niche = ap (λ m. m.largest_niche) by.ranged.2;
       }
   told_by_tag (Err e) exact apart numbers view differ = tt
 

@@ -33,6 +33,7 @@ pub mod EnumLess
 pub mod EnumBeside
 pub mod EnumNicheLawful
 pub mod EnumRoom
+pub mod EnumFilled
 pub mod EnumTold
 pub mod EnumSeveral
 pub mod EnumDeep

@@ -5,6 +5,7 @@ pub mod Discriminants
 pub mod Lists
 pub mod Growth
 pub mod Payload
+pub mod Filled
 pub mod Tagged
 pub mod Sizes
 pub mod Places

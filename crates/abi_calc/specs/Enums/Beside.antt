@@ -13,12 +13,13 @@ use Rattle.abi_scalar.specs.declared.variants.RangeInclusive.{RangeInclusive}
 use Rattle.abi_scalar.specs.declared.variants.TagEncoding.TheVariants.{Direct, Niche as InNiche}
 use Rattle.abi_scalar.specs.declared.variants.VariantLayout.{VariantLayout}
 use Rattle.abi_scalar.specs.declared.variants.Variants.TheVariants.{Multiple}
-use Rattle.abi_scalar.specs.Niche.{niche_size}
+use Rattle.abi_scalar.specs.Niche.{niche_at, niche_size}
 use Rattle.abi_scalar.specs.Range.{numbers_of}
 use Rattle.abi_scalar.specs.Reserve.{HandsOut}
 use Rattle.abi_scalar.specs.Scalar.{IsNumberOf, primitive_of, range_of, scalar_size}
 use Rattle.abi_calc.specs.Apart.{AreApart}
 use Rattle.abi_calc.specs.Enums.Discriminants.{inhabited_of}
+use Rattle.abi_calc.specs.Enums.Filled.{IsFilled}
 use Rattle.abi_calc.specs.Enums.Path.{is_absent, variant_at}
 use Rattle.abi_calc.specs.Enums.Payload.{BeginsWithTag}
 use Rattle.abi_calc.specs.Enums.Places.{AreApartBehind}
@@ -52,7 +53,8 @@ HasTagAt place tag (Memory sized) = ⊤
 HasTagAt place tag _ = ⊥
 
 -- An enum whose variants are told apart by a tag at its start: each has the fields behind it; the discriminants of the variants
--- that may have values, cut to the tag's width, are numbers of the tag, and differ.
+-- that may have values, cut to the tag's width, are numbers of the tag, and differ. Where a view of two scalars says that a number
+-- lies beside the tag, each variant has one there; the whole has the tag's niche.
 pub record IsToldByTag {F V : Type 0} (dl : TargetDataLayout) (number : V → ℕ) (variants : List (List (LayoutData F V))) (items : List (V × ℕ)) (layout : LayoutData F V) : Type 0 where
   pub tag : Scalar
   pub field : F
@@ -63,9 +65,11 @@ pub record IsToldByTag {F V : Type 0} (dl : TargetDataLayout) (number : V → �
   pub numbers : All (λ v. IsNumberOf (scalar_size dl tag) tag (v % numbers_of (scalar_size dl tag))) (inhabited_of number variants items)
   pub differ : AllPairs (λ v w. v % numbers_of (scalar_size dl tag) ≢ w % numbers_of (scalar_size dl tag)) (inhabited_of number variants items)
   pub view : BeginsWithTag dl tag layout.backend_repr
+  pub filled : IsFilled dl layout.backend_repr layouts variants
+  pub niche : layout.largest_niche ≡ niche_at dl 0 tag
 
 -- An enum whose variants are told apart by a niche: it is that of a field of `variant`, the untagged one, and the tag takes its
--- place; `number` tells the place of a variant.
+-- place; what the tag leaves of it is the niche of the whole. `number` tells the place of a variant.
 pub record IsToldByNiche {F V : Type 0} (dl : TargetDataLayout) (number : V → ℕ) (variants : List (List (LayoutData F V))) (layout : LayoutData F V) : Type 0 where
   pub niche : Niche
   pub tag : Scalar
@@ -82,6 +86,7 @@ pub record IsToldByNiche {F V : Type 0} (dl : TargetDataLayout) (number : V → 
   pub apart : AreApartBeside layout.size niche.offset (scalar_size dl tag) (number untagged) 0 variants layouts
   pub numbers : AreNumbersInNiche dl variants (number untagged) (number span.start) (number span.last) start niche tag
   pub view : HasTagAt niche.offset tag layout.backend_repr
+  pub left : layout.largest_niche ≡ niche_at dl niche.offset tag
 
 -- a tag of its own or a niche of one variant tells the variants apart
 abbrev pub AreToldApart : {F V : Type 0} → TargetDataLayout → (number : V → ℕ) → (variants : List (List (LayoutData F V))) → (items : List (V × ℕ)) → LayoutData F V → Type 0
