@@ -81,7 +81,7 @@ fields_number dl width offset (field ∷ fields) (o ∷ offsets) h =
 -- ---- what all variants have in common
 
 -- both primitives are as large as this one
-abbrev AreAsLarge : TargetDataLayout → (a b value : Primitive) → Type 0
+abbrev pub AreAsLarge : TargetDataLayout → (a b value : Primitive) → Type 0
 AreAsLarge dl a b value = (primitive_size dl a ≡ primitive_size dl value) × (primitive_size dl b ≡ primitive_size dl value)
 
 -- what holds of the one thing that a test may give, where the test holds
