@@ -35,7 +35,7 @@ use Rattle.abi_calc.specs.Enums.Discriminants.{counting_of}
 use Rattle.abi_calc.specs.Enums.Growth.{grown_tag, start_align}
 use Rattle.abi_calc.specs.Enums.Lists.{AreGoodLists, AreListLayouts, behind_tag}
 use Rattle.abi_calc.specs.Enums.Niche.{niche_layout, niche_view, others_empty, span_count, untagged_of, view_with}
-use Rattle.abi_calc.specs.Enums.Path.{has_no_value, is_free}
+use Rattle.abi_calc.specs.Enums.Path.{has_no_value}
 use Rattle.abi_calc.specs.Enums.Payload.{beside_tag, common_of, tagged_view}
 use Rattle.abi_calc.specs.Enums.Several.{AreLawfulTags, HasEnumSize, HasTaggedSize, IsAlwaysTooLarge, IsAskedAnswer, IsAskedFor, IsAskedTooLarge, IsEnumAnswer, IsSeveralAnswer, better_of}
 use Rattle.abi_calc.specs.Enums.Sizes.{IsTaggedTooLarge}
