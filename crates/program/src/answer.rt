@@ -56,6 +56,8 @@ fn error_name(error: LayError) -> &'static str
         LayError::UnknownSpace => "UnknownSpace",
         LayError::BadRange => "BadRange",
         LayError::BadAlign => "BadAlign",
+        LayError::DuplicateDiscriminant => "DuplicateDiscriminant",
+        LayError::DiscriminantTooWide => "DiscriminantTooWide",
         LayError::UnexpectedUnsized => "UnexpectedUnsized",
         LayError::SizeOverflow => "SizeOverflow",
         LayError::EmptyUnion => "EmptyUnion",

@@ -11,16 +11,16 @@ use Rattle.abi_scalar.specs.declared.scalar.Scalar.{Scalar}
 use Rattle.abi_scalar.specs.declared.scalar.Scalar.TheVariants.{Initialized}
 use Rattle.abi_scalar.specs.declared.repr.ReprOptions.{ReprOptions}
 use Rattle.abi_scalar.specs.declared.variants.TagEncoding.{TagEncoding}
-use Rattle.abi_scalar.specs.declared.variants.TagEncoding.TheVariants.{Niche}
+use Rattle.abi_scalar.specs.declared.variants.TagEncoding.TheVariants.{Direct, Niche}
 use Rattle.abi_scalar.specs.declared.wrapping_range.WrappingRange.{WrappingRange}
 use Rattle.abi_scalar.specs.declared.backend_repr.BackendRepr.TheVariants.{Scalar as OneScalar}
 use Rattle.abi_scalar.specs.Range.{IsIn, full_range}
 use Rattle.rustc_abi.specs.Tree.{Tree, never, struct, no_trees, more_trees, scalar as number_type}
 use Rattle.rustc_abi.specs.Value.{Value, number, two, list, variant, state, bytes, no_values, more_values}
 use Rattle.rustc_abi.specs.Bytes.{picked}
-use Rattle.rustc_abi.specs.Placed.{Placed, Layout, layout_of, scalar, never as nowhere, fields, union, states, no_parts, part, no_arms, arm, nothing}
+use Rattle.rustc_abi.specs.Placed.{Placed, Layout, layout_of, scalar, never as nowhere, fields, union, tagged, states, no_parts, part, no_arms, arm, nothing}
 use Rattle.rustc_abi.specs.Places.{is_data_place}
-use Rattle.rustc_abi.specs.Runs.{padding_of}
+use Rattle.rustc_abi.specs.Runs.{padding_of, unused_of}
 use Rattle.rustc_abi.specs.Tag.{Names}
 use Rattle.rustc_abi.specs.Holding.{Holds}
 use Rattle.rustc_abi.specs.Faithful.{EachValueIsHeld, IsFlagTrue, IsViewTrue}
@@ -213,3 +213,26 @@ after_end h = h.2 3 (omega (arith, h.1)) refl
 
 before_start : IsIn 1 wrapping 253 → ⊥
 before_start h = h.2 3 (omega (arith, h.1)) refl
+
+-- ---- what a variant leaves unused: a tag at 0; a byte at 1 of the first variant; four bytes at 4 of the second
+
+abbrev two_variants : Placed
+two_variants =
+    tagged (sized 8) 0 u8_placed Direct (arm 0 (part 1 u8_placed no_parts) (arm 1 (part 4 (scalar (sized 4) (unsigned I32)) no_parts) no_arms))
+
+padding_of_variants : padding_of two_variants ≡ record { start = 2; end = 4 } ∷ []
+padding_of_variants = refl
+
+first_leaves : unused_of two_variants 0 ≡ record { start = 4; end = 8 } ∷ []
+first_leaves = refl
+
+second_leaves : unused_of two_variants 1 ≡ record { start = 1; end = 2 } ∷ []
+second_leaves = refl
+
+-- an index that names no variant uses the tag's byte alone
+no_variant_leaves : unused_of two_variants 2 ≡ record { start = 1; end = 2 } ∷ record { start = 4; end = 8 } ∷ []
+no_variant_leaves = refl
+
+-- a type without a tag leaves nothing unused
+struct_leaves : unused_of three 0 ≡ []
+struct_leaves = refl

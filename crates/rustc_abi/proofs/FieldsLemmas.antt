@@ -143,14 +143,14 @@ module _ (dl : TargetDataLayout) (repr : ReprOptions) (always_sized : Bool) (ts 
   }
 
 -- what lies beside the places lies beside the parts
-beside_parts : (o n : ℕ) (offsets : List ℕ) (ps : List Placed) → IsBeside o n offsets (map size_of ps) → LieBeside o n (parts_at offsets ps)
+pub beside_parts : (o n : ℕ) (offsets : List ℕ) (ps : List Placed) → IsBeside o n offsets (map size_of ps) → LieBeside o n (parts_at offsets ps)
 beside_parts o n [] [] h = tt
 beside_parts o n [] (p ∷ ps) h = absurd h
 beside_parts o n (q ∷ offsets) [] h = absurd h
 beside_parts o n (q ∷ offsets) (p ∷ ps) h = (h.0, beside_parts o n offsets ps h.1)
 
 -- types that fit, at places apart, fit together
-together : (dl : TargetDataLayout) (size : ℕ) (ts : Trees) (offsets : List ℕ) (ps : List Placed) → AreApart size offsets (map size_of ps) →
+pub together : (dl : TargetDataLayout) (size : ℕ) (ts : Trees) (offsets : List ℕ) (ps : List Placed) → AreApart size offsets (map size_of ps) →
     EachFits dl ts ps → LocalsOfEach dl ts → FitTogether dl size ts (parts_at offsets ps)
 together dl size no_trees [] [] apart fits locals = tt
 together dl size no_trees (o ∷ offsets) [] apart fits locals = absurd apart
@@ -173,7 +173,7 @@ inside dl size (more_trees t ts) offsets [] apart fits = absurd fits
 inside dl size (more_trees t ts) [] (p ∷ ps) apart fits = absurd apart
 inside dl size (more_trees t ts) (o ∷ offsets) (p ∷ ps) apart fits = (apart.0, Fits.within fits.0, inside dl size ts offsets ps apart.2 fits.1)
 
-room_of : (dl : TargetDataLayout) (size : ℕ) (ts : Trees) (offsets : List ℕ) (ps : List Placed) → AreApart size offsets (map size_of ps) →
+pub room_of : (dl : TargetDataLayout) (size : ℕ) (ts : Trees) (offsets : List ℕ) (ps : List Placed) → AreApart size offsets (map size_of ps) →
     EachFits dl ts ps → have_room size (parts_at offsets ps) ≡ true
 room_of dl size no_trees [] [] apart fits = refl
 room_of dl size no_trees (o ∷ offsets) [] apart fits = absurd apart

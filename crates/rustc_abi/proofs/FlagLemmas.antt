@@ -60,14 +60,15 @@ AreFlagsTrue dl no_trees ps = Unit {0}
 AreFlagsTrue dl (more_trees t ts) [] = Unit {0}
 AreFlagsTrue dl (more_trees t ts) (p ∷ ps) = IsFlagTrue dl t p × AreFlagsTrue dl ts ps
 
-flags_true : (dl : TargetDataLayout) (ts : Trees) (ps : List Placed) → EachFits dl ts ps → LocalsOfEach dl ts → AreFlagsTrue dl ts ps
+-- each laid-out type's is
+pub flags_true : (dl : TargetDataLayout) (ts : Trees) (ps : List Placed) → EachFits dl ts ps → LocalsOfEach dl ts → AreFlagsTrue dl ts ps
 flags_true dl no_trees ps fits locals = tt
 flags_true dl (more_trees t ts) [] fits locals = tt
 flags_true dl (more_trees t ts) (p ∷ ps) fits locals = ((fits.0.faithful locals.0).flag, flags_true dl ts ps fits.1 locals.1)
 
 module _ (dl : TargetDataLayout) where
   -- the types have values, where their vectors' elements do, or they have none, as the flag says
-  abbrev HaveSome : Trees → (offsets : List ℕ) → List Placed → Bool → Type 0
+  abbrev pub HaveSome : Trees → (offsets : List ℕ) → List Placed → Bool → Type 0
   HaveSome ts offsets ps flag =
       MatchBool flag ((vs : Values) → AreValuesOf dl ts (parts_at offsets ps) vs → ⊥) (VectorsOfEach dl ts → (vs : Values) × AreValuesOf dl ts (parts_at offsets ps) vs)
 
@@ -89,7 +90,8 @@ module _ (dl : TargetDataLayout) where
     some_more false true h k = none_later k
     some_more false false h k = λ c. let v = h c.0 in let vs = k c.1 in (more_values v.0 vs.0, (v.1, vs.1))
 
-  each_flag : (size : ℕ) (ts : Trees) (offsets : List ℕ) (ps : List Placed) → AreApart size offsets (map size_of ps) → EachFits dl ts ps → AreFlagsTrue dl ts ps →
+  -- they are as the flags of the types say
+  pub each_flag : (size : ℕ) (ts : Trees) (offsets : List ℕ) (ps : List Placed) → AreApart size offsets (map size_of ps) → EachFits dl ts ps → AreFlagsTrue dl ts ps →
       HaveSome ts offsets ps (list_any (λ f. f.uninhabited) (map layout_of ps))
   each_flag size no_trees [] [] apart fits flags = λ _. (no_values, tt)
   each_flag size no_trees (o ∷ offsets) [] apart fits flags = absurd apart

@@ -1,19 +1,21 @@
 -- Each type that is laid out is sized, and its layout is lawful.
-use Rattle.std.proofs.Common.{◌≡◌, ◌≢◌, ℕ, ◌*◌, ◌^◌, ◌<◌, ◌≤◌, Bool, true, false, List, [], ◌∷◌, Option, Some, None, length, map, inl, inr, refl, sym, ap, ◌∙◌, subst, arith, All, Result, Ok, Err}
+use Rattle.std.proofs.Common.{◌≡◌, ◌≢◌, ℕ, ◌*◌, ◌^◌, ◌<◌, ◌≤◌, Bool, true, false, List, [], ◌∷◌, Option, Some, None, length, map, inl, inr, refl, sym, ap, ◌∙◌, subst, arith, All, Result, Ok, Err, zero, suc}
 use Rattle.std.specs.Prelude.{◌⊎◌, ◌||◌, ◌==◌, IfOk, nat_lt, unwrap_or, if◌then◌else◌, slice_index, MatchOption}
 use Rattle.std.specs.Int.{next_multiple_of}
 use Rattle.std.proofs.lemmas.List.{length-map, map-id}
 use Rattle.std.proofs.lemmas.List.Elements.{All-nil, All-cons, All-contains, All-head, All-tail, All-map, All-weaker}
 use Rattle.std.proofs.lemmas.Bool.{eqb-false, ltb-true}
+use Rattle.abi_base.specs.declared.niche_optimizations.NicheOptimizations.TheVariants.{Enabled}
 use Rattle.abi_base.specs.declared.data_layout.TargetDataLayout.{TargetDataLayout}
 use Rattle.abi_base.specs.Align.{IsLeastPower, next_exponent, factor_exponent}
 use Rattle.abi_base.specs.DataLayout.{IsLawfulDataLayout, size_bound, vector_align_of}
 use Rattle.abi_base.proofs.Powers.{factor_divides, least_power}
+use Rattle.abi_scalar.specs.declared.variants.Variants.{Variants as LayoutVariants}
+use Rattle.abi_scalar.specs.declared.variants.Variants.TheVariants.{Empty, Single, Multiple}
 use Rattle.abi_scalar.specs.declared.repr.ReprOptions.{ReprOptions}
 use Rattle.abi_scalar.specs.declared.scalar.Scalar.{Scalar}
 use Rattle.abi_scalar.specs.declared.niche.Niche.{Niche}
 use Rattle.abi_scalar.specs.declared.error.LayoutCalculatorError.{LayoutCalculatorError}
-use Rattle.abi_scalar.specs.declared.error.LayoutCalculatorError.TheVariants as calculator
 use Rattle.abi_scalar.specs.Lawful.{IsLawfulLayout}
 use Rattle.abi_scalar.specs.declared.backend_repr.BackendRepr.{BackendRepr}
 use Rattle.abi_scalar.specs.declared.backend_repr.BackendRepr.TheVariants.{Scalar as OneScalar, ScalarPair, SimdScalableVector, SimdVector, Memory}
@@ -23,9 +25,12 @@ use Rattle.abi_scalar.specs.Simple.{scalar_layout, never_layout, unit_layout}
 use Rattle.abi_scalar.specs.View.{union_view}
 use Rattle.abi_scalar.proofs.LawfulLemmas.{scalar_lawful, empty_lawful}
 use Rattle.abi_scalar.proofs.PairLemmas.{pair_lawful_at}
+use Rattle.abi_scalar.proofs.ReadableLemmas.{lawful_readable}
+use Rattle.abi_calc.specs.declared.enums.path.Path.{Path}
+use Rattle.abi_calc.specs.declared.enums.path.Path.TheVariants.{NoValue, OneList, Several}
 use Rattle.abi_calc.specs.declared.part.Part.{Part}
 use Rattle.abi_calc.specs.Array.{elements_layout}
-use Rattle.abi_calc.specs.List.{AreSized, parts_of}
+use Rattle.abi_calc.specs.List.{AreSized, parts_of, HasLawfulAligns}
 use Rattle.abi_calc.specs.ListView.{any_unsized, bulky_parts, bulky_view, kept_view, list_view, pair_view, part_at, two_view}
 use Rattle.abi_calc.specs.Part.{IsAlignedPart, IsLawfulPart, is_unsized, part_of}
 use Rattle.abi_calc.specs.Placement.{IsLawfulPrefix, IsNonEmptyIfUnsized, align_of, end_from, in_order, list_repr, size_in, start_of}
@@ -40,17 +45,26 @@ use Rattle.abi_calc.proofs.ListLemmas.{parts_lawful, repr_lawful}
 use Rattle.abi_calc.proofs.RunLemmas.{aligned_parts, biased_of}
 use Rattle.abi_calc.proofs.UnionLawful.{union_is_lawful}
 use Rattle.abi_calc.proofs.VectorLemmas.{factor_small, lanes_are, lanes_bounded, simd_of_view, simd_viewed, vector_small, vectors_lawful}
+use Rattle.abi_calc.specs.Enums.Several.{AreLawfulTags}
+use Rattle.abi_calc.specs.Enums.Answer.{HasOneEach, IsTypeAnswer}
+use Rattle.abi_calc.specs.Enums.Path.{variant_at, path_of}
+use Rattle.abi_calc.proofs.EnumDeep.{enum_sized}
+use Rattle.abi_calc.proofs.EnumType.{several_some}
 use Rattle.rustc_abi.specs.declared.error.LayError.{LayError}
 use Rattle.rustc_abi.specs.declared.error.LayError.TheVariants.{SizeOverflow}
-use Rattle.rustc_abi.specs.Tree.{Tree, scalar, pair, never, unit, array, vector, struct, union, enum, coroutine, Trees, no_trees, more_trees}
+use Rattle.rustc_abi.specs.Tree.{Tree, scalar, pair, never, unit, array, vector, struct, union, enum, coroutine, Trees, no_trees, more_trees, Variants, no_variants, more_variants}
 use Rattle.rustc_abi.specs.Placed.{Placed, Layout, layout_of, size_of, elements, fields, vector as placed_vector, no_parts, never as placed_never}
 use Rattle.rustc_abi.specs.ScalarFault.{scalar_fault}
 use Rattle.rustc_abi.specs.Error.{named, Follows}
-use Rattle.rustc_abi.specs.Laying.{IsLaying, AreLaying, IsListed, IsUnited, fields_fault, kind_of, lanes_of, one_scalar, pair_answer, placed_by, placed_fields, placed_together, scalar_answer, two_scalars, unless, vector_answer}
+use Rattle.rustc_abi.specs.Laying.{IsLaying, AreLaying, IsListed, IsUnited, fields_fault, kind_of, lanes_of, one_scalar, pair_answer, placed_by, placed_fields, placed_together, scalar_answer, two_scalars, unless, vector_answer, placed_variants, placed_enum, enum_fault, VariantsLaying}
+use Rattle.rustc_abi.specs.Enums.{layouts_of, IsTagInteger, numbered_from, IsEnumed, discriminants_of}
 use Rattle.rustc_abi.proofs.CalcLemmas.{after_ok, chosen_ok, named-ok, united_layout}
 use Rattle.rustc_abi.proofs.FaultLemmas.{faultless}
 use Rattle.rustc_abi.proofs.LayLemmas.{faultless_aligns}
-use Rattle.abi_scalar.proofs.ReadableLemmas.{lawful_readable}
+use Rattle.rustc_abi.proofs.TagIntegerLemmas.{lawful_tags, one_each}
+use Rattle.rustc_abi.proofs.FaultlessLemmas.{none_equal, all_discriminants, lawful_aligns}
+use Rattle.rustc_abi.proofs.CalculatedLemmas.{calculated_lawful}
+use Rattle.abi_scalar.specs.declared.error.LayoutCalculatorError.TheVariants as calculator
 
 -- the type's layout is lawful, and it is sized
 abbrev pub IsWhole : TargetDataLayout → Placed → Type 0
@@ -175,7 +189,64 @@ vector_whole dl element layout count packed law lawful e =
       subst (λ (l : Layout). is_unsized l.backend_repr ≡ false) last.1 (view_of_lanes (is_tight packed lanes.count) lanes.scalar lanes.count),
     )
 
+-- each variant's types are lawful, where they are whole
+pub each_lawful : (dl : TargetDataLayout) (variants : List (List Placed)) → All (All (IsWhole dl)) variants → All (All (λ p. IsLawfulLayout dl (layout_of p))) variants
+each_lawful dl variants h = All-weaker (All (IsWhole dl)) (All (λ p. IsLawfulLayout dl (layout_of p))) (λ ps whole. whole_lawful dl ps whole) variants h
+
+-- an enum has its layout
+pub layout_of-variants : (dl : TargetDataLayout) (numbers : List ℕ) (variants : List (List Placed)) (layout : Layout) (vs : LayoutVariants ℕ ℕ) → layout_of (placed_variants dl numbers variants layout vs) ≡ layout
+layout_of-variants dl numbers variants layout Empty = refl
+layout_of-variants dl numbers variants layout (Single i) = refl
+layout_of-variants dl numbers variants layout (Multiple tag encoding field layouts) = refl
+
 module _ (dl : TargetDataLayout) (law : IsLawfulDataLayout dl) where
+  -- ---- the variants of an enum
+
+  module _ (repr : ReprOptions) (numbers : List ℕ) (variants : List (List Placed)) (none : enum_fault dl repr numbers variants ≡ None) (long : length numbers ≡ length variants) where
+    -- the question for its tag's integer has a lawful answer
+    pub tags_of : AreLawfulTags (λ v. v) dl repr (IsTagInteger dl repr) (layouts_of variants) (numbered_from 0 numbers)
+    tags_of = lawful_tags dl law repr numbers (layouts_of variants) (none_equal dl repr numbers variants none) (all_discriminants dl repr numbers variants none)
+
+    pub each_of : HasOneEach (λ v. v) (length variants) (numbered_from 0 numbers)
+    each_of = one_each numbers (length variants) long
+
+    pub aligns_of : HasLawfulAligns repr
+    aligns_of = lawful_aligns dl repr numbers variants none
+
+    sized_at : (all : List (List Placed)) (i : ℕ) → All (All (IsWhole dl)) all → AreSized (map layout_of (variant_at all i))
+    sized_at [] i h = All-nil (λ l. is_unsized l.backend_repr ≡ false)
+    sized_at (ps ∷ all) zero h = asked_sized dl ps (All-head (All (IsWhole dl)) ps all h)
+    sized_at (ps ∷ all) (suc i) h = sized_at all i (All-tail (All (IsWhole dl)) ps all h)
+
+    sized_by : All (All (IsWhole dl)) variants → (path : Path) → path_of true repr (layouts_of variants) ≡ path → (l : Layout) →
+        IsTypeAnswer layout_of (λ i. i) (λ i. i) (λ i. i) (λ i. i) dl repr variants true true Enabled (IsTagInteger dl repr) (λ items. items ≡ numbered_from 0 numbers) path (Ok l) →
+        is_unsized l.backend_repr ≡ false
+    sized_by whole NoValue path l h = let same : never_layout dl ≡ l = cc in subst (λ (m : Layout). is_unsized m.backend_repr ≡ false) same refl
+    sized_by whole (OneList i) path l h =
+        let made = h.1.2 in
+        let sized : is_unsized h.0.backend_repr ≡ false =
+        ap is_unsized made.view ∙ view_sized dl (is_abi_fixed repr) h.0.size h.0.align.abi (map layout_of (variant_at variants i)) h.1.1 (sized_at variants i whole) in
+        subst (λ (m : Layout). is_unsized m.backend_repr ≡ false) (sym h.2) sized
+    sized_by whole Several path l h =
+        enum_sized layout_of dl law repr (IsTagInteger dl repr) variants (numbered_from 0 numbers) aligns_of (each_lawful dl variants whole) (several_some layout_of repr variants true path) each_of tags_of l h
+
+    -- its layout is lawful, and it is sized
+    enumed_whole : All (All (IsWhole dl)) variants → (l : Layout) → IsEnumed dl repr numbers variants (Ok l) → IsWhole dl (placed_enum dl numbers variants l)
+    enumed_whole whole l h =
+        let lawful = calculated_lawful dl law repr numbers variants aligns_of (each_lawful dl variants whole) each_of tags_of l h in
+        let sized = sized_by whole (path_of true repr (layouts_of variants)) refl l h in
+        let same : layout_of (placed_enum dl numbers variants l) ≡ l = layout_of-variants dl numbers variants l l.variants in
+        (subst (IsLawfulLayout dl) (sym same) lawful, subst (λ (m : Layout). is_unsized m.backend_repr ≡ false) (sym same) sized)
+
+  -- there is a discriminant for each variant that is laid out
+  pub numbers_for : (all : Variants) (variants : List (List Placed)) → VariantsLaying dl all (Ok variants) → length (discriminants_of all) ≡ length variants
+  numbers_for no_variants variants h = let none : [] ≡ variants = cc in ap length none
+  numbers_for (more_variants d ts others) variants (inl f) = absurd (cc f.2)
+  numbers_for (more_variants d ts others) variants (inr (ps, here, inl f)) = absurd (cc f.2)
+  numbers_for (more_variants d ts others) variants (inr (ps, here, inr (rest, later, e))) =
+      let same : ps ∷ rest ≡ variants = cc in
+      ap suc (numbers_for others rest later) ∙ ap length same
+
   -- what an answer is where it is no refusal
   no_fault : (fault : Option LayError) (r : Result Placed LayError) (p : Placed) → Ok p ≡ unless fault r → (fault ≡ None) × (Ok p ≡ r)
   no_fault None r p e = (refl, e)
@@ -310,7 +381,9 @@ module _ (dl : TargetDataLayout) (law : IsLawfulDataLayout dl) where
         answer_whole (fields_fault repr ps) (IsUnited dl repr (map layout_of ps)) (placed_together ps) p
         (λ none layout united. united_whole repr ps layout none (all_whole all ps there) united) answer
     laid_whole (enum repr all) p (inl f) = absurd (cc f.2)
-    laid_whole (enum repr all) p (inr f) = absurd (cc f.2)
+    laid_whole (enum repr all) p (inr (variants, there, answer)) =
+        answer_whole (enum_fault dl repr (discriminants_of all) variants) (IsEnumed dl repr (discriminants_of all) variants) (placed_enum dl (discriminants_of all) variants) p
+        (λ none layout enumed. enumed_whole repr (discriminants_of all) variants none (numbers_for all variants there) (variants_whole all variants there) layout enumed) answer
     laid_whole (coroutine prefix locals states conflicts) p (inl f) = absurd (cc f.2)
     laid_whole (coroutine prefix locals states conflicts) p (inr (ps, there, inl f)) = absurd (cc f.2)
     laid_whole (coroutine prefix locals states conflicts) p (inr (ps, there, inr f)) = absurd (cc f.2)
@@ -322,3 +395,11 @@ module _ (dl : TargetDataLayout) (law : IsLawfulDataLayout dl) where
     all_whole (more_trees t ts) ps (inr (p, here, inr (rest, later, e))) =
         let same : p ∷ rest ≡ ps = cc in
         subst (All (IsWhole dl)) same (All-cons (IsWhole dl) p rest (laid_whole t p here) (all_whole ts rest later))
+
+    pub variants_whole : (all : Variants) (variants : List (List Placed)) → VariantsLaying dl all (Ok variants) → All (All (IsWhole dl)) variants
+    variants_whole no_variants variants h = let none : [] ≡ variants = cc in subst (All (All (IsWhole dl))) none (All-nil (All (IsWhole dl)))
+    variants_whole (more_variants d ts others) variants (inl f) = absurd (cc f.2)
+    variants_whole (more_variants d ts others) variants (inr (ps, here, inl f)) = absurd (cc f.2)
+    variants_whole (more_variants d ts others) variants (inr (ps, here, inr (rest, later, e))) =
+        let same : ps ∷ rest ≡ variants = cc in
+        subst (All (All (IsWhole dl))) same (All-cons (All (IsWhole dl)) ps rest (all_whole ts ps here) (variants_whole others rest later))

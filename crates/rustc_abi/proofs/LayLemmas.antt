@@ -100,15 +100,20 @@ limited : (align : Option ℕ) → is_above_limit align ≡ false → IfSome ali
 limited None h = tt
 limited (Some a) h = ltb-false 29 a h
 
-neither : (a b : Bool) → (a || b) ≡ false → (a ≡ false) × (b ≡ false)
+-- where neither of two tests holds, both fail
+pub neither : (a b : Bool) → (a || b) ≡ false → (a ≡ false) × (b ≡ false)
 neither true b h = absurd (cc)
 neither false b h = (refl, h)
 
+-- a repr without an alignment above the limit
+pub lawful_unless_bad : (repr : ReprOptions) → has_bad_align repr ≡ false → HasLawfulAligns repr
+lawful_unless_bad repr fine =
+    let both = neither (is_above_limit repr.align) (is_above_limit repr.pack) fine in
+    record { align = limited repr.align both.0; pack = limited repr.pack both.1 }
+
 -- and no alignment above the limit
 pub faultless_aligns : (repr : ReprOptions) (ps : List Placed) → fields_fault repr ps ≡ None → HasLawfulAligns repr
-faultless_aligns repr ps none =
-    let both = neither (is_above_limit repr.align) (is_above_limit repr.pack) (few_of (nat_lt most_fields (length ps)) (has_bad_align repr) none).1 in
-    record { align = limited repr.align both.0; pack = limited repr.pack both.1 }
+faultless_aligns repr ps none = lawful_unless_bad repr (few_of (nat_lt most_fields (length ps)) (has_bad_align repr) none).1
 
 -- a list of a struct is always sized, or has a field
 pub kind_cases : (always_sized : Bool) (ps : List Placed) → (kind_of always_sized ps ≡ AlwaysSized) ⊎ ((kind_of always_sized ps ≡ MaybeUnsized) × (0 < length ps))
@@ -183,7 +188,7 @@ EachFits-push dl (s ∷ ts) [] t p h fits = absurd h
 EachFits-push dl (s ∷ ts) (q ∷ ps) t p h fits = (h.0, EachFits-push dl ts ps t p h.1 fits)
 
 -- types that were there mean the same
-all_at-kept : (old new : List Node) → Keeps (types_in old) (types_in new) → (children : List ℕ) → All (λ child. child < length old) children → all_at new children ≡ all_at old children
+pub all_at-kept : (old new : List Node) → Keeps (types_in old) (types_in new) → (children : List ℕ) → All (λ child. child < length old) children → all_at new children ≡ all_at old children
 all_at-kept old new kept [] there = refl
 all_at-kept old new kept (c ∷ children) there =
     let here : placed_in (types_in new) c ≡ placed_in (types_in old) c =

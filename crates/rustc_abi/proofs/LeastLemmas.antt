@@ -1,13 +1,14 @@
 -- Each struct has its least size, and is too large only where every order is.
-use Rattle.std.proofs.Common.{◌≡◌, ℕ, ◌*◌, ◌≤◌, Bool, true, false, List, [], ◌∷◌, Option, Some, None, length, map, inl, inr, refl, sym, ap, ◌∙◌, subst, arith, All, Result, Ok, Err}
-use Rattle.std.specs.Prelude.{◌⊎◌, nat_lt, if◌then◌else◌, MatchOption}
+use Rattle.abi_scalar.specs.declared.variants.VariantLayout.{VariantLayout}
+use Rattle.std.proofs.Common.{◌≡◌, ℕ, ◌*◌, ◌≤◌, Bool, true, false, List, [], ◌∷◌, Option, Some, None, length, map, inl, inr, refl, sym, ap, ◌∙◌, subst, arith, All, Result, Ok, Err, zero, suc, ◌<◌}
+use Rattle.std.specs.Prelude.{◌⊎◌, nat_lt, if◌then◌else◌, MatchOption, not}
 use Rattle.std.specs.Result.{IsErrAnd}
 use Rattle.std.proofs.lemmas.List.{length-map, map-id}
 use Rattle.std.proofs.lemmas.Bool.{ltb-false, le-ltb}
+use Rattle.std.specs.List.{list_all}
 use Rattle.abi_base.specs.declared.data_layout.TargetDataLayout.{TargetDataLayout}
 use Rattle.abi_base.specs.DataLayout.{IsLawfulDataLayout, size_bound}
 use Rattle.abi_scalar.specs.declared.error.LayoutCalculatorError.{LayoutCalculatorError}
-use Rattle.abi_scalar.specs.declared.error.LayoutCalculatorError.TheVariants as calculator
 use Rattle.abi_scalar.specs.declared.repr.ReprOptions.{ReprOptions}
 use Rattle.abi_scalar.specs.declared.scalar.Scalar.{Scalar}
 use Rattle.abi_scalar.specs.Pair.{pair_size}
@@ -20,36 +21,33 @@ use Rattle.abi_calc.specs.Array.{elements_layout}
 use Rattle.abi_calc.specs.Fault.{IsErrorOf, fault_in}
 use Rattle.abi_calc.specs.List.{AreSized, parts_of as asked_of}
 use Rattle.abi_calc.specs.Order.{IsNamedOrder}
-use Rattle.abi_calc.specs.Simd.{simd_answer}
+use Rattle.abi_calc.specs.Simd.{simd_answer, IsVectorTooLarge}
 use Rattle.abi_calc.specs.Placement.{IsAllowed, IsNonEmptyIfUnsized, list_repr, size_in}
 use Rattle.abi_calc.proofs.DeepLemmas.{sized_fault}
 use Rattle.abi_calc.proofs.FaultLemmas.{large_in, memory_in}
 use Rattle.abi_calc.proofs.Least.{all_too_large}
 use Rattle.abi_calc.specs.Least.{IsOrderOf}
-use Rattle.abi_calc.specs.Simd.{IsVectorTooLarge}
 use Rattle.abi_calc.specs.Union.{IsUnionTooLarge}
 use Rattle.abi_calc.proofs.LeastLemmas.{has_least, never_large as listed_never_large}
 use Rattle.abi_calc.proofs.RunLemmas.{biased_of}
 use Rattle.abi_calc.proofs.TooLarge.{tells_size, union_large, union_refused}
+use Rattle.abi_calc.specs.Enums.Path.{variant_at}
 use Rattle.rustc_abi.specs.declared.error.LayError.{LayError}
-use Rattle.rustc_abi.specs.declared.error.LayError.TheVariants.{SizeOverflow, UnexpectedUnsized, BadIndex, BadAlign, UnknownSpace, BadRange}
+use Rattle.rustc_abi.specs.declared.error.LayError.TheVariants.{SizeOverflow, UnexpectedUnsized, BadIndex, BadAlign, UnknownSpace, BadRange, DuplicateDiscriminant, DiscriminantTooWide}
 use Rattle.rustc_abi.specs.Tree.{Tree, scalar, pair, never, unit, array, vector, struct, union, enum, coroutine, Trees, no_trees, more_trees, Variants, no_variants, more_variants}
 use Rattle.rustc_abi.specs.Placed.{Placed, Layout, layout_of, size_of, elements, vector as placed_vector}
 use Rattle.rustc_abi.specs.Nodes.{parts_at, parts_at_0}
 use Rattle.rustc_abi.specs.Error.{Follows, IsRefused, named, lay_error}
 use Rattle.rustc_abi.specs.ScalarFault.{is_lawful_primitive, has_range_within, scalar_fault}
-use Rattle.rustc_abi.specs.Laying.{AreLaying, IsFieldsAnswer, IsLaying, IsListed, IsNotYet, IsUnionOf, IsUnited, VariantsLaying, elements_answer, fields_fault, kind_of, lanes_of, one_scalar, pair_answer, placed_by, placed_fields, placed_together, scalar_answer, two_scalars, unless, vector_answer}
-use Rattle.rustc_abi.specs.Least.{IsLeastStruct, IsStructTooLarge, fields_of, HasLeastStructs, HaveLeastStructs, IsTooLarge, AreTooLarge, AreVariantsTooLarge}
-use Rattle.rustc_abi.proofs.LaidLemmas.{IsWhole, all_whole, whole_lawful, placed_back, asked_aligned, asked_sized, length-asked, some_field}
+use Rattle.rustc_abi.specs.Laying.{AreLaying, IsFieldsAnswer, IsLaying, IsListed, IsNotYet, IsUnionOf, IsUnited, VariantsLaying, elements_answer, fields_fault, kind_of, lanes_of, one_scalar, pair_answer, placed_by, placed_fields, placed_together, scalar_answer, two_scalars, unless, vector_answer, placed_enum, enum_fault, has_bad_index, has_bad_align, IsEnumOf}
+use Rattle.rustc_abi.specs.Least.{IsLeastStruct, IsStructTooLarge, HasLeastStructs, HaveLeastStructs, IsTooLarge, AreTooLarge, AreVariantsTooLarge, IsEnumTooLarge, HaveLeastAt, HaveLeastArms}
+use Rattle.rustc_abi.specs.Enums.{IsEnumed, discriminants_of, has_equal, is_discriminant, arms_at}
+use Rattle.rustc_abi.proofs.LaidLemmas.{IsWhole, all_whole, whole_lawful, placed_back, asked_aligned, asked_sized, length-asked, some_field, numbers_for, variants_whole}
 use Rattle.rustc_abi.proofs.LayLemmas.{pair_overflows}
-use Rattle.rustc_abi.proofs.OneAnswer.{one_answer, one_list}
-
--- the parts are the types that were put at the offsets
-fields_at : (offsets : List ℕ) (ps : List Placed) → length offsets ≡ length ps → fields_of (parts_at offsets ps) ≡ ps
-fields_at [] [] e = refl
-fields_at [] (p ∷ ps) e = absurd (omega arith)
-fields_at (o ∷ offsets) [] e = absurd (omega arith)
-fields_at (o ∷ offsets) (p ∷ ps) e = ap (λ rest. p ∷ rest) (fields_at offsets ps (omega arith))
+use Rattle.rustc_abi.proofs.OneAnswer.{one_answer, one_list, one_list_each}
+use Rattle.rustc_abi.proofs.EnumSizeLemmas.{enumed_large, enumed_refused, enumed_least, fields_back, apart_long}
+use Rattle.rustc_abi.proofs.ArmsLemmas.{EachApart}
+use Rattle.abi_scalar.specs.declared.error.LayoutCalculatorError.TheVariants as calculator
 
 -- errors of one list
 not_size : SizeOverflow ≡ UnexpectedUnsized → ⊥
@@ -57,6 +55,14 @@ not_size e = absurd (cc)
 
 not_size_either : SizeOverflow ≡ LayError.OutOfMemory → ⊥
 not_size_either e = absurd (cc)
+
+-- no own fault of an enum is a size
+no_size : (a b c d : Bool) → (if a then Some BadIndex else (if b then Some BadAlign else (if c then Some DuplicateDiscriminant else (if not d then Some DiscriminantTooWide else None)))) ≡ Some SizeOverflow → ⊥
+no_size true b c d e = cc
+no_size false true c d e = cc
+no_size false false true d e = cc
+no_size false false false true e = cc
+no_size false false false false e = cc
 
 -- ---- one list of fields
 
@@ -214,7 +220,7 @@ module _ (dl : TargetDataLayout) (law : IsLawfulDataLayout dl) where
       let whole = all_whole dl law all ps there in
       let count = listed_count dl repr always_sized ps whole layout listed in
       subst (HasLeastStructs dl (struct repr always_sized all)) same (
-        subst (λ qs. IsLeastStruct dl repr always_sized qs layout.size) (sym (fields_at (listed_offsets layout.fields) ps count)) (listed_least dl repr always_sized ps whole layout listed),
+        subst (λ qs. IsLeastStruct dl repr always_sized qs layout.size) (sym (fields_back (listed_offsets layout.fields) ps count)) (listed_least dl repr always_sized ps whole layout listed),
         each (listed_offsets layout.fields) count,
       )
   least_fields (Some f) repr always_sized all ps p there each e = absurd (cc)
@@ -286,6 +292,47 @@ module _ (dl : TargetDataLayout) (law : IsLawfulDataLayout dl) where
         absurd (cc)
     refused_union (Some f) r none large e = absurd (cc)
 
+  -- ---- an enum
+
+  module _ (repr : ReprOptions) (all : Variants) (variants : List (List Placed)) (there : VariantsLaying dl all (Ok variants)) where
+    abbrev EnumAnswersBy : Option LayError → Result Placed LayError → Type 0
+    EnumAnswersBy fault r =
+        MatchOption fault (Follows (IsEnumed dl repr (discriminants_of all) variants) (λ layout z. z ≡ Ok (placed_enum dl (discriminants_of all) variants layout)) r) (λ e. r ≡ Err e)
+
+    large_enum : (fault : Option LayError) → enum_fault dl repr (discriminants_of all) variants ≡ fault → EnumAnswersBy fault (Err SizeOverflow) →
+        (enum_fault dl repr (discriminants_of all) variants ≡ None) × IsEnumTooLarge dl repr (discriminants_of all) variants
+    large_enum None none (inl (e, refused, is)) =
+        let same : e ≡ SizeOverflow = cc in (
+          none,
+          enumed_large dl law repr (discriminants_of all) variants none (numbers_for dl law all variants there) (variants_whole dl law all variants there)
+              (subst (λ x. IsEnumed dl repr (discriminants_of all) variants (Err x)) same refused),
+        )
+    large_enum None none (inr (layout, enumed, is)) = absurd (cc)
+    large_enum (Some f) fault e = absurd (no_size (has_bad_index variants) (has_bad_align repr) (has_equal (discriminants_of all)) (list_all (is_discriminant dl repr) (discriminants_of all)) (fault ∙ cc))
+
+    refused_enum : (fault : Option LayError) (r : Result Placed LayError) → enum_fault dl repr (discriminants_of all) variants ≡ fault → fault ≡ None →
+        IsEnumTooLarge dl repr (discriminants_of all) variants → EnumAnswersBy fault r → r ≡ Err SizeOverflow
+    refused_enum None r fault none large (inl (e, refused, is)) =
+        let same : ◌≡◌ {A = Result Layout LayError} (Err e) (Err SizeOverflow) =
+        enumed_refused dl law repr (discriminants_of all) variants fault (numbers_for dl law all variants there) (variants_whole dl law all variants there) large (Err e) refused in
+        is ∙ ap (λ x. Err x) (cc)
+    refused_enum None r fault none large (inr (layout, enumed, is)) =
+        let same : ◌≡◌ {A = Result Layout LayError} (Ok layout) (Err SizeOverflow) =
+        enumed_refused dl law repr (discriminants_of all) variants fault (numbers_for dl law all variants there) (variants_whole dl law all variants there) large (Ok layout) enumed in
+        absurd (cc)
+    refused_enum (Some f) r fault none large e = absurd (cc)
+
+    least_enum : (fault : Option LayError) → enum_fault dl repr (discriminants_of all) variants ≡ fault → (p : Placed)
+        → ((i : ℕ) (offsets : List ℕ) → i < length variants → length offsets ≡ length (variant_at variants i) → HaveLeastAt dl all i (parts_at offsets (variant_at variants i)))
+        → ((size : ℕ) (layouts : List (VariantLayout ℕ)) → EachApart size variants layouts → HaveLeastArms dl all (arms_at layouts (discriminants_of all) variants))
+        → EnumAnswersBy fault (Ok p) → HasLeastStructs dl (enum repr all) p
+    least_enum None none p each_at each_arm (inl f) = absurd (cc f.2)
+    least_enum None none p each_at each_arm (inr (layout, enumed, e)) =
+        let same : placed_enum dl (discriminants_of all) variants layout ≡ p = cc in
+        subst (HasLeastStructs dl (enum repr all)) same
+        (enumed_least dl law repr (discriminants_of all) variants none (numbers_for dl law all variants there) (variants_whole dl law all variants there) all refl each_at each_arm layout enumed)
+    least_enum (Some f) none p each_at each_arm e = absurd (cc)
+
   refused_pair : (a b : Scalar) (r : Result Placed LayError) → IsTooLarge dl (pair a b) → r ≡ pair_answer dl a b → r ≡ Err SizeOverflow
   refused_pair a b r (fa, fb, large) e = e ∙ pair_overflows dl a b fa fb large
 
@@ -310,7 +357,10 @@ module _ (dl : TargetDataLayout) (law : IsLawfulDataLayout dl) where
     laid_least (union repr all) p (inl f) = absurd (cc f.2)
     laid_least (union repr all) p (inr (ps, there, answer)) =
         least_union (fields_fault repr ps) repr all ps p (all_least all ps (map (λ q. 0) ps) (length-map ps (λ q. 0)) there) answer
-    laid_least (enum repr all) p h = tt
+    laid_least (enum repr all) p (inl f) = absurd (cc f.2)
+    laid_least (enum repr all) p (inr (variants, there, answer)) =
+        least_enum repr all variants there (enum_fault dl repr (discriminants_of all) variants) refl p (λ i offsets short e. variant_least all variants i offsets short e there)
+        (λ size layouts apart. arms_least all variants size layouts apart there) answer
     laid_least (coroutine prefix locals states conflicts) p h = tt
 
     all_least : (ts : Trees) (ps : List Placed) (offsets : List ℕ) → length offsets ≡ length ps → AreLaying dl ts (Ok ps) → HaveLeastStructs dl ts (parts_at offsets ps)
@@ -322,6 +372,37 @@ module _ (dl : TargetDataLayout) (law : IsLawfulDataLayout dl) where
         let same : p ∷ rest ≡ ps = cc in
         subst (λ qs. HaveLeastStructs dl (more_trees t ts) (parts_at (o ∷ offsets) qs)) same
         (laid_least t p here, all_least ts rest offsets (omega (arith, e, ap (λ qs. length qs) same)) later)
+
+    variant_least : (all : Variants) (variants : List (List Placed)) (i : ℕ) (offsets : List ℕ) → i < length variants → length offsets ≡ length (variant_at variants i) → VariantsLaying dl all (Ok variants) →
+        HaveLeastAt dl all i (parts_at offsets (variant_at variants i))
+    variant_least no_variants variants i offsets short e h = let none : [] ≡ variants = cc in absurd (omega (arith, short, ap (λ vs. length vs) none))
+    variant_least (more_variants d ts others) variants i offsets short e (inl f) = absurd (cc f.2)
+    variant_least (more_variants d ts others) variants i offsets short e (inr (ps, here, inl f)) = absurd (cc f.2)
+    variant_least (more_variants d ts others) variants zero offsets short e (inr (ps, here, inr (rest, later, is))) =
+        let same : ps ∷ rest ≡ variants = cc in
+        subst (λ vs. HaveLeastStructs dl ts (parts_at offsets (variant_at vs 0))) same (all_least ts ps offsets (e ∙ ap (λ vs. length (variant_at vs 0)) (sym same)) here)
+    variant_least (more_variants d ts others) variants (suc i) offsets short e (inr (ps, here, inr (rest, later, is))) =
+        let same : ps ∷ rest ≡ variants = cc in
+        let long : length variants ≡ suc (length rest) = ap (λ vs. length vs) (sym same) in
+        subst (λ vs. HaveLeastAt dl others i (parts_at offsets (variant_at vs (suc i)))) same
+        (variant_least others rest i offsets (omega (arith, short, long)) (e ∙ ap (λ vs. length (variant_at vs (suc i))) (sym same)) later)
+
+    arms_least : (all : Variants) (variants : List (List Placed)) (size : ℕ) (layouts : List (VariantLayout ℕ)) → EachApart size variants layouts → VariantsLaying dl all (Ok variants) →
+        HaveLeastArms dl all (arms_at layouts (discriminants_of all) variants)
+    arms_least no_variants variants size [] apart h = tt
+    arms_least no_variants [] size (l ∷ layouts) apart h = absurd apart
+    arms_least no_variants (ps ∷ variants) size (l ∷ layouts) apart h = tt
+    arms_least (more_variants d ts others) variants size layouts apart (inl f) = absurd (cc f.2)
+    arms_least (more_variants d ts others) variants size layouts apart (inr (ps, here, inl f)) = absurd (cc f.2)
+    arms_least (more_variants d ts others) [] size layouts apart (inr (ps, here, inr (rest, later, is))) = absurd (cc)
+    arms_least (more_variants d ts others) (qs ∷ variants) size [] apart (inr (ps, here, inr (rest, later, is))) = absurd apart
+    arms_least (more_variants d ts others) (qs ∷ variants) size (l ∷ layouts) apart (inr (ps, here, inr (rest, later, is))) =
+        let first : ps ≡ qs = cc in
+        let others_same : rest ≡ variants = cc in
+        let count : length l.field_offsets ≡ length qs = apart_long size l.field_offsets (map size_of qs) apart.0 ∙ length-map qs size_of in (
+          all_least ts qs l.field_offsets count (subst (λ xs. AreLaying dl ts (Ok xs)) first here),
+          arms_least others variants size layouts apart.1 (subst (λ xs. VariantsLaying dl others (Ok xs)) others_same later),
+        )
 
   mutual
     -- a tree that is refused for a size is too large
@@ -339,8 +420,9 @@ module _ (dl : TargetDataLayout) (law : IsLawfulDataLayout dl) where
     refused_overflow (vector lanes packed element) (inr (q, there, e)) = inr (q, there, large_vector lanes packed q (sym e))
     refused_overflow (union repr all) (inl (e, there, is)) = let same : e ≡ SizeOverflow = cc in inl (list_overflow all (subst (λ x. AreLaying dl all (Err x)) same there))
     refused_overflow (union repr all) (inr (ps, there, answer)) = let large = large_union repr ps (fields_fault repr ps) refl answer in inr (ps, there, large.0, large.1)
-    refused_overflow (enum repr all) (inl (e, there, is)) = let same : e ≡ SizeOverflow = cc in variants_overflow all (subst (λ x. VariantsLaying dl all (Err x)) same there)
-    refused_overflow (enum repr all) (inr f) = absurd (cc f.2)
+    refused_overflow (enum repr all) (inl (e, there, is)) = let same : e ≡ SizeOverflow = cc in inl (variants_overflow all (subst (λ x. VariantsLaying dl all (Err x)) same there))
+    refused_overflow (enum repr all) (inr (variants, there, answer)) =
+        let large = large_enum repr all variants there (enum_fault dl repr (discriminants_of all) variants) refl answer in inr (variants, there, large.0, large.1)
     refused_overflow (coroutine prefix locals states conflicts) (inl (e, there, is)) =
         let same : e ≡ SizeOverflow = cc in inl (list_overflow prefix (subst (λ x. AreLaying dl prefix (Err x)) same there))
     refused_overflow (coroutine prefix locals states conflicts) (inr (ps, before, inl (e, there, is))) =
@@ -382,7 +464,10 @@ module _ (dl : TargetDataLayout) (law : IsLawfulDataLayout dl) where
     large_refused (union repr all) r (inl large) h = follows_refused (AreLaying dl all) (IsUnionOf dl repr) r (λ x there. list_refused all x large there) h
     large_refused (union repr all) r (inr (ps, there, none, large)) h =
         refused_union repr ps (fields_fault repr ps) r none large (follows_on (AreLaying dl all) (IsUnionOf dl repr) r ps there (λ x y a b. one_list dl all x y a b) h)
-    large_refused (enum repr all) r large h = follows_refused (VariantsLaying dl all) IsNotYet r (λ x there. variants_refused all x large there) h
+    large_refused (enum repr all) r (inl large) h = follows_refused (VariantsLaying dl all) (IsEnumOf dl repr (discriminants_of all)) r (λ x there. variants_refused all x large there) h
+    large_refused (enum repr all) r (inr (variants, there, none, large)) h =
+        refused_enum repr all variants there (enum_fault dl repr (discriminants_of all) variants) r refl none large
+        (follows_on (VariantsLaying dl all) (IsEnumOf dl repr (discriminants_of all)) r variants there (λ x y a b. one_list_each dl all x y a b) h)
     large_refused (coroutine prefix locals states conflicts) r (inl large) h =
         follows_refused (AreLaying dl prefix) (λ ps. Follows (AreLaying dl locals) IsNotYet) r (λ x there. list_refused prefix x large there) h
     large_refused (coroutine prefix locals states conflicts) r (inr (ps, there, large)) h =

@@ -2,6 +2,7 @@ mod BytesLemmas
 mod HoldLemmas
 mod ScalarLemmas
 mod FaultLemmas
+mod DiscriminantLemmas
 mod PairLemmas
 mod EmptyLemmas
 mod FlagLemmas
@@ -18,6 +19,7 @@ mod GapsLemmas
 mod WalkLemmas
 mod RoomLemmas
 mod PaddingLemmas
+mod UnusedLemmas
 mod Facts
 mod LayLemmas
 mod PickedLemmas
@@ -27,10 +29,22 @@ mod AnywhereLemmas
 mod VectorLemmas
 mod CalcLemmas
 mod TogetherLemmas
+mod TaggedLemmas
+mod InNicheLemmas
+mod TagViewLemmas
+mod ArmsLemmas
+mod EnumLemmas
+mod NicheEnumLemmas
+mod SingleLemmas
+mod TagIntegerLemmas
+mod PresentLemmas
+mod CalculatedLemmas
+mod FaultlessLemmas
+mod ArmNodesLemmas
 mod LaidLemmas
+mod EnumSizeLemmas
+mod AddedEnumLemmas
+mod VariantsLemmas
 pub mod OneAnswer
 pub mod SomeAnswer
 mod LeastLemmas
-pub mod TaggedLemmas
-pub mod InNicheLemmas
-pub mod TagViewLemmas

@@ -74,7 +74,8 @@ pub passed_on : {B : Type 0} (P : LayError → Type 0) (e : LayError) (r : Resul
 passed_on P e (Ok b) h refused = absurd h
 passed_on P e (Err error) h refused = subst P (sym h) refused
 
-map_sizes : {H : Type 0} (f : H → Layout) (hs : List H) → map (λ h. (f h).size) hs ≡ map (λ l. l.size) (map f hs)
+-- the sizes of the images
+pub map_sizes : {H : Type 0} (f : H → Layout) (hs : List H) → map (λ h. (f h).size) hs ≡ map (λ l. l.size) (map f hs)
 map_sizes f [] = refl
 map_sizes f (h ∷ hs) = ap (λ rest. (f h).size ∷ rest) (map_sizes f hs)
 

@@ -9,10 +9,10 @@ use Rattle.std.proofs.lemmas.Bool.{and_parts}
 use Rattle.std.specs.List.{list_all}
 use Rattle.abi_scalar.specs.Shape.{listed_offsets}
 use Rattle.rustc_abi.specs.declared.node.Shape.{Shape}
-use Rattle.rustc_abi.specs.declared.node.Shape.TheVariants.{Scalar, Pair, Never, Elements, Fields, Union, Vector}
+use Rattle.rustc_abi.specs.declared.node.Shape.TheVariants.{Scalar, Pair, Never, Elements, Fields, Union, Vector, Single, Tagged}
 use Rattle.rustc_abi.specs.declared.node.Node.{Node}
-use Rattle.rustc_abi.specs.Placed.{Placed, Layout, layout_of, pair, elements, vector, fields, union, nothing}
-use Rattle.rustc_abi.specs.Nodes.{placed_in, parts_at, parts_at_0, meaning, meanings, types_in, placed_at, Keeps}
+use Rattle.rustc_abi.specs.Placed.{Placed, Layout, layout_of, pair, elements, vector, fields, union, single, tagged, arm, nothing}
+use Rattle.rustc_abi.specs.Nodes.{placed_in, parts_at, parts_at_0, arms_in, encoding_of, index_of, own_fields, tag_offset, meaning, meanings, types_in, placed_at, Keeps}
 use Rattle.rustc_abi.specs.Adding.{is_node, are_nodes, IsPut}
 
 meanings-push : (done : List Placed) (ns : List Node) (n : Node) →
@@ -43,6 +43,8 @@ layout_of-meaning done layout (Elements count element) = refl
 layout_of-meaning done layout (Fields children) = refl
 layout_of-meaning done layout (Union children) = refl
 layout_of-meaning done layout (Vector lanes) = refl
+layout_of-meaning done layout (Single children) = refl
+layout_of-meaning done layout (Tagged tag variants) = refl
 
 layout_in : (done : List Placed) (ns : List Node) (i j : ℕ) (d : Node) → j ≡ length done + i → i < length ns →
     layout_of (placed_in (meanings done ns) j) ≡ (get_or ns i d).layout
@@ -121,6 +123,14 @@ children-same xs ys n same (c ∷ cs) below =
     let rest : map (placed_in xs) cs ≡ map (placed_in ys) cs = children-same xs ys n same cs both.1 in
     cc
 
+arms-same : (xs ys : List Placed) (n : ℕ) → ((i : ℕ) → i < n → placed_in xs i ≡ placed_in ys i) → (vs : List (ℕ × ℕ)) → list_all (λ v. nat_lt v.1 n) vs ≡ true → arms_in xs vs ≡ arms_in ys vs
+arms-same xs ys n same [] below = refl
+arms-same xs ys n same (v ∷ vs) below =
+    let both = and_parts (nat_lt v.1 n) (list_all (λ v. nat_lt v.1 n) vs) below in
+    let here : placed_in xs v.1 ≡ placed_in ys v.1 = same v.1 (ltb-true v.1 n both.0) in
+    let rest : arms_in xs vs ≡ arms_in ys vs = arms-same xs ys n same vs both.1 in
+    ap (λ p. arm v.0 (own_fields p) (arms_in xs vs)) here ∙ ap (arm v.0 (own_fields (placed_in ys v.1))) rest
+
 -- both children of a pair's node come before it
 pub pair_before : (n first second : ℕ) → (nat_lt first n && nat_lt second n) ≡ true → list_all (λ child. nat_lt child n) (first ∷ second ∷ []) ≡ true
 pair_before n first second is = let both = and_parts (nat_lt first n) (nat_lt second n) is in both_true both.0 (both_true both.1 refl)
@@ -137,6 +147,12 @@ meaning-same xs ys n same layout (Fields children) is =
     ap (λ ps. fields layout (parts_at (listed_offsets layout.fields) ps)) (children-same xs ys n same children.items is)
 meaning-same xs ys n same layout (Union children) is = ap (λ ps. union layout (parts_at_0 ps)) (children-same xs ys n same children.items is)
 meaning-same xs ys n same layout (Vector lanes) is = ap (vector layout) (same lanes (ltb-true lanes n is))
+meaning-same xs ys n same layout (Single children) is =
+    ap (λ ps. single layout (index_of layout.variants) (parts_at (listed_offsets layout.fields) ps)) (children-same xs ys n same children.items is)
+meaning-same xs ys n same layout (Tagged tag variants) is =
+    let both = and_parts (nat_lt tag n) (list_all (λ v. nat_lt v.1 n) variants.items) is in
+    ap (λ p. tagged layout (tag_offset layout) p (encoding_of layout.variants) (arms_in xs variants.items)) (same tag (ltb-true tag n both.0))
+    ∙ ap (tagged layout (tag_offset layout) (placed_in ys tag) (encoding_of layout.variants)) (arms-same xs ys n same variants.items both.1)
 
 placed_in-meanings : (done : List Placed) (ns : List Node) (i j : ℕ) (d : Node) → j ≡ length done + i → i < length ns → is_node j (get_or ns i d).shape ≡ true →
     placed_in (meanings done ns) j ≡ meaning (meanings done ns) (get_or ns i d).layout (get_or ns i d).shape

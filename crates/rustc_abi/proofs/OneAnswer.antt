@@ -1,7 +1,8 @@
 -- A tree has one answer: its layout, or its first fault.
-use Rattle.std.proofs.Common.{◌≡◌, Bool, List, ◌∷◌, Option, Some, None, length, map, inl, inr, sym, ap, ◌∙◌, subst, Result, Ok, Err}
+use Rattle.std.proofs.Common.{◌≡◌, Bool, List, ◌∷◌, Option, Some, None, length, map, inl, inr, sym, ap, ◌∙◌, subst, Result, Ok, Err, ℕ, true}
 use Rattle.std.specs.Prelude.{MatchOption}
 use Rattle.std.proofs.lemmas.List.{map-id}
+use Rattle.abi_base.specs.declared.niche_optimizations.NicheOptimizations.TheVariants.{Enabled}
 use Rattle.abi_base.specs.declared.data_layout.TargetDataLayout.{TargetDataLayout}
 use Rattle.abi_base.specs.declared.struct_kind.StructKind.{StructKind}
 use Rattle.abi_base.specs.DataLayout.{size_bound}
@@ -17,13 +18,18 @@ use Rattle.abi_calc.specs.Placement.{IsNonEmptyIfUnsized, list_repr}
 use Rattle.abi_calc.specs.Union.{union_fault, union_layout}
 use Rattle.abi_calc.proofs.UnionLemmas.{one_union_view}
 use Rattle.abi_calc.proofs.OneOrder.{one_layout, one_named, never_refused}
+use Rattle.abi_calc.proofs.OneEnum.{one_type, IsMade}
+use Rattle.abi_calc.specs.Enums.Path.{path_of}
 use Rattle.rustc_abi.specs.declared.error.LayError.{LayError}
 use Rattle.rustc_abi.specs.Tree.{Tree, scalar, pair, never, unit, array, vector, struct, union, enum, coroutine, Trees, no_trees, more_trees, Variants, no_variants, more_variants}
 use Rattle.rustc_abi.specs.Placed.{Placed, Layout, layout_of}
 use Rattle.rustc_abi.specs.Error.{Follows, lay_error}
-use Rattle.rustc_abi.specs.Laying.{IsLaying, AreLaying, VariantsLaying, IsFieldsAnswer, IsListed, IsNotYet, IsUnionOf, IsUnited, elements_answer, fields_fault, kind_of, placed_fields, placed_together, vector_answer}
+use Rattle.rustc_abi.specs.Laying.{IsLaying, AreLaying, VariantsLaying, IsFieldsAnswer, IsListed, IsNotYet, IsUnionOf, IsUnited, elements_answer, fields_fault, kind_of, placed_fields, placed_together, vector_answer, IsEnumOf, enum_fault, placed_enum}
+use Rattle.rustc_abi.specs.Enums.{IsCalculated, IsEnumed, IsTagInteger, numbered_from, layouts_of, discriminants_of}
 use Rattle.rustc_abi.proofs.CalcLemmas.{united_layout}
 use Rattle.rustc_abi.proofs.LaidLemmas.{length-asked, some_field}
+use Rattle.rustc_abi.proofs.TagIntegerLemmas.{tag_integer_one}
+use Rattle.abi_scalar.specs.declared.error.LayoutCalculatorError.TheVariants as calculator
 
 -- what has one answer goes on to one answer
 follows_one : {A B : Type 0} (P : Result A LayError → Type 0) (next : A → Result B LayError → Type 0) (r s : Result B LayError)
@@ -107,6 +113,42 @@ module _ (dl : TargetDataLayout) where
   one_union repr ps r s h k =
       one_by (fields_fault repr ps) (IsUnited dl repr (map layout_of ps)) (placed_together ps) r s (λ x y p q. one_united repr (map layout_of ps) x y p q) h k
 
+  -- ---- an enum has one answer
+
+  -- what the calculator makes isn't want of memory
+  made_layout : (l : Layout) → IsMade {H = Placed} (Ok l)
+  made_layout l e = cc
+
+  made_error : (error : LayoutCalculatorError Placed) → (error ≡ calculator.OutOfMemory → ⊥) → IsMade {H = Placed} (Err error)
+  made_error error other e = other (cc)
+
+  one_calculated : (repr : ReprOptions) (numbers : List ℕ) (variants : List (List Placed)) (r s : Result Layout (LayoutCalculatorError Placed)) →
+      IsCalculated dl repr numbers variants r → IsCalculated dl repr numbers variants s → IsMade r → IsMade s → r ≡ s
+  one_calculated repr numbers variants r s h k p q =
+      one_type layout_of dl repr variants true true Enabled (IsTagInteger dl repr) (tag_integer_one dl repr) (λ items. items ≡ numbered_from 0 numbers)
+      (λ xs ys (a : xs ≡ numbered_from 0 numbers) b. a ∙ sym b) (path_of true repr (layouts_of variants)) r s h k p q
+
+  one_enumed : (repr : ReprOptions) (numbers : List ℕ) (variants : List (List Placed)) (r s : Result Layout LayError) → IsEnumed dl repr numbers variants r → IsEnumed dl repr numbers variants s → r ≡ s
+  one_enumed repr numbers variants (Ok a) (Ok b) h k =
+      let both : ◌≡◌ {A = Result Layout (LayoutCalculatorError Placed)} (Ok a) (Ok b) = one_calculated repr numbers variants (Ok a) (Ok b) h k (made_layout a) (made_layout b) in
+      let same : a ≡ b = cc in
+      ap (λ l. Ok l) same
+  one_enumed repr numbers variants (Ok a) (Err f) h (error, k, other, e) =
+      let both : ◌≡◌ {A = Result Layout (LayoutCalculatorError Placed)} (Ok a) (Err error) = one_calculated repr numbers variants (Ok a) (Err error) h k (made_layout a) (made_error error other) in
+      absurd (cc)
+  one_enumed repr numbers variants (Err f) (Ok b) (error, h, other, e) k =
+      let both : ◌≡◌ {A = Result Layout (LayoutCalculatorError Placed)} (Err error) (Ok b) = one_calculated repr numbers variants (Err error) (Ok b) h k (made_error error other) (made_layout b) in
+      absurd (cc)
+  one_enumed repr numbers variants (Err e) (Err f) (error, h, other, is) (error2, k, other2, is2) =
+      let both : ◌≡◌ {A = Result Layout (LayoutCalculatorError Placed)} (Err error) (Err error2) =
+      one_calculated repr numbers variants (Err error) (Err error2) h k (made_error error other) (made_error error2 other2) in
+      let same : error ≡ error2 = cc in
+      ap (λ x. Err x) (is ∙ ap lay_error same ∙ sym is2)
+
+  pub one_enum : (repr : ReprOptions) (numbers : List ℕ) (variants : List (List Placed)) (r s : Result Placed LayError) → IsEnumOf dl repr numbers variants r → IsEnumOf dl repr numbers variants s → r ≡ s
+  one_enum repr numbers variants r s h k =
+      one_by (enum_fault dl repr numbers variants) (IsEnumed dl repr numbers variants) (placed_enum dl numbers variants) r s (λ x y p q. one_enumed repr numbers variants x y p q) h k
+
   -- nothing but `NotYet` is answered
   one_not_yet : {A : Type 0} (a : A) (r s : Result Placed LayError) → IsNotYet a r → IsNotYet a s → r ≡ s
   one_not_yet a r s h k = h ∙ sym k
@@ -130,7 +172,9 @@ module _ (dl : TargetDataLayout) where
     one_answer (union repr all) r s h k =
         follows_one (AreLaying dl all) (IsUnionOf dl repr) r s (λ x y p q. one_list all x y p q)
         (λ ps a b. one_union repr ps r s a b) h k
-    one_answer (enum repr all) r s h k = follows_one (VariantsLaying dl all) IsNotYet r s (λ x y p q. one_list_each all x y p q) (λ ps a b. one_not_yet ps r s a b) h k
+    one_answer (enum repr all) r s h k =
+        follows_one (VariantsLaying dl all) (IsEnumOf dl repr (discriminants_of all)) r s (λ x y p q. one_list_each all x y p q)
+        (λ variants a b. one_enum repr (discriminants_of all) variants r s a b) h k
     one_answer (coroutine prefix locals states conflicts) r s h k =
         follows_one (AreLaying dl prefix) (λ ps. Follows (AreLaying dl locals) IsNotYet) r s (λ x y p q. one_list prefix x y p q)
         (λ ps a b. follows_one (AreLaying dl locals) IsNotYet r s (λ x y p q. one_list locals x y p q) (λ qs c d. one_not_yet qs r s c d) a b) h k
@@ -141,7 +185,7 @@ module _ (dl : TargetDataLayout) where
         follows_one (IsLaying dl t) (λ p. Follows (AreLaying dl ts) (λ ps z. z ≡ Ok (p ∷ ps))) r s (λ x y p q. one_answer t x y p q)
         (λ p a b. follows_one (AreLaying dl ts) (λ ps z. z ≡ Ok (p ∷ ps)) r s (λ x y u v. one_list ts x y u v) (λ ps (c : r ≡ Ok (p ∷ ps)) d. c ∙ sym d) a b) h k
 
-    one_list_each : (all : Variants) (r s : Result (List (List Placed)) LayError) → VariantsLaying dl all r → VariantsLaying dl all s → r ≡ s
+    pub one_list_each : (all : Variants) (r s : Result (List (List Placed)) LayError) → VariantsLaying dl all r → VariantsLaying dl all s → r ≡ s
     one_list_each no_variants r s h k = h ∙ sym k
     one_list_each (more_variants discriminant ts others) r s h k =
         follows_one (AreLaying dl ts) (λ ps. Follows (VariantsLaying dl others) (λ rest z. z ≡ Ok (ps ∷ rest))) r s (λ x y p q. one_list ts x y p q)

@@ -2,25 +2,38 @@
 use Rattle.std.proofs.Common.{◌≡◌, ℕ, zero, suc, ◌+◌, ◌-◌, ◌*◌, ◌/◌, ◌%◌, ◌<◌, ◌≤◌, List, [], ◌∷◌, ◌++◌, Bool, true, false, length, map, replicate, get_or, take, min, arith, refl, sym, ap, ◌∙◌, subst, All}
 use Rattle.std.specs.Prelude.{◌==◌, ◌&&◌, ◌||◌, nat_le, nat_lt, not, None}
 use Rattle.std.specs.List.{list_all}
-use Rattle.std.proofs.lemmas.Bool.{ltb-true, le-ltb, eqb-true, and_parts}
+use Rattle.std.proofs.lemmas.Bool.{ltb-true, leb-true, le-ltb, eqb-true, and_parts}
 use Rattle.std.proofs.lemmas.List.{take_more, length-take-le, length-map, get_or-map}
 use Rattle.std.proofs.lemmas.List.Elements.{All-nil, All-cons}
 use Rattle.std.proofs.Math.Bool.{or-false}
 use Rattle.abi_scalar.specs.declared.scalar.Scalar.{Scalar}
-use Rattle.rustc_abi.specs.declared.node.Shape.TheVariants.{Scalar as Number, Pair, Never, Elements, Fields, Union, Vector}
+use Rattle.rustc_abi.specs.declared.node.Shape.{Shape}
+use Rattle.rustc_abi.specs.declared.node.Shape.TheVariants.{Scalar as Number, Pair, Never, Elements, Fields, Union, Vector, Single, Tagged}
 use Rattle.rustc_abi.specs.declared.node.Node.{Node}
 use Rattle.rustc_abi.specs.declared.runs.Run.{Run}
 use Rattle.std.specs.Prelude.{Vec}
 use Rattle.std.specs.declared.alloc.Global.{Global}
 use Rattle.abi_scalar.specs.Shape.{listed_offsets}
-use Rattle.rustc_abi.specs.Placed.{Placed, Layout, scalar, pair, never, elements, vector, fields, union, size_of, part, nothing}
-use Rattle.rustc_abi.specs.Places.{is_data_place, is_place_of_part}
-use Rattle.rustc_abi.specs.Nodes.{parts_at, parts_at_0, placed_at}
-use Rattle.rustc_abi.specs.Room.{has_room, have_room}
+use Rattle.rustc_abi.specs.Placed.{Placed, Layout, scalar, pair, never, elements, vector, fields, union, single, tagged, size_of, Parts, no_parts, part, nothing}
+use Rattle.rustc_abi.specs.Places.{is_data_place, is_place_of_part, is_place_of_arm}
+use Rattle.rustc_abi.specs.Nodes.{parts_at, parts_at_0, placed_in, placed_at, types_in, arms_in, own_fields, index_of, meaning, tag_offset, encoding_of}
+use Rattle.rustc_abi.specs.Room.{has_room, have_room, arms_have_room}
 use Rattle.rustc_abi.specs.Adding.{are_nodes, all_at}
 use Rattle.rustc_abi.specs.Runs.{covers, repeats, Ascend, runs_from, is_beside, padding_of}
 use Rattle.rustc_abi.proofs.NodesLemmas.{placed_at-node, pair_before}
-use Rattle.rustc_abi.proofs.RoomLemmas.{within_room, room_at, ends_inside}
+use Rattle.rustc_abi.proofs.RoomLemmas.{within_room, within_have, room_at, ends_inside}
+
+all_before : (i : ℕ) (cs : List ℕ) → list_all (λ child. nat_lt child i) cs ≡ true → All (λ child. child < i) cs
+all_before i [] h = All-nil (λ child. child < i)
+all_before i (c ∷ cs) h =
+    let both = and_parts (nat_lt c i) (list_all (λ child. nat_lt child i) cs) h in
+    All-cons (λ child. child < i) c cs (ltb-true c i both.0) (all_before i cs both.1)
+
+variants_before : (i : ℕ) (vs : List (ℕ × ℕ)) → list_all (λ v. nat_lt v.1 i) vs ≡ true → All (λ v. v.1 < i) vs
+variants_before i [] h = All-nil (λ v. v.1 < i)
+variants_before i (v ∷ vs) h =
+    let both = and_parts (nat_lt v.1 i) (list_all (λ v. nat_lt v.1 i) vs) h in
+    All-cons (λ v. v.1 < i) v vs (ltb-true v.1 i both.0) (variants_before i vs both.1)
 
 module _ (ns : List Node) (well : are_nodes 0 ns ≡ true) (i : ℕ) (n : Node) (lt : i < length ns) (at : n ≡ get_or ns i n) (room : has_room (placed_at ns i) ≡ true) where
   pub scalar_node : (s : Scalar) → n.shape ≡ Number s → placed_at ns i ≡ scalar n.layout s
@@ -37,25 +50,19 @@ module _ (ns : List Node) (well : are_nodes 0 ns ≡ true) (i : ℕ) (n : Node) 
       let both = and_parts (n.layout.size == size_of (placed_at ns element) * count) (has_room (placed_at ns element)) (ap has_room (sym is.1) ∙ room) in
       (ltb-true element i is.0, is.1, eqb-true n.layout.size (size_of (placed_at ns element) * count) both.0, both.1)
 
-  all_before : (cs : List ℕ) → list_all (λ child. nat_lt child i) cs ≡ true → All (λ child. child < i) cs
-  all_before [] h = All-nil (λ child. child < i)
-  all_before (c ∷ cs) h =
-      let both = and_parts (nat_lt c i) (list_all (λ child. nat_lt child i) cs) h in
-      All-cons (λ child. child < i) c cs (ltb-true c i both.0) (all_before cs both.1)
-
   pub fields_node : (children : Vec ℕ Global) → n.shape ≡ Fields children →
       All (λ child. child < i) children.items × (placed_at ns i ≡ fields n.layout (parts_at (listed_offsets n.layout.fields) (all_at ns children.items)))
       × (have_room n.layout.size (parts_at (listed_offsets n.layout.fields) (all_at ns children.items)) ≡ true)
   fields_node children e =
       let is = placed_at-node ns well i n (Fields children) lt at e in
-      (all_before children.items is.0, is.1, ap has_room (sym is.1) ∙ room)
+      (all_before i children.items is.0, is.1, ap has_room (sym is.1) ∙ room)
 
   pub union_node : (children : Vec ℕ Global) → n.shape ≡ Union children →
       All (λ child. child < i) children.items × (placed_at ns i ≡ union n.layout (parts_at_0 (all_at ns children.items)))
       × (have_room n.layout.size (parts_at_0 (all_at ns children.items)) ≡ true)
   union_node children e =
       let is = placed_at-node ns well i n (Union children) lt at e in
-      (all_before children.items is.0, is.1, ap has_room (sym is.1) ∙ room)
+      (all_before i children.items is.0, is.1, ap has_room (sym is.1) ∙ room)
 
   pub vector_node : (lanes : ℕ) → n.shape ≡ Vector lanes → (lanes < i) × (placed_at ns i ≡ vector n.layout (placed_at ns lanes)) × (has_room (placed_at ns lanes) ≡ true)
   vector_node lanes e =
@@ -68,7 +75,53 @@ module _ (ns : List Node) (well : are_nodes 0 ns ≡ true) (i : ℕ) (n : Node) 
       × (have_room n.layout.size (parts_at (listed_offsets n.layout.fields) (all_at ns (first ∷ second ∷ []))) ≡ true)
   pair_node first second e =
       let is = placed_at-node ns well i n (Pair first second) lt at e in
-      (all_before (first ∷ second ∷ []) (pair_before i first second is.0), is.1, ap has_room (sym is.1) ∙ room)
+      (all_before i (first ∷ second ∷ []) (pair_before i first second is.0), is.1, ap has_room (sym is.1) ∙ room)
+
+  -- the fields of the one variant that is left
+  pub single_node : (children : Vec ℕ Global) → n.shape ≡ Single children →
+      All (λ child. child < i) children.items
+      × (placed_at ns i ≡ single n.layout (index_of n.layout.variants) (parts_at (listed_offsets n.layout.fields) (all_at ns children.items)))
+      × (have_room n.layout.size (parts_at (listed_offsets n.layout.fields) (all_at ns children.items)) ≡ true)
+  single_node children e =
+      let is = placed_at-node ns well i n (Single children) lt at e in
+      (all_before i children.items is.0, is.1, ap has_room (sym is.1) ∙ room)
+
+  -- the tag and the variants beside it: all come before the node and end inside it
+  pub tagged_node : (tag : ℕ) (variants : Vec (ℕ × ℕ) Global) → n.shape ≡ Tagged tag variants →
+      (tag < i) × All (λ v. v.1 < i) variants.items
+      × (placed_at ns i ≡ tagged n.layout (tag_offset n.layout) (placed_at ns tag) (encoding_of n.layout.variants) (arms_in (types_in ns) variants.items))
+      × (tag_offset n.layout + size_of (placed_at ns tag) ≤ n.layout.size) × (has_room (placed_at ns tag) ≡ true)
+      × (arms_have_room n.layout.size (arms_in (types_in ns) variants.items) ≡ true)
+  tagged_node tag variants e =
+      let is = placed_at-node ns well i n (Tagged tag variants) lt at e in
+      let before = and_parts (nat_lt tag i) (list_all (λ v. nat_lt v.1 i) variants.items) is.0 in
+      let fits = nat_le (tag_offset n.layout + size_of (placed_at ns tag)) n.layout.size in
+      let both = and_parts (fits && has_room (placed_at ns tag)) (arms_have_room n.layout.size (arms_in (types_in ns) variants.items)) (ap has_room (sym is.1) ∙ room) in
+      let of_tag = and_parts fits (has_room (placed_at ns tag)) both.0 in
+      (ltb-true tag i before.0, variants_before i variants.items before.1, is.1, leb-true (tag_offset n.layout + size_of (placed_at ns tag)) n.layout.size of_tag.0, of_tag.1, both.1)
+
+own_fields_none : (done : List Placed) (layout : Layout) (shape : Shape) → ((children : Vec ℕ Global) → shape ≡ Fields children → ⊥) → own_fields (meaning done layout shape) ≡ no_parts
+own_fields_none done layout (Number s) other = refl
+own_fields_none done layout (Pair first second) other = refl
+own_fields_none done layout Never other = refl
+own_fields_none done layout (Elements count element) other = refl
+own_fields_none done layout (Fields children) other = absurd (other children refl)
+own_fields_none done layout (Union children) other = refl
+own_fields_none done layout (Vector lanes) other = refl
+own_fields_none done layout (Single children) other = refl
+own_fields_none done layout (Tagged tag variants) other = refl
+
+module _ (ns : List Node) (well : are_nodes 0 ns ≡ true) (i : ℕ) (n : Node) (lt : i < length ns) (at : n ≡ get_or ns i n) where
+  -- a variant's own fields are those of its node
+  pub own_fields_node : (children : Vec ℕ Global) → n.shape ≡ Fields children →
+      All (λ child. child < i) children.items × (own_fields (placed_at ns i) ≡ parts_at (listed_offsets n.layout.fields) (all_at ns children.items))
+  own_fields_node children e =
+      let is = placed_at-node ns well i n (Fields children) lt at e in
+      (all_before i children.items is.0, ap own_fields is.1)
+
+  -- a node of another kind has no fields of a variant
+  pub own_fields_other : ((children : Vec ℕ Global) → n.shape ≡ Fields children → ⊥) → own_fields (placed_at ns i) ≡ no_parts
+  own_fields_other other = ap own_fields (placed_at-node ns well i n n.shape lt at refl).1 ∙ own_fields_none (types_in ns) n.layout n.shape other
 
 -- what repeats an element's runs are the array's places
 pub places_of_elements : (layout : Layout) (count : ℕ) (element : Placed) (runs : List Run) → ((k : ℕ) → covers runs k ≡ is_data_place element k) → (k : ℕ) →
@@ -95,7 +148,8 @@ places_of_none layout element k = sym (ap (λ b. b && is_data_place element (k %
 pub runs_inside : (placed : Placed) (runs : List Run) → has_room placed ≡ true → Ascend 0 runs → ((k : ℕ) → covers runs k ≡ is_data_place placed k) → All (λ run. run.end ≤ size_of placed) runs
 runs_inside placed runs room ascend same = ends_inside 0 (size_of placed) runs ascend (λ k h. within_room placed k room (sym (same k) ∙ h))
 
-or_shift : (a b c : Bool) → (a || (b || c)) ≡ ((a || b) || c)
+-- the order in which tests are joined doesn't count
+pub or_shift : (a b c : Bool) → (a || (b || c)) ≡ ((a || b) || c)
 or_shift true b c = refl
 or_shift false b c = refl
 
@@ -149,6 +203,32 @@ module _ (ns : List Node) (os children : List ℕ) (n : ℕ) (lt : n < length os
   fields_more k =
       parts_at-more os (all_at ns children) n k lt as_many
       ∙ ap (λ p. is_place_of_part (parts_at (take n os) (take n (all_at ns children))) k || (nat_le (get_or os n 0) k && is_data_place p (k - get_or os n 0))) child_at
+
+-- one variant more
+arms_in-push : (done : List Placed) (vs : List (ℕ × ℕ)) (v : ℕ × ℕ) (k : ℕ) →
+    is_place_of_arm (arms_in done (vs ++ v ∷ [])) k ≡ (is_place_of_arm (arms_in done vs) k || is_place_of_part (own_fields (placed_in done v.1)) k)
+arms_in-push done [] v k = or-false (is_place_of_part (own_fields (placed_in done v.1)) k)
+arms_in-push done (w ∷ vs) v k =
+    ap (λ b. is_place_of_part (own_fields (placed_in done w.1)) k || b) (arms_in-push done vs v k)
+    ∙ or_shift (is_place_of_part (own_fields (placed_in done w.1)) k) (is_place_of_arm (arms_in done vs) k) (is_place_of_part (own_fields (placed_in done v.1)) k)
+
+-- the first variants, and one more
+pub arms_more : (done : List Placed) (vs : List (ℕ × ℕ)) (n k : ℕ) (d : ℕ × ℕ) → n < length vs →
+    is_place_of_arm (arms_in done (take (n + 1) vs)) k ≡ (is_place_of_arm (arms_in done (take n vs)) k || is_place_of_part (own_fields (placed_in done (get_or vs n d).1)) k)
+arms_more done vs n k d lt = ap (λ xs. is_place_of_arm (arms_in done xs) k) (take_more vs n d lt) ∙ arms_in-push done (take n vs) (get_or vs n d) k
+
+-- the n-th variant's fields end inside
+pub arm_room : (size : ℕ) (done : List Placed) (vs : List (ℕ × ℕ)) (n : ℕ) (d : ℕ × ℕ) → arms_have_room size (arms_in done vs) ≡ true → n < length vs →
+    have_room size (own_fields (placed_in done (get_or vs n d).1)) ≡ true
+arm_room size done [] n d room lt = absurd (omega arith)
+arm_room size done (v ∷ vs) zero d room lt = (and_parts (have_room size (own_fields (placed_in done v.1))) (arms_have_room size (arms_in done vs)) room).0
+arm_room size done (v ∷ vs) (suc n) d room lt =
+    arm_room size done vs n d (and_parts (have_room size (own_fields (placed_in done v.1))) (arms_have_room size (arms_in done vs)) room).1 (omega arith)
+
+-- runs of parts' places end inside the size that the parts have room in
+pub parts_inside : (size : ℕ) (parts : Parts) (runs : List Run) → have_room size parts ≡ true → Ascend 0 runs → ((k : ℕ) → covers runs k ≡ is_place_of_part parts k) →
+    All (λ run. run.end ≤ size) runs
+parts_inside size parts runs room ascend same = ends_inside 0 size runs ascend (λ k h. within_have size parts k room (sym (same k) ∙ h))
 
 -- the gaps between the runs of a type's places are its padding
 pub padding_same : (placed : Placed) (runs : List Run) → ((k : ℕ) → covers runs k ≡ is_data_place placed k) → runs_from (is_beside runs) None 0 (size_of placed) ≡ padding_of placed

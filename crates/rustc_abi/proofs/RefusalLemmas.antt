@@ -5,7 +5,6 @@ use Rattle.std.proofs.lemmas.List.{map-append, take_more, take-append-drop}
 use Rattle.abi_base.specs.declared.data_layout.TargetDataLayout.{TargetDataLayout}
 use Rattle.abi_scalar.specs.declared.repr.ReprOptions.{ReprOptions}
 use Rattle.rustc_abi.specs.declared.error.LayError.{LayError}
-use Rattle.rustc_abi.specs.declared.error.LayError.TheVariants.{NotYet}
 use Rattle.rustc_abi.specs.declared.tree.TypeTree.{TypeTree, Enum}
 use Rattle.rustc_abi.specs.Tree.{enum, tree_of, trees, trees_of_variants}
 use Rattle.rustc_abi.specs.Placed.{Placed}
@@ -90,7 +89,3 @@ pub enum_refused : (dl : TargetDataLayout) (tree : TypeTree) (repr : ReprOptions
     IsRefused (VariantsLaying dl (trees_of_variants all.items)) e → IsRefused (IsLaying dl (tree_of tree)) e
 enum_refused dl tree repr all e is (inl memory) = inl memory
 enum_refused dl tree repr all e is (inr f) = inr (enum_is dl tree repr all (Err e) is (inl (e, f, refl)))
-
-pub enum_not_yet : (dl : TargetDataLayout) (tree : TypeTree) (repr : ReprOptions) (all : Vec Fields Global) → tree ≡ Enum repr all →
-    (rest : List (List Placed)) × VariantsLaying dl (trees_of_variants all.items) (Ok rest) → IsRefused (IsLaying dl (tree_of tree)) NotYet
-enum_not_yet dl tree repr all is laid = inr (enum_is dl tree repr all (Err NotYet) is (inr (laid.0, laid.1, refl)))

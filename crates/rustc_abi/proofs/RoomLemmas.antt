@@ -54,7 +54,7 @@ mutual
       (or_cases (nat_le offset k && is_data_place tag (k - offset)) (is_place_of_arm arms k) later))
       (or_cases (is_place_of_part prefix k) ((nat_le offset k && is_data_place tag (k - offset)) || is_place_of_arm arms k) place)
 
-  within_have : (size : ℕ) (parts : Parts) (k : ℕ) → have_room size parts ≡ true → is_place_of_part parts k ≡ true → k < size
+  pub within_have : (size : ℕ) (parts : Parts) (k : ℕ) → have_room size parts ≡ true → is_place_of_part parts k ≡ true → k < size
   within_have size no_parts k room place = absurd (cc)
   within_have size (part offset placed parts) k room place =
       let both = and_parts (nat_le (offset + size_of placed) size && has_room placed) (have_room size parts) room in

@@ -1,17 +1,18 @@
 -- A tree has an answer: its layout, or its first fault.
-use Rattle.std.proofs.Common.{◌≡◌, ℕ, List, [], ◌∷◌, Option, Some, None, length, map, inl, inr, refl, sym, ap, ◌∙◌, subst, All, Result, Ok, Err}
+use Rattle.std.proofs.Common.{◌≡◌, ℕ, List, [], ◌∷◌, Option, Some, None, length, map, inl, inr, refl, sym, ap, ◌∙◌, subst, All, Result, Ok, Err, true}
 use Rattle.std.specs.Prelude.{◌⊎◌, MatchOption, Bool}
 use Rattle.std.specs.List.{list_any}
 use Rattle.std.proofs.lemmas.List.{map-id}
+use Rattle.abi_base.specs.declared.niche_optimizations.NicheOptimizations.TheVariants.{Enabled}
 use Rattle.abi_base.specs.declared.data_layout.TargetDataLayout.{TargetDataLayout}
 use Rattle.abi_base.specs.DataLayout.{IsLawfulDataLayout, size_bound}
 use Rattle.abi_scalar.specs.declared.error.LayoutCalculatorError.{LayoutCalculatorError}
-use Rattle.abi_scalar.specs.declared.error.LayoutCalculatorError.TheVariants as calculator
 use Rattle.abi_scalar.specs.declared.fields_shape.FieldsShape.TheVariants.{Arbitrary}
 use Rattle.abi_scalar.specs.declared.niche.Niche.{Niche}
 use Rattle.abi_scalar.specs.declared.repr.ReprOptions.{ReprOptions}
 use Rattle.abi_scalar.specs.declared.variants.Variants.TheVariants.{Single}
 use Rattle.abi_scalar.specs.Repr.{is_abi_fixed}
+use Rattle.abi_scalar.specs.Lawful.{IsLawfulLayout}
 use Rattle.abi_calc.specs.declared.order.NicheBias.TheVariants.{Start}
 use Rattle.abi_calc.specs.declared.placing.ListFault.{ListFault}
 use Rattle.abi_calc.specs.declared.placing.ListFault.TheVariants.{Unsized, TooLarge, OutOfMemory}
@@ -27,13 +28,18 @@ use Rattle.abi_calc.proofs.DeepLemmas.{sized_fault}
 use Rattle.abi_calc.proofs.FaultLemmas.{memory_in}
 use Rattle.abi_calc.proofs.SomeOrder.{some_layout}
 use Rattle.abi_calc.proofs.SomeView.{some_union_view}
+use Rattle.abi_calc.proofs.SomeEnum.{some_type}
+use Rattle.abi_calc.specs.Enums.Path.{path_of}
 use Rattle.rustc_abi.specs.declared.error.LayError.{LayError}
 use Rattle.rustc_abi.specs.declared.error.LayError.TheVariants.{SizeOverflow}
 use Rattle.rustc_abi.specs.Tree.{Tree, scalar, pair, never, unit, array, vector, struct, union, enum, coroutine, Trees, no_trees, more_trees, Variants, no_variants, more_variants}
 use Rattle.rustc_abi.specs.Placed.{Placed, Layout, layout_of}
 use Rattle.rustc_abi.specs.Error.{Follows, lay_error}
-use Rattle.rustc_abi.specs.Laying.{AreLaying, IsFieldsAnswer, IsLaying, IsListed, IsNotYet, IsUnionOf, IsUnited, VariantsLaying, elements_answer, fields_fault, kind_of, placed_fields, placed_together, vector_answer}
-use Rattle.rustc_abi.proofs.LaidLemmas.{IsWhole, all_whole, asked_lawful, asked_sized, length-asked, some_field}
+use Rattle.rustc_abi.specs.Laying.{AreLaying, IsFieldsAnswer, IsLaying, IsListed, IsNotYet, IsUnionOf, IsUnited, VariantsLaying, elements_answer, fields_fault, kind_of, placed_fields, placed_together, vector_answer, IsEnumOf, enum_fault, placed_enum}
+use Rattle.rustc_abi.specs.Enums.{IsCalculated, IsEnumed, IsTagInteger, numbered_from, layouts_of, discriminants_of}
+use Rattle.rustc_abi.proofs.LaidLemmas.{IsWhole, all_whole, asked_lawful, asked_sized, length-asked, some_field, each_lawful, variants_whole}
+use Rattle.rustc_abi.proofs.TagIntegerLemmas.{tag_integer_total}
+use Rattle.abi_scalar.specs.declared.error.LayoutCalculatorError.TheVariants as calculator
 
 -- some result has the property
 abbrev HasAnswer : {A : Type 0} → (Result A LayError → Type 0) → Type 0
@@ -133,6 +139,19 @@ module _ (dl : TargetDataLayout) (law : IsLawfulDataLayout dl) where
           (Ok (union_layout 0 dl repr (map (λ (l : Layout). l) layouts) view.0), (none, view.1, refl))
       by_fault (Some error) there = (Err (lay_error error), (error, there, refl))
 
+  -- ---- the variants of an enum
+
+  named_so : (repr : ReprOptions) (numbers : List ℕ) (variants : List (List Placed)) (r : Result Layout (LayoutCalculatorError Placed)) → IsCalculated dl repr numbers variants r →
+      (r ≡ Err calculator.OutOfMemory → ⊥) → HasAnswer (IsEnumed dl repr numbers variants)
+  named_so repr numbers variants (Ok l) h made = (Ok l, h)
+  named_so repr numbers variants (Err error) h made = (Err (lay_error error), (error, h, (λ e. made (ap (λ x. Err x) e)), refl))
+
+  some_enumed : (repr : ReprOptions) (numbers : List ℕ) (variants : List (List Placed)) → All (All (λ p. IsLawfulLayout dl (layout_of p))) variants → HasAnswer (IsEnumed dl repr numbers variants)
+  some_enumed repr numbers variants lawful =
+      let answer = some_type layout_of dl repr variants lawful true true Enabled (IsTagInteger dl repr) (tag_integer_total dl repr) (λ items. items ≡ numbered_from 0 numbers) (numbered_from 0 numbers) refl
+      (path_of true repr (layouts_of variants)) in
+      named_so repr numbers variants answer.0 answer.1 answer.2
+
   -- ---- trees
 
   mutual
@@ -150,7 +169,10 @@ module _ (dl : TargetDataLayout) (law : IsLawfulDataLayout dl) where
     some_answer (union repr all) =
         some_follows (AreLaying dl all) (IsUnionOf dl repr) (some_list all)
         (λ ps h. some_by (fields_fault repr ps) (IsUnited dl repr (map layout_of ps)) (placed_together ps) (some_united repr (map layout_of ps)))
-    some_answer (enum repr all) = some_follows (VariantsLaying dl all) IsNotYet (some_variants all) (λ rest h. (_, refl))
+    some_answer (enum repr all) =
+        some_follows (VariantsLaying dl all) (IsEnumOf dl repr (discriminants_of all)) (some_variants all)
+        (λ variants h. some_by (enum_fault dl repr (discriminants_of all) variants) (IsEnumed dl repr (discriminants_of all) variants) (placed_enum dl (discriminants_of all) variants)
+        (some_enumed repr (discriminants_of all) variants (each_lawful dl variants (variants_whole dl law all variants h))))
     some_answer (coroutine prefix locals states conflicts) =
         some_follows (AreLaying dl prefix) (λ ps. Follows (AreLaying dl locals) IsNotYet) (some_list prefix)
         (λ ps h. some_follows (AreLaying dl locals) IsNotYet (some_list locals) (λ qs k. (_, refl)))

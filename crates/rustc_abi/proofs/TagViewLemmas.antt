@@ -80,7 +80,7 @@ number_below Big bytes w le are =
     omega (arith, turned, numbers_grow (length (reverse bytes)) w short)
 
 -- a full range has each number of its width
-in_full : (w n : ℕ) → n < numbers_of w → IsIn w (full_range w) n
+pub in_full : (w n : ℕ) → n < numbers_of w → IsIn w (full_range w) n
 in_full w n below =
     in_from_between w (full_range w) n (omega (arith, below), omega (arith, below)) below (inl (omega arith, omega arith, omega (arith, below)))
 

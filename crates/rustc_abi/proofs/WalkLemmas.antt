@@ -86,6 +86,12 @@ repeats-more runs i size k some inside =
 pub covers-put : (all runs : List Run) (offset k : ℕ) → covers (all ++ map (shifted offset) runs) k ≡ (covers all k || (nat_le offset k && covers runs (k - offset)))
 covers-put all runs offset k = list_any-append (is_in k) all (map (shifted offset) runs) ∙ ap (λ b. covers all k || b) (covers-shifted offset runs k)
 
+-- runs put behind others as they are
+pub covers-put_0 : (all runs : List Run) (k : ℕ) → covers (all ++ map (shifted 0) runs) k ≡ (covers all k || covers runs k)
+covers-put_0 all runs k =
+    let here : k - 0 ≡ k = omega arith in
+    covers-put all runs 0 k ∙ ap (λ b. covers all k || (b && covers runs (k - 0))) (le-leb 0 k (omega arith)) ∙ ap (λ j. covers all k || covers runs j) here
+
 -- runs moved on are as long as before
 pub some-shifted : (offset : ℕ) (runs : List Run) → All (λ run. run.start < run.end) runs → All (λ run. run.start < run.end) (map (shifted offset) runs)
 some-shifted offset [] some = All-nil (λ run. run.start < run.end)

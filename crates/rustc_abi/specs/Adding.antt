@@ -1,17 +1,21 @@
 -- What the functions that lay out a tree keep, node by node.
-use Rattle.std.specs.Prelude.{◌≡◌, ℕ, ◌+◌, ◌<◌, ◌⊎◌, ◌&&◌, Bool, true, All, List, [], ◌∷◌, length, map, nat_lt, Result, Ok, Err, ⊤}
+use Rattle.std.specs.Prelude.{◌≡◌, ℕ, ◌+◌, ◌<◌, ◌⊎◌, ◌&&◌, Bool, true, All, List, [], ◌∷◌, length, map, nat_lt, Result, Ok, Err, ⊤, Vec}
 use Rattle.std.specs.List.{list_all}
+use Rattle.std.specs.declared.alloc.Global.{Global}
 use Rattle.abi_base.specs.declared.data_layout.TargetDataLayout.{TargetDataLayout}
+use Rattle.abi_scalar.specs.declared.variants.Variants.{Variants as LayoutVariants}
+use Rattle.abi_scalar.specs.declared.variants.Variants.TheVariants.{Empty, Single as OneVariant, Multiple}
+use Rattle.abi_scalar.specs.Scalar.{IsReadable}
 use Rattle.rustc_abi.specs.declared.error.LayError.{LayError}
 use Rattle.rustc_abi.specs.declared.error.LayError.TheVariants.{OutOfMemory}
 use Rattle.rustc_abi.specs.declared.node.Shape.{Shape}
-use Rattle.rustc_abi.specs.declared.node.Shape.TheVariants.{Scalar, Pair, Never, Elements, Fields, Union, Vector}
+use Rattle.rustc_abi.specs.declared.node.Shape.TheVariants.{Scalar, Pair, Never, Elements, Fields, Union, Vector, Single, Tagged}
 use Rattle.rustc_abi.specs.declared.node.Node.{Node}
 use Rattle.rustc_abi.specs.Tree.{Tree, array, vector, struct, union, enum, coroutine, Trees, no_trees, more_trees, trees, Variants, no_variants, more_variants}
-use Rattle.rustc_abi.specs.Placed.{Placed}
+use Rattle.rustc_abi.specs.Placed.{Placed, Arms}
 use Rattle.rustc_abi.specs.Fits.{Fits}
-use Rattle.rustc_abi.specs.Nodes.{placed_in, types_in, placed_at, Keeps}
-use Rattle.rustc_abi.specs.Laying.{IsLaying, AreLaying}
+use Rattle.rustc_abi.specs.Nodes.{placed_in, types_in, placed_at, arms_in, Keeps}
+use Rattle.rustc_abi.specs.Laying.{IsLaying, AreLaying, VariantsLaying}
 
 -- a node at this place names only earlier ones
 abbrev pub is_node : ℕ → Shape → Bool
@@ -22,6 +26,8 @@ is_node i (Elements count element) = nat_lt element i
 is_node i (Fields children) = list_all (λ child. nat_lt child i) children.items
 is_node i (Union children) = list_all (λ child. nat_lt child i) children.items
 is_node i (Vector lanes) = nat_lt lanes i
+is_node i (Single children) = list_all (λ child. nat_lt child i) children.items
+is_node i (Tagged tag variants) = nat_lt tag i && list_all (λ v. nat_lt v.1 i) variants.items
 
 -- each node, from this place on, names only earlier ones
 abbrev pub are_nodes : ℕ → List Node → Bool
@@ -53,9 +59,19 @@ EachFits dl no_trees [] = ⊤
 EachFits dl (more_trees t ts) (p ∷ ps) = Fits dl t p × EachFits dl ts ps
 EachFits dl _ _ = ⊥
 
+-- each type of each variant fits its tree
+abbrev pub VariantsFit : TargetDataLayout → Variants → List (List Placed) → Type 0
+VariantsFit dl no_variants [] = ⊤
+VariantsFit dl (more_variants discriminant ts others) (ps ∷ rest) = EachFits dl ts ps × VariantsFit dl others rest
+VariantsFit dl _ _ = ⊥
+
 -- what the nodes at these places mean
 abbrev pub all_at : List Node → List ℕ → List Placed
 all_at ns children = map (placed_in (types_in ns)) children
+
+-- what the nodes of variants' fields mean
+abbrev pub variants_in : List Node → List (Vec ℕ Global) → List (List Placed)
+variants_in ns children = map (λ fields. all_at ns fields.items) children
 
 -- Nodes for the trees were put, and each node that was there kept.
 pub record AreAdded (dl : TargetDataLayout) (old new : List Node) (children : List ℕ) (ts : List Tree) : Type 0 where
@@ -64,6 +80,32 @@ pub record AreAdded (dl : TargetDataLayout) (old new : List Node) (children : Li
   pub there : All (λ child. child < length new) children
   pub exact : AreLaying dl (trees ts) (Ok (all_at new children))
   pub fits : EachFits dl (trees ts) (all_at new children)
+
+-- Nodes for the fields of variants were put, and each node that was there kept.
+pub record AreVariantsAdded (dl : TargetDataLayout) (old new : List Node) (children : List (Vec ℕ Global)) (all : Variants) : Type 0 where
+  pub kept : Keeps (types_in old) (types_in new)
+  pub well : are_nodes 0 old ≡ true → are_nodes 0 new ≡ true
+  pub there : All (λ fields. All (λ child. child < length new) fields.items) children
+  pub exact : VariantsLaying dl all (Ok (variants_in new children))
+  pub fits : VariantsFit dl all (variants_in new children)
+
+-- A node for each variant beside a tag was put, and each node that was there kept: these variants are the arms.
+pub record AreArms (old new : List Node) (variants : List (ℕ × ℕ)) (arms : Arms) : Type 0 where
+  pub kept : Keeps (types_in old) (types_in new)
+  pub well : are_nodes 0 old ≡ true → are_nodes 0 new ≡ true
+  pub there : All (λ v. v.1 < length new) variants
+  pub meant : arms_in (types_in new) variants ≡ arms
+
+-- the layout's variants are these many: the one that is left is one of them, and those beside a tag are as many
+abbrev pub HasVariants : (count : ℕ) → LayoutVariants ℕ ℕ → Type 0
+HasVariants count Empty = ⊤
+HasVariants count (OneVariant i) = i < count
+HasVariants count (Multiple tag encoding field layouts) = length layouts ≡ count
+
+-- the tag, where there is one, can be asked for its numbers
+abbrev pub HasReadableTag : TargetDataLayout → LayoutVariants ℕ ℕ → Type 0
+HasReadableTag dl (Multiple tag encoding field layouts) = IsReadable dl tag
+HasReadableTag dl _ = ⊤
 
 abbrev mutual
   -- how many nodes a tree has

@@ -1,5 +1,6 @@
 -- Which layout each type has, or why it has none: children first, left to right.
-use Rattle.std.specs.Prelude.{◌≡◌, ℕ, ◌||◌, MatchOption, Bool, true, false, List, [], ◌∷◌, length, map, nat_lt, Option, None, Some, Result, Ok, Err, if◌then◌else◌}
+use Rattle.std.specs.Prelude.{◌≡◌, ℕ, ◌||◌, not, MatchOption, Bool, true, false, List, [], ◌∷◌, length, map, nat_lt, Option, None, Some, Result, Ok, Err, if◌then◌else◌}
+use Rattle.std.specs.List.{list_all, list_any}
 use Rattle.abi_base.specs.declared.data_layout.TargetDataLayout.{TargetDataLayout}
 use Rattle.abi_base.specs.DataLayout.{size_bound}
 use Rattle.abi_scalar.specs.declared.scalar.Scalar.{Scalar}
@@ -7,20 +8,24 @@ use Rattle.abi_scalar.specs.declared.repr.ReprOptions.{ReprOptions}
 use Rattle.abi_base.specs.declared.struct_kind.StructKind.{StructKind}
 use Rattle.abi_base.specs.declared.struct_kind.StructKind.TheVariants.{AlwaysSized, MaybeUnsized}
 use Rattle.abi_scalar.specs.declared.error.LayoutCalculatorError.{LayoutCalculatorError}
+use Rattle.abi_scalar.specs.declared.variants.Variants.{Variants as LayoutVariants}
+use Rattle.abi_scalar.specs.declared.variants.Variants.TheVariants.{Empty, Single, Multiple}
 use Rattle.abi_scalar.specs.Simple.{scalar_layout, never_layout, unit_layout}
 use Rattle.abi_scalar.specs.Pair.{pair_layout, pair_size, second_offset}
 use Rattle.abi_scalar.specs.Shape.{listed_offsets}
 use Rattle.abi_calc.specs.Array.{array_answer, elements_layout}
+use Rattle.abi_calc.specs.Enums.Path.{variant_at}
 use Rattle.abi_calc.specs.List.{IsListError, IsListLayout}
 use Rattle.abi_calc.specs.Simd.{simd_answer}
 use Rattle.abi_calc.specs.Union.{IsUnionAnswer}
 use Rattle.rustc_abi.specs.declared.error.LayError.{LayError}
-use Rattle.rustc_abi.specs.declared.error.LayError.TheVariants.{NotYet, BadIndex, BadAlign, SizeOverflow}
+use Rattle.rustc_abi.specs.declared.error.LayError.TheVariants.{NotYet, BadIndex, BadAlign, DuplicateDiscriminant, DiscriminantTooWide, SizeOverflow}
 use Rattle.rustc_abi.specs.Tree.{Tree, scalar, pair, never, unit, array, vector, struct, union, enum, coroutine, Trees, no_trees, more_trees, Variants, no_variants, more_variants}
-use Rattle.rustc_abi.specs.Placed.{Placed, Layout, layout_of, scalar as placed_scalar, pair as placed_pair, never as placed_never, elements, vector as placed_vector, fields, union as placed_union, no_parts, part}
-use Rattle.rustc_abi.specs.Nodes.{parts_at, parts_at_0}
+use Rattle.rustc_abi.specs.Placed.{Placed, Layout, layout_of, scalar as placed_scalar, pair as placed_pair, never as placed_never, elements, vector as placed_vector, fields, union as placed_union, single as placed_single, tagged as placed_tagged, no_parts, part}
+use Rattle.rustc_abi.specs.Nodes.{parts_at, parts_at_0, tag_offset}
 use Rattle.rustc_abi.specs.Error.{named, lay_error, Follows}
 use Rattle.rustc_abi.specs.ScalarFault.{scalar_fault}
+use Rattle.rustc_abi.specs.Enums.{IsEnumed, arms_at, discriminants_of, has_equal, is_discriminant}
 
 -- the type with the layout that was answered
 abbrev pub placed_by : (Layout → Placed) → Result Layout LayError → Result Placed LayError
@@ -112,6 +117,36 @@ IsUnionOf dl repr ps r =
     (Follows (IsUnited dl repr (map layout_of ps)) (λ layout r. r ≡ Ok (placed_together ps layout)) r)
     (λ e. r ≡ Err e)
 
+-- more variants, or more fields in one, than an index can name
+abbrev pub has_bad_index : List (List Placed) → Bool
+has_bad_index variants = nat_lt most_fields (length variants) || list_any (λ fields. nat_lt most_fields (length fields)) variants
+
+-- the own faults of an enum, in their order
+abbrev pub enum_fault : TargetDataLayout → ReprOptions → (numbers : List ℕ) → List (List Placed) → Option LayError
+enum_fault dl repr numbers variants =
+    if has_bad_index variants then Some BadIndex
+    else (if has_bad_align repr then Some BadAlign
+    else (if has_equal numbers then Some DuplicateDiscriminant
+    else (if not (list_all (is_discriminant dl repr) numbers) then Some DiscriminantTooWide else None)))
+
+-- variants with this layout: no value, the parts of one variant, or those of each beside a tag
+abbrev pub placed_variants : TargetDataLayout → (numbers : List ℕ) → List (List Placed) → Layout → LayoutVariants ℕ ℕ → Placed
+placed_variants dl numbers variants layout Empty = placed_never layout
+placed_variants dl numbers variants layout (Single i) = placed_single layout i (parts_at (listed_offsets layout.fields) (variant_at variants i))
+placed_variants dl numbers variants layout (Multiple tag encoding field layouts) =
+    placed_tagged layout (tag_offset layout) (one_scalar dl tag) encoding (arms_at layouts numbers variants)
+
+-- an enum with this layout
+abbrev pub placed_enum : TargetDataLayout → (numbers : List ℕ) → List (List Placed) → Layout → Placed
+placed_enum dl numbers variants layout = placed_variants dl numbers variants layout layout.variants
+
+-- the answer to an enum: its own fault, else the calculator's answer to its variants
+abbrev pub IsEnumOf : TargetDataLayout → ReprOptions → (numbers : List ℕ) → List (List Placed) → Result Placed LayError → Type 0
+IsEnumOf dl repr numbers variants r =
+    MatchOption (enum_fault dl repr numbers variants)
+    (Follows (IsEnumed dl repr numbers variants) (λ layout r. r ≡ Ok (placed_enum dl numbers variants layout)) r)
+    (λ e. r ≡ Err e)
+
 -- the array of a vector's lanes
 abbrev pub lanes_of : (lanes : ℕ) → Placed → Placed
 lanes_of lanes element = elements (elements_layout 0 true lanes (layout_of element)) lanes element
@@ -136,7 +171,7 @@ abbrev mutual
   IsLaying dl (struct repr always_sized all) r = Follows (AreLaying dl all) (IsFieldsAnswer dl repr always_sized) r
   IsLaying dl (vector lanes packed element) r = Follows (IsLaying dl element) (λ p r. r ≡ vector_answer dl lanes packed p) r
   IsLaying dl (union repr all) r = Follows (AreLaying dl all) (IsUnionOf dl repr) r
-  IsLaying dl (enum repr all) r = Follows (VariantsLaying dl all) IsNotYet r
+  IsLaying dl (enum repr all) r = Follows (VariantsLaying dl all) (IsEnumOf dl repr (discriminants_of all)) r
   IsLaying dl (coroutine prefix locals states conflicts) r = Follows (AreLaying dl prefix) (λ ps. Follows (AreLaying dl locals) IsNotYet) r
 
   -- the answer to trees, one after another

@@ -1,21 +1,50 @@
--- How large the types in a tree are: structs as small as an order of their fields allows, and which sizes are refused.
-use Rattle.std.specs.Prelude.{◌≡◌, ℕ, ◌*◌, ◌≤◌, ◌⊎◌, Bool, List, [], ◌∷◌, map, None, Ok, ⊤}
+-- How large the types in a tree are: structs as small as an order of their fields allows, enums as their variants allow, and which
+-- sizes are refused.
+use Rattle.std.specs.Prelude.{◌≡◌, ℕ, zero, suc, true, ◌*◌, ◌≤◌, ◌⊎◌, Bool, List, [], ◌∷◌, map, None, Ok, ⊤}
 use Rattle.abi_base.specs.declared.data_layout.TargetDataLayout.{TargetDataLayout}
 use Rattle.abi_base.specs.DataLayout.{size_bound}
 use Rattle.abi_scalar.specs.declared.repr.ReprOptions.{ReprOptions}
+use Rattle.abi_base.specs.declared.struct_kind.StructKind.TheVariants.{AlwaysSized}
 use Rattle.abi_scalar.specs.Pair.{pair_size}
+use Rattle.abi_calc.specs.declared.enums.path.Path.{Path}
+use Rattle.abi_calc.specs.declared.enums.path.Path.TheVariants.{NoValue, OneList, Several}
+use Rattle.abi_calc.specs.Enums.Path.{path_of, variant_at}
+use Rattle.abi_calc.specs.Enums.Several.{HasEnumSize, IsAskedTooLarge}
 use Rattle.abi_calc.specs.Least.{IsEachOrderTooLarge, IsLeastSize}
 use Rattle.abi_calc.specs.Simd.{IsVectorTooLarge}
 use Rattle.abi_calc.specs.Union.{IsUnionTooLarge}
 use Rattle.rustc_abi.specs.Tree.{Tree, pair, array, vector, struct, union, enum, coroutine, Trees, no_trees, more_trees, Variants, no_variants, more_variants}
-use Rattle.rustc_abi.specs.Placed.{Placed, Parts, no_parts, part, layout_of, size_of, element_of, parts_of, first_part, more_parts}
+use Rattle.rustc_abi.specs.Placed.{Placed, single, tagged, Parts, no_parts, part, Arms, no_arms, arm, layout_of, size_of, element_of, parts_of, first_part, more_parts}
 use Rattle.rustc_abi.specs.ScalarFault.{scalar_fault}
-use Rattle.rustc_abi.specs.Laying.{IsLaying, AreLaying, fields_fault, kind_of}
+use Rattle.rustc_abi.specs.Enums.{IsTagInteger, counted, discriminants_of, layouts_of}
+use Rattle.rustc_abi.specs.Laying.{IsLaying, AreLaying, VariantsLaying, enum_fault, fields_fault, kind_of}
 
 -- the laid-out fields, as a list
 abbrev pub fields_of : Parts → List Placed
 fields_of no_parts = []
 fields_of (part offset placed parts) = placed ∷ fields_of parts
+
+-- the laid-out fields of variants beside a tag
+abbrev pub variants_of : Arms → List (List Placed)
+variants_of no_arms = []
+variants_of (arm number parts arms) = fields_of parts ∷ variants_of arms
+
+-- several variants with these discriminants have the size that their lists allow: with a niche, where these leave room for one, else
+-- behind a tag
+abbrev pub IsEnumSized : TargetDataLayout → ReprOptions → (numbers : List ℕ) → List (List Placed) → (size : ℕ) → Type 0
+IsEnumSized dl repr numbers variants size =
+    HasEnumSize layout_of (λ i. i) 0 dl repr (IsTagInteger dl repr) (counted repr numbers variants) variants size
+
+-- variants with these discriminants are too large: the one that is left is in each order of its list, and of several one's list behind
+-- the tag is in each order, or the tagged size is
+abbrev pub IsTooLargeBy : TargetDataLayout → ReprOptions → (numbers : List ℕ) → List (List Placed) → Path → Type 0
+IsTooLargeBy dl repr numbers variants NoValue = ⊥
+IsTooLargeBy dl repr numbers variants (OneList i) = IsEachOrderTooLarge dl repr AlwaysSized (map layout_of (variant_at variants i))
+IsTooLargeBy dl repr numbers variants Several =
+    (repr.pack ≡ None) × IsAskedTooLarge dl repr (IsTagInteger dl repr) (counted repr numbers variants) (layouts_of variants)
+
+abbrev pub IsEnumTooLarge : TargetDataLayout → ReprOptions → (numbers : List ℕ) → List (List Placed) → Type 0
+IsEnumTooLarge dl repr numbers variants = IsTooLargeBy dl repr numbers variants (path_of true repr (layouts_of variants))
 
 -- a struct of these fields has the least size of its list
 abbrev pub IsLeastStruct : TargetDataLayout → ReprOptions → (always_sized : Bool) → List Placed → (size : ℕ) → Type 0
@@ -27,22 +56,39 @@ IsStructTooLarge dl repr always_sized ps = IsEachOrderTooLarge dl repr (kind_of 
 
 module _ (dl : TargetDataLayout) where
   abbrev mutual
-    -- each struct in the type has its least size; enums and coroutines aren't laid out yet
+    -- each struct in the type has its least size, and so has each enum of which one variant is left; several variants have the size that
+    -- their lists allow; coroutines aren't laid out yet
     pub HasLeastStructs : Tree → Placed → Type 0
     HasLeastStructs (array count element) placed = HasLeastStructs element (element_of placed)
     HasLeastStructs (vector lanes packed element) placed = HasLeastStructs element (element_of (element_of placed))
     HasLeastStructs (struct repr always_sized all) placed =
         IsLeastStruct dl repr always_sized (fields_of (parts_of placed)) (size_of placed) × HaveLeastStructs all (parts_of placed)
     HasLeastStructs (union repr all) placed = HaveLeastStructs all (parts_of placed)
+    HasLeastStructs (enum repr all) (single layout index parts) =
+        IsLeastSize dl repr AlwaysSized (map layout_of (fields_of parts)) layout.size × HaveLeastAt all index parts
+    HasLeastStructs (enum repr all) (tagged layout offset tag encoding arms) =
+        IsEnumSized dl repr (discriminants_of all) (variants_of arms) layout.size × HaveLeastArms all arms
     HasLeastStructs _ placed = ⊤
+
+    -- the same of the variant with this index
+    pub HaveLeastAt : Variants → (index : ℕ) → Parts → Type 0
+    HaveLeastAt no_variants i parts = ⊥
+    HaveLeastAt (more_variants discriminant ts others) zero parts = HaveLeastStructs ts parts
+    HaveLeastAt (more_variants discriminant ts others) (suc i) parts = HaveLeastAt others i parts
+
+    -- and of each variant beside a tag
+    pub HaveLeastArms : Variants → Arms → Type 0
+    HaveLeastArms no_variants no_arms = ⊤
+    HaveLeastArms (more_variants discriminant ts others) (arm number parts arms) = HaveLeastStructs ts parts × HaveLeastArms others arms
+    HaveLeastArms _ _ = ⊥
 
     pub HaveLeastStructs : Trees → Parts → Type 0
     HaveLeastStructs no_trees parts = ⊤
     HaveLeastStructs (more_trees t ts) parts = HasLeastStructs t (first_part parts) × HaveLeastStructs ts (more_parts parts)
 
   abbrev mutual
-    -- The first fault is a size: of two scalars, of so many elements, of a struct that is too large in every order, of a vector, or
-    -- of a union.
+    -- The first fault is a size: of two scalars, of so many elements, of a struct that is too large in every order, of a vector, of a
+    -- union, or of an enum.
     pub IsTooLarge : Tree → Type 0
     IsTooLarge (pair a b) = (scalar_fault dl a ≡ None) × (scalar_fault dl b ≡ None) × (size_bound dl ≤ pair_size dl a b)
     IsTooLarge (array count element) =
@@ -53,7 +99,9 @@ module _ (dl : TargetDataLayout) where
         IsTooLarge element ⊎ ((p : Placed) × IsLaying dl element (Ok p) × IsVectorTooLarge dl (layout_of p) lanes packed)
     IsTooLarge (union repr all) =
         AreTooLarge all ⊎ ((ps : List Placed) × AreLaying dl all (Ok ps) × (fields_fault repr ps ≡ None) × IsUnionTooLarge dl repr (map layout_of ps))
-    IsTooLarge (enum repr all) = AreVariantsTooLarge all
+    IsTooLarge (enum repr all) =
+        AreVariantsTooLarge all ⊎ ((variants : List (List Placed)) × VariantsLaying dl all (Ok variants)
+        × (enum_fault dl repr (discriminants_of all) variants ≡ None) × IsEnumTooLarge dl repr (discriminants_of all) variants)
     IsTooLarge (coroutine prefix locals states conflicts) =
         AreTooLarge prefix ⊎ ((ps : List Placed) × AreLaying dl prefix (Ok ps) × AreTooLarge locals)
     IsTooLarge _ = ⊥

@@ -13,6 +13,7 @@ pub mod Fits
 pub mod Error
 pub mod Nodes
 pub mod ScalarFault
+pub mod Enums
 pub mod Laying
 pub mod Least
 pub mod Adding

@@ -1,9 +1,13 @@
 -- What the nodes of a vector mean, each of which names only earlier ones.
 use Rattle.std.specs.Prelude.{◌≡◌, ℕ, ◌-◌, ◌<◌, ◌≤◌, List, [], ◌∷◌, ◌++◌, get_or, length, map}
 use Rattle.abi_scalar.specs.Shape.{listed_offsets}
-use Rattle.rustc_abi.specs.Placed.{Placed, Layout, scalar, pair, never, elements, vector, fields, union, Parts, no_parts, part, nothing}
+use Rattle.abi_scalar.specs.declared.variants.TagEncoding.{TagEncoding}
+use Rattle.abi_scalar.specs.declared.variants.TagEncoding.TheVariants.{Direct}
+use Rattle.abi_scalar.specs.declared.variants.Variants.{Variants}
+use Rattle.abi_scalar.specs.declared.variants.Variants.TheVariants.{Single as OneVariant, Multiple}
+use Rattle.rustc_abi.specs.Placed.{Placed, Layout, scalar, pair, never, elements, vector, fields, union, single, tagged, Parts, no_parts, part, Arms, no_arms, arm, nothing}
 use Rattle.rustc_abi.specs.declared.node.Shape.{Shape}
-use Rattle.rustc_abi.specs.declared.node.Shape.TheVariants.{Scalar, Pair, Never, Elements, Fields, Union, Vector}
+use Rattle.rustc_abi.specs.declared.node.Shape.TheVariants.{Scalar, Pair, Never, Elements, Fields, Union, Vector, Single, Tagged}
 use Rattle.rustc_abi.specs.declared.node.Node.{Node}
 
 -- the type that stands at this place
@@ -19,6 +23,30 @@ parts_at _ _ = no_parts
 abbrev pub parts_at_0 : List Placed → Parts
 parts_at_0 ps = parts_at (map (λ p. 0) ps) ps
 
+-- which variant is left, where one is
+abbrev pub index_of : Variants ℕ ℕ → ℕ
+index_of (OneVariant i) = i
+index_of _ = 0
+
+-- where a tag lies: it is the one field of the whole enum
+abbrev pub tag_offset : Layout → ℕ
+tag_offset layout = get_or (listed_offsets layout.fields) 0 0
+
+-- how a tag tells variants apart
+abbrev pub encoding_of : Variants ℕ ℕ → TagEncoding ℕ
+encoding_of (Multiple tag encoding field layouts) = encoding
+encoding_of _ = Direct
+
+-- the fields of a variant, which has a node of its own
+abbrev pub own_fields : Placed → Parts
+own_fields (fields layout parts) = parts
+own_fields _ = no_parts
+
+-- variants beside a tag, each with its discriminant
+abbrev pub arms_in : List Placed → List (ℕ × ℕ) → Arms
+arms_in done [] = no_arms
+arms_in done (v ∷ vs) = arm v.0 (own_fields (placed_in done v.1)) (arms_in done vs)
+
 -- what a node means, after those before it
 abbrev pub meaning : List Placed → Layout → Shape → Placed
 meaning done layout (Scalar s) = scalar layout s
@@ -29,6 +57,10 @@ meaning done layout (Elements count element) = elements layout count (placed_in 
 meaning done layout (Fields children) = fields layout (parts_at (listed_offsets layout.fields) (map (placed_in done) children.items))
 meaning done layout (Union children) = union layout (parts_at_0 (map (placed_in done) children.items))
 meaning done layout (Vector lanes) = vector layout (placed_in done lanes)
+meaning done layout (Single children) =
+    single layout (index_of layout.variants) (parts_at (listed_offsets layout.fields) (map (placed_in done) children.items))
+meaning done layout (Tagged tag variants) =
+    tagged layout (tag_offset layout) (placed_in done tag) (encoding_of layout.variants) (arms_in done variants.items)
 
 -- the meanings of all nodes, after those that are done
 abbrev pub meanings : List Placed → List Node → List Placed

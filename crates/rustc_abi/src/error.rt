@@ -18,6 +18,10 @@ pub enum LayError {
     BadRange,
     /// An alignment that a repr names is above 2^29 bytes.
     BadAlign,
+    /// Two variants of an enum have one discriminant.
+    DuplicateDiscriminant,
+    /// A discriminant is no number of the type of the enum's discriminants.
+    DiscriminantTooWide,
     /// A field that has to be sized is unsized, as none in a tree is.
     UnexpectedUnsized,
     /// A size is not below the data layout's bound.

@@ -6,7 +6,7 @@ ghost use Rattle.rustc_abi.specs.Adding.{are_nodes};
 ghost use Rattle.rustc_abi.specs.Room.{has_room};
 
 use crate::node::{Node, layout_at};
-use crate::padding::data_runs;
+use crate::padding::{data_runs, unused_runs};
 use crate::runs::{Run, gaps};
 use abi_base::Endian;
 use abi_index::{FieldIdx, VariantIdx};
@@ -26,7 +26,7 @@ pub struct Laid {
 impl Laid {
     ghost use Rattle.rustc_abi.specs.Laid.{placed_of, endian_of};
     ghost use Rattle.rustc_abi.specs.Placed.{layout_of};
-    ghost use Rattle.rustc_abi.specs.Runs.{padding_of};
+    ghost use Rattle.rustc_abi.specs.Runs.{padding_of, unused_of};
 
     /// The type of the last node.
     pub(crate) fn new(nodes: Vec<Node>, endian: Endian) -> Laid
@@ -55,6 +55,16 @@ impl Laid {
         let root = nodes.len() - 1;
         let data = data_runs(alloc, nodes, root)?;
         gaps(alloc, &data, layout_at(nodes, root).size.bytes())
+    }
+
+    /// The bytes that some variant of the type covers and this one doesn't, as maximal runs in ascending order: a value of
+    /// the variant doesn't use them, though a value of another may. They are neither padding nor bytes of the tag. Nothing
+    /// where no tag and no niche tells several variants apart. An index that names no variant uses the tag's bytes alone.
+    pub fn unused(&self, alloc: Global, variant: VariantIdx) -> Result<Vec<Run>, AllocError>
+        ensures { IfOk result (λ runs. runs.items ≡ unused_of (placed_of self.now) variant) }
+    {
+        let nodes = self.nodes.as_slice();
+        unused_runs(alloc, nodes, nodes.len() - 1, variant.as_usize())
     }
 
     /// The order of the bytes of a number in the type.

@@ -27,10 +27,12 @@ use std::alloc::Global;
 /// `UnlawfulDataLayout` where the data layout isn't lawful. Else the first fault of a part: `NotYet` for a type that isn't
 /// laid out yet, `UnknownSpace` for a scalar that is a pointer into a space that the data layout doesn't know or whose
 /// pointers aren't lawful, `BadRange` for one whose range has an end that is no number of its width, `BadIndex` for a list
-/// of more fields than its index type can name, `BadAlign` for a repr with an alignment above 2^29 bytes, `EmptyUnion` for a
-/// union without fields, `OversizedSimdType` and `ZeroLengthSimdType` for a vector of more than 32768 lanes or of none,
-/// `NonPrimitiveSimdType` for one whose element is no scalar, `SizeOverflow` for a size that is not below the data layout's
-/// bound. `OutOfMemory` where a growth of memory was refused.
+/// of more fields, or an enum of more variants, than its index type can name, `BadAlign` for a repr with an alignment above
+/// 2^29 bytes, `DuplicateDiscriminant` for an enum with two equal discriminants, `DiscriminantTooWide` for one with a
+/// discriminant that is no number of their type (Rust Reference, "Enumerations"), `ReprConflict` for a packed enum that
+/// isn't laid out as one variant, `EmptyUnion` for a union without fields, `OversizedSimdType` and `ZeroLengthSimdType` for a vector of more
+/// than 32768 lanes or of none, `NonPrimitiveSimdType` for one whose element is no scalar, `SizeOverflow` for a size that
+/// is not below the data layout's bound. `OutOfMemory` where a growth of memory was refused.
 pub fn lay_out(alloc: Global, dl: &TargetDataLayout, tree: &TypeTree) -> Result<Laid, LayError>
     // When it is refused, and for what.
     ensures lawful { IfOk result (λ _. IsLawfulDataLayout dl.now) }
@@ -43,8 +45,9 @@ pub fn lay_out(alloc: Global, dl: &TargetDataLayout, tree: &TypeTree) -> Result<
     ensures layout { IfOk result (λ laid. IsLawfulLayout dl.now (layout_of (placed_of laid))) }
     ensures order { IfOk result (λ laid. endian_of laid ≡ dl.now.endian) }
 
-    // How large it is: each struct has the least size of all orders that its repr and kind allow, and is refused for its
-    // size exactly where every such order is too large.
+    // How large it is: each struct, and each enum of which one variant is left, has the least size of all orders that its
+    // repr and kind allow, and each other enum the size that its variants' lists allow, with a niche or behind a tag. A
+    // size is refused exactly where every such order is too large, or the tagged size is.
     ensures least { IfOk result (λ laid. HasLeastStructs dl.now (tree_of tree.now) (placed_of laid)) }
     ensures overflow { IfErr result (λ e. e ≡ LayError.SizeOverflow → IsTooLarge dl.now (tree_of tree.now)) }
     ensures too_large { IsLawfulDataLayout dl.now → IsTooLarge dl.now (tree_of tree.now) →

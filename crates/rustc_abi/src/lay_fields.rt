@@ -22,7 +22,7 @@ use abi_scalar::{LayoutData, ReprOptions};
 use std::alloc::Global;
 
 /// A list of fields has at most so many.
-const MOST_FIELDS: usize = 0xFFFF_FF01;
+pub(crate) const MOST_FIELDS: usize = 0xFFFF_FF01;
 
 /// Whether an alignment that a repr names, if it does, is above 2^29 bytes.
 fn is_above_limit(align: Option<Align>) -> bool
@@ -34,6 +34,13 @@ fn is_above_limit(align: Option<Align>) -> bool
     }
 }
 
+/// Whether an alignment that a repr names is above 2^29 bytes.
+pub(crate) fn has_bad_align(repr: &ReprOptions) -> bool
+    ensures { result ≡ has_bad_align repr.now }
+{
+    is_above_limit(repr.align) || is_above_limit(repr.pack)
+}
+
 /// The own fault of a struct or union, if it has one.
 pub(crate) fn fields_fault(repr: &ReprOptions, children: &[usize]) -> Option<LayError>
     ensures { (ps : List Placed) → length ps ≡ length children.now → result ≡ fields_fault repr.now ps }
@@ -41,7 +48,7 @@ pub(crate) fn fields_fault(repr: &ReprOptions, children: &[usize]) -> Option<Lay
     if children.len() > MOST_FIELDS {
         return Some(LayError::BadIndex);
     }
-    if is_above_limit(repr.align) || is_above_limit(repr.pack) {
+    if has_bad_align(repr) {
         return Some(LayError::BadAlign);
     }
     None

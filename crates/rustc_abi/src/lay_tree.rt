@@ -1,15 +1,16 @@
 //! How trees are laid out: children before parents, left to right.
 
-ghost use Rattle.std.specs.Prelude.{IfOk, IfErr, Ok, List, map};
+ghost use Rattle.std.specs.Prelude.{IfOk, IfErr, map};
 ghost use Rattle.abi_base.specs.DataLayout.{IsLawfulDataLayout};
 ghost use Rattle.rustc_abi.specs.Tree.{tree_of, trees, trees_of_variants};
-ghost use Rattle.rustc_abi.specs.Placed.{Placed};
 ghost use Rattle.rustc_abi.specs.Laying.{IsLaying, AreLaying, VariantsLaying};
 ghost use Rattle.rustc_abi.specs.Error.{IsRefused};
-ghost use Rattle.rustc_abi.specs.Adding.{IsAdded, AreAdded};
+ghost use Rattle.rustc_abi.specs.Adding.{IsAdded, AreAdded, AreVariantsAdded};
 
+use crate::discriminants::discriminants;
 use crate::error::LayError;
 use crate::lay_array::add_elements;
+use crate::lay_enum::add_enum;
 use crate::lay_fields::add_fields;
 use crate::lay_scalar::{add_never, add_pair, add_scalar, add_unit};
 use crate::lay_union::add_union;
@@ -60,9 +61,10 @@ pub(crate) fn lay_tree(
             let children = lay_each(alloc, dl, nodes, fields)?;
             add_union(alloc, dl, nodes, repr, children)
         }
-        TypeTree::Enum { repr: _, variants } => {
-            lay_variants(alloc, dl, nodes, variants)?;
-            Err(LayError::NotYet)
+        TypeTree::Enum { repr, variants } => {
+            let numbers = discriminants(alloc, variants)?;
+            let children = lay_variants(alloc, dl, nodes, variants)?;
+            add_enum(alloc, dl, nodes, repr, &numbers, &children)
         }
         TypeTree::Coroutine {
             prefix,
@@ -97,20 +99,22 @@ fn lay_each(
     Ok(children)
 }
 
-/// Lays out the fields of variants, one after another.
+/// Lays out the fields of variants, one after another, and answers their nodes.
 #[cycle(lay)]
 fn lay_variants(
     alloc: Global,
     dl: &TargetDataLayout,
     nodes: &mut Vec<Node>,
     all: &[(u128, Vec<TypeTree>)],
-) -> Result<(), LayError>
+) -> Result<Vec<Vec<usize>>, LayError>
     requires { IsLawfulDataLayout dl.now }
-    ensures ok { IfOk result (λ _. (rest : List (List Placed)) × VariantsLaying dl.now (trees_of_variants all.now) (Ok rest)) }
+    ensures ok { IfOk result (λ children. AreVariantsAdded dl.now nodes.old.items nodes.new.items children.items (trees_of_variants all.now)) }
     ensures err { IfErr result (IsRefused (VariantsLaying dl.now (trees_of_variants all.now))) }
 {
+    let mut children = Vec::with_capacity(alloc, all.len())?;
     for variant in all {
-        let _children = lay_each(alloc, dl, nodes, &variant.1)?;
+        let fields = lay_each(alloc, dl, nodes, &variant.1)?;
+        children.push(fields)?;
     }
-    Ok(())
+    Ok(children)
 }

@@ -1,10 +1,12 @@
 //! Types as trees, their layouts, and the values that their bytes hold; and all that the crates below export, under one name.
 #![tactic(auto)]
 
+mod discriminants;
 mod error;
 mod laid;
 mod lay;
 mod lay_array;
+mod lay_enum;
 mod lay_fields;
 mod lay_scalar;
 mod lay_tree;
@@ -13,6 +15,7 @@ mod lay_vector;
 mod node;
 mod padding;
 mod runs;
+mod tag_integer;
 mod tree;
 
 pub use abi_base::{

@@ -17,17 +17,31 @@ pub(crate) enum Shape {
     /// A number.
     Scalar(Scalar),
     /// Two numbers, each a child; the layout says where they lie.
-    Pair { first: usize, second: usize },
+    Pair {
+        first: usize,
+        second: usize,
+    },
     /// No value.
     Never,
     /// So many elements, each as the child.
-    Elements { count: u64, element: usize },
+    Elements {
+        count: u64,
+        element: usize,
+    },
     /// A child for each field, in source order; the layout says where they lie.
     Fields(Vec<usize>),
     /// A child for each field, in source order, all at offset 0.
     Union(Vec<usize>),
     /// Lanes; the child is their array, which stands directly before.
     Vector(usize),
+    /// A child for each field of the one variant that is left; the layout says which that is, and where they lie.
+    Single(Vec<usize>),
+    /// A tag, and variants beside it, each a child of fields with its discriminant; the layout says where the tag lies, and
+    /// how it tells them apart.
+    Tagged {
+        tag: usize,
+        variants: Vec<(u128, usize)>,
+    },
 }
 
 /// A type that was laid out.

@@ -1,16 +1,16 @@
 //! The padding of a type: the bytes that decide nothing.
 
-ghost use Rattle.std.specs.Prelude.{◌≡◌, ℕ, ◌+◌, ◌*◌, ◌^◌, ◌<◌, ◌≤◌, ◌++◌, All, IfOk, OnOk, length, map, nat_lt, replicate, true};
+ghost use Rattle.std.specs.Prelude.{◌≡◌, ℕ, ◌+◌, ◌*◌, ◌^◌, ◌<◌, ◌≤◌, ◌++◌, ◌-◌, ◌&&◌, ◌||◌, All, IfOk, OnOk, length, drop, map, nat_le, nat_lt, replicate, take, true};
 ghost use Rattle.abi_scalar.specs.Shape.{listed_offsets};
 ghost use Rattle.rustc_abi.specs.Placed.{size_of, layout_of};
-ghost use Rattle.rustc_abi.specs.Places.{is_data_place, is_place_of_part};
-ghost use Rattle.rustc_abi.specs.Nodes.{parts_at, placed_at};
+ghost use Rattle.rustc_abi.specs.Places.{is_data_place, is_place_of_arm, is_place_of_part};
+ghost use Rattle.rustc_abi.specs.Nodes.{arms_in, own_fields, parts_at, placed_at, tag_offset, types_in};
 ghost use Rattle.rustc_abi.specs.Adding.{all_at, are_nodes};
-ghost use Rattle.rustc_abi.specs.Room.{has_room, have_room};
-ghost use Rattle.rustc_abi.specs.Runs.{covers, shifted, repeats, Ascend};
+ghost use Rattle.rustc_abi.specs.Room.{arms_have_room, has_room, have_room};
+ghost use Rattle.rustc_abi.specs.Runs.{covers, is_place_of_variant, shifted, repeats, unused_of, Ascend};
 
 use crate::node::{Node, Shape, layout_at};
-use crate::runs::{Run, joined};
+use crate::runs::{Run, gaps, joined};
 use abi_base::Size;
 use abi_index::{FieldIdx, VariantIdx};
 use abi_scalar::{FieldsShape, LayoutData};
@@ -26,6 +26,16 @@ fn offsets(layout: &LayoutData<FieldIdx, VariantIdx>) -> &[Size]
             in_memory_order: _,
         } => offsets.as_slice().as_raw(),
         _ => &[],
+    }
+}
+
+/// Where the tag of several variants lies.
+fn tag_offset(layout: &LayoutData<FieldIdx, VariantIdx>) -> u64
+    ensures { result ≡ tag_offset layout.now }
+{
+    match offsets(layout).first() {
+        Some(offset) => offset.bytes(),
+        None => 0,
     }
 }
 
@@ -129,6 +139,18 @@ pub(crate) fn data_runs(alloc: Global, nodes: &[Node], node: usize) -> Result<Ve
             fields_runs(alloc, nodes, node, size, &zeros, children)
         }
         Shape::Vector(lanes) => data_runs(alloc, nodes, *lanes),
+        Shape::Single(children) => {
+            fields_runs(alloc, nodes, node, size, offsets(&here.layout), children)
+        }
+        Shape::Tagged { tag, variants } => tagged_runs(
+            alloc,
+            nodes,
+            node,
+            size,
+            tag_offset(&here.layout),
+            *tag,
+            variants,
+        ),
     }
 }
 
@@ -156,4 +178,124 @@ fn fields_runs(
         put_shifted(&mut all, &runs, offset.bytes())?;
     }
     joined(alloc, all)
+}
+
+/// The runs of the data places of the fields of a variant, which has a node before this one.
+#[cycle(walk)]
+fn own_runs(
+    alloc: Global,
+    nodes: &[Node],
+    variant: usize,
+    size: u64,
+) -> Result<Vec<Run>, AllocError>
+    requires there { variant < length nodes.now }
+    requires well { are_nodes 0 nodes.now ≡ true }
+    requires room { have_room size (own_fields (placed_at nodes.now variant)) ≡ true }
+    ensures covers { IfOk result (λ runs. (k : ℕ) → covers runs.items k ≡ is_place_of_part (own_fields (placed_at nodes.now variant)) k) }
+    ensures ascend { IfOk result (λ runs. Ascend 0 runs.items) }
+{
+    let here = &nodes[variant];
+    match &here.shape {
+        Shape::Fields(children) => fields_runs(
+            alloc,
+            nodes,
+            variant,
+            size,
+            offsets(&here.layout),
+            children,
+        ),
+        _ => Ok(Vec::new(alloc)),
+    }
+}
+
+/// The runs of the data places of a tag and of variants beside it, each as a node before this one.
+#[cycle(walk)]
+fn tagged_runs(
+    alloc: Global,
+    nodes: &[Node],
+    node: usize,
+    size: u64,
+    offset: u64,
+    tag: usize,
+    variants: &[(u128, usize)],
+) -> Result<Vec<Run>, AllocError>
+    requires there { node < length nodes.now }
+    requires first { tag < node }
+    requires before { All (λ v. v.1 < node) variants.now }
+    requires well { are_nodes 0 nodes.now ≡ true }
+    requires fits { offset + size_of (placed_at nodes.now tag) ≤ size }
+    requires tag { has_room (placed_at nodes.now tag) ≡ true }
+    requires room { arms_have_room size (arms_in (types_in nodes.now) variants.now) ≡ true }
+    ensures covers { IfOk result (λ runs. (k : ℕ) →
+        covers runs.items k ≡ ((nat_le offset k && is_data_place (placed_at nodes.now tag) (k - offset)) || is_place_of_arm (arms_in (types_in nodes.now) variants.now) k)) }
+    ensures ascend { IfOk result (λ runs. Ascend 0 runs.items) }
+{
+    let mut all = Vec::new(alloc);
+    let runs = data_runs(alloc, nodes, tag)?;
+    put_shifted(&mut all, &runs, offset)?;
+    for variant in variants {
+        let runs = own_runs(alloc, nodes, variant.1, size)?;
+        put_shifted(&mut all, &runs, 0)?;
+    }
+    joined(alloc, all)
+}
+
+/// The variant with this index alone, where there is one.
+fn only(variants: &[(u128, usize)], index: usize) -> &[(u128, usize)]
+    ensures { result.now ≡ take 1 (drop index variants.now) }
+{
+    if index < variants.len() {
+        &variants[index..index + 1]
+    } else {
+        &[]
+    }
+}
+
+/// The runs of a variant's bytes, which are the tag's and its own; of a node without a tag the runs of its data places.
+fn variant_runs(
+    alloc: Global,
+    nodes: &[Node],
+    node: usize,
+    variant: usize,
+) -> Result<Vec<Run>, AllocError>
+    requires there { node < length nodes.now }
+    requires well { are_nodes 0 nodes.now ≡ true }
+    requires room { has_room (placed_at nodes.now node) ≡ true }
+    ensures covers { IfOk result (λ runs. (k : ℕ) → covers runs.items k ≡ is_place_of_variant (placed_at nodes.now node) variant k) }
+    ensures ascend { IfOk result (λ runs. Ascend 0 runs.items) }
+{
+    let here = &nodes[node];
+    match &here.shape {
+        Shape::Tagged { tag, variants } => tagged_runs(
+            alloc,
+            nodes,
+            node,
+            here.layout.size.bytes(),
+            tag_offset(&here.layout),
+            *tag,
+            only(variants, variant),
+        ),
+        _ => data_runs(alloc, nodes, node),
+    }
+}
+
+/// The runs of a node's data places that the variant with this index doesn't use.
+pub(crate) fn unused_runs(
+    alloc: Global,
+    nodes: &[Node],
+    node: usize,
+    variant: usize,
+) -> Result<Vec<Run>, AllocError>
+    requires there { node < length nodes.now }
+    requires well { are_nodes 0 nodes.now ≡ true }
+    requires room { has_room (placed_at nodes.now node) ≡ true }
+    ensures { IfOk result (λ runs. runs.items ≡ unused_of (placed_at nodes.now node) variant) }
+{
+    let size = layout_at(nodes, node).size.bytes();
+    let data = data_runs(alloc, nodes, node)?;
+    let own = variant_runs(alloc, nodes, node, variant)?;
+    let mut all = gaps(alloc, &data, size)?;
+    all.extend_from_slice(&own)?;
+    let known = joined(alloc, all)?;
+    gaps(alloc, &known, size)
 }

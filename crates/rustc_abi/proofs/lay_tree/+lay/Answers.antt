@@ -1,12 +1,15 @@
-use Rattle.std.proofs.Common.{inr, refl, ◌≡◌, ◌+◌, ◌++◌, ◌∷◌, [], arith, ap, sym, ◌∙◌, subst, take, map, get_or}
+use Rattle.std.proofs.Common.{inr, refl, ◌≡◌, ◌+◌, ◌++◌, ◌∷◌, [], arith, ap, sym, ◌∙◌, subst, take, map, length, get_or}
 use Rattle.std.proofs.lemmas.List.{take_more, map-append}
 use Rattle.std.proofs.lemmas.Result.{IfOk-weaker, IfErr-weaker}
-use Rattle.rustc_abi.specs.Tree.{tree_of, trees}
+use Rattle.rustc_abi.specs.Tree.{tree_of, trees, trees_of_variants}
+use Rattle.rustc_abi.specs.Enums.{discriminants_of}
 use Rattle.rustc_abi.specs.Laying.{AreLaying}
 use Rattle.rustc_abi.specs.Adding.{tree_size, trees_size}
-use Rattle.rustc_abi.proofs.TreeLemmas.{tree_of-Array, tree_of-Vector, tree_of-Struct, tree_of-Union, tree_of-Coroutine, trees_size-at, variants_size-at, falls-Enum}
+use Rattle.rustc_abi.proofs.TreeLemmas.{tree_of-Array, tree_of-Enum, tree_of-Vector, tree_of-Struct, tree_of-Union, tree_of-Coroutine, trees_size-at, variants_size-at, falls-Enum}
 use Rattle.rustc_abi.proofs.LayLemmas.{EachFits-lawful, AreAdded-more, IsAdded-after, AreAdded-after, struct_refused}
-use Rattle.rustc_abi.proofs.RefusalLemmas.{each_refused, variants_refused, variants_more, laying_as, enum_refused, enum_not_yet}
+use Rattle.rustc_abi.proofs.RefusalLemmas.{each_refused, variants_refused, enum_refused}
+use Rattle.rustc_abi.proofs.VariantsLemmas.{AreVariantsAdded-after, AreVariantsAdded-more, numbers_of_nodes}
+use Rattle.rustc_abi.proofs.AddedEnumLemmas.{VariantsFit-lawful, enum_tree_refused}
 use Rattle.rustc_abi.specs.Error.{IsRefused}
 use Rattle.rustc_abi.proofs.TogetherLemmas.{union_tree_refused}
 use Rattle.rustc_abi.proofs.ListLemmas.{passed_on}
@@ -65,18 +68,13 @@ lay_tree-returns-in_ok-children-in-Union-clause-err t c =
 pub lay_tree-lay_variants-requires : goal.lay_tree-lay_variants-requires
 lay_tree-lay_variants-requires t c =
     let falls = falls-Enum c.args.tree.now c.in-Enum.repr c.in-Enum.variants c.in-Enum.is in
-    (rw c.deref-in-Enum.ensures.value (omega (arith, c.decreases, falls)), c.requires)
+    (rw c.deref-in-Enum-2.ensures.value (omega (arith, c.decreases, falls)), c.requires)
 
-pub lay_tree-returns-in_err-lay_variants-in-Enum-clause-err : goal.lay_tree-returns-in_err-lay_variants-in-Enum-clause-err
-lay_tree-returns-in_err-lay_variants-in-Enum-clause-err t c =
-    let refused = rw c.deref-in-Enum.ensures.value at c.in_err-lay_variants-in-Enum.ensures.err in
-    passed_on _ _ _ c.from_residual-in_err-lay_variants-in-Enum.ensures.1
+pub lay_tree-returns-in_err-children-in-Enum-clause-err : goal.lay_tree-returns-in_err-children-in-Enum-clause-err
+lay_tree-returns-in_err-children-in-Enum-clause-err t c =
+    let refused = rw c.deref-in-Enum-2.ensures.value at c.in_err-children-in-Enum.ensures.err in
+    passed_on _ _ _ c.from_residual-in_err-children-in-Enum.ensures.1
     (enum_refused c.args.dl.now c.args.tree.now c.in-Enum.repr c.in-Enum.variants _ c.in-Enum.is refused)
-
-pub lay_tree-returns-in_ok-lay_variants-in-Enum-clause-err : goal.lay_tree-returns-in_ok-lay_variants-in-Enum-clause-err
-lay_tree-returns-in_ok-lay_variants-in-Enum-clause-err t c =
-    let laid = rw c.deref-in-Enum.ensures.value at c.in_ok-lay_variants-in-Enum.ensures.ok in
-    enum_not_yet c.args.dl.now c.args.tree.now c.in-Enum.repr c.in-Enum.variants c.in-Enum.is laid
 
 pub lay_variants-lay_each-requires : goal.lay_variants-lay_each-requires
 lay_variants-lay_each-requires t c =
@@ -93,20 +91,20 @@ lay_variants-lay_each-requires t c =
       c.requires,
     )
 
-pub lay_variants-returns-in_err-_children-clause-err : goal.lay_variants-returns-in_err-_children-clause-err
-lay_variants-returns-in_err-_children-clause-err t c =
+pub lay_variants-returns-in_err-fields-clause-err : goal.lay_variants-returns-in_err-fields-clause-err
+lay_variants-returns-in_err-fields-clause-err t c =
     let item : c.variant-item.result ≡ get_or c.args.all.now c.loop-variant.variant-index c.variant-item.result = c.variant-item.is in
     let lent : c.deref.result.now ≡ c.variant-item.result.1.items = c.deref.ensures.value in
-    let refused = subst (λ ts. IsRefused (AreLaying c.args.dl.now (trees (map tree_of ts))) c.in_err-_children.field-0.0) lent c.in_err-_children.ensures.err in
-    passed_on _ _ _ c.from_residual.ensures.1
-    (variants_refused c.args.dl.now c.args.all.now c.loop-variant.variant-index c.variant-item.result _ _ (omega arith) item c.loop-variant.invariant.1 refused)
+    let refused = subst (λ ts. IsRefused (AreLaying c.args.dl.now (trees (map tree_of ts))) c.in_err-fields.field-0.0) lent c.in_err-fields.ensures.err in
+    passed_on _ _ _ c.from_residual-in_err-fields.ensures.1
+    (variants_refused c.args.dl.now c.args.all.now c.loop-variant.variant-index c.variant-item.result _ _ (omega arith) item c.loop-variant.invariant.exact refused)
 
 pub lay_variants-loop-variant-preserved : goal.lay_variants-loop-variant-preserved
 lay_variants-loop-variant-preserved t c =
     let item : c.variant-item.result ≡ get_or c.args.all.now c.loop-variant.variant-index c.variant-item.result = c.variant-item.is in
     let lent : c.deref.result.now ≡ c.variant-item.result.1.items = c.deref.ensures.value in
-    let laid = laying_as _ _ _ _ lent c.in_ok-_children.ensures.ok.exact in
-    variants_more c.args.dl.now c.args.all.now c.loop-variant.variant-index c.variant-item.result _ _ (omega arith) item c.loop-variant.invariant.1 laid
+    rw c.in_ok-push.ensures.items
+    (AreVariantsAdded-more c.args.dl.now _ _ _ _ _ c.args.all.now c.loop-variant.variant-index c.variant-item.result _ (omega arith) item lent c.loop-variant.invariant c.in_ok-fields.ensures.ok)
 
 pub lay_tree-returns-in_ok-element-in-Array-clause-ok : goal.lay_tree-returns-in_ok-element-in-Array-clause-ok
 lay_tree-returns-in_ok-element-in-Array-clause-ok t c =
@@ -137,3 +135,34 @@ lay_tree-returns-in_ok-children-in-Struct-clause-err t c =
     let same = ap tree_of c.in-Struct.is ∙ tree_of-Struct c.in-Struct.repr c.in-Struct.always_sized c.in-Struct.fields in
     let exact = rw c.deref-in-Struct.ensures.value at before.exact in
     rw same (IfErr-weaker c.add_fields.result _ _ (λ e refused. struct_refused c.args.dl.now c.in-Struct.repr c.in-Struct.always_sized _ _ e exact refused) c.add_fields.ensures.err)
+
+pub lay_tree-add_enum-requires-clause-each : goal.lay_tree-add_enum-requires-clause-each
+lay_tree-add_enum-requires-clause-each t c =
+    let before = c.in_ok-children-in-Enum.ensures.ok in
+    let numbers : c.deref-in-Enum-3.result.now ≡ discriminants_of (trees_of_variants c.deref-in-Enum-2.result.now) =
+    c.deref-in-Enum-3.ensures.value ∙ c.in_ok-numbers-in-Enum.ensures ∙ ap (λ vs. discriminants_of (trees_of_variants vs)) (c.deref-in-Enum.ensures.value ∙ sym c.deref-in-Enum-2.ensures.value) in
+    ap length numbers ∙ numbers_of_nodes c.args.dl.now c.requires _ _ _ _ before ∙ ap length (sym c.deref-in-Enum-4.ensures.value)
+
+pub lay_tree-add_enum-requires-clause-lawful : goal.lay_tree-add_enum-requires-clause-lawful
+lay_tree-add_enum-requires-clause-lawful t c = rw c.deref-in-Enum-4.ensures.value (VariantsFit-lawful c.args.dl.now _ _ c.in_ok-children-in-Enum.ensures.ok.fits)
+
+pub lay_tree-returns-in_ok-children-in-Enum-clause-ok : goal.lay_tree-returns-in_ok-children-in-Enum-clause-ok
+lay_tree-returns-in_ok-children-in-Enum-clause-ok t c =
+    let before = c.in_ok-children-in-Enum.ensures.ok in
+    let same = ap tree_of c.in-Enum.is ∙ tree_of-Enum c.in-Enum.repr c.in-Enum.variants in
+    let numbers : c.deref-in-Enum-3.result.now ≡ discriminants_of (trees_of_variants c.deref-in-Enum-2.result.now) =
+    c.deref-in-Enum-3.ensures.value ∙ c.in_ok-numbers-in-Enum.ensures ∙ ap (λ vs. discriminants_of (trees_of_variants vs)) (c.deref-in-Enum.ensures.value ∙ sym c.deref-in-Enum-2.ensures.value) in
+    let told = rw c.deref-in-Enum-4.ensures.value at c.add_enum.ensures.ok in
+    rw same
+    (IfOk-weaker c.add_enum.result _ _
+    (λ i h. rw c.deref-in-Enum-2.ensures.value at (AreVariantsAdded-after c.args.dl.now _ _ _ _ _ i _ before (h (trees_of_variants c.deref-in-Enum-2.result.now) numbers before.exact before.fits))) told)
+
+pub lay_tree-returns-in_ok-children-in-Enum-clause-err : goal.lay_tree-returns-in_ok-children-in-Enum-clause-err
+lay_tree-returns-in_ok-children-in-Enum-clause-err t c =
+    let before = c.in_ok-children-in-Enum.ensures.ok in
+    let same = ap tree_of c.in-Enum.is ∙ tree_of-Enum c.in-Enum.repr c.in-Enum.variants in
+    let numbers : c.deref-in-Enum-3.result.now ≡ discriminants_of (trees_of_variants c.in-Enum.variants.items) =
+    c.deref-in-Enum-3.ensures.value ∙ c.in_ok-numbers-in-Enum.ensures ∙ ap (λ vs. discriminants_of (trees_of_variants vs)) c.deref-in-Enum.ensures.value in
+    let exact = rw c.deref-in-Enum-2.ensures.value at before.exact in
+    let told = rw (c.deref-in-Enum-4.ensures.value, numbers) at c.add_enum.ensures.err in
+    rw same (IfErr-weaker c.add_enum.result _ _ (λ e refused. enum_tree_refused c.args.dl.now c.in-Enum.repr _ _ e exact refused) told)

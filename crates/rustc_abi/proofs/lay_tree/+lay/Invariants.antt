@@ -1,8 +1,6 @@
-use Rattle.std.proofs.Common.{◌+◌, ◌*◌, List, Ok, map, take}
+use Rattle.std.proofs.Common.{◌+◌, ◌*◌, map, take}
 use Rattle.rustc_abi.specs.Tree.{tree_of, trees, trees_of_variants}
-use Rattle.rustc_abi.specs.Placed.{Placed}
-use Rattle.rustc_abi.specs.Laying.{VariantsLaying}
-use Rattle.rustc_abi.specs.Adding.{AreAdded, tree_size, trees_size, variants_size}
+use Rattle.rustc_abi.specs.Adding.{AreAdded, AreVariantsAdded, tree_size, trees_size, variants_size}
 use Rattle.rustc_abi.proofs.lay_tree.+lay.Given as goal
 
 abbrev pub invariant-lay_each-loop-field : goal.invariant-lay_each-loop-field
@@ -11,7 +9,7 @@ invariant-lay_each-loop-field l =
 
 abbrev pub invariant-lay_variants-loop-variant : goal.invariant-lay_variants-loop-variant
 invariant-lay_variants-loop-variant l =
-    (rest : List (List Placed)) × VariantsLaying l.dl (trees_of_variants (take l.variant-index l.all)) (Ok rest)
+    AreVariantsAdded l.dl l.initial.nodes.items l.nodes.items l.children.items (trees_of_variants (take l.variant-index l.all))
 
 abbrev pub decreases-lay_tree : goal.decreases-lay_tree
 decreases-lay_tree l = 3 * tree_size (tree_of l.tree.now)

@@ -1,20 +1,21 @@
 use Rattle.std.proofs.Common.{◌≡◌, ℕ, ◌++◌, ◌+◌, ◌*◌, ◌<◌, ◌≤◌, List, [], ◌∷◌, length, get_or, take, map, replicate, true, arith, ap, sym, ◌∙◌, subst, All}
 use Rattle.std.proofs.lemmas.Result.{IfOk-weaker}
-use Rattle.rustc_abi.specs.Placed.{Placed, elements, size_of}
-use Rattle.rustc_abi.specs.Places.{is_data_place, is_place_of_part}
+use Rattle.rustc_abi.specs.Placed.{Placed, Parts, elements, size_of}
+use Rattle.rustc_abi.specs.Places.{is_data_place, is_place_of_arm, is_place_of_part}
 use Rattle.rustc_abi.specs.declared.runs.Run.{Run}
 use Rattle.rustc_abi.specs.Adding.{all_at}
 use Rattle.std.specs.Prelude.{nat_lt, nat_le, ◌&&◌, ◌||◌, ◌-◌, Bool}
-use Rattle.rustc_abi.specs.Nodes.{placed_at, parts_at}
+use Rattle.rustc_abi.specs.Nodes.{arms_in, own_fields, placed_at, parts_at, tag_offset, types_in}
 use Rattle.rustc_abi.specs.Room.{have_room}
-use Rattle.rustc_abi.specs.Runs.{covers, repeats, shifted}
-use Rattle.std.proofs.lemmas.List.{length-map, length-append}
+use Rattle.rustc_abi.specs.Runs.{covers, repeats, shifted, Ascend}
+use Rattle.std.proofs.lemmas.List.{length-map, length-append, take_all}
 use Rattle.std.proofs.lemmas.List.Elements.{All-append}
-use Rattle.rustc_abi.proofs.WalkLemmas.{covers-put, some-shifted}
+use Rattle.std.proofs.Math.Bool.{or-false}
+use Rattle.rustc_abi.proofs.WalkLemmas.{covers-put, covers-put_0, covers-shifted, some-shifted}
 use Rattle.std.proofs.lemmas.Slice.Zip.{zip_turn, zip_end}
 use Rattle.abi_scalar.specs.Shape.{listed_offsets}
 use Rattle.rustc_abi.proofs.RoomLemmas.{each_some}
-use Rattle.rustc_abi.proofs.PaddingLemmas.{scalar_node, never_node, pair_node, elements_node, fields_node, union_node, vector_node, parts_at-zeros, places_of_elements, places_of_none, runs_inside, field_at, fields_more, parts_at-all}
+use Rattle.rustc_abi.proofs.PaddingLemmas.{scalar_node, never_node, pair_node, elements_node, fields_node, union_node, vector_node, single_node, tagged_node, own_fields_node, own_fields_other, parts_at-zeros, places_of_elements, places_of_none, runs_inside, parts_inside, field_at, fields_more, parts_at-all, arms_more, arm_room, or_shift}
 use Rattle.rustc_abi.proofs.padding.+walk.Goals as goal
 
 pub data_runs-layout_at-requires : goal.data_runs-layout_at-requires
@@ -205,4 +206,157 @@ fields_runs-returns-clause-covers t c =
     IfOk-weaker c.joined.result _ _
     (λ runs same k. same k ∙ c.loop-offset.invariant.same k
     ∙ ap (λ parts. is_place_of_part parts k) (parts_at-all c.args.offsets.now (all_at c.args.nodes.now c.args.children.now) (length c.loop-offset.yielded) (omega (arith, end, as_many))))
+    c.joined.ensures.covers
+
+pub data_runs-fields_runs-requires-in-Single : goal.data_runs-fields_runs-requires-in-Single
+data_runs-fields_runs-requires-in-Single t c =
+    let facts = single_node c.args.nodes.now c.requires.well c.args.node _ c.requires.there c.index-nodes-node.is c.requires.room c.in-Single.children c.in-Single.is in
+    (omega (arith, c.decreases), (c.requires.there, (rw c.deref-in-Single.ensures.value facts.0, (c.requires.well, rw c.bytes-size.ensures (rw c.offsets-in-Single.ensures (rw c.deref-in-Single.ensures.value facts.2))))))
+
+pub data_runs-returns-in-Single-clause-covers : goal.data_runs-returns-in-Single-clause-covers
+data_runs-returns-in-Single-clause-covers t c =
+    let facts = single_node c.args.nodes.now c.requires.well c.args.node _ c.requires.there c.index-nodes-node.is c.requires.room c.in-Single.children c.in-Single.is in
+    IfOk-weaker c.fields_runs-in-Single.result _ _
+    (λ runs same k. same k
+    ∙ ap (λ os. is_place_of_part (parts_at os (all_at c.args.nodes.now c.deref-in-Single.result.now)) k) c.offsets-in-Single.ensures
+    ∙ ap (λ cs. is_place_of_part (parts_at (listed_offsets c.index-nodes-node.result.layout.fields) (all_at c.args.nodes.now cs)) k) c.deref-in-Single.ensures.value
+    ∙ ap (λ p. is_data_place p k) (sym facts.1))
+    c.fields_runs-in-Single.ensures.covers
+
+pub data_runs-tagged_runs-requires : goal.data_runs-tagged_runs-requires
+data_runs-tagged_runs-requires t c =
+    let facts = tagged_node c.args.nodes.now c.requires.well c.args.node _ c.requires.there c.index-nodes-node.is c.requires.room c.in-Tagged.tag c.in-Tagged.variants c.in-Tagged.is in (
+      omega (arith, c.decreases),
+      (
+        c.requires.there,
+        (
+          facts.0,
+          (
+            rw c.deref-in-Tagged.ensures.value facts.1,
+            (
+              c.requires.well,
+              (rw c.bytes-size.ensures (rw c.tag_offset.ensures facts.3), (facts.4, rw c.bytes-size.ensures (rw c.deref-in-Tagged.ensures.value facts.5))),
+            ),
+          ),
+        ),
+      ),
+    )
+
+pub data_runs-returns-in-Tagged-clause-covers : goal.data_runs-returns-in-Tagged-clause-covers
+data_runs-returns-in-Tagged-clause-covers t c =
+    let ns = c.args.nodes.now in
+    let facts = tagged_node ns c.requires.well c.args.node _ c.requires.there c.index-nodes-node.is c.requires.room c.in-Tagged.tag c.in-Tagged.variants c.in-Tagged.is in
+    let tag : Placed = placed_at ns c.in-Tagged.tag in
+    IfOk-weaker c.tagged_runs.result _ _
+    (λ runs same k. same k
+    ∙ ap (λ o. (nat_le o k && is_data_place tag (k - o)) || is_place_of_arm (arms_in (types_in ns) c.deref-in-Tagged.result.now) k) c.tag_offset.ensures
+    ∙ ap (λ vs. (nat_le (tag_offset c.index-nodes-node.result.layout) k && is_data_place tag (k - tag_offset c.index-nodes-node.result.layout)) || is_place_of_arm (arms_in (types_in ns) vs) k)
+    c.deref-in-Tagged.ensures.value
+    ∙ ap (λ p. is_data_place p k) (sym facts.2))
+    c.tagged_runs.ensures.covers
+
+pub own_runs-fields_runs-requires : goal.own_runs-fields_runs-requires
+own_runs-fields_runs-requires t c =
+    let facts = own_fields_node c.args.nodes.now c.requires.well c.args.variant _ c.requires.there c.index-nodes-variant.is c.in-Fields.children c.in-Fields.is in
+    let room : have_room c.args.size (parts_at (listed_offsets c.index-nodes-variant.result.layout.fields) (all_at c.args.nodes.now c.in-Fields.children.items)) ≡ true =
+    subst (λ parts. have_room c.args.size parts ≡ true) facts.1 c.requires.room in
+    (omega (arith, c.decreases), (c.requires.there, (rw c.deref.ensures.value facts.0, (c.requires.well, rw c.offsets.ensures (rw c.deref.ensures.value room)))))
+
+pub own_runs-returns-in-Fields-clause-covers : goal.own_runs-returns-in-Fields-clause-covers
+own_runs-returns-in-Fields-clause-covers t c =
+    let facts = own_fields_node c.args.nodes.now c.requires.well c.args.variant _ c.requires.there c.index-nodes-variant.is c.in-Fields.children c.in-Fields.is in
+    IfOk-weaker c.fields_runs.result _ _
+    (λ runs same k. same k
+    ∙ ap (λ os. is_place_of_part (parts_at os (all_at c.args.nodes.now c.deref.result.now)) k) c.offsets.ensures
+    ∙ ap (λ cs. is_place_of_part (parts_at (listed_offsets c.index-nodes-variant.result.layout.fields) (all_at c.args.nodes.now cs)) k) c.deref.ensures.value
+    ∙ ap (λ parts. is_place_of_part parts k) (sym facts.1))
+    c.fields_runs.ensures.covers
+
+pub own_runs-returns-in_default : goal.own_runs-returns-in_default
+own_runs-returns-in_default t c =
+    let none = own_fields_other c.args.nodes.now c.requires.well c.args.variant _ c.requires.there c.index-nodes-variant.is c.in_default.not-Fields in
+    record {
+      covers = λ k. ap (λ rs. covers rs k) c.new.ensures.items ∙ ap (λ parts. is_place_of_part parts k) (sym none);
+      ascend = subst (Ascend 0) (sym c.new.ensures.items) tt;
+    }
+
+pub tagged_runs-put_shifted-requires-clause-fits : goal.tagged_runs-put_shifted-requires-clause-fits
+tagged_runs-put_shifted-requires-clause-fits t c =
+    let tag : Placed = placed_at c.args.nodes.now c.args.tag in
+    let inside : All (λ run. run.end ≤ size_of tag) c.in_ok-runs.runs.items = runs_inside tag c.in_ok-runs.runs.items c.requires.tag c.in_ok-runs.ensures.ascend c.in_ok-runs.ensures.covers in
+    rw c.deref.ensures.value (λ k d lt. omega (arith, inside k d lt, c.requires.fits, c.ranges.size.fits))
+
+pub tagged_runs-put_shifted-requires-clause-some : goal.tagged_runs-put_shifted-requires-clause-some
+tagged_runs-put_shifted-requires-clause-some t c = rw c.deref.ensures.value (each_some 0 _ c.in_ok-runs.ensures.ascend)
+
+pub tagged_runs-loop-variant-init : goal.tagged_runs-loop-variant-init
+tagged_runs-loop-variant-init t c =
+    let tag : Placed = placed_at c.args.nodes.now c.args.tag in
+    let runs : List Run = c.in_ok-runs.runs.items in
+    let put : c.put_shifted.new.all.items ≡ map (shifted c.args.offset) runs =
+    c.in_ok-put_shifted.ensures ∙ ap (λ xs. xs ++ map (shifted c.args.offset) c.deref.result.now) c.new-all.ensures.items ∙ ap (map (shifted c.args.offset)) c.deref.ensures.value in
+    record {
+      same = λ k.
+          ap (λ rs. covers rs k) put ∙ covers-shifted c.args.offset runs k ∙ ap (λ b. nat_le c.args.offset k && b) (c.in_ok-runs.ensures.covers (k - c.args.offset))
+          ∙ sym (or-false (nat_le c.args.offset k && is_data_place tag (k - c.args.offset)));
+      some = subst (All (λ run. run.start < run.end)) (sym put) (some-shifted c.args.offset runs (each_some 0 runs c.in_ok-runs.ensures.ascend));
+    }
+
+pub tagged_runs-own_runs-requires : goal.tagged_runs-own_runs-requires
+tagged_runs-own_runs-requires t c =
+    let i : ℕ = c.loop-variant.variant-index in
+    let lt : i < length c.args.variants.now = omega arith in
+    let before = c.requires.before i (0, 0) lt in (
+      omega (arith, before, c.decreases),
+      (
+        omega (arith, before, c.requires.there),
+        (
+          c.requires.well,
+          arm_room c.args.size (types_in c.args.nodes.now) c.args.variants.now i (0, 0) c.requires.room lt,
+        ),
+      ),
+    )
+
+pub tagged_runs-put_shifted-requires-in-loop-variant-clause-fits : goal.tagged_runs-put_shifted-requires-in-loop-variant-clause-fits
+tagged_runs-put_shifted-requires-in-loop-variant-clause-fits t c =
+    let i : ℕ = c.loop-variant.variant-index in
+    let lt : i < length c.args.variants.now = omega arith in
+    let own : Parts = own_fields (placed_at c.args.nodes.now (get_or c.args.variants.now i (0, 0)).1) in
+    let room = arm_room c.args.size (types_in c.args.nodes.now) c.args.variants.now i (0, 0) c.requires.room lt in
+    let inside : All (λ run. run.end ≤ c.args.size) c.in_ok-runs-2.runs.items = parts_inside c.args.size own c.in_ok-runs-2.runs.items room c.in_ok-runs-2.ensures.ascend c.in_ok-runs-2.ensures.covers in
+    rw c.deref-in-loop-variant.ensures.value (λ k d below. omega (arith, inside k d below, c.ranges.size.fits))
+
+pub tagged_runs-put_shifted-requires-in-loop-variant-clause-some : goal.tagged_runs-put_shifted-requires-in-loop-variant-clause-some
+tagged_runs-put_shifted-requires-in-loop-variant-clause-some t c = rw c.deref-in-loop-variant.ensures.value (each_some 0 _ c.in_ok-runs-2.ensures.ascend)
+
+pub tagged_runs-loop-variant-preserved : goal.tagged_runs-loop-variant-preserved
+tagged_runs-loop-variant-preserved t c =
+    let i : ℕ = c.loop-variant.variant-index in
+    let vs : List (ℕ × ℕ) = c.args.variants.now in
+    let lt : i < length vs = omega arith in
+    let done : List Placed = types_in c.args.nodes.now in
+    let runs : List Run = c.in_ok-runs-2.runs.items in
+    let of_tag : ℕ → Bool = λ k. nat_le c.args.offset k && is_data_place (placed_at c.args.nodes.now c.args.tag) (k - c.args.offset) in
+    let first : ℕ → Bool = λ k. is_place_of_arm (arms_in done (take i vs)) k in
+    let own : ℕ → Bool = λ k. is_place_of_part (own_fields (placed_at c.args.nodes.now (get_or vs i (0, 0)).1)) k in
+    let put : c.put_shifted-in-loop-variant.new.all.items ≡ c.loop-variant.all.items ++ map (shifted 0) runs =
+    c.in_ok-put_shifted-2.ensures ∙ ap (λ rs. c.loop-variant.all.items ++ map (shifted 0) rs) c.deref-in-loop-variant.ensures.value in
+    record {
+      same = λ k.
+          ap (λ rs. covers rs k) put ∙ covers-put_0 c.loop-variant.all.items runs k
+          ∙ ap (λ b. b || covers runs k) (c.loop-variant.invariant.same k) ∙ ap (λ b. (of_tag k || first k) || b) (c.in_ok-runs-2.ensures.covers k)
+          ∙ sym (or_shift (of_tag k) (first k) (own k)) ∙ ap (λ b. of_tag k || b) (sym (arms_more done vs i k (0, 0) lt));
+      some =
+          subst (All (λ run. run.start < run.end)) (sym put)
+          (All-append (λ run. run.start < run.end) c.loop-variant.all.items _ c.loop-variant.invariant.some (some-shifted 0 runs (each_some 0 runs c.in_ok-runs-2.ensures.ascend)));
+    }
+
+pub tagged_runs-returns-clause-covers : goal.tagged_runs-returns-clause-covers
+tagged_runs-returns-clause-covers t c =
+    let vs : List (ℕ × ℕ) = c.args.variants.now in
+    let whole : take c.loop-variant.variant-index vs ≡ vs = take_all c.loop-variant.variant-index vs (omega arith) in
+    let tag : Placed = placed_at c.args.nodes.now c.args.tag in
+    IfOk-weaker c.joined.result _ _
+    (λ runs same k. same k ∙ c.loop-variant.invariant.same k
+    ∙ ap (λ xs. (nat_le c.args.offset k && is_data_place tag (k - c.args.offset)) || is_place_of_arm (arms_in (types_in c.args.nodes.now) xs) k) whole)
     c.joined.ensures.covers

@@ -1,6 +1,7 @@
-use Rattle.std.proofs.Common.{◌≡◌, ◌+◌, ◌*◌, ◌<◌, ℕ, All, length, take}
-use Rattle.rustc_abi.specs.Places.{is_place_of_part}
-use Rattle.rustc_abi.specs.Nodes.{parts_at}
+use Rattle.std.proofs.Common.{◌≡◌, ◌+◌, ◌-◌, ◌*◌, ◌<◌, ℕ, All, length, take}
+use Rattle.std.specs.Prelude.{◌&&◌, ◌||◌, nat_le}
+use Rattle.rustc_abi.specs.Places.{is_data_place, is_place_of_arm, is_place_of_part}
+use Rattle.rustc_abi.specs.Nodes.{arms_in, parts_at, placed_at, types_in}
 use Rattle.rustc_abi.specs.Adding.{all_at}
 use Rattle.rustc_abi.specs.Runs.{covers}
 use Rattle.rustc_abi.proofs.padding.+walk.Given as goal
@@ -11,8 +12,21 @@ invariant-fields_runs-loop-offset l = record {
   some : All (λ run. run.start < run.end) l.all.items;
 }
 
+abbrev pub invariant-tagged_runs-loop-variant : goal.invariant-tagged_runs-loop-variant
+invariant-tagged_runs-loop-variant l = record {
+  same : (k : ℕ) → covers l.all.items k
+      ≡ ((nat_le l.offset k && is_data_place (placed_at l.nodes l.tag) (k - l.offset)) || is_place_of_arm (arms_in (types_in l.nodes) (take l.variant-index l.variants)) k);
+  some : All (λ run. run.start < run.end) l.all.items;
+}
+
 abbrev pub decreases-data_runs : goal.decreases-data_runs
 decreases-data_runs l = 2 * l.node + 1
 
 abbrev pub decreases-fields_runs : goal.decreases-fields_runs
 decreases-fields_runs l = 2 * l.node
+
+abbrev pub decreases-own_runs : goal.decreases-own_runs
+decreases-own_runs l = 2 * l.variant + 1
+
+abbrev pub decreases-tagged_runs : goal.decreases-tagged_runs
+decreases-tagged_runs l = 2 * l.node

@@ -1,0 +1,236 @@
+-- Nodes for the variants of an enum.
+use Rattle.std.proofs.Common.{◌≡◌, ℕ, ◌+◌, ◌<◌, ◌≤◌, List, [], ◌∷◌, ◌++◌, Some, true, false, length, map, take, get_or, arith, refl, sym, ap, ◌∙◌, subst}
+use Rattle.std.specs.Prelude.{Vec, All, nat_lt, slice_get, option_map, ◌||◌}
+use Rattle.std.specs.List.{list_any, list_all}
+use Rattle.std.specs.Cmp.Derive.{both_true}
+use Rattle.std.specs.declared.alloc.Global.{Global}
+use Rattle.std.proofs.lemmas.Bool.{lt-ltb, le-ltb, or_right}
+use Rattle.std.proofs.lemmas.List.{take_more, take_all, length-map, length-take-le, get_or-map}
+use Rattle.std.proofs.lemmas.List.Elements.{All-nil, All-cons, All-head, All-tail, All-append, All-weaker, All-get_or}
+use Rattle.std.proofs.lemmas.List.Folds.{list_any_at}
+use Rattle.std.proofs.lemmas.Option.{slice_get-get_or}
+use Rattle.abi_scalar.specs.declared.variants.VariantLayout.{VariantLayout}
+use Rattle.abi_scalar.specs.Shape.{listed_offsets}
+use Rattle.abi_scalar.specs.Variant.{variant_layout}
+use Rattle.rustc_abi.specs.declared.node.Shape.TheVariants.{Fields, Tagged}
+use Rattle.rustc_abi.specs.declared.node.Node.{Node}
+use Rattle.rustc_abi.specs.Placed.{Placed, Layout, tagged, Parts, Arms, no_arms, arm}
+use Rattle.rustc_abi.specs.Nodes.{placed_in, parts_at, arms_in, own_fields, encoding_of, tag_offset, meaning, types_in, placed_at, Keeps}
+use Rattle.rustc_abi.specs.Enums.{arms_at}
+use Rattle.rustc_abi.specs.Laying.{most_fields, has_bad_index}
+use Rattle.rustc_abi.specs.Adding.{IsPut, AreArms, all_at, variants_in, is_node}
+use Rattle.rustc_abi.proofs.NodesLemmas.{length-types_in, Keeps-trans}
+use Rattle.rustc_abi.proofs.ListLemmas.{all_below}
+use Rattle.rustc_abi.proofs.LayLemmas.{all_at-kept}
+
+-- ---- how many fields there are
+
+any_long : (variants : List (List Placed)) (children : List (Vec ℕ Global)) → map length variants ≡ map (λ c. length c.items) children →
+    list_any (λ fields. nat_lt most_fields (length fields)) variants ≡ list_any (λ c. nat_lt most_fields (length c.items)) children
+any_long [] [] same = refl
+any_long [] (c ∷ children) same = absurd (cc)
+any_long (v ∷ variants) [] same = absurd (cc)
+any_long (v ∷ variants) (c ∷ children) same =
+    let here : length v ≡ length c.items = cc in
+    let later : map length variants ≡ map (λ c. length c.items) children = cc in
+    ap (λ n. nat_lt most_fields n || list_any (λ fields. nat_lt most_fields (length fields)) variants) here
+    ∙ ap (λ b. nat_lt most_fields (length c.items) || b) (any_long variants children later)
+
+-- whether an index can name the variants and the fields of each is told by how many there are
+pub bad_index_by : (variants : List (List Placed)) (children : List (Vec ℕ Global)) → map length variants ≡ map (λ c. length c.items) children →
+    has_bad_index variants ≡ (nat_lt most_fields (length children) || list_any (λ c. nat_lt most_fields (length c.items)) children)
+bad_index_by variants children same =
+    let many : length variants ≡ length children =
+    sym (length-map variants length) ∙ ap length same ∙ length-map children (λ c. length c.items) in
+    ap (λ n. nat_lt most_fields n || list_any (λ fields. nat_lt most_fields (length fields)) variants) many
+    ∙ ap (λ b. nat_lt most_fields (length children) || b) (any_long variants children same)
+
+-- a variant has too many fields
+pub has_long : (variants : List (List Placed)) (children : List (Vec ℕ Global)) (i : ℕ) (c : Vec ℕ Global) → i < length children → c ≡ get_or children i c →
+    most_fields < length c.items → map length variants ≡ map (λ c. length c.items) children → true ≡ has_bad_index variants
+has_long variants children i c lt at long same =
+    let test : nat_lt most_fields (length (get_or children i c).items) ≡ true =
+    ap (λ v. nat_lt most_fields (length v.items)) (sym at) ∙ lt-ltb most_fields (length c.items) long in
+    let some = list_any_at (λ v. nat_lt most_fields (length v.items)) children i c lt test in
+    sym (bad_index_by variants children same ∙ or_right (nat_lt most_fields (length children)) _ some)
+
+-- neither the variants nor the fields of one are too many
+pub has_no_long : (variants : List (List Placed)) (children : List (Vec ℕ Global)) (i : ℕ) → length children ≤ i → length children ≤ most_fields →
+    list_any (λ c. nat_lt most_fields (length c.items)) (take i children) ≡ false → map length variants ≡ map (λ c. length c.items) children → false ≡ has_bad_index variants
+has_no_long variants children i end few none same =
+    let all : take i children ≡ children = take_all i children end in
+    let here : list_any (λ c. nat_lt most_fields (length c.items)) children ≡ false = subst (λ cs. list_any (λ c. nat_lt most_fields (length c.items)) cs ≡ false) all none in
+    sym (
+    bad_index_by variants children same ∙ ap (λ b. b || list_any (λ c. nat_lt most_fields (length c.items)) children) (le-ltb most_fields (length children) few) ∙ here
+    )
+
+-- ---- arms
+
+-- arms with one more
+abbrev push_arm : Arms → (number : ℕ) → Parts → Arms
+push_arm no_arms n parts = arm n parts no_arms
+push_arm (arm m own arms) n parts = arm m own (push_arm arms n parts)
+
+arms_in-push : (done : List Placed) (vs : List (ℕ × ℕ)) (v : ℕ × ℕ) → arms_in done (vs ++ v ∷ []) ≡ push_arm (arms_in done vs) v.0 (own_fields (placed_in done v.1))
+arms_in-push done [] v = refl
+arms_in-push done (u ∷ vs) v = ap (arm u.0 (own_fields (placed_in done u.1))) (arms_in-push done vs v)
+
+arms_at-push : (layouts : List (VariantLayout ℕ)) (numbers : List ℕ) (variants : List (List Placed)) (layout : VariantLayout ℕ) (n : ℕ) (fields : List Placed) →
+    length layouts ≡ length numbers → length layouts ≡ length variants →
+    arms_at (layouts ++ layout ∷ []) (numbers ++ n ∷ []) (variants ++ fields ∷ []) ≡ push_arm (arms_at layouts numbers variants) n (parts_at layout.field_offsets fields)
+arms_at-push [] [] [] layout n fields as_many as_long = refl
+arms_at-push [] [] (v ∷ variants) layout n fields as_many as_long = absurd (omega arith)
+arms_at-push [] (m ∷ numbers) variants layout n fields as_many as_long = absurd (omega arith)
+arms_at-push (l ∷ layouts) [] variants layout n fields as_many as_long = absurd (omega arith)
+arms_at-push (l ∷ layouts) (m ∷ numbers) [] layout n fields as_many as_long = absurd (omega arith)
+arms_at-push (l ∷ layouts) (m ∷ numbers) (v ∷ variants) layout n fields as_many as_long =
+    ap (arm m (parts_at l.field_offsets v)) (arms_at-push layouts numbers variants layout n fields (omega arith) (omega arith))
+
+-- arms that were there mean the same
+arms_in-kept : (old new : List Node) → Keeps (types_in old) (types_in new) → (vs : List (ℕ × ℕ)) → All (λ v. v.1 < length old) vs →
+    arms_in (types_in new) vs ≡ arms_in (types_in old) vs
+arms_in-kept old new kept [] there = refl
+arms_in-kept old new kept (v ∷ vs) there =
+    let here : placed_in (types_in new) v.1 ≡ placed_in (types_in old) v.1 =
+    kept.same v.1 (omega (arith, length-types_in old, All-head (λ v. v.1 < length old) v vs there)) in
+    ap (λ p. arm v.0 (own_fields p) (arms_in (types_in new) vs)) here
+    ∙ ap (arm v.0 (own_fields (placed_in (types_in old) v.1))) (arms_in-kept old new kept vs (All-tail (λ v. v.1 < length old) v vs there))
+
+-- variants that were there mean the same
+pub variants_in-kept : (old new : List Node) → Keeps (types_in old) (types_in new) → (children : List (Vec ℕ Global)) →
+    All (λ fields. All (λ child. child < length old) fields.items) children → variants_in new children ≡ variants_in old children
+variants_in-kept old new kept [] there = refl
+variants_in-kept old new kept (c ∷ children) there =
+    let here : all_at new c.items ≡ all_at old c.items =
+    all_at-kept old new kept c.items (All-head (λ fields. All (λ child. child < length old) fields.items) c children there) in
+    let later : variants_in new children ≡ variants_in old children =
+    variants_in-kept old new kept children (All-tail (λ fields. All (λ child. child < length old) fields.items) c children there) in
+    ap (λ ps. ps ∷ variants_in new children) here ∙ ap (λ rest. all_at old c.items ∷ rest) later
+
+-- one arm more
+AreArms-push : (first old new : List Node) (vs : List (ℕ × ℕ)) (arms : Arms) (n i : ℕ) (own : Layout) (fields : Vec ℕ Global) → AreArms first old vs arms →
+    All (λ child. child < length first) fields.items → IsPut old new i (meaning (types_in old) own (Fields fields)) →
+    AreArms first new (vs ++ (n, i) ∷ []) (push_arm arms n (parts_at (listed_offsets own.fields) (all_at first fields.items)))
+AreArms-push first old new vs arms n i own fields h there put =
+    let longer : length old ≤ length new = omega (arith, put.kept.longer, length-types_in old, length-types_in new) in
+    let same : arms_in (types_in new) vs ≡ arms = arms_in-kept old new put.kept vs h.there ∙ h.meant in
+    let offsets = listed_offsets own.fields in
+    let own_parts : own_fields (placed_at new i) ≡ parts_at offsets (all_at first fields.items) =
+    ap own_fields put.meant ∙ ap (parts_at offsets) (all_at-kept first old h.kept fields.items there) in
+    record {
+      kept = Keeps-trans (types_in first) (types_in old) (types_in new) h.kept put.kept;
+      well = λ first_well. put.well (h.well first_well);
+      there =
+          All-append (λ v. v.1 < length new) vs ((n, i) ∷ [])
+          (All-weaker (λ v. v.1 < length old) (λ v. v.1 < length new) (λ v lt. omega arith) vs h.there)
+          (All-cons (λ v. v.1 < length new) (n, i) [] (omega (arith, put.last)) (All-nil (λ v. v.1 < length new)));
+      meant =
+          arms_in-push (types_in new) vs (n, i) ∙ ap (λ a. push_arm a n (own_fields (placed_at new i))) same
+          ∙ ap (push_arm arms n) own_parts;
+    }
+
+-- an element of a list, and the list up to it
+taken : {X : Type 0} (xs : List X) (i : ℕ) → i < length xs → (x : X) × (slice_get xs i ≡ Some x) × (take (i + 1) xs ≡ take i xs ++ x ∷ [])
+taken [] i lt = absurd (omega arith)
+taken (d ∷ xs) i lt = (get_or (d ∷ xs) i d, slice_get-get_or (d ∷ xs) i d lt, take_more (d ∷ xs) i d lt)
+
+-- the arms up to an index
+abbrev pub arms_up_to : (i : ℕ) → List (VariantLayout ℕ) → (numbers : List ℕ) → List (List Placed) → Arms
+arms_up_to i layouts numbers variants = arms_at (take i layouts) (take i numbers) (take i variants)
+
+arms_more : (at : ℕ) (layouts : List (VariantLayout ℕ)) (numbers : List ℕ) (variants : List (List Placed)) (layout : VariantLayout ℕ) (n : ℕ) (fields : List Placed) →
+    at < length layouts → at < length numbers → at < length variants → take (at + 1) layouts ≡ take at layouts ++ layout ∷ [] →
+    take (at + 1) numbers ≡ take at numbers ++ n ∷ [] → take (at + 1) variants ≡ take at variants ++ fields ∷ [] →
+    arms_up_to (at + 1) layouts numbers variants ≡ push_arm (arms_up_to at layouts numbers variants) n (parts_at layout.field_offsets fields)
+arms_more at layouts numbers variants layout n fields in_layouts in_numbers in_variants more_layouts more_numbers more_variants =
+    let as_many : length (take at layouts) ≡ length (take at numbers) =
+    length-take-le at layouts (omega arith) ∙ sym (length-take-le at numbers (omega arith)) in
+    let as_long : length (take at layouts) ≡ length (take at variants) =
+    length-take-le at layouts (omega arith) ∙ sym (length-take-le at variants (omega arith)) in
+    ap (λ ls. arms_at ls (take (at + 1) numbers) (take (at + 1) variants)) more_layouts
+    ∙ ap (λ ns. arms_at (take at layouts ++ layout ∷ []) ns (take (at + 1) variants)) more_numbers
+    ∙ ap (arms_at (take at layouts ++ layout ∷ []) (take at numbers ++ n ∷ [])) more_variants
+    ∙ arms_at-push (take at layouts) (take at numbers) (take at variants) layout n fields as_many as_long
+
+module _ (first old new : List Node) (parent : Layout) (layouts : List (VariantLayout ℕ)) (numbers : List ℕ) (children : List (Vec ℕ Global)) where
+  -- the node of one variant more: `own` is the layout of that variant by itself, and its node has the fields of the variant
+  pub AreArms-more : (vs : List (ℕ × ℕ)) (at n i index : ℕ) (own : Layout) (fields : Vec ℕ Global) → at < length children →
+      length layouts ≡ length children → length numbers ≡ length children → All (λ fields. All (λ child. child < length first) fields.items) children →
+      Some own ≡ option_map (variant_layout parent index) (slice_get layouts at) → n ≡ get_or numbers at 0 → (c : Vec ℕ Global) → c ≡ get_or children at c → fields.items ≡ c.items →
+      AreArms first old vs (arms_up_to at layouts numbers (variants_in first children)) → IsPut old new i (meaning (types_in old) own (Fields fields)) →
+      AreArms first new (vs ++ (n, i) ∷ []) (arms_up_to (at + 1) layouts numbers (variants_in first children))
+  AreArms-more vs at n i index own fields lt as_many each there made number c c_is same h put =
+      let variants = variants_in first children in
+      let long : length variants ≡ length children = length-map children (λ fields. all_at first fields.items) in
+      let layout = taken layouts at (omega arith) in
+      let own_is : own ≡ variant_layout parent index layout.0 =
+      let some : Some own ≡ Some (variant_layout parent index layout.0) = made ∙ ap (option_map (variant_layout parent index)) layout.1 in
+      cc in
+      let offsets : listed_offsets own.fields ≡ layout.0.field_offsets = ap (λ l. listed_offsets l.fields) own_is in
+      let more_numbers : take (at + 1) numbers ≡ take at numbers ++ n ∷ [] =
+      take_more numbers at 0 (omega arith) ∙ ap (λ k. take at numbers ++ k ∷ []) (sym number) in
+      let ps = all_at first fields.items in
+      let here : get_or variants at ps ≡ ps =
+      get_or-map (λ fields. all_at first fields.items) children at c ps lt ∙ ap (λ k. all_at first k.items) (sym c_is) ∙ ap (all_at first) (sym same) in
+      let more_variants : take (at + 1) variants ≡ take at variants ++ ps ∷ [] =
+      take_more variants at ps (omega arith) ∙ ap (λ k. take at variants ++ k ∷ []) here in
+      let below : All (λ child. child < length first) fields.items =
+      subst (All (λ child. child < length first)) (ap (λ v. v.items) (sym c_is) ∙ sym same)
+      (All-get_or (λ fields. All (λ child. child < length first) fields.items) children at c lt there) in
+      let pushed = AreArms-push first old new vs (arms_up_to at layouts numbers variants) n i own fields h below put in
+      let arms : push_arm (arms_up_to at layouts numbers variants) n (parts_at (listed_offsets own.fields) ps) ≡ arms_up_to (at + 1) layouts numbers variants =
+      ap (λ o. push_arm (arms_up_to at layouts numbers variants) n (parts_at o ps)) offsets
+      ∙ sym (arms_more at layouts numbers variants layout.0 n ps (omega arith) (omega arith) (omega arith) layout.2 more_numbers more_variants) in
+      subst (AreArms first new (vs ++ (n, i) ∷ [])) arms pushed
+
+-- a node for several variants, behind those for the tag and for each variant
+pub IsPut-tagged : (old one two new : List Node) (t i : ℕ) (tag : Placed) (variants : Vec (ℕ × ℕ) Global) (arms : Arms) (layout : Layout) → IsPut old one t tag →
+    AreArms one two variants.items arms → IsPut two new i (meaning (types_in two) layout (Tagged t variants)) →
+    IsPut old new i (tagged layout (tag_offset layout) tag (encoding_of layout.variants) arms)
+IsPut-tagged old one two new t i tag variants arms layout first middle last =
+    let here : placed_in (types_in two) t ≡ tag = middle.kept.same t (omega (arith, length-types_in one, first.last)) ∙ first.meant in
+    let offset = tag_offset layout in
+    let encoding = encoding_of layout.variants in
+    record {
+      kept = Keeps-trans (types_in old) (types_in one) (types_in new) first.kept (Keeps-trans (types_in one) (types_in two) (types_in new) middle.kept last.kept);
+      well = λ h. last.well (middle.well (first.well h));
+      last = last.last;
+      meant =
+          last.meant ∙ ap (λ p. tagged layout offset p encoding (arms_in (types_in two) variants.items)) here
+          ∙ ap (tagged layout offset tag encoding) middle.meant;
+    }
+
+variants_below : (n : ℕ) (vs : List (ℕ × ℕ)) → All (λ v. v.1 < n) vs → list_all (λ v. nat_lt v.1 n) vs ≡ true
+variants_below n [] h = refl
+variants_below n (v ∷ vs) h = both_true (lt-ltb v.1 n (All-head (λ v. v.1 < n) v vs h)) (variants_below n vs (All-tail (λ v. v.1 < n) v vs h))
+
+-- a node for several variants names earlier ones
+pub tagged_before : (one two : List Node) (t n : ℕ) (variants : Vec (ℕ × ℕ) Global) (arms : Arms) → t < length one → n ≡ length two → AreArms one two variants.items arms →
+    is_node n (Tagged t variants) ≡ true
+tagged_before one two t n variants arms lt e h =
+    let longer : length one ≤ length two = omega (arith, h.kept.longer, length-types_in one, length-types_in two) in
+    both_true (lt-ltb t n (omega arith)) (variants_below n variants.items (All-weaker (λ v. v.1 < length two) (λ v. v.1 < n) (λ v lt. omega arith) variants.items h.there))
+
+-- the fields of one variant come before a node
+pub one_before : (m n : ℕ) (children : List (Vec ℕ Global)) (at : ℕ) (c : Vec ℕ Global) (fields : List ℕ) → m ≤ n → at < length children → c ≡ get_or children at c → fields ≡ c.items →
+    All (λ fields. All (λ child. child < m) fields.items) children → list_all (λ child. nat_lt child n) fields ≡ true
+one_before m n children at c fields le lt c_is same there =
+    let below : All (λ child. child < m) fields =
+    subst (All (λ child. child < m)) (ap (λ v. v.items) (sym c_is) ∙ sym same)
+    (All-get_or (λ fields. All (λ child. child < m) fields.items) children at c lt there) in
+    all_below n fields (All-weaker (λ child. child < m) (λ child. child < n) (λ child lt. omega arith) fields below)
+
+-- a variant's fields come before its node
+pub fields_before : (first old : List Node) (vs : List (ℕ × ℕ)) (arms : Arms) (n : ℕ) (children : List (Vec ℕ Global)) (at : ℕ) (c : Vec ℕ Global) (fields : List ℕ) →
+    AreArms first old vs arms → length old ≤ n → at < length children → c ≡ get_or children at c → fields ≡ c.items →
+    All (λ fields. All (λ child. child < length first) fields.items) children → list_all (λ child. nat_lt child n) fields ≡ true
+fields_before first old vs arms n children at c fields h long lt c_is same there =
+    let longer : length first ≤ length old = omega (arith, h.kept.longer, length-types_in first, length-types_in old) in
+    one_before (length first) n children at c fields (omega arith) lt c_is same there
+
+-- what is below a number is below each that is no less
+pub there_within : (m n : ℕ) → m ≤ n → (children : List (Vec ℕ Global)) → All (λ fields. All (λ child. child < m) fields.items) children →
+    All (λ fields. All (λ child. child < n) fields.items) children
+there_within m n le children there =
+    All-weaker (λ fields. All (λ child. child < m) fields.items) (λ fields. All (λ child. child < n) fields.items)
+    (λ fields below. All-weaker (λ child. child < m) (λ child. child < n) (λ child lt. omega arith) fields.items below) children there

@@ -1,0 +1,202 @@
+-- The arms of an enum: fields that the calculator lays apart fit together, beside the tag and inside the whole.
+use Rattle.std.proofs.Common.{◌≡◌, ℕ, zero, suc, ◌+◌, List, [], ◌∷◌, map, length, Bool, true, false, arith, refl, sym, ap, subst, ◌∙◌}
+use Rattle.std.specs.Prelude.{◌&&◌, ◌||◌, ◌==◌, not, MatchBool, cond, filter, if◌then◌else◌, ⊤}
+use Rattle.std.specs.List.{list_all}
+use Rattle.std.specs.Cmp.Derive.{both_true}
+use Rattle.abi_base.specs.declared.data_layout.TargetDataLayout.{TargetDataLayout}
+use Rattle.abi_scalar.specs.declared.repr.ReprOptions.{ReprOptions}
+use Rattle.abi_scalar.specs.declared.variants.TagEncoding.{TagEncoding}
+use Rattle.abi_scalar.specs.declared.variants.VariantLayout.{VariantLayout}
+use Rattle.abi_calc.specs.Apart.{AreApart, IsBeside}
+use Rattle.abi_calc.specs.Enums.Beside.{AreApartBeside}
+use Rattle.abi_calc.specs.Enums.Discriminants.{inhabited_of}
+use Rattle.abi_calc.specs.Enums.Path.{has_no_value, variant_at}
+use Rattle.abi_calc.specs.Enums.Places.{AreApartBehind}
+use Rattle.rustc_abi.specs.Tree.{enum, Trees, no_trees, Variants, no_variants, more_variants}
+use Rattle.rustc_abi.specs.Placed.{Placed, Layout, layout_of, size_of, Arms, arm, tagged, parts_of_arm, is_flagged}
+use Rattle.rustc_abi.specs.Room.{arms_have_room}
+use Rattle.rustc_abi.specs.Value.{Value, number, two, list, variant, state, bytes, Values}
+use Rattle.rustc_abi.specs.Values.{IsValueOf, AreValuesOfVariant, LocalsOfVariants, VectorsOfVariants}
+use Rattle.rustc_abi.specs.Faithful.{IsFlagTrue}
+use Rattle.rustc_abi.specs.Unions.{IsCommon, InUnionsOfArms}
+use Rattle.rustc_abi.specs.Nodes.{parts_at}
+use Rattle.rustc_abi.specs.Enums.{arms_at, discriminants_of, layouts_of, numbered_from}
+use Rattle.rustc_abi.specs.Adding.{VariantsFit}
+use Rattle.rustc_abi.proofs.FieldsLemmas.{beside_parts, common_each, room_of, together}
+use Rattle.rustc_abi.proofs.FlagLemmas.{HaveSome, each_flag, flags_true}
+use Rattle.rustc_abi.proofs.InNicheLemmas.{ArmsBeside}
+use Rattle.rustc_abi.proofs.ListLemmas.{map_sizes}
+use Rattle.rustc_abi.proofs.PartsLemmas.{LieBeside}
+use Rattle.rustc_abi.proofs.TaggedLemmas.{ArmsFit, open_numbers}
+
+-- sizes of layouts are those of the types
+apart_sizes : (whole : ℕ) (offsets : List ℕ) (ps : List Placed) → AreApart whole offsets (map (λ l. l.size) (map layout_of ps)) → AreApart whole offsets (map size_of ps)
+apart_sizes whole offsets ps h = subst (AreApart whole offsets) (sym (map_sizes layout_of ps)) h
+
+beside_sizes : (o n : ℕ) (offsets : List ℕ) (ps : List Placed) → IsBeside o n offsets (map (λ l. l.size) (map layout_of ps)) → IsBeside o n offsets (map size_of ps)
+beside_sizes o n offsets ps h = subst (IsBeside o n offsets) (sym (map_sizes layout_of ps)) h
+
+-- fields of one variant, apart, and beside the niche unless it is the untagged one
+beside_by : (same : Bool) (size place w : ℕ) (ts : Trees) (offsets : List ℕ) (ps : List Placed) →
+    MatchBool same (AreApart size offsets (map (λ l. l.size) (map layout_of ps))) (AreApart size (place ∷ offsets) (w ∷ map (λ l. l.size) (map layout_of ps))) →
+    AreApart size offsets (map size_of ps) × (same ≡ false → LieBeside place w (parts_at offsets ps))
+beside_by true size place w ts offsets ps h = (apart_sizes size offsets ps h, λ e. absurd (cc))
+beside_by false size place w ts offsets ps h =
+    (apart_sizes size offsets ps h.2, λ e. beside_parts place w offsets ps (beside_sizes place w offsets ps h.1))
+
+-- each variant's fields lie apart inside the size
+abbrev pub EachApart : (size : ℕ) → List (List Placed) → List (VariantLayout ℕ) → Type 0
+EachApart size [] [] = ⊤
+EachApart size (ps ∷ variants) (l ∷ layouts) = AreApart size l.field_offsets (map size_of ps) × EachApart size variants layouts
+EachApart size _ _ = ⊥
+
+pub apart_behind : (size w : ℕ) (variants : List (List Placed)) (layouts : List (VariantLayout ℕ)) → AreApartBehind size w (layouts_of variants) layouts → EachApart size variants layouts
+apart_behind size w [] [] apart = tt
+apart_behind size w [] (l ∷ layouts) apart = absurd apart
+apart_behind size w (ps ∷ variants) [] apart = absurd apart
+apart_behind size w (ps ∷ variants) (l ∷ layouts) apart = (apart_sizes size l.field_offsets ps apart.0.2, apart_behind size w variants layouts apart.1)
+
+pub apart_beside : (size place w untagged from : ℕ) (variants : List (List Placed)) (layouts : List (VariantLayout ℕ)) →
+    AreApartBeside size place w untagged from (layouts_of variants) layouts → EachApart size variants layouts
+apart_beside size place w untagged from [] [] apart = tt
+apart_beside size place w untagged from [] (l ∷ layouts) apart = absurd apart
+apart_beside size place w untagged from (ps ∷ variants) [] apart = absurd apart
+apart_beside size place w untagged from (ps ∷ variants) (l ∷ layouts) apart =
+    ((beside_by (from == untagged) size place w no_trees l.field_offsets ps apart.0).0, apart_beside size place w untagged (from + 1) variants layouts apart.1)
+
+-- parts are flagged where some field has no values
+pub flagged_as : (size : ℕ) (offsets : List ℕ) (ps : List Placed) → AreApart size offsets (map size_of ps) → is_flagged (parts_at offsets ps) ≡ has_no_value (map layout_of ps)
+flagged_as size [] [] apart = refl
+flagged_as size (o ∷ offsets) [] apart = absurd apart
+flagged_as size [] (p ∷ ps) apart = absurd apart
+flagged_as size (o ∷ offsets) (p ∷ ps) apart = ap (λ b. (layout_of p).uninhabited || b) (flagged_as size offsets ps apart.2)
+
+module _ (dl : TargetDataLayout) where
+  -- fields that lie apart behind a tag of w bytes
+  pub arms_fit : (size w : ℕ) (all : Variants) (variants : List (List Placed)) (layouts : List (VariantLayout ℕ)) → AreApartBehind size w (layouts_of variants) layouts →
+      VariantsFit dl all variants → LocalsOfVariants dl all → ArmsFit dl size 0 w all (arms_at layouts (discriminants_of all) variants)
+  arms_fit size w no_variants [] [] apart fits locals = tt
+  arms_fit size w no_variants [] (l ∷ layouts) apart fits locals = absurd apart
+  arms_fit size w no_variants (ps ∷ variants) layouts apart fits locals = absurd fits
+  arms_fit size w (more_variants d ts others) [] layouts apart fits locals = absurd fits
+  arms_fit size w (more_variants d ts others) (ps ∷ variants) [] apart fits locals = absurd apart
+  arms_fit size w (more_variants d ts others) (ps ∷ variants) (l ∷ layouts) apart fits locals = (
+    refl,
+    together dl size ts l.field_offsets ps (apart_sizes size l.field_offsets ps apart.0.2) fits.0 locals.0,
+    beside_parts 0 w l.field_offsets ps (beside_sizes 0 w l.field_offsets ps apart.0.1),
+    arms_fit size w others variants layouts apart.1 fits.1 locals.1,
+  )
+
+  -- fields that lie apart beside a niche
+  pub arms_beside : (size place w untagged from : ℕ) (all : Variants) (variants : List (List Placed)) (layouts : List (VariantLayout ℕ)) →
+      AreApartBeside size place w untagged from (layouts_of variants) layouts → VariantsFit dl all variants → LocalsOfVariants dl all →
+      ArmsBeside dl size place w untagged from all (arms_at layouts (discriminants_of all) variants)
+  arms_beside size place w untagged from no_variants [] [] apart fits locals = tt
+  arms_beside size place w untagged from no_variants [] (l ∷ layouts) apart fits locals = absurd apart
+  arms_beside size place w untagged from no_variants (ps ∷ variants) layouts apart fits locals = absurd fits
+  arms_beside size place w untagged from (more_variants d ts others) [] layouts apart fits locals = absurd fits
+  arms_beside size place w untagged from (more_variants d ts others) (ps ∷ variants) [] apart fits locals = absurd apart
+  arms_beside size place w untagged from (more_variants d ts others) (ps ∷ variants) (l ∷ layouts) apart fits locals =
+      let here = beside_by (from == untagged) size place w ts l.field_offsets ps apart.0 in (
+        refl,
+        together dl size ts l.field_offsets ps here.0 fits.0 locals.0,
+        here.1,
+        arms_beside size place w untagged (from + 1) others variants layouts apart.1 fits.1 locals.1,
+      )
+
+  -- each part of each variant ends inside the size
+  pub arms_room : (size : ℕ) (all : Variants) (variants : List (List Placed)) (layouts : List (VariantLayout ℕ)) (numbers : List ℕ) → EachApart size variants layouts → VariantsFit dl all variants →
+      arms_have_room size (arms_at layouts numbers variants) ≡ true
+  arms_room size all [] [] numbers apart fits = refl
+  arms_room size all [] (l ∷ layouts) numbers apart fits = absurd apart
+  arms_room size all (ps ∷ variants) [] numbers apart fits = absurd apart
+  arms_room size no_variants (ps ∷ variants) (l ∷ layouts) numbers apart fits = absurd fits
+  arms_room size (more_variants d ts others) (ps ∷ variants) (l ∷ layouts) [] apart fits = refl
+  arms_room size (more_variants d ts others) (ps ∷ variants) (l ∷ layouts) (n ∷ numbers) apart fits =
+      both_true (room_of dl size ts l.field_offsets ps apart.0 fits.0) (arms_room size others variants layouts numbers apart.1 fits.1)
+
+  -- what each type keeps in its unions
+  pub arms_common : (all : Variants) (variants : List (List Placed)) (layouts : List (VariantLayout ℕ)) (numbers : List ℕ) → VariantsFit dl all variants → LocalsOfVariants dl all →
+      InUnionsOfArms (IsCommon dl.endian) (arms_at layouts numbers variants)
+  arms_common all variants [] numbers fits locals = tt
+  arms_common all variants (l ∷ layouts) [] fits locals = tt
+  arms_common all [] (l ∷ layouts) (n ∷ numbers) fits locals = tt
+  arms_common no_variants (ps ∷ variants) (l ∷ layouts) (n ∷ numbers) fits locals = absurd fits
+  arms_common (more_variants d ts others) (ps ∷ variants) (l ∷ layouts) (n ∷ numbers) fits locals =
+      (common_each dl ts l.field_offsets ps fits.0 locals.0, arms_common others variants layouts numbers fits.1 locals.1)
+
+-- ---- the numbers of the variants that may have values
+
+-- a number that is listed unless the flag is set
+pick : (flag : Bool) (item : ℕ × ℕ) (xs : List ℕ) (rest : List (ℕ × ℕ)) → xs ≡ map (λ i. i.1) rest → (if flag then xs else item.1 ∷ xs) ≡ map (λ i. i.1) (cond (not flag) (item ∷ rest) rest)
+pick true item xs rest same = same
+pick false item xs rest same = ap (λ ns. item.1 ∷ ns) same
+
+-- they are those of the arms that aren't flagged
+pub open_as : (all : List (List Layout)) (size from : ℕ) (variants : List (List Placed)) (layouts : List (VariantLayout ℕ)) (numbers : List ℕ) → EachApart size variants layouts →
+    length numbers ≡ length variants → ((j : ℕ) → variant_at all (from + j) ≡ variant_at (layouts_of variants) j) →
+    open_numbers (arms_at layouts numbers variants) ≡ inhabited_of (λ v. v) all (numbered_from from numbers)
+open_as all size from [] [] [] apart long same = refl
+open_as all size from [] [] (n ∷ numbers) apart long same = absurd (omega (arith, long))
+open_as all size from [] (l ∷ layouts) numbers apart long same = absurd apart
+open_as all size from (ps ∷ variants) [] numbers apart long same = absurd apart
+open_as all size from (ps ∷ variants) (l ∷ layouts) [] apart long same = absurd (omega (arith, long))
+open_as all size from (ps ∷ variants) (l ∷ layouts) (n ∷ numbers) apart long same =
+    let at : from + 0 ≡ from = omega arith in
+    let here : variant_at all from ≡ map layout_of ps = ap (variant_at all) (sym at) ∙ same 0 in
+    let rest : open_numbers (arms_at layouts numbers variants) ≡ inhabited_of (λ v. v) all (numbered_from (from + 1) numbers) =
+    open_as all size (from + 1) variants layouts numbers apart.1 (omega (arith, long))
+    (λ j. let next : from + 1 + j ≡ from + suc j = omega arith in ap (variant_at all) next ∙ same (suc j)) in
+    ap (λ b. if b then open_numbers (arms_at layouts numbers variants) else n ∷ open_numbers (arms_at layouts numbers variants)) (flagged_as size l.field_offsets ps apart.0)
+    ∙ pick (has_no_value (map layout_of ps)) (from, n) (open_numbers (arms_at layouts numbers variants)) (filter (λ item. not (has_no_value (variant_at all item.0))) (numbered_from (from + 1) numbers)) rest
+    ∙ ap (λ fields. map (λ (item : ℕ × ℕ). item.1) (cond (not (has_no_value fields)) ((from, n) ∷ filter (λ item. not (has_no_value (variant_at all item.0))) (numbered_from (from + 1) numbers))
+    (filter (λ item. not (has_no_value (variant_at all item.0))) (numbered_from (from + 1) numbers)))) (sym here)
+
+-- ---- whether the enum has values
+
+module _ (dl : TargetDataLayout) where
+  -- some variant has values, where its vectors' elements do, or none has, as the flag says
+  abbrev pub SomeArm : Variants → Arms → Bool → Type 0
+  SomeArm all arms flag =
+      MatchBool flag ((i : ℕ) (vs : Values) → AreValuesOfVariant dl all i (parts_of_arm arms i) vs → ⊥)
+      (VectorsOfVariants dl all → (i : ℕ) × (vs : Values) × AreValuesOfVariant dl all i (parts_of_arm arms i) vs)
+
+  arm_more : (d n : ℕ) (ts : Trees) (others : Variants) (offsets : List ℕ) (ps : List Placed) (arms : Arms) (a b : Bool) → HaveSome dl ts offsets ps a → SomeArm others arms b →
+      SomeArm (more_variants d ts others) (arm n (parts_at offsets ps) arms) (a && b)
+  arm_more d n ts others offsets ps arms true true h k = none
+    where
+      none : (i : ℕ) (vs : Values) → AreValuesOfVariant dl (more_variants d ts others) i (parts_of_arm (arm n (parts_at offsets ps) arms) i) vs → ⊥
+      none zero vs is = h vs is
+      none (suc i) vs is = k i vs is
+  arm_more d n ts others offsets ps arms true false h k = λ c. let some = k c.1 in (suc some.0, some.1, some.2)
+  arm_more d n ts others offsets ps arms false b h k = λ c. let some = h c.0 in (0, some.0, some.1)
+
+  pub arms_flag : (size : ℕ) (all : Variants) (variants : List (List Placed)) (layouts : List (VariantLayout ℕ)) → EachApart size variants layouts → VariantsFit dl all variants → LocalsOfVariants dl all →
+      SomeArm all (arms_at layouts (discriminants_of all) variants) (list_all has_no_value (layouts_of variants))
+  arms_flag size no_variants [] [] apart fits locals = λ i vs h. h
+  arms_flag size all [] (l ∷ layouts) apart fits locals = absurd apart
+  arms_flag size all (ps ∷ variants) [] apart fits locals = absurd apart
+  arms_flag size no_variants (ps ∷ variants) (l ∷ layouts) apart fits locals = absurd fits
+  arms_flag size (more_variants d ts others) [] [] apart fits locals = absurd fits
+  arms_flag size (more_variants d ts others) (ps ∷ variants) (l ∷ layouts) apart fits locals =
+      arm_more d d ts others l.field_offsets ps (arms_at layouts (discriminants_of others) variants) (has_no_value (map layout_of ps)) (list_all has_no_value (layouts_of variants))
+      (each_flag dl size ts l.field_offsets ps apart.0 fits.0 (flags_true dl ts ps fits.0 locals.0)) (arms_flag size others variants layouts apart.1 fits.1 locals.1)
+
+  module _ (repr : ReprOptions) (all : Variants) (layout : Layout) (offset : ℕ) (tag : Placed) (encoding : TagEncoding ℕ) (arms : Arms) where
+    of_enum : (flag : Bool) → SomeArm all arms flag →
+        MatchBool flag ((v : Value) → IsValueOf dl (enum repr all) (tagged layout offset tag encoding arms) v → ⊥)
+        (VectorsOfVariants dl all → (v : Value) × IsValueOf dl (enum repr all) (tagged layout offset tag encoding arms) v)
+    of_enum true h = none
+      where
+        none : (v : Value) → IsValueOf dl (enum repr all) (tagged layout offset tag encoding arms) v → ⊥
+        none (variant i vs) k = h i vs k
+        none (number n) k = k
+        none (two n m) k = k
+        none (list vs) k = k
+        none (state i xs vs) k = k
+        none (bytes content) k = k
+    of_enum false h = λ c. let some = h c in (variant some.0 some.1, some.2)
+
+    -- an enum beside a tag has no value where no variant has one
+    pub flag_arms : (flag : Bool) → layout.uninhabited ≡ flag → SomeArm all arms flag → IsFlagTrue dl (enum repr all) (tagged layout offset tag encoding arms)
+    flag_arms flag e h = rw e (of_enum flag h)

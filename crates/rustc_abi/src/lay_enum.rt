@@ -1,0 +1,293 @@
+//! How enums are laid out, once the fields of their variants are.
+
+ghost use Rattle.std.specs.Prelude.{◌≡◌, ◌<◌, ◌≤◌, List, IfOk, IfErr, Ok, None, length, map, vec_len, All, false, true};
+ghost use Rattle.std.specs.List.{list_all};
+ghost use Rattle.abi_base.specs.DataLayout.{IsLawfulDataLayout};
+ghost use Rattle.abi_scalar.specs.Lawful.{IsLawfulLayout};
+ghost use Rattle.abi_scalar.specs.Scalar.{IsReadable};
+ghost use Rattle.abi_scalar.specs.Variant.{variants_of};
+ghost use Rattle.abi_calc.specs.List.{HasLawfulAligns};
+ghost use Rattle.rustc_abi.specs.Tree.{Variants as VariantTrees, enum};
+ghost use Rattle.rustc_abi.specs.Placed.{Placed, layout_of, tagged};
+ghost use Rattle.rustc_abi.specs.Nodes.{encoding_of, tag_offset};
+ghost use Rattle.rustc_abi.specs.Enums.{IsEnumed, IsTagInteger, arms_at, discriminants_of, has_equal, is_discriminant, layouts_of};
+ghost use Rattle.rustc_abi.specs.Laying.{IsEnumOf, VariantsLaying, enum_fault, has_bad_index, most_fields, one_scalar, placed_enum};
+ghost use Rattle.rustc_abi.specs.Error.{IsRefused};
+ghost use Rattle.rustc_abi.specs.Adding.{AreArms, HasReadableTag, HasVariants, IsAdded, IsPut, VariantsFit, variants_in};
+
+use crate::discriminants::{has_equal, is_discriminant, numbered};
+use crate::error::LayError;
+use crate::lay_fields::{MOST_FIELDS, has_bad_align};
+use crate::node::{Node, Shape, add, layouts_at};
+use crate::tag_integer::tag_integer;
+use abi_base::{Integer, NicheOptimizations, TargetDataLayout};
+use abi_calc::LayoutCalculator;
+use abi_index::{FieldIdx, IndexSlice, IndexVec, VariantIdx};
+use abi_scalar::{LayoutData, RangeFrom, RangeToInclusive, ReprOptions, Scalar, Variants};
+use std::alloc::{AllocError, Global};
+
+/// Whether there are more variants, or more fields in one, than an index can name.
+fn has_bad_index(children: &[Vec<usize>]) -> bool
+    ensures { (variants : List (List Placed)) → map length variants ≡ map (λ c. length c.items) children.now → result ≡ has_bad_index variants }
+{
+    if children.len() > MOST_FIELDS {
+        return true;
+    }
+    for fields in children {
+        if fields.len() > MOST_FIELDS {
+            return true;
+        }
+    }
+    false
+}
+
+/// Whether each number is one of the type of the enum's discriminants.
+fn are_discriminants(dl: &TargetDataLayout, repr: &ReprOptions, numbers: &[u128]) -> bool
+    requires { IsLawfulDataLayout dl.now }
+    ensures { result ≡ list_all (is_discriminant dl.now repr.now) numbers.now }
+{
+    for number in numbers {
+        if !is_discriminant(dl, repr, *number) {
+            return false;
+        }
+    }
+    true
+}
+
+/// The own fault of an enum, if it has one.
+fn enum_fault(
+    alloc: Global,
+    dl: &TargetDataLayout,
+    repr: &ReprOptions,
+    numbers: &[u128],
+    children: &[Vec<usize>],
+) -> Result<Option<LayError>, AllocError>
+    requires { IsLawfulDataLayout dl.now }
+    ensures { IfOk result (λ fault. (variants : List (List Placed)) → map length variants ≡ map (λ c. length c.items) children.now → fault ≡ enum_fault dl.now repr.now numbers.now variants) }
+{
+    if has_bad_index(children) {
+        return Ok(Some(LayError::BadIndex));
+    }
+    if has_bad_align(repr) {
+        return Ok(Some(LayError::BadAlign));
+    }
+    if has_equal(alloc, numbers)? {
+        return Ok(Some(LayError::DuplicateDiscriminant));
+    }
+    if !are_discriminants(dl, repr, numbers) {
+        return Ok(Some(LayError::DiscriminantTooWide));
+    }
+    Ok(None)
+}
+
+/// The layouts of the fields of variants, each as one of the nodes.
+fn variant_layouts<'a>(
+    alloc: Global,
+    nodes: &'a [Node],
+    children: &[Vec<usize>],
+) -> Result<Vec<IndexVec<FieldIdx, &'a LayoutData<FieldIdx, VariantIdx>>>, AllocError>
+    requires count { All (λ fields. length fields.items ≤ most_fields) children.now }
+    requires there { All (λ fields. All (λ child. child < length nodes.now) fields.items) children.now }
+    ensures { IfOk result (λ layouts. map (map (λ lent. lent.now)) layouts.items ≡ layouts_of (variants_in nodes.now children.now)) }
+{
+    let mut layouts = Vec::with_capacity(alloc, children.len())?;
+    for fields in children {
+        layouts.push(layouts_at(alloc, nodes, fields)?)?;
+    }
+    Ok(layouts)
+}
+
+/// The calculator's answer to variants with these discriminants, where the tag's integer that is asked for is the enum's.
+fn calculated<D: Fn(RangeFrom<i128>, RangeToInclusive<u128>) -> (Integer, bool)>(
+    alloc: Global,
+    dl: &TargetDataLayout,
+    repr: &ReprOptions,
+    variants: &[IndexVec<FieldIdx, &LayoutData<FieldIdx, VariantIdx>>],
+    discr_range_of_repr: D,
+    numbers: &[u128],
+) -> Result<LayoutData<FieldIdx, VariantIdx>, LayError>
+where
+    D: Drop,
+    requires data_layout { IsLawfulDataLayout dl.now }
+    requires aligns { HasLawfulAligns repr.now }
+    requires few { length variants.now ≤ most_fields }
+    requires each { length numbers.now ≡ length variants.now }
+    requires lawful { All (All (λ lent. IsLawfulLayout dl.now lent.now)) variants.now }
+    requires differ { has_equal numbers.now ≡ false }
+    requires narrow { list_all (is_discriminant dl.now repr.now) numbers.now ≡ true }
+    requires callable { D.IsAlwaysCallable discr_range_of_repr }
+    requires asked { (from : _) (to : _) (answer : _) → D.post discr_range_of_repr from to answer → IsTagInteger dl.now repr.now from to answer }
+    ensures ok { IfOk result (λ l. (all : List (List Placed)) → map (map (λ lent. lent.now)) variants.now ≡ layouts_of all → IsEnumed dl.now repr.now numbers.now all (Ok l)) }
+    ensures err { IfErr result (λ e. (all : List (List Placed)) → map (map (λ lent. lent.now)) variants.now ≡ layouts_of all → IsRefused (IsEnumed dl.now repr.now numbers.now all) e) }
+{
+    let items = numbered(alloc, numbers)?;
+    let answer = LayoutCalculator::new(dl).layout_of_struct_or_enum(
+        alloc,
+        repr,
+        IndexSlice::new(variants),
+        true,
+        NicheOptimizations::Enabled,
+        discr_range_of_repr,
+        items.iter().copied(),
+        true,
+    );
+    Ok(answer?)
+}
+
+/// The layout of an enum without a fault of its own, from its discriminants and from the fields of its variants, each as
+/// one of the nodes.
+fn enum_layout(
+    alloc: Global,
+    dl: &TargetDataLayout,
+    nodes: &[Node],
+    repr: &ReprOptions,
+    numbers: &[u128],
+    children: &[Vec<usize>],
+) -> Result<LayoutData<FieldIdx, VariantIdx>, LayError>
+    requires data_layout { IsLawfulDataLayout dl.now }
+    requires faultless { enum_fault dl.now repr.now numbers.now (variants_in nodes.now children.now) ≡ None }
+    requires each { length numbers.now ≡ length children.now }
+    requires there { All (λ fields. All (λ child. child < length nodes.now) fields.items) children.now }
+    requires lawful { All (All (λ p. IsLawfulLayout dl.now (layout_of p))) (variants_in nodes.now children.now) }
+    ensures ok { IfOk result (λ l. IsEnumed dl.now repr.now numbers.now (variants_in nodes.now children.now) (Ok l)) }
+    ensures err { IfErr result (IsRefused (IsEnumed dl.now repr.now numbers.now (variants_in nodes.now children.now))) }
+{
+    let variants = variant_layouts(alloc, nodes, children)?;
+    calculated(
+        alloc,
+        dl,
+        repr,
+        &variants,
+        |least, greatest| tag_integer(dl, repr, least.start, greatest.last),
+        numbers,
+    )
+}
+
+/// A node for each variant beside a tag, with the layout that it has by itself.
+fn add_variants(
+    alloc: Global,
+    nodes: &mut Vec<Node>,
+    layout: &LayoutData<FieldIdx, VariantIdx>,
+    numbers: &[u128],
+    children: &[Vec<usize>],
+) -> Result<Vec<(u128, usize)>, LayError>
+    requires variants { length (variants_of layout.now.variants) ≡ length children.now }
+    requires each { length numbers.now ≡ length children.now }
+    requires few { length children.now ≤ most_fields }
+    requires there { All (λ fields. All (λ child. child < vec_len nodes.old) fields.items) children.now }
+    ensures ok { IfOk result (λ variants. AreArms nodes.old.items nodes.new.items variants.items
+        (arms_at (variants_of layout.now.variants) numbers.now (variants_in nodes.old.items children.now))) }
+    ensures err { IfErr result (λ e. e ≡ LayError.OutOfMemory) }
+{
+    let mut variants = Vec::with_capacity(alloc, children.len())?;
+    for at in 0..children.len() {
+        let own = LayoutData::for_variant(alloc, layout, VariantIdx::from_usize(at))?;
+        let fields = Vec::from_slice(alloc, &children[at])?;
+        let node = add(nodes, own, Shape::Fields(fields))?;
+        variants.push((numbers[at], node))?;
+    }
+    Ok(variants)
+}
+
+/// A node for an enum of several variants with this layout and this tag, behind one for the tag and one for each variant.
+fn add_tagged(
+    alloc: Global,
+    dl: &TargetDataLayout,
+    nodes: &mut Vec<Node>,
+    layout: LayoutData<FieldIdx, VariantIdx>,
+    tag: Scalar,
+    numbers: &[u128],
+    children: &[Vec<usize>],
+) -> Result<usize, LayError>
+    requires tag { IsReadable dl.now tag }
+    requires variants { length (variants_of layout.variants) ≡ length children.now }
+    requires each { length numbers.now ≡ length children.now }
+    requires few { length children.now ≤ most_fields }
+    requires there { All (λ fields. All (λ child. child < vec_len nodes.old) fields.items) children.now }
+    ensures ok { IfOk result (λ i. IsPut nodes.old.items nodes.new.items i (tagged layout (tag_offset layout) (one_scalar dl.now tag) (encoding_of layout.variants)
+        (arms_at (variants_of layout.variants) numbers.now (variants_in nodes.old.items children.now)))) }
+    ensures err { IfErr result (λ e. e ≡ LayError.OutOfMemory) }
+{
+    let tag = add(nodes, LayoutData::scalar(&dl, tag), Shape::Scalar(tag))?;
+    let variants = add_variants(alloc, nodes, &layout, numbers, children)?;
+    add(nodes, layout, Shape::Tagged { tag, variants })
+}
+
+/// A node for an enum with this layout, behind those for its tag and its variants where it has several.
+fn add_placed(
+    alloc: Global,
+    dl: &TargetDataLayout,
+    nodes: &mut Vec<Node>,
+    layout: LayoutData<FieldIdx, VariantIdx>,
+    numbers: &[u128],
+    children: &[Vec<usize>],
+) -> Result<usize, LayError>
+    requires tag { HasReadableTag dl.now layout.variants }
+    requires variants { HasVariants (length children.now) layout.variants }
+    requires each { length numbers.now ≡ length children.now }
+    requires few { length children.now ≤ most_fields }
+    requires there { All (λ fields. All (λ child. child < vec_len nodes.old) fields.items) children.now }
+    ensures ok { IfOk result (λ i. IsPut nodes.old.items nodes.new.items i
+        (placed_enum dl.now numbers.now (variants_in nodes.old.items children.now) layout)) }
+    ensures err { IfErr result (λ e. e ≡ LayError.OutOfMemory) }
+{
+    match layout.variants {
+        Variants::Empty => add(nodes, layout, Shape::Never),
+        Variants::Single { index } => {
+            let fields = Vec::from_slice(alloc, &children[index.as_usize()])?;
+            add(nodes, layout, Shape::Single(fields))
+        }
+        Variants::Multiple { tag, .. } => {
+            add_tagged(alloc, dl, nodes, layout, tag, numbers, children)
+        }
+    }
+}
+
+/// A node for an enum without a fault of its own.
+fn add_faultless_enum(
+    alloc: Global,
+    dl: &TargetDataLayout,
+    nodes: &mut Vec<Node>,
+    repr: &ReprOptions,
+    numbers: &[u128],
+    children: &[Vec<usize>],
+) -> Result<usize, LayError>
+    requires data_layout { IsLawfulDataLayout dl.now }
+    requires faultless { enum_fault dl.now repr.now numbers.now (variants_in nodes.old.items children.now) ≡ None }
+    requires each { length numbers.now ≡ length children.now }
+    requires there { All (λ fields. All (λ child. child < vec_len nodes.old) fields.items) children.now }
+    requires lawful { All (All (λ p. IsLawfulLayout dl.now (layout_of p))) (variants_in nodes.old.items children.now) }
+    ensures ok { IfOk result
+        (λ i. (all : VariantTrees) → numbers.now ≡ discriminants_of all → VariantsLaying dl.now all (Ok (variants_in nodes.old.items children.now)) →
+        VariantsFit dl.now all (variants_in nodes.old.items children.now) →
+        IsAdded dl.now nodes.old.items nodes.new.items i (enum repr.now all)) }
+    ensures err { IfErr result (IsRefused (IsEnumOf dl.now repr.now numbers.now (variants_in nodes.old.items children.now))) }
+{
+    let layout = enum_layout(alloc, dl, nodes, repr, numbers, children)?;
+    add_placed(alloc, dl, nodes, layout, numbers, children)
+}
+
+/// A node for an enum of these variants, the fields of each as nodes.
+pub(crate) fn add_enum(
+    alloc: Global,
+    dl: &TargetDataLayout,
+    nodes: &mut Vec<Node>,
+    repr: &ReprOptions,
+    numbers: &[u128],
+    children: &[Vec<usize>],
+) -> Result<usize, LayError>
+    requires data_layout { IsLawfulDataLayout dl.now }
+    requires each { length numbers.now ≡ length children.now }
+    requires there { All (λ fields. All (λ child. child < vec_len nodes.old) fields.items) children.now }
+    requires lawful { All (All (λ p. IsLawfulLayout dl.now (layout_of p))) (variants_in nodes.old.items children.now) }
+    ensures ok { IfOk result
+        (λ i. (all : VariantTrees) → numbers.now ≡ discriminants_of all → VariantsLaying dl.now all (Ok (variants_in nodes.old.items children.now)) →
+        VariantsFit dl.now all (variants_in nodes.old.items children.now) →
+        IsAdded dl.now nodes.old.items nodes.new.items i (enum repr.now all)) }
+    ensures err { IfErr result (IsRefused (IsEnumOf dl.now repr.now numbers.now (variants_in nodes.old.items children.now))) }
+{
+    match enum_fault(alloc, dl, repr, numbers, children)? {
+        Some(fault) => Err(fault),
+        None => add_faultless_enum(alloc, dl, nodes, repr, numbers, children),
+    }
+}
