@@ -1,20 +1,25 @@
 -- What writes a type, tried on one line.
-use Rattle.std.proofs.Common.{ℕ, false, List, [], ◌∷◌, ◌++◌, ◌+◌, ◌^◌, ◌<◌, None, refl, sym, ap, arith}
+use Rattle.std.proofs.Common.{ℕ, false, List, [], ◌∷◌, ◌++◌, ◌+◌, ◌-◌, ◌^◌, ◌<◌, None, refl, sym, ap, arith}
 use Rattle.std.specs.Prelude.{codes}
 use Rattle.std.proofs.lemmas.Fmt.{decimal_digit}
 use Rattle.abi_base.specs.declared.data_layout.TargetDataLayout.{TargetDataLayout}
 use Rattle.abi_base.specs.declared.integer.Integer.TheVariants.{I8}
 use Rattle.abi_base.specs.declared.primitive.Primitive.TheVariants.{Int, Pointer}
+use Rattle.abi_scalar.specs.declared.repr.ReprOptions.{ReprOptions}
 use Rattle.abi_scalar.specs.declared.scalar.Scalar.{Scalar}
 use Rattle.abi_scalar.specs.declared.scalar.Scalar.TheVariants.{Initialized}
-use Rattle.rustc_abi.specs.Tree.{scalar, pair, struct, Trees, no_trees, more_trees}
+use Rattle.rustc_abi.specs.Tree.{scalar, pair, struct, enum, Trees, no_trees, more_trees, Variants, no_variants, more_variants}
 use Rattle.program.specs.declared.repr_text.StructRepr.{StructRepr}
 use Rattle.program.specs.Scalars.{a_bool, full}
-use Rattle.program.specs.Written.{IsNumeral, IsScalarWrittenAs, IsWrittenAs, AreWrittenAs, IsLineOf, a_scalar, a_pair, a_struct, no_more, one_more, an_integer, a_pointer_in, every_number, the_bool, a_range, no_words, a_space, an_opening, a_closing, a_word}
+use Rattle.program.specs.Written.{IsNumeral, IsScalarWrittenAs, IsWrittenAs, AreWrittenAs, IsLineOf, a_scalar, a_pair, a_struct, an_enum, no_more, one_more, AreVariantsWrittenAs, no_variant_more, one_variant_more, IsDiscriminant, not_negative, negative, an_integer, a_pointer_in, every_number, the_bool, a_range, no_words, a_space, an_opening, a_closing, a_word}
 
 -- `C,tail`
 abbrev asked : StructRepr
 asked = record { repr = record { int = None; align = None; pack = None; flags = record { 0 = 1 }; scalable = None; field_shuffle_seed = 0 }; always_sized = false }
+
+-- `C`
+abbrev asked_by_c : ReprOptions
+asked_by_c = record { int = None; align = None; pack = None; flags = record { 0 = 1 }; scalable = None; field_shuffle_seed = 0 }
 
 -- a pointer into space 5, from 0 to 9
 abbrev low_pointer : Scalar
@@ -55,6 +60,26 @@ module _ (dl : TargetDataLayout) where
   -- a struct whose last field stays last
   pub struct_written : IsWrittenAs dl (struct asked.repr false two_fields) struct_words
   struct_written = a_struct asked (codes "C,tail") two_fields (pointer_words ++ pair_words) refl fields_written
+
+  -- `enum C ( -1 ( bool ) 3 ( ) )`: two variants, the second of which has no field
+  abbrev two_variants : Variants
+  two_variants = more_variants (2 ^ 128 - 1) (more_trees (scalar a_bool) no_trees) (more_variants 3 no_trees no_variants)
+
+  abbrev variant_words : List (List ℕ)
+  variant_words = codes "-1" ∷ codes "(" ∷ codes "bool" ∷ codes ")" ∷ codes "3" ∷ codes "(" ∷ codes ")" ∷ []
+
+  minus_one : IsDiscriminant (2 ^ 128 - 1) (codes "-1")
+  minus_one = negative 1 (codes "1") (omega arith) (omega arith) (digit_is_numeral 128 1 (omega arith) (omega arith))
+
+  variants_written : AreVariantsWrittenAs dl two_variants variant_words
+  variants_written =
+      one_variant_more (2 ^ 128 - 1) (codes "-1") (more_trees (scalar a_bool) no_trees) (more_variants 3 no_trees no_variants) (codes "bool" ∷ []) (codes "3" ∷ codes "(" ∷ codes ")" ∷ [])
+      minus_one (one_more (scalar a_bool) no_trees (codes "bool" ∷ []) [] (a_scalar a_bool (codes "bool" ∷ []) the_bool) no_more)
+      (one_variant_more 3 (codes "3") no_trees no_variants [] [] (not_negative 3 (codes "3") (digit_is_numeral 128 3 (omega arith) (omega arith))) no_more no_variant_more)
+
+  -- an enum of two variants
+  pub enum_written : IsWrittenAs dl (enum asked_by_c two_variants) (codes "enum" ∷ codes "C" ∷ codes "(" ∷ (variant_words ++ codes ")" ∷ []))
+  enum_written = an_enum asked_by_c (codes "C") two_variants variant_words refl variants_written
 
 -- a line with no spaces beside parentheses, and two within
 pub stands_in_line : IsLineOf (codes "struct" ∷ codes "C,tail" ∷ codes "(" ∷ codes "u8" ∷ codes ")" ∷ []) (codes "struct  C,tail(u8)")

@@ -1,6 +1,7 @@
 pub mod Text
 pub mod Parts
 pub mod Fields
+pub mod EnumsBegun
 pub mod Utf8
 pub mod Numerals
 pub mod ScalarsRead

@@ -12,13 +12,13 @@ use Rattle.abi_base.specs.declared.integer.Integer.TheVariants.{I8, I16, I32, I6
 use Rattle.abi_base.specs.declared.primitive.Primitive.{Primitive}
 use Rattle.abi_scalar.specs.declared.scalar.Scalar.{Scalar}
 use Rattle.rustc_abi.specs.declared.tree.TypeTree.{TypeTree}
-use Rattle.rustc_abi.specs.Tree.{Tree, Trees, tree_of}
+use Rattle.rustc_abi.specs.Tree.{Tree, Trees, Variants, tree_of}
 use Rattle.program.specs.declared.fault.Fault.{Fault}
 use Rattle.program.specs.declared.fault.Fault.TheVariants.{OutOfMemory}
 use Rattle.program.specs.Printing.{integer_text, float_text}
 use Rattle.program.specs.Reading.{Agrees, read}
 use Rattle.program.specs.Words.{begins_plain, grown, is_plain, words_of}
-use Rattle.program.specs.Written.{IsNumeral, IsPrimitiveWrittenAs, IsScalarWrittenAs, IsWrittenAs, AreWrittenAs, an_integer, an_index, a_float, a_pointer, a_pointer_in, every_number, the_bool, the_char, the_ref, a_range, of_a_union, a_scalar, a_pair, no_value, one_value, an_array, a_vector, a_struct, a_union, no_more, one_more, index_text, IsLineOf, no_words, a_space, an_opening, a_closing, a_word, nesting, vector_word}
+use Rattle.program.specs.Written.{IsNumeral, IsPrimitiveWrittenAs, IsScalarWrittenAs, IsWrittenAs, AreWrittenAs, an_integer, an_index, a_float, a_pointer, a_pointer_in, every_number, the_bool, the_char, the_ref, a_range, of_a_union, a_scalar, a_pair, no_value, one_value, an_array, a_vector, a_struct, a_union, an_enum, no_more, one_more, AreVariantsWrittenAs, no_variant_more, one_variant_more, IsDiscriminant, not_negative, negative, index_text, IsLineOf, no_words, a_space, an_opening, a_closing, a_word, nesting, vector_word}
 use Rattle.program.proofs.Numerals.{numeral_digits}
 use Rattle.program.proofs.ReprWords.{IsPlain, both, digit_plain, struct_repr_plain, union_repr_plain}
 use Rattle.program.proofs.Text.{words_alone, words_grow}
@@ -73,6 +73,12 @@ numeral_word : (bits n : ℕ) (w : List ℕ) → 2 ^ bits ≤ 2 ^ 128 → IsNume
 numeral_word bits n w wide h =
     let digits = numeral_digits bits n w wide h in
     plain_word w (digits.0, digits_plain w digits.1)
+
+discriminant_word : (d : ℕ) (w : List ℕ) → IsDiscriminant d w → IsWord w
+discriminant_word d w (not_negative n text is) = numeral_word 128 n text (omega arith) is
+discriminant_word d w (negative n text some small is) =
+    let digits = numeral_digits 128 n text (omega arith) is in
+    inl (digits_plain text digits.1)
 
 integer_word : (width : Integer) (signed : Bool) → IsWord (integer_text width signed)
 integer_word I8 true = inl refl
@@ -131,10 +137,17 @@ module _ (dl : TargetDataLayout) where
         (inl refl, (plain_word text (struct_repr_plain text asked said), (inr (inl refl), words_append more (codes ")" ∷ []) (each_words ts more are) (inr (inr refl), tt))))
     tree_words t words (a_union repr text ts more said are) =
         (inl refl, (plain_word text (union_repr_plain text repr said), (inr (inl refl), words_append more (codes ")" ∷ []) (each_words ts more are) (inr (inr refl), tt))))
+    tree_words t words (an_enum repr text vs more said are) =
+        (inl refl, (plain_word text (union_repr_plain text repr said), (inr (inl refl), words_append more (codes ")" ∷ []) (variants_words vs more are) (inr (inr refl), tt))))
 
     each_words : (ts : Trees) (words : List (List ℕ)) → AreWrittenAs dl ts words → AreWords words
     each_words ts words no_more = tt
     each_words ts words (one_more t others text more is are) = words_append text more (tree_words t text is) (each_words others more are)
+
+    variants_words : (vs : Variants) (words : List (List ℕ)) → AreVariantsWrittenAs dl vs words → AreWords words
+    variants_words vs words no_variant_more = tt
+    variants_words vs words (one_variant_more d text ts others more later said are follow) =
+        (discriminant_word d text said, (inr (inl refl), words_append more (codes ")" ∷ later) (each_words ts more are) (inr (inr refl), variants_words others later follow)))
 
 line_read : (dl : TargetDataLayout) (t : Tree) (words : List (List ℕ)) (line : List ℕ) → IsWrittenAs dl t words → nesting t ≤ 200 → IsLineOf words line → read dl (words_of line) ≡ Ok t
 line_read dl t words line is shallow stand = ap (read dl) (words_line words line stand (tree_words dl t words is)) ∙ words_read dl t words is shallow

@@ -1,15 +1,18 @@
 -- A written type reads back as itself.
-use Rattle.std.proofs.Common.{◌≡◌, ℕ, ◌+◌, ◌≤◌, Bool, true, false, List, [], ◌∷◌, ◌++◌, length, Ok, refl, sym, ap, ap₂, ◌∙◌, arith, append_assoc, append-nil, length-append}
-use Rattle.std.specs.Prelude.{codes}
+use Rattle.std.proofs.Common.{◌≡◌, ℕ, ◌+◌, ◌≤◌, ◌<◌, Bool, true, false, List, [], ◌∷◌, ◌++◌, length, Ok, refl, sym, ap, ap₂, ◌∙◌, arith, append_assoc, append-nil, length-append}
+use Rattle.std.specs.Prelude.{◌==◌, codes}
+use Rattle.std.specs.Char.{is_ascii_digit}
+use Rattle.std.specs.Str.{all_ascii_digits, bytes_eq}
+use Rattle.std.proofs.lemmas.Bool.Decides.{nat_tests}
 use Rattle.abi_base.specs.declared.data_layout.TargetDataLayout.{TargetDataLayout}
 use Rattle.abi_scalar.specs.declared.repr.ReprOptions.{ReprOptions}
 use Rattle.abi_scalar.specs.declared.scalar.Scalar.{Scalar}
-use Rattle.rustc_abi.specs.Tree.{Tree, scalar, pair, never, unit, array, vector, struct, union, Trees, no_trees, more_trees, trees}
+use Rattle.rustc_abi.specs.Tree.{Tree, scalar, pair, never, unit, array, vector, struct, union, enum, Trees, no_trees, more_trees, trees, Variants, no_variants, more_variants}
 use Rattle.program.specs.declared.begun.Want.TheVariants as want
 use Rattle.program.specs.declared.repr_text.StructRepr.{StructRepr}
-use Rattle.program.specs.Reading.{Begun, elements, lanes, fields, members, first, second, range, range_of, range_from, union_of, at_count, at_lanes, at_repr, at_union_repr, next, put, put_scalar, read, read_from, waiting}
-use Rattle.program.specs.Written.{IsWrittenAs, AreWrittenAs, a_scalar, a_pair, no_value, one_value, an_array, a_vector, a_struct, a_union, no_more, one_more, nesting, nesting_of_fields, vector_word}
-use Rattle.program.proofs.Numerals.{numeral_read}
+use Rattle.program.specs.Reading.{Begun, elements, lanes, fields, members, variants_so_far, variant, variants_in, first, second, range, range_of, range_from, union_of, at_count, at_lanes, at_repr, at_union_repr, at_enum_repr, at_discriminant, next, put, put_scalar, read, read_from, waiting}
+use Rattle.program.specs.Written.{IsWrittenAs, AreWrittenAs, a_scalar, a_pair, no_value, one_value, an_array, a_vector, a_struct, a_union, an_enum, no_more, one_more, AreVariantsWrittenAs, no_variant_more, one_variant_more, IsDiscriminant, not_negative, negative, nesting, nesting_of_fields, nesting_of_variants, vector_word}
+use Rattle.program.proofs.Numerals.{both, numeral_read, numeral_digits, discriminant_read}
 use Rattle.program.proofs.ScalarsRead.{IsFree, not_deep, one_word, read_scalar}
 
 -- a place where a type may stand: not in a scalar
@@ -19,6 +22,7 @@ AreTypes (elements n ∷ begun) = Unit {0}
 AreTypes (fields asked ts ∷ begun) = Unit {0}
 AreTypes (lanes n packed ∷ begun) = Unit {0}
 AreTypes (members repr ts ∷ begun) = Unit {0}
+AreTypes (variant repr vs d ts ∷ begun) = Unit {0}
 AreTypes (b ∷ begun) = ⊥
 
 types_free : (begun : List Begun) → AreTypes begun → IsFree begun
@@ -27,6 +31,8 @@ types_free (elements n ∷ begun) h = tt
 types_free (fields asked ts ∷ begun) h = tt
 types_free (lanes n packed ∷ begun) h = tt
 types_free (members repr ts ∷ begun) h = tt
+types_free (variants_so_far repr vs ∷ begun) h = tt
+types_free (variant repr vs d ts ∷ begun) h = tt
 types_free (first ∷ begun) h = tt
 types_free (second a ∷ begun) h = tt
 types_free (range ∷ begun) h = h
@@ -40,6 +46,8 @@ scalar_put s (elements n ∷ begun) h = refl
 scalar_put s (fields asked ts ∷ begun) h = refl
 scalar_put s (lanes n packed ∷ begun) h = refl
 scalar_put s (members repr ts ∷ begun) h = refl
+scalar_put s (variants_so_far repr vs ∷ begun) h = absurd h
+scalar_put s (variant repr vs d ts ∷ begun) h = refl
 scalar_put s (first ∷ begun) h = absurd h
 scalar_put s (second a ∷ begun) h = absurd h
 scalar_put s (range ∷ begun) h = absurd h
@@ -55,7 +63,15 @@ trees_in : (ts : Trees) → trees (list_in ts) ≡ ts
 trees_in no_trees = refl
 trees_in (more_trees t ts) = ap (more_trees t) (trees_in ts)
 
--- a struct or a union that takes a type as its next field
+abbrev variant_list : Variants → List (ℕ × List Tree)
+variant_list no_variants = []
+variant_list (more_variants d ts vs) = (d, list_in ts) ∷ variant_list vs
+
+variants_listed : (vs : Variants) → variants_in (variant_list vs) ≡ vs
+variants_listed no_variants = refl
+variants_listed (more_variants d ts vs) = ap₂ (more_variants d) (trees_in ts) (variants_listed vs)
+
+-- a struct, a union or a variant that takes a type as its next field
 abbrev TakesMore : (List Tree → Begun) → Type 0
 TakesMore top = ((t : Tree) (ts : List Tree) (begun : List Begun) → put t (top ts ∷ begun) ≡ waiting want.Tree (top (ts ++ t ∷ []) ∷ begun))
     × ((ts : List Tree) (begun : List Begun) → AreTypes (top ts ∷ begun))
@@ -66,7 +82,27 @@ takes_fields asked = (λ t ts begun. refl, λ ts begun. tt)
 takes_members : (repr : ReprOptions) → TakesMore (members repr)
 takes_members repr = (λ t ts begun. refl, λ ts begun. tt)
 
+takes_in_variant : (repr : ReprOptions) (vs : List (ℕ × List Tree)) (d : ℕ) → TakesMore (variant repr vs d)
+takes_in_variant repr vs d = (λ t ts begun. refl, λ ts begun. tt)
+
+-- a word that begins with a digit, or with `-`, closes nothing
+digits_no_end : (w : List ℕ) → 0 < length w → all_ascii_digits w ≡ true → bytes_eq w (codes ")") ≡ false
+digits_no_end [] some h = refl
+digits_no_end (c ∷ cs) some h =
+    let digit : is_ascii_digit c ≡ true = (both (is_ascii_digit c) (all_ascii_digits cs) h).0 in
+    let no : (c == 41) ≡ false = grind (arith, nat_tests) in
+    rw no refl
+
+discriminant_no_end : (d : ℕ) (w : List ℕ) → IsDiscriminant d w → bytes_eq w (codes ")") ≡ false
+discriminant_no_end d w (not_negative n text is) =
+    let digits = numeral_digits 128 n text (omega arith) is in
+    digits_no_end text digits.0 digits.1
+discriminant_no_end d w (negative n text some small is) = refl
+
 module _ (dl : TargetDataLayout) where
+  variant_at : (text : List ℕ) (d : ℕ) → IsDiscriminant d text → (begun : List Begun) (number : ℕ) → next dl number begun text want.Discriminant ≡ Ok (waiting (want.VariantOpening d) begun)
+  variant_at text d said begun number = ap₂ (λ closes o. at_discriminant number closes begun o) (discriminant_no_end d text said) (discriminant_read d text said)
+
   vector_at : (packed : Bool) (begun : List Begun) (number : ℕ) → length begun ≤ 200 → next dl number begun (vector_word packed) want.Tree ≡ Ok (waiting (want.Lanes packed) begun)
   vector_at true begun number h = rw (not_deep begun h) refl
   vector_at false begun number h = rw (not_deep begun h) refl
@@ -115,6 +151,15 @@ module _ (dl : TargetDataLayout) where
         ∙ read_trees ts more are (members repr) (takes_members repr) begun [] (number + 1 + 1 + 1) (codes ")" ∷ rest) deep
         ∙ one_word dl want.Tree (members repr (list_in ts) ∷ begun) (number + 1 + 1 + 1 + length more) (codes ")") rest (put (union repr (trees (list_in ts))) begun) refl
         ∙ ap₂ (λ n ts. read_from dl n (put (union repr ts) begun) rest) there (trees_in ts)
+    read_tree t words (an_enum repr text vs more said are) begun number rest types deep =
+        let there : number + 1 + 1 + 1 + length more + 1 ≡ number + length (codes "enum" ∷ text ∷ codes "(" ∷ (more ++ codes ")" ∷ [])) = omega (arith, length-append more (codes ")" ∷ [])) in
+        one_word dl want.Tree begun number (codes "enum") (text ∷ codes "(" ∷ ((more ++ codes ")" ∷ []) ++ rest)) (waiting want.EnumRepr begun) (rw (not_deep begun (omega arith)) refl)
+        ∙ one_word dl want.EnumRepr begun (number + 1) text (codes "(" ∷ ((more ++ codes ")" ∷ []) ++ rest)) (waiting (want.EnumOpening repr) begun) (ap (at_enum_repr (number + 1) begun) said)
+        ∙ one_word dl (want.EnumOpening repr) begun (number + 1 + 1) (codes "(") ((more ++ codes ")" ∷ []) ++ rest) (waiting want.Discriminant (variants_so_far repr [] ∷ begun)) refl
+        ∙ ap (read_from dl (number + 1 + 1 + 1) (waiting want.Discriminant (variants_so_far repr [] ∷ begun))) (append_assoc more (codes ")" ∷ []) rest)
+        ∙ read_variants vs more are repr begun [] (number + 1 + 1 + 1) (codes ")" ∷ rest) deep
+        ∙ one_word dl want.Discriminant (variants_so_far repr (variant_list vs) ∷ begun) (number + 1 + 1 + 1 + length more) (codes ")") rest (put (enum repr (variants_in (variant_list vs))) begun) refl
+        ∙ ap₂ (λ n us. read_from dl n (put (enum repr us) begun) rest) there (variants_listed vs)
 
     read_trees : (ts : Trees) (words : List (List ℕ)) → AreWrittenAs dl ts words → (top : List Tree → Begun) → TakesMore top → (begun : List Begun) (done : List Tree) (number : ℕ) (rest : List (List ℕ))
         → length begun + nesting_of_fields ts ≤ 200
@@ -129,6 +174,25 @@ module _ (dl : TargetDataLayout) where
         ∙ ap (λ state. read_from dl (number + length text) state (more ++ rest)) (takes.0 t done begun)
         ∙ read_trees others more are top takes begun (done ++ t ∷ []) (number + length text) rest (omega arith)
         ∙ ap₂ (λ n ts. read_from dl n (waiting want.Tree (top ts ∷ begun)) rest) there (append_assoc done (t ∷ []) (list_in others))
+
+    read_variants : (vs : Variants) (words : List (List ℕ)) → AreVariantsWrittenAs dl vs words → (repr : ReprOptions) (begun : List Begun) (done : List (ℕ × List Tree)) (number : ℕ) (rest : List (List ℕ))
+        → length begun + nesting_of_variants vs ≤ 200
+        → read_from dl number (waiting want.Discriminant (variants_so_far repr done ∷ begun)) (words ++ rest)
+        ≡ read_from dl (number + length words) (waiting want.Discriminant (variants_so_far repr (done ++ variant_list vs) ∷ begun)) rest
+    read_variants vs words no_variant_more repr begun done number rest deep =
+        let there : number ≡ number + 0 = omega arith in
+        ap₂ (λ n us. read_from dl n (waiting want.Discriminant (variants_so_far repr us ∷ begun)) rest) there (sym (append-nil done))
+    read_variants vs words (one_variant_more d text ts others more later said are follow) repr begun done number rest deep =
+        let there : number + 1 + 1 + length more + 1 + length later ≡ number + length (text ∷ codes "(" ∷ (more ++ codes ")" ∷ later)) = omega (arith, length-append more (codes ")" ∷ later)) in
+        one_word dl want.Discriminant (variants_so_far repr done ∷ begun) number text (codes "(" ∷ ((more ++ codes ")" ∷ later) ++ rest)) (waiting (want.VariantOpening d) (variants_so_far repr done ∷ begun))
+        (variant_at text d said (variants_so_far repr done ∷ begun) number)
+        ∙ one_word dl (want.VariantOpening d) (variants_so_far repr done ∷ begun) (number + 1) (codes "(") ((more ++ codes ")" ∷ later) ++ rest) (waiting want.Tree (variant repr done d [] ∷ begun)) refl
+        ∙ ap (read_from dl (number + 1 + 1) (waiting want.Tree (variant repr done d [] ∷ begun))) (append_assoc more (codes ")" ∷ later) rest)
+        ∙ read_trees ts more are (variant repr done d) (takes_in_variant repr done d) begun [] (number + 1 + 1) (codes ")" ∷ (later ++ rest)) (omega arith)
+        ∙ one_word dl want.Tree (variant repr done d (list_in ts) ∷ begun) (number + 1 + 1 + length more) (codes ")") (later ++ rest)
+        (waiting want.Discriminant (variants_so_far repr (done ++ (d, list_in ts) ∷ []) ∷ begun)) refl
+        ∙ read_variants others later follow repr begun (done ++ (d, list_in ts) ∷ []) (number + 1 + 1 + length more + 1) rest (omega arith)
+        ∙ ap₂ (λ n us. read_from dl n (waiting want.Discriminant (variants_so_far repr us ∷ begun)) rest) there (append_assoc done ((d, list_in ts) ∷ []) (variant_list others))
 
   -- the words that write a type read back as that type
   pub words_read : (t : Tree) (words : List (List ℕ)) → IsWrittenAs dl t words → nesting t ≤ 200 → read dl words ≡ Ok t

@@ -1,5 +1,5 @@
--- Decimal numbers with no sign.
-use Rattle.std.specs.Prelude.{ℕ, ◌+◌, ◌-◌, ◌*◌, ◌^◌, List, [], ◌∷◌, Option, None, Some, nat_le, if◌then◌else◌}
+-- Decimal numbers with no sign, and those of discriminants, which may have one.
+use Rattle.std.specs.Prelude.{ℕ, ◌+◌, ◌-◌, ◌*◌, ◌^◌, ◌==◌, List, [], ◌∷◌, Option, None, Some, nat_le, if◌then◌else◌}
 use Rattle.std.specs.Char.{is_ascii_digit}
 
 -- the number that goes on with these digits
@@ -20,3 +20,13 @@ number_to most (d ∷ ds) = fitting most (digits_from 0 (d ∷ ds))
 -- a number of so many bits
 abbrev pub number_in : (bits : ℕ) → List ℕ → Option ℕ
 number_in bits w = number_to (2 ^ bits - 1) w
+
+-- minus the number, as two's complement of 128 bits; no number for 0
+abbrev pub negated : Option ℕ → Option ℕ
+negated None = None
+negated (Some n) = if n == 0 then None else Some (2 ^ 128 - n)
+
+-- the discriminant that the word is: a number of 128 bits, or `-` and a number from 1 to 2 ^ 127
+abbrev pub discriminant_in : List ℕ → Option ℕ
+discriminant_in [] = None
+discriminant_in (b ∷ bs) = if b == 45 then negated (number_to (2 ^ 127) bs) else number_in 128 (b ∷ bs)

@@ -10,10 +10,18 @@ use Rattle.abi_base.specs.declared.integer.Integer.TheVariants.{I8, I16, I32, I6
 use Rattle.abi_scalar.specs.declared.fields_shape.FieldsShape.{FieldsShape}
 use Rattle.abi_scalar.specs.declared.fields_shape.FieldsShape.TheVariants.{Primitive as NoFields, Union, Array, Arbitrary}
 use Rattle.abi_scalar.specs.declared.niche.Niche.{Niche}
+use Rattle.abi_scalar.specs.declared.scalar.Scalar.{Scalar}
+use Rattle.abi_scalar.specs.declared.scalar.Scalar.TheVariants.{Initialized, Union as OfUnion}
+use Rattle.abi_scalar.specs.declared.variants.RangeInclusive.{RangeInclusive}
+use Rattle.abi_scalar.specs.declared.variants.TagEncoding.{TagEncoding}
+use Rattle.abi_scalar.specs.declared.variants.TagEncoding.TheVariants.{Direct, Niche as InNiche}
+use Rattle.abi_scalar.specs.declared.variants.VariantLayout.{VariantLayout}
+use Rattle.abi_scalar.specs.declared.variants.Variants.{Variants}
+use Rattle.abi_scalar.specs.declared.variants.Variants.TheVariants.{Empty, Single, Multiple}
 use Rattle.abi_scalar.specs.RangeText.{range_text}
 use Rattle.rustc_abi.specs.declared.runs.Run.{Run}
 use Rattle.rustc_abi.specs.Placed.{Layout, Placed, layout_of, size_of}
-use Rattle.rustc_abi.specs.Runs.{padding_of}
+use Rattle.rustc_abi.specs.Runs.{padding_of, unused_of}
 
 -- size and alignment, in bytes
 abbrev pub size_line : Layout → List ℕ
@@ -66,19 +74,55 @@ niche_line None = codes "niche none\n"
 niche_line (Some n) =
     codes "niche " ++ decimal n.offset ++ codes " " ++ primitive_text n.value ++ codes " " ++ range_text n.valid_range.start n.valid_range.end ++ codes "\n"
 
--- each run of bytes, with the byte after its last
-abbrev pub range_lines : List Run → List ℕ
-range_lines [] = []
-range_lines (r ∷ runs) = codes "padding " ++ decimal r.start ++ codes ".." ++ decimal r.end ++ codes "\n" ++ range_lines runs
+-- each run of bytes behind this word, with the byte after its last
+abbrev pub range_lines : (word : List ℕ) → List Run → List ℕ
+range_lines word [] = []
+range_lines word (r ∷ runs) = word ++ codes " " ++ decimal r.start ++ codes ".." ++ decimal r.end ++ codes "\n" ++ range_lines word runs
+
+-- the runs of bytes that a variant doesn't use though another one may, listed for a type of at most 2 ^ 16 bytes
+abbrev pub unused_lines : Placed → (variant : ℕ) → List ℕ
+unused_lines placed variant = if nat_lt 65536 (size_of placed) then [] else range_lines (codes "unused") (unused_of placed variant)
+
+-- a variant, with the offsets of its fields
+abbrev pub variant_lines : Placed → (variant : ℕ) → (offsets : List ℕ) → List ℕ
+variant_lines placed variant offsets = codes "variant " ++ decimal variant ++ codes "\n" ++ field_lines 0 offsets ++ unused_lines placed variant
+
+-- variants, the first of which has this index
+abbrev pub each_variant : {F : Type 0} → Placed → (index : ℕ) → List (VariantLayout F) → List ℕ
+each_variant placed index [] = []
+each_variant placed index (v ∷ variants) = variant_lines placed index v.field_offsets ++ each_variant placed (index + 1) variants
+
+-- a scalar's primitive, and its range, which a union's scalar doesn't have
+abbrev pub scalar_text : Scalar → List ℕ
+scalar_text (Initialized value range) = primitive_text value ++ codes " " ++ range_text range.start range.end
+scalar_text (OfUnion value) = primitive_text value
+
+-- the variant that a niche doesn't name, and those that it names by the numbers from this one on
+abbrev pub named_text : (untagged : ℕ) → (named : RangeInclusive ℕ) → (start : ℕ) → List ℕ
+named_text untagged named start =
+    codes " untagged " ++ decimal untagged ++ codes " variants " ++ decimal named.start ++ codes "..=" ++ decimal named.last ++ codes " start " ++ decimal start
+
+-- which field the tag is, what it holds, and how it names a variant: by its discriminant, or in a niche
+abbrev pub tag_line : (field : ℕ) → (tag : Scalar) → TagEncoding ℕ → List ℕ
+tag_line field tag Direct = codes "tag " ++ decimal field ++ codes " direct " ++ scalar_text tag ++ codes "\n"
+tag_line field tag (InNiche untagged named start) =
+    codes "tag " ++ decimal field ++ codes " niche " ++ scalar_text tag ++ named_text untagged named start ++ codes "\n"
+
+-- several variants, and behind them the tag that tells them apart
+abbrev pub variants_lines : Placed → Variants ℕ ℕ → List ℕ
+variants_lines placed (Multiple tag encoding field variants) = each_variant placed 0 variants ++ tag_line field tag encoding
+variants_lines placed Empty = []
+variants_lines placed (Single index) = []
 
 -- the runs of padding, listed for a type of at most 2 ^ 16 bytes
 abbrev pub padding_lines : Placed → List ℕ
-padding_lines placed = if nat_lt 65536 (size_of placed) then codes "padding not listed\n" else range_lines (padding_of placed)
+padding_lines placed = if nat_lt 65536 (size_of placed) then codes "padding not listed\n" else range_lines (codes "padding") (padding_of placed)
 
--- all that is written of a type but its padding
+-- what is written of a type as a whole
 abbrev pub layout_lines : Layout → List ℕ
-layout_lines layout = size_line layout ++ uninhabited_line layout.uninhabited ++ shape_lines layout.fields ++ niche_line layout.largest_niche
+layout_lines layout = size_line layout ++ uninhabited_line layout.uninhabited ++ shape_lines layout.fields
 
 -- all that is written of a type
 abbrev pub type_text : Placed → List ℕ
-type_text placed = layout_lines (layout_of placed) ++ padding_lines placed
+type_text placed =
+    layout_lines (layout_of placed) ++ variants_lines placed (layout_of placed).variants ++ niche_line (layout_of placed).largest_niche ++ padding_lines placed

@@ -1,13 +1,15 @@
 -- The type that a line's words write under a data layout, or the first word that doesn't fit.
-use Rattle.std.specs.Prelude.{◌≡◌, ℕ, ◌+◌, ◌⊎◌, Bool, true, false, List, [], ◌∷◌, ◌++◌, codes, length, map, nat_lt, option_map, reverse, Option, None, Some, Result, Ok, Err, if◌then◌else◌}
+use Rattle.std.specs.Prelude.{◌≡◌, ℕ, ◌+◌, ◌⊎◌, Bool, true, false, List, [], ◌∷◌, ◌++◌, codes, length, map, nat_lt, option_map, reverse, Vec, Option, None, Some, Result, Ok, Err, if◌then◌else◌}
 use Rattle.std.specs.Str.{bytes_eq}
+use Rattle.std.specs.declared.alloc.Global.{Global}
 use Rattle.abi_base.specs.declared.primitive.Primitive.{Primitive}
 use Rattle.abi_base.specs.declared.primitive.Primitive.TheVariants.{Int, Float, Pointer}
 use Rattle.abi_base.specs.declared.data_layout.TargetDataLayout.{TargetDataLayout}
 use Rattle.abi_scalar.specs.declared.scalar.Scalar.{Scalar}
 use Rattle.abi_scalar.specs.declared.scalar.Scalar.TheVariants.{Initialized, Union}
 use Rattle.abi_scalar.specs.declared.repr.ReprOptions.{ReprOptions}
-use Rattle.rustc_abi.specs.Tree.{Tree, scalar, pair, never, unit, array, vector, struct, union, trees, tree_of}
+use Rattle.rustc_abi.specs.declared.tree.TypeTree.{TypeTree}
+use Rattle.rustc_abi.specs.Tree.{Tree, scalar, pair, never, unit, array, vector, struct, union, enum, trees, tree_of, Variants, no_variants, more_variants}
 use Rattle.program.specs.declared.fault.Fault.{Fault}
 use Rattle.program.specs.declared.fault.Fault.TheVariants.{Unreadable, NotYet, TooDeep, OutOfMemory}
 use Rattle.program.specs.declared.scalar_word.ScalarWord.{ScalarWord}
@@ -20,7 +22,7 @@ use Rattle.program.specs.declared.begun.Want.TheVariants as want
 use Rattle.program.specs.declared.begun.Open.{Open}
 use Rattle.program.specs.declared.begun.Open.TheVariants as open_type
 use Rattle.program.specs.declared.begun.Reader.{Reader}
-use Rattle.program.specs.Numbers.{number_in}
+use Rattle.program.specs.Numbers.{discriminant_in, number_in}
 use Rattle.program.specs.Repr.{struct_repr, union_repr}
 use Rattle.program.specs.ScalarWords.{scalar_word}
 use Rattle.program.specs.TypeWords.{type_word}
@@ -36,6 +38,10 @@ pub data Begun : Type 0 where
   fields : StructRepr → List Tree → Begun
   -- a union, with the fields so far
   members : ReprOptions → List Tree → Begun
+  -- an enum between its variants, with those so far
+  variants_so_far : ReprOptions → List (ℕ × List Tree) → Begun
+  -- an enum within a variant: the variants before it, its discriminant, and its fields so far
+  variant : ReprOptions → List (ℕ × List Tree) → (discriminant : ℕ) → List Tree → Begun
   -- a pair that waits for its first scalar, or its second
   first : Begun
   second : Scalar → Begun
@@ -65,6 +71,7 @@ put t (elements n ∷ begun) = put (array n t) begun
 put t (lanes n packed ∷ begun) = put (vector n packed t) begun
 put t (fields asked ts ∷ begun) = waiting want.Tree (fields asked (ts ++ t ∷ []) ∷ begun)
 put t (members repr ts ∷ begun) = waiting want.Tree (members repr (ts ++ t ∷ []) ∷ begun)
+put t (variant repr vs d ts ∷ begun) = waiting want.Tree (variant repr vs d (ts ++ t ∷ []) ∷ begun)
 put t (_ ∷ begun) = put t begun
 
 -- a complete scalar goes into a pair that waits for one, or is a type
@@ -73,10 +80,17 @@ put_scalar s (first ∷ begun) = waiting want.Scalar (second s ∷ begun)
 put_scalar s (second a ∷ begun) = put (pair a s) begun
 put_scalar s begun = put (scalar s) begun
 
--- a closing parenthesis completes a struct or a union
+-- the variants of a list
+abbrev pub variants_in : List (ℕ × List Tree) → Variants
+variants_in [] = no_variants
+variants_in (v ∷ vs) = more_variants v.0 (trees v.1) (variants_in vs)
+
+-- a closing parenthesis completes a struct, a union, an enum or a variant of one
 abbrev pub closed : (number : ℕ) → List Begun → Result State Fault
 closed number (fields asked ts ∷ begun) = Ok (put (struct asked.repr asked.always_sized (trees ts)) begun)
 closed number (members repr ts ∷ begun) = Ok (put (union repr (trees ts)) begun)
+closed number (variant repr vs d ts ∷ begun) = Ok (waiting want.Discriminant (variants_so_far repr (vs ++ (d, ts) ∷ []) ∷ begun))
+closed number (variants_so_far repr vs ∷ begun) = Ok (put (enum repr (variants_in vs)) begun)
 closed number _ = Err (Unreadable number)
 
 abbrev pub at_count : (number : ℕ) → List Begun → Option ℕ → Result State Fault
@@ -95,11 +109,28 @@ abbrev pub at_union_repr : (number : ℕ) → List Begun → Option ReprOptions 
 at_union_repr number begun None = Err (Unreadable number)
 at_union_repr number begun (Some repr) = Ok (waiting (want.UnionOpening repr) begun)
 
+abbrev pub at_enum_repr : (number : ℕ) → List Begun → Option ReprOptions → Result State Fault
+at_enum_repr number begun None = Err (Unreadable number)
+at_enum_repr number begun (Some repr) = Ok (waiting (want.EnumOpening repr) begun)
+
 abbrev pub at_opening : (number : ℕ) → StructRepr → List Begun → (opens : Bool) → Result State Fault
 at_opening number asked begun opens = if opens then Ok (waiting want.Tree (fields asked [] ∷ begun)) else Err (Unreadable number)
 
 abbrev pub at_union_opening : (number : ℕ) → ReprOptions → List Begun → (opens : Bool) → Result State Fault
 at_union_opening number repr begun opens = if opens then Ok (waiting want.Tree (members repr [] ∷ begun)) else Err (Unreadable number)
+
+abbrev pub at_enum_opening : (number : ℕ) → ReprOptions → List Begun → (opens : Bool) → Result State Fault
+at_enum_opening number repr begun opens = if opens then Ok (waiting want.Discriminant (variants_so_far repr [] ∷ begun)) else Err (Unreadable number)
+
+-- where a variant may come, a closing parenthesis ends the enum
+abbrev pub at_discriminant : (number : ℕ) → (closes : Bool) → List Begun → Option ℕ → Result State Fault
+at_discriminant number true begun _ = closed number begun
+at_discriminant number false begun None = Err (Unreadable number)
+at_discriminant number false begun (Some d) = Ok (waiting (want.VariantOpening d) begun)
+
+abbrev pub at_variant_opening : (number : ℕ) → (discriminant : ℕ) → List Begun → (opens : Bool) → Result State Fault
+at_variant_opening number d (variants_so_far repr vs ∷ begun) true = Ok (waiting want.Tree (variant repr vs d [] ∷ begun))
+at_variant_opening number d _ _ = Err (Unreadable number)
 
 abbrev pub at_start : (number : ℕ) → List Begun → Option ℕ → Result State Fault
 at_start number (range_of p ∷ begun) (Some n) = Ok (waiting want.RangeEnd (range_from p n ∷ begun))
@@ -160,6 +191,7 @@ module _ (dl : TargetDataLayout) where
   begin begun (type.Vector packed) = Ok (waiting (want.Lanes packed) begun)
   begin begun type.Struct = Ok (waiting want.Repr begun)
   begin begun type.Union = Ok (waiting want.UnionRepr begun)
+  begin begun type.Enum = Ok (waiting want.EnumRepr begun)
   begin begun _ = Err NotYet
 
   -- no type stands in more than 200 others
@@ -179,8 +211,12 @@ module _ (dl : TargetDataLayout) where
   next number begun w (want.Lanes packed) = at_lanes number packed begun (number_in 64 w)
   next number begun w want.Repr = at_repr number begun (struct_repr w)
   next number begun w want.UnionRepr = at_union_repr number begun (union_repr w)
+  next number begun w want.EnumRepr = at_enum_repr number begun (union_repr w)
   next number begun w (want.Opening asked) = at_opening number asked begun (bytes_eq w (codes "("))
   next number begun w (want.UnionOpening repr) = at_union_opening number repr begun (bytes_eq w (codes "("))
+  next number begun w (want.EnumOpening repr) = at_enum_opening number repr begun (bytes_eq w (codes "("))
+  next number begun w want.Discriminant = at_discriminant number (bytes_eq w (codes ")")) begun (discriminant_in w)
+  next number begun w (want.VariantOpening d) = at_variant_opening number d begun (bytes_eq w (codes "("))
   next number begun w want.End = Err (Unreadable number)
 
   abbrev pub step : (number : ℕ) → State → (word : List ℕ) → Result State Fault
@@ -204,12 +240,18 @@ read_from dl number state (w ∷ ws) = on_ok (step dl number state w) (λ more. 
 abbrev pub read : TargetDataLayout → List (List ℕ) → Result Tree Fault
 read dl ws = read_from dl 1 start ws
 
+-- what the program keeps of a variant
+abbrev pub variant_by : ℕ × Vec TypeTree Global → ℕ × List Tree
+variant_by v = (v.0, map tree_of v.1.items)
+
 -- what the program keeps of a type that is begun
 abbrev pub begun_by : Open → Begun
 begun_by (open_type.Elements count) = elements count
 begun_by (open_type.Lanes count packed) = lanes count packed
 begun_by (open_type.Fields asked ts) = fields asked (map tree_of ts.items)
 begun_by (open_type.Members repr ts) = members repr (map tree_of ts.items)
+begun_by (open_type.Variants repr vs) = variants_so_far repr (map variant_by vs.items)
+begun_by (open_type.Variant repr vs d ts) = variant repr (map variant_by vs.items) d (map tree_of ts.items)
 begun_by open_type.First = first
 begun_by (open_type.Second a) = second a
 begun_by open_type.Range = range

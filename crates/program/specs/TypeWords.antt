@@ -1,14 +1,14 @@
 -- The words that begin a type.
-use Rattle.std.specs.Prelude.{ℕ, ◌||◌, Bool, true, false, List, codes, Option, None, Some, if◌then◌else◌}
+use Rattle.std.specs.Prelude.{ℕ, Bool, true, false, List, codes, Option, None, Some, if◌then◌else◌}
 use Rattle.std.specs.Str.{bytes_eq}
 use Rattle.program.specs.declared.scalar_word.ScalarWord.{ScalarWord}
 use Rattle.program.specs.declared.type_word.TypeWord.{TypeWord}
-use Rattle.program.specs.declared.type_word.TypeWord.TheVariants.{Scalar, Pair, Never, Unit as AUnit, Array, Vector, Struct, Union, Later, Other}
+use Rattle.program.specs.declared.type_word.TypeWord.TheVariants.{Scalar, Pair, Never, Unit as AUnit, Array, Vector, Struct, Union, Enum, Later, Other}
 use Rattle.program.specs.ScalarWords.{scalar_word}
 
 -- types that the program doesn't know yet
 abbrev pub is_later_word : List ℕ → Bool
-is_later_word w = bytes_eq w (codes "enum") || bytes_eq w (codes "coroutine")
+is_later_word w = bytes_eq w (codes "coroutine")
 
 -- a word that begins no scalar
 abbrev pub other_word : List ℕ → TypeWord
@@ -21,7 +21,8 @@ other_word w =
     else (if bytes_eq w (codes "psimd") then Vector true
     else (if bytes_eq w (codes "struct") then Struct
     else (if bytes_eq w (codes "union") then Union
-    else (if is_later_word w then Later else Other))))))))
+    else (if bytes_eq w (codes "enum") then Enum
+    else (if is_later_word w then Later else Other)))))))))
 
 abbrev pub word_with : Option ScalarWord → TypeWord → TypeWord
 word_with None word = word

@@ -1,5 +1,5 @@
 -- How a type is written: which words write which type.
-use Rattle.std.specs.Prelude.{◌≡◌, ℕ, ◌+◌, ◌^◌, ◌<◌, Bool, false, List, [], ◌∷◌, ◌++◌, codes, max, replicate, Some, if◌then◌else◌}
+use Rattle.std.specs.Prelude.{◌≡◌, ℕ, ◌+◌, ◌^◌, ◌-◌, ◌<◌, ◌≤◌, Bool, false, List, [], ◌∷◌, ◌++◌, codes, max, replicate, Some, if◌then◌else◌}
 use Rattle.std.specs.Fmt.{decimal}
 use Rattle.abi_base.specs.declared.data_layout.TargetDataLayout.{TargetDataLayout}
 use Rattle.abi_base.specs.declared.float.Float.{Float as Format}
@@ -9,7 +9,7 @@ use Rattle.abi_base.specs.declared.primitive.Primitive.TheVariants.{Int, Float, 
 use Rattle.abi_scalar.specs.declared.repr.ReprOptions.{ReprOptions}
 use Rattle.abi_scalar.specs.declared.scalar.Scalar.{Scalar}
 use Rattle.abi_scalar.specs.declared.scalar.Scalar.TheVariants.{Initialized, Union}
-use Rattle.rustc_abi.specs.Tree.{Tree, scalar, pair, never, unit, array, vector, struct, union, Trees, no_trees, more_trees}
+use Rattle.rustc_abi.specs.Tree.{Tree, scalar, pair, never, unit, array, vector, struct, union, enum, Trees, no_trees, more_trees, Variants, no_variants, more_variants}
 use Rattle.program.specs.declared.repr_text.StructRepr.{StructRepr}
 use Rattle.program.specs.Printing.{integer_text, float_text}
 use Rattle.program.specs.Repr.{struct_repr, union_repr}
@@ -19,6 +19,11 @@ use Rattle.program.specs.Words.{begins_plain}
 -- the word says the number, which has at most so many bits: its decimal digits, with any zeros in front
 abbrev pub IsNumeral : (bits n : ℕ) → (word : List ℕ) → Type 0
 IsNumeral bits n word = (n < 2 ^ bits) × (zeros : ℕ) × (word ≡ replicate zeros 48 ++ decimal n)
+
+-- the word says the discriminant, a number of 128 bits: by its numeral, or by `-` and the numeral of what it lacks of 2 ^ 128
+pub data IsDiscriminant : (discriminant : ℕ) → (word : List ℕ) → Type 0 where
+  not_negative : (n : ℕ) (word : List ℕ) → IsNumeral 128 n word → IsDiscriminant n word
+  negative : (n : ℕ) (word : List ℕ) → 0 < n → n ≤ 2 ^ 127 → IsNumeral 128 n word → IsDiscriminant (2 ^ 128 - n) (codes "-" ++ word)
 
 -- the word of an integer as wide as an index
 abbrev pub index_text : (signed : Bool) → List ℕ
@@ -53,7 +58,7 @@ abbrev pub vector_word : (packed : Bool) → List ℕ
 vector_word packed = if packed then codes "psimd" else codes "simd"
 
 mutual
-  -- the words write the type; no words write an enum or a coroutine
+  -- the words write the type; no words write a coroutine
   pub data IsWrittenAs (dl : TargetDataLayout) : Tree → (words : List (List ℕ)) → Type 0 where
     a_scalar : (s : Scalar) (words : List (List ℕ)) → IsScalarWrittenAs dl s words → IsWrittenAs dl (scalar s) words
     a_pair : (a b : Scalar) (first second : List (List ℕ)) → IsScalarWrittenAs dl a first → IsScalarWrittenAs dl b second
@@ -69,12 +74,22 @@ mutual
         → IsWrittenAs dl (struct asked.repr asked.always_sized ts) (codes "struct" ∷ word ∷ codes "(" ∷ (words ++ codes ")" ∷ []))
     a_union : (repr : ReprOptions) (word : List ℕ) (ts : Trees) (words : List (List ℕ)) → union_repr word ≡ Some repr → AreWrittenAs dl ts words
         → IsWrittenAs dl (union repr ts) (codes "union" ∷ word ∷ codes "(" ∷ (words ++ codes ")" ∷ []))
+    -- an enum, with the options that the word of its repr asks for
+    an_enum : (repr : ReprOptions) (word : List ℕ) (vs : Variants) (words : List (List ℕ)) → union_repr word ≡ Some repr → AreVariantsWrittenAs dl vs words
+        → IsWrittenAs dl (enum repr vs) (codes "enum" ∷ word ∷ codes "(" ∷ (words ++ codes ")" ∷ []))
 
   -- the words write the types, one after the other
   pub data AreWrittenAs (dl : TargetDataLayout) : Trees → (words : List (List ℕ)) → Type 0 where
     no_more : AreWrittenAs dl no_trees []
     one_more : (t : Tree) (ts : Trees) (words rest : List (List ℕ)) → IsWrittenAs dl t words → AreWrittenAs dl ts rest
         → AreWrittenAs dl (more_trees t ts) (words ++ rest)
+
+  -- the words write the variants, one after the other: the discriminant of each, and its fields between parentheses
+  pub data AreVariantsWrittenAs (dl : TargetDataLayout) : Variants → (words : List (List ℕ)) → Type 0 where
+    no_variant_more : AreVariantsWrittenAs dl no_variants []
+    one_variant_more : (discriminant : ℕ) (word : List ℕ) (ts : Trees) (vs : Variants) (words rest : List (List ℕ))
+        → IsDiscriminant discriminant word → AreWrittenAs dl ts words → AreVariantsWrittenAs dl vs rest
+        → AreVariantsWrittenAs dl (more_variants discriminant ts vs) (word ∷ codes "(" ∷ (words ++ codes ")" ∷ rest))
 
 abbrev mutual
   -- how many types stand around the one that is nested deepest; what no words write counts as a type with none in it
@@ -83,11 +98,16 @@ abbrev mutual
   nesting (vector lanes packed t) = nesting t + 1
   nesting (struct repr sized ts) = nesting_of_fields ts
   nesting (union repr ts) = nesting_of_fields ts
+  nesting (enum repr vs) = nesting_of_variants vs
   nesting _ = 0
 
   pub nesting_of_fields : Trees → ℕ
   nesting_of_fields no_trees = 0
   nesting_of_fields (more_trees t ts) = max (nesting t + 1) (nesting_of_fields ts)
+
+  pub nesting_of_variants : Variants → ℕ
+  nesting_of_variants no_variants = 0
+  nesting_of_variants (more_variants discriminant ts vs) = max (nesting_of_fields ts) (nesting_of_variants vs)
 
 -- the words stand in the line, in their order: spaces may stand anywhere but within a word, and none is needed beside a
 -- parenthesis

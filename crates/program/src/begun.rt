@@ -1,7 +1,7 @@
 //! What has been read of a type.
 
 ghost use Rattle.std.specs.Prelude.{◌≡◌, IfOk, IfErr};
-ghost use Rattle.rustc_abi.specs.Tree.{tree_of};
+ghost use Rattle.rustc_abi.specs.Tree.{tree_of, vector};
 ghost use Rattle.program.specs.Reading.{begun_in, put, put_primitive, put_scalar, state_of, waiting};
 
 use crate::fault::Fault;
@@ -10,7 +10,7 @@ use crate::scalars::full;
 use abi_base::{Primitive, TargetDataLayout};
 use abi_scalar::{ReprOptions, Scalar, WrappingRange};
 use rustc_abi::TypeTree;
-use std::alloc::Global;
+use std::alloc::{AllocError, Global};
 
 /// What comes next in a type's text.
 #[derive(Clone, Copy, PartialEq, Eq, Debug)]
@@ -31,10 +31,17 @@ pub(crate) enum Want {
     /// A struct's repr.
     Repr,
     UnionRepr,
+    EnumRepr,
     /// The fields of a struct with this repr.
     Opening(StructRepr),
     /// The fields of a union with this repr.
     UnionOpening(ReprOptions),
+    /// The variants of an enum with this repr.
+    EnumOpening(ReprOptions),
+    /// The discriminant of an enum's next variant.
+    Discriminant,
+    /// The fields of a variant with this discriminant.
+    VariantOpening(u128),
     /// Nothing: the type is complete.
     End,
 }
@@ -50,6 +57,10 @@ pub(crate) enum Open {
     Fields(StructRepr, Vec<TypeTree>),
     /// A union, with the fields so far.
     Members(ReprOptions, Vec<TypeTree>),
+    /// An enum between its variants, with those so far.
+    Variants(ReprOptions, Vec<(u128, Vec<TypeTree>)>),
+    /// An enum within a variant: the variants before it, its discriminant, and its fields so far.
+    Variant(ReprOptions, Vec<(u128, Vec<TypeTree>)>, u128, Vec<TypeTree>),
     /// A pair that waits for its first scalar.
     First,
     /// A pair that has its first scalar.
@@ -85,6 +96,22 @@ pub(crate) fn waiting(want: Want, begun: Vec<Open>) -> Reader
     }
 }
 
+/// A vector of so many lanes, packed or not.
+fn vector(
+    alloc: Global,
+    lanes: u64,
+    packed: bool,
+    element: TypeTree,
+) -> Result<TypeTree, AllocError>
+    ensures { IfOk result (λ tree. tree_of tree ≡ vector lanes packed (tree_of element)) }
+{
+    Ok(TypeTree::Vector {
+        lanes,
+        packed,
+        element: Box::new(alloc, element)?,
+    })
+}
+
 /// Puts a complete type into the innermost type that is begun.
 pub(crate) fn put(alloc: Global, tree: TypeTree, begun: Vec<Open>) -> Result<Reader, Fault>
     ensures ok { IfOk result (λ reader. state_of reader ≡ put (tree_of tree) (begun_in begun.items)) }
@@ -98,12 +125,7 @@ pub(crate) fn put(alloc: Global, tree: TypeTree, begun: Vec<Open>) -> Result<Rea
                 tree = TypeTree::Array(count, Box::new(alloc, tree)?);
             }
             Open::Lanes(lanes, packed) => {
-                let element = Box::new(alloc, tree)?;
-                tree = TypeTree::Vector {
-                    lanes,
-                    packed,
-                    element,
-                };
+                tree = vector(alloc, lanes, packed, tree)?;
             }
             Open::Fields(repr, mut fields) => {
                 fields.push(tree)?;
@@ -113,6 +135,11 @@ pub(crate) fn put(alloc: Global, tree: TypeTree, begun: Vec<Open>) -> Result<Rea
             Open::Members(repr, mut fields) => {
                 fields.push(tree)?;
                 begun.push(Open::Members(repr, fields))?;
+                return Ok(waiting(Want::Tree, begun));
+            }
+            Open::Variant(repr, done, discriminant, mut fields) => {
+                fields.push(tree)?;
+                begun.push(Open::Variant(repr, done, discriminant, fields))?;
                 return Ok(waiting(Want::Tree, begun));
             }
             _ => {}

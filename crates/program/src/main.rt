@@ -7,6 +7,7 @@ mod fault;
 mod lines;
 mod number;
 mod print;
+mod print_variants;
 mod read_scalar;
 mod reader;
 mod repr_text;

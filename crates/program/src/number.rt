@@ -1,7 +1,7 @@
 //! Numbers in a type's text.
 
-ghost use Rattle.std.specs.Prelude.{◌≡◌};
-ghost use Rattle.program.specs.Numbers.{number_in, number_to};
+ghost use Rattle.std.specs.Prelude.{◌≡◌, Some};
+ghost use Rattle.program.specs.Numbers.{discriminant_in, negated, number_in, number_to};
 
 /// The number that the word is: decimal digits without a sign. None where it's something else, or greater than `most`.
 fn number_to(word: &[u8], most: u128) -> Option<u128>
@@ -34,6 +34,26 @@ pub(crate) fn wide(word: &[u8]) -> Option<u128>
     ensures { result ≡ number_in 128 word.now }
 {
     number_to(word, u128::MAX)
+}
+
+/// The two's complement of 128 bits of minus the number. None for 0.
+fn negated(number: u128) -> Option<u128>
+    ensures { result ≡ negated (Some number) }
+{
+    if number == 0 {
+        return None;
+    }
+    Some(u128::MAX - (number - 1))
+}
+
+/// A discriminant: a number of 128 bits, or `-` and a number from 1 to 2^127, as two's complement.
+pub(crate) fn discriminant(word: &[u8]) -> Option<u128>
+    ensures { result ≡ discriminant_in word.now }
+{
+    match word.split_first() {
+        Some((b'-', digits)) => negated(number_to(digits, 1 << 127)?),
+        _ => wide(word),
+    }
 }
 
 /// A number of 64 bits.

@@ -5,14 +5,15 @@ ghost use Rattle.program.specs.Printing.{field_lines, float_text, integer_text, 
 ghost use Rattle.rustc_abi.specs.Laid.{placed_of};
 ghost use Rattle.rustc_abi.specs.Placed.{layout_of};
 
+use crate::print_variants::write_variants;
 use abi_base::{Float, Integer, Primitive, Size};
 use abi_index::{FieldIdx, VariantIdx};
 use abi_scalar::{FieldsShape, LayoutData, Niche};
 use rustc_abi::{Laid, Run};
 use std::alloc::{AllocError, Global};
 
-/// The padding of a larger type isn't listed. In bytes.
-const MOST_LISTED: u64 = 65_536;
+/// The bytes of a larger type aren't listed. In bytes.
+pub(crate) const MOST_LISTED: u64 = 65_536;
 
 /// Writes the size and the alignment, in bytes.
 fn write_size(out: &mut String, layout: &LayoutData<FieldIdx, VariantIdx>) -> Result<(), AllocError>
@@ -36,7 +37,7 @@ fn write_uninhabited(out: &mut String, uninhabited: bool) -> Result<(), AllocErr
 }
 
 /// Writes the offset of each field.
-fn write_fields(out: &mut String, offsets: &[Size]) -> Result<(), AllocError>
+pub(crate) fn write_fields(out: &mut String, offsets: &[Size]) -> Result<(), AllocError>
     ensures { OnOk result (string_bytes out.new ≡ string_bytes out.old ++ field_lines 0 offsets.now) }
 {
     for (index, offset) in offsets.iter().enumerate() {
@@ -106,7 +107,7 @@ fn float_text(float: Float) -> &'static str
     }
 }
 
-fn write_primitive(out: &mut String, primitive: Primitive) -> Result<(), AllocError>
+pub(crate) fn write_primitive(out: &mut String, primitive: Primitive) -> Result<(), AllocError>
     ensures { OnOk result (string_bytes out.new ≡ string_bytes out.old ++ primitive_text primitive) }
 {
     match primitive {
@@ -139,7 +140,7 @@ fn write_niche(out: &mut String, niche: Option<Niche>) -> Result<(), AllocError>
     }
 }
 
-/// Writes all there is to say of a type but its padding.
+/// Writes what there is to say of a type as a whole.
 fn write_layout(
     out: &mut String,
     layout: &LayoutData<FieldIdx, VariantIdx>,
@@ -149,18 +150,17 @@ fn write_layout(
 {
     write_size(out, layout)?;
     write_uninhabited(out, layout.uninhabited)?;
-    write_shape(out, &layout.fields)?;
-    write_niche(out, layout.largest_niche)
+    write_shape(out, &layout.fields)
 }
 
-/// Writes each run of bytes, with the byte after its last.
-fn write_ranges(out: &mut String, runs: &[Run]) -> Result<(), AllocError>
-    ensures { OnOk result (string_bytes out.new ≡ string_bytes out.old ++ range_lines runs.now) }
+/// Writes each run of bytes behind this word, with the byte after its last.
+pub(crate) fn write_ranges(out: &mut String, word: &str, runs: &[Run]) -> Result<(), AllocError>
+    ensures { OnOk result (string_bytes out.new ≡ string_bytes out.old ++ range_lines word.now runs.now) }
 {
     for run in runs {
         let start = run.start;
         let end = run.end;
-        write!(out, "padding {start}..{end}\n")?;
+        write!(out, "{word} {start}..{end}\n")?;
     }
     Ok(())
 }
@@ -173,7 +173,7 @@ fn write_padding(alloc: Global, out: &mut String, laid: &Laid) -> Result<(), All
         return out.push_str("padding not listed\n");
     }
     let runs = laid.padding(alloc)?;
-    write_ranges(out, &runs)
+    write_ranges(out, "padding", &runs)
 }
 
 /// Writes all there is to say of a type.
@@ -182,5 +182,7 @@ pub(crate) fn write_type(alloc: Global, out: &mut String, laid: &Laid) -> Result
     ensures { OnOk result (string_bytes out.new ≡ string_bytes out.old ++ type_text (placed_of laid.now)) }
 {
     write_layout(out, laid.layout())?;
+    write_variants(alloc, out, laid)?;
+    write_niche(out, laid.layout().largest_niche)?;
     write_padding(alloc, out, laid)
 }

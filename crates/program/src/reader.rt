@@ -1,17 +1,17 @@
 //! Reads a type, word by word.
 
-ghost use Rattle.std.specs.Prelude.{◌≡◌, ◌∷◌, ◌⊎◌, ◌<◌, ◌≤◌, ◌+◌, ◌^◌, ℕ, IfOk, IfErr, List, MatchResult, codes, length};
+ghost use Rattle.std.specs.Prelude.{◌≡◌, ◌∷◌, ◌⊎◌, ◌<◌, ◌≤◌, ◌+◌, ◌^◌, ℕ, IfOk, IfErr, List, MatchResult, codes, length, map};
 ghost use Rattle.std.specs.Str.{bytes_eq};
-ghost use Rattle.rustc_abi.specs.Tree.{Tree, tree_of};
-ghost use Rattle.program.specs.Reading.{Agrees, waiting, first, at_count, at_lanes, at_opening, at_repr, at_type, at_union_opening, at_union_repr, begun_in, closed, read, start, state_of, step};
-ghost use Rattle.program.specs.Numbers.{number_in};
+ghost use Rattle.rustc_abi.specs.Tree.{Tree, enum, tree_of};
+ghost use Rattle.program.specs.Reading.{Agrees, waiting, first, at_count, at_discriminant, at_enum_opening, at_enum_repr, at_lanes, at_opening, at_repr, at_type, at_union_opening, at_union_repr, at_variant_opening, begun_in, closed, read, start, state_of, step, variant_by, variants_in};
+ghost use Rattle.program.specs.Numbers.{discriminant_in, number_in};
 ghost use Rattle.program.specs.Repr.{struct_repr, union_repr};
 ghost use Rattle.program.specs.Words.{words_of};
 ghost use Rattle.program.specs.Written.{IsLineOf, IsWrittenAs, nesting};
 
 use crate::begun::{Open, Reader, Want, put, waiting};
 use crate::fault::Fault;
-use crate::number::decimal;
+use crate::number::{decimal, discriminant};
 use crate::read_scalar::{
     begin_scalar, read_end, read_primitive, read_scalar, read_space, read_start,
 };
@@ -25,6 +25,13 @@ use std::alloc::Global;
 
 /// A type is nested in at most so many others.
 const MOST_NESTED: usize = 200;
+
+/// An enum of these variants.
+fn whole_enum(repr: ReprOptions, variants: Vec<(u128, Vec<TypeTree>)>) -> TypeTree
+    ensures { tree_of result ≡ enum repr (variants_in (map variant_by variants.items)) }
+{
+    TypeTree::Enum { repr, variants }
+}
 
 /// Reads a closing parenthesis.
 fn close(alloc: Global, number: u64, begun: Vec<Open>) -> Result<Reader, Fault>
@@ -41,6 +48,12 @@ fn close(alloc: Global, number: u64, begun: Vec<Open>) -> Result<Reader, Fault>
             put(alloc, tree, begun)
         }
         Some(Open::Members(repr, fields)) => put(alloc, TypeTree::Union { repr, fields }, begun),
+        Some(Open::Variant(repr, mut variants, discriminant, fields)) => {
+            variants.push((discriminant, fields))?;
+            begun.push(Open::Variants(repr, variants))?;
+            Ok(waiting(Want::Discriminant, begun))
+        }
+        Some(Open::Variants(repr, variants)) => put(alloc, whole_enum(repr, variants), begun),
         _ => Err(Fault::Unreadable(number)),
     }
 }
@@ -84,6 +97,7 @@ fn read_type_word(
         TypeWord::Vector(packed) => Ok(waiting(Want::Lanes(packed), begun)),
         TypeWord::Struct => Ok(waiting(Want::Repr, begun)),
         TypeWord::Union => Ok(waiting(Want::UnionRepr, begun)),
+        TypeWord::Enum => Ok(waiting(Want::EnumRepr, begun)),
         _ => Err(Fault::NotYet),
     }
 }
@@ -136,6 +150,16 @@ fn read_union_repr(number: u64, begun: Vec<Open>, word: &[u8]) -> Result<Reader,
     }
 }
 
+/// Reads an enum's repr.
+fn read_enum_repr(number: u64, begun: Vec<Open>, word: &[u8]) -> Result<Reader, Fault>
+    ensures { Agrees state_of (at_enum_repr number (begun_in begun.items) (union_repr word.now)) result }
+{
+    match union_repr(word) {
+        Some(repr) => Ok(waiting(Want::EnumOpening(repr), begun)),
+        None => Err(Fault::Unreadable(number)),
+    }
+}
+
 /// Reads the parenthesis that opens a struct's fields.
 fn read_opening(
     alloc: Global,
@@ -174,6 +198,63 @@ fn read_union_opening(
     }
 }
 
+/// Reads the parenthesis that opens an enum's variants.
+fn read_enum_opening(
+    alloc: Global,
+    number: u64,
+    repr: ReprOptions,
+    begun: Vec<Open>,
+    word: &[u8],
+) -> Result<Reader, Fault>
+    ensures { Agrees state_of (at_enum_opening number repr (begun_in begun.items) (bytes_eq word.now (codes "("))) result }
+{
+    let mut begun = begun;
+    if word == b"(".as_slice() {
+        begun.push(Open::Variants(repr, Vec::new(alloc)))?;
+        Ok(waiting(Want::Discriminant, begun))
+    } else {
+        Err(Fault::Unreadable(number))
+    }
+}
+
+/// Reads a variant's discriminant, or the parenthesis that ends the enum.
+fn read_discriminant(
+    alloc: Global,
+    number: u64,
+    begun: Vec<Open>,
+    word: &[u8],
+) -> Result<Reader, Fault>
+    ensures { Agrees state_of (at_discriminant number (bytes_eq word.now (codes ")")) (begun_in begun.items) (discriminant_in word.now)) result }
+{
+    if word == b")".as_slice() {
+        return close(alloc, number, begun);
+    }
+    match discriminant(word) {
+        Some(discriminant) => Ok(waiting(Want::VariantOpening(discriminant), begun)),
+        None => Err(Fault::Unreadable(number)),
+    }
+}
+
+/// Reads the parenthesis that opens a variant's fields.
+fn read_variant_opening(
+    alloc: Global,
+    number: u64,
+    discriminant: u128,
+    begun: Vec<Open>,
+    word: &[u8],
+) -> Result<Reader, Fault>
+    ensures { Agrees state_of (at_variant_opening number discriminant (begun_in begun.items) (bytes_eq word.now (codes "("))) result }
+{
+    let mut begun = begun;
+    match (begun.pop(), word == b"(".as_slice()) {
+        (Some(Open::Variants(repr, variants)), true) => {
+            begun.push(Open::Variant(repr, variants, discriminant, Vec::new(alloc)))?;
+            Ok(waiting(Want::Tree, begun))
+        }
+        _ => Err(Fault::Unreadable(number)),
+    }
+}
+
 /// Reads the next word, of this number.
 fn step(
     alloc: Global,
@@ -203,8 +284,14 @@ fn step(
         Want::Lanes(packed) => read_lanes(number, packed, begun, word),
         Want::Repr => read_repr(number, begun, word),
         Want::UnionRepr => read_union_repr(number, begun, word),
+        Want::EnumRepr => read_enum_repr(number, begun, word),
         Want::Opening(asked) => read_opening(alloc, number, asked, begun, word),
         Want::UnionOpening(repr) => read_union_opening(alloc, number, repr, begun, word),
+        Want::EnumOpening(repr) => read_enum_opening(alloc, number, repr, begun, word),
+        Want::Discriminant => read_discriminant(alloc, number, begun, word),
+        Want::VariantOpening(discriminant) => {
+            read_variant_opening(alloc, number, discriminant, begun, word)
+        }
         Want::End => Err(Fault::Unreadable(number)),
     }
 }

@@ -21,6 +21,8 @@ pub(crate) enum TypeWord {
     Struct,
     /// A union: a repr and fields follow.
     Union,
+    /// An enum: a repr and variants follow.
+    Enum,
     /// A type that the program doesn't know yet.
     Later,
     /// No type.
@@ -31,7 +33,7 @@ pub(crate) enum TypeWord {
 fn is_later_word(word: &[u8]) -> bool
     ensures { result ≡ is_later_word word.now }
 {
-    word == b"enum".as_slice() || word == b"coroutine".as_slice()
+    word == b"coroutine".as_slice()
 }
 
 /// What a word means that begins no scalar.
@@ -54,6 +56,8 @@ fn other_word(word: &[u8]) -> TypeWord
         TypeWord::Struct
     } else if word == b"union".as_slice() {
         TypeWord::Union
+    } else if word == b"enum".as_slice() {
+        TypeWord::Enum
     } else if is_later_word(word) {
         TypeWord::Later
     } else {

@@ -4,4 +4,4 @@ use Rattle.program.specs.Printing.{range_lines}
 use Rattle.program.proofs.print.write_ranges.Given as goal
 
 abbrev pub invariant-loop-run : goal.invariant-loop-run
-invariant-loop-run l = string_bytes l.out ++ range_lines (drop l.run-index l.runs) ≡ string_bytes l.initial.out ++ range_lines l.runs
+invariant-loop-run l = string_bytes l.out ++ range_lines l.word (drop l.run-index l.runs) ≡ string_bytes l.initial.out ++ range_lines l.word l.runs
