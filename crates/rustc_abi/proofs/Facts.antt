@@ -1,5 +1,5 @@
 -- Worked facts: the definitions, tried on small types in both directions.
-use Rattle.std.proofs.Common.{◌≡◌, ℕ, List, [], ◌∷◌, true, false, None, inl, inr, arith, refl}
+use Rattle.std.proofs.Common.{◌≡◌, ℕ, zero, suc, ◌-◌, ◌^◌, ◌≤◌, List, [], ◌∷◌, true, false, None, inl, inr, arith, refl}
 use Rattle.abi_base.specs.declared.endian.Endian.{Endian}
 use Rattle.abi_base.specs.declared.endian.Endian.TheVariants.{Little, Big}
 use Rattle.abi_base.specs.declared.primitive.Primitive.TheVariants.{Int}
@@ -18,7 +18,7 @@ use Rattle.abi_scalar.specs.Range.{IsIn, full_range}
 use Rattle.rustc_abi.specs.Tree.{Tree, never, struct, no_trees, more_trees, scalar as number_type}
 use Rattle.rustc_abi.specs.Value.{Value, number, two, list, variant, state, bytes, no_values, more_values}
 use Rattle.rustc_abi.specs.Bytes.{picked}
-use Rattle.rustc_abi.specs.Placed.{Placed, Layout, layout_of, scalar, never as nowhere, fields, union, tagged, states, no_parts, part, no_arms, arm, nothing}
+use Rattle.rustc_abi.specs.Placed.{Placed, Layout, layout_of, scalar, never as nowhere, fields, union, single, tagged, states, no_parts, part, no_arms, arm, nothing}
 use Rattle.rustc_abi.specs.Places.{is_data_place}
 use Rattle.rustc_abi.specs.Runs.{padding_of, unused_of}
 use Rattle.rustc_abi.specs.Tag.{Names}
@@ -85,6 +85,9 @@ at_one_offset = fields (sized 2) (part 0 u8_placed (part 0 u8_placed no_parts))
 abbrev zero_and_one : Value
 zero_and_one = list (more_values (number 0) (more_values (number 1) no_values))
 
+seven_is_in : IsIn 1 (full_range 1) 7
+seven_is_in = (7, refl, λ k lt e. absurd (omega (arith, lt, e)))
+
 zero_is_in : IsIn 1 (full_range 1) 0
 zero_is_in = (0, refl, λ k lt e. absurd (omega (arith, lt)))
 
@@ -99,7 +102,7 @@ offsets_matter held =
     let bytes_of = held zero_and_one (zero_is_in, (one_is_in_all, tt)) in
     both_not_held bytes_of.0 bytes_of.2
 
--- ---- values: 01 holds the bool 1, and 02 holds none
+-- ---- values: 01 holds the bool 1, and no byte from 02 on holds any
 
 one_is_in : IsIn 1 (record { start = 0; end = 1 }) 1
 one_is_in = (1, refl, λ k lt e. absurd (omega (arith, lt, e)))
@@ -108,17 +111,17 @@ bool_held : (order : Endian) → Holds order bool_placed (1 ∷ []) (number 1)
 bool_held Little = (refl, refl, one_is_in)
 bool_held Big = (refl, refl, one_is_in)
 
-two_is_out : (n : ℕ) → n ≡ 2 → IsIn 1 (record { start = 0; end = 1 }) n → ⊥
-two_is_out n is h = h.2 1 (omega (arith, is, h.1)) refl
+is_out : (n : ℕ) → 2 ≤ n → IsIn 1 (record { start = 0; end = 1 }) n → ⊥
+is_out n above h = h.2 1 (omega (arith, above, h.1)) refl
 
-no_bool : (order : Endian) (v : Value) → Holds order bool_placed (2 ∷ []) v → ⊥
-no_bool Little (number n) h = two_is_out n h.1 h.2
-no_bool Big (number n) h = two_is_out n h.1 h.2
-no_bool order (two n m) h = h
-no_bool order (list vs) h = h
-no_bool order (variant i vs) h = h
-no_bool order (state i ps vs) h = h
-no_bool order (bytes content) h = h
+no_bool : (order : Endian) (byte : ℕ) (v : Value) → 2 ≤ byte → Holds order bool_placed (byte ∷ []) v → ⊥
+no_bool Little byte (number n) above h = is_out n (omega (arith, above, h.1)) h.2
+no_bool Big byte (number n) above h = is_out n (omega (arith, above, h.1)) h.2
+no_bool order byte (two n m) above h = h
+no_bool order byte (list vs) above h = h
+no_bool order byte (variant i vs) above h = h
+no_bool order byte (state i ps vs) above h = h
+no_bool order byte (bytes content) above h = h
 
 -- ---- a flag that is wrong: never without it, and a number with it
 
@@ -134,7 +137,7 @@ two_is_in_all : IsIn 1 (full_range 1) 2
 two_is_in_all = (2, refl, λ k lt e. absurd (omega (arith, lt, e)))
 
 wrong_view : IsViewTrue default_data_layout (scalar (record (sized 1) { backend_repr = OneScalar boolean }) (unsigned I8)) → ⊥
-wrong_view h = two_is_out 2 refl (h (2 ∷ []) (number 2) (refl, refl, two_is_in_all))
+wrong_view h = is_out 2 (omega arith) (h (2 ∷ []) (number 2) (refl, refl, two_is_in_all))
 
 -- ---- a niche tag: 2 names the variant without fields, and each number of the bool the one with it
 
@@ -154,6 +157,73 @@ two_names_no_other (inr h) = h.1 0 (omega arith, omega arith, λ e. absurd (omeg
 one_names_no_other : Names niche 1 no_arms 1 0 → ⊥
 one_names_no_other (inl h) = absurd (omega (arith, h.1))
 one_names_no_other (inr h) = absurd (omega (arith, h.0))
+
+-- ---- an enum with a tag: of one byte, which is signed where the first variant's discriminant is -1. Its number, cut to the byte,
+-- is 255; 1 names the second variant, and 2 names none, so that bytes that begin with it hold nothing
+
+abbrev by_tag : Placed
+by_tag = tagged (sized 2) 0 u8_placed Direct (arm (2 ^ 128 - 1) (part 1 u8_placed no_parts) (arm 1 no_parts no_arms))
+
+first_held_by_tag : Holds Little by_tag (255 ∷ 7 ∷ []) (variant 0 (more_values (number 7) no_values))
+first_held_by_tag = (refl, omega arith, (refl, refl), ((omega arith, (refl, refl, seven_is_in)), tt))
+
+second_held_by_tag : Holds Little by_tag (1 ∷ 7 ∷ []) (variant 1 no_values)
+second_held_by_tag = (refl, omega arith, (refl, refl), tt)
+
+none_held_by_tag : (v : Value) → Holds Little by_tag (2 ∷ 7 ∷ []) v → ⊥
+none_held_by_tag (variant zero vs) h = absurd (omega (arith, h.2.1))
+none_held_by_tag (variant (suc zero) vs) h = absurd (omega (arith, h.2.1))
+none_held_by_tag (variant (suc (suc i)) vs) h = h.2
+none_held_by_tag (number n) h = h
+none_held_by_tag (two n m) h = h
+none_held_by_tag (list vs) h = h
+none_held_by_tag (state i ps vs) h = h
+none_held_by_tag (bytes content) h = h
+
+-- ---- an enum by a niche: 2 holds the variant without fields, the numbers of the bool hold the other, and 3 holds neither
+
+abbrev by_niche : Placed
+by_niche = tagged (sized 1) 0 u8_placed niche (arm 0 no_parts (arm 1 (part 0 bool_placed no_parts) no_arms))
+
+first_held_by_niche : Holds Little by_niche (2 ∷ []) (variant 0 no_values)
+first_held_by_niche = (refl, omega arith, two_names_first, tt)
+
+second_held_by_niche : Holds Little by_niche (1 ∷ []) (variant 1 (more_values (number 1) no_values))
+second_held_by_niche = (refl, omega arith, one_names_second, ((omega arith, (refl, refl, one_is_in)), tt))
+
+three_names_no_first : Names niche 1 no_arms 3 0 → ⊥
+three_names_no_first (inl h) = absurd (omega (arith, h.1))
+three_names_no_first (inr h) = absurd (omega (arith, h.0))
+
+none_held_by_niche : (v : Value) → Holds Little by_niche (3 ∷ []) v → ⊥
+none_held_by_niche (variant zero vs) h = three_names_no_first h.2
+none_held_by_niche (variant (suc zero) (more_values v no_values)) h = no_bool Little 3 v (omega arith) h.3.0.1
+none_held_by_niche (variant (suc zero) (more_values v (more_values w vs))) h = h.3.1
+none_held_by_niche (variant (suc zero) no_values) h = h.3
+none_held_by_niche (variant (suc (suc i)) vs) h = h.3
+none_held_by_niche (number n) h = h
+none_held_by_niche (two n m) h = h
+none_held_by_niche (list vs) h = h
+none_held_by_niche (state i ps vs) h = h
+none_held_by_niche (bytes content) h = h
+
+-- ---- an enum of which one variant is left: a bool's numbers hold it, and 2 holds nothing
+
+abbrev by_itself : Placed
+by_itself = single (sized 1) 1 (part 0 bool_placed no_parts)
+
+held_by_itself : Holds Little by_itself (1 ∷ []) (variant 1 (more_values (number 1) no_values))
+held_by_itself = (refl, refl, ((omega arith, (refl, refl, one_is_in)), tt))
+
+none_held_by_itself : (v : Value) → Holds Little by_itself (2 ∷ []) v → ⊥
+none_held_by_itself (variant i (more_values v no_values)) h = no_bool Little 2 v (omega arith) h.2.0.1
+none_held_by_itself (variant i (more_values v (more_values w vs))) h = h.2.1
+none_held_by_itself (variant i no_values) h = h.2
+none_held_by_itself (number n) h = h
+none_held_by_itself (two n m) h = h
+none_held_by_itself (list vs) h = h
+none_held_by_itself (state i ps vs) h = h
+none_held_by_itself (bytes content) h = h
 
 -- ---- a union of a u8 and of a struct whose second byte is padding: its data bytes are those of either
 
@@ -180,9 +250,6 @@ field_missing h =
 
 abbrev two_states : Placed
 two_states = states (sized 2) no_parts 0 u8_placed (arm 0 (part 1 u8_placed no_parts) (arm 1 (part 1 bool_placed no_parts) no_arms))
-
-seven_is_in : IsIn 1 (full_range 1) 7
-seven_is_in = (7, refl, λ k lt e. absurd (omega (arith, lt, e)))
 
 first_state_held : Holds Little two_states (0 ∷ 7 ∷ []) (state 0 no_values (more_values (number 7) no_values))
 first_state_held = (refl, tt, omega arith, (refl, refl), ((omega arith, (refl, refl, seven_is_in)), tt))

@@ -11,7 +11,7 @@ mod PartsLemmas
 mod NodesLemmas
 mod ViewLemmas
 mod FieldsLemmas
-mod TreeLemmas
+pub mod TreeLemmas
 mod ListLemmas
 mod RefusalLemmas
 mod RunsLemmas

@@ -1,6 +1,8 @@
 //! The discriminants of an enum's variants.
 
-ghost use Rattle.std.specs.Prelude.{◌≡◌, ◌≤◌, IfOk, length};
+ghost use Rattle.std.specs.Prelude.{◌≡◌, ◌≤◌, IfOk, IsPermutation, length};
+ghost use Rattle.std.specs.List.Sorted.{IsSortedByKey};
+ghost use Rattle.std.specs.Ordering.{nat_cmp};
 ghost use Rattle.abi_base.specs.DataLayout.{IsLawfulDataLayout};
 ghost use Rattle.rustc_abi.specs.Tree.{trees_of_variants};
 ghost use Rattle.rustc_abi.specs.Laying.{most_fields};
@@ -41,12 +43,21 @@ pub(crate) fn numbered(
     Ok(items)
 }
 
-/// Whether two of the numbers are equal: neighbours are, once they are sorted.
-pub(crate) fn has_equal(alloc: Global, numbers: &[u128]) -> Result<bool, AllocError>
-    ensures { IfOk result (λ b. b ≡ has_equal numbers.now) }
+/// These numbers, ascending.
+fn ascending(alloc: Global, numbers: &[u128]) -> Result<Vec<u128>, AllocError>
+    ensures same { IfOk result (λ sorted. IsPermutation numbers.now sorted.items) }
+    ensures ascends { IfOk result (λ sorted. IsSortedByKey (λ n. n) nat_cmp sorted.items) }
 {
     let mut sorted = Vec::from_slice(alloc, numbers)?;
     sorted.sort_unstable();
+    Ok(sorted)
+}
+
+/// Whether two of the numbers are equal: neighbours are, once they ascend.
+pub(crate) fn has_equal(alloc: Global, numbers: &[u128]) -> Result<bool, AllocError>
+    ensures { IfOk result (λ b. b ≡ has_equal numbers.now) }
+{
+    let sorted = ascending(alloc, numbers)?;
     for at in 1..sorted.len() {
         if sorted[at - 1] == sorted[at] {
             return Ok(true);

@@ -8,7 +8,7 @@ ghost use Rattle.abi_scalar.specs.Range.{full_range};
 ghost use Rattle.abi_scalar.specs.Scalar.{IsBool};
 ghost use Rattle.abi_scalar.specs.declared.scalar.Scalar.TheVariants.{Initialized};
 ghost use Rattle.rustc_abi.specs.Tree as made;
-ghost use Rattle.rustc_abi.specs.Tree.{tree_of, trees};
+ghost use Rattle.rustc_abi.specs.Tree.{tree_of, trees, trees_of_variants};
 
 use abi_base::{Integer, Primitive};
 use abi_index::Hash64;
@@ -108,4 +108,11 @@ pub fn union_of(repr: ReprOptions, fields: Vec<TypeTree>) -> TypeTree
     ensures { tree_of result ≡ made.union repr (trees (map tree_of fields.items)) }
 {
     TypeTree::Union { repr, fields }
+}
+
+/// Variants, each with its discriminant as a number of 128 bits and its fields, under a repr.
+pub fn enum_of(repr: ReprOptions, variants: Vec<(u128, Vec<TypeTree>)>) -> TypeTree
+    ensures { tree_of result ≡ made.enum repr (trees_of_variants variants.items) }
+{
+    TypeTree::Enum { repr, variants }
 }

@@ -15,10 +15,10 @@ use std::process::Abort;
 use std::test::Fail;
 use tree_samples::{TRUTH, array, flagged, integer, structure, truth, union_of, vector};
 
-type Layout = LayoutData<FieldIdx, VariantIdx>;
+pub(crate) type Layout = LayoutData<FieldIdx, VariantIdx>;
 
 /// A type, with its layout and its padding.
-type Row<'a> = (TypeTree, Layout, &'a [Run]);
+pub(crate) type Row<'a> = (TypeTree, Layout, &'a [Run]);
 
 /// An unsigned number of 4 bytes.
 const WORD: Scalar = Scalar::Initialized {
@@ -30,7 +30,7 @@ const WORD: Scalar = Scalar::Initialized {
 };
 
 /// The niche of a byte that is 0 or 1, at an offset.
-fn niche_of_truth(offset: u64) -> Option<Niche> {
+pub(crate) fn niche_of_truth(offset: u64) -> Option<Niche> {
     Some(Niche {
         offset: Size::from_bytes(offset),
         value: Primitive::Int(Integer::I8, false),
@@ -39,7 +39,7 @@ fn niche_of_truth(offset: u64) -> Option<Niche> {
 }
 
 /// Fields at these offsets, which lie in memory in this order.
-fn fields(alloc: Global, at: &[u64], order: &[u32]) -> Result<FieldsShape<FieldIdx>, AllocError>
+pub(crate) fn fields(alloc: Global, at: &[u64], order: &[u32]) -> Result<FieldsShape<FieldIdx>, AllocError>
     requires few { length at.now ≤ 8 }
     requires places { length order.now ≤ 8 }
     requires known { All (λ index. index < 8) order.now }
@@ -60,7 +60,14 @@ fn fields(alloc: Global, at: &[u64], order: &[u32]) -> Result<FieldsShape<FieldI
 }
 
 /// A layout of bytes in memory, to be changed where more is known.
-fn in_memory(fields: FieldsShape<FieldIdx>, size: u64, align: Align, seed: u64) -> Layout {
+pub(crate) fn in_memory(
+    fields: FieldsShape<FieldIdx>,
+    size: u64,
+    align: Align,
+    seed: u64,
+) -> Layout
+    ensures { result.fields ≡ fields }
+{
     LayoutData {
         fields,
         variants: Variants::Single {
@@ -79,7 +86,7 @@ fn in_memory(fields: FieldsShape<FieldIdx>, size: u64, align: Align, seed: u64) 
 }
 
 /// Asserts that each type has its layout and its padding.
-fn check(rt: &impl Abort, alloc: Global, rows: &[Row]) -> Result<(), Fail> {
+pub(crate) fn check(rt: &impl Abort, alloc: Global, rows: &[Row]) -> Result<(), Fail> {
     let dl = TargetDataLayout::default_in(alloc)?;
     for (tree, wanted, padding) in rows {
         let laid = lay_out(alloc, &dl, tree)?;

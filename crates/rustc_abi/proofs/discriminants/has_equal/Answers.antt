@@ -6,16 +6,13 @@ use Rattle.rustc_abi.proofs.discriminants.has_equal.Goals as goal
 
 pub returns-then-index : goal.returns-then-index
 returns-then-index c =
-    let ys = c.sort_unstable.new.self.items in
+    let ys = c.in_ok-sorted.sorted.items in
     let before = get_or_read ys (c.loop-at.at - 1) c.index.result.now (omega arith) c.index.ensures 0 in
     let here = get_or_read ys c.loop-at.at c.index-in-loop-at.result.now (omega arith) c.index-in-loop-at.ensures 0 in
-    let moved = rw c.in_ok-sorted.ensures.items at c.sort_unstable.ensures.permutation in
-    some_equal c.args.numbers.now ys moved (c.loop-at.at - 1) c.loop-at.at (omega arith) (omega arith) (λ e. omega arith)
+    some_equal c.args.numbers.now ys c.in_ok-sorted.ensures.same (c.loop-at.at - 1) c.loop-at.at (omega arith) (omega arith) (λ e. omega arith)
     (sym before ∙ c.if-index.true ∙ here)
 
 pub returns : goal.returns
 returns c =
-    let ys = c.sort_unstable.new.self.items in
-    let moved = rw c.in_ok-sorted.ensures.items at c.sort_unstable.ensures.permutation in
-    sorted_differ c.args.numbers.now ys moved (IsNonDecreasingBy-from_sort (λ x. x) ys c.sort_unstable.ensures.sorted)
+    sorted_differ c.args.numbers.now c.in_ok-sorted.sorted.items c.in_ok-sorted.ensures.same (IsNonDecreasingBy-from_sort (λ n. n) c.in_ok-sorted.sorted.items c.in_ok-sorted.ensures.ascends)
     (λ i lt. c.loop-at.invariant.differ i (omega arith) lt)
