@@ -15,7 +15,7 @@ use Rattle.abi_scalar.specs.declared.variants.TagEncoding.TheVariants.{Direct, N
 use Rattle.abi_scalar.specs.declared.wrapping_range.WrappingRange.{WrappingRange}
 use Rattle.abi_scalar.specs.declared.backend_repr.BackendRepr.TheVariants.{Scalar as OneScalar}
 use Rattle.abi_scalar.specs.Range.{IsIn, full_range}
-use Rattle.rustc_abi.specs.Tree.{Tree, never, struct, no_trees, more_trees, scalar as number_type}
+use Rattle.rustc_abi.specs.Tree.{Tree, never, struct, enum, no_trees, more_trees, no_variants, more_variants, scalar as number_type}
 use Rattle.rustc_abi.specs.Value.{Value, number, two, list, variant, state, bytes, no_values, more_values}
 use Rattle.rustc_abi.specs.Bytes.{picked}
 use Rattle.rustc_abi.specs.Placed.{Placed, Layout, layout_of, scalar, never as nowhere, fields, union, single, tagged, states, no_parts, part, no_arms, arm, nothing}
@@ -101,6 +101,48 @@ offsets_matter : EachValueIsHeld default_data_layout of_two at_one_offset → �
 offsets_matter held =
     let bytes_of = held zero_and_one (zero_is_in, (one_is_in_all, tt)) in
     both_not_held bytes_of.0 bytes_of.2
+
+-- ---- a variant's field on the tag: of a value of the first variant, no bytes hold both the tag's number and the field's
+
+abbrev byte_each : Tree
+byte_each = enum plain_c (more_variants 0 (more_trees (number_type (unsigned I8)) no_trees) (more_variants 1 (more_trees (number_type (unsigned I8)) no_trees) no_variants))
+
+abbrev on_the_tag : Placed
+on_the_tag = tagged (sized 2) 0 u8_placed Direct (arm 0 (part 0 u8_placed no_parts) (arm 1 (part 1 u8_placed no_parts) no_arms))
+
+abbrev one_in_first : Value
+one_in_first = variant 0 (more_values (number 1) no_values)
+
+not_on_the_tag : (b : List ℕ) → Holds Big on_the_tag b one_in_first → ⊥
+not_on_the_tag b h = absurd (omega (arith, h.2.1, h.3.0.1.1))
+
+tag_matters : EachValueIsHeld default_data_layout byte_each on_the_tag → ⊥
+tag_matters held =
+    let bytes_of = held one_in_first (one_is_in_all, tt) in
+    not_on_the_tag bytes_of.0 bytes_of.2
+
+-- ---- a variant that is missing: values come from the tree, so that one of the second variant is to be held, and no bytes hold it
+
+abbrev first_alone : Placed
+first_alone = tagged (sized 2) 0 u8_placed Direct (arm 0 (part 1 u8_placed no_parts) no_arms)
+
+abbrev one_in_second : Value
+one_in_second = variant 1 (more_values (number 1) no_values)
+
+variants_matter : EachValueIsHeld default_data_layout byte_each first_alone → ⊥
+variants_matter held =
+    let bytes_of = held one_in_second (one_is_in_all, tt) in
+    bytes_of.2.3
+
+-- none left, as of an enum without values
+none_left : EachValueIsHeld default_data_layout byte_each (nowhere (sized 0)) → ⊥
+none_left held =
+    let bytes_of = held one_in_first (one_is_in_all, tt) in
+    bytes_of.2
+
+-- flagged as one that has no values
+flagged_enum : IsFlagTrue default_data_layout byte_each (tagged (record (sized 2) { uninhabited = true }) 0 u8_placed Direct no_arms) → ⊥
+flagged_enum h = h one_in_first (one_is_in_all, tt)
 
 -- ---- values: 01 holds the bool 1, and no byte from 02 on holds any
 

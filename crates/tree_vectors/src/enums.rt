@@ -142,7 +142,11 @@ fn in_niche(alloc: Global) -> Result<(TypeTree, Layout), AllocError> {
 /// A variant without values, and one of a byte, which is left alone; and its layout.
 fn left_alone(alloc: Global) -> Result<(TypeTree, Layout), AllocError> {
     let byte = integer(Integer::I8, false);
-    let tree = of_two(alloc, vec![in alloc; TypeTree::Never]?, vec![in alloc; byte]?)?;
+    let tree = of_two(
+        alloc,
+        vec![in alloc; TypeTree::Never]?,
+        vec![in alloc; byte]?,
+    )?;
     let layout = LayoutData {
         variants: Variants::Single {
             index: VariantIdx::from_u32(1),

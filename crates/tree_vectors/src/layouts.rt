@@ -39,7 +39,11 @@ pub(crate) fn niche_of_truth(offset: u64) -> Option<Niche> {
 }
 
 /// Fields at these offsets, which lie in memory in this order.
-pub(crate) fn fields(alloc: Global, at: &[u64], order: &[u32]) -> Result<FieldsShape<FieldIdx>, AllocError>
+pub(crate) fn fields(
+    alloc: Global,
+    at: &[u64],
+    order: &[u32],
+) -> Result<FieldsShape<FieldIdx>, AllocError>
     requires few { length at.now ≤ 8 }
     requires places { length order.now ≤ 8 }
     requires known { All (λ index. index < 8) order.now }
@@ -60,12 +64,7 @@ pub(crate) fn fields(alloc: Global, at: &[u64], order: &[u32]) -> Result<FieldsS
 }
 
 /// A layout of bytes in memory, to be changed where more is known.
-pub(crate) fn in_memory(
-    fields: FieldsShape<FieldIdx>,
-    size: u64,
-    align: Align,
-    seed: u64,
-) -> Layout
+pub(crate) fn in_memory(fields: FieldsShape<FieldIdx>, size: u64, align: Align, seed: u64) -> Layout
     ensures { result.fields ≡ fields }
 {
     LayoutData {
