@@ -1,5 +1,5 @@
 -- Conventions by their numbers and their names.
-use Rattle.std.proofs.Common.{◌≡◌, ℕ, zero, suc, ◌+◌, ◌<◌, ◌==◌, ◌&&◌, Bool, true, false, IsTrue, List, [], ◌∷◌, Option, None, Some, Result, Ok, Err, IfOk, IfErr, slice_get, refl, ap, subst, sym, ◌∙◌, arith}
+use Rattle.std.proofs.Common.{◌≡◌, ℕ, zero, suc, ◌+◌, ◌<◌, ◌==◌, ◌&&◌, Bool, true, false, IsTrue, List, [], ◌∷◌, Option, None, Some, Result, Ok, Err, IfOk, IfErr, slice_get, unwrap_or, refl, ap, subst, sym, ◌∙◌, arith}
 use Rattle.std.proofs.lemmas.Grind.{common_steps}
 use Rattle.std.specs.List.{find}
 use Rattle.std.specs.Option.{ok_or}
@@ -85,3 +85,7 @@ reading text (Some one) e = record {
 -- the first convention whose name the text is, is what is read from it
 pub is_reading : (text : List ℕ) → IsReading text (ok_or (find (has_name text) ALL_VARIANTS.now) Unknown)
 is_reading text = reading text (find (has_name text) ALL_VARIANTS.now) refl
+
+-- a name is that of one convention only
+pub only_named : (a b : ExternAbi) → name_of a ≡ name_of b → a ≡ b
+only_named a b same = ap (λ (o : Option ExternAbi). unwrap_or o a) (sym (found a).1 ∙ found_named (name_of a) b same)

@@ -1,6 +1,7 @@
 //! Calling conventions, by their names and numbers.
 
 mod order;
+mod predicates;
 mod text;
 
 ghost use Rattle.std.specs.Prelude.{◌≡◌, ◌+◌, ◌<◌, IfOk, Some, length, map, slice_get, vec_len, if◌then◌else◌};
@@ -191,9 +192,10 @@ impl ExternAbi {
         }
     }
 
-    /// Its name.
+    /// Its name, which no other convention has.
     pub fn as_str(&self) -> &'static str
-        ensures { result.now ≡ name_of self.now }
+        ensures name { result.now ≡ name_of self.now }
+        ensures own { (abi : ExternAbi) → name_of abi ≡ result.now → abi ≡ self.now }
     {
         self.row().1
     }
