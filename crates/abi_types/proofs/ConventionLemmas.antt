@@ -1,5 +1,5 @@
 -- Conventions by their numbers and their names.
-use Rattle.std.proofs.Common.{◌≡◌, ℕ, zero, suc, ◌+◌, ◌<◌, ◌==◌, ◌&&◌, Bool, true, false, IsTrue, List, [], ◌∷◌, Option, None, Some, Result, Ok, Err, IfOk, IfErr, slice_get, unwrap_or, refl, ap, subst, sym, ◌∙◌, arith}
+use Rattle.std.proofs.Common.{◌≡◌, ℕ, zero, suc, ◌+◌, ◌==◌, ◌&&◌, Bool, true, false, IsTrue, List, [], ◌∷◌, Option, None, Some, slice_get, unwrap_or, refl, ap, subst, sym, ◌∙◌, arith}
 use Rattle.std.proofs.lemmas.Grind.{common_steps}
 use Rattle.std.specs.List.{find}
 use Rattle.std.specs.Option.{ok_or}
@@ -76,11 +76,13 @@ reading : (text : List ℕ) (first : Option ExternAbi) → find (has_name text) 
 reading text None e = record {
   named = tt;
   each = λ abi same. ap (λ (o : Option ExternAbi). ok_or o Unknown) (sym e ∙ found_named text abi same);
-  unknown = refl }
+  unknown = refl;
+}
 reading text (Some one) e = record {
   named = named text ALL_VARIANTS.now one e;
   each = λ abi same. ap (λ (o : Option ExternAbi). ok_or o Unknown) (sym e ∙ found_named text abi same);
-  unknown = tt }
+  unknown = tt;
+}
 
 -- the first convention whose name the text is, is what is read from it
 pub is_reading : (text : List ℕ) → IsReading text (ok_or (find (has_name text) ALL_VARIANTS.now) Unknown)

@@ -109,7 +109,8 @@ impl CanonAbi {
             CanonAbi::Arm(ArmCall::CCmseNonSecureEntry) => ExternAbi::CmseNonSecureEntry,
             CanonAbi::GpuKernel => ExternAbi::GpuKernel,
             CanonAbi::Interrupt(InterruptKind::Avr) => ExternAbi::AvrInterrupt,
-            CanonAbi::Interrupt(InterruptKind::AvrNonBlocking) => ExternAbi::AvrNonBlockingInterrupt,
+            CanonAbi::Interrupt(InterruptKind::AvrNonBlocking) =>
+                ExternAbi::AvrNonBlockingInterrupt,
             CanonAbi::Interrupt(InterruptKind::Msp430) => ExternAbi::Msp430Interrupt,
             CanonAbi::Interrupt(InterruptKind::RiscvMachine) => ExternAbi::RiscvInterruptM,
             CanonAbi::Interrupt(InterruptKind::RiscvSupervisor) => ExternAbi::RiscvInterruptS,

@@ -223,6 +223,7 @@ impl ExternAbi {
         ensures number { number_of result ≡ index }
         ensures place { slice_get ExternAbi.ALL_VARIANTS.now index ≡ Some result }
         ensures only { (abi : ExternAbi) → number_of abi ≡ index → result ≡ abi }
+        ensures fallback { index ≡ 0 → result ≡ ExternAbi.FALLBACK }
     {
         item_at(ExternAbi::ALL_VARIANTS, usize::from(index))
     }
@@ -240,7 +241,11 @@ fn row_of(
     ensures number { result.0 ≡ (if unwind then number + 1 else number) }
     ensures name { result.1.now ≡ (if unwind then unwinding.entry.now else name.entry.now) }
 {
-    if unwind { (number + 1, unwinding) } else { (number, name) }
+    if unwind {
+        (number + 1, unwinding)
+    } else {
+        (number, name)
+    }
 }
 
 /// The names of all conventions, in the order of `ALL_VARIANTS`. `AllocError` where there is no

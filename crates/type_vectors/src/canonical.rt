@@ -14,14 +14,32 @@ const CONVENTIONS: [(CanonAbi, &str); 23] = [
     (CanonAbi::Custom, "custom"),
     (CanonAbi::Swift, "Swift"),
     (CanonAbi::Arm(ArmCall::Aapcs), "aapcs"),
-    (CanonAbi::Arm(ArmCall::CCmseNonSecureCall), "cmse-nonsecure-call"),
-    (CanonAbi::Arm(ArmCall::CCmseNonSecureEntry), "cmse-nonsecure-entry"),
+    (
+        CanonAbi::Arm(ArmCall::CCmseNonSecureCall),
+        "cmse-nonsecure-call",
+    ),
+    (
+        CanonAbi::Arm(ArmCall::CCmseNonSecureEntry),
+        "cmse-nonsecure-entry",
+    ),
     (CanonAbi::GpuKernel, "gpu-kernel"),
     (CanonAbi::Interrupt(InterruptKind::Avr), "avr-interrupt"),
-    (CanonAbi::Interrupt(InterruptKind::AvrNonBlocking), "avr-non-blocking-interrupt"),
-    (CanonAbi::Interrupt(InterruptKind::Msp430), "msp430-interrupt"),
-    (CanonAbi::Interrupt(InterruptKind::RiscvMachine), "riscv-interrupt-m"),
-    (CanonAbi::Interrupt(InterruptKind::RiscvSupervisor), "riscv-interrupt-s"),
+    (
+        CanonAbi::Interrupt(InterruptKind::AvrNonBlocking),
+        "avr-non-blocking-interrupt",
+    ),
+    (
+        CanonAbi::Interrupt(InterruptKind::Msp430),
+        "msp430-interrupt",
+    ),
+    (
+        CanonAbi::Interrupt(InterruptKind::RiscvMachine),
+        "riscv-interrupt-m",
+    ),
+    (
+        CanonAbi::Interrupt(InterruptKind::RiscvSupervisor),
+        "riscv-interrupt-s",
+    ),
     (CanonAbi::Interrupt(InterruptKind::X86), "x86-interrupt"),
     (CanonAbi::X86(X86Call::Fastcall), "fastcall"),
     (CanonAbi::X86(X86Call::Stdcall), "stdcall"),
@@ -38,9 +56,11 @@ fn is_written(alloc: Global, abi: CanonAbi, name: &str) -> Result<bool, AllocErr
     let middle = format!(in alloc; "{abi:-^30}")?;
     let wanted_right = format!(in alloc; "{name:>30}")?;
     let wanted_middle = format!(in alloc; "{name:-^30}")?;
-    Ok(plain.as_str() == name
-        && right.as_str() == wanted_right.as_str()
-        && middle.as_str() == wanted_middle.as_str())
+    Ok(
+        plain.as_str() == name
+            && right.as_str() == wanted_right.as_str()
+            && middle.as_str() == wanted_middle.as_str(),
+    )
 }
 
 /// Whether it is written so in eight places.

@@ -74,8 +74,7 @@ const INTEGERS: [(u64, u64); 8] = [
 ];
 
 /// Integers where each is aligned to its size.
-const WIDE_INTEGERS: [(u64, u64); 7] =
-    [(2, 2), (3, 4), (4, 4), (5, 8), (8, 8), (9, 16), (16, 16)];
+const WIDE_INTEGERS: [(u64, u64); 7] = [(2, 2), (3, 4), (4, 4), (5, 8), (8, 8), (9, 16), (16, 16)];
 
 #[test]
 fn registers_are_aligned(rt: HostRuntime) -> Result<(), Fail> {
