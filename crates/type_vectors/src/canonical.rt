@@ -49,23 +49,21 @@ const CONVENTIONS: [(CanonAbi, &str); 23] = [
     (CanonAbi::X86(X86Call::Win64), "win64"),
 ];
 
-/// Whether the convention is written as the name, and padded to 30 places as a text is.
+/// Whether the convention is written as the name.
 fn is_written(alloc: Global, abi: CanonAbi, name: &str) -> Result<bool, AllocError> {
-    let plain = format!(in alloc; "{abi}")?;
-    let right = format!(in alloc; "{abi:>30}")?;
-    let middle = format!(in alloc; "{abi:-^30}")?;
-    let wanted_right = format!(in alloc; "{name:>30}")?;
-    let wanted_middle = format!(in alloc; "{name:-^30}")?;
-    Ok(
-        plain.as_str() == name
-            && right.as_str() == wanted_right.as_str()
-            && middle.as_str() == wanted_middle.as_str(),
-    )
+    let written = format!(in alloc; "{abi}")?;
+    Ok(written.as_str() == name)
 }
 
-/// Whether it is written so in eight places.
-fn is_padded(alloc: Global, abi: CanonAbi, text: &str) -> Result<bool, AllocError> {
+/// Whether it is written so at the right of eight places.
+fn is_at_right(alloc: Global, abi: CanonAbi, text: &str) -> Result<bool, AllocError> {
     let padded = format!(in alloc; "{abi:>8}")?;
+    Ok(padded.as_str() == text)
+}
+
+/// Whether it is written so in the middle of nine places, between dashes.
+fn is_in_middle(alloc: Global, abi: CanonAbi, text: &str) -> Result<bool, AllocError> {
+    let padded = format!(in alloc; "{abi:-^9}")?;
     Ok(padded.as_str() == text)
 }
 
@@ -83,6 +81,8 @@ fn conventions_are_written_and_ordered(rt: HostRuntime) -> Result<(), Fail> {
     for (&(a, name), &(b, _)) in CONVENTIONS.iter().zip(CONVENTIONS.iter().skip(1)) {
         assert!(rt; a < b, "{name}");
     }
-    assert!(rt; is_padded(rt.alloc(), CanonAbi::Swift, "   Swift")?);
+    assert!(rt; is_at_right(rt.alloc(), CanonAbi::Swift, "   Swift")?);
+    assert!(rt; is_at_right(rt.alloc(), CanonAbi::RustCold, "rust-cold")?);
+    assert!(rt; is_in_middle(rt.alloc(), CanonAbi::RustTail, "--tail---")?);
     Ok(())
 }

@@ -148,11 +148,12 @@ fn all_are_sorted(alloc: Global) -> Result<bool, AllocError> {
 /// Whether there are forty names, each above the one before it by its bytes.
 fn names_ascend(alloc: Global) -> Result<bool, AllocError> {
     let names = all_names(alloc)?;
-    let ascend = names
-        .iter()
-        .zip(names.iter().skip(1))
-        .all(|(a, b)| a.as_bytes() < b.as_bytes());
-    Ok(names.len() == 40 && ascend)
+    for (a, b) in names.iter().zip(names.iter().skip(1)) {
+        if *a >= *b {
+            return Ok(false);
+        }
+    }
+    Ok(names.len() == 40)
 }
 
 /// What a hasher makes of the value.
