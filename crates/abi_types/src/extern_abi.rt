@@ -159,18 +159,18 @@ impl ExternAbi {
         ensures name { result.1.now ≡ name_of self }
     {
         match self {
-            Self::C { unwind } => row_of(unwind, 0, "C", "C-unwind"),
+            Self::C { unwind } => row_by(unwind, 0, "C", "C-unwind"),
             Self::Rust => (2, "Rust"),
             Self::Swift => (3, "Swift"),
-            Self::Aapcs { unwind } => row_of(unwind, 4, "aapcs", "aapcs-unwind"),
+            Self::Aapcs { unwind } => row_by(unwind, 4, "aapcs", "aapcs-unwind"),
             Self::AvrInterrupt => (6, "avr-interrupt"),
             Self::AvrNonBlockingInterrupt => (7, "avr-non-blocking-interrupt"),
-            Self::Cdecl { unwind } => row_of(unwind, 8, "cdecl", "cdecl-unwind"),
+            Self::Cdecl { unwind } => row_by(unwind, 8, "cdecl", "cdecl-unwind"),
             Self::CmseNonSecureCall => (10, "cmse-nonsecure-call"),
             Self::CmseNonSecureEntry => (11, "cmse-nonsecure-entry"),
             Self::Custom => (12, "custom"),
             Self::EfiApi => (13, "efiapi"),
-            Self::Fastcall { unwind } => row_of(unwind, 14, "fastcall", "fastcall-unwind"),
+            Self::Fastcall { unwind } => row_by(unwind, 14, "fastcall", "fastcall-unwind"),
             Self::GpuKernel => (16, "gpu-kernel"),
             Self::LlvmIntrinsic => (17, "llvm-intrinsic"),
             Self::Msp430Interrupt => (18, "msp430-interrupt"),
@@ -181,13 +181,13 @@ impl ExternAbi {
             Self::RustCold => (23, "rust-cold"),
             Self::RustInvalid => (24, "rust-invalid"),
             Self::RustPreserveNone => (25, "rust-preserve-none"),
-            Self::Stdcall { unwind } => row_of(unwind, 26, "stdcall", "stdcall-unwind"),
-            Self::System { unwind } => row_of(unwind, 28, "system", "system-unwind"),
-            Self::SysV64 { unwind } => row_of(unwind, 30, "sysv64", "sysv64-unwind"),
+            Self::Stdcall { unwind } => row_by(unwind, 26, "stdcall", "stdcall-unwind"),
+            Self::System { unwind } => row_by(unwind, 28, "system", "system-unwind"),
+            Self::SysV64 { unwind } => row_by(unwind, 30, "sysv64", "sysv64-unwind"),
             Self::RustTail => (32, "tail"),
-            Self::Thiscall { unwind } => row_of(unwind, 33, "thiscall", "thiscall-unwind"),
-            Self::Vectorcall { unwind } => row_of(unwind, 35, "vectorcall", "vectorcall-unwind"),
-            Self::Win64 { unwind } => row_of(unwind, 37, "win64", "win64-unwind"),
+            Self::Thiscall { unwind } => row_by(unwind, 33, "thiscall", "thiscall-unwind"),
+            Self::Vectorcall { unwind } => row_by(unwind, 35, "vectorcall", "vectorcall-unwind"),
+            Self::Win64 { unwind } => row_by(unwind, 37, "win64", "win64-unwind"),
             Self::X86Interrupt => (39, "x86-interrupt"),
         }
     }
@@ -231,7 +231,7 @@ impl ExternAbi {
 
 /// The row of a convention that may unwind: the number where it doesn't, and both names. Where it
 /// unwinds, the number is the next.
-fn row_of(
+fn row_by(
     unwind: bool,
     number: u8,
     name: &'static str,
