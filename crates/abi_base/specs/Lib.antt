@@ -8,6 +8,7 @@ pub mod DataLayout
 pub mod Endian
 pub mod IntegerType
 pub mod Numeric
+pub mod RegKind
 pub mod NumberText
 pub mod DataLayoutFault
 pub mod DataLayoutSpec

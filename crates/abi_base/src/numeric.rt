@@ -1,10 +1,13 @@
 //! Numbers: integers and floats.
 
 ghost use Rattle.std.specs.Prelude.{◌≡◌};
-ghost use Rattle.abi_base.specs.Numeric.{numeric_size};
+ghost use Rattle.abi_base.specs.Numeric.{numeric_size, primitive_of};
+ghost use Rattle.abi_base.specs.RegKind.{reg_kind_of};
 
 use crate::float::Float;
 use crate::integer::Integer;
+use crate::primitive::Primitive;
+use crate::reg_kind::RegKind;
 use crate::size::Size;
 
 /// A primitive type of numbers.
@@ -24,6 +27,17 @@ impl Numeric {
         match self {
             Numeric::Int(integer, _) => integer.size(),
             Numeric::Float(float) => float.size(),
+        }
+    }
+    /// The kind of register that it is passed in, as its primitive is.
+    pub fn reg_kind(self) -> RegKind
+        ensures { result ≡ reg_kind_of (primitive_of self) }
+    {
+        match self {
+            Numeric::Int(integer, signed) => {
+                RegKind::from_primitive(Primitive::Int(integer, signed))
+            }
+            Numeric::Float(float) => RegKind::from_primitive(Primitive::Float(float)),
         }
     }
 }

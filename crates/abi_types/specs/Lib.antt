@@ -1,0 +1,4 @@
+pub mod ExternAbi
+pub mod Predicates
+pub mod CanonAbi
+pub mod Reg

@@ -1,0 +1,12 @@
+//! Calling conventions and registers.
+#![tactic(auto)]
+
+mod c_variadic;
+mod canon_abi;
+mod extern_abi;
+mod reg;
+
+pub use c_variadic::CVariadicStatus;
+pub use canon_abi::{ArmCall, CanonAbi, InterruptKind, X86Call};
+pub use extern_abi::{ExternAbi, all_names};
+pub use reg::Reg;
