@@ -29,6 +29,7 @@ impl Numeric {
             Numeric::Float(float) => float.size(),
         }
     }
+
     /// The kind of register that it is passed in, as its primitive is.
     pub fn reg_kind(self) -> RegKind
         ensures { result ≡ reg_kind_of (primitive_of self) }

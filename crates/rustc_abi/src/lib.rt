@@ -22,7 +22,7 @@ pub use abi_base::{
     AbiAlign, AbiFromStrErr, AddressSpace, AddressSpaces, Align, AlignFromBytesError, Endian,
     Float, HasDataLayout, Integer, IntegerType, KeyedList, MAX_SIMD_LANES, NicheOptimizations,
     NoSuchInteger, NumScalableVectors, NumberError, Numeric, PointeeInfo, PointerKind, PointerSpec,
-    Primitive, ScalableElt, Size, StructKind, TargetDataLayout, TargetDataLayoutError,
+    Primitive, RegKind, ScalableElt, Size, StructKind, TargetDataLayout, TargetDataLayoutError,
     UnknownEndian, UnknownEndianText, VectorAligns,
 };
 pub use abi_calc::LayoutCalculator;
@@ -34,6 +34,9 @@ pub use abi_scalar::{
     BackendLaneCount, BackendRepr, FieldCount, FieldsShape, IncreasingOffset,
     LayoutCalculatorError, LayoutData, LayoutHandle, Niche, RangeFull, RangeInclusive, ReprFlags,
     ReprOptions, Scalar, TagEncoding, VariantLayout, Variants, WrappingRange,
+};
+pub use abi_types::{
+    ArmCall, CVariadicStatus, CanonAbi, ExternAbi, InterruptKind, Reg, X86Call, all_names,
 };
 pub use error::LayError;
 pub use laid::Laid;
