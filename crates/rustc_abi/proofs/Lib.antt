@@ -30,6 +30,7 @@ mod VectorLemmas
 mod CalcLemmas
 mod TogetherLemmas
 mod TaggedLemmas
+mod StatesLemmas
 mod InNicheLemmas
 mod TagViewLemmas
 mod ArmsLemmas
