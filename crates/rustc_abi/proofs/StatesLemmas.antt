@@ -136,3 +136,228 @@ few_states w tag [] numbers = omega arith
 few_states w tag (ks ∷ all) numbers =
     let last : ℕ = 0 + length all in
     omega (arith, number_within w tag (0 + length all) (numbers (length all) (omega arith)))
+
+-- ---- each state's arm
+
+module _ (dl : TargetDataLayout) (size offset w : ℕ) (prefix : Parts) (locals : Trees) where
+  -- an arm holds only its state's values
+  state_only : (from : ℕ) (all : List (List ℕ)) (arms : Arms) → StateArmsFit dl size offset w prefix locals from all arms → (i : ℕ) (b : List ℕ) (vs : Values) → AreBytes b →
+      HoldArm dl.endian arms i b vs → (i < length all) × EachAt (IsValueAt dl locals) (get_or all i []) (parts_of_arm arms i) vs
+  state_only from [] no_arms fit i b vs are h = absurd h
+  state_only from [] (arm n parts arms) fit i b vs are h = absurd fit
+  state_only from (ks ∷ all) no_arms fit i b vs are h = absurd fit
+  state_only from (ks ∷ all) (arm n parts arms) fit zero b vs are h =
+      (omega arith, values_each dl locals ks parts vs (only dl size (picked_trees locals ks) parts fit.1 b vs are h))
+  state_only from (ks ∷ all) (arm n parts arms) fit (suc i) b vs are h =
+      let rest = state_only (from + 1) all arms fit.4 i b vs are h in
+      (omega (arith, rest.0), rest.1)
+
+  -- no bytes hold two lists of values of one arm
+  state_unique : (from : ℕ) (all : List (List ℕ)) (arms : Arms) → StateArmsFit dl size offset w prefix locals from all arms → (i : ℕ) (b : List ℕ) (vs ws : Values) →
+      HoldArm dl.endian arms i b vs → HoldArm dl.endian arms i b ws → vs ≡ ws
+  state_unique from [] no_arms fit i b vs ws h g = absurd h
+  state_unique from [] (arm n parts arms) fit i b vs ws h g = absurd fit
+  state_unique from (ks ∷ all) no_arms fit i b vs ws h g = absurd fit
+  state_unique from (ks ∷ all) (arm n parts arms) fit zero b vs ws h g = unique dl size (picked_trees locals ks) parts fit.1 b vs ws h g
+  state_unique from (ks ∷ all) (arm n parts arms) fit (suc i) b vs ws h g = state_unique (from + 1) all arms fit.4 i b vs ws h g
+
+  -- bytes that agree on the arms' data places hold the same values of an arm
+  state_padding : (from : ℕ) (all : List (List ℕ)) (arms : Arms) → StateArmsFit dl size offset w prefix locals from all arms → (xs ys : List ℕ) → length xs ≡ length ys →
+      ((k : ℕ) → is_place_of_arm arms k ≡ true → get_or xs k 0 ≡ get_or ys k 0) → (i : ℕ) (vs : Values) →
+      HoldArm dl.endian arms i xs vs → HoldArm dl.endian arms i ys vs
+  state_padding from [] no_arms fit xs ys same agree i vs h = absurd h
+  state_padding from [] (arm n parts arms) fit xs ys same agree i vs h = absurd fit
+  state_padding from (ks ∷ all) no_arms fit xs ys same agree i vs h = absurd fit
+  state_padding from (ks ∷ all) (arm n parts arms) fit xs ys same agree zero vs h =
+      padding dl size (picked_trees locals ks) parts fit.1 xs ys vs same (λ k place. agree k (ap (λ x. x || is_place_of_arm arms k) place)) h
+  state_padding from (ks ∷ all) (arm n parts arms) fit xs ys same agree (suc i) vs h =
+      state_padding (from + 1) all arms fit.4 xs ys same
+      (λ k place. agree k (ap (λ x. is_place_of_part parts k || x) place ∙ or-true (is_place_of_part parts k))) i vs h
+
+-- Bytes in which parts hold their values.
+record Filled (dl : TargetDataLayout) (size : ℕ) (parts others : Parts) (vs ws : Values) : Type 0 where
+  content : List ℕ
+  long : length content ≡ size
+  are : AreBytes content
+  held : HoldParts dl.endian parts content vs
+  kept : HoldParts dl.endian others content ws
+
+-- values of parts are put into bytes beside what these hold in other parts
+fill : (dl : TargetDataLayout) (size : ℕ) (ts : Trees) (parts : Parts) → FitTogether dl size ts parts → (vs : Values) → AreValuesOf dl ts parts vs →
+    (us : Trees) (others : Parts) → AreBeside parts others → (ws : Values) → (b : List ℕ) → length b ≡ size → AreBytes b → HoldParts dl.endian others b ws →
+    Filled dl size parts others vs ws
+fill dl size no_trees no_parts fit no_values h us others beside ws b long are held = record { content = b; long = long; are = are; held = tt; kept = held }
+fill dl size no_trees no_parts fit (more_values v vs) h us others beside ws b long are held = absurd h
+fill dl size no_trees (part o placed parts) fit vs h us others beside ws b long are held = absurd fit
+fill dl size (more_trees t ts) no_parts fit vs h us others beside ws b long are held = absurd fit
+fill dl size (more_trees t ts) (part o placed parts) fit no_values h us others beside ws b long are held = absurd h
+fill dl size (more_trees t ts) (part o placed parts) fit (more_values v vs) h us others beside ws b long are held =
+    let first = IsFaithful.exists fit.2 v h.0 in
+    let own : List ℕ = first.0 in
+    let wide : length own ≡ size_of placed = length-Holds dl.endian placed own v first.2 in
+    let rest = fill dl size ts parts fit.3 vs h.1 us others beside.1 ws b long are held in
+    let fits : o + length own ≤ length rest.content = omega (arith, fit.0, rest.long, wide) in
+    let whole = length-put rest.content own o fits in
+    let here : bytes_at (put rest.content o own) o (size_of placed) ≡ own =
+    ap (bytes_at (put rest.content o own) o) (sym wide) ∙ bytes_at-put rest.content own o fits in
+    record {
+      content = put rest.content o own;
+      long = whole ∙ rest.long;
+      are = AreBytes-put rest.content own o rest.are first.1;
+      held = (
+        (omega (arith, whole, fits, wide), subst (λ x. Holds dl.endian placed x v) (sym here) first.2),
+        HoldParts-beside dl ts parts o rest.content own (subst (λ n. LieBeside o n parts) (sym wide) fit.1) fits vs rest.held,
+      );
+      kept = HoldParts-beside dl us others o rest.content own (subst (λ n. LieBeside o n others) (sym wide) beside.0) fits ws rest.kept;
+    }
+
+-- Bytes with the values of the prefix fields and of a state, and with the state's number at the tag's place.
+record InState (dl : TargetDataLayout) (size offset w : ℕ) (prefix : Parts) (arms : Arms) (i : ℕ) (ps vs : Values) : Type 0 where
+  content : List ℕ
+  long : length content ≡ size
+  are : AreBytes content
+  held : HoldParts dl.endian prefix content ps
+  named : NamesDirectly w arms (tag_at dl.endian content offset w) i
+  own : HoldArm dl.endian arms i content vs
+
+module _ (dl : TargetDataLayout) (size offset w : ℕ) (prefix_trees : Trees) (prefix : Parts) (locals : Trees)
+    (inside : offset + w ≤ size) (first : FitTogether dl size prefix_trees prefix) (beside : LieBeside offset w prefix) where
+  -- each such values have such bytes
+  in_state : (from : ℕ) (all : List (List ℕ)) (arms : Arms) → StateArmsFit dl size offset w prefix locals from all arms → from + length all ≤ numbers_of w → (ps : Values) →
+      AreValuesOf dl prefix_trees prefix ps → (i : ℕ) (vs : Values) → i < length all → EachAt (IsValueAt dl locals) (get_or all i []) (parts_of_arm arms i) vs →
+      InState dl size offset w prefix arms i ps vs
+  in_state from [] no_arms fit few ps has i vs below h = absurd (omega (arith, below))
+  in_state from [] (arm n parts arms) fit few ps has i vs below h = absurd fit
+  in_state from (ks ∷ all) no_arms fit few ps has i vs below h = absurd fit
+  in_state from (ks ∷ all) (arm n parts arms) fit few ps has zero vs below h =
+      let values : AreValuesOf dl (picked_trees locals ks) parts vs = values_picked dl locals ks parts vs h in
+      let start = exist dl size (picked_trees locals ks) parts fit.1 vs values in
+      let full : Filled dl size prefix parts ps vs = fill dl size prefix_trees prefix first ps has (picked_trees locals ks) parts fit.3 vs start.0 start.1 start.2 start.3 in
+      let tag : List ℕ = spelled_in dl.endian w n in
+      let wide : length tag ≡ w = length-spelled_in dl.endian w n in
+      let fits : offset + length tag ≤ length full.content = omega (arith, inside, full.long, wide) in
+      let few_here : n < numbers_of w = omega (arith, few, fit.0) in
+      let here : bytes_at (put full.content offset tag) offset w ≡ tag = ap (bytes_at (put full.content offset tag) offset) (sym wide) ∙ bytes_at-put full.content tag offset fits in
+      let told : tag_at dl.endian (put full.content offset tag) offset w ≡ n = ap (number_of dl.endian) here ∙ number_of-spelled_in dl.endian w n few_here in
+      record {
+        content = put full.content offset tag;
+        long = length-put full.content tag offset fits ∙ full.long;
+        are = AreBytes-put full.content tag offset full.are (AreBytes-spelled_in dl.endian w n);
+        held = HoldParts-beside dl prefix_trees prefix offset full.content tag (subst (λ k. LieBeside offset k prefix) (sym wide) beside) fits ps full.held;
+        named = (none_flagged dl size (picked_trees locals ks) parts fit.1 vs values, mod-eq_of_lt few_here ∙ sym told);
+        own = HoldParts-beside dl (picked_trees locals ks) parts offset full.content tag (subst (λ k. LieBeside offset k parts) (sym wide) fit.2) fits vs full.kept;
+      }
+  in_state from (ks ∷ all) (arm n parts arms) fit few ps has (suc i) vs below h =
+      let rest : InState dl size offset w prefix arms i ps vs = in_state (from + 1) all arms fit.4 (omega (arith, few)) ps has i vs (omega (arith, below)) h in
+      record { content = rest.content; long = rest.long; are = rest.are; held = rest.held; named = rest.named; own = rest.own }
+
+-- ---- the whole
+
+module _ (dl : TargetDataLayout) (layout : Layout) (prefix_trees : Trees) (prefix : Parts) (offset : ℕ) (tag : Scalar) (locals : Trees) (all : List (List ℕ))
+    (conflicts : List (ℕ × ℕ)) (arms : Arms) (fit : StatesFit dl layout.size offset (scalar_size dl tag) prefix_trees prefix locals all arms) where
+  abbrev tree : Tree
+  tree = coroutine prefix_trees locals all conflicts
+
+  abbrev w : ℕ
+  w = scalar_size dl tag
+
+  abbrev placed : Placed
+  placed = states layout prefix offset (one_scalar dl tag) arms
+
+  -- no bytes hold two values, where the tag's width has a number for each state
+  pub states_unique : 0 + length all ≤ numbers_of (scalar_size dl tag) → (b : List ℕ) (v u : Value) → Holds dl.endian placed b v → Holds dl.endian placed b u → v ≡ u
+  states_unique few b (state i ps vs) (state j qs ws) h g =
+      let differ = states_differ dl layout.size offset w prefix locals tag 0 all arms fit.each few in
+      let same : i ≡ j = names_one w (tag_at dl.endian b offset w) arms differ i j h.3 g.3 in
+      let here : HoldArm dl.endian arms i b ws = subst (λ k. HoldArm dl.endian arms k b ws) (sym same) g.4 in
+      let shared : ps ≡ qs = unique dl layout.size prefix_trees prefix fit.first b ps qs h.1 g.1 in
+      let own : vs ≡ ws = state_unique dl layout.size offset w prefix locals 0 all arms fit.each i b vs ws h.4 here in
+      cc
+  states_unique few b (state i ps vs) _ h g = absurd g
+  states_unique few b (number n) u h g = absurd h
+  states_unique few b (two n m) u h g = absurd h
+  states_unique few b (list vs) u h g = absurd h
+  states_unique few b (variant i vs) u h g = absurd h
+  states_unique few b (bytes content) u h g = absurd h
+
+  -- bytes hold only values
+  pub states_only : (b : List ℕ) (v : Value) → AreBytes b → Holds dl.endian placed b v → IsValueOf dl tree placed v
+  states_only b (state i ps vs) are h =
+      let own = state_only dl layout.size offset w prefix locals 0 all arms fit.each i b vs are h.4 in
+      (only dl layout.size prefix_trees prefix fit.first b ps are h.1, own.0, own.1)
+  states_only b (number n) are h = absurd h
+  states_only b (two n m) are h = absurd h
+  states_only b (list vs) are h = absurd h
+  states_only b (variant i vs) are h = absurd h
+  states_only b (bytes content) are h = absurd h
+
+  -- where bytes hold a value, the number at the tag's place is one of the tag's
+  pub states_number : ((i : ℕ) → i < length all → IsNumberOf (scalar_size dl tag) tag (0 + i)) → (b : List ℕ) (v : Value) → Holds dl.endian placed b v →
+      IsNumberOf (scalar_size dl tag) tag (tag_at dl.endian b offset (scalar_size dl tag))
+  states_number numbers b (state i ps vs) h =
+      names_number w tag (tag_at dl.endian b offset w) arms (states_numbers dl layout.size offset w prefix locals tag 0 all arms fit.each numbers) i h.3
+  states_number numbers b (number n) h = absurd h
+  states_number numbers b (two n m) h = absurd h
+  states_number numbers b (list vs) h = absurd h
+  states_number numbers b (variant i vs) h = absurd h
+  states_number numbers b (bytes content) h = absurd h
+
+  abbrev is_place_of_tag : ℕ → Bool
+  is_place_of_tag k = nat_le offset k && nat_lt (k - offset) w
+
+  -- each data place of a prefix field is one of the whole
+  place_of_prefix : (k : ℕ) → is_place_of_part prefix k ≡ true → is_data_place placed k ≡ true
+  place_of_prefix k place = ap (λ x. x || (is_place_of_tag k || is_place_of_arm arms k)) place
+
+  -- so is byte j of the tag
+  place_of_tag : (j : ℕ) → j < w → is_data_place placed (offset + j) ≡ true
+  place_of_tag j below =
+      let at : offset + j - offset ≡ j = omega arith in
+      let own : is_place_of_tag (offset + j) ≡ true = both_true (le-leb offset (offset + j) (omega arith)) (ap (λ k. nat_lt k w) at ∙ lt-ltb j w below) in
+      ap (λ x. is_place_of_part prefix (offset + j) || (x || is_place_of_arm arms (offset + j))) own ∙ or-true (is_place_of_part prefix (offset + j))
+
+  -- and each data place of an arm
+  place_of_arm : (k : ℕ) → is_place_of_arm arms k ≡ true → is_data_place placed k ≡ true
+  place_of_arm k place =
+      ap (λ x. is_place_of_part prefix k || (is_place_of_tag k || x)) place ∙ ap (λ x. is_place_of_part prefix k || x) (or-true (is_place_of_tag k))
+      ∙ or-true (is_place_of_part prefix k)
+
+  -- bytes that agree on the data places hold the same tag
+  same_tag : (xs ys : List ℕ) → length xs ≡ length ys → offset + w ≤ length xs → AgreeOn placed xs ys → tag_at dl.endian xs offset w ≡ tag_at dl.endian ys offset w
+  same_tag xs ys same fits agree =
+      let long_xs : length (bytes_at xs offset w) ≡ w = omega (arith, length-bytes_at xs offset w, fits) in
+      let long_ys : length (bytes_at ys offset w) ≡ w = omega (arith, length-bytes_at ys offset w, fits, same) in
+      ap (number_of dl.endian)
+      (same_bytes (bytes_at xs offset w) (bytes_at ys offset w) w long_xs long_ys
+      (λ k below. AgreeOn-bytes_at (one_scalar dl tag) xs ys offset w same
+      (λ j place. agree (offset + j) (place_of_tag j (ltb-true j w place))) k (lt-ltb k w below)))
+
+  -- bytes that agree on the data places hold the same values
+  pub states_padding : (xs ys : List ℕ) (v : Value) → length xs ≡ size_of placed → length ys ≡ size_of placed → AgreeOn placed xs ys → Holds dl.endian placed xs v → Holds dl.endian placed ys v
+  states_padding xs ys (state i ps vs) ex ey agree h =
+      let same : length xs ≡ length ys = ex ∙ sym ey in (
+        ey,
+        padding dl layout.size prefix_trees prefix fit.first xs ys ps same (λ k place. agree k (place_of_prefix k place)) h.1,
+        omega (arith, same, h.2),
+        subst (λ k. NamesDirectly w arms k i) (same_tag xs ys same h.2 agree) h.3,
+        state_padding dl layout.size offset w prefix locals 0 all arms fit.each xs ys same (λ k place. agree k (place_of_arm k place)) i vs h.4,
+      )
+  states_padding xs ys (number n) ex ey agree h = absurd h
+  states_padding xs ys (two n m) ex ey agree h = absurd h
+  states_padding xs ys (list vs) ex ey agree h = absurd h
+  states_padding xs ys (variant i vs) ex ey agree h = absurd h
+  states_padding xs ys (bytes content) ex ey agree h = absurd h
+
+  -- every value has bytes that hold it
+  pub states_exists : offset + scalar_size dl tag ≤ layout.size → 0 + length all ≤ numbers_of (scalar_size dl tag) → (v : Value) → IsValueOf dl tree placed v →
+      (b : List ℕ) × AreBytes b × Holds dl.endian placed b v
+  states_exists inside few (state i ps vs) h =
+      let found : InState dl layout.size offset w prefix arms i ps vs =
+      in_state dl layout.size offset w prefix_trees prefix locals inside fit.first fit.beside 0 all arms fit.each few ps h.0 i vs h.1 h.2 in
+      let fits : offset + w ≤ length found.content = omega (arith, found.long, inside) in
+      (found.content, found.are, (found.long, found.held, fits, found.named, found.own))
+  states_exists inside few (number n) h = absurd h
+  states_exists inside few (two n m) h = absurd h
+  states_exists inside few (list vs) h = absurd h
+  states_exists inside few (variant i vs) h = absurd h
+  states_exists inside few (bytes content) h = absurd h
