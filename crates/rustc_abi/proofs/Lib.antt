@@ -30,6 +30,7 @@ mod VectorLemmas
 mod CalcLemmas
 mod TogetherLemmas
 mod TaggedLemmas
+mod StateArmsLemmas
 mod StatesLemmas
 mod InNicheLemmas
 mod TagViewLemmas

@@ -112,7 +112,7 @@ names_number w tag k (arm n parts arms) numbers zero h = subst (IsNumberOf w tag
 names_number w tag k (arm n parts arms) numbers (suc i) h = names_number w tag k arms numbers.1 i h
 
 -- a type with a value isn't flagged
-unflagged : (dl : TargetDataLayout) (t : Tree) (placed : Placed) (flag : Bool) →
+pub unflagged : (dl : TargetDataLayout) (t : Tree) (placed : Placed) (flag : Bool) →
     MatchBool flag ((v : Value) → IsValueOf dl t placed v → ⊥) (VectorsHaveValues dl t → (v : Value) × IsValueOf dl t placed v) →
     (v : Value) → IsValueOf dl t placed v → flag ≡ false
 unflagged dl t placed true h v k = absurd (h v k)
