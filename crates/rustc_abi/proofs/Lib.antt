@@ -32,6 +32,7 @@ mod TogetherLemmas
 mod TaggedLemmas
 mod StateArmsLemmas
 mod StatesLemmas
+mod StatePlacesLemmas
 mod CoroutineLemmas
 mod InNicheLemmas
 mod TagViewLemmas
