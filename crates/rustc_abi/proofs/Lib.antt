@@ -34,6 +34,7 @@ mod StateArmsLemmas
 mod StatesLemmas
 mod StatePlacesLemmas
 mod CoroutineLemmas
+mod StateFlagLemmas
 mod InNicheLemmas
 mod TagViewLemmas
 mod ArmsLemmas
