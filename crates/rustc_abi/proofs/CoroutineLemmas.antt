@@ -1,7 +1,7 @@
 -- What a coroutine's layout keeps of the values of its prefix fields and its locals.
-use Rattle.std.proofs.Common.{◌≡◌, ℕ, zero, suc, ◌+◌, ◌≤◌, ◌<◌, ◌⊎◌, ⊎_elim, inl, inr, List, [], ◌∷◌, ◌++◌, map, length, get_or, take, Option, Some, None, All, arith, refl, sym, ap, ◌∙◌, subst}
-use Rattle.std.specs.Prelude.{Bool, true, false, ◌&&◌, ◌||◌, MatchBool, ⊤}
-use Rattle.std.specs.List.{list_any, range_with_len}
+use Rattle.std.proofs.Common.{◌≡◌, ℕ, zero, suc, ◌+◌, ◌≤◌, ◌<◌, List, [], ◌∷◌, ◌++◌, map, length, get_or, take, None, All, arith, refl, sym, ap, ◌∙◌, subst}
+use Rattle.std.specs.Prelude.{Bool, true, false, ◌||◌, MatchBool}
+use Rattle.std.specs.List.{list_any}
 use Rattle.std.specs.Cmp.Derive.{both_true}
 use Rattle.std.proofs.lemmas.Bool.{le-leb}
 use Rattle.std.proofs.lemmas.List.{length-take-le}
@@ -14,29 +14,29 @@ use Rattle.abi_scalar.specs.declared.variants.VariantLayout.{VariantLayout}
 use Rattle.abi_scalar.specs.Lawful.{IsLawfulLayout}
 use Rattle.abi_scalar.specs.Range.{numbers_of}
 use Rattle.abi_scalar.specs.Scalar.{scalar_size, IsNumberOf}
-use Rattle.abi_calc.specs.Apart.{AreApart, IsBeside}
+use Rattle.abi_calc.specs.Apart.{AreApart}
 use Rattle.abi_calc.specs.Placement.{source_order}
 use Rattle.rustc_abi.specs.Tree.{Tree, coroutine, Trees, no_trees, more_trees}
 use Rattle.rustc_abi.specs.Value.{Value, number, two, list, variant, state, bytes, Values, no_values, more_values}
-use Rattle.rustc_abi.specs.Placed.{Placed, Layout, Parts, part, first_part, more_parts, Arms, no_arms, arm, layout_of, size_of, states, parts_of_arm}
-use Rattle.rustc_abi.specs.Values.{EachAt, IsValueOf, AreValuesOf, IsValueAt, HasValue, HaveValues, LocalsHaveValues, LocalsOfEach, VectorsHaveValues, VectorsOfEach}
-use Rattle.rustc_abi.specs.Room.{has_room, arms_have_room}
-use Rattle.rustc_abi.specs.Faithful.{IsFaithful, IsFlagTrue, IsTrueOf}
+use Rattle.rustc_abi.specs.Placed.{Placed, Layout, Parts, part, first_part, more_parts, Arms, layout_of, size_of, states, parts_of_arm}
+use Rattle.rustc_abi.specs.Values.{EachAt, IsValueOf, IsValueAt, HasValue, HaveValues, LocalsHaveValues, LocalsOfEach, VectorsHaveValues}
+use Rattle.rustc_abi.specs.Room.{has_room}
+use Rattle.rustc_abi.specs.Faithful.{IsFaithful, IsFlagTrue}
 use Rattle.rustc_abi.specs.Fits.{Fits}
-use Rattle.rustc_abi.specs.Unions.{IsCommon, InUnionsOfArms}
-use Rattle.rustc_abi.specs.Nodes.{parts_at, placed_in}
+use Rattle.rustc_abi.specs.Nodes.{parts_at}
 use Rattle.rustc_abi.specs.Enums.{arms_at}
 use Rattle.rustc_abi.specs.Laying.{one_scalar}
 use Rattle.rustc_abi.specs.Adding.{EachFits}
 use Rattle.rustc_abi.proofs.PartsLemmas.{LieBeside}
-use Rattle.rustc_abi.proofs.FieldsLemmas.{beside_parts, common_each, room_of, together}
+use Rattle.rustc_abi.proofs.FieldsLemmas.{common_each, room_of, together}
 use Rattle.rustc_abi.proofs.FlagLemmas.{HaveSome, each_flag, flags_true}
 use Rattle.rustc_abi.proofs.AnywhereLemmas.{value_anywhere}
 use Rattle.rustc_abi.proofs.TaggedLemmas.{unflagged}
 use Rattle.rustc_abi.proofs.RoomLemmas.{within_room}
 use Rattle.rustc_abi.proofs.EnumLemmas.{some_niche}
-use Rattle.rustc_abi.proofs.StateArmsLemmas.{AreBeside, StateArmsFit, StatesFit, few_states, picked_trees, tree_at, value_at}
+use Rattle.rustc_abi.proofs.StateArmsLemmas.{StatesFit, few_states, tree_at, value_at}
 use Rattle.rustc_abi.proofs.StatesLemmas.{states_exists, states_only, states_padding, states_unique}
+use Rattle.rustc_abi.proofs.StateFlagLemmas.{IsFlaggedBy}
 use Rattle.rustc_abi.proofs.StatePlacesLemmas.{EachStateApart, picked_types, shared_apart, state_arms, state_arms_at, state_arms_common, state_arms_fit, state_arms_room}
 
 -- ---- the flag
@@ -134,12 +134,9 @@ pub record IsStatesLayout (dl : TargetDataLayout) (pres ps : List Placed) (all :
   pub apart : EachStateApart layout.size offsets (map size_of pres ++ scalar_size dl tag ∷ []) ps all layouts
   pub numbers : All (IsNumberOf (scalar_size dl tag) tag) (source_order (length all))
   pub lawful : IsLawfulLayout dl layout
-  pub sized : Bool
-  pub view : layout.backend_repr ≡ Memory sized
+  pub view : layout.backend_repr ≡ Memory true
   pub niche : layout.largest_niche ≡ None
-  pub other : Bool
-  pub flag : layout.uninhabited ≡ (list_any (λ f. f.uninhabited) (map layout_of pres) || other)
-  pub of_local : other ≡ true → list_any (λ f. f.uninhabited) (map layout_of ps) ≡ true
+  pub flag : IsFlaggedBy (map layout_of pres) (map layout_of ps) layout.uninhabited
 
 module _ (dl : TargetDataLayout) (prefix_trees locals : Trees) (pres ps : List Placed) (all : List (List ℕ)) (conflicts : List (ℕ × ℕ)) (layout : Layout) (offsets : List ℕ) (tag : Scalar)
     (layouts : List (VariantLayout ℕ)) (laid : IsStatesLayout dl pres ps all layout offsets tag layouts) (prefix_fits : EachFits dl prefix_trees pres) (locals_fit : EachFits dl locals ps) where
@@ -155,8 +152,8 @@ module _ (dl : TargetDataLayout) (prefix_trees locals : Trees) (pres ps : List P
   abbrev arms : Arms
   arms = state_arms layouts ps 0 all
 
-  abbrev coro : Tree
-  coro = coroutine prefix_trees locals all conflicts
+  abbrev whole_tree : Tree
+  whole_tree = coroutine prefix_trees locals all conflicts
 
   abbrev whole : Placed
   whole = states layout (parts_at starts pres) offset (one_scalar dl tag) arms
@@ -175,16 +172,17 @@ module _ (dl : TargetDataLayout) (prefix_trees locals : Trees) (pres ps : List P
       both_true (room_of dl layout.size prefix_trees starts pres shared.0 prefix_fits)
       (both_true (both_true (le-leb (offset + w) layout.size shared.2) refl) (state_arms_room dl layout.size offset w starts pres same_count locals ps locals_fit 0 all layouts apart laid.known))
 
-  number_of_state : (i : ℕ) → i < length all → IsNumberOf w tag (0 + i)
+  number_of_state : (i : ℕ) → i < length all → IsNumberOf w tag i
   number_of_state i below =
       let n : ℕ = length all in
       let long : length (source_order n) ≡ n = length-range_with_len 0 n in
-      subst (IsNumberOf w tag) (get_or-range_with_len 0 n i i below) (laid.numbers i i (omega (arith, below, long)))
+      let at : get_or (source_order n) i i ≡ i = get_or-range_with_len 0 n i i below ∙ omega arith in
+      subst (IsNumberOf w tag) at (laid.numbers i i (omega (arith, below, long)))
 
-  few : 0 + length all ≤ numbers_of w
+  few : length all ≤ numbers_of w
   few = few_states w tag all number_of_state
 
-  module _ (have : LocalsHaveValues dl coro) where
+  module _ (have : LocalsHaveValues dl whole_tree) where
     fit : StatesFit dl layout.size offset w prefix_trees (parts_at starts pres) locals all arms
     fit = record {
       first = together dl layout.size prefix_trees starts pres shared.0 prefix_fits have.0;
@@ -194,10 +192,10 @@ module _ (dl : TargetDataLayout) (prefix_trees locals : Trees) (pres ps : List P
 
     flag : layout.uninhabited ≡ list_any (λ f. f.uninhabited) (map layout_of pres)
     flag =
-        laid.flag ∙ only_first (list_any (λ f. f.uninhabited) (map layout_of pres)) laid.other (list_any (λ f. f.uninhabited) (map layout_of ps)) laid.of_local
+        laid.flag.is ∙ only_first (list_any (λ f. f.uninhabited) (map layout_of pres)) laid.flag.other (list_any (λ f. f.uninhabited) (map layout_of ps)) laid.flag.of_local
         (none_is_flagged dl locals ps locals_fit have.1 have.2)
 
-    faithful : IsFaithful dl coro whole
+    faithful : IsFaithful dl whole_tree whole
     faithful = record {
       exists = states_exists dl layout prefix_trees (parts_at starts pres) offset tag locals all conflicts arms fit shared.2 few;
       only = states_only dl layout prefix_trees (parts_at starts pres) offset tag locals all conflicts arms fit;
@@ -210,21 +208,21 @@ module _ (dl : TargetDataLayout) (prefix_trees locals : Trees) (pres ps : List P
           (first_values dl locals ps locals_fit have.2 all laid.known laid.some (parts_of_arm arms 0));
     }
 
-  fits_whole : Fits dl coro whole
+  fits_whole : Fits dl whole_tree whole
   fits_whole = record {
     faithful = λ have. faithful have;
     lawful = laid.lawful;
     room = room;
     within = λ k place. within_room whole k room place;
     common = λ have. (
-        common_each dl prefix_trees starts pres prefix_fits have.0,
-        tt,
-        state_arms_common dl layout.size offset w starts pres same_count locals ps locals_fit 0 all layouts laid.known have.1,
+      common_each dl prefix_trees starts pres prefix_fits have.0,
+      tt,
+      state_arms_common dl layout.size offset w starts pres same_count locals ps locals_fit 0 all layouts laid.known have.1,
     );
   }
 
   -- a coroutine that a tag tells apart keeps its values
-  pub Fits-states : Fits dl coro (states layout (parts_at offsets pres) offset (one_scalar dl tag) (arms_at layouts (source_order (length all)) (map (picked_types ps) all)))
+  pub Fits-states : Fits dl whole_tree (states layout (parts_at offsets pres) offset (one_scalar dl tag) (arms_at layouts (source_order (length all)) (map (picked_types ps) all)))
   Fits-states =
-      subst (λ arms. Fits dl coro (states layout (parts_at offsets pres) offset (one_scalar dl tag) arms)) (sym (state_arms_at layouts ps 0 all))
-      (subst (λ prefix. Fits dl coro (states layout prefix offset (one_scalar dl tag) arms)) (parts_of_few offsets pres) fits_whole)
+      subst (λ arms. Fits dl whole_tree (states layout (parts_at offsets pres) offset (one_scalar dl tag) arms)) (sym (state_arms_at layouts ps 0 all))
+      (subst (λ prefix. Fits dl whole_tree (states layout prefix offset (one_scalar dl tag) arms)) (parts_of_few offsets pres) fits_whole)

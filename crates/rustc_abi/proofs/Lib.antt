@@ -33,8 +33,8 @@ mod TaggedLemmas
 mod StateArmsLemmas
 mod StatesLemmas
 mod StatePlacesLemmas
-mod CoroutineLemmas
 mod StateFlagLemmas
+mod CoroutineLemmas
 mod InNicheLemmas
 mod TagViewLemmas
 mod ArmsLemmas

@@ -1,29 +1,26 @@
 -- The states of a coroutine beside a tag: their locals by their indices, their numbers, and the bytes that hold their values.
-use Rattle.std.proofs.Common.{◌≡◌, ◌≢◌, ℕ, zero, suc, ◌+◌, ◌-◌, ◌*◌, ◌%◌, ◌≤◌, ◌<◌, ◌⊎◌, ⊎_elim, inl, inr, List, [], ◌∷◌, length, get_or, arith, refl, sym, ap, ◌∙◌, subst}
-use Rattle.std.specs.Prelude.{Bool, true, false, ◌&&◌, ◌||◌, nat_le, nat_lt, ⊤}
-use Rattle.std.specs.Cmp.Derive.{both_true}
-use Rattle.std.proofs.lemmas.Bool.{le-leb, lt-ltb, ltb-true}
+use Rattle.std.proofs.Common.{◌≡◌, ℕ, zero, suc, ◌+◌, ◌%◌, ◌≤◌, ◌<◌, List, [], ◌∷◌, length, get_or, arith, sym, ap, ◌∙◌, subst}
+use Rattle.std.specs.Prelude.{true, ◌||◌, ⊤}
 use Rattle.std.proofs.Math.Bool.{or-true}
 use Rattle.std.proofs.Math.Nat.{mod-eq_of_lt}
 use Rattle.abi_base.specs.declared.data_layout.TargetDataLayout.{TargetDataLayout}
 use Rattle.abi_scalar.specs.declared.scalar.Scalar.{Scalar}
 use Rattle.abi_scalar.specs.declared.scalar.Scalar.TheVariants.{Initialized, Union}
 use Rattle.abi_scalar.specs.Range.{numbers_of}
-use Rattle.abi_scalar.specs.Scalar.{scalar_size, IsNumberOf}
-use Rattle.rustc_abi.specs.Tree.{Tree, never, coroutine, Trees, no_trees, more_trees}
+use Rattle.abi_scalar.specs.Scalar.{IsNumberOf}
+use Rattle.rustc_abi.specs.Tree.{Tree, never, Trees, no_trees, more_trees}
 use Rattle.rustc_abi.specs.Bytes.{AreBytes, bytes_at, number_of}
-use Rattle.rustc_abi.specs.Value.{Value, number, two, list, variant, state, bytes, Values, no_values, more_values}
-use Rattle.rustc_abi.specs.Placed.{Placed, Layout, Parts, no_parts, part, Arms, no_arms, arm, size_of, states, parts_of_arm, is_flagged}
-use Rattle.rustc_abi.specs.Places.{is_data_place, is_place_of_part, is_place_of_arm}
+use Rattle.rustc_abi.specs.Value.{Value, Values, no_values, more_values}
+use Rattle.rustc_abi.specs.Placed.{Placed, Parts, no_parts, part, Arms, no_arms, arm, size_of, parts_of_arm}
+use Rattle.rustc_abi.specs.Places.{is_place_of_part, is_place_of_arm}
 use Rattle.rustc_abi.specs.Tag.{NamesDirectly}
 use Rattle.rustc_abi.specs.Values.{EachAt, IsValueOf, AreValuesOf, IsValueAt}
 use Rattle.rustc_abi.specs.Holding.{Holds, HoldParts, HoldArm, tag_at}
-use Rattle.rustc_abi.specs.Faithful.{AgreeOn, IsFaithful}
-use Rattle.rustc_abi.specs.Laying.{one_scalar}
-use Rattle.rustc_abi.proofs.BytesLemmas.{put, length-put, bytes_at-put, AreBytes-put, same_bytes, spelled_in, length-spelled_in, number_of-spelled_in, AreBytes-spelled_in}
-use Rattle.rustc_abi.proofs.HoldLemmas.{length-Holds, length-bytes_at, AgreeOn-bytes_at}
+use Rattle.rustc_abi.specs.Faithful.{IsFaithful}
+use Rattle.rustc_abi.proofs.BytesLemmas.{put, length-put, bytes_at-put, AreBytes-put, spelled_in, length-spelled_in, number_of-spelled_in, AreBytes-spelled_in}
+use Rattle.rustc_abi.proofs.HoldLemmas.{length-Holds}
 use Rattle.rustc_abi.proofs.PartsLemmas.{LieBeside, FitTogether, HoldParts-beside, exist, only, unique, padding}
-use Rattle.rustc_abi.proofs.TaggedLemmas.{HaveNumbers, IsNoNumber, NumbersDiffer, names_one, names_number, none_flagged}
+use Rattle.rustc_abi.proofs.TaggedLemmas.{HaveNumbers, IsNoNumber, NumbersDiffer, none_flagged}
 use Rattle.rustc_abi.proofs.EnumLemmas.{in_below}
 
 -- ---- the locals of a state
@@ -131,11 +128,9 @@ module _ (dl : TargetDataLayout) (size offset w : ℕ) (prefix : Parts) (locals 
       )
 
 -- there are no more states than numbers of the tag's width
-pub few_states : (w : ℕ) (tag : Scalar) (all : List (List ℕ)) → ((i : ℕ) → i < length all → IsNumberOf w tag (0 + i)) → 0 + length all ≤ numbers_of w
+pub few_states : (w : ℕ) (tag : Scalar) (all : List (List ℕ)) → ((i : ℕ) → i < length all → IsNumberOf w tag i) → length all ≤ numbers_of w
 few_states w tag [] numbers = omega arith
-few_states w tag (ks ∷ all) numbers =
-    let last : ℕ = 0 + length all in
-    omega (arith, number_within w tag (0 + length all) (numbers (length all) (omega arith)))
+few_states w tag (ks ∷ all) numbers = omega (arith, number_within w tag (length all) (numbers (length all) (omega arith)))
 
 -- ---- each state's arm
 

@@ -1,41 +1,24 @@
 -- The places of a coroutine: prefix fields, tag and locals that the calculator lays apart fit together, inside the whole.
-use Rattle.std.proofs.Common.{◌≡◌, ℕ, zero, suc, ◌+◌, ◌≤◌, ◌<◌, ◌⊎◌, ⊎_elim, inl, inr, List, [], ◌∷◌, ◌++◌, map, length, get_or, take, Option, Some, None, All, arith, refl, sym, ap, ◌∙◌, subst}
-use Rattle.std.specs.Prelude.{Bool, true, false, ◌&&◌, ◌||◌, MatchBool, ⊤}
-use Rattle.std.specs.List.{list_any, range_with_len}
+use Rattle.std.proofs.Common.{◌≡◌, ℕ, zero, suc, ◌+◌, ◌≤◌, ◌<◌, ◌⊎◌, ⊎_elim, inl, inr, List, [], ◌∷◌, ◌++◌, map, length, All, arith, refl, ap}
+use Rattle.std.specs.Prelude.{true, ⊤}
+use Rattle.std.specs.List.{range_with_len}
 use Rattle.std.specs.Cmp.Derive.{both_true}
-use Rattle.std.proofs.lemmas.Bool.{le-leb}
 use Rattle.std.proofs.lemmas.List.Elements.{All-head, All-tail}
-use Rattle.std.proofs.lemmas.List.FromFn.{get_or-range_with_len, length-range_with_len}
 use Rattle.abi_base.specs.declared.data_layout.TargetDataLayout.{TargetDataLayout}
-use Rattle.abi_scalar.specs.declared.backend_repr.BackendRepr.TheVariants.{Memory}
-use Rattle.abi_scalar.specs.declared.scalar.Scalar.{Scalar}
 use Rattle.abi_scalar.specs.declared.variants.VariantLayout.{VariantLayout}
-use Rattle.abi_scalar.specs.Lawful.{IsLawfulLayout}
-use Rattle.abi_scalar.specs.Range.{numbers_of}
-use Rattle.abi_scalar.specs.Scalar.{scalar_size, IsNumberOf}
 use Rattle.abi_calc.specs.Apart.{AreApart, IsBeside}
-use Rattle.abi_calc.specs.Placement.{source_order}
-use Rattle.rustc_abi.specs.Tree.{Tree, coroutine, Trees, no_trees, more_trees}
-use Rattle.rustc_abi.specs.Value.{Value, number, two, list, variant, state, bytes, Values, no_values, more_values}
-use Rattle.rustc_abi.specs.Placed.{Placed, Layout, Parts, first_part, more_parts, Arms, no_arms, arm, layout_of, size_of, states, parts_of_arm}
-use Rattle.rustc_abi.specs.Values.{EachAt, IsValueOf, AreValuesOf, IsValueAt, HasValue, HaveValues, LocalsHaveValues, LocalsOfEach, VectorsHaveValues, VectorsOfEach}
-use Rattle.rustc_abi.specs.Room.{has_room, arms_have_room}
-use Rattle.rustc_abi.specs.Faithful.{IsFaithful, IsFlagTrue, IsTrueOf}
+use Rattle.rustc_abi.specs.Tree.{Trees, no_trees, more_trees}
+use Rattle.rustc_abi.specs.Placed.{Placed, Arms, no_arms, arm, size_of}
+use Rattle.rustc_abi.specs.Values.{LocalsHaveValues, LocalsOfEach}
+use Rattle.rustc_abi.specs.Room.{arms_have_room}
 use Rattle.rustc_abi.specs.Fits.{Fits}
 use Rattle.rustc_abi.specs.Unions.{IsCommon, InUnionsOfArms}
 use Rattle.rustc_abi.specs.Nodes.{parts_at, placed_in}
 use Rattle.rustc_abi.specs.Enums.{arms_at}
-use Rattle.rustc_abi.specs.Laying.{one_scalar}
 use Rattle.rustc_abi.specs.Adding.{EachFits}
 use Rattle.rustc_abi.proofs.PartsLemmas.{LieBeside}
 use Rattle.rustc_abi.proofs.FieldsLemmas.{beside_parts, common_each, room_of, together}
-use Rattle.rustc_abi.proofs.FlagLemmas.{HaveSome, each_flag, flags_true}
-use Rattle.rustc_abi.proofs.AnywhereLemmas.{value_anywhere}
-use Rattle.rustc_abi.proofs.TaggedLemmas.{unflagged}
-use Rattle.rustc_abi.proofs.RoomLemmas.{within_room}
-use Rattle.rustc_abi.proofs.EnumLemmas.{some_niche}
-use Rattle.rustc_abi.proofs.StateArmsLemmas.{AreBeside, StateArmsFit, StatesFit, few_states, picked_trees, tree_at, value_at}
-use Rattle.rustc_abi.proofs.StatesLemmas.{states_exists, states_only, states_padding, states_unique}
+use Rattle.rustc_abi.proofs.StateArmsLemmas.{AreBeside, StateArmsFit, picked_trees, tree_at}
 
 -- ---- what the calculator lays apart
 

@@ -1,30 +1,27 @@
 -- A coroutine told apart by a tag keeps its values: its prefix fields', its state and that state's locals'.
-use Rattle.std.proofs.Common.{◌≡◌, ◌≢◌, ℕ, zero, suc, ◌+◌, ◌-◌, ◌*◌, ◌%◌, ◌≤◌, ◌<◌, ◌⊎◌, ⊎_elim, inl, inr, List, [], ◌∷◌, length, get_or, arith, refl, sym, ap, ◌∙◌, subst}
-use Rattle.std.specs.Prelude.{Bool, true, false, ◌&&◌, ◌||◌, nat_le, nat_lt, ⊤}
+use Rattle.std.proofs.Common.{◌≡◌, ℕ, ◌+◌, ◌-◌, ◌≤◌, ◌<◌, List, length, arith, sym, ap, ◌∙◌, subst}
+use Rattle.std.specs.Prelude.{Bool, true, ◌&&◌, ◌||◌, nat_le, nat_lt}
 use Rattle.std.specs.Cmp.Derive.{both_true}
 use Rattle.std.proofs.lemmas.Bool.{le-leb, lt-ltb, ltb-true}
 use Rattle.std.proofs.Math.Bool.{or-true}
-use Rattle.std.proofs.Math.Nat.{mod-eq_of_lt}
 use Rattle.abi_base.specs.declared.data_layout.TargetDataLayout.{TargetDataLayout}
 use Rattle.abi_scalar.specs.declared.scalar.Scalar.{Scalar}
-use Rattle.abi_scalar.specs.declared.scalar.Scalar.TheVariants.{Initialized, Union}
 use Rattle.abi_scalar.specs.Range.{numbers_of}
 use Rattle.abi_scalar.specs.Scalar.{scalar_size, IsNumberOf}
-use Rattle.rustc_abi.specs.Tree.{Tree, never, coroutine, Trees, no_trees, more_trees}
+use Rattle.rustc_abi.specs.Tree.{Tree, coroutine, Trees}
 use Rattle.rustc_abi.specs.Bytes.{AreBytes, bytes_at, number_of}
-use Rattle.rustc_abi.specs.Value.{Value, number, two, list, variant, state, bytes, Values, no_values, more_values}
-use Rattle.rustc_abi.specs.Placed.{Placed, Layout, Parts, no_parts, part, Arms, no_arms, arm, size_of, states, parts_of_arm, is_flagged}
+use Rattle.rustc_abi.specs.Value.{Value, number, two, list, variant, state, bytes}
+use Rattle.rustc_abi.specs.Placed.{Placed, Layout, Parts, Arms, size_of, states}
 use Rattle.rustc_abi.specs.Places.{is_data_place, is_place_of_part, is_place_of_arm}
 use Rattle.rustc_abi.specs.Tag.{NamesDirectly}
-use Rattle.rustc_abi.specs.Values.{EachAt, IsValueOf, AreValuesOf, IsValueAt}
-use Rattle.rustc_abi.specs.Holding.{Holds, HoldParts, HoldArm, tag_at}
-use Rattle.rustc_abi.specs.Faithful.{AgreeOn, IsFaithful}
+use Rattle.rustc_abi.specs.Values.{IsValueOf}
+use Rattle.rustc_abi.specs.Holding.{Holds, HoldArm, tag_at}
+use Rattle.rustc_abi.specs.Faithful.{AgreeOn}
 use Rattle.rustc_abi.specs.Laying.{one_scalar}
-use Rattle.rustc_abi.proofs.BytesLemmas.{put, length-put, bytes_at-put, AreBytes-put, same_bytes, spelled_in, length-spelled_in, number_of-spelled_in, AreBytes-spelled_in}
-use Rattle.rustc_abi.proofs.HoldLemmas.{length-Holds, length-bytes_at, AgreeOn-bytes_at}
-use Rattle.rustc_abi.proofs.PartsLemmas.{LieBeside, FitTogether, HoldParts-beside, exist, only, unique, padding}
-use Rattle.rustc_abi.proofs.TaggedLemmas.{HaveNumbers, IsNoNumber, NumbersDiffer, names_one, names_number, none_flagged}
-use Rattle.rustc_abi.proofs.EnumLemmas.{in_below}
+use Rattle.rustc_abi.proofs.BytesLemmas.{same_bytes}
+use Rattle.rustc_abi.proofs.HoldLemmas.{length-bytes_at, AgreeOn-bytes_at}
+use Rattle.rustc_abi.proofs.PartsLemmas.{only, unique, padding}
+use Rattle.rustc_abi.proofs.TaggedLemmas.{names_one, names_number}
 use Rattle.rustc_abi.proofs.StateArmsLemmas.{StatesFit, InState, states_numbers, states_differ, state_only, state_unique, state_padding, in_state}
 
 module _ (dl : TargetDataLayout) (layout : Layout) (prefix_trees : Trees) (prefix : Parts) (offset : ℕ) (tag : Scalar) (locals : Trees) (all : List (List ℕ))
@@ -39,9 +36,9 @@ module _ (dl : TargetDataLayout) (layout : Layout) (prefix_trees : Trees) (prefi
   placed = states layout prefix offset (one_scalar dl tag) arms
 
   -- no bytes hold two values, where the tag's width has a number for each state
-  pub states_unique : 0 + length all ≤ numbers_of (scalar_size dl tag) → (b : List ℕ) (v u : Value) → Holds dl.endian placed b v → Holds dl.endian placed b u → v ≡ u
+  pub states_unique : length all ≤ numbers_of (scalar_size dl tag) → (b : List ℕ) (v u : Value) → Holds dl.endian placed b v → Holds dl.endian placed b u → v ≡ u
   states_unique few b (state i ps vs) (state j qs ws) h g =
-      let differ = states_differ dl layout.size offset w prefix locals tag 0 all arms fit.each few in
+      let differ = states_differ dl layout.size offset w prefix locals tag 0 all arms fit.each (omega (arith, few)) in
       let same : i ≡ j = names_one w (tag_at dl.endian b offset w) arms differ i j h.3 g.3 in
       let here : HoldArm dl.endian arms i b ws = subst (λ k. HoldArm dl.endian arms k b ws) (sym same) g.4 in
       let shared : ps ≡ qs = unique dl layout.size prefix_trees prefix fit.first b ps qs h.1 g.1 in
@@ -66,10 +63,10 @@ module _ (dl : TargetDataLayout) (layout : Layout) (prefix_trees : Trees) (prefi
   states_only b (bytes content) are h = absurd h
 
   -- where bytes hold a value, the number at the tag's place is one of the tag's
-  pub states_number : ((i : ℕ) → i < length all → IsNumberOf (scalar_size dl tag) tag (0 + i)) → (b : List ℕ) (v : Value) → Holds dl.endian placed b v →
+  pub states_number : ((i : ℕ) → i < length all → IsNumberOf (scalar_size dl tag) tag i) → (b : List ℕ) (v : Value) → Holds dl.endian placed b v →
       IsNumberOf (scalar_size dl tag) tag (tag_at dl.endian b offset (scalar_size dl tag))
   states_number numbers b (state i ps vs) h =
-      names_number w tag (tag_at dl.endian b offset w) arms (states_numbers dl layout.size offset w prefix locals tag 0 all arms fit.each numbers) i h.3
+      names_number w tag (tag_at dl.endian b offset w) arms (states_numbers dl layout.size offset w prefix locals tag 0 all arms fit.each (λ k below. let at : k ≡ 0 + k = omega arith in subst (IsNumberOf w tag) at (numbers k below))) i h.3
   states_number numbers b (number n) h = absurd h
   states_number numbers b (two n m) h = absurd h
   states_number numbers b (list vs) h = absurd h
@@ -123,11 +120,11 @@ module _ (dl : TargetDataLayout) (layout : Layout) (prefix_trees : Trees) (prefi
   states_padding xs ys (bytes content) ex ey agree h = absurd h
 
   -- every value has bytes that hold it
-  pub states_exists : offset + scalar_size dl tag ≤ layout.size → 0 + length all ≤ numbers_of (scalar_size dl tag) → (v : Value) → IsValueOf dl tree placed v →
+  pub states_exists : offset + scalar_size dl tag ≤ layout.size → length all ≤ numbers_of (scalar_size dl tag) → (v : Value) → IsValueOf dl tree placed v →
       (b : List ℕ) × AreBytes b × Holds dl.endian placed b v
   states_exists inside few (state i ps vs) h =
       let found : InState dl layout.size offset w prefix arms i ps vs =
-      in_state dl layout.size offset w prefix_trees prefix locals inside fit.first fit.beside 0 all arms fit.each few ps h.0 i vs h.1 h.2 in
+      in_state dl layout.size offset w prefix_trees prefix locals inside fit.first fit.beside 0 all arms fit.each (omega (arith, few)) ps h.0 i vs h.1 h.2 in
       let fits : offset + w ≤ length found.content = omega (arith, found.long, inside) in
       (found.content, found.are, (found.long, found.held, fits, found.named, found.own))
   states_exists inside few (number n) h = absurd h
