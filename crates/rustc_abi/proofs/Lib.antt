@@ -30,6 +30,11 @@ mod VectorLemmas
 mod CalcLemmas
 mod TogetherLemmas
 mod TaggedLemmas
+mod StateArmsLemmas
+mod StatesLemmas
+mod StatePlacesLemmas
+mod StateFlagLemmas
+mod CoroutineLemmas
 mod InNicheLemmas
 mod TagViewLemmas
 mod ArmsLemmas

@@ -96,7 +96,7 @@ names_none w k (arm n parts arms) none zero h = none.0 h.0 (sym h.1)
 names_none w k (arm n parts arms) none (suc i) h = names_none w k arms none.1 i h
 
 -- a number names one arm
-names_one : (w k : ℕ) (arms : Arms) → NumbersDiffer w arms → (i j : ℕ) → NamesDirectly w arms k i → NamesDirectly w arms k j → i ≡ j
+pub names_one : (w k : ℕ) (arms : Arms) → NumbersDiffer w arms → (i j : ℕ) → NamesDirectly w arms k i → NamesDirectly w arms k j → i ≡ j
 names_one w k no_arms differ i j h g = absurd h
 names_one w k (arm n parts arms) differ zero zero h g = refl
 names_one w k (arm n parts arms) differ zero (suc j) h g =
@@ -106,13 +106,13 @@ names_one w k (arm n parts arms) differ (suc i) zero h g =
 names_one w k (arm n parts arms) differ (suc i) (suc j) h g = ap suc (names_one w k arms differ.1 i j h g)
 
 -- a number that names an arm is one of the tag's
-names_number : (w : ℕ) (tag : Scalar) (k : ℕ) (arms : Arms) → HaveNumbers w tag arms → (i : ℕ) → NamesDirectly w arms k i → IsNumberOf w tag k
+pub names_number : (w : ℕ) (tag : Scalar) (k : ℕ) (arms : Arms) → HaveNumbers w tag arms → (i : ℕ) → NamesDirectly w arms k i → IsNumberOf w tag k
 names_number w tag k no_arms numbers i h = absurd h
 names_number w tag k (arm n parts arms) numbers zero h = subst (IsNumberOf w tag) h.1 (numbers.0 h.0)
 names_number w tag k (arm n parts arms) numbers (suc i) h = names_number w tag k arms numbers.1 i h
 
 -- a type with a value isn't flagged
-unflagged : (dl : TargetDataLayout) (t : Tree) (placed : Placed) (flag : Bool) →
+pub unflagged : (dl : TargetDataLayout) (t : Tree) (placed : Placed) (flag : Bool) →
     MatchBool flag ((v : Value) → IsValueOf dl t placed v → ⊥) (VectorsHaveValues dl t → (v : Value) × IsValueOf dl t placed v) →
     (v : Value) → IsValueOf dl t placed v → flag ≡ false
 unflagged dl t placed true h v k = absurd (h v k)
