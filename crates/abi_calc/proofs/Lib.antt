@@ -55,3 +55,5 @@ pub mod OneRange
 pub mod OneEnum
 pub mod SomeEnum
 pub mod SameType
+pub mod CoroutineHolders
+pub mod CoroutineSteps
