@@ -57,3 +57,4 @@ pub mod SomeEnum
 pub mod SameType
 pub mod CoroutineHolders
 pub mod CoroutineSteps
+pub mod CoroutinePromotion
