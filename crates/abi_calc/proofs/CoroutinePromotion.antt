@@ -1,8 +1,8 @@
 -- Which locals of a coroutine are promoted, and what is known of those that aren't.
-use Rattle.std.proofs.Common.{◌≡◌, ℕ, zero, suc, ◌+◌, ◌-◌, ◌<◌, ◌≤◌, ◌==◌, ◌||◌, ◌&&◌, All, Bool, true, false, List, [], ◌∷◌, ap, arith, cond, filter, fold, get_or, inl, inr, length, map, nat_lt, not, refl, subst, sym, ◌∙◌}
+use Rattle.std.proofs.Common.{◌≡◌, ℕ, zero, suc, ◌+◌, ◌-◌, ◌<◌, ◌≤◌, ◌==◌, ◌||◌, ◌&&◌, All, Bool, true, false, List, [], ◌∷◌, add-one, ap, arith, cond, filter, fold, get_or, inl, inr, length, map, nat_lt, not, refl, subst, sym, ◌∙◌}
 use Rattle.std.specs.Prelude.{if◌then◌else◌}
 use Rattle.std.specs.List.{list_any, range_with_len}
-use Rattle.std.proofs.lemmas.Bool.{cases_Bool, cases_lt, eq-eqb, eqb-false, eqb-true, le-ltb, lt-ltb}
+use Rattle.std.proofs.lemmas.Bool.{cases_Bool, cases_lt, cases_order, eq-eqb, eqb-false, eqb-true, le-ltb, lt-ltb}
 use Rattle.std.proofs.lemmas.List.{get_or-map, get_or_past, length-map}
 use Rattle.std.proofs.lemmas.List.Elements.{All-head, All-tail, filter_passes}
 use Rattle.std.proofs.lemmas.List.FromFn.{get_or-map-range_with_len, length-map-range_with_len}
@@ -235,6 +235,62 @@ settled states conflicts a b square short long entry here there =
     (all_within 0 (row_count conflicts) a (omega arith) (omega (arith, short))) (passes_within (is_entry conflicts a) 0 (column_count conflicts) b (omega arith) (omega (arith, long, square)) entry)
     (not_before (after_rows states conflicts) (promoted_of states conflicts) a (end_keeps states conflicts a) here) (not_before (after_rows states conflicts) (promoted_of states conflicts) b (end_keeps states conflicts b) there)
 
+-- ---- the state that holds a local
+
+-- an item that passes a test
+one_passes : {A : Type 0} (test : A → Bool) (xs : List A) (j : ℕ) (d : A) → j < length xs → test (get_or xs j d) ≡ true → 0 < length (filter test xs)
+one_passes test [] j d within is = absurd (omega (arith, within))
+one_passes test (x ∷ xs) zero d within is = rw is (omega arith)
+one_passes test (x ∷ xs) (suc j) d within is = by (test x) (one_passes test xs j d (omega (arith, within)) is)
+  where
+    by : (b : Bool) → 0 < length (filter test xs) → 0 < length (cond b (x ∷ filter test xs) (filter test xs))
+    by true more = omega arith
+    by false more = more
+
+-- two items that do
+two_pass : {A : Type 0} (test : A → Bool) (xs : List A) (i j : ℕ) (d : A) → i < j → j < length xs → test (get_or xs i d) ≡ true → test (get_or xs j d) ≡ true → 2 ≤ length (filter test xs)
+two_pass test [] i j d before within here there = absurd (omega (arith, within))
+two_pass test (x ∷ xs) zero zero d before within here there = absurd (omega (arith, before))
+two_pass test (x ∷ xs) zero (suc j) d before within here there = rw here (omega (arith, one_passes test xs j d (omega (arith, within)) there))
+two_pass test (x ∷ xs) (suc i) zero d before within here there = absurd (omega (arith, before))
+two_pass test (x ∷ xs) (suc i) (suc j) d before within here there = by (test x) (two_pass test xs i j d (omega (arith, before)) (omega (arith, within)) here there)
+  where
+    by : (b : Bool) → 2 ≤ length (filter test xs) → 2 ≤ length (cond b (x ∷ filter test xs) (filter test xs))
+    by true more = omega (arith, more)
+    by false more = more
+
+-- the first state that holds a local, where one does
+first_holds : (states : List (List ℕ)) (local i : ℕ) → i < length states → has_number (get_or states i []) local ≡ true → (holder_of states local < length states) × (has_number (get_or states (holder_of states local) []) local ≡ true)
+first_holds [] local i within holds = absurd (omega (arith, within))
+first_holds (state ∷ states) local zero within holds = rw holds (omega arith, holds)
+first_holds (state ∷ states) local (suc i) within holds = by (has_number state local) refl (first_holds states local i (omega (arith, within)) holds)
+  where
+    by : (b : Bool) → has_number state local ≡ b → (holder_of states local < length states) × (has_number (get_or states (holder_of states local) []) local ≡ true)
+        → ((if b then 0 else holder_of states local + 1) < length (state ∷ states)) × (has_number (get_or (state ∷ states) (if b then 0 else holder_of states local + 1) []) local ≡ true)
+    by true is later = (omega arith, is)
+    by false is later = rw add-one (omega (arith, later.0), later.1)
+
+-- a local that is held by one state at most is held by no other
+pub one_holder : (states : List (List ℕ)) (local i j : ℕ) → holder_count states local ≤ 1 → i < length states → j < length states → has_number (get_or states i []) local ≡ true → has_number (get_or states j []) local ≡ true → i ≡ j
+one_holder states local i j once here there holds too = elim (cases_order i j) [
+  | inl same ↦ same
+  | inr (inl before) ↦ absurd (omega (arith, once, two_pass (λ state. has_number state local) states i j [] before there holds too))
+  | inr (inr behind) ↦ absurd (omega (arith, once, two_pass (λ state. has_number state local) states j i [] behind here too holds))
+]
+
+-- and that one is the first
+pub holder_is : (states : List (List ℕ)) (local i : ℕ) → holder_count states local ≤ 1 → i < length states → has_number (get_or states i []) local ≡ true → holder_of states local ≡ i
+holder_is states local i once within holds =
+    let first = first_holds states local i within holds in
+    one_holder states local (holder_of states local) i once first.0 within first.1 holds
+
+-- a local that isn't promoted is held by one state at most
+pub held_once : (states : List (List ℕ)) (conflicts : Relation) (local : ℕ) → local < row_count conflicts → is_member (promoted_of states conflicts) local ≡ false → holder_count states local ≤ 1
+held_once states conflicts local within other = elim (cases_lt 1 (holder_count states local)) [
+  | inl several ↦ let is : is_member (promoted_of states conflicts) local ≡ true = several_are_promoted states conflicts local within several in absurd (cc)
+  | inr few ↦ few
+]
+
 -- ---- states that may share all their bytes
 
 -- a set without members
@@ -265,28 +321,6 @@ rows_still : (states : List (List ℕ)) (conflicts : Relation) → MayOverlap (r
 rows_still states conflicts may =
     fold_fixed (after_row states conflicts) (held_by_several states (row_count conflicts)) (source_order (row_count conflicts))
     (λ k d short. row_still states conflicts (held_by_several states (row_count conflicts)) (get_or (source_order (row_count conflicts)) k d) (none_by_several states (row_count conflicts) may.once) may.peaceful)
-
--- an item that passes a test
-one_passes : {A : Type 0} (test : A → Bool) (xs : List A) (j : ℕ) (d : A) → j < length xs → test (get_or xs j d) ≡ true → 0 < length (filter test xs)
-one_passes test [] j d within is = absurd (omega (arith, within))
-one_passes test (x ∷ xs) zero d within is = rw is (omega arith)
-one_passes test (x ∷ xs) (suc j) d within is = by (test x) (one_passes test xs j d (omega (arith, within)) is)
-  where
-    by : (b : Bool) → 0 < length (filter test xs) → 0 < length (cond b (x ∷ filter test xs) (filter test xs))
-    by true more = omega arith
-    by false more = more
-
--- two items that do
-two_pass : {A : Type 0} (test : A → Bool) (xs : List A) (i j : ℕ) (d : A) → i < j → j < length xs → test (get_or xs i d) ≡ true → test (get_or xs j d) ≡ true → 2 ≤ length (filter test xs)
-two_pass test [] i j d before within here there = absurd (omega (arith, within))
-two_pass test (x ∷ xs) zero zero d before within here there = absurd (omega (arith, before))
-two_pass test (x ∷ xs) zero (suc j) d before within here there = rw here (omega (arith, one_passes test xs j d (omega (arith, within)) there))
-two_pass test (x ∷ xs) (suc i) zero d before within here there = absurd (omega (arith, before))
-two_pass test (x ∷ xs) (suc i) (suc j) d before within here there = by (test x) (two_pass test xs i j d (omega (arith, before)) (omega (arith, within)) here there)
-  where
-    by : (b : Bool) → 2 ≤ length (filter test xs) → 2 ≤ length (cond b (x ∷ filter test xs) (filter test xs))
-    by true more = omega (arith, more)
-    by false more = more
 
 -- a place with an item is in range
 some_within : (states : List (List ℕ)) (i : ℕ) → 0 < length (variant_at states i) → i < length states

@@ -58,3 +58,5 @@ pub mod SameType
 pub mod CoroutineHolders
 pub mod CoroutineSteps
 pub mod CoroutinePromotion
+pub mod CoroutinePlaces
+pub mod CoroutineClash
