@@ -1,8 +1,7 @@
 -- The conflicts of a coroutine's locals, settled one after another.
 use Rattle.std.proofs.Common.{◌≡◌, ℕ, ◌+◌, ◌<◌, ◌≤◌, ◌==◌, ◌||◌, All, Bool, true, false, List, [], ◌∷◌, ap, arith, cond, fold, get_or, length, map, nat_lt, not, refl, sym, take, ◌∙◌}
-use Rattle.std.specs.Prelude.{if◌then◌else◌}
 use Rattle.std.specs.List.{list_any, range_with_len}
-use Rattle.std.proofs.lemmas.Bool.{le-ltb, lt-ltb}
+use Rattle.std.proofs.lemmas.Bool.{lt-ltb}
 use Rattle.std.proofs.lemmas.List.{ext_get_or, get_or-map, length-map}
 use Rattle.std.proofs.lemmas.List.Elements.{All-filter, All-head, All-map, All-same, All-tail}
 use Rattle.std.proofs.lemmas.List.Folds.{list_any_at}
@@ -10,7 +9,7 @@ use Rattle.std.proofs.lemmas.List.Filters.{length-filter_more}
 use Rattle.std.proofs.lemmas.List.FromFn.{fill_by_all, get_or-map-range_with_len, get_or-range_with_len, length-map-range_with_len, length-range_with_len}
 use Rattle.abi_index.specs.BitSet.{is_member}
 use Rattle.abi_index.specs.Relation.{Relation, column_count, columns_of, is_entry}
-use Rattle.abi_calc.specs.Coroutine.Promotion.{after_rows, holder_of, holders_of, promote, promoted_of, used_count}
+use Rattle.abi_calc.specs.Coroutine.Promotion.{holder_of, holders_of, promote, used_count}
 use Rattle.abi_calc.specs.Placement.{source_order}
 use Rattle.abi_calc.proofs.CoroutineHolders.{numbers_there}
 
@@ -103,20 +102,8 @@ used_more number promoted states i count next item shown b within is same before
 
 -- ---- the end
 
--- all are promoted where fewer than two states are in use
-pub end_all : (states : List (List ℕ)) (conflicts : Relation) (done set : List Bool) → done ≡ after_rows states conflicts → used_count states done < 2 → length set ≡ length done
-    → ((k : ℕ) → is_member set k ≡ nat_lt k (length done)) → set ≡ promoted_of states conflicts
-end_all states conflicts done set is few size members =
-    let here : set ≡ map (λ (x : Bool). true) done
-    = ext_get_or false set (map (λ (x : Bool). true) done) (size ∙ sym (length-map done (λ (x : Bool). true)))
-    (λ k within. let short : k < length done = omega (arith, within, size) in members k ∙ lt-ltb k (length done) short ∙ sym (get_or-map (λ (x : Bool). true) done k false false short)) in
-    let less : nat_lt (used_count states done) 2 ≡ true = lt-ltb (used_count states done) 2 few in
-    let chosen : set ≡ (if nat_lt (used_count states done) 2 then map (λ (x : Bool). true) done else done) = rw less here in
-    chosen ∙ ap (λ d. if nat_lt (used_count states d) 2 then map (λ (x : Bool). true) d else d) is
-
--- else no others are
-pub end_some : (states : List (List ℕ)) (conflicts : Relation) (done : List Bool) → done ≡ after_rows states conflicts → 2 ≤ used_count states done → done ≡ promoted_of states conflicts
-end_some states conflicts done is many =
-    let more : nat_lt (used_count states done) 2 ≡ false = le-ltb (used_count states done) 2 many in
-    let chosen : done ≡ (if nat_lt (used_count states done) 2 then map (λ (x : Bool). true) done else done) = rw more refl in
-    chosen ∙ ap (λ d. if nat_lt (used_count states d) 2 then map (λ (x : Bool). true) d else d) is
+-- a set that has all members that another may have
+pub promoted_all : (old new : List Bool) → length new ≡ length old → ((k : ℕ) → is_member new k ≡ nat_lt k (length old)) → new ≡ map (λ (local : Bool). true) old
+promoted_all old new size members =
+    ext_get_or false new (map (λ (local : Bool). true) old) (size ∙ sym (length-map old (λ (local : Bool). true)))
+    (λ k within. let short : k < length old = omega (arith, within, size) in members k ∙ lt-ltb k (length old) short ∙ sym (get_or-map (λ (local : Bool). true) old k false false short))

@@ -1,11 +1,11 @@
 //! Which locals of a coroutine are promoted.
 
-ghost use Rattle.std.specs.Prelude.{◌≡◌, ℕ, ◌+◌, ◌<◌, ◌≤◌, ◌==◌, ◌&&◌, ◌||◌, not, All, IfOk, List, fold, if◌then◌else◌, length, map, slice_index};
+ghost use Rattle.std.specs.Prelude.{◌≡◌, ℕ, ◌+◌, ◌<◌, ◌≤◌, ◌==◌, ◌&&◌, ◌||◌, not, All, IfOk, List, fold, if◌then◌else◌, length, map, nat_lt, slice_index, true};
 ghost use Rattle.std.specs.List.{list_any};
 ghost use Rattle.abi_index.specs.Ascending.{has_number};
 ghost use Rattle.abi_index.specs.BitSet.{domain_size, is_member};
 ghost use Rattle.abi_index.specs.Relation.{column_count, row_count};
-ghost use Rattle.abi_calc.specs.Coroutine.Promotion.{after_conflict, after_row, are_settled, given_up, held_by_several, holders_of, promote, promoted_of, used_count};
+ghost use Rattle.abi_calc.specs.Coroutine.Promotion.{after_conflict, after_row, are_settled, given_up, held_by_several, holder_of, holders_of, promote, promoted_of, used_count};
 ghost use Rattle.abi_calc.specs.Placement.{source_order};
 
 use abi_index::{BitMatrix, DenseBitSet, Idx, IndexVec};
@@ -82,6 +82,17 @@ fn held_by_several<FieldIdx: Idx, LocalIdx: Idx>(
     Ok(several)
 }
 
+/// Whether one state is the first that holds both locals, or no state holds either.
+#[tactic(auto, using(crate::proofs::CoroutineSteps::same_holder))]
+fn have_same_holder<LocalIdx: Idx>(holders: &[usize], a: LocalIdx, b: LocalIdx) -> bool
+    requires first { LocalIdx.number a < length holders.now }
+    requires second { LocalIdx.number b < length holders.now }
+    ensures { (states : List (List ℕ)) → holders.now ≡ holders_of states (length holders.now)
+        → result ≡ (holder_of states (LocalIdx.number a) == holder_of states (LocalIdx.number b)) }
+{
+    holders[a.index()] == holders[b.index()]
+}
+
 /// Whether a row's local and a column's need no promotion: the column's is promoted already, or one state is the first that
 /// holds both, or none is, while the row's isn't promoted.
 fn are_settled<LocalIdx: Idx>(
@@ -96,8 +107,7 @@ fn are_settled<LocalIdx: Idx>(
     ensures { (states : List (List ℕ)) → holders.now ≡ holders_of states (length holders.now)
         → result ≡ are_settled states (LocalIdx.number row) (LocalIdx.number column) promoted.now }
 {
-    promoted.contains(column)
-        || (!promoted.contains(row) && holders[row.index()] == holders[column.index()])
+    promoted.contains(column) || (!promoted.contains(row) && have_same_holder(holders, row, column))
 }
 
 /// Which of two locals is promoted: the row's where its row has more conflicts, else the column's.
@@ -127,6 +137,7 @@ fn promote<LocalIdx: Idx>(local: LocalIdx, promoted: &mut DenseBitSet<LocalIdx>)
 }
 
 /// Settles the conflict of a row's local with a column's: promotes one of them where that is needed.
+#[tactic(auto, using(crate::proofs::CoroutineSteps::promoted_size))]
 fn settle<LocalIdx: Idx>(
     holders: &[usize],
     conflicts: &BitMatrix<LocalIdx, LocalIdx>,
@@ -220,6 +231,21 @@ fn used_count<FieldIdx: Idx, LocalIdx: Idx>(
     count
 }
 
+/// Promotes all locals where fewer than two states hold another.
+#[tactic(auto, using(crate::proofs::CoroutineSteps::promoted_all))]
+fn promote_if_few<FieldIdx: Idx, LocalIdx: Idx>(
+    states: &[IndexVec<FieldIdx, LocalIdx>],
+    promoted: &mut DenseBitSet<LocalIdx>,
+)
+    requires { All (All (λ l. LocalIdx.number l < domain_size promoted.old)) states.now }
+    ensures { promoted.new ≡ (if nat_lt (used_count (map (map LocalIdx.number) states.now) promoted.old) 2
+        then map (λ local. true) promoted.old else promoted.old) }
+{
+    if used_count(states, promoted) < 2 {
+        promoted.insert_all();
+    }
+}
+
 /// How many locals there are: one for each row of their conflicts.
 fn local_count<LocalIdx: Idx>(conflicts: &BitMatrix<LocalIdx, LocalIdx>) -> usize
     ensures count { result ≡ row_count conflicts.now }
@@ -247,8 +273,6 @@ pub(crate) fn promoted_locals<FieldIdx: Idx, LocalIdx: Idx>(
     let holders = holders_of(alloc, states, local_count(conflicts))?;
     let mut promoted = held_by_several(alloc, states, &holders)?;
     settle_rows(&holders, conflicts, &mut promoted);
-    if used_count(states, &promoted) < 2 {
-        promoted.insert_all();
-    }
+    promote_if_few(states, &mut promoted);
     Ok(promoted)
 }

@@ -1,11 +1,10 @@
-use Rattle.std.proofs.Common.{◌≡◌, ap, arith, fold, length, map, sym, ◌∙◌}
+use Rattle.std.proofs.Common.{◌≡◌, ap, arith, fold, length, map, nat_lt, sym, Bool, true, ◌∙◌}
+use Rattle.std.specs.Prelude.{if◌then◌else◌}
 use Rattle.abi_index.specs.Relation.{row_count}
-use Rattle.abi_calc.specs.Coroutine.Promotion.{after_row, after_rows, held_by_several, holders_of}
+use Rattle.abi_calc.specs.Coroutine.Promotion.{after_row, after_rows, held_by_several, holders_of, used_count}
 use Rattle.abi_calc.specs.Placement.{source_order}
 use Rattle.abi_calc.proofs.CoroutineHolders.{holders_size, several_size}
-use Rattle.abi_calc.proofs.CoroutineSteps.{end_all, end_some}
 use Rattle.abi_calc.proofs.coroutine.promotion.promoted_locals.Goals as goal
-use Rattle.abi_calc.proofs.coroutine.promotion.promoted_locals.Goals.{then-used_count-lt2, else-used_count-lt2}
 
 pub held_by_several-requires-clause-count : goal.held_by_several-requires-clause-count
 held_by_several-requires-clause-count g c =
@@ -39,7 +38,4 @@ returns g c =
     let done : c.settle_rows.new.promoted ≡ after_rows (map (map g.LocalIdx.Idx.number) c.args.states.now) c.args.conflicts.now
     = c.settle_rows.ensures.settled states (c.deref-2.ensures.value ∙ c.in_ok-holders.ensures ∙ ap (holders_of states) c.local_count.ensures.count)
     ∙ ap (λ set. fold (after_row states c.args.conflicts.now) set (source_order (row_count c.args.conflicts.now))) (c.in_ok-promoted.ensures ∙ ap (held_by_several states) size) in
-    elim c.if-used_count-lt2.branch [
-      | then-used_count-lt2 w ↦ record { exact = w.promoted-is ∙ end_all states c.args.conflicts.now c.settle_rows.new.promoted w.insert_all.new.self done (omega (arith, w.if-used_count-lt2.true, c.used_count.ensures)) w.insert_all.ensures.size w.insert_all.ensures.members }
-      | else-used_count-lt2 w ↦ record { exact = w.promoted-is ∙ end_some states c.args.conflicts.now c.settle_rows.new.promoted done (omega (arith, w.if-used_count-lt2.false, c.used_count.ensures)) }
-    ]
+    record { exact = c.promote_if_few.ensures ∙ ap (λ d. if nat_lt (used_count states d) 2 then map (λ (local : Bool). true) d else d) done }
