@@ -258,9 +258,10 @@ fn local_count<LocalIdx: Idx>(conflicts: &BitMatrix<LocalIdx, LocalIdx>) -> usiz
     count
 }
 
-/// The locals that lie beside the prefix fields and the tag. Those that several states hold do. Then the rows of the conflicts
-/// are gone through, and in each row its columns: of two locals of different states one is promoted, unless one is already. All
-/// are, where fewer than two states would hold another.
+/// The locals that lie beside the prefix fields and the tag, where they share no byte with any other: those that several states
+/// hold. Then the rows of the conflicts ascend, without those of promoted locals, and the columns of each: of two locals that
+/// aren't settled the one whose row has more conflicts is promoted, the column's where both have as many. Where fewer than two
+/// states hold another, all are. A refused request for memory is the one error.
 pub(crate) fn promoted_locals<FieldIdx: Idx, LocalIdx: Idx>(
     alloc: Global,
     states: &[IndexVec<FieldIdx, LocalIdx>],
