@@ -55,3 +55,8 @@ pub mod OneRange
 pub mod OneEnum
 pub mod SomeEnum
 pub mod SameType
+pub mod CoroutineHolders
+pub mod CoroutineSteps
+pub mod CoroutinePromotion
+pub mod CoroutinePlaces
+pub mod CoroutineClash

@@ -16,6 +16,10 @@ abbrev pub holder_of : (states : List (List ℕ)) → (local : ℕ) → ℕ
 holder_of [] local = 0
 holder_of (state ∷ states) local = if has_number state local then 0 else holder_of states local + 1
 
+-- the same of each of so many locals
+abbrev pub holders_of : (states : List (List ℕ)) → (count : ℕ) → List ℕ
+holders_of states count = map (holder_of states) (source_order count)
+
 -- so many locals, of which those are promoted that several states hold
 abbrev pub held_by_several : (states : List (List ℕ)) → (count : ℕ) → List Bool
 held_by_several states count = map (λ local. nat_lt 1 (holder_count states local)) (source_order count)

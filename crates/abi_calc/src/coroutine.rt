@@ -1,0 +1,3 @@
+//! Coroutines.
+
+mod promotion;
