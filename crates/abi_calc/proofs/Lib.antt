@@ -55,3 +55,4 @@ pub mod OneRange
 pub mod OneEnum
 pub mod SomeEnum
 pub mod SameType
+pub mod CoroutineLists
