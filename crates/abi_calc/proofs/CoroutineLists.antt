@@ -60,7 +60,7 @@ own_push : (promoted : List Bool) (state : List ℕ) (l : ℕ) (b : Bool) → no
 own_push promoted state l b e =
     filter-append (λ local. not (is_member promoted local)) state (l ∷ []) ∙ ap (λ xs. own_of promoted state ++ xs) (kept_one (λ local. not (is_member promoted local)) l b e)
 
-own_next : {L : Type 0} (number : L → ℕ) (promoted : List Bool) (state : List L) (i : ℕ) (local : L) (b : Bool) → i < length state → local ≡ get_or state i local → not (is_member promoted (number local)) ≡ b
+pub own_next : {L : Type 0} (number : L → ℕ) (promoted : List Bool) (state : List L) (i : ℕ) (local : L) (b : Bool) → i < length state → local ≡ get_or state i local → not (is_member promoted (number local)) ≡ b
     → own_of promoted (map number (take (i + 1) state)) ≡ own_of promoted (map number (take i state)) ++ cond b (number local ∷ []) []
 own_next number promoted state i local b short there e =
     ap (own_of promoted) (map_more number state i local short ∙ ap (λ l. map number (take i state) ++ number l ∷ []) (sym there)) ∙ own_push promoted (map number (take i state)) (number local) b e

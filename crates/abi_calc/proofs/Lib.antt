@@ -56,3 +56,4 @@ pub mod OneEnum
 pub mod SomeEnum
 pub mod SameType
 pub mod CoroutineLists
+pub mod CoroutineStates
