@@ -34,7 +34,7 @@ member_below (b ∷ bs) zero e = omega arith
 member_below (b ∷ bs) (suc l) e = omega (arith, member_below bs l e)
 
 -- the numbers from one on, up to another and from there
-range_split : (a n m : ℕ) → range_with_len a (n + m) ≡ range_with_len a n ++ range_with_len (a + n) m
+pub range_split : (a n m : ℕ) → range_with_len a (n + m) ≡ range_with_len a n ++ range_with_len (a + n) m
 range_split a zero m =
     let start : a ≡ a + 0 = omega arith in
     let count : 0 + m ≡ m = omega arith in
@@ -157,7 +157,7 @@ abbrev pub IsHeldBefore : (promoted : List Bool) (state : List ℕ) (held : List
 IsHeldBefore promoted state held n = (rank : ℕ) → rank < length (members_of promoted) → option_to_list (get_or held rank None) ≡ places_before promoted state rank n
 
 -- none is kept of numbers that fail
-none_kept : (p : ℕ → Bool) (n : ℕ) → ((k : ℕ) → k < n → p k ≡ false) → filter p (range_with_len 0 n) ≡ []
+pub none_kept : (p : ℕ → Bool) (n : ℕ) → ((k : ℕ) → k < n → p k ≡ false) → filter p (range_with_len 0 n) ≡ []
 none_kept p zero all = refl
 none_kept p (suc n) all =
     let e : suc n ≡ n + 1 = omega arith in
@@ -207,7 +207,7 @@ rank_read promoted below l e low = (
 -- ---- places in an order
 
 -- as many places of a state name locals that aren't promoted as there are such locals
-kept_map : {A B : Type 0} (p : B → Bool) (f : A → B) (xs : List A) → length (filter p (map f xs)) ≡ length (filter (λ x. p (f x)) xs)
+pub kept_map : {A B : Type 0} (p : B → Bool) (f : A → B) (xs : List A) → length (filter p (map f xs)) ≡ length (filter (λ x. p (f x)) xs)
 kept_map p f [] = refl
 kept_map p f (x ∷ xs) = by (p (f x)) (kept_map p f xs)
   where

@@ -57,3 +57,4 @@ pub mod SomeEnum
 pub mod SameType
 pub mod CoroutineLists
 pub mod CoroutineStates
+pub mod CoroutineLayout

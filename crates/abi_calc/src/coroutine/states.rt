@@ -182,7 +182,8 @@ fn state_order<FieldIdx: Idx, LocalIdx: Idx>(
     requires within { All (λ l. LocalIdx.number l < domain_size promoted.now) state.now }
     requires once { AllPairs (λ a b. a ≢ b) (map LocalIdx.number state.now) }
     requires below { below.now ≡ map (rank_of promoted.now) (source_order (domain_size promoted.now)) }
-    requires ranks { IsPermutation (source_order (length (members_of promoted.now))) ranks.now }
+    requires ranks { length ranks.now ≡ length (members_of promoted.now) }
+    requires each { All (λ rank. rank < length (members_of promoted.now)) ranks.now }
     requires own { IsPermutation (source_order (length (own_of promoted.now (map LocalIdx.number state.now)))) (map FieldIdx.number own.now) }
     ensures { IfOk result (λ list. list ≡ map FieldIdx.at (state_order promoted.now ranks.now (map FieldIdx.number own.now) (map LocalIdx.number state.now))) }
 {
@@ -193,7 +194,7 @@ fn state_order<FieldIdx: Idx, LocalIdx: Idx>(
 
 /// A state in the whole: its own list, with the promoted locals that it holds. The promoted ones lie at these offsets, by
 /// rank, and follow one another in memory as these ranks do; so many of them are `below` each local.
-fn state_layout<FieldIdx: Idx, VariantIdx: Idx, LocalIdx: Idx>(
+pub fn state_layout<FieldIdx: Idx, VariantIdx: Idx, LocalIdx: Idx>(
     alloc: Global,
     promoted: &DenseBitSet<LocalIdx>,
     below: &[usize],
@@ -207,7 +208,8 @@ fn state_layout<FieldIdx: Idx, VariantIdx: Idx, LocalIdx: Idx>(
     requires once { AllPairs (λ a b. a ≢ b) (map LocalIdx.number state.now) }
     requires below { below.now ≡ map (rank_of promoted.now) (source_order (domain_size promoted.now)) }
     requires shared { length shared.now ≡ length (members_of promoted.now) }
-    requires ranks { IsPermutation (source_order (length (members_of promoted.now))) ranks.now }
+    requires ranks { length ranks.now ≡ length (members_of promoted.now) }
+    requires each { All (λ rank. rank < length (members_of promoted.now)) ranks.now }
     requires list { HasFields FieldIdx.number (length (own_of promoted.now (map LocalIdx.number state.now))) list }
     ensures { IfOk result (λ variant. variant ≡ stitched_layout FieldIdx.at FieldIdx.number promoted.now shared.now ranks.now (map LocalIdx.number state.now) list) }
 {

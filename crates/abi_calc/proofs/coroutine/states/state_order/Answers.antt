@@ -13,8 +13,8 @@ use Rattle.abi_calc.proofs.coroutine.states.state_order.Goals as goal
 pub joined_places-requires-clause-ranks : goal.joined_places-requires-clause-ranks
 joined_places-requires-clause-ranks g c k d short =
     let long : length c.deref.result.now ≡ length c.args.ranks.now = ap length c.deref.ensures.value ∙ c.in_ok-held.ensures.count in
-    let low = within_order (length (members_of c.args.promoted.now)) c.args.ranks.now c.requires.ranks k d short in
-    omega (arith, low, long, order_count (length (members_of c.args.promoted.now)) c.args.ranks.now c.requires.ranks)
+    let low = c.requires.each k d short in
+    omega (arith, low, long, c.requires.ranks)
 
 pub joined_places-requires-clause-own : goal.joined_places-requires-clause-own
 joined_places-requires-clause-own g c k d short =
@@ -42,18 +42,15 @@ pub joined_places-requires-clause-room : goal.joined_places-requires-clause-room
 joined_places-requires-clause-room g c =
     let numbers = map g.LocalIdx.Idx.number c.args.state.now in
     let few = members_and_own c.args.promoted.now (map g.LocalIdx.Idx.number c.args.state.now) c.requires.once (All-map (λ l. l < length c.args.promoted.now) g.LocalIdx.Idx.number c.args.state.now c.requires.within) in
-    let first = order_count (length (members_of c.args.promoted.now)) c.args.ranks.now c.requires.ranks in
+    let first = c.requires.ranks in
     let second = order_count (length (own_of c.args.promoted.now (map g.LocalIdx.Idx.number c.args.state.now))) (map g.FieldIdx.Idx.number c.args.own.now) c.requires.own in
     omega (arith, few, first, second, length-map c.args.own.now g.FieldIdx.Idx.number, c.requires.named, g.met.LocalIdx.Idx.small)
 
 pub returns : goal.returns
 returns g c =
-    let first = order_count (length (members_of c.args.promoted.now)) c.args.ranks.now c.requires.ranks in
+    let first = c.requires.ranks in
     let same = joined_is c.args.promoted.now c.deref.result.now c.args.ranks.now c.deref-2.result.now (map g.FieldIdx.Idx.number c.args.own.now) (map g.LocalIdx.Idx.number c.args.state.now)
-    (λ k d short. (let low = within_order (length (members_of c.args.promoted.now)) c.args.ranks.now c.requires.ranks k d short in omega (arith, low, first)))
+    (λ k d short. (let low = c.requires.each k d short in omega (arith, low, first)))
     (λ rank low. ap (λ h. option_to_list (slice_index_or h rank None)) c.deref.ensures.value ∙ c.in_ok-held.ensures.held rank low)
     (c.deref-2.ensures.value ∙ c.in_ok-places.ensures.places) in
     subst (λ order. IfOk c.joined_places.result (λ list. list ≡ map g.FieldIdx.Idx.at order)) same c.joined_places.ensures
-
-pub held_places-requires-clause-count : goal.held_places-requires-clause-count
-held_places-requires-clause-count g c = order_count (length (members_of c.args.promoted.now)) c.args.ranks.now c.requires.ranks
