@@ -237,6 +237,11 @@ found_below xs n q all found =
     let low = all some.0 some.1 some.2 in
     omega (arith, e, same, low)
 
+-- the members are below the set's size
+pub members_below : (promoted : List Bool) → All (λ l. l < length promoted) (members_of promoted)
+members_below promoted i d short =
+    member_below promoted (get_or (members_of promoted) i d) (All-get_or (λ x. is_member promoted x ≡ true) (members_of promoted) i d short (filter_passes (is_member promoted) (range_with_len 0 (length promoted - 0))))
+
 -- the members of a set and those of a state's locals that it hasn't are no more than it might have
 pub members_and_own : (promoted : List Bool) (state : List ℕ) → AllPairs (λ a b. a ≢ b) state → All (λ l. l < length promoted) state → length (members_of promoted) + length (own_of promoted state) ≤ length promoted
 members_and_own promoted state once within =
@@ -252,12 +257,17 @@ members_and_own promoted state once within =
         cc)) in
     let below : All (λ l. l < length promoted) (members_of promoted ++ own_of promoted state)
     = All-append (λ l. l < length promoted) (members_of promoted) (own_of promoted state)
-      (λ i d short. member_below promoted (get_or (members_of promoted) i d) (All-get_or (λ x. is_member promoted x ≡ true) (members_of promoted) i d short (filter_passes (is_member promoted) (range_with_len 0 (length promoted - 0)))))
+      (members_below promoted)
       (All-filter (λ l. not (is_member promoted l)) (λ l. l < length promoted) state within) in
     let distinct = IsDistinct-from_AllPairs Decides-eqb (members_of promoted ++ own_of promoted state) (pairs_append (λ a b. a ≢ b) (members_of promoted) (own_of promoted state) first second cross) in
     let few = length-le_from_distinct_below (members_of promoted ++ own_of promoted state) (length promoted) distinct (λ q found. found_below (members_of promoted ++ own_of promoted state) (length promoted) q below found) in
     let long = length-append (members_of promoted) (own_of promoted state) in
     omega (arith, few, long)
+
+-- so there are no more members than that
+pub members_few : (promoted : List Bool) → length (members_of promoted) ≤ length promoted
+members_few promoted =
+    omega (arith, members_and_own promoted [] (λ i j d low short. absurd (omega (arith, short))) (λ k d short. absurd (omega (arith, short))))
 
 -- ranks that follow one another alike
 pub same_flat : {A : Type 0} (f h : ℕ → List A) (n : ℕ) (xs : List ℕ) → All (λ x. x < n) xs → ((k : ℕ) → k < n → f k ≡ h k) → flat_map f xs ≡ flat_map h xs

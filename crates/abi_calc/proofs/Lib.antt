@@ -58,3 +58,4 @@ pub mod SameType
 pub mod CoroutineLists
 pub mod CoroutineStates
 pub mod CoroutineLayout
+pub mod CoroutineAnswers

@@ -4,7 +4,7 @@ ghost use Rattle.std.specs.Prelude.{◌≡◌, ◌+◌, ◌<◌, ◌≤◌, ◌�
 ghost use Rattle.abi_base.specs.DataLayout.{IsLawfulDataLayout, size_bound};
 ghost use Rattle.abi_index.specs.BitSet.{domain_size};
 ghost use Rattle.abi_scalar.specs.Lawful.{IsLawfulLayout};
-ghost use Rattle.abi_calc.specs.Coroutine.Lists.{AreOwnLists, IsFirstOwnError, default_repr, first_list, own_list};
+ghost use Rattle.abi_calc.specs.Coroutine.Lists.{behind, default_repr, first_list, own_list};
 ghost use Rattle.abi_calc.specs.Coroutine.Sizes.{own_lists};
 ghost use Rattle.abi_calc.specs.Enums.Lists.{AreGoodLists, IsFirstListError, IsGoodList};
 ghost use Rattle.abi_calc.specs.List.{IsListError};
@@ -21,6 +21,15 @@ pub fn default_repr() -> ReprOptions
     ensures { result ≡ default_repr }
 {
     ReprOptions::default()
+}
+
+/// Of which kind the states' lists are: each lies behind the first one.
+pub fn behind<FieldIdx: Idx, VariantIdx: Idx>(
+    first: &LayoutData<FieldIdx, VariantIdx>,
+) -> StructKind
+    ensures { result ≡ behind first.now }
+{
+    StructKind::Prefixed(first.size, first.align.abi)
 }
 
 /// The fields of the first list: the prefix fields, the one that holds the tag, and the promoted locals, ascending.
