@@ -59,3 +59,4 @@ pub mod CoroutineLists
 pub mod CoroutineStates
 pub mod CoroutineLayout
 pub mod CoroutineAnswers
+pub mod CoroutineTold

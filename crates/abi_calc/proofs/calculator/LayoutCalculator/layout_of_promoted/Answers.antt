@@ -18,6 +18,7 @@ use Rattle.abi_calc.proofs.CoroutineAnswers.{IsAsked, IsPromised, first_count, f
 use Rattle.abi_calc.proofs.CoroutineLists.{same_error}
 use Rattle.abi_calc.proofs.CoroutineStates.{members_few}
 use Rattle.abi_calc.proofs.EnumLists.{good_lawful}
+use Rattle.abi_calc.proofs.CoroutineTold.{beside_state}
 use Rattle.abi_calc.proofs.calculator.LayoutCalculator.layout_of_promoted.Goals as goal
 
 pub layout_of_variant-requires-clause-fields : goal.layout_of_variant-requires-clause-fields
