@@ -60,3 +60,4 @@ pub mod CoroutineStates
 pub mod CoroutineLayout
 pub mod CoroutineAnswers
 pub mod CoroutineTold
+pub mod CoroutineApart

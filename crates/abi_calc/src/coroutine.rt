@@ -13,6 +13,7 @@ ghost use Rattle.abi_scalar.specs.Simple.{scalar_layout};
 ghost use Rattle.abi_calc.specs.Answer.{IsAnswer};
 ghost use Rattle.abi_calc.specs.List.{AreSized};
 ghost use Rattle.abi_calc.specs.Coroutine.Answer.{IsPromotedAnswer};
+ghost use Rattle.abi_calc.specs.Coroutine.Clash.{IsToldByState};
 ghost use Rattle.abi_calc.specs.Coroutine.Layout.{IsStateTag};
 ghost use Rattle.abi_calc.specs.Coroutine.Sizes.{IsSizeWith, IsTooLargeWith};
 
@@ -60,6 +61,9 @@ impl<Cx: HasDataLayout> LayoutCalculator<Cx> {
         requires count { length prefix + length locals.now ≤ FieldIdx.MAX_INDEX }
         ensures exact { IsPromotedAnswer F.layout_of FieldIdx.at FieldIdx.number (VariantIdx.at 0) (Cx.target self.now.cx) prefix tag field locals.now (map (map LocalIdx.number) states.now) promoted.now result }
         ensures lawful { IfOk result (IsLawfulLayout (Cx.target self.now.cx)) }
+
+        // The tag and the prefix fields, and the locals of each state, share no byte; the states' numbers are the tag's.
+        ensures told { IfOk result (IsToldByState (Cx.target self.now.cx) FieldIdx.at (map F.layout_of prefix) (map F.layout_of locals.now) (map (map LocalIdx.number) states.now)) }
 
         // The size is that of the first list and those behind it, each of its least size.
         ensures size { IfOk result (λ l. IsSizeWith (Cx.target self.now.cx) (map F.layout_of prefix) (scalar_layout (VariantIdx.at 0) (Cx.target self.now.cx) tag) (map F.layout_of locals.now) (map (map LocalIdx.number) states.now) promoted.now l.size) }

@@ -1,8 +1,9 @@
 -- The lists have layouts, and the whole is what they make.
-use Rattle.std.proofs.Common.{◌≡◌, ◌+◌, ◌<◌, ◌≤◌, ◌∙◌, [], ap, arith, length, map, subst, sym}
+use Rattle.std.proofs.Common.{◌≡◌, ◌≢◌, ◌+◌, ◌<◌, ◌≤◌, ◌∙◌, [], ap, arith, length, map, subst, sym}
 use Rattle.std.specs.Prelude.{◌⊎◌, All, IfErr, IfOk}
+use Rattle.std.specs.List.{AllPairs}
 use Rattle.std.proofs.lemmas.List.{length-map}
-use Rattle.std.proofs.lemmas.List.Elements.{All-nil}
+use Rattle.std.proofs.lemmas.List.Elements.{All-map, All-weaker}
 use Rattle.abi_base.specs.declared.struct_kind.StructKind.TheVariants.{AlwaysSized}
 use Rattle.abi_base.specs.DataLayout.{size_bound}
 use Rattle.abi_index.specs.BitSet.{members_of}
@@ -18,7 +19,7 @@ use Rattle.abi_calc.proofs.CoroutineAnswers.{IsAsked, IsPromised, first_count, f
 use Rattle.abi_calc.proofs.CoroutineLists.{same_error}
 use Rattle.abi_calc.proofs.CoroutineStates.{members_few}
 use Rattle.abi_calc.proofs.EnumLists.{good_lawful}
-use Rattle.abi_calc.proofs.CoroutineTold.{beside_state}
+use Rattle.abi_calc.proofs.CoroutineApart.{told_promised}
 use Rattle.abi_calc.proofs.calculator.LayoutCalculator.layout_of_promoted.Goals as goal
 
 pub layout_of_variant-requires-clause-fields : goal.layout_of_variant-requires-clause-fields
@@ -48,6 +49,7 @@ returns-in-Err g c =
     record {
       exact = p.exact;
       lawful = p.lawful;
+      told = tt;
       size = p.size;
       too_large = p.too_large;
       refused = p.refused;
@@ -72,6 +74,7 @@ returns-in-Err-layouts_of_own g c =
     record {
       exact = p.exact;
       lawful = p.lawful;
+      told = tt;
       size = p.size;
       too_large = p.too_large;
       refused = p.refused;
@@ -127,6 +130,12 @@ returns g c =
     record {
       exact = p.exact;
       lawful = p.lawful;
+      told = told_promised g.F.LayoutHandle.layout_of g.FieldIdx.Idx.at g.FieldIdx.Idx.number (g.VariantIdx.Idx.at 0) (g.Cx.HasDataLayout.target c.args.self.now.cx) c.args.prefix c.args.tag c.args.field c.args.locals.now c.args.promoted.now
+          c.requires.field c.requires.same c.in-Ok.first good (map (map g.LocalIdx.Idx.number) c.args.states.now) c.in-Ok-layouts_of_own.lists.items
+          (λ layout. whole_size c.in-Ok.first c.in-Ok-layouts_of_own.lists.items < size_bound (g.Cx.HasDataLayout.target c.args.self.now.cx)) c.layout_of_lists.result asked.tells
+          (All-map (All (λ l. l < length c.args.locals.now)) (map g.LocalIdx.Idx.number) c.args.states.now
+          (All-weaker (All (λ l. g.LocalIdx.Idx.number l < length c.args.locals.now)) (λ s. All (λ l. l < length c.args.locals.now) (map g.LocalIdx.Idx.number s)) (λ s. All-map (λ l. l < length c.args.locals.now) g.LocalIdx.Idx.number s) c.args.states.now c.requires.within))
+          (All-map (AllPairs (λ a b. a ≢ b)) (map g.LocalIdx.Idx.number) c.args.states.now c.requires.once) others laid;
       size = p.size;
       too_large = p.too_large;
       refused = p.refused;
