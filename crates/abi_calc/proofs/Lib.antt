@@ -61,3 +61,4 @@ pub mod CoroutineLayout
 pub mod CoroutineAnswers
 pub mod CoroutineTold
 pub mod CoroutineApart
+pub mod CoroutineCall
