@@ -60,3 +60,10 @@ pub mod CoroutineSteps
 pub mod CoroutinePromotion
 pub mod CoroutinePlaces
 pub mod CoroutineClash
+pub mod CoroutineLists
+pub mod CoroutineStates
+pub mod CoroutineLayout
+pub mod CoroutineAnswers
+pub mod CoroutineTold
+pub mod CoroutineApart
+pub mod CoroutineCall
