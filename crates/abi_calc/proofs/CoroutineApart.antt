@@ -97,6 +97,12 @@ module _ {F V H : Type 0} (layout_of : H → LayoutData F V) (at : ℕ → F) (n
   first_apart : AreApart first.size (shared_offsets ++ drop (length prefix + 1) (listed_offsets first.fields)) (shared_sizes ++ map local_size (members_of promoted))
   first_apart = subst (λ os. AreApart first.size os (shared_sizes ++ map local_size (members_of promoted))) (sym (take-append-drop (length prefix + 1) (listed_offsets first.fields))) (subst (AreApart first.size (listed_offsets first.fields)) first_sizes good.apart)
 
+  shared_long : length shared_offsets ≡ length (map layout_of prefix) + 1
+  shared_long =
+      let offsets = good.listed.count ∙ first_count prefix field locals promoted many in
+      let front = length-take-le (length prefix + 1) (listed_offsets first.fields) (omega (arith, offsets)) in
+      omega (arith, front, length-map prefix layout_of)
+
   shared_count : length shared_offsets ≡ length shared_sizes
   shared_count =
       let offsets = good.listed.count ∙ first_count prefix field locals promoted many in
@@ -135,6 +141,7 @@ module _ {F V H : Type 0} (layout_of : H → LayoutData F V) (at : ℕ → F) (n
     offsets = shared_offsets;
     order = filter (λ i. nat_lt (number i) (length prefix + 1)) (listed_order first.fields);
     fields = refl;
+    count = shared_long;
     layouts = state_layouts at number (length prefix + 1) promoted first states lists;
     told = ap (λ n. Multiple tag Direct (at n) (state_layouts at number (length prefix + 1) promoted first states lists)) (sym (length-map prefix layout_of));
     apart = states_apart (whole_size first lists) states lists (All-head (λ l. l.size ≤ whole_size first lists) first lists (whole_above first lists))

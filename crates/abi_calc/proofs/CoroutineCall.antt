@@ -37,36 +37,3 @@ one_tag count a b s t =
     let same : integer_size s.0 ≡ integer_size t.0 = omega (arith, down, up) in
     let integer : s.0 ≡ t.0 = sym (size_back s.0) ∙ ap by_size same ∙ size_back t.0 in
     s.2 ∙ ap (λ i. Initialized (Int i false) (record { start = 0; end = count - 1 })) integer ∙ sym t.2
-
--- ---- how many locals there are
-
-keeps : (b : Bool) (xs ys : List Bool) → length xs ≡ length ys → length (if b then xs else ys) ≡ length ys
-keeps true xs ys e = e
-keeps false xs ys e = refl
-
--- the set of promoted locals has a place for each local
-conflict_keeps : (states : List (List ℕ)) (conflicts : Relation) (row : ℕ) (promoted : List Bool) (column : ℕ) → length (after_conflict states conflicts row promoted column) ≡ length promoted
-conflict_keeps states conflicts row promoted column =
-    by (are_settled states row column promoted)
-  where
-    by : (b : Bool) → length (if b then promoted else promote (given_up conflicts row column) promoted) ≡ length promoted
-    by true = refl
-    by false = length-map-range_with_len _ 0 (length promoted)
-
-row_keeps : (states : List (List ℕ)) (conflicts : Relation) (row : ℕ) (columns : List ℕ) (promoted : List Bool) → length (fold (after_conflict states conflicts row) promoted columns) ≡ length promoted
-row_keeps states conflicts row [] promoted = refl
-row_keeps states conflicts row (c ∷ cs) promoted = row_keeps states conflicts row cs (after_conflict states conflicts row promoted c) ∙ conflict_keeps states conflicts row promoted c
-
-rows_keep : (states : List (List ℕ)) (conflicts : Relation) (rows : List ℕ) (promoted : List Bool) → length (fold (after_row states conflicts) promoted rows) ≡ length promoted
-rows_keep states conflicts [] promoted = refl
-rows_keep states conflicts (r ∷ rs) promoted = rows_keep states conflicts rs (after_row states conflicts promoted r) ∙ one_row states conflicts r promoted (is_member promoted r)
-  where
-    one_row : (states : List (List ℕ)) (conflicts : Relation) (r : ℕ) (promoted : List Bool) (b : Bool) → length (if b then promoted else fold (after_conflict states conflicts r) promoted (columns_of conflicts r)) ≡ length promoted
-    one_row states conflicts r promoted true = refl
-    one_row states conflicts r promoted false = row_keeps states conflicts r (columns_of conflicts r) promoted
-
-pub promoted_count : (states : List (List ℕ)) (conflicts : Relation) → length (promoted_of states conflicts) ≡ row_count conflicts
-promoted_count states conflicts =
-    keeps (nat_lt (used_count states (after_rows states conflicts)) 2) (map (λ local. true) (after_rows states conflicts)) (after_rows states conflicts) (length-map (after_rows states conflicts) (λ local. true))
-    ∙ rows_keep states conflicts (source_order (row_count conflicts)) (held_by_several states (row_count conflicts))
-    ∙ length-map-range_with_len (λ local. nat_lt 1 (holder_count states local)) 0 (row_count conflicts)

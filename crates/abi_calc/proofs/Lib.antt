@@ -67,3 +67,4 @@ pub mod CoroutineAnswers
 pub mod CoroutineTold
 pub mod CoroutineApart
 pub mod CoroutineCall
+pub mod CoroutineShared

@@ -9,18 +9,19 @@ ghost use Rattle.std.specs.Prelude.{◌≡◌, ◌≢◌, ◌+◌, ◌<◌, ◌�
 ghost use Rattle.std.specs.List.{AllPairs};
 ghost use Rattle.abi_base.specs.DataLayout.{IsLawfulDataLayout};
 ghost use Rattle.abi_index.specs.BitSet.{domain_size};
-ghost use Rattle.abi_index.specs.Relation.{column_count, row_count};
+ghost use Rattle.abi_index.specs.Relation.{Relation, column_count, row_count};
 ghost use Rattle.abi_index.specs.Slice.{items_of};
 ghost use Rattle.abi_scalar.specs.declared.scalar.Scalar.{Scalar};
 ghost use Rattle.abi_scalar.specs.Lawful.{IsLawfulLayout};
 ghost use Rattle.abi_scalar.specs.Simple.{scalar_layout};
+ghost use Rattle.abi_scalar.specs.Variant.{variants_of};
 ghost use Rattle.abi_calc.specs.Answer.{IsAnswer};
 ghost use Rattle.abi_calc.specs.List.{AreSized};
 ghost use Rattle.abi_calc.specs.Coroutine.Answer.{IsCoroutineAnswer, IsPromotedAnswer};
-ghost use Rattle.abi_calc.specs.Coroutine.Clash.{IsToldByState};
+ghost use Rattle.abi_calc.specs.Coroutine.Clash.{AreClashingApart, HaveOneOffset, IsToldByState};
 ghost use Rattle.abi_calc.specs.Coroutine.Layout.{IsStateTag};
 ghost use Rattle.abi_calc.specs.Coroutine.Promotion.{promoted_of};
-ghost use Rattle.abi_calc.specs.Coroutine.Sizes.{IsSizeWith, IsTooLargeWith};
+ghost use Rattle.abi_calc.specs.Coroutine.Sizes.{IsOverlapSize, IsSizeWith, IsTooLargeWith, MayOverlap};
 
 use crate::calculator::LayoutCalculator;
 use crate::coroutine::layout::{layout_of_lists, state_tag};
@@ -70,6 +71,13 @@ impl<Cx: HasDataLayout> LayoutCalculator<Cx> {
 
         // The tag and the prefix fields, and the locals of each state, share no byte; the states' numbers are the tag's.
         ensures told { IfOk result (IsToldByState (Cx.target self.now.cx) FieldIdx.at (map F.layout_of prefix) (map F.layout_of locals.now) (map (map LocalIdx.number) states.now)) }
+
+        // Where the states and some conflicts tell which locals are promoted, those that clash share no byte, and each has one
+        // offset.
+        ensures clash { (conflicts : Relation) → promoted.now ≡ promoted_of (map (map LocalIdx.number) states.now) conflicts → column_count conflicts ≡ row_count conflicts → row_count conflicts ≡ length locals.now
+            → IfOk result (λ l. AreClashingApart (map (map LocalIdx.number) states.now) conflicts (map F.layout_of locals.now) (variants_of l.variants)) }
+        ensures one_offset { (conflicts : Relation) → promoted.now ≡ promoted_of (map (map LocalIdx.number) states.now) conflicts → row_count conflicts ≡ length locals.now
+            → IfOk result (λ l. HaveOneOffset (map (map LocalIdx.number) states.now) (variants_of l.variants)) }
 
         // The size is that of the first list and those behind it, each of its least size.
         ensures size { IfOk result (λ l. IsSizeWith (Cx.target self.now.cx) (map F.layout_of prefix) (scalar_layout (VariantIdx.at 0) (Cx.target self.now.cx) tag) (map F.layout_of locals.now) (map (map LocalIdx.number) states.now) promoted.now l.size) }
@@ -150,8 +158,17 @@ impl<Cx: HasDataLayout> LayoutCalculator<Cx> {
         // The prefix fields, the tag and the locals of each state share no byte, and the tag may hold each state's index.
         ensures told { IfOk result (IsToldByState (Cx.target self.now.cx) FieldIdx.at (map F.layout_of prefix) (map F.layout_of locals.now) (map (map LocalIdx.number) states.now)) }
 
+        // Different locals that one state holds, or that conflict in either direction, share no byte, and a local has one offset.
+        ensures clash { IfOk result (λ l. AreClashingApart (map (map LocalIdx.number) states.now) conflicts.now (map F.layout_of locals.now) (variants_of l.variants)) }
+        ensures one_offset { IfOk result (λ l. HaveOneOffset (map (map LocalIdx.number) states.now) (variants_of l.variants)) }
+
         // The size is that of the first list and those behind it, each of its least size.
         ensures size { (tag : Scalar) → IsStateTag (length states.now) tag → IfOk result (λ l. IsSizeWith (Cx.target self.now.cx) (map F.layout_of prefix) (scalar_layout (VariantIdx.at 0) (Cx.target self.now.cx) tag) (map F.layout_of locals.now) (map (map LocalIdx.number) states.now) (promoted_of (map (map LocalIdx.number) states.now) conflicts.now) l.size) }
+
+        // Where each local stands in one state, several states hold locals and no conflict joins two of them, the states share all
+        // their bytes: no local is promoted.
+        ensures overlap { MayOverlap (row_count conflicts.now) (map (map LocalIdx.number) states.now) conflicts.now → (tag : Scalar) → IsStateTag (length states.now) tag
+            → IfOk result (λ l. IsOverlapSize (Cx.target self.now.cx) (map F.layout_of prefix) (scalar_layout (VariantIdx.at 0) (Cx.target self.now.cx) tag) (map F.layout_of locals.now) (map (map LocalIdx.number) states.now) l.size) }
 
         // It is refused for its size only where a list is too large in each allowed order, or that size is, and sized fields
         // always then; sized fields are refused by no other name.
@@ -222,8 +239,17 @@ impl<Cx: HasDataLayout> LayoutCalculator<Cx> {
         // The prefix fields, the tag and the locals of each state share no byte, and the tag may hold each state's index.
         ensures told { IfOk result (IsToldByState (Cx.target self.now.cx) FieldIdx.at (map F.layout_of prefix_layouts) (map F.layout_of (items_of local_layouts.entry)) (map (map LocalIdx.number) (items_of variant_fields.entry))) }
 
+        // Different locals that one state holds, or that conflict in either direction, share no byte, and a local has one offset.
+        ensures clash { IfOk result (λ l. AreClashingApart (map (map LocalIdx.number) (items_of variant_fields.entry)) storage_conflicts.now (map F.layout_of (items_of local_layouts.entry)) (variants_of l.variants)) }
+        ensures one_offset { IfOk result (λ l. HaveOneOffset (map (map LocalIdx.number) (items_of variant_fields.entry)) (variants_of l.variants)) }
+
         // The size is that of the first list and those behind it, each of its least size.
         ensures size { (tag : Scalar) → IsStateTag (length (items_of variant_fields.entry)) tag → IfOk result (λ l. IsSizeWith (Cx.target self.now.cx) (map F.layout_of prefix_layouts) (scalar_layout (VariantIdx.at 0) (Cx.target self.now.cx) tag) (map F.layout_of (items_of local_layouts.entry)) (map (map LocalIdx.number) (items_of variant_fields.entry)) (promoted_of (map (map LocalIdx.number) (items_of variant_fields.entry)) storage_conflicts.now) l.size) }
+
+        // Where each local stands in one state, several states hold locals and no conflict joins two of them, the states share all
+        // their bytes: no local is promoted.
+        ensures overlap { MayOverlap (row_count storage_conflicts.now) (map (map LocalIdx.number) (items_of variant_fields.entry)) storage_conflicts.now → (tag : Scalar) → IsStateTag (length (items_of variant_fields.entry)) tag
+            → IfOk result (λ l. IsOverlapSize (Cx.target self.now.cx) (map F.layout_of prefix_layouts) (scalar_layout (VariantIdx.at 0) (Cx.target self.now.cx) tag) (map F.layout_of (items_of local_layouts.entry)) (map (map LocalIdx.number) (items_of variant_fields.entry)) l.size) }
 
         // It is refused for its size only where a list is too large in each allowed order, or that size is, and sized fields
         // always then; sized fields are refused by no other name.

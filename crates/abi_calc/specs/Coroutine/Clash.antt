@@ -51,6 +51,7 @@ pub record IsToldByState {F V : Type 0} (dl : TargetDataLayout) (at : ℕ → F)
   pub offsets : List ℕ
   pub order : List F
   pub fields : layout.fields ≡ Arbitrary offsets order
+  pub count : length offsets ≡ length prefix + 1
   pub layouts : List (VariantLayout F)
   pub told : layout.variants ≡ Multiple tag Direct (at (length prefix)) layouts
   pub apart : AreStatesApart layout.size offsets (map (λ f. f.size) prefix ++ scalar_size dl tag ∷ []) locals states layouts

@@ -8,7 +8,7 @@ use Rattle.abi_base.specs.declared.struct_kind.StructKind.TheVariants.{AlwaysSiz
 use Rattle.abi_base.specs.DataLayout.{size_bound}
 use Rattle.abi_index.specs.Relation.{Relation, is_entry}
 use Rattle.abi_scalar.specs.declared.layout_data.LayoutData.{LayoutData}
-use Rattle.abi_calc.specs.Coroutine.Lists.{default_repr, first_list, own_list}
+use Rattle.abi_calc.specs.Coroutine.Lists.{default_repr, first_list, own_list, picked}
 use Rattle.abi_calc.specs.Coroutine.Promotion.{holder_count, holder_of}
 use Rattle.abi_calc.specs.Fields.{greatest}
 use Rattle.abi_calc.specs.Least.{IsEachOrderTooLarge, IsLeastSize, align_by}
@@ -48,6 +48,10 @@ AreListsTooLarge dl first own =
 abbrev pub IsSizeWith : {F V : Type 0} → TargetDataLayout → (prefix : List (LayoutData F V)) → (tag : LayoutData F V) → (locals : List (LayoutData F V)) → (states : List (List ℕ)) → (promoted : List Bool) → (size : ℕ) → Type 0
 IsSizeWith dl prefix tag locals states promoted size =
     IsSizeOfLists dl (first_list prefix tag locals promoted) (own_lists locals promoted states) size
+
+-- its size where none is: each state's locals lie in a list behind the one of the prefix fields and the tag
+abbrev pub IsOverlapSize : {F V : Type 0} → TargetDataLayout → (prefix : List (LayoutData F V)) → (tag : LayoutData F V) → (locals : List (LayoutData F V)) → (states : List (List ℕ)) → (size : ℕ) → Type 0
+IsOverlapSize dl prefix tag locals states size = IsSizeOfLists dl (prefix ++ tag ∷ []) (map (picked locals) states) size
 
 -- it is too large where these are promoted
 abbrev pub IsTooLargeWith : {F V : Type 0} → TargetDataLayout → (prefix : List (LayoutData F V)) → (tag : LayoutData F V) → (locals : List (LayoutData F V)) → (states : List (List ℕ)) → (promoted : List Bool) → Type 0

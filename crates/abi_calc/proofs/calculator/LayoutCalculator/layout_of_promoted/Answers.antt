@@ -20,6 +20,7 @@ use Rattle.abi_calc.proofs.CoroutineLists.{same_error}
 use Rattle.abi_calc.proofs.CoroutineStates.{members_few}
 use Rattle.abi_calc.proofs.EnumLists.{good_lawful}
 use Rattle.abi_calc.proofs.CoroutineApart.{told_promised}
+use Rattle.abi_calc.proofs.CoroutineShared.{clash_promised, offset_promised}
 use Rattle.abi_calc.proofs.calculator.LayoutCalculator.layout_of_promoted.Goals as goal
 
 pub layout_of_variant-requires-clause-fields : goal.layout_of_variant-requires-clause-fields
@@ -50,6 +51,8 @@ returns-in-Err g c =
       exact = p.exact;
       lawful = p.lawful;
       told = tt;
+      clash = λ conflicts is square count. tt;
+      one_offset = λ conflicts is count. tt;
       size = p.size;
       too_large = p.too_large;
       refused = p.refused;
@@ -75,6 +78,8 @@ returns-in-Err-layouts_of_own g c =
       exact = p.exact;
       lawful = p.lawful;
       told = tt;
+      clash = λ conflicts is square count. tt;
+      one_offset = λ conflicts is count. tt;
       size = p.size;
       too_large = p.too_large;
       refused = p.refused;
@@ -127,15 +132,24 @@ returns g c =
     × (layout ≡ coroutine_layout g.FieldIdx.Idx.at g.FieldIdx.Idx.number c.len-count.result c.args.tag c.args.promoted.now (map (map g.LocalIdx.Idx.number) c.args.states.now) c.in-Ok.first c.in-Ok-layouts_of_own.lists.items))) c.data_layout-dl.ensures c.layout_of_lists.ensures.exact) in
     let fault = subst (λ d. IfErr c.layout_of_lists.result (λ e. ((size_bound d ≤ whole_size c.in-Ok.first c.in-Ok-layouts_of_own.lists.items) × (e ≡ SizeOverflow)) ⊎ (e ≡ OutOfMemory))) c.data_layout-dl.ensures c.layout_of_lists.ensures.fault in
     let p = whole_promised g.F.LayoutHandle.layout_of g.FieldIdx.Idx.at g.FieldIdx.Idx.number (g.VariantIdx.Idx.at 0) (g.Cx.HasDataLayout.target c.args.self.now.cx) c.args.prefix c.args.tag c.args.field c.args.locals.now (map (map g.LocalIdx.Idx.number) c.args.states.now) c.args.promoted.now asked c.in-Ok.first good c.in-Ok-layouts_of_own.lists.items others c.layout_of_lists.result laid fault in
+    let states = map (map g.LocalIdx.Idx.number) c.args.states.now in
+    let within : All (All (λ l. l < length c.args.locals.now)) (map (map g.LocalIdx.Idx.number) c.args.states.now)
+    = All-map (All (λ l. l < length c.args.locals.now)) (map g.LocalIdx.Idx.number) c.args.states.now
+      (All-weaker (All (λ l. g.LocalIdx.Idx.number l < length c.args.locals.now)) (λ s. All (λ l. l < length c.args.locals.now) (map g.LocalIdx.Idx.number s)) (λ s. All-map (λ l. l < length c.args.locals.now) g.LocalIdx.Idx.number s) c.args.states.now c.requires.within) in
+    let once : All (AllPairs (λ a b. a ≢ b)) (map (map g.LocalIdx.Idx.number) c.args.states.now) = All-map (AllPairs (λ a b. a ≢ b)) (map g.LocalIdx.Idx.number) c.args.states.now c.requires.once in
     record {
       exact = p.exact;
       lawful = p.lawful;
       told = told_promised g.F.LayoutHandle.layout_of g.FieldIdx.Idx.at g.FieldIdx.Idx.number (g.VariantIdx.Idx.at 0) (g.Cx.HasDataLayout.target c.args.self.now.cx) c.args.prefix c.args.tag c.args.field c.args.locals.now c.args.promoted.now
           c.requires.field c.requires.same c.in-Ok.first good (map (map g.LocalIdx.Idx.number) c.args.states.now) c.in-Ok-layouts_of_own.lists.items
           (λ layout. whole_size c.in-Ok.first c.in-Ok-layouts_of_own.lists.items < size_bound (g.Cx.HasDataLayout.target c.args.self.now.cx)) c.layout_of_lists.result asked.tells
-          (All-map (All (λ l. l < length c.args.locals.now)) (map g.LocalIdx.Idx.number) c.args.states.now
-          (All-weaker (All (λ l. g.LocalIdx.Idx.number l < length c.args.locals.now)) (λ s. All (λ l. l < length c.args.locals.now) (map g.LocalIdx.Idx.number s)) (λ s. All-map (λ l. l < length c.args.locals.now) g.LocalIdx.Idx.number s) c.args.states.now c.requires.within))
-          (All-map (AllPairs (λ a b. a ≢ b)) (map g.LocalIdx.Idx.number) c.args.states.now c.requires.once) others laid;
+          within once others laid;
+      clash = λ conflicts is square count. clash_promised g.F.LayoutHandle.layout_of g.FieldIdx.Idx.at g.FieldIdx.Idx.number (g.VariantIdx.Idx.at 0) (g.Cx.HasDataLayout.target c.args.self.now.cx) c.args.prefix c.args.tag c.args.field c.args.locals.now
+          states conflicts c.in-Ok.first c.in-Ok-layouts_of_own.lists.items c.args.promoted.now is count within square good others
+          (λ layout. whole_size c.in-Ok.first c.in-Ok-layouts_of_own.lists.items < size_bound (g.Cx.HasDataLayout.target c.args.self.now.cx)) c.layout_of_lists.result laid;
+      one_offset = λ conflicts is count. offset_promised g.F.LayoutHandle.layout_of g.FieldIdx.Idx.at g.FieldIdx.Idx.number (g.VariantIdx.Idx.at 0) (g.Cx.HasDataLayout.target c.args.self.now.cx) c.args.prefix c.args.tag c.args.field c.args.locals.now
+          states conflicts c.in-Ok.first c.in-Ok-layouts_of_own.lists.items c.args.promoted.now is count within once
+          (λ layout. whole_size c.in-Ok.first c.in-Ok-layouts_of_own.lists.items < size_bound (g.Cx.HasDataLayout.target c.args.self.now.cx)) c.layout_of_lists.result laid;
       size = p.size;
       too_large = p.too_large;
       refused = p.refused;
