@@ -37,7 +37,8 @@ struct Row {
     states: &'static [&'static [u32]],
     conflicts: &'static [(u32, u32)],
     size: u64,
-    align: Align,
+    /// In bytes.
+    align: u64,
     /// Where the prefix fields and the tag lie, and their memory order.
     offsets: &'static [u64],
     order: &'static [u32],
@@ -55,7 +56,7 @@ const ROWS: &[Row] = &[
         states: &[&[], &[0], &[1]],
         conflicts: &[],
         size: 12,
-        align: Align::FOUR,
+        align: 4,
         offsets: &[0],
         order: &[0],
         lies: &[(&[], &[], 1, false), (&[4], &[0], 12, false), (&[4], &[0], 12, false)],
@@ -68,7 +69,7 @@ const ROWS: &[Row] = &[
         states: &[&[], &[0], &[1]],
         conflicts: &[(0, 1)],
         size: 20,
-        align: Align::FOUR,
+        align: 4,
         offsets: &[16],
         order: &[0],
         lies: &[(&[], &[], 20, false), (&[0], &[0], 20, false), (&[8], &[0], 20, false)],
@@ -81,7 +82,7 @@ const ROWS: &[Row] = &[
         states: &[&[], &[0], &[1]],
         conflicts: &[(1, 0)],
         size: 20,
-        align: Align::FOUR,
+        align: 4,
         offsets: &[16],
         order: &[0],
         lies: &[(&[], &[], 20, false), (&[0], &[0], 20, false), (&[8], &[0], 20, false)],
@@ -94,7 +95,7 @@ const ROWS: &[Row] = &[
         states: &[&[], &[0], &[1]],
         conflicts: &[],
         size: 12,
-        align: Align::FOUR,
+        align: 4,
         offsets: &[0, 2],
         order: &[0, 1],
         lies: &[(&[], &[], 4, false), (&[4], &[0], 12, false), (&[4], &[0], 12, false)],
@@ -107,7 +108,7 @@ const ROWS: &[Row] = &[
         states: &[&[0], &[1], &[2]],
         conflicts: &[(0, 1)],
         size: 12,
-        align: Align::FOUR,
+        align: 4,
         offsets: &[4],
         order: &[0],
         lies: &[(&[0], &[0], 8, false), (&[8], &[0], 12, false), (&[8], &[0], 12, false)],
@@ -120,7 +121,7 @@ const ROWS: &[Row] = &[
         states: &[&[]],
         conflicts: &[],
         size: 2,
-        align: Align::ONE,
+        align: 1,
         offsets: &[0],
         order: &[0],
         lies: &[(&[], &[], 2, false)],
@@ -133,7 +134,7 @@ const ROWS: &[Row] = &[
         states: &[&[0], &[1], &[2]],
         conflicts: &[(0, 0), (0, 1), (0, 2), (1, 0), (1, 1), (1, 2), (2, 0), (2, 1), (2, 2)],
         size: 16,
-        align: Align::FOUR,
+        align: 4,
         offsets: &[12],
         order: &[0],
         lies: &[(&[0], &[0], 16, false), (&[4], &[0], 16, false), (&[8], &[0], 16, false)],
@@ -146,7 +147,7 @@ const ROWS: &[Row] = &[
         states: &[&[0, 1], &[2, 0]],
         conflicts: &[],
         size: 12,
-        align: Align::FOUR,
+        align: 4,
         offsets: &[4],
         order: &[0],
         lies: &[(&[0, 8], &[0, 1], 12, false), (&[8, 0], &[1, 0], 12, false)],
@@ -159,7 +160,7 @@ const ROWS: &[Row] = &[
         states: &[&[0], &[1]],
         conflicts: &[],
         size: 2,
-        align: Align::ONE,
+        align: 1,
         offsets: &[0],
         order: &[0],
         lies: &[(&[1], &[0], 1, true), (&[1], &[0], 2, false)],
@@ -172,7 +173,7 @@ const ROWS: &[Row] = &[
         states: &[&[0], &[1]],
         conflicts: &[],
         size: 1,
-        align: Align::ONE,
+        align: 1,
         offsets: &[0],
         order: &[0],
         lies: &[(&[1], &[0], 1, true), (&[1], &[0], 1, true)],
@@ -306,7 +307,7 @@ impl Row {
             fields,
             told,
             self.size,
-            self.align,
+            Align::from_bytes(self.align).unwrap_or(Align::ONE),
             self.uninhabited,
         ))
     }
@@ -320,17 +321,16 @@ impl Row {
     ) -> Result<bool, AllocError>
         requires { IsLawfulDataLayout dl.now }
     {
-        let (prefix, locals) = (
-            layouts_of(alloc, dl, self.prefix)?,
-            layouts_of(alloc, dl, self.locals)?,
-        );
+        let prefix = layouts_of(alloc, dl, self.prefix)?;
+        let locals = layouts_of(alloc, dl, self.locals)?;
+        let (before, all) = (lent(alloc, &prefix)?, lent(alloc, &locals)?);
         let mut states: Vec<State> = Vec::with_capacity(alloc, self.states.len())?;
         for locals in self.states {
             states.push(state(rt, alloc, locals)?)?;
         }
         let asked = Coroutine {
-            prefix: &lent(alloc, &prefix)?,
-            locals: &lent(alloc, &locals)?,
+            prefix: &before,
+            locals: &all,
             states: &states,
             conflicts: self.conflicts,
         };

@@ -4,6 +4,7 @@ ghost use Rattle.std.specs.Prelude.{◌≡◌, ◌≢◌, ◌<◌, ◌≤◌, Al
 ghost use Rattle.std.specs.List.{AllPairs};
 ghost use Rattle.abi_base.specs.DataLayout.{IsLawfulDataLayout};
 ghost use Rattle.abi_index.specs.Relation.{column_count, row_count};
+ghost use Rattle.abi_calc.specs.Coroutine.Layout.{IsStateTag};
 
 use crate::samples::{Answer, Laid, are_lawful};
 use abi_base::{Integer, Primitive, TargetDataLayout};
@@ -107,6 +108,7 @@ fn matrix(
 /// The tag of so many states.
 fn tag_of(count: usize) -> Scalar
     requires { 0 < count }
+    ensures { IsStateTag count result }
 {
     let last = count as u128 - 1;
     Scalar::Initialized {
@@ -131,6 +133,7 @@ fn listed<'a>(alloc: Global, fields: &[&'a Laid]) -> Result<IndexVec<FieldIdx, &
 }
 
 /// The layout of the coroutine, which has to be what the call asks for.
+#[tactic(auto, using(abi_calc::proofs::CoroutineCall::one_tag))]
 pub(crate) fn answered(
     rt: &impl Abort,
     alloc: Global,
