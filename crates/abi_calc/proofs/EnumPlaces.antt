@@ -362,7 +362,7 @@ neither true b e = cc
 neither false b e = refl
 
 -- the names of the fields are their numbers
-named_back : {F : Type 0} (at : ℕ → F) (number : F → ℕ) (most : ℕ) → ((i : ℕ) → i ≤ most → number (at i) ≡ i) → (order : List ℕ) → All (λ i. i ≤ most) order → map number (map at order) ≡ order
+pub named_back : {F : Type 0} (at : ℕ → F) (number : F → ℕ) (most : ℕ) → ((i : ℕ) → i ≤ most → number (at i) ≡ i) → (order : List ℕ) → All (λ i. i ≤ most) order → map number (map at order) ≡ order
 named_back at number most law [] within = refl
 named_back at number most law (i ∷ order) within =
     rw (law i (All-head (λ i. i ≤ most) i order within), named_back at number most law order (All-tail (λ i. i ≤ most) i order within)) refl

@@ -34,7 +34,7 @@ own_least : (dl : TargetDataLayout) (repr : ReprOptions) → repr.pack ≡ None 
 own_least dl repr e = rw e refl
 
 -- what stands later in a list stands in it
-later_contains : {A : Type 0} (x : A) (xs : List A) (y : A) → Contains xs y → Contains (x ∷ xs) y
+pub later_contains : {A : Type 0} (x : A) (xs : List A) (y : A) → Contains xs y → Contains (x ∷ xs) y
 later_contains x xs y c = let lt : c.0 < length xs = c.1 in (suc c.0, omega (arith, lt), c.2)
 
 module _ {F V : Type 0} (dl : TargetDataLayout) (repr : ReprOptions) (kind : StructKind) where
@@ -140,7 +140,7 @@ module _ {F V H : Type 0} (layout_of : H → LayoutData F V) (at : ℕ → F) (f
   error_sized (v ∷ vs) error fields sized (inr later) = error_sized vs error (All-tail AreSized (map layout_of v) (map (map layout_of) vs) fields) sized later.2
 
   -- a list that has a layout isn't too large in each order
-  good_fits : (fields : List H) (list : LayoutData F V) → IsGoodList layout_of at first dl repr kind fields list → IsEachOrderTooLarge dl repr kind (map layout_of fields) → ⊥
+  pub good_fits : (fields : List H) (list : LayoutData F V) → IsGoodList layout_of at first dl repr kind fields list → IsEachOrderTooLarge dl repr kind (map layout_of fields) → ⊥
   good_fits fields list good large =
       let least = good.least in
       let over : size_bound dl ≤ size_by dl repr kind (map layout_of fields) least.some.0 = large least.some.0 least.some.1 in
@@ -148,7 +148,7 @@ module _ {F V H : Type 0} (layout_of : H → LayoutData F V) (at : ℕ → F) (f
       let below : list.size < size_bound dl = good.lawful.bound in
       omega (arith, over, size, below)
 
-  all_fit : (variants : List (List H)) (lists : List (LayoutData F V)) → AreGoodLists layout_of at first dl repr kind variants lists
+  pub all_fit : (variants : List (List H)) (lists : List (LayoutData F V)) → AreGoodLists layout_of at first dl repr kind variants lists
       → All (λ fields. IsEachOrderTooLarge dl repr kind fields → ⊥) (map (map layout_of) variants)
   all_fit [] [] good = All-nil (λ fields. IsEachOrderTooLarge dl repr kind fields → ⊥)
   all_fit [] (l ∷ ls) good = elim good [ ]

@@ -55,3 +55,16 @@ pub mod OneRange
 pub mod OneEnum
 pub mod SomeEnum
 pub mod SameType
+pub mod CoroutineHolders
+pub mod CoroutineSteps
+pub mod CoroutinePromotion
+pub mod CoroutinePlaces
+pub mod CoroutineClash
+pub mod CoroutineLists
+pub mod CoroutineStates
+pub mod CoroutineLayout
+pub mod CoroutineAnswers
+pub mod CoroutineTold
+pub mod CoroutineApart
+pub mod CoroutineCall
+pub mod CoroutineShared

@@ -4,13 +4,13 @@ mod choice;
 mod discriminants;
 mod growth;
 mod in_niche;
-mod lists;
+pub(crate) mod lists;
 mod niche;
 mod path;
 mod payload;
 mod several;
 mod single;
-mod tagged;
+pub(crate) mod tagged;
 
 ghost use Rattle.std.specs.Prelude.{◌≡◌, ◌⊎◌, All, Err, IfErr, IfOk, IsSome, IsTrue, None, false, length, map};
 ghost use Rattle.std.specs.Iterator.{IsFinite};

@@ -3,6 +3,7 @@
 
 mod array;
 mod calculator;
+mod coroutine;
 mod enums;
 mod fields;
 mod list;

@@ -46,7 +46,7 @@ pub fn any_uninhabited<FieldIdx: Idx, VariantIdx: Idx, F: LayoutHandle<FieldIdx,
 }
 
 /// These offsets, as those of fields.
-fn field_offsets<FieldIdx: Idx>(
+pub fn field_offsets<FieldIdx: Idx>(
     alloc: Global,
     offsets: &[Size],
 ) -> Result<IndexVec<FieldIdx, Size>, AllocError>

@@ -13,13 +13,13 @@ use std::test::Fail;
 
 /// Numbers that look like chance, the same in each run.
 #[derive(Clone, Copy)]
-struct Dice {
-    state: u64,
+pub(crate) struct Dice {
+    pub(crate) state: u64,
 }
 
 impl Dice {
     /// The next number, which is below this one.
-    fn roll(&mut self, below: u64) -> u64
+    pub(crate) fn roll(&mut self, below: u64) -> u64
         requires { 0 < below }
         ensures { result < below }
     {

@@ -5,6 +5,12 @@
 #[cfg(test)]
 mod arrays;
 #[cfg(test)]
+mod coroutine_plain;
+#[cfg(test)]
+mod coroutine_rows;
+#[cfg(test)]
+mod coroutines;
+#[cfg(test)]
 mod every_order;
 #[cfg(test)]
 mod generated;

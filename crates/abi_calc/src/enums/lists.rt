@@ -63,7 +63,7 @@ pub fn behind_tag<FieldIdx: Idx, VariantIdx: Idx, F: LayoutHandle<FieldIdx, Vari
 
 impl<Cx: HasDataLayout> LayoutCalculator<Cx> {
     /// The layout of one variant's fields as a list of this kind, which is sized.
-    fn layout_of_variant<
+    pub(crate) fn layout_of_variant<
         FieldIdx: Idx,
         VariantIdx: Idx,
         F: LayoutHandle<FieldIdx, VariantIdx> + Copy,

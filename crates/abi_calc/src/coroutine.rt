@@ -1,0 +1,273 @@
+//! Coroutines: their states share bytes behind the fields that every state has.
+
+mod layout;
+mod lists;
+mod promotion;
+mod states;
+
+ghost use Rattle.std.specs.Prelude.{◌≡◌, ◌≢◌, ◌+◌, ◌<◌, ◌≤◌, ◌⊎◌, All, Err, IfErr, IfOk, length, map};
+ghost use Rattle.std.specs.List.{AllPairs};
+ghost use Rattle.abi_base.specs.DataLayout.{IsLawfulDataLayout};
+ghost use Rattle.abi_index.specs.BitSet.{domain_size};
+ghost use Rattle.abi_index.specs.Relation.{Relation, column_count, row_count};
+ghost use Rattle.abi_index.specs.Slice.{items_of};
+ghost use Rattle.abi_scalar.specs.declared.scalar.Scalar.{Scalar};
+ghost use Rattle.abi_scalar.specs.Lawful.{IsLawfulLayout};
+ghost use Rattle.abi_scalar.specs.Simple.{scalar_layout};
+ghost use Rattle.abi_scalar.specs.Variant.{variants_of};
+ghost use Rattle.abi_calc.specs.Answer.{IsAnswer};
+ghost use Rattle.abi_calc.specs.List.{AreSized};
+ghost use Rattle.abi_calc.specs.Coroutine.Answer.{IsCoroutineAnswer, IsPromotedAnswer};
+ghost use Rattle.abi_calc.specs.Coroutine.Clash.{AreClashingApart, HaveOneOffset, IsToldByState};
+ghost use Rattle.abi_calc.specs.Coroutine.Layout.{IsStateTag};
+ghost use Rattle.abi_calc.specs.Coroutine.Promotion.{promoted_of};
+ghost use Rattle.abi_calc.specs.Coroutine.Sizes.{IsOverlapSize, IsSizeWith, IsTooLargeWith, MayOverlap};
+
+use crate::calculator::LayoutCalculator;
+use crate::coroutine::layout::{layout_of_lists, state_tag};
+use crate::coroutine::lists::{behind, default_repr, first_fields};
+use crate::coroutine::promotion::promoted_locals;
+use abi_base::{HasDataLayout, StructKind};
+use abi_index::{BitMatrix, DenseBitSet, Idx, IndexSlice, IndexVec};
+use abi_scalar::{LayoutCalculatorError, LayoutData, LayoutHandle, Scalar};
+use std::alloc::Global;
+
+impl<Cx: HasDataLayout> LayoutCalculator<Cx> {
+    /// The layout of a coroutine of which these locals are promoted, and whose tag this field holds: the prefix fields, the
+    /// tag and the promoted locals are one list, and each state's other locals are a list behind it.
+    ///
+    /// Refused as the first list is, then as the first state is whose list has no layout, and as `SizeOverflow` where the
+    /// greatest of the lists, rounded up to the greatest alignment, isn't below the data layout's bound. `OutOfMemory` may
+    /// come at any time.
+    fn layout_of_promoted<
+        FieldIdx: Idx,
+        VariantIdx: Idx,
+        LocalIdx: Idx,
+        F: LayoutHandle<FieldIdx, VariantIdx> + Copy,
+    >(
+        &self,
+        alloc: Global,
+        locals: &[F],
+        prefix: IndexVec<FieldIdx, F>,
+        states: &[IndexVec<FieldIdx, LocalIdx>],
+        promoted: &DenseBitSet<LocalIdx>,
+        tag: Scalar,
+        field: F,
+    ) -> Result<LayoutData<FieldIdx, VariantIdx>, LayoutCalculatorError<F>>
+        requires data_layout { IsLawfulDataLayout (Cx.target self.now.cx) }
+        requires locals { All (λ f. IsLawfulLayout (Cx.target self.now.cx) (F.layout_of f)) locals.now }
+        requires prefix { All (λ f. IsLawfulLayout (Cx.target self.now.cx) (F.layout_of f)) prefix }
+        requires tag { IsStateTag (length states.now) tag }
+        requires field { F.layout_of field ≡ scalar_layout (VariantIdx.at 0) (Cx.target self.now.cx) tag }
+        requires some { 0 < length states.now }
+        requires few { length states.now ≤ VariantIdx.MAX_INDEX + 1 }
+        requires named { length locals.now ≤ LocalIdx.MAX_INDEX + 1 }
+        requires within { All (All (λ l. LocalIdx.number l < length locals.now)) states.now }
+        requires once { All (λ state. AllPairs (λ a b. a ≢ b) (map LocalIdx.number state)) states.now }
+        requires same { domain_size promoted.now ≡ length locals.now }
+        requires count { length prefix + length locals.now ≤ FieldIdx.MAX_INDEX }
+        ensures exact { IsPromotedAnswer F.layout_of FieldIdx.at FieldIdx.number (VariantIdx.at 0) (Cx.target self.now.cx) prefix tag field locals.now (map (map LocalIdx.number) states.now) promoted.now result }
+        ensures lawful { IfOk result (IsLawfulLayout (Cx.target self.now.cx)) }
+
+        // The tag and the prefix fields, and the locals of each state, share no byte; the states' numbers are the tag's.
+        ensures told { IfOk result (IsToldByState (Cx.target self.now.cx) FieldIdx.at (map F.layout_of prefix) (map F.layout_of locals.now) (map (map LocalIdx.number) states.now)) }
+
+        // Where the states and some conflicts tell which locals are promoted, those that clash share no byte, and each has one
+        // offset.
+        ensures clash { (conflicts : Relation) → promoted.now ≡ promoted_of (map (map LocalIdx.number) states.now) conflicts → column_count conflicts ≡ row_count conflicts → row_count conflicts ≡ length locals.now
+            → IfOk result (λ l. AreClashingApart (map (map LocalIdx.number) states.now) conflicts (map F.layout_of locals.now) (variants_of l.variants)) }
+        ensures one_offset { (conflicts : Relation) → promoted.now ≡ promoted_of (map (map LocalIdx.number) states.now) conflicts → row_count conflicts ≡ length locals.now
+            → IfOk result (λ l. HaveOneOffset (map (map LocalIdx.number) states.now) (variants_of l.variants)) }
+
+        // The size is that of the first list and those behind it, each of its least size.
+        ensures size { IfOk result (λ l. IsSizeWith (Cx.target self.now.cx) (map F.layout_of prefix) (scalar_layout (VariantIdx.at 0) (Cx.target self.now.cx) tag) (map F.layout_of locals.now) (map (map LocalIdx.number) states.now) promoted.now l.size) }
+
+        // It is refused for its size only where a list is too large in each allowed order, or that size is, and sized fields
+        // always then; sized fields are refused by no other name.
+        ensures too_large { result ≡ Err LayoutCalculatorError.SizeOverflow → IsTooLargeWith (Cx.target self.now.cx) (map F.layout_of prefix) (scalar_layout (VariantIdx.at 0) (Cx.target self.now.cx) tag) (map F.layout_of locals.now) (map (map LocalIdx.number) states.now) promoted.now }
+        ensures refused { AreSized (map F.layout_of prefix) → AreSized (map F.layout_of locals.now)
+            → IsTooLargeWith (Cx.target self.now.cx) (map F.layout_of prefix) (scalar_layout (VariantIdx.at 0) (Cx.target self.now.cx) tag) (map F.layout_of locals.now) (map (map LocalIdx.number) states.now) promoted.now
+            → IsAnswer (Err LayoutCalculatorError.SizeOverflow) result }
+        ensures no_other { AreSized (map F.layout_of prefix) → AreSized (map F.layout_of locals.now) → IfErr result (λ e. (e ≡ LayoutCalculatorError.SizeOverflow) ⊎ (e ≡ LayoutCalculatorError.OutOfMemory)) }
+    {
+        let count = prefix.len();
+        let fields = first_fields(prefix, field, locals, promoted)?;
+        let first = match self.layout_of_variant(
+            alloc,
+            &fields,
+            &default_repr(),
+            &StructKind::AlwaysSized,
+        ) {
+            Ok(first) => first,
+            Err(error) => return Err(error),
+        };
+        let kind = behind(&first);
+        let lists = match self.layouts_of_own(alloc, locals, promoted, states, &kind) {
+            Ok(lists) => lists,
+            Err(error) => return Err(error),
+        };
+        let dl = self.cx.data_layout();
+        layout_of_lists(
+            alloc,
+            dl,
+            count,
+            tag,
+            promoted,
+            locals.len(),
+            states,
+            first,
+            lists,
+        )
+    }
+
+    /// The layout of a coroutine of these states, whose promoted locals the states and the conflicts tell.
+    fn layout_of_states<
+        FieldIdx: Idx,
+        VariantIdx: Idx,
+        LocalIdx: Idx,
+        F: LayoutHandle<FieldIdx, VariantIdx> + Copy,
+        T: Fn(Scalar) -> F,
+    >(
+        &self,
+        alloc: Global,
+        locals: &[F],
+        prefix: IndexVec<FieldIdx, F>,
+        states: &[IndexVec<FieldIdx, LocalIdx>],
+        conflicts: &BitMatrix<LocalIdx, LocalIdx>,
+        tag_to_layout: T,
+    ) -> Result<LayoutData<FieldIdx, VariantIdx>, LayoutCalculatorError<F>>
+    where
+        T: Drop,
+        requires data_layout { IsLawfulDataLayout (Cx.target self.now.cx) }
+        requires locals { All (λ f. IsLawfulLayout (Cx.target self.now.cx) (F.layout_of f)) locals.now }
+        requires prefix { All (λ f. IsLawfulLayout (Cx.target self.now.cx) (F.layout_of f)) prefix }
+        requires some { 0 < length states.now }
+        requires within { All (All (λ l. LocalIdx.number l < length locals.now)) states.now }
+        requires once { All (λ state. AllPairs (λ a b. a ≢ b) (map LocalIdx.number state)) states.now }
+        requires rows { row_count conflicts.now ≡ length locals.now }
+        requires columns { column_count conflicts.now ≡ length locals.now }
+        requires count { length prefix + length locals.now ≤ FieldIdx.MAX_INDEX }
+        requires callable { T.IsAlwaysCallable tag_to_layout }
+        requires tag { (tag : Scalar) (field : _) → IsStateTag (length states.now) tag → T.post tag_to_layout tag field → F.layout_of field ≡ scalar_layout (VariantIdx.at 0) (Cx.target self.now.cx) tag }
+        requires few { length states.now ≤ VariantIdx.MAX_INDEX + 1 }
+        requires named { length locals.now ≤ LocalIdx.MAX_INDEX + 1 }
+        ensures exact { (tag : Scalar) × IsStateTag (length states.now) tag × (field : _) × T.post tag_to_layout tag field
+            × IsCoroutineAnswer F.layout_of FieldIdx.at FieldIdx.number (VariantIdx.at 0) (Cx.target self.now.cx) prefix tag field locals.now (map (map LocalIdx.number) states.now) conflicts.now result }
+        ensures lawful { IfOk result (IsLawfulLayout (Cx.target self.now.cx)) }
+
+        // The prefix fields, the tag and the locals of each state share no byte, and the tag may hold each state's index.
+        ensures told { IfOk result (IsToldByState (Cx.target self.now.cx) FieldIdx.at (map F.layout_of prefix) (map F.layout_of locals.now) (map (map LocalIdx.number) states.now)) }
+
+        // Different locals that one state holds, or that conflict in either direction, share no byte, and a local has one offset.
+        ensures clash { IfOk result (λ l. AreClashingApart (map (map LocalIdx.number) states.now) conflicts.now (map F.layout_of locals.now) (variants_of l.variants)) }
+        ensures one_offset { IfOk result (λ l. HaveOneOffset (map (map LocalIdx.number) states.now) (variants_of l.variants)) }
+
+        // The size is that of the first list and those behind it, each of its least size.
+        ensures size { (tag : Scalar) → IsStateTag (length states.now) tag → IfOk result (λ l. IsSizeWith (Cx.target self.now.cx) (map F.layout_of prefix) (scalar_layout (VariantIdx.at 0) (Cx.target self.now.cx) tag) (map F.layout_of locals.now) (map (map LocalIdx.number) states.now) (promoted_of (map (map LocalIdx.number) states.now) conflicts.now) l.size) }
+
+        // Where each local stands in one state, several states hold locals and no conflict joins two of them, the states share all
+        // their bytes: no local is promoted.
+        ensures overlap { MayOverlap (row_count conflicts.now) (map (map LocalIdx.number) states.now) conflicts.now → (tag : Scalar) → IsStateTag (length states.now) tag
+            → IfOk result (λ l. IsOverlapSize (Cx.target self.now.cx) (map F.layout_of prefix) (scalar_layout (VariantIdx.at 0) (Cx.target self.now.cx) tag) (map F.layout_of locals.now) (map (map LocalIdx.number) states.now) l.size) }
+
+        // It is refused for its size only where a list is too large in each allowed order, or that size is, and sized fields
+        // always then; sized fields are refused by no other name.
+        ensures too_large { (tag : Scalar) → IsStateTag (length states.now) tag → result ≡ Err LayoutCalculatorError.SizeOverflow
+            → IsTooLargeWith (Cx.target self.now.cx) (map F.layout_of prefix) (scalar_layout (VariantIdx.at 0) (Cx.target self.now.cx) tag) (map F.layout_of locals.now) (map (map LocalIdx.number) states.now) (promoted_of (map (map LocalIdx.number) states.now) conflicts.now) }
+        ensures refused { AreSized (map F.layout_of prefix) → AreSized (map F.layout_of locals.now) → (tag : Scalar) → IsStateTag (length states.now) tag
+            → IsTooLargeWith (Cx.target self.now.cx) (map F.layout_of prefix) (scalar_layout (VariantIdx.at 0) (Cx.target self.now.cx) tag) (map F.layout_of locals.now) (map (map LocalIdx.number) states.now) (promoted_of (map (map LocalIdx.number) states.now) conflicts.now) → IsAnswer (Err LayoutCalculatorError.SizeOverflow) result }
+        ensures no_other { AreSized (map F.layout_of prefix) → AreSized (map F.layout_of locals.now) → IfErr result (λ e. (e ≡ LayoutCalculatorError.SizeOverflow) ⊎ (e ≡ LayoutCalculatorError.OutOfMemory)) }
+    {
+        let tag = state_tag(states.len());
+        let field = tag_to_layout(tag);
+        let promoted = promoted_locals(alloc, states, conflicts)?;
+        self.layout_of_promoted(alloc, locals, prefix, states, &promoted, tag, field)
+    }
+
+    /// The layout of a coroutine, from those of its locals and of its prefix fields, and from the locals that live in each
+    /// state.
+    ///
+    /// Some locals are promoted: they lie beside the prefix fields and the tag, where they share no byte with any other. A
+    /// local that several states hold is promoted. Then the conflicts are gone through, by rows and in them by columns, both
+    /// ascending: of two locals that conflict, neither of them promoted and not of one state, the row's is promoted where its
+    /// row has more conflicts than the column's, else the column's. All are promoted where fewer than two states hold
+    /// another local.
+    ///
+    /// The tag is the least unsigned integer that has the number of each state, and `tag_to_layout` gives a handle of its
+    /// layout. Prefix fields, tag and promoted locals are one list, whose fields may be moved, and each state's other locals
+    /// are such a list behind it; the size in bytes is that of the greatest list, rounded up to the greatest alignment. The
+    /// layout's own fields are the prefix fields and the tag, and a state's are its locals. It has no niche.
+    ///
+    /// Refused as the first list is by `layout_of_univariant`, then as the first state is whose list is refused, and as
+    /// `SizeOverflow` where the size isn't below the data layout's bound. `OutOfMemory` may come at any time.
+    ///
+    /// The data layout and the fields' layouts have to be lawful. There is a state, none lists a local twice, and the
+    /// conflicts are between the locals. The prefix fields, the tag and the locals together can be named by the index type of
+    /// fields.
+    pub fn layout_of_coroutine<
+        FieldIdx: Idx,
+        VariantIdx: Idx,
+        LocalIdx: Idx,
+        F: LayoutHandle<FieldIdx, VariantIdx> + Copy,
+        T: Fn(Scalar) -> F,
+    >(
+        &self,
+        alloc: Global,
+        local_layouts: IndexSlice<'_, LocalIdx, F>,
+        prefix_layouts: IndexVec<FieldIdx, F>,
+        variant_fields: IndexSlice<'_, VariantIdx, IndexVec<FieldIdx, LocalIdx>>,
+        storage_conflicts: &BitMatrix<LocalIdx, LocalIdx>,
+        tag_to_layout: T,
+    ) -> Result<LayoutData<FieldIdx, VariantIdx>, LayoutCalculatorError<F>>
+    where
+        T: Drop,
+        requires data_layout { IsLawfulDataLayout (Cx.target self.now.cx) }
+        requires locals { All (λ f. IsLawfulLayout (Cx.target self.now.cx) (F.layout_of f)) (items_of local_layouts) }
+        requires prefix { All (λ f. IsLawfulLayout (Cx.target self.now.cx) (F.layout_of f)) prefix_layouts }
+        requires some { 0 < length (items_of variant_fields) }
+        requires within { All (All (λ l. LocalIdx.number l < length (items_of local_layouts))) (items_of variant_fields) }
+        requires once { All (λ state. AllPairs (λ a b. a ≢ b) (map LocalIdx.number state)) (items_of variant_fields) }
+        requires rows { row_count storage_conflicts.now ≡ length (items_of local_layouts) }
+        requires columns { column_count storage_conflicts.now ≡ length (items_of local_layouts) }
+        requires count { length prefix_layouts + length (items_of local_layouts) ≤ FieldIdx.MAX_INDEX }
+        requires callable { T.IsAlwaysCallable tag_to_layout }
+        requires tag { (tag : Scalar) (field : _) → IsStateTag (length (items_of variant_fields)) tag → T.post tag_to_layout tag field → F.layout_of field ≡ scalar_layout (VariantIdx.at 0) (Cx.target self.now.cx) tag }
+        ensures exact { (tag : Scalar) × IsStateTag (length (items_of variant_fields.entry)) tag × (field : _) × T.post tag_to_layout tag field
+            × IsCoroutineAnswer F.layout_of FieldIdx.at FieldIdx.number (VariantIdx.at 0) (Cx.target self.now.cx) prefix_layouts tag field (items_of local_layouts.entry) (map (map LocalIdx.number) (items_of variant_fields.entry)) storage_conflicts.now result }
+        ensures lawful { IfOk result (IsLawfulLayout (Cx.target self.now.cx)) }
+
+        // The prefix fields, the tag and the locals of each state share no byte, and the tag may hold each state's index.
+        ensures told { IfOk result (IsToldByState (Cx.target self.now.cx) FieldIdx.at (map F.layout_of prefix_layouts) (map F.layout_of (items_of local_layouts.entry)) (map (map LocalIdx.number) (items_of variant_fields.entry))) }
+
+        // Different locals that one state holds, or that conflict in either direction, share no byte, and a local has one offset.
+        ensures clash { IfOk result (λ l. AreClashingApart (map (map LocalIdx.number) (items_of variant_fields.entry)) storage_conflicts.now (map F.layout_of (items_of local_layouts.entry)) (variants_of l.variants)) }
+        ensures one_offset { IfOk result (λ l. HaveOneOffset (map (map LocalIdx.number) (items_of variant_fields.entry)) (variants_of l.variants)) }
+
+        // The size is that of the first list and those behind it, each of its least size.
+        ensures size { (tag : Scalar) → IsStateTag (length (items_of variant_fields.entry)) tag → IfOk result (λ l. IsSizeWith (Cx.target self.now.cx) (map F.layout_of prefix_layouts) (scalar_layout (VariantIdx.at 0) (Cx.target self.now.cx) tag) (map F.layout_of (items_of local_layouts.entry)) (map (map LocalIdx.number) (items_of variant_fields.entry)) (promoted_of (map (map LocalIdx.number) (items_of variant_fields.entry)) storage_conflicts.now) l.size) }
+
+        // Where each local stands in one state, several states hold locals and no conflict joins two of them, the states share all
+        // their bytes: no local is promoted.
+        ensures overlap { MayOverlap (row_count storage_conflicts.now) (map (map LocalIdx.number) (items_of variant_fields.entry)) storage_conflicts.now → (tag : Scalar) → IsStateTag (length (items_of variant_fields.entry)) tag
+            → IfOk result (λ l. IsOverlapSize (Cx.target self.now.cx) (map F.layout_of prefix_layouts) (scalar_layout (VariantIdx.at 0) (Cx.target self.now.cx) tag) (map F.layout_of (items_of local_layouts.entry)) (map (map LocalIdx.number) (items_of variant_fields.entry)) l.size) }
+
+        // It is refused for its size only where a list is too large in each allowed order, or that size is, and sized fields
+        // always then; sized fields are refused by no other name.
+        ensures too_large { (tag : Scalar) → IsStateTag (length (items_of variant_fields.entry)) tag → result ≡ Err LayoutCalculatorError.SizeOverflow
+            → IsTooLargeWith (Cx.target self.now.cx) (map F.layout_of prefix_layouts) (scalar_layout (VariantIdx.at 0) (Cx.target self.now.cx) tag) (map F.layout_of (items_of local_layouts.entry)) (map (map LocalIdx.number) (items_of variant_fields.entry)) (promoted_of (map (map LocalIdx.number) (items_of variant_fields.entry)) storage_conflicts.now) }
+        ensures refused { AreSized (map F.layout_of prefix_layouts) → AreSized (map F.layout_of (items_of local_layouts.entry)) → (tag : Scalar) → IsStateTag (length (items_of variant_fields.entry)) tag
+            → IsTooLargeWith (Cx.target self.now.cx) (map F.layout_of prefix_layouts) (scalar_layout (VariantIdx.at 0) (Cx.target self.now.cx) tag) (map F.layout_of (items_of local_layouts.entry)) (map (map LocalIdx.number) (items_of variant_fields.entry)) (promoted_of (map (map LocalIdx.number) (items_of variant_fields.entry)) storage_conflicts.now) → IsAnswer (Err LayoutCalculatorError.SizeOverflow) result }
+        ensures no_other { AreSized (map F.layout_of prefix_layouts) → AreSized (map F.layout_of (items_of local_layouts.entry)) → IfErr result (λ e. (e ≡ LayoutCalculatorError.SizeOverflow) ⊎ (e ≡ LayoutCalculatorError.OutOfMemory)) }
+    {
+        let locals = local_layouts.as_raw();
+        let states = variant_fields.as_raw();
+        self.layout_of_states(
+            alloc,
+            locals,
+            prefix_layouts,
+            states,
+            storage_conflicts,
+            tag_to_layout,
+        )
+    }
+}

@@ -1,0 +1,235 @@
+//! The layout of a coroutine, from the layouts of its lists.
+
+ghost use Rattle.std.specs.Prelude.{◌≡◌, ◌≢◌, ◌+◌, ◌<◌, ◌≤◌, ◌⊎◌, All, IfErr, IfOk, filter, length, map, max, nat_lt};
+ghost use Rattle.std.specs.List.{AllPairs, AllZip};
+ghost use Rattle.abi_base.specs.DataLayout.{IsLawfulDataLayout, size_bound};
+ghost use Rattle.abi_index.specs.BitSet.{domain_size, members_of};
+ghost use Rattle.abi_scalar.specs.Lawful.{IsLawfulLayout};
+ghost use Rattle.abi_calc.specs.Coroutine.Layout.{IsStateTag, coroutine_layout, whole_align, whole_size};
+ghost use Rattle.abi_calc.specs.Coroutine.Lists.{own_of};
+ghost use Rattle.abi_calc.specs.Coroutine.States.{HasFields, ranks_of, state_layouts};
+
+use crate::coroutine::states::{listed_order, ranks_below, state_layout};
+use crate::enums::lists::listed_offsets;
+use crate::enums::tagged::all_uninhabited;
+use crate::fields::{greatest_align, greatest_size};
+use crate::list::field_offsets;
+use crate::list_repr::rounded;
+use abi_base::{
+    AbiAlign, Align, HasDataLayout, Integer, Primitive, Size, TargetDataLayout,
+};
+use abi_index::{DenseBitSet, Hash64, Idx, IndexVec};
+use abi_scalar::{
+    BackendRepr, FieldsShape, LayoutCalculatorError, LayoutData, Scalar, TagEncoding,
+    VariantLayout, Variants, WrappingRange,
+};
+use std::alloc::{AllocError, Global};
+
+/// The tag of so many states: the least unsigned integer that has the number of each.
+pub fn state_tag(count: usize) -> Scalar
+    requires { 0 < count }
+    ensures { IsStateTag count result }
+{
+    let last = (count - 1) as u128;
+    Scalar::Initialized {
+        value: Primitive::Int(Integer::fit_unsigned(last), false),
+        valid_range: WrappingRange {
+            start: 0,
+            end: last,
+        },
+    }
+}
+
+/// The greatest alignment of the lists.
+fn whole_align<FieldIdx: Idx, VariantIdx: Idx>(
+    first: &LayoutData<FieldIdx, VariantIdx>,
+    lists: &[LayoutData<FieldIdx, VariantIdx>],
+) -> Align
+    ensures { result ≡ whole_align first.now lists.now }
+{
+    greatest_align(first.align.abi, lists)
+}
+
+/// The greater of two sizes.
+fn greater(a: Size, b: Size) -> Size
+    ensures { result ≡ max a b }
+{
+    a.max(b)
+}
+
+/// The size of the greatest list in bytes, rounded up to the greatest alignment.
+fn whole_size<FieldIdx: Idx, VariantIdx: Idx>(
+    dl: &TargetDataLayout,
+    first: &LayoutData<FieldIdx, VariantIdx>,
+    lists: &[LayoutData<FieldIdx, VariantIdx>],
+    align: Align,
+) -> Size
+    requires data_layout { IsLawfulDataLayout dl.now }
+    requires first { IsLawfulLayout dl.now first.now }
+    requires lists { All (IsLawfulLayout dl.now) lists.now }
+    requires align { align ≡ whole_align first.now lists.now }
+    ensures { result ≡ whole_size first.now lists.now }
+{
+    rounded(greater(first.size, greatest_size(lists)), align)
+}
+
+/// The fields that stand before the promoted locals, as they follow one another in memory.
+fn shared_order<FieldIdx: Idx>(
+    alloc: Global,
+    before: usize,
+    order: &[FieldIdx],
+) -> Result<IndexVec<u32, FieldIdx>, AllocError>
+    requires { length order.now ≤ 0xFFFF_FFFF + 1 }
+    ensures { IfOk result (λ list. list ≡ filter (λ i. nat_lt (FieldIdx.number i) before) order.now) }
+{
+    let mut list = IndexVec::new(alloc);
+    for index in order {
+        if index.index() < before {
+            let _place = list.push(*index)?;
+        }
+    }
+    Ok(list)
+}
+
+/// The ranks of the promoted locals as they follow one another in memory, where so many fields stand before them.
+fn ranks_of<FieldIdx: Idx>(
+    alloc: Global,
+    before: usize,
+    order: &[FieldIdx],
+) -> Result<Vec<usize>, AllocError>
+    ensures { IfOk result (λ ranks. ranks.items ≡ ranks_of FieldIdx.number before order.now) }
+{
+    let mut ranks = Vec::with_capacity(alloc, order.len())?;
+    for index in order {
+        let place = index.index();
+        if place >= before {
+            ranks.push(place - before)?;
+        }
+    }
+    Ok(ranks)
+}
+
+/// Each state in the whole, from its own list and the first one, where so many fields stand before the promoted locals.
+fn state_layouts<FieldIdx: Idx, VariantIdx: Idx, LocalIdx: Idx>(
+    alloc: Global,
+    before: usize,
+    promoted: &DenseBitSet<LocalIdx>,
+    count: usize,
+    first: &LayoutData<FieldIdx, VariantIdx>,
+    states: &[IndexVec<FieldIdx, LocalIdx>],
+    lists: Vec<LayoutData<FieldIdx, VariantIdx>>,
+) -> Result<IndexVec<VariantIdx, VariantLayout<FieldIdx>>, AllocError>
+    requires count { count ≡ domain_size promoted.now }
+    requires named { count ≤ LocalIdx.MAX_INDEX + 1 }
+    requires few { length states.now ≤ VariantIdx.MAX_INDEX + 1 }
+    requires within { All (All (λ l. LocalIdx.number l < count)) states.now }
+    requires once { All (λ state. AllPairs (λ a b. a ≢ b) (map LocalIdx.number state)) states.now }
+    requires first { HasFields FieldIdx.number (before + length (members_of promoted.now)) first.now }
+    requires lists { AllZip (λ state list. HasFields FieldIdx.number (length (own_of promoted.now (map LocalIdx.number state))) list) states.now lists.items }
+    ensures { IfOk result (λ layouts. layouts ≡ state_layouts FieldIdx.at FieldIdx.number before promoted.now first.now (map (map LocalIdx.number) states.now) lists.items) }
+{
+    let below = ranks_below(alloc, promoted, count)?;
+    let shared = &listed_offsets(&first.fields)[before..];
+    let ranks = ranks_of(alloc, before, listed_order(&first.fields))?;
+    let mut layouts = IndexVec::new(alloc);
+    for list in lists {
+        let state = &states[layouts.len()];
+        let layout = state_layout(alloc, promoted, &below, shared, &ranks, state, list)?;
+        let _index = layouts.push(layout)?;
+    }
+    Ok(layouts)
+}
+
+/// The layout of a coroutine with so many prefix fields, of this alignment and size.
+fn layout_of_size<FieldIdx: Idx, VariantIdx: Idx, LocalIdx: Idx>(
+    alloc: Global,
+    prefix: usize,
+    tag: Scalar,
+    promoted: &DenseBitSet<LocalIdx>,
+    count: usize,
+    states: &[IndexVec<FieldIdx, LocalIdx>],
+    first: LayoutData<FieldIdx, VariantIdx>,
+    lists: Vec<LayoutData<FieldIdx, VariantIdx>>,
+    align: Align,
+    size: Size,
+) -> Result<LayoutData<FieldIdx, VariantIdx>, AllocError>
+    requires prefix { prefix + length (members_of promoted.now) ≤ FieldIdx.MAX_INDEX }
+    requires count { count ≡ domain_size promoted.now }
+    requires named { count ≤ LocalIdx.MAX_INDEX + 1 }
+    requires few { length states.now ≤ VariantIdx.MAX_INDEX + 1 }
+    requires within { All (All (λ l. LocalIdx.number l < count)) states.now }
+    requires once { All (λ state. AllPairs (λ a b. a ≢ b) (map LocalIdx.number state)) states.now }
+    requires first { HasFields FieldIdx.number (prefix + 1 + length (members_of promoted.now)) first }
+    requires lists { AllZip (λ state list. HasFields FieldIdx.number (length (own_of promoted.now (map LocalIdx.number state))) list) states.now lists.items }
+    requires align { align ≡ whole_align first lists.items }
+    requires size { size ≡ whole_size first lists.items }
+    ensures { IfOk result (λ layout. layout ≡ coroutine_layout FieldIdx.at FieldIdx.number prefix tag promoted.now (map (map LocalIdx.number) states.now) first lists.items) }
+{
+    let before = prefix + 1;
+    let uninhabited = first.uninhabited | all_uninhabited(&lists);
+    let offsets = field_offsets(alloc, &listed_offsets(&first.fields)[..before])?;
+    let in_memory_order = shared_order(alloc, before, listed_order(&first.fields))?;
+    let variants = state_layouts(alloc, before, promoted, count, &first, states, lists)?;
+    Ok(LayoutData {
+        fields: FieldsShape::Arbitrary {
+            offsets,
+            in_memory_order,
+        },
+        variants: Variants::Multiple {
+            tag,
+            tag_encoding: TagEncoding::Direct,
+            tag_field: FieldIdx::new(prefix),
+            variants,
+        },
+        backend_repr: BackendRepr::Memory { sized: true },
+        largest_niche: None,
+        uninhabited,
+        align: AbiAlign::new(align),
+        size,
+        max_repr_align: None,
+        unadjusted_abi_align: align,
+        repr_c: false,
+        randomization_seed: Hash64::ZERO,
+    })
+}
+
+/// The layout of a coroutine with so many prefix fields, from the layouts of its lists. Refused as `SizeOverflow` where the
+/// size isn't below the data layout's bound.
+pub fn layout_of_lists<FieldIdx: Idx, VariantIdx: Idx, LocalIdx: Idx, F>(
+    alloc: Global,
+    dl: &TargetDataLayout,
+    prefix: usize,
+    tag: Scalar,
+    promoted: &DenseBitSet<LocalIdx>,
+    count: usize,
+    states: &[IndexVec<FieldIdx, LocalIdx>],
+    first: LayoutData<FieldIdx, VariantIdx>,
+    lists: Vec<LayoutData<FieldIdx, VariantIdx>>,
+) -> Result<LayoutData<FieldIdx, VariantIdx>, LayoutCalculatorError<F>>
+    requires data_layout { IsLawfulDataLayout dl.now }
+    requires prefix { prefix + length (members_of promoted.now) ≤ FieldIdx.MAX_INDEX }
+    requires count { count ≡ domain_size promoted.now }
+    requires named { count ≤ LocalIdx.MAX_INDEX + 1 }
+    requires few { length states.now ≤ VariantIdx.MAX_INDEX + 1 }
+    requires within { All (All (λ l. LocalIdx.number l < count)) states.now }
+    requires once { All (λ state. AllPairs (λ a b. a ≢ b) (map LocalIdx.number state)) states.now }
+    requires first { HasFields FieldIdx.number (prefix + 1 + length (members_of promoted.now)) first }
+    requires lists { AllZip (λ state list. HasFields FieldIdx.number (length (own_of promoted.now (map LocalIdx.number state))) list) states.now lists.items }
+    requires lawful_first { IsLawfulLayout dl.now first }
+    requires lawful { All (IsLawfulLayout dl.now) lists.items }
+    ensures exact { IfOk result (λ layout. (whole_size first lists.items < size_bound dl.now)
+        × (layout ≡ coroutine_layout FieldIdx.at FieldIdx.number prefix tag promoted.now (map (map LocalIdx.number) states.now) first lists.items)) }
+    ensures fault { IfErr result (λ e. ((size_bound dl.now ≤ whole_size first lists.items) × (e ≡ LayoutCalculatorError.SizeOverflow)) ⊎ (e ≡ LayoutCalculatorError.OutOfMemory)) }
+{
+    let align = whole_align(&first, &lists);
+    let size = whole_size(dl, &first, &lists, align);
+    if size.bytes() >= dl.obj_size_bound() {
+        return Err(LayoutCalculatorError::SizeOverflow);
+    }
+    match layout_of_size(
+        alloc, prefix, tag, promoted, count, states, first, lists, align, size,
+    ) {
+        Ok(layout) => Ok(layout),
+        Err(error) => Err(error.into()),
+    }
+}

@@ -1,0 +1,226 @@
+//! Where the locals of a coroutine's states lie: promoted ones in the first list, the others in the state's own.
+
+ghost use Rattle.std.specs.Prelude.{◌≡◌, ◌≢◌, ℕ, ◌+◌, ◌<◌, ◌≤◌, All, IfOk, IfSome, length, map, slice_index, slice_index_or, IsPermutation, None, true};
+ghost use Rattle.std.specs.List.{AllPairs};
+ghost use Rattle.std.specs.Option.{option_to_list};
+ghost use Rattle.abi_index.specs.BitSet.{domain_size, is_member, members_of};
+ghost use Rattle.abi_scalar.specs.Shape.{IsListed, listed_offsets, listed_order};
+ghost use Rattle.abi_calc.specs.Coroutine.Lists.{own_of};
+ghost use Rattle.abi_calc.specs.Coroutine.States.{HasFields, joined_places, own_places, places_with, rank_of, state_offsets, state_order, stitched_layout};
+ghost use Rattle.abi_calc.specs.Placement.{source_order};
+
+use crate::enums::lists::listed_offsets;
+use abi_base::Size;
+use abi_index::{DenseBitSet, Idx, IndexVec};
+use abi_scalar::{FieldsShape, LayoutData, VariantLayout};
+use std::alloc::{AllocError, Global};
+
+/// How many promoted locals are below each of so many locals: a promoted one's place in the list of them.
+pub fn ranks_below<LocalIdx: Idx>(
+    alloc: Global,
+    promoted: &DenseBitSet<LocalIdx>,
+    count: usize,
+) -> Result<Vec<usize>, AllocError>
+    requires named { count ≤ LocalIdx.MAX_INDEX + 1 }
+    requires same { domain_size promoted.now ≡ count }
+    ensures { IfOk result (λ ranks. ranks.items ≡ map (rank_of promoted.now) (source_order count)) }
+{
+    let mut ranks = Vec::with_capacity(alloc, count)?;
+    let mut below = 0;
+    for place in 0..count {
+        ranks.push(below)?;
+        if promoted.contains(LocalIdx::new(place)) {
+            below += 1;
+        }
+    }
+    Ok(ranks)
+}
+
+/// The fields as they follow one another in memory, where they are listed one by one.
+pub fn listed_order<FieldIdx: Idx>(shape: &FieldsShape<FieldIdx>) -> &[FieldIdx]
+    requires { IsListed shape.now }
+    ensures { result.now ≡ listed_order shape.now }
+{
+    match shape {
+        FieldsShape::Arbitrary {
+            in_memory_order, ..
+        } => in_memory_order.as_slice().as_raw(),
+        _ => unreachable!(),
+    }
+}
+
+/// How many promoted locals are below a promoted one.
+fn rank_in<LocalIdx: Idx>(
+    promoted: &DenseBitSet<LocalIdx>,
+    below: &[usize],
+    local: LocalIdx,
+) -> usize
+    requires below { below.now ≡ map (rank_of promoted.now) (source_order (domain_size promoted.now)) }
+    requires promoted { is_member promoted.now (LocalIdx.number local) ≡ true }
+    ensures rank { result ≡ rank_of promoted.now (LocalIdx.number local) }
+    ensures within { result < length (members_of promoted.now) }
+{
+    below[local.index()]
+}
+
+/// The offsets of a state's locals, in bytes and as it lists them: of the promoted ones by rank, of the others one after
+/// another.
+fn state_offsets<FieldIdx: Idx, LocalIdx: Idx>(
+    alloc: Global,
+    promoted: &DenseBitSet<LocalIdx>,
+    below: &[usize],
+    shared: &[Size],
+    own: &[Size],
+    state: &[LocalIdx],
+) -> Result<IndexVec<FieldIdx, Size>, AllocError>
+    requires few { length state.now ≤ FieldIdx.MAX_INDEX + 1 }
+    requires within { All (λ l. LocalIdx.number l < domain_size promoted.now) state.now }
+    requires below { below.now ≡ map (rank_of promoted.now) (source_order (domain_size promoted.now)) }
+    requires shared { length shared.now ≡ length (members_of promoted.now) }
+    requires own { length own.now ≡ length (own_of promoted.now (map LocalIdx.number state.now)) }
+    ensures { IfOk result (λ offsets. offsets ≡ state_offsets promoted.now shared.now own.now (map LocalIdx.number state.now)) }
+{
+    let mut offsets = IndexVec::new(alloc);
+    let mut next = 0;
+    for local in state {
+        let offset = if promoted.contains(*local) {
+            shared[rank_in(promoted, below, *local)]
+        } else {
+            let place = next;
+            next += 1;
+            own[place]
+        };
+        let _index = offsets.push(offset)?;
+    }
+    Ok(offsets)
+}
+
+/// The place of each promoted local in the state, by rank, where the state holds it.
+fn held_places<LocalIdx: Idx>(
+    alloc: Global,
+    promoted: &DenseBitSet<LocalIdx>,
+    below: &[usize],
+    count: usize,
+    state: &[LocalIdx],
+) -> Result<Vec<Option<usize>>, AllocError>
+    requires within { All (λ l. LocalIdx.number l < domain_size promoted.now) state.now }
+    requires once { AllPairs (λ a b. a ≢ b) (map LocalIdx.number state.now) }
+    requires below { below.now ≡ map (rank_of promoted.now) (source_order (domain_size promoted.now)) }
+    requires count { count ≡ length (members_of promoted.now) }
+    ensures count { IfOk result (λ held. length held.items ≡ count) }
+    ensures within { IfOk result (λ held. All (λ found. IfSome found (λ place. place < length state.now)) held.items) }
+    ensures held { IfOk result (λ held. (rank : ℕ) → rank < count → option_to_list (slice_index_or held.items rank None) ≡ places_with (map LocalIdx.number state.now) (slice_index (members_of promoted.now) rank)) }
+{
+    let mut held = Vec::with_capacity(alloc, count)?;
+    held.resize(count, None)?;
+    for (place, local) in state.iter().enumerate() {
+        if promoted.contains(*local) {
+            held[rank_in(promoted, below, *local)] = Some(place);
+        }
+    }
+    Ok(held)
+}
+
+/// The places at which a state lists a local that isn't promoted.
+fn own_places<LocalIdx: Idx>(
+    alloc: Global,
+    promoted: &DenseBitSet<LocalIdx>,
+    state: &[LocalIdx],
+) -> Result<Vec<usize>, AllocError>
+    requires within { All (λ l. LocalIdx.number l < domain_size promoted.now) state.now }
+    ensures within { IfOk result (λ places. All (λ place. place < length state.now) places.items) }
+    ensures places { IfOk result (λ places. places.items ≡ own_places promoted.now (map LocalIdx.number state.now)) }
+{
+    let mut places = Vec::with_capacity(alloc, state.len())?;
+    for (place, local) in state.iter().enumerate() {
+        if !promoted.contains(*local) {
+            places.push(place)?;
+        }
+    }
+    Ok(places)
+}
+
+/// The held places, as these ranks follow one another, and then those that the indices name.
+fn joined_places<FieldIdx: Idx>(
+    alloc: Global,
+    held: &[Option<usize>],
+    ranks: &[usize],
+    places: &[usize],
+    own: &[FieldIdx],
+) -> Result<IndexVec<u32, FieldIdx>, AllocError>
+    requires ranks { All (λ rank. rank < length held.now) ranks.now }
+    requires own { All (λ i. FieldIdx.number i < length places.now) own.now }
+    requires held { All (λ found. IfSome found (λ place. place ≤ FieldIdx.MAX_INDEX)) held.now }
+    requires places { All (λ place. place ≤ FieldIdx.MAX_INDEX) places.now }
+    requires room { length ranks.now + length own.now ≤ 0xFFFF_FFFF + 1 }
+    ensures { IfOk result (λ list. list ≡ map FieldIdx.at (joined_places held.now ranks.now places.now (map FieldIdx.number own.now))) }
+{
+    let mut list = IndexVec::new(alloc);
+    for rank in ranks {
+        if let Some(place) = held[*rank] {
+            let _place = list.push(FieldIdx::new(place))?;
+        }
+    }
+    for index in own {
+        let _place = list.push(FieldIdx::new(places[index.index()]))?;
+    }
+    Ok(list)
+}
+
+/// A state's locals as they follow one another in memory: the promoted ones as their ranks do, then the others as in the
+/// state's own list.
+fn state_order<FieldIdx: Idx, LocalIdx: Idx>(
+    alloc: Global,
+    promoted: &DenseBitSet<LocalIdx>,
+    below: &[usize],
+    ranks: &[usize],
+    own: &[FieldIdx],
+    state: &[LocalIdx],
+) -> Result<IndexVec<u32, FieldIdx>, AllocError>
+    requires few { length state.now ≤ FieldIdx.MAX_INDEX + 1 }
+    requires named { domain_size promoted.now ≤ LocalIdx.MAX_INDEX + 1 }
+    requires within { All (λ l. LocalIdx.number l < domain_size promoted.now) state.now }
+    requires once { AllPairs (λ a b. a ≢ b) (map LocalIdx.number state.now) }
+    requires below { below.now ≡ map (rank_of promoted.now) (source_order (domain_size promoted.now)) }
+    requires ranks { length ranks.now ≡ length (members_of promoted.now) }
+    requires each { All (λ rank. rank < length (members_of promoted.now)) ranks.now }
+    requires own { IsPermutation (source_order (length (own_of promoted.now (map LocalIdx.number state.now)))) (map FieldIdx.number own.now) }
+    ensures { IfOk result (λ list. list ≡ map FieldIdx.at (state_order promoted.now ranks.now (map FieldIdx.number own.now) (map LocalIdx.number state.now))) }
+{
+    let held = held_places(alloc, promoted, below, ranks.len(), state)?;
+    let places = own_places(alloc, promoted, state)?;
+    joined_places(alloc, &held, ranks, &places, own)
+}
+
+/// A state in the whole: its own list, with the promoted locals that it holds. The promoted ones lie at these offsets, by
+/// rank, and follow one another in memory as these ranks do; so many of them are `below` each local.
+pub fn state_layout<FieldIdx: Idx, VariantIdx: Idx, LocalIdx: Idx>(
+    alloc: Global,
+    promoted: &DenseBitSet<LocalIdx>,
+    below: &[usize],
+    shared: &[Size],
+    ranks: &[usize],
+    state: &IndexVec<FieldIdx, LocalIdx>,
+    mut list: LayoutData<FieldIdx, VariantIdx>,
+) -> Result<VariantLayout<FieldIdx>, AllocError>
+    requires named { domain_size promoted.now ≤ LocalIdx.MAX_INDEX + 1 }
+    requires within { All (λ l. LocalIdx.number l < domain_size promoted.now) state.now }
+    requires once { AllPairs (λ a b. a ≢ b) (map LocalIdx.number state.now) }
+    requires below { below.now ≡ map (rank_of promoted.now) (source_order (domain_size promoted.now)) }
+    requires shared { length shared.now ≡ length (members_of promoted.now) }
+    requires ranks { length ranks.now ≡ length (members_of promoted.now) }
+    requires each { All (λ rank. rank < length (members_of promoted.now)) ranks.now }
+    requires list { HasFields FieldIdx.number (length (own_of promoted.now (map LocalIdx.number state.now))) list }
+    ensures { IfOk result (λ variant. variant ≡ stitched_layout FieldIdx.at FieldIdx.number promoted.now shared.now ranks.now (map LocalIdx.number state.now) list) }
+{
+    let state = state.as_slice().as_raw();
+    let own = listed_offsets(&list.fields);
+    let offsets = state_offsets(alloc, promoted, below, shared, own, state)?;
+    let own = listed_order(&list.fields);
+    let in_memory_order = state_order(alloc, promoted, below, ranks, own, state)?;
+    list.fields = FieldsShape::Arbitrary {
+        offsets,
+        in_memory_order,
+    };
+    Ok(VariantLayout::from_layout(list))
+}
