@@ -62,3 +62,5 @@ pub mod CoroutineAnswers
 pub mod CoroutineTold
 pub mod CoroutineApart
 pub mod CoroutineCall
+pub mod OneCoroutine
+pub mod SomeCoroutine
