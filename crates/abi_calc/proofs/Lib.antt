@@ -64,3 +64,4 @@ pub mod CoroutineApart
 pub mod CoroutineCall
 pub mod OneCoroutine
 pub mod SomeCoroutine
+pub mod SameCoroutine
