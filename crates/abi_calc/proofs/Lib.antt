@@ -68,3 +68,6 @@ pub mod CoroutineTold
 pub mod CoroutineApart
 pub mod CoroutineCall
 pub mod CoroutineShared
+pub mod OneCoroutine
+pub mod SomeCoroutine
+pub mod SameCoroutine

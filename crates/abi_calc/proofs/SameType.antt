@@ -83,7 +83,7 @@ image_of f (k ∷ hs) zero h there = cc
 image_of f (k ∷ hs) (suc i) h there = image_of f hs i h there
 
 -- an error has the name that this one has
-same_name : {H K : Type 0} (e which : LayoutCalculatorError H) (error : LayoutCalculatorError K) → e ≡ which → IsSameError which error → IsSameError e error
+pub same_name : {H K : Type 0} (e which : LayoutCalculatorError H) (error : LayoutCalculatorError K) → e ≡ which → IsSameError which error → IsSameError e error
 same_name e which error is same = subst (λ x. IsSameError x error) (sym is) same
 
 -- errors of one name are one result
@@ -113,11 +113,11 @@ module _ {H K : Type 0} (f : H → LayoutData ℕ ℕ) (g : K → LayoutData ℕ
   module _ (dl : TargetDataLayout) (repr : ReprOptions) where
     module _ (kind : StructKind) where
       -- a list has the same layout for the same layouts
-      listed_by : (hs : List H) (ks : List K) → map f hs ≡ map g ks → (l : LayoutData ℕ ℕ) → IsListAnswer f (λ i. i) 0 dl repr kind hs (Ok l) → IsListAnswer g (λ i. i) 0 dl repr kind ks (Ok l)
+      pub listed_by : (hs : List H) (ks : List K) → map f hs ≡ map g ks → (l : LayoutData ℕ ℕ) → IsListAnswer f (λ i. i) 0 dl repr kind hs (Ok l) → IsListAnswer g (λ i. i) 0 dl repr kind ks (Ok l)
       listed_by hs ks same l h = subst (λ ls. (order : List ℕ) × (offsets : List ℕ) × IsListLayout (λ i. i) 0 dl repr kind ls order offsets l) same h
 
       -- a list's error is one of the same name for the same layouts
-      refused_by : (hs : List H) (ks : List K) → map f hs ≡ map g ks → (e : LayoutCalculatorError H) → IsListError f dl repr kind hs e → HasSameError e (IsListError g dl repr kind ks)
+      pub refused_by : (hs : List H) (ks : List K) → map f hs ≡ map g ks → (e : LayoutCalculatorError H) → IsListError f dl repr kind hs e → HasSameError e (IsListError g dl repr kind ks)
       refused_by hs ks same e (order, named, which, there, of) =
           let error = error_by hs ks same which e of in
           let order_of = subst (λ ls. IsNamedOrder (list_repr dl repr kind) Start (parts_of dl ls) order) same named in

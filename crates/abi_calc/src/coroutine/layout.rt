@@ -1,7 +1,7 @@
 //! The layout of a coroutine, from the layouts of its lists.
 
-ghost use Rattle.std.specs.Prelude.{◌≡◌, ◌≢◌, ◌+◌, ◌<◌, ◌≤◌, ◌⊎◌, All, IfErr, IfOk, filter, length, map, max, nat_lt};
-ghost use Rattle.std.specs.List.{AllPairs, AllZip};
+ghost use Rattle.std.specs.Prelude.{◌≡◌, ◌≢◌, ◌+◌, ◌<◌, ◌≤◌, ◌⊎◌, ◌||◌, All, IfErr, IfOk, filter, length, map, max, nat_lt};
+ghost use Rattle.std.specs.List.{AllPairs, AllZip, list_all};
 ghost use Rattle.abi_base.specs.DataLayout.{IsLawfulDataLayout, size_bound};
 ghost use Rattle.abi_index.specs.BitSet.{domain_size, members_of};
 ghost use Rattle.abi_scalar.specs.Lawful.{IsLawfulLayout};
@@ -71,6 +71,16 @@ fn whole_size<FieldIdx: Idx, VariantIdx: Idx>(
     ensures { result ≡ whole_size first.now lists.now }
 {
     rounded(greater(first.size, greatest_size(lists)), align)
+}
+
+/// Whether the coroutine has no values: the first list has none, or no state has any.
+fn is_uninhabited<FieldIdx: Idx, VariantIdx: Idx>(
+    first: &LayoutData<FieldIdx, VariantIdx>,
+    lists: &[LayoutData<FieldIdx, VariantIdx>],
+) -> bool
+    ensures { result ≡ (first.now.uninhabited || list_all (λ list. list.uninhabited) lists.now) }
+{
+    first.uninhabited | all_uninhabited(lists)
 }
 
 /// The fields that stand before the promoted locals, as they follow one another in memory.
@@ -166,7 +176,7 @@ fn layout_of_size<FieldIdx: Idx, VariantIdx: Idx, LocalIdx: Idx>(
     ensures { IfOk result (λ layout. layout ≡ coroutine_layout FieldIdx.at FieldIdx.number prefix tag promoted.now (map (map LocalIdx.number) states.now) first lists.items) }
 {
     let before = prefix + 1;
-    let uninhabited = first.uninhabited | all_uninhabited(&lists);
+    let uninhabited = is_uninhabited(&first, &lists);
     let offsets = field_offsets(alloc, &listed_offsets(&first.fields)[..before])?;
     let in_memory_order = shared_order(alloc, before, listed_order(&first.fields))?;
     let variants = state_layouts(alloc, before, promoted, count, &first, states, lists)?;

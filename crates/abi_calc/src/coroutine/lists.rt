@@ -63,15 +63,15 @@ fn own_fields<FieldIdx: Idx, LocalIdx: Idx, F: Copy>(
 ) -> Result<IndexVec<FieldIdx, F>, AllocError>
     requires within { All (λ l. LocalIdx.number l < length locals.now) state.now }
     requires same { domain_size promoted.now ≡ length locals.now }
-    ensures { IfOk result (λ fields. fields ≡ own_list locals.now promoted.now (map LocalIdx.number state.now)) }
+    ensures { IfOk result (λ own. own ≡ own_list locals.now promoted.now (map LocalIdx.number state.now)) }
 {
-    let mut fields = IndexVec::new(alloc);
+    let mut own = IndexVec::new(alloc);
     for local in state.as_slice().as_raw() {
         if !promoted.contains(*local) {
-            let _index = fields.push(locals[local.index()])?;
+            let _index = own.push(locals[local.index()])?;
         }
     }
-    Ok(fields)
+    Ok(own)
 }
 
 impl<Cx: HasDataLayout> LayoutCalculator<Cx> {

@@ -37,7 +37,7 @@ returns g c =
     (ap₂ (λ f v. Multiple c.args.tag Direct f v) c.new.ensures c.in_ok-variants.ensures)
     refl
     refl
-    (ap (λ b. c.args.first.uninhabited || b) (c.all_uninhabited.ensures ∙ ap (list_all (λ list. list.uninhabited)) c.deref.ensures.value))
+    (c.is_uninhabited-uninhabited.ensures ∙ ap (λ ls. c.args.first.uninhabited || list_all (λ list. list.uninhabited) ls) c.deref.ensures.value)
     (ap (λ a. record { abi = a }) (c.new-2.ensures ∙ c.requires.align))
     c.requires.size
     refl
