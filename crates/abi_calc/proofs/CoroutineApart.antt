@@ -1,5 +1,5 @@
 -- A coroutine's states are told apart by its tag, and each lies apart beside the shared fields.
-use Rattle.std.proofs.Common.{◌≡◌, ◌≢◌, ℕ, ◌+◌, ◌-◌, ◌*◌, ◌%◌, ◌^◌, ◌<◌, ◌≤◌, Bool, List, [], ◌∷◌, ◌++◌, None, ◌∙◌, ap, ap₂, arith, drop, get_or, length, map, max, refl, subst, suc, sym, take}
+use Rattle.std.proofs.Common.{◌≡◌, ◌≢◌, ℕ, ◌+◌, ◌-◌, ◌*◌, ◌%◌, ◌^◌, ◌<◌, ◌≤◌, Bool, List, [], ◌∷◌, ◌++◌, None, ◌∙◌, ap, ap₂, arith, drop, get_or, length, map, max, refl, subst, sym, take}
 use Rattle.std.specs.Prelude.{All, IfOk, Result, Ok, Err, filter, nat_lt, not, slice_index}
 use Rattle.std.specs.List.{AllPairs}
 use Rattle.std.proofs.Math.Nat.{mod-eq_of_lt}
@@ -21,13 +21,13 @@ use Rattle.abi_scalar.specs.Simple.{scalar_layout}
 use Rattle.abi_calc.specs.Apart.{AreApart}
 use Rattle.abi_calc.specs.Coroutine.Clash.{AreStatesApart, IsToldByState}
 use Rattle.abi_calc.specs.Coroutine.Layout.{IsStateTag, coroutine_layout, whole_align, whole_size}
-use Rattle.abi_calc.specs.Coroutine.Lists.{behind, default_repr, first_list, own_list, own_of, picked}
+use Rattle.abi_calc.specs.Coroutine.Lists.{behind, default_repr, first_list, own_of, picked}
 use Rattle.abi_calc.specs.Coroutine.Sizes.{own_lists}
 use Rattle.abi_calc.specs.Coroutine.States.{state_layouts, state_offsets}
 use Rattle.abi_calc.specs.Enums.Lists.{AreGoodLists, IsGoodList}
 use Rattle.abi_calc.specs.Fields.{greatest_size}
 use Rattle.abi_calc.specs.Placement.{source_order, start_of}
-use Rattle.abi_calc.proofs.CoroutineAnswers.{first_count, map_first, map_picked}
+use Rattle.abi_calc.proofs.CoroutineAnswers.{first_count, map_picked}
 use Rattle.abi_calc.proofs.CoroutineStates.{members_below}
 use Rattle.abi_calc.proofs.CoroutineTold.{picked_sizes, state_apart}
 use Rattle.abi_calc.proofs.EnumPlaces.{sizes_as}

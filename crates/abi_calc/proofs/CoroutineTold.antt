@@ -1,10 +1,9 @@
 -- Where the shared fields and those of each state lie, and which numbers tell the states apart.
-use Rattle.std.proofs.Common.{◌≡◌, ◌≢◌, ℕ, ◌+◌, ◌-◌, ◌*◌, ◌%◌, ◌^◌, ◌<◌, ◌≤◌, Bool, true, false, cond, List, [], ◌∷◌, ◌++◌, None, Option, Some, ◌∙◌, ap, ap₂, arith, drop, get_or, inl, inr, length, map, refl, subst, suc, sym, take, zero, ⊎_elim}
-use Rattle.std.specs.Prelude.{◌⊎◌, All, filter, not, slice_get, slice_index, if◌then◌else◌}
-use Rattle.std.specs.List.{AllPairs, cons_option, range_with_len}
-use Rattle.std.proofs.lemmas.Bool.{cases_lt}
+use Rattle.std.proofs.Common.{◌≡◌, ◌≢◌, ℕ, ◌+◌, ◌<◌, ◌≤◌, Bool, true, false, List, [], ◌∷◌, ◌++◌, ◌∙◌, ap, arith, drop, get_or, inl, inr, length, map, refl, subst, suc, sym, zero}
+use Rattle.std.specs.Prelude.{◌⊎◌, All, slice_get, slice_index}
+use Rattle.std.specs.List.{AllPairs, cons_option}
 use Rattle.std.proofs.lemmas.List.{append-nil, get_or-map, length-map}
-use Rattle.std.proofs.lemmas.List.Elements.{All-cons, All-head, All-nil, All-tail}
+use Rattle.std.proofs.lemmas.List.Elements.{All-head, All-tail}
 use Rattle.abi_index.specs.BitSet.{is_member, members_of}
 use Rattle.abi_calc.specs.Apart.{AreApart, IsBeside}
 use Rattle.abi_calc.specs.Coroutine.Lists.{own_of, picked}
