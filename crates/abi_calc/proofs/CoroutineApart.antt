@@ -59,7 +59,7 @@ greatest_above (l ∷ ls) =
     All-cons (λ x. x.size ≤ max l.size (greatest_size ls)) l ls (omega arith) (All-weaker (λ x. x.size ≤ greatest_size ls) (λ x. x.size ≤ max l.size (greatest_size ls)) (λ x h. omega (arith, h)) ls (greatest_above ls))
 
 -- the whole holds each list
-whole_above : {F V : Type 0} (first : LayoutData F V) (lists : List (LayoutData F V)) → All (λ l. l.size ≤ whole_size first lists) (first ∷ lists)
+pub whole_above : {F V : Type 0} (first : LayoutData F V) (lists : List (LayoutData F V)) → All (λ l. l.size ≤ whole_size first lists) (first ∷ lists)
 whole_above first lists =
     let up = (rounded_to (greatest_size (first ∷ lists)) (whole_align first lists)).above in
     All-weaker (λ l. l.size ≤ greatest_size (first ∷ lists)) (λ l. l.size ≤ whole_size first lists) (λ l h. omega (arith, h, up)) (first ∷ lists) (greatest_above (first ∷ lists))
@@ -80,7 +80,7 @@ module _ {F V H : Type 0} (layout_of : H → LayoutData F V) (at : ℕ → F) (n
   shared_offsets = take (length prefix + 1) (listed_offsets first.fields)
 
   -- the sizes of some locals
-  sizes_of : (places : List ℕ) → All (λ p. p < length locals) places → map (λ f. (layout_of f).size) (picked locals places) ≡ map local_size places
+  pub sizes_of : (places : List ℕ) → All (λ p. p < length locals) places → map (λ f. (layout_of f).size) (picked locals places) ≡ map local_size places
   sizes_of places within =
       sym (sizes_as layout_of (picked locals places)) ∙ ap (map (λ f. f.size)) (map_picked layout_of locals places)
       ∙ picked_sizes (λ f. f.size) (map layout_of locals) places (subst (λ n. All (λ p. p < n) places) (sym (length-map locals layout_of)) within)
@@ -94,10 +94,10 @@ module _ {F V H : Type 0} (layout_of : H → LayoutData F V) (at : ℕ → F) (n
       ∙ ap (λ (l : LayoutData F V). map (λ (f : LayoutData F V). f.size) (map layout_of prefix) ++ l.size ∷ map local_size (members_of promoted)) holds
       ∙ sym (append_assoc (map (λ (f : LayoutData F V). f.size) (map layout_of prefix)) (scalar_size dl tag ∷ []) (map local_size (members_of promoted)))
 
-  first_apart : AreApart first.size (shared_offsets ++ drop (length prefix + 1) (listed_offsets first.fields)) (shared_sizes ++ map local_size (members_of promoted))
+  pub first_apart : AreApart first.size (shared_offsets ++ drop (length prefix + 1) (listed_offsets first.fields)) (shared_sizes ++ map local_size (members_of promoted))
   first_apart = subst (λ os. AreApart first.size os (shared_sizes ++ map local_size (members_of promoted))) (sym (take-append-drop (length prefix + 1) (listed_offsets first.fields))) (subst (AreApart first.size (listed_offsets first.fields)) first_sizes good.apart)
 
-  shared_count : length shared_offsets ≡ length shared_sizes
+  pub shared_count : length shared_offsets ≡ length shared_sizes
   shared_count =
       let offsets = good.listed.count ∙ first_count prefix field locals promoted many in
       let front = length-take-le (length prefix + 1) (listed_offsets first.fields) (omega (arith, offsets)) in

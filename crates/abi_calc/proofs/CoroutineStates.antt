@@ -246,15 +246,12 @@ members_below promoted i d short =
 -- the members of a set and those of a state's locals that it hasn't are no more than it might have
 pub members_and_own : (promoted : List Bool) (state : List ℕ) → AllPairs (λ a b. a ≢ b) state → All (λ l. l < length promoted) state → length (members_of promoted) + length (own_of promoted state) ≤ length promoted
 members_and_own promoted state once within =
-    let members : List ℕ = members_of promoted in
-    let own : List ℕ = own_of promoted state in
     let first : AllPairs (λ a b. a ≢ b) (members_of promoted) = λ i j d low short. (λ same. (let less = members_ascend promoted i j d low short in omega (arith, same, less))) in
     let second : AllPairs (λ a b. a ≢ b) (own_of promoted state) = AllPairs-filter (λ a b. a ≢ b) (λ l. not (is_member promoted l)) state once in
     let cross : All (λ x. All (λ y. x ≢ y) (own_of promoted state)) (members_of promoted)
     = λ i d low k e short. (λ same.
     (let yes = All-get_or (λ x. is_member promoted x ≡ true) (members_of promoted) i d low (filter_passes (is_member promoted) (range_with_len 0 (length promoted - 0))) in
     let no : not (is_member promoted (get_or (own_of promoted state) k e)) ≡ true = All-get_or (λ x. not (is_member promoted x) ≡ true) (own_of promoted state) k e short (filter_passes (λ l. not (is_member promoted l)) state) in
-    let never : not true ≡ true = sym (ap not (sym (ap (is_member promoted) same) ∙ yes)) ∙ no in
     cc)) in
     let below : All (λ l. l < length promoted) (members_of promoted ++ own_of promoted state)
     = All-append (λ l. l < length promoted) (members_of promoted) (own_of promoted state)

@@ -17,7 +17,6 @@ loop-place-preserved g c =
     let low : c.loop-place.place < length (map g.LocalIdx.Idx.number c.args.state.now) = omega (arith, c.loop-place-test.true, length-map c.args.state.now g.LocalIdx.Idx.number) in
     elim c.if-contains.branch [
       | then-contains w ↦
-          let numbers = map g.LocalIdx.Idx.number c.args.state.now in
           let place = c.loop-place.place in
           let written : c.if-contains.held.items ≡ set c.loop-place.held.items (rank_of c.args.promoted.now (slice_index (map g.LocalIdx.Idx.number c.args.state.now) c.loop-place.place)) (Some c.loop-place.place)
           = ap (λ v. v.items) w.held-is ∙ ap (λ r. set c.loop-place.held.items r (Some c.loop-place.place)) (w.rank_in.ensures.rank ∙ ap (rank_of c.args.promoted.now) (sym named)) in

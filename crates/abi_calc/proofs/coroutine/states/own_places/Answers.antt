@@ -12,7 +12,6 @@ use Rattle.abi_calc.proofs.coroutine.states.own_places.Goals.{then-not-contains+
 
 pub loop-place-preserved : goal.loop-place-preserved
 loop-place-preserved g c =
-    let numbers = map g.LocalIdx.Idx.number c.args.state.now in
     let place = c.loop-place.place in
     let named = name_at g.LocalIdx.Idx.number c.args.state.now c.loop-place.place c.index-state-place.result c.loop-place-test.true c.index-state-place.is in
     let test = ap (λ m. not (is_member c.args.promoted.now m)) named in

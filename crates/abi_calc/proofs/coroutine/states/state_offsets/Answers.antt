@@ -14,8 +14,6 @@ bounds-own-place g c =
 
 pub loop-local-preserved : goal.loop-local-preserved
 loop-local-preserved g c =
-    let before = map g.LocalIdx.Idx.number (take c.loop-local.local-index c.args.state.now) in
-    let l = g.LocalIdx.Idx.number c.local-item.result in
     let long = length-append c.loop-local.offsets (c.if-contains.offset ∷ []) in
     elim c.if-contains.branch [
       | then-contains w ↦

@@ -17,8 +17,6 @@ joined_places-requires-clause-ranks g c k d short =
 
 pub joined_places-requires-clause-own : goal.joined_places-requires-clause-own
 joined_places-requires-clause-own g c k d short =
-    let numbers = map g.LocalIdx.Idx.number c.args.state.now in
-    let count = length (own_of c.args.promoted.now (map g.LocalIdx.Idx.number c.args.state.now)) in
     let low = within_order (length (own_of c.args.promoted.now (map g.LocalIdx.Idx.number c.args.state.now))) (map g.FieldIdx.Idx.number c.args.own.now) c.requires.own k (g.FieldIdx.Idx.number d)
     (omega (arith, short, length-map c.args.own.now g.FieldIdx.Idx.number)) in
     let read = get_or-map g.FieldIdx.Idx.number c.args.own.now k d (g.FieldIdx.Idx.number d) short in
@@ -39,7 +37,6 @@ joined_places-requires-clause-places g c k d short =
 
 pub joined_places-requires-clause-room : goal.joined_places-requires-clause-room
 joined_places-requires-clause-room g c =
-    let numbers = map g.LocalIdx.Idx.number c.args.state.now in
     let few = members_and_own c.args.promoted.now (map g.LocalIdx.Idx.number c.args.state.now) c.requires.once (All-map (λ l. l < length c.args.promoted.now) g.LocalIdx.Idx.number c.args.state.now c.requires.within) in
     let first = c.requires.ranks in
     let second = order_count (length (own_of c.args.promoted.now (map g.LocalIdx.Idx.number c.args.state.now))) (map g.FieldIdx.Idx.number c.args.own.now) c.requires.own in
