@@ -1,7 +1,7 @@
 -- What is promised of a coroutine, from the layouts of its lists.
-use Rattle.std.proofs.Common.{◌≡◌, ℕ, ◌+◌, ◌*◌, ◌-◌, ◌^◌, ◌<◌, ◌≤◌, Bool, true, false, List, [], ◌∷◌, ◌++◌, None, Option, Some, ◌∙◌, ap, ap₂, arith, inl, inr, length, map, max, refl, subst, suc, sym, zero}
+use Rattle.std.proofs.Common.{◌≡◌, ℕ, ◌+◌, ◌*◌, ◌-◌, ◌^◌, ◌<◌, ◌≤◌, Bool, false, List, [], ◌∷◌, ◌++◌, None, Option, Some, ◌∙◌, ap, ap₂, arith, inl, inr, length, map, max, refl, subst, suc, sym, zero}
 use Rattle.std.specs.Prelude.{◌⊎◌, All, IfErr, IfOk, IsPermutation, Result, Ok, Err, not, slice_get}
-use Rattle.std.specs.Int.{next_multiple_of, ◌∣◌}
+use Rattle.std.specs.Int.{next_multiple_of}
 use Rattle.std.specs.List.{AllZip, cons_option}
 use Rattle.std.proofs.lemmas.List.{length-append, length-map, map-append}
 use Rattle.std.proofs.lemmas.List.Elements.{All-append, All-cons, All-contains, All-filter, All-head, All-map, All-tail}
@@ -29,7 +29,7 @@ use Rattle.abi_calc.specs.Coroutine.Sizes.{AreListsTooLarge, IsSizeOfLists, IsSi
 use Rattle.abi_calc.specs.Enums.Lists.{AreGoodLists, AreListLayouts, IsFirstListError, IsGoodList}
 use Rattle.abi_calc.specs.Enums.Sizes.{AreLeastSizes}
 use Rattle.abi_calc.specs.Fields.{greatest, greatest_size}
-use Rattle.abi_calc.specs.Least.{IsEachOrderTooLarge, IsLeastSize, align_by}
+use Rattle.abi_calc.specs.Least.{IsEachOrderTooLarge, align_by}
 use Rattle.abi_calc.specs.List.{AreSized, IsListError}
 use Rattle.abi_calc.specs.Part.{is_unsized}
 use Rattle.abi_calc.specs.Placement.{list_repr, source_order}
@@ -134,7 +134,7 @@ module _ {F V H : Type 0} (layout_of : H → LayoutData F V) (at : ℕ → F) (z
         let start : h.0 ≡ first.size = least_unique dl default_repr AlwaysSized (map layout_of fields) h.0 first.size h.1 good.least in
         let sizes : h.2 ≡ map (λ l. l.size) lists
         = sizes_unique dl default_repr (behind_first dl (map layout_of fields) first.size) (map (map layout_of) own) h.2 (map (λ l. l.size) lists)
-          (subst (λ s. AreLeastSizes dl default_repr (behind_first dl (map layout_of fields) s) (map (map layout_of) own) h.2) start h.3) whole_is.3 in
+        (subst (λ s. AreLeastSizes dl default_repr (behind_first dl (map layout_of fields) s) (map (map layout_of) own) h.2) start h.3) whole_is.3 in
         h.4 ∙ ap₂ (λ s ss. next_multiple_of (greatest (s ∷ ss)) (2 ^ align_of_all dl (map layout_of fields) s (map (map layout_of) own))) start sizes ∙ sym whole_is.4
 
     -- a coroutine that has a layout isn't too large

@@ -1,5 +1,5 @@
 -- A coroutine's states are told apart by its tag, and each lies apart beside the shared fields.
-use Rattle.std.proofs.Common.{◌≡◌, ◌≢◌, ℕ, ◌+◌, ◌-◌, ◌*◌, ◌%◌, ◌^◌, ◌<◌, ◌≤◌, Bool, List, [], ◌∷◌, ◌++◌, None, ◌∙◌, ap, ap₂, arith, drop, get_or, length, map, max, refl, subst, suc, sym, take}
+use Rattle.std.proofs.Common.{◌≡◌, ◌≢◌, ℕ, ◌+◌, ◌-◌, ◌*◌, ◌%◌, ◌^◌, ◌<◌, ◌≤◌, Bool, List, [], ◌∷◌, ◌++◌, None, ◌∙◌, ap, ap₂, arith, drop, get_or, length, map, max, refl, subst, sym, take}
 use Rattle.std.specs.Prelude.{All, IfOk, Result, Ok, Err, filter, nat_lt, not, slice_index}
 use Rattle.std.specs.List.{AllPairs}
 use Rattle.std.proofs.Math.Nat.{mod-eq_of_lt}
@@ -21,13 +21,13 @@ use Rattle.abi_scalar.specs.Simple.{scalar_layout}
 use Rattle.abi_calc.specs.Apart.{AreApart}
 use Rattle.abi_calc.specs.Coroutine.Clash.{AreStatesApart, IsToldByState}
 use Rattle.abi_calc.specs.Coroutine.Layout.{IsStateTag, coroutine_layout, whole_align, whole_size}
-use Rattle.abi_calc.specs.Coroutine.Lists.{behind, default_repr, first_list, own_list, own_of, picked}
+use Rattle.abi_calc.specs.Coroutine.Lists.{behind, default_repr, first_list, own_of, picked}
 use Rattle.abi_calc.specs.Coroutine.Sizes.{own_lists}
 use Rattle.abi_calc.specs.Coroutine.States.{state_layouts, state_offsets}
 use Rattle.abi_calc.specs.Enums.Lists.{AreGoodLists, IsGoodList}
 use Rattle.abi_calc.specs.Fields.{greatest_size}
 use Rattle.abi_calc.specs.Placement.{source_order, start_of}
-use Rattle.abi_calc.proofs.CoroutineAnswers.{first_count, map_first, map_picked}
+use Rattle.abi_calc.proofs.CoroutineAnswers.{first_count, map_picked}
 use Rattle.abi_calc.proofs.CoroutineStates.{members_below}
 use Rattle.abi_calc.proofs.CoroutineTold.{picked_sizes, state_apart}
 use Rattle.abi_calc.proofs.EnumPlaces.{sizes_as}
@@ -59,7 +59,7 @@ greatest_above (l ∷ ls) =
     All-cons (λ x. x.size ≤ max l.size (greatest_size ls)) l ls (omega arith) (All-weaker (λ x. x.size ≤ greatest_size ls) (λ x. x.size ≤ max l.size (greatest_size ls)) (λ x h. omega (arith, h)) ls (greatest_above ls))
 
 -- the whole holds each list
-whole_above : {F V : Type 0} (first : LayoutData F V) (lists : List (LayoutData F V)) → All (λ l. l.size ≤ whole_size first lists) (first ∷ lists)
+pub whole_above : {F V : Type 0} (first : LayoutData F V) (lists : List (LayoutData F V)) → All (λ l. l.size ≤ whole_size first lists) (first ∷ lists)
 whole_above first lists =
     let up = (rounded_to (greatest_size (first ∷ lists)) (whole_align first lists)).above in
     All-weaker (λ l. l.size ≤ greatest_size (first ∷ lists)) (λ l. l.size ≤ whole_size first lists) (λ l h. omega (arith, h, up)) (first ∷ lists) (greatest_above (first ∷ lists))
@@ -80,7 +80,7 @@ module _ {F V H : Type 0} (layout_of : H → LayoutData F V) (at : ℕ → F) (n
   shared_offsets = take (length prefix + 1) (listed_offsets first.fields)
 
   -- the sizes of some locals
-  sizes_of : (places : List ℕ) → All (λ p. p < length locals) places → map (λ f. (layout_of f).size) (picked locals places) ≡ map local_size places
+  pub sizes_of : (places : List ℕ) → All (λ p. p < length locals) places → map (λ f. (layout_of f).size) (picked locals places) ≡ map local_size places
   sizes_of places within =
       sym (sizes_as layout_of (picked locals places)) ∙ ap (map (λ f. f.size)) (map_picked layout_of locals places)
       ∙ picked_sizes (λ f. f.size) (map layout_of locals) places (subst (λ n. All (λ p. p < n) places) (sym (length-map locals layout_of)) within)
@@ -94,7 +94,7 @@ module _ {F V H : Type 0} (layout_of : H → LayoutData F V) (at : ℕ → F) (n
       ∙ ap (λ (l : LayoutData F V). map (λ (f : LayoutData F V). f.size) (map layout_of prefix) ++ l.size ∷ map local_size (members_of promoted)) holds
       ∙ sym (append_assoc (map (λ (f : LayoutData F V). f.size) (map layout_of prefix)) (scalar_size dl tag ∷ []) (map local_size (members_of promoted)))
 
-  first_apart : AreApart first.size (shared_offsets ++ drop (length prefix + 1) (listed_offsets first.fields)) (shared_sizes ++ map local_size (members_of promoted))
+  pub first_apart : AreApart first.size (shared_offsets ++ drop (length prefix + 1) (listed_offsets first.fields)) (shared_sizes ++ map local_size (members_of promoted))
   first_apart = subst (λ os. AreApart first.size os (shared_sizes ++ map local_size (members_of promoted))) (sym (take-append-drop (length prefix + 1) (listed_offsets first.fields))) (subst (AreApart first.size (listed_offsets first.fields)) first_sizes good.apart)
 
   shared_long : length shared_offsets ≡ length (map layout_of prefix) + 1
@@ -103,7 +103,7 @@ module _ {F V H : Type 0} (layout_of : H → LayoutData F V) (at : ℕ → F) (n
       let front = length-take-le (length prefix + 1) (listed_offsets first.fields) (omega (arith, offsets)) in
       omega (arith, front, length-map prefix layout_of)
 
-  shared_count : length shared_offsets ≡ length shared_sizes
+  pub shared_count : length shared_offsets ≡ length shared_sizes
   shared_count =
       let offsets = good.listed.count ∙ first_count prefix field locals promoted many in
       let front = length-take-le (length prefix + 1) (listed_offsets first.fields) (omega (arith, offsets)) in

@@ -1,5 +1,5 @@
 -- The call that lays out a coroutine: its tag, and how many locals may be promoted.
-use Rattle.std.proofs.Common.{◌≡◌, ℕ, ◌+◌, ◌-◌, ◌<◌, ◌≤◌, Bool, true, false, List, [], ◌∷◌, ◌∙◌, ap, arith, length, map, refl, subst, sym}
+use Rattle.std.proofs.Common.{◌≡◌, ℕ, ◌-◌, ◌≤◌, Bool, true, false, List, [], ◌∷◌, ◌∙◌, ap, arith, length, map, refl, sym}
 use Rattle.std.specs.Prelude.{◌==◌, fold, if◌then◌else◌, nat_lt}
 use Rattle.std.proofs.lemmas.List.FromFn.{length-map-range_with_len}
 use Rattle.std.proofs.lemmas.List.{length-map}

@@ -1,9 +1,9 @@
 -- The layout of a coroutine, from the layouts of its lists.
-use Rattle.std.proofs.Common.{◌≡◌, ℕ, ◌+◌, ◌-◌, ◌^◌, ◌<◌, ◌≤◌, Bool, true, false, cond, List, [], ◌∷◌, ◌++◌, ◌∙◌, ap, arith, drop, get_or, inl, inr, length, map, max, refl, subst, suc, sym, take, zero}
-use Rattle.std.specs.Prelude.{◌⊎◌, All, IsPermutation, filter, nat_lt, not, sum_by}
+use Rattle.std.proofs.Common.{◌≡◌, ℕ, ◌+◌, ◌-◌, ◌^◌, ◌<◌, ◌≤◌, Bool, true, false, cond, List, [], ◌∷◌, ◌++◌, ◌∙◌, ap, arith, drop, get_or, length, map, refl, subst, suc, sym, zero}
+use Rattle.std.specs.Prelude.{All, IsPermutation, filter, nat_lt, not, sum_by}
 use Rattle.std.specs.List.{AllZip, range_with_len}
 use Rattle.std.proofs.lemmas.Bool.{ltb-false, lt-ltb, le-ltb}
-use Rattle.std.proofs.lemmas.List.{append-nil, append_assoc, drop_more, get_or-map, length-append, length-map, map-id}
+use Rattle.std.proofs.lemmas.List.{append_assoc, drop_more, get_or-map, length-map, map-id}
 use Rattle.std.proofs.lemmas.List.Elements.{All-cons, All-filter, All-map, filter-append, filter_passes}
 use Rattle.std.proofs.lemmas.List.FromFn.{length-range_with_len}
 use Rattle.std.proofs.lemmas.List.Sorted.{sum_by-IsPermutation}
@@ -13,12 +13,12 @@ use Rattle.abi_base.specs.DataLayout.{IsLawfulDataLayout}
 use Rattle.abi_scalar.specs.declared.layout_data.LayoutData.{LayoutData}
 use Rattle.abi_scalar.specs.declared.variants.VariantLayout.{VariantLayout}
 use Rattle.abi_scalar.specs.Lawful.{IsLawfulLayout}
-use Rattle.abi_scalar.specs.Shape.{listed_offsets, listed_order}
-use Rattle.abi_calc.specs.Coroutine.Layout.{whole_align, whole_size}
+use Rattle.abi_scalar.specs.Shape.{listed_order}
+use Rattle.abi_calc.specs.Coroutine.Layout.{whole_align}
 use Rattle.abi_calc.specs.Coroutine.States.{HasFields, ranks_of, state_layout, state_layouts}
 use Rattle.abi_calc.specs.Fields.{greatest_align, greatest_size}
 use Rattle.abi_calc.specs.Placement.{source_order}
-use Rattle.abi_calc.proofs.CoroutineStates.{kept_map, none_kept, order_count, range_split}
+use Rattle.abi_calc.proofs.CoroutineStates.{kept_map, none_kept, range_split}
 use Rattle.abi_calc.proofs.EnumLists.{align_small}
 use Rattle.abi_calc.proofs.EnumTagged.{size_of_lists_small}
 use Rattle.abi_calc.proofs.Sorting.{within_order}

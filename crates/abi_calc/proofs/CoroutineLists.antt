@@ -1,5 +1,5 @@
 -- The lists of a coroutine.
-use Rattle.std.proofs.Common.{◌≡◌, ℕ, ◌+◌, ◌<◌, ◌≤◌, Bool, true, false, cond, List, [], ◌∷◌, ◌++◌, Option, None, Some, ◌∙◌, ap, arith, drop, get_or, inl, inr, length, map, refl, subst, suc, sym, take}
+use Rattle.std.proofs.Common.{◌≡◌, ℕ, ◌+◌, ◌<◌, Bool, true, false, cond, List, [], ◌∷◌, ◌++◌, Option, None, Some, ◌∙◌, ap, arith, drop, get_or, inl, inr, length, map, refl, subst, suc, sym, take}
 use Rattle.std.specs.Prelude.{◌⊎◌, All, IfErr, Result, filter, not, slice_get}
 use Rattle.std.specs.List.{cons_option, range_with_len}
 use Rattle.std.proofs.lemmas.List.{append-nil, map-append, map-id, map_more, map_push, take-append-drop}
@@ -13,7 +13,7 @@ use Rattle.abi_scalar.specs.declared.error.LayoutCalculatorError.{LayoutCalculat
 use Rattle.abi_scalar.specs.declared.error.LayoutCalculatorError.TheVariants.{OutOfMemory}
 use Rattle.abi_scalar.specs.declared.layout_data.LayoutData.{LayoutData}
 use Rattle.abi_scalar.specs.declared.repr.ReprOptions.{ReprOptions}
-use Rattle.abi_index.specs.BitSet.{is_member, members_of}
+use Rattle.abi_index.specs.BitSet.{is_member}
 use Rattle.abi_calc.specs.Coroutine.Lists.{default_repr, own_list, own_of, picked}
 use Rattle.abi_calc.specs.Coroutine.Sizes.{own_lists}
 use Rattle.abi_calc.specs.Enums.Lists.{AreGoodLists, IsFirstListError, IsGoodList}

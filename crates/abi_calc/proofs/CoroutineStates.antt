@@ -1,6 +1,6 @@
 -- Where the locals of a coroutine's states lie.
-use Rattle.std.proofs.Common.{◌≡◌, ◌≢◌, ℕ, ◌+◌, ◌-◌, ◌<◌, ◌≤◌, Bool, true, false, cond, List, [], ◌∷◌, ◌++◌, Option, None, Some, ◌∙◌, ap, ap₂, arith, drop, get_or, inl, inr, length, map, refl, set, subst, suc, sym, take, zero, ⊎_elim}
-use Rattle.std.specs.Prelude.{◌⊎◌, ◌==◌, All, IfSome, IsPermutation, filter, flat_map, not, slice_index, slice_index_or, if◌then◌else◌}
+use Rattle.std.proofs.Common.{◌≡◌, ◌≢◌, ℕ, ◌+◌, ◌-◌, ◌<◌, ◌≤◌, Bool, true, false, cond, List, [], ◌∷◌, ◌++◌, Option, None, Some, ◌∙◌, ap, ap₂, arith, drop, get_or, length, map, refl, set, subst, suc, sym, take, zero, ⊎_elim}
+use Rattle.std.specs.Prelude.{◌==◌, All, IfSome, IsPermutation, filter, flat_map, not, slice_index, slice_index_or, if◌then◌else◌}
 use Rattle.std.specs.List.{AllPairs, list_any, range_with_len}
 use Rattle.std.specs.Option.{option_to_list}
 use Rattle.std.proofs.lemmas.Bool.{cases_eq, cases_lt, eq-eqb, eqb-true, ne_eqb}
@@ -79,7 +79,7 @@ member_rank promoted r short =
       is,
       ⊎_elim (λ (low : rank_of promoted m < r). absurd (omega (arith, up (rank_of promoted m) r 0 low short, own.1)))
           (λ (high : r ≤ rank_of promoted m). ⊎_elim (λ (more : r < rank_of promoted m). absurd (omega (arith, up r (rank_of promoted m) 0 more own.0, own.1)))
-              (λ (same : rank_of promoted m ≤ r). omega (arith, high, same)) (cases_lt r (rank_of promoted m)))
+          (λ (same : rank_of promoted m ≤ r). omega (arith, high, same)) (cases_lt r (rank_of promoted m)))
           (cases_lt (rank_of promoted m) r),
     )
 
@@ -184,6 +184,7 @@ held_set promoted state held n short once long is h rank low =
         ap (λ x. option_to_list (get_or (set held (rank_of promoted (slice_index state n)) (Some n)) x None)) e
         ∙ ap option_to_list (get_or-set_same held (rank_of promoted (slice_index state n)) (Some n) None (omega (arith, own.0, long)))
         ∙ sym (kept_more (λ k. slice_index state k == slice_index (members_of promoted) rank) n true (eq-eqb (slice_index state n) (slice_index (members_of promoted) rank) (sym named)) ∙ ap (λ xs. xs ++ n ∷ []) none)
+
     there : (rank ≡ rank_of promoted (slice_index state n) → ⊥) → option_to_list (get_or (set held (rank_of promoted (slice_index state n)) (Some n)) rank None) ≡ places_before promoted state rank (n + 1)
     there other =
         let differ : slice_index state n ≡ slice_index (members_of promoted) rank → ⊥ = λ same. other (sym (ap (rank_of promoted) same ∙ (member_rank promoted rank low).1)) in
@@ -245,20 +246,17 @@ members_below promoted i d short =
 -- the members of a set and those of a state's locals that it hasn't are no more than it might have
 pub members_and_own : (promoted : List Bool) (state : List ℕ) → AllPairs (λ a b. a ≢ b) state → All (λ l. l < length promoted) state → length (members_of promoted) + length (own_of promoted state) ≤ length promoted
 members_and_own promoted state once within =
-    let members : List ℕ = members_of promoted in
-    let own : List ℕ = own_of promoted state in
     let first : AllPairs (λ a b. a ≢ b) (members_of promoted) = λ i j d low short. (λ same. (let less = members_ascend promoted i j d low short in omega (arith, same, less))) in
     let second : AllPairs (λ a b. a ≢ b) (own_of promoted state) = AllPairs-filter (λ a b. a ≢ b) (λ l. not (is_member promoted l)) state once in
     let cross : All (λ x. All (λ y. x ≢ y) (own_of promoted state)) (members_of promoted)
     = λ i d low k e short. (λ same.
-        (let yes = All-get_or (λ x. is_member promoted x ≡ true) (members_of promoted) i d low (filter_passes (is_member promoted) (range_with_len 0 (length promoted - 0))) in
-        let no : not (is_member promoted (get_or (own_of promoted state) k e)) ≡ true = All-get_or (λ x. not (is_member promoted x) ≡ true) (own_of promoted state) k e short (filter_passes (λ l. not (is_member promoted l)) state) in
-        let never : not true ≡ true = sym (ap not (sym (ap (is_member promoted) same) ∙ yes)) ∙ no in
-        cc)) in
+    (let yes = All-get_or (λ x. is_member promoted x ≡ true) (members_of promoted) i d low (filter_passes (is_member promoted) (range_with_len 0 (length promoted - 0))) in
+    let no : not (is_member promoted (get_or (own_of promoted state) k e)) ≡ true = All-get_or (λ x. not (is_member promoted x) ≡ true) (own_of promoted state) k e short (filter_passes (λ l. not (is_member promoted l)) state) in
+    cc)) in
     let below : All (λ l. l < length promoted) (members_of promoted ++ own_of promoted state)
     = All-append (λ l. l < length promoted) (members_of promoted) (own_of promoted state)
-      (members_below promoted)
-      (All-filter (λ l. not (is_member promoted l)) (λ l. l < length promoted) state within) in
+    (members_below promoted)
+    (All-filter (λ l. not (is_member promoted l)) (λ l. l < length promoted) state within) in
     let distinct = IsDistinct-from_AllPairs Decides-eqb (members_of promoted ++ own_of promoted state) (pairs_append (λ a b. a ≢ b) (members_of promoted) (own_of promoted state) first second cross) in
     let few = length-le_from_distinct_below (members_of promoted ++ own_of promoted state) (length promoted) distinct (λ q found. found_below (members_of promoted ++ own_of promoted state) (length promoted) q below found) in
     let long = length-append (members_of promoted) (own_of promoted state) in

@@ -1,10 +1,9 @@
 -- Where the shared fields and those of each state lie, and which numbers tell the states apart.
-use Rattle.std.proofs.Common.{◌≡◌, ◌≢◌, ℕ, ◌+◌, ◌-◌, ◌*◌, ◌%◌, ◌^◌, ◌<◌, ◌≤◌, Bool, true, false, cond, List, [], ◌∷◌, ◌++◌, None, Option, Some, ◌∙◌, ap, ap₂, arith, drop, get_or, inl, inr, length, map, refl, subst, suc, sym, take, zero, ⊎_elim}
-use Rattle.std.specs.Prelude.{◌⊎◌, All, filter, not, slice_get, slice_index, if◌then◌else◌}
-use Rattle.std.specs.List.{AllPairs, cons_option, range_with_len}
-use Rattle.std.proofs.lemmas.Bool.{cases_lt}
+use Rattle.std.proofs.Common.{◌≡◌, ◌≢◌, ℕ, ◌+◌, ◌<◌, ◌≤◌, Bool, true, false, List, [], ◌∷◌, ◌++◌, ◌∙◌, ap, arith, drop, get_or, inl, inr, length, map, refl, subst, suc, sym, zero}
+use Rattle.std.specs.Prelude.{◌⊎◌, All, slice_get, slice_index}
+use Rattle.std.specs.List.{AllPairs, cons_option}
 use Rattle.std.proofs.lemmas.List.{append-nil, get_or-map, length-map}
-use Rattle.std.proofs.lemmas.List.Elements.{All-cons, All-head, All-nil, All-tail}
+use Rattle.std.proofs.lemmas.List.Elements.{All-head, All-tail}
 use Rattle.abi_index.specs.BitSet.{is_member, members_of}
 use Rattle.abi_calc.specs.Apart.{AreApart, IsBeside}
 use Rattle.abi_calc.specs.Coroutine.Lists.{own_of, picked}
@@ -18,19 +17,19 @@ use Rattle.abi_calc.proofs.EnumPlaces.{wider}
 abbrev pub AreTwoApart : (o m p n : ℕ) → Type 0
 AreTwoApart o m p n = (o + m ≤ p) ⊎ (p + n ≤ o)
 
-two_swap : (o m p n : ℕ) → AreTwoApart o m p n → AreTwoApart p n o m
+pub two_swap : (o m p n : ℕ) → AreTwoApart o m p n → AreTwoApart p n o m
 two_swap o m p n (inl h) = inr h
 two_swap o m p n (inr h) = inl h
 
 -- there is a size for each offset
-apart_count : (w : ℕ) (os ms : List ℕ) → AreApart w os ms → length os ≡ length ms
+pub apart_count : (w : ℕ) (os ms : List ℕ) → AreApart w os ms → length os ≡ length ms
 apart_count w [] [] h = refl
 apart_count w [] (m ∷ ms) h = absurd h
 apart_count w (o ∷ os) [] h = absurd h
 apart_count w (o ∷ os) (m ∷ ms) h = ap suc (apart_count w os ms h.2)
 
 -- a part beside others is beside each of them
-beside_at : (o m : ℕ) (os ms : List ℕ) (j : ℕ) → j < length os → IsBeside o m os ms → AreTwoApart o m (slice_index os j) (slice_index ms j)
+pub beside_at : (o m : ℕ) (os ms : List ℕ) (j : ℕ) → j < length os → IsBeside o m os ms → AreTwoApart o m (slice_index os j) (slice_index ms j)
 beside_at o m [] [] j low h = absurd (omega (arith, low))
 beside_at o m [] (n ∷ ns) j low h = absurd h
 beside_at o m (p ∷ os) [] j low h = absurd h
@@ -38,7 +37,7 @@ beside_at o m (p ∷ os) (n ∷ ms) zero low h = h.0
 beside_at o m (p ∷ os) (n ∷ ms) (suc j) low h = beside_at o m os ms j (omega (arith, low)) h.1
 
 -- each ends inside
-apart_inside : (w : ℕ) (os ms : List ℕ) (j : ℕ) → j < length os → AreApart w os ms → slice_index os j + slice_index ms j ≤ w
+pub apart_inside : (w : ℕ) (os ms : List ℕ) (j : ℕ) → j < length os → AreApart w os ms → slice_index os j + slice_index ms j ≤ w
 apart_inside w [] [] j low h = absurd (omega (arith, low))
 apart_inside w [] (m ∷ ms) j low h = absurd h
 apart_inside w (o ∷ os) [] j low h = absurd h
@@ -166,21 +165,21 @@ module _ (promoted : List Bool) (before sizes shared : List ℕ) (size : ℕ →
   ranked : AreApart start shared (map size (members_of promoted))
   ranked = apart_back start before shared sizes (map size (members_of promoted)) same first
 
-  ranked_count : length shared ≡ length (members_of promoted)
+  pub ranked_count : length shared ≡ length (members_of promoted)
   ranked_count = apart_count start shared (map size (members_of promoted)) ranked ∙ length-map (members_of promoted) size
 
   ranked_size : (l : ℕ) → is_member promoted l ≡ true → slice_index (map size (members_of promoted)) (rank_of promoted l) ≡ size l
   ranked_size l is = get_or-map size (members_of promoted) (rank_of promoted l) 0 0 (rank_member promoted l is 0).0 ∙ ap size (rank_member promoted l is 0).1
 
   -- each ends where the first list does, or before
-  ranked_inside : (l : ℕ) → is_member promoted l ≡ true → slice_index shared (rank_of promoted l) + size l ≤ start
+  pub ranked_inside : (l : ℕ) → is_member promoted l ≡ true → slice_index shared (rank_of promoted l) + size l ≤ start
   ranked_inside l is =
       let low : rank_of promoted l < length shared = omega (arith, (rank_member promoted l is 0).0, ranked_count) in
       let inside = apart_inside start shared (map size (members_of promoted)) (rank_of promoted l) low ranked in
       omega (arith, inside, ranked_size l is)
 
   -- two of them share no byte
-  ranked_two : (l m : ℕ) → l ≢ m → is_member promoted l ≡ true → is_member promoted m ≡ true → AreTwoApart (slice_index shared (rank_of promoted l)) (size l) (slice_index shared (rank_of promoted m)) (size m)
+  pub ranked_two : (l m : ℕ) → l ≢ m → is_member promoted l ≡ true → is_member promoted m ≡ true → AreTwoApart (slice_index shared (rank_of promoted l)) (size l) (slice_index shared (rank_of promoted m)) (size m)
   ranked_two l m other is so =
       let low : rank_of promoted l < length shared = omega (arith, (rank_member promoted l is 0).0, ranked_count) in
       let high : rank_of promoted m < length shared = omega (arith, (rank_member promoted m so 0).0, ranked_count) in
@@ -190,7 +189,7 @@ module _ (promoted : List Bool) (before sizes shared : List ℕ) (size : ℕ →
       (apart_two start shared (map size (members_of promoted)) (rank_of promoted l) (rank_of promoted m) low high differ ranked))
 
   -- and each is beside the shared fields
-  ranked_before : (l : ℕ) → is_member promoted l ≡ true → IsBeside (slice_index shared (rank_of promoted l)) (size l) before sizes
+  pub ranked_before : (l : ℕ) → is_member promoted l ≡ true → IsBeside (slice_index shared (rank_of promoted l)) (size l) before sizes
   ranked_before l is =
       let low : rank_of promoted l < length shared = omega (arith, (rank_member promoted l is 0).0, ranked_count) in
       subst (λ n. IsBeside (slice_index shared (rank_of promoted l)) n before sizes) (ranked_size l is)
@@ -205,7 +204,6 @@ module _ (promoted : List Bool) (before sizes shared : List ℕ) (size : ℕ →
       → AreApart whole (before ++ slice_index shared (rank_of promoted l) ∷ state_offsets promoted shared own state) (sizes ++ size l ∷ map size state)
   state_promoted l own state is other apart far done =
       let inside = ranked_inside l is in
-      let o : ℕ = slice_index shared (rank_of promoted l) in
       let later : All (λ p. slice_index shared (rank_of promoted l) + size l ≤ p) own = λ k d short. omega (arith, inside, far k d short) in
       let others : All (IsBesidePromoted promoted shared size (slice_index shared (rank_of promoted l)) (size l)) state = λ k d short so. ranked_two l (get_or state k d) (other k d short) is so in
       apart_insert whole (slice_index shared (rank_of promoted l)) (size l) before (state_offsets promoted shared own state) sizes (map size state) same (omega (arith, inside, fits)) (ranked_before l is)

@@ -1,10 +1,9 @@
 -- A coroutine has one answer, memory aside.
-use Rattle.std.proofs.Common.{◌≡◌, ℕ, ◌<◌, ◌≤◌, Bool, List, [], ◌∷◌, ◌∙◌, ap, arith, inl, inr, length, refl, subst, sym}
-use Rattle.std.specs.Prelude.{◌⊎◌, Result, Ok, Err}
+use Rattle.std.proofs.Common.{◌≡◌, ℕ, Bool, List, [], ◌∷◌, ◌∙◌, ap, arith, inl, inr, length, subst, sym}
+use Rattle.std.specs.Prelude.{Result, Ok, Err}
 use Rattle.abi_base.specs.declared.data_layout.TargetDataLayout.{TargetDataLayout}
 use Rattle.abi_base.specs.declared.struct_kind.StructKind.{StructKind}
 use Rattle.abi_base.specs.declared.struct_kind.StructKind.TheVariants.{AlwaysSized}
-use Rattle.abi_base.specs.DataLayout.{size_bound}
 use Rattle.abi_index.specs.Relation.{Relation}
 use Rattle.abi_scalar.specs.declared.error.LayoutCalculatorError.{LayoutCalculatorError}
 use Rattle.abi_scalar.specs.declared.error.LayoutCalculatorError.TheVariants as calculator

@@ -1,16 +1,14 @@
 -- A coroutine has an answer.
-use Rattle.std.proofs.Common.{◌≡◌, ℕ, ◌<◌, ◌≤◌, Bool, List, [], ◌∷◌, arith, inl, inr, length, refl, ⊎_elim}
-use Rattle.std.specs.Prelude.{◌⊎◌, All, Result, Ok, Err}
+use Rattle.std.proofs.Common.{◌≡◌, ℕ, ◌<◌, ◌≤◌, Bool, List, inl, inr, length, refl, ⊎_elim}
+use Rattle.std.specs.Prelude.{Ok, Err}
 use Rattle.std.proofs.lemmas.Bool.{cases_lt}
 use Rattle.abi_base.specs.declared.data_layout.TargetDataLayout.{TargetDataLayout}
 use Rattle.abi_base.specs.declared.struct_kind.StructKind.TheVariants.{AlwaysSized}
 use Rattle.abi_base.specs.DataLayout.{size_bound}
 use Rattle.abi_index.specs.Relation.{Relation}
-use Rattle.abi_scalar.specs.declared.error.LayoutCalculatorError.{LayoutCalculatorError}
 use Rattle.abi_scalar.specs.declared.error.LayoutCalculatorError.TheVariants as calculator
 use Rattle.abi_scalar.specs.declared.layout_data.LayoutData.{LayoutData}
 use Rattle.abi_scalar.specs.declared.scalar.Scalar.{Scalar}
-use Rattle.abi_scalar.specs.Simple.{scalar_layout}
 use Rattle.abi_calc.specs.Coroutine.Answer.{IsCoroutineAnswer}
 use Rattle.abi_calc.specs.Coroutine.Layout.{coroutine_layout, whole_size}
 use Rattle.abi_calc.specs.Coroutine.Lists.{behind, default_repr, first_list}
@@ -20,7 +18,7 @@ use Rattle.abi_calc.specs.List.{IsListAnswer}
 use Rattle.abi_scalar.specs.Lawful.{IsLawfulLayout}
 use Rattle.abi_calc.proofs.CoroutineAnswers.{IsAsked, first_lawful, own_all, own_error, own_layouts}
 use Rattle.abi_calc.proofs.OneCoroutine.{Answers}
-use Rattle.abi_calc.proofs.OneEnum.{IsMade, all_full}
+use Rattle.abi_calc.proofs.OneEnum.{all_full}
 use Rattle.abi_calc.proofs.SomeEnum.{AreListed, HasAnswer, IsListed, some_listed, some_lists}
 
 module _ {H : Type 0} (layout_of : H → LayoutData ℕ ℕ) (dl : TargetDataLayout) (prefix : List H) (tag : Scalar) (field : H) (locals : List H) (states : List (List ℕ)) (promoted : List Bool)

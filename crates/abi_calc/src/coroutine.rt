@@ -59,7 +59,6 @@ impl<Cx: HasDataLayout> LayoutCalculator<Cx> {
         requires prefix { All (λ f. IsLawfulLayout (Cx.target self.now.cx) (F.layout_of f)) prefix }
         requires tag { IsStateTag (length states.now) tag }
         requires field { F.layout_of field ≡ scalar_layout (VariantIdx.at 0) (Cx.target self.now.cx) tag }
-        requires some { 0 < length states.now }
         requires few { length states.now ≤ VariantIdx.MAX_INDEX + 1 }
         requires named { length locals.now ≤ LocalIdx.MAX_INDEX + 1 }
         requires within { All (All (λ l. LocalIdx.number l < length locals.now)) states.now }

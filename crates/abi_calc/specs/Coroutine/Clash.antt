@@ -1,5 +1,5 @@
 -- What a coroutine's locals may share: locals that clash share no byte, and a local has one place.
-use Rattle.std.specs.Prelude.{◌≡◌, ◌≢◌, ℕ, ◌+◌, ◌<◌, ◌≤◌, ◌⊎◌, ⊤, true, All, Contains, List, [], ◌∷◌, ◌++◌, length, map, slice_get, Some}
+use Rattle.std.specs.Prelude.{◌≡◌, ◌≢◌, ℕ, ◌+◌, ◌≤◌, ◌⊎◌, ⊤, true, All, Contains, List, [], ◌∷◌, ◌++◌, length, map, slice_get, Some}
 use Rattle.abi_base.specs.declared.data_layout.TargetDataLayout.{TargetDataLayout}
 use Rattle.abi_index.specs.Relation.{Relation, is_entry}
 use Rattle.abi_scalar.specs.declared.fields_shape.FieldsShape.TheVariants.{Arbitrary}
@@ -9,8 +9,6 @@ use Rattle.abi_scalar.specs.declared.variants.TagEncoding.TheVariants.{Direct}
 use Rattle.abi_scalar.specs.declared.variants.VariantLayout.{VariantLayout}
 use Rattle.abi_scalar.specs.declared.variants.Variants.TheVariants.{Multiple}
 use Rattle.abi_scalar.specs.Scalar.{IsNumberOf, scalar_size}
-use Rattle.abi_scalar.specs.Shape.{listed_offsets}
-use Rattle.abi_scalar.specs.Variant.{variants_of}
 use Rattle.abi_calc.specs.Apart.{AreApart}
 use Rattle.abi_calc.specs.Coroutine.Lists.{picked}
 use Rattle.abi_calc.specs.Placement.{source_order}

@@ -1,5 +1,5 @@
 -- The layout of a coroutine, from the layouts of its lists.
-use Rattle.std.specs.Prelude.{◌≡◌, ℕ, ◌+◌, ◌-◌, ◌^◌, ◌<◌, ◌≤◌, ◌||◌, false, true, Bool, None, List, ◌∷◌, filter, length, nat_lt, take}
+use Rattle.std.specs.Prelude.{◌≡◌, ℕ, ◌+◌, ◌-◌, ◌^◌, ◌≤◌, ◌||◌, false, true, Bool, None, List, ◌∷◌, filter, nat_lt, take}
 use Rattle.std.specs.Int.{next_multiple_of}
 use Rattle.std.specs.List.{list_all}
 use Rattle.abi_base.specs.declared.integer.Integer.{Integer}

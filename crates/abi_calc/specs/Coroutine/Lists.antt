@@ -1,9 +1,9 @@
 -- The lists of a coroutine: one of the prefix fields, the tag and the promoted locals, and behind it one of each state's other
 -- locals.
-use Rattle.std.specs.Prelude.{◌≡◌, ℕ, ◌⊎◌, ⊤, not, Bool, None, List, [], ◌∷◌, ◌++◌, filter, filter_map, length, map, slice_get, Ok}
+use Rattle.std.specs.Prelude.{ℕ, ◌⊎◌, ⊤, not, Bool, None, List, [], ◌∷◌, ◌++◌, filter, filter_map, slice_get, Ok}
 use Rattle.abi_base.specs.declared.data_layout.TargetDataLayout.{TargetDataLayout}
 use Rattle.abi_base.specs.declared.struct_kind.StructKind.{StructKind}
-use Rattle.abi_base.specs.declared.struct_kind.StructKind.TheVariants.{AlwaysSized, Prefixed}
+use Rattle.abi_base.specs.declared.struct_kind.StructKind.TheVariants.{Prefixed}
 use Rattle.abi_scalar.specs.declared.error.LayoutCalculatorError.{LayoutCalculatorError}
 use Rattle.abi_scalar.specs.declared.layout_data.LayoutData.{LayoutData}
 use Rattle.abi_scalar.specs.declared.repr.ReprOptions.{ReprOptions}

@@ -6,7 +6,6 @@ use Rattle.abi_scalar.specs.declared.variants.VariantLayout.{VariantLayout}
 use Rattle.abi_scalar.specs.Shape.{IsListed, listed_offsets, listed_order}
 use Rattle.abi_scalar.specs.Variant.{variant_of}
 use Rattle.abi_index.specs.BitSet.{is_member, members_of}
-use Rattle.abi_calc.specs.Coroutine.Lists.{own_of}
 use Rattle.abi_calc.specs.Placement.{source_order}
 
 -- the places at which a list has a number
@@ -57,7 +56,7 @@ stitched_layout at number promoted shared ranks state list = record (variant_of 
   fields_in_memory_order = map at (state_order promoted ranks (map number (listed_order list.fields)) state);
 }
 
--- where the first list has the promoted locals: `before` fields stand before them there
+-- a state in the whole, whose promoted locals lie where the first list has them: `before` fields stand before them there
 abbrev pub state_layout : {F V : Type 0} → (at : ℕ → F) → (number : F → ℕ) → (before : ℕ) → (promoted : List Bool) → (first : LayoutData F V) → (state : List ℕ) → (list : LayoutData F V) → VariantLayout F
 state_layout at number before promoted first state list =
     stitched_layout at number promoted (drop before (listed_offsets first.fields)) (ranks_of number before (listed_order first.fields)) state list

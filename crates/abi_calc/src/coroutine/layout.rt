@@ -15,9 +15,7 @@ use crate::enums::tagged::all_uninhabited;
 use crate::fields::{greatest_align, greatest_size};
 use crate::list::field_offsets;
 use crate::list_repr::rounded;
-use abi_base::{
-    AbiAlign, Align, HasDataLayout, Integer, Primitive, Size, TargetDataLayout,
-};
+use abi_base::{AbiAlign, Align, HasDataLayout, Integer, Primitive, Size, TargetDataLayout};
 use abi_index::{DenseBitSet, Hash64, Idx, IndexVec};
 use abi_scalar::{
     BackendRepr, FieldsShape, LayoutCalculatorError, LayoutData, Scalar, TagEncoding,

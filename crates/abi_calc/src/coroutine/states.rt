@@ -43,7 +43,8 @@ pub fn listed_order<FieldIdx: Idx>(shape: &FieldsShape<FieldIdx>) -> &[FieldIdx]
 {
     match shape {
         FieldsShape::Arbitrary {
-            in_memory_order, ..
+            in_memory_order,
+            ..
         } => in_memory_order.as_slice().as_raw(),
         _ => unreachable!(),
     }

@@ -1,5 +1,5 @@
 -- The lists have layouts, and the whole is what they make.
-use Rattle.std.proofs.Common.{◌≡◌, ◌≢◌, ◌+◌, ◌<◌, ◌≤◌, ◌∙◌, [], ap, arith, length, map, subst, sym}
+use Rattle.std.proofs.Common.{◌≡◌, ◌≢◌, ◌+◌, ◌<◌, ◌≤◌, ◌∙◌, ap, arith, length, map, subst, sym}
 use Rattle.std.specs.Prelude.{◌⊎◌, All, IfErr, IfOk}
 use Rattle.std.specs.List.{AllPairs}
 use Rattle.std.proofs.lemmas.List.{length-map}
@@ -8,15 +8,12 @@ use Rattle.abi_base.specs.declared.struct_kind.StructKind.TheVariants.{AlwaysSiz
 use Rattle.abi_base.specs.DataLayout.{size_bound}
 use Rattle.abi_index.specs.BitSet.{members_of}
 use Rattle.abi_scalar.specs.declared.error.LayoutCalculatorError.TheVariants.{OutOfMemory, SizeOverflow}
-use Rattle.abi_scalar.specs.Lawful.{IsLawfulLayout}
 use Rattle.abi_calc.specs.Coroutine.Layout.{IsStateTag, coroutine_layout, whole_size}
 use Rattle.abi_calc.specs.Coroutine.Lists.{behind, default_repr, first_list}
 use Rattle.abi_calc.specs.Coroutine.Sizes.{own_lists}
-use Rattle.abi_calc.specs.Coroutine.States.{HasFields}
 use Rattle.abi_calc.specs.Enums.Lists.{AreGoodLists, IsFirstListError, IsGoodList}
 use Rattle.abi_calc.specs.List.{IsListError}
-use Rattle.abi_calc.proofs.CoroutineAnswers.{IsAsked, IsPromised, first_count, first_lawful, first_promised, good_fields, good_own_fields, own_promised, whole_promised}
-use Rattle.abi_calc.proofs.CoroutineLists.{same_error}
+use Rattle.abi_calc.proofs.CoroutineAnswers.{IsAsked, first_count, first_lawful, first_promised, good_fields, good_own_fields, own_promised, whole_promised}
 use Rattle.abi_calc.proofs.CoroutineStates.{members_few}
 use Rattle.abi_calc.proofs.EnumLists.{good_lawful}
 use Rattle.abi_calc.proofs.CoroutineApart.{told_promised}
@@ -45,7 +42,7 @@ returns-in-Err g c =
     } in
     let fault : IsListError g.F.LayoutHandle.layout_of (g.Cx.HasDataLayout.target c.args.self.now.cx) default_repr AlwaysSized (first_list c.args.prefix c.args.field c.args.locals.now c.args.promoted.now) c.in-Err.error ⊎ (c.in-Err.error ≡ OutOfMemory)
     = subst (λ fs. IsListError g.F.LayoutHandle.layout_of (g.Cx.HasDataLayout.target c.args.self.now.cx) default_repr AlwaysSized fs c.in-Err.error ⊎ (c.in-Err.error ≡ OutOfMemory)) c.in_ok-fields.ensures
-      (subst (λ r. IsListError g.F.LayoutHandle.layout_of (g.Cx.HasDataLayout.target c.args.self.now.cx) r AlwaysSized c.in_ok-fields.fields c.in-Err.error ⊎ (c.in-Err.error ≡ OutOfMemory)) c.default_repr.ensures c.in-Err.ensures.fault) in
+    (subst (λ r. IsListError g.F.LayoutHandle.layout_of (g.Cx.HasDataLayout.target c.args.self.now.cx) r AlwaysSized c.in_ok-fields.fields c.in-Err.error ⊎ (c.in-Err.error ≡ OutOfMemory)) c.default_repr.ensures c.in-Err.ensures.fault) in
     let p = first_promised g.F.LayoutHandle.layout_of g.FieldIdx.Idx.at g.FieldIdx.Idx.number (g.VariantIdx.Idx.at 0) (g.Cx.HasDataLayout.target c.args.self.now.cx) c.args.prefix c.args.tag c.args.field c.args.locals.now (map (map g.LocalIdx.Idx.number) c.args.states.now) c.args.promoted.now asked c.in-Err.error fault in
     record {
       exact = p.exact;
@@ -70,7 +67,7 @@ returns-in-Err-layouts_of_own g c =
     } in
     let good : IsGoodList g.F.LayoutHandle.layout_of g.FieldIdx.Idx.at (g.VariantIdx.Idx.at 0) (g.Cx.HasDataLayout.target c.args.self.now.cx) default_repr AlwaysSized (first_list c.args.prefix c.args.field c.args.locals.now c.args.promoted.now) c.in-Ok.first
     = subst (λ fs. IsGoodList g.F.LayoutHandle.layout_of g.FieldIdx.Idx.at (g.VariantIdx.Idx.at 0) (g.Cx.HasDataLayout.target c.args.self.now.cx) default_repr AlwaysSized fs c.in-Ok.first) c.in_ok-fields.ensures
-      (subst (λ r. IsGoodList g.F.LayoutHandle.layout_of g.FieldIdx.Idx.at (g.VariantIdx.Idx.at 0) (g.Cx.HasDataLayout.target c.args.self.now.cx) r AlwaysSized c.in_ok-fields.fields c.in-Ok.first) c.default_repr.ensures c.in-Ok.ensures.good) in
+    (subst (λ r. IsGoodList g.F.LayoutHandle.layout_of g.FieldIdx.Idx.at (g.VariantIdx.Idx.at 0) (g.Cx.HasDataLayout.target c.args.self.now.cx) r AlwaysSized c.in_ok-fields.fields c.in-Ok.first) c.default_repr.ensures c.in-Ok.ensures.good) in
     let fault : IsFirstListError g.F.LayoutHandle.layout_of g.FieldIdx.Idx.at (g.VariantIdx.Idx.at 0) (g.Cx.HasDataLayout.target c.args.self.now.cx) default_repr (behind c.in-Ok.first) (own_lists c.args.locals.now c.args.promoted.now (map (map g.LocalIdx.Idx.number) c.args.states.now)) c.in-Err-layouts_of_own.error ⊎ (c.in-Err-layouts_of_own.error ≡ OutOfMemory)
     = subst (λ k. IsFirstListError g.F.LayoutHandle.layout_of g.FieldIdx.Idx.at (g.VariantIdx.Idx.at 0) (g.Cx.HasDataLayout.target c.args.self.now.cx) default_repr k (own_lists c.args.locals.now c.args.promoted.now (map (map g.LocalIdx.Idx.number) c.args.states.now)) c.in-Err-layouts_of_own.error ⊎ (c.in-Err-layouts_of_own.error ≡ OutOfMemory)) c.behind-kind.ensures c.in-Err-layouts_of_own.ensures.fault in
     let p = own_promised g.F.LayoutHandle.layout_of g.FieldIdx.Idx.at g.FieldIdx.Idx.number (g.VariantIdx.Idx.at 0) (g.Cx.HasDataLayout.target c.args.self.now.cx) c.args.prefix c.args.tag c.args.field c.args.locals.now (map (map g.LocalIdx.Idx.number) c.args.states.now) c.args.promoted.now asked c.in-Ok.first good c.in-Err-layouts_of_own.error fault in
@@ -93,7 +90,7 @@ pub layout_of_lists-requires-clause-first : goal.layout_of_lists-requires-clause
 layout_of_lists-requires-clause-first g c =
     let good : IsGoodList g.F.LayoutHandle.layout_of g.FieldIdx.Idx.at (g.VariantIdx.Idx.at 0) (g.Cx.HasDataLayout.target c.args.self.now.cx) default_repr AlwaysSized (first_list c.args.prefix c.args.field c.args.locals.now c.args.promoted.now) c.in-Ok.first
     = subst (λ fs. IsGoodList g.F.LayoutHandle.layout_of g.FieldIdx.Idx.at (g.VariantIdx.Idx.at 0) (g.Cx.HasDataLayout.target c.args.self.now.cx) default_repr AlwaysSized fs c.in-Ok.first) c.in_ok-fields.ensures
-      (subst (λ r. IsGoodList g.F.LayoutHandle.layout_of g.FieldIdx.Idx.at (g.VariantIdx.Idx.at 0) (g.Cx.HasDataLayout.target c.args.self.now.cx) r AlwaysSized c.in_ok-fields.fields c.in-Ok.first) c.default_repr.ensures c.in-Ok.ensures.good) in
+    (subst (λ r. IsGoodList g.F.LayoutHandle.layout_of g.FieldIdx.Idx.at (g.VariantIdx.Idx.at 0) (g.Cx.HasDataLayout.target c.args.self.now.cx) r AlwaysSized c.in_ok-fields.fields c.in-Ok.first) c.default_repr.ensures c.in-Ok.ensures.good) in
     let many : length (first_list c.args.prefix c.args.field c.args.locals.now c.args.promoted.now) ≡ c.len-count.result + 1 + length (members_of c.args.promoted.now)
     = first_count c.args.prefix c.args.field c.args.locals.now c.args.promoted.now c.requires.same ∙ ap (λ n. n + 1 + length (members_of c.args.promoted.now)) (sym c.len-count.ensures.count) in
     good_fields g.F.LayoutHandle.layout_of g.FieldIdx.Idx.at g.FieldIdx.Idx.number g.FieldIdx.Idx.MAX_INDEX g.met.FieldIdx.Idx.number_at (g.VariantIdx.Idx.at 0) (g.Cx.HasDataLayout.target c.args.self.now.cx) AlwaysSized (first_list c.args.prefix c.args.field c.args.locals.now c.args.promoted.now) c.in-Ok.first (c.len-count.result + 1 + length (members_of c.args.promoted.now))
@@ -123,7 +120,7 @@ returns g c =
     } in
     let good : IsGoodList g.F.LayoutHandle.layout_of g.FieldIdx.Idx.at (g.VariantIdx.Idx.at 0) (g.Cx.HasDataLayout.target c.args.self.now.cx) default_repr AlwaysSized (first_list c.args.prefix c.args.field c.args.locals.now c.args.promoted.now) c.in-Ok.first
     = subst (λ fs. IsGoodList g.F.LayoutHandle.layout_of g.FieldIdx.Idx.at (g.VariantIdx.Idx.at 0) (g.Cx.HasDataLayout.target c.args.self.now.cx) default_repr AlwaysSized fs c.in-Ok.first) c.in_ok-fields.ensures
-      (subst (λ r. IsGoodList g.F.LayoutHandle.layout_of g.FieldIdx.Idx.at (g.VariantIdx.Idx.at 0) (g.Cx.HasDataLayout.target c.args.self.now.cx) r AlwaysSized c.in_ok-fields.fields c.in-Ok.first) c.default_repr.ensures c.in-Ok.ensures.good) in
+    (subst (λ r. IsGoodList g.F.LayoutHandle.layout_of g.FieldIdx.Idx.at (g.VariantIdx.Idx.at 0) (g.Cx.HasDataLayout.target c.args.self.now.cx) r AlwaysSized c.in_ok-fields.fields c.in-Ok.first) c.default_repr.ensures c.in-Ok.ensures.good) in
     let others : AreGoodLists g.F.LayoutHandle.layout_of g.FieldIdx.Idx.at (g.VariantIdx.Idx.at 0) (g.Cx.HasDataLayout.target c.args.self.now.cx) default_repr (behind c.in-Ok.first) (own_lists c.args.locals.now c.args.promoted.now (map (map g.LocalIdx.Idx.number) c.args.states.now)) c.in-Ok-layouts_of_own.lists.items
     = subst (λ k. AreGoodLists g.F.LayoutHandle.layout_of g.FieldIdx.Idx.at (g.VariantIdx.Idx.at 0) (g.Cx.HasDataLayout.target c.args.self.now.cx) default_repr k (own_lists c.args.locals.now c.args.promoted.now (map (map g.LocalIdx.Idx.number) c.args.states.now)) c.in-Ok-layouts_of_own.lists.items) c.behind-kind.ensures c.in-Ok-layouts_of_own.ensures.good in
     let laid = subst (λ n. IfOk c.layout_of_lists.result (λ layout. (whole_size c.in-Ok.first c.in-Ok-layouts_of_own.lists.items < size_bound (g.Cx.HasDataLayout.target c.args.self.now.cx))

@@ -1,5 +1,5 @@
 -- The promoted locals are those that the states and the conflicts tell, and the tag is the one of so many states.
-use Rattle.std.proofs.Common.{◌≡◌, ◌∙◌, ap, length, map, subst, sym}
+use Rattle.std.proofs.Common.{◌∙◌, ap, length, map, subst, sym}
 use Rattle.std.specs.Prelude.{IfOk}
 use Rattle.abi_scalar.specs.Simple.{scalar_layout}
 use Rattle.abi_calc.specs.Coroutine.Answer.{IsPromotedAnswer}

@@ -1,5 +1,5 @@
 -- The layout has what its parts are told to be.
-use Rattle.std.proofs.Common.{◌≡◌, ◌+◌, ◌≤◌, ◌∙◌, ap, ap₂, arith, length, map, refl, sym, take}
+use Rattle.std.proofs.Common.{◌+◌, ◌≤◌, ◌∙◌, ap, ap₂, arith, length, map, refl, sym, take}
 use Rattle.std.specs.Prelude.{filter, nat_lt, ◌||◌}
 use Rattle.std.specs.List.{list_all}
 use Rattle.std.proofs.lemmas.List.{length-map, length-take-le}
@@ -7,7 +7,7 @@ use Rattle.abi_index.specs.BitSet.{members_of}
 use Rattle.abi_scalar.specs.declared.fields_shape.FieldsShape.TheVariants.{Arbitrary}
 use Rattle.abi_scalar.specs.declared.variants.TagEncoding.TheVariants.{Direct}
 use Rattle.abi_scalar.specs.declared.variants.Variants.TheVariants.{Multiple}
-use Rattle.abi_scalar.specs.Shape.{listed_offsets, listed_order}
+use Rattle.abi_scalar.specs.Shape.{listed_order}
 use Rattle.abi_calc.specs.Coroutine.Layout.{coroutine_layout}
 use Rattle.abi_calc.proofs.CoroutineStates.{order_count}
 use Rattle.abi_calc.proofs.EnumTagged.{same_parts}

@@ -1,10 +1,9 @@
 -- Each list is that of the state in its place.
-use Rattle.std.proofs.Common.{◌≡◌, ◌≢◌, ◌+◌, ◌<◌, ◌≤◌, ◌∷◌, ◌++◌, ◌∙◌, [], ap, ap₂, arith, drop, get_or, length, map, refl, subst, sym}
+use Rattle.std.proofs.Common.{◌≡◌, ◌≢◌, ◌<◌, ◌∷◌, ◌++◌, ◌∙◌, [], ap, ap₂, arith, drop, get_or, length, map, refl, subst, sym}
 use Rattle.std.specs.Prelude.{All}
 use Rattle.std.specs.List.{AllPairs, AllZip}
 use Rattle.std.proofs.lemmas.List.{append-nil, length_push, nil_from_length, take_rest}
 use Rattle.abi_index.specs.BitSet.{members_of}
-use Rattle.abi_scalar.specs.Shape.{listed_offsets, listed_order}
 use Rattle.abi_calc.specs.Coroutine.Lists.{own_of}
 use Rattle.abi_calc.specs.Coroutine.States.{HasFields, ranks_of, state_layout, state_layouts, stitched_layout}
 use Rattle.abi_calc.proofs.CoroutineLayout.{layouts_next, layouts_none, list_at, list_short, ranks_count, ranks_within}
@@ -59,7 +58,7 @@ loop-list-preserved g c =
     let more = length_push c.loop-list.layouts c.in_ok-layout.layout in
     let laid : c.in_ok-layout.layout ≡ state_layout g.FieldIdx.Idx.at g.FieldIdx.Idx.number c.args.before c.args.promoted.now c.args.first.now (map g.LocalIdx.Idx.number c.index-states-len.result) c.in-Some.list
     = c.in_ok-layout.ensures ∙ ap₂ (λ shared ranks. stitched_layout g.FieldIdx.Idx.at g.FieldIdx.Idx.number c.args.promoted.now shared ranks (map g.LocalIdx.Idx.number c.index-states-len.result) c.in-Some.list)
-      (take_rest c.listed_offsets.result.now c.args.before ∙ ap (drop c.args.before) c.listed_offsets.ensures) (c.deref-in-loop-list.ensures.value ∙ c.in_ok-ranks.ensures ∙ ap (ranks_of g.FieldIdx.Idx.number c.args.before) c.listed_order.ensures) in
+    (take_rest c.listed_offsets.result.now c.args.before ∙ ap (drop c.args.before) c.listed_offsets.ensures) (c.deref-in-loop-list.ensures.value ∙ c.in_ok-ranks.ensures ∙ ap (ranks_of g.FieldIdx.Idx.number c.args.before) c.listed_order.ensures) in
     let before = subst (λ rest. c.loop-list.layouts ++ state_layouts g.FieldIdx.Idx.at g.FieldIdx.Idx.number c.args.before c.args.promoted.now c.args.first.now (map (map g.LocalIdx.Idx.number) (drop (length c.loop-list.layouts) c.args.states.now)) rest ≡ state_layouts g.FieldIdx.Idx.at g.FieldIdx.Idx.number c.args.before c.args.promoted.now c.args.first.now (map (map g.LocalIdx.Idx.number) c.args.states.now) c.args.lists.items) c.in-Some.ensures.steps.0 c.loop-list.invariant.all in
     let next = layouts_next g.FieldIdx.Idx.at g.FieldIdx.Idx.number c.args.before c.args.promoted.now c.args.first.now g.LocalIdx.Idx.number c.loop-list.layouts (length c.loop-list.layouts) c.args.states.now c.index-states-len.result c.in-Some.list c.next.new.self.rest.items c.in_ok-layout.layout
     (state_layouts g.FieldIdx.Idx.at g.FieldIdx.Idx.number c.args.before c.args.promoted.now c.args.first.now (map (map g.LocalIdx.Idx.number) c.args.states.now) c.args.lists.items) (subst (λ k. k < length c.args.states.now) c.len.ensures.count short) (subst (λ k. c.index-states-len.result ≡ get_or c.args.states.now k c.index-states-len.result) c.len.ensures.count c.index-states-len.is) laid before in

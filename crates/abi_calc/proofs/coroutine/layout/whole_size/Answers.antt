@@ -1,5 +1,5 @@
 -- Sizes and alignments of lawful lists are small.
-use Rattle.std.proofs.Common.{◌≡◌, ◌∙◌, ◌^◌, ◌<◌, ap, ap₂, arith, max, ◌∷◌}
+use Rattle.std.proofs.Common.{◌≡◌, ◌∙◌, ◌^◌, ap, ap₂, arith, max, ◌∷◌}
 use Rattle.std.specs.Int.{next_multiple_of}
 use Rattle.std.proofs.lemmas.List.{map-id}
 use Rattle.abi_calc.specs.Fields.{greatest_size}

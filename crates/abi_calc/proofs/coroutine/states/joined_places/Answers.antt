@@ -1,5 +1,5 @@
 -- One place more.
-use Rattle.std.proofs.Common.{◌≡◌, ◌+◌, ◌<◌, ◌≤◌, ◌++◌, ◌∷◌, ◌∙◌, [], None, Some, ap, arith, get_or, length, map, subst, sym}
+use Rattle.std.proofs.Common.{◌≤◌, ◌++◌, ◌∷◌, ◌∙◌, [], None, ap, arith, get_or, length, subst}
 use Rattle.std.specs.Prelude.{IfSome, flat_map, slice_index, slice_index_or}
 use Rattle.std.specs.Option.{option_to_list}
 use Rattle.std.proofs.lemmas.List.{length-append}
@@ -15,16 +15,16 @@ new-requires g c =
 pub loop-rank-preserved : goal.loop-rank-preserved
 loop-rank-preserved g c = elim c.match-held-rank.branch [
   | in-Some+in_ok-_place w ↦
-    let pushed = w.list-is ∙ w.in_ok-_place.ensures.ok ∙ ap (λ x. c.loop-rank.list ++ x ∷ []) w.new.ensures in
-    record {
-      all = pushed ∙ joined_kept g.FieldIdx.Idx.at c.args.held.now c.args.ranks.now c.loop-rank.list c.loop-rank.rank-index w.in-Some.place c.loop-rank-test.true w.in-Some.is c.loop-rank.invariant.all;
-      room = omega (arith, c.loop-rank.invariant.room, ap length pushed, length-append c.loop-rank.list (g.FieldIdx.Idx.at w.in-Some.place ∷ []));
-    }
+      let pushed = w.list-is ∙ w.in_ok-_place.ensures.ok ∙ ap (λ x. c.loop-rank.list ++ x ∷ []) w.new.ensures in
+      record {
+        all = pushed ∙ joined_kept g.FieldIdx.Idx.at c.args.held.now c.args.ranks.now c.loop-rank.list c.loop-rank.rank-index w.in-Some.place c.loop-rank-test.true w.in-Some.is c.loop-rank.invariant.all;
+        room = omega (arith, c.loop-rank.invariant.room, ap length pushed, length-append c.loop-rank.list (g.FieldIdx.Idx.at w.in-Some.place ∷ []));
+      }
   | in_default w ↦ record {
-      all = w.list-is ∙ joined_left g.FieldIdx.Idx.at c.args.held.now c.args.ranks.now c.loop-rank.list c.loop-rank.rank-index c.loop-rank-test.true
-          (none_found (get_or c.args.held.now (get_or c.args.ranks.now c.loop-rank.rank-index 0) None) w.in_default.not-Some) c.loop-rank.invariant.all;
-      room = omega (arith, c.loop-rank.invariant.room, ap length w.list-is);
-    }
+    all = w.list-is ∙ joined_left g.FieldIdx.Idx.at c.args.held.now c.args.ranks.now c.loop-rank.list c.loop-rank.rank-index c.loop-rank-test.true
+        (none_found (get_or c.args.held.now (get_or c.args.ranks.now c.loop-rank.rank-index 0) None) w.in_default.not-Some) c.loop-rank.invariant.all;
+    room = omega (arith, c.loop-rank.invariant.room, ap length w.list-is);
+  }
 ]
 
 pub loop-index-preserved : goal.loop-index-preserved

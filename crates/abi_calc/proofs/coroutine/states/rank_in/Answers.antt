@@ -1,5 +1,5 @@
 -- The table tells the rank, which is one of the members'.
-use Rattle.std.proofs.Common.{◌≡◌, ◌<◌, ◌∙◌, ap, length, slice_index_or, subst, sym}
+use Rattle.std.proofs.Common.{◌<◌, ◌∙◌, ap, length, slice_index_or, subst, sym}
 use Rattle.abi_calc.proofs.CoroutineStates.{member_below, rank_member, rank_read}
 use Rattle.abi_calc.proofs.coroutine.states.rank_in.Goals as goal
 

@@ -16,13 +16,13 @@ loop-place-preserved g c =
     = c.in_ok-push.ensures.items ∙ ap₂ (λ xs x. xs ++ x ∷ []) c.loop-place.invariant.all c.loop-place.invariant.next ∙ sym (map-range_with_len_more (rank_of c.args.promoted.now) 0 c.loop-place.place c.loop-place.place (omega arith)) in
     elim c.if-contains.branch [
       | then-contains w ↦ record {
-          all = all;
-          next = omega (arith, w.below-is, c.loop-place.invariant.next, rank_more c.args.promoted.now c.loop-place.place _ (sym (w.if-contains.ensures ∙ ap (is_member c.args.promoted.now) place)));
-          room = omega (arith, w.below-is, c.loop-place.invariant.room);
-        }
+        all = all;
+        next = omega (arith, w.below-is, c.loop-place.invariant.next, rank_more c.args.promoted.now c.loop-place.place _ (sym (w.if-contains.ensures ∙ ap (is_member c.args.promoted.now) place)));
+        room = omega (arith, w.below-is, c.loop-place.invariant.room);
+      }
       | else-contains w ↦ record {
-          all = all;
-          next = omega (arith, w.below-is, c.loop-place.invariant.next, rank_more c.args.promoted.now c.loop-place.place _ (sym (w.if-contains.ensures ∙ ap (is_member c.args.promoted.now) place)));
-          room = omega (arith, w.below-is, c.loop-place.invariant.room);
-        }
+        all = all;
+        next = omega (arith, w.below-is, c.loop-place.invariant.next, rank_more c.args.promoted.now c.loop-place.place _ (sym (w.if-contains.ensures ∙ ap (is_member c.args.promoted.now) place)));
+        room = omega (arith, w.below-is, c.loop-place.invariant.room);
+      }
     ]

@@ -1,10 +1,9 @@
 -- The tables fit one another.
-use Rattle.std.proofs.Common.{◌≡◌, ◌≢◌, ◌+◌, ◌<◌, ◌≤◌, ◌∙◌, None, ap, arith, length, map, subst, sym}
-use Rattle.std.specs.Prelude.{All, IfOk, IfSome, slice_index, slice_index_or}
+use Rattle.std.proofs.Common.{◌≡◌, ◌<◌, ◌≤◌, ◌∙◌, None, ap, arith, length, map, subst, sym}
+use Rattle.std.specs.Prelude.{All, IfOk, IfSome, slice_index_or}
 use Rattle.std.specs.Option.{option_to_list}
 use Rattle.std.proofs.lemmas.List.{get_or-map, length-map}
 use Rattle.std.proofs.lemmas.List.Elements.{All-map, All-weaker}
-use Rattle.abi_index.specs.BitSet.{members_of}
 use Rattle.abi_calc.specs.Coroutine.Lists.{own_of}
 use Rattle.abi_calc.proofs.CoroutineStates.{count_own_places, held_small, joined_is, members_and_own, order_count}
 use Rattle.abi_calc.proofs.Sorting.{within_order}
@@ -18,8 +17,6 @@ joined_places-requires-clause-ranks g c k d short =
 
 pub joined_places-requires-clause-own : goal.joined_places-requires-clause-own
 joined_places-requires-clause-own g c k d short =
-    let numbers = map g.LocalIdx.Idx.number c.args.state.now in
-    let count = length (own_of c.args.promoted.now (map g.LocalIdx.Idx.number c.args.state.now)) in
     let low = within_order (length (own_of c.args.promoted.now (map g.LocalIdx.Idx.number c.args.state.now))) (map g.FieldIdx.Idx.number c.args.own.now) c.requires.own k (g.FieldIdx.Idx.number d)
     (omega (arith, short, length-map c.args.own.now g.FieldIdx.Idx.number)) in
     let read = get_or-map g.FieldIdx.Idx.number c.args.own.now k d (g.FieldIdx.Idx.number d) short in
@@ -40,7 +37,6 @@ joined_places-requires-clause-places g c k d short =
 
 pub joined_places-requires-clause-room : goal.joined_places-requires-clause-room
 joined_places-requires-clause-room g c =
-    let numbers = map g.LocalIdx.Idx.number c.args.state.now in
     let few = members_and_own c.args.promoted.now (map g.LocalIdx.Idx.number c.args.state.now) c.requires.once (All-map (λ l. l < length c.args.promoted.now) g.LocalIdx.Idx.number c.args.state.now c.requires.within) in
     let first = c.requires.ranks in
     let second = order_count (length (own_of c.args.promoted.now (map g.LocalIdx.Idx.number c.args.state.now))) (map g.FieldIdx.Idx.number c.args.own.now) c.requires.own in
