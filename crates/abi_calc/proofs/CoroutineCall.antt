@@ -1,19 +1,13 @@
 -- The call that lays out a coroutine: its tag, and how many locals may be promoted.
-use Rattle.std.proofs.Common.{◌≡◌, ℕ, ◌-◌, ◌≤◌, Bool, true, false, List, [], ◌∷◌, ◌∙◌, ap, arith, length, map, refl, sym}
-use Rattle.std.specs.Prelude.{◌==◌, fold, if◌then◌else◌, nat_lt}
-use Rattle.std.proofs.lemmas.List.FromFn.{length-map-range_with_len}
-use Rattle.std.proofs.lemmas.List.{length-map}
+use Rattle.std.proofs.Common.{◌≡◌, ℕ, ◌-◌, ◌≤◌, false, ◌∙◌, ap, arith, refl, sym}
+use Rattle.std.specs.Prelude.{◌==◌, if◌then◌else◌}
 use Rattle.abi_base.specs.declared.integer.Integer.{Integer}
 use Rattle.abi_base.specs.declared.integer.Integer.TheVariants.{I8, I16, I32, I64, I128}
 use Rattle.abi_base.specs.declared.primitive.Primitive.TheVariants.{Int}
 use Rattle.abi_base.specs.Integer.{integer_size}
-use Rattle.abi_index.specs.BitSet.{is_member}
-use Rattle.abi_index.specs.Relation.{Relation, columns_of, row_count}
 use Rattle.abi_scalar.specs.declared.scalar.Scalar.{Scalar}
 use Rattle.abi_scalar.specs.declared.scalar.Scalar.TheVariants.{Initialized}
 use Rattle.abi_calc.specs.Coroutine.Layout.{IsStateTag}
-use Rattle.abi_calc.specs.Coroutine.Promotion.{after_conflict, after_row, after_rows, are_settled, given_up, held_by_several, holder_count, promote, promoted_of, used_count}
-use Rattle.abi_calc.specs.Placement.{source_order}
 
 -- ---- the tag
 

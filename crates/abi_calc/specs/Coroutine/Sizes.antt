@@ -1,6 +1,6 @@
 -- How large a coroutine is, and when it is too large: some locals lie in the first list, beside the prefix fields and the tag, and
 -- those of each state that don't lie in a list behind it.
-use Rattle.std.specs.Prelude.{◌≡◌, ℕ, ◌^◌, ◌<◌, ◌≤◌, ◌⊎◌, true, Bool, Contains, List, ◌∷◌, length, map, max}
+use Rattle.std.specs.Prelude.{◌≡◌, ℕ, ◌^◌, ◌<◌, ◌≤◌, ◌⊎◌, true, Bool, Contains, List, [], ◌∷◌, ◌++◌, length, map, max}
 use Rattle.std.specs.Int.{next_multiple_of}
 use Rattle.abi_base.specs.declared.data_layout.TargetDataLayout.{TargetDataLayout}
 use Rattle.abi_base.specs.declared.struct_kind.StructKind.{StructKind}

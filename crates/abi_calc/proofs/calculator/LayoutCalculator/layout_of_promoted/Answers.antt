@@ -132,7 +132,7 @@ returns g c =
     let states = map (map g.LocalIdx.Idx.number) c.args.states.now in
     let within : All (All (λ l. l < length c.args.locals.now)) (map (map g.LocalIdx.Idx.number) c.args.states.now)
     = All-map (All (λ l. l < length c.args.locals.now)) (map g.LocalIdx.Idx.number) c.args.states.now
-      (All-weaker (All (λ l. g.LocalIdx.Idx.number l < length c.args.locals.now)) (λ s. All (λ l. l < length c.args.locals.now) (map g.LocalIdx.Idx.number s)) (λ s. All-map (λ l. l < length c.args.locals.now) g.LocalIdx.Idx.number s) c.args.states.now c.requires.within) in
+    (All-weaker (All (λ l. g.LocalIdx.Idx.number l < length c.args.locals.now)) (λ s. All (λ l. l < length c.args.locals.now) (map g.LocalIdx.Idx.number s)) (λ s. All-map (λ l. l < length c.args.locals.now) g.LocalIdx.Idx.number s) c.args.states.now c.requires.within) in
     let once : All (AllPairs (λ a b. a ≢ b)) (map (map g.LocalIdx.Idx.number) c.args.states.now) = All-map (AllPairs (λ a b. a ≢ b)) (map g.LocalIdx.Idx.number) c.args.states.now c.requires.once in
     record {
       exact = p.exact;

@@ -20,7 +20,7 @@ returns g c =
     let known = c.in_ok-promoted.ensures.exact in
     let sized : (tag : Scalar) → IsStateTag (length c.args.states.now) tag → IfOk c.layout_of_promoted.result (λ l. IsSizeWith (g.Cx.HasDataLayout.target c.args.self.now.cx) (map g.F.LayoutHandle.layout_of c.args.prefix) (scalar_layout (g.VariantIdx.Idx.at 0) (g.Cx.HasDataLayout.target c.args.self.now.cx) tag) (map g.F.LayoutHandle.layout_of c.args.locals.now) (map (map g.LocalIdx.Idx.number) c.args.states.now) (promoted_of (map (map g.LocalIdx.Idx.number) c.args.states.now) c.args.conflicts.now) l.size)
     = λ tag is. subst (λ t. IfOk c.layout_of_promoted.result (λ l. IsSizeWith (g.Cx.HasDataLayout.target c.args.self.now.cx) (map g.F.LayoutHandle.layout_of c.args.prefix) (scalar_layout (g.VariantIdx.Idx.at 0) (g.Cx.HasDataLayout.target c.args.self.now.cx) t) (map g.F.LayoutHandle.layout_of c.args.locals.now) (map (map g.LocalIdx.Idx.number) c.args.states.now) (promoted_of (map (map g.LocalIdx.Idx.number) c.args.states.now) c.args.conflicts.now) l.size)) (one_tag (length c.args.states.now) c.state_tag-tag.result tag c.state_tag-tag.ensures is)
-          (subst (λ p. IfOk c.layout_of_promoted.result (λ l. IsSizeWith (g.Cx.HasDataLayout.target c.args.self.now.cx) (map g.F.LayoutHandle.layout_of c.args.prefix) (scalar_layout (g.VariantIdx.Idx.at 0) (g.Cx.HasDataLayout.target c.args.self.now.cx) c.state_tag-tag.result) (map g.F.LayoutHandle.layout_of c.args.locals.now) (map (map g.LocalIdx.Idx.number) c.args.states.now) p l.size)) known c.layout_of_promoted.ensures.size) in
+    (subst (λ p. IfOk c.layout_of_promoted.result (λ l. IsSizeWith (g.Cx.HasDataLayout.target c.args.self.now.cx) (map g.F.LayoutHandle.layout_of c.args.prefix) (scalar_layout (g.VariantIdx.Idx.at 0) (g.Cx.HasDataLayout.target c.args.self.now.cx) c.state_tag-tag.result) (map g.F.LayoutHandle.layout_of c.args.locals.now) (map (map g.LocalIdx.Idx.number) c.args.states.now) p l.size)) known c.layout_of_promoted.ensures.size) in
     record {
       exact = (
         c.state_tag-tag.result,
