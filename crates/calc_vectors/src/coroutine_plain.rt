@@ -106,23 +106,44 @@ fn holder_count(asked: Coroutine, local: u32) -> usize {
     asked.states.iter().filter(|state| holds(state, local)).count()
 }
 
-/// Whether a state holds both locals, or neither is held.
+/// Whether some local stands in several states.
+fn has_shared(asked: Coroutine) -> bool {
+    for state in asked.states {
+        for local in state.as_slice().as_raw() {
+            if holder_count(asked, *local) > 1 {
+                return true;
+            }
+        }
+    }
+    false
+}
+
+/// How many locals the states hold, each counted in each state that holds it; and how many states hold some.
+fn counts_of(states: &[State]) -> (usize, usize) {
+    let mut held = 0usize;
+    let mut used = 0usize;
+    for state in states {
+        held = held.wrapping_add(state.len());
+        if state.len() > 0 {
+            used = used.wrapping_add(1);
+        }
+    }
+    (held, used)
+}
+
+/// Whether a state holds both locals.
 fn stand_together(asked: Coroutine, a: u32, b: u32) -> bool {
-    a == b || asked.states.iter().any(|state| holds(state, a) && holds(state, b))
+    asked.states.iter().any(|state| holds(state, a) && holds(state, b))
 }
 
 /// Whether the states may share all their bytes: each local stands in one state, two states hold locals, and no conflict names
 /// locals of different states.
 fn may_overlap(asked: Coroutine) -> bool {
-    let used = asked.states.iter().filter(|state| state.len() > 0).count();
-    (0..asked.locals.len()).all(|local| holder_count(asked, local as u32) == 1)
+    let (held, used) = counts_of(asked.states);
+    held == asked.locals.len()
+        && !has_shared(asked)
         && used >= 2
         && asked.conflicts.iter().all(|&(a, b)| stand_together(asked, a, b))
-}
-
-/// Whether some local stands in several states.
-fn has_shared(asked: Coroutine) -> bool {
-    (0..asked.locals.len()).any(|local| holder_count(asked, local as u32) > 1)
 }
 
 /// The least size of these fields as a list, and the list's alignment.

@@ -1,6 +1,6 @@
 //! Coroutines whose layouts were worked out by hand.
 
-ghost use Rattle.std.specs.Prelude.{IfOk};
+ghost use Rattle.std.specs.Prelude.{◌≡◌, IfOk};
 ghost use Rattle.abi_base.specs.DataLayout.{IsLawfulDataLayout};
 ghost use Rattle.abi_scalar.specs.Shape.{IsListed};
 
@@ -182,7 +182,9 @@ const ROWS: &[Row] = &[
 ];
 
 /// The layout of a field.
-fn layout_of(dl: &TargetDataLayout, field: Field) -> Laid {
+fn layout_of(dl: &TargetDataLayout, field: Field) -> Laid
+    requires { IsLawfulDataLayout dl.now }
+{
     match field {
         Field::U8 => unsigned(dl, Integer::I8, 0xFF),
         Field::U16 => unsigned(dl, Integer::I16, 0xFFFF),
@@ -197,7 +199,9 @@ fn layouts_of(
     alloc: Global,
     dl: &TargetDataLayout,
     fields: &[Field],
-) -> Result<Vec<Laid>, AllocError> {
+) -> Result<Vec<Laid>, AllocError>
+    requires { IsLawfulDataLayout dl.now }
+{
     let mut layouts = Vec::with_capacity(alloc, fields.len())?;
     for field in fields {
         layouts.push(layout_of(dl, *field))?;

@@ -5,6 +5,7 @@ ghost use Rattle.std.specs.List.{AllPairs};
 ghost use Rattle.abi_base.specs.DataLayout.{IsLawfulDataLayout};
 ghost use Rattle.abi_index.specs.Relation.{column_count, row_count};
 ghost use Rattle.abi_calc.specs.Coroutine.Layout.{IsStateTag};
+ghost use Rattle.calc_vectors.specs.Asked.{IsHeld};
 
 use crate::samples::{Answer, Laid, are_lawful};
 use abi_base::{Integer, Primitive, TargetDataLayout};
@@ -72,14 +73,20 @@ fn differ(locals: &[u32]) -> bool
     true
 }
 
+/// Whether these locals differ, each one of so many.
+fn is_held(state: &State, count: usize) -> bool
+    ensures { IsTrue result → IsHeld count state.now }
+{
+    let locals = state.as_slice().as_raw();
+    are_within(locals, count) && differ(locals)
+}
+
 /// Whether each state holds different locals, each one of so many.
-fn are_states(states: &[State], count: usize) -> bool
-    ensures within { IsTrue result → All (All (λ local. local < count)) states.now }
-    ensures once { IsTrue result → All (AllPairs (λ a b. a ≢ b)) states.now }
+fn are_held(states: &[State], count: usize) -> bool
+    ensures { IsTrue result → All (IsHeld count) states.now }
 {
     for state in states {
-        let locals = state.as_slice().as_raw();
-        if !are_within(locals, count) || !differ(locals) {
+        if !is_held(state, count) {
             return false;
         }
     }
@@ -146,7 +153,7 @@ pub(crate) fn answered(
     assert!(rt; asked.states.len() > 0 && asked.states.len() < 1000);
     assert!(rt; are_lawful(dl, asked.locals));
     assert!(rt; are_lawful(dl, asked.prefix));
-    assert!(rt; are_states(asked.states, asked.locals.len()));
+    assert!(rt; are_held(asked.states, asked.locals.len()));
     let conflicts = matrix(rt, alloc, asked.locals.len(), asked.conflicts)?;
     let tag: Laid = LayoutData::scalar(dl, tag_of(asked.states.len()));
     let states: IndexSlice<VariantIdx, State> = IndexSlice::new(asked.states);
