@@ -264,8 +264,8 @@ fn states_of(
     let mut all = Vec::with_capacity(alloc, states as usize)?;
     for at in 0..states {
         let mut held = Vec::with_capacity(alloc, count)?;
-        for local in 0..count {
-            if homes[local] == at || (sharing && dice.roll(6) == 0) {
+        for (local, home) in homes.iter().enumerate() {
+            if *home == at || (sharing && dice.roll(6) == 0) {
                 held.push(local as u32)?;
             }
         }
