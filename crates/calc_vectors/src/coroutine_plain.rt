@@ -42,11 +42,10 @@ fn parts_of(
     layout: &Laid,
     tag: Size,
 ) -> Result<Option<Vec<Part>>, AllocError> {
-    let (
-        FieldsShape::Arbitrary { offsets, .. },
-        Variants::Multiple { variants, .. },
-    ) = (&layout.fields, &layout.variants)
-    else {
+    let (FieldsShape::Arbitrary { offsets, .. }, Variants::Multiple { variants, .. }) = (
+        &layout.fields,
+        &layout.variants,
+    ) else {
         return Ok(None);
     };
     let mut parts = Vec::new(alloc);
@@ -72,8 +71,14 @@ fn holds(state: &State, local: u32) -> bool {
 
 /// Whether two locals clash: the conflicts name them, in either direction, or some state holds both.
 fn do_clash(asked: Coroutine, a: u32, b: u32) -> bool {
-    asked.conflicts.iter().any(|pair| *pair == (a, b) || *pair == (b, a))
-        || asked.states.iter().any(|state| holds(state, a) && holds(state, b))
+    asked
+        .conflicts
+        .iter()
+        .any(|pair| *pair == (a, b) || *pair == (b, a))
+        || asked
+            .states
+            .iter()
+            .any(|state| holds(state, a) && holds(state, b))
 }
 
 /// Whether two parts lie as they have to: those of one local at one place, and those that clash, or stand in one state, apart.
@@ -103,7 +108,11 @@ fn all_lie_well(asked: Coroutine, parts: &[Part], size: Size) -> bool {
 
 /// How many states hold the local.
 fn holder_count(asked: Coroutine, local: u32) -> usize {
-    asked.states.iter().filter(|state| holds(state, local)).count()
+    asked
+        .states
+        .iter()
+        .filter(|state| holds(state, local))
+        .count()
 }
 
 /// Whether some local stands in several states.
@@ -133,7 +142,10 @@ fn counts_of(states: &[State]) -> (usize, usize) {
 
 /// Whether a state holds both locals.
 fn stand_together(asked: Coroutine, a: u32, b: u32) -> bool {
-    asked.states.iter().any(|state| holds(state, a) && holds(state, b))
+    asked
+        .states
+        .iter()
+        .any(|state| holds(state, a) && holds(state, b))
 }
 
 /// Whether the states may share all their bytes: each local stands in one state, two states hold locals, and no conflict names
@@ -143,7 +155,10 @@ fn may_overlap(asked: Coroutine) -> bool {
     held == asked.locals.len()
         && !has_shared(asked)
         && used >= 2
-        && asked.conflicts.iter().all(|&(a, b)| stand_together(asked, a, b))
+        && asked
+            .conflicts
+            .iter()
+            .all(|&(a, b)| stand_together(asked, a, b))
 }
 
 /// The least size of these fields as a list, and the list's alignment.
@@ -264,10 +279,12 @@ fn states_of(
     let mut all = Vec::with_capacity(alloc, states as usize)?;
     for at in 0..states {
         let mut held = Vec::with_capacity(alloc, count)?;
-        for (local, home) in homes.iter().enumerate() {
+        let mut local = 0u32;
+        for home in &homes {
             if *home == at || (sharing && dice.roll(6) == 0) {
-                held.push(local as u32)?;
+                held.push(local)?;
             }
+            local = local.wrapping_add(1);
         }
         all.push(state(rt, alloc, &held)?)?;
     }
@@ -315,7 +332,11 @@ fn is_right(
     let Ok(layout) = answered(rt, alloc, dl, asked)? else {
         return Ok(false);
     };
-    let tag = unsigned(dl, Integer::I8, (asked.states.len() as u128).saturating_sub(1).min(255));
+    let tag = unsigned(
+        dl,
+        Integer::I8,
+        (asked.states.len() as u128).saturating_sub(1).min(255),
+    );
     let Some(parts) = parts_of(alloc, asked, &layout, tag.size)? else {
         return Ok(false);
     };

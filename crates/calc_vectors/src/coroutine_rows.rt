@@ -59,7 +59,11 @@ const ROWS: &[Row] = &[
         align: 4,
         offsets: &[0],
         order: &[0],
-        lies: &[(&[], &[], 1, false), (&[4], &[0], 12, false), (&[4], &[0], 12, false)],
+        lies: &[
+            (&[], &[], 1, false),
+            (&[4], &[0], 12, false),
+            (&[4], &[0], 12, false),
+        ],
         uninhabited: false,
     },
     // Locals that conflict share none, whichever way the conflict is told.
@@ -72,7 +76,11 @@ const ROWS: &[Row] = &[
         align: 4,
         offsets: &[16],
         order: &[0],
-        lies: &[(&[], &[], 20, false), (&[0], &[0], 20, false), (&[8], &[0], 20, false)],
+        lies: &[
+            (&[], &[], 20, false),
+            (&[0], &[0], 20, false),
+            (&[8], &[0], 20, false),
+        ],
         uninhabited: false,
     },
     // The same.
@@ -85,7 +93,11 @@ const ROWS: &[Row] = &[
         align: 4,
         offsets: &[16],
         order: &[0],
-        lies: &[(&[], &[], 20, false), (&[0], &[0], 20, false), (&[8], &[0], 20, false)],
+        lies: &[
+            (&[], &[], 20, false),
+            (&[0], &[0], 20, false),
+            (&[8], &[0], 20, false),
+        ],
         uninhabited: false,
     },
     // A prefix field comes before the tag.
@@ -98,7 +110,11 @@ const ROWS: &[Row] = &[
         align: 4,
         offsets: &[0, 2],
         order: &[0, 1],
-        lies: &[(&[], &[], 4, false), (&[4], &[0], 12, false), (&[4], &[0], 12, false)],
+        lies: &[
+            (&[], &[], 4, false),
+            (&[4], &[0], 12, false),
+            (&[4], &[0], 12, false),
+        ],
         uninhabited: false,
     },
     // Of two that conflict, the one with more conflicts lies beside the tag; the others share bytes.
@@ -111,7 +127,11 @@ const ROWS: &[Row] = &[
         align: 4,
         offsets: &[4],
         order: &[0],
-        lies: &[(&[0], &[0], 8, false), (&[8], &[0], 12, false), (&[8], &[0], 12, false)],
+        lies: &[
+            (&[0], &[0], 8, false),
+            (&[8], &[0], 12, false),
+            (&[8], &[0], 12, false),
+        ],
         uninhabited: false,
     },
     // With one state all locals lie beside the tag, and one that no state holds too.
@@ -132,12 +152,26 @@ const ROWS: &[Row] = &[
         prefix: &[],
         locals: &[Field::U32, Field::U32, Field::U32],
         states: &[&[0], &[1], &[2]],
-        conflicts: &[(0, 0), (0, 1), (0, 2), (1, 0), (1, 1), (1, 2), (2, 0), (2, 1), (2, 2)],
+        conflicts: &[
+            (0, 0),
+            (0, 1),
+            (0, 2),
+            (1, 0),
+            (1, 1),
+            (1, 2),
+            (2, 0),
+            (2, 1),
+            (2, 2),
+        ],
         size: 16,
         align: 4,
         offsets: &[12],
         order: &[0],
-        lies: &[(&[0], &[0], 16, false), (&[4], &[0], 16, false), (&[8], &[0], 16, false)],
+        lies: &[
+            (&[0], &[0], 16, false),
+            (&[4], &[0], 16, false),
+            (&[8], &[0], 16, false),
+        ],
         uninhabited: false,
     },
     // A local that all states hold has one place, wherever they list it.
@@ -355,7 +389,23 @@ fn coroutines_lie_as_worked_out(rt: HostRuntime) -> Result<(), Fail> {
     Ok(())
 }
 
-/// Whether a coroutine of so many states without locals is laid out, its tag alone, as this integer.
+/// Whether the layout is a tag alone: this integer, which holds the numbers of so many states.
+fn is_tag(layout: &Laid, count: usize, integer: Integer) -> bool {
+    match &layout.variants {
+        Variants::Multiple {
+            tag: Scalar::Initialized { value, valid_range },
+            ..
+        } => {
+            layout.size == integer.size()
+                && *value == Primitive::Int(integer, false)
+                && valid_range.start == 0
+                && valid_range.end == (count as u128).saturating_sub(1)
+        }
+        _ => false,
+    }
+}
+
+/// Whether a coroutine of so many states without locals is laid out as its tag alone, this integer.
 fn has_tag(
     rt: &impl Abort,
     alloc: Global,
@@ -375,21 +425,10 @@ fn has_tag(
         states: &states,
         conflicts: &[],
     };
-    Ok(match answered(rt, alloc, dl, asked)? {
-        Ok(Laid {
-            size,
-            variants: Variants::Multiple {
-                tag: Scalar::Initialized { value, valid_range },
-                ..
-            },
-            ..
-        }) => {
-            size == integer.size()
-                && value == Primitive::Int(integer, false)
-                && valid_range.start == 0
-                && valid_range.end == (count as u128).saturating_sub(1)
-        }
-        _ => false,
+    let answer = answered(rt, alloc, dl, asked)?;
+    Ok(match &answer {
+        Ok(layout) => is_tag(layout, count, integer),
+        Err(_) => false,
     })
 }
 

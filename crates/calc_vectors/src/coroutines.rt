@@ -128,7 +128,10 @@ fn tag_of(count: usize) -> Scalar
 }
 
 /// These, as a list.
-fn listed<'a>(alloc: Global, fields: &[&'a Laid]) -> Result<IndexVec<FieldIdx, &'a Laid>, AllocError>
+fn listed<'a>(
+    alloc: Global,
+    fields: &[&'a Laid],
+) -> Result<IndexVec<FieldIdx, &'a Laid>, AllocError>
     requires { length fields.now ≤ 100 }
     ensures { IfOk result (λ list. list ≡ fields.now) }
 {

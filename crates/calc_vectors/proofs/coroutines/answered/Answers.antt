@@ -1,7 +1,5 @@
-use Rattle.std.proofs.Common.{◌≢◌, ◌<◌, ◌≤◌, All, IsTrue, List, ℕ, length, map, map-id, rules, subst, sym}
+use Rattle.std.proofs.Common.{◌≢◌, IsTrue, map-id, rules, subst, sym}
 use Rattle.std.specs.List.{AllPairs}
-use Rattle.std.proofs.lemmas.List.Elements.{All-weaker}
-use Rattle.calc_vectors.specs.Asked.{IsHeld}
 use Rattle.calc_vectors.proofs.coroutines.answered.Goals as goal
 
 pub layout_of_coroutine-answer-requires-clause-locals : goal.layout_of_coroutine-answer-requires-clause-locals

@@ -1,4 +1,4 @@
-use Rattle.std.proofs.Common.{All, IsTrue, get_or, rules, subst, take}
+use Rattle.std.proofs.Common.{IsTrue, get_or, rules, subst, take}
 use Rattle.std.proofs.lemmas.List.{take_all, take_more}
 use Rattle.std.proofs.lemmas.List.Elements.{All-push}
 use Rattle.calc_vectors.specs.Asked.{IsHeld}

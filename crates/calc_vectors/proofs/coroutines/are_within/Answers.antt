@@ -1,4 +1,4 @@
-use Rattle.std.proofs.Common.{◌<◌, All, arith, get_or, take}
+use Rattle.std.proofs.Common.{◌<◌, arith, get_or, take}
 use Rattle.std.proofs.lemmas.List.{take_all, take_more}
 use Rattle.std.proofs.lemmas.List.Elements.{All-push}
 use Rattle.calc_vectors.proofs.coroutines.are_within.Goals as goal
