@@ -3,3 +3,4 @@ pub mod BitSetLemmas
 pub mod AscendingLemmas
 pub mod BitMatrixLemmas
 pub mod RangeSetLemmas
+pub mod LastRunLemmas

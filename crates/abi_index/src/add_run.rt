@@ -1,12 +1,40 @@
 //! Runs of bytes with one more.
 
-ghost use Rattle.std.specs.Prelude.{◌≡◌, ℕ, ◌<◌, ◌-◌, ◌^◌, ◌||◌, IfOk};
+ghost use Rattle.std.specs.Prelude.{◌≡◌, ℕ, ◌<◌, ◌-◌, ◌^◌, ◌||◌, IfOk, OnOk, OnErr};
 ghost use Rattle.abi_index.specs.RangeSet.{is_in_run, is_in_ranges, AreMaximalRuns};
 
 use std::alloc::{AllocError, Global};
 
-/// These runs and the one from a byte on up to another and without it, joined to those that it meets.
-pub(crate) fn with_run(
+/// Adds the bytes from one on up to another and without it to these runs, each a pair of its first byte and of how many bytes it has.
+/// Where they begin no earlier than the last run, only that one changes, or a run comes behind it; else the list is made anew. Where
+/// memory is refused the runs are as they were.
+pub(crate) fn add_run(
+    alloc: Global,
+    runs: &mut Vec<(u64, u64)>,
+    from: u64,
+    to: u64,
+) -> Result<(), AllocError>
+    requires some { from < to }
+    requires maximal { AreMaximalRuns 0 runs.old.items }
+    ensures bytes { OnOk result ((k : ℕ) → is_in_ranges runs.new.items k ≡ (is_in_run k (from, to - from) || is_in_ranges runs.old.items k)) }
+    ensures maximal { AreMaximalRuns 0 runs.new.items }
+    ensures err { OnErr result (runs.new.items ≡ runs.old.items) }
+{
+    match runs.last().copied() {
+        Some((first, _size)) if from < first => {
+            *runs = with_run(alloc, runs.as_slice(), from, to)?;
+        }
+        Some((first, size)) if from <= first + size => {
+            let last = runs.len() - 1;
+            runs[last] = (first, size.max(to - first));
+        }
+        _ => runs.push((from, to - from))?,
+    }
+    Ok(())
+}
+
+/// These runs and the one from a byte on up to another and without it, joined to those that it meets. Refused where memory is.
+fn with_run(
     alloc: Global,
     runs: &[(u64, u64)],
     from: u64,

@@ -3,7 +3,7 @@
 ghost use Rattle.std.specs.Prelude.{◌≡◌, ℕ, ◌<◌, ◌+◌, ◌^◌, ◌||◌, [], OnOk, OnErr};
 ghost use Rattle.abi_index.specs.RangeSet.{is_in_run, is_in_ranges, AreMaximalRuns};
 
-use crate::add_run::with_run;
+use crate::add_run::add_run;
 use std::alloc::{AllocError, Global};
 use std::marker::Model;
 
@@ -43,8 +43,7 @@ impl RangeSet {
         ensures err { OnErr result (self.new ≡ self.old) }
     {
         if size > 0 {
-            let runs = with_run(self.alloc, self.runs.as_slice(), offset, offset + size)?;
-            self.runs = runs;
+            add_run(self.alloc, &mut self.runs, offset, offset + size)?;
         }
         Ok(())
     }
