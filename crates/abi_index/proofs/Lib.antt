@@ -4,3 +4,4 @@ pub mod AscendingLemmas
 pub mod BitMatrixLemmas
 pub mod RangeSetLemmas
 pub mod LastRunLemmas
+pub mod UncutLemmas

@@ -1,9 +1,10 @@
 //! Sets of bytes, kept as runs.
 
-ghost use Rattle.std.specs.Prelude.{◌≡◌, ℕ, ◌<◌, ◌+◌, ◌^◌, ◌||◌, [], OnOk, OnErr};
+ghost use Rattle.std.specs.Prelude.{◌≡◌, ℕ, ◌<◌, ◌+◌, ◌^◌, ◌&&◌, ◌||◌, not, [], IfOk, OnOk, OnErr};
 ghost use Rattle.abi_index.specs.RangeSet.{is_in_run, is_in_ranges, AreMaximalRuns};
 
 use crate::add_run::add_run;
+use crate::uncut::add_uncut;
 use std::alloc::{AllocError, Global};
 use std::marker::Model;
 
@@ -46,6 +47,19 @@ impl RangeSet {
             add_run(self.alloc, &mut self.runs, offset, offset + size)?;
         }
         Ok(())
+    }
+
+    /// The bytes of this set that aren't in the other, in as many steps as the two have runs. Refused where memory is.
+    pub fn difference(&self, alloc: Global, other: &RangeSet) -> Result<RangeSet, AllocError>
+        ensures { IfOk result (λ set. (k : ℕ) → is_in_ranges set k ≡ (is_in_ranges self.now k && not (is_in_ranges other.now k))) }
+    {
+        let mut rest = RangeSet::new(alloc);
+        let mut next = 0;
+        for run in self.as_slice() {
+            let (offset, size) = *run;
+            next = add_uncut(&mut rest, offset, offset + size, other.as_slice(), next)?;
+        }
+        Ok(rest)
     }
 
     /// The runs, each as its offset and its size: ascending, none empty, no two of them meet.

@@ -1,0 +1,38 @@
+//! What cuts leave of a run of bytes.
+
+ghost use Rattle.std.specs.Prelude.{◌≡◌, ℕ, ◌≤◌, ◌-◌, ◌&&◌, ◌||◌, not, length, take, OnOk, IfOk};
+ghost use Rattle.abi_index.specs.RangeSet.{is_in_run, is_in_ranges, AreMaximalRuns, EndBy};
+
+use crate::range_set::RangeSet;
+use std::alloc::AllocError;
+
+/// Adds the bytes from one on up to another and without it to a set, but for those that are in the cuts, each a pair of its first byte
+/// and of how many bytes it has. The cuts before the index `first` end by the first byte. Answers the first cut that may have bytes
+/// behind the last one, as an index. Refused where memory is.
+pub(crate) fn add_uncut(
+    made: &mut RangeSet,
+    from: u64,
+    to: u64,
+    cuts: &[(u64, u64)],
+    first: usize,
+) -> Result<usize, AllocError>
+    requires ascend { from ≤ to }
+    requires maximal { AreMaximalRuns 0 cuts.now }
+    requires place { first ≤ length cuts.now }
+    requires passed { EndBy from (take first cuts.now) }
+    ensures bytes { OnOk result ((k : ℕ) → is_in_ranges made.new k ≡ ((is_in_run k (from, to - from) && not (is_in_ranges cuts.now k)) || is_in_ranges made.old k)) }
+    ensures place { IfOk result (λ next. next ≤ length cuts.now) }
+    ensures passed { IfOk result (λ next. EndBy to (take next cuts.now)) }
+{
+    let mut start = from;
+    for next in first..cuts.len() {
+        let (cut, size) = cuts[next];
+        made.add_range(start, cut.min(to).saturating_sub(start))?;
+        if to < cut + size {
+            return Ok(next);
+        }
+        start = start.max(cut + size);
+    }
+    made.add_range(start, to - start)?;
+    Ok(cuts.len())
+}
