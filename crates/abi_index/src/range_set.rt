@@ -4,8 +4,11 @@ ghost use Rattle.std.specs.Prelude.{◌≡◌, ℕ, ◌<◌, ◌+◌, ◌^◌, �
 ghost use Rattle.abi_index.specs.RangeSet.{is_in_run, is_in_ranges, AreMaximalRuns};
 
 use crate::add_run::add_run;
+use crate::try_clone::TryClone;
 use crate::uncut::add_uncut;
 use std::alloc::{AllocError, Global};
+use std::fmt;
+use std::fmt::Debug;
 use std::marker::Model;
 
 /// A set of byte numbers, kept as ascending maximal runs of bytes.
@@ -24,6 +27,40 @@ impl Model for RangeSet {
     ghost view = { λ a. a.runs.items };
 
     ghost invariant = { λ a. AreMaximalRuns 0 a.runs.items };
+}
+
+impl PartialEq for RangeSet {
+    ghost use Rattle.std.specs.Cmp.{and_equiv, on_equiv, nat_eq_equiv, partial_equiv_from_equiv};
+    ghost use Rattle.std.specs.Cmp.Lexicographic.{pointwise, lists_per};
+
+    ghost eq = { λ x y. pointwise ⟦<(u64, u64) as PartialEq>⟧.eq x y };
+
+    ghost laws = { lists_per (partial_equiv_from_equiv (and_equiv (on_equiv (λ run. run.0) nat_eq_equiv) (on_equiv (λ run. run.1) nat_eq_equiv))) };
+
+    fn eq(&self, other: &Self) -> bool {
+        self.runs == other.runs
+    }
+}
+
+impl Eq for RangeSet {
+    ghost use Rattle.std.specs.Cmp.{and_equiv, on_equiv, nat_eq_equiv};
+    ghost use Rattle.std.specs.Cmp.Lexicographic.{lists_equiv};
+
+    ghost laws = { lists_equiv (and_equiv (on_equiv (λ run. run.0) nat_eq_equiv) (on_equiv (λ run. run.1) nat_eq_equiv)) };
+}
+
+impl Debug for RangeSet {
+    fn fmt<W: fmt::Write>(&self, f: &mut fmt::Formatter<W>) -> fmt::Result {
+        self.runs.fmt(f)
+    }
+}
+
+impl TryClone for RangeSet {
+    fn try_clone(&self, alloc: Global) -> Result<Self, AllocError> {
+        let mut runs = Vec::with_capacity(alloc, self.runs.len())?;
+        runs.extend_from_slice(self.runs.as_slice())?;
+        Ok(RangeSet { alloc, runs })
+    }
 }
 
 impl RangeSet {
