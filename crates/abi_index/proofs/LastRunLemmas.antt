@@ -5,7 +5,7 @@ use Rattle.std.proofs.lemmas.Bool.{lt-ltb, le-ltb}
 use Rattle.std.proofs.lemmas.List.{take_all, take_more, take_more_set}
 use Rattle.std.proofs.lemmas.Option.{slice_get_within, get_or_from_slice_get, slice_get-get_or}
 use Rattle.abi_index.specs.RangeSet.{AreMaximalRuns}
-use Rattle.abi_index.proofs.RangeSetLemmas.{added, maximal_added}
+use Rattle.abi_index.proofs.RangeSetLemmas.{added}
 
 -- the last run, apart from those before it
 last_apart : (runs : List (ℕ × ℕ)) (i : ℕ) (last : ℕ × ℕ) → i ≡ length runs - 1 → slice_get runs i ≡ Some last → take i runs ++ last ∷ [] ≡ runs

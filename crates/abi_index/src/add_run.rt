@@ -5,9 +5,9 @@ ghost use Rattle.abi_index.specs.RangeSet.{is_in_run, is_in_ranges, AreMaximalRu
 
 use std::alloc::{AllocError, Global};
 
-/// Adds the bytes from one on up to another and without it to these runs, each a pair of its first byte and of how many bytes it has.
-/// Where they begin no earlier than the last run, only that one changes, or a run comes behind it; else the list is made anew. Where
-/// memory is refused the runs are as they were.
+/// Adds the bytes from one on up to another, and without that one, to these runs, each its first byte and how many bytes it has. Where
+/// they begin no earlier than the last run, only that one changes or one more comes behind it; else the list is made anew. `AllocError`
+/// where memory is refused: then the runs are as they were.
 pub(crate) fn add_run(
     alloc: Global,
     runs: &mut Vec<(u64, u64)>,
@@ -33,7 +33,8 @@ pub(crate) fn add_run(
     Ok(())
 }
 
-/// These runs and the one from a byte on up to another and without it, joined to those that it meets. Refused where memory is.
+/// These runs and the one from a byte on up to another and without it, joined to those that it meets. `AllocError` where memory is
+/// refused.
 fn with_run(
     alloc: Global,
     runs: &[(u64, u64)],

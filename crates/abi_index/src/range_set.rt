@@ -74,7 +74,8 @@ impl RangeSet {
         }
     }
 
-    /// Puts in the `size` bytes from `offset` on. Where memory is refused the set is as it was.
+    /// Puts in the `size` bytes from byte `offset` on. `AllocError` where memory is refused: then the set is as it was. Bytes that begin
+    /// no earlier than the last run are put in without going over the others.
     pub fn add_range(&mut self, offset: u64, size: u64) -> Result<(), AllocError>
         requires { offset + size < 2 ^ 64 }
         ensures bytes { OnOk result ((k : ℕ) → is_in_ranges self.new k ≡ (is_in_run k (offset, size) || is_in_ranges self.old k)) }
@@ -86,20 +87,22 @@ impl RangeSet {
         Ok(())
     }
 
-    /// The bytes of this set that aren't in the other, in as many steps as the two have runs. Refused where memory is.
+    /// The bytes of this set that aren't in the other, in no more steps than the two have runs together. `AllocError` where memory is
+    /// refused.
     pub fn difference(&self, alloc: Global, other: &RangeSet) -> Result<RangeSet, AllocError>
-        ensures { IfOk result (λ set. (k : ℕ) → is_in_ranges set k ≡ (is_in_ranges self.now k && not (is_in_ranges other.now k))) }
+        ensures bytes { IfOk result (λ set. (k : ℕ) → is_in_ranges set k ≡ (is_in_ranges self.now k && not (is_in_ranges other.now k))) }
     {
         let mut rest = RangeSet::new(alloc);
         let mut next = 0;
         for run in self.as_slice() {
             let (offset, size) = *run;
+            // The runs ascend: what ends no later than one of them has no byte of the next.
             next = add_uncut(&mut rest, offset, offset + size, other.as_slice(), next)?;
         }
         Ok(rest)
     }
 
-    /// The runs, each as its offset and its size: ascending, none empty, no two of them meet.
+    /// The runs, each as its offset and its size in bytes: ascending, none empty, no two of them meet.
     pub fn as_slice(&self) -> &[(u64, u64)]
         ensures runs { result.now ≡ self.now }
         ensures maximal { AreMaximalRuns 0 result.now }

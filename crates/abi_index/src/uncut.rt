@@ -1,14 +1,15 @@
 //! What cuts leave of a run of bytes.
 
-ghost use Rattle.std.specs.Prelude.{◌≡◌, ℕ, ◌≤◌, ◌-◌, ◌&&◌, ◌||◌, not, length, take, OnOk, IfOk};
+ghost use Rattle.std.specs.Prelude.{◌≡◌, ℕ, ◌<◌, ◌≤◌, ◌+◌, ◌-◌, ◌&&◌, ◌||◌, not, length, take, slice_get, OnOk, IfOk, IfSome};
 ghost use Rattle.abi_index.specs.RangeSet.{is_in_run, is_in_ranges, AreMaximalRuns, EndBy};
 
 use crate::range_set::RangeSet;
 use std::alloc::AllocError;
 
-/// Adds the bytes from one on up to another and without it to a set, but for those that are in the cuts, each a pair of its first byte
-/// and of how many bytes it has. The cuts before the index `first` end by the first byte. Answers the first cut that may have bytes
-/// behind the last one, as an index. Refused where memory is.
+/// Adds the bytes from one on up to another, and without that one, to a set, but for those that are in the cuts. The cuts are runs of
+/// bytes, each its first byte and how many bytes it has; those before the index `first` have to end by the byte begun from. Answers how
+/// many of the first cuts end by the byte gone up to, so that what comes behind it can begin at the cut after them. `AllocError` where
+/// memory is refused.
 pub(crate) fn add_uncut(
     made: &mut RangeSet,
     from: u64,
@@ -23,6 +24,7 @@ pub(crate) fn add_uncut(
     ensures bytes { OnOk result ((k : ℕ) → is_in_ranges made.new k ≡ ((is_in_run k (from, to - from) && not (is_in_ranges cuts.now k)) || is_in_ranges made.old k)) }
     ensures place { IfOk result (λ next. next ≤ length cuts.now) }
     ensures passed { IfOk result (λ next. EndBy to (take next cuts.now)) }
+    ensures behind { IfOk result (λ next. IfSome (slice_get cuts.now next) (λ cut. to < cut.0 + cut.1)) }
 {
     let mut start = from;
     for next in first..cuts.len() {

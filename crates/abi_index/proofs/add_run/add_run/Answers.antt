@@ -1,6 +1,5 @@
-use Rattle.std.proofs.Common.{◌≡◌, ◌∙◌, sym, subst, refl, arith, ◌-◌, ◌||◌, ◌++◌, ◌∷◌, [], List, ℕ, set, max, length, Some, None}
+use Rattle.std.proofs.Common.{◌≡◌, ◌∙◌, refl, arith, ◌-◌, List, ℕ, set, length, Some, None}
 use Rattle.std.specs.Prelude.{slice_get}
-use Rattle.abi_index.specs.RangeSet.{is_in_run, is_in_ranges, AreMaximalRuns}
 use Rattle.abi_index.proofs.RangeSetLemmas.{added, bytes_added, maximal_added}
 use Rattle.abi_index.proofs.LastRunLemmas.{longer_last, run_behind, only_run, last_fits}
 use Rattle.abi_index.proofs.add_run.add_run.Goals as goal

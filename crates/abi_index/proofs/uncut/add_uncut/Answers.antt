@@ -1,6 +1,6 @@
-use Rattle.std.proofs.Common.{◌≡◌, ◌∙◌, sym, ap, arith, ◌||◌}
-use Rattle.abi_index.specs.RangeSet.{is_in_run, is_in_ranges, AreMaximalRuns, EndBy}
-use Rattle.abi_index.proofs.UncutLemmas.{is_uncut, cuts_passed, one_more_passed, run_fits, step_within, step_over_end}
+use Rattle.std.proofs.Common.{◌∙◌, sym, ap, arith, ◌||◌}
+use Rattle.abi_index.specs.RangeSet.{is_in_ranges}
+use Rattle.abi_index.proofs.UncutLemmas.{cuts_passed, one_more_passed, run_fits, step_within, step_over_end}
 use Rattle.abi_index.proofs.uncut.add_uncut.Goals as goal
 
 pub loop-next-init : goal.loop-next-init
