@@ -1,22 +1,22 @@
 -- Runs of bytes with one more that begins no earlier than the last of them.
-use Rattle.std.proofs.Common.{◌≡◌, ℕ, ◌+◌, ◌-◌, ◌<◌, ◌≤◌, ◌^◌, List, [], ◌∷◌, ◌++◌, length, Some, None, min, max, arith, refl, sym, ap, ◌∙◌, subst, take, set, length-set, append_assoc}
+use Rattle.std.proofs.Common.{◌≡◌, ℕ, ◌+◌, ◌-◌, ◌<◌, ◌≤◌, ◌^◌, List, [], ◌∷◌, ◌++◌, length, Some, None, Option, get_or, IfSome, IsSomeAnd, min, max, arith, refl, inl, inr, sym, ap, ◌∙◌, subst, take, set, length-set, append_assoc}
 use Rattle.std.specs.Prelude.{slice_get}
 use Rattle.std.proofs.lemmas.Bool.{lt-ltb, le-ltb}
 use Rattle.std.proofs.lemmas.List.{take_all, take_more, take_more_set}
-use Rattle.std.proofs.lemmas.Option.{slice_get_within, get_or_from_slice_get, slice_get-get_or}
+use Rattle.std.proofs.lemmas.Option.{slice_get_within, slice_get_cases, get_or_from_slice_get, slice_get-get_or}
 use Rattle.abi_index.specs.RangeSet.{AreMaximalRuns}
 use Rattle.abi_index.proofs.RangeSetLemmas.{added}
 
 -- the last run, apart from those before it
 last_apart : (runs : List (ℕ × ℕ)) (i : ℕ) (last : ℕ × ℕ) → i ≡ length runs - 1 → slice_get runs i ≡ Some last → take i runs ++ last ∷ [] ≡ runs
-last_apart runs i last at found =
+last_apart runs i last place found =
     let within : i < length runs = slice_get_within runs i last found in
     let all : length runs ≤ i + 1 = omega arith in
     ap (λ run. take i runs ++ run ∷ []) (sym (get_or_from_slice_get runs i last last found)) ∙ sym (take_more runs i last within) ∙ take_all (i + 1) runs all
 
 -- another in the last one's place
 last_replaced : (runs : List (ℕ × ℕ)) (i : ℕ) (last made : ℕ × ℕ) → i ≡ length runs - 1 → slice_get runs i ≡ Some last → set runs i made ≡ take i runs ++ made ∷ []
-last_replaced runs i last made at found =
+last_replaced runs i last made place found =
     let within : i < length runs = slice_get_within runs i last found in
     let all : length (set runs i made) ≤ i + 1 = omega (arith, length-set {A = ℕ × ℕ}) in
     sym (take_all (i + 1) (set runs i made) all) ∙ take_more_set runs i made within
@@ -51,24 +51,22 @@ last_ends low (run ∷ front) last maximal = last_ends (run.0 + run.1 + 1) front
 
 -- the last run ends below 2 to the 64
 pub last_fits : (runs : List (ℕ × ℕ)) (i first size : ℕ) → i ≡ length runs - 1 → slice_get runs i ≡ Some (first, size) → AreMaximalRuns 0 runs → first + size < 2 ^ 64
-last_fits runs i first size at found maximal =
-    last_ends 0 (take i runs) (first, size) (subst (λ whole. AreMaximalRuns 0 whole) (sym (last_apart runs i (first, size) at found)) maximal)
+last_fits runs i first size place found maximal =
+    last_ends 0 (take i runs) (first, size) (subst (λ whole. AreMaximalRuns 0 whole) (sym (last_apart runs i (first, size) place found)) maximal)
 
--- the last run made longer
-pub longer_last : (runs : List (ℕ × ℕ)) (i first size start end : ℕ) → i ≡ length runs - 1 → slice_get runs i ≡ Some (first, size) → start < end
+longer_last : (runs : List (ℕ × ℕ)) (i first size start end : ℕ) → i ≡ length runs - 1 → slice_get runs i ≡ Some (first, size) → start < end
     → first ≤ start → start ≤ first + size → AreMaximalRuns 0 runs → set runs i (first, max size (end - first)) ≡ added start end runs
-longer_last runs i first size start end at found some behind joins maximal =
-    let apart = last_apart runs i (first, size) at found in
-    last_replaced runs i (first, size) (first, max size (end - first)) at found
+longer_last runs i first size start end place found some behind joins maximal =
+    let apart = last_apart runs i (first, size) place found in
+    last_replaced runs i (first, size) (first, max size (end - first)) place found
     ∙ ap (λ last. take i runs ++ last) (lengthened start end first size some behind joins)
     ∙ sym (front_stays start end 0 (take i runs) (first, size) some behind (subst (λ whole. AreMaximalRuns 0 whole) (sym apart) maximal))
     ∙ ap (λ whole. added start end whole) apart
 
--- a run behind the last
-pub run_behind : (runs : List (ℕ × ℕ)) (i first size start end : ℕ) → i ≡ length runs - 1 → slice_get runs i ≡ Some (first, size) → start < end
+run_behind : (runs : List (ℕ × ℕ)) (i first size start end : ℕ) → i ≡ length runs - 1 → slice_get runs i ≡ Some (first, size) → start < end
     → first + size < start → AreMaximalRuns 0 runs → runs ++ (start, end - start) ∷ [] ≡ added start end runs
-run_behind runs i first size start end at found some apart maximal =
-    let whole = last_apart runs i (first, size) at found in
+run_behind runs i first size start end place found some apart maximal =
+    let whole = last_apart runs i (first, size) place found in
     ap (λ before. before ++ (start, end - start) ∷ []) (sym whole)
     ∙ append_assoc (take i runs) ((first, size) ∷ []) ((start, end - start) ∷ [])
     ∙ ap (λ last. take i runs ++ last) (followed start end first size some apart)
@@ -81,7 +79,32 @@ none_there (run ∷ runs) none =
     let there = slice_get-get_or (run ∷ runs) (length (run ∷ runs) - 1) run (omega arith) in
     cc
 
--- a run where there is none
-pub only_run : (runs : List (ℕ × ℕ)) (start end : ℕ) → slice_get runs (length runs - 1) ≡ None → start < end
+only_run : (runs : List (ℕ × ℕ)) (start end : ℕ) → slice_get runs (length runs - 1) ≡ None → start < end
     → runs ++ (start, end - start) ∷ [] ≡ added start end runs
 only_run runs start end none some = rw (none_there runs none) refl
+
+-- the last run made longer, where it has the first byte put in or ends before it
+pub lengthened_is : (runs : List (ℕ × ℕ)) (i start end : ℕ) (d : ℕ × ℕ) → i ≡ length runs - 1 → start < end → AreMaximalRuns 0 runs
+    → IsSomeAnd (slice_get runs (length runs - 1)) (λ last. (last.0 ≤ start) × (start ≤ last.0 + last.1))
+    → set runs i ((get_or runs i d).0, max (get_or runs i d).1 (end - (get_or runs i d).0)) ≡ added start end runs
+lengthened_is runs i start end d place some maximal meets =
+    let Meets : Option (ℕ × ℕ) → Type 0 = λ o. IsSomeAnd o (λ last. (last.0 ≤ start) × (start ≤ last.0 + last.1)) in
+    elim (slice_get_cases runs (length runs - 1)).1 [
+      | inl there ↦
+          let found : slice_get runs (length runs - 1) ≡ Some there.0 = there.2 in
+          let reads : get_or runs i d ≡ there.0 = rw place (get_or_from_slice_get runs (length runs - 1) there.0 d found) in
+          let here = subst Meets found meets in
+          rw (reads, place) (longer_last runs (length runs - 1) there.0.0 there.0.1 start end refl found some here.0 here.1 maximal)
+      | inr none ↦ absurd (subst Meets none.1 meets)
+    ]
+
+-- a run behind all
+pub pushed_is : (runs : List (ℕ × ℕ)) (start end : ℕ) → start < end → AreMaximalRuns 0 runs
+    → IfSome (slice_get runs (length runs - 1)) (λ last. last.0 + last.1 < start) → runs ++ (start, end - start) ∷ [] ≡ added start end runs
+pushed_is runs start end some maximal behind =
+    elim (slice_get_cases runs (length runs - 1)).1 [
+      | inl there ↦
+          let found : slice_get runs (length runs - 1) ≡ Some there.0 = there.2 in
+          run_behind runs (length runs - 1) there.0.0 there.0.1 start end refl found some (subst (λ o. IfSome o (λ last. last.0 + last.1 < start)) found behind) maximal
+      | inr none ↦ only_run runs start end none.1 some
+    ]
