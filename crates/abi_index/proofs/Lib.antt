@@ -3,3 +3,5 @@ pub mod BitSetLemmas
 pub mod AscendingLemmas
 pub mod BitMatrixLemmas
 pub mod RangeSetLemmas
+pub mod LastRunLemmas
+pub mod UncutLemmas

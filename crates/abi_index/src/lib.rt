@@ -15,6 +15,7 @@ mod index_vec;
 mod indices;
 mod range_set;
 mod try_clone;
+mod uncut;
 
 pub use bit_matrix::BitMatrix;
 pub use bit_row_iter::BitRowIter;

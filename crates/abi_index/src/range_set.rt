@@ -1,10 +1,14 @@
 //! Sets of bytes, kept as runs.
 
-ghost use Rattle.std.specs.Prelude.{◌≡◌, ℕ, ◌<◌, ◌+◌, ◌^◌, ◌||◌, [], OnOk, OnErr};
+ghost use Rattle.std.specs.Prelude.{◌≡◌, ℕ, ◌<◌, ◌+◌, ◌^◌, ◌&&◌, ◌||◌, not, [], IfOk, OnOk, OnErr};
 ghost use Rattle.abi_index.specs.RangeSet.{is_in_run, is_in_ranges, AreMaximalRuns};
 
-use crate::add_run::with_run;
+use crate::add_run::add_run;
+use crate::try_clone::TryClone;
+use crate::uncut::add_uncut;
 use std::alloc::{AllocError, Global};
+use std::fmt;
+use std::fmt::Debug;
 use std::marker::Model;
 
 /// A set of byte numbers, kept as ascending maximal runs of bytes.
@@ -25,6 +29,40 @@ impl Model for RangeSet {
     ghost invariant = { λ a. AreMaximalRuns 0 a.runs.items };
 }
 
+impl PartialEq for RangeSet {
+    ghost use Rattle.std.specs.Cmp.{and_equiv, on_equiv, nat_eq_equiv, partial_equiv_from_equiv};
+    ghost use Rattle.std.specs.Cmp.Lexicographic.{pointwise, lists_per};
+
+    ghost eq = { λ x y. pointwise ⟦<(u64, u64) as PartialEq>⟧.eq x y };
+
+    ghost laws = { lists_per (partial_equiv_from_equiv (and_equiv (on_equiv (λ run. run.0) nat_eq_equiv) (on_equiv (λ run. run.1) nat_eq_equiv))) };
+
+    fn eq(&self, other: &Self) -> bool {
+        self.runs == other.runs
+    }
+}
+
+impl Eq for RangeSet {
+    ghost use Rattle.std.specs.Cmp.{and_equiv, on_equiv, nat_eq_equiv};
+    ghost use Rattle.std.specs.Cmp.Lexicographic.{lists_equiv};
+
+    ghost laws = { lists_equiv (and_equiv (on_equiv (λ run. run.0) nat_eq_equiv) (on_equiv (λ run. run.1) nat_eq_equiv)) };
+}
+
+impl Debug for RangeSet {
+    fn fmt<W: fmt::Write>(&self, f: &mut fmt::Formatter<W>) -> fmt::Result {
+        self.runs.fmt(f)
+    }
+}
+
+impl TryClone for RangeSet {
+    fn try_clone(&self, alloc: Global) -> Result<Self, AllocError> {
+        let mut runs = Vec::with_capacity(alloc, self.runs.len())?;
+        runs.extend_from_slice(self.runs.as_slice())?;
+        Ok(RangeSet { alloc, runs })
+    }
+}
+
 impl RangeSet {
     /// The empty set.
     pub fn new(alloc: Global) -> Self
@@ -36,20 +74,35 @@ impl RangeSet {
         }
     }
 
-    /// Puts in the `size` bytes from `offset` on. Where memory is refused the set is as it was.
+    /// Puts in the `size` bytes from byte `offset` on. `AllocError` where memory is refused: then the set is as it was. Bytes that begin
+    /// no earlier than the last run are put in without going over the others.
     pub fn add_range(&mut self, offset: u64, size: u64) -> Result<(), AllocError>
         requires { offset + size < 2 ^ 64 }
         ensures bytes { OnOk result ((k : ℕ) → is_in_ranges self.new k ≡ (is_in_run k (offset, size) || is_in_ranges self.old k)) }
         ensures err { OnErr result (self.new ≡ self.old) }
     {
         if size > 0 {
-            let runs = with_run(self.alloc, self.runs.as_slice(), offset, offset + size)?;
-            self.runs = runs;
+            add_run(self.alloc, &mut self.runs, offset, offset + size)?;
         }
         Ok(())
     }
 
-    /// The runs, each as its offset and its size: ascending, none empty, no two of them meet.
+    /// The bytes of this set that aren't in the other, in no more steps than the two have runs together. `AllocError` where memory is
+    /// refused.
+    pub fn difference(&self, alloc: Global, other: &RangeSet) -> Result<RangeSet, AllocError>
+        ensures bytes { IfOk result (λ set. (k : ℕ) → is_in_ranges set k ≡ (is_in_ranges self.now k && not (is_in_ranges other.now k))) }
+    {
+        let mut rest = RangeSet::new(alloc);
+        let mut next = 0;
+        for run in self.as_slice() {
+            let (offset, size) = *run;
+            // The runs ascend: what ends no later than one of them has no byte of the next.
+            next = add_uncut(&mut rest, offset, offset + size, other.as_slice(), next)?;
+        }
+        Ok(rest)
+    }
+
+    /// The runs, each as its offset and its size in bytes: ascending, none empty, no two of them meet.
     pub fn as_slice(&self) -> &[(u64, u64)]
         ensures runs { result.now ≡ self.now }
         ensures maximal { AreMaximalRuns 0 result.now }

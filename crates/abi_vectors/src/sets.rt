@@ -3,7 +3,7 @@
 ghost use Rattle.std.specs.Prelude.{◌≡◌, IfOk};
 ghost use Rattle.abi_index.specs.Relation.{row_count, column_count};
 
-use abi_index::{BitMatrix, DenseBitSet, FieldIdx, RangeSet, VariantIdx};
+use abi_index::{BitMatrix, DenseBitSet, FieldIdx, RangeSet, TryClone, VariantIdx};
 use std::alloc::{AllocError, Global};
 use std::test::Fail;
 
@@ -114,10 +114,70 @@ fn runs_of_bytes_are_joined_where_they_meet(rt: HostRuntime) -> Result<(), Fail>
         (13, 1, &[(0, 8), (12, 4), (20, 2)]),
         (6, 8, &[(0, 16), (20, 2)]),
         (16, 30, &[(0, 46)]),
+        // Behind the last run, in it, and where it ends.
+        (50, 2, &[(0, 46), (50, 2)]),
+        (51, 1, &[(0, 46), (50, 2)]),
+        (52, 3, &[(0, 46), (50, 5)]),
+        (54, 6, &[(0, 46), (50, 10)]),
+        (50, 1, &[(0, 46), (50, 10)]),
+        (61, 1, &[(0, 46), (50, 10), (61, 1)]),
+        // Before the last run, and before that again.
+        (98, 1, &[(0, 46), (50, 10), (61, 1), (98, 1)]),
+        (96, 1, &[(0, 46), (50, 10), (61, 1), (96, 1), (98, 1)]),
+        (
+            94,
+            1,
+            &[(0, 46), (50, 10), (61, 1), (94, 1), (96, 1), (98, 1)],
+        ),
+        // Over others.
+        (97, 1, &[(0, 46), (50, 10), (61, 1), (94, 1), (96, 3)]),
+        (95, 4, &[(0, 46), (50, 10), (61, 1), (94, 5)]),
+        (49, 49, &[(0, 46), (49, 50)]),
+        (46, 3, &[(0, 99)]),
     ] {
         assert!(rt; offset < 100 && size < 100);
         bytes.add_range(offset, size)?;
         assert!(rt; bytes.as_slice() == runs, "{size} bytes at {offset}");
+    }
+    Ok(())
+}
+
+/// The set that some runs make, put in one after another.
+fn bytes_of(alloc: Global, runs: &[(u32, u32)]) -> Result<RangeSet, AllocError> {
+    let mut bytes = RangeSet::new(alloc);
+    for &(offset, size) in runs {
+        bytes.add_range(u64::from(offset), u64::from(size))?;
+    }
+    Ok(bytes)
+}
+
+#[test]
+fn differences_are_the_bytes_in_no_cut(rt: HostRuntime) -> Result<(), Fail> {
+    // The runs, the cuts, and the runs that are left.
+    for &(runs, cuts, left) in &[
+        ([].as_slice(), [].as_slice(), [].as_slice()),
+        (&[(0, 10)], &[], &[(0, 10)]),
+        (&[], &[(0, 10)], &[]),
+        (&[(0, 10)], &[(0, 10)], &[]),
+        (&[(5, 5)], &[(0, 20)], &[]),
+        (&[(5, 5)], &[(0, 5), (10, 3)], &[(5, 5)]),
+        (&[(0, 10)], &[(3, 2)], &[(0, 3), (5, 5)]),
+        (&[(0, 10)], &[(9, 1), (0, 2)], &[(2, 7)]),
+        (&[(0, 4), (8, 4)], &[(2, 8)], &[(0, 2), (10, 2)]),
+        (&[(0, 2), (4, 2), (8, 2)], &[(4, 2)], &[(0, 2), (8, 2)]),
+        (&[(2, 2), (6, 2)], &[(0, 3), (5, 2), (7, 1)], &[(3, 1)]),
+        (
+            &[(0, 30)],
+            &[(1, 1), (3, 1), (29, 5)],
+            &[(0, 1), (2, 1), (4, 25)],
+        ),
+    ] {
+        let bytes = bytes_of(rt.alloc(), runs)?.try_clone(rt.alloc())?;
+        let found = bytes.difference(rt.alloc(), &bytes_of(rt.alloc(), cuts)?)?;
+        assert!(rt;
+            found == bytes_of(rt.alloc(), left)?,
+            "{bytes:?} without {cuts:?}: {found:?}"
+        );
     }
     Ok(())
 }
