@@ -12,7 +12,7 @@ use Rattle.program.specs.declared.begun.Want.{Want}
 use Rattle.program.specs.declared.begun.Want.TheVariants as want
 use Rattle.program.specs.declared.begun.CoroutineWant.TheVariants as part
 use Rattle.program.specs.declared.repr_text.StructRepr.{StructRepr}
-use Rattle.program.specs.Reading.{Begun, Parts, State, elements, lanes, fields, members, variants_so_far, variant, variants_in, coroutine_with, in_prefix, in_locals, between_states, in_state, in_conflicts, first, second, range, range_of, range_from, union_of, at_count, at_lanes, at_repr, at_union_repr, at_enum_repr, at_discriminant, at_local, at_row, at_column, next, put, put_scalar, read, read_from, waiting}
+use Rattle.program.specs.Reading.{Begun, State, elements, lanes, fields, members, variants_so_far, variant, variants_in, coroutine_with, in_prefix, in_locals, between_states, in_state, in_conflicts, first, second, range, range_of, range_from, union_of, at_count, at_lanes, at_repr, at_union_repr, at_enum_repr, at_discriminant, at_local, at_row, at_column, next, put, put_scalar, read, read_from, waiting}
 use Rattle.program.specs.Written.{IsWrittenAs, AreWrittenAs, a_scalar, a_pair, no_value, one_value, an_array, a_vector, a_struct, a_union, an_enum, a_coroutine, no_more, one_more, AreVariantsWrittenAs, no_variant_more, one_variant_more, IsNumeral, IsDiscriminant, not_negative, negative, in_parentheses, AreNumerals, no_number_more, one_number_more, AreStatesWrittenAs, no_state_more, one_state_more, AreConflictsWrittenAs, no_conflict_more, one_conflict_more, nesting, nesting_of_fields, nesting_of_variants, vector_word}
 use Rattle.program.proofs.Numerals.{both, numeral_read, numeral_digits, discriminant_read}
 use Rattle.program.proofs.ScalarsRead.{IsFree, not_deep, one_word, read_scalar}
@@ -45,14 +45,6 @@ types_free (range_of p ∷ begun) h = tt
 types_free (range_from p n ∷ begun) h = tt
 types_free (union_of ∷ begun) h = h
 
-scalar_put_part : (s : Scalar) (parts : Parts) (begun : List Begun) → AreTypes (coroutine_with parts ∷ begun)
-    → put_scalar s (coroutine_with parts ∷ begun) ≡ put (scalar s) (coroutine_with parts ∷ begun)
-scalar_put_part s (in_prefix ts) begun h = refl
-scalar_put_part s (in_locals ps ts) begun h = refl
-scalar_put_part s (between_states ps ls ss) begun h = absurd h
-scalar_put_part s (in_state ps ls ss ns) begun h = absurd h
-scalar_put_part s (in_conflicts ps ls ss cs) begun h = absurd h
-
 scalar_put : (s : Scalar) (begun : List Begun) → AreTypes begun → put_scalar s begun ≡ put (scalar s) begun
 scalar_put s [] h = refl
 scalar_put s (elements n ∷ begun) h = refl
@@ -61,7 +53,7 @@ scalar_put s (lanes n packed ∷ begun) h = refl
 scalar_put s (members repr ts ∷ begun) h = refl
 scalar_put s (variants_so_far repr vs ∷ begun) h = absurd h
 scalar_put s (variant repr vs d ts ∷ begun) h = refl
-scalar_put s (coroutine_with parts ∷ begun) h = scalar_put_part s parts begun h
+scalar_put s (coroutine_with parts ∷ begun) h = refl
 scalar_put s (first ∷ begun) h = absurd h
 scalar_put s (second a ∷ begun) h = absurd h
 scalar_put s (range ∷ begun) h = absurd h

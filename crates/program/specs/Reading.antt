@@ -84,6 +84,12 @@ waiting want begun = record { want = want; begun = begun; tree = None }
 abbrev pub start : State
 start = waiting want.Tree []
 
+-- a type more in the part of a coroutine that is begun: types come in its prefix and among its locals alone
+abbrev pub with_type : Tree → Parts → Parts
+with_type t (in_prefix ts) = in_prefix (ts ++ t ∷ [])
+with_type t (in_locals ps ts) = in_locals ps (ts ++ t ∷ [])
+with_type t parts = parts
+
 -- a complete type goes into the innermost type that is begun, and completes it where that is an array or a vector
 abbrev pub put : Tree → List Begun → State
 put t [] = record { want = want.End; begun = []; tree = Some t }
@@ -92,8 +98,7 @@ put t (lanes n packed ∷ begun) = put (vector n packed t) begun
 put t (fields asked ts ∷ begun) = waiting want.Tree (fields asked (ts ++ t ∷ []) ∷ begun)
 put t (members repr ts ∷ begun) = waiting want.Tree (members repr (ts ++ t ∷ []) ∷ begun)
 put t (variant repr vs d ts ∷ begun) = waiting want.Tree (variant repr vs d (ts ++ t ∷ []) ∷ begun)
-put t (coroutine_with (in_prefix ts) ∷ begun) = waiting want.Tree (coroutine_with (in_prefix (ts ++ t ∷ [])) ∷ begun)
-put t (coroutine_with (in_locals ps ts) ∷ begun) = waiting want.Tree (coroutine_with (in_locals ps (ts ++ t ∷ [])) ∷ begun)
+put t (coroutine_with parts ∷ begun) = waiting want.Tree (coroutine_with (with_type t parts) ∷ begun)
 put t (_ ∷ begun) = put t begun
 
 -- a complete scalar goes into a pair that waits for one, or is a type

@@ -2,7 +2,7 @@
 
 ghost use Rattle.std.specs.Prelude.{◌≡◌, ◌∷◌, IfOk, IfErr};
 ghost use Rattle.rustc_abi.specs.Tree.{tree_of, vector};
-ghost use Rattle.program.specs.Reading.{begun_by, begun_in, coroutine_with, parts_by, put, put_primitive, put_scalar, state_of, waiting};
+ghost use Rattle.program.specs.Reading.{begun_by, begun_in, coroutine_with, parts_by, put, put_primitive, put_scalar, state_of, waiting, with_type};
 
 use crate::fault::Fault;
 use crate::repr_text::StructRepr;
@@ -170,6 +170,24 @@ fn vector(
     })
 }
 
+/// A coroutine's parts with one type more in the part that is begun.
+fn with_type(tree: TypeTree, parts: CoroutineParts) -> Result<CoroutineParts, Fault>
+    ensures ok { IfOk result (λ more. parts_by more ≡ with_type (tree_of tree) (parts_by parts)) }
+    ensures err { IfErr result (λ fault. fault ≡ Fault.OutOfMemory) }
+{
+    match parts {
+        CoroutineParts::Prefix(mut prefix) => {
+            prefix.push(tree)?;
+            Ok(CoroutineParts::Prefix(prefix))
+        }
+        CoroutineParts::Locals(prefix, mut locals) => {
+            locals.push(tree)?;
+            Ok(CoroutineParts::Locals(prefix, locals))
+        }
+        other => Ok(other),
+    }
+}
+
 /// Puts a complete type into the innermost type that is begun.
 pub(crate) fn put(alloc: Global, tree: TypeTree, begun: Vec<Open>) -> Result<Reader, Fault>
     ensures ok { IfOk result (λ reader. state_of reader ≡ put (tree_of tree) (begun_in begun.items)) }
@@ -179,12 +197,8 @@ pub(crate) fn put(alloc: Global, tree: TypeTree, begun: Vec<Open>) -> Result<Rea
     let mut begun = begun;
     while let Some(top) = begun.pop() {
         match top {
-            Open::Elements(count) => {
-                tree = TypeTree::Array(count, Box::new(alloc, tree)?);
-            }
-            Open::Lanes(lanes, packed) => {
-                tree = vector(alloc, lanes, packed, tree)?;
-            }
+            Open::Elements(count) => tree = TypeTree::Array(count, Box::new(alloc, tree)?),
+            Open::Lanes(lanes, packed) => tree = vector(alloc, lanes, packed, tree)?,
             Open::Fields(repr, mut fields) => {
                 fields.push(tree)?;
                 return waiting_in(Want::Tree, Open::Fields(repr, fields), begun);
@@ -198,14 +212,8 @@ pub(crate) fn put(alloc: Global, tree: TypeTree, begun: Vec<Open>) -> Result<Rea
                 let top = Open::Variant(repr, done, discriminant, fields);
                 return waiting_in(Want::Tree, top, begun);
             }
-            Open::Coroutine(CoroutineParts::Prefix(mut prefix)) => {
-                prefix.push(tree)?;
-                let top = Open::Coroutine(CoroutineParts::Prefix(prefix));
-                return waiting_in(Want::Tree, top, begun);
-            }
-            Open::Coroutine(CoroutineParts::Locals(prefix, mut locals)) => {
-                locals.push(tree)?;
-                let top = Open::Coroutine(CoroutineParts::Locals(prefix, locals));
+            Open::Coroutine(parts) => {
+                let top = Open::Coroutine(with_type(tree, parts)?);
                 return waiting_in(Want::Tree, top, begun);
             }
             _ => {}
