@@ -8,10 +8,10 @@ use Rattle.abi_base.specs.declared.primitive.Primitive.TheVariants.{Int, Pointer
 use Rattle.abi_scalar.specs.declared.repr.ReprOptions.{ReprOptions}
 use Rattle.abi_scalar.specs.declared.scalar.Scalar.{Scalar}
 use Rattle.abi_scalar.specs.declared.scalar.Scalar.TheVariants.{Initialized}
-use Rattle.rustc_abi.specs.Tree.{scalar, pair, struct, enum, Trees, no_trees, more_trees, Variants, no_variants, more_variants}
+use Rattle.rustc_abi.specs.Tree.{scalar, pair, struct, enum, coroutine, Trees, no_trees, more_trees, Variants, no_variants, more_variants}
 use Rattle.program.specs.declared.repr_text.StructRepr.{StructRepr}
 use Rattle.program.specs.Scalars.{a_bool, full}
-use Rattle.program.specs.Written.{IsNumeral, IsScalarWrittenAs, IsWrittenAs, AreWrittenAs, IsLineOf, a_scalar, a_pair, a_struct, an_enum, no_more, one_more, AreVariantsWrittenAs, no_variant_more, one_variant_more, IsDiscriminant, not_negative, negative, an_integer, a_pointer_in, every_number, the_bool, a_range, no_words, a_space, an_opening, a_closing, a_word}
+use Rattle.program.specs.Written.{IsNumeral, IsScalarWrittenAs, IsWrittenAs, AreWrittenAs, IsLineOf, a_scalar, a_pair, a_struct, an_enum, a_coroutine, no_more, one_more, AreVariantsWrittenAs, no_variant_more, one_variant_more, IsDiscriminant, not_negative, negative, in_parentheses, no_number_more, one_number_more, AreStatesWrittenAs, no_state_more, one_state_more, AreConflictsWrittenAs, no_conflict_more, one_conflict_more, an_integer, a_pointer_in, every_number, the_bool, a_range, no_words, a_space, an_opening, a_closing, a_word}
 
 -- `C,tail`
 abbrev asked : StructRepr
@@ -80,6 +80,35 @@ module _ (dl : TargetDataLayout) where
   -- an enum of two variants
   pub enum_written : IsWrittenAs dl (enum asked_by_c two_variants) (codes "enum" ∷ codes "C" ∷ codes "(" ∷ (variant_words ++ codes ")" ∷ []))
   enum_written = an_enum asked_by_c (codes "C") two_variants variant_words refl variants_written
+
+-- `( ) ( 1 02 )`: two states, the first of which has no local
+abbrev state_words : List (List ℕ)
+state_words = in_parentheses [] ++ (in_parentheses (codes "1" ∷ codes "02" ∷ []) ++ [])
+
+two : IsNumeral 64 2 (codes "02")
+two = (omega arith, 1, ap (λ ds. 48 ∷ ds) (sym (decimal_digit 2 (omega arith))))
+
+states_written : AreStatesWrittenAs ([] ∷ (1 ∷ 2 ∷ []) ∷ []) state_words
+states_written =
+    one_state_more [] ((1 ∷ 2 ∷ []) ∷ []) [] (in_parentheses (codes "1" ∷ codes "02" ∷ []) ++ []) no_number_more
+    (one_state_more (1 ∷ 2 ∷ []) [] (codes "1" ∷ codes "02" ∷ []) []
+    (one_number_more 1 (2 ∷ []) (codes "1") (codes "02" ∷ []) (digit_is_numeral 64 1 (omega arith) (omega arith)) (one_number_more 2 [] (codes "02") [] two no_number_more)) no_state_more)
+
+-- `1 02`: one conflict, of row 1 and column 2
+conflict_written : AreConflictsWrittenAs ((1, 2) ∷ []) (codes "1" ∷ codes "02" ∷ [])
+conflict_written = one_conflict_more 1 2 [] (codes "1") (codes "02") [] (digit_is_numeral 64 1 (omega arith) (omega arith)) two no_conflict_more
+
+-- `coroutine ( ) ( bool ) ( ( ) ( 1 02 ) ) ( 1 02 )`, word by word
+abbrev coroutine_words : List (List ℕ)
+coroutine_words =
+    codes "coroutine" ∷ codes "(" ∷ codes ")" ∷ codes "(" ∷ codes "bool" ∷ codes ")" ∷ codes "(" ∷ codes "(" ∷ codes ")" ∷ codes "(" ∷ codes "1" ∷ codes "02" ∷ codes ")" ∷ codes ")"
+    ∷ codes "(" ∷ codes "1" ∷ codes "02" ∷ codes ")" ∷ []
+
+-- a coroutine, whose indices needn't be those of its locals
+pub coroutine_written : (dl : TargetDataLayout) → IsWrittenAs dl (coroutine no_trees (more_trees (scalar a_bool) no_trees) ([] ∷ (1 ∷ 2 ∷ []) ∷ []) ((1, 2) ∷ [])) coroutine_words
+coroutine_written dl =
+    a_coroutine no_trees (more_trees (scalar a_bool) no_trees) ([] ∷ (1 ∷ 2 ∷ []) ∷ []) ((1, 2) ∷ []) [] (codes "bool" ∷ []) state_words (codes "1" ∷ codes "02" ∷ []) no_more
+    (one_more (scalar a_bool) no_trees (codes "bool" ∷ []) [] (a_scalar a_bool (codes "bool" ∷ []) the_bool) no_more) states_written conflict_written
 
 -- a line with no spaces beside parentheses, and two within
 pub stands_in_line : IsLineOf (codes "struct" ∷ codes "C,tail" ∷ codes "(" ∷ codes "u8" ∷ codes ")" ∷ []) (codes "struct  C,tail(u8)")

@@ -18,7 +18,7 @@ use Rattle.program.specs.declared.fault.Fault.TheVariants.{OutOfMemory}
 use Rattle.program.specs.Printing.{integer_text, float_text}
 use Rattle.program.specs.Reading.{Agrees, read}
 use Rattle.program.specs.Words.{begins_plain, grown, is_plain, words_of}
-use Rattle.program.specs.Written.{IsNumeral, IsPrimitiveWrittenAs, IsScalarWrittenAs, IsWrittenAs, AreWrittenAs, an_integer, an_index, a_float, a_pointer, a_pointer_in, every_number, the_bool, the_char, the_ref, a_range, of_a_union, a_scalar, a_pair, no_value, one_value, an_array, a_vector, a_struct, a_union, an_enum, no_more, one_more, AreVariantsWrittenAs, no_variant_more, one_variant_more, IsDiscriminant, not_negative, negative, index_text, IsLineOf, no_words, a_space, an_opening, a_closing, a_word, nesting, vector_word}
+use Rattle.program.specs.Written.{IsNumeral, IsPrimitiveWrittenAs, IsScalarWrittenAs, IsWrittenAs, AreWrittenAs, an_integer, an_index, a_float, a_pointer, a_pointer_in, every_number, the_bool, the_char, the_ref, a_range, of_a_union, a_scalar, a_pair, no_value, one_value, an_array, a_vector, a_struct, a_union, an_enum, a_coroutine, no_more, one_more, AreVariantsWrittenAs, no_variant_more, one_variant_more, IsDiscriminant, not_negative, negative, in_parentheses, AreNumerals, no_number_more, one_number_more, AreStatesWrittenAs, no_state_more, one_state_more, AreConflictsWrittenAs, no_conflict_more, one_conflict_more, index_text, IsLineOf, no_words, a_space, an_opening, a_closing, a_word, nesting, vector_word}
 use Rattle.program.proofs.Numerals.{numeral_digits}
 use Rattle.program.proofs.ReprWords.{IsPlain, both, digit_plain, struct_repr_plain, union_repr_plain}
 use Rattle.program.proofs.Text.{words_alone, words_grow}
@@ -80,6 +80,23 @@ discriminant_word d w (negative n text some small is) =
     let digits = numeral_digits 128 n text (omega arith) is in
     inl (digits_plain text digits.1)
 
+parenthesis_words : (words : List (List ℕ)) → AreWords words → AreWords (in_parentheses words)
+parenthesis_words words h = (inr (inl refl), words_append words (codes ")" ∷ []) h (inr (inr refl), tt))
+
+numerals_words : (ns : List ℕ) (words : List (List ℕ)) → AreNumerals ns words → AreWords words
+numerals_words ns words no_number_more = tt
+numerals_words ns words (one_number_more n others text more said are) = (numeral_word 64 n text (omega arith) said, numerals_words others more are)
+
+states_words : (ss : List (List ℕ)) (words : List (List ℕ)) → AreStatesWrittenAs ss words → AreWords words
+states_words ss words no_state_more = tt
+states_words ss words (one_state_more s others text more are follow) =
+    words_append (in_parentheses text) more (parenthesis_words text (numerals_words s text are)) (states_words others more follow)
+
+conflicts_words : (cs : List (ℕ × ℕ)) (words : List (List ℕ)) → AreConflictsWrittenAs cs words → AreWords words
+conflicts_words cs words no_conflict_more = tt
+conflicts_words cs words (one_conflict_more row column others one two more is also follow) =
+    (numeral_word 64 row one (omega arith) is, (numeral_word 64 column two (omega arith) also, conflicts_words others more follow))
+
 integer_word : (width : Integer) (signed : Bool) → IsWord (integer_text width signed)
 integer_word I8 true = inl refl
 integer_word I8 false = inl refl
@@ -139,6 +156,12 @@ module _ (dl : TargetDataLayout) where
         (inl refl, (plain_word text (union_repr_plain text repr said), (inr (inl refl), words_append more (codes ")" ∷ []) (each_words ts more are) (inr (inr refl), tt))))
     tree_words t words (an_enum repr text vs more said are) =
         (inl refl, (plain_word text (union_repr_plain text repr said), (inr (inl refl), words_append more (codes ")" ∷ []) (variants_words vs more are) (inr (inr refl), tt))))
+    tree_words t words (a_coroutine ps ls ss cs prefix locals states conflicts first_types then_types then_states then_conflicts) = (
+      inl refl,
+      words_append (in_parentheses prefix) (in_parentheses locals ++ (in_parentheses states ++ in_parentheses conflicts)) (parenthesis_words prefix (each_words ps prefix first_types))
+          (words_append (in_parentheses locals) (in_parentheses states ++ in_parentheses conflicts) (parenthesis_words locals (each_words ls locals then_types))
+          (words_append (in_parentheses states) (in_parentheses conflicts) (parenthesis_words states (states_words ss states then_states)) (parenthesis_words conflicts (conflicts_words cs conflicts then_conflicts)))),
+    )
 
     each_words : (ts : Trees) (words : List (List ℕ)) → AreWrittenAs dl ts words → AreWords words
     each_words ts words no_more = tt

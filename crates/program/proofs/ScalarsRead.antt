@@ -17,7 +17,7 @@ use Rattle.program.specs.declared.begun.Want.TheVariants as want
 use Rattle.program.specs.declared.scalar_word.ScalarWord.{ScalarWord}
 use Rattle.program.specs.declared.scalar_word.ScalarWord.TheVariants as word
 use Rattle.program.specs.Printing.{integer_text, float_text}
-use Rattle.program.specs.Reading.{Begun, State, elements, lanes, fields, members, variants_so_far, variant, first, second, range, range_of, range_from, union_of, at_end, at_primitive, at_scalar, at_space, at_start, at_type, begin_scalar, is_primitive, next, on_ok, put_primitive, put_scalar, read_from, waiting}
+use Rattle.program.specs.Reading.{Begun, State, elements, lanes, fields, members, variants_so_far, variant, coroutine_with, first, second, range, range_of, range_from, union_of, at_end, at_primitive, at_scalar, at_space, at_start, at_type, begin_scalar, is_primitive, next, on_ok, put_primitive, put_scalar, read_from, waiting}
 use Rattle.program.specs.ScalarWords.{scalar_word}
 use Rattle.program.specs.Scalars.{full}
 use Rattle.program.specs.TypeWords.{other_word, word_with}
@@ -122,6 +122,7 @@ module _ (dl : TargetDataLayout) where
   full_put p (members repr ts ∷ begun) h = refl
   full_put p (variants_so_far repr vs ∷ begun) h = refl
   full_put p (variant repr vs d ts ∷ begun) h = refl
+  full_put p (coroutine_with parts ∷ begun) h = refl
   full_put p (first ∷ begun) h = refl
   full_put p (second a ∷ begun) h = refl
   full_put p (range ∷ begun) h = absurd h

@@ -16,7 +16,7 @@ use Rattle.rustc_abi.specs.Placed.{Placed}
 use Rattle.rustc_abi.specs.Laying.{IsLaying}
 use Rattle.program.specs.declared.answer.Answer.{Answer}
 use Rattle.program.specs.declared.fault.Fault.{Fault}
-use Rattle.program.specs.declared.fault.Fault.TheVariants.{Unreadable, NotYet, TooDeep, OutOfMemory}
+use Rattle.program.specs.declared.fault.Fault.TheVariants.{Unreadable, TooDeep, OutOfMemory}
 use Rattle.program.specs.Lines.{first_line, second_line}
 use Rattle.program.specs.Printing.{type_text}
 use Rattle.program.specs.Reading.{read}
@@ -77,7 +77,6 @@ data_layout_error_name data_layout.OutOfMemory = codes "OutOfMemory"
 
 abbrev pub output_of_fault : Fault → Output
 output_of_fault (Unreadable number) = unreadable number
-output_of_fault NotYet = refused (codes "NotYet")
 output_of_fault TooDeep = refused (codes "TooDeep")
 output_of_fault OutOfMemory = out_of_memory
 

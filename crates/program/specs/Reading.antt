@@ -9,9 +9,9 @@ use Rattle.abi_scalar.specs.declared.scalar.Scalar.{Scalar}
 use Rattle.abi_scalar.specs.declared.scalar.Scalar.TheVariants.{Initialized, Union}
 use Rattle.abi_scalar.specs.declared.repr.ReprOptions.{ReprOptions}
 use Rattle.rustc_abi.specs.declared.tree.TypeTree.{TypeTree}
-use Rattle.rustc_abi.specs.Tree.{Tree, scalar, pair, never, unit, array, vector, struct, union, enum, trees, tree_of, Variants, no_variants, more_variants}
+use Rattle.rustc_abi.specs.Tree.{Tree, scalar, pair, never, unit, array, vector, struct, union, enum, coroutine, trees, tree_of, Variants, no_variants, more_variants}
 use Rattle.program.specs.declared.fault.Fault.{Fault}
-use Rattle.program.specs.declared.fault.Fault.TheVariants.{Unreadable, NotYet, TooDeep, OutOfMemory}
+use Rattle.program.specs.declared.fault.Fault.TheVariants.{Unreadable, TooDeep, OutOfMemory}
 use Rattle.program.specs.declared.scalar_word.ScalarWord.{ScalarWord}
 use Rattle.program.specs.declared.scalar_word.ScalarWord.TheVariants as word
 use Rattle.program.specs.declared.type_word.TypeWord.{TypeWord}
@@ -19,14 +19,32 @@ use Rattle.program.specs.declared.type_word.TypeWord.TheVariants as type
 use Rattle.program.specs.declared.repr_text.StructRepr.{StructRepr}
 use Rattle.program.specs.declared.begun.Want.{Want}
 use Rattle.program.specs.declared.begun.Want.TheVariants as want
+use Rattle.program.specs.declared.begun.CoroutineWant.{CoroutineWant}
+use Rattle.program.specs.declared.begun.CoroutineWant.TheVariants as part
 use Rattle.program.specs.declared.begun.Open.{Open}
 use Rattle.program.specs.declared.begun.Open.TheVariants as open_type
+use Rattle.program.specs.declared.begun.CoroutineParts.{CoroutineParts}
+use Rattle.program.specs.declared.begun.CoroutineParts.TheVariants as open_parts
 use Rattle.program.specs.declared.begun.Reader.{Reader}
 use Rattle.program.specs.Numbers.{discriminant_in, number_in}
 use Rattle.program.specs.Repr.{struct_repr, union_repr}
 use Rattle.program.specs.ScalarWords.{scalar_word}
 use Rattle.program.specs.TypeWords.{type_word}
 use Rattle.program.specs.Scalars.{a_bool, a_char, a_ref, default_pointer, full, index_primitive}
+
+-- the parts so far of a coroutine that is begun: prefix fields, locals, for each state the indices of its locals, and conflicts,
+-- each by its row and its column
+pub data Parts : Type 0 where
+  -- within the prefix fields
+  in_prefix : List Tree → Parts
+  -- within the locals
+  in_locals : (prefix : List Tree) → List Tree → Parts
+  -- between the states, with those so far
+  between_states : (prefix locals : List Tree) → List (List ℕ) → Parts
+  -- within a state: the states before it, and its own indices so far
+  in_state : (prefix locals : List Tree) → List (List ℕ) → (indices : List ℕ) → Parts
+  -- within the conflicts
+  in_conflicts : (prefix locals : List Tree) → (states : List (List ℕ)) → List (ℕ × ℕ) → Parts
 
 -- a type, or a scalar, that is begun
 pub data Begun : Type 0 where
@@ -42,6 +60,8 @@ pub data Begun : Type 0 where
   variants_so_far : ReprOptions → List (ℕ × List Tree) → Begun
   -- an enum within a variant: the variants before it, its discriminant, and its fields so far
   variant : ReprOptions → List (ℕ × List Tree) → (discriminant : ℕ) → List Tree → Begun
+  -- a coroutine, with its parts so far
+  coroutine_with : Parts → Begun
   -- a pair that waits for its first scalar, or its second
   first : Begun
   second : Scalar → Begun
@@ -64,6 +84,12 @@ waiting want begun = record { want = want; begun = begun; tree = None }
 abbrev pub start : State
 start = waiting want.Tree []
 
+-- a type more in the part of a coroutine that is begun: types come in its prefix and among its locals alone
+abbrev pub with_type : Tree → Parts → Parts
+with_type t (in_prefix ts) = in_prefix (ts ++ t ∷ [])
+with_type t (in_locals ps ts) = in_locals ps (ts ++ t ∷ [])
+with_type t parts = parts
+
 -- a complete type goes into the innermost type that is begun, and completes it where that is an array or a vector
 abbrev pub put : Tree → List Begun → State
 put t [] = record { want = want.End; begun = []; tree = Some t }
@@ -72,6 +98,7 @@ put t (lanes n packed ∷ begun) = put (vector n packed t) begun
 put t (fields asked ts ∷ begun) = waiting want.Tree (fields asked (ts ++ t ∷ []) ∷ begun)
 put t (members repr ts ∷ begun) = waiting want.Tree (members repr (ts ++ t ∷ []) ∷ begun)
 put t (variant repr vs d ts ∷ begun) = waiting want.Tree (variant repr vs d (ts ++ t ∷ []) ∷ begun)
+put t (coroutine_with parts ∷ begun) = waiting want.Tree (coroutine_with (with_type t parts) ∷ begun)
 put t (_ ∷ begun) = put t begun
 
 -- a complete scalar goes into a pair that waits for one, or is a type
@@ -85,12 +112,21 @@ abbrev pub variants_in : List (ℕ × List Tree) → Variants
 variants_in [] = no_variants
 variants_in (v ∷ vs) = more_variants v.0 (trees v.1) (variants_in vs)
 
--- a closing parenthesis completes a struct, a union, an enum or a variant of one
+-- a closing parenthesis ends a part of a coroutine; the conflicts are the last, and end the coroutine
+abbrev pub part_closed : Parts → List Begun → State
+part_closed (in_prefix ps) begun = waiting (want.Coroutine part.TypesOpening) (coroutine_with (in_locals ps []) ∷ begun)
+part_closed (in_locals ps ls) begun = waiting (want.Coroutine part.StatesOpening) (coroutine_with (between_states ps ls []) ∷ begun)
+part_closed (between_states ps ls ss) begun = waiting (want.Coroutine part.ConflictsOpening) (coroutine_with (in_conflicts ps ls ss []) ∷ begun)
+part_closed (in_state ps ls ss s) begun = waiting (want.Coroutine part.State) (coroutine_with (between_states ps ls (ss ++ s ∷ [])) ∷ begun)
+part_closed (in_conflicts ps ls ss cs) begun = put (coroutine (trees ps) (trees ls) ss cs) begun
+
+-- a closing parenthesis completes a struct, a union, an enum or a variant of one, or ends a part of a coroutine
 abbrev pub closed : (number : ℕ) → List Begun → Result State Fault
 closed number (fields asked ts ∷ begun) = Ok (put (struct asked.repr asked.always_sized (trees ts)) begun)
 closed number (members repr ts ∷ begun) = Ok (put (union repr (trees ts)) begun)
 closed number (variant repr vs d ts ∷ begun) = Ok (waiting want.Discriminant (variants_so_far repr (vs ++ (d, ts) ∷ []) ∷ begun))
 closed number (variants_so_far repr vs ∷ begun) = Ok (put (enum repr (variants_in vs)) begun)
+closed number (coroutine_with parts ∷ begun) = Ok (part_closed parts begun)
 closed number _ = Err (Unreadable number)
 
 abbrev pub at_count : (number : ℕ) → List Begun → Option ℕ → Result State Fault
@@ -131,6 +167,43 @@ at_discriminant number false begun (Some d) = Ok (waiting (want.VariantOpening d
 abbrev pub at_variant_opening : (number : ℕ) → (discriminant : ℕ) → List Begun → (opens : Bool) → Result State Fault
 at_variant_opening number d (variants_so_far repr vs ∷ begun) true = Ok (waiting want.Tree (variant repr vs d [] ∷ begun))
 at_variant_opening number d _ _ = Err (Unreadable number)
+
+-- a parenthesis opens a part of a coroutine, in which this comes next
+abbrev pub at_part_opening : (number : ℕ) → Want → List Begun → (opens : Bool) → Result State Fault
+at_part_opening number w begun opens = if opens then Ok (waiting w begun) else Err (Unreadable number)
+
+-- where a state may come, a closing parenthesis ends the states
+abbrev pub at_state : (number : ℕ) → (closes opens : Bool) → List Begun → Result State Fault
+at_state number true opens begun = closed number begun
+at_state number false true (coroutine_with (between_states ps ls ss) ∷ begun) = Ok (waiting (want.Coroutine part.Local) (coroutine_with (in_state ps ls ss []) ∷ begun))
+at_state number false _ _ = Err (Unreadable number)
+
+-- where the index of a local may come, a closing parenthesis ends the state
+abbrev pub at_local : (number : ℕ) → (closes : Bool) → List Begun → Option ℕ → Result State Fault
+at_local number true begun _ = closed number begun
+at_local number false (coroutine_with (in_state ps ls ss s) ∷ begun) (Some n) = Ok (waiting (want.Coroutine part.Local) (coroutine_with (in_state ps ls ss (s ++ n ∷ [])) ∷ begun))
+at_local number false _ _ = Err (Unreadable number)
+
+-- where a conflict may come, a closing parenthesis ends the coroutine
+abbrev pub at_row : (number : ℕ) → (closes : Bool) → List Begun → Option ℕ → Result State Fault
+at_row number true begun _ = closed number begun
+at_row number false begun None = Err (Unreadable number)
+at_row number false begun (Some row) = Ok (waiting (want.Coroutine (part.Column row)) begun)
+
+abbrev pub at_column : (number : ℕ) → (row : ℕ) → List Begun → Option ℕ → Result State Fault
+at_column number row (coroutine_with (in_conflicts ps ls ss cs) ∷ begun) (Some column) =
+    Ok (waiting (want.Coroutine part.Row) (coroutine_with (in_conflicts ps ls ss (cs ++ (row, column) ∷ [])) ∷ begun))
+at_column number row _ _ = Err (Unreadable number)
+
+-- what has been read with the next word of a coroutine, where no type may come
+abbrev pub next_in_coroutine : (number : ℕ) → List Begun → (word : List ℕ) → CoroutineWant → Result State Fault
+next_in_coroutine number begun w part.TypesOpening = at_part_opening number want.Tree begun (bytes_eq w (codes "("))
+next_in_coroutine number begun w part.StatesOpening = at_part_opening number (want.Coroutine part.State) begun (bytes_eq w (codes "("))
+next_in_coroutine number begun w part.State = at_state number (bytes_eq w (codes ")")) (bytes_eq w (codes "(")) begun
+next_in_coroutine number begun w part.Local = at_local number (bytes_eq w (codes ")")) begun (number_in 64 w)
+next_in_coroutine number begun w part.ConflictsOpening = at_part_opening number (want.Coroutine part.Row) begun (bytes_eq w (codes "("))
+next_in_coroutine number begun w part.Row = at_row number (bytes_eq w (codes ")")) begun (number_in 64 w)
+next_in_coroutine number begun w (part.Column row) = at_column number row begun (number_in 64 w)
 
 abbrev pub at_start : (number : ℕ) → List Begun → Option ℕ → Result State Fault
 at_start number (range_of p ∷ begun) (Some n) = Ok (waiting want.RangeEnd (range_from p n ∷ begun))
@@ -182,22 +255,22 @@ module _ (dl : TargetDataLayout) where
   at_space number begun (Some n) = Ok (put_primitive (Pointer (record { 0 = n })) begun)
 
   -- a word that begins a type
-  abbrev pub begin : List Begun → TypeWord → Result State Fault
-  begin begun (type.Scalar w) = Ok (begin_scalar begun w)
-  begin begun type.Pair = Ok (waiting want.Scalar (first ∷ begun))
-  begin begun type.Never = Ok (put never begun)
-  begin begun type.Unit = Ok (put unit begun)
-  begin begun type.Array = Ok (waiting want.Count begun)
-  begin begun (type.Vector packed) = Ok (waiting (want.Lanes packed) begun)
-  begin begun type.Struct = Ok (waiting want.Repr begun)
-  begin begun type.Union = Ok (waiting want.UnionRepr begun)
-  begin begun type.Enum = Ok (waiting want.EnumRepr begun)
-  begin begun _ = Err NotYet
+  abbrev pub begin : List Begun → TypeWord → State
+  begin begun (type.Scalar w) = begin_scalar begun w
+  begin begun type.Pair = waiting want.Scalar (first ∷ begun)
+  begin begun type.Never = put never begun
+  begin begun type.Unit = put unit begun
+  begin begun type.Array = waiting want.Count begun
+  begin begun (type.Vector packed) = waiting (want.Lanes packed) begun
+  begin begun type.Struct = waiting want.Repr begun
+  begin begun type.Union = waiting want.UnionRepr begun
+  begin begun type.Enum = waiting want.EnumRepr begun
+  begin begun type.Coroutine = waiting (want.Coroutine part.TypesOpening) (coroutine_with (in_prefix []) ∷ begun)
 
   -- no type stands in more than 200 others
-  abbrev pub at_type : (number : ℕ) → (closes : Bool) → List Begun → TypeWord → Result State Fault
-  at_type number closes begun type.Other = if closes then closed number begun else Err (Unreadable number)
-  at_type number closes begun w = if nat_lt 200 (length begun) then Err TooDeep else begin begun w
+  abbrev pub at_type : (number : ℕ) → (closes : Bool) → List Begun → Option TypeWord → Result State Fault
+  at_type number closes begun None = if closes then closed number begun else Err (Unreadable number)
+  at_type number closes begun (Some w) = if nat_lt 200 (length begun) then Err TooDeep else Ok (begin begun w)
 
   -- what has been read with the next word, of this number
   abbrev pub next : (number : ℕ) → List Begun → (word : List ℕ) → Want → Result State Fault
@@ -217,6 +290,7 @@ module _ (dl : TargetDataLayout) where
   next number begun w (want.EnumOpening repr) = at_enum_opening number repr begun (bytes_eq w (codes "("))
   next number begun w want.Discriminant = at_discriminant number (bytes_eq w (codes ")")) begun (discriminant_in w)
   next number begun w (want.VariantOpening d) = at_variant_opening number d begun (bytes_eq w (codes "("))
+  next number begun w (want.Coroutine next_part) = next_in_coroutine number begun w next_part
   next number begun w want.End = Err (Unreadable number)
 
   abbrev pub step : (number : ℕ) → State → (word : List ℕ) → Result State Fault
@@ -244,6 +318,18 @@ read dl ws = read_from dl 1 start ws
 abbrev pub variant_by : ℕ × Vec TypeTree Global → ℕ × List Tree
 variant_by v = (v.0, map tree_of v.1.items)
 
+-- what the program keeps of a coroutine's state
+abbrev pub indices_by : Vec ℕ Global → List ℕ
+indices_by s = s.items
+
+-- what the program keeps of a coroutine that is begun
+abbrev pub parts_by : CoroutineParts → Parts
+parts_by (open_parts.Prefix ps) = in_prefix (map tree_of ps.items)
+parts_by (open_parts.Locals ps ls) = in_locals (map tree_of ps.items) (map tree_of ls.items)
+parts_by (open_parts.States ps ls ss) = between_states (map tree_of ps.items) (map tree_of ls.items) (map indices_by ss.items)
+parts_by (open_parts.State ps ls ss s) = in_state (map tree_of ps.items) (map tree_of ls.items) (map indices_by ss.items) s.items
+parts_by (open_parts.Conflicts ps ls ss cs) = in_conflicts (map tree_of ps.items) (map tree_of ls.items) (map indices_by ss.items) cs.items
+
 -- what the program keeps of a type that is begun
 abbrev pub begun_by : Open → Begun
 begun_by (open_type.Elements count) = elements count
@@ -252,6 +338,7 @@ begun_by (open_type.Fields asked ts) = fields asked (map tree_of ts.items)
 begun_by (open_type.Members repr ts) = members repr (map tree_of ts.items)
 begun_by (open_type.Variants repr vs) = variants_so_far repr (map variant_by vs.items)
 begun_by (open_type.Variant repr vs d ts) = variant repr (map variant_by vs.items) d (map tree_of ts.items)
+begun_by (open_type.Coroutine parts) = coroutine_with (parts_by parts)
 begun_by open_type.First = first
 begun_by (open_type.Second a) = second a
 begun_by open_type.Range = range

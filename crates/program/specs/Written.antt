@@ -9,7 +9,7 @@ use Rattle.abi_base.specs.declared.primitive.Primitive.TheVariants.{Int, Float, 
 use Rattle.abi_scalar.specs.declared.repr.ReprOptions.{ReprOptions}
 use Rattle.abi_scalar.specs.declared.scalar.Scalar.{Scalar}
 use Rattle.abi_scalar.specs.declared.scalar.Scalar.TheVariants.{Initialized, Union}
-use Rattle.rustc_abi.specs.Tree.{Tree, scalar, pair, never, unit, array, vector, struct, union, enum, Trees, no_trees, more_trees, Variants, no_variants, more_variants}
+use Rattle.rustc_abi.specs.Tree.{Tree, scalar, pair, never, unit, array, vector, struct, union, enum, coroutine, Trees, no_trees, more_trees, Variants, no_variants, more_variants}
 use Rattle.program.specs.declared.repr_text.StructRepr.{StructRepr}
 use Rattle.program.specs.Printing.{integer_text, float_text}
 use Rattle.program.specs.Repr.{struct_repr, union_repr}
@@ -57,8 +57,30 @@ pub data IsScalarWrittenAs (dl : TargetDataLayout) : Scalar → (words : List (L
 abbrev pub vector_word : (packed : Bool) → List ℕ
 vector_word packed = if packed then codes "psimd" else codes "simd"
 
+-- the words, between parentheses
+abbrev pub in_parentheses : (words : List (List ℕ)) → List (List ℕ)
+in_parentheses words = codes "(" ∷ (words ++ codes ")" ∷ [])
+
+-- the words say the numbers, one after the other
+pub data AreNumerals : List ℕ → (words : List (List ℕ)) → Type 0 where
+  no_number_more : AreNumerals [] []
+  one_number_more : (n : ℕ) (ns : List ℕ) (word : List ℕ) (rest : List (List ℕ)) → IsNumeral 64 n word → AreNumerals ns rest
+      → AreNumerals (n ∷ ns) (word ∷ rest)
+
+-- the words write a coroutine's states, one after the other: the indices of each one's locals, between parentheses
+pub data AreStatesWrittenAs : (states : List (List ℕ)) → (words : List (List ℕ)) → Type 0 where
+  no_state_more : AreStatesWrittenAs [] []
+  one_state_more : (indices : List ℕ) (states : List (List ℕ)) (words rest : List (List ℕ)) → AreNumerals indices words → AreStatesWrittenAs states rest
+      → AreStatesWrittenAs (indices ∷ states) (in_parentheses words ++ rest)
+
+-- the words write a coroutine's conflicts, one after the other: the row of each, and its column
+pub data AreConflictsWrittenAs : (conflicts : List (ℕ × ℕ)) → (words : List (List ℕ)) → Type 0 where
+  no_conflict_more : AreConflictsWrittenAs [] []
+  one_conflict_more : (row column : ℕ) (conflicts : List (ℕ × ℕ)) (first second : List ℕ) (rest : List (List ℕ)) → IsNumeral 64 row first → IsNumeral 64 column second
+      → AreConflictsWrittenAs conflicts rest → AreConflictsWrittenAs ((row, column) ∷ conflicts) (first ∷ second ∷ rest)
+
 mutual
-  -- the words write the type; no words write a coroutine
+  -- the words write the type
   pub data IsWrittenAs (dl : TargetDataLayout) : Tree → (words : List (List ℕ)) → Type 0 where
     a_scalar : (s : Scalar) (words : List (List ℕ)) → IsScalarWrittenAs dl s words → IsWrittenAs dl (scalar s) words
     a_pair : (a b : Scalar) (first second : List (List ℕ)) → IsScalarWrittenAs dl a first → IsScalarWrittenAs dl b second
@@ -77,6 +99,11 @@ mutual
     -- an enum, with the options that the word of its repr asks for
     an_enum : (repr : ReprOptions) (word : List ℕ) (vs : Variants) (words : List (List ℕ)) → union_repr word ≡ Some repr → AreVariantsWrittenAs dl vs words
         → IsWrittenAs dl (enum repr vs) (codes "enum" ∷ word ∷ codes "(" ∷ (words ++ codes ")" ∷ []))
+    -- a coroutine: its prefix fields, its locals, its states and its conflicts
+    a_coroutine : (ps ls : Trees) (ss : List (List ℕ)) (cs : List (ℕ × ℕ)) (prefix locals states conflicts : List (List ℕ))
+        → AreWrittenAs dl ps prefix → AreWrittenAs dl ls locals → AreStatesWrittenAs ss states → AreConflictsWrittenAs cs conflicts
+        → IsWrittenAs dl (coroutine ps ls ss cs)
+        (codes "coroutine" ∷ (in_parentheses prefix ++ (in_parentheses locals ++ (in_parentheses states ++ in_parentheses conflicts))))
 
   -- the words write the types, one after the other
   pub data AreWrittenAs (dl : TargetDataLayout) : Trees → (words : List (List ℕ)) → Type 0 where
@@ -92,13 +119,14 @@ mutual
         → AreVariantsWrittenAs dl (more_variants discriminant ts vs) (word ∷ codes "(" ∷ (words ++ codes ")" ∷ rest))
 
 abbrev mutual
-  -- how many types stand around the one that is nested deepest; what no words write counts as a type with none in it
+  -- how many types stand around the one that is nested deepest
   pub nesting : Tree → ℕ
   nesting (array count t) = nesting t + 1
   nesting (vector lanes packed t) = nesting t + 1
   nesting (struct repr sized ts) = nesting_of_fields ts
   nesting (union repr ts) = nesting_of_fields ts
   nesting (enum repr vs) = nesting_of_variants vs
+  nesting (coroutine prefix locals states conflicts) = max (nesting_of_fields prefix) (nesting_of_fields locals)
   nesting _ = 0
 
   pub nesting_of_fields : Trees → ℕ

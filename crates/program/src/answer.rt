@@ -75,7 +75,6 @@ fn answer_fault(alloc: Global, fault: Fault) -> Result<Answer, AllocError>
 {
     match fault {
         Fault::Unreadable(number) => unreadable(alloc, number),
-        Fault::NotYet => refused(alloc, "NotYet"),
         Fault::TooDeep => refused(alloc, "TooDeep"),
         Fault::OutOfMemory => refused(alloc, "OutOfMemory"),
     }

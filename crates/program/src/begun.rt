@@ -1,8 +1,8 @@
 //! What has been read of a type.
 
-ghost use Rattle.std.specs.Prelude.{◌≡◌, IfOk, IfErr};
+ghost use Rattle.std.specs.Prelude.{◌≡◌, ◌∷◌, IfOk, IfErr};
 ghost use Rattle.rustc_abi.specs.Tree.{tree_of, vector};
-ghost use Rattle.program.specs.Reading.{begun_in, put, put_primitive, put_scalar, state_of, waiting};
+ghost use Rattle.program.specs.Reading.{begun_by, begun_in, coroutine_with, parts_by, put, put_primitive, put_scalar, state_of, waiting, with_type};
 
 use crate::fault::Fault;
 use crate::repr_text::StructRepr;
@@ -11,6 +11,25 @@ use abi_base::{Primitive, TargetDataLayout};
 use abi_scalar::{ReprOptions, Scalar, WrappingRange};
 use rustc_abi::TypeTree;
 use std::alloc::{AllocError, Global};
+
+/// What comes next in a coroutine's text, where no type may come.
+#[derive(Clone, Copy, PartialEq, Eq, Debug)]
+pub(crate) enum CoroutineWant {
+    /// The prefix fields, or the locals.
+    TypesOpening,
+    /// The states.
+    StatesOpening,
+    /// The next state.
+    State,
+    /// The index of a state's next local.
+    Local,
+    /// The conflicts.
+    ConflictsOpening,
+    /// The row of the next conflict.
+    Row,
+    /// The column of a conflict with this row.
+    Column(u64),
+}
 
 /// What comes next in a type's text.
 #[derive(Clone, Copy, PartialEq, Eq, Debug)]
@@ -42,8 +61,24 @@ pub(crate) enum Want {
     Discriminant,
     /// The fields of a variant with this discriminant.
     VariantOpening(u128),
+    Coroutine(CoroutineWant),
     /// Nothing: the type is complete.
     End,
+}
+
+/// The parts so far of a coroutine that is begun.
+#[derive(Drop)]
+pub(crate) enum CoroutineParts {
+    /// Within the prefix fields.
+    Prefix(Vec<TypeTree>),
+    /// Within the locals: the prefix fields, and the locals so far.
+    Locals(Vec<TypeTree>, Vec<TypeTree>),
+    /// Between the states: the prefix fields, the locals, and for each state so far the indices of its locals.
+    States(Vec<TypeTree>, Vec<TypeTree>, Vec<Vec<u64>>),
+    /// Within a state: the same, and the indices of this state's locals so far.
+    State(Vec<TypeTree>, Vec<TypeTree>, Vec<Vec<u64>>, Vec<u64>),
+    /// Within the conflicts: the prefix fields, the locals, the states, and the rows and columns so far.
+    Conflicts(Vec<TypeTree>, Vec<TypeTree>, Vec<Vec<u64>>, Vec<(u64, u64)>),
 }
 
 /// A type, or a scalar, that is begun.
@@ -61,6 +96,7 @@ pub(crate) enum Open {
     Variants(ReprOptions, Vec<(u128, Vec<TypeTree>)>),
     /// An enum within a variant: the variants before it, its discriminant, and its fields so far.
     Variant(ReprOptions, Vec<(u128, Vec<TypeTree>)>, u128, Vec<TypeTree>),
+    Coroutine(CoroutineParts),
     /// A pair that waits for its first scalar.
     First,
     /// A pair that has its first scalar.
@@ -96,6 +132,28 @@ pub(crate) fn waiting(want: Want, begun: Vec<Open>) -> Reader
     }
 }
 
+/// Waits for something within these types, and within one type or scalar more.
+pub(crate) fn waiting_in(want: Want, top: Open, begun: Vec<Open>) -> Result<Reader, Fault>
+    ensures ok { IfOk result (λ reader. state_of reader ≡ waiting want (begun_by top ∷ begun_in begun.items)) }
+    ensures err { IfErr result (λ fault. fault ≡ Fault.OutOfMemory) }
+{
+    let mut begun = begun;
+    begun.push(top)?;
+    Ok(waiting(want, begun))
+}
+
+/// Waits for something that is no type, within a coroutine with these parts so far.
+pub(crate) fn waiting_for(
+    part: CoroutineWant,
+    parts: CoroutineParts,
+    begun: Vec<Open>,
+) -> Result<Reader, Fault>
+    ensures ok { IfOk result (λ reader. state_of reader ≡ waiting (Want.Coroutine part) (coroutine_with (parts_by parts) ∷ begun_in begun.items)) }
+    ensures err { IfErr result (λ fault. fault ≡ Fault.OutOfMemory) }
+{
+    waiting_in(Want::Coroutine(part), Open::Coroutine(parts), begun)
+}
+
 /// A vector of so many lanes, packed or not.
 fn vector(
     alloc: Global,
@@ -112,6 +170,24 @@ fn vector(
     })
 }
 
+/// A coroutine's parts with one type more in the part that is begun.
+fn with_type(tree: TypeTree, parts: CoroutineParts) -> Result<CoroutineParts, Fault>
+    ensures ok { IfOk result (λ more. parts_by more ≡ with_type (tree_of tree) (parts_by parts)) }
+    ensures err { IfErr result (λ fault. fault ≡ Fault.OutOfMemory) }
+{
+    match parts {
+        CoroutineParts::Prefix(mut prefix) => {
+            prefix.push(tree)?;
+            Ok(CoroutineParts::Prefix(prefix))
+        }
+        CoroutineParts::Locals(prefix, mut locals) => {
+            locals.push(tree)?;
+            Ok(CoroutineParts::Locals(prefix, locals))
+        }
+        other => Ok(other),
+    }
+}
+
 /// Puts a complete type into the innermost type that is begun.
 pub(crate) fn put(alloc: Global, tree: TypeTree, begun: Vec<Open>) -> Result<Reader, Fault>
     ensures ok { IfOk result (λ reader. state_of reader ≡ put (tree_of tree) (begun_in begun.items)) }
@@ -121,26 +197,24 @@ pub(crate) fn put(alloc: Global, tree: TypeTree, begun: Vec<Open>) -> Result<Rea
     let mut begun = begun;
     while let Some(top) = begun.pop() {
         match top {
-            Open::Elements(count) => {
-                tree = TypeTree::Array(count, Box::new(alloc, tree)?);
-            }
-            Open::Lanes(lanes, packed) => {
-                tree = vector(alloc, lanes, packed, tree)?;
-            }
+            Open::Elements(count) => tree = TypeTree::Array(count, Box::new(alloc, tree)?),
+            Open::Lanes(lanes, packed) => tree = vector(alloc, lanes, packed, tree)?,
             Open::Fields(repr, mut fields) => {
                 fields.push(tree)?;
-                begun.push(Open::Fields(repr, fields))?;
-                return Ok(waiting(Want::Tree, begun));
+                return waiting_in(Want::Tree, Open::Fields(repr, fields), begun);
             }
             Open::Members(repr, mut fields) => {
                 fields.push(tree)?;
-                begun.push(Open::Members(repr, fields))?;
-                return Ok(waiting(Want::Tree, begun));
+                return waiting_in(Want::Tree, Open::Members(repr, fields), begun);
             }
             Open::Variant(repr, done, discriminant, mut fields) => {
                 fields.push(tree)?;
-                begun.push(Open::Variant(repr, done, discriminant, fields))?;
-                return Ok(waiting(Want::Tree, begun));
+                let top = Open::Variant(repr, done, discriminant, fields);
+                return waiting_in(Want::Tree, top, begun);
+            }
+            Open::Coroutine(parts) => {
+                let top = Open::Coroutine(with_type(tree, parts)?);
+                return waiting_in(Want::Tree, top, begun);
             }
             _ => {}
         }

@@ -7,8 +7,6 @@ use std::alloc::{AllocError, AllocFailed};
 pub enum Fault {
     /// The word of this number doesn't fit; words are numbered from 1.
     Unreadable(u64),
-    /// A word that the program doesn't know yet.
-    NotYet,
     /// A type stands in more than 200 others.
     TooDeep,
     /// A growth of memory was refused.

@@ -3,11 +3,13 @@
 
 mod answer;
 mod begun;
+mod close;
 mod fault;
 mod lines;
 mod number;
 mod print;
 mod print_variants;
+mod read_coroutine;
 mod read_scalar;
 mod reader;
 mod repr_text;

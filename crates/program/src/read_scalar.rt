@@ -1,11 +1,11 @@
 //! Reads the words of a scalar.
 
-ghost use Rattle.std.specs.Prelude.{◌≡◌, ◌∷◌, IfOk, IfErr};
+ghost use Rattle.std.specs.Prelude.{◌≡◌, IfOk, IfErr};
 ghost use Rattle.program.specs.Numbers.{number_in};
-ghost use Rattle.program.specs.Reading.{Agrees, waiting, begun_by, at_end, at_primitive, at_scalar, at_space, at_start, begin_scalar, begun_in, is_primitive, state_of};
+ghost use Rattle.program.specs.Reading.{Agrees, at_end, at_primitive, at_scalar, at_space, at_start, begin_scalar, begun_in, is_primitive, state_of};
 ghost use Rattle.program.specs.ScalarWords.{scalar_word};
 
-use crate::begun::{Open, Reader, Want, put_primitive, put_scalar, waiting};
+use crate::begun::{Open, Reader, Want, put_primitive, put_scalar, waiting, waiting_in};
 use crate::fault::Fault;
 use crate::number::{short, wide};
 use crate::scalar_word::{ScalarWord, scalar_word};
@@ -13,16 +13,6 @@ use crate::scalars::{a_bool, a_char, a_ref, default_pointer, index_primitive};
 use abi_base::{AddressSpace, Primitive, TargetDataLayout};
 use abi_scalar::{Scalar, WrappingRange};
 use std::alloc::Global;
-
-/// Waits for a primitive, within one type or scalar more.
-fn waiting_in(top: Open, begun: Vec<Open>) -> Result<Reader, Fault>
-    ensures ok { IfOk result (λ reader. state_of reader ≡ waiting Want.Primitive (begun_by top ∷ begun_in begun.items)) }
-    ensures err { IfErr result (λ fault. fault ≡ Fault.OutOfMemory) }
-{
-    let mut begun = begun;
-    begun.push(top)?;
-    Ok(waiting(Want::Primitive, begun))
-}
 
 /// Reads a word that begins a scalar.
 pub(crate) fn begin_scalar(
@@ -45,8 +35,8 @@ pub(crate) fn begin_scalar(
         ScalarWord::Bool => put_scalar(alloc, a_bool(), begun),
         ScalarWord::Char => put_scalar(alloc, a_char(), begun),
         ScalarWord::Ref => put_scalar(alloc, a_ref(dl), begun),
-        ScalarWord::Range => waiting_in(Open::Range, begun),
-        ScalarWord::UnionOf => waiting_in(Open::UnionOf, begun),
+        ScalarWord::Range => waiting_in(Want::Primitive, Open::Range, begun),
+        ScalarWord::UnionOf => waiting_in(Want::Primitive, Open::UnionOf, begun),
     }
 }
 

@@ -1,17 +1,19 @@
 //! Reads a type, word by word.
 
-ghost use Rattle.std.specs.Prelude.{◌≡◌, ◌∷◌, ◌⊎◌, ◌<◌, ◌≤◌, ◌+◌, ◌^◌, ℕ, IfOk, IfErr, List, MatchResult, codes, length, map};
+ghost use Rattle.std.specs.Prelude.{◌≡◌, ◌≤◌, ℕ, List, MatchResult, codes};
 ghost use Rattle.std.specs.Str.{bytes_eq};
-ghost use Rattle.rustc_abi.specs.Tree.{Tree, enum, tree_of};
-ghost use Rattle.program.specs.Reading.{Agrees, waiting, first, at_count, at_discriminant, at_enum_opening, at_enum_repr, at_lanes, at_opening, at_repr, at_type, at_union_opening, at_union_repr, at_variant_opening, begun_in, closed, read, start, state_of, step, variant_by, variants_in};
+ghost use Rattle.rustc_abi.specs.Tree.{Tree, tree_of};
+ghost use Rattle.program.specs.Reading.{Agrees, at_count, at_discriminant, at_enum_opening, at_enum_repr, at_lanes, at_opening, at_repr, at_type, at_union_opening, at_union_repr, at_variant_opening, begun_in, read, state_of, step};
 ghost use Rattle.program.specs.Numbers.{discriminant_in, number_in};
 ghost use Rattle.program.specs.Repr.{struct_repr, union_repr};
 ghost use Rattle.program.specs.Words.{words_of};
 ghost use Rattle.program.specs.Written.{IsLineOf, IsWrittenAs, nesting};
 
-use crate::begun::{Open, Reader, Want, put, waiting};
+use crate::begun::{Open, Reader, Want, put, waiting, waiting_in};
+use crate::close::close;
 use crate::fault::Fault;
 use crate::number::{decimal, discriminant};
+use crate::read_coroutine::{open_coroutine, read_coroutine_word};
 use crate::read_scalar::{
     begin_scalar, read_end, read_primitive, read_scalar, read_space, read_start,
 };
@@ -26,48 +28,6 @@ use std::alloc::Global;
 /// A type is nested in at most so many others.
 const MOST_NESTED: usize = 200;
 
-/// An enum of these variants.
-fn whole_enum(repr: ReprOptions, variants: Vec<(u128, Vec<TypeTree>)>) -> TypeTree
-    ensures { tree_of result ≡ enum repr (variants_in (map variant_by variants.items)) }
-{
-    TypeTree::Enum { repr, variants }
-}
-
-/// Reads a closing parenthesis.
-fn close(alloc: Global, number: u64, begun: Vec<Open>) -> Result<Reader, Fault>
-    ensures { Agrees state_of (closed number (begun_in begun.items)) result }
-{
-    let mut begun = begun;
-    match begun.pop() {
-        Some(Open::Fields(asked, fields)) => {
-            let tree = TypeTree::Struct {
-                repr: asked.repr,
-                always_sized: asked.always_sized,
-                fields,
-            };
-            put(alloc, tree, begun)
-        }
-        Some(Open::Members(repr, fields)) => put(alloc, TypeTree::Union { repr, fields }, begun),
-        Some(Open::Variant(repr, mut variants, discriminant, fields)) => {
-            variants.push((discriminant, fields))?;
-            begun.push(Open::Variants(repr, variants))?;
-            Ok(waiting(Want::Discriminant, begun))
-        }
-        Some(Open::Variants(repr, variants)) => put(alloc, whole_enum(repr, variants), begun),
-        _ => Err(Fault::Unreadable(number)),
-    }
-}
-
-/// Waits for the first scalar of a pair.
-fn open_pair(begun: Vec<Open>) -> Result<Reader, Fault>
-    ensures ok { IfOk result (λ reader. state_of reader ≡ waiting Want.Scalar (first ∷ begun_in begun.items)) }
-    ensures err { IfErr result (λ fault. fault ≡ Fault.OutOfMemory) }
-{
-    let mut begun = begun;
-    begun.push(Open::First)?;
-    Ok(waiting(Want::Scalar, begun))
-}
-
 /// Reads a word where a type may begin.
 fn read_type_word(
     alloc: Global,
@@ -75,22 +35,22 @@ fn read_type_word(
     number: u64,
     closes: bool,
     begun: Vec<Open>,
-    word: TypeWord,
+    word: Option<TypeWord>,
 ) -> Result<Reader, Fault>
     ensures { Agrees state_of (at_type dl.now number closes (begun_in begun.items) word) result }
 {
-    if word == TypeWord::Other {
+    let Some(word) = word else {
         if closes {
             return close(alloc, number, begun);
         }
         return Err(Fault::Unreadable(number));
-    }
+    };
     if begun.len() > MOST_NESTED {
         return Err(Fault::TooDeep);
     }
     match word {
         TypeWord::Scalar(scalar) => begin_scalar(alloc, dl, begun, scalar),
-        TypeWord::Pair => open_pair(begun),
+        TypeWord::Pair => waiting_in(Want::Scalar, Open::First, begun),
         TypeWord::Never => put(alloc, TypeTree::Never, begun),
         TypeWord::Unit => put(alloc, TypeTree::Unit, begun),
         TypeWord::Array => Ok(waiting(Want::Count, begun)),
@@ -98,7 +58,7 @@ fn read_type_word(
         TypeWord::Struct => Ok(waiting(Want::Repr, begun)),
         TypeWord::Union => Ok(waiting(Want::UnionRepr, begun)),
         TypeWord::Enum => Ok(waiting(Want::EnumRepr, begun)),
-        _ => Err(Fault::NotYet),
+        TypeWord::Coroutine => open_coroutine(alloc, begun),
     }
 }
 
@@ -289,9 +249,8 @@ fn step(
         Want::UnionOpening(repr) => read_union_opening(alloc, number, repr, begun, word),
         Want::EnumOpening(repr) => read_enum_opening(alloc, number, repr, begun, word),
         Want::Discriminant => read_discriminant(alloc, number, begun, word),
-        Want::VariantOpening(discriminant) => {
-            read_variant_opening(alloc, number, discriminant, begun, word)
-        }
+        Want::VariantOpening(value) => read_variant_opening(alloc, number, value, begun, word),
+        Want::Coroutine(part) => read_coroutine_word(alloc, number, part, begun, word),
         Want::End => Err(Fault::Unreadable(number)),
     }
 }
@@ -321,9 +280,8 @@ fn read_words(alloc: Global, dl: &TargetDataLayout, line: &[u8]) -> Result<TypeT
 
 /// The type that a line writes under a data layout, whole.
 ///
-/// `Unreadable` has the number of the first word that doesn't fit, one past the last where words are missing. `NotYet` comes
-/// at a word that the program doesn't know yet, `TooDeep` at one that begins a type in more than 200 others: whichever is
-/// first.
+/// `Unreadable` has the number of the first word that doesn't fit, one past the last where words are missing. `TooDeep`
+/// comes at a word that begins a type in more than 200 others: whichever is first.
 pub(crate) fn read_type(
     alloc: Global,
     dl: &TargetDataLayout,

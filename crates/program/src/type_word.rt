@@ -1,7 +1,7 @@
 //! The words that begin a type.
 
 ghost use Rattle.std.specs.Prelude.{◌≡◌};
-ghost use Rattle.program.specs.TypeWords.{is_later_word, other_word, type_word};
+ghost use Rattle.program.specs.TypeWords.{other_word, type_word};
 
 use crate::scalar_word::{ScalarWord, scalar_word};
 
@@ -23,54 +23,45 @@ pub(crate) enum TypeWord {
     Union,
     /// An enum: a repr and variants follow.
     Enum,
-    /// A type that the program doesn't know yet.
-    Later,
-    /// No type.
-    Other,
+    /// A coroutine: prefix fields, locals, states and conflicts follow.
+    Coroutine,
 }
 
-/// Whether the word begins a type that the program doesn't know yet.
-fn is_later_word(word: &[u8]) -> bool
-    ensures { result ≡ is_later_word word.now }
-{
-    word == b"coroutine".as_slice()
-}
-
-/// What a word means that begins no scalar.
-fn other_word(word: &[u8]) -> TypeWord
+/// What a word means that begins no scalar. None where it begins no type.
+fn other_word(word: &[u8]) -> Option<TypeWord>
     ensures { result ≡ other_word word.now }
 {
     if word == b"pair".as_slice() {
-        TypeWord::Pair
+        Some(TypeWord::Pair)
     } else if word == b"never".as_slice() {
-        TypeWord::Never
+        Some(TypeWord::Never)
     } else if word == b"unit".as_slice() {
-        TypeWord::Unit
+        Some(TypeWord::Unit)
     } else if word == b"array".as_slice() {
-        TypeWord::Array
+        Some(TypeWord::Array)
     } else if word == b"simd".as_slice() {
-        TypeWord::Vector(false)
+        Some(TypeWord::Vector(false))
     } else if word == b"psimd".as_slice() {
-        TypeWord::Vector(true)
+        Some(TypeWord::Vector(true))
     } else if word == b"struct".as_slice() {
-        TypeWord::Struct
+        Some(TypeWord::Struct)
     } else if word == b"union".as_slice() {
-        TypeWord::Union
+        Some(TypeWord::Union)
     } else if word == b"enum".as_slice() {
-        TypeWord::Enum
-    } else if is_later_word(word) {
-        TypeWord::Later
+        Some(TypeWord::Enum)
+    } else if word == b"coroutine".as_slice() {
+        Some(TypeWord::Coroutine)
     } else {
-        TypeWord::Other
+        None
     }
 }
 
-/// What the word means where a type begins.
-pub(crate) fn type_word(word: &[u8]) -> TypeWord
+/// What the word means where a type begins. None where it begins no type.
+pub(crate) fn type_word(word: &[u8]) -> Option<TypeWord>
     ensures { result ≡ type_word word.now }
 {
     match scalar_word(word) {
-        Some(scalar) => TypeWord::Scalar(scalar),
+        Some(scalar) => Some(TypeWord::Scalar(scalar)),
         None => other_word(word),
     }
 }
