@@ -1,23 +1,26 @@
 -- Nodes for the states of a coroutine.
 use Rattle.std.proofs.Common.{◌≡◌, ℕ, ◌+◌, ◌<◌, ◌≤◌, List, [], ◌∷◌, ◌++◌, true, length, map, take, get_or, arith, refl, sym, ap, ◌∙◌, subst}
-use Rattle.std.specs.Prelude.{Vec, All, nat_lt}
-use Rattle.std.specs.List.{list_all}
+use Rattle.std.specs.Prelude.{Vec, All}
 use Rattle.std.specs.Cmp.Derive.{both_true}
 use Rattle.std.specs.declared.alloc.Global.{Global}
 use Rattle.std.proofs.lemmas.List.{get_or-map, length-map, map-append, map-id, take_more}
 use Rattle.std.proofs.lemmas.List.Elements.{All-nil, All-cons, All-head, All-tail, All-weaker}
 use Rattle.std.proofs.lemmas.List.FromFn.{map-range_with_len_more}
+use Rattle.std.proofs.lemmas.Simd.{map-map}
+use Rattle.abi_scalar.specs.declared.variants.VariantLayout.{VariantLayout}
 use Rattle.abi_scalar.specs.Shape.{listed_offsets}
 use Rattle.abi_calc.specs.Placement.{source_order}
-use Rattle.rustc_abi.specs.declared.node.Shape.TheVariants.{States, Tagged}
+use Rattle.rustc_abi.specs.declared.node.Shape.TheVariants.{States}
 use Rattle.rustc_abi.specs.declared.node.Node.{Node}
-use Rattle.rustc_abi.specs.Placed.{Placed, Layout, states, Arms, nothing}
+use Rattle.rustc_abi.specs.Placed.{Placed, Layout, states, Parts, Arms, nothing}
 use Rattle.rustc_abi.specs.Nodes.{placed_in, parts_at, arms_in, state_tag_offset, meaning, types_in, Keeps}
+use Rattle.rustc_abi.specs.Enums.{arms_at}
 use Rattle.rustc_abi.specs.Adding.{IsPut, AreArms, all_at, variants_in, is_node}
 use Rattle.rustc_abi.proofs.NodesLemmas.{length-types_in, Keeps-trans}
 use Rattle.rustc_abi.proofs.ListLemmas.{all_below}
 use Rattle.rustc_abi.proofs.LayLemmas.{all_at-kept}
 use Rattle.rustc_abi.proofs.ArmNodesLemmas.{tagged_before}
+use Rattle.rustc_abi.proofs.StatePlacesLemmas.{picked_types}
 
 -- one index more
 pub indices_more : (n : ℕ) → source_order (n + 1) ≡ source_order n ++ n ∷ []
@@ -116,6 +119,21 @@ IsPut-states old one two new t i tag prefix all arms layout first middle last th
           ∙ ap (λ p. whole (all_at old prefix.items) p (arms_in (types_in two) all.items)) here
           ∙ ap (whole (all_at old prefix.items) tag) middle.meant;
     }
+
+-- what the node means, as the layout of a coroutine tells it: by the types of the prefix fields, and by lists of indices
+pub states_told : (layout : Layout) (pres : List Placed) (prefix : List ℕ) (tag : Placed) (layouts : List (VariantLayout ℕ)) (ps : List Placed) (all : List (Vec ℕ Global)) →
+    length pres ≡ length prefix →
+    states layout (parts_at (listed_offsets layout.fields) pres) (state_tag_offset layout (length prefix)) tag
+    (arms_at layouts (source_order (length all)) (map (λ ks. map (placed_in ps) ks.items) all))
+    ≡ states layout (parts_at (listed_offsets layout.fields) pres) (get_or (listed_offsets layout.fields) (length pres) 0) tag
+    (arms_at layouts (source_order (length (map (λ ks. ks.items) all))) (map (picked_types ps) (map (λ ks. ks.items) all)))
+states_told layout pres prefix tag layouts ps all same =
+    let first : Parts = parts_at (listed_offsets layout.fields) pres in
+    let many : length (map (λ ks. ks.items) all) ≡ length all = length-map all (λ ks. ks.items) in
+    let types : map (picked_types ps) (map (λ ks. ks.items) all) ≡ map (λ ks. map (placed_in ps) ks.items) all = map-map (picked_types ps) (λ ks. ks.items) all in
+    ap (λ n. states layout first (state_tag_offset layout n) tag (arms_at layouts (source_order (length all)) (map (λ ks. map (placed_in ps) ks.items) all))) (sym same)
+    ∙ ap (λ n. states layout first (state_tag_offset layout (length pres)) tag (arms_at layouts (source_order n) (map (λ ks. map (placed_in ps) ks.items) all))) (sym many)
+    ∙ ap (λ vs. states layout first (state_tag_offset layout (length pres)) tag (arms_at layouts (source_order (length (map (λ ks. ks.items) all))) vs)) (sym types)
 
 -- a node for a coroutine names earlier ones
 pub states_before : (old one two : List Node) (t n : ℕ) (tag : Placed) (prefix : Vec ℕ Global) (all : Vec (ℕ × ℕ) Global) (arms : Arms) → IsPut old one t tag → n ≡ length two →

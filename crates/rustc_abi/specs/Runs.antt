@@ -39,7 +39,7 @@ is_place_of_variant (states layout prefix offset tag arms) i k =
     is_place_of_part prefix k || ((nat_le offset k && is_data_place tag (k - offset)) || is_place_of_part (parts_of_arm arms i) k)
 is_place_of_variant placed i k = is_data_place placed k
 
--- the maximal runs, ascending, of the bytes that some variant of the type covers and the one with this index doesn't
+-- the maximal runs, ascending, of the bytes that some variant or state of the type covers and the one with this index doesn't
 abbrev pub unused_of : Placed → (index : ℕ) → List Run
 unused_of placed i = runs_from (λ k. is_data_place placed k && not (is_place_of_variant placed i k)) None 0 (size_of placed)
 

@@ -6,7 +6,6 @@ use Rattle.std.proofs.lemmas.List.FromFn.{length-range_with_len}
 use Rattle.std.proofs.lemmas.Result.{IfOk-weaker}
 use Rattle.abi_scalar.specs.Variant.{variants_of}
 use Rattle.abi_calc.specs.Placement.{source_order}
-use Rattle.rustc_abi.specs.Placed.{Placed}
 use Rattle.rustc_abi.specs.Nodes.{placed_in}
 use Rattle.rustc_abi.specs.Enums.{arms_at}
 use Rattle.rustc_abi.specs.Laying.{one_scalar}
