@@ -345,3 +345,23 @@ no_variant_leaves = refl
 -- a type without a tag leaves nothing unused
 struct_leaves : unused_of three 0 ≡ []
 struct_leaves = refl
+
+-- ---- what a state leaves unused: a prefix field at 0; a tag at 1; a byte at 2 of the first state; four bytes at 4 of the second
+
+abbrev suspended : Placed
+suspended =
+    states (sized 8) (part 0 u8_placed no_parts) 1 u8_placed
+    (arm 0 (part 2 u8_placed no_parts) (arm 1 (part 4 (scalar (sized 4) (unsigned I32)) no_parts) no_arms))
+
+padding_of_states : padding_of suspended ≡ record { start = 3; end = 4 } ∷ []
+padding_of_states = refl
+
+first_state_leaves : unused_of suspended 0 ≡ record { start = 4; end = 8 } ∷ []
+first_state_leaves = refl
+
+second_state_leaves : unused_of suspended 1 ≡ record { start = 2; end = 3 } ∷ []
+second_state_leaves = refl
+
+-- an index that names no state uses the bytes of the prefix field and of the tag alone
+no_state_leaves : unused_of suspended 2 ≡ record { start = 2; end = 3 } ∷ record { start = 4; end = 8 } ∷ []
+no_state_leaves = refl

@@ -46,6 +46,7 @@ mod PresentLemmas
 mod CalculatedLemmas
 mod FaultlessLemmas
 mod ArmNodesLemmas
+mod StateNodesLemmas
 mod LaidLemmas
 mod EnumSizeLemmas
 mod AddedEnumLemmas

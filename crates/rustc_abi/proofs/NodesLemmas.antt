@@ -9,10 +9,10 @@ use Rattle.std.proofs.lemmas.Bool.{and_parts}
 use Rattle.std.specs.List.{list_all}
 use Rattle.abi_scalar.specs.Shape.{listed_offsets}
 use Rattle.rustc_abi.specs.declared.node.Shape.{Shape}
-use Rattle.rustc_abi.specs.declared.node.Shape.TheVariants.{Scalar, Pair, Never, Elements, Fields, Union, Vector, Single, Tagged}
+use Rattle.rustc_abi.specs.declared.node.Shape.TheVariants.{Scalar, Pair, Never, Elements, Fields, Union, Vector, Single, Tagged, States}
 use Rattle.rustc_abi.specs.declared.node.Node.{Node}
-use Rattle.rustc_abi.specs.Placed.{Placed, Layout, layout_of, pair, elements, vector, fields, union, single, tagged, arm, nothing}
-use Rattle.rustc_abi.specs.Nodes.{placed_in, parts_at, parts_at_0, arms_in, encoding_of, index_of, own_fields, tag_offset, meaning, meanings, types_in, placed_at, Keeps}
+use Rattle.rustc_abi.specs.Placed.{Placed, Layout, layout_of, pair, elements, vector, fields, union, single, tagged, states, Arms, arm, nothing}
+use Rattle.rustc_abi.specs.Nodes.{placed_in, parts_at, parts_at_0, arms_in, encoding_of, index_of, own_fields, tag_offset, state_tag_offset, states_in, meaning, meanings, types_in, placed_at, Keeps}
 use Rattle.rustc_abi.specs.Adding.{is_node, are_nodes, IsPut}
 
 meanings-push : (done : List Placed) (ns : List Node) (n : Node) →
@@ -45,6 +45,7 @@ layout_of-meaning done layout (Union children) = refl
 layout_of-meaning done layout (Vector lanes) = refl
 layout_of-meaning done layout (Single children) = refl
 layout_of-meaning done layout (Tagged tag variants) = refl
+layout_of-meaning done layout (States prefix tag all) = refl
 
 layout_in : (done : List Placed) (ns : List Node) (i j : ℕ) (d : Node) → j ≡ length done + i → i < length ns →
     layout_of (placed_in (meanings done ns) j) ≡ (get_or ns i d).layout
@@ -135,6 +136,17 @@ arms-same xs ys n same (v ∷ vs) below =
 pub pair_before : (n first second : ℕ) → (nat_lt first n && nat_lt second n) ≡ true → list_all (λ child. nat_lt child n) (first ∷ second ∷ []) ≡ true
 pair_before n first second is = let both = and_parts (nat_lt first n) (nat_lt second n) is in both_true both.0 (both_true both.1 refl)
 
+states-same : (xs ys : List Placed) (n : ℕ) → ((i : ℕ) → i < n → placed_in xs i ≡ placed_in ys i) → (layout : Layout) (prefix : List ℕ) (tag : ℕ) (all : List (ℕ × ℕ)) →
+    (list_all (λ child. nat_lt child n) prefix && (nat_lt tag n && list_all (λ v. nat_lt v.1 n) all)) ≡ true → states_in xs layout prefix tag all ≡ states_in ys layout prefix tag all
+states-same xs ys n same layout prefix tag all is =
+    let both = and_parts (list_all (λ child. nat_lt child n) prefix) (nat_lt tag n && list_all (λ v. nat_lt v.1 n) all) is in
+    let beside = and_parts (nat_lt tag n) (list_all (λ v. nat_lt v.1 n) all) both.1 in
+    let offset : ℕ = state_tag_offset layout (length prefix) in
+    let first : List Placed → Placed → Arms → Placed = λ ps t arms. states layout (parts_at (listed_offsets layout.fields) ps) offset t arms in
+    ap (λ ps. first ps (placed_in xs tag) (arms_in xs all)) (children-same xs ys n same prefix both.0)
+    ∙ ap (λ t. first (map (placed_in ys) prefix) t (arms_in xs all)) (same tag (ltb-true tag n beside.0))
+    ∙ ap (first (map (placed_in ys) prefix) (placed_in ys tag)) (arms-same xs ys n same all beside.1)
+
 -- a node's meaning from those before it is its meaning from all
 meaning-same : (xs ys : List Placed) (n : ℕ) → ((i : ℕ) → i < n → placed_in xs i ≡ placed_in ys i) → (layout : Layout) (shape : Shape) → is_node n shape ≡ true →
     meaning xs layout shape ≡ meaning ys layout shape
@@ -153,6 +165,7 @@ meaning-same xs ys n same layout (Tagged tag variants) is =
     let both = and_parts (nat_lt tag n) (list_all (λ v. nat_lt v.1 n) variants.items) is in
     ap (λ p. tagged layout (tag_offset layout) p (encoding_of layout.variants) (arms_in xs variants.items)) (same tag (ltb-true tag n both.0))
     ∙ ap (tagged layout (tag_offset layout) (placed_in ys tag) (encoding_of layout.variants)) (arms-same xs ys n same variants.items both.1)
+meaning-same xs ys n same layout (States prefix tag all) is = states-same xs ys n same layout prefix.items tag all.items is
 
 placed_in-meanings : (done : List Placed) (ns : List Node) (i j : ℕ) (d : Node) → j ≡ length done + i → i < length ns → is_node j (get_or ns i d).shape ≡ true →
     placed_in (meanings done ns) j ≡ meaning (meanings done ns) (get_or ns i d).layout (get_or ns i d).shape

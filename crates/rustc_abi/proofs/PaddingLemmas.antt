@@ -8,7 +8,7 @@ use Rattle.std.proofs.lemmas.List.Elements.{All-nil, All-cons}
 use Rattle.std.proofs.Math.Bool.{or-false}
 use Rattle.abi_scalar.specs.declared.scalar.Scalar.{Scalar}
 use Rattle.rustc_abi.specs.declared.node.Shape.{Shape}
-use Rattle.rustc_abi.specs.declared.node.Shape.TheVariants.{Scalar as Number, Pair, Never, Elements, Fields, Union, Vector, Single, Tagged}
+use Rattle.rustc_abi.specs.declared.node.Shape.TheVariants.{Scalar as Number, Pair, Never, Elements, Fields, Union, Vector, Single, Tagged, States}
 use Rattle.rustc_abi.specs.declared.node.Node.{Node}
 use Rattle.rustc_abi.specs.declared.runs.Run.{Run}
 use Rattle.std.specs.Prelude.{Vec}
@@ -16,7 +16,7 @@ use Rattle.std.specs.declared.alloc.Global.{Global}
 use Rattle.abi_scalar.specs.Shape.{listed_offsets}
 use Rattle.rustc_abi.specs.Placed.{Placed, Layout, scalar, pair, never, elements, vector, fields, union, single, tagged, size_of, Parts, no_parts, part, nothing}
 use Rattle.rustc_abi.specs.Places.{is_data_place, is_place_of_part, is_place_of_arm}
-use Rattle.rustc_abi.specs.Nodes.{parts_at, parts_at_0, placed_in, placed_at, types_in, arms_in, own_fields, index_of, meaning, tag_offset, encoding_of}
+use Rattle.rustc_abi.specs.Nodes.{parts_at, parts_at_0, placed_in, placed_at, types_in, arms_in, own_fields, index_of, meaning, tag_offset, encoding_of, states_in}
 use Rattle.rustc_abi.specs.Room.{has_room, have_room, arms_have_room}
 use Rattle.rustc_abi.specs.Adding.{are_nodes, all_at}
 use Rattle.rustc_abi.specs.Runs.{covers, repeats, Ascend, runs_from, is_beside, padding_of}
@@ -100,6 +100,16 @@ module _ (ns : List Node) (well : are_nodes 0 ns ≡ true) (i : ℕ) (n : Node) 
       let of_tag = and_parts fits (has_room (placed_at ns tag)) both.0 in
       (ltb-true tag i before.0, variants_before i variants.items before.1, is.1, leb-true (tag_offset n.layout + size_of (placed_at ns tag)) n.layout.size of_tag.0, of_tag.1, both.1)
 
+  -- prefix fields, the tag and the states beside it: all come before the node and end inside it
+  pub states_node : (prefix : Vec ℕ Global) (tag : ℕ) (all : Vec (ℕ × ℕ) Global) → n.shape ≡ States prefix tag all →
+      All (λ child. child < i) prefix.items × (tag < i) × All (λ v. v.1 < i) all.items
+      × (placed_at ns i ≡ states_in (types_in ns) n.layout prefix.items tag all.items) × (has_room (states_in (types_in ns) n.layout prefix.items tag all.items) ≡ true)
+  states_node prefix tag all e =
+      let is = placed_at-node ns well i n (States prefix tag all) lt at e in
+      let both = and_parts (list_all (λ child. nat_lt child i) prefix.items) (nat_lt tag i && list_all (λ v. nat_lt v.1 i) all.items) is.0 in
+      let beside = and_parts (nat_lt tag i) (list_all (λ v. nat_lt v.1 i) all.items) both.1 in
+      (all_before i prefix.items both.0, ltb-true tag i beside.0, variants_before i all.items beside.1, is.1, ap has_room (sym is.1) ∙ room)
+
 own_fields_none : (done : List Placed) (layout : Layout) (shape : Shape) → ((children : Vec ℕ Global) → shape ≡ Fields children → ⊥) → own_fields (meaning done layout shape) ≡ no_parts
 own_fields_none done layout (Number s) other = refl
 own_fields_none done layout (Pair first second) other = refl
@@ -110,6 +120,7 @@ own_fields_none done layout (Union children) other = refl
 own_fields_none done layout (Vector lanes) other = refl
 own_fields_none done layout (Single children) other = refl
 own_fields_none done layout (Tagged tag variants) other = refl
+own_fields_none done layout (States prefix tag all) other = refl
 
 module _ (ns : List Node) (well : are_nodes 0 ns ≡ true) (i : ℕ) (n : Node) (lt : i < length ns) (at : n ≡ get_or ns i n) where
   -- a variant's own fields are those of its node

@@ -1,5 +1,5 @@
 -- What one variant of a type covers, and the runs of what it leaves unused.
-use Rattle.std.proofs.Common.{◌≡◌, ℕ, zero, suc, ◌+◌, ◌-◌, ◌<◌, ◌≤◌, ⊎_elim, Option, Some, None, List, [], ◌∷◌, ◌++◌, Bool, true, false, length, get_or, drop, take, arith, refl, sym, ap, ◌∙◌, subst, All}
+use Rattle.std.proofs.Common.{◌≡◌, ℕ, zero, suc, ◌+◌, ◌-◌, ◌<◌, ◌≤◌, ⊎_elim, Option, Some, None, List, [], ◌∷◌, ◌++◌, Bool, true, false, length, map, get_or, drop, take, arith, refl, sym, ap, ◌∙◌, subst, All}
 use Rattle.std.specs.Prelude.{◌&&◌, ◌||◌, nat_le, nat_lt, not, if◌then◌else◌, Vec}
 use Rattle.std.specs.declared.alloc.Global.{Global}
 use Rattle.std.proofs.lemmas.Bool.{le-leb, lt-ltb, ltb-true, and_parts, or_cases}
@@ -9,12 +9,13 @@ use Rattle.std.proofs.lemmas.List.Folds.{list_any-append}
 use Rattle.std.proofs.Math.Bool.{or-false, or-true}
 use Rattle.std.specs.Cmp.Derive.{both_true}
 use Rattle.rustc_abi.specs.declared.node.Shape.{Shape}
-use Rattle.rustc_abi.specs.declared.node.Shape.TheVariants.{Scalar as Number, Pair, Never, Elements, Fields, Union, Vector, Single, Tagged}
+use Rattle.rustc_abi.specs.declared.node.Shape.TheVariants.{Scalar as Number, Pair, Never, Elements, Fields, Union, Vector, Single, Tagged, States}
 use Rattle.rustc_abi.specs.declared.node.Node.{Node}
 use Rattle.rustc_abi.specs.declared.runs.Run.{Run}
 use Rattle.rustc_abi.specs.Placed.{Placed, Layout, scalar, pair, never, elements, vector, fields, union, single, tagged, states, Arms, no_arms, arm, parts_of_arm, size_of}
 use Rattle.rustc_abi.specs.Places.{is_data_place, is_place_of_part, is_place_of_arm}
-use Rattle.rustc_abi.specs.Nodes.{arms_in, meaning, own_fields, placed_at, placed_in, types_in}
+use Rattle.abi_scalar.specs.Shape.{listed_offsets}
+use Rattle.rustc_abi.specs.Nodes.{arms_in, meaning, own_fields, parts_at, placed_at, placed_in, state_tag_offset, states_in, types_in}
 use Rattle.rustc_abi.specs.Room.{has_room, have_room, arms_have_room}
 use Rattle.rustc_abi.specs.Adding.{are_nodes}
 use Rattle.rustc_abi.specs.Runs.{is_in, covers, is_beside, runs_from, is_place_of_variant, unused_of, Ascend}
@@ -97,6 +98,11 @@ arm_place no_arms i k place = place
 arm_place (arm number parts arms) zero k place = ap (λ b. b || is_place_of_arm arms k) place
 arm_place (arm number parts arms) (suc i) k place = ap (λ b. is_place_of_part parts k || b) (arm_place arms i k place) ∙ or-true (is_place_of_part parts k)
 
+-- a place of the tag or of a variant is one of the tag or of some variant
+tag_or_arm : (of_tag : Bool) (arms : Arms) (i k : ℕ) → (of_tag || is_place_of_part (parts_of_arm arms i) k) ≡ true → (of_tag || is_place_of_arm arms k) ≡ true
+tag_or_arm true arms i k place = refl
+tag_or_arm false arms i k place = arm_place arms i k place
+
 -- what a variant covers are data places
 place_of_variant : (placed : Placed) (i k : ℕ) → is_place_of_variant placed i k ≡ true → is_data_place placed k ≡ true
 place_of_variant (scalar layout s) i k place = place
@@ -108,12 +114,14 @@ place_of_variant (fields layout parts) i k place = place
 place_of_variant (union layout parts) i k place = place
 place_of_variant (single layout index parts) i k place = place
 place_of_variant (tagged layout offset tag encoding arms) i k place =
+    tag_or_arm (nat_le offset k && is_data_place tag (k - offset)) arms i k place
+place_of_variant (states layout prefix offset tag arms) i k place =
+    let of_prefix = is_place_of_part prefix k in
     let of_tag = nat_le offset k && is_data_place tag (k - offset) in
     ⊎_elim
-    (λ here. ap (λ b. b || is_place_of_arm arms k) here)
-    (λ own. ap (λ b. of_tag || b) (arm_place arms i k own) ∙ or-true of_tag)
-    (or_cases of_tag (is_place_of_part (parts_of_arm arms i) k) place)
-place_of_variant (states layout prefix offset tag arms) i k place = place
+    (λ first. ap (λ b. b || (of_tag || is_place_of_arm arms k)) first)
+    (λ beside. ap (λ b. of_prefix || b) (tag_or_arm of_tag arms i k beside) ∙ or-true of_prefix)
+    (or_cases of_prefix (of_tag || is_place_of_part (parts_of_arm arms i) k) place)
 
 -- the variant at a place alone has its places
 pub one_arm : (done : List Placed) (vs : List (ℕ × ℕ)) (i k : ℕ) →
@@ -140,24 +148,45 @@ one_before node [] (suc i) before = All-nil (λ v. v.1 < node)
 one_before node (v ∷ vs) zero before = All-cons (λ v. v.1 < node) v [] (All-head (λ v. v.1 < node) v vs before) (All-nil (λ v. v.1 < node))
 one_before node (v ∷ vs) (suc i) before = one_before node vs i (All-tail (λ v. v.1 < node) v vs before)
 
+-- the state at a place alone has its places, those of the prefix fields and the tag's
+pub one_state : (done : List Placed) (layout : Layout) (prefix : List ℕ) (tag : ℕ) (all : List (ℕ × ℕ)) (i k : ℕ) →
+    is_data_place (states_in done layout prefix tag (take 1 (drop i all))) k ≡ is_place_of_variant (states_in done layout prefix tag all) i k
+one_state done layout prefix tag all i k =
+    let offset : ℕ = state_tag_offset layout (length prefix) in
+    ap (λ b. is_place_of_part (parts_at (listed_offsets layout.fields) (map (placed_in done) prefix)) k || ((nat_le offset k && is_data_place (placed_in done tag) (k - offset)) || b))
+    (one_arm done all i k)
+
+-- and has room where all have
+pub one_state_room : (done : List Placed) (layout : Layout) (prefix : List ℕ) (tag : ℕ) (all : List (ℕ × ℕ)) (i : ℕ) → has_room (states_in done layout prefix tag all) ≡ true →
+    has_room (states_in done layout prefix tag (take 1 (drop i all))) ≡ true
+one_state_room done layout prefix tag all i room =
+    let offset : ℕ = state_tag_offset layout (length prefix) in
+    let of_tag : Bool = nat_le (offset + size_of (placed_in done tag)) layout.size && has_room (placed_in done tag) in
+    let both = and_parts (have_room layout.size (parts_at (listed_offsets layout.fields) (map (placed_in done) prefix))) (of_tag && arms_have_room layout.size (arms_in done all)) room in
+    let beside = and_parts of_tag (arms_have_room layout.size (arms_in done all)) both.1 in
+    both_true both.0 (both_true beside.0 (one_arm_room layout.size done all i beside.1))
+
 place_of_untagged : (done : List Placed) (layout : Layout) (shape : Shape) (i k : ℕ) → ((tag : ℕ) (variants : Vec (ℕ × ℕ) Global) → shape ≡ Tagged tag variants → ⊥) →
+    ((prefix : Vec ℕ Global) (tag : ℕ) (all : Vec (ℕ × ℕ) Global) → shape ≡ States prefix tag all → ⊥) →
     is_data_place (meaning done layout shape) k ≡ is_place_of_variant (meaning done layout shape) i k
-place_of_untagged done layout (Number s) i k other = refl
-place_of_untagged done layout (Pair first second) i k other = refl
-place_of_untagged done layout Never i k other = refl
-place_of_untagged done layout (Elements count element) i k other = refl
-place_of_untagged done layout (Fields children) i k other = refl
-place_of_untagged done layout (Union children) i k other = refl
-place_of_untagged done layout (Vector lanes) i k other = refl
-place_of_untagged done layout (Single children) i k other = refl
-place_of_untagged done layout (Tagged tag variants) i k other = absurd (other tag variants refl)
+place_of_untagged done layout (Number s) i k other none = refl
+place_of_untagged done layout (Pair first second) i k other none = refl
+place_of_untagged done layout Never i k other none = refl
+place_of_untagged done layout (Elements count element) i k other none = refl
+place_of_untagged done layout (Fields children) i k other none = refl
+place_of_untagged done layout (Union children) i k other none = refl
+place_of_untagged done layout (Vector lanes) i k other none = refl
+place_of_untagged done layout (Single children) i k other none = refl
+place_of_untagged done layout (Tagged tag variants) i k other none = absurd (other tag variants refl)
+place_of_untagged done layout (States prefix tag all) i k other none = absurd (none prefix tag all refl)
 
 -- of a node without a tag each data place is a variant's
 pub untagged_node : (ns : List Node) → are_nodes 0 ns ≡ true → (at : ℕ) (n : Node) → at < length ns → n ≡ get_or ns at n →
-    ((tag : ℕ) (variants : Vec (ℕ × ℕ) Global) → n.shape ≡ Tagged tag variants → ⊥) → (i k : ℕ) → is_data_place (placed_at ns at) k ≡ is_place_of_variant (placed_at ns at) i k
-untagged_node ns well at n lt is other i k =
+    ((tag : ℕ) (variants : Vec (ℕ × ℕ) Global) → n.shape ≡ Tagged tag variants → ⊥) →
+    ((prefix : Vec ℕ Global) (tag : ℕ) (all : Vec (ℕ × ℕ) Global) → n.shape ≡ States prefix tag all → ⊥) → (i k : ℕ) → is_data_place (placed_at ns at) k ≡ is_place_of_variant (placed_at ns at) i k
+untagged_node ns well at n lt is other none i k =
     let meant = (placed_at-node ns well at n n.shape lt is refl).1 in
-    ap (λ p. is_data_place p k) meant ∙ place_of_untagged (types_in ns) n.layout n.shape i k other ∙ ap (λ p. is_place_of_variant p i k) (sym meant)
+    ap (λ p. is_data_place p k) meant ∙ place_of_untagged (types_in ns) n.layout n.shape i k other none ∙ ap (λ p. is_place_of_variant p i k) (sym meant)
 
 beside_both : (d v : Bool) → not (not d || v) ≡ (d && not v)
 beside_both true v = refl

@@ -9,7 +9,7 @@ use Rattle.abi_scalar.specs.Scalar.{IsReadable}
 use Rattle.rustc_abi.specs.declared.error.LayError.{LayError}
 use Rattle.rustc_abi.specs.declared.error.LayError.TheVariants.{OutOfMemory}
 use Rattle.rustc_abi.specs.declared.node.Shape.{Shape}
-use Rattle.rustc_abi.specs.declared.node.Shape.TheVariants.{Scalar, Pair, Never, Elements, Fields, Union, Vector, Single, Tagged}
+use Rattle.rustc_abi.specs.declared.node.Shape.TheVariants.{Scalar, Pair, Never, Elements, Fields, Union, Vector, Single, Tagged, States}
 use Rattle.rustc_abi.specs.declared.node.Node.{Node}
 use Rattle.rustc_abi.specs.Tree.{Tree, array, vector, struct, union, enum, coroutine, Trees, no_trees, more_trees, trees, Variants, no_variants, more_variants}
 use Rattle.rustc_abi.specs.Placed.{Placed, Arms}
@@ -28,6 +28,8 @@ is_node i (Union children) = list_all (λ child. nat_lt child i) children.items
 is_node i (Vector lanes) = nat_lt lanes i
 is_node i (Single children) = list_all (λ child. nat_lt child i) children.items
 is_node i (Tagged tag variants) = nat_lt tag i && list_all (λ v. nat_lt v.1 i) variants.items
+is_node i (States prefix tag all) =
+    list_all (λ child. nat_lt child i) prefix.items && (nat_lt tag i && list_all (λ v. nat_lt v.1 i) all.items)
 
 -- each node, from this place on, names only earlier ones
 abbrev pub are_nodes : ℕ → List Node → Bool

@@ -5,9 +5,9 @@ use Rattle.abi_scalar.specs.declared.variants.TagEncoding.{TagEncoding}
 use Rattle.abi_scalar.specs.declared.variants.TagEncoding.TheVariants.{Direct}
 use Rattle.abi_scalar.specs.declared.variants.Variants.{Variants}
 use Rattle.abi_scalar.specs.declared.variants.Variants.TheVariants.{Single as OneVariant, Multiple}
-use Rattle.rustc_abi.specs.Placed.{Placed, Layout, scalar, pair, never, elements, vector, fields, union, single, tagged, Parts, no_parts, part, Arms, no_arms, arm, nothing}
+use Rattle.rustc_abi.specs.Placed.{Placed, Layout, scalar, pair, never, elements, vector, fields, union, single, tagged, states, Parts, no_parts, part, Arms, no_arms, arm, nothing}
 use Rattle.rustc_abi.specs.declared.node.Shape.{Shape}
-use Rattle.rustc_abi.specs.declared.node.Shape.TheVariants.{Scalar, Pair, Never, Elements, Fields, Union, Vector, Single, Tagged}
+use Rattle.rustc_abi.specs.declared.node.Shape.TheVariants.{Scalar, Pair, Never, Elements, Fields, Union, Vector, Single, Tagged, States}
 use Rattle.rustc_abi.specs.declared.node.Node.{Node}
 
 -- the type that stands at this place
@@ -32,6 +32,10 @@ index_of _ = 0
 abbrev pub tag_offset : Layout → ℕ
 tag_offset layout = get_or (listed_offsets layout.fields) 0 0
 
+-- where the tag of a coroutine lies: behind so many prefix fields in the list of offsets
+abbrev pub state_tag_offset : Layout → (prefix : ℕ) → ℕ
+state_tag_offset layout prefix = get_or (listed_offsets layout.fields) prefix 0
+
 -- how a tag tells variants apart
 abbrev pub encoding_of : Variants ℕ ℕ → TagEncoding ℕ
 encoding_of (Multiple tag encoding field layouts) = encoding
@@ -42,10 +46,16 @@ abbrev pub own_fields : Placed → Parts
 own_fields (fields layout parts) = parts
 own_fields _ = no_parts
 
--- variants beside a tag, each with its discriminant
+-- variants or states beside a tag, each with its number
 abbrev pub arms_in : List Placed → List (ℕ × ℕ) → Arms
 arms_in done [] = no_arms
 arms_in done (v ∷ vs) = arm v.0 (own_fields (placed_in done v.1)) (arms_in done vs)
+
+-- prefix fields, a tag, and states beside it
+abbrev pub states_in : List Placed → Layout → (prefix : List ℕ) → (tag : ℕ) → (all : List (ℕ × ℕ)) → Placed
+states_in done layout prefix tag all =
+    states layout (parts_at (listed_offsets layout.fields) (map (placed_in done) prefix)) (state_tag_offset layout (length prefix)) (placed_in done tag)
+    (arms_in done all)
 
 -- what a node means, after those before it
 abbrev pub meaning : List Placed → Layout → Shape → Placed
@@ -61,6 +71,7 @@ meaning done layout (Single children) =
     single layout (index_of layout.variants) (parts_at (listed_offsets layout.fields) (map (placed_in done) children.items))
 meaning done layout (Tagged tag variants) =
     tagged layout (tag_offset layout) (placed_in done tag) (encoding_of layout.variants) (arms_in done variants.items)
+meaning done layout (States prefix tag all) = states_in done layout prefix.items tag all.items
 
 -- the meanings of all nodes, after those that are done
 abbrev pub meanings : List Placed → List Node → List Placed

@@ -2,7 +2,7 @@
 use Rattle.std.specs.Prelude.{◌≡◌, ℕ, zero, suc, ◌+◌, ◌/◌, ◌%◌, ◌<◌, ◌≤◌, ◌⊎◌, ◌&&◌, ◌||◌, Bool, not, nat_lt, nat_le, max, List, [], ◌∷◌, ◌++◌, ◌-◌, take, drop, length, slice_index_or, IfSome, Option, Some, None, if◌then◌else◌, ⊤}
 use Rattle.std.specs.List.{list_any}
 use Rattle.rustc_abi.specs.declared.runs.Run.{Run}
-use Rattle.rustc_abi.specs.Placed.{Placed, tagged, parts_of_arm, size_of}
+use Rattle.rustc_abi.specs.Placed.{Placed, tagged, states, parts_of_arm, size_of}
 use Rattle.rustc_abi.specs.Places.{is_data_place, is_place_of_part}
 
 -- byte k is in the run
@@ -30,13 +30,16 @@ runs_from p (Some start) k (suc n) =
 abbrev pub padding_of : Placed → List Run
 padding_of placed = runs_from (λ k. not (is_data_place placed k)) None 0 (size_of placed)
 
--- byte k is a data place of the tag or of the variant with this index, or of a type without a tag a data place
+-- byte k is a data place of the tag, or of the variant or state with this index, or of a prefix field, which every state has; or,
+-- of a type without a tag, a data place
 abbrev pub is_place_of_variant : Placed → (index k : ℕ) → Bool
 is_place_of_variant (tagged layout offset tag encoding arms) i k =
     (nat_le offset k && is_data_place tag (k - offset)) || is_place_of_part (parts_of_arm arms i) k
+is_place_of_variant (states layout prefix offset tag arms) i k =
+    is_place_of_part prefix k || ((nat_le offset k && is_data_place tag (k - offset)) || is_place_of_part (parts_of_arm arms i) k)
 is_place_of_variant placed i k = is_data_place placed k
 
--- the maximal runs, ascending, of the bytes that some variant of the type covers and the one with this index doesn't
+-- the maximal runs, ascending, of the bytes that some variant or state of the type covers and the one with this index doesn't
 abbrev pub unused_of : Placed → (index : ℕ) → List Run
 unused_of placed i = runs_from (λ k. is_data_place placed k && not (is_place_of_variant placed i k)) None 0 (size_of placed)
 

@@ -163,8 +163,8 @@ fn enum_layout(
     )
 }
 
-/// A node for each variant beside a tag, with the layout that it has by itself.
-fn add_variants(
+/// A node for each variant or state beside a tag, with the layout that it has by itself and with its number.
+pub(crate) fn add_variants(
     alloc: Global,
     nodes: &mut Vec<Node>,
     layout: &LayoutData<FieldIdx, VariantIdx>,

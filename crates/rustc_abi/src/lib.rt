@@ -6,6 +6,7 @@ mod error;
 mod laid;
 mod lay;
 mod lay_array;
+mod lay_coroutine;
 mod lay_enum;
 mod lay_fields;
 mod lay_scalar;

@@ -42,6 +42,13 @@ pub(crate) enum Shape {
         tag: usize,
         variants: Vec<(u128, usize)>,
     },
+    /// A child for each prefix field, a tag, and states beside it, each a child of fields with its index; the layout says
+    /// where the prefix fields lie and, behind them in its list of offsets, the tag.
+    States {
+        prefix: Vec<usize>,
+        tag: usize,
+        states: Vec<(u128, usize)>,
+    },
 }
 
 /// A type that was laid out.

@@ -4,7 +4,7 @@ ghost use Rattle.std.specs.Prelude.{◌≡◌, ℕ, ◌+◌, ◌*◌, ◌^◌, �
 ghost use Rattle.abi_scalar.specs.Shape.{listed_offsets};
 ghost use Rattle.rustc_abi.specs.Placed.{size_of, layout_of};
 ghost use Rattle.rustc_abi.specs.Places.{is_data_place, is_place_of_arm, is_place_of_part};
-ghost use Rattle.rustc_abi.specs.Nodes.{arms_in, own_fields, parts_at, placed_at, tag_offset, types_in};
+ghost use Rattle.rustc_abi.specs.Nodes.{arms_in, own_fields, parts_at, placed_at, state_tag_offset, states_in, tag_offset, types_in};
 ghost use Rattle.rustc_abi.specs.Adding.{all_at, are_nodes};
 ghost use Rattle.rustc_abi.specs.Room.{arms_have_room, has_room, have_room};
 ghost use Rattle.rustc_abi.specs.Runs.{covers, is_place_of_variant, shifted, repeats, unused_of, Ascend};
@@ -34,6 +34,16 @@ fn tag_offset(layout: &LayoutData<FieldIdx, VariantIdx>) -> u64
     ensures { result ≡ tag_offset layout.now }
 {
     match offsets(layout).first() {
+        Some(offset) => offset.bytes(),
+        None => 0,
+    }
+}
+
+/// Where the tag of states lies, behind so many prefix fields.
+fn state_tag_offset(layout: &LayoutData<FieldIdx, VariantIdx>, prefix: usize) -> u64
+    ensures { result ≡ state_tag_offset layout.now prefix }
+{
+    match offsets(layout).get(prefix) {
         Some(offset) => offset.bytes(),
         None => 0,
     }
@@ -151,6 +161,11 @@ pub(crate) fn data_runs(alloc: Global, nodes: &[Node], node: usize) -> Result<Ve
             *tag,
             variants,
         ),
+        Shape::States {
+            prefix,
+            tag,
+            states,
+        } => states_runs(alloc, nodes, node, &here.layout, prefix, *tag, states),
     }
 }
 
@@ -240,6 +255,35 @@ fn tagged_runs(
     joined(alloc, all)
 }
 
+/// The runs of the data places of prefix fields, of a tag and of states beside it, each as a node before this one.
+#[cycle(walk)]
+fn states_runs(
+    alloc: Global,
+    nodes: &[Node],
+    node: usize,
+    layout: &LayoutData<FieldIdx, VariantIdx>,
+    prefix: &[usize],
+    tag: usize,
+    states: &[(u128, usize)],
+) -> Result<Vec<Run>, AllocError>
+    requires there { node < length nodes.now }
+    requires fields { All (λ child. child < node) prefix.now }
+    requires first { tag < node }
+    requires before { All (λ v. v.1 < node) states.now }
+    requires well { are_nodes 0 nodes.now ≡ true }
+    requires room { has_room (states_in (types_in nodes.now) layout.now prefix.now tag states.now) ≡ true }
+    ensures covers { IfOk result (λ runs. (k : ℕ) →
+        covers runs.items k ≡ is_data_place (states_in (types_in nodes.now) layout.now prefix.now tag states.now) k) }
+    ensures ascend { IfOk result (λ runs. Ascend 0 runs.items) }
+{
+    let size = layout.size.bytes();
+    let offset = state_tag_offset(layout, prefix.len());
+    let mut all = fields_runs(alloc, nodes, node, size, offsets(layout), prefix)?;
+    let beside = tagged_runs(alloc, nodes, node, size, offset, tag, states)?;
+    all.extend_from_slice(&beside)?;
+    joined(alloc, all)
+}
+
 /// The variant with this index alone, where there is one.
 fn only(variants: &[(u128, usize)], index: usize) -> &[(u128, usize)]
     ensures { result.now ≡ take 1 (drop index variants.now) }
@@ -251,7 +295,8 @@ fn only(variants: &[(u128, usize)], index: usize) -> &[(u128, usize)]
     }
 }
 
-/// The runs of a variant's bytes, which are the tag's and its own; of a node without a tag the runs of its data places.
+/// The runs of a variant's bytes, which are the tag's and its own, and of a state's, which are also those of the prefix
+/// fields; of a node without a tag the runs of its data places.
 fn variant_runs(
     alloc: Global,
     nodes: &[Node],
@@ -275,11 +320,24 @@ fn variant_runs(
             *tag,
             only(variants, variant),
         ),
+        Shape::States {
+            prefix,
+            tag,
+            states,
+        } => states_runs(
+            alloc,
+            nodes,
+            node,
+            &here.layout,
+            prefix,
+            *tag,
+            only(states, variant),
+        ),
         _ => data_runs(alloc, nodes, node),
     }
 }
 
-/// The runs of a node's data places that the variant with this index doesn't use.
+/// The runs of a node's data places that the variant or state with this index doesn't use.
 pub(crate) fn unused_runs(
     alloc: Global,
     nodes: &[Node],

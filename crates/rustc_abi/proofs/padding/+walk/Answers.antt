@@ -1,11 +1,11 @@
 use Rattle.std.proofs.Common.{◌≡◌, ℕ, ◌++◌, ◌+◌, ◌*◌, ◌<◌, ◌≤◌, List, [], ◌∷◌, length, get_or, take, map, replicate, true, arith, ap, sym, ◌∙◌, subst, All}
 use Rattle.std.proofs.lemmas.Result.{IfOk-weaker}
-use Rattle.rustc_abi.specs.Placed.{Placed, Parts, elements, size_of}
+use Rattle.rustc_abi.specs.Placed.{Placed, Layout, Parts, elements, size_of}
 use Rattle.rustc_abi.specs.Places.{is_data_place, is_place_of_arm, is_place_of_part}
 use Rattle.rustc_abi.specs.declared.runs.Run.{Run}
 use Rattle.rustc_abi.specs.Adding.{all_at}
 use Rattle.std.specs.Prelude.{nat_lt, nat_le, ◌&&◌, ◌||◌, ◌-◌, Bool}
-use Rattle.rustc_abi.specs.Nodes.{arms_in, own_fields, placed_at, parts_at, tag_offset, types_in}
+use Rattle.rustc_abi.specs.Nodes.{arms_in, own_fields, placed_at, parts_at, states_in, tag_offset, types_in}
 use Rattle.rustc_abi.specs.Room.{have_room}
 use Rattle.rustc_abi.specs.Runs.{covers, repeats, shifted, Ascend}
 use Rattle.std.proofs.lemmas.List.{length-map, length-append, take_all}
@@ -15,7 +15,7 @@ use Rattle.rustc_abi.proofs.WalkLemmas.{covers-put, covers-put_0, covers-shifted
 use Rattle.std.proofs.lemmas.Slice.Zip.{zip_turn, zip_end}
 use Rattle.abi_scalar.specs.Shape.{listed_offsets}
 use Rattle.rustc_abi.proofs.RoomLemmas.{each_some}
-use Rattle.rustc_abi.proofs.PaddingLemmas.{scalar_node, never_node, pair_node, elements_node, fields_node, union_node, vector_node, single_node, tagged_node, own_fields_node, own_fields_other, parts_at-zeros, places_of_elements, places_of_none, runs_inside, parts_inside, field_at, fields_more, parts_at-all, arms_more, arm_room, or_shift}
+use Rattle.rustc_abi.proofs.PaddingLemmas.{scalar_node, never_node, pair_node, elements_node, fields_node, union_node, vector_node, single_node, tagged_node, states_node, own_fields_node, own_fields_other, parts_at-zeros, places_of_elements, places_of_none, runs_inside, parts_inside, field_at, fields_more, parts_at-all, arms_more, arm_room, or_shift}
 use Rattle.rustc_abi.proofs.padding.+walk.Goals as goal
 
 pub data_runs-layout_at-requires : goal.data_runs-layout_at-requires
@@ -360,3 +360,36 @@ tagged_runs-returns-clause-covers t c =
     (λ runs same k. same k ∙ c.loop-variant.invariant.same k
     ∙ ap (λ xs. (nat_le c.args.offset k && is_data_place tag (k - c.args.offset)) || is_place_of_arm (arms_in (types_in c.args.nodes.now) xs) k) whole)
     c.joined.ensures.covers
+
+pub data_runs-states_runs-requires : goal.data_runs-states_runs-requires
+data_runs-states_runs-requires t c =
+    let facts = states_node c.args.nodes.now c.requires.well c.args.node _ c.requires.there c.index-nodes-node.is c.requires.room c.in-States.prefix c.in-States.tag c.in-States.states c.in-States.is in (
+      omega (arith, c.decreases),
+      (
+        c.requires.there,
+        (
+          rw c.deref-in-States.ensures.value facts.0,
+          (facts.1, (rw c.deref-in-States-2.ensures.value facts.2, (c.requires.well, rw (c.deref-in-States.ensures.value, c.deref-in-States-2.ensures.value) facts.4))),
+        ),
+      ),
+    )
+
+pub data_runs-returns-in-States-clause-covers : goal.data_runs-returns-in-States-clause-covers
+data_runs-returns-in-States-clause-covers t c =
+    let done : List Placed = types_in c.args.nodes.now in
+    let layout : Layout = c.index-nodes-node.result.layout in
+    let facts = states_node c.args.nodes.now c.requires.well c.args.node _ c.requires.there c.index-nodes-node.is c.requires.room c.in-States.prefix c.in-States.tag c.in-States.states c.in-States.is in
+    IfOk-weaker c.states_runs.result _ _
+    (λ runs same k. same k
+    ∙ ap (λ ps. is_data_place (states_in done layout ps c.in-States.tag c.deref-in-States-2.result.now) k) c.deref-in-States.ensures.value
+    ∙ ap (λ vs. is_data_place (states_in done layout c.in-States.prefix.items c.in-States.tag vs) k) c.deref-in-States-2.ensures.value
+    ∙ ap (λ p. is_data_place p k) (sym facts.3))
+    c.states_runs.ensures.covers
+
+pub states_runs-joined-requires : goal.states_runs-joined-requires
+states_runs-joined-requires t c =
+    let first : List Run = c.in_ok-all.all.items in
+    let beside : List Run = c.in_ok-beside.beside.items in
+    let both : c.extend_from_slice.new.self.items ≡ first ++ beside = c.in_ok-extend_from_slice.ensures.items ∙ ap (λ rs. first ++ rs) c.deref.ensures.value in
+    subst (All (λ run. run.start < run.end)) (sym both)
+    (All-append (λ run. run.start < run.end) first beside (each_some 0 first c.in_ok-all.ensures.ascend) (each_some 0 beside c.in_ok-beside.ensures.ascend))

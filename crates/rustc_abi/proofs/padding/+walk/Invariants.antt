@@ -20,13 +20,16 @@ invariant-tagged_runs-loop-variant l = record {
 }
 
 abbrev pub decreases-data_runs : goal.decreases-data_runs
-decreases-data_runs l = 2 * l.node + 1
+decreases-data_runs l = 3 * l.node + 2
 
 abbrev pub decreases-fields_runs : goal.decreases-fields_runs
-decreases-fields_runs l = 2 * l.node
+decreases-fields_runs l = 3 * l.node
 
 abbrev pub decreases-own_runs : goal.decreases-own_runs
-decreases-own_runs l = 2 * l.variant + 1
+decreases-own_runs l = 3 * l.variant + 1
 
 abbrev pub decreases-tagged_runs : goal.decreases-tagged_runs
-decreases-tagged_runs l = 2 * l.node
+decreases-tagged_runs l = 3 * l.node
+
+abbrev pub decreases-states_runs : goal.decreases-states_runs
+decreases-states_runs l = 3 * l.node + 1

@@ -2,12 +2,12 @@ use Rattle.std.proofs.Common.{ℕ, List, drop, take, ap, sym, ◌∙◌}
 use Rattle.std.specs.Prelude.{◌&&◌, ◌||◌, ◌-◌, Bool, nat_le}
 use Rattle.std.proofs.lemmas.Result.{IfOk-weaker}
 use Rattle.rustc_abi.specs.declared.node.Node.{Node}
-use Rattle.rustc_abi.specs.Placed.{Placed}
+use Rattle.rustc_abi.specs.Placed.{Placed, Layout}
 use Rattle.rustc_abi.specs.Places.{is_data_place, is_place_of_arm}
-use Rattle.rustc_abi.specs.Nodes.{arms_in, placed_at, tag_offset, types_in}
+use Rattle.rustc_abi.specs.Nodes.{arms_in, placed_at, states_in, tag_offset, types_in}
 use Rattle.rustc_abi.specs.Runs.{is_place_of_variant}
-use Rattle.rustc_abi.proofs.PaddingLemmas.{tagged_node}
-use Rattle.rustc_abi.proofs.UnusedLemmas.{one_arm, one_arm_room, one_before, untagged_node}
+use Rattle.rustc_abi.proofs.PaddingLemmas.{tagged_node, states_node}
+use Rattle.rustc_abi.proofs.UnusedLemmas.{one_arm, one_arm_room, one_before, one_state, one_state_room, untagged_node}
 use Rattle.rustc_abi.proofs.padding.variant_runs.Goals as goal
 
 pub tagged_runs-requires-clause-first : goal.tagged_runs-requires-clause-first
@@ -56,7 +56,43 @@ pub returns-in_default : goal.returns-in_default
 returns-in_default c = record {
   covers =
       IfOk-weaker c.data_runs.result _ _
-      (λ runs same k. same k ∙ untagged_node c.args.nodes.now c.requires.well c.args.node _ c.requires.there c.index-nodes-node.is c.in_default.not-Tagged c.args.variant k)
+      (λ runs same k. same k ∙ untagged_node c.args.nodes.now c.requires.well c.args.node _ c.requires.there c.index-nodes-node.is c.in_default.not-Tagged c.in_default.not-States c.args.variant k)
       c.data_runs.ensures.covers;
   ascend = c.data_runs.ensures.ascend;
 }
+
+pub states_runs-requires-clause-fields : goal.states_runs-requires-clause-fields
+states_runs-requires-clause-fields c =
+    let facts = states_node c.args.nodes.now c.requires.well c.args.node _ c.requires.there c.index-nodes-node.is c.requires.room c.in-States.prefix c.in-States.tag c.in-States.states c.in-States.is in
+    rw c.deref-in-States.ensures.value facts.0
+
+pub states_runs-requires-clause-first : goal.states_runs-requires-clause-first
+states_runs-requires-clause-first c =
+    let facts = states_node c.args.nodes.now c.requires.well c.args.node _ c.requires.there c.index-nodes-node.is c.requires.room c.in-States.prefix c.in-States.tag c.in-States.states c.in-States.is in
+    facts.1
+
+pub states_runs-requires-clause-before : goal.states_runs-requires-clause-before
+states_runs-requires-clause-before c =
+    let facts = states_node c.args.nodes.now c.requires.well c.args.node _ c.requires.there c.index-nodes-node.is c.requires.room c.in-States.prefix c.in-States.tag c.in-States.states c.in-States.is in
+    rw c.only-in-States.ensures (rw c.deref-in-States-2.ensures.value (one_before c.args.node c.in-States.states.items c.args.variant facts.2))
+
+pub states_runs-requires-clause-room : goal.states_runs-requires-clause-room
+states_runs-requires-clause-room c =
+    let facts = states_node c.args.nodes.now c.requires.well c.args.node _ c.requires.there c.index-nodes-node.is c.requires.room c.in-States.prefix c.in-States.tag c.in-States.states c.in-States.is in
+    rw c.only-in-States.ensures (rw (c.deref-in-States.ensures.value, c.deref-in-States-2.ensures.value)
+    (one_state_room (types_in c.args.nodes.now) c.index-nodes-node.result.layout c.in-States.prefix.items c.in-States.tag c.in-States.states.items c.args.variant facts.4))
+
+pub returns-in-States-clause-covers : goal.returns-in-States-clause-covers
+returns-in-States-clause-covers c =
+    let done : List Placed = types_in c.args.nodes.now in
+    let layout : Layout = c.index-nodes-node.result.layout in
+    let prefix : List ℕ = c.in-States.prefix.items in
+    let all : List (ℕ × ℕ) = c.in-States.states.items in
+    let facts = states_node c.args.nodes.now c.requires.well c.args.node _ c.requires.there c.index-nodes-node.is c.requires.room c.in-States.prefix c.in-States.tag c.in-States.states c.in-States.is in
+    IfOk-weaker c.states_runs.result _ _
+    (λ runs same k. same k
+    ∙ ap (λ ps. is_data_place (states_in done layout ps c.in-States.tag c.only-in-States.result.now) k) c.deref-in-States.ensures.value
+    ∙ ap (λ xs. is_data_place (states_in done layout prefix c.in-States.tag xs) k) (c.only-in-States.ensures ∙ ap (λ xs. take 1 (drop c.args.variant xs)) c.deref-in-States-2.ensures.value)
+    ∙ one_state done layout prefix c.in-States.tag all c.args.variant k
+    ∙ ap (λ p. is_place_of_variant p c.args.variant k) (sym facts.3))
+    c.states_runs.ensures.covers

@@ -1,0 +1,74 @@
+use Rattle.std.proofs.Common.{◌≡◌, ℕ, ◌<◌, ◌∙◌, All, List, ap, arith, length, map, subst, sym}
+use Rattle.std.specs.Prelude.{Vec}
+use Rattle.std.specs.declared.alloc.Global.{Global}
+use Rattle.std.proofs.lemmas.List.Elements.{All-weaker}
+use Rattle.std.proofs.lemmas.List.FromFn.{length-range_with_len}
+use Rattle.std.proofs.lemmas.Result.{IfOk-weaker}
+use Rattle.abi_scalar.specs.Variant.{variants_of}
+use Rattle.abi_calc.specs.Placement.{source_order}
+use Rattle.rustc_abi.specs.Nodes.{placed_in}
+use Rattle.rustc_abi.specs.Enums.{arms_at}
+use Rattle.rustc_abi.specs.Laying.{one_scalar}
+use Rattle.rustc_abi.specs.Adding.{AreArms, IsPut, all_at, variants_in}
+use Rattle.rustc_abi.proofs.NodesLemmas.{length-types_in}
+use Rattle.rustc_abi.proofs.ArmNodesLemmas.{variants_in-kept}
+use Rattle.rustc_abi.proofs.StateNodesLemmas.{IsPut-states, as_many_each, each_means, each_there, states_before}
+use Rattle.rustc_abi.proofs.lay_coroutine.add_states.Goals as goal
+
+pub add_variants-requires-clause-variants : goal.add_variants-requires-clause-variants
+add_variants-requires-clause-variants c =
+    let many = as_many_each c.args.locals.now c.args.states.now c.in_ok-children.children.items c.in_ok-children.ensures in
+    rw c.deref-2.ensures.value (c.requires.each ∙ sym many)
+
+pub add_variants-requires-clause-each : goal.add_variants-requires-clause-each
+add_variants-requires-clause-each c =
+    let many = as_many_each c.args.locals.now c.args.states.now c.in_ok-children.children.items c.in_ok-children.ensures in
+    rw (c.deref.ensures.value, c.deref-2.ensures.value)
+    (ap length c.in_ok-numbers.ensures ∙ length-range_with_len 0 (length c.args.states.now) ∙ sym many)
+
+pub add_variants-requires-clause-few : goal.add_variants-requires-clause-few
+add_variants-requires-clause-few c =
+    let many = as_many_each c.args.locals.now c.args.states.now c.in_ok-children.children.items c.in_ok-children.ensures in
+    rw (c.deref-2.ensures.value, many) c.requires.few
+
+pub add_variants-requires-clause-there : goal.add_variants-requires-clause-there
+add_variants-requires-clause-there c =
+    let old = c.args.nodes.now in
+    let one = c.add.new.nodes in
+    let put = c.in_ok-tag.ensures.ok in
+    let longer = put.kept.longer in
+    let there : All (λ child. child < one.len) c.args.locals.now =
+    All-weaker (λ child. child < old.len) (λ child. child < one.len) (λ child lt. omega (arith, lt, longer, length-types_in old.items, length-types_in one.items)) c.args.locals.now c.requires.there in
+    rw c.deref-2.ensures.value (each_there one.len c.args.locals.now c.args.states.now c.in_ok-children.children.items there c.requires.known c.in_ok-children.ensures)
+
+pub add-requires-2 : goal.add-requires-2
+add-requires-2 c =
+    let old = c.args.nodes.now in
+    let there : All (λ child. child < length old.items) c.args.prefix.items =
+    All-weaker (λ child. child < old.len) (λ child. child < length old.items) (λ child lt. omega arith) c.args.prefix.items c.requires.prefix in
+    states_before old.items c.add.new.nodes.items c.add_variants.new.nodes.items c.in_ok-tag.tag _ _ c.args.prefix c.in_ok-states.states _ c.in_ok-tag.ensures.ok (omega arith) c.in_ok-states.ensures.ok there
+
+pub returns-clause-ok : goal.returns-clause-ok
+returns-clause-ok c =
+    let old = c.args.nodes.now.items in
+    let one = c.add.new.nodes.items in
+    let two = c.add_variants.new.nodes.items in
+    let locals : List ℕ = c.args.locals.now in
+    let all : List (Vec ℕ Global) = c.args.states.now in
+    let children : List (Vec ℕ Global) = c.in_ok-children.children.items in
+    let put = c.in_ok-tag.ensures.ok in
+    let prefix : All (λ child. child < length old) c.args.prefix.items =
+    All-weaker (λ child. child < c.args.nodes.now.len) (λ child. child < length old) (λ child lt. omega arith) c.args.prefix.items c.requires.prefix in
+    let there : All (λ child. child < length old) locals =
+    All-weaker (λ child. child < c.args.nodes.now.len) (λ child. child < length old) (λ child lt. omega arith) locals c.requires.there in
+    let same : variants_in one c.deref-2.result.now ≡ map (λ ks. map (placed_in (all_at old locals)) ks.items) all =
+    ap (variants_in one) c.deref-2.ensures.value ∙ variants_in-kept old one put.kept children (each_there (length old) locals all children there c.requires.known c.in_ok-children.ensures)
+    ∙ each_means old locals all children c.requires.known c.in_ok-children.ensures in
+    let numbers : c.deref.result.now ≡ source_order (length all) = c.deref.ensures.value ∙ c.in_ok-numbers.ensures in
+    let own : AreArms one two c.in_ok-states.states.items (arms_at (variants_of c.args.layout.variants) (source_order (length all)) (variants_in one c.deref-2.result.now)) =
+    subst (λ ns. AreArms one two c.in_ok-states.states.items (arms_at (variants_of c.args.layout.variants) ns (variants_in one c.deref-2.result.now))) numbers c.in_ok-states.ensures.ok in
+    let arms = subst (λ vs. AreArms one two c.in_ok-states.states.items (arms_at (variants_of c.args.layout.variants) (source_order (length all)) vs)) same own in
+    let tag : IsPut old one c.in_ok-tag.tag (one_scalar c.args.dl.now c.args.tag) = rw c.scalar.ensures.exact at put in
+    IfOk-weaker c.add-2.result _ _
+    (λ i last. IsPut-states old one two _ c.in_ok-tag.tag i (one_scalar c.args.dl.now c.args.tag) c.args.prefix c.in_ok-states.states _ c.args.layout tag arms last prefix)
+    c.add-2.ensures.ok
