@@ -59,7 +59,8 @@ impl Laid {
 
     /// The bytes that some variant of the type covers and this one doesn't, as maximal runs in ascending order: a value of
     /// the variant doesn't use them, though a value of another may. They are neither padding nor bytes of the tag. Nothing
-    /// where no tag and no niche tells several variants apart. An index that names no variant uses the tag's bytes alone.
+    /// where no tag and no niche tells several variants apart. An index that names no variant uses none but those that all
+    /// variants share.
     pub fn unused(&self, alloc: Global, variant: VariantIdx) -> Result<Vec<Run>, AllocError>
         ensures { IfOk result (λ runs. runs.items ≡ unused_of (placed_of self.now) variant) }
     {
