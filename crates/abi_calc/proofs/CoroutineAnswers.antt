@@ -1,5 +1,5 @@
 -- What is promised of a coroutine, from the layouts of its lists.
-use Rattle.std.proofs.Common.{◌≡◌, ℕ, ◌+◌, ◌*◌, ◌-◌, ◌^◌, ◌<◌, ◌≤◌, Bool, false, List, [], ◌∷◌, ◌++◌, None, Option, Some, ◌∙◌, ap, ap₂, arith, inl, inr, length, map, max, refl, subst, suc, sym, zero}
+use Rattle.std.proofs.Common.{◌≡◌, ℕ, ◌+◌, ◌*◌, ◌-◌, ◌^◌, ◌<◌, ◌≤◌, Bool, false, List, [], ◌∷◌, ◌++◌, None, Option, Some, ◌∙◌, ap, ap₂, arith, inl, inr, length, map, max, refl, subst, sym}
 use Rattle.std.specs.Prelude.{◌⊎◌, All, IfErr, IfOk, IsPermutation, Result, Ok, Err, not, slice_get}
 use Rattle.std.specs.Int.{next_multiple_of}
 use Rattle.std.specs.List.{AllZip, cons_option}
@@ -37,7 +37,7 @@ use Rattle.abi_calc.specs.Coroutine.States.{HasFields}
 use Rattle.abi_scalar.specs.Shape.{listed_order}
 use Rattle.abi_scalar.proofs.LawfulLemmas.{scalar_lawful}
 use Rattle.abi_scalar.proofs.ReadableLemmas.{lawful_readable}
-use Rattle.abi_calc.proofs.CoroutineStates.{members_below}
+use Rattle.abi_calc.proofs.CoroutinePlaces.{members_within, picked_count}
 use Rattle.abi_calc.proofs.EnumPlaces.{named_back}
 use Rattle.abi_calc.proofs.Least.{allowed_permutes}
 use Rattle.abi_calc.proofs.Sorting.{within_order}
@@ -158,21 +158,10 @@ module _ {F V H : Type 0} (layout_of : H → LayoutData F V) (at : ℕ → F) (z
 
 -- ---- the fields of a list
 
-picked_count_next : {A : Type 0} (items : List A) (p : ℕ) (rest : List A) (n : ℕ) → p < length items → length rest ≡ n → length (cons_option (slice_get items p) rest) ≡ suc n
-picked_count_next [] p rest n low e = absurd (omega (arith, low))
-picked_count_next (x ∷ xs) zero rest n low e = ap suc e
-picked_count_next (x ∷ xs) (suc p) rest n low e = picked_count_next xs p rest n (omega (arith, low)) e
-
--- places inside name an item each
-pub picked_count : {A : Type 0} (items : List A) (places : List ℕ) → All (λ p. p < length items) places → length (picked items places) ≡ length places
-picked_count items [] all = refl
-picked_count items (p ∷ ps) all =
-    picked_count_next items p (picked items ps) (length ps) (All-head (λ k. k < length items) p ps all) (picked_count items ps (All-tail (λ k. k < length items) p ps all))
-
 -- so many fields has the first list
 pub first_count : {A : Type 0} (prefix : List A) (tag : A) (locals : List A) (promoted : List Bool) → length promoted ≡ length locals → length (first_list prefix tag locals promoted) ≡ length prefix + 1 + length (members_of promoted)
 first_count prefix tag locals promoted same =
-    let below : All (λ p. p < length locals) (members_of promoted) = subst (λ n. All (λ p. p < n) (members_of promoted)) same (members_below promoted) in
+    let below : All (λ p. p < length locals) (members_of promoted) = members_within promoted (length locals) same in
     let long = length-append prefix (tag ∷ picked locals (members_of promoted)) in
     omega (arith, long, picked_count locals (members_of promoted) below)
 
@@ -241,9 +230,6 @@ error_is e f is = cc
 
 module _ {F V H : Type 0} (layout_of : H → LayoutData F V) (at : ℕ → F) (number : F → ℕ) (zeroth : V) (dl : TargetDataLayout) (prefix : List H) (tag : Scalar) (field : H) (locals : List H) (states : List (List ℕ)) (promoted : List Bool)
     (asked : IsAsked layout_of zeroth dl prefix tag field locals states) where
-  abbrev pub fields_of : List H
-  fields_of = first_list prefix field locals promoted
-
   fields_are : map layout_of (first_list prefix field locals promoted) ≡ first_list (map layout_of prefix) (scalar_layout zeroth dl tag) (map layout_of locals) promoted
   fields_are = map_first layout_of prefix field locals promoted ∙ ap (λ t. first_list (map layout_of prefix) t (map layout_of locals) promoted) asked.holds
 

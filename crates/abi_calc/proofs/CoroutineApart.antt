@@ -28,7 +28,7 @@ use Rattle.abi_calc.specs.Enums.Lists.{AreGoodLists, IsGoodList}
 use Rattle.abi_calc.specs.Fields.{greatest_size}
 use Rattle.abi_calc.specs.Placement.{source_order, start_of}
 use Rattle.abi_calc.proofs.CoroutineAnswers.{first_count, map_picked}
-use Rattle.abi_calc.proofs.CoroutineStates.{members_below}
+use Rattle.abi_calc.proofs.CoroutinePlaces.{members_within}
 use Rattle.abi_calc.proofs.CoroutineTold.{picked_sizes, state_apart}
 use Rattle.abi_calc.proofs.EnumPlaces.{sizes_as}
 use Rattle.abi_calc.proofs.Rounding.{rounded_to}
@@ -88,7 +88,7 @@ module _ {F V H : Type 0} (layout_of : H → LayoutData F V) (at : ℕ → F) (n
   -- and of the first list's fields
   first_sizes : map (λ f. (layout_of f).size) (first_list prefix field locals promoted) ≡ shared_sizes ++ map local_size (members_of promoted)
   first_sizes =
-      let below : All (λ p. p < length locals) (members_of promoted) = subst (λ n. All (λ p. p < n) (members_of promoted)) many (members_below promoted) in
+      let below : All (λ p. p < length locals) (members_of promoted) = members_within promoted (length locals) many in
       map-append (λ f. (layout_of f).size) prefix (field ∷ picked locals (members_of promoted))
       ∙ ap₂ (λ xs ys. xs ++ (layout_of field).size ∷ ys) (sym (sizes_as layout_of prefix)) (sizes_of (members_of promoted) below)
       ∙ ap (λ (l : LayoutData F V). map (λ (f : LayoutData F V). f.size) (map layout_of prefix) ++ l.size ∷ map local_size (members_of promoted)) holds

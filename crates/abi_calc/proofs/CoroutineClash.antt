@@ -170,8 +170,7 @@ promoted_part : {F V H : Type 0} (layout_of : H → LayoutData F V) (prefix : Li
 promoted_part layout_of prefix field locals promoted offsets local offset x size count is laid lies =
     let found = local_layout layout_of locals local x laid in
     let within = members_within promoted (length locals) size in
-    let short : local < length promoted = omega (arith, size, slice_get_within locals local found.0 found.1) in
-    let rank = ranked promoted local short is in
+    let rank = ranked promoted local is in
     let named : slice_get (picked locals (members_of promoted)) (rank_of promoted local) ≡ Some found.0 = picked_at locals (members_of promoted) (rank_of promoted local) local within rank ∙ found.1 in
     let place : length prefix + 1 + rank_of promoted local ≡ length prefix + suc (rank_of promoted local) = omega arith in
     let there : slice_get (first_list prefix field locals promoted) (length prefix + 1 + rank_of promoted local) ≡ Some found.0
@@ -265,15 +264,13 @@ module _ {F V H : Type 0} (layout_of : H → LayoutData F V) (at : ℕ → F) (n
 
   -- two promoted locals are two parts of the first list
   both_promoted : (a b o p : ℕ) (x y : LayoutData F V) → a ≢ b → is_member (promoted_of states conflicts) a ≡ true → is_member (promoted_of states conflicts) b ≡ true
-      → a < row_count conflicts → b < row_count conflicts
       → IsPart (listed_offsets first.fields) (map (λ f. (layout_of f).size) (first_list prefix field locals (promoted_of states conflicts))) o x.size (length prefix + 1 + rank_of (promoted_of states conflicts) a)
       → IsPart (listed_offsets first.fields) (map (λ f. (layout_of f).size) (first_list prefix field locals (promoted_of states conflicts))) p y.size (length prefix + 1 + rank_of (promoted_of states conflicts) b)
       → (o + x.size ≤ p) ⊎ (p + y.size ≤ o)
-  both_promoted a b o p x y differ here there short long one two =
+  both_promoted a b o p x y differ here there one two =
       let promoted = promoted_of states conflicts in
-      let size = promoted_count states conflicts in
-      let first_rank = ranked (promoted_of states conflicts) a (omega (arith, size, short)) here in
-      let second_rank = ranked (promoted_of states conflicts) b (omega (arith, size, long)) there in
+      let first_rank = ranked (promoted_of states conflicts) a here in
+      let second_rank = ranked (promoted_of states conflicts) b there in
       apart_at first.size (listed_offsets first.fields) (map (λ f. (layout_of f).size) (first_list prefix field locals promoted)) (length prefix + 1 + rank_of promoted a) (length prefix + 1 + rank_of promoted b) o p x.size y.size good.apart
       (λ e. let same : rank_of (promoted_of states conflicts) a ≡ rank_of (promoted_of states conflicts) b = omega (arith, e) in
       differ (one_item (members_of (promoted_of states conflicts)) (rank_of (promoted_of states conflicts) a) (rank_of (promoted_of states conflicts) b) a b same first_rank second_rank))
@@ -322,7 +319,7 @@ module _ {F V H : Type 0} (layout_of : H → LayoutData F V) (at : ℕ → F) (n
       ⊎_elim
       (λ (is_a : is_member (promoted_of states conflicts) a ≡ true).
       ⊎_elim
-      (λ (is_b : is_member (promoted_of states conflicts) b ≡ true). both_promoted a b o p x y differ is_a is_b short long (shared_part a o x here is_a one) (shared_part b p y there is_b two))
+      (λ (is_b : is_member (promoted_of states conflicts) b ≡ true). both_promoted a b o p x y differ is_a is_b (shared_part a o x here is_a one) (shared_part b p y there is_b two))
       (λ (not_b : is_member (promoted_of states conflicts) b ≡ false). inl (before_own a b o p x y (shared_part a o x here is_a one) (as_own b p y there not_b two)))
       (cases_Bool (is_member (promoted_of states conflicts) b)))
       (λ (not_a : is_member (promoted_of states conflicts) a ≡ false).

@@ -1,14 +1,13 @@
 -- Where a state of a coroutine has its locals.
-use Rattle.std.proofs.Common.{◌≡◌, ◌≢◌, ℕ, zero, suc, ◌+◌, ◌-◌, ◌<◌, ◌≤◌, ◌⊎◌, All, Bool, true, false, List, [], ◌∷◌, ◌++◌, ap, arith, cond, drop, filter, inl, inr, length, length-drop, not, refl, subst, sym, ◌∙◌}
+use Rattle.std.proofs.Common.{◌≡◌, ◌≢◌, ℕ, zero, suc, ◌+◌, ◌<◌, ◌≤◌, ◌⊎◌, All, Bool, true, false, List, [], ◌∷◌, ◌++◌, ap, arith, cond, drop, inl, inr, length, length-drop, not, refl, subst, sym, ◌∙◌}
 use Rattle.std.specs.Prelude.{Some, if◌then◌else◌, slice_get, slice_index}
-use Rattle.std.specs.List.{range_with_len}
-use Rattle.std.proofs.lemmas.List.Elements.{All-filter, All-head, All-tail}
-use Rattle.std.proofs.lemmas.List.FromFn.{get_or-range_with_len, length-range_with_len}
-use Rattle.std.proofs.lemmas.Option.{same_Some}
+use Rattle.std.proofs.lemmas.List.Elements.{All-head, All-tail}
+use Rattle.std.proofs.lemmas.Option.{get_or_from_slice_get, same_Some, slice_get-get_or, slice_get_within}
 use Rattle.abi_index.specs.BitSet.{is_member, members_of}
 use Rattle.abi_calc.specs.Apart.{AreApart, IsBeside}
 use Rattle.abi_calc.specs.Coroutine.Lists.{own_of, picked}
 use Rattle.abi_calc.specs.Coroutine.States.{rank_of, state_offsets}
+use Rattle.abi_calc.proofs.CoroutineStates.{members_below, rank_member}
 
 -- ---- items at places
 
@@ -49,82 +48,75 @@ picked_at items (l ∷ places) (suc q) k within is =
 
 -- ---- parts that share no byte
 
--- two ways to lie apart, told from the other side
-pub other_way : (o m p n : ℕ) → (o + m ≤ p) ⊎ (p + n ≤ o) → (p + n ≤ o) ⊎ (o + m ≤ p)
-other_way o m p n (inl before) = inr before
-other_way o m p n (inr behind) = inl behind
+-- two parts share no byte
+abbrev pub AreTwoApart : (o m p n : ℕ) → Type 0
+AreTwoApart o m p n = (o + m ≤ p) ⊎ (p + n ≤ o)
 
--- a part lies beside the one at a place
-beside_at : (o m : ℕ) (offsets sizes : List ℕ) (j p n : ℕ) → IsBeside o m offsets sizes → slice_get offsets j ≡ Some p → slice_get sizes j ≡ Some n → (o + m ≤ p) ⊎ (p + n ≤ o)
-beside_at o m [] [] j p n beside here there = absurd (cc)
-beside_at o m [] (y ∷ sizes) j p n beside here there = absurd beside
-beside_at o m (x ∷ offsets) [] j p n beside here there = absurd beside
-beside_at o m (x ∷ offsets) (y ∷ sizes) zero p n beside here there =
-    let a : x ≡ p = same_Some x p here in
-    let b : y ≡ n = same_Some y n there in
-    subst (λ q. (o + m ≤ q) ⊎ (q + n ≤ o)) a (subst (λ k. (o + m ≤ x) ⊎ (x + k ≤ o)) b beside.0)
-beside_at o m (x ∷ offsets) (y ∷ sizes) (suc j) p n beside here there = beside_at o m offsets sizes j p n beside.1 here there
+-- told from the other side
+pub two_swap : (o m p n : ℕ) → AreTwoApart o m p n → AreTwoApart p n o m
+two_swap o m p n (inl h) = inr h
+two_swap o m p n (inr h) = inl h
 
--- the parts at two places share no byte
-pub apart_at : (whole : ℕ) (offsets sizes : List ℕ) (i j o p m n : ℕ) → AreApart whole offsets sizes → i ≢ j → slice_get offsets i ≡ Some o → slice_get offsets j ≡ Some p → slice_get sizes i ≡ Some m → slice_get sizes j ≡ Some n
-    → (o + m ≤ p) ⊎ (p + n ≤ o)
-apart_at whole [] [] i j o p m n apart differ oi pj mi nj = absurd (cc)
-apart_at whole [] (y ∷ sizes) i j o p m n apart differ oi pj mi nj = absurd apart
-apart_at whole (x ∷ offsets) [] i j o p m n apart differ oi pj mi nj = absurd apart
-apart_at whole (x ∷ offsets) (y ∷ sizes) zero zero o p m n apart differ oi pj mi nj = absurd (differ refl)
-apart_at whole (x ∷ offsets) (y ∷ sizes) zero (suc j) o p m n apart differ oi pj mi nj =
-    let a : x ≡ o = same_Some x o oi in
-    let b : y ≡ m = same_Some y m mi in
-    subst (λ q. (q + m ≤ p) ⊎ (p + n ≤ q)) a (subst (λ k. (x + k ≤ p) ⊎ (p + n ≤ x)) b (beside_at x y offsets sizes j p n apart.1 pj nj))
-apart_at whole (x ∷ offsets) (y ∷ sizes) (suc i) zero o p m n apart differ oi pj mi nj =
-    let a : x ≡ p = same_Some x p pj in
-    let b : y ≡ n = same_Some y n nj in
-    other_way p n o m (subst (λ q. (q + n ≤ o) ⊎ (o + m ≤ q)) a (subst (λ k. (x + k ≤ o) ⊎ (o + m ≤ x)) b (beside_at x y offsets sizes i o m apart.1 oi mi)))
-apart_at whole (x ∷ offsets) (y ∷ sizes) (suc i) (suc j) o p m n apart differ oi pj mi nj = apart_at whole offsets sizes i j o p m n apart.2 (λ e. differ (ap suc e)) oi pj mi nj
+-- there is a size for each offset
+pub apart_count : (w : ℕ) (os ms : List ℕ) → AreApart w os ms → length os ≡ length ms
+apart_count w [] [] h = refl
+apart_count w [] (m ∷ ms) h = absurd h
+apart_count w (o ∷ os) [] h = absurd h
+apart_count w (o ∷ os) (m ∷ ms) h = ap suc (apart_count w os ms h.2)
 
--- a part ends inside the whole
-pub inside_at : (whole : ℕ) (offsets sizes : List ℕ) (i o m : ℕ) → AreApart whole offsets sizes → slice_get offsets i ≡ Some o → slice_get sizes i ≡ Some m → o + m ≤ whole
-inside_at whole [] [] i o m apart here there = absurd (cc)
-inside_at whole [] (y ∷ sizes) i o m apart here there = absurd apart
-inside_at whole (x ∷ offsets) [] i o m apart here there = absurd apart
-inside_at whole (x ∷ offsets) (y ∷ sizes) zero o m apart here there = omega (arith, apart.0, same_Some x o here, same_Some y m there)
-inside_at whole (x ∷ offsets) (y ∷ sizes) (suc i) o m apart here there = inside_at whole offsets sizes i o m apart.2 here there
+-- a part beside others is beside each of them
+pub beside_at : (o m : ℕ) (os ms : List ℕ) (j : ℕ) → j < length os → IsBeside o m os ms → AreTwoApart o m (slice_index os j) (slice_index ms j)
+beside_at o m [] [] j low h = absurd (omega (arith, low))
+beside_at o m [] (n ∷ ns) j low h = absurd h
+beside_at o m (p ∷ os) [] j low h = absurd h
+beside_at o m (p ∷ os) (n ∷ ms) zero low h = h.0
+beside_at o m (p ∷ os) (n ∷ ms) (suc j) low h = beside_at o m os ms j (omega (arith, low)) h.1
+
+-- each ends inside
+pub apart_inside : (w : ℕ) (os ms : List ℕ) (j : ℕ) → j < length os → AreApart w os ms → slice_index os j + slice_index ms j ≤ w
+apart_inside w [] [] j low h = absurd (omega (arith, low))
+apart_inside w [] (m ∷ ms) j low h = absurd h
+apart_inside w (o ∷ os) [] j low h = absurd h
+apart_inside w (o ∷ os) (m ∷ ms) zero low h = h.0
+apart_inside w (o ∷ os) (m ∷ ms) (suc j) low h = apart_inside w os ms j (omega (arith, low)) h.2
+
+-- two different ones share no byte
+pub apart_two : (w : ℕ) (os ms : List ℕ) (i j : ℕ) → i < length os → j < length os → i ≢ j → AreApart w os ms → AreTwoApart (slice_index os i) (slice_index ms i) (slice_index os j) (slice_index ms j)
+apart_two w [] [] i j low high other h = absurd (omega (arith, low))
+apart_two w [] (m ∷ ms) i j low high other h = absurd h
+apart_two w (o ∷ os) [] i j low high other h = absurd h
+apart_two w (o ∷ os) (m ∷ ms) zero zero low high other h = absurd (other refl)
+apart_two w (o ∷ os) (m ∷ ms) zero (suc j) low high other h = beside_at o m os ms j (omega (arith, high)) h.1
+apart_two w (o ∷ os) (m ∷ ms) (suc i) zero low high other h = two_swap o m (slice_index os i) (slice_index ms i) (beside_at o m os ms i (omega (arith, low)) h.1)
+apart_two w (o ∷ os) (m ∷ ms) (suc i) (suc j) low high other h = apart_two w os ms i j (omega (arith, low)) (omega (arith, high)) (λ e. other (ap suc e)) h.2
+
+-- the parts at two places
+pub apart_at : (w : ℕ) (os ms : List ℕ) (i j o p m n : ℕ) → AreApart w os ms → i ≢ j → slice_get os i ≡ Some o → slice_get os j ≡ Some p → slice_get ms i ≡ Some m → slice_get ms j ≡ Some n → AreTwoApart o m p n
+apart_at w os ms i j o p m n h other oi pj mi nj =
+    let first : slice_index os i ≡ o = get_or_from_slice_get os i o 0 oi in
+    let second : slice_index os j ≡ p = get_or_from_slice_get os j p 0 pj in
+    let width : slice_index ms i ≡ m = get_or_from_slice_get ms i m 0 mi in
+    let breadth : slice_index ms j ≡ n = get_or_from_slice_get ms j n 0 nj in
+    subst (λ x. AreTwoApart x m p n) first
+    (subst (λ x. AreTwoApart (slice_index os i) x p n) width
+    (subst (λ x. AreTwoApart (slice_index os i) (slice_index ms i) x n) second
+    (subst (AreTwoApart (slice_index os i) (slice_index ms i) (slice_index os j)) breadth (apart_two w os ms i j (slice_get_within os i o oi) (slice_get_within os j p pj) other h))))
+
+-- the part at a place ends inside
+pub inside_at : (w : ℕ) (os ms : List ℕ) (i o m : ℕ) → AreApart w os ms → slice_get os i ≡ Some o → slice_get ms i ≡ Some m → o + m ≤ w
+inside_at w os ms i o m h here there =
+    omega (arith, apart_inside w os ms i (slice_get_within os i o here) h, get_or_from_slice_get os i o 0 here, get_or_from_slice_get ms i m 0 there)
 
 -- ---- promoted locals by rank
 
--- of the numbers of a range that pass a test, the one that stands behind those below it
-passed_at : (test : ℕ → Bool) (low count k : ℕ) → k < count → test (low + k) ≡ true → slice_get (filter test (range_with_len low count)) (length (filter test (range_with_len low k))) ≡ Some (low + k)
-passed_at test low zero k short is = absurd (omega (arith, short))
-passed_at test low (suc count) zero short is =
-    let same : low + 0 ≡ low = omega arith in
-    let here : test low ≡ true = ap test (sym same) ∙ is in
-    rw (here, same) refl
-passed_at test low (suc count) (suc k) short is =
-    let next : low + 1 + k ≡ low + suc k = omega arith in
-    by (test low) (subst (λ n. slice_get (filter test (range_with_len (low + 1) count)) (length (filter test (range_with_len (low + 1) k))) ≡ Some n) next
-    (passed_at test (low + 1) count k (omega (arith, short)) (ap test next ∙ is)))
-  where
-    by : (b : Bool) → slice_get (filter test (range_with_len (low + 1) count)) (length (filter test (range_with_len (low + 1) k))) ≡ Some (low + suc k)
-        → slice_get (cond b (low ∷ filter test (range_with_len (low + 1) count)) (filter test (range_with_len (low + 1) count)))
-        (length (cond b (low ∷ filter test (range_with_len (low + 1) k)) (filter test (range_with_len (low + 1) k)))) ≡ Some (low + suc k)
-    by true later = later
-    by false later = later
-
 -- a promoted local stands at its rank among the promoted ones
-pub ranked : (promoted : List Bool) (local : ℕ) → local < length promoted → is_member promoted local ≡ true → slice_get (members_of promoted) (rank_of promoted local) ≡ Some local
-ranked promoted local within is =
-    let zeroth : 0 + local ≡ local = omega arith in
-    subst (λ n. slice_get (members_of promoted) (rank_of promoted local) ≡ Some n) zeroth
-    (passed_at (is_member promoted) 0 (length promoted - 0) local (omega (arith, within)) (ap (is_member promoted) zeroth ∙ is))
+pub ranked : (promoted : List Bool) (local : ℕ) → is_member promoted local ≡ true → slice_get (members_of promoted) (rank_of promoted local) ≡ Some local
+ranked promoted local is =
+    slice_get-get_or (members_of promoted) (rank_of promoted local) 0 (rank_member promoted local is 0).0 ∙ ap (λ l. Some l) (rank_member promoted local is 0).1
 
 -- the promoted locals are in range
 pub members_within : (promoted : List Bool) (count : ℕ) → length promoted ≡ count → All (λ l. l < count) (members_of promoted)
-members_within promoted count size =
-    All-filter (is_member promoted) (λ l. l < count) (range_with_len 0 (length promoted - 0))
-    (λ k d short.
-    let long : length (range_with_len 0 (length promoted - 0)) ≡ length promoted - 0 = length-range_with_len 0 (length promoted - 0) in
-    let within : k < length promoted - 0 = omega (arith, short, long) in
-    omega (arith, get_or-range_with_len 0 (length promoted - 0) k d within, within, size))
+members_within promoted count size = subst (λ n. All (λ l. l < n) (members_of promoted)) size (members_below promoted)
 
 -- ---- the offsets of a state's locals
 

@@ -1,5 +1,5 @@
 -- Which locals of a coroutine are promoted, and what is known of those that aren't.
-use Rattle.std.proofs.Common.{◌≡◌, ℕ, zero, suc, ◌+◌, ◌-◌, ◌<◌, ◌≤◌, ◌==◌, ◌||◌, ◌&&◌, All, Bool, true, false, List, [], ◌∷◌, add-one, ap, arith, cond, filter, fold, get_or, inl, inr, length, map, nat_lt, not, refl, subst, sym, ◌∙◌}
+use Rattle.std.proofs.Common.{◌≡◌, ℕ, zero, suc, ◌+◌, ◌-◌, ◌<◌, ◌≤◌, ◌==◌, ◌||◌, ◌&&◌, All, Bool, true, false, List, [], ◌∷◌, add-one, ap, ap₂, arith, cond, filter, fold, get_or, inl, inr, length, map, nat_lt, not, refl, subst, sym, ◌∙◌}
 use Rattle.std.specs.Prelude.{if◌then◌else◌}
 use Rattle.std.specs.List.{list_any, range_with_len}
 use Rattle.std.proofs.lemmas.Bool.{cases_Bool, cases_lt, cases_order, eq-eqb, eqb-false, eqb-true, le-ltb, lt-ltb}
@@ -352,3 +352,38 @@ none_is_promoted states conflicts may =
     let is : promoted_of states conflicts ≡ held_by_several states (row_count conflicts)
     = ap (λ d. if nat_lt (used_count states d) 2 then map (λ (x : Bool). true) d else d) (rows_still states conflicts may) ∙ chosen in
     ap members_of is ∙ empty_members (held_by_several states (row_count conflicts)) 0 (length (held_by_several states (row_count conflicts)) - 0) none
+
+-- ---- relations with the same entries
+
+-- a list keeps the same numbers under tests that agree on them
+same_kept : (f g : ℕ → Bool) (low count : ℕ) → ((k : ℕ) → k < low + count → f k ≡ g k) → filter f (range_with_len low count) ≡ filter g (range_with_len low count)
+same_kept f g low zero same = refl
+same_kept f g low (suc count) same =
+    ap₂ (λ b xs. cond b (low ∷ xs) xs) (same low (omega arith)) (same_kept f g (low + 1) count (λ k short. same k (omega (arith, short))))
+
+-- they have the same columns in each row
+same_columns : (m n : Relation) → row_count m ≡ row_count n → column_count m ≡ column_count n → ((r c : ℕ) → r < row_count m → c < column_count m → is_entry m r c ≡ is_entry n r c) → (r : ℕ) → columns_of m r ≡ columns_of n r
+same_columns m n rows columns entries r =
+    same_kept (is_entry m r) (is_entry n r) 0 (column_count m) (λ c short. entry c (omega (arith, short))) ∙ ap (λ count. filter (is_entry n r) (range_with_len 0 count)) columns
+  where
+    entry : (c : ℕ) → c < column_count m → is_entry m r c ≡ is_entry n r c
+    entry c short = elim (cases_lt r (row_count m)) [
+      | inl within ↦ entries r c within short
+      | inr past ↦ ap (λ row. has_number row c) (get_or_past m.rows r [] past ∙ sym (get_or_past n.rows r [] (omega (arith, past, rows))))
+    ]
+
+-- so the same locals are promoted
+pub same_promoted : (states : List (List ℕ)) (m n : Relation) → row_count m ≡ row_count n → column_count m ≡ column_count n
+    → ((r c : ℕ) → r < row_count m → c < column_count m → is_entry m r c ≡ is_entry n r c) → promoted_of states m ≡ promoted_of states n
+same_promoted states m n rows columns entries = λ i. promoted_by (λ r. same_columns m n rows columns entries r i) (rows i)
+  where
+    -- the locals that these columns promote, row by row
+    after : (ℕ → List ℕ) → ℕ → List Bool
+    after columns_at count =
+        fold
+        (λ promoted row. if is_member promoted row then promoted else fold
+        (λ set column. if are_settled states row column set then set else promote (if nat_lt (length (columns_at column)) (length (columns_at row)) then row else column) set) promoted (columns_at row))
+        (held_by_several states count) (source_order count)
+
+    promoted_by : (ℕ → List ℕ) → ℕ → List Bool
+    promoted_by columns_at count = if nat_lt (used_count states (after columns_at count)) 2 then map (λ local. true) (after columns_at count) else after columns_at count

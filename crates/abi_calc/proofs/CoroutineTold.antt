@@ -1,6 +1,6 @@
 -- Where the shared fields and those of each state lie, and which numbers tell the states apart.
 use Rattle.std.proofs.Common.{◌≡◌, ◌≢◌, ℕ, ◌+◌, ◌<◌, ◌≤◌, Bool, true, false, List, [], ◌∷◌, ◌++◌, ◌∙◌, ap, arith, drop, get_or, inl, inr, length, map, refl, subst, suc, sym, zero}
-use Rattle.std.specs.Prelude.{◌⊎◌, All, slice_get, slice_index}
+use Rattle.std.specs.Prelude.{All, slice_get, slice_index}
 use Rattle.std.specs.List.{AllPairs, cons_option}
 use Rattle.std.proofs.lemmas.List.{append-nil, get_or-map, length-map}
 use Rattle.std.proofs.lemmas.List.Elements.{All-head, All-tail}
@@ -8,51 +8,11 @@ use Rattle.abi_index.specs.BitSet.{is_member, members_of}
 use Rattle.abi_calc.specs.Apart.{AreApart, IsBeside}
 use Rattle.abi_calc.specs.Coroutine.Lists.{own_of, picked}
 use Rattle.abi_calc.specs.Coroutine.States.{rank_of, state_offsets}
+use Rattle.abi_calc.proofs.CoroutinePlaces.{AreTwoApart, apart_count, apart_inside, apart_two, beside_at, two_swap}
 use Rattle.abi_calc.proofs.CoroutineStates.{rank_member}
 use Rattle.abi_calc.proofs.EnumPlaces.{wider}
 
 -- ---- parts that share no byte
-
--- two parts share no byte
-abbrev pub AreTwoApart : (o m p n : ℕ) → Type 0
-AreTwoApart o m p n = (o + m ≤ p) ⊎ (p + n ≤ o)
-
-pub two_swap : (o m p n : ℕ) → AreTwoApart o m p n → AreTwoApart p n o m
-two_swap o m p n (inl h) = inr h
-two_swap o m p n (inr h) = inl h
-
--- there is a size for each offset
-pub apart_count : (w : ℕ) (os ms : List ℕ) → AreApart w os ms → length os ≡ length ms
-apart_count w [] [] h = refl
-apart_count w [] (m ∷ ms) h = absurd h
-apart_count w (o ∷ os) [] h = absurd h
-apart_count w (o ∷ os) (m ∷ ms) h = ap suc (apart_count w os ms h.2)
-
--- a part beside others is beside each of them
-pub beside_at : (o m : ℕ) (os ms : List ℕ) (j : ℕ) → j < length os → IsBeside o m os ms → AreTwoApart o m (slice_index os j) (slice_index ms j)
-beside_at o m [] [] j low h = absurd (omega (arith, low))
-beside_at o m [] (n ∷ ns) j low h = absurd h
-beside_at o m (p ∷ os) [] j low h = absurd h
-beside_at o m (p ∷ os) (n ∷ ms) zero low h = h.0
-beside_at o m (p ∷ os) (n ∷ ms) (suc j) low h = beside_at o m os ms j (omega (arith, low)) h.1
-
--- each ends inside
-pub apart_inside : (w : ℕ) (os ms : List ℕ) (j : ℕ) → j < length os → AreApart w os ms → slice_index os j + slice_index ms j ≤ w
-apart_inside w [] [] j low h = absurd (omega (arith, low))
-apart_inside w [] (m ∷ ms) j low h = absurd h
-apart_inside w (o ∷ os) [] j low h = absurd h
-apart_inside w (o ∷ os) (m ∷ ms) zero low h = h.0
-apart_inside w (o ∷ os) (m ∷ ms) (suc j) low h = apart_inside w os ms j (omega (arith, low)) h.2
-
--- two different ones share no byte
-pub apart_two : (w : ℕ) (os ms : List ℕ) (i j : ℕ) → i < length os → j < length os → i ≢ j → AreApart w os ms → AreTwoApart (slice_index os i) (slice_index ms i) (slice_index os j) (slice_index ms j)
-apart_two w [] [] i j low high other h = absurd (omega (arith, low))
-apart_two w [] (m ∷ ms) i j low high other h = absurd h
-apart_two w (o ∷ os) [] i j low high other h = absurd h
-apart_two w (o ∷ os) (m ∷ ms) zero zero low high other h = absurd (other refl)
-apart_two w (o ∷ os) (m ∷ ms) zero (suc j) low high other h = beside_at o m os ms j (omega (arith, high)) h.1
-apart_two w (o ∷ os) (m ∷ ms) (suc i) zero low high other h = two_swap o m (slice_index os i) (slice_index ms i) (beside_at o m os ms i (omega (arith, low)) h.1)
-apart_two w (o ∷ os) (m ∷ ms) (suc i) (suc j) low high other h = apart_two w os ms i j (omega (arith, low)) (omega (arith, high)) (λ e. other (ap suc e)) h.2
 
 -- of two runs of parts, those of the first
 beside_front : (o m : ℕ) (xs bs ms ns : List ℕ) → length xs ≡ length ms → IsBeside o m (xs ++ bs) (ms ++ ns) → IsBeside o m xs ms

@@ -66,8 +66,8 @@ pub mod CoroutineLayout
 pub mod CoroutineAnswers
 pub mod CoroutineTold
 pub mod CoroutineApart
-pub mod CoroutineCall
 pub mod CoroutineShared
 pub mod OneCoroutine
+pub mod CoroutineDeep
 pub mod SomeCoroutine
 pub mod SameCoroutine

@@ -61,12 +61,12 @@ abbrev pub HasSameResult : {H K : Type 0} → Result (LayoutData ℕ ℕ) (Layou
 HasSameResult {H} {K} r P = (s : Result (LayoutData ℕ ℕ) (LayoutCalculatorError K)) × P s × IsSameResult r s
 
 -- of a layout it is that layout
-of_ok : (H : Type 0) {K : Type 0} (P : Result (LayoutData ℕ ℕ) (LayoutCalculatorError K) → Type 0) (l : LayoutData ℕ ℕ) → HasSameResult {H = H} (Ok l) P → P (Ok l)
+pub of_ok : (H : Type 0) {K : Type 0} (P : Result (LayoutData ℕ ℕ) (LayoutCalculatorError K) → Type 0) (l : LayoutData ℕ ℕ) → HasSameResult {H = H} (Ok l) P → P (Ok l)
 of_ok H P l (Ok b, h, is) = subst (λ x. P (Ok x)) (sym is) h
 of_ok H P l (Err error, h, is) = elim is [ ]
 
 -- of an error it is one of its name
-of_err : {H K : Type 0} (P : Result (LayoutData ℕ ℕ) (LayoutCalculatorError K) → Type 0) (e : LayoutCalculatorError H) → HasSameResult (Err e) P → HasSameError e (λ error. P (Err error))
+pub of_err : {H K : Type 0} (P : Result (LayoutData ℕ ℕ) (LayoutCalculatorError K) → Type 0) (e : LayoutCalculatorError H) → HasSameResult (Err e) P → HasSameError e (λ error. P (Err error))
 of_err P e (Ok b, h, is) = elim is [ ]
 of_err P e (Err error, h, is) = (error, h, is)
 

@@ -19,3 +19,4 @@ mod simd;
 mod unions;
 
 pub use calculator::LayoutCalculator;
+pub use coroutine::state_tag;

@@ -1,1 +1,12 @@
 pub mod ConventionLemmas
+pub mod OneFieldLemmas
+pub mod PeelLemmas
+pub mod ComplexLemmas
+pub mod VectorLemmas
+pub mod VariantPaddingLemmas
+pub mod RunsLemmas
+pub mod RepeatedLemmas
+pub mod PlacesLemmas
+pub mod RegisterLemmas
+pub mod UniformLemmas
+pub mod UniformWalkLemmas

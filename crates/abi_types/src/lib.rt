@@ -4,9 +4,13 @@
 mod c_variadic;
 mod canon_abi;
 mod extern_abi;
+mod homogeneous;
 mod reg;
+mod ty;
 
 pub use c_variadic::CVariadicStatus;
 pub use canon_abi::{ArmCall, CanonAbi, InterruptKind, X86Call};
 pub use extern_abi::{ExternAbi, all_names};
+pub use homogeneous::{Heterogeneous, HomogeneousAggregate};
 pub use reg::Reg;
+pub use ty::{Layout, TyAbiInterface, TyAndLayout};

@@ -143,7 +143,7 @@ fn listed<'a>(
 }
 
 /// The layout of the coroutine, which has to be what the call asks for.
-#[tactic(auto, using(abi_calc::proofs::CoroutineCall::one_tag))]
+#[tactic(auto, using(abi_calc::proofs::OneCoroutine::one_tag))]
 pub(crate) fn answered(
     rt: &impl Abort,
     alloc: Global,

@@ -40,13 +40,14 @@ out_of_memory = refused (codes "OutOfMemory")
 
 abbrev pub error_name : LayError → List ℕ
 error_name lay.UnlawfulDataLayout = codes "UnlawfulDataLayout"
-error_name lay.NotYet = codes "NotYet"
 error_name lay.BadIndex = codes "BadIndex"
 error_name lay.UnknownSpace = codes "UnknownSpace"
 error_name lay.BadRange = codes "BadRange"
 error_name lay.BadAlign = codes "BadAlign"
 error_name lay.DuplicateDiscriminant = codes "DuplicateDiscriminant"
 error_name lay.DiscriminantTooWide = codes "DiscriminantTooWide"
+error_name lay.NoState = codes "NoState"
+error_name lay.LocalTwice = codes "LocalTwice"
 error_name lay.UnexpectedUnsized = codes "UnexpectedUnsized"
 error_name lay.SizeOverflow = codes "SizeOverflow"
 error_name lay.EmptyUnion = codes "EmptyUnion"

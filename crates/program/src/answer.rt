@@ -51,13 +51,14 @@ fn error_name(error: LayError) -> &'static str
 {
     match error {
         LayError::UnlawfulDataLayout => "UnlawfulDataLayout",
-        LayError::NotYet => "NotYet",
         LayError::BadIndex => "BadIndex",
         LayError::UnknownSpace => "UnknownSpace",
         LayError::BadRange => "BadRange",
         LayError::BadAlign => "BadAlign",
         LayError::DuplicateDiscriminant => "DuplicateDiscriminant",
         LayError::DiscriminantTooWide => "DiscriminantTooWide",
+        LayError::NoState => "NoState",
+        LayError::LocalTwice => "LocalTwice",
         LayError::UnexpectedUnsized => "UnexpectedUnsized",
         LayError::SizeOverflow => "SizeOverflow",
         LayError::EmptyUnion => "EmptyUnion",

@@ -78,7 +78,7 @@ IsAdded-enum dl law old new i repr variants layout all faultless enumed put exac
     (each_of dl law repr numbers variants faultless long) (tags_of dl law repr numbers variants faultless long) all refl fits layout enumed)
 
 -- errors of one name are told alike
-same_name : {H K : Type 0} (e : LayoutCalculatorError H) (f : LayoutCalculatorError K) → IsSameError e f → lay_error e ≡ lay_error f
+pub same_name : {H K : Type 0} (e : LayoutCalculatorError H) (f : LayoutCalculatorError K) → IsSameError e f → lay_error e ≡ lay_error f
 same_name (calculator.UnexpectedUnsized a) (calculator.UnexpectedUnsized b) h = refl
 same_name calculator.SizeOverflow calculator.SizeOverflow h = refl
 same_name calculator.EmptyUnion calculator.EmptyUnion h = refl
@@ -90,7 +90,7 @@ same_name calculator.OutOfMemory calculator.OutOfMemory h = refl
 same_name _ _ h = absurd h
 
 -- either it is want of memory, or it isn't
-memory_or : {H : Type 0} (e : LayoutCalculatorError H) → (lay_error e ≡ OutOfMemory) ⊎ (e ≡ calculator.OutOfMemory → ⊥)
+pub memory_or : {H : Type 0} (e : LayoutCalculatorError H) → (lay_error e ≡ OutOfMemory) ⊎ (e ≡ calculator.OutOfMemory → ⊥)
 memory_or (calculator.UnexpectedUnsized a) = inr (λ e. cc)
 memory_or calculator.SizeOverflow = inr (λ e. cc)
 memory_or calculator.EmptyUnion = inr (λ e. cc)

@@ -1,13 +1,12 @@
 -- Nodes for the variants of an enum.
-use Rattle.std.proofs.Common.{◌≡◌, ℕ, ◌+◌, ◌<◌, ◌≤◌, List, [], ◌∷◌, ◌++◌, Some, true, false, length, map, take, get_or, arith, refl, sym, ap, ◌∙◌, subst}
-use Rattle.std.specs.Prelude.{Vec, All, nat_lt, slice_get, option_map, ◌||◌}
-use Rattle.std.specs.List.{list_any, list_all}
+use Rattle.std.proofs.Common.{◌≡◌, ℕ, ◌+◌, ◌<◌, ◌≤◌, List, [], ◌∷◌, ◌++◌, Some, true, length, take, get_or, arith, refl, sym, ap, ◌∙◌, subst}
+use Rattle.std.specs.Prelude.{Vec, All, nat_lt, slice_get, option_map}
+use Rattle.std.specs.List.{list_all}
 use Rattle.std.specs.Cmp.Derive.{both_true}
 use Rattle.std.specs.declared.alloc.Global.{Global}
-use Rattle.std.proofs.lemmas.Bool.{lt-ltb, le-ltb, or_right}
-use Rattle.std.proofs.lemmas.List.{take_more, take_all, length-map, length-take-le, get_or-map}
+use Rattle.std.proofs.lemmas.Bool.{lt-ltb}
+use Rattle.std.proofs.lemmas.List.{take_more, length-map, length-take-le, get_or-map}
 use Rattle.std.proofs.lemmas.List.Elements.{All-nil, All-cons, All-head, All-tail, All-append, All-weaker, All-get_or}
-use Rattle.std.proofs.lemmas.List.Folds.{list_any_at}
 use Rattle.std.proofs.lemmas.Option.{slice_get-get_or}
 use Rattle.abi_scalar.specs.declared.variants.VariantLayout.{VariantLayout}
 use Rattle.abi_scalar.specs.Shape.{listed_offsets}
@@ -17,52 +16,10 @@ use Rattle.rustc_abi.specs.declared.node.Node.{Node}
 use Rattle.rustc_abi.specs.Placed.{Placed, Layout, tagged, Parts, Arms, no_arms, arm}
 use Rattle.rustc_abi.specs.Nodes.{placed_in, parts_at, arms_in, own_fields, encoding_of, tag_offset, meaning, types_in, placed_at, Keeps}
 use Rattle.rustc_abi.specs.Enums.{arms_at}
-use Rattle.rustc_abi.specs.Laying.{most_fields, has_bad_index}
 use Rattle.rustc_abi.specs.Adding.{IsPut, AreArms, all_at, variants_in, is_node}
 use Rattle.rustc_abi.proofs.NodesLemmas.{length-types_in, Keeps-trans}
 use Rattle.rustc_abi.proofs.ListLemmas.{all_below}
 use Rattle.rustc_abi.proofs.LayLemmas.{all_at-kept}
-
--- ---- how many fields there are
-
-any_long : (variants : List (List Placed)) (children : List (Vec ℕ Global)) → map length variants ≡ map (λ c. length c.items) children →
-    list_any (λ fields. nat_lt most_fields (length fields)) variants ≡ list_any (λ c. nat_lt most_fields (length c.items)) children
-any_long [] [] same = refl
-any_long [] (c ∷ children) same = absurd (cc)
-any_long (v ∷ variants) [] same = absurd (cc)
-any_long (v ∷ variants) (c ∷ children) same =
-    let here : length v ≡ length c.items = cc in
-    let later : map length variants ≡ map (λ c. length c.items) children = cc in
-    ap (λ n. nat_lt most_fields n || list_any (λ fields. nat_lt most_fields (length fields)) variants) here
-    ∙ ap (λ b. nat_lt most_fields (length c.items) || b) (any_long variants children later)
-
--- whether an index can name the variants and the fields of each is told by how many there are
-pub bad_index_by : (variants : List (List Placed)) (children : List (Vec ℕ Global)) → map length variants ≡ map (λ c. length c.items) children →
-    has_bad_index variants ≡ (nat_lt most_fields (length children) || list_any (λ c. nat_lt most_fields (length c.items)) children)
-bad_index_by variants children same =
-    let many : length variants ≡ length children =
-    sym (length-map variants length) ∙ ap length same ∙ length-map children (λ c. length c.items) in
-    ap (λ n. nat_lt most_fields n || list_any (λ fields. nat_lt most_fields (length fields)) variants) many
-    ∙ ap (λ b. nat_lt most_fields (length children) || b) (any_long variants children same)
-
--- a variant has too many fields
-pub has_long : (variants : List (List Placed)) (children : List (Vec ℕ Global)) (i : ℕ) (c : Vec ℕ Global) → i < length children → c ≡ get_or children i c →
-    most_fields < length c.items → map length variants ≡ map (λ c. length c.items) children → true ≡ has_bad_index variants
-has_long variants children i c lt at long same =
-    let test : nat_lt most_fields (length (get_or children i c).items) ≡ true =
-    ap (λ v. nat_lt most_fields (length v.items)) (sym at) ∙ lt-ltb most_fields (length c.items) long in
-    let some = list_any_at (λ v. nat_lt most_fields (length v.items)) children i c lt test in
-    sym (bad_index_by variants children same ∙ or_right (nat_lt most_fields (length children)) _ some)
-
--- neither the variants nor the fields of one are too many
-pub has_no_long : (variants : List (List Placed)) (children : List (Vec ℕ Global)) (i : ℕ) → length children ≤ i → length children ≤ most_fields →
-    list_any (λ c. nat_lt most_fields (length c.items)) (take i children) ≡ false → map length variants ≡ map (λ c. length c.items) children → false ≡ has_bad_index variants
-has_no_long variants children i end few none same =
-    let all : take i children ≡ children = take_all i children end in
-    let here : list_any (λ c. nat_lt most_fields (length c.items)) children ≡ false = subst (λ cs. list_any (λ c. nat_lt most_fields (length c.items)) cs ≡ false) all none in
-    sym (
-    bad_index_by variants children same ∙ ap (λ b. b || list_any (λ c. nat_lt most_fields (length c.items)) children) (le-ltb most_fields (length children) few) ∙ here
-    )
 
 -- ---- arms
 

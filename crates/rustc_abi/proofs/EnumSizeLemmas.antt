@@ -1,6 +1,6 @@
--- How large an enum is, and when it is too large, from the calculator's answer.
-use Rattle.std.proofs.Common.{◌≡◌, ℕ, zero, suc, ◌<◌, List, [], ◌∷◌, map, length, true, None, arith, refl, sym, ap, subst, ◌∙◌, inl, inr, All, Result, Ok, Err, ⊎_elim}
-use Rattle.std.specs.Prelude.{◌⊎◌}
+-- How large an enum is, what its layout is, and when it is too large, from the calculator's answer.
+use Rattle.std.proofs.Common.{◌≡◌, ℕ, zero, suc, ◌<◌, ◌≤◌, List, [], ◌∷◌, map, length, true, None, arith, refl, sym, ap, subst, ◌∙◌, inl, inr, All, Result, Ok, Err, ⊎_elim}
+use Rattle.std.specs.Prelude.{◌⊎◌, ⊤}
 use Rattle.std.proofs.lemmas.List.{length-map}
 use Rattle.std.proofs.lemmas.List.Elements.{All-head, All-tail, All-nil, All-cons}
 use Rattle.abi_base.specs.declared.data_layout.TargetDataLayout.{TargetDataLayout}
@@ -12,7 +12,8 @@ use Rattle.abi_scalar.specs.declared.repr.ReprOptions.{ReprOptions}
 use Rattle.abi_scalar.specs.declared.variants.VariantLayout.{VariantLayout}
 use Rattle.abi_scalar.specs.declared.variants.TagEncoding.{TagEncoding}
 use Rattle.abi_scalar.specs.declared.scalar.Scalar.{Scalar}
-use Rattle.abi_scalar.specs.declared.variants.Variants.TheVariants.{Multiple}
+use Rattle.abi_scalar.specs.declared.variants.Variants.{Variants as LayoutVariants}
+use Rattle.abi_scalar.specs.declared.variants.Variants.TheVariants.{Empty, Multiple, Single}
 use Rattle.abi_scalar.specs.Lawful.{IsLawfulLayout}
 use Rattle.abi_scalar.specs.Shape.{listed_offsets}
 use Rattle.abi_scalar.specs.Simple.{never_layout}
@@ -41,17 +42,17 @@ use Rattle.rustc_abi.specs.Error.{lay_error}
 use Rattle.rustc_abi.specs.Nodes.{parts_at}
 use Rattle.rustc_abi.specs.Enums.{IsCalculated, IsEnumed, IsTagInteger, arms_at, counted, discriminants_of, layouts_of, numbered_from}
 use Rattle.rustc_abi.specs.Laying.{enum_fault, placed_enum, placed_variants}
-use Rattle.rustc_abi.specs.Least.{HasLeastStructs, HaveLeastArms, HaveLeastAt, IsEnumSized, IsEnumTooLarge, IsTooLargeBy, fields_of, variants_of}
+use Rattle.rustc_abi.specs.Least.{IsEnumSized, IsLeast, IsEnumTooLarge, IsTooLargeBy, fields_of, variants_of}
 use Rattle.rustc_abi.proofs.ArmsLemmas.{EachApart, apart_behind, apart_beside}
 use Rattle.rustc_abi.proofs.LaidLemmas.{IsWhole, aligns_of, asked_sized, each_lawful, each_of, tags_of}
 use Rattle.rustc_abi.proofs.TagIntegerLemmas.{tag_integer_one}
 use Rattle.abi_scalar.specs.declared.error.LayoutCalculatorError.TheVariants as calculator
 
--- the parts are the types that were put at the offsets
-pub fields_back : (offsets : List ℕ) (ps : List Placed) → length offsets ≡ length ps → fields_of (parts_at offsets ps) ≡ ps
+-- the parts are the types that were put at the offsets, of which there are enough
+pub fields_back : (offsets : List ℕ) (ps : List Placed) → length ps ≤ length offsets → fields_of (parts_at offsets ps) ≡ ps
 fields_back [] [] e = refl
 fields_back [] (p ∷ ps) e = absurd (omega (arith, e))
-fields_back (o ∷ offsets) [] e = absurd (omega (arith, e))
+fields_back (o ∷ offsets) [] e = refl
 fields_back (o ∷ offsets) (p ∷ ps) e = ap (λ rest. p ∷ rest) (fields_back offsets ps (omega (arith, e)))
 
 -- there is an offset for each part
@@ -68,11 +69,11 @@ variants_back size [] numbers (ps ∷ variants) apart long = absurd apart
 variants_back size (l ∷ layouts) numbers [] apart long = absurd apart
 variants_back size (l ∷ layouts) [] (ps ∷ variants) apart long = absurd (omega (arith, long))
 variants_back size (l ∷ layouts) (n ∷ numbers) (ps ∷ variants) apart long =
-    let here : fields_of (parts_at l.field_offsets ps) ≡ ps = fields_back l.field_offsets ps (apart_long size l.field_offsets (map size_of ps) apart.0 ∙ length-map ps size_of) in
+    let here : fields_of (parts_at l.field_offsets ps) ≡ ps = fields_back l.field_offsets ps (omega (arith, apart_long size l.field_offsets (map size_of ps) apart.0 ∙ length-map ps size_of)) in
     ap (λ qs. qs ∷ variants_of (arms_at layouts numbers variants)) here ∙ ap (λ rest. ps ∷ rest) (variants_back size layouts numbers variants apart.1 (omega (arith, long)))
 
 -- an error that is told as that of a size is it
-size_error : (error : LayoutCalculatorError Placed) → SizeOverflow ≡ lay_error error → error ≡ calculator.SizeOverflow
+pub size_error : (error : LayoutCalculatorError Placed) → SizeOverflow ≡ lay_error error → error ≡ calculator.SizeOverflow
 size_error (calculator.UnexpectedUnsized f) e = absurd (cc)
 size_error calculator.SizeOverflow e = refl
 size_error calculator.EmptyUnion e = absurd (cc)
@@ -91,6 +92,14 @@ fact_at : (P : List Placed → Type 0) → P [] → (variants : List (List Place
 fact_at P none [] i h = none
 fact_at P none (ps ∷ variants) zero h = All-head P ps variants h
 fact_at P none (ps ∷ variants) (suc i) h = fact_at P none variants i (All-tail P ps variants h)
+
+-- What the layout of these variants is: of one that is left, each field has an offset, and the size is the least; several are laid
+-- apart, and the size is what their lists allow.
+abbrev pub IsShaped : TargetDataLayout → ReprOptions → (numbers : List ℕ) → (variants : List (List Placed)) → Layout → LayoutVariants ℕ ℕ → Type 0
+IsShaped dl repr numbers variants l Empty = ⊤
+IsShaped dl repr numbers variants l (Single i) =
+    (i < length variants) × (length (listed_offsets l.fields) ≡ length (variant_at variants i)) × IsLeastSize dl repr AlwaysSized (map layout_of (variant_at variants i)) l.size
+IsShaped dl repr numbers variants l (Multiple tag encoding field layouts) = EachApart l.size variants layouts × IsEnumSized dl repr numbers variants l.size
 
 module _ (dl : TargetDataLayout) (law : IsLawfulDataLayout dl) (repr : ReprOptions) (numbers : List ℕ) (variants : List (List Placed)) (none : enum_fault dl repr numbers variants ≡ None)
     (long : length numbers ≡ length variants) (whole : All (All (IsWhole dl)) variants) where
@@ -165,44 +174,42 @@ module _ (dl : TargetDataLayout) (law : IsLawfulDataLayout dl) (repr : ReprOptio
 
   -- ---- how large it is
 
-  module _ (all : Variants) (is : numbers ≡ discriminants_of all)
-      (each_at : (i : ℕ) (offsets : List ℕ) → i < length variants → length offsets ≡ length (variant_at variants i) → HaveLeastAt dl all i (parts_at offsets (variant_at variants i)))
-      (each_arm : (size : ℕ) (layouts : List (VariantLayout ℕ)) → EachApart size variants layouts → HaveLeastArms dl all (arms_at layouts numbers variants)) where
-    least_one : (i : ℕ) → path_of true repr (layouts_of variants) ≡ OneList i → (l : Layout) → IsSingleAnswer layout_of (λ i. i) 0 i dl repr AlwaysSized Enabled (variant_at variants i) (Ok l) →
-        HasLeastStructs dl (enum repr all) (placed_enum dl numbers variants l)
-    least_one i way l h =
-        let ps : List Placed = variant_at variants i in
-        let good = good_list layout_of (λ i. i) 0 dl repr AlwaysSized ps h.0 law (lawful_at i) (aligns_of dl law repr numbers variants none long) tt tt h.1 in
-        let count : length (listed_offsets h.0.fields) ≡ length ps = apart_long h.0.size (listed_offsets h.0.fields) (map size_of ps) good.apart ∙ length-map ps size_of in
-        subst (λ m. HasLeastStructs dl (enum repr all) (placed_enum dl numbers variants m)) (sym h.2) (
-          subst (λ qs. IsLeastSize dl repr AlwaysSized (map layout_of qs) h.0.size) (sym (fields_back (listed_offsets h.0.fields) ps count)) good.least,
-          each_at i (listed_offsets h.0.fields) (index_within layout_of repr variants true i (λ e. absurd (cc)) way) count,
-        )
+  shaped_one : (i : ℕ) → path_of true repr (layouts_of variants) ≡ OneList i → (l : Layout) → IsSingleAnswer layout_of (λ i. i) 0 i dl repr AlwaysSized Enabled (variant_at variants i) (Ok l) → IsShaped dl repr numbers variants l l.variants
+  shaped_one i way l h =
+      let ps : List Placed = variant_at variants i in
+      let good = good_list layout_of (λ i. i) 0 dl repr AlwaysSized ps h.0 law (lawful_at i) (aligns_of dl law repr numbers variants none long) tt tt h.1 in
+      let count : length (listed_offsets h.0.fields) ≡ length ps = apart_long h.0.size (listed_offsets h.0.fields) (map size_of ps) good.apart ∙ length-map ps size_of in
+      subst (λ (m : Layout). IsShaped dl repr numbers variants m m.variants) (sym h.2) (index_within layout_of repr variants true i (λ e. absurd (cc)) way, count, good.least)
 
-    -- several variants, by what tells them apart
-    least_arms : (l : Layout) (tag : Scalar) (encoding : TagEncoding ℕ) (field : ℕ) (layouts : List (VariantLayout ℕ)) → l.variants ≡ Multiple tag encoding field layouts → EachApart l.size variants layouts →
-        IsEnumSized dl repr numbers variants l.size → HasLeastStructs dl (enum repr all) (placed_enum dl numbers variants l)
-    least_arms l tag encoding field layouts told apart size =
-        subst (λ vs. HasLeastStructs dl (enum repr all) (placed_variants dl numbers variants l vs)) (sym told) (
-          subst (λ qs. IsEnumSized dl repr (discriminants_of all) qs l.size) (sym (variants_back l.size layouts numbers variants apart long)) (subst (λ ns. IsEnumSized dl repr ns variants l.size) is size),
-          each_arm l.size layouts apart,
-        )
+  shaped_arms : (l : Layout) (tag : Scalar) (encoding : TagEncoding ℕ) (field : ℕ) (layouts : List (VariantLayout ℕ)) → l.variants ≡ Multiple tag encoding field layouts → EachApart l.size variants layouts →
+      IsEnumSized dl repr numbers variants l.size → IsShaped dl repr numbers variants l l.variants
+  shaped_arms l tag encoding field layouts told apart size = subst (IsShaped dl repr numbers variants l) (sym told) (apart, size)
 
-    least_by : (path : Path) → path_of true repr (layouts_of variants) ≡ path → (l : Layout) → Answers path (Ok l) → HasLeastStructs dl (enum repr all) (placed_enum dl numbers variants l)
-    least_by NoValue way l h =
-        let same : never_layout dl ≡ l = cc in subst (λ m. HasLeastStructs dl (enum repr all) (placed_enum dl numbers variants m)) same tt
-    least_by (OneList i) way l h = least_one i way l h
-    least_by Several way l h =
-        let aligns = aligns_of dl law repr numbers variants none long in
-        let some = several_some layout_of repr variants true way in
-        let each = each_of dl law repr numbers variants none long in
-        let tags = tags_of dl law repr numbers variants none long in
-        let size = enum_size layout_of dl law repr (IsTagInteger dl repr) variants (numbered_from 0 numbers) aligns lawful some each tags l h in
-        ⊎_elim
-        (λ t. least_arms l t.tag _ t.field t.layouts t.told (apart_behind l.size _ variants t.layouts t.apart) size)
-        (λ t. least_arms l t.tag _ t.field t.layouts t.told (apart_beside l.size _ _ _ 0 variants t.layouts t.apart) size)
-        (enum_told layout_of dl law repr (IsTagInteger dl repr) variants (numbered_from 0 numbers) aligns lawful some each tags l h)
+  shaped_by : (path : Path) → path_of true repr (layouts_of variants) ≡ path → (l : Layout) → Answers path (Ok l) → IsShaped dl repr numbers variants l l.variants
+  shaped_by NoValue way l h = let same : never_layout dl ≡ l = cc in subst (λ (m : Layout). IsShaped dl repr numbers variants m m.variants) same tt
+  shaped_by (OneList i) way l h = shaped_one i way l h
+  shaped_by Several way l h =
+      let aligns = aligns_of dl law repr numbers variants none long in
+      let some = several_some layout_of repr variants true way in
+      let each = each_of dl law repr numbers variants none long in
+      let tags = tags_of dl law repr numbers variants none long in
+      let size = enum_size layout_of dl law repr (IsTagInteger dl repr) variants (numbered_from 0 numbers) aligns lawful some each tags l h in
+      ⊎_elim
+      (λ t. shaped_arms l t.tag _ t.field t.layouts t.told (apart_behind l.size _ variants t.layouts t.apart) size)
+      (λ t. shaped_arms l t.tag _ t.field t.layouts t.told (apart_beside l.size _ _ _ 0 variants t.layouts t.apart) size)
+      (enum_told layout_of dl law repr (IsTagInteger dl repr) variants (numbered_from 0 numbers) aligns lawful some each tags l h)
 
-    -- an enum has the size that its variants allow
-    pub enumed_least : (l : Layout) → IsEnumed dl repr numbers variants (Ok l) → HasLeastStructs dl (enum repr all) (placed_enum dl numbers variants l)
-    enumed_least l h = least_by (path_of true repr (layouts_of variants)) refl l h
+  -- an enum that is laid out has such a layout
+  pub enumed_shaped : (l : Layout) → IsEnumed dl repr numbers variants (Ok l) → IsShaped dl repr numbers variants l l.variants
+  enumed_shaped l h = shaped_by (path_of true repr (layouts_of variants)) refl l h
+
+  least_by : (all : Variants) (l : Layout) (vs : LayoutVariants ℕ ℕ) → numbers ≡ discriminants_of all → IsShaped dl repr numbers variants l vs → IsLeast dl (enum repr all) (placed_variants dl numbers variants l vs)
+  least_by all l Empty is h = tt
+  least_by all l (Single i) is h =
+      subst (λ qs. IsLeastSize dl repr AlwaysSized (map layout_of qs) l.size) (sym (fields_back (listed_offsets l.fields) (variant_at variants i) (omega (arith, h.1)))) h.2
+  least_by all l (Multiple tag encoding field layouts) is h =
+      subst (λ qs. IsEnumSized dl repr (discriminants_of all) qs l.size) (sym (variants_back l.size layouts numbers variants h.0 long)) (subst (λ ns. IsEnumSized dl repr ns variants l.size) is h.1)
+
+  -- and has the size that its variants allow
+  pub enumed_least : (all : Variants) → numbers ≡ discriminants_of all → (l : Layout) → IsEnumed dl repr numbers variants (Ok l) → IsLeast dl (enum repr all) (placed_enum dl numbers variants l)
+  enumed_least all is l h = least_by all l l.variants is (enumed_shaped l h)

@@ -15,7 +15,7 @@ use Rattle.abi_scalar.specs.declared.variants.TagEncoding.TheVariants.{Direct, N
 use Rattle.abi_scalar.specs.declared.wrapping_range.WrappingRange.{WrappingRange}
 use Rattle.abi_scalar.specs.declared.backend_repr.BackendRepr.TheVariants.{Scalar as OneScalar}
 use Rattle.abi_scalar.specs.Range.{IsIn, full_range}
-use Rattle.rustc_abi.specs.Tree.{Tree, never, struct, enum, no_trees, more_trees, no_variants, more_variants, scalar as number_type}
+use Rattle.rustc_abi.specs.Tree.{Tree, never, struct, enum, coroutine, no_trees, more_trees, no_variants, more_variants, scalar as number_type}
 use Rattle.rustc_abi.specs.Value.{Value, number, two, list, variant, state, bytes, no_values, more_values}
 use Rattle.rustc_abi.specs.Bytes.{picked}
 use Rattle.rustc_abi.specs.Placed.{Placed, Layout, layout_of, scalar, never as nowhere, fields, union, single, tagged, states, no_parts, part, no_arms, arm, nothing}
@@ -120,6 +120,25 @@ tag_matters : EachValueIsHeld default_data_layout byte_each on_the_tag → ⊥
 tag_matters held =
     let bytes_of = held one_in_first (one_is_in_all, tt) in
     not_on_the_tag bytes_of.0 bytes_of.2
+
+-- ---- a state's local on a prefix field: of a value in which they differ, no bytes hold both
+
+abbrev byte_beside : Tree
+byte_beside = coroutine (more_trees (number_type (unsigned I8)) no_trees) (more_trees (number_type (unsigned I8)) no_trees) ((0 ∷ []) ∷ []) []
+
+abbrev on_the_prefix : Placed
+on_the_prefix = states (sized 2) (part 0 u8_placed no_parts) 1 u8_placed (arm 0 (part 0 u8_placed no_parts) no_arms)
+
+abbrev zero_beside_one : Value
+zero_beside_one = state 0 (more_values (number 0) no_values) (more_values (number 1) no_values)
+
+not_on_the_prefix : (b : List ℕ) → Holds Big on_the_prefix b zero_beside_one → ⊥
+not_on_the_prefix b h = absurd (omega (arith, h.1.0.1.1, h.4.0.1.1))
+
+prefix_matters : EachValueIsHeld default_data_layout byte_beside on_the_prefix → ⊥
+prefix_matters held =
+    let bytes_of = held zero_beside_one ((zero_is_in, tt), omega arith, (one_is_in_all, tt)) in
+    not_on_the_prefix bytes_of.0 bytes_of.2
 
 -- ---- a variant that is missing: values come from the tree, so that one of the second variant is to be held, and no bytes hold it
 

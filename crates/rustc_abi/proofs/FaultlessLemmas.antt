@@ -22,7 +22,8 @@ none_of false false true d e = absurd (cc)
 none_of false false false true e = (refl, refl, refl, refl)
 none_of false false false false e = absurd (cc)
 
-few_each : (variants : List (List Placed)) → list_any (λ fields. nat_lt most_fields (length fields)) variants ≡ false → All (λ fields. length fields ≤ most_fields) variants
+-- where no list is too long, none is
+pub few_each : {A : Type 0} (variants : List (List A)) → list_any (λ fields. nat_lt most_fields (length fields)) variants ≡ false → All (λ fields. length fields ≤ most_fields) variants
 few_each [] h = All-nil (λ fields. length fields ≤ most_fields)
 few_each (ps ∷ variants) h =
     let both = neither (nat_lt most_fields (length ps)) (list_any (λ fields. nat_lt most_fields (length fields)) variants) h in

@@ -1,5 +1,5 @@
 -- Each type that is laid out is sized, and its layout is lawful.
-use Rattle.std.proofs.Common.{◌≡◌, ◌≢◌, ℕ, ◌*◌, ◌^◌, ◌<◌, ◌≤◌, Bool, true, false, List, [], ◌∷◌, Option, Some, None, length, map, inl, inr, refl, sym, ap, ◌∙◌, subst, arith, All, Result, Ok, Err, zero, suc}
+use Rattle.std.proofs.Common.{◌≡◌, ◌≢◌, ℕ, ◌+◌, ◌*◌, ◌^◌, ◌<◌, ◌≤◌, Bool, true, false, List, [], ◌∷◌, Option, Some, None, length, map, inl, inr, refl, sym, ap, ◌∙◌, subst, arith, All, Result, Ok, Err, zero, suc}
 use Rattle.std.specs.Prelude.{◌⊎◌, ◌||◌, ◌==◌, IfOk, nat_lt, unwrap_or, if◌then◌else◌, slice_index, MatchOption}
 use Rattle.std.specs.Int.{next_multiple_of}
 use Rattle.std.proofs.lemmas.List.{length-map, map-id}
@@ -21,6 +21,7 @@ use Rattle.abi_scalar.specs.declared.backend_repr.BackendRepr.{BackendRepr}
 use Rattle.abi_scalar.specs.declared.backend_repr.BackendRepr.TheVariants.{Scalar as OneScalar, ScalarPair, SimdScalableVector, SimdVector, Memory}
 use Rattle.abi_scalar.specs.Pair.{pair_layout, pair_size, second_offset}
 use Rattle.abi_scalar.specs.Repr.{is_abi_fixed}
+use Rattle.abi_scalar.specs.Shape.{listed_offsets}
 use Rattle.abi_scalar.specs.Simple.{scalar_layout, never_layout, unit_layout}
 use Rattle.abi_scalar.specs.View.{union_view}
 use Rattle.abi_scalar.proofs.LawfulLemmas.{scalar_lawful, empty_lawful}
@@ -45,6 +46,10 @@ use Rattle.abi_calc.proofs.ListLemmas.{parts_lawful, repr_lawful}
 use Rattle.abi_calc.proofs.RunLemmas.{aligned_parts, biased_of}
 use Rattle.abi_calc.proofs.UnionLawful.{union_is_lawful}
 use Rattle.abi_calc.proofs.VectorLemmas.{factor_small, lanes_are, lanes_bounded, simd_of_view, simd_viewed, vector_small, vectors_lawful}
+use Rattle.abi_calc.specs.Coroutine.Layout.{IsStateTag}
+use Rattle.abi_calc.specs.Coroutine.Promotion.{promoted_of}
+use Rattle.abi_calc.proofs.CoroutineAnswers.{IsAsked, IsPromised}
+use Rattle.abi_calc.proofs.CoroutineDeep.{coroutine_promised, coroutine_told}
 use Rattle.abi_calc.specs.Enums.Several.{AreLawfulTags}
 use Rattle.abi_calc.specs.Enums.Answer.{HasOneEach, IsTypeAnswer}
 use Rattle.abi_calc.specs.Enums.Path.{variant_at, path_of}
@@ -56,13 +61,15 @@ use Rattle.rustc_abi.specs.Tree.{Tree, scalar, pair, never, unit, array, vector,
 use Rattle.rustc_abi.specs.Placed.{Placed, Layout, layout_of, size_of, elements, fields, vector as placed_vector, no_parts, never as placed_never}
 use Rattle.rustc_abi.specs.ScalarFault.{scalar_fault}
 use Rattle.rustc_abi.specs.Error.{named, Follows}
-use Rattle.rustc_abi.specs.Laying.{IsLaying, AreLaying, IsListed, IsUnited, fields_fault, kind_of, lanes_of, one_scalar, pair_answer, placed_by, placed_fields, placed_together, scalar_answer, two_scalars, unless, vector_answer, placed_variants, placed_enum, enum_fault, VariantsLaying}
+use Rattle.rustc_abi.specs.Laying.{IsLaying, AreLaying, IsListed, IsUnited, fields_fault, kind_of, lanes_of, one_scalar, pair_answer, placed_by, placed_fields, placed_together, scalar_answer, two_scalars, unless, vector_answer, placed_variants, placed_enum, enum_fault, VariantsLaying, coroutine_fault, placed_coroutine}
+use Rattle.rustc_abi.specs.Coroutines.{IsCoroutined, IsStated, conflicts_of}
 use Rattle.rustc_abi.specs.Enums.{layouts_of, IsTagInteger, numbered_from, IsEnumed, discriminants_of}
 use Rattle.rustc_abi.proofs.CalcLemmas.{after_ok, chosen_ok, named-ok, united_layout}
 use Rattle.rustc_abi.proofs.FaultLemmas.{faultless}
 use Rattle.rustc_abi.proofs.LayLemmas.{faultless_aligns}
 use Rattle.rustc_abi.proofs.TagIntegerLemmas.{lawful_tags, one_each}
 use Rattle.rustc_abi.proofs.FaultlessLemmas.{none_equal, all_discriminants, lawful_aligns}
+use Rattle.rustc_abi.proofs.CoroutineFaultLemmas.{conflict_rows, states_once, states_within}
 use Rattle.rustc_abi.proofs.CalculatedLemmas.{calculated_lawful}
 use Rattle.abi_scalar.specs.declared.error.LayoutCalculatorError.TheVariants as calculator
 
@@ -199,6 +206,24 @@ layout_of-variants dl numbers variants layout Empty = refl
 layout_of-variants dl numbers variants layout (Single i) = refl
 layout_of-variants dl numbers variants layout (Multiple tag encoding field layouts) = refl
 
+-- the answer to fields whose own fault is this, laid out by this relation and put together so
+abbrev pub AnswersBy : Option LayError → (Result Layout LayError → Type 0) → (Layout → Placed) → Result Placed LayError → Type 0
+AnswersBy fault P make r = MatchOption fault (Follows P (λ layout z. z ≡ Ok (make layout)) r) (λ e. r ≡ Err e)
+
+-- what is laid out has no fault of its own, and a layout
+pub laid_by : (fault : Option LayError) (P : Result Layout LayError → Type 0) (make : Layout → Placed) (p : Placed) → AnswersBy fault P make (Ok p) → (layout : Layout) × P (Ok layout) × (make layout ≡ p) × (fault ≡ None)
+laid_by None P make p (inl f) = absurd (cc f.2)
+laid_by None P make p (inr (layout, made, e)) = (layout, made, cc, refl)
+laid_by (Some f) P make p e = absurd (cc)
+
+-- the answer to a coroutine whose own fault is this
+abbrev pub CoroutineAnswersBy : TargetDataLayout → (pres ps : List Placed) → (states : List (List ℕ)) → (conflicts : List (ℕ × ℕ)) → Option LayError → Result Placed LayError → Type 0
+CoroutineAnswersBy dl pres ps states conflicts fault r =
+    MatchOption fault
+    ((tag : Scalar) × IsStateTag (length states) tag
+    × Follows (IsCoroutined dl pres tag (one_scalar dl tag) ps states conflicts) (λ layout z. z ≡ Ok (placed_coroutine dl pres tag ps states layout)) r)
+    (λ e. r ≡ Err e)
+
 module _ (dl : TargetDataLayout) (law : IsLawfulDataLayout dl) where
   -- ---- the variants of an enum
 
@@ -318,15 +343,11 @@ module _ (dl : TargetDataLayout) (law : IsLawfulDataLayout dl) where
         rw listed.2.view (view_sized dl (is_abi_fixed repr) layout.size layout.align.abi (map layout_of ps) listed.1 (asked_sized dl ps h)),
       )
 
-  -- the answer to fields whose own fault is this, laid out by this relation and put together so
-  abbrev AnswersBy : Option LayError → (Result Layout LayError → Type 0) → (Layout → Placed) → Result Placed LayError → Type 0
-  AnswersBy fault P make r = MatchOption fault (Follows P (λ layout z. z ≡ Ok (make layout)) r) (λ e. r ≡ Err e)
-
   answer_whole : (fault : Option LayError) (P : Result Layout LayError → Type 0) (make : Layout → Placed) (p : Placed)
       → (fault ≡ None → (layout : Layout) → P (Ok layout) → IsWhole dl (make layout)) → AnswersBy fault P make (Ok p) → IsWhole dl p
-  answer_whole None P make p each (inl f) = absurd (cc f.2)
-  answer_whole None P make p each (inr (layout, made, e)) = let same : make layout ≡ p = cc in subst (IsWhole dl) same (each refl layout made)
-  answer_whole (Some f) P make p each e = absurd (cc)
+  answer_whole fault P make p each answer =
+      let found = laid_by fault P make p answer in
+      subst (IsWhole dl) found.2 (each found.3 found.0 found.1)
 
   fault_none : (none below : Bool) (e f : LayoutCalculatorError Layout) → (if none then Some e else (if below then None else Some f)) ≡ None → below ≡ true
   fault_none true below e f h = absurd (cc)
@@ -350,6 +371,46 @@ module _ (dl : TargetDataLayout) (law : IsLawfulDataLayout dl) where
             (omega (arith, size, ltb-true (union_size dl repr ls) (size_bound dl) below)) (ap (λ l. l.largest_niche) made.1) (ap (λ l. l.variants) made.1) made.0,
         union_sized dl repr ls layout.backend_repr made.0,
       )
+
+  -- ---- the lists of a coroutine
+
+  -- one that is laid out has no fault of its own, and the calculator's layout
+  pub coroutine_laid : (pres ps : List Placed) (states : List (List ℕ)) (conflicts : List (ℕ × ℕ)) (fault : Option LayError) (p : Placed) → CoroutineAnswersBy dl pres ps states conflicts fault (Ok p)
+      → (tag : Scalar) × IsStateTag (length states) tag × (layout : Layout) × IsStated dl pres tag (one_scalar dl tag) ps states conflicts (Ok layout)
+      × (placed_coroutine dl pres tag ps states layout ≡ p) × (fault ≡ None)
+  coroutine_laid pres ps states conflicts None p (tag, tells, inl f) = absurd (cc f.2)
+  coroutine_laid pres ps states conflicts None p (tag, tells, inr (layout, stated, e)) = (tag, tells, layout, stated, cc, refl)
+  coroutine_laid pres ps states conflicts (Some f) p e = absurd (cc)
+
+  module _ (pres ps : List Placed) (states : List (List ℕ)) (conflicts : List (ℕ × ℕ)) (before : All (IsWhole dl) pres) (there : All (IsWhole dl) ps) where
+    -- what a coroutine's layout is asked of
+    pub coroutine_asked : (tag : Scalar) → IsStateTag (length states) tag → IsAsked layout_of 0 dl pres tag (one_scalar dl tag) ps states
+    coroutine_asked tag tells = record { law = law; before = whole_lawful dl pres before; all = whole_lawful dl ps there; tells = tells; holds = refl }
+
+    -- and what is promised of the answer
+    pub stated_promised : (tag : Scalar) → IsStateTag (length states) tag → (r : Result Layout (LayoutCalculatorError Placed)) → IsStated dl pres tag (one_scalar dl tag) ps states conflicts r
+        → IsPromised layout_of (λ i. i) (λ i. i) 0 dl pres tag (one_scalar dl tag) ps states (promoted_of states (conflicts_of (length ps) conflicts)) r
+    stated_promised tag tells r h = coroutine_promised layout_of dl pres tag (one_scalar dl tag) ps states (conflicts_of (length ps) conflicts) (coroutine_asked tag tells) r h
+
+    -- its layout is lawful, and it is sized
+    stated_whole : (tag : Scalar) → IsStateTag (length states) tag → (layout : Layout) → IsStated dl pres tag (one_scalar dl tag) ps states conflicts (Ok layout)
+        → IsWhole dl (placed_coroutine dl pres tag ps states layout)
+    stated_whole tag tells layout h =
+        let sized : is_unsized layout.backend_repr ≡ false = ap (λ (l : Layout). is_unsized l.backend_repr) h.5 in (IsPromised.lawful (stated_promised tag tells (Ok layout) h), sized)
+
+    coroutine_whole : (fault : Option LayError) (p : Placed) → CoroutineAnswersBy dl pres ps states conflicts fault (Ok p) → IsWhole dl p
+    coroutine_whole fault p h =
+        let found = coroutine_laid pres ps states conflicts fault p h in
+        subst (IsWhole dl) found.4 (stated_whole found.0 found.1 found.2 found.3)
+
+    -- its prefix fields and its tag have offsets
+    pub stated_offsets : coroutine_fault (length pres) (length ps) states conflicts ≡ None → (tag : Scalar) → IsStateTag (length states) tag → (layout : Layout) → IsStated dl pres tag (one_scalar dl tag) ps states conflicts (Ok layout)
+        → length (listed_offsets layout.fields) ≡ length pres + 1
+    stated_offsets none tag tells layout h =
+        let told =
+        coroutine_told layout_of dl pres tag (one_scalar dl tag) ps states (conflicts_of (length ps) conflicts) (coroutine_asked tag tells) (states_within (length pres) (length ps) states conflicts none) (conflict_rows (length ps) conflicts)
+        (states_once (length pres) (length ps) states conflicts none) layout h in
+        ap (λ shape. length (listed_offsets shape)) told.fields ∙ told.count ∙ ap (λ n. n + 1) (length-map pres layout_of)
 
   pub placed_back : (make : Layout → Placed) (r : Result Layout LayError) (p : Placed) → Ok p ≡ placed_by make r → (layout : Layout) × (r ≡ Ok layout) × (make layout ≡ p)
   placed_back make (Ok layout) p e = (layout, refl, cc)
@@ -385,8 +446,9 @@ module _ (dl : TargetDataLayout) (law : IsLawfulDataLayout dl) where
         answer_whole (enum_fault dl repr (discriminants_of all) variants) (IsEnumed dl repr (discriminants_of all) variants) (placed_enum dl (discriminants_of all) variants) p
         (λ none layout enumed. enumed_whole repr (discriminants_of all) variants none (numbers_for all variants there) (variants_whole all variants there) layout enumed) answer
     laid_whole (coroutine prefix locals states conflicts) p (inl f) = absurd (cc f.2)
-    laid_whole (coroutine prefix locals states conflicts) p (inr (ps, there, inl f)) = absurd (cc f.2)
-    laid_whole (coroutine prefix locals states conflicts) p (inr (ps, there, inr f)) = absurd (cc f.2)
+    laid_whole (coroutine prefix locals states conflicts) p (inr (pres, before, inl f)) = absurd (cc f.2)
+    laid_whole (coroutine prefix locals states conflicts) p (inr (pres, before, inr (ps, there, answer))) =
+        coroutine_whole pres ps states conflicts (all_whole prefix pres before) (all_whole locals ps there) (coroutine_fault (length pres) (length ps) states conflicts) p answer
 
     pub all_whole : (ts : Trees) (ps : List Placed) → AreLaying dl ts (Ok ps) → All (IsWhole dl) ps
     all_whole no_trees ps h = let none : [] ≡ ps = cc in subst (All (IsWhole dl)) none (All-nil (IsWhole dl))

@@ -1,11 +1,10 @@
--- Each struct has its least size, and is too large only where every order is.
-use Rattle.abi_scalar.specs.declared.variants.VariantLayout.{VariantLayout}
-use Rattle.std.proofs.Common.{◌≡◌, ℕ, ◌*◌, ◌≤◌, Bool, true, false, List, [], ◌∷◌, Option, Some, None, length, map, inl, inr, refl, sym, ap, ◌∙◌, subst, arith, All, Result, Ok, Err, zero, suc, ◌<◌}
-use Rattle.std.specs.Prelude.{◌⊎◌, nat_lt, if◌then◌else◌, MatchOption, not}
+-- Structs, enums and coroutines have the sizes that their lists allow, and no other size is refused than one that is too large.
+use Rattle.std.proofs.Common.{◌≡◌, ℕ, ◌+◌, ◌*◌, ◌≤◌, Bool, true, false, List, ◌∷◌, Option, Some, None, length, map, inl, inr, refl, sym, ap, ◌∙◌, subst, arith, All, Result, Ok, Err}
+use Rattle.std.specs.Prelude.{◌⊎◌, ◌||◌, nat_lt, if◌then◌else◌, MatchOption, not}
 use Rattle.std.specs.Result.{IsErrAnd}
 use Rattle.std.proofs.lemmas.List.{length-map, map-id}
 use Rattle.std.proofs.lemmas.Bool.{ltb-false, le-ltb}
-use Rattle.std.specs.List.{list_all}
+use Rattle.std.specs.List.{list_all, list_any}
 use Rattle.abi_base.specs.declared.data_layout.TargetDataLayout.{TargetDataLayout}
 use Rattle.abi_base.specs.DataLayout.{IsLawfulDataLayout, size_bound}
 use Rattle.abi_scalar.specs.declared.error.LayoutCalculatorError.{LayoutCalculatorError}
@@ -31,22 +30,28 @@ use Rattle.abi_calc.specs.Union.{IsUnionTooLarge}
 use Rattle.abi_calc.proofs.LeastLemmas.{has_least, never_large as listed_never_large}
 use Rattle.abi_calc.proofs.RunLemmas.{biased_of}
 use Rattle.abi_calc.proofs.TooLarge.{tells_size, union_large, union_refused}
-use Rattle.abi_calc.specs.Enums.Path.{variant_at}
+use Rattle.abi_calc.specs.Answer.{IsAnswer}
+use Rattle.abi_calc.specs.Coroutine.Layout.{IsStateTag}
+use Rattle.abi_calc.specs.Coroutine.Promotion.{promoted_of}
+use Rattle.abi_calc.specs.Coroutine.Sizes.{IsTooLargeWith}
+use Rattle.abi_calc.proofs.CoroutineAnswers.{IsPromised}
+use Rattle.abi_calc.proofs.OneCoroutine.{one_tag}
+use Rattle.abi_calc.proofs.CoroutinePromotion.{promoted_count}
 use Rattle.rustc_abi.specs.declared.error.LayError.{LayError}
-use Rattle.rustc_abi.specs.declared.error.LayError.TheVariants.{SizeOverflow, UnexpectedUnsized, BadIndex, BadAlign, UnknownSpace, BadRange, DuplicateDiscriminant, DiscriminantTooWide}
+use Rattle.rustc_abi.specs.declared.error.LayError.TheVariants.{SizeOverflow, UnexpectedUnsized, BadIndex, BadAlign, UnknownSpace, BadRange, DuplicateDiscriminant, DiscriminantTooWide, LocalTwice, NoState}
 use Rattle.rustc_abi.specs.Tree.{Tree, scalar, pair, never, unit, array, vector, struct, union, enum, coroutine, Trees, no_trees, more_trees, Variants, no_variants, more_variants}
 use Rattle.rustc_abi.specs.Placed.{Placed, Layout, layout_of, size_of, elements, vector as placed_vector}
-use Rattle.rustc_abi.specs.Nodes.{parts_at, parts_at_0}
 use Rattle.rustc_abi.specs.Error.{Follows, IsRefused, named, lay_error}
 use Rattle.rustc_abi.specs.ScalarFault.{is_lawful_primitive, has_range_within, scalar_fault}
-use Rattle.rustc_abi.specs.Laying.{AreLaying, IsFieldsAnswer, IsLaying, IsListed, IsNotYet, IsUnionOf, IsUnited, VariantsLaying, elements_answer, fields_fault, kind_of, lanes_of, one_scalar, pair_answer, placed_by, placed_fields, placed_together, scalar_answer, two_scalars, unless, vector_answer, placed_enum, enum_fault, has_bad_index, has_bad_align, IsEnumOf}
-use Rattle.rustc_abi.specs.Least.{IsLeastStruct, IsStructTooLarge, HasLeastStructs, HaveLeastStructs, IsTooLarge, AreTooLarge, AreVariantsTooLarge, IsEnumTooLarge, HaveLeastAt, HaveLeastArms}
-use Rattle.rustc_abi.specs.Enums.{IsEnumed, discriminants_of, has_equal, is_discriminant, arms_at}
-use Rattle.rustc_abi.proofs.LaidLemmas.{IsWhole, all_whole, whole_lawful, placed_back, asked_aligned, asked_sized, length-asked, some_field, numbers_for, variants_whole}
+use Rattle.rustc_abi.specs.Laying.{AreLaying, IsFieldsAnswer, IsLaying, IsListed, IsCoroutineOf, IsUnionOf, IsUnited, VariantsLaying, elements_answer, fields_fault, kind_of, lanes_of, one_scalar, pair_answer, placed_by, placed_fields, placed_together, scalar_answer, two_scalars, unless, vector_answer, placed_enum, enum_fault, has_bad_index, has_bad_align, IsEnumOf, coroutine_fault, most_fields, placed_coroutine}
+use Rattle.rustc_abi.specs.Coroutines.{IsCoroutined, IsStated, conflicts_of, names_unknown}
+use Rattle.rustc_abi.specs.Least.{IsCoroutineSized, IsCoroutineTooLarge, IsLeast, IsLeastStruct, IsStructTooLarge, IsTooLarge, AreTooLarge, AreVariantsTooLarge, IsEnumTooLarge}
+use Rattle.rustc_abi.specs.Enums.{IsEnumed, discriminants_of, has_equal, is_discriminant}
+use Rattle.rustc_abi.proofs.LaidLemmas.{IsWhole, all_whole, whole_lawful, asked_aligned, asked_sized, length-asked, some_field, numbers_for, variants_whole, CoroutineAnswersBy, coroutine_laid, laid_by, stated_offsets, stated_promised}
+use Rattle.rustc_abi.proofs.CoroutineFaultLemmas.{conflict_rows}
 use Rattle.rustc_abi.proofs.LayLemmas.{pair_overflows}
 use Rattle.rustc_abi.proofs.OneAnswer.{one_answer, one_list, one_list_each}
-use Rattle.rustc_abi.proofs.EnumSizeLemmas.{enumed_large, enumed_refused, enumed_least, fields_back, apart_long}
-use Rattle.rustc_abi.proofs.ArmsLemmas.{EachApart}
+use Rattle.rustc_abi.proofs.EnumSizeLemmas.{enumed_large, enumed_refused, enumed_least, fields_back, size_error}
 use Rattle.abi_scalar.specs.declared.error.LayoutCalculatorError.TheVariants as calculator
 
 -- errors of one list
@@ -64,6 +69,14 @@ no_size false false true d e = cc
 no_size false false false true e = cc
 no_size false false false false e = cc
 
+-- nor is one of a coroutine
+no_coroutine_size : (a b c d : Bool) → (if a then Some BadIndex else (if b then Some NoState else (if c then Some BadIndex else (if d then Some LocalTwice else None)))) ≡ Some SizeOverflow → ⊥
+no_coroutine_size true b c d e = cc
+no_coroutine_size false true c d e = cc
+no_coroutine_size false false true d e = cc
+no_coroutine_size false false false true e = cc
+no_coroutine_size false false false false e = cc
+
 -- ---- one list of fields
 
 module _ (dl : TargetDataLayout) (repr : ReprOptions) (always_sized : Bool) (ps : List Placed) (whole : All (IsWhole dl) ps) where
@@ -78,7 +91,7 @@ module _ (dl : TargetDataLayout) (repr : ReprOptions) (always_sized : Bool) (ps 
   listed_least layout listed = has_least layout_of (λ i. i) 0 dl repr (kind_of always_sized ps) ps listed.0 listed.1 layout (whole_lawful dl ps whole) (some_field always_sized ps) listed.2
 
   -- each field has an offset
-  listed_count : (layout : Layout) → IsListed dl repr (kind_of always_sized ps) (map layout_of ps) (Ok layout) → length (listed_offsets layout.fields) ≡ length ps
+  pub listed_count : (layout : Layout) → IsListed dl repr (kind_of always_sized ps) (map layout_of ps) (Ok layout) → length (listed_offsets layout.fields) ≡ length ps
   listed_count layout listed =
       let made = biased_of dl (list_repr dl repr (kind_of always_sized ps)) (asked_of dl (map layout_of ps)) listed.0 listed.1 layout.size layout.align.abi layout.largest_niche listed.2.named in
       ap (λ shape. length (listed_offsets shape)) listed.2.shape ∙ made.placed.count ∙ length-asked dl ps
@@ -146,12 +159,7 @@ unfit : (b : Bool) (p : Placed) → Err SizeOverflow ≡ (if b then Ok p else Er
 unfit true p e = absurd (cc)
 unfit false p e = refl
 
--- elements that are laid out, and those that are not
-elements_there : (b : Bool) (count : ℕ) (layout : Layout) (q p : Placed)
-    → Ok p ≡ placed_by (λ l. elements l count q) (named {H = ℕ} (if b then Ok layout else Err calculator.SizeOverflow)) → elements layout count q ≡ p
-elements_there true count layout q p e = cc
-elements_there false count layout q p e = absurd (cc)
-
+-- elements that are too large
 elements_large : (b : Bool) (count : ℕ) (layout : Layout) (q : Placed)
     → Err SizeOverflow ≡ placed_by (λ l. elements l count q) (named {H = ℕ} (if b then Ok layout else Err calculator.SizeOverflow)) → b ≡ false
 elements_large true count layout q e = absurd (cc)
@@ -211,25 +219,14 @@ module _ (dl : TargetDataLayout) (law : IsLawfulDataLayout dl) where
       absurd (not_fields _ _ (fault ∙ same))
 
   least_fields : (fault : Option LayError) (repr : ReprOptions) (always_sized : Bool) (all : Trees) (ps : List Placed) (p : Placed) → AreLaying dl all (Ok ps)
-      → ((offsets : List ℕ) → length offsets ≡ length ps → HaveLeastStructs dl all (parts_at offsets ps))
-      → AnswersBy fault repr always_sized ps (Ok p)
-      → HasLeastStructs dl (struct repr always_sized all) p
-  least_fields None repr always_sized all ps p there each (inl f) = absurd (cc f.2)
-  least_fields None repr always_sized all ps p there each (inr (layout, listed, e)) =
-      let same : placed_fields ps layout ≡ p = cc in
+      → AnswersBy fault repr always_sized ps (Ok p) → IsLeast dl (struct repr always_sized all) p
+  least_fields fault repr always_sized all ps p there answer =
+      let found = laid_by fault (IsListed dl repr (kind_of always_sized ps) (map layout_of ps)) (placed_fields ps) p answer in
+      let layout : Layout = found.0 in
       let whole = all_whole dl law all ps there in
-      let count = listed_count dl repr always_sized ps whole layout listed in
-      subst (HasLeastStructs dl (struct repr always_sized all)) same (
-        subst (λ qs. IsLeastStruct dl repr always_sized qs layout.size) (sym (fields_back (listed_offsets layout.fields) ps count)) (listed_least dl repr always_sized ps whole layout listed),
-        each (listed_offsets layout.fields) count,
-      )
-  least_fields (Some f) repr always_sized all ps p there each e = absurd (cc)
-
-  least_union : (fault : Option LayError) (repr : ReprOptions) (all : Trees) (ps : List Placed) (p : Placed) → HaveLeastStructs dl all (parts_at_0 ps)
-      → MatchOption fault (Follows (IsUnited dl repr (map layout_of ps)) (λ layout z. z ≡ Ok (placed_together ps layout)) (Ok p)) (λ e. Ok p ≡ Err e) → HasLeastStructs dl (union repr all) p
-  least_union None repr all ps p each (inl f) = absurd (cc f.2)
-  least_union None repr all ps p each (inr (layout, united, e)) = let same : placed_together ps layout ≡ p = cc in subst (HasLeastStructs dl (union repr all)) same each
-  least_union (Some f) repr all ps p each e = absurd (cc)
+      let count = listed_count dl repr always_sized ps whole layout found.1 in
+      subst (IsLeast dl (struct repr always_sized all)) found.2
+      (subst (λ qs. IsLeastStruct dl repr always_sized qs layout.size) (sym (fields_back (listed_offsets layout.fields) ps (omega (arith, count)))) (listed_least dl repr always_sized ps whole layout found.1))
 
   refused_fields : (fault : Option LayError) (repr : ReprOptions) (always_sized : Bool) (all : Trees) (ps : List Placed) (r : Result Placed LayError) → fault ≡ None → AreLaying dl all (Ok ps)
       → IsStructTooLarge dl repr always_sized ps
@@ -322,87 +319,91 @@ module _ (dl : TargetDataLayout) (law : IsLawfulDataLayout dl) where
         absurd (cc)
     refused_enum (Some f) r fault none large e = absurd (cc)
 
-    least_enum : (fault : Option LayError) → enum_fault dl repr (discriminants_of all) variants ≡ fault → (p : Placed)
-        → ((i : ℕ) (offsets : List ℕ) → i < length variants → length offsets ≡ length (variant_at variants i) → HaveLeastAt dl all i (parts_at offsets (variant_at variants i)))
-        → ((size : ℕ) (layouts : List (VariantLayout ℕ)) → EachApart size variants layouts → HaveLeastArms dl all (arms_at layouts (discriminants_of all) variants))
-        → EnumAnswersBy fault (Ok p) → HasLeastStructs dl (enum repr all) p
-    least_enum None none p each_at each_arm (inl f) = absurd (cc f.2)
-    least_enum None none p each_at each_arm (inr (layout, enumed, e)) =
-        let same : placed_enum dl (discriminants_of all) variants layout ≡ p = cc in
-        subst (HasLeastStructs dl (enum repr all)) same
-        (enumed_least dl law repr (discriminants_of all) variants none (numbers_for dl law all variants there) (variants_whole dl law all variants there) all refl each_at each_arm layout enumed)
-    least_enum (Some f) none p each_at each_arm e = absurd (cc)
+    least_enum : (fault : Option LayError) → enum_fault dl repr (discriminants_of all) variants ≡ fault → (p : Placed) → EnumAnswersBy fault (Ok p) → IsLeast dl (enum repr all) p
+    least_enum fault is p answer =
+        let found = laid_by fault (IsEnumed dl repr (discriminants_of all) variants) (placed_enum dl (discriminants_of all) variants) p answer in
+        subst (IsLeast dl (enum repr all)) found.2
+        (enumed_least dl law repr (discriminants_of all) variants (is ∙ found.3) (numbers_for dl law all variants there) (variants_whole dl law all variants there) all refl found.0 found.1)
+
+  -- ---- a coroutine
+
+  module _ (prefix locals : Trees) (pres ps : List Placed) (states : List (List ℕ)) (conflicts : List (ℕ × ℕ)) (before : AreLaying dl prefix (Ok pres)) (there : AreLaying dl locals (Ok ps)) where
+    -- what is promised of the calculator's answer
+    promised : (tag : Scalar) → IsStateTag (length states) tag → (r : Result Layout (LayoutCalculatorError Placed)) → IsStated dl pres tag (one_scalar dl tag) ps states conflicts r
+        → IsPromised layout_of (λ i. i) (λ i. i) 0 dl pres tag (one_scalar dl tag) ps states (promoted_of states (conflicts_of (length ps) conflicts)) r
+    promised tag tells r h = stated_promised dl law pres ps states conflicts (all_whole dl law prefix pres before) (all_whole dl law locals ps there) tag tells r h
+
+    -- a coroutine has the size that its lists allow
+    least_coroutine : (fault : Option LayError) → coroutine_fault (length pres) (length ps) states conflicts ≡ fault → (p : Placed) → CoroutineAnswersBy dl pres ps states conflicts fault (Ok p)
+        → IsLeast dl (coroutine prefix locals states conflicts) p
+    least_coroutine fault is p answer =
+        let found = coroutine_laid dl law pres ps states conflicts fault p answer in
+        let tag : Scalar = found.0 in
+        let layout : Layout = found.2 in
+        let promoted : List Bool = promoted_of states (conflicts_of (length ps) conflicts) in
+        let offsets = stated_offsets dl law pres ps states conflicts (all_whole dl law prefix pres before) (all_whole dl law locals ps there) (is ∙ found.5) tag found.1 layout found.3 in
+        let sized : IsCoroutineSized dl pres (one_scalar dl tag) ps states layout.size
+        = (promoted, promoted_count states (conflicts_of (length ps) conflicts) ∙ conflict_rows (length ps) conflicts, IsPromised.size (promised tag found.1 (Ok layout) found.3)) in
+        subst (IsLeast dl (coroutine prefix locals states conflicts)) found.4
+        (ps, there, subst (λ qs. IsCoroutineSized dl qs (one_scalar dl tag) ps states layout.size) (sym (fields_back (listed_offsets layout.fields) pres (omega (arith, offsets)))) sized)
+
+    -- one that is refused for its size is too large
+    large_coroutine : (fault : Option LayError) → coroutine_fault (length pres) (length ps) states conflicts ≡ fault → CoroutineAnswersBy dl pres ps states conflicts fault (Err SizeOverflow)
+        → (coroutine_fault (length pres) (length ps) states conflicts ≡ None) × IsCoroutineTooLarge dl pres ps states conflicts
+    large_coroutine None none (tag, tells, inl (e, (error, stated, other, name), is)) =
+        let same : SizeOverflow ≡ e = cc in
+        let size : error ≡ calculator.SizeOverflow = size_error error (same ∙ name) in
+        (none, (tag, tells, IsPromised.too_large (promised tag tells (Err error) stated) (ap (λ x. Err x) size)))
+    large_coroutine None none (tag, tells, inr (layout, stated, is)) = absurd (cc)
+    large_coroutine (Some f) fault e =
+        absurd (no_coroutine_size (nat_lt most_fields (length pres + 1 + length ps) || has_bad_index states) (nat_lt (length states) 1) (names_unknown (length ps) states conflicts) (list_any has_equal states) (fault ∙ cc))
+
+    -- a refusal of what is too large is one for its size
+    size_or_memory : (e : LayError) (error : LayoutCalculatorError Placed) → IsAnswer {A = Layout} (Err calculator.SizeOverflow) (Err error) → (error ≡ calculator.OutOfMemory → ⊥) → e ≡ lay_error error → e ≡ SizeOverflow
+    size_or_memory e error (inl size) other name = let same : error ≡ calculator.SizeOverflow = cc in name ∙ ap lay_error same
+    size_or_memory e error (inr memory) other name = let same : error ≡ calculator.OutOfMemory = cc in absurd (other same)
+
+    never_laid : (layout : Layout) → IsAnswer {A = Layout} {H = Placed} (Err calculator.SizeOverflow) (Ok layout) → ⊥
+    never_laid layout (inl e) = absurd (cc)
+    never_laid layout (inr e) = absurd (cc)
+
+    -- and one that is too large is refused for it
+    refused_coroutine : (fault : Option LayError) (r : Result Placed LayError) → fault ≡ None → IsCoroutineTooLarge dl pres ps states conflicts → CoroutineAnswersBy dl pres ps states conflicts fault r → r ≡ Err SizeOverflow
+    refused_coroutine None r none (asked, also, large) (tag, tells, answer) = by answer
+      where
+        here : IsTooLargeWith dl (map layout_of pres) (layout_of (one_scalar dl tag)) (map layout_of ps) states (promoted_of states (conflicts_of (length ps) conflicts))
+        here =
+            let same : asked ≡ tag = one_tag (length states) asked tag also tells in
+            subst (λ t. IsTooLargeWith dl (map layout_of pres) (layout_of (one_scalar dl t)) (map layout_of ps) states (promoted_of states (conflicts_of (length ps) conflicts))) same large
+
+        told : (answer : Result Layout (LayoutCalculatorError Placed)) → IsStated dl pres tag (one_scalar dl tag) ps states conflicts answer → IsAnswer (Err calculator.SizeOverflow) answer
+        told answer h = IsPromised.refused (promised tag tells answer h) (asked_sized dl pres (all_whole dl law prefix pres before)) (asked_sized dl ps (all_whole dl law locals ps there)) here
+
+        by : Follows (IsCoroutined dl pres tag (one_scalar dl tag) ps states conflicts) (λ layout z. z ≡ Ok (placed_coroutine dl pres tag ps states layout)) r → r ≡ Err SizeOverflow
+        by (inl (e, (error, stated, other, name), is)) = is ∙ ap (λ x. Err x) (size_or_memory e error (told (Err error) stated) other name)
+        by (inr (layout, stated, is)) = absurd (never_laid layout (told (Ok layout) stated))
+    refused_coroutine (Some f) r none large h = absurd (cc)
 
   refused_pair : (a b : Scalar) (r : Result Placed LayError) → IsTooLarge dl (pair a b) → r ≡ pair_answer dl a b → r ≡ Err SizeOverflow
   refused_pair a b r (fa, fb, large) e = e ∙ pair_overflows dl a b fa fb large
 
-  mutual
-    -- each struct has its least size
-    pub laid_least : (t : Tree) (p : Placed) → IsLaying dl t (Ok p) → HasLeastStructs dl t p
-    laid_least (scalar s) p h = tt
-    laid_least (pair a b) p h = tt
-    laid_least never p h = tt
-    laid_least unit p h = tt
-    laid_least (array count element) p (inl f) = absurd (cc f.2)
-    laid_least (array count element) p (inr (q, there, e)) =
-        subst (HasLeastStructs dl (array count element)) (elements_there (nat_lt (size_of q * count) (size_bound dl)) count (elements_layout 0 true count (layout_of q)) q p e)
-        (laid_least element q there)
-    laid_least (struct repr always_sized all) p (inl f) = absurd (cc f.2)
-    laid_least (struct repr always_sized all) p (inr (ps, there, answer)) =
-        least_fields (fields_fault repr ps) repr always_sized all ps p there (λ offsets e. all_least all ps offsets e there) answer
-    laid_least (vector lanes packed element) p (inl f) = absurd (cc f.2)
-    laid_least (vector lanes packed element) p (inr (q, there, e)) =
-        let found = placed_back dl law (λ layout. placed_vector layout (lanes_of lanes q)) (named (simd_answer {H = Layout} (λ l. l) 0 0 dl (layout_of q) lanes packed)) p e in
-        subst (HasLeastStructs dl (vector lanes packed element)) found.2 (laid_least element q there)
-    laid_least (union repr all) p (inl f) = absurd (cc f.2)
-    laid_least (union repr all) p (inr (ps, there, answer)) =
-        least_union (fields_fault repr ps) repr all ps p (all_least all ps (map (λ q. 0) ps) (length-map ps (λ q. 0)) there) answer
-    laid_least (enum repr all) p (inl f) = absurd (cc f.2)
-    laid_least (enum repr all) p (inr (variants, there, answer)) =
-        least_enum repr all variants there (enum_fault dl repr (discriminants_of all) variants) refl p (λ i offsets short e. variant_least all variants i offsets short e there)
-        (λ size layouts apart. arms_least all variants size layouts apart there) answer
-    laid_least (coroutine prefix locals states conflicts) p h = tt
-
-    all_least : (ts : Trees) (ps : List Placed) (offsets : List ℕ) → length offsets ≡ length ps → AreLaying dl ts (Ok ps) → HaveLeastStructs dl ts (parts_at offsets ps)
-    all_least no_trees ps offsets e h = tt
-    all_least (more_trees t ts) ps offsets e (inl f) = absurd (cc f.2)
-    all_least (more_trees t ts) ps offsets e (inr (p, here, inl f)) = absurd (cc f.2)
-    all_least (more_trees t ts) ps [] e (inr (p, here, inr (rest, later, is))) = let same : p ∷ rest ≡ ps = cc in absurd (omega (arith, ap (λ qs. length qs) same))
-    all_least (more_trees t ts) ps (o ∷ offsets) e (inr (p, here, inr (rest, later, is))) =
-        let same : p ∷ rest ≡ ps = cc in
-        subst (λ qs. HaveLeastStructs dl (more_trees t ts) (parts_at (o ∷ offsets) qs)) same
-        (laid_least t p here, all_least ts rest offsets (omega (arith, e, ap (λ qs. length qs) same)) later)
-
-    variant_least : (all : Variants) (variants : List (List Placed)) (i : ℕ) (offsets : List ℕ) → i < length variants → length offsets ≡ length (variant_at variants i) → VariantsLaying dl all (Ok variants) →
-        HaveLeastAt dl all i (parts_at offsets (variant_at variants i))
-    variant_least no_variants variants i offsets short e h = let none : [] ≡ variants = cc in absurd (omega (arith, short, ap (λ vs. length vs) none))
-    variant_least (more_variants d ts others) variants i offsets short e (inl f) = absurd (cc f.2)
-    variant_least (more_variants d ts others) variants i offsets short e (inr (ps, here, inl f)) = absurd (cc f.2)
-    variant_least (more_variants d ts others) variants zero offsets short e (inr (ps, here, inr (rest, later, is))) =
-        let same : ps ∷ rest ≡ variants = cc in
-        subst (λ vs. HaveLeastStructs dl ts (parts_at offsets (variant_at vs 0))) same (all_least ts ps offsets (e ∙ ap (λ vs. length (variant_at vs 0)) (sym same)) here)
-    variant_least (more_variants d ts others) variants (suc i) offsets short e (inr (ps, here, inr (rest, later, is))) =
-        let same : ps ∷ rest ≡ variants = cc in
-        let long : length variants ≡ suc (length rest) = ap (λ vs. length vs) (sym same) in
-        subst (λ vs. HaveLeastAt dl others i (parts_at offsets (variant_at vs (suc i)))) same
-        (variant_least others rest i offsets (omega (arith, short, long)) (e ∙ ap (λ vs. length (variant_at vs (suc i))) (sym same)) later)
-
-    arms_least : (all : Variants) (variants : List (List Placed)) (size : ℕ) (layouts : List (VariantLayout ℕ)) → EachApart size variants layouts → VariantsLaying dl all (Ok variants) →
-        HaveLeastArms dl all (arms_at layouts (discriminants_of all) variants)
-    arms_least no_variants variants size [] apart h = tt
-    arms_least no_variants [] size (l ∷ layouts) apart h = absurd apart
-    arms_least no_variants (ps ∷ variants) size (l ∷ layouts) apart h = tt
-    arms_least (more_variants d ts others) variants size layouts apart (inl f) = absurd (cc f.2)
-    arms_least (more_variants d ts others) variants size layouts apart (inr (ps, here, inl f)) = absurd (cc f.2)
-    arms_least (more_variants d ts others) [] size layouts apart (inr (ps, here, inr (rest, later, is))) = absurd (cc)
-    arms_least (more_variants d ts others) (qs ∷ variants) size [] apart (inr (ps, here, inr (rest, later, is))) = absurd apart
-    arms_least (more_variants d ts others) (qs ∷ variants) size (l ∷ layouts) apart (inr (ps, here, inr (rest, later, is))) =
-        let first : ps ≡ qs = cc in
-        let others_same : rest ≡ variants = cc in
-        let count : length l.field_offsets ≡ length qs = apart_long size l.field_offsets (map size_of qs) apart.0 ∙ length-map qs size_of in (
-          all_least ts qs l.field_offsets count (subst (λ xs. AreLaying dl ts (Ok xs)) first here),
-          arms_least others variants size layouts apart.1 (subst (λ xs. VariantsLaying dl others (Ok xs)) others_same later),
-        )
+  -- a struct has its least size, and an enum or a coroutine the one that its lists allow
+  pub laid_least : (t : Tree) (p : Placed) → IsLaying dl t (Ok p) → IsLeast dl t p
+  laid_least (scalar s) p h = tt
+  laid_least (pair a b) p h = tt
+  laid_least never p h = tt
+  laid_least unit p h = tt
+  laid_least (array count element) p h = tt
+  laid_least (vector lanes packed element) p h = tt
+  laid_least (struct repr always_sized all) p (inl f) = absurd (cc f.2)
+  laid_least (struct repr always_sized all) p (inr (ps, there, answer)) = least_fields (fields_fault repr ps) repr always_sized all ps p there answer
+  laid_least (union repr all) p h = tt
+  laid_least (enum repr all) p (inl f) = absurd (cc f.2)
+  laid_least (enum repr all) p (inr (variants, there, answer)) = least_enum repr all variants there (enum_fault dl repr (discriminants_of all) variants) refl p answer
+  laid_least (coroutine prefix locals states conflicts) p (inl f) = absurd (cc f.2)
+  laid_least (coroutine prefix locals states conflicts) p (inr (pres, before, inl f)) = absurd (cc f.2)
+  laid_least (coroutine prefix locals states conflicts) p (inr (pres, before, inr (ps, there, answer))) =
+      least_coroutine prefix locals pres ps states conflicts before there (coroutine_fault (length pres) (length ps) states conflicts) refl p answer
 
   mutual
     -- a tree that is refused for a size is too large
@@ -425,9 +426,11 @@ module _ (dl : TargetDataLayout) (law : IsLawfulDataLayout dl) where
         let large = large_enum repr all variants there (enum_fault dl repr (discriminants_of all) variants) refl answer in inr (variants, there, large.0, large.1)
     refused_overflow (coroutine prefix locals states conflicts) (inl (e, there, is)) =
         let same : e ≡ SizeOverflow = cc in inl (list_overflow prefix (subst (λ x. AreLaying dl prefix (Err x)) same there))
-    refused_overflow (coroutine prefix locals states conflicts) (inr (ps, before, inl (e, there, is))) =
-        let same : e ≡ SizeOverflow = cc in inr (ps, before, list_overflow locals (subst (λ x. AreLaying dl locals (Err x)) same there))
-    refused_overflow (coroutine prefix locals states conflicts) (inr (ps, before, inr f)) = absurd (cc f.2)
+    refused_overflow (coroutine prefix locals states conflicts) (inr (pres, before, inl (e, there, is))) =
+        let same : e ≡ SizeOverflow = cc in inr (pres, before, inl (list_overflow locals (subst (λ x. AreLaying dl locals (Err x)) same there)))
+    refused_overflow (coroutine prefix locals states conflicts) (inr (pres, before, inr (ps, there, answer))) =
+        let large = large_coroutine prefix locals pres ps states conflicts before there (coroutine_fault (length pres) (length ps) states conflicts) refl answer in
+        inr (pres, before, inr (ps, there, large.0, large.1))
 
     list_overflow : (ts : Trees) → AreLaying dl ts (Err SizeOverflow) → AreTooLarge dl ts
     list_overflow no_trees h = absurd (cc)
@@ -469,10 +472,14 @@ module _ (dl : TargetDataLayout) (law : IsLawfulDataLayout dl) where
         refused_enum repr all variants there (enum_fault dl repr (discriminants_of all) variants) r refl none large
         (follows_on (VariantsLaying dl all) (IsEnumOf dl repr (discriminants_of all)) r variants there (λ x y a b. one_list_each dl all x y a b) h)
     large_refused (coroutine prefix locals states conflicts) r (inl large) h =
-        follows_refused (AreLaying dl prefix) (λ ps. Follows (AreLaying dl locals) IsNotYet) r (λ x there. list_refused prefix x large there) h
-    large_refused (coroutine prefix locals states conflicts) r (inr (ps, there, large)) h =
-        follows_refused (AreLaying dl locals) IsNotYet r (λ x here. list_refused locals x large here)
-        (follows_on (AreLaying dl prefix) (λ ps. Follows (AreLaying dl locals) IsNotYet) r ps there (λ x y a b. one_list dl prefix x y a b) h)
+        follows_refused (AreLaying dl prefix) (λ pres. Follows (AreLaying dl locals) (λ ps. IsCoroutineOf dl pres ps states conflicts)) r (λ x there. list_refused prefix x large there) h
+    large_refused (coroutine prefix locals states conflicts) r (inr (pres, before, inl large)) h =
+        follows_refused (AreLaying dl locals) (λ ps. IsCoroutineOf dl pres ps states conflicts) r (λ x here. list_refused locals x large here)
+        (follows_on (AreLaying dl prefix) (λ pres. Follows (AreLaying dl locals) (λ ps. IsCoroutineOf dl pres ps states conflicts)) r pres before (λ x y a b. one_list dl prefix x y a b) h)
+    large_refused (coroutine prefix locals states conflicts) r (inr (pres, before, inr (ps, there, none, large))) h =
+        refused_coroutine prefix locals pres ps states conflicts before there (coroutine_fault (length pres) (length ps) states conflicts) r none large
+        (follows_on (AreLaying dl locals) (λ ps. IsCoroutineOf dl pres ps states conflicts) r ps there (λ x y a b. one_list dl locals x y a b)
+        (follows_on (AreLaying dl prefix) (λ pres. Follows (AreLaying dl locals) (λ ps. IsCoroutineOf dl pres ps states conflicts)) r pres before (λ x y a b. one_list dl prefix x y a b) h))
 
     list_refused : (ts : Trees) (r : Result (List Placed) LayError) → AreTooLarge dl ts → AreLaying dl ts r → r ≡ Err SizeOverflow
     list_refused no_trees r large h = absurd large

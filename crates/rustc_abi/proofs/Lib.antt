@@ -45,12 +45,18 @@ mod TagIntegerLemmas
 mod PresentLemmas
 mod CalculatedLemmas
 mod FaultlessLemmas
+mod CoroutineFaultLemmas
+mod LongLemmas
 mod ArmNodesLemmas
 mod StateNodesLemmas
 mod LaidLemmas
 mod EnumSizeLemmas
 mod AddedEnumLemmas
+mod CoroutinedLemmas
+mod AddedCoroutineLemmas
 mod VariantsLemmas
 pub mod OneAnswer
 pub mod SomeAnswer
 mod LeastLemmas
+mod EverywhereLemmas
+mod ClashLemmas

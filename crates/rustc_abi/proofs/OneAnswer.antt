@@ -8,6 +8,7 @@ use Rattle.abi_base.specs.declared.struct_kind.StructKind.{StructKind}
 use Rattle.abi_base.specs.DataLayout.{size_bound}
 use Rattle.abi_scalar.specs.declared.error.LayoutCalculatorError.{LayoutCalculatorError}
 use Rattle.abi_scalar.specs.declared.repr.ReprOptions.{ReprOptions}
+use Rattle.abi_scalar.specs.declared.scalar.Scalar.{Scalar}
 use Rattle.abi_calc.specs.declared.order.NicheBias.TheVariants.{Start}
 use Rattle.abi_calc.specs.declared.placing.ListFault.{ListFault}
 use Rattle.abi_calc.specs.declared.placing.ListFault.TheVariants.{Unsized, TooLarge, OutOfMemory}
@@ -19,15 +20,17 @@ use Rattle.abi_calc.specs.Union.{union_fault, union_layout}
 use Rattle.abi_calc.proofs.UnionLemmas.{one_union_view}
 use Rattle.abi_calc.proofs.OneOrder.{one_layout, one_named, never_refused}
 use Rattle.abi_calc.proofs.OneEnum.{one_type, IsMade}
+use Rattle.abi_calc.proofs.OneCoroutine.{one_coroutine, one_tag}
 use Rattle.abi_calc.specs.Enums.Path.{path_of}
 use Rattle.rustc_abi.specs.declared.error.LayError.{LayError}
 use Rattle.rustc_abi.specs.Tree.{Tree, scalar, pair, never, unit, array, vector, struct, union, enum, coroutine, Trees, no_trees, more_trees, Variants, no_variants, more_variants}
 use Rattle.rustc_abi.specs.Placed.{Placed, Layout, layout_of}
 use Rattle.rustc_abi.specs.Error.{Follows, lay_error}
-use Rattle.rustc_abi.specs.Laying.{IsLaying, AreLaying, VariantsLaying, IsFieldsAnswer, IsListed, IsNotYet, IsUnionOf, IsUnited, elements_answer, fields_fault, kind_of, placed_fields, placed_together, vector_answer, IsEnumOf, enum_fault, placed_enum}
+use Rattle.rustc_abi.specs.Laying.{IsLaying, AreLaying, VariantsLaying, IsFieldsAnswer, IsListed, IsCoroutineOf, IsUnionOf, IsUnited, elements_answer, fields_fault, kind_of, placed_fields, placed_together, vector_answer, IsEnumOf, enum_fault, placed_enum, coroutine_fault, one_scalar, placed_coroutine}
+use Rattle.rustc_abi.specs.Coroutines.{IsCoroutined, IsStated, conflicts_of}
 use Rattle.rustc_abi.specs.Enums.{IsCalculated, IsEnumed, IsTagInteger, numbered_from, layouts_of, discriminants_of}
 use Rattle.rustc_abi.proofs.CalcLemmas.{united_layout}
-use Rattle.rustc_abi.proofs.LaidLemmas.{length-asked, some_field}
+use Rattle.rustc_abi.proofs.LaidLemmas.{CoroutineAnswersBy, length-asked, some_field}
 use Rattle.rustc_abi.proofs.TagIntegerLemmas.{tag_integer_one}
 use Rattle.abi_scalar.specs.declared.error.LayoutCalculatorError.TheVariants as calculator
 
@@ -128,30 +131,70 @@ module _ (dl : TargetDataLayout) where
       one_type layout_of dl repr variants true true Enabled (IsTagInteger dl repr) (tag_integer_one dl repr) (λ items. items ≡ numbered_from 0 numbers)
       (λ xs ys (a : xs ≡ numbered_from 0 numbers) b. a ∙ sym b) (path_of true repr (layouts_of variants)) r s h k p q
 
-  one_enumed : (repr : ReprOptions) (numbers : List ℕ) (variants : List (List Placed)) (r s : Result Layout LayError) → IsEnumed dl repr numbers variants r → IsEnumed dl repr numbers variants s → r ≡ s
-  one_enumed repr numbers variants (Ok a) (Ok b) h k =
-      let both : ◌≡◌ {A = Result Layout (LayoutCalculatorError Placed)} (Ok a) (Ok b) = one_calculated repr numbers variants (Ok a) (Ok b) h k (made_layout a) (made_layout b) in
-      let same : a ≡ b = cc in
-      ap (λ l. Ok l) same
-  one_enumed repr numbers variants (Ok a) (Err f) h (error, k, other, e) =
-      let both : ◌≡◌ {A = Result Layout (LayoutCalculatorError Placed)} (Ok a) (Err error) = one_calculated repr numbers variants (Ok a) (Err error) h k (made_layout a) (made_error error other) in
-      absurd (cc)
-  one_enumed repr numbers variants (Err f) (Ok b) (error, h, other, e) k =
-      let both : ◌≡◌ {A = Result Layout (LayoutCalculatorError Placed)} (Err error) (Ok b) = one_calculated repr numbers variants (Err error) (Ok b) h k (made_error error other) (made_layout b) in
-      absurd (cc)
-  one_enumed repr numbers variants (Err e) (Err f) (error, h, other, is) (error2, k, other2, is2) =
-      let both : ◌≡◌ {A = Result Layout (LayoutCalculatorError Placed)} (Err error) (Err error2) =
-      one_calculated repr numbers variants (Err error) (Err error2) h k (made_error error other) (made_error error2 other2) in
-      let same : error ≡ error2 = cc in
-      ap (λ x. Err x) (is ∙ ap lay_error same ∙ sym is2)
+  -- what has one answer with its calculator's errors has one with their names
+  module _ (P : Result Layout (LayoutCalculatorError Placed) → Type 0) (one : (r s : Result Layout (LayoutCalculatorError Placed)) → P r → P s → IsMade r → IsMade s → r ≡ s) where
+    -- the answer, memory aside, by the name of its error
+    abbrev IsNamed : Result Layout LayError → Type 0
+    IsNamed (Ok a) = P (Ok a)
+    IsNamed (Err e) = (error : LayoutCalculatorError Placed) × P (Err error) × (error ≡ calculator.OutOfMemory → ⊥) × (e ≡ lay_error error)
+
+    one_by_name : (r s : Result Layout LayError) → IsNamed r → IsNamed s → r ≡ s
+    one_by_name (Ok a) (Ok b) h k =
+        let both : ◌≡◌ {A = Result Layout (LayoutCalculatorError Placed)} (Ok a) (Ok b) = one (Ok a) (Ok b) h k (made_layout a) (made_layout b) in
+        let same : a ≡ b = cc in
+        ap (λ l. Ok l) same
+    one_by_name (Ok a) (Err f) h (error, k, other, e) =
+        let both : ◌≡◌ {A = Result Layout (LayoutCalculatorError Placed)} (Ok a) (Err error) = one (Ok a) (Err error) h k (made_layout a) (made_error error other) in
+        absurd (cc)
+    one_by_name (Err f) (Ok b) (error, h, other, e) k =
+        let both : ◌≡◌ {A = Result Layout (LayoutCalculatorError Placed)} (Err error) (Ok b) = one (Err error) (Ok b) h k (made_error error other) (made_layout b) in
+        absurd (cc)
+    one_by_name (Err e) (Err f) (error, h, other, is) (error2, k, other2, is2) =
+        let both : ◌≡◌ {A = Result Layout (LayoutCalculatorError Placed)} (Err error) (Err error2) = one (Err error) (Err error2) h k (made_error error other) (made_error error2 other2) in
+        let same : error ≡ error2 = cc in
+        ap (λ x. Err x) (is ∙ ap lay_error same ∙ sym is2)
+
+  module _ (repr : ReprOptions) (numbers : List ℕ) (variants : List (List Placed)) where
+    enumed_named : (r : Result Layout LayError) → IsEnumed dl repr numbers variants r → IsNamed (IsCalculated dl repr numbers variants) (one_calculated repr numbers variants) r
+    enumed_named (Ok a) h = h
+    enumed_named (Err e) h = h
+
+    one_enumed : (r s : Result Layout LayError) → IsEnumed dl repr numbers variants r → IsEnumed dl repr numbers variants s → r ≡ s
+    one_enumed r s h k = one_by_name (IsCalculated dl repr numbers variants) (one_calculated repr numbers variants) r s (enumed_named r h) (enumed_named s k)
 
   pub one_enum : (repr : ReprOptions) (numbers : List ℕ) (variants : List (List Placed)) (r s : Result Placed LayError) → IsEnumOf dl repr numbers variants r → IsEnumOf dl repr numbers variants s → r ≡ s
   one_enum repr numbers variants r s h k =
       one_by (enum_fault dl repr numbers variants) (IsEnumed dl repr numbers variants) (placed_enum dl numbers variants) r s (λ x y p q. one_enumed repr numbers variants x y p q) h k
 
-  -- nothing but `NotYet` is answered
-  one_not_yet : {A : Type 0} (a : A) (r s : Result Placed LayError) → IsNotYet a r → IsNotYet a s → r ≡ s
-  one_not_yet a r s h k = h ∙ sym k
+  -- ---- a coroutine has one answer
+
+  module _ (pres ps : List Placed) (states : List (List ℕ)) (conflicts : List (ℕ × ℕ)) where
+    one_stated : (tag : Scalar) (r s : Result Layout (LayoutCalculatorError Placed)) → IsStated dl pres tag (one_scalar dl tag) ps states conflicts r → IsStated dl pres tag (one_scalar dl tag) ps states conflicts s
+        → IsMade r → IsMade s → r ≡ s
+    one_stated tag r s h k p q = one_coroutine layout_of dl pres tag (one_scalar dl tag) ps states (conflicts_of (length ps) conflicts) r s h k p q
+
+    coroutined_named : (tag : Scalar) (r : Result Layout LayError) → IsCoroutined dl pres tag (one_scalar dl tag) ps states conflicts r
+        → IsNamed (IsStated dl pres tag (one_scalar dl tag) ps states conflicts) (one_stated tag) r
+    coroutined_named tag (Ok a) h = h
+    coroutined_named tag (Err e) h = h
+
+    one_coroutined : (tag : Scalar) (r s : Result Layout LayError) → IsCoroutined dl pres tag (one_scalar dl tag) ps states conflicts r → IsCoroutined dl pres tag (one_scalar dl tag) ps states conflicts s → r ≡ s
+    one_coroutined tag r s h k = one_by_name (IsStated dl pres tag (one_scalar dl tag) ps states conflicts) (one_stated tag) r s (coroutined_named tag r h) (coroutined_named tag s k)
+
+    -- what follows the calculator's answer where this is the tag
+    abbrev IsTagged : Result Placed LayError → Scalar → Type 0
+    IsTagged r tag = Follows (IsCoroutined dl pres tag (one_scalar dl tag) ps states conflicts) (λ layout z. z ≡ Ok (placed_coroutine dl pres tag ps states layout)) r
+
+    one_stated_by : (fault : Option LayError) (r s : Result Placed LayError) → CoroutineAnswersBy dl pres ps states conflicts fault r → CoroutineAnswersBy dl pres ps states conflicts fault s → r ≡ s
+    one_stated_by None r s (tag, tells, h) (other, also, k) =
+        let same : other ≡ tag = one_tag (length states) other tag also tells in
+        follows_one (IsCoroutined dl pres tag (one_scalar dl tag) ps states conflicts) (λ layout z. z ≡ Ok (placed_coroutine dl pres tag ps states layout)) r s (λ x y p q. one_coroutined tag x y p q)
+        (λ layout (a : r ≡ Ok (placed_coroutine dl pres tag ps states layout)) b. a ∙ sym b) h (subst (IsTagged s) same k)
+    one_stated_by (Some f) r s h k = h ∙ sym k
+
+    -- one of these prefix fields, locals, states and conflicts
+    pub one_coroutine_of : (r s : Result Placed LayError) → IsCoroutineOf dl pres ps states conflicts r → IsCoroutineOf dl pres ps states conflicts s → r ≡ s
+    one_coroutine_of r s h k = one_stated_by (coroutine_fault (length pres) (length ps) states conflicts) r s h k
 
   mutual
     -- a tree has one answer
@@ -176,8 +219,9 @@ module _ (dl : TargetDataLayout) where
         follows_one (VariantsLaying dl all) (IsEnumOf dl repr (discriminants_of all)) r s (λ x y p q. one_list_each all x y p q)
         (λ variants a b. one_enum repr (discriminants_of all) variants r s a b) h k
     one_answer (coroutine prefix locals states conflicts) r s h k =
-        follows_one (AreLaying dl prefix) (λ ps. Follows (AreLaying dl locals) IsNotYet) r s (λ x y p q. one_list prefix x y p q)
-        (λ ps a b. follows_one (AreLaying dl locals) IsNotYet r s (λ x y p q. one_list locals x y p q) (λ qs c d. one_not_yet qs r s c d) a b) h k
+        follows_one (AreLaying dl prefix) (λ pres. Follows (AreLaying dl locals) (λ ps. IsCoroutineOf dl pres ps states conflicts)) r s (λ x y p q. one_list prefix x y p q)
+        (λ pres a b. follows_one (AreLaying dl locals) (λ ps. IsCoroutineOf dl pres ps states conflicts) r s (λ x y p q. one_list locals x y p q)
+        (λ ps c d. one_coroutine_of pres ps states conflicts r s c d) a b) h k
 
     pub one_list : (ts : Trees) (r s : Result (List Placed) LayError) → AreLaying dl ts r → AreLaying dl ts s → r ≡ s
     one_list no_trees r s h k = h ∙ sym k

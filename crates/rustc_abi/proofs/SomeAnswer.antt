@@ -1,8 +1,13 @@
 -- A tree has an answer: its layout, or its first fault.
-use Rattle.std.proofs.Common.{◌≡◌, ℕ, List, [], ◌∷◌, Option, Some, None, length, map, inl, inr, refl, sym, ap, ◌∙◌, subst, All, Result, Ok, Err, true}
+use Rattle.std.proofs.Common.{◌≡◌, ℕ, List, [], ◌∷◌, Option, Some, None, length, map, inl, inr, refl, sym, ap, ◌∙◌, subst, All, Result, Ok, Err, true, false, ◌-◌, ◌^◌, ◌<◌, ◌≤◌, arith}
 use Rattle.std.specs.Prelude.{◌⊎◌, MatchOption, Bool}
 use Rattle.std.specs.List.{list_any}
+use Rattle.std.proofs.lemmas.Bool.{cases_lt}
 use Rattle.std.proofs.lemmas.List.{map-id}
+use Rattle.abi_base.specs.declared.integer.Integer.{Integer}
+use Rattle.abi_base.specs.declared.integer.Integer.TheVariants.{I8, I16, I32, I64, I128}
+use Rattle.abi_base.specs.declared.primitive.Primitive.TheVariants.{Int}
+use Rattle.abi_base.specs.Integer.{HoldsUnsigned, integer_size}
 use Rattle.abi_base.specs.declared.niche_optimizations.NicheOptimizations.TheVariants.{Enabled}
 use Rattle.abi_base.specs.declared.data_layout.TargetDataLayout.{TargetDataLayout}
 use Rattle.abi_base.specs.DataLayout.{IsLawfulDataLayout, size_bound}
@@ -10,12 +15,15 @@ use Rattle.abi_scalar.specs.declared.error.LayoutCalculatorError.{LayoutCalculat
 use Rattle.abi_scalar.specs.declared.fields_shape.FieldsShape.TheVariants.{Arbitrary}
 use Rattle.abi_scalar.specs.declared.niche.Niche.{Niche}
 use Rattle.abi_scalar.specs.declared.repr.ReprOptions.{ReprOptions}
+use Rattle.abi_scalar.specs.declared.scalar.Scalar.{Scalar}
+use Rattle.abi_scalar.specs.declared.scalar.Scalar.TheVariants.{Initialized}
 use Rattle.abi_scalar.specs.declared.variants.Variants.TheVariants.{Single}
 use Rattle.abi_scalar.specs.Repr.{is_abi_fixed}
 use Rattle.abi_scalar.specs.Lawful.{IsLawfulLayout}
 use Rattle.abi_calc.specs.declared.order.NicheBias.TheVariants.{Start}
 use Rattle.abi_calc.specs.declared.placing.ListFault.{ListFault}
 use Rattle.abi_calc.specs.declared.placing.ListFault.TheVariants.{Unsized, TooLarge, OutOfMemory}
+use Rattle.abi_calc.specs.Coroutine.Layout.{IsStateTag}
 use Rattle.abi_calc.specs.Fault.{IsErrorOf, fault_in}
 use Rattle.abi_calc.specs.Fields.{greatest_repr_align, lies_as_in_c}
 use Rattle.abi_calc.specs.List.{AreSized, IsListLayout, list_seed, parts_of as asked_of, unadjusted_of}
@@ -26,6 +34,7 @@ use Rattle.abi_calc.specs.Run.{IsNamedLayout}
 use Rattle.abi_calc.specs.Union.{union_fault, union_layout}
 use Rattle.abi_calc.proofs.DeepLemmas.{sized_fault}
 use Rattle.abi_calc.proofs.FaultLemmas.{memory_in}
+use Rattle.abi_calc.proofs.SomeCoroutine.{some_coroutine}
 use Rattle.abi_calc.proofs.SomeOrder.{some_layout}
 use Rattle.abi_calc.proofs.SomeView.{some_union_view}
 use Rattle.abi_calc.proofs.SomeEnum.{some_type}
@@ -35,9 +44,11 @@ use Rattle.rustc_abi.specs.declared.error.LayError.TheVariants.{SizeOverflow}
 use Rattle.rustc_abi.specs.Tree.{Tree, scalar, pair, never, unit, array, vector, struct, union, enum, coroutine, Trees, no_trees, more_trees, Variants, no_variants, more_variants}
 use Rattle.rustc_abi.specs.Placed.{Placed, Layout, layout_of}
 use Rattle.rustc_abi.specs.Error.{Follows, lay_error}
-use Rattle.rustc_abi.specs.Laying.{AreLaying, IsFieldsAnswer, IsLaying, IsListed, IsNotYet, IsUnionOf, IsUnited, VariantsLaying, elements_answer, fields_fault, kind_of, placed_fields, placed_together, vector_answer, IsEnumOf, enum_fault, placed_enum}
+use Rattle.rustc_abi.specs.Laying.{AreLaying, IsFieldsAnswer, IsLaying, IsListed, IsCoroutineOf, IsUnionOf, IsUnited, VariantsLaying, elements_answer, fields_fault, kind_of, placed_fields, placed_together, vector_answer, IsEnumOf, enum_fault, placed_enum, coroutine_fault, most_fields, one_scalar, placed_coroutine}
+use Rattle.rustc_abi.specs.Coroutines.{IsCoroutined, IsStated, conflicts_of}
 use Rattle.rustc_abi.specs.Enums.{IsCalculated, IsEnumed, IsTagInteger, numbered_from, layouts_of, discriminants_of}
-use Rattle.rustc_abi.proofs.LaidLemmas.{IsWhole, all_whole, asked_lawful, asked_sized, length-asked, some_field, each_lawful, variants_whole}
+use Rattle.rustc_abi.proofs.LaidLemmas.{IsWhole, all_whole, asked_lawful, asked_sized, length-asked, some_field, each_lawful, variants_whole, coroutine_asked, CoroutineAnswersBy}
+use Rattle.rustc_abi.proofs.CoroutineFaultLemmas.{few_states}
 use Rattle.rustc_abi.proofs.TagIntegerLemmas.{tag_integer_total}
 use Rattle.abi_scalar.specs.declared.error.LayoutCalculatorError.TheVariants as calculator
 
@@ -55,6 +66,45 @@ some_by : {A : Type 0} (fault : Option LayError) (P : Result A LayError → Type
     → HasAnswer (λ r. MatchOption fault (Follows P (λ a r. r ≡ Ok (make a)) r) (λ e. r ≡ Err e))
 some_by None P make answer = some_follows P (λ a r. r ≡ Ok (make a)) answer (λ a p. (Ok (make a), refl))
 some_by (Some e) P make answer = (Err e, refl)
+
+-- ---- the tag of states
+
+-- one of this integer, where it is the least that has the last state's index
+tag_with : (count : ℕ) (integer : Integer) → HoldsUnsigned integer (count - 1) → ((i : Integer) → HoldsUnsigned i (count - 1) → integer_size integer ≤ integer_size i) → (tag : Scalar) × IsStateTag count tag
+tag_with count integer holds least = (Initialized (Int integer false) (record { start = 0; end = count - 1 }), (integer, record { holds = holds; least = least }, refl))
+
+-- so many states have a tag
+some_tag : (count : ℕ) → count ≤ most_fields → (tag : Scalar) × IsStateTag count tag
+some_tag count few = of_8 (cases_lt (count - 1) (2 ^ 8))
+  where
+    of_16 : (2 ^ 8 ≤ count - 1) → ((count - 1 < 2 ^ 16) ⊎ (2 ^ 16 ≤ count - 1)) → (tag : Scalar) × IsStateTag count tag
+    of_16 over (inl low) = tag_with count I16 low least
+      where
+        least : (i : Integer) → HoldsUnsigned i (count - 1) → 2 ≤ integer_size i
+        least I8 h = absurd (omega (arith, over, h))
+        least I16 h = omega arith
+        least I32 h = omega arith
+        least I64 h = omega arith
+        least I128 h = omega arith
+    of_16 over (inr high) = tag_with count I32 (omega (arith, few)) least
+      where
+        least : (i : Integer) → HoldsUnsigned i (count - 1) → 4 ≤ integer_size i
+        least I8 h = absurd (omega (arith, over, h))
+        least I16 h = absurd (omega (arith, high, h))
+        least I32 h = omega arith
+        least I64 h = omega arith
+        least I128 h = omega arith
+
+    of_8 : ((count - 1 < 2 ^ 8) ⊎ (2 ^ 8 ≤ count - 1)) → (tag : Scalar) × IsStateTag count tag
+    of_8 (inl low) = tag_with count I8 low least
+      where
+        least : (i : Integer) → HoldsUnsigned i (count - 1) → 1 ≤ integer_size i
+        least I8 h = omega arith
+        least I16 h = omega arith
+        least I32 h = omega arith
+        least I64 h = omega arith
+        least I128 h = omega arith
+    of_8 (inr over) = of_16 over (cases_lt (count - 1) (2 ^ 16))
 
 module _ (dl : TargetDataLayout) (law : IsLawfulDataLayout dl) where
   -- ---- a list of fields
@@ -152,6 +202,31 @@ module _ (dl : TargetDataLayout) (law : IsLawfulDataLayout dl) where
       (path_of true repr (layouts_of variants)) in
       named_so repr numbers variants answer.0 answer.1 answer.2
 
+  -- ---- the lists of a coroutine
+
+  module _ (pres ps : List Placed) (states : List (List ℕ)) (conflicts : List (ℕ × ℕ)) (before : All (IsWhole dl) pres) (there : All (IsWhole dl) ps) where
+    -- the answer, by the name of its error
+    stated_so : (tag : Scalar) (r : Result Layout (LayoutCalculatorError Placed)) → IsStated dl pres tag (one_scalar dl tag) ps states conflicts r → (r ≡ Err calculator.OutOfMemory → ⊥)
+        → HasAnswer (IsCoroutined dl pres tag (one_scalar dl tag) ps states conflicts)
+    stated_so tag (Ok l) h made = (Ok l, h)
+    stated_so tag (Err error) h made = (Err (lay_error error), (error, h, (λ e. made (ap (λ x. Err x) e)), refl))
+
+    some_coroutined : (tag : Scalar) → IsStateTag (length states) tag → HasAnswer (IsCoroutined dl pres tag (one_scalar dl tag) ps states conflicts)
+    some_coroutined tag tells =
+        let answer = some_coroutine layout_of dl pres tag (one_scalar dl tag) ps states (conflicts_of (length ps) conflicts) (coroutine_asked dl law pres ps states conflicts before there tag tells) in
+        stated_so tag answer.0 answer.1 answer.2
+
+    some_stated : (fault : Option LayError) → coroutine_fault (length pres) (length ps) states conflicts ≡ fault → HasAnswer (CoroutineAnswersBy dl pres ps states conflicts fault)
+    some_stated None none =
+        let tag = some_tag (length states) (few_states (length pres) (length ps) states conflicts none) in
+        let answer = some_follows (IsCoroutined dl pres tag.0 (one_scalar dl tag.0) ps states conflicts) (λ layout r. r ≡ Ok (placed_coroutine dl pres tag.0 ps states layout)) (some_coroutined tag.0 tag.1)
+        (λ layout h. (Ok (placed_coroutine dl pres tag.0 ps states layout), refl)) in
+        (answer.0, (tag.0, tag.1, answer.1))
+    some_stated (Some e) there_is = (Err e, refl)
+
+    some_coroutine_of : HasAnswer (IsCoroutineOf dl pres ps states conflicts)
+    some_coroutine_of = some_stated (coroutine_fault (length pres) (length ps) states conflicts) refl
+
   -- ---- trees
 
   mutual
@@ -174,8 +249,9 @@ module _ (dl : TargetDataLayout) (law : IsLawfulDataLayout dl) where
         (λ variants h. some_by (enum_fault dl repr (discriminants_of all) variants) (IsEnumed dl repr (discriminants_of all) variants) (placed_enum dl (discriminants_of all) variants)
         (some_enumed repr (discriminants_of all) variants (each_lawful dl variants (variants_whole dl law all variants h))))
     some_answer (coroutine prefix locals states conflicts) =
-        some_follows (AreLaying dl prefix) (λ ps. Follows (AreLaying dl locals) IsNotYet) (some_list prefix)
-        (λ ps h. some_follows (AreLaying dl locals) IsNotYet (some_list locals) (λ qs k. (_, refl)))
+        some_follows (AreLaying dl prefix) (λ pres. Follows (AreLaying dl locals) (λ ps. IsCoroutineOf dl pres ps states conflicts)) (some_list prefix)
+        (λ pres h. some_follows (AreLaying dl locals) (λ ps. IsCoroutineOf dl pres ps states conflicts) (some_list locals)
+        (λ ps k. some_coroutine_of pres ps states conflicts (all_whole dl law prefix pres h) (all_whole dl law locals ps k)))
 
     some_list : (ts : Trees) → HasAnswer (AreLaying dl ts)
     some_list no_trees = (Ok [], refl)

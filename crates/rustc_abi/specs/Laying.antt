@@ -1,5 +1,5 @@
 -- Which layout each type has, or why it has none: children first, left to right.
-use Rattle.std.specs.Prelude.{◌≡◌, ℕ, ◌||◌, not, MatchOption, Bool, true, false, List, [], ◌∷◌, length, map, nat_lt, Option, None, Some, Result, Ok, Err, if◌then◌else◌}
+use Rattle.std.specs.Prelude.{◌≡◌, ℕ, ◌+◌, ◌||◌, not, MatchOption, Bool, true, false, List, [], ◌∷◌, length, map, nat_lt, Option, None, Some, Result, Ok, Err, if◌then◌else◌}
 use Rattle.std.specs.List.{list_all, list_any}
 use Rattle.abi_base.specs.declared.data_layout.TargetDataLayout.{TargetDataLayout}
 use Rattle.abi_base.specs.DataLayout.{size_bound}
@@ -13,18 +13,22 @@ use Rattle.abi_scalar.specs.declared.variants.Variants.TheVariants.{Empty, Singl
 use Rattle.abi_scalar.specs.Simple.{scalar_layout, never_layout, unit_layout}
 use Rattle.abi_scalar.specs.Pair.{pair_layout, pair_size, second_offset}
 use Rattle.abi_scalar.specs.Shape.{listed_offsets}
+use Rattle.abi_scalar.specs.Variant.{variants_of}
 use Rattle.abi_calc.specs.Array.{array_answer, elements_layout}
+use Rattle.abi_calc.specs.Coroutine.Layout.{IsStateTag}
 use Rattle.abi_calc.specs.Enums.Path.{variant_at}
 use Rattle.abi_calc.specs.List.{IsListError, IsListLayout}
+use Rattle.abi_calc.specs.Placement.{source_order}
 use Rattle.abi_calc.specs.Simd.{simd_answer}
 use Rattle.abi_calc.specs.Union.{IsUnionAnswer}
 use Rattle.rustc_abi.specs.declared.error.LayError.{LayError}
-use Rattle.rustc_abi.specs.declared.error.LayError.TheVariants.{NotYet, BadIndex, BadAlign, DuplicateDiscriminant, DiscriminantTooWide, SizeOverflow}
+use Rattle.rustc_abi.specs.declared.error.LayError.TheVariants.{BadIndex, BadAlign, DuplicateDiscriminant, DiscriminantTooWide, NoState, LocalTwice, SizeOverflow}
 use Rattle.rustc_abi.specs.Tree.{Tree, scalar, pair, never, unit, array, vector, struct, union, enum, coroutine, Trees, no_trees, more_trees, Variants, no_variants, more_variants}
-use Rattle.rustc_abi.specs.Placed.{Placed, Layout, layout_of, scalar as placed_scalar, pair as placed_pair, never as placed_never, elements, vector as placed_vector, fields, union as placed_union, single as placed_single, tagged as placed_tagged, no_parts, part}
-use Rattle.rustc_abi.specs.Nodes.{parts_at, parts_at_0, tag_offset}
+use Rattle.rustc_abi.specs.Placed.{Placed, Layout, layout_of, scalar as placed_scalar, pair as placed_pair, never as placed_never, elements, vector as placed_vector, fields, union as placed_union, single as placed_single, tagged as placed_tagged, states as placed_states, no_parts, part}
+use Rattle.rustc_abi.specs.Nodes.{parts_at, parts_at_0, placed_in, state_tag_offset, tag_offset}
 use Rattle.rustc_abi.specs.Error.{named, lay_error, Follows}
 use Rattle.rustc_abi.specs.ScalarFault.{scalar_fault}
+use Rattle.rustc_abi.specs.Coroutines.{IsCoroutined, names_unknown}
 use Rattle.rustc_abi.specs.Enums.{IsEnumed, arms_at, discriminants_of, has_equal, is_discriminant}
 
 -- the type with the layout that was answered
@@ -117,8 +121,8 @@ IsUnionOf dl repr ps r =
     (Follows (IsUnited dl repr (map layout_of ps)) (λ layout r. r ≡ Ok (placed_together ps layout)) r)
     (λ e. r ≡ Err e)
 
--- more variants, or more fields in one, than an index can name
-abbrev pub has_bad_index : List (List Placed) → Bool
+-- more variants or states, or more items in one, than an index can name
+abbrev pub has_bad_index : {A : Type 0} → List (List A) → Bool
 has_bad_index variants = nat_lt most_fields (length variants) || list_any (λ fields. nat_lt most_fields (length fields)) variants
 
 -- the own faults of an enum, in their order
@@ -156,9 +160,28 @@ abbrev pub vector_answer : TargetDataLayout → (lanes : ℕ) → (packed : Bool
 vector_answer dl lanes packed element =
     placed_by (λ layout. placed_vector layout (lanes_of lanes element)) (named (simd_answer (λ l. l) 0 0 dl (layout_of element) lanes packed))
 
--- not laid out yet, whatever its parts are
-abbrev pub IsNotYet : {A : Type 0} → A → Result Placed LayError → Type 0
-IsNotYet parts r = r ≡ Err NotYet
+-- the own faults of a coroutine of so many prefix fields and locals, in their order; prefix fields, tag and locals are one list
+abbrev pub coroutine_fault : (prefix locals : ℕ) → (states : List (List ℕ)) → (conflicts : List (ℕ × ℕ)) → Option LayError
+coroutine_fault prefix locals states conflicts =
+    if nat_lt most_fields (prefix + 1 + locals) || has_bad_index states then Some BadIndex
+    else (if nat_lt (length states) 1 then Some NoState
+    else (if names_unknown locals states conflicts then Some BadIndex
+    else (if list_any has_equal states then Some LocalTwice else None)))
+
+-- a coroutine with this layout and this tag: the prefix fields, the tag behind them, and beside it each state, with the locals that it
+-- names and with its index as number
+abbrev pub placed_coroutine : TargetDataLayout → (prefix : List Placed) → (tag : Scalar) → (locals : List Placed) → (states : List (List ℕ)) → Layout → Placed
+placed_coroutine dl prefix tag locals states layout =
+    placed_states layout (parts_at (listed_offsets layout.fields) prefix) (state_tag_offset layout (length prefix)) (one_scalar dl tag)
+    (arms_at (variants_of layout.variants) (source_order (length states)) (map (map (placed_in locals)) states))
+
+-- the answer to a coroutine: its own fault, else the calculator's answer to its prefix fields, its tag and its locals
+abbrev pub IsCoroutineOf : TargetDataLayout → (prefix locals : List Placed) → (states : List (List ℕ)) → (conflicts : List (ℕ × ℕ)) → Result Placed LayError → Type 0
+IsCoroutineOf dl prefix locals states conflicts r =
+    MatchOption (coroutine_fault (length prefix) (length locals) states conflicts)
+    ((tag : Scalar) × IsStateTag (length states) tag
+    × Follows (IsCoroutined dl prefix tag (one_scalar dl tag) locals states conflicts) (λ layout r. r ≡ Ok (placed_coroutine dl prefix tag locals states layout)) r)
+    (λ e. r ≡ Err e)
 
 -- the answer to a tree: its layout, or its first fault; a lawful data layout is a premise
 abbrev mutual
@@ -172,7 +195,8 @@ abbrev mutual
   IsLaying dl (vector lanes packed element) r = Follows (IsLaying dl element) (λ p r. r ≡ vector_answer dl lanes packed p) r
   IsLaying dl (union repr all) r = Follows (AreLaying dl all) (IsUnionOf dl repr) r
   IsLaying dl (enum repr all) r = Follows (VariantsLaying dl all) (IsEnumOf dl repr (discriminants_of all)) r
-  IsLaying dl (coroutine prefix locals states conflicts) r = Follows (AreLaying dl prefix) (λ ps. Follows (AreLaying dl locals) IsNotYet) r
+  IsLaying dl (coroutine prefix locals states conflicts) r =
+      Follows (AreLaying dl prefix) (λ pres. Follows (AreLaying dl locals) (λ ps. IsCoroutineOf dl pres ps states conflicts)) r
 
   -- the answer to trees, one after another
   pub AreLaying : TargetDataLayout → Trees → Result (List Placed) LayError → Type 0

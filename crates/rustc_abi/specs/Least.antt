@@ -1,11 +1,15 @@
--- How large the types in a tree are: structs as small as an order of their fields allows, enums as their variants allow, and which
--- sizes are refused.
-use Rattle.std.specs.Prelude.{◌≡◌, ℕ, zero, suc, true, ◌*◌, ◌≤◌, ◌⊎◌, Bool, List, [], ◌∷◌, map, None, Ok, ⊤}
+-- How large types are: structs as small as an order of their fields allows, enums and coroutines as their lists allow; and which sizes
+-- are refused.
+use Rattle.std.specs.Prelude.{◌≡◌, ℕ, true, ◌*◌, ◌≤◌, ◌⊎◌, Bool, List, [], ◌∷◌, length, map, None, Ok, ⊤}
 use Rattle.abi_base.specs.declared.data_layout.TargetDataLayout.{TargetDataLayout}
 use Rattle.abi_base.specs.DataLayout.{size_bound}
 use Rattle.abi_scalar.specs.declared.repr.ReprOptions.{ReprOptions}
+use Rattle.abi_scalar.specs.declared.scalar.Scalar.{Scalar}
 use Rattle.abi_base.specs.declared.struct_kind.StructKind.TheVariants.{AlwaysSized}
 use Rattle.abi_scalar.specs.Pair.{pair_size}
+use Rattle.abi_calc.specs.Coroutine.Layout.{IsStateTag}
+use Rattle.abi_calc.specs.Coroutine.Promotion.{promoted_of}
+use Rattle.abi_calc.specs.Coroutine.Sizes.{IsSizeWith, IsTooLargeWith}
 use Rattle.abi_calc.specs.declared.enums.path.Path.{Path}
 use Rattle.abi_calc.specs.declared.enums.path.Path.TheVariants.{NoValue, OneList, Several}
 use Rattle.abi_calc.specs.Enums.Path.{path_of, variant_at}
@@ -14,10 +18,11 @@ use Rattle.abi_calc.specs.Least.{IsEachOrderTooLarge, IsLeastSize}
 use Rattle.abi_calc.specs.Simd.{IsVectorTooLarge}
 use Rattle.abi_calc.specs.Union.{IsUnionTooLarge}
 use Rattle.rustc_abi.specs.Tree.{Tree, pair, array, vector, struct, union, enum, coroutine, Trees, no_trees, more_trees, Variants, no_variants, more_variants}
-use Rattle.rustc_abi.specs.Placed.{Placed, single, tagged, Parts, no_parts, part, Arms, no_arms, arm, layout_of, size_of, element_of, parts_of, first_part, more_parts}
+use Rattle.rustc_abi.specs.Placed.{Placed, single, tagged, states as placed_states, Parts, no_parts, part, Arms, no_arms, arm, layout_of, size_of, parts_of}
 use Rattle.rustc_abi.specs.ScalarFault.{scalar_fault}
+use Rattle.rustc_abi.specs.Coroutines.{conflicts_of}
 use Rattle.rustc_abi.specs.Enums.{IsTagInteger, counted, discriminants_of, layouts_of}
-use Rattle.rustc_abi.specs.Laying.{IsLaying, AreLaying, VariantsLaying, enum_fault, fields_fault, kind_of}
+use Rattle.rustc_abi.specs.Laying.{IsLaying, AreLaying, VariantsLaying, coroutine_fault, enum_fault, fields_fault, kind_of, one_scalar}
 
 -- the laid-out fields, as a list
 abbrev pub fields_of : Parts → List Placed
@@ -54,41 +59,34 @@ IsLeastStruct dl repr always_sized ps size = IsLeastSize dl repr (kind_of always
 abbrev pub IsStructTooLarge : TargetDataLayout → ReprOptions → (always_sized : Bool) → List Placed → Type 0
 IsStructTooLarge dl repr always_sized ps = IsEachOrderTooLarge dl repr (kind_of always_sized ps) (map layout_of ps)
 
+-- a coroutine of these prefix fields, this tag, these locals and states has the size that its lists allow: for some set of its locals,
+-- the list of prefix fields, tag and these has its least size, and so has the list of each state's others behind it; the size is the
+-- greatest of them, rounded up to the greatest alignment
+abbrev pub IsCoroutineSized : TargetDataLayout → (prefix : List Placed) → (tag : Placed) → (locals : List Placed) → (states : List (List ℕ)) → (size : ℕ) → Type 0
+IsCoroutineSized dl prefix tag locals states size =
+    (promoted : List Bool) × (length promoted ≡ length locals) × IsSizeWith dl (map layout_of prefix) (layout_of tag) (map layout_of locals) states promoted size
+
+-- a coroutine of these is too large, with those of its locals promoted that its states and conflicts tell: a list is in each order, or
+-- the greatest of them is
+abbrev pub IsCoroutineTooLarge : TargetDataLayout → (prefix locals : List Placed) → (states : List (List ℕ)) → (conflicts : List (ℕ × ℕ)) → Type 0
+IsCoroutineTooLarge dl prefix locals states conflicts =
+    (tag : Scalar) × IsStateTag (length states) tag
+    × IsTooLargeWith dl (map layout_of prefix) (layout_of (one_scalar dl tag)) (map layout_of locals) states (promoted_of states (conflicts_of (length locals) conflicts))
+
 module _ (dl : TargetDataLayout) where
-  abbrev mutual
-    -- each struct in the type has its least size, and so has each enum of which one variant is left; several variants have the size that
-    -- their lists allow; coroutines aren't laid out yet
-    pub HasLeastStructs : Tree → Placed → Type 0
-    HasLeastStructs (array count element) placed = HasLeastStructs element (element_of placed)
-    HasLeastStructs (vector lanes packed element) placed = HasLeastStructs element (element_of (element_of placed))
-    HasLeastStructs (struct repr always_sized all) placed =
-        IsLeastStruct dl repr always_sized (fields_of (parts_of placed)) (size_of placed) × HaveLeastStructs all (parts_of placed)
-    HasLeastStructs (union repr all) placed = HaveLeastStructs all (parts_of placed)
-    HasLeastStructs (enum repr all) (single layout index parts) =
-        IsLeastSize dl repr AlwaysSized (map layout_of (fields_of parts)) layout.size × HaveLeastAt all index parts
-    HasLeastStructs (enum repr all) (tagged layout offset tag encoding arms) =
-        IsEnumSized dl repr (discriminants_of all) (variants_of arms) layout.size × HaveLeastArms all arms
-    HasLeastStructs _ placed = ⊤
-
-    -- the same of the variant with this index
-    pub HaveLeastAt : Variants → (index : ℕ) → Parts → Type 0
-    HaveLeastAt no_variants i parts = ⊥
-    HaveLeastAt (more_variants discriminant ts others) zero parts = HaveLeastStructs ts parts
-    HaveLeastAt (more_variants discriminant ts others) (suc i) parts = HaveLeastAt others i parts
-
-    -- and of each variant beside a tag
-    pub HaveLeastArms : Variants → Arms → Type 0
-    HaveLeastArms no_variants no_arms = ⊤
-    HaveLeastArms (more_variants discriminant ts others) (arm number parts arms) = HaveLeastStructs ts parts × HaveLeastArms others arms
-    HaveLeastArms _ _ = ⊥
-
-    pub HaveLeastStructs : Trees → Parts → Type 0
-    HaveLeastStructs no_trees parts = ⊤
-    HaveLeastStructs (more_trees t ts) parts = HasLeastStructs t (first_part parts) × HaveLeastStructs ts (more_parts parts)
+  -- a struct has its least size, and so has an enum of which one variant is left; several variants have the size that their lists allow,
+  -- and so has a coroutine; of other types nothing is said
+  abbrev pub IsLeast : Tree → Placed → Type 0
+  IsLeast (struct repr always_sized all) placed = IsLeastStruct dl repr always_sized (fields_of (parts_of placed)) (size_of placed)
+  IsLeast (enum repr all) (single layout index parts) = IsLeastSize dl repr AlwaysSized (map layout_of (fields_of parts)) layout.size
+  IsLeast (enum repr all) (tagged layout offset tag encoding arms) = IsEnumSized dl repr (discriminants_of all) (variants_of arms) layout.size
+  IsLeast (coroutine prefix locals all conflicts) (placed_states layout pre offset tag arms) =
+      (ps : List Placed) × AreLaying dl locals (Ok ps) × IsCoroutineSized dl (fields_of pre) tag ps all layout.size
+  IsLeast _ placed = ⊤
 
   abbrev mutual
     -- The first fault is a size: of two scalars, of so many elements, of a struct that is too large in every order, of a vector, of a
-    -- union, or of an enum.
+    -- union, of an enum, or of a coroutine.
     pub IsTooLarge : Tree → Type 0
     IsTooLarge (pair a b) = (scalar_fault dl a ≡ None) × (scalar_fault dl b ≡ None) × (size_bound dl ≤ pair_size dl a b)
     IsTooLarge (array count element) =
@@ -103,7 +101,9 @@ module _ (dl : TargetDataLayout) where
         AreVariantsTooLarge all ⊎ ((variants : List (List Placed)) × VariantsLaying dl all (Ok variants)
         × (enum_fault dl repr (discriminants_of all) variants ≡ None) × IsEnumTooLarge dl repr (discriminants_of all) variants)
     IsTooLarge (coroutine prefix locals states conflicts) =
-        AreTooLarge prefix ⊎ ((ps : List Placed) × AreLaying dl prefix (Ok ps) × AreTooLarge locals)
+        AreTooLarge prefix ⊎ ((pres : List Placed) × AreLaying dl prefix (Ok pres)
+        × (AreTooLarge locals ⊎ ((ps : List Placed) × AreLaying dl locals (Ok ps)
+        × (coroutine_fault (length pres) (length ps) states conflicts ≡ None) × IsCoroutineTooLarge dl pres ps states conflicts)))
     IsTooLarge _ = ⊥
 
     -- the first fault of these types, one after another

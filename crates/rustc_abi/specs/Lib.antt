@@ -14,8 +14,11 @@ pub mod Error
 pub mod Nodes
 pub mod ScalarFault
 pub mod Enums
+pub mod Coroutines
 pub mod Laying
+pub mod Everywhere
 pub mod Least
+pub mod Clash
 pub mod Adding
 pub mod Laid
 pub mod Fault

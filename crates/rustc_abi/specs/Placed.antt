@@ -1,12 +1,10 @@
 -- A type that has been laid out, as a tree of layouts.
-use Rattle.std.specs.Prelude.{ℕ, zero, suc, Option, None, Bool, true, false, ◌||◌}
+use Rattle.std.specs.Prelude.{ℕ, zero, suc, Option, Bool, false, ◌||◌}
 use Rattle.abi_scalar.specs.declared.scalar.Scalar.{Scalar}
 use Rattle.abi_scalar.specs.declared.niche.Niche.{Niche}
 use Rattle.abi_scalar.specs.declared.variants.TagEncoding.{TagEncoding}
-use Rattle.abi_scalar.specs.declared.backend_repr.BackendRepr.TheVariants.{Memory}
-use Rattle.abi_scalar.specs.declared.fields_shape.FieldsShape.TheVariants.{Primitive}
-use Rattle.abi_scalar.specs.declared.variants.Variants.TheVariants.{Empty}
 use Rattle.abi_scalar.specs.declared.layout_data.LayoutData.{LayoutData}
+use Rattle.abi_types.specs.Ty.Typed.{no_layout}
 
 -- a layout, with fields and variants named by their numbers
 abbrev pub Layout : Type 0
@@ -64,19 +62,7 @@ niche_of placed = (layout_of placed).largest_niche
 
 -- what stands where a tree has no such part
 abbrev pub nothing : Placed
-nothing = never (record {
-  fields = Primitive;
-  variants = Empty;
-  backend_repr = Memory true;
-  largest_niche = None;
-  uninhabited = true;
-  align = record { abi = 0 };
-  size = 0;
-  max_repr_align = None;
-  unadjusted_abi_align = 0;
-  repr_c = false;
-  randomization_seed = 0;
-})
+nothing = never no_layout
 
 -- the type of the elements, or the array of the lanes
 abbrev pub element_of : Placed → Placed

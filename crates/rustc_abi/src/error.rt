@@ -8,8 +8,6 @@ use std::alloc::{AllocError, AllocFailed};
 pub enum LayError {
     /// The data layout isn't lawful, so that no type has a layout under it.
     UnlawfulDataLayout,
-    /// A type of this kind isn't laid out yet.
-    NotYet,
     /// A list has more items than its index type can name.
     BadIndex,
     /// A scalar is a pointer into a space that the data layout doesn't know, or whose pointers aren't lawful.
@@ -22,6 +20,10 @@ pub enum LayError {
     DuplicateDiscriminant,
     /// A discriminant is no number of the type of the enum's discriminants.
     DiscriminantTooWide,
+    /// A coroutine has no state.
+    NoState,
+    /// A state of a coroutine holds a local twice.
+    LocalTwice,
     /// A field that has to be sized is unsized, as none in a tree is.
     UnexpectedUnsized,
     /// A size is not below the data layout's bound.

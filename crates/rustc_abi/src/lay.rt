@@ -11,7 +11,9 @@ ghost use Rattle.rustc_abi.specs.declared.error.LayError.{LayError};
 ghost use Rattle.rustc_abi.specs.Placed.{Placed, layout_of};
 ghost use Rattle.rustc_abi.specs.Laid.{placed_of, endian_of};
 ghost use Rattle.rustc_abi.specs.Laying.{IsLaying};
-ghost use Rattle.rustc_abi.specs.Least.{HasLeastStructs, IsTooLarge};
+ghost use Rattle.rustc_abi.specs.Clash.{AreClashingApart, HaveOneOffset};
+ghost use Rattle.rustc_abi.specs.Everywhere.{Everywhere};
+ghost use Rattle.rustc_abi.specs.Least.{IsLeast, IsTooLarge};
 ghost use Rattle.rustc_abi.specs.Unions.{Begins, IsCommon, InUnions};
 ghost use Rattle.rustc_abi.specs.Fault.{IsRefusedFor};
 
@@ -24,10 +26,12 @@ use std::alloc::Global;
 
 /// Lays out a tree under a data layout: children before parents, left to right.
 ///
-/// `UnlawfulDataLayout` where the data layout isn't lawful. Else the first fault of a part: `NotYet` for a type that isn't
-/// laid out yet, `UnknownSpace` for a scalar that is a pointer into a space that the data layout doesn't know or whose
-/// pointers aren't lawful, `BadRange` for one whose range has an end that is no number of its width, `BadIndex` for a list
-/// of more fields, or an enum of more variants, than its index type can name, `BadAlign` for a repr with an alignment above
+/// `UnlawfulDataLayout` where the data layout isn't lawful. Else the first fault of a part: `UnknownSpace` for a scalar that
+/// is a pointer into a space that the data layout doesn't know or whose pointers aren't lawful, `BadRange` for one whose
+/// range has an end that is no number of its width, `BadIndex` for a list of more fields, an enum of more variants, or a
+/// coroutine of more states, of more locals in one, or of more prefix fields, tag and locals together, than its index type
+/// can name, and for a coroutine with a state or a conflict that names a local that isn't there, `NoState` for a coroutine
+/// without states, `LocalTwice` for one with a state that names a local twice, `BadAlign` for a repr with an alignment above
 /// 2^29 bytes, `DuplicateDiscriminant` for an enum with two equal discriminants, `DiscriminantTooWide` for one with a
 /// discriminant that is no number of their type (Rust Reference, "Enumerations"), `ReprConflict` for a packed enum that
 /// isn't laid out as one variant, `EmptyUnion` for a union without fields, `OversizedSimdType` and `ZeroLengthSimdType` for a vector of more
@@ -47,11 +51,18 @@ pub fn lay_out(alloc: Global, dl: &TargetDataLayout, tree: &TypeTree) -> Result<
 
     // How large it is: each struct, and each enum of which one variant is left, has the least size of all orders that its
     // repr and kind allow, and each other enum the size that its variants' lists allow, with a niche or behind a tag. A
-    // size is refused exactly where every such order is too large, or the tagged size is.
-    ensures least { IfOk result (λ laid. HasLeastStructs dl.now (tree_of tree.now) (placed_of laid)) }
+    // coroutine has the size that its lists allow: for some set of its locals, the list of prefix fields, tag and these has
+    // its least size, and so has the list of each state's others behind it; the size is the greatest of them, rounded up to
+    // the greatest alignment. A size is refused exactly where every such order is too large, or the tagged size is; of a
+    // coroutine, with the set of locals that its states and conflicts tell, where a list is in every order, or the size is.
+    ensures least { IfOk result (λ laid. Everywhere dl.now (IsLeast dl.now) (tree_of tree.now) (placed_of laid)) }
     ensures overflow { IfErr result (λ e. e ≡ LayError.SizeOverflow → IsTooLarge dl.now (tree_of tree.now)) }
     ensures too_large { IsLawfulDataLayout dl.now → IsTooLarge dl.now (tree_of tree.now) →
         IsErrAnd result (λ e. (e ≡ LayError.SizeOverflow) ⊎ (e ≡ LayError.OutOfMemory)) }
+
+    // What the locals of each coroutine in it share: those that clash no byte, and each has one offset.
+    ensures clash { IfOk result (λ laid. Everywhere dl.now AreClashingApart (tree_of tree.now) (placed_of laid)) }
+    ensures one_offset { IfOk result (λ laid. Everywhere dl.now HaveOneOffset (tree_of tree.now) (placed_of laid)) }
 
     // What the layout keeps of the values, where each local of a coroutine has one.
     ensures exists { IfOk result (λ laid. LocalsHaveValues dl.now (tree_of tree.now) →

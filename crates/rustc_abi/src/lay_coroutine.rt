@@ -1,25 +1,35 @@
 //! How coroutines are laid out, once their prefix fields and their locals are.
 
-ghost use Rattle.std.specs.Prelude.{◌≡◌, ℕ, ◌<◌, ◌≤◌, All, IfErr, IfOk, get_or, length, map, vec_len};
+ghost use Rattle.std.specs.Prelude.{◌≡◌, ◌≢◌, ℕ, ◌+◌, ◌<◌, ◌≤◌, ◌==◌, ◌&&◌, All, Err, IfErr, IfOk, List, None, Ok, get_or, length, map, vec_len};
+ghost use Rattle.std.specs.List.{AllPairs, list_any};
+ghost use Rattle.abi_base.specs.DataLayout.{IsLawfulDataLayout};
+ghost use Rattle.abi_index.specs.Relation.{column_count, is_entry, row_count};
+ghost use Rattle.abi_scalar.specs.Lawful.{IsLawfulLayout};
 ghost use Rattle.abi_scalar.specs.Scalar.{IsReadable};
-ghost use Rattle.abi_scalar.specs.Shape.{listed_offsets};
+ghost use Rattle.abi_scalar.specs.Simple.{scalar_layout};
 ghost use Rattle.abi_scalar.specs.Variant.{variants_of};
+ghost use Rattle.abi_calc.specs.Coroutine.Layout.{IsStateTag};
 ghost use Rattle.abi_calc.specs.Placement.{source_order};
-ghost use Rattle.rustc_abi.specs.Placed.{states as placed_states};
-ghost use Rattle.rustc_abi.specs.Nodes.{parts_at, placed_in, state_tag_offset};
-ghost use Rattle.rustc_abi.specs.Enums.{arms_at};
-ghost use Rattle.rustc_abi.specs.Laying.{most_fields, one_scalar};
-ghost use Rattle.rustc_abi.specs.Adding.{IsPut, all_at};
+ghost use Rattle.rustc_abi.specs.Tree.{Trees, coroutine};
+ghost use Rattle.rustc_abi.specs.Placed.{Placed, layout_of};
+ghost use Rattle.rustc_abi.specs.Coroutines.{IsCoroutined};
+ghost use Rattle.rustc_abi.specs.Laying.{AreLaying, IsCoroutineOf, coroutine_fault, most_fields, one_scalar, placed_coroutine};
+ghost use Rattle.rustc_abi.specs.Error.{IsRefused};
+ghost use Rattle.rustc_abi.specs.Adding.{EachFits, IsAdded, IsPut, all_at};
 
+use crate::conflicts::{conflicts, named_each};
+use crate::coroutine_fault::coroutine_fault;
 use crate::error::LayError;
 use crate::lay_enum::add_variants;
-use crate::node::{Node, Shape, add};
+use crate::node::{Node, Shape, add, layouts_at};
 use abi_base::TargetDataLayout;
-use abi_index::{FieldIdx, VariantIdx};
+use abi_calc::{LayoutCalculator, state_tag};
+use abi_index::{BitMatrix, FieldIdx, IndexSlice, IndexVec, VariantIdx};
 use abi_scalar::{LayoutData, Scalar};
 use std::alloc::{AllocError, Global};
 
 /// The indices of so many states, as the numbers that name them.
+#[tactic(auto, using(crate::proofs::StateNodesLemmas::indices_more))]
 fn indices(alloc: Global, count: usize) -> Result<Vec<u128>, AllocError>
     ensures { IfOk result (λ indices. indices.items ≡ source_order count) }
 {
@@ -31,13 +41,13 @@ fn indices(alloc: Global, count: usize) -> Result<Vec<u128>, AllocError>
 }
 
 /// The nodes of the locals with these indices.
-fn picked(alloc: Global, locals: &[usize], indices: &[usize]) -> Result<Vec<usize>, AllocError>
+fn picked(alloc: Global, locals: &[usize], indices: &[u64]) -> Result<Vec<usize>, AllocError>
     requires { All (λ k. k < length locals.now) indices.now }
     ensures { IfOk result (λ nodes. nodes.items ≡ map (λ k. get_or locals.now k 0) indices.now) }
 {
     let mut nodes = Vec::with_capacity(alloc, indices.len())?;
     for index in indices {
-        nodes.push(locals[*index])?;
+        nodes.push(locals[*index as usize])?;
     }
     Ok(nodes)
 }
@@ -46,7 +56,7 @@ fn picked(alloc: Global, locals: &[usize], indices: &[usize]) -> Result<Vec<usiz
 fn picked_each(
     alloc: Global,
     locals: &[usize],
-    states: &[Vec<usize>],
+    states: &[Vec<u64>],
 ) -> Result<Vec<Vec<usize>>, AllocError>
     requires { All (λ ks. All (λ k. k < length locals.now) ks.items) states.now }
     ensures { IfOk result (λ children. map (λ c. c.items) children.items ≡ map (λ ks. map (λ k. get_or locals.now k 0) ks.items) states.now) }
@@ -60,7 +70,7 @@ fn picked_each(
 
 /// A node for a coroutine with this layout and this tag, behind one for the tag and one for each state: each state has the
 /// locals that its indices name, and its own index as number.
-pub(crate) fn add_states(
+fn add_states(
     alloc: Global,
     dl: &TargetDataLayout,
     nodes: &mut Vec<Node>,
@@ -68,7 +78,7 @@ pub(crate) fn add_states(
     tag: Scalar,
     prefix: Vec<usize>,
     locals: &[usize],
-    states: &[Vec<usize>],
+    states: &[Vec<u64>],
 ) -> Result<usize, LayError>
     requires tag { IsReadable dl.now tag }
     requires each { length (variants_of layout.variants) ≡ length states.now }
@@ -77,8 +87,7 @@ pub(crate) fn add_states(
     requires there { All (λ child. child < vec_len nodes.old) locals.now }
     requires known { All (λ ks. All (λ k. k < length locals.now) ks.items) states.now }
     ensures ok { IfOk result (λ i. IsPut nodes.old.items nodes.new.items i
-        (placed_states layout (parts_at (listed_offsets layout.fields) (all_at nodes.old.items prefix.items)) (state_tag_offset layout (length prefix.items)) (one_scalar dl.now tag)
-        (arms_at (variants_of layout.variants) (source_order (length states.now)) (map (λ ks. map (placed_in (all_at nodes.old.items locals.now)) ks.items) states.now)))) }
+        (placed_coroutine dl.now (all_at nodes.old.items prefix.items) tag (all_at nodes.old.items locals.now) (map (λ state. state.items) states.now) layout)) }
     ensures err { IfErr result (λ e. e ≡ LayError.OutOfMemory) }
 {
     let numbers = indices(alloc, states.len())?;
@@ -94,4 +103,134 @@ pub(crate) fn add_states(
             states,
         },
     )
+}
+
+/// The calculator's answer to a coroutine of these states and conflicts, whose tag lies in this field.
+fn calculated(
+    alloc: Global,
+    dl: &TargetDataLayout,
+    prefix: IndexVec<FieldIdx, &LayoutData<FieldIdx, VariantIdx>>,
+    tag: Scalar,
+    locals: &[&LayoutData<FieldIdx, VariantIdx>],
+    states: &[IndexVec<FieldIdx, u32>],
+    conflicts: &BitMatrix<u32, u32>,
+) -> Result<LayoutData<FieldIdx, VariantIdx>, LayError>
+    requires data_layout { IsLawfulDataLayout dl.now }
+    requires prefix { All (λ lent. IsLawfulLayout dl.now lent.now) prefix }
+    requires locals { All (λ lent. IsLawfulLayout dl.now lent.now) locals.now }
+    requires tag { IsStateTag (length states.now) tag }
+    requires some { 0 < length states.now }
+    requires few { length states.now ≤ most_fields }
+    requires count { length prefix + 1 + length locals.now ≤ most_fields }
+    requires known { All (All (λ k. k < length locals.now)) states.now }
+    requires once { All (AllPairs (λ a b. a ≢ b)) states.now }
+    requires rows { row_count conflicts.now ≡ length locals.now }
+    requires columns { column_count conflicts.now ≡ length locals.now }
+    ensures ok { IfOk result (λ l. (pres ps : List Placed) (pairs : List (ℕ × ℕ)) → map (λ lent. lent.now) prefix.entry ≡ map layout_of pres → map (λ lent. lent.now) locals.now ≡ map layout_of ps
+        → ((row column : ℕ) → is_entry conflicts.now row column ≡ list_any (λ pair. (row == pair.0) && (column == pair.1)) pairs)
+        → IsCoroutined dl.now pres tag (one_scalar dl.now tag) ps states.now pairs (Ok l)) }
+    ensures err { IfErr result (λ e. (pres ps : List Placed) (pairs : List (ℕ × ℕ)) → map (λ lent. lent.now) prefix.entry ≡ map layout_of pres → map (λ lent. lent.now) locals.now ≡ map layout_of ps
+        → ((row column : ℕ) → is_entry conflicts.now row column ≡ list_any (λ pair. (row == pair.0) && (column == pair.1)) pairs)
+        → IsRefused (IsCoroutined dl.now pres tag (one_scalar dl.now tag) ps states.now pairs) e) }
+{
+    let field = LayoutData::scalar(&dl, tag);
+    let answer = LayoutCalculator::new(dl).layout_of_coroutine(
+        alloc,
+        IndexSlice::new(locals),
+        prefix,
+        IndexSlice::new(states),
+        conflicts,
+        |_tag: Scalar| &field,
+    );
+    Ok(answer?)
+}
+
+/// The layout of a coroutine without a fault of its own, from its prefix fields and its locals, each as one of the nodes.
+fn coroutine_layout(
+    alloc: Global,
+    dl: &TargetDataLayout,
+    nodes: &[Node],
+    prefix: &[usize],
+    tag: Scalar,
+    locals: &[usize],
+    states: &[Vec<u64>],
+    pairs: &[(u64, u64)],
+) -> Result<LayoutData<FieldIdx, VariantIdx>, LayError>
+    requires data_layout { IsLawfulDataLayout dl.now }
+    requires faultless { coroutine_fault (length prefix.now) (length locals.now) (map (λ state. state.items) states.now) pairs.now ≡ None }
+    requires tag { IsStateTag (length states.now) tag }
+    requires before { All (λ child. child < length nodes.now) prefix.now }
+    requires there { All (λ child. child < length nodes.now) locals.now }
+    requires prefix { All (λ p. IsLawfulLayout dl.now (layout_of p)) (all_at nodes.now prefix.now) }
+    requires locals { All (λ p. IsLawfulLayout dl.now (layout_of p)) (all_at nodes.now locals.now) }
+    ensures ok { IfOk result (λ l. IsCoroutined dl.now (all_at nodes.now prefix.now) tag (one_scalar dl.now tag) (all_at nodes.now locals.now) (map (λ state. state.items) states.now) pairs.now (Ok l)) }
+    ensures err { IfErr result (IsRefused (IsCoroutined dl.now (all_at nodes.now prefix.now) tag (one_scalar dl.now tag) (all_at nodes.now locals.now) (map (λ state. state.items) states.now) pairs.now)) }
+{
+    let relation = conflicts(alloc, locals.len(), pairs)?;
+    let states = named_each(alloc, states)?;
+    let prefix = layouts_at(alloc, nodes, prefix)?;
+    let locals = layouts_at(alloc, nodes, locals)?;
+    calculated(
+        alloc,
+        dl,
+        prefix,
+        tag,
+        locals.as_slice().as_raw(),
+        &states,
+        &relation,
+    )
+}
+
+/// A node for a coroutine without a fault of its own.
+fn add_faultless_coroutine(
+    alloc: Global,
+    dl: &TargetDataLayout,
+    nodes: &mut Vec<Node>,
+    prefix: Vec<usize>,
+    locals: &[usize],
+    states: &[Vec<u64>],
+    pairs: &[(u64, u64)],
+) -> Result<usize, LayError>
+    requires data_layout { IsLawfulDataLayout dl.now }
+    requires faultless { coroutine_fault (length prefix.items) (length locals.now) (map (λ state. state.items) states.now) pairs.now ≡ None }
+    requires before { All (λ child. child < vec_len nodes.old) prefix.items }
+    requires there { All (λ child. child < vec_len nodes.old) locals.now }
+    requires prefix { All (λ p. IsLawfulLayout dl.now (layout_of p)) (all_at nodes.old.items prefix.items) }
+    requires locals { All (λ p. IsLawfulLayout dl.now (layout_of p)) (all_at nodes.old.items locals.now) }
+    ensures ok { IfOk result
+        (λ i. (pres ts : Trees) → AreLaying dl.now pres (Ok (all_at nodes.old.items prefix.items)) → AreLaying dl.now ts (Ok (all_at nodes.old.items locals.now)) →
+        EachFits dl.now pres (all_at nodes.old.items prefix.items) → EachFits dl.now ts (all_at nodes.old.items locals.now) →
+        IsAdded dl.now nodes.old.items nodes.new.items i (coroutine pres ts (map (λ state. state.items) states.now) pairs.now)) }
+    ensures err { IfErr result (IsRefused (IsCoroutineOf dl.now (all_at nodes.old.items prefix.items) (all_at nodes.old.items locals.now) (map (λ state. state.items) states.now) pairs.now)) }
+{
+    let tag = state_tag(states.len());
+    let layout = coroutine_layout(alloc, dl, nodes, &prefix, tag, locals, states, pairs)?;
+    add_states(alloc, dl, nodes, layout, tag, prefix, locals, states)
+}
+
+/// A node for a coroutine of these prefix fields and locals, each as one of the nodes.
+pub(crate) fn add_coroutine(
+    alloc: Global,
+    dl: &TargetDataLayout,
+    nodes: &mut Vec<Node>,
+    prefix: Vec<usize>,
+    locals: &[usize],
+    states: &[Vec<u64>],
+    pairs: &[(u64, u64)],
+) -> Result<usize, LayError>
+    requires data_layout { IsLawfulDataLayout dl.now }
+    requires before { All (λ child. child < vec_len nodes.old) prefix.items }
+    requires there { All (λ child. child < vec_len nodes.old) locals.now }
+    requires prefix { All (λ p. IsLawfulLayout dl.now (layout_of p)) (all_at nodes.old.items prefix.items) }
+    requires locals { All (λ p. IsLawfulLayout dl.now (layout_of p)) (all_at nodes.old.items locals.now) }
+    ensures ok { IfOk result
+        (λ i. (pres ts : Trees) → AreLaying dl.now pres (Ok (all_at nodes.old.items prefix.items)) → AreLaying dl.now ts (Ok (all_at nodes.old.items locals.now)) →
+        EachFits dl.now pres (all_at nodes.old.items prefix.items) → EachFits dl.now ts (all_at nodes.old.items locals.now) →
+        IsAdded dl.now nodes.old.items nodes.new.items i (coroutine pres ts (map (λ state. state.items) states.now) pairs.now)) }
+    ensures err { IfErr result (IsRefused (IsCoroutineOf dl.now (all_at nodes.old.items prefix.items) (all_at nodes.old.items locals.now) (map (λ state. state.items) states.now) pairs.now)) }
+{
+    match coroutine_fault(alloc, prefix.len(), locals.len(), states, pairs)? {
+        Some(fault) => Err(fault),
+        None => add_faultless_coroutine(alloc, dl, nodes, prefix, locals, states, pairs),
+    }
 }

@@ -11,13 +11,13 @@ ghost use Rattle.rustc_abi.specs.Tree.{Variants as VariantTrees, enum};
 ghost use Rattle.rustc_abi.specs.Placed.{Placed, layout_of, tagged};
 ghost use Rattle.rustc_abi.specs.Nodes.{encoding_of, tag_offset};
 ghost use Rattle.rustc_abi.specs.Enums.{IsEnumed, IsTagInteger, arms_at, discriminants_of, has_equal, is_discriminant, layouts_of};
-ghost use Rattle.rustc_abi.specs.Laying.{IsEnumOf, VariantsLaying, enum_fault, has_bad_index, most_fields, one_scalar, placed_enum};
+ghost use Rattle.rustc_abi.specs.Laying.{IsEnumOf, VariantsLaying, enum_fault, most_fields, one_scalar, placed_enum};
 ghost use Rattle.rustc_abi.specs.Error.{IsRefused};
 ghost use Rattle.rustc_abi.specs.Adding.{AreArms, HasReadableTag, HasVariants, IsAdded, IsPut, VariantsFit, variants_in};
 
 use crate::discriminants::{has_equal, is_discriminant, numbered};
 use crate::error::LayError;
-use crate::lay_fields::{MOST_FIELDS, has_bad_align};
+use crate::lay_fields::{has_bad_align, has_bad_index};
 use crate::node::{Node, Shape, add, layouts_at};
 use crate::tag_integer::tag_integer;
 use abi_base::{Integer, NicheOptimizations, TargetDataLayout};
@@ -25,21 +25,6 @@ use abi_calc::LayoutCalculator;
 use abi_index::{FieldIdx, IndexSlice, IndexVec, VariantIdx};
 use abi_scalar::{LayoutData, RangeFrom, RangeToInclusive, ReprOptions, Scalar, Variants};
 use std::alloc::{AllocError, Global};
-
-/// Whether there are more variants, or more fields in one, than an index can name.
-fn has_bad_index(children: &[Vec<usize>]) -> bool
-    ensures { (variants : List (List Placed)) → map length variants ≡ map (λ c. length c.items) children.now → result ≡ has_bad_index variants }
-{
-    if children.len() > MOST_FIELDS {
-        return true;
-    }
-    for fields in children {
-        if fields.len() > MOST_FIELDS {
-            return true;
-        }
-    }
-    false
-}
 
 /// Whether each number is one of the type of the enum's discriminants.
 fn are_discriminants(dl: &TargetDataLayout, repr: &ReprOptions, numbers: &[u128]) -> bool

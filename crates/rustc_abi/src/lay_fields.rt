@@ -9,7 +9,7 @@ ghost use Rattle.abi_calc.specs.List.{HasLawfulAligns};
 ghost use Rattle.abi_calc.specs.ListNiche.{IsNicheOfPart};
 ghost use Rattle.rustc_abi.specs.Tree.{Trees, struct};
 ghost use Rattle.rustc_abi.specs.Placed.{Placed, layout_of, size_of};
-ghost use Rattle.rustc_abi.specs.Laying.{AreLaying, IsFieldsAnswer, IsListed, fields_fault, has_bad_align, is_above_limit, kind_of, most_fields};
+ghost use Rattle.rustc_abi.specs.Laying.{AreLaying, IsFieldsAnswer, IsListed, fields_fault, has_bad_align, has_bad_index, is_above_limit, kind_of, most_fields};
 ghost use Rattle.rustc_abi.specs.Error.{IsRefused};
 ghost use Rattle.rustc_abi.specs.Adding.{IsAdded, EachFits, all_at};
 
@@ -39,6 +39,22 @@ pub(crate) fn has_bad_align(repr: &ReprOptions) -> bool
     ensures { result ≡ has_bad_align repr.now }
 {
     is_above_limit(repr.align) || is_above_limit(repr.pack)
+}
+
+/// Whether there are more lists, or more items in one, than an index can name.
+pub(crate) fn has_bad_index<T>(lists: &[Vec<T>]) -> bool
+    ensures items { result ≡ has_bad_index (map (λ list. list.items) lists.now) }
+    ensures types { (all : List (List Placed)) → map length all ≡ map (λ list. length list.items) lists.now → result ≡ has_bad_index all }
+{
+    if lists.len() > MOST_FIELDS {
+        return true;
+    }
+    for list in lists {
+        if list.len() > MOST_FIELDS {
+            return true;
+        }
+    }
+    false
 }
 
 /// The own fault of a struct or union, if it has one.

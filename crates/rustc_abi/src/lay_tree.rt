@@ -10,6 +10,7 @@ ghost use Rattle.rustc_abi.specs.Adding.{IsAdded, AreAdded, AreVariantsAdded};
 use crate::discriminants::discriminants;
 use crate::error::LayError;
 use crate::lay_array::add_elements;
+use crate::lay_coroutine::add_coroutine;
 use crate::lay_enum::add_enum;
 use crate::lay_fields::add_fields;
 use crate::lay_scalar::{add_never, add_pair, add_scalar, add_unit};
@@ -69,12 +70,12 @@ pub(crate) fn lay_tree(
         TypeTree::Coroutine {
             prefix,
             locals,
-            states: _,
-            conflicts: _,
+            states,
+            conflicts,
         } => {
-            let _prefix = lay_each(alloc, dl, nodes, prefix)?;
-            let _locals = lay_each(alloc, dl, nodes, locals)?;
-            Err(LayError::NotYet)
+            let prefix = lay_each(alloc, dl, nodes, prefix)?;
+            let locals = lay_each(alloc, dl, nodes, locals)?;
+            add_coroutine(alloc, dl, nodes, prefix, &locals, states, conflicts)
         }
     }
 }

@@ -1,6 +1,8 @@
 //! Types as trees, their layouts, and the values that their bytes hold; and all that the crates below export, under one name.
 #![tactic(auto)]
 
+mod conflicts;
+mod coroutine_fault;
 mod discriminants;
 mod error;
 mod laid;
@@ -37,7 +39,8 @@ pub use abi_scalar::{
     ReprOptions, Scalar, TagEncoding, VariantLayout, Variants, WrappingRange,
 };
 pub use abi_types::{
-    ArmCall, CVariadicStatus, CanonAbi, ExternAbi, InterruptKind, Reg, X86Call, all_names,
+    ArmCall, CVariadicStatus, CanonAbi, ExternAbi, InterruptKind, Layout, Reg, TyAbiInterface,
+    TyAndLayout, X86Call, all_names,
 };
 pub use error::LayError;
 pub use laid::Laid;

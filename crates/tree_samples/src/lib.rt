@@ -116,3 +116,21 @@ pub fn enum_of(repr: ReprOptions, variants: Vec<(u128, Vec<TypeTree>)>) -> TypeT
 {
     TypeTree::Enum { repr, variants }
 }
+
+/// A coroutine: fields of every state, locals, for each state the indices of its locals, and pairs of locals that may not share
+/// bytes.
+pub fn coroutine_of(
+    prefix: Vec<TypeTree>,
+    locals: Vec<TypeTree>,
+    states: Vec<Vec<u64>>,
+    conflicts: Vec<(u64, u64)>,
+) -> TypeTree
+    ensures { tree_of result ≡ made.coroutine (trees (map tree_of prefix.items)) (trees (map tree_of locals.items)) (map (λ state. state.items) states.items) conflicts.items }
+{
+    TypeTree::Coroutine {
+        prefix,
+        locals,
+        states,
+        conflicts,
+    }
+}

@@ -1,10 +1,16 @@
 //! Answers of `abi_types`, and of what it takes from `abi_base`, that were known beforehand: tables, one file a subject. It has
-//! tests and nothing else.
+//! tests, and sample types for them.
 #![tactic(auto)]
 
 #[cfg(test)]
 mod canonical;
 #[cfg(test)]
 mod conventions;
+mod nodes;
 #[cfg(test)]
 mod registers;
+mod samples;
+#[cfg(test)]
+mod typed;
+#[cfg(test)]
+mod uniform;

@@ -23,7 +23,8 @@ use abi_scalar::{
 };
 use std::alloc::{AllocError, Global};
 
-/// The tag of so many states: the least unsigned integer that has the number of each.
+/// The tag of so many states of a coroutine: the least unsigned integer that has the number of each. A caller of
+/// `layout_of_coroutine` that lends the layout of the tag makes it of this scalar.
 pub fn state_tag(count: usize) -> Scalar
     requires { 0 < count }
     ensures { IsStateTag count result }

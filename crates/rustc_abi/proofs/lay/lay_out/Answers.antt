@@ -1,4 +1,8 @@
 use Rattle.rustc_abi.specs.Tree.{tree_of}
+use Rattle.rustc_abi.specs.Clash.{AreClashingApart, HaveOneOffset}
+use Rattle.rustc_abi.specs.Least.{IsLeast}
+use Rattle.rustc_abi.proofs.ClashLemmas.{laid_clash, laid_one_offset}
+use Rattle.rustc_abi.proofs.EverywhereLemmas.{everywhere}
 use Rattle.rustc_abi.proofs.LayLemmas.{begins_root, common_root, faithful_root, laid_root, lawful_root}
 use Rattle.rustc_abi.proofs.LeastLemmas.{laid_least, never_large, passed_as, told_large, told_overflow}
 use Rattle.rustc_abi.proofs.ListLemmas.{passed_on}
@@ -39,7 +43,17 @@ returns-clause-inside c = λ locals. (faithful_root _ _ _ _ _ _ c.in_ok-_root.en
 pub returns-clause-least : goal.returns-clause-least
 returns-clause-least c =
     let law = c.is_lawful.ensures.0 c.if-not-is_lawful.false in
-    laid_least c.args.dl.now law (tree_of c.args.tree.now) _ (laid_root _ _ _ _ _ _ c.in_ok-_root.ensures.ok c.new.ensures.placed)
+    everywhere c.args.dl.now law (IsLeast c.args.dl.now) (laid_least c.args.dl.now law) (tree_of c.args.tree.now) _ (laid_root _ _ _ _ _ _ c.in_ok-_root.ensures.ok c.new.ensures.placed)
+
+pub returns-clause-clash : goal.returns-clause-clash
+returns-clause-clash c =
+    let law = c.is_lawful.ensures.0 c.if-not-is_lawful.false in
+    everywhere c.args.dl.now law AreClashingApart (laid_clash c.args.dl.now law) (tree_of c.args.tree.now) _ (laid_root _ _ _ _ _ _ c.in_ok-_root.ensures.ok c.new.ensures.placed)
+
+pub returns-clause-one_offset : goal.returns-clause-one_offset
+returns-clause-one_offset c =
+    let law = c.is_lawful.ensures.0 c.if-not-is_lawful.false in
+    everywhere c.args.dl.now law HaveOneOffset (laid_one_offset c.args.dl.now law) (tree_of c.args.tree.now) _ (laid_root _ _ _ _ _ _ c.in_ok-_root.ensures.ok c.new.ensures.placed)
 
 pub returns-clause-too_large : goal.returns-clause-too_large
 returns-clause-too_large c law large =

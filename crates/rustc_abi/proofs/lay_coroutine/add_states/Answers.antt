@@ -1,18 +1,19 @@
 use Rattle.std.proofs.Common.{◌≡◌, ℕ, ◌<◌, ◌∙◌, All, List, ap, arith, length, map, subst, sym}
 use Rattle.std.specs.Prelude.{Vec}
 use Rattle.std.specs.declared.alloc.Global.{Global}
+use Rattle.std.proofs.lemmas.List.{length-map}
 use Rattle.std.proofs.lemmas.List.Elements.{All-weaker}
 use Rattle.std.proofs.lemmas.List.FromFn.{length-range_with_len}
 use Rattle.std.proofs.lemmas.Result.{IfOk-weaker}
 use Rattle.abi_scalar.specs.Variant.{variants_of}
 use Rattle.abi_calc.specs.Placement.{source_order}
-use Rattle.rustc_abi.specs.Nodes.{placed_in}
+use Rattle.rustc_abi.specs.Nodes.{placed_in, types_in}
 use Rattle.rustc_abi.specs.Enums.{arms_at}
 use Rattle.rustc_abi.specs.Laying.{one_scalar}
 use Rattle.rustc_abi.specs.Adding.{AreArms, IsPut, all_at, variants_in}
 use Rattle.rustc_abi.proofs.NodesLemmas.{length-types_in}
 use Rattle.rustc_abi.proofs.ArmNodesLemmas.{variants_in-kept}
-use Rattle.rustc_abi.proofs.StateNodesLemmas.{IsPut-states, as_many_each, each_means, each_there, states_before}
+use Rattle.rustc_abi.proofs.StateNodesLemmas.{IsPut-states, as_many_each, each_means, each_there, states_before, states_told}
 use Rattle.rustc_abi.proofs.lay_coroutine.add_states.Goals as goal
 
 pub add_variants-requires-clause-variants : goal.add_variants-requires-clause-variants
@@ -69,6 +70,9 @@ returns-clause-ok c =
     subst (λ ns. AreArms one two c.in_ok-states.states.items (arms_at (variants_of c.args.layout.variants) ns (variants_in one c.deref-2.result.now))) numbers c.in_ok-states.ensures.ok in
     let arms = subst (λ vs. AreArms one two c.in_ok-states.states.items (arms_at (variants_of c.args.layout.variants) (source_order (length all)) vs)) same own in
     let tag : IsPut old one c.in_ok-tag.tag (one_scalar c.args.dl.now c.args.tag) = rw c.scalar.ensures.exact at put in
+    let told = states_told c.args.layout (all_at old c.args.prefix.items) c.args.prefix.items (one_scalar c.args.dl.now c.args.tag) (variants_of c.args.layout.variants) (all_at old locals) all
+    (length-map c.args.prefix.items (placed_in (types_in old))) in
     IfOk-weaker c.add-2.result _ _
-    (λ i last. IsPut-states old one two _ c.in_ok-tag.tag i (one_scalar c.args.dl.now c.args.tag) c.args.prefix c.in_ok-states.states _ c.args.layout tag arms last prefix)
+    (λ i last. subst (IsPut old c.add-2.new.nodes.items i) told
+    (IsPut-states old one two _ c.in_ok-tag.tag i (one_scalar c.args.dl.now c.args.tag) c.args.prefix c.in_ok-states.states _ c.args.layout tag arms last prefix))
     c.add-2.ensures.ok

@@ -1,5 +1,6 @@
-use Rattle.std.proofs.Common.{inr, refl, ◌≡◌, ◌+◌, ◌++◌, ◌∷◌, [], arith, ap, sym, ◌∙◌, subst, take, map, length, get_or}
+use Rattle.std.proofs.Common.{◌≡◌, ◌+◌, ◌<◌, ◌++◌, ◌∷◌, [], arith, ap, sym, ◌∙◌, subst, take, map, length, get_or}
 use Rattle.std.proofs.lemmas.List.{take_more, map-append}
+use Rattle.std.proofs.lemmas.List.Elements.{All-weaker}
 use Rattle.std.proofs.lemmas.Result.{IfOk-weaker, IfErr-weaker}
 use Rattle.rustc_abi.specs.Tree.{tree_of, trees, trees_of_variants}
 use Rattle.rustc_abi.specs.Enums.{discriminants_of}
@@ -11,6 +12,7 @@ use Rattle.rustc_abi.proofs.RefusalLemmas.{each_refused, variants_refused, enum_
 use Rattle.rustc_abi.proofs.VariantsLemmas.{AreVariantsAdded-after, AreVariantsAdded-more, numbers_of_nodes}
 use Rattle.rustc_abi.proofs.AddedEnumLemmas.{VariantsFit-lawful, enum_tree_refused}
 use Rattle.rustc_abi.specs.Error.{IsRefused}
+use Rattle.rustc_abi.proofs.AddedCoroutineLemmas.{AreAdded-later, coroutine_tree_refused}
 use Rattle.rustc_abi.proofs.TogetherLemmas.{union_tree_refused}
 use Rattle.rustc_abi.proofs.ListLemmas.{passed_on}
 use Rattle.rustc_abi.proofs.lay_tree.+lay.Goals as goal
@@ -122,12 +124,38 @@ lay_tree-returns-in_ok-children-in-Struct-clause-ok t c =
     (IfOk-weaker c.add_fields.result _ _
     (λ i h. rw c.deref-in-Struct.ensures.value at (AreAdded-after _ _ _ _ _ _ i _ before (h _ before.exact before.fits))) c.add_fields.ensures.ok)
 
-pub lay_tree-returns-in_ok-_locals-in-Coroutine-clause-err : goal.lay_tree-returns-in_ok-_locals-in-Coroutine-clause-err
-lay_tree-returns-in_ok-_locals-in-Coroutine-clause-err t c =
+pub lay_tree-add_coroutine-requires-clause-before : goal.lay_tree-add_coroutine-requires-clause-before
+lay_tree-add_coroutine-requires-clause-before t c =
+    let first = AreAdded-later c.args.dl.now _ _ _ _ _ _ _ c.in_ok-prefix-in-Coroutine.ensures.ok c.in_ok-locals-in-Coroutine.ensures.ok in
+    let new = c.lay_each-in-Coroutine-2.new.nodes in
+    All-weaker (λ child. child < length new.items) (λ child. child < new.len) (λ child low. omega (arith, low, new.ok)) c.in_ok-prefix-in-Coroutine.prefix.items first.there
+
+pub lay_tree-add_coroutine-requires-clause-prefix : goal.lay_tree-add_coroutine-requires-clause-prefix
+lay_tree-add_coroutine-requires-clause-prefix t c =
+    let first = AreAdded-later c.args.dl.now _ _ _ _ _ _ _ c.in_ok-prefix-in-Coroutine.ensures.ok c.in_ok-locals-in-Coroutine.ensures.ok in
+    EachFits-lawful _ _ _ first.fits
+
+pub lay_tree-add_coroutine-requires-clause-locals : goal.lay_tree-add_coroutine-requires-clause-locals
+lay_tree-add_coroutine-requires-clause-locals t c = rw c.deref-in-Coroutine-3.ensures.value (EachFits-lawful _ _ _ c.in_ok-locals-in-Coroutine.ensures.ok.fits)
+
+pub lay_tree-returns-in_ok-locals-in-Coroutine-clause-ok : goal.lay_tree-returns-in_ok-locals-in-Coroutine-clause-ok
+lay_tree-returns-in_ok-locals-in-Coroutine-clause-ok t c =
+    let first = AreAdded-later c.args.dl.now _ _ _ _ _ _ _ c.in_ok-prefix-in-Coroutine.ensures.ok c.in_ok-locals-in-Coroutine.ensures.ok in
+    let own = c.in_ok-locals-in-Coroutine.ensures.ok in
     let same = ap tree_of c.in-Coroutine.is ∙ tree_of-Coroutine c.in-Coroutine.prefix c.in-Coroutine.locals c.in-Coroutine.states c.in-Coroutine.conflicts in
-    let prefix = rw c.deref-in-Coroutine.ensures.value at c.in_ok-_prefix-in-Coroutine.ensures.ok.exact in
-    let locals = rw c.deref-in-Coroutine-2.ensures.value at c.in_ok-_locals-in-Coroutine.ensures.ok.exact in
-    rw same (inr (inr (_, prefix, inr (_, locals, refl))))
+    let told = rw (c.deref-in-Coroutine-3.ensures.value, c.deref-in-Coroutine-4.ensures.value, c.deref-in-Coroutine-5.ensures.value) at c.add_coroutine.ensures.ok in
+    rw same
+    (IfOk-weaker c.add_coroutine.result _ _
+    (λ i h. rw (c.deref-in-Coroutine.ensures.value, c.deref-in-Coroutine-2.ensures.value) at (AreAdded-after _ _ _ _ _ _ i _ first (h _ _ first.exact own.exact first.fits own.fits))) told)
+
+pub lay_tree-returns-in_ok-locals-in-Coroutine-clause-err : goal.lay_tree-returns-in_ok-locals-in-Coroutine-clause-err
+lay_tree-returns-in_ok-locals-in-Coroutine-clause-err t c =
+    let first = AreAdded-later c.args.dl.now _ _ _ _ _ _ _ c.in_ok-prefix-in-Coroutine.ensures.ok c.in_ok-locals-in-Coroutine.ensures.ok in
+    let same = ap tree_of c.in-Coroutine.is ∙ tree_of-Coroutine c.in-Coroutine.prefix c.in-Coroutine.locals c.in-Coroutine.states c.in-Coroutine.conflicts in
+    let prefix = rw c.deref-in-Coroutine.ensures.value at first.exact in
+    let locals = rw c.deref-in-Coroutine-2.ensures.value at c.in_ok-locals-in-Coroutine.ensures.ok.exact in
+    let told = rw (c.deref-in-Coroutine-3.ensures.value, c.deref-in-Coroutine-4.ensures.value, c.deref-in-Coroutine-5.ensures.value) at c.add_coroutine.ensures.err in
+    rw same (IfErr-weaker c.add_coroutine.result _ _ (λ e refused. coroutine_tree_refused c.args.dl.now _ _ (map (λ state. state.items) c.in-Coroutine.states.items) c.in-Coroutine.conflicts.items _ _ e prefix locals refused) told)
 
 pub lay_tree-returns-in_ok-children-in-Struct-clause-err : goal.lay_tree-returns-in_ok-children-in-Struct-clause-err
 lay_tree-returns-in_ok-children-in-Struct-clause-err t c =

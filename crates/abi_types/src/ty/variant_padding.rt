@@ -1,0 +1,60 @@
+//! Whether some bytes are padding of some variants and not of others.
+
+ghost use Rattle.std.specs.Prelude.{◌≡◌};
+ghost use Rattle.abi_types.specs.Ty.Walks.{has_variant_dependent_padding};
+
+use crate::ty::interface::{TyAbiInterface, TyAndLayout};
+use crate::ty::walk::{At, Walk};
+use abi_scalar::{FieldsShape, Variants};
+
+/// Whether it has a tag that tells variants apart, or holds such a type other than in a union.
+#[tactic(auto, using(crate::proofs::VariantPaddingLemmas::of_several, crate::proofs::VariantPaddingLemmas::of_none, crate::proofs::VariantPaddingLemmas::of_elements, crate::proofs::VariantPaddingLemmas::of_empty_array, crate::proofs::VariantPaddingLemmas::of_fields, crate::proofs::VariantPaddingLemmas::of_union, crate::proofs::VariantPaddingLemmas::of_primitive, crate::proofs::VariantPaddingLemmas::some_field, crate::proofs::VariantPaddingLemmas::another_field, crate::proofs::VariantPaddingLemmas::no_field))]
+fn walk_variant_padding<W: Walk>(this: W) -> bool
+    requires { W.is_valid this }
+    ensures { result ≡ has_variant_dependent_padding (W.typed_of this) }
+{
+    match &this.layout().variants {
+        Variants::Multiple {
+            tag: _,
+            tag_encoding: _,
+            tag_field: _,
+            variants: _,
+        } => return true,
+        Variants::Empty => return false,
+        Variants::Single { index: _ } => {}
+    }
+    match &this.layout().fields {
+        FieldsShape::Primitive => false,
+        FieldsShape::Union(_) => false,
+        FieldsShape::Array { stride: _, count } => {
+            *count > 0 && walk_variant_padding(this.field(0))
+        }
+        FieldsShape::Arbitrary {
+            offsets,
+            in_memory_order: _,
+        } => {
+            for i in 0..offsets.len() {
+                if walk_variant_padding(this.field(i)) {
+                    return true;
+                }
+            }
+            false
+        }
+    }
+}
+
+impl<'a, Ty> TyAndLayout<'a, Ty> {
+    /// Whether it has a tag that tells variants apart, or a field, also in fields, that has one. What a union holds doesn't count.
+    pub fn has_variant_dependent_padding<C>(&self, cx: &C) -> bool
+    where
+        Ty: TyAbiInterface<'a, C> + Copy,
+        requires { Ty.is_valid self.now }
+        ensures { result ≡ has_variant_dependent_padding (Ty.typed_of self.now) }
+    {
+        walk_variant_padding(At {
+            ty: self.ty,
+            layout: self.layout,
+            cx,
+        })
+    }
+}

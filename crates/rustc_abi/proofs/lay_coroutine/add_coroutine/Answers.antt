@@ -1,0 +1,11 @@
+use Rattle.std.proofs.Common.{◌∙◌, map, rules}
+use Rattle.rustc_abi.specs.Adding.{all_at}
+use Rattle.rustc_abi.proofs.AddedCoroutineLemmas.{fault_of_nodes, own_coroutine_fault}
+use Rattle.rustc_abi.proofs.lay_coroutine.add_coroutine.Goals as goal
+
+pub returns-in-Some-clause-err : goal.returns-in-Some-clause-err
+returns-in-Some-clause-err c =
+    let ns = c.args.nodes.now.items in
+    let all = map (λ state. state.items) c.args.states.now in
+    own_coroutine_fault c.args.dl.now (all_at ns c.args.prefix.items) (all_at ns c.args.locals.now) all c.args.pairs.now c.in-Some.fault
+    (fault_of_nodes ns c.args.prefix.items c.args.locals.now all c.args.pairs.now ∙ search rules)

@@ -1,0 +1,72 @@
+use Rattle.std.proofs.Common.{◌<◌, ◌∙◌, All, Vec, Global, arith, length, map, subst, sym, ℕ}
+use Rattle.std.proofs.lemmas.List.{length-map}
+use Rattle.std.proofs.lemmas.Result.{IfOk-weaker}
+use Rattle.abi_scalar.proofs.ReadableLemmas.{lawful_readable}
+use Rattle.abi_calc.specs.Coroutine.Layout.{IsStateTag}
+use Rattle.abi_calc.proofs.CoroutineAnswers.{state_tag_lawful}
+use Rattle.rustc_abi.specs.Adding.{all_at}
+use Rattle.rustc_abi.proofs.AddedCoroutineLemmas.{IsAdded-coroutine, coroutine_refused, coroutine_variants, fault_of_nodes}
+use Rattle.rustc_abi.proofs.CoroutineFaultLemmas.{few_states, states_within}
+use Rattle.rustc_abi.proofs.ListLemmas.{All-from_map, passed_on}
+use Rattle.rustc_abi.proofs.lay_coroutine.add_faultless_coroutine.Goals as goal
+
+pub coroutine_layout-requires-clause-prefix : goal.coroutine_layout-requires-clause-prefix
+coroutine_layout-requires-clause-prefix c = rw (c.deref.ensures.value, c.deref-2.ensures.value) c.requires.prefix
+
+pub coroutine_layout-requires-clause-locals : goal.coroutine_layout-requires-clause-locals
+coroutine_layout-requires-clause-locals c = rw c.deref.ensures.value c.requires.locals
+
+pub returns-in_err-layout-clause-err : goal.returns-in_err-layout-clause-err
+returns-in_err-layout-clause-err c =
+    let ns = c.args.nodes.now.items in
+    let pres = all_at ns c.args.prefix.items in
+    let ps = all_at ns c.args.locals.now in
+    let all = map (λ (state : Vec ℕ Global). state.items) c.args.states.now in
+    let tag = c.state_tag-tag.result in
+    let none = fault_of_nodes ns c.args.prefix.items c.args.locals.now all c.args.pairs.now ∙ c.requires.faultless in
+    let tells : IsStateTag (length all) tag = subst (λ n. IsStateTag n tag) (sym (length-map c.args.states.now (λ (state : Vec ℕ Global). state.items))) c.state_tag-tag.ensures in
+    let refused = rw (c.deref.ensures.value, c.deref-2.ensures.value) at c.in_err-layout.ensures.err in
+    passed_on _ _ _ c.from_residual.ensures.1 (coroutine_refused c.args.dl.now c.requires.data_layout pres ps all c.args.pairs.now tag none tells c.requires.prefix c.requires.locals _ refused)
+
+pub add_states-requires-clause-tag : goal.add_states-requires-clause-tag
+add_states-requires-clause-tag c =
+    lawful_readable c.args.dl.now c.state_tag-tag.result (state_tag_lawful c.args.dl.now (length c.args.states.now) c.state_tag-tag.result c.state_tag-tag.ensures)
+
+pub add_states-requires-clause-each : goal.add_states-requires-clause-each
+add_states-requires-clause-each c =
+    let ns = c.args.nodes.now.items in
+    let pres = all_at ns c.args.prefix.items in
+    let ps = all_at ns c.args.locals.now in
+    let all = map (λ (state : Vec ℕ Global). state.items) c.args.states.now in
+    let tag = c.state_tag-tag.result in
+    let none = fault_of_nodes ns c.args.prefix.items c.args.locals.now all c.args.pairs.now ∙ c.requires.faultless in
+    let tells : IsStateTag (length all) tag = subst (λ n. IsStateTag n tag) (sym (length-map c.args.states.now (λ (state : Vec ℕ Global). state.items))) c.state_tag-tag.ensures in
+    let laid = rw (c.deref.ensures.value, c.deref-2.ensures.value) at c.in_ok-layout.ensures.ok in
+    coroutine_variants c.args.dl.now c.requires.data_layout pres ps all c.args.pairs.now tag none tells c.requires.prefix c.requires.locals c.in_ok-layout.layout laid
+    ∙ length-map c.args.states.now (λ (state : Vec ℕ Global). state.items)
+
+pub add_states-requires-clause-few : goal.add_states-requires-clause-few
+add_states-requires-clause-few c =
+    let all = map (λ (state : Vec ℕ Global). state.items) c.args.states.now in
+    let few = few_states (length c.args.prefix.items) (length c.args.locals.now) all c.args.pairs.now c.requires.faultless in
+    omega (arith, few, length-map c.args.states.now (λ (state : Vec ℕ Global). state.items))
+
+pub add_states-requires-clause-known : goal.add_states-requires-clause-known
+add_states-requires-clause-known c =
+    All-from_map (All (λ k. k < length c.args.locals.now)) (λ (state : Vec ℕ Global). state.items) c.args.states.now
+    (states_within (length c.args.prefix.items) (length c.args.locals.now) (map (λ state. state.items) c.args.states.now) c.args.pairs.now c.requires.faultless)
+
+pub returns-clause-ok : goal.returns-clause-ok
+returns-clause-ok c =
+    let ns = c.args.nodes.now.items in
+    let pres = all_at ns c.args.prefix.items in
+    let ps = all_at ns c.args.locals.now in
+    let all = map (λ (state : Vec ℕ Global). state.items) c.args.states.now in
+    let tag = c.state_tag-tag.result in
+    let none = fault_of_nodes ns c.args.prefix.items c.args.locals.now all c.args.pairs.now ∙ c.requires.faultless in
+    let tells : IsStateTag (length all) tag = subst (λ n. IsStateTag n tag) (sym (length-map c.args.states.now (λ (state : Vec ℕ Global). state.items))) c.state_tag-tag.ensures in
+    let laid = rw (c.deref.ensures.value, c.deref-2.ensures.value) at c.in_ok-layout.ensures.ok in
+    IfOk-weaker c.add_states.result _ _
+    (λ i put first own told tell fits fit. IsAdded-coroutine c.args.dl.now c.requires.data_layout pres ps all c.args.pairs.now tag none tells c.requires.prefix c.requires.locals c.in_ok-layout.layout laid
+    ns c.add_states.new.nodes.items i first own put told tell fits fit)
+    c.add_states.ensures.ok

@@ -1,0 +1,32 @@
+-- What the locals of a coroutine may share: those that clash share no byte, and each has one place.
+use Rattle.std.specs.Prelude.{◌≡◌, ◌≢◌, ℕ, zero, suc, ◌+◌, ◌≤◌, ◌⊎◌, Contains, List, slice_get, Some, ⊤}
+use Rattle.rustc_abi.specs.Tree.{Tree, coroutine}
+use Rattle.rustc_abi.specs.Placed.{Placed, states as placed_states, Parts, no_parts, part, Arms, parts_of_arm, size_of}
+
+-- two locals clash where some state holds both, or a pair of the conflicts names them, in either order
+abbrev pub DoClash : (states : List (List ℕ)) → (conflicts : List (ℕ × ℕ)) → (a b : ℕ) → Type 0
+DoClash states conflicts a b =
+    ((state : List ℕ) × Contains states state × Contains state a × Contains state b) ⊎ Contains conflicts (a, b) ⊎ Contains conflicts (b, a)
+
+-- the part at this place is this type at this offset
+abbrev pub IsPart : Parts → (place offset : ℕ) → Placed → Type 0
+IsPart no_parts k o p = ⊥
+IsPart (part offset placed parts) zero o p = (offset ≡ o) × (placed ≡ p)
+IsPart (part offset placed parts) (suc k) o p = IsPart parts k o p
+
+-- some state holds the local, and has it as this type at this offset
+abbrev pub HasLocal : (states : List (List ℕ)) → Arms → (local offset : ℕ) → Placed → Type 0
+HasLocal states arms local offset placed =
+    (i : ℕ) × (state : List ℕ) × (place : ℕ) × (slice_get states i ≡ Some state) × (slice_get state place ≡ Some local) × IsPart (parts_of_arm arms i) place offset placed
+
+-- two different locals of a coroutine that clash share no byte, wherever states have them; of other types nothing is said
+abbrev pub AreClashingApart : Tree → Placed → Type 0
+AreClashingApart (coroutine prefix locals all conflicts) (placed_states layout pre offset tag arms) =
+    (a b o p : ℕ) (x y : Placed) → a ≢ b → DoClash all conflicts a b → HasLocal all arms a o x → HasLocal all arms b p y → (o + size_of x ≤ p) ⊎ (p + size_of y ≤ o)
+AreClashingApart _ placed = ⊤
+
+-- a local of a coroutine lies at one offset, whatever states hold it; of other types nothing is said
+abbrev pub HaveOneOffset : Tree → Placed → Type 0
+HaveOneOffset (coroutine prefix locals all conflicts) (placed_states layout pre offset tag arms) =
+    (local o p : ℕ) (x y : Placed) → HasLocal all arms local o x → HasLocal all arms local p y → o ≡ p
+HaveOneOffset _ placed = ⊤
