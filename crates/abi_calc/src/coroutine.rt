@@ -24,9 +24,8 @@ ghost use Rattle.abi_calc.specs.Coroutine.Promotion.{promoted_of};
 ghost use Rattle.abi_calc.specs.Coroutine.Sizes.{IsOverlapSize, IsSizeWith, IsTooLargeWith, MayOverlap};
 
 use crate::calculator::LayoutCalculator;
-pub use crate::coroutine::layout::state_tag;
-
 use crate::coroutine::layout::layout_of_lists;
+pub use crate::coroutine::layout::state_tag;
 use crate::coroutine::lists::{behind, default_repr, first_fields};
 use crate::coroutine::promotion::promoted_locals;
 use abi_base::{HasDataLayout, StructKind};
