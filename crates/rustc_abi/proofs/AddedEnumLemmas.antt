@@ -68,12 +68,12 @@ enumed_nodes dl law repr numbers variants layout none long lawful enumed =
 -- an enum's layout
 pub IsAdded-enum : (dl : TargetDataLayout) → IsLawfulDataLayout dl → (old new : List Node) (i : ℕ) (repr : ReprOptions) (variants : List (List Placed)) (layout : Layout) (all : Variants) →
     enum_fault dl repr (discriminants_of all) variants ≡ None → IsEnumed dl repr (discriminants_of all) variants (Ok layout) →
-    IsPut old new i (placed_enum dl (discriminants_of all) variants layout) → VariantsLaying dl all (Ok variants) → VariantsFit dl all variants → IsAdded dl old new i (enum repr all)
+    IsPut old new i (placed_enum dl repr (discriminants_of all) variants layout) → VariantsLaying dl all (Ok variants) → VariantsFit dl all variants → IsAdded dl old new i (enum repr all)
 IsAdded-enum dl law old new i repr variants layout all faultless enumed put exact fits =
     let numbers : List ℕ = discriminants_of all in
     let long = numbers_for dl law all variants exact in
-    let answer : IsEnumOf dl repr numbers variants (Ok (placed_enum dl numbers variants layout)) = rw faultless (inr (layout, enumed, refl)) in
-    IsAdded-put dl old new i (placed_enum dl numbers variants layout) (enum repr all) put (inr (variants, exact, answer))
+    let answer : IsEnumOf dl repr numbers variants (Ok (placed_enum dl repr numbers variants layout)) = rw faultless (inr (layout, enumed, refl)) in
+    IsAdded-put dl old new i (placed_enum dl repr numbers variants layout) (enum repr all) put (inr (variants, exact, answer))
     (calculated_fits dl law repr numbers variants (aligns_of dl law repr numbers variants faultless long) (VariantsFit-lawful dl all variants fits)
     (each_of dl law repr numbers variants faultless long) (tags_of dl law repr numbers variants faultless long) all refl fits layout enumed)
 
@@ -146,11 +146,11 @@ asked_otherwise f dl repr hs asks gives Several r (inr (inr (none, items, there,
 
 -- the same, where the discriminants are known by a list of their own
 pub IsAdded-enum-as : (dl : TargetDataLayout) → IsLawfulDataLayout dl → (old new : List Node) (i : ℕ) (repr : ReprOptions) (numbers : List ℕ) (variants : List (List Placed)) (layout : Layout) (all : Variants) →
-    numbers ≡ discriminants_of all → enum_fault dl repr numbers variants ≡ None → IsEnumed dl repr numbers variants (Ok layout) → IsPut old new i (placed_enum dl numbers variants layout) →
+    numbers ≡ discriminants_of all → enum_fault dl repr numbers variants ≡ None → IsEnumed dl repr numbers variants (Ok layout) → IsPut old new i (placed_enum dl repr numbers variants layout) →
     VariantsLaying dl all (Ok variants) → VariantsFit dl all variants → IsAdded dl old new i (enum repr all)
 IsAdded-enum-as dl law old new i repr numbers variants layout all is faultless enumed put exact fits =
     IsAdded-enum dl law old new i repr variants layout all (subst (λ ns. enum_fault dl repr ns variants ≡ None) is faultless) (subst (λ ns. IsEnumed dl repr ns variants (Ok layout)) is enumed)
-    (subst (λ ns. IsPut old new i (placed_enum dl ns variants layout)) is put) exact fits
+    (subst (λ ns. IsPut old new i (placed_enum dl repr ns variants layout)) is put) exact fits
 
 -- there are as many types as nodes
 pub lengths_in : (ns : List Node) (children : List (Vec ℕ Global)) → map length (variants_in ns children) ≡ map (λ fields. length fields.items) children

@@ -116,7 +116,7 @@ module _ (dl : TargetDataLayout) (law : IsLawfulDataLayout dl) (repr : ReprOptio
   module _ (all : Variants) (is : numbers ≡ discriminants_of all) (fits : VariantsFit dl all variants) where
     -- the one variant that is left keeps its values
     fits_one : (i : ℕ) → path_of true repr (layouts_of variants) ≡ OneList i → (l : Layout) → IsSingleAnswer layout_of (λ i. i) 0 i dl repr AlwaysSized Enabled (variant_at variants i) (Ok l) →
-        Fits dl (enum repr all) (placed_enum dl numbers variants l)
+        Fits dl (enum repr all) (placed_enum dl repr numbers variants l)
     fits_one i path l h =
         let ps : List Placed = variant_at variants i in
         let list : Layout = h.0 in
@@ -131,25 +131,25 @@ module _ (dl : TargetDataLayout) (law : IsLawfulDataLayout dl) (repr : ReprOptio
         Fits-fields dl repr true (is_abi_fixed repr) (fields_at all i) one (listed_offsets list.fields) ps own good.apart
         (IfSome_then list.largest_niche good.niche (part_of_list (listed_offsets list.fields) ps)) view made.uninhabited (EachFits-lawful dl (fields_at all i) ps own) (single_lawful i dl Enabled list good.lawful) in
         let short : i < length variants = index_within layout_of repr variants true i (λ e. absurd (cc)) path in
-        subst (λ m. Fits dl (enum repr all) (placed_enum dl numbers variants m)) (sym h.2)
+        subst (λ m. Fits dl (enum repr all) (placed_enum dl repr numbers variants m)) (sym h.2)
         (Fits-single dl repr all variants i one (parts_at (listed_offsets list.fields) ps) fits short
         (λ j before other. others_absent repr (layouts_of variants) i path j (omega (arith, before, length-map variants (map layout_of))) other) as_struct)
 
-    fits_by : (path : Path) → path_of true repr (layouts_of variants) ≡ path → (l : Layout) → Answers path l → Fits dl (enum repr all) (placed_enum dl numbers variants l)
+    fits_by : (path : Path) → path_of true repr (layouts_of variants) ≡ path → (l : Layout) → Answers path l → Fits dl (enum repr all) (placed_enum dl repr numbers variants l)
     fits_by NoValue path l h =
         let same : never_layout dl ≡ l = cc in
-        subst (λ m. Fits dl (enum repr all) (placed_enum dl numbers variants m)) same
+        subst (λ m. Fits dl (enum repr all) (placed_enum dl repr numbers variants m)) same
         (Fits-no-variant dl repr all variants fits (λ j before. all_absent repr (layouts_of variants) path j (omega (arith, before, length-map variants (map layout_of)))) never_is_lawful)
     fits_by (OneList i) path l h = fits_one i path l h
     fits_by Several path l h =
         let law_l = lawful_by Several path l h in
         let flag = enum_flag layout_of dl law repr (IsTagInteger dl repr) variants (numbered_from 0 numbers) aligns lawful (some_variant path) each tags l h in
-        subst (λ ns. Fits dl (enum repr all) (placed_enum dl ns variants l)) (sym is)
+        subst (λ ns. Fits dl (enum repr all) (placed_enum dl repr ns variants l)) (sym is)
         (⊎_elim
         (λ t. Fits-by-tag dl repr all variants l (some_variant path) fits law_l flag t)
         (λ t. Fits-by-niche dl repr all variants l fits law_l flag t)
         (subst (λ ns. AreToldApart dl (λ v. v) (layouts_of variants) (numbered_from 0 ns) l) is (told path l h)))
 
     -- an enum that the calculator laid out keeps its values
-    pub calculated_fits : (l : Layout) → IsCalculated dl repr numbers variants (Ok l) → Fits dl (enum repr all) (placed_enum dl numbers variants l)
+    pub calculated_fits : (l : Layout) → IsCalculated dl repr numbers variants (Ok l) → Fits dl (enum repr all) (placed_enum dl repr numbers variants l)
     calculated_fits l h = fits_by (path_of true repr (layouts_of variants)) refl l h

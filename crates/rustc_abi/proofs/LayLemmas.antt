@@ -137,13 +137,13 @@ struct_refused dl repr always_sized ts ps e exact (inr f) = inr (inr (ps, exact,
 pub IsAdded-fields : (dl : TargetDataLayout) (old new : List Node) (i : ℕ) (repr : ReprOptions) (always_sized : Bool) (ps : List Placed) (layout : Layout) (ts : Trees) →
     fields_fault repr ps ≡ None → IsListed dl repr (kind_of always_sized ps) (map layout_of ps) (Ok layout) → IsLawfulLayout dl layout →
     IfSome layout.largest_niche (IsNicheOfPart (listed_offsets layout.fields) (map layout_of ps)) → AreApart layout.size (listed_offsets layout.fields) (map size_of ps) →
-    IsPut old new i (placed_fields ps layout) → AreLaying dl ts (Ok ps) → EachFits dl ts ps → IsAdded dl old new i (struct repr always_sized ts)
+    IsPut old new i (placed_fields repr ps layout) → AreLaying dl ts (Ok ps) → EachFits dl ts ps → IsAdded dl old new i (struct repr always_sized ts)
 IsAdded-fields dl old new i repr always_sized ps layout ts faultless listed lawful niche apart put exact fits =
     let made = listed.2 in
     let offsets : listed_offsets layout.fields ≡ listed.1 = ap listed_offsets made.shape in
     let view = made.view ∙ ap (list_view dl (is_abi_fixed repr) layout.size layout.align.abi (parts_of dl (map layout_of ps))) (sym offsets) in
-    let answer : IsFieldsAnswer dl repr always_sized ps (Ok (placed_fields ps layout)) = rw faultless (inr (layout, listed, refl)) in
-    IsAdded-put dl old new i (placed_fields ps layout) (struct repr always_sized ts) put (inr (ps, exact, answer))
+    let answer : IsFieldsAnswer dl repr always_sized ps (Ok (placed_fields repr ps layout)) = rw faultless (inr (layout, listed, refl)) in
+    IsAdded-put dl old new i (placed_fields repr ps layout) (struct repr always_sized ts) put (inr (ps, exact, answer))
     (Fits-fields dl repr always_sized (is_abi_fixed repr) ts layout (listed_offsets layout.fields) ps fits apart
     (IfSome_then layout.largest_niche niche (part_of_list (listed_offsets layout.fields) ps)) view made.uninhabited (EachFits-lawful dl ts ps fits) lawful)
 

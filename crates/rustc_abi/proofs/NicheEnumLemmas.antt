@@ -23,6 +23,7 @@ use Rattle.abi_calc.specs.Enums.Path.{variant_at, has_no_value, takes_no_room}
 use Rattle.abi_calc.specs.Apart.{AreApart}
 use Rattle.abi_calc.specs.Enums.Beside.{IsToldByNiche}
 use Rattle.rustc_abi.specs.Enums.{layouts_of, arms_at, discriminants_of}
+use Rattle.rustc_abi.specs.Mark.{mark_of}
 use Rattle.rustc_abi.specs.Placed.{parts_of_arm, Placed, layout_of, is_flagged, size_of, Layout, Arms, tagged}
 use Rattle.rustc_abi.specs.Tree.{Trees, no_trees, more_trees, Variants, no_variants, more_variants, enum}
 use Rattle.rustc_abi.specs.Adding.{EachFits, VariantsFit}
@@ -114,13 +115,13 @@ module _ (dl : TargetDataLayout) (repr : ReprOptions) (all : Variants) (variants
   tag = one_scalar dl told.tag
 
   abbrev placed : Placed
-  placed = tagged layout told.niche.offset tag (InNiche told.untagged (record { start = told.span.start; last = told.span.last }) told.start) arms
+  placed = tagged layout (mark_of true repr) told.niche.offset tag (InNiche told.untagged (record { start = told.span.start; last = told.span.last }) told.start) arms
 
   -- the enum is put together so
-  pub placed_by_niche : placed_enum dl (discriminants_of all) variants layout ≡ placed
+  pub placed_by_niche : placed_enum dl repr (discriminants_of all) variants layout ≡ placed
   placed_by_niche =
-      ap (placed_variants dl (discriminants_of all) variants layout) told.told
-      ∙ ap (λ o. tagged layout o tag (InNiche told.untagged told.span told.start) arms) (ap (λ fields. get_or (listed_offsets fields) 0 0) told.place)
+      ap (placed_variants dl repr (discriminants_of all) variants layout) told.told
+      ∙ ap (λ o. tagged layout (mark_of true repr) o tag (InNiche told.untagged told.span told.start) arms) (ap (λ fields. get_or (listed_offsets fields) 0 0) told.place)
 
   wide : size_of tag ≡ w
   wide = ap (primitive_size dl) told.numbers.value
@@ -172,7 +173,7 @@ module _ (dl : TargetDataLayout) (repr : ReprOptions) (all : Variants) (variants
     }
 
   -- an enum that a niche tells apart keeps its values
-  pub Fits-by-niche : Fits dl (enum repr all) (placed_enum dl (discriminants_of all) variants layout)
+  pub Fits-by-niche : Fits dl (enum repr all) (placed_enum dl repr (discriminants_of all) variants layout)
   Fits-by-niche = subst (Fits dl (enum repr all)) (sym placed_by_niche) (record {
     faithful = λ locals. faithful locals;
     lawful = lawful;

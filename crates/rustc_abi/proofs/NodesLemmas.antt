@@ -38,13 +38,13 @@ meanings-first done (m ∷ ns) i lt =
 layout_of-meaning : (done : List Placed) (layout : Layout) (shape : Shape) → layout_of (meaning done layout shape) ≡ layout
 layout_of-meaning done layout (Scalar s) = refl
 layout_of-meaning done layout (Pair first second) = refl
-layout_of-meaning done layout Never = refl
+layout_of-meaning done layout (Never mark) = refl
 layout_of-meaning done layout (Elements count element) = refl
-layout_of-meaning done layout (Fields children) = refl
-layout_of-meaning done layout (Union children) = refl
+layout_of-meaning done layout (Fields mark children) = refl
+layout_of-meaning done layout (Union mark children) = refl
 layout_of-meaning done layout (Vector lanes) = refl
-layout_of-meaning done layout (Single children) = refl
-layout_of-meaning done layout (Tagged tag variants) = refl
+layout_of-meaning done layout (Single mark children) = refl
+layout_of-meaning done layout (Tagged mark tag variants) = refl
 layout_of-meaning done layout (States prefix tag all) = refl
 
 layout_in : (done : List Placed) (ns : List Node) (i j : ℕ) (d : Node) → j ≡ length done + i → i < length ns →
@@ -153,18 +153,18 @@ meaning-same : (xs ys : List Placed) (n : ℕ) → ((i : ℕ) → i < n → plac
 meaning-same xs ys n same layout (Scalar s) is = refl
 meaning-same xs ys n same layout (Pair first second) is =
     ap (λ ps. pair layout (parts_at (listed_offsets layout.fields) ps)) (children-same xs ys n same (first ∷ second ∷ []) (pair_before n first second is))
-meaning-same xs ys n same layout Never is = refl
+meaning-same xs ys n same layout (Never mark) is = refl
 meaning-same xs ys n same layout (Elements count element) is = ap (elements layout count) (same element (ltb-true element n is))
-meaning-same xs ys n same layout (Fields children) is =
-    ap (λ ps. fields layout (parts_at (listed_offsets layout.fields) ps)) (children-same xs ys n same children.items is)
-meaning-same xs ys n same layout (Union children) is = ap (λ ps. union layout (parts_at_0 ps)) (children-same xs ys n same children.items is)
+meaning-same xs ys n same layout (Fields mark children) is =
+    ap (λ ps. fields layout mark (parts_at (listed_offsets layout.fields) ps)) (children-same xs ys n same children.items is)
+meaning-same xs ys n same layout (Union mark children) is = ap (λ ps. union layout mark (parts_at_0 ps)) (children-same xs ys n same children.items is)
 meaning-same xs ys n same layout (Vector lanes) is = ap (vector layout) (same lanes (ltb-true lanes n is))
-meaning-same xs ys n same layout (Single children) is =
-    ap (λ ps. single layout (index_of layout.variants) (parts_at (listed_offsets layout.fields) ps)) (children-same xs ys n same children.items is)
-meaning-same xs ys n same layout (Tagged tag variants) is =
+meaning-same xs ys n same layout (Single mark children) is =
+    ap (λ ps. single layout mark (index_of layout.variants) (parts_at (listed_offsets layout.fields) ps)) (children-same xs ys n same children.items is)
+meaning-same xs ys n same layout (Tagged mark tag variants) is =
     let both = and_parts (nat_lt tag n) (list_all (λ v. nat_lt v.1 n) variants.items) is in
-    ap (λ p. tagged layout (tag_offset layout) p (encoding_of layout.variants) (arms_in xs variants.items)) (same tag (ltb-true tag n both.0))
-    ∙ ap (tagged layout (tag_offset layout) (placed_in ys tag) (encoding_of layout.variants)) (arms-same xs ys n same variants.items both.1)
+    ap (λ p. tagged layout mark (tag_offset layout) p (encoding_of layout.variants) (arms_in xs variants.items)) (same tag (ltb-true tag n both.0))
+    ∙ ap (tagged layout mark (tag_offset layout) (placed_in ys tag) (encoding_of layout.variants)) (arms-same xs ys n same variants.items both.1)
 meaning-same xs ys n same layout (States prefix tag all) is = states-same xs ys n same layout prefix.items tag all.items is
 
 placed_in-meanings : (done : List Placed) (ns : List Node) (i j : ℕ) (d : Node) → j ≡ length done + i → i < length ns → is_node j (get_or ns i d).shape ≡ true →

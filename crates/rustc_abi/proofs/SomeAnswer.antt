@@ -238,15 +238,15 @@ module _ (dl : TargetDataLayout) (law : IsLawfulDataLayout dl) where
     some_answer (array count element) = some_follows (IsLaying dl element) (λ p r. r ≡ elements_answer dl count p) (some_answer element) (λ p h. (elements_answer dl count p, refl))
     some_answer (struct repr always_sized all) =
         some_follows (AreLaying dl all) (IsFieldsAnswer dl repr always_sized) (some_list all)
-        (λ ps h. some_by (fields_fault repr ps) (IsListed dl repr (kind_of always_sized ps) (map layout_of ps)) (placed_fields ps) (some_listed repr always_sized ps (all_whole dl law all ps h)))
+        (λ ps h. some_by (fields_fault repr ps) (IsListed dl repr (kind_of always_sized ps) (map layout_of ps)) (placed_fields repr ps) (some_listed repr always_sized ps (all_whole dl law all ps h)))
     some_answer (vector lanes packed element) =
         some_follows (IsLaying dl element) (λ p r. r ≡ vector_answer dl lanes packed p) (some_answer element) (λ p h. (vector_answer dl lanes packed p, refl))
     some_answer (union repr all) =
         some_follows (AreLaying dl all) (IsUnionOf dl repr) (some_list all)
-        (λ ps h. some_by (fields_fault repr ps) (IsUnited dl repr (map layout_of ps)) (placed_together ps) (some_united repr (map layout_of ps)))
+        (λ ps h. some_by (fields_fault repr ps) (IsUnited dl repr (map layout_of ps)) (placed_together repr ps) (some_united repr (map layout_of ps)))
     some_answer (enum repr all) =
         some_follows (VariantsLaying dl all) (IsEnumOf dl repr (discriminants_of all)) (some_variants all)
-        (λ variants h. some_by (enum_fault dl repr (discriminants_of all) variants) (IsEnumed dl repr (discriminants_of all) variants) (placed_enum dl (discriminants_of all) variants)
+        (λ variants h. some_by (enum_fault dl repr (discriminants_of all) variants) (IsEnumed dl repr (discriminants_of all) variants) (placed_enum dl repr (discriminants_of all) variants)
         (some_enumed repr (discriminants_of all) variants (each_lawful dl variants (variants_whole dl law all variants h))))
     some_answer (coroutine prefix locals states conflicts) =
         some_follows (AreLaying dl prefix) (λ pres. Follows (AreLaying dl locals) (λ ps. IsCoroutineOf dl pres ps states conflicts)) (some_list prefix)

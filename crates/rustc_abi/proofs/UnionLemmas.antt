@@ -16,6 +16,7 @@ use Rattle.abi_calc.specs.Union.{CountsForView, HasView, IsUnionView, union_layo
 use Rattle.rustc_abi.specs.Tree.{Tree, union, Trees, no_trees, more_trees}
 use Rattle.rustc_abi.specs.Bytes.{AreBytes, place_count}
 use Rattle.rustc_abi.specs.Value.{Value, number, two, list, variant, state, bytes}
+use Rattle.rustc_abi.specs.Mark.{mark_of}
 use Rattle.rustc_abi.specs.Placed.{Placed, Layout, Parts, part, layout_of, size_of, union as placed_union}
 use Rattle.rustc_abi.specs.Places.{is_data_place, is_place_of_part}
 use Rattle.rustc_abi.specs.Values.{IsValueOf, LocalsOfEach, VectorsHaveValues}
@@ -41,7 +42,7 @@ module _ (dl : TargetDataLayout) (repr : ReprOptions) (ts : Trees) (layout : Lay
   tree = union repr ts
 
   abbrev placed : Placed
-  placed = placed_union layout parts
+  placed = placed_union layout (mark_of false repr) parts
 
   union_exists : (v : Value) → IsValueOf dl tree placed v → (b : List ℕ) × AreBytes b × Holds dl.endian placed b v
   union_exists (bytes content) h = (
@@ -141,11 +142,11 @@ room_together dl size (more_trees t ts) (p ∷ ps) fits below =
 -- byte lists that hold one value of the union hold the same values of each field
 each_common : (dl : TargetDataLayout) (layout : Layout) (all : Parts) (ts : Trees) (ps : List Placed) →
     ((j : ℕ) → is_place_of_part (parts_at_0 ps) j ≡ true → is_place_of_part all j ≡ true) → EachFits dl ts ps → LocalsOfEach dl ts →
-    EachPart (λ field. IsCommon dl.endian field (placed_union layout all)) (parts_at_0 ps)
+    EachPart (λ field. IsCommon dl.endian field (placed_union layout (mark_of false repr) all)) (parts_at_0 ps)
 each_common dl layout all ts [] place fits locals = tt
 each_common dl layout all no_trees (p ∷ ps) place fits locals = absurd fits
 each_common dl layout all (more_trees t ts) (p ∷ ps) place fits locals = (
-  common_field dl layout all p
+  common_field dl layout (mark_of false repr) all p
       (λ j there. place j (let at : 0 + j ≡ j = omega arith in subst (λ i. is_place_of_part (part 0 p (parts_at_0 ps)) i ≡ true) at (place_here dl 0 p (parts_at_0 ps) j there)))
       (IsFaithful.padding (Fits.faithful fits.0 locals.0)),
   each_common dl layout all ts ps (λ j there. place j (place_later dl 0 p (parts_at_0 ps) j there)) fits.1 locals.1,
@@ -154,7 +155,7 @@ each_common dl layout all (more_trees t ts) (p ∷ ps) place fits locals = (
 -- a union's layout
 pub Fits-union : (dl : TargetDataLayout) (repr : ReprOptions) (ts : Trees) (layout : Layout) (ps : List Placed) → EachFits dl ts ps →
     IsUnionView dl repr (map layout_of ps) layout.backend_repr → layout ≡ union_layout 0 dl repr (map layout_of ps) layout.backend_repr → IsLawfulLayout dl layout →
-    Fits dl (union repr ts) (placed_union layout (parts_at_0 ps))
+    Fits dl (union repr ts) (placed_union layout (mark_of false repr) (parts_at_0 ps))
 Fits-union dl repr ts layout ps fits view made lawful =
     let size : greatest (map (λ l. l.size) (map layout_of ps)) ≤ layout.size = omega (arith, ap (λ l. l.size) made) in
     let room = room_together dl layout.size ts ps fits (below_greatest ps layout.size size) in
@@ -162,6 +163,6 @@ Fits-union dl repr ts layout ps fits view made lawful =
       faithful = λ locals. union_faithful dl repr ts layout (parts_at_0 ps) (ap (λ l. l.largest_niche) made) (ap (λ l. l.uninhabited) made) (union_view_true dl repr (map layout_of ps) layout.backend_repr view);
       lawful = lawful;
       room = room;
-      within = λ k place. within_room (placed_union layout (parts_at_0 ps)) k room place;
+      within = λ k place. within_room (placed_union layout (mark_of false repr) (parts_at_0 ps)) k room place;
       common = λ locals. (each_common dl layout (parts_at_0 ps) ts ps (λ j place. place) fits locals, common_each dl ts (map (λ p. 0) ps) ps fits locals);
     }

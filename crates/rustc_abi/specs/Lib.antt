@@ -1,6 +1,7 @@
 pub mod Tree
 pub mod Value
 pub mod Bytes
+pub mod Mark
 pub mod Placed
 pub mod Tag
 pub mod Places
@@ -12,6 +13,8 @@ pub mod Room
 pub mod Fits
 pub mod Error
 pub mod Nodes
+pub mod Typed
+pub mod Laws
 pub mod ScalarFault
 pub mod Enums
 pub mod Coroutines

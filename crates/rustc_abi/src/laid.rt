@@ -1,8 +1,9 @@
 //! Types that were laid out.
 
-ghost use Rattle.std.specs.Prelude.{◌≡◌, ◌<◌, IfOk, length, true};
+ghost use Rattle.std.specs.Prelude.{◌≡◌, ◌<◌, [], IfOk, length, true};
 ghost use Rattle.rustc_abi.specs.Nodes.{root_of};
-ghost use Rattle.rustc_abi.specs.Adding.{are_nodes};
+ghost use Rattle.rustc_abi.specs.Adding.{AreWell, are_nodes};
+ghost use Rattle.rustc_abi.specs.Laws.{keep_laws};
 ghost use Rattle.rustc_abi.specs.Room.{has_room};
 
 use crate::node::{Node, layout_at};
@@ -19,7 +20,8 @@ pub struct Laid {
     nodes: Vec<Node>,
     endian: Endian,
     ghost some: { 0 < length nodes.items },
-    ghost well: { are_nodes 0 nodes.items ≡ true },
+    ghost earlier: { are_nodes 0 nodes.items ≡ true },
+    ghost laws: { keep_laws [] nodes.items ≡ true },
     ghost room: { has_room (root_of nodes.items) ≡ true },
 }
 
@@ -31,7 +33,7 @@ impl Laid {
     /// The type of the last node.
     pub(crate) fn new(nodes: Vec<Node>, endian: Endian) -> Laid
         requires some { 0 < length nodes.items }
-        requires well { are_nodes 0 nodes.items ≡ true }
+        requires well { AreWell nodes.items }
         requires room { has_room (root_of nodes.items) ≡ true }
         ensures placed { placed_of result ≡ root_of nodes.items }
         ensures endian { endian_of result ≡ endian }

@@ -21,6 +21,7 @@ use crate::conflicts::{conflicts, named_each};
 use crate::coroutine_fault::coroutine_fault;
 use crate::error::LayError;
 use crate::lay_enum::add_variants;
+use crate::mark::Mark;
 use crate::node::{Node, Shape, add, layouts_at};
 use abi_base::TargetDataLayout;
 use abi_calc::{LayoutCalculator, state_tag};
@@ -93,7 +94,7 @@ fn add_states(
     let numbers = indices(alloc, states.len())?;
     let children = picked_each(alloc, locals, states)?;
     let tag = add(nodes, LayoutData::scalar(&dl, tag), Shape::Scalar(tag))?;
-    let states = add_variants(alloc, nodes, &layout, &numbers, &children)?;
+    let states = add_variants(alloc, nodes, &layout, Mark::Plain, &numbers, &children)?;
     add(
         nodes,
         layout,

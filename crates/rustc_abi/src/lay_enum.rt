@@ -18,6 +18,7 @@ ghost use Rattle.rustc_abi.specs.Adding.{AreArms, HasReadableTag, HasVariants, I
 use crate::discriminants::{has_equal, is_discriminant, numbered};
 use crate::error::LayError;
 use crate::lay_fields::{has_bad_align, has_bad_index};
+use crate::mark::Mark;
 use crate::node::{Node, Shape, add, layouts_at};
 use crate::tag_integer::tag_integer;
 use abi_base::{Integer, NicheOptimizations, TargetDataLayout};
@@ -153,6 +154,7 @@ pub(crate) fn add_variants(
     alloc: Global,
     nodes: &mut Vec<Node>,
     layout: &LayoutData<FieldIdx, VariantIdx>,
+    mark: Mark,
     numbers: &[u128],
     children: &[Vec<usize>],
 ) -> Result<Vec<(u128, usize)>, LayError>
@@ -160,7 +162,7 @@ pub(crate) fn add_variants(
     requires each { length numbers.now ≡ length children.now }
     requires few { length children.now ≤ most_fields }
     requires there { All (λ fields. All (λ child. child < vec_len nodes.old) fields.items) children.now }
-    ensures ok { IfOk result (λ variants. AreArms nodes.old.items nodes.new.items variants.items
+    ensures ok { IfOk result (λ variants. AreArms nodes.old.items nodes.new.items (map (λ l. l.size) (variants_of layout.now.variants)) variants.items
         (arms_at (variants_of layout.now.variants) numbers.now (variants_in nodes.old.items children.now))) }
     ensures err { IfErr result (λ e. e ≡ LayError.OutOfMemory) }
 {
@@ -168,7 +170,7 @@ pub(crate) fn add_variants(
     for at in 0..children.len() {
         let own = LayoutData::for_variant(alloc, layout, VariantIdx::from_usize(at))?;
         let fields = Vec::from_slice(alloc, &children[at])?;
-        let node = add(nodes, own, Shape::Fields(fields))?;
+        let node = add(nodes, own, Shape::Fields(mark, fields))?;
         variants.push((numbers[at], node))?;
     }
     Ok(variants)
@@ -180,6 +182,7 @@ fn add_tagged(
     dl: &TargetDataLayout,
     nodes: &mut Vec<Node>,
     layout: LayoutData<FieldIdx, VariantIdx>,
+    mark: Mark,
     tag: Scalar,
     numbers: &[u128],
     children: &[Vec<usize>],
@@ -189,13 +192,13 @@ fn add_tagged(
     requires each { length numbers.now ≡ length children.now }
     requires few { length children.now ≤ most_fields }
     requires there { All (λ fields. All (λ child. child < vec_len nodes.old) fields.items) children.now }
-    ensures ok { IfOk result (λ i. IsPut nodes.old.items nodes.new.items i (tagged layout (tag_offset layout) (one_scalar dl.now tag) (encoding_of layout.variants)
+    ensures ok { IfOk result (λ i. IsPut nodes.old.items nodes.new.items i (tagged layout mark (tag_offset layout) (one_scalar dl.now tag) (encoding_of layout.variants)
         (arms_at (variants_of layout.variants) numbers.now (variants_in nodes.old.items children.now)))) }
     ensures err { IfErr result (λ e. e ≡ LayError.OutOfMemory) }
 {
     let tag = add(nodes, LayoutData::scalar(&dl, tag), Shape::Scalar(tag))?;
-    let variants = add_variants(alloc, nodes, &layout, numbers, children)?;
-    add(nodes, layout, Shape::Tagged { tag, variants })
+    let variants = add_variants(alloc, nodes, &layout, mark, numbers, children)?;
+    add(nodes, layout, Shape::Tagged { mark, tag, variants })
 }
 
 /// A node for an enum with this layout, behind those for its tag and its variants where it has several.
@@ -204,6 +207,7 @@ fn add_placed(
     dl: &TargetDataLayout,
     nodes: &mut Vec<Node>,
     layout: LayoutData<FieldIdx, VariantIdx>,
+    repr: &ReprOptions,
     numbers: &[u128],
     children: &[Vec<usize>],
 ) -> Result<usize, LayError>
@@ -213,17 +217,18 @@ fn add_placed(
     requires few { length children.now ≤ most_fields }
     requires there { All (λ fields. All (λ child. child < vec_len nodes.old) fields.items) children.now }
     ensures ok { IfOk result (λ i. IsPut nodes.old.items nodes.new.items i
-        (placed_enum dl.now numbers.now (variants_in nodes.old.items children.now) layout)) }
+        (placed_enum dl.now repr.now numbers.now (variants_in nodes.old.items children.now) layout)) }
     ensures err { IfErr result (λ e. e ≡ LayError.OutOfMemory) }
 {
+    let mark = Mark::of(true, repr);
     match layout.variants {
-        Variants::Empty => add(nodes, layout, Shape::Never),
+        Variants::Empty => add(nodes, layout, Shape::Never(mark)),
         Variants::Single { index } => {
             let fields = Vec::from_slice(alloc, &children[index.as_usize()])?;
-            add(nodes, layout, Shape::Single(fields))
+            add(nodes, layout, Shape::Single(mark, fields))
         }
         Variants::Multiple { tag, .. } => {
-            add_tagged(alloc, dl, nodes, layout, tag, numbers, children)
+            add_tagged(alloc, dl, nodes, layout, mark, tag, numbers, children)
         }
     }
 }
@@ -249,7 +254,7 @@ fn add_faultless_enum(
     ensures err { IfErr result (IsRefused (IsEnumOf dl.now repr.now numbers.now (variants_in nodes.old.items children.now))) }
 {
     let layout = enum_layout(alloc, dl, nodes, repr, numbers, children)?;
-    add_placed(alloc, dl, nodes, layout, numbers, children)
+    add_placed(alloc, dl, nodes, layout, repr, numbers, children)
 }
 
 /// A node for an enum of these variants, the fields of each as nodes.

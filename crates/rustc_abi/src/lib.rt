@@ -15,6 +15,7 @@ mod lay_scalar;
 mod lay_tree;
 mod lay_union;
 mod lay_vector;
+mod mark;
 mod node;
 mod padding;
 mod runs;
