@@ -60,3 +60,4 @@ pub mod SomeAnswer
 mod LeastLemmas
 mod EverywhereLemmas
 mod ClashLemmas
+mod InsideLemmas

@@ -11,6 +11,7 @@ pub mod Faithful
 pub mod Unions
 pub mod Room
 pub mod Fits
+pub mod Inside
 pub mod Error
 pub mod Nodes
 pub mod Typed
