@@ -31,7 +31,7 @@ use Rattle.rustc_abi.specs.Adding.{HasReadableTag, HasVariants, IsAdded, IsPut, 
 use Rattle.rustc_abi.specs.Nodes.{placed_in, types_in}
 use Rattle.rustc_abi.proofs.CalculatedLemmas.{calculated_fits, calculated_tag, calculated_variants}
 use Rattle.rustc_abi.proofs.LaidLemmas.{aligns_of, each_of, numbers_for, tags_of}
-use Rattle.rustc_abi.proofs.LayLemmas.{EachFits-lawful, IsAdded-put}
+use Rattle.rustc_abi.proofs.LayLemmas.{EachFits-lawful, VariantsFit-lawful, IsAdded-put}
 use Rattle.rustc_abi.proofs.ListLemmas.{All-from_map}
 use Rattle.abi_scalar.specs.declared.error.LayoutCalculatorError.TheVariants as calculator
 
@@ -46,14 +46,6 @@ pub enum_tree_refused : (dl : TargetDataLayout) (repr : ReprOptions) (all : Vari
     IsRefused (IsEnumOf dl repr (discriminants_of all) variants) e → IsRefused (IsLaying dl (enum repr all)) e
 enum_tree_refused dl repr all variants e exact (inl memory) = inl memory
 enum_tree_refused dl repr all variants e exact (inr f) = inr (inr (variants, exact, f))
-
--- types that fit are lawful
-pub VariantsFit-lawful : (dl : TargetDataLayout) (all : Variants) (variants : List (List Placed)) → VariantsFit dl all variants → All (All (λ p. IsLawfulLayout dl (layout_of p))) variants
-VariantsFit-lawful dl no_variants [] h = All-nil (All (λ p. IsLawfulLayout dl (layout_of p)))
-VariantsFit-lawful dl no_variants (ps ∷ variants) h = absurd h
-VariantsFit-lawful dl (more_variants d ts others) [] h = absurd h
-VariantsFit-lawful dl (more_variants d ts others) (ps ∷ variants) h =
-    All-cons (All (λ p. IsLawfulLayout dl (layout_of p))) ps variants (EachFits-lawful dl ts ps h.0) (VariantsFit-lawful dl others variants h.1)
 
 -- what nodes an enum's layout asks for
 pub enumed_nodes : (dl : TargetDataLayout) → IsLawfulDataLayout dl → (repr : ReprOptions) (numbers : List ℕ) (variants : List (List Placed)) (layout : Layout) → enum_fault dl repr numbers variants ≡ None →

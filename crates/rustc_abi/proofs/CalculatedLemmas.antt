@@ -1,5 +1,5 @@
 -- What the calculator's answer to the variants of an enum keeps, whichever way the enum is laid out.
-use Rattle.std.proofs.Common.{◌≡◌, ℕ, zero, suc, ◌<◌, List, [], ◌∷◌, map, length, true, arith, refl, sym, ap, subst, ◌∙◌, ⊎_elim, All, Ok}
+use Rattle.std.proofs.Common.{false, ◌≡◌, ℕ, zero, suc, ◌<◌, List, [], ◌∷◌, map, length, true, arith, refl, sym, ap, subst, ◌∙◌, ⊎_elim, All, Ok}
 use Rattle.std.proofs.lemmas.List.{length-map}
 use Rattle.std.proofs.lemmas.List.Elements.{All-head, All-nil, All-tail}
 use Rattle.std.proofs.lemmas.Option.{IfSome_then}
@@ -31,6 +31,7 @@ use Rattle.abi_calc.proofs.EnumSingle.{single_lawful}
 use Rattle.abi_calc.proofs.EnumType.{index_within, several_some}
 use Rattle.abi_calc.proofs.GoodLists.{good_list}
 use Rattle.rustc_abi.specs.Tree.{Variants, enum, struct}
+use Rattle.rustc_abi.specs.Mark.{mark_of}
 use Rattle.rustc_abi.specs.Placed.{Placed, Layout, layout_of, fields}
 use Rattle.rustc_abi.specs.Fits.{Fits}
 use Rattle.rustc_abi.specs.Nodes.{parts_at}
@@ -46,7 +47,7 @@ use Rattle.rustc_abi.proofs.PresentLemmas.{all_absent, others_absent}
 use Rattle.rustc_abi.proofs.SingleLemmas.{Fits-no-variant, Fits-single, fields_at, fits_at}
 
 -- a fact of each variant's fields is one of those of the variant with this index
-lawful_at : (dl : TargetDataLayout) (variants : List (List Placed)) (i : ℕ) → All (All (λ p. IsLawfulLayout dl (layout_of p))) variants → All (λ p. IsLawfulLayout dl (layout_of p)) (variant_at variants i)
+pub lawful_at : (dl : TargetDataLayout) (variants : List (List Placed)) (i : ℕ) → All (All (λ p. IsLawfulLayout dl (layout_of p))) variants → All (λ p. IsLawfulLayout dl (layout_of p)) (variant_at variants i)
 lawful_at dl [] i h = All-nil (λ p. IsLawfulLayout dl (layout_of p))
 lawful_at dl (ps ∷ variants) zero h = All-head (All (λ p. IsLawfulLayout dl (layout_of p))) ps variants h
 lawful_at dl (ps ∷ variants) (suc i) h = lawful_at dl variants i (All-tail (All (λ p. IsLawfulLayout dl (layout_of p))) ps variants h)
@@ -79,10 +80,10 @@ module _ (dl : TargetDataLayout) (law : IsLawfulDataLayout dl) (repr : ReprOptio
   never_is_lawful : IsLawfulLayout {F = ℕ} {V = ℕ} dl (never_layout dl)
   never_is_lawful = empty_lawful dl true (never_layout dl) law refl refl refl refl tt
 
-  some_variant : path_of true repr (layouts_of variants) ≡ Several → 0 < length variants
+  pub some_variant : path_of true repr (layouts_of variants) ≡ Several → 0 < length variants
   some_variant path = several_some layout_of repr variants true path
 
-  told : path_of true repr (layouts_of variants) ≡ Several → (l : Layout) → Answers Several l → AreToldApart dl (λ v. v) (layouts_of variants) (numbered_from 0 numbers) l
+  pub told : path_of true repr (layouts_of variants) ≡ Several → (l : Layout) → Answers Several l → AreToldApart dl (λ v. v) (layouts_of variants) (numbered_from 0 numbers) l
   told path l h = enum_told layout_of dl law repr (IsTagInteger dl repr) variants (numbered_from 0 numbers) aligns lawful (some_variant path) each tags l h
 
   -- its layout is lawful
@@ -127,7 +128,7 @@ module _ (dl : TargetDataLayout) (law : IsLawfulDataLayout dl) (repr : ReprOptio
         made.view ∙ ap (list_view dl (is_abi_fixed repr) list.size list.align.abi (parts_of dl (map layout_of ps))) (sym offsets) in
         let own = fits_at dl all variants i fits in
         let one : Layout = single_layout i dl Enabled list in
-        let as_struct : Fits dl (struct repr true (fields_at all i)) (fields one (parts_at (listed_offsets list.fields) ps)) =
+        let as_struct : Fits dl (struct repr true (fields_at all i)) (fields one (mark_of false repr) (parts_at (listed_offsets list.fields) ps)) =
         Fits-fields dl repr true (is_abi_fixed repr) (fields_at all i) one (listed_offsets list.fields) ps own good.apart
         (IfSome_then list.largest_niche good.niche (part_of_list (listed_offsets list.fields) ps)) view made.uninhabited (EachFits-lawful dl (fields_at all i) ps own) (single_lawful i dl Enabled list good.lawful) in
         let short : i < length variants = index_within layout_of repr variants true i (λ e. absurd (cc)) path in

@@ -21,7 +21,7 @@ use Rattle.rustc_abi.specs.Laying.{AreLaying, IsLaying, IsListed, IsUnited, Vari
 use Rattle.rustc_abi.specs.Everywhere.{Everywhere, OfArms, OfEach, OfVariant, Within}
 use Rattle.rustc_abi.proofs.ArmsLemmas.{EachApart}
 use Rattle.rustc_abi.proofs.EnumSizeLemmas.{IsShaped, apart_long, enumed_shaped}
-use Rattle.rustc_abi.proofs.LaidLemmas.{all_whole, coroutine_laid, laid_by, numbers_for, placed_back, stated_offsets, variants_whole}
+use Rattle.rustc_abi.proofs.LaidLemmas.{all_whole, whole_lawful, coroutine_laid, laid_by, numbers_for, placed_back, stated_offsets, variants_whole}
 use Rattle.rustc_abi.proofs.LeastLemmas.{listed_count}
 use Rattle.abi_scalar.specs.declared.error.LayoutCalculatorError.TheVariants as calculator
 
@@ -77,7 +77,7 @@ module _ (dl : TargetDataLayout) (law : IsLawfulDataLayout dl) (P : Tree → Pla
     within (coroutine prefix locals states conflicts) p (inr (pres, before, inl f)) = absurd (cc f.2)
     within (coroutine prefix locals states conflicts) p (inr (pres, before, inr (ps, there, answer))) =
         let found = coroutine_laid dl law pres ps states conflicts (coroutine_fault (length pres) (length ps) states conflicts) p answer in
-        let count = stated_offsets dl law pres ps states conflicts (all_whole dl law prefix pres before) (all_whole dl law locals ps there) found.5 found.0 found.1 found.2 found.3 in
+        let count = stated_offsets dl law pres ps states conflicts (whole_lawful dl pres (all_whole dl law prefix pres before)) (whole_lawful dl ps (all_whole dl law locals ps there)) found.5 found.0 found.1 found.2 found.3 in
         subst (Within dl P (coroutine prefix locals states conflicts)) found.4 (
           of_each prefix pres (listed_offsets found.2.fields) (omega (arith, count)) before,
           (ps, there, of_each locals ps (map (λ q. 0) ps) (omega (arith, length-map {B = ℕ} ps (λ q. 0))) there),

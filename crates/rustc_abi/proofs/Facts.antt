@@ -155,7 +155,7 @@ variants_matter held =
     bytes_of.2.3
 
 -- none left, as of an enum without values
-none_left : EachValueIsHeld default_data_layout byte_each (nowhere (sized 0)) → ⊥
+none_left : EachValueIsHeld default_data_layout byte_each (nowhere (sized 0) Plain) → ⊥
 none_left held =
     let bytes_of = held one_in_first (one_is_in_all, tt) in
     bytes_of.2
@@ -187,7 +187,7 @@ no_bool order byte (bytes content) above h = h
 
 -- ---- a flag that is wrong: never without it, and a number with it
 
-unflagged_never : IsFlagTrue default_data_layout never (nowhere (sized 0)) → ⊥
+unflagged_never : IsFlagTrue default_data_layout never (nowhere (sized 0) Plain) → ⊥
 unflagged_never h = (h tt).1
 
 flagged_number : IsFlagTrue default_data_layout (number_type (unsigned I8)) (scalar (record (sized 1) { uninhabited = true }) (unsigned I8)) → ⊥

@@ -1,5 +1,5 @@
 -- A struct's layout keeps its fields' values.
-use Rattle.std.proofs.Common.{All, suc, ◌≡◌, ℕ, ◌+◌, ◌≤◌, ◌⊎◌, ⊎_elim, inl, inr, Option, Some, None, List, [], ◌∷◌, length, map, arith, refl, sym, ap, ◌∙◌}
+use Rattle.std.proofs.Common.{false, All, suc, ◌≡◌, ℕ, ◌+◌, ◌≤◌, ◌⊎◌, ⊎_elim, inl, inr, Option, Some, None, List, [], ◌∷◌, length, map, arith, refl, sym, ap, ◌∙◌}
 use Rattle.std.specs.Prelude.{IfSome, true, Bool}
 use Rattle.std.specs.Cmp.Derive.{both_true}
 use Rattle.std.proofs.lemmas.Bool.{le-leb}

@@ -1,8 +1,9 @@
 -- The fields of each variant end inside the variant, and the variant inside the whole.
-use Rattle.std.proofs.Common.{◌≡◌, ◌≢◌, ℕ, ◌+◌, ◌==◌, ◌<◌, ◌≤◌, ◌∙◌, Bool, true, false, List, [], ◌∷◌, ◌++◌, Option, Some, None, All, Result, Ok, Err, ap, arith, inl, inr, length, map, max, refl, subst, sym}
+use Rattle.std.proofs.Common.{◌≡◌, ◌≢◌, ℕ, ◌+◌, ◌==◌, ◌<◌, ◌≤◌, ◌∙◌, Bool, true, false, List, [], ◌∷◌, ◌++◌, Option, Some, None, All, Result, Ok, Err, ap, arith, inl, inr, length, map, max, refl, subst, sym, take}
 use Rattle.std.specs.Prelude.{◌&&◌, drop, if◌then◌else◌, nat_le, nat_lt}
 use Rattle.std.specs.List.{AllPairs}
 use Rattle.std.proofs.lemmas.Bool.{leb-true, ltb-true}
+use Rattle.std.proofs.lemmas.List.{append_assoc, length-append, length-map, map-append}
 use Rattle.std.proofs.lemmas.List.Elements.{All-cons, All-head, All-nil, All-tail, All-weaker}
 use Rattle.abi_base.specs.declared.data_layout.TargetDataLayout.{TargetDataLayout}
 use Rattle.abi_base.specs.declared.integer.Integer.{Integer}
@@ -21,7 +22,8 @@ use Rattle.abi_scalar.specs.declared.variants.TagEncoding.{TagEncoding}
 use Rattle.abi_scalar.specs.declared.variants.VariantLayout.{VariantLayout}
 use Rattle.abi_scalar.specs.declared.variants.Variants.TheVariants.{Empty, Single, Multiple}
 use Rattle.abi_scalar.specs.Lawful.{IsLawfulLayout}
-use Rattle.abi_scalar.specs.Shape.{field_count, listed_offsets}
+use Rattle.abi_scalar.specs.declared.fields_shape.FieldsShape.TheVariants.{Arbitrary}
+use Rattle.abi_scalar.specs.Shape.{field_count, listed_offsets, listed_order}
 use Rattle.abi_scalar.specs.Simple.{never_layout}
 use Rattle.abi_scalar.specs.Variant.{variant_of, variants_of}
 use Rattle.abi_calc.specs.declared.enums.niche.Room.{Room}
@@ -29,6 +31,7 @@ use Rattle.abi_calc.specs.declared.enums.path.Path.{Path}
 use Rattle.abi_calc.specs.declared.enums.path.Path.TheVariants.{NoValue, OneList, Several}
 use Rattle.abi_calc.specs.Apart.{AreApart}
 use Rattle.abi_calc.specs.Coroutine.Layout.{IsStateTag, whole_size}
+use Rattle.abi_index.specs.BitSet.{members_of}
 use Rattle.abi_calc.specs.Coroutine.Lists.{AreOwnLists, behind, default_repr, first_list, own_list, picked}
 use Rattle.abi_calc.specs.Coroutine.Promotion.{promoted_of}
 use Rattle.abi_calc.specs.Coroutine.Sizes.{own_lists}
@@ -65,7 +68,7 @@ use Rattle.rustc_abi.specs.Inside.{EndInside, VariantsInside}
 use Rattle.rustc_abi.specs.Laying.{coroutine_fault, enum_fault, most_fields, one_scalar}
 use Rattle.rustc_abi.proofs.CoroutineFaultLemmas.{conflict_rows, states_once, states_within}
 use Rattle.rustc_abi.proofs.FaultlessLemmas.{few_fields}
-use Rattle.rustc_abi.proofs.LaidLemmas.{IsWhole, aligns_of, coroutine_asked, each_lawful, stated_offsets, whole_lawful}
+use Rattle.rustc_abi.proofs.LaidLemmas.{aligns_of, coroutine_asked, stated_offsets}
 use Rattle.rustc_abi.proofs.StateFlagLemmas.{sizes_picked}
 
 -- ---- parts that end inside
@@ -83,6 +86,13 @@ back_ends whole [] offsets [] sizes same h = apart_ends whole offsets sizes h
 back_ends whole [] offsets (m ∷ ms) sizes same h = absurd (omega (arith, same))
 back_ends whole (x ∷ xs) offsets [] sizes same h = absurd (omega (arith, same))
 back_ends whole (x ∷ xs) offsets (m ∷ ms) sizes same h = back_ends whole xs offsets ms sizes (omega (arith, same)) h.2
+
+-- the first of parts that lie apart end inside
+front_ends : (whole : ℕ) (offsets front rest : List ℕ) → AreApart whole offsets (front ++ rest) → EndInside whole (take (length front) offsets) front
+front_ends whole [] [] rest h = tt
+front_ends whole (o ∷ offsets) [] rest h = tt
+front_ends whole [] (m ∷ front) rest h = absurd h
+front_ends whole (o ∷ offsets) (m ∷ front) rest h = (h.0, front_ends whole offsets front rest h.2)
 
 -- what ends inside a smaller whole ends inside a larger one
 ends_wider : (small whole : ℕ) (offsets sizes : List ℕ) → small ≤ whole → EndInside small offsets sizes → EndInside whole offsets sizes
@@ -197,7 +207,7 @@ module _ (dl : TargetDataLayout) (repr : ReprOptions) (kind : StructKind) where
 -- ---- an enum
 
 module _ (dl : TargetDataLayout) (law : IsLawfulDataLayout dl) (repr : ReprOptions) (numbers : List ℕ) (variants : List (List Placed)) (none : enum_fault dl repr numbers variants ≡ None)
-    (long : length numbers ≡ length variants) (whole : All (All (IsWhole dl)) variants) where
+    (long : length numbers ≡ length variants) (lawful : All (All (λ p. IsLawfulLayout dl (layout_of p))) variants) where
   -- the tag is its one field, and its variants end inside
   abbrev IsEnumInside : Layout → Type 0
   IsEnumInside l = (field_count l.fields ≡ 1) × VariantsInside l.size (variants_of l.variants) variants
@@ -205,14 +215,14 @@ module _ (dl : TargetDataLayout) (law : IsLawfulDataLayout dl) (repr : ReprOptio
   -- the lists that the rules give the variants are good
   good_kind : (kind : StructKind) (lists : List Layout) → IsLawfulPrefix kind (size_bound dl) → IsSized kind → AreListLayouts layout_of (λ i. i) 0 dl repr kind variants lists
       → AreGoodLists layout_of (λ i. i) 0 dl repr kind variants lists
-  good_kind kind lists prefix sized h = good_lists layout_of (λ i. i) 0 dl repr kind variants lists law (each_lawful dl variants whole) (aligns_of dl law repr numbers variants none long) prefix sized h
+  good_kind kind lists prefix sized h = good_lists layout_of (λ i. i) 0 dl repr kind variants lists law lawful (aligns_of dl law repr numbers variants none long) prefix sized h
 
   -- one with a tag
   with_tag : (asked : Integer) (signed : Bool) (values : List ℕ) (l : Layout) → repr.pack ≡ None → 0 < length variants
       → IsTaggedAnswer layout_of (λ i. i) (λ i. i) 0 dl repr asked signed values variants (Ok l) → IsEnumInside l
   with_tag asked signed values l unpacked some (lists, are, laid) =
       let all : List (List Layout) = layouts_of variants in
-      let good = good_kind (behind_tag dl repr asked (layouts_of variants)) lists (tag_prefix layout_of dl repr asked variants law (each_lawful dl variants whole)) tt are in
+      let good = good_kind (behind_tag dl repr asked (layouts_of variants)) lists (tag_prefix layout_of dl repr asked variants law lawful) tt are in
       let grown : Integer = grown_tag dl repr asked (start_align (λ i. i) all lists) in
       let tag : Scalar = Initialized (Int grown signed) laid.ranged.0 in
       let view = tagged_view dl tag (lists_size dl lists) (lists_align dl lists) (payloads_of dl (integer_size asked) (integer_size grown) all lists) in
@@ -301,7 +311,7 @@ behind_fits dl repr size align fields list good =
     let rounded = (rounded_to (end_from repr.pack start parts) (align_of (list_repr dl repr (Prefixed size align)) (parts_of dl (map layout_of fields)))).above in
     omega (arith, begins, ends, rounded, good.placed.2.extent)
 
-module _ (dl : TargetDataLayout) (law : IsLawfulDataLayout dl) (pres ps : List Placed) (states : List (List ℕ)) (conflicts : List (ℕ × ℕ)) (before : All (IsWhole dl) pres) (there : All (IsWhole dl) ps)
+module _ (dl : TargetDataLayout) (law : IsLawfulDataLayout dl) (pres ps : List Placed) (states : List (List ℕ)) (conflicts : List (ℕ × ℕ)) (before : All (λ p. IsLawfulLayout dl (layout_of p)) pres) (there : All (λ p. IsLawfulLayout dl (layout_of p)) ps)
     (none : coroutine_fault (length pres) (length ps) states conflicts ≡ None) (tag : Scalar) (tells : IsStateTag (length states) tag) where
   -- the locals that are promoted
   abbrev promoted : List Bool
@@ -332,7 +342,7 @@ module _ (dl : TargetDataLayout) (law : IsLawfulDataLayout dl) (pres ps : List P
   good_own : (first : Layout) (lists : List Layout) → IsLawfulLayout dl first → AreOwnLists layout_of (λ i. i) 0 dl (behind first) ps promoted states lists → AreGoodOwn first states lists
   good_own first lists lawful h =
       good_lists layout_of (λ i. i) 0 dl default_repr (behind first) (own_lists ps promoted states) lists law
-      (own_all (λ p. IsLawfulLayout dl (layout_of p)) ps promoted states (whole_lawful dl ps there)) aligns (lawful.bound, lawful.limit) tt
+      (own_all (λ p. IsLawfulLayout dl (layout_of p)) ps promoted states there) aligns (lawful.bound, lawful.limit) tt
       (lists_own layout_of dl (behind first) ps promoted states lists h)
 
   -- one state: its promoted locals end inside the first list, and its own list is no smaller
@@ -383,3 +393,21 @@ module _ (dl : TargetDataLayout) (law : IsLawfulDataLayout dl) (pres ps : List P
   coroutine_field_count layout h =
       let listed : field_count layout.fields ≡ length (listed_offsets layout.fields) = ap (λ (l : Layout). field_count l.fields) h.5 ∙ sym (ap (λ (l : Layout). length (listed_offsets l.fields)) h.5) in
       listed ∙ stated_offsets dl law pres ps states conflicts before there none tag tells layout h
+
+  -- each of them ends inside the coroutine
+  pub coroutine_places : (layout : Layout) → IsCoroutined dl pres tag (one_scalar dl tag) ps states conflicts (Ok layout)
+      → EndInside layout.size (listed_offsets layout.fields) (map size_of pres ++ size_of (one_scalar dl tag) ∷ []) × (layout.fields ≡ Arbitrary (listed_offsets layout.fields) (listed_order layout.fields))
+  coroutine_places layout (first, h, lists, hs, below, is) =
+      let good = good_first first h in
+      let own : List Placed = picked ps (members_of promoted) in
+      let front : List ℕ = map size_of pres ++ size_of (one_scalar dl tag) ∷ [] in
+      let sizes : map size_of (first_list pres (one_scalar dl tag) ps promoted) ≡ front ++ map size_of own =
+      map-append size_of pres (one_scalar dl tag ∷ own) ∙ sym (append_assoc (map size_of pres) (size_of (one_scalar dl tag) ∷ []) (map size_of own)) in
+      let count : length front ≡ length pres + 1 = omega (arith, length-append (map size_of pres) (size_of (one_scalar dl tag) ∷ []), length-map pres size_of) in
+      let ends = front_ends first.size (listed_offsets first.fields) front (map size_of own) (subst (AreApart first.size (listed_offsets first.fields)) sizes good.apart) in
+      let less : first.size ≤ whole_size first lists = All-head (λ l. l.size ≤ whole_size first lists) first lists (whole_above first lists) in
+      let wide = ends_wider first.size (whole_size first lists) (take (length pres + 1) (listed_offsets first.fields)) front less
+      (subst (λ n. EndInside first.size (take n (listed_offsets first.fields)) front) count ends) in (
+        subst (λ (l : Layout). EndInside l.size (listed_offsets l.fields) front) (sym is) wide,
+        subst (λ (l : Layout). l.fields ≡ Arbitrary (listed_offsets l.fields) (listed_order l.fields)) (sym is) refl,
+      )

@@ -383,10 +383,10 @@ module _ (dl : TargetDataLayout) (law : IsLawfulDataLayout dl) where
   coroutine_laid pres ps states conflicts None p (tag, tells, inr (layout, stated, e)) = (tag, tells, layout, stated, cc, refl)
   coroutine_laid pres ps states conflicts (Some f) p e = absurd (cc)
 
-  module _ (pres ps : List Placed) (states : List (List ℕ)) (conflicts : List (ℕ × ℕ)) (before : All (IsWhole dl) pres) (there : All (IsWhole dl) ps) where
+  module _ (pres ps : List Placed) (states : List (List ℕ)) (conflicts : List (ℕ × ℕ)) (before : All (λ p. IsLawfulLayout dl (layout_of p)) pres) (there : All (λ p. IsLawfulLayout dl (layout_of p)) ps) where
     -- what a coroutine's layout is asked of
     pub coroutine_asked : (tag : Scalar) → IsStateTag (length states) tag → IsAsked layout_of 0 dl pres tag (one_scalar dl tag) ps states
-    coroutine_asked tag tells = record { law = law; before = whole_lawful dl pres before; all = whole_lawful dl ps there; tells = tells; holds = refl }
+    coroutine_asked tag tells = record { law = law; before = before; all = there; tells = tells; holds = refl }
 
     -- and what is promised of the answer
     pub stated_promised : (tag : Scalar) → IsStateTag (length states) tag → (r : Result Layout (LayoutCalculatorError Placed)) → IsStated dl pres tag (one_scalar dl tag) ps states conflicts r
@@ -449,7 +449,7 @@ module _ (dl : TargetDataLayout) (law : IsLawfulDataLayout dl) where
     laid_whole (coroutine prefix locals states conflicts) p (inl f) = absurd (cc f.2)
     laid_whole (coroutine prefix locals states conflicts) p (inr (pres, before, inl f)) = absurd (cc f.2)
     laid_whole (coroutine prefix locals states conflicts) p (inr (pres, before, inr (ps, there, answer))) =
-        coroutine_whole pres ps states conflicts (all_whole prefix pres before) (all_whole locals ps there) (coroutine_fault (length pres) (length ps) states conflicts) p answer
+        coroutine_whole pres ps states conflicts (whole_lawful dl pres (all_whole prefix pres before)) (whole_lawful dl ps (all_whole locals ps there)) (coroutine_fault (length pres) (length ps) states conflicts) p answer
 
     pub all_whole : (ts : Trees) (ps : List Placed) → AreLaying dl ts (Ok ps) → All (IsWhole dl) ps
     all_whole no_trees ps h = let none : [] ≡ ps = cc in subst (All (IsWhole dl)) none (All-nil (IsWhole dl))

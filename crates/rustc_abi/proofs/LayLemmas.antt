@@ -25,7 +25,7 @@ use Rattle.rustc_abi.specs.declared.node.Shape.TheVariants.{Pair}
 use Rattle.rustc_abi.specs.ScalarFault.{scalar_fault}
 use Rattle.rustc_abi.proofs.FaultLemmas.{faultless}
 use Rattle.rustc_abi.proofs.PairLemmas.{Fits-pair}
-use Rattle.rustc_abi.specs.Tree.{Tree, pair, array, struct, Trees, no_trees, more_trees, trees}
+use Rattle.rustc_abi.specs.Tree.{Tree, pair, array, struct, Trees, no_trees, more_trees, trees, Variants, no_variants, more_variants}
 use Rattle.rustc_abi.specs.Placed.{Placed, Layout, layout_of, size_of, niche_of, pair as placed_pair, elements, part, no_parts}
 use Rattle.rustc_abi.specs.Error.{named, IsRefused}
 use Rattle.rustc_abi.specs.Fits.{Fits}
@@ -35,7 +35,7 @@ use Rattle.rustc_abi.specs.Faithful.{IsFaithful}
 use Rattle.rustc_abi.specs.Laying.{IsLaying, AreLaying, IsFieldsAnswer, IsListed, fields_fault, has_bad_align, is_above_limit, most_fields, kind_of, placed_fields, placed_by, unless, one_scalar, two_scalars, pair_answer}
 use Rattle.rustc_abi.specs.Unions.{Begins, IsCommon, InUnions}
 use Rattle.rustc_abi.proofs.CommonLemmas.{begins_room}
-use Rattle.rustc_abi.specs.Adding.{IsPut, IsAdded, EachFits, all_at, AreAdded}
+use Rattle.rustc_abi.specs.Adding.{IsPut, IsAdded, EachFits, VariantsFit, all_at, AreAdded}
 use Rattle.rustc_abi.proofs.ElementsLemmas.{IsElementNiche, Fits-elements}
 use Rattle.rustc_abi.proofs.FieldsLemmas.{part_of_list, Fits-fields}
 use Rattle.abi_calc.specs.ListNiche.{IsNicheOfPart}
@@ -86,6 +86,14 @@ EachFits-lawful dl no_trees (p ∷ ps) h = absurd h
 EachFits-lawful dl (more_trees t ts) [] h = absurd h
 EachFits-lawful dl (more_trees t ts) (p ∷ ps) h =
     All-cons (λ p. IsLawfulLayout dl (layout_of p)) p ps (Fits.lawful h.0) (EachFits-lawful dl ts ps h.1)
+
+-- types that fit are lawful
+pub VariantsFit-lawful : (dl : TargetDataLayout) (all : Variants) (variants : List (List Placed)) → VariantsFit dl all variants → All (All (λ p. IsLawfulLayout dl (layout_of p))) variants
+VariantsFit-lawful dl no_variants [] h = All-nil (All (λ p. IsLawfulLayout dl (layout_of p)))
+VariantsFit-lawful dl no_variants (ps ∷ variants) h = absurd h
+VariantsFit-lawful dl (more_variants d ts others) [] h = absurd h
+VariantsFit-lawful dl (more_variants d ts others) (ps ∷ variants) h =
+    All-cons (All (λ p. IsLawfulLayout dl (layout_of p))) ps variants (EachFits-lawful dl ts ps h.0) (VariantsFit-lawful dl others variants h.1)
 
 few_of : (many bad : Bool) → (if many then Some BadIndex else (if bad then Some BadAlign else None)) ≡ None → (many ≡ false) × (bad ≡ false)
 few_of true bad e = absurd (cc)

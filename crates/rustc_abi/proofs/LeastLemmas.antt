@@ -331,7 +331,7 @@ module _ (dl : TargetDataLayout) (law : IsLawfulDataLayout dl) where
     -- what is promised of the calculator's answer
     promised : (tag : Scalar) → IsStateTag (length states) tag → (r : Result Layout (LayoutCalculatorError Placed)) → IsStated dl pres tag (one_scalar dl tag) ps states conflicts r
         → IsPromised layout_of (λ i. i) (λ i. i) 0 dl pres tag (one_scalar dl tag) ps states (promoted_of states (conflicts_of (length ps) conflicts)) r
-    promised tag tells r h = stated_promised dl law pres ps states conflicts (all_whole dl law prefix pres before) (all_whole dl law locals ps there) tag tells r h
+    promised tag tells r h = stated_promised dl law pres ps states conflicts (whole_lawful dl pres (all_whole dl law prefix pres before)) (whole_lawful dl ps (all_whole dl law locals ps there)) tag tells r h
 
     -- a coroutine has the size that its lists allow
     least_coroutine : (fault : Option LayError) → coroutine_fault (length pres) (length ps) states conflicts ≡ fault → (p : Placed) → CoroutineAnswersBy dl pres ps states conflicts fault (Ok p)
@@ -341,7 +341,7 @@ module _ (dl : TargetDataLayout) (law : IsLawfulDataLayout dl) where
         let tag : Scalar = found.0 in
         let layout : Layout = found.2 in
         let promoted : List Bool = promoted_of states (conflicts_of (length ps) conflicts) in
-        let offsets = stated_offsets dl law pres ps states conflicts (all_whole dl law prefix pres before) (all_whole dl law locals ps there) (is ∙ found.5) tag found.1 layout found.3 in
+        let offsets = stated_offsets dl law pres ps states conflicts (whole_lawful dl pres (all_whole dl law prefix pres before)) (whole_lawful dl ps (all_whole dl law locals ps there)) (is ∙ found.5) tag found.1 layout found.3 in
         let sized : IsCoroutineSized dl pres (one_scalar dl tag) ps states layout.size
         = (promoted, promoted_count states (conflicts_of (length ps) conflicts) ∙ conflict_rows (length ps) conflicts, IsPromised.size (promised tag found.1 (Ok layout) found.3)) in
         subst (IsLeast dl (coroutine prefix locals states conflicts)) found.4

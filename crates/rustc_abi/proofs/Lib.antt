@@ -13,6 +13,9 @@ mod ViewLemmas
 mod FieldsLemmas
 pub mod TreeLemmas
 mod ListLemmas
+mod LawsLemmas
+mod EnumPlacesLemmas
+mod StateLawsLemmas
 mod RefusalLemmas
 mod RunsLemmas
 mod GapsLemmas

@@ -13,7 +13,8 @@ use Rattle.rustc_abi.specs.declared.node.Shape.TheVariants.{Scalar, Pair, Never,
 use Rattle.rustc_abi.specs.declared.node.Node.{Node}
 use Rattle.rustc_abi.specs.Placed.{Placed, Layout, layout_of, pair, elements, vector, fields, union, single, tagged, states, Arms, arm, nothing}
 use Rattle.rustc_abi.specs.Nodes.{placed_in, parts_at, parts_at_0, arms_in, encoding_of, index_of, own_fields, tag_offset, state_tag_offset, states_in, meaning, meanings, types_in, placed_at, Keeps}
-use Rattle.rustc_abi.specs.Adding.{is_node, are_nodes, IsPut}
+use Rattle.rustc_abi.specs.Laws.{keeps_laws, keep_laws}
+use Rattle.rustc_abi.specs.Adding.{is_node, are_nodes, AreWell, IsPut}
 
 meanings-push : (done : List Placed) (ns : List Node) (n : Node) →
     meanings done (ns ++ n ∷ []) ≡ meanings done ns ++ meaning (meanings done ns) n.layout n.shape ∷ []
@@ -94,11 +95,18 @@ are_nodes-push first (m ∷ ns) n i e is h =
     let both = and_parts (is_node first m.shape) (are_nodes (first + 1) ns) h in
     both_true both.0 (are_nodes-push (first + 1) ns n i (omega arith) is both.1)
 
+keep_laws-push : (done : List Placed) (ns : List Node) (n : Node) → keeps_laws (meanings done ns) n.layout n.shape ≡ true → keep_laws done ns ≡ true → keep_laws done (ns ++ n ∷ []) ≡ true
+keep_laws-push done [] n keeps h = both_true keeps refl
+keep_laws-push done (m ∷ ns) n keeps h =
+    let more = done ++ meaning done m.layout m.shape ∷ [] in
+    let both = and_parts (keeps_laws done m.layout m.shape) (keep_laws more ns) h in
+    both_true both.0 (keep_laws-push more ns n keeps both.1)
+
 -- a node that is pushed is put
-pub IsPut-push : (ns : List Node) (n : Node) (i : ℕ) → is_node i n.shape ≡ true → i ≡ length ns → IsPut ns (ns ++ n ∷ []) i (meaning (types_in ns) n.layout n.shape)
-IsPut-push ns n i is e = record {
+pub IsPut-push : (ns : List Node) (n : Node) (i : ℕ) → is_node i n.shape ≡ true → keeps_laws (types_in ns) n.layout n.shape ≡ true → i ≡ length ns → IsPut ns (ns ++ n ∷ []) i (meaning (types_in ns) n.layout n.shape)
+IsPut-push ns n i is keeps e = record {
   kept = Keeps-push ns n;
-  well = are_nodes-push 0 ns n i (omega arith) is;
+  well = λ h. record { earlier = are_nodes-push 0 ns n i (omega arith) is h.earlier; laws = keep_laws-push [] ns n keeps h.laws };
   last = omega (arith, length-append ns (n ∷ []));
   meant = placed_at-push ns n i e;
 }

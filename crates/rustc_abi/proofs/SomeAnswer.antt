@@ -47,7 +47,7 @@ use Rattle.rustc_abi.specs.Error.{Follows, lay_error}
 use Rattle.rustc_abi.specs.Laying.{AreLaying, IsFieldsAnswer, IsLaying, IsListed, IsCoroutineOf, IsUnionOf, IsUnited, VariantsLaying, elements_answer, fields_fault, kind_of, placed_fields, placed_together, vector_answer, IsEnumOf, enum_fault, placed_enum, coroutine_fault, most_fields, one_scalar, placed_coroutine}
 use Rattle.rustc_abi.specs.Coroutines.{IsCoroutined, IsStated, conflicts_of}
 use Rattle.rustc_abi.specs.Enums.{IsCalculated, IsEnumed, IsTagInteger, numbered_from, layouts_of, discriminants_of}
-use Rattle.rustc_abi.proofs.LaidLemmas.{IsWhole, all_whole, asked_lawful, asked_sized, length-asked, some_field, each_lawful, variants_whole, coroutine_asked, CoroutineAnswersBy}
+use Rattle.rustc_abi.proofs.LaidLemmas.{IsWhole, all_whole, whole_lawful, asked_lawful, asked_sized, length-asked, some_field, each_lawful, variants_whole, coroutine_asked, CoroutineAnswersBy}
 use Rattle.rustc_abi.proofs.CoroutineFaultLemmas.{few_states}
 use Rattle.rustc_abi.proofs.TagIntegerLemmas.{tag_integer_total}
 use Rattle.abi_scalar.specs.declared.error.LayoutCalculatorError.TheVariants as calculator
@@ -213,7 +213,7 @@ module _ (dl : TargetDataLayout) (law : IsLawfulDataLayout dl) where
 
     some_coroutined : (tag : Scalar) → IsStateTag (length states) tag → HasAnswer (IsCoroutined dl pres tag (one_scalar dl tag) ps states conflicts)
     some_coroutined tag tells =
-        let answer = some_coroutine layout_of dl pres tag (one_scalar dl tag) ps states (conflicts_of (length ps) conflicts) (coroutine_asked dl law pres ps states conflicts before there tag tells) in
+        let answer = some_coroutine layout_of dl pres tag (one_scalar dl tag) ps states (conflicts_of (length ps) conflicts) (coroutine_asked dl law pres ps states conflicts (whole_lawful dl pres before) (whole_lawful dl ps there) tag tells) in
         stated_so tag answer.0 answer.1 answer.2
 
     some_stated : (fault : Option LayError) → coroutine_fault (length pres) (length ps) states conflicts ≡ fault → HasAnswer (CoroutineAnswersBy dl pres ps states conflicts fault)

@@ -104,7 +104,7 @@ pub record AreArms (old new : List Node) (sizes : List ℕ) (variants : List (�
   pub well : AreWell old → AreWell new
   pub there : All (λ v. v.1 < length new) variants
   pub meant : arms_in (types_in new) variants ≡ arms
-  pub sizes : sizes_at (types_in new) (map (λ v. v.1) variants) ≡ sizes
+  pub sized : sizes_at (types_in new) (map (λ v. v.1) variants) ≡ sizes
 
 -- the layout's variants are these many: the one that is left is one of them, and those beside a tag are as many
 abbrev pub HasVariants : (count : ℕ) → LayoutVariants ℕ ℕ → Type 0

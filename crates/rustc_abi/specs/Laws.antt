@@ -1,14 +1,20 @@
 -- What each node keeps, so that handles of it keep their laws: its fields and its variants are those that its layout promises, and lie
 -- inside.
-use Rattle.std.specs.Prelude.{ℕ, ◌+◌, ◌*◌, ◌==◌, ◌&&◌, Bool, true, false, List, [], ◌∷◌, ◌++◌, length, map, nat_le, replicate}
+use Rattle.std.specs.Prelude.{◌≡◌, ℕ, ◌+◌, ◌*◌, ◌==◌, ◌&&◌, Bool, true, false, List, [], ◌∷◌, ◌++◌, length, map, nat_le, replicate}
 use Rattle.std.specs.List.{list_all}
 use Rattle.abi_scalar.specs.declared.fields_shape.FieldsShape.{FieldsShape}
 use Rattle.abi_scalar.specs.declared.fields_shape.FieldsShape.TheVariants.{Primitive, Union as AtStart, Array, Arbitrary}
+use Rattle.abi_base.specs.declared.data_layout.TargetDataLayout.{TargetDataLayout}
+use Rattle.abi_scalar.specs.declared.variants.Variants.{Variants}
+use Rattle.abi_scalar.specs.declared.variants.Variants.TheVariants.{Empty, Single, Multiple}
 use Rattle.abi_scalar.specs.Variant.{variants_of}
+use Rattle.abi_calc.specs.Enums.Path.{variant_at}
 use Rattle.rustc_abi.specs.declared.node.Shape.{Shape}
 use Rattle.rustc_abi.specs.declared.node.Shape.TheVariants.{Elements}
 use Rattle.rustc_abi.specs.declared.node.Node.{Node}
 use Rattle.rustc_abi.specs.Placed.{Placed, Layout, size_of}
+use Rattle.rustc_abi.specs.Inside.{VariantsInside}
+use Rattle.rustc_abi.specs.Laying.{one_scalar}
 use Rattle.rustc_abi.specs.Nodes.{meaning, placed_in}
 use Rattle.rustc_abi.specs.Typed.{field_nodes, variant_nodes}
 
@@ -46,6 +52,13 @@ has_variants done layout shape =
 -- a node keeps the laws, after those before it
 abbrev pub keeps_laws : List Placed → Layout → Shape → Bool
 keeps_laws done layout shape = has_fields done layout shape && has_variants done layout shape
+
+-- the whole's own fields have their places, and so have those of each variant that a tag tells apart
+abbrev pub HavePlaces : TargetDataLayout → Layout → List (List Placed) → Variants ℕ ℕ → Type 0
+HavePlaces dl layout variants Empty = have_places layout.size layout.fields [] ≡ true
+HavePlaces dl layout variants (Single i) = have_places layout.size layout.fields (map size_of (variant_at variants i)) ≡ true
+HavePlaces dl layout variants (Multiple tag encoding field layouts) =
+    (have_places layout.size layout.fields (size_of (one_scalar dl tag) ∷ []) ≡ true) × VariantsInside layout.size layouts variants
 
 -- all nodes do, after those that are done
 abbrev pub keep_laws : List Placed → List Node → Bool

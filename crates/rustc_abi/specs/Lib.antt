@@ -15,7 +15,6 @@ pub mod Inside
 pub mod Error
 pub mod Nodes
 pub mod Typed
-pub mod Laws
 pub mod ScalarFault
 pub mod Enums
 pub mod Coroutines
@@ -23,6 +22,7 @@ pub mod Laying
 pub mod Everywhere
 pub mod Least
 pub mod Clash
+pub mod Laws
 pub mod Adding
 pub mod Laid
 pub mod Fault

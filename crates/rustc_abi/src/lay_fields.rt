@@ -134,7 +134,11 @@ fn add_faultless_fields(
 {
     let kind = kind_of(always_sized, &children);
     let layout = fields_layout(alloc, dl, nodes, repr, kind, &children)?;
-    add(nodes, layout, Shape::Fields(Mark::of(false, repr), children))
+    add(
+        nodes,
+        layout,
+        Shape::Fields(Mark::of(false, repr), children),
+    )
 }
 
 /// A node for fields, each as one of the nodes.

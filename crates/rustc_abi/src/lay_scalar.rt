@@ -136,7 +136,11 @@ pub(crate) fn add_never(dl: &TargetDataLayout, nodes: &mut Vec<Node>) -> Result<
     ensures ok { IfOk result (λ i. IsAdded dl.now nodes.old.items nodes.new.items i never) }
     ensures err { IfErr result (λ e. e ≡ LayError.OutOfMemory) }
 {
-    add(nodes, LayoutData::never_type(&dl), Shape::Never(Mark::Never))
+    add(
+        nodes,
+        LayoutData::never_type(&dl),
+        Shape::Never(Mark::Never),
+    )
 }
 
 /// A node for a type with one value, which takes no bytes.

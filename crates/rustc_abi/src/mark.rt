@@ -33,7 +33,9 @@ impl Mark {
         Mark::Adt {
             is_enum,
             is_transparent: repr.transparent(),
-            is_passed_indirectly: repr.flags.contains(ReprFlags::PASS_INDIRECTLY_IN_NON_RUSTIC_ABIS),
+            is_passed_indirectly: repr
+                .flags
+                .contains(ReprFlags::PASS_INDIRECTLY_IN_NON_RUSTIC_ABIS),
         }
     }
 }
