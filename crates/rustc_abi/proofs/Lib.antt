@@ -9,6 +9,8 @@ mod FlagLemmas
 mod ElementsLemmas
 mod PartsLemmas
 mod NodesLemmas
+mod TypedLemmas
+mod HandleLemmas
 mod ViewLemmas
 mod FieldsLemmas
 pub mod TreeLemmas

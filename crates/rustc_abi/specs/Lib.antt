@@ -25,5 +25,6 @@ pub mod Least
 pub mod Clash
 pub mod Adding
 pub mod Laid
+pub mod Handles
 pub mod Fault
 pub mod Runs

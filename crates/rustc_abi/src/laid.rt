@@ -41,6 +41,16 @@ impl Laid {
         Laid { nodes, endian }
     }
 
+    /// Its nodes, of which the last is the type's.
+    pub(crate) fn nodes(&self) -> &[Node]
+        ensures same { result.now ≡ self.now.nodes.items }
+        ensures some { 0 < length result.now }
+        ensures earlier { are_nodes 0 result.now ≡ true }
+        ensures laws { keep_laws [] result.now ≡ true }
+    {
+        self.nodes.as_slice()
+    }
+
     /// The layout of the type.
     pub fn layout(&self) -> &LayoutData<FieldIdx, VariantIdx>
         ensures { result.now ≡ layout_of (placed_of self.now) }
