@@ -3,6 +3,7 @@ use Rattle.std.proofs.Common.{◌≡◌, ℕ, ◌+◌, ◌<◌, ◌≤◌, ◌�
 use Rattle.std.specs.Prelude.{⊤}
 use Rattle.std.specs.Cmp.Derive.{both_true}
 use Rattle.std.proofs.lemmas.Bool.{and_parts, ltb-true}
+use Rattle.std.proofs.lemmas.List.{get_or_default}
 use Rattle.abi_scalar.specs.declared.scalar.Scalar.{Scalar as Number}
 use Rattle.abi_scalar.specs.declared.variants.TagEncoding.{TagEncoding}
 use Rattle.abi_scalar.specs.declared.variants.VariantLayout.{VariantLayout}
@@ -10,8 +11,9 @@ use Rattle.abi_scalar.specs.declared.variants.Variants.{Variants}
 use Rattle.abi_scalar.specs.declared.variants.Variants.TheVariants.{Empty, Single as OneVariant, Multiple}
 use Rattle.abi_scalar.specs.Shape.{field_count}
 use Rattle.abi_scalar.specs.Variant.{variants_of}
-use Rattle.abi_types.specs.Ty.Typed.{Typed, at_variant, field_in, layout_in, marks_of, variant_in}
+use Rattle.abi_types.specs.Ty.Typed.{Typed, at_variant, field_in, layout_in, marks_of, no_layout, variant_in}
 use Rattle.abi_types.specs.Ty.Lawful.{DepthFalls, NamesVariant}
+use Rattle.rustc_abi.specs.declared.mark.Mark.TheVariants.{Plain}
 use Rattle.rustc_abi.specs.declared.node.Shape.{Shape}
 use Rattle.rustc_abi.specs.declared.node.Shape.TheVariants.{Scalar, Pair, Never, Elements, Fields, Union, Vector, Single, Tagged, States}
 use Rattle.rustc_abi.specs.declared.node.Node.{Node}
@@ -22,7 +24,7 @@ use Rattle.rustc_abi.specs.Typed.{all_told, field_by, field_nodes, marks_in, tol
 use Rattle.rustc_abi.specs.Laws.{has_fields, has_variants, keep_laws, keeps_laws}
 use Rattle.rustc_abi.specs.Handles.{HasField, field_place, variant_place}
 use Rattle.rustc_abi.proofs.NodesLemmas.{children_before, pair_before}
-use Rattle.rustc_abi.proofs.TypedLemmas.{field_count-nodes, fields_below, laws_at, layout-typed_at, place_below, type_by-place, typed_at-node, variant_count-nodes, variants_below}
+use Rattle.rustc_abi.proofs.TypedLemmas.{TellsNoMore, field_count-nodes, fields_below, laws_at, layout-typed_at, place_below, shape_tells, type_by-place, typed_at-node, variant_count-nodes, variants_below}
 
 -- a field of the layout has a node
 has_field : (ps : List Placed) (layout : Layout) (shape : Shape) → has_fields ps layout shape ≡ true → (k : ℕ) → k < field_count layout.fields → HasField shape k
@@ -114,6 +116,25 @@ module _ (ns : List Node) (well : are_nodes 0 ns ≡ true) (laws : keep_laws [] 
         same = sym (type_by-place (all_told [] ns) (variant_nodes n.shape) v has) ∙ ap (λ t. variant_in t v) (sym told-here);
       }
 
+-- what no node tells of itself
+pub tells_no_more : (ns : List Node) → are_nodes 0 ns ≡ true → keep_laws [] ns ≡ true → (i : ℕ) → i < length ns → TellsNoMore (marks_of (typed_at ns i))
+tells_no_more ns well laws i lt =
+    let d : Node = record { layout = no_layout; shape = Never Plain } in
+    let n : Node = get_or ns i d in
+    subst TellsNoMore (sym (marks_at ns well laws i n lt (get_or_default ns i d n lt))) (shape_tells n.shape)
+
+-- a field's node, where the nodes are known by what lends them
+pub field_here : (ns : List Node) → are_nodes 0 ns ≡ true → keep_laws [] ns ≡ true → (ms : List Node) → ms ≡ ns → (i : ℕ) (n : Node) → i < length ns → n ≡ get_or ms i n → (k : ℕ) →
+    k < field_count (layout_in (typed_at ns i)).fields → HasFieldAt ns i k (get_or ms i n).shape
+field_here ns well laws ms same i n lt at k below =
+    subst (λ (m : Node). HasFieldAt ns i k m.shape) at (field_at ns well laws i n lt (at ∙ ap (λ xs. get_or xs i n) same) k below)
+
+-- and a variant's
+pub variant_here : (ns : List Node) → are_nodes 0 ns ≡ true → keep_laws [] ns ≡ true → (ms : List Node) → ms ≡ ns → (i : ℕ) (n : Node) → i < length ns → n ≡ get_or ms i n → (v : ℕ) →
+    v < length (variants_of (layout_in (typed_at ns i)).variants) → HasVariantAt ns i v (get_or ms i n).shape
+variant_here ns well laws ms same i n lt at v below =
+    subst (λ (m : Node). HasVariantAt ns i v m.shape) at (variant_at ns well laws i n lt (at ∙ ap (λ xs. get_or xs i n) same) v below)
+
 -- one of several variants that a tag tells apart
 pub several_named : (variants : Variants ℕ ℕ) (v : ℕ) (tag : Number) (encoding : TagEncoding ℕ) (field : ℕ) (layouts : List (VariantLayout ℕ)) → variants ≡ Multiple tag encoding field layouts →
     NamesVariant variants v → v < length (variants_of variants)
@@ -128,14 +149,3 @@ several_at t v tag encoding field layouts e = rw e refl
 pub several_falls : (variants : Variants ℕ ℕ) (tag : Number) (encoding : TagEncoding ℕ) (field : ℕ) (layouts : List (VariantLayout ℕ)) (m n : ℕ) → variants ≡ Multiple tag encoding field layouts →
     m < n → DepthFalls variants m n
 several_falls variants tag encoding field layouts m n e lt = rw e lt
-
--- the type itself, where there is one variant
-pub one_at : (t : Typed) (v k : ℕ) → (layout_in t).variants ≡ OneVariant k → t ≡ at_variant t v
-one_at t v k e = rw e refl
-
-pub one_falls : (variants : Variants ℕ ℕ) (k n : ℕ) → variants ≡ OneVariant k → DepthFalls variants n n
-one_falls variants k n e = rw e (le_refl n)
-
--- where there is none, no index names one
-pub none_named : (variants : Variants ℕ ℕ) (v : ℕ) → variants ≡ Empty → NamesVariant variants v → ⊥
-none_named variants v e h = subst (λ vs. NamesVariant vs v) e h

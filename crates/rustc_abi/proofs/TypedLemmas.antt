@@ -1,6 +1,6 @@
 -- What nodes are, as handles see them: each by what its fields and its variants are, and each keeps the laws.
 use Rattle.std.proofs.Common.{◌≡◌, ℕ, zero, suc, ◌+◌, ◌-◌, ◌*◌, ◌<◌, ◌≤◌, ◌∙◌, Bool, true, false, List, [], ◌∷◌, ◌++◌, ap, arith, get_or, length, length-append, map, refl, replicate, subst, sym}
-use Rattle.std.specs.Prelude.{◌&&◌, ◌==◌, nat_le, nat_lt}
+use Rattle.std.specs.Prelude.{◌&&◌, ◌==◌, None, nat_le, nat_lt}
 use Rattle.std.specs.Cmp.Derive.{both_true}
 use Rattle.std.specs.List.{list_all}
 use Rattle.std.proofs.Math.Nat.{mul-le-mul_left}
@@ -12,7 +12,7 @@ use Rattle.abi_scalar.specs.declared.fields_shape.FieldsShape.{FieldsShape}
 use Rattle.abi_scalar.specs.declared.fields_shape.FieldsShape.TheVariants.{Primitive, Union as AtStart, Array, Arbitrary}
 use Rattle.abi_scalar.specs.Shape.{field_count, field_offset}
 use Rattle.abi_scalar.specs.Variant.{variants_of}
-use Rattle.abi_types.specs.Ty.Typed.{Typed, typed, no_layout, no_type, layout_in}
+use Rattle.abi_types.specs.Ty.Typed.{Marks, Typed, typed, no_layout, no_type, layout_in}
 use Rattle.abi_types.specs.Ty.Lawful.{CanBeNamed, IsLawfulType}
 use Rattle.rustc_abi.specs.declared.mark.Mark.{Mark}
 use Rattle.rustc_abi.specs.declared.mark.Mark.TheVariants as mark_is
@@ -309,23 +309,29 @@ elements_lawful layout (Array stride count) at t is law =
       kept = λ k lt. law;
     }
 
-not_complex : (mark : Mark) → (marks_by mark).is_complex ≡ false
-not_complex mark_is.Plain = refl
-not_complex mark_is.Never = refl
-not_complex mark_is.Unit = refl
-not_complex (mark_is.Adt is_enum is_transparent is_passed_indirectly) = refl
+-- What no node tells of itself.
+pub record TellsNoMore (marks : Marks) : Type 0 where
+  pub complex : marks.is_complex ≡ false
+  pub scalable : marks.is_scalable_vector ≡ false
+  pub pointee : (offset : ℕ) → marks.pointee offset ≡ None
 
-never_complex : (shape : Shape) → (marks_in shape).is_complex ≡ false
-never_complex (Scalar s) = refl
-never_complex (Pair first second) = refl
-never_complex (Never mark) = not_complex mark
-never_complex (Elements count element) = refl
-never_complex (Fields mark children) = not_complex mark
-never_complex (Union mark children) = not_complex mark
-never_complex (Vector lanes) = refl
-never_complex (Single mark children) = not_complex mark
-never_complex (Tagged mark tag variants) = not_complex mark
-never_complex (States prefix tag all) = refl
+mark_tells : (mark : Mark) → TellsNoMore (marks_by mark)
+mark_tells mark_is.Plain = record { complex = refl; scalable = refl; pointee = λ offset. refl }
+mark_tells mark_is.Never = record { complex = refl; scalable = refl; pointee = λ offset. refl }
+mark_tells mark_is.Unit = record { complex = refl; scalable = refl; pointee = λ offset. refl }
+mark_tells (mark_is.Adt is_enum is_transparent is_passed_indirectly) = record { complex = refl; scalable = refl; pointee = λ offset. refl }
+
+pub shape_tells : (shape : Shape) → TellsNoMore (marks_in shape)
+shape_tells (Scalar s) = mark_tells mark_is.Plain
+shape_tells (Pair first second) = mark_tells mark_is.Plain
+shape_tells (Never mark) = mark_tells mark
+shape_tells (Elements count element) = mark_tells mark_is.Plain
+shape_tells (Fields mark children) = mark_tells mark
+shape_tells (Union mark children) = mark_tells mark
+shape_tells (Vector lanes) = mark_tells mark_is.Plain
+shape_tells (Single mark children) = mark_tells mark
+shape_tells (Tagged mark tag variants) = mark_tells mark
+shape_tells (States prefix tag all) = mark_tells mark_is.Plain
 
 module _ (ns : List Node) (i : ℕ) (past : i ≤ length ns) (below : (c : ℕ) → c < i → IsLawfulType (typed_at ns c)) where
   abbrev ts : List Typed
@@ -387,7 +393,7 @@ module _ (ns : List Node) (i : ℕ) (past : i ≤ length ns) (below : (c : ℕ) 
       let both = and_parts (has_fields ps n.layout n.shape) (has_variants ps n.layout n.shape) h in
       let fields = fields_lawful n.layout n.shape is both.0 in
       let variants = variants_lawful n.layout n.shape is both.1 in (
-        record { inside = fields.inside; within = variants.within; named = fields.named; complex = λ yes. absurd (false≢true (sym (never_complex n.shape) ∙ yes)) },
+        record { inside = fields.inside; within = variants.within; named = fields.named; complex = λ yes. absurd (false≢true (sym (shape_tells n.shape).complex ∙ yes)) },
         fields.kept,
         variants.kept,
       )
