@@ -11,6 +11,7 @@ mod PartsLemmas
 mod NodesLemmas
 mod TypedLemmas
 mod HandleLemmas
+mod SeenLemmas
 mod ViewLemmas
 mod FieldsLemmas
 pub mod TreeLemmas

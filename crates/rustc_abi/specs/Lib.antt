@@ -26,5 +26,6 @@ pub mod Clash
 pub mod Adding
 pub mod Laid
 pub mod Handles
+pub mod Seen
 pub mod Fault
 pub mod Runs
