@@ -65,8 +65,8 @@ module _ (ps : List Placed) (t : Typed) where
         subst (λ n. field_offset (layout_in t).fields n ≡ o) here (at 0 (omega arith)),
         subst (λ n. Sees (field_in t n) (placed_in ps c)) here (each 0 (omega arith)),
         parts_seen offsets cs (suc k)
-        (λ j lt. subst (λ n. field_offset (layout_in t).fields n ≡ get_or offsets j 0) (up j) (at (suc j) (omega arith)))
-        (λ j lt. subst (λ n. Sees (field_in t n) (placed_in ps (get_or cs j 0))) (up j) (each (suc j) (omega arith))),
+            (λ j lt. subst (λ n. field_offset (layout_in t).fields n ≡ get_or offsets j 0) (up j) (at (suc j) (omega arith)))
+            (λ j lt. subst (λ n. Sees (field_in t n) (placed_in ps (get_or cs j 0))) (up j) (each (suc j) (omega arith))),
       )
 
   types_seen : (cs : List ℕ) (k : ℕ) → ((j : ℕ) → j < length cs → Sees (field_in t (k + j)) (placed_in ps (get_or cs j 0))) → SeesTypes t k (parts_at_0 (map (placed_in ps) cs))

@@ -5,7 +5,7 @@ use Rattle.abi_types.specs.Ty.Typed.{Marks, Typed, field_in, layout_in, marks_of
 use Rattle.rustc_abi.specs.Mark.{marks_by}
 use Rattle.rustc_abi.specs.Placed.{Placed, Layout, scalar, pair, never, elements, vector, fields, union, single, tagged, states, Parts, no_parts, part, Arms, no_arms, arm}
 
--- it has this layout, and tells this of itself
+-- the type has this layout, and tells this of itself
 abbrev pub SeesWhole : Typed → Layout → Marks → Type 0
 SeesWhole t layout marks = (layout_in t ≡ layout) × (marks_of t ≡ marks)
 

@@ -1,12 +1,8 @@
 //! Types that were laid out, as handles tell of them.
 
-ghost use Rattle.std.specs.Prelude.{◌≡◌, ◌<◌, [], get_or, length, true};
-ghost use Rattle.abi_scalar.specs.Shape.{field_count};
-ghost use Rattle.abi_types.specs.Ty.Typed.{at_variant, field_in, layout_in, marks_of};
-ghost use Rattle.abi_types.specs.Ty.Lawful.{DepthFalls, NamesVariant};
-ghost use Rattle.rustc_abi.specs.Adding.{are_nodes};
+ghost use Rattle.std.specs.Prelude.{◌≡◌, ◌<◌, length};
+ghost use Rattle.abi_types.specs.Ty.Typed.{marks_of};
 ghost use Rattle.rustc_abi.specs.Handles.{HasField, IsHandle, field_place, tree_depth, tree_type, variant_place};
-ghost use Rattle.rustc_abi.specs.Laws.{keep_laws};
 ghost use Rattle.rustc_abi.specs.Mark.{marks_by};
 ghost use Rattle.rustc_abi.specs.Typed.{marks_in, typed_at, variant_nodes};
 
@@ -20,7 +16,9 @@ use abi_types::{Layout, TyAbiInterface, TyAndLayout};
 use std::fmt;
 use std::fmt::{Debug, Display};
 
-/// A type that was laid out, or a part of one. How it prints isn't promised.
+/// A type that was laid out, or a part of one. Beside its layout it is a handle: it tells of each field and each variant
+/// its handle, and what the type is. `Laid::root` gives the handle of the whole, and `TyAndLayout` has the questions. How
+/// it prints isn't promised.
 #[derive(Clone, Copy)]
 pub struct TreeTy<'a> {
     laid: &'a Laid,
@@ -60,13 +58,7 @@ fn field_node(shape: &Shape, i: usize) -> usize
     ensures { result ≡ field_place shape.now i }
 {
     match shape {
-        Shape::Pair { first, second } => {
-            if i == 0 {
-                *first
-            } else {
-                *second
-            }
-        }
+        Shape::Pair { first, second } => { if i == 0 { *first } else { *second } }
         Shape::Elements { count: _, element } => *element,
         Shape::Fields(_, children) => children[i],
         Shape::Union(_, children) => children[i],
@@ -81,13 +73,7 @@ fn field_node(shape: &Shape, i: usize) -> usize
             prefix,
             tag,
             states: _,
-        } => {
-            if i < prefix.len() {
-                prefix[i]
-            } else {
-                *tag
-            }
-        }
+        } => { if i < prefix.len() { prefix[i] } else { *tag } }
         Shape::Scalar(_) => unreachable!(),
         Shape::Never(_) => unreachable!(),
     }
@@ -139,7 +125,7 @@ fn mark_of(this: TyAndLayout<'_, TreeTy<'_>>) -> Mark
     mark_in(&this.ty.laid.nodes()[this.ty.node].shape)
 }
 
-/// Steps of a handle need no context, so any serves. The number of a node is its depth.
+/// A handle needs no context to answer, so any serves.
 impl<'a, C> TyAbiInterface<'a, C> for TreeTy<'a> {
     ghost use Rattle.std.specs.Prelude.{◌≡◌, ◌<◌};
     ghost use Rattle.abi_scalar.specs.Shape.{field_count};
@@ -157,8 +143,8 @@ impl<'a, C> TyAbiInterface<'a, C> for TreeTy<'a> {
 
     ghost lawful_law = { λ this h. h.lawful };
 
-    /// One of several variants: its fields, with their own layout, which is that of a struct. A state of a coroutine has in
-    /// it the locals that are saved in it. An enum that is left with one variant has its fields itself.
+    /// One of several variants or states, as a type of its own without the tag: its fields are the variant's, or the locals
+    /// that are saved in the state. Where there is one variant it is the type itself, whose fields are the variant's.
     fn ty_and_layout_for_variant(
         this: TyAndLayout<'a, TreeTy<'a>>,
         _cx: &C,
@@ -186,8 +172,8 @@ impl<'a, C> TyAbiInterface<'a, C> for TreeTy<'a> {
         }
     }
 
-    /// A field. The fields of an array are its elements, the one of a vector is the array of its lanes, the one of an enum
-    /// with several variants is its tag, and those of a coroutine are its prefix and, behind that, its tag. A number has none.
+    /// A field. The fields of an array are its elements, and the one of a vector is the array of its lanes. The one of an
+    /// enum with several variants is its tag, and a coroutine has its prefix and behind that its tag. A number has none.
     fn ty_and_layout_field(
         this: TyAndLayout<'a, TreeTy<'a>>,
         _cx: &C,

@@ -1,4 +1,4 @@
-use Rattle.std.proofs.Common.{◌≡◌, List, ap, get_or, sym, ◌∙◌}
+use Rattle.std.proofs.Common.{◌≡◌, ap, get_or, sym, ◌∙◌}
 use Rattle.rustc_abi.specs.declared.node.Node.{Node}
 use Rattle.rustc_abi.specs.Typed.{marks_in}
 use Rattle.rustc_abi.proofs.HandleLemmas.{marks_at}

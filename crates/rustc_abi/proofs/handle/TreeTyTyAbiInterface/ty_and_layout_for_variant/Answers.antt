@@ -1,4 +1,4 @@
-use Rattle.std.proofs.Common.{◌≡◌, ◌<◌, ℕ, List, ap, arith, sym, ◌∙◌}
+use Rattle.std.proofs.Common.{ℕ, List, ap, arith, sym, ◌∙◌}
 use Rattle.abi_types.specs.Ty.Typed.{layout_in}
 use Rattle.rustc_abi.specs.declared.node.Node.{Node}
 use Rattle.rustc_abi.specs.Handles.{tree_depth, variant_place}
