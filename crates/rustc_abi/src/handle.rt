@@ -52,7 +52,7 @@ pub(crate) fn handle_at(laid: &Laid, node: usize) -> TyAndLayout<'_, TreeTy<'_>>
 
 /// The node of a field of a node of this shape: its elements', where it has elements; of its children the one with this
 /// index; of a vector that of its lanes; of an enum with several variants that of the tag; and of a coroutine a prefix
-/// field's, or behind those the tag's.
+/// field's, or behind those the tag's. A number and the type without a value have no fields.
 fn field_node(shape: &Shape, i: usize) -> usize
     requires { HasField shape.now i }
     ensures { result ≡ field_place shape.now i }
@@ -79,7 +79,7 @@ fn field_node(shape: &Shape, i: usize) -> usize
     }
 }
 
-/// The node of a variant or a state that a tag tells apart.
+/// The node of a variant or a state that a tag tells apart; other shapes have none.
 fn variant_node(shape: &Shape, v: usize) -> usize
     requires { v < length (variant_nodes shape.now) }
     ensures { result ≡ variant_place shape.now v }
