@@ -9,6 +9,9 @@ mod FlagLemmas
 mod ElementsLemmas
 mod PartsLemmas
 mod NodesLemmas
+mod TypedLemmas
+mod HandleLemmas
+mod SeenLemmas
 mod ViewLemmas
 mod FieldsLemmas
 pub mod TreeLemmas

@@ -25,5 +25,7 @@ pub mod Clash
 pub mod Laws
 pub mod Adding
 pub mod Laid
+pub mod Handles
+pub mod Seen
 pub mod Fault
 pub mod Runs
