@@ -1,6 +1,5 @@
 -- The nodes of fields and variants, as handles step to them.
-use Rattle.std.proofs.Common.{◌≡◌, ℕ, ◌+◌, ◌<◌, ◌≤◌, ◌∙◌, List, [], ◌∷◌, ◌++◌, ap, arith, get_or, le_refl, length, refl, subst, sym, true}
-use Rattle.std.specs.Prelude.{⊤}
+use Rattle.std.proofs.Common.{◌≡◌, ℕ, ◌<◌, ◌∙◌, List, [], ◌∷◌, ◌++◌, ap, arith, get_or, length, refl, subst, sym, true}
 use Rattle.std.specs.Cmp.Derive.{both_true}
 use Rattle.std.proofs.lemmas.Bool.{and_parts, ltb-true}
 use Rattle.std.proofs.lemmas.List.{get_or_default}
@@ -20,7 +19,7 @@ use Rattle.rustc_abi.specs.declared.node.Node.{Node}
 use Rattle.rustc_abi.specs.Placed.{Placed, Layout}
 use Rattle.rustc_abi.specs.Nodes.{types_in}
 use Rattle.rustc_abi.specs.Adding.{are_nodes, is_node}
-use Rattle.rustc_abi.specs.Typed.{all_told, field_by, field_nodes, marks_in, told, type_in, typed_at, variant_nodes}
+use Rattle.rustc_abi.specs.Typed.{all_told, field_by, marks_in, told, type_in, typed_at, variant_nodes}
 use Rattle.rustc_abi.specs.Laws.{has_fields, has_variants, keep_laws, keeps_laws}
 use Rattle.rustc_abi.specs.Handles.{HasField, field_place, variant_place}
 use Rattle.rustc_abi.proofs.NodesLemmas.{children_before, pair_before}

@@ -1,23 +1,22 @@
 -- Handles see what nodes mean.
-use Rattle.std.proofs.Common.{◌≡◌, ℕ, zero, suc, ◌+◌, ◌-◌, ◌<◌, ◌≤◌, ◌∙◌, List, [], ◌∷◌, ◌++◌, ap, arith, get_or, length, length-append, map, refl, subst, sym, true}
-use Rattle.std.specs.Prelude.{⊤, ◌&&◌, nat_lt}
+use Rattle.std.proofs.Common.{◌≡◌, ℕ, zero, suc, ◌+◌, ◌<◌, ◌∙◌, List, [], ◌∷◌, ◌++◌, ap, arith, get_or, length, length-append, map, refl, subst, sym, true}
+use Rattle.std.specs.Prelude.{◌&&◌, nat_lt}
 use Rattle.std.specs.List.{list_all}
-use Rattle.std.specs.Cmp.Derive.{both_true}
 use Rattle.std.proofs.lemmas.Bool.{and_parts, false≢true, ltb-true}
-use Rattle.std.proofs.lemmas.List.{get_or-append-add, get_or-map, get_or_append_left, get_or_default, length-map}
+use Rattle.std.proofs.lemmas.List.{get_or-append-add, get_or_append_left, get_or_default, length-map}
 use Rattle.std.proofs.lemmas.Option.{unwrap_or-slice_get}
 use Rattle.abi_scalar.specs.declared.fields_shape.FieldsShape.{FieldsShape}
 use Rattle.abi_scalar.specs.declared.fields_shape.FieldsShape.TheVariants.{Primitive, Union as AtStart, Array, Arbitrary}
-use Rattle.abi_scalar.specs.Shape.{field_count, field_offset, listed_offsets}
-use Rattle.abi_types.specs.Ty.Typed.{Typed, typed, field_in, layout_in, no_layout, variant_in}
+use Rattle.abi_scalar.specs.Shape.{field_offset, listed_offsets}
+use Rattle.abi_types.specs.Ty.Typed.{Typed, field_in, layout_in, no_layout, variant_in}
 use Rattle.rustc_abi.specs.declared.mark.Mark.TheVariants.{Plain}
 use Rattle.rustc_abi.specs.declared.node.Shape.{Shape}
 use Rattle.rustc_abi.specs.declared.node.Shape.TheVariants.{Scalar, Pair, Never, Elements, Fields, Union, Vector, Single, Tagged, States}
 use Rattle.rustc_abi.specs.declared.node.Node.{Node}
 use Rattle.rustc_abi.specs.Placed.{Placed, Layout, scalar, pair, never, elements, vector, fields, union, single, tagged, states}
-use Rattle.rustc_abi.specs.Nodes.{arms_in, meaning, own_fields, parts_at, parts_at_0, placed_at, placed_in, state_tag_offset, tag_offset, types_in}
+use Rattle.rustc_abi.specs.Nodes.{arms_in, meaning, own_fields, parts_at, parts_at_0, placed_at, placed_in, state_tag_offset, types_in}
 use Rattle.rustc_abi.specs.Adding.{are_nodes, is_node}
-use Rattle.rustc_abi.specs.Typed.{all_told, field_nodes, told, type_by, type_in, typed_at, variant_nodes}
+use Rattle.rustc_abi.specs.Typed.{all_told, told, type_by, type_in, typed_at}
 use Rattle.rustc_abi.specs.Laws.{has_fields, has_variants, have_places, keep_laws, sizes_at}
 use Rattle.rustc_abi.specs.Seen.{HasOffset, Sees, SeesArms, SeesParts, SeesTypes, last_of}
 use Rattle.rustc_abi.proofs.NodesLemmas.{children_before, pair_before, placed_at-node}
