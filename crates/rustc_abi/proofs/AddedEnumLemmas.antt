@@ -1,7 +1,7 @@
 -- How enums are laid out, once the fields of their variants are.
 use Rattle.std.proofs.Common.{◌≡◌, ℕ, List, [], ◌∷◌, map, length, None, true, refl, sym, ap, subst, ◌∙◌, inl, inr, All, Ok, Err, Result, ⊎_elim, Bool, Some}
 use Rattle.std.specs.Prelude.{ℤ, ◌⊎◌}
-use Rattle.std.proofs.lemmas.List.Elements.{All-cons, All-map, All-nil, All-weaker}
+use Rattle.std.proofs.lemmas.List.Elements.{All-map, All-weaker}
 use Rattle.std.proofs.lemmas.List.{length-map}
 use Rattle.abi_base.specs.declared.data_layout.TargetDataLayout.{TargetDataLayout}
 use Rattle.abi_base.specs.declared.integer.Integer.{Integer}
@@ -22,7 +22,7 @@ use Rattle.rustc_abi.specs.declared.error.LayError.TheVariants.{OutOfMemory}
 use Rattle.std.specs.Prelude.{Vec}
 use Rattle.std.specs.declared.alloc.Global.{Global}
 use Rattle.rustc_abi.specs.declared.node.Node.{Node}
-use Rattle.rustc_abi.specs.Tree.{Variants, enum, no_variants, more_variants}
+use Rattle.rustc_abi.specs.Tree.{Variants, enum}
 use Rattle.rustc_abi.specs.Placed.{Placed, Layout, layout_of}
 use Rattle.rustc_abi.specs.Error.{IsRefused, lay_error}
 use Rattle.rustc_abi.specs.Enums.{IsCalculated, IsEnumed, IsTagInteger, discriminants_of, layouts_of, numbered_from}
@@ -31,7 +31,7 @@ use Rattle.rustc_abi.specs.Adding.{HasReadableTag, HasVariants, IsAdded, IsPut, 
 use Rattle.rustc_abi.specs.Nodes.{placed_in, types_in}
 use Rattle.rustc_abi.proofs.CalculatedLemmas.{calculated_fits, calculated_tag, calculated_variants}
 use Rattle.rustc_abi.proofs.LaidLemmas.{aligns_of, each_of, numbers_for, tags_of}
-use Rattle.rustc_abi.proofs.LayLemmas.{EachFits-lawful, VariantsFit-lawful, IsAdded-put}
+use Rattle.rustc_abi.proofs.LayLemmas.{VariantsFit-lawful, IsAdded-put}
 use Rattle.rustc_abi.proofs.ListLemmas.{All-from_map}
 use Rattle.abi_scalar.specs.declared.error.LayoutCalculatorError.TheVariants as calculator
 

@@ -12,7 +12,6 @@ use Rattle.abi_base.specs.DataLayout.{IsLawfulDataLayout}
 use Rattle.abi_base.specs.Primitive.{primitive_size}
 use Rattle.abi_scalar.specs.declared.fields_shape.FieldsShape.TheVariants.{Arbitrary}
 use Rattle.abi_scalar.specs.declared.repr.ReprOptions.{ReprOptions}
-use Rattle.abi_scalar.specs.declared.scalar.Scalar.{Scalar}
 use Rattle.abi_scalar.specs.declared.variants.VariantLayout.{VariantLayout}
 use Rattle.abi_scalar.specs.Lawful.{IsLawfulLayout}
 use Rattle.abi_scalar.specs.Scalar.{scalar_size}
@@ -27,7 +26,6 @@ use Rattle.abi_calc.specs.Enums.Answer.{IsTypeAnswer}
 use Rattle.abi_calc.specs.Enums.Beside.{IsToldByNiche, IsToldByTag}
 use Rattle.abi_calc.specs.Enums.Path.{path_of, variant_at}
 use Rattle.abi_calc.specs.Enums.Places.{AreApartBehind}
-use Rattle.abi_calc.specs.Enums.Single.{single_layout}
 use Rattle.abi_calc.proofs.GoodLists.{good_list}
 use Rattle.std.specs.Prelude.{Vec}
 use Rattle.std.specs.declared.alloc.Global.{Global}
@@ -38,7 +36,7 @@ use Rattle.rustc_abi.specs.Adding.{all_at, variants_in}
 use Rattle.rustc_abi.specs.Nodes.{placed_in, types_in}
 use Rattle.rustc_abi.specs.Enums.{IsEnumed, IsTagInteger, layouts_of, numbered_from}
 use Rattle.rustc_abi.specs.Laws.{HavePlaces, have_places, keeps_laws, sizes_at}
-use Rattle.rustc_abi.specs.Laying.{enum_fault, most_fields, one_scalar}
+use Rattle.rustc_abi.specs.Laying.{enum_fault, most_fields}
 use Rattle.rustc_abi.specs.Placed.{Placed, Layout, layout_of, size_of}
 use Rattle.rustc_abi.proofs.ArmsLemmas.{apart_beside}
 use Rattle.rustc_abi.proofs.CalculatedLemmas.{lawful_at, some_variant, told}

@@ -1,5 +1,5 @@
 -- The laws that nodes keep, as the calculator's layouts give them.
-use Rattle.std.proofs.Common.{◌≡◌, ℕ, zero, suc, ◌+◌, ◌*◌, ◌≤◌, List, [], ◌∷◌, true, All, Ok, Some, length, map, arith, refl, sym, ap, ◌∙◌, subst}
+use Rattle.std.proofs.Common.{◌≡◌, ℕ, suc, ◌+◌, ◌*◌, ◌≤◌, List, [], ◌∷◌, true, All, Ok, Some, length, map, arith, refl, sym, ap, ◌∙◌, subst}
 use Rattle.std.specs.Prelude.{Bool, ◌&&◌, ◌==◌, nat_le, replicate}
 use Rattle.std.specs.List.{list_all}
 use Rattle.std.specs.Cmp.Derive.{both_true}
@@ -21,7 +21,6 @@ use Rattle.abi_scalar.specs.Variant.{variant_layout, variants_of}
 use Rattle.abi_calc.specs.Apart.{AreApart}
 use Rattle.abi_calc.specs.Array.{array_answer, elements_layout}
 use Rattle.abi_calc.specs.Simd.{simd_answer}
-use Rattle.rustc_abi.specs.declared.mark.Mark.{Mark}
 use Rattle.rustc_abi.specs.declared.node.Shape.TheVariants.{Elements, Pair, Vector}
 use Rattle.rustc_abi.specs.Error.{named}
 use Rattle.rustc_abi.specs.Inside.{EndInside, VariantsInside}

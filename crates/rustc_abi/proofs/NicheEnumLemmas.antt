@@ -26,7 +26,7 @@ use Rattle.abi_calc.specs.Enums.Beside.{IsToldByNiche}
 use Rattle.rustc_abi.specs.Enums.{layouts_of, arms_at, discriminants_of}
 use Rattle.rustc_abi.specs.Mark.{mark_of}
 use Rattle.rustc_abi.specs.Placed.{parts_of_arm, Placed, layout_of, is_flagged, size_of, Layout, Arms, tagged}
-use Rattle.rustc_abi.specs.Tree.{Trees, no_trees, more_trees, Variants, no_variants, more_variants, enum}
+use Rattle.rustc_abi.specs.Tree.{Variants, enum}
 use Rattle.rustc_abi.specs.Adding.{VariantsFit}
 use Rattle.rustc_abi.specs.Fits.{Fits}
 use Rattle.rustc_abi.specs.Laying.{one_scalar, placed_enum, placed_variants}

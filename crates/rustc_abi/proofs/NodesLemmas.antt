@@ -14,7 +14,7 @@ use Rattle.rustc_abi.specs.declared.node.Node.{Node}
 use Rattle.rustc_abi.specs.Placed.{Placed, Layout, layout_of, pair, elements, vector, fields, union, single, tagged, states, Arms, arm, nothing}
 use Rattle.rustc_abi.specs.Nodes.{placed_in, parts_at, parts_at_0, arms_in, encoding_of, index_of, own_fields, tag_offset, state_tag_offset, states_in, meaning, meanings, types_in, placed_at, Keeps}
 use Rattle.rustc_abi.specs.Laws.{keeps_laws, keep_laws}
-use Rattle.rustc_abi.specs.Adding.{is_node, are_nodes, AreWell, IsPut}
+use Rattle.rustc_abi.specs.Adding.{is_node, are_nodes, IsPut}
 
 meanings-push : (done : List Placed) (ns : List Node) (n : Node) →
     meanings done (ns ++ n ∷ []) ≡ meanings done ns ++ meaning (meanings done ns) n.layout n.shape ∷ []

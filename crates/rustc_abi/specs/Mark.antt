@@ -1,5 +1,5 @@
 -- What a type tells of itself beside its layout.
-use Rattle.std.specs.Prelude.{Bool, false, true, None}
+use Rattle.std.specs.Prelude.{Bool, true}
 use Rattle.abi_scalar.specs.declared.repr.ReprOptions.{ReprOptions}
 use Rattle.abi_scalar.specs.Repr.{has_flags, is_transparent}
 use Rattle.abi_types.specs.Ty.Typed.{Marks, no_marks}

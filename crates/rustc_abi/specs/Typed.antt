@@ -1,8 +1,8 @@
 -- How handles see nodes: each node's layout, what it tells of itself, its fields and its variants.
 use Rattle.std.specs.Prelude.{ℕ, List, [], ◌∷◌, ◌++◌, get_or, map}
-use Rattle.abi_types.specs.Ty.Typed.{Layout, Marks, Typed, typed, no_type, no_marks}
+use Rattle.abi_types.specs.Ty.Typed.{Marks, Typed, typed, no_type, no_marks}
 use Rattle.rustc_abi.specs.declared.node.Shape.{Shape}
-use Rattle.rustc_abi.specs.declared.node.Shape.TheVariants.{Scalar, Pair, Never, Elements, Fields, Union, Vector, Single, Tagged, States}
+use Rattle.rustc_abi.specs.declared.node.Shape.TheVariants.{Pair, Never, Elements, Fields, Union, Vector, Single, Tagged, States}
 use Rattle.rustc_abi.specs.declared.node.Node.{Node}
 use Rattle.rustc_abi.specs.Mark.{marks_by}
 
