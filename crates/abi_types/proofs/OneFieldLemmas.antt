@@ -148,7 +148,7 @@ alike_in kind l field stride count e two named =
     let all : CanBeNamed (Array stride count) field = subst (λ s. CanBeNamed s field) e named in
     let p : ℕ → Bool = λ i. not (has_no_bytes kind (layout_in (field i))) in
     ap (λ s. only_item (filter p (range_with_len 0 (field_count s)))) e
-    ∙ alike p count (p 0) refl two (λ k lt. ap (λ t. not (has_no_bytes kind (layout_in t))) (all.1 k lt))
+    ∙ alike p count (p 0) refl two (λ k lt. ap (λ t. not (has_no_bytes kind (layout_in t))) (all.0 k lt))
 
 -- of two elements or more none is the only one that has bytes
 pub of_elements : (kind : NoBytes) (t : Typed) (stride count : ℕ) → IsLawfulType t → (layout_in t).fields ≡ Array stride count → 1 < count

@@ -71,7 +71,7 @@ fields_inside size (Array stride count) field own k inside named none past =
     ⊎_elim
     (λ (lt : k / stride < count).
     let at : stride * (k / stride) + (layout_in (field (k / stride))).size ≤ size = inside (k / stride) lt in
-    let same : (layout_in (field (k / stride))).size ≡ e.size = ap (λ t. (layout_in t).size) (named.1 (k / stride) lt) in
+    let same : (layout_in (field (k / stride))).size ≡ e.size = ap (λ t. (layout_in t).size) (named.0 (k / stride) lt) in
     let split : k ≡ stride * (k / stride) + k % stride = omega arith in
     let beyond : e.size ≤ k % stride = omega (arith, at, same, split, past) in
     ap (λ b. nat_lt (k / stride) count && b) (element_inside e (own 0) (k % stride) beyond (none 0 (k % stride) (omega (arith, lt)) beyond)) ∙ and-false (nat_lt (k / stride) count))

@@ -1,7 +1,7 @@
 -- How enums are laid out, once the fields of their variants are.
 use Rattle.std.proofs.Common.{◌≡◌, ℕ, List, [], ◌∷◌, map, length, None, true, refl, sym, ap, subst, ◌∙◌, inl, inr, All, Ok, Err, Result, ⊎_elim, Bool, Some}
 use Rattle.std.specs.Prelude.{ℤ, ◌⊎◌}
-use Rattle.std.proofs.lemmas.List.Elements.{All-cons, All-map, All-nil, All-weaker}
+use Rattle.std.proofs.lemmas.List.Elements.{All-map, All-weaker}
 use Rattle.std.proofs.lemmas.List.{length-map}
 use Rattle.abi_base.specs.declared.data_layout.TargetDataLayout.{TargetDataLayout}
 use Rattle.abi_base.specs.declared.integer.Integer.{Integer}
@@ -22,7 +22,7 @@ use Rattle.rustc_abi.specs.declared.error.LayError.TheVariants.{OutOfMemory}
 use Rattle.std.specs.Prelude.{Vec}
 use Rattle.std.specs.declared.alloc.Global.{Global}
 use Rattle.rustc_abi.specs.declared.node.Node.{Node}
-use Rattle.rustc_abi.specs.Tree.{Variants, enum, no_variants, more_variants}
+use Rattle.rustc_abi.specs.Tree.{Variants, enum}
 use Rattle.rustc_abi.specs.Placed.{Placed, Layout, layout_of}
 use Rattle.rustc_abi.specs.Error.{IsRefused, lay_error}
 use Rattle.rustc_abi.specs.Enums.{IsCalculated, IsEnumed, IsTagInteger, discriminants_of, layouts_of, numbered_from}
@@ -31,7 +31,7 @@ use Rattle.rustc_abi.specs.Adding.{HasReadableTag, HasVariants, IsAdded, IsPut, 
 use Rattle.rustc_abi.specs.Nodes.{placed_in, types_in}
 use Rattle.rustc_abi.proofs.CalculatedLemmas.{calculated_fits, calculated_tag, calculated_variants}
 use Rattle.rustc_abi.proofs.LaidLemmas.{aligns_of, each_of, numbers_for, tags_of}
-use Rattle.rustc_abi.proofs.LayLemmas.{EachFits-lawful, IsAdded-put}
+use Rattle.rustc_abi.proofs.LayLemmas.{VariantsFit-lawful, IsAdded-put}
 use Rattle.rustc_abi.proofs.ListLemmas.{All-from_map}
 use Rattle.abi_scalar.specs.declared.error.LayoutCalculatorError.TheVariants as calculator
 
@@ -47,14 +47,6 @@ pub enum_tree_refused : (dl : TargetDataLayout) (repr : ReprOptions) (all : Vari
 enum_tree_refused dl repr all variants e exact (inl memory) = inl memory
 enum_tree_refused dl repr all variants e exact (inr f) = inr (inr (variants, exact, f))
 
--- types that fit are lawful
-pub VariantsFit-lawful : (dl : TargetDataLayout) (all : Variants) (variants : List (List Placed)) → VariantsFit dl all variants → All (All (λ p. IsLawfulLayout dl (layout_of p))) variants
-VariantsFit-lawful dl no_variants [] h = All-nil (All (λ p. IsLawfulLayout dl (layout_of p)))
-VariantsFit-lawful dl no_variants (ps ∷ variants) h = absurd h
-VariantsFit-lawful dl (more_variants d ts others) [] h = absurd h
-VariantsFit-lawful dl (more_variants d ts others) (ps ∷ variants) h =
-    All-cons (All (λ p. IsLawfulLayout dl (layout_of p))) ps variants (EachFits-lawful dl ts ps h.0) (VariantsFit-lawful dl others variants h.1)
-
 -- what nodes an enum's layout asks for
 pub enumed_nodes : (dl : TargetDataLayout) → IsLawfulDataLayout dl → (repr : ReprOptions) (numbers : List ℕ) (variants : List (List Placed)) (layout : Layout) → enum_fault dl repr numbers variants ≡ None →
     length numbers ≡ length variants → All (All (λ p. IsLawfulLayout dl (layout_of p))) variants → IsEnumed dl repr numbers variants (Ok layout) →
@@ -68,12 +60,12 @@ enumed_nodes dl law repr numbers variants layout none long lawful enumed =
 -- an enum's layout
 pub IsAdded-enum : (dl : TargetDataLayout) → IsLawfulDataLayout dl → (old new : List Node) (i : ℕ) (repr : ReprOptions) (variants : List (List Placed)) (layout : Layout) (all : Variants) →
     enum_fault dl repr (discriminants_of all) variants ≡ None → IsEnumed dl repr (discriminants_of all) variants (Ok layout) →
-    IsPut old new i (placed_enum dl (discriminants_of all) variants layout) → VariantsLaying dl all (Ok variants) → VariantsFit dl all variants → IsAdded dl old new i (enum repr all)
+    IsPut old new i (placed_enum dl repr (discriminants_of all) variants layout) → VariantsLaying dl all (Ok variants) → VariantsFit dl all variants → IsAdded dl old new i (enum repr all)
 IsAdded-enum dl law old new i repr variants layout all faultless enumed put exact fits =
     let numbers : List ℕ = discriminants_of all in
     let long = numbers_for dl law all variants exact in
-    let answer : IsEnumOf dl repr numbers variants (Ok (placed_enum dl numbers variants layout)) = rw faultless (inr (layout, enumed, refl)) in
-    IsAdded-put dl old new i (placed_enum dl numbers variants layout) (enum repr all) put (inr (variants, exact, answer))
+    let answer : IsEnumOf dl repr numbers variants (Ok (placed_enum dl repr numbers variants layout)) = rw faultless (inr (layout, enumed, refl)) in
+    IsAdded-put dl old new i (placed_enum dl repr numbers variants layout) (enum repr all) put (inr (variants, exact, answer))
     (calculated_fits dl law repr numbers variants (aligns_of dl law repr numbers variants faultless long) (VariantsFit-lawful dl all variants fits)
     (each_of dl law repr numbers variants faultless long) (tags_of dl law repr numbers variants faultless long) all refl fits layout enumed)
 
@@ -146,11 +138,11 @@ asked_otherwise f dl repr hs asks gives Several r (inr (inr (none, items, there,
 
 -- the same, where the discriminants are known by a list of their own
 pub IsAdded-enum-as : (dl : TargetDataLayout) → IsLawfulDataLayout dl → (old new : List Node) (i : ℕ) (repr : ReprOptions) (numbers : List ℕ) (variants : List (List Placed)) (layout : Layout) (all : Variants) →
-    numbers ≡ discriminants_of all → enum_fault dl repr numbers variants ≡ None → IsEnumed dl repr numbers variants (Ok layout) → IsPut old new i (placed_enum dl numbers variants layout) →
+    numbers ≡ discriminants_of all → enum_fault dl repr numbers variants ≡ None → IsEnumed dl repr numbers variants (Ok layout) → IsPut old new i (placed_enum dl repr numbers variants layout) →
     VariantsLaying dl all (Ok variants) → VariantsFit dl all variants → IsAdded dl old new i (enum repr all)
 IsAdded-enum-as dl law old new i repr numbers variants layout all is faultless enumed put exact fits =
     IsAdded-enum dl law old new i repr variants layout all (subst (λ ns. enum_fault dl repr ns variants ≡ None) is faultless) (subst (λ ns. IsEnumed dl repr ns variants (Ok layout)) is enumed)
-    (subst (λ ns. IsPut old new i (placed_enum dl ns variants layout)) is put) exact fits
+    (subst (λ ns. IsPut old new i (placed_enum dl repr ns variants layout)) is put) exact fits
 
 -- there are as many types as nodes
 pub lengths_in : (ns : List Node) (children : List (Vec ℕ Global)) → map length (variants_in ns children) ≡ map (λ fields. length fields.items) children

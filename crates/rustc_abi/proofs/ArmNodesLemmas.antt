@@ -1,25 +1,30 @@
 -- Nodes for the variants of an enum.
-use Rattle.std.proofs.Common.{◌≡◌, ℕ, ◌+◌, ◌<◌, ◌≤◌, List, [], ◌∷◌, ◌++◌, Some, true, length, take, get_or, arith, refl, sym, ap, ◌∙◌, subst}
+use Rattle.std.proofs.Common.{◌≡◌, ℕ, zero, suc, ◌+◌, ◌<◌, ◌≤◌, List, [], ◌∷◌, ◌++◌, Some, true, length, map, take, get_or, arith, refl, sym, ap, ◌∙◌, subst}
 use Rattle.std.specs.Prelude.{Vec, All, nat_lt, slice_get, option_map}
 use Rattle.std.specs.List.{list_all}
 use Rattle.std.specs.Cmp.Derive.{both_true}
 use Rattle.std.specs.declared.alloc.Global.{Global}
 use Rattle.std.proofs.lemmas.Bool.{lt-ltb}
-use Rattle.std.proofs.lemmas.List.{take_more, length-map, length-take-le, get_or-map}
+use Rattle.std.proofs.lemmas.List.{map-append, take_more, length-map, length-take-le, get_or-map}
 use Rattle.std.proofs.lemmas.List.Elements.{All-nil, All-cons, All-head, All-tail, All-append, All-weaker, All-get_or}
 use Rattle.std.proofs.lemmas.Option.{slice_get-get_or}
+use Rattle.std.proofs.lemmas.Simd.{map-map}
 use Rattle.abi_scalar.specs.declared.variants.VariantLayout.{VariantLayout}
 use Rattle.abi_scalar.specs.Shape.{listed_offsets}
-use Rattle.abi_scalar.specs.Variant.{variant_layout}
+use Rattle.abi_scalar.specs.Variant.{variant_layout, variants_of}
 use Rattle.rustc_abi.specs.declared.node.Shape.TheVariants.{Fields, Tagged}
 use Rattle.rustc_abi.specs.declared.node.Node.{Node}
-use Rattle.rustc_abi.specs.Placed.{Placed, Layout, tagged, Parts, Arms, no_arms, arm}
+use Rattle.rustc_abi.specs.declared.mark.Mark.{Mark}
+use Rattle.rustc_abi.specs.Placed.{Placed, Layout, size_of, tagged, Parts, Arms, no_arms, arm}
 use Rattle.rustc_abi.specs.Nodes.{placed_in, parts_at, arms_in, own_fields, encoding_of, tag_offset, meaning, types_in, placed_at, Keeps}
 use Rattle.rustc_abi.specs.Enums.{arms_at}
+use Rattle.rustc_abi.specs.Inside.{EndInside, VariantsInside}
+use Rattle.rustc_abi.specs.Laws.{have_places, keeps_laws, sizes_at}
 use Rattle.rustc_abi.specs.Adding.{IsPut, AreArms, all_at, variants_in, is_node}
 use Rattle.rustc_abi.proofs.NodesLemmas.{length-types_in, Keeps-trans}
 use Rattle.rustc_abi.proofs.ListLemmas.{all_below}
 use Rattle.rustc_abi.proofs.LayLemmas.{all_at-kept}
+use Rattle.rustc_abi.proofs.LawsLemmas.{own_laws, several_laws}
 
 -- ---- arms
 
@@ -64,11 +69,21 @@ variants_in-kept old new kept (c ∷ children) there =
     variants_in-kept old new kept children (All-tail (λ fields. All (λ child. child < length old) fields.items) c children there) in
     ap (λ ps. ps ∷ variants_in new children) here ∙ ap (λ rest. all_at old c.items ∷ rest) later
 
+sizes_kept : (old new : List Node) → Keeps (types_in old) (types_in new) → (vs : List (ℕ × ℕ)) → All (λ v. v.1 < length old) vs →
+    sizes_at (types_in new) (map (λ v. v.1) vs) ≡ sizes_at (types_in old) (map (λ v. v.1) vs)
+sizes_kept old new kept [] there = refl
+sizes_kept old new kept (v ∷ vs) there =
+    let here : size_of (placed_in (types_in new) v.1) ≡ size_of (placed_in (types_in old) v.1) =
+    ap size_of (kept.same v.1 (omega (arith, All-head (λ v. v.1 < length old) v vs there, length-types_in old))) in
+    let later : sizes_at (types_in new) (map (λ v. v.1) vs) ≡ sizes_at (types_in old) (map (λ v. v.1) vs) =
+    sizes_kept old new kept vs (All-tail (λ v. v.1 < length old) v vs there) in
+    ap (λ m. m ∷ sizes_at (types_in new) (map (λ v. v.1) vs)) here ∙ ap (λ ms. size_of (placed_in (types_in old) v.1) ∷ ms) later
+
 -- one arm more
-AreArms-push : (first old new : List Node) (vs : List (ℕ × ℕ)) (arms : Arms) (n i : ℕ) (own : Layout) (fields : Vec ℕ Global) → AreArms first old vs arms →
-    All (λ child. child < length first) fields.items → IsPut old new i (meaning (types_in old) own (Fields fields)) →
-    AreArms first new (vs ++ (n, i) ∷ []) (push_arm arms n (parts_at (listed_offsets own.fields) (all_at first fields.items)))
-AreArms-push first old new vs arms n i own fields h there put =
+AreArms-push : (first old new : List Node) (vs : List (ℕ × ℕ)) (arms : Arms) (n i : ℕ) (sizes : List ℕ) (own : Layout) (mark : Mark) (fields : Vec ℕ Global) → AreArms first old sizes vs arms →
+    All (λ child. child < length first) fields.items → IsPut old new i (meaning (types_in old) own (Fields mark fields)) →
+    AreArms first new (sizes ++ own.size ∷ []) (vs ++ (n, i) ∷ []) (push_arm arms n (parts_at (listed_offsets own.fields) (all_at first fields.items)))
+AreArms-push first old new vs arms n i sizes own mark fields h there put =
     let longer : length old ≤ length new = omega (arith, put.kept.longer, length-types_in old, length-types_in new) in
     let same : arms_in (types_in new) vs ≡ arms = arms_in-kept old new put.kept vs h.there ∙ h.meant in
     let offsets = listed_offsets own.fields in
@@ -84,6 +99,11 @@ AreArms-push first old new vs arms n i own fields h there put =
       meant =
           arms_in-push (types_in new) vs (n, i) ∙ ap (λ a. push_arm a n (own_fields (placed_at new i))) same
           ∙ ap (push_arm arms n) own_parts;
+      sized =
+          ap (sizes_at (types_in new)) (map-append (λ v. v.1) vs ((n, i) ∷ []))
+          ∙ map-append (λ k. size_of (placed_in (types_in new) k)) (map (λ v. v.1) vs) (i ∷ [])
+          ∙ ap (λ ms. ms ++ size_of (placed_at new i) ∷ []) (sizes_kept old new put.kept vs h.there ∙ h.sized)
+          ∙ ap (λ p. sizes ++ size_of p ∷ []) put.meant;
     }
 
 -- an element of a list, and the list up to it
@@ -111,12 +131,12 @@ arms_more at layouts numbers variants layout n fields in_layouts in_numbers in_v
 
 module _ (first old new : List Node) (parent : Layout) (layouts : List (VariantLayout ℕ)) (numbers : List ℕ) (children : List (Vec ℕ Global)) where
   -- the node of one variant more: `own` is the layout of that variant by itself, and its node has the fields of the variant
-  pub AreArms-more : (vs : List (ℕ × ℕ)) (at n i index : ℕ) (own : Layout) (fields : Vec ℕ Global) → at < length children →
+  pub AreArms-more : (vs : List (ℕ × ℕ)) (at n i index : ℕ) (own : Layout) (mark : Mark) (fields : Vec ℕ Global) → at < length children →
       length layouts ≡ length children → length numbers ≡ length children → All (λ fields. All (λ child. child < length first) fields.items) children →
       Some own ≡ option_map (variant_layout parent index) (slice_get layouts at) → n ≡ get_or numbers at 0 → (c : Vec ℕ Global) → c ≡ get_or children at c → fields.items ≡ c.items →
-      AreArms first old vs (arms_up_to at layouts numbers (variants_in first children)) → IsPut old new i (meaning (types_in old) own (Fields fields)) →
-      AreArms first new (vs ++ (n, i) ∷ []) (arms_up_to (at + 1) layouts numbers (variants_in first children))
-  AreArms-more vs at n i index own fields lt as_many each there made number c c_is same h put =
+      AreArms first old (map (λ l. l.size) (take at layouts)) vs (arms_up_to at layouts numbers (variants_in first children)) → IsPut old new i (meaning (types_in old) own (Fields mark fields)) →
+      AreArms first new (map (λ l. l.size) (take (at + 1) layouts)) (vs ++ (n, i) ∷ []) (arms_up_to (at + 1) layouts numbers (variants_in first children))
+  AreArms-more vs at n i index own mark fields lt as_many each there made number c c_is same h put =
       let variants = variants_in first children in
       let long : length variants ≡ length children = length-map children (λ fields. all_at first fields.items) in
       let layout = taken layouts at (omega arith) in
@@ -134,17 +154,57 @@ module _ (first old new : List Node) (parent : Layout) (layouts : List (VariantL
       let below : All (λ child. child < length first) fields.items =
       subst (All (λ child. child < length first)) (ap (λ v. v.items) (sym c_is) ∙ sym same)
       (All-get_or (λ fields. All (λ child. child < length first) fields.items) children at c lt there) in
-      let pushed = AreArms-push first old new vs (arms_up_to at layouts numbers variants) n i own fields h below put in
+      let pushed = AreArms-push first old new vs (arms_up_to at layouts numbers variants) n i (map (λ l. l.size) (take at layouts)) own mark fields h below put in
       let arms : push_arm (arms_up_to at layouts numbers variants) n (parts_at (listed_offsets own.fields) ps) ≡ arms_up_to (at + 1) layouts numbers variants =
       ap (λ o. push_arm (arms_up_to at layouts numbers variants) n (parts_at o ps)) offsets
       ∙ sym (arms_more at layouts numbers variants layout.0 n ps (omega arith) (omega arith) (omega arith) layout.2 more_numbers more_variants) in
-      subst (AreArms first new (vs ++ (n, i) ∷ [])) arms pushed
+      let sizes : map (λ l. l.size) (take at layouts) ++ own.size ∷ [] ≡ map (λ l. l.size) (take (at + 1) layouts) =
+      ap (λ l. map (λ l. l.size) (take at layouts) ++ l.size ∷ []) own_is ∙ sym (ap (map (λ l. l.size)) layout.2 ∙ map-append (λ l. l.size) (take at layouts) (layout.0 ∷ [])) in
+      subst (λ ms. AreArms first new ms (vs ++ (n, i) ∷ []) (arms_up_to (at + 1) layouts numbers variants)) sizes
+      (subst (AreArms first new (map (λ l. l.size) (take at layouts) ++ own.size ∷ []) (vs ++ (n, i) ∷ [])) arms pushed)
+
+inside_at : (whole : ℕ) (layouts : List (VariantLayout ℕ)) (variants : List (List Placed)) (at : ℕ) → VariantsInside whole layouts variants → at < length variants →
+    (l : VariantLayout ℕ) × (slice_get layouts at ≡ Some l) × EndInside l.size l.field_offsets (map size_of (get_or variants at []))
+inside_at whole [] [] at h lt = absurd (omega arith)
+inside_at whole [] (ps ∷ variants) at h lt = absurd h
+inside_at whole (l ∷ layouts) [] at h lt = absurd h
+inside_at whole (l ∷ layouts) (ps ∷ variants) zero h lt = (l, refl, h.1)
+inside_at whole (l ∷ layouts) (ps ∷ variants) (suc at) h lt = inside_at whole layouts variants at h.2 (omega arith)
+
+-- a variant's node keeps the laws
+pub own_keeps : (first old : List Node) (sizes : List ℕ) (vs : List (ℕ × ℕ)) (arms : Arms) (parent own : Layout) (mark : Mark) (layouts : List (VariantLayout ℕ)) (children : List (Vec ℕ Global)) (at index : ℕ)
+    (c fields : Vec ℕ Global) → AreArms first old sizes vs arms → at < length children → VariantsInside parent.size layouts (variants_in first children) →
+    Some own ≡ option_map (variant_layout parent index) (slice_get layouts at) → c ≡ get_or children at c → fields.items ≡ c.items → All (λ fields. All (λ child. child < length first) fields.items) children →
+    All (λ fields. length fields.items ≤ 0xFFFF_FF01) children → keeps_laws (types_in old) own (Fields mark fields) ≡ true
+own_keeps first old sizes vs arms parent own mark layouts children at index c fields h lt inside made c_is same there few =
+    let long : length (variants_in first children) ≡ length children = length-map children (λ fields. all_at first fields.items) in
+    let found = inside_at parent.size layouts (variants_in first children) at inside (omega arith) in
+    let some : Some own ≡ Some (variant_layout parent index found.0) = made ∙ ap (option_map (variant_layout parent index)) found.1 in
+    let is : own ≡ variant_layout parent index found.0 = cc in
+    let here : get_or (variants_in first children) at [] ≡ all_at first c.items =
+    get_or-map (λ fields. all_at first fields.items) children at c [] lt ∙ ap (λ k. all_at first k.items) (sym c_is) in
+    let below : All (λ child. child < length first) fields.items =
+    subst (All (λ child. child < length first)) (ap (λ v. v.items) (sym c_is) ∙ sym same) (All-get_or (λ fields. All (λ child. child < length first) fields.items) children at c lt there) in
+    let count : length fields.items ≤ 0xFFFF_FF01 =
+    omega (arith, All-get_or (λ fields. length fields.items ≤ 0xFFFF_FF01) children at c lt few, ap (λ v. length v.items) (sym c_is), ap length same) in
+    let known : sizes_at (types_in old) fields.items ≡ map size_of (all_at first c.items) =
+    sym (map-map size_of (placed_in (types_in old)) fields.items) ∙ ap (map size_of) (all_at-kept first old h.kept fields.items below ∙ ap (all_at first) same) in
+    own_laws (types_in old) parent own index found.0 fields.items (all_at first c.items) is known (subst (λ ps. EndInside found.0.size found.0.field_offsets (map size_of ps)) here found.2) count
+
+-- the node of several variants keeps the laws
+pub tagged_keeps : (one two : List Node) (t : ℕ) (tag : Placed) (variants : Vec (ℕ × ℕ) Global) (arms : Arms) (layout : Layout) (mark : Mark) (all : List (List Placed)) → t < length one →
+    placed_at one t ≡ tag → AreArms one two (map (λ l. l.size) (variants_of layout.variants)) variants.items arms → have_places layout.size layout.fields (size_of tag ∷ []) ≡ true →
+    VariantsInside layout.size (variants_of layout.variants) all → keeps_laws (types_in two) layout (Tagged mark t variants) ≡ true
+tagged_keeps one two t tag variants arms layout mark all lt there h places inside =
+    let here : placed_in (types_in two) t ≡ tag = h.kept.same t (omega (arith, length-types_in one)) ∙ there in
+    several_laws (types_in two) layout (have_places layout.size layout.fields (size_of (placed_in (types_in two) t) ∷ [])) (map (λ v. v.1) variants.items) all
+    (ap (λ p. have_places layout.size layout.fields (size_of p ∷ [])) here ∙ places) h.sized inside
 
 -- a node for several variants, behind those for the tag and for each variant
-pub IsPut-tagged : (old one two new : List Node) (t i : ℕ) (tag : Placed) (variants : Vec (ℕ × ℕ) Global) (arms : Arms) (layout : Layout) → IsPut old one t tag →
-    AreArms one two variants.items arms → IsPut two new i (meaning (types_in two) layout (Tagged t variants)) →
-    IsPut old new i (tagged layout (tag_offset layout) tag (encoding_of layout.variants) arms)
-IsPut-tagged old one two new t i tag variants arms layout first middle last =
+pub IsPut-tagged : (old one two new : List Node) (t i : ℕ) (tag : Placed) (variants : Vec (ℕ × ℕ) Global) (sizes : List ℕ) (arms : Arms) (layout : Layout) (mark : Mark) → IsPut old one t tag →
+    AreArms one two sizes variants.items arms → IsPut two new i (meaning (types_in two) layout (Tagged mark t variants)) →
+    IsPut old new i (tagged layout mark (tag_offset layout) tag (encoding_of layout.variants) arms)
+IsPut-tagged old one two new t i tag variants sizes arms layout mark first middle last =
     let here : placed_in (types_in two) t ≡ tag = middle.kept.same t (omega (arith, length-types_in one, first.last)) ∙ first.meant in
     let offset = tag_offset layout in
     let encoding = encoding_of layout.variants in
@@ -153,8 +213,8 @@ IsPut-tagged old one two new t i tag variants arms layout first middle last =
       well = λ h. last.well (middle.well (first.well h));
       last = last.last;
       meant =
-          last.meant ∙ ap (λ p. tagged layout offset p encoding (arms_in (types_in two) variants.items)) here
-          ∙ ap (tagged layout offset tag encoding) middle.meant;
+          last.meant ∙ ap (λ p. tagged layout mark offset p encoding (arms_in (types_in two) variants.items)) here
+          ∙ ap (tagged layout mark offset tag encoding) middle.meant;
     }
 
 variants_below : (n : ℕ) (vs : List (ℕ × ℕ)) → All (λ v. v.1 < n) vs → list_all (λ v. nat_lt v.1 n) vs ≡ true
@@ -162,9 +222,9 @@ variants_below n [] h = refl
 variants_below n (v ∷ vs) h = both_true (lt-ltb v.1 n (All-head (λ v. v.1 < n) v vs h)) (variants_below n vs (All-tail (λ v. v.1 < n) v vs h))
 
 -- a node for several variants names earlier ones
-pub tagged_before : (one two : List Node) (t n : ℕ) (variants : Vec (ℕ × ℕ) Global) (arms : Arms) → t < length one → n ≡ length two → AreArms one two variants.items arms →
-    is_node n (Tagged t variants) ≡ true
-tagged_before one two t n variants arms lt e h =
+pub tagged_before : (one two : List Node) (t n : ℕ) (variants : Vec (ℕ × ℕ) Global) (sizes : List ℕ) (arms : Arms) (mark : Mark) → t < length one → n ≡ length two → AreArms one two sizes variants.items arms →
+    is_node n (Tagged mark t variants) ≡ true
+tagged_before one two t n variants sizes arms mark lt e h =
     let longer : length one ≤ length two = omega (arith, h.kept.longer, length-types_in one, length-types_in two) in
     both_true (lt-ltb t n (omega arith)) (variants_below n variants.items (All-weaker (λ v. v.1 < length two) (λ v. v.1 < n) (λ v lt. omega arith) variants.items h.there))
 
@@ -178,10 +238,10 @@ one_before m n children at c fields le lt c_is same there =
     all_below n fields (All-weaker (λ child. child < m) (λ child. child < n) (λ child lt. omega arith) fields below)
 
 -- a variant's fields come before its node
-pub fields_before : (first old : List Node) (vs : List (ℕ × ℕ)) (arms : Arms) (n : ℕ) (children : List (Vec ℕ Global)) (at : ℕ) (c : Vec ℕ Global) (fields : List ℕ) →
-    AreArms first old vs arms → length old ≤ n → at < length children → c ≡ get_or children at c → fields ≡ c.items →
+pub fields_before : (first old : List Node) (sizes : List ℕ) (vs : List (ℕ × ℕ)) (arms : Arms) (n : ℕ) (children : List (Vec ℕ Global)) (at : ℕ) (c : Vec ℕ Global) (fields : List ℕ) →
+    AreArms first old sizes vs arms → length old ≤ n → at < length children → c ≡ get_or children at c → fields ≡ c.items →
     All (λ fields. All (λ child. child < length first) fields.items) children → list_all (λ child. nat_lt child n) fields ≡ true
-fields_before first old vs arms n children at c fields h long lt c_is same there =
+fields_before first old sizes vs arms n children at c fields h long lt c_is same there =
     let longer : length first ≤ length old = omega (arith, h.kept.longer, length-types_in first, length-types_in old) in
     one_before (length first) n children at c fields (omega arith) lt c_is same there
 

@@ -13,6 +13,7 @@ use Rattle.abi_calc.specs.Enums.Discriminants.{inhabited_of}
 use Rattle.abi_calc.specs.Enums.Path.{has_no_value, variant_at}
 use Rattle.abi_calc.specs.Enums.Places.{AreApartBehind}
 use Rattle.rustc_abi.specs.Tree.{enum, Trees, no_trees, Variants, no_variants, more_variants}
+use Rattle.rustc_abi.specs.Mark.{mark_of}
 use Rattle.rustc_abi.specs.Placed.{Placed, Layout, layout_of, size_of, Arms, arm, tagged, parts_of_arm, is_flagged}
 use Rattle.rustc_abi.specs.Room.{arms_have_room}
 use Rattle.rustc_abi.specs.Value.{Value, number, two, list, variant, state, bytes, Values}
@@ -184,11 +185,11 @@ module _ (dl : TargetDataLayout) where
 
   module _ (repr : ReprOptions) (all : Variants) (layout : Layout) (offset : ℕ) (tag : Placed) (encoding : TagEncoding ℕ) (arms : Arms) where
     of_enum : (flag : Bool) → SomeArm all arms flag →
-        MatchBool flag ((v : Value) → IsValueOf dl (enum repr all) (tagged layout offset tag encoding arms) v → ⊥)
-        (VectorsOfVariants dl all → (v : Value) × IsValueOf dl (enum repr all) (tagged layout offset tag encoding arms) v)
+        MatchBool flag ((v : Value) → IsValueOf dl (enum repr all) (tagged layout (mark_of true repr) offset tag encoding arms) v → ⊥)
+        (VectorsOfVariants dl all → (v : Value) × IsValueOf dl (enum repr all) (tagged layout (mark_of true repr) offset tag encoding arms) v)
     of_enum true h = none
       where
-        none : (v : Value) → IsValueOf dl (enum repr all) (tagged layout offset tag encoding arms) v → ⊥
+        none : (v : Value) → IsValueOf dl (enum repr all) (tagged layout (mark_of true repr) offset tag encoding arms) v → ⊥
         none (variant i vs) k = h i vs k
         none (number n) k = k
         none (two n m) k = k
@@ -198,5 +199,5 @@ module _ (dl : TargetDataLayout) where
     of_enum false h = λ c. let some = h c in (variant some.0 some.1, some.2)
 
     -- an enum beside a tag has no value where no variant has one
-    pub flag_arms : (flag : Bool) → layout.uninhabited ≡ flag → SomeArm all arms flag → IsFlagTrue dl (enum repr all) (tagged layout offset tag encoding arms)
+    pub flag_arms : (flag : Bool) → layout.uninhabited ≡ flag → SomeArm all arms flag → IsFlagTrue dl (enum repr all) (tagged layout (mark_of true repr) offset tag encoding arms)
     flag_arms flag e h = rw e (of_enum flag h)

@@ -13,6 +13,8 @@ use Rattle.abi_scalar.specs.declared.repr.ReprOptions.{ReprOptions}
 use Rattle.abi_scalar.specs.declared.error.LayoutCalculatorError.{LayoutCalculatorError}
 use Rattle.abi_scalar.specs.declared.error.LayoutCalculatorError.TheVariants.{SizeOverflow, EmptyUnion, ZeroLengthSimdType, OversizedSimdType}
 use Rattle.abi_scalar.specs.declared.error.LayoutCalculatorError.TheVariants as calculator
+use Rattle.abi_scalar.specs.declared.fields_shape.FieldsShape.TheVariants.{Arbitrary}
+use Rattle.abi_scalar.specs.declared.variants.Variants.TheVariants.{Single}
 use Rattle.abi_scalar.specs.LaneCount.{lane_count}
 use Rattle.abi_calc.specs.Answer.{IsAnswer}
 use Rattle.abi_calc.specs.Part.{is_unsized}
@@ -161,6 +163,8 @@ pub record IsVectorOf (dl : TargetDataLayout) (element : Layout) (count : ℕ) (
   pub niche : layout.largest_niche ≡ element.largest_niche
   pub inhabited : layout.uninhabited ≡ false
   pub view : (b : List ℕ) → IsTrueOf dl layout.backend_repr b
+  pub places : layout.fields ≡ Arbitrary (0 ∷ []) (0 ∷ [])
+  pub alone : layout.variants ≡ Single 0
 
 view_by : (dl : TargetDataLayout) (tight : Bool) (s : Scalar) (n : ℕ) (b : List ℕ) → IsTrueOf dl (if tight then Memory true else SimdVector s n) b
 view_by dl true s n b = tt
@@ -181,6 +185,8 @@ vector_made dl element count packed layout e =
     let size : lanes.size ≡ element.size * count = sym (ap (λ l. l.size) small.1) ∙ ap (λ n. element.size * n) number.0 in
     let rounded : next_multiple_of lanes.size (2 ^ simd_align dl packed lanes) ≡ layout.size = ap (λ l. l.size) last.1 in
     record {
+      places = sym (ap (λ l. l.fields) last.1);
+      alone = sym (ap (λ l. l.variants) last.1);
       some = omega (arith, number.0, number.1);
       below = subst (λ n. nat_lt (element.size * n) (size_bound dl) ≡ true) number.0 small.0;
       inside = omega (arith, size, rounded);

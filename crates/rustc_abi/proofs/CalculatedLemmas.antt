@@ -1,5 +1,5 @@
 -- What the calculator's answer to the variants of an enum keeps, whichever way the enum is laid out.
-use Rattle.std.proofs.Common.{◌≡◌, ℕ, zero, suc, ◌<◌, List, [], ◌∷◌, map, length, true, arith, refl, sym, ap, subst, ◌∙◌, ⊎_elim, All, Ok}
+use Rattle.std.proofs.Common.{false, ◌≡◌, ℕ, zero, suc, ◌<◌, List, [], ◌∷◌, map, length, true, arith, refl, sym, ap, subst, ◌∙◌, ⊎_elim, All, Ok}
 use Rattle.std.proofs.lemmas.List.{length-map}
 use Rattle.std.proofs.lemmas.List.Elements.{All-head, All-nil, All-tail}
 use Rattle.std.proofs.lemmas.Option.{IfSome_then}
@@ -31,6 +31,7 @@ use Rattle.abi_calc.proofs.EnumSingle.{single_lawful}
 use Rattle.abi_calc.proofs.EnumType.{index_within, several_some}
 use Rattle.abi_calc.proofs.GoodLists.{good_list}
 use Rattle.rustc_abi.specs.Tree.{Variants, enum, struct}
+use Rattle.rustc_abi.specs.Mark.{mark_of}
 use Rattle.rustc_abi.specs.Placed.{Placed, Layout, layout_of, fields}
 use Rattle.rustc_abi.specs.Fits.{Fits}
 use Rattle.rustc_abi.specs.Nodes.{parts_at}
@@ -46,7 +47,7 @@ use Rattle.rustc_abi.proofs.PresentLemmas.{all_absent, others_absent}
 use Rattle.rustc_abi.proofs.SingleLemmas.{Fits-no-variant, Fits-single, fields_at, fits_at}
 
 -- a fact of each variant's fields is one of those of the variant with this index
-lawful_at : (dl : TargetDataLayout) (variants : List (List Placed)) (i : ℕ) → All (All (λ p. IsLawfulLayout dl (layout_of p))) variants → All (λ p. IsLawfulLayout dl (layout_of p)) (variant_at variants i)
+pub lawful_at : (dl : TargetDataLayout) (variants : List (List Placed)) (i : ℕ) → All (All (λ p. IsLawfulLayout dl (layout_of p))) variants → All (λ p. IsLawfulLayout dl (layout_of p)) (variant_at variants i)
 lawful_at dl [] i h = All-nil (λ p. IsLawfulLayout dl (layout_of p))
 lawful_at dl (ps ∷ variants) zero h = All-head (All (λ p. IsLawfulLayout dl (layout_of p))) ps variants h
 lawful_at dl (ps ∷ variants) (suc i) h = lawful_at dl variants i (All-tail (All (λ p. IsLawfulLayout dl (layout_of p))) ps variants h)
@@ -79,10 +80,10 @@ module _ (dl : TargetDataLayout) (law : IsLawfulDataLayout dl) (repr : ReprOptio
   never_is_lawful : IsLawfulLayout {F = ℕ} {V = ℕ} dl (never_layout dl)
   never_is_lawful = empty_lawful dl true (never_layout dl) law refl refl refl refl tt
 
-  some_variant : path_of true repr (layouts_of variants) ≡ Several → 0 < length variants
+  pub some_variant : path_of true repr (layouts_of variants) ≡ Several → 0 < length variants
   some_variant path = several_some layout_of repr variants true path
 
-  told : path_of true repr (layouts_of variants) ≡ Several → (l : Layout) → Answers Several l → AreToldApart dl (λ v. v) (layouts_of variants) (numbered_from 0 numbers) l
+  pub told : path_of true repr (layouts_of variants) ≡ Several → (l : Layout) → Answers Several l → AreToldApart dl (λ v. v) (layouts_of variants) (numbered_from 0 numbers) l
   told path l h = enum_told layout_of dl law repr (IsTagInteger dl repr) variants (numbered_from 0 numbers) aligns lawful (some_variant path) each tags l h
 
   -- its layout is lawful
@@ -116,7 +117,7 @@ module _ (dl : TargetDataLayout) (law : IsLawfulDataLayout dl) (repr : ReprOptio
   module _ (all : Variants) (is : numbers ≡ discriminants_of all) (fits : VariantsFit dl all variants) where
     -- the one variant that is left keeps its values
     fits_one : (i : ℕ) → path_of true repr (layouts_of variants) ≡ OneList i → (l : Layout) → IsSingleAnswer layout_of (λ i. i) 0 i dl repr AlwaysSized Enabled (variant_at variants i) (Ok l) →
-        Fits dl (enum repr all) (placed_enum dl numbers variants l)
+        Fits dl (enum repr all) (placed_enum dl repr numbers variants l)
     fits_one i path l h =
         let ps : List Placed = variant_at variants i in
         let list : Layout = h.0 in
@@ -127,29 +128,29 @@ module _ (dl : TargetDataLayout) (law : IsLawfulDataLayout dl) (repr : ReprOptio
         made.view ∙ ap (list_view dl (is_abi_fixed repr) list.size list.align.abi (parts_of dl (map layout_of ps))) (sym offsets) in
         let own = fits_at dl all variants i fits in
         let one : Layout = single_layout i dl Enabled list in
-        let as_struct : Fits dl (struct repr true (fields_at all i)) (fields one (parts_at (listed_offsets list.fields) ps)) =
+        let as_struct : Fits dl (struct repr true (fields_at all i)) (fields one (mark_of false repr) (parts_at (listed_offsets list.fields) ps)) =
         Fits-fields dl repr true (is_abi_fixed repr) (fields_at all i) one (listed_offsets list.fields) ps own good.apart
         (IfSome_then list.largest_niche good.niche (part_of_list (listed_offsets list.fields) ps)) view made.uninhabited (EachFits-lawful dl (fields_at all i) ps own) (single_lawful i dl Enabled list good.lawful) in
         let short : i < length variants = index_within layout_of repr variants true i (λ e. absurd (cc)) path in
-        subst (λ m. Fits dl (enum repr all) (placed_enum dl numbers variants m)) (sym h.2)
+        subst (λ m. Fits dl (enum repr all) (placed_enum dl repr numbers variants m)) (sym h.2)
         (Fits-single dl repr all variants i one (parts_at (listed_offsets list.fields) ps) fits short
         (λ j before other. others_absent repr (layouts_of variants) i path j (omega (arith, before, length-map variants (map layout_of))) other) as_struct)
 
-    fits_by : (path : Path) → path_of true repr (layouts_of variants) ≡ path → (l : Layout) → Answers path l → Fits dl (enum repr all) (placed_enum dl numbers variants l)
+    fits_by : (path : Path) → path_of true repr (layouts_of variants) ≡ path → (l : Layout) → Answers path l → Fits dl (enum repr all) (placed_enum dl repr numbers variants l)
     fits_by NoValue path l h =
         let same : never_layout dl ≡ l = cc in
-        subst (λ m. Fits dl (enum repr all) (placed_enum dl numbers variants m)) same
+        subst (λ m. Fits dl (enum repr all) (placed_enum dl repr numbers variants m)) same
         (Fits-no-variant dl repr all variants fits (λ j before. all_absent repr (layouts_of variants) path j (omega (arith, before, length-map variants (map layout_of)))) never_is_lawful)
     fits_by (OneList i) path l h = fits_one i path l h
     fits_by Several path l h =
         let law_l = lawful_by Several path l h in
         let flag = enum_flag layout_of dl law repr (IsTagInteger dl repr) variants (numbered_from 0 numbers) aligns lawful (some_variant path) each tags l h in
-        subst (λ ns. Fits dl (enum repr all) (placed_enum dl ns variants l)) (sym is)
+        subst (λ ns. Fits dl (enum repr all) (placed_enum dl repr ns variants l)) (sym is)
         (⊎_elim
         (λ t. Fits-by-tag dl repr all variants l (some_variant path) fits law_l flag t)
         (λ t. Fits-by-niche dl repr all variants l fits law_l flag t)
         (subst (λ ns. AreToldApart dl (λ v. v) (layouts_of variants) (numbered_from 0 ns) l) is (told path l h)))
 
     -- an enum that the calculator laid out keeps its values
-    pub calculated_fits : (l : Layout) → IsCalculated dl repr numbers variants (Ok l) → Fits dl (enum repr all) (placed_enum dl numbers variants l)
+    pub calculated_fits : (l : Layout) → IsCalculated dl repr numbers variants (Ok l) → Fits dl (enum repr all) (placed_enum dl repr numbers variants l)
     calculated_fits l h = fits_by (path_of true repr (layouts_of variants)) refl l h

@@ -18,7 +18,7 @@ use Rattle.rustc_abi.specs.Coroutines.{conflicts_of}
 use Rattle.rustc_abi.specs.Enums.{arms_at}
 use Rattle.rustc_abi.specs.Laying.{AreLaying, IsCoroutineOf, IsLaying, coroutine_fault, one_scalar}
 use Rattle.rustc_abi.proofs.CoroutineFaultLemmas.{conflict_columns, conflict_rows, conflicts_within, entry_of, states_once, states_within}
-use Rattle.rustc_abi.proofs.LaidLemmas.{all_whole, coroutine_asked, coroutine_laid}
+use Rattle.rustc_abi.proofs.LaidLemmas.{all_whole, whole_lawful, coroutine_asked, coroutine_laid}
 
 -- ---- parts at their places
 
@@ -72,7 +72,7 @@ module _ (dl : TargetDataLayout) (law : IsLawfulDataLayout dl) where
     clash_coroutine : AreClashingApart (coroutine prefix locals states conflicts) p
     clash_coroutine =
         let found = coroutine_laid dl law pres ps states conflicts (coroutine_fault (length pres) (length ps) states conflicts) p answer in
-        let asked = coroutine_asked dl law pres ps states conflicts (all_whole dl law prefix pres before) (all_whole dl law locals ps there) found.0 found.1 in
+        let asked = coroutine_asked dl law pres ps states conflicts (whole_lawful dl pres (all_whole dl law prefix pres before)) (whole_lawful dl ps (all_whole dl law locals ps there)) found.0 found.1 in
         let within = states_within (length pres) (length ps) states conflicts found.5 in
         let known = conflicts_within (length pres) (length ps) states conflicts found.5 in
         let apart =
@@ -85,7 +85,7 @@ module _ (dl : TargetDataLayout) (law : IsLawfulDataLayout dl) where
     one_offset_coroutine : HaveOneOffset (coroutine prefix locals states conflicts) p
     one_offset_coroutine =
         let found = coroutine_laid dl law pres ps states conflicts (coroutine_fault (length pres) (length ps) states conflicts) p answer in
-        let asked = coroutine_asked dl law pres ps states conflicts (all_whole dl law prefix pres before) (all_whole dl law locals ps there) found.0 found.1 in
+        let asked = coroutine_asked dl law pres ps states conflicts (whole_lawful dl pres (all_whole dl law prefix pres before)) (whole_lawful dl ps (all_whole dl law locals ps there)) found.0 found.1 in
         let within = states_within (length pres) (length ps) states conflicts found.5 in
         let once = states_once (length pres) (length ps) states conflicts found.5 in
         let one = coroutine_one_offset layout_of dl pres found.0 (one_scalar dl found.0) ps states (conflicts_of (length ps) conflicts) asked within (conflict_rows (length ps) conflicts) once found.2 found.3 in

@@ -8,6 +8,7 @@ use Rattle.abi_scalar.specs.Lawful.{IsLawfulLayout}
 use Rattle.rustc_abi.specs.Tree.{never, unit}
 use Rattle.rustc_abi.specs.Bytes.{AreBytes}
 use Rattle.rustc_abi.specs.Value.{Value, number, two, list, variant, state, bytes, no_values, more_values}
+use Rattle.rustc_abi.specs.declared.mark.Mark.TheVariants.{Never, Unit}
 use Rattle.rustc_abi.specs.Placed.{Placed, size_of, never as placed_never, fields, no_parts}
 use Rattle.rustc_abi.specs.Values.{IsValueOf}
 use Rattle.rustc_abi.specs.Holding.{Holds}
@@ -16,7 +17,7 @@ use Rattle.rustc_abi.specs.Fits.{Fits}
 
 module _ (dl : TargetDataLayout) where
   abbrev no_value : Placed
-  no_value = placed_never (never_layout dl)
+  no_value = placed_never (never_layout dl) Never
 
   never_faithful : IsFaithful dl never no_value
   never_faithful = record {
@@ -35,7 +36,7 @@ module _ (dl : TargetDataLayout) where
   Fits-never lawful = record { faithful = λ _. never_faithful; lawful = lawful; room = refl; within = λ k place. ltb-true k 0 place; common = λ _. tt }
 
   abbrev one_value : Placed
-  one_value = fields (unit_layout 0 dl true) no_parts
+  one_value = fields (unit_layout 0 dl true) Unit no_parts
 
   unit_exists : (v : Value) → IsValueOf dl unit one_value v → (b : List ℕ) × AreBytes b × Holds dl.endian one_value b v
   unit_exists (list no_values) h = ([], λ k d lt. absurd (omega arith), (refl, tt))

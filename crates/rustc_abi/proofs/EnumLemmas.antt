@@ -29,6 +29,7 @@ use Rattle.abi_calc.specs.Enums.Discriminants.{inhabited_of}
 use Rattle.rustc_abi.specs.Tree.{enum, Trees, no_trees, more_trees, Variants, no_variants, more_variants}
 use Rattle.rustc_abi.specs.Bytes.{bytes_at, number_of}
 use Rattle.rustc_abi.specs.Value.{Value, number, two, list, variant, state, bytes, Values, no_values, more_values}
+use Rattle.rustc_abi.specs.Mark.{mark_of}
 use Rattle.rustc_abi.specs.Placed.{Placed, Layout, Arms, layout_of, size_of, tagged}
 use Rattle.rustc_abi.specs.Room.{has_room}
 use Rattle.rustc_abi.specs.Holding.{Holds, HoldParts, HoldArm}
@@ -116,13 +117,13 @@ module _ (dl : TargetDataLayout) (repr : ReprOptions) (all : Variants) (variants
     arms = arms_at told.layouts (discriminants_of all) variants
 
     abbrev placed : Placed
-    placed = tagged layout 0 (one_scalar dl told.tag) Direct arms
+    placed = tagged layout (mark_of true repr) 0 (one_scalar dl told.tag) Direct arms
 
     -- the enum is put together so
-    pub placed_by_tag : placed_enum dl (discriminants_of all) variants layout ≡ placed
+    pub placed_by_tag : placed_enum dl repr (discriminants_of all) variants layout ≡ placed
     placed_by_tag =
-        ap (placed_variants dl (discriminants_of all) variants layout) told.told
-        ∙ ap (λ o. tagged layout o (one_scalar dl told.tag) Direct arms) (ap (λ fields. get_or (listed_offsets fields) 0 0) told.place)
+        ap (placed_variants dl repr (discriminants_of all) variants layout) told.told
+        ∙ ap (λ o. tagged layout (mark_of true repr) o (one_scalar dl told.tag) Direct arms) (ap (λ fields. get_or (listed_offsets fields) 0 0) told.place)
 
     tag_inside : (variants : List (List Placed)) (layouts : List (VariantLayout ℕ)) → 0 < length variants → AreApartBehind layout.size w (layouts_of variants) layouts → 0 + w ≤ layout.size
     tag_inside [] layouts some apart = absurd (omega (arith, some))
@@ -189,7 +190,7 @@ module _ (dl : TargetDataLayout) (repr : ReprOptions) (all : Variants) (variants
       }
 
     -- an enum that a tag tells apart keeps its values
-    pub Fits-by-tag : Fits dl (enum repr all) (placed_enum dl (discriminants_of all) variants layout)
+    pub Fits-by-tag : Fits dl (enum repr all) (placed_enum dl repr (discriminants_of all) variants layout)
     Fits-by-tag = subst (Fits dl (enum repr all)) (sym placed_by_tag) (record {
       faithful = λ locals. faithful locals;
       lawful = lawful;

@@ -203,7 +203,7 @@ module _ (dl : TargetDataLayout) (law : IsLawfulDataLayout dl) (repr : ReprOptio
   pub enumed_shaped : (l : Layout) → IsEnumed dl repr numbers variants (Ok l) → IsShaped dl repr numbers variants l l.variants
   enumed_shaped l h = shaped_by (path_of true repr (layouts_of variants)) refl l h
 
-  least_by : (all : Variants) (l : Layout) (vs : LayoutVariants ℕ ℕ) → numbers ≡ discriminants_of all → IsShaped dl repr numbers variants l vs → IsLeast dl (enum repr all) (placed_variants dl numbers variants l vs)
+  least_by : (all : Variants) (l : Layout) (vs : LayoutVariants ℕ ℕ) → numbers ≡ discriminants_of all → IsShaped dl repr numbers variants l vs → IsLeast dl (enum repr all) (placed_variants dl repr numbers variants l vs)
   least_by all l Empty is h = tt
   least_by all l (Single i) is h =
       subst (λ qs. IsLeastSize dl repr AlwaysSized (map layout_of qs) l.size) (sym (fields_back (listed_offsets l.fields) (variant_at variants i) (omega (arith, h.1)))) h.2
@@ -211,5 +211,5 @@ module _ (dl : TargetDataLayout) (law : IsLawfulDataLayout dl) (repr : ReprOptio
       subst (λ qs. IsEnumSized dl repr (discriminants_of all) qs l.size) (sym (variants_back l.size layouts numbers variants h.0 long)) (subst (λ ns. IsEnumSized dl repr ns variants l.size) is h.1)
 
   -- and has the size that its variants allow
-  pub enumed_least : (all : Variants) → numbers ≡ discriminants_of all → (l : Layout) → IsEnumed dl repr numbers variants (Ok l) → IsLeast dl (enum repr all) (placed_enum dl numbers variants l)
+  pub enumed_least : (all : Variants) → numbers ≡ discriminants_of all → (l : Layout) → IsEnumed dl repr numbers variants (Ok l) → IsLeast dl (enum repr all) (placed_enum dl repr numbers variants l)
   enumed_least all is l h = least_by all l l.variants is (enumed_shaped l h)

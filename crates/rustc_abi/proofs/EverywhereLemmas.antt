@@ -21,7 +21,7 @@ use Rattle.rustc_abi.specs.Laying.{AreLaying, IsLaying, IsListed, IsUnited, Vari
 use Rattle.rustc_abi.specs.Everywhere.{Everywhere, OfArms, OfEach, OfVariant, Within}
 use Rattle.rustc_abi.proofs.ArmsLemmas.{EachApart}
 use Rattle.rustc_abi.proofs.EnumSizeLemmas.{IsShaped, apart_long, enumed_shaped}
-use Rattle.rustc_abi.proofs.LaidLemmas.{all_whole, coroutine_laid, laid_by, numbers_for, placed_back, stated_offsets, variants_whole}
+use Rattle.rustc_abi.proofs.LaidLemmas.{all_whole, whole_lawful, coroutine_laid, laid_by, numbers_for, placed_back, stated_offsets, variants_whole}
 use Rattle.rustc_abi.proofs.LeastLemmas.{listed_count}
 use Rattle.abi_scalar.specs.declared.error.LayoutCalculatorError.TheVariants as calculator
 
@@ -36,7 +36,7 @@ module _ (dl : TargetDataLayout) (P : Tree → Placed → Type 0) where
   within_variants : (repr : ReprOptions) (all : Variants) (numbers : List ℕ) (variants : List (List Placed)) (l : Layout) (vs : LayoutVariants ℕ ℕ) → IsShaped dl repr numbers variants l vs
       → ((i : ℕ) (offsets : List ℕ) → i < length variants → length offsets ≡ length (variant_at variants i) → OfVariant dl P all i (parts_at offsets (variant_at variants i)))
       → ((size : ℕ) (layouts : List (VariantLayout ℕ)) → EachApart size variants layouts → OfArms dl P all (arms_at layouts numbers variants))
-      → Within dl P (enum repr all) (placed_variants dl numbers variants l vs)
+      → Within dl P (enum repr all) (placed_variants dl repr numbers variants l vs)
   within_variants repr all numbers variants l Empty h each_at each_arm = tt
   within_variants repr all numbers variants l (Single i) h each_at each_arm = each_at i (listed_offsets l.fields) h.0 h.1
   within_variants repr all numbers variants l (Multiple tag encoding field layouts) h each_at each_arm = each_arm l.size layouts h.0
@@ -59,16 +59,16 @@ module _ (dl : TargetDataLayout) (law : IsLawfulDataLayout dl) (P : Tree → Pla
         subst (Within dl P (vector lanes packed element)) found.2 (each element q there, within element q there)
     within (struct repr always_sized all) p (inl f) = absurd (cc f.2)
     within (struct repr always_sized all) p (inr (ps, there, answer)) =
-        let found = laid_by (fields_fault repr ps) (IsListed dl repr (kind_of always_sized ps) (map layout_of ps)) (placed_fields ps) p answer in
+        let found = laid_by (fields_fault repr ps) (IsListed dl repr (kind_of always_sized ps) (map layout_of ps)) (placed_fields repr ps) p answer in
         let count = listed_count dl repr always_sized ps (all_whole dl law all ps there) found.0 found.1 in
         subst (Within dl P (struct repr always_sized all)) found.2 (of_each all ps (listed_offsets found.0.fields) (omega (arith, count)) there)
     within (union repr all) p (inl f) = absurd (cc f.2)
     within (union repr all) p (inr (ps, there, answer)) =
-        let found = laid_by (fields_fault repr ps) (IsUnited dl repr (map layout_of ps)) (placed_together ps) p answer in
+        let found = laid_by (fields_fault repr ps) (IsUnited dl repr (map layout_of ps)) (placed_together repr ps) p answer in
         subst (Within dl P (union repr all)) found.2 (of_each all ps (map (λ q. 0) ps) (omega (arith, length-map {B = ℕ} ps (λ q. 0))) there)
     within (enum repr all) p (inl f) = absurd (cc f.2)
     within (enum repr all) p (inr (variants, there, answer)) =
-        let found = laid_by (enum_fault dl repr (discriminants_of all) variants) (IsEnumed dl repr (discriminants_of all) variants) (placed_enum dl (discriminants_of all) variants) p answer in
+        let found = laid_by (enum_fault dl repr (discriminants_of all) variants) (IsEnumed dl repr (discriminants_of all) variants) (placed_enum dl repr (discriminants_of all) variants) p answer in
         let shaped = enumed_shaped dl law repr (discriminants_of all) variants found.3 (numbers_for dl law all variants there) (variants_whole dl law all variants there) found.0 found.1 in
         subst (Within dl P (enum repr all)) found.2
         (within_variants dl P repr all (discriminants_of all) variants found.0 found.0.variants shaped (λ i offsets short e. of_variant all variants i offsets short e there)
@@ -77,7 +77,7 @@ module _ (dl : TargetDataLayout) (law : IsLawfulDataLayout dl) (P : Tree → Pla
     within (coroutine prefix locals states conflicts) p (inr (pres, before, inl f)) = absurd (cc f.2)
     within (coroutine prefix locals states conflicts) p (inr (pres, before, inr (ps, there, answer))) =
         let found = coroutine_laid dl law pres ps states conflicts (coroutine_fault (length pres) (length ps) states conflicts) p answer in
-        let count = stated_offsets dl law pres ps states conflicts (all_whole dl law prefix pres before) (all_whole dl law locals ps there) found.5 found.0 found.1 found.2 found.3 in
+        let count = stated_offsets dl law pres ps states conflicts (whole_lawful dl pres (all_whole dl law prefix pres before)) (whole_lawful dl ps (all_whole dl law locals ps there)) found.5 found.0 found.1 found.2 found.3 in
         subst (Within dl P (coroutine prefix locals states conflicts)) found.4 (
           of_each prefix pres (listed_offsets found.2.fields) (omega (arith, count)) before,
           (ps, there, of_each locals ps (map (λ q. 0) ps) (omega (arith, length-map {B = ℕ} ps (λ q. 0))) there),

@@ -18,6 +18,7 @@ use Rattle.abi_scalar.specs.Range.{IsIn, full_range}
 use Rattle.rustc_abi.specs.Tree.{Tree, never, struct, enum, coroutine, no_trees, more_trees, no_variants, more_variants, scalar as number_type}
 use Rattle.rustc_abi.specs.Value.{Value, number, two, list, variant, state, bytes, no_values, more_values}
 use Rattle.rustc_abi.specs.Bytes.{picked}
+use Rattle.rustc_abi.specs.declared.mark.Mark.TheVariants.{Plain}
 use Rattle.rustc_abi.specs.Placed.{Placed, Layout, layout_of, scalar, never as nowhere, fields, union, single, tagged, states, no_parts, part, no_arms, arm, nothing}
 use Rattle.rustc_abi.specs.Places.{is_data_place}
 use Rattle.rustc_abi.specs.Runs.{padding_of, unused_of}
@@ -63,7 +64,7 @@ plain_c = record { int = None; align = None; pack = None; flags = record { 0 = 1
 
 abbrev three : Placed
 three =
-    fields (sized 12) (part 0 u8_placed (part 4 (scalar (sized 4) (unsigned I32)) (part 8 (scalar (sized 2) (unsigned I16)) no_parts)))
+    fields (sized 12) Plain (part 0 u8_placed (part 4 (scalar (sized 4) (unsigned I32)) (part 8 (scalar (sized 2) (unsigned I16)) no_parts)))
 
 first_byte_decides : is_data_place three 0 ≡ true
 first_byte_decides = refl
@@ -80,7 +81,7 @@ abbrev of_two : Tree
 of_two = struct plain_c true (more_trees (number_type (unsigned I8)) (more_trees (number_type (unsigned I8)) no_trees))
 
 abbrev at_one_offset : Placed
-at_one_offset = fields (sized 2) (part 0 u8_placed (part 0 u8_placed no_parts))
+at_one_offset = fields (sized 2) Plain (part 0 u8_placed (part 0 u8_placed no_parts))
 
 abbrev zero_and_one : Value
 zero_and_one = list (more_values (number 0) (more_values (number 1) no_values))
@@ -108,7 +109,7 @@ abbrev byte_each : Tree
 byte_each = enum plain_c (more_variants 0 (more_trees (number_type (unsigned I8)) no_trees) (more_variants 1 (more_trees (number_type (unsigned I8)) no_trees) no_variants))
 
 abbrev on_the_tag : Placed
-on_the_tag = tagged (sized 2) 0 u8_placed Direct (arm 0 (part 0 u8_placed no_parts) (arm 1 (part 1 u8_placed no_parts) no_arms))
+on_the_tag = tagged (sized 2) Plain 0 u8_placed Direct (arm 0 (part 0 u8_placed no_parts) (arm 1 (part 1 u8_placed no_parts) no_arms))
 
 abbrev one_in_first : Value
 one_in_first = variant 0 (more_values (number 1) no_values)
@@ -143,7 +144,7 @@ prefix_matters held =
 -- ---- a variant that is missing: values come from the tree, so that one of the second variant is to be held, and no bytes hold it
 
 abbrev first_alone : Placed
-first_alone = tagged (sized 2) 0 u8_placed Direct (arm 0 (part 1 u8_placed no_parts) no_arms)
+first_alone = tagged (sized 2) Plain 0 u8_placed Direct (arm 0 (part 1 u8_placed no_parts) no_arms)
 
 abbrev one_in_second : Value
 one_in_second = variant 1 (more_values (number 1) no_values)
@@ -154,13 +155,13 @@ variants_matter held =
     bytes_of.2.3
 
 -- none left, as of an enum without values
-none_left : EachValueIsHeld default_data_layout byte_each (nowhere (sized 0)) → ⊥
+none_left : EachValueIsHeld default_data_layout byte_each (nowhere (sized 0) Plain) → ⊥
 none_left held =
     let bytes_of = held one_in_first (one_is_in_all, tt) in
     bytes_of.2
 
 -- flagged as one that has no values
-flagged_enum : IsFlagTrue default_data_layout byte_each (tagged (record (sized 2) { uninhabited = true }) 0 u8_placed Direct no_arms) → ⊥
+flagged_enum : IsFlagTrue default_data_layout byte_each (tagged (record (sized 2) { uninhabited = true }) Plain 0 u8_placed Direct no_arms) → ⊥
 flagged_enum h = h one_in_first (one_is_in_all, tt)
 
 -- ---- values: 01 holds the bool 1, and no byte from 02 on holds any
@@ -186,7 +187,7 @@ no_bool order byte (bytes content) above h = h
 
 -- ---- a flag that is wrong: never without it, and a number with it
 
-unflagged_never : IsFlagTrue default_data_layout never (nowhere (sized 0)) → ⊥
+unflagged_never : IsFlagTrue default_data_layout never (nowhere (sized 0) Plain) → ⊥
 unflagged_never h = (h tt).1
 
 flagged_number : IsFlagTrue default_data_layout (number_type (unsigned I8)) (scalar (record (sized 1) { uninhabited = true }) (unsigned I8)) → ⊥
@@ -223,7 +224,7 @@ one_names_no_other (inr h) = absurd (omega (arith, h.0))
 -- is 255; 1 names the second variant, and 2 names none, so that bytes that begin with it hold nothing
 
 abbrev by_tag : Placed
-by_tag = tagged (sized 2) 0 u8_placed Direct (arm (2 ^ 128 - 1) (part 1 u8_placed no_parts) (arm 1 no_parts no_arms))
+by_tag = tagged (sized 2) Plain 0 u8_placed Direct (arm (2 ^ 128 - 1) (part 1 u8_placed no_parts) (arm 1 no_parts no_arms))
 
 first_held_by_tag : Holds Little by_tag (255 ∷ 7 ∷ []) (variant 0 (more_values (number 7) no_values))
 first_held_by_tag = (refl, omega arith, (refl, refl), ((omega arith, (refl, refl, seven_is_in)), tt))
@@ -244,7 +245,7 @@ none_held_by_tag (bytes content) h = h
 -- ---- an enum by a niche: 2 holds the variant without fields, the numbers of the bool hold the other, and 3 holds neither
 
 abbrev by_niche : Placed
-by_niche = tagged (sized 1) 0 u8_placed niche (arm 0 no_parts (arm 1 (part 0 bool_placed no_parts) no_arms))
+by_niche = tagged (sized 1) Plain 0 u8_placed niche (arm 0 no_parts (arm 1 (part 0 bool_placed no_parts) no_arms))
 
 first_held_by_niche : Holds Little by_niche (2 ∷ []) (variant 0 no_values)
 first_held_by_niche = (refl, omega arith, two_names_first, tt)
@@ -271,7 +272,7 @@ none_held_by_niche (bytes content) h = h
 -- ---- an enum of which one variant is left: a bool's numbers hold it, and 2 holds nothing
 
 abbrev by_itself : Placed
-by_itself = single (sized 1) 1 (part 0 bool_placed no_parts)
+by_itself = single (sized 1) Plain 1 (part 0 bool_placed no_parts)
 
 held_by_itself : Holds Little by_itself (1 ∷ []) (variant 1 (more_values (number 1) no_values))
 held_by_itself = (refl, refl, ((omega arith, (refl, refl, one_is_in)), tt))
@@ -289,7 +290,7 @@ none_held_by_itself (bytes content) h = h
 -- ---- a union of a u8 and of a struct whose second byte is padding: its data bytes are those of either
 
 abbrev either : Placed
-either = union (sized 4) (part 0 u8_placed (part 0 (fields (sized 4) (part 0 u8_placed (part 2 u8_placed (part 3 u8_placed no_parts)))) no_parts))
+either = union (sized 4) Plain (part 0 u8_placed (part 0 (fields (sized 4) Plain (part 0 u8_placed (part 2 u8_placed (part 3 u8_placed no_parts)))) no_parts))
 
 data_bytes : picked (is_data_place either) 0 (10 ∷ 11 ∷ 12 ∷ 13 ∷ []) ≡ 10 ∷ 12 ∷ 13 ∷ []
 data_bytes = refl
@@ -300,7 +301,7 @@ union_held = (refl, refl)
 -- ---- a union that misses its field's byte: bytes that hold its one value hold other numbers of the field
 
 abbrev missing : Placed
-missing = union (sized 1) no_parts
+missing = union (sized 1) Plain no_parts
 
 field_missing : IsCommon Little u8_placed missing → ⊥
 field_missing h =
@@ -346,7 +347,7 @@ before_start h = h.2 3 (omega (arith, h.1)) refl
 
 abbrev two_variants : Placed
 two_variants =
-    tagged (sized 8) 0 u8_placed Direct (arm 0 (part 1 u8_placed no_parts) (arm 1 (part 4 (scalar (sized 4) (unsigned I32)) no_parts) no_arms))
+    tagged (sized 8) Plain 0 u8_placed Direct (arm 0 (part 1 u8_placed no_parts) (arm 1 (part 4 (scalar (sized 4) (unsigned I32)) no_parts) no_arms))
 
 padding_of_variants : padding_of two_variants ≡ record { start = 2; end = 4 } ∷ []
 padding_of_variants = refl

@@ -1,5 +1,5 @@
 -- A struct's layout keeps its fields' values.
-use Rattle.std.proofs.Common.{All, suc, ◌≡◌, ℕ, ◌+◌, ◌≤◌, ◌⊎◌, ⊎_elim, inl, inr, Option, Some, None, List, [], ◌∷◌, length, map, arith, refl, sym, ap, ◌∙◌}
+use Rattle.std.proofs.Common.{false, All, suc, ◌≡◌, ℕ, ◌+◌, ◌≤◌, ◌⊎◌, ⊎_elim, inl, inr, Option, Some, None, List, [], ◌∷◌, length, map, arith, refl, sym, ap, ◌∙◌}
 use Rattle.std.specs.Prelude.{IfSome, true, Bool}
 use Rattle.std.specs.Cmp.Derive.{both_true}
 use Rattle.std.proofs.lemmas.Bool.{le-leb}
@@ -16,6 +16,7 @@ use Rattle.abi_calc.specs.ListNiche as calc
 use Rattle.rustc_abi.specs.Tree.{Tree, struct, Trees, no_trees, more_trees}
 use Rattle.rustc_abi.specs.Bytes.{AreBytes, bytes_at, number_of}
 use Rattle.rustc_abi.specs.Value.{Value, number, two, list, variant, state, bytes, Values, no_values, more_values}
+use Rattle.rustc_abi.specs.Mark.{mark_of}
 use Rattle.rustc_abi.specs.Placed.{Placed, Layout, Parts, no_parts, part, layout_of, size_of, niche_of, fields}
 use Rattle.rustc_abi.specs.Values.{IsValueOf, LocalsOfEach}
 use Rattle.rustc_abi.specs.Holding.{Holds, HoldParts}
@@ -72,12 +73,12 @@ part_niche_inside dl size (more_trees t ts) (part o placed parts) fit n has =
 module _ (dl : TargetDataLayout) (repr : ReprOptions) (always_sized : Bool) (ts : Trees) (layout : Layout) (parts : Parts)
     (fit : FitTogether dl layout.size ts parts) (niche : IfSome layout.largest_niche (IsPartNiche parts))
     (view : (b : List ℕ) (vs : Values) → HoldParts dl.endian parts b vs → IsTrueOf dl layout.backend_repr b)
-    (flag : IsFlagTrue dl (struct repr always_sized ts) (fields layout parts)) where
+    (flag : IsFlagTrue dl (struct repr always_sized ts) (fields layout (mark_of false repr) parts)) where
   abbrev tree : Tree
   tree = struct repr always_sized ts
 
   abbrev placed : Placed
-  placed = fields layout parts
+  placed = fields layout (mark_of false repr) parts
 
   struct_exists : (v : Value) → IsValueOf dl tree placed v → (b : List ℕ) × AreBytes b × Holds dl.endian placed b v
   struct_exists (list vs) h = let found = exist dl layout.size ts parts fit vs h in (found.0, found.2, (found.1, found.3))
@@ -201,7 +202,7 @@ pub Fits-fields : (dl : TargetDataLayout) (repr : ReprOptions) (always_sized fix
     EachFits dl ts ps → AreApart layout.size offsets (map size_of ps) → IfSome layout.largest_niche (IsPartNiche (parts_at offsets ps)) →
     layout.backend_repr ≡ list_view dl fixed layout.size layout.align.abi (parts_of dl (map layout_of ps)) offsets →
     layout.uninhabited ≡ list_any (λ f. f.uninhabited) (map layout_of ps) → All (λ p. IsLawfulLayout dl (layout_of p)) ps → IsLawfulLayout dl layout →
-    Fits dl (struct repr always_sized ts) (fields layout (parts_at offsets ps))
+    Fits dl (struct repr always_sized ts) (fields layout (mark_of false repr) (parts_at offsets ps))
 Fits-fields dl repr always_sized fixed ts layout offsets ps fits apart niche view flag each lawful = record {
   faithful = λ locals.
       let fit = together dl layout.size ts offsets ps apart fits locals in

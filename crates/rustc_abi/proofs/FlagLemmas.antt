@@ -8,6 +8,7 @@ use Rattle.abi_scalar.specs.declared.repr.ReprOptions.{ReprOptions}
 use Rattle.abi_calc.specs.Apart.{AreApart}
 use Rattle.rustc_abi.specs.Tree.{Tree, array, struct, Trees, no_trees, more_trees}
 use Rattle.rustc_abi.specs.Value.{Value, number, two, list, variant, state, bytes, Values, no_values, more_values, value_count, Each}
+use Rattle.rustc_abi.specs.Mark.{mark_of}
 use Rattle.rustc_abi.specs.Placed.{Placed, Layout, layout_of, size_of, elements, fields}
 use Rattle.rustc_abi.specs.Values.{IsValueOf, AreValuesOf, LocalsOfEach, VectorsHaveValues, VectorsOfEach}
 use Rattle.rustc_abi.specs.Faithful.{IsFlagTrue}
@@ -103,11 +104,11 @@ module _ (dl : TargetDataLayout) where
 
   module _ (repr : ReprOptions) (always_sized : Bool) (ts : Trees) (layout : Layout) (offsets : List ℕ) (ps : List Placed) where
     of_struct : (flag : Bool) → HaveSome ts offsets ps flag →
-        MatchBool flag ((v : Value) → IsValueOf dl (struct repr always_sized ts) (fields layout (parts_at offsets ps)) v → ⊥)
-        (VectorsOfEach dl ts → (v : Value) × IsValueOf dl (struct repr always_sized ts) (fields layout (parts_at offsets ps)) v)
+        MatchBool flag ((v : Value) → IsValueOf dl (struct repr always_sized ts) (fields layout (mark_of false repr) (parts_at offsets ps)) v → ⊥)
+        (VectorsOfEach dl ts → (v : Value) × IsValueOf dl (struct repr always_sized ts) (fields layout (mark_of false repr) (parts_at offsets ps)) v)
     of_struct true h = none_of
       where
-        none_of : (v : Value) → IsValueOf dl (struct repr always_sized ts) (fields layout (parts_at offsets ps)) v → ⊥
+        none_of : (v : Value) → IsValueOf dl (struct repr always_sized ts) (fields layout (mark_of false repr) (parts_at offsets ps)) v → ⊥
         none_of (list vs) k = h vs k
         none_of (number n) k = k
         none_of (two n m) k = k
@@ -118,6 +119,6 @@ module _ (dl : TargetDataLayout) where
 
     -- a struct has no value where some field has none
     pub flag-fields : layout.uninhabited ≡ list_any (λ f. f.uninhabited) (map layout_of ps) → AreApart layout.size offsets (map size_of ps) → EachFits dl ts ps →
-        LocalsOfEach dl ts → IsFlagTrue dl (struct repr always_sized ts) (fields layout (parts_at offsets ps))
+        LocalsOfEach dl ts → IsFlagTrue dl (struct repr always_sized ts) (fields layout (mark_of false repr) (parts_at offsets ps))
     flag-fields e apart fits locals =
         rw e (of_struct (list_any (λ f. f.uninhabited) (map layout_of ps)) (each_flag layout.size ts offsets ps apart fits (flags_true dl ts ps fits locals)))

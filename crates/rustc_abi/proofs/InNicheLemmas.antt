@@ -17,6 +17,7 @@ use Rattle.abi_scalar.specs.Reserve.{HandsOut}
 use Rattle.rustc_abi.specs.Tree.{Tree, enum, Variants, no_variants, more_variants}
 use Rattle.rustc_abi.specs.Bytes.{AreBytes, bytes_at, number_of}
 use Rattle.rustc_abi.specs.Value.{Value, number, two, list, variant, state, bytes, Values}
+use Rattle.rustc_abi.specs.Mark.{mark_of}
 use Rattle.rustc_abi.specs.Placed.{Placed, Layout, Arms, no_arms, arm, size_of, tagged, parts_of_arm, is_flagged}
 use Rattle.rustc_abi.specs.Places.{is_data_place, is_place_of_part, is_place_of_arm}
 use Rattle.rustc_abi.specs.Tag.{NamesByNiche, niche_number}
@@ -174,7 +175,7 @@ module _ (dl : TargetDataLayout) (repr : ReprOptions) (layout : Layout) (n : Nic
   tree = enum repr all
 
   abbrev placed : Placed
-  placed = tagged layout n.offset tag (InNiche untagged (record { start = first; last = last }) start) arms
+  placed = tagged layout (mark_of true repr) n.offset tag (InNiche untagged (record { start = first; last = last }) start) arms
 
   -- the tag's width is the niche's
   named : (b : List ℕ) (i : ℕ) → NamesByNiche (size_of tag) untagged first last start (tag_at dl.endian b n.offset (size_of tag)) i →

@@ -58,6 +58,7 @@ use Rattle.abi_calc.proofs.EnumType.{several_some}
 use Rattle.rustc_abi.specs.declared.error.LayError.{LayError}
 use Rattle.rustc_abi.specs.declared.error.LayError.TheVariants.{SizeOverflow}
 use Rattle.rustc_abi.specs.Tree.{Tree, scalar, pair, never, unit, array, vector, struct, union, enum, coroutine, Trees, no_trees, more_trees, Variants, no_variants, more_variants}
+use Rattle.rustc_abi.specs.declared.mark.Mark.TheVariants.{Never, Unit}
 use Rattle.rustc_abi.specs.Placed.{Placed, Layout, layout_of, size_of, elements, fields, vector as placed_vector, no_parts, never as placed_never}
 use Rattle.rustc_abi.specs.ScalarFault.{scalar_fault}
 use Rattle.rustc_abi.specs.Error.{named, Follows}
@@ -201,10 +202,10 @@ pub each_lawful : (dl : TargetDataLayout) (variants : List (List Placed)) → Al
 each_lawful dl variants h = All-weaker (All (IsWhole dl)) (All (λ p. IsLawfulLayout dl (layout_of p))) (λ ps whole. whole_lawful dl ps whole) variants h
 
 -- an enum has its layout
-pub layout_of-variants : (dl : TargetDataLayout) (numbers : List ℕ) (variants : List (List Placed)) (layout : Layout) (vs : LayoutVariants ℕ ℕ) → layout_of (placed_variants dl numbers variants layout vs) ≡ layout
-layout_of-variants dl numbers variants layout Empty = refl
-layout_of-variants dl numbers variants layout (Single i) = refl
-layout_of-variants dl numbers variants layout (Multiple tag encoding field layouts) = refl
+pub layout_of-variants : (dl : TargetDataLayout) (repr : ReprOptions) (numbers : List ℕ) (variants : List (List Placed)) (layout : Layout) (vs : LayoutVariants ℕ ℕ) → layout_of (placed_variants dl repr numbers variants layout vs) ≡ layout
+layout_of-variants dl repr numbers variants layout Empty = refl
+layout_of-variants dl repr numbers variants layout (Single i) = refl
+layout_of-variants dl repr numbers variants layout (Multiple tag encoding field layouts) = refl
 
 -- the answer to fields whose own fault is this, laid out by this relation and put together so
 abbrev pub AnswersBy : Option LayError → (Result Layout LayError → Type 0) → (Layout → Placed) → Result Placed LayError → Type 0
@@ -256,11 +257,11 @@ module _ (dl : TargetDataLayout) (law : IsLawfulDataLayout dl) where
         enum_sized layout_of dl law repr (IsTagInteger dl repr) variants (numbered_from 0 numbers) aligns_of (each_lawful dl variants whole) (several_some layout_of repr variants true path) each_of tags_of l h
 
     -- its layout is lawful, and it is sized
-    enumed_whole : All (All (IsWhole dl)) variants → (l : Layout) → IsEnumed dl repr numbers variants (Ok l) → IsWhole dl (placed_enum dl numbers variants l)
+    enumed_whole : All (All (IsWhole dl)) variants → (l : Layout) → IsEnumed dl repr numbers variants (Ok l) → IsWhole dl (placed_enum dl repr numbers variants l)
     enumed_whole whole l h =
         let lawful = calculated_lawful dl law repr numbers variants aligns_of (each_lawful dl variants whole) each_of tags_of l h in
         let sized = sized_by whole (path_of true repr (layouts_of variants)) refl l h in
-        let same : layout_of (placed_enum dl numbers variants l) ≡ l = layout_of-variants dl numbers variants l l.variants in
+        let same : layout_of (placed_enum dl repr numbers variants l) ≡ l = layout_of-variants dl repr numbers variants l l.variants in
         (subst (IsLawfulLayout dl) (sym same) lawful, subst (λ (m : Layout). is_unsized m.backend_repr ≡ false) (sym same) sized)
 
   -- there is a discriminant for each variant that is laid out
@@ -301,10 +302,10 @@ module _ (dl : TargetDataLayout) (law : IsLawfulDataLayout dl) where
         refl,
       )
 
-  whole_never : IsWhole dl (placed_never (never_layout dl))
+  whole_never : IsWhole dl (placed_never (never_layout dl) Never)
   whole_never = (empty_lawful dl true (never_layout dl) law refl refl refl refl tt, refl)
 
-  whole_unit : IsWhole dl (fields (unit_layout 0 dl true) no_parts)
+  whole_unit : IsWhole dl (fields (unit_layout 0 dl true) Unit no_parts)
   whole_unit = (empty_lawful dl true (unit_layout 0 dl true) law refl refl refl refl tt, refl)
 
   kept_niche : (none : Bool) (count : ℕ) (niche : Option Niche) → (none ≡ false → count ≢ 0)
@@ -324,7 +325,7 @@ module _ (dl : TargetDataLayout) (law : IsLawfulDataLayout dl) where
   whole_elements false count element p h below e = absurd (cc)
 
   listed_whole : (repr : ReprOptions) (always_sized : Bool) (ps : List Placed) (layout : Layout) → fields_fault repr ps ≡ None → All (IsWhole dl) ps →
-      IsListed dl repr (kind_of always_sized ps) (map layout_of ps) (Ok layout) → IsWhole dl (placed_fields ps layout)
+      IsListed dl repr (kind_of always_sized ps) (map layout_of ps) (Ok layout) → IsWhole dl (placed_fields repr ps layout)
   listed_whole repr always_sized ps layout none h listed =
       let kind = kind_of always_sized ps in
       let list = list_repr dl repr kind in
@@ -359,7 +360,7 @@ module _ (dl : TargetDataLayout) (law : IsLawfulDataLayout dl) where
   later_none (Some l) later e = absurd (cc)
 
   united_whole : (repr : ReprOptions) (ps : List Placed) (layout : Layout) → fields_fault repr ps ≡ None → All (IsWhole dl) ps →
-      IsUnited dl repr (map layout_of ps) (Ok layout) → IsWhole dl (placed_together ps layout)
+      IsUnited dl repr (map layout_of ps) (Ok layout) → IsWhole dl (placed_together repr ps layout)
   united_whole repr ps layout none h united =
       let ls = map layout_of ps in
       let made = united_layout dl repr ls layout united in
@@ -382,10 +383,10 @@ module _ (dl : TargetDataLayout) (law : IsLawfulDataLayout dl) where
   coroutine_laid pres ps states conflicts None p (tag, tells, inr (layout, stated, e)) = (tag, tells, layout, stated, cc, refl)
   coroutine_laid pres ps states conflicts (Some f) p e = absurd (cc)
 
-  module _ (pres ps : List Placed) (states : List (List ℕ)) (conflicts : List (ℕ × ℕ)) (before : All (IsWhole dl) pres) (there : All (IsWhole dl) ps) where
+  module _ (pres ps : List Placed) (states : List (List ℕ)) (conflicts : List (ℕ × ℕ)) (before : All (λ p. IsLawfulLayout dl (layout_of p)) pres) (there : All (λ p. IsLawfulLayout dl (layout_of p)) ps) where
     -- what a coroutine's layout is asked of
     pub coroutine_asked : (tag : Scalar) → IsStateTag (length states) tag → IsAsked layout_of 0 dl pres tag (one_scalar dl tag) ps states
-    coroutine_asked tag tells = record { law = law; before = whole_lawful dl pres before; all = whole_lawful dl ps there; tells = tells; holds = refl }
+    coroutine_asked tag tells = record { law = law; before = before; all = there; tells = tells; holds = refl }
 
     -- and what is promised of the answer
     pub stated_promised : (tag : Scalar) → IsStateTag (length states) tag → (r : Result Layout (LayoutCalculatorError Placed)) → IsStated dl pres tag (one_scalar dl tag) ps states conflicts r
@@ -426,29 +427,29 @@ module _ (dl : TargetDataLayout) (law : IsLawfulDataLayout dl) where
     pub laid_whole : (t : Tree) (p : Placed) → IsLaying dl t (Ok p) → IsWhole dl p
     laid_whole (scalar s) p h = whole_scalar s p h
     laid_whole (pair a b) p h = whole_pair a b p h
-    laid_whole never p h = let same : placed_never (never_layout dl) ≡ p = cc in subst (IsWhole dl) same whole_never
-    laid_whole unit p h = let same : fields (unit_layout 0 dl true) no_parts ≡ p = cc in subst (IsWhole dl) same whole_unit
+    laid_whole never p h = let same : placed_never (never_layout dl) Never ≡ p = cc in subst (IsWhole dl) same whole_never
+    laid_whole unit p h = let same : fields (unit_layout 0 dl true) Unit no_parts ≡ p = cc in subst (IsWhole dl) same whole_unit
     laid_whole (array count element) p (inl f) = absurd (cc f.2)
     laid_whole (array count element) p (inr (q, there, e)) =
         whole_elements (nat_lt (size_of q * count) (size_bound dl)) count q p (laid_whole element q there) refl e
     laid_whole (struct repr always_sized all) p (inl f) = absurd (cc f.2)
     laid_whole (struct repr always_sized all) p (inr (ps, there, answer)) =
-        answer_whole (fields_fault repr ps) (IsListed dl repr (kind_of always_sized ps) (map layout_of ps)) (placed_fields ps) p
+        answer_whole (fields_fault repr ps) (IsListed dl repr (kind_of always_sized ps) (map layout_of ps)) (placed_fields repr ps) p
         (λ none layout listed. listed_whole repr always_sized ps layout none (all_whole all ps there) listed) answer
     laid_whole (vector lanes packed element) p (inl f) = absurd (cc f.2)
     laid_whole (vector lanes packed element) p (inr (q, there, e)) = whole_vector lanes packed q p (laid_whole element q there) e
     laid_whole (union repr all) p (inl f) = absurd (cc f.2)
     laid_whole (union repr all) p (inr (ps, there, answer)) =
-        answer_whole (fields_fault repr ps) (IsUnited dl repr (map layout_of ps)) (placed_together ps) p
+        answer_whole (fields_fault repr ps) (IsUnited dl repr (map layout_of ps)) (placed_together repr ps) p
         (λ none layout united. united_whole repr ps layout none (all_whole all ps there) united) answer
     laid_whole (enum repr all) p (inl f) = absurd (cc f.2)
     laid_whole (enum repr all) p (inr (variants, there, answer)) =
-        answer_whole (enum_fault dl repr (discriminants_of all) variants) (IsEnumed dl repr (discriminants_of all) variants) (placed_enum dl (discriminants_of all) variants) p
+        answer_whole (enum_fault dl repr (discriminants_of all) variants) (IsEnumed dl repr (discriminants_of all) variants) (placed_enum dl repr (discriminants_of all) variants) p
         (λ none layout enumed. enumed_whole repr (discriminants_of all) variants none (numbers_for all variants there) (variants_whole all variants there) layout enumed) answer
     laid_whole (coroutine prefix locals states conflicts) p (inl f) = absurd (cc f.2)
     laid_whole (coroutine prefix locals states conflicts) p (inr (pres, before, inl f)) = absurd (cc f.2)
     laid_whole (coroutine prefix locals states conflicts) p (inr (pres, before, inr (ps, there, answer))) =
-        coroutine_whole pres ps states conflicts (all_whole prefix pres before) (all_whole locals ps there) (coroutine_fault (length pres) (length ps) states conflicts) p answer
+        coroutine_whole pres ps states conflicts (whole_lawful dl pres (all_whole prefix pres before)) (whole_lawful dl ps (all_whole locals ps there)) (coroutine_fault (length pres) (length ps) states conflicts) p answer
 
     pub all_whole : (ts : Trees) (ps : List Placed) → AreLaying dl ts (Ok ps) → All (IsWhole dl) ps
     all_whole no_trees ps h = let none : [] ≡ ps = cc in subst (All (IsWhole dl)) none (All-nil (IsWhole dl))

@@ -25,7 +25,7 @@ use Rattle.rustc_abi.specs.declared.node.Shape.TheVariants.{Pair}
 use Rattle.rustc_abi.specs.ScalarFault.{scalar_fault}
 use Rattle.rustc_abi.proofs.FaultLemmas.{faultless}
 use Rattle.rustc_abi.proofs.PairLemmas.{Fits-pair}
-use Rattle.rustc_abi.specs.Tree.{Tree, pair, array, struct, Trees, no_trees, more_trees, trees}
+use Rattle.rustc_abi.specs.Tree.{Tree, pair, array, struct, Trees, no_trees, more_trees, trees, Variants, no_variants, more_variants}
 use Rattle.rustc_abi.specs.Placed.{Placed, Layout, layout_of, size_of, niche_of, pair as placed_pair, elements, part, no_parts}
 use Rattle.rustc_abi.specs.Error.{named, IsRefused}
 use Rattle.rustc_abi.specs.Fits.{Fits}
@@ -35,7 +35,7 @@ use Rattle.rustc_abi.specs.Faithful.{IsFaithful}
 use Rattle.rustc_abi.specs.Laying.{IsLaying, AreLaying, IsFieldsAnswer, IsListed, fields_fault, has_bad_align, is_above_limit, most_fields, kind_of, placed_fields, placed_by, unless, one_scalar, two_scalars, pair_answer}
 use Rattle.rustc_abi.specs.Unions.{Begins, IsCommon, InUnions}
 use Rattle.rustc_abi.proofs.CommonLemmas.{begins_room}
-use Rattle.rustc_abi.specs.Adding.{IsPut, IsAdded, EachFits, all_at, AreAdded}
+use Rattle.rustc_abi.specs.Adding.{IsPut, IsAdded, EachFits, VariantsFit, all_at, AreAdded}
 use Rattle.rustc_abi.proofs.ElementsLemmas.{IsElementNiche, Fits-elements}
 use Rattle.rustc_abi.proofs.FieldsLemmas.{part_of_list, Fits-fields}
 use Rattle.abi_calc.specs.ListNiche.{IsNicheOfPart}
@@ -87,6 +87,14 @@ EachFits-lawful dl (more_trees t ts) [] h = absurd h
 EachFits-lawful dl (more_trees t ts) (p ∷ ps) h =
     All-cons (λ p. IsLawfulLayout dl (layout_of p)) p ps (Fits.lawful h.0) (EachFits-lawful dl ts ps h.1)
 
+-- types that fit are lawful
+pub VariantsFit-lawful : (dl : TargetDataLayout) (all : Variants) (variants : List (List Placed)) → VariantsFit dl all variants → All (All (λ p. IsLawfulLayout dl (layout_of p))) variants
+VariantsFit-lawful dl no_variants [] h = All-nil (All (λ p. IsLawfulLayout dl (layout_of p)))
+VariantsFit-lawful dl no_variants (ps ∷ variants) h = absurd h
+VariantsFit-lawful dl (more_variants d ts others) [] h = absurd h
+VariantsFit-lawful dl (more_variants d ts others) (ps ∷ variants) h =
+    All-cons (All (λ p. IsLawfulLayout dl (layout_of p))) ps variants (EachFits-lawful dl ts ps h.0) (VariantsFit-lawful dl others variants h.1)
+
 few_of : (many bad : Bool) → (if many then Some BadIndex else (if bad then Some BadAlign else None)) ≡ None → (many ≡ false) × (bad ≡ false)
 few_of true bad e = absurd (cc)
 few_of false true e = absurd (cc)
@@ -137,13 +145,13 @@ struct_refused dl repr always_sized ts ps e exact (inr f) = inr (inr (ps, exact,
 pub IsAdded-fields : (dl : TargetDataLayout) (old new : List Node) (i : ℕ) (repr : ReprOptions) (always_sized : Bool) (ps : List Placed) (layout : Layout) (ts : Trees) →
     fields_fault repr ps ≡ None → IsListed dl repr (kind_of always_sized ps) (map layout_of ps) (Ok layout) → IsLawfulLayout dl layout →
     IfSome layout.largest_niche (IsNicheOfPart (listed_offsets layout.fields) (map layout_of ps)) → AreApart layout.size (listed_offsets layout.fields) (map size_of ps) →
-    IsPut old new i (placed_fields ps layout) → AreLaying dl ts (Ok ps) → EachFits dl ts ps → IsAdded dl old new i (struct repr always_sized ts)
+    IsPut old new i (placed_fields repr ps layout) → AreLaying dl ts (Ok ps) → EachFits dl ts ps → IsAdded dl old new i (struct repr always_sized ts)
 IsAdded-fields dl old new i repr always_sized ps layout ts faultless listed lawful niche apart put exact fits =
     let made = listed.2 in
     let offsets : listed_offsets layout.fields ≡ listed.1 = ap listed_offsets made.shape in
     let view = made.view ∙ ap (list_view dl (is_abi_fixed repr) layout.size layout.align.abi (parts_of dl (map layout_of ps))) (sym offsets) in
-    let answer : IsFieldsAnswer dl repr always_sized ps (Ok (placed_fields ps layout)) = rw faultless (inr (layout, listed, refl)) in
-    IsAdded-put dl old new i (placed_fields ps layout) (struct repr always_sized ts) put (inr (ps, exact, answer))
+    let answer : IsFieldsAnswer dl repr always_sized ps (Ok (placed_fields repr ps layout)) = rw faultless (inr (layout, listed, refl)) in
+    IsAdded-put dl old new i (placed_fields repr ps layout) (struct repr always_sized ts) put (inr (ps, exact, answer))
     (Fits-fields dl repr always_sized (is_abi_fixed repr) ts layout (listed_offsets layout.fields) ps fits apart
     (IfSome_then layout.largest_niche niche (part_of_list (listed_offsets layout.fields) ps)) view made.uninhabited (EachFits-lawful dl ts ps fits) lawful)
 

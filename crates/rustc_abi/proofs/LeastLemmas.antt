@@ -205,7 +205,7 @@ module _ (dl : TargetDataLayout) (law : IsLawfulDataLayout dl) where
   -- the answer to a struct whose own fault is this
   abbrev AnswersBy : Option LayError → ReprOptions → (always_sized : Bool) → List Placed → Result Placed LayError → Type 0
   AnswersBy fault repr always_sized ps r =
-      MatchOption fault (Follows (IsListed dl repr (kind_of always_sized ps) (map layout_of ps)) (λ layout z. z ≡ Ok (placed_fields ps layout)) r) (λ e. r ≡ Err e)
+      MatchOption fault (Follows (IsListed dl repr (kind_of always_sized ps) (map layout_of ps)) (λ layout z. z ≡ Ok (placed_fields repr ps layout)) r) (λ e. r ≡ Err e)
 
   overflow_fields : (fault : Option LayError) (repr : ReprOptions) (always_sized : Bool) (all : Trees) (ps : List Placed) → fields_fault repr ps ≡ fault → AreLaying dl all (Ok ps)
       → AnswersBy fault repr always_sized ps (Err SizeOverflow)
@@ -221,7 +221,7 @@ module _ (dl : TargetDataLayout) (law : IsLawfulDataLayout dl) where
   least_fields : (fault : Option LayError) (repr : ReprOptions) (always_sized : Bool) (all : Trees) (ps : List Placed) (p : Placed) → AreLaying dl all (Ok ps)
       → AnswersBy fault repr always_sized ps (Ok p) → IsLeast dl (struct repr always_sized all) p
   least_fields fault repr always_sized all ps p there answer =
-      let found = laid_by fault (IsListed dl repr (kind_of always_sized ps) (map layout_of ps)) (placed_fields ps) p answer in
+      let found = laid_by fault (IsListed dl repr (kind_of always_sized ps) (map layout_of ps)) (placed_fields repr ps) p answer in
       let layout : Layout = found.0 in
       let whole = all_whole dl law all ps there in
       let count = listed_count dl repr always_sized ps whole layout found.1 in
@@ -265,7 +265,7 @@ module _ (dl : TargetDataLayout) (law : IsLawfulDataLayout dl) where
   -- and so is a union
   module _ (repr : ReprOptions) (ps : List Placed) where
     abbrev UnionAnswersBy : Option LayError → Result Placed LayError → Type 0
-    UnionAnswersBy fault r = MatchOption fault (Follows (IsUnited dl repr (map layout_of ps)) (λ layout z. z ≡ Ok (placed_together ps layout)) r) (λ e. r ≡ Err e)
+    UnionAnswersBy fault r = MatchOption fault (Follows (IsUnited dl repr (map layout_of ps)) (λ layout z. z ≡ Ok (placed_together repr ps layout)) r) (λ e. r ≡ Err e)
 
     all_same : map (λ (l : Layout). l) (map layout_of ps) ≡ map layout_of ps
     all_same = map-id (map layout_of ps)
@@ -274,7 +274,7 @@ module _ (dl : TargetDataLayout) (law : IsLawfulDataLayout dl) where
     large_union None none (inl (e, (error, answer, name), is)) =
         let same : SizeOverflow ≡ e = cc in
         let size : named {A = Layout} (Err error) ≡ Err SizeOverflow = ap (λ x. Err x) (sym name ∙ sym same) in
-        let told : Err error ≡ Err calculator.SizeOverflow = named_large (Err error) (λ layout. placed_together ps layout) (ap (placed_by (placed_together ps)) size) in
+        let told : Err error ≡ Err calculator.SizeOverflow = named_large (Err error) (λ layout. placed_together repr ps layout) (ap (placed_by (placed_together repr ps)) size) in
         (none, subst (IsUnionTooLarge dl repr) all_same (union_large (λ (l : Layout). l) 0 dl repr (map layout_of ps) (Err error) answer told))
     large_union None none (inr (layout, united, is)) = absurd (cc)
     large_union (Some f) there e = absurd (not_fields _ _ (there ∙ cc))
@@ -294,7 +294,7 @@ module _ (dl : TargetDataLayout) (law : IsLawfulDataLayout dl) where
   module _ (repr : ReprOptions) (all : Variants) (variants : List (List Placed)) (there : VariantsLaying dl all (Ok variants)) where
     abbrev EnumAnswersBy : Option LayError → Result Placed LayError → Type 0
     EnumAnswersBy fault r =
-        MatchOption fault (Follows (IsEnumed dl repr (discriminants_of all) variants) (λ layout z. z ≡ Ok (placed_enum dl (discriminants_of all) variants layout)) r) (λ e. r ≡ Err e)
+        MatchOption fault (Follows (IsEnumed dl repr (discriminants_of all) variants) (λ layout z. z ≡ Ok (placed_enum dl repr (discriminants_of all) variants layout)) r) (λ e. r ≡ Err e)
 
     large_enum : (fault : Option LayError) → enum_fault dl repr (discriminants_of all) variants ≡ fault → EnumAnswersBy fault (Err SizeOverflow) →
         (enum_fault dl repr (discriminants_of all) variants ≡ None) × IsEnumTooLarge dl repr (discriminants_of all) variants
@@ -321,7 +321,7 @@ module _ (dl : TargetDataLayout) (law : IsLawfulDataLayout dl) where
 
     least_enum : (fault : Option LayError) → enum_fault dl repr (discriminants_of all) variants ≡ fault → (p : Placed) → EnumAnswersBy fault (Ok p) → IsLeast dl (enum repr all) p
     least_enum fault is p answer =
-        let found = laid_by fault (IsEnumed dl repr (discriminants_of all) variants) (placed_enum dl (discriminants_of all) variants) p answer in
+        let found = laid_by fault (IsEnumed dl repr (discriminants_of all) variants) (placed_enum dl repr (discriminants_of all) variants) p answer in
         subst (IsLeast dl (enum repr all)) found.2
         (enumed_least dl law repr (discriminants_of all) variants (is ∙ found.3) (numbers_for dl law all variants there) (variants_whole dl law all variants there) all refl found.0 found.1)
 
@@ -331,7 +331,7 @@ module _ (dl : TargetDataLayout) (law : IsLawfulDataLayout dl) where
     -- what is promised of the calculator's answer
     promised : (tag : Scalar) → IsStateTag (length states) tag → (r : Result Layout (LayoutCalculatorError Placed)) → IsStated dl pres tag (one_scalar dl tag) ps states conflicts r
         → IsPromised layout_of (λ i. i) (λ i. i) 0 dl pres tag (one_scalar dl tag) ps states (promoted_of states (conflicts_of (length ps) conflicts)) r
-    promised tag tells r h = stated_promised dl law pres ps states conflicts (all_whole dl law prefix pres before) (all_whole dl law locals ps there) tag tells r h
+    promised tag tells r h = stated_promised dl law pres ps states conflicts (whole_lawful dl pres (all_whole dl law prefix pres before)) (whole_lawful dl ps (all_whole dl law locals ps there)) tag tells r h
 
     -- a coroutine has the size that its lists allow
     least_coroutine : (fault : Option LayError) → coroutine_fault (length pres) (length ps) states conflicts ≡ fault → (p : Placed) → CoroutineAnswersBy dl pres ps states conflicts fault (Ok p)
@@ -341,7 +341,7 @@ module _ (dl : TargetDataLayout) (law : IsLawfulDataLayout dl) where
         let tag : Scalar = found.0 in
         let layout : Layout = found.2 in
         let promoted : List Bool = promoted_of states (conflicts_of (length ps) conflicts) in
-        let offsets = stated_offsets dl law pres ps states conflicts (all_whole dl law prefix pres before) (all_whole dl law locals ps there) (is ∙ found.5) tag found.1 layout found.3 in
+        let offsets = stated_offsets dl law pres ps states conflicts (whole_lawful dl pres (all_whole dl law prefix pres before)) (whole_lawful dl ps (all_whole dl law locals ps there)) (is ∙ found.5) tag found.1 layout found.3 in
         let sized : IsCoroutineSized dl pres (one_scalar dl tag) ps states layout.size
         = (promoted, promoted_count states (conflicts_of (length ps) conflicts) ∙ conflict_rows (length ps) conflicts, IsPromised.size (promised tag found.1 (Ok layout) found.3)) in
         subst (IsLeast dl (coroutine prefix locals states conflicts)) found.4

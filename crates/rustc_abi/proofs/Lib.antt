@@ -9,10 +9,16 @@ mod FlagLemmas
 mod ElementsLemmas
 mod PartsLemmas
 mod NodesLemmas
+mod TypedLemmas
+mod HandleLemmas
+mod SeenLemmas
 mod ViewLemmas
 mod FieldsLemmas
 pub mod TreeLemmas
 mod ListLemmas
+mod LawsLemmas
+mod EnumPlacesLemmas
+mod StateLawsLemmas
 mod RefusalLemmas
 mod RunsLemmas
 mod GapsLemmas
@@ -60,3 +66,4 @@ pub mod SomeAnswer
 mod LeastLemmas
 mod EverywhereLemmas
 mod ClashLemmas
+mod InsideLemmas

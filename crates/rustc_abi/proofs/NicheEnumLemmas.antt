@@ -1,10 +1,11 @@
 -- What the layout of an enum that a niche tells apart keeps of its variants' values.
-use Rattle.std.proofs.Common.{◌≡◌, ◌≢◌, ℕ, zero, suc, ◌+◌, ◌<◌, ◌≤◌, List, [], ◌∷◌, map, length, Option, Some, None, Bool, true, false, arith, refl, sym, ap, subst, ◌∙◌, inl, inr}
+use Rattle.std.proofs.Common.{All, ◌≡◌, ◌≢◌, ℕ, zero, suc, ◌+◌, ◌<◌, ◌≤◌, List, [], ◌∷◌, map, length, Option, Some, None, Bool, true, false, arith, refl, sym, ap, subst, ◌∙◌, inl, inr}
 use Rattle.std.specs.Prelude.{slice_get, IfSome, get_or, ◌==◌, ◌&&◌}
 use Rattle.std.specs.List.{list_all}
 use Rattle.std.specs.Cmp.Derive.{both_true}
 use Rattle.std.proofs.lemmas.Bool.{le-leb, eqb-true, lt-ltb}
 use Rattle.std.proofs.lemmas.List.{length-map}
+use Rattle.std.proofs.lemmas.List.Elements.{All-head, All-tail}
 use Rattle.abi_base.specs.Primitive.{primitive_size}
 use Rattle.abi_base.specs.declared.data_layout.TargetDataLayout.{TargetDataLayout}
 use Rattle.abi_scalar.specs.declared.repr.ReprOptions.{ReprOptions}
@@ -23,9 +24,10 @@ use Rattle.abi_calc.specs.Enums.Path.{variant_at, has_no_value, takes_no_room}
 use Rattle.abi_calc.specs.Apart.{AreApart}
 use Rattle.abi_calc.specs.Enums.Beside.{IsToldByNiche}
 use Rattle.rustc_abi.specs.Enums.{layouts_of, arms_at, discriminants_of}
+use Rattle.rustc_abi.specs.Mark.{mark_of}
 use Rattle.rustc_abi.specs.Placed.{parts_of_arm, Placed, layout_of, is_flagged, size_of, Layout, Arms, tagged}
-use Rattle.rustc_abi.specs.Tree.{Trees, no_trees, more_trees, Variants, no_variants, more_variants, enum}
-use Rattle.rustc_abi.specs.Adding.{EachFits, VariantsFit}
+use Rattle.rustc_abi.specs.Tree.{Variants, enum}
+use Rattle.rustc_abi.specs.Adding.{VariantsFit}
 use Rattle.rustc_abi.specs.Fits.{Fits}
 use Rattle.rustc_abi.specs.Laying.{one_scalar, placed_enum, placed_variants}
 use Rattle.rustc_abi.specs.Room.{has_room}
@@ -38,6 +40,7 @@ use Rattle.rustc_abi.proofs.ArmsLemmas.{EachApart, flagged_as, apart_beside, arm
 use Rattle.rustc_abi.proofs.FieldsLemmas.{IsPartNiche, part_of_list}
 use Rattle.rustc_abi.proofs.InNicheLemmas.{IsThere, AreSpanned, ArmsBeside, in_niche_number, in_niche_exists, in_niche_only, in_niche_unique, in_niche_padding}
 use Rattle.rustc_abi.proofs.EnumLemmas.{in_below, numbers_long, some_niche}
+use Rattle.rustc_abi.proofs.LayLemmas.{VariantsFit-lawful}
 use Rattle.rustc_abi.proofs.RoomLemmas.{within_room}
 use Rattle.rustc_abi.proofs.TagViewLemmas.{tag_niche_true, tag_niche_inside, tag_view_niche}
 
@@ -65,32 +68,30 @@ arm_flagged size (l ∷ layouts) (k ∷ numbers) (ps ∷ variants) (suc i) apart
     let rest = arm_flagged size layouts numbers variants i apart.1 (omega (arith, long)) there in (omega (arith, rest.0), rest.1)
 
 -- the niche of a field lies inside the whole
-niche_of_fields : (dl : TargetDataLayout) (size : ℕ) (ts : Trees) (offsets : List ℕ) (ps : List Placed) (n : Niche) → IsNicheOfPart offsets (map layout_of ps) n → AreApart size offsets (map size_of ps) →
-    EachFits dl ts ps → n.offset + niche_size dl n ≤ size
-niche_of_fields dl size ts [] ps n has apart fits = absurd has
-niche_of_fields dl size ts (o ∷ offsets) [] n has apart fits = absurd has
-niche_of_fields dl size no_trees (o ∷ offsets) (p ∷ ps) n has apart fits = absurd fits
-niche_of_fields dl size (more_trees t ts) (o ∷ offsets) (p ∷ ps) n (inl here) apart fits =
+niche_of_fields : (dl : TargetDataLayout) (size : ℕ) (offsets : List ℕ) (ps : List Placed) (n : Niche) → IsNicheOfPart offsets (map layout_of ps) n → AreApart size offsets (map size_of ps) →
+    All (λ p. IsLawfulLayout dl (layout_of p)) ps → n.offset + niche_size dl n ≤ size
+niche_of_fields dl size [] ps n has apart lawful = absurd has
+niche_of_fields dl size (o ∷ offsets) [] n has apart lawful = absurd has
+niche_of_fields dl size (o ∷ offsets) (p ∷ ps) n (inl here) apart lawful =
     niche_of_field (layout_of p).largest_niche refl here
   where
     niche_of_field : (own : Option Niche) → (layout_of p).largest_niche ≡ own → IsNicheAt o own n → n.offset + niche_size dl n ≤ size
     niche_of_field None e is = absurd is
     niche_of_field (Some own) e is =
-        let law : IsLawfulNiche dl (size_of p) own = subst (λ q. IfSome q (IsLawfulNiche dl (size_of p))) e (Fits.lawful fits.0).niche in
+        let law : IsLawfulNiche dl (size_of p) own = subst (λ q. IfSome q (IsLawfulNiche dl (size_of p))) e (All-head (λ p. IsLawfulLayout dl (layout_of p)) p ps lawful).niche in
         omega (arith, is.0, ap (primitive_size dl) is.1, law.inside, apart.0)
-niche_of_fields dl size (more_trees t ts) (o ∷ offsets) (p ∷ ps) n (inr later) apart fits = niche_of_fields dl size ts offsets ps n later apart.2 fits.1
+niche_of_fields dl size (o ∷ offsets) (p ∷ ps) n (inr later) apart lawful = niche_of_fields dl size offsets ps n later apart.2 (All-tail (λ p. IsLawfulLayout dl (layout_of p)) p ps lawful)
 
-pub niche_of_arm : (dl : TargetDataLayout) (size : ℕ) (all : Variants) (layouts : List (VariantLayout ℕ)) (variants : List (List Placed)) (i : ℕ) (variant : VariantLayout ℕ) (n : Niche) →
-    EachApart size variants layouts → VariantsFit dl all variants → slice_get layouts i ≡ Some variant → IsNicheOfPart variant.field_offsets (variant_at (layouts_of variants) i) n →
+pub niche_of_arm : (dl : TargetDataLayout) (size : ℕ) (layouts : List (VariantLayout ℕ)) (variants : List (List Placed)) (i : ℕ) (variant : VariantLayout ℕ) (n : Niche) →
+    EachApart size variants layouts → All (All (λ p. IsLawfulLayout dl (layout_of p))) variants → slice_get layouts i ≡ Some variant → IsNicheOfPart variant.field_offsets (variant_at (layouts_of variants) i) n →
     n.offset + niche_size dl n ≤ size
-niche_of_arm dl size all [] variants i variant n apart fits there has = absurd (cc)
-niche_of_arm dl size all (l ∷ layouts) [] i variant n apart fits there has = absurd apart
-niche_of_arm dl size no_variants (l ∷ layouts) (ps ∷ variants) i variant n apart fits there has = absurd fits
-niche_of_arm dl size (more_variants d ts others) (l ∷ layouts) (ps ∷ variants) zero variant n apart fits there has =
+niche_of_arm dl size [] variants i variant n apart lawful there has = absurd (cc)
+niche_of_arm dl size (l ∷ layouts) [] i variant n apart lawful there has = absurd apart
+niche_of_arm dl size (l ∷ layouts) (ps ∷ variants) zero variant n apart lawful there has =
     let same : variant ≡ l = cc in
-    niche_of_fields dl size ts l.field_offsets ps n (subst (λ v. IsNicheOfPart v.field_offsets (map layout_of ps) n) same has) apart.0 fits.0
-niche_of_arm dl size (more_variants d ts others) (l ∷ layouts) (ps ∷ variants) (suc i) variant n apart fits there has =
-    niche_of_arm dl size others layouts variants i variant n apart.1 fits.1 there has
+    niche_of_fields dl size l.field_offsets ps n (subst (λ v. IsNicheOfPart v.field_offsets (map layout_of ps) n) same has) apart.0 (All-head (All (λ p. IsLawfulLayout dl (layout_of p))) ps variants lawful)
+niche_of_arm dl size (l ∷ layouts) (ps ∷ variants) (suc i) variant n apart lawful there has =
+    niche_of_arm dl size layouts variants i variant n apart.1 (All-tail (All (λ p. IsLawfulLayout dl (layout_of p))) ps variants lawful) there has
 
 unequal : (a b : ℕ) (same : Bool) → (a == b) ≡ same → a ≢ b → same ≡ false
 unequal a b true e other = absurd (other (eqb-true a b e))
@@ -114,13 +115,13 @@ module _ (dl : TargetDataLayout) (repr : ReprOptions) (all : Variants) (variants
   tag = one_scalar dl told.tag
 
   abbrev placed : Placed
-  placed = tagged layout told.niche.offset tag (InNiche told.untagged (record { start = told.span.start; last = told.span.last }) told.start) arms
+  placed = tagged layout (mark_of true repr) told.niche.offset tag (InNiche told.untagged (record { start = told.span.start; last = told.span.last }) told.start) arms
 
   -- the enum is put together so
-  pub placed_by_niche : placed_enum dl (discriminants_of all) variants layout ≡ placed
+  pub placed_by_niche : placed_enum dl repr (discriminants_of all) variants layout ≡ placed
   placed_by_niche =
-      ap (placed_variants dl (discriminants_of all) variants layout) told.told
-      ∙ ap (λ o. tagged layout o tag (InNiche told.untagged told.span told.start) arms) (ap (λ fields. get_or (listed_offsets fields) 0 0) told.place)
+      ap (placed_variants dl repr (discriminants_of all) variants layout) told.told
+      ∙ ap (λ o. tagged layout (mark_of true repr) o tag (InNiche told.untagged told.span told.start) arms) (ap (λ fields. get_or (listed_offsets fields) 0 0) told.place)
 
   wide : size_of tag ≡ w
   wide = ap (primitive_size dl) told.numbers.value
@@ -132,7 +133,7 @@ module _ (dl : TargetDataLayout) (repr : ReprOptions) (all : Variants) (variants
   long = numbers_long dl all variants fits
 
   inside : told.niche.offset + w ≤ layout.size
-  inside = niche_of_arm dl layout.size all told.layouts variants told.untagged told.variant told.niche each fits told.own told.niche_of
+  inside = niche_of_arm dl layout.size told.layouts variants told.untagged told.variant told.niche each (VariantsFit-lawful dl all variants fits) told.own told.niche_of
 
   room : has_room placed ≡ true
   room = both_true (both_true (le-leb (told.niche.offset + size_of tag) layout.size (omega (arith, wide, inside))) refl) (arms_room dl layout.size all variants told.layouts (discriminants_of all) each fits)
@@ -172,7 +173,7 @@ module _ (dl : TargetDataLayout) (repr : ReprOptions) (all : Variants) (variants
     }
 
   -- an enum that a niche tells apart keeps its values
-  pub Fits-by-niche : Fits dl (enum repr all) (placed_enum dl (discriminants_of all) variants layout)
+  pub Fits-by-niche : Fits dl (enum repr all) (placed_enum dl repr (discriminants_of all) variants layout)
   Fits-by-niche = subst (Fits dl (enum repr all)) (sym placed_by_niche) (record {
     faithful = λ locals. faithful locals;
     lawful = lawful;

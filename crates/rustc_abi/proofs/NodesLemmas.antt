@@ -13,6 +13,7 @@ use Rattle.rustc_abi.specs.declared.node.Shape.TheVariants.{Scalar, Pair, Never,
 use Rattle.rustc_abi.specs.declared.node.Node.{Node}
 use Rattle.rustc_abi.specs.Placed.{Placed, Layout, layout_of, pair, elements, vector, fields, union, single, tagged, states, Arms, arm, nothing}
 use Rattle.rustc_abi.specs.Nodes.{placed_in, parts_at, parts_at_0, arms_in, encoding_of, index_of, own_fields, tag_offset, state_tag_offset, states_in, meaning, meanings, types_in, placed_at, Keeps}
+use Rattle.rustc_abi.specs.Laws.{keeps_laws, keep_laws}
 use Rattle.rustc_abi.specs.Adding.{is_node, are_nodes, IsPut}
 
 meanings-push : (done : List Placed) (ns : List Node) (n : Node) →
@@ -38,13 +39,13 @@ meanings-first done (m ∷ ns) i lt =
 layout_of-meaning : (done : List Placed) (layout : Layout) (shape : Shape) → layout_of (meaning done layout shape) ≡ layout
 layout_of-meaning done layout (Scalar s) = refl
 layout_of-meaning done layout (Pair first second) = refl
-layout_of-meaning done layout Never = refl
+layout_of-meaning done layout (Never mark) = refl
 layout_of-meaning done layout (Elements count element) = refl
-layout_of-meaning done layout (Fields children) = refl
-layout_of-meaning done layout (Union children) = refl
+layout_of-meaning done layout (Fields mark children) = refl
+layout_of-meaning done layout (Union mark children) = refl
 layout_of-meaning done layout (Vector lanes) = refl
-layout_of-meaning done layout (Single children) = refl
-layout_of-meaning done layout (Tagged tag variants) = refl
+layout_of-meaning done layout (Single mark children) = refl
+layout_of-meaning done layout (Tagged mark tag variants) = refl
 layout_of-meaning done layout (States prefix tag all) = refl
 
 layout_in : (done : List Placed) (ns : List Node) (i j : ℕ) (d : Node) → j ≡ length done + i → i < length ns →
@@ -94,11 +95,18 @@ are_nodes-push first (m ∷ ns) n i e is h =
     let both = and_parts (is_node first m.shape) (are_nodes (first + 1) ns) h in
     both_true both.0 (are_nodes-push (first + 1) ns n i (omega arith) is both.1)
 
+keep_laws-push : (done : List Placed) (ns : List Node) (n : Node) → keeps_laws (meanings done ns) n.layout n.shape ≡ true → keep_laws done ns ≡ true → keep_laws done (ns ++ n ∷ []) ≡ true
+keep_laws-push done [] n keeps h = both_true keeps refl
+keep_laws-push done (m ∷ ns) n keeps h =
+    let more = done ++ meaning done m.layout m.shape ∷ [] in
+    let both = and_parts (keeps_laws done m.layout m.shape) (keep_laws more ns) h in
+    both_true both.0 (keep_laws-push more ns n keeps both.1)
+
 -- a node that is pushed is put
-pub IsPut-push : (ns : List Node) (n : Node) (i : ℕ) → is_node i n.shape ≡ true → i ≡ length ns → IsPut ns (ns ++ n ∷ []) i (meaning (types_in ns) n.layout n.shape)
-IsPut-push ns n i is e = record {
+pub IsPut-push : (ns : List Node) (n : Node) (i : ℕ) → is_node i n.shape ≡ true → keeps_laws (types_in ns) n.layout n.shape ≡ true → i ≡ length ns → IsPut ns (ns ++ n ∷ []) i (meaning (types_in ns) n.layout n.shape)
+IsPut-push ns n i is keeps e = record {
   kept = Keeps-push ns n;
-  well = are_nodes-push 0 ns n i (omega arith) is;
+  well = λ h. record { earlier = are_nodes-push 0 ns n i (omega arith) is h.earlier; laws = keep_laws-push [] ns n keeps h.laws };
   last = omega (arith, length-append ns (n ∷ []));
   meant = placed_at-push ns n i e;
 }
@@ -153,18 +161,18 @@ meaning-same : (xs ys : List Placed) (n : ℕ) → ((i : ℕ) → i < n → plac
 meaning-same xs ys n same layout (Scalar s) is = refl
 meaning-same xs ys n same layout (Pair first second) is =
     ap (λ ps. pair layout (parts_at (listed_offsets layout.fields) ps)) (children-same xs ys n same (first ∷ second ∷ []) (pair_before n first second is))
-meaning-same xs ys n same layout Never is = refl
+meaning-same xs ys n same layout (Never mark) is = refl
 meaning-same xs ys n same layout (Elements count element) is = ap (elements layout count) (same element (ltb-true element n is))
-meaning-same xs ys n same layout (Fields children) is =
-    ap (λ ps. fields layout (parts_at (listed_offsets layout.fields) ps)) (children-same xs ys n same children.items is)
-meaning-same xs ys n same layout (Union children) is = ap (λ ps. union layout (parts_at_0 ps)) (children-same xs ys n same children.items is)
+meaning-same xs ys n same layout (Fields mark children) is =
+    ap (λ ps. fields layout mark (parts_at (listed_offsets layout.fields) ps)) (children-same xs ys n same children.items is)
+meaning-same xs ys n same layout (Union mark children) is = ap (λ ps. union layout mark (parts_at_0 ps)) (children-same xs ys n same children.items is)
 meaning-same xs ys n same layout (Vector lanes) is = ap (vector layout) (same lanes (ltb-true lanes n is))
-meaning-same xs ys n same layout (Single children) is =
-    ap (λ ps. single layout (index_of layout.variants) (parts_at (listed_offsets layout.fields) ps)) (children-same xs ys n same children.items is)
-meaning-same xs ys n same layout (Tagged tag variants) is =
+meaning-same xs ys n same layout (Single mark children) is =
+    ap (λ ps. single layout mark (index_of layout.variants) (parts_at (listed_offsets layout.fields) ps)) (children-same xs ys n same children.items is)
+meaning-same xs ys n same layout (Tagged mark tag variants) is =
     let both = and_parts (nat_lt tag n) (list_all (λ v. nat_lt v.1 n) variants.items) is in
-    ap (λ p. tagged layout (tag_offset layout) p (encoding_of layout.variants) (arms_in xs variants.items)) (same tag (ltb-true tag n both.0))
-    ∙ ap (tagged layout (tag_offset layout) (placed_in ys tag) (encoding_of layout.variants)) (arms-same xs ys n same variants.items both.1)
+    ap (λ p. tagged layout mark (tag_offset layout) p (encoding_of layout.variants) (arms_in xs variants.items)) (same tag (ltb-true tag n both.0))
+    ∙ ap (tagged layout mark (tag_offset layout) (placed_in ys tag) (encoding_of layout.variants)) (arms-same xs ys n same variants.items both.1)
 meaning-same xs ys n same layout (States prefix tag all) is = states-same xs ys n same layout prefix.items tag all.items is
 
 placed_in-meanings : (done : List Placed) (ns : List Node) (i j : ℕ) (d : Node) → j ≡ length done + i → i < length ns → is_node j (get_or ns i d).shape ≡ true →

@@ -114,7 +114,7 @@ module _ (dl : TargetDataLayout) where
   -- a union of these fields has one answer
   pub one_union : (repr : ReprOptions) (ps : List Placed) (r s : Result Placed LayError) → IsUnionOf dl repr ps r → IsUnionOf dl repr ps s → r ≡ s
   one_union repr ps r s h k =
-      one_by (fields_fault repr ps) (IsUnited dl repr (map layout_of ps)) (placed_together ps) r s (λ x y p q. one_united repr (map layout_of ps) x y p q) h k
+      one_by (fields_fault repr ps) (IsUnited dl repr (map layout_of ps)) (placed_together repr ps) r s (λ x y p q. one_united repr (map layout_of ps) x y p q) h k
 
   -- ---- an enum has one answer
 
@@ -164,7 +164,7 @@ module _ (dl : TargetDataLayout) where
 
   pub one_enum : (repr : ReprOptions) (numbers : List ℕ) (variants : List (List Placed)) (r s : Result Placed LayError) → IsEnumOf dl repr numbers variants r → IsEnumOf dl repr numbers variants s → r ≡ s
   one_enum repr numbers variants r s h k =
-      one_by (enum_fault dl repr numbers variants) (IsEnumed dl repr numbers variants) (placed_enum dl numbers variants) r s (λ x y p q. one_enumed repr numbers variants x y p q) h k
+      one_by (enum_fault dl repr numbers variants) (IsEnumed dl repr numbers variants) (placed_enum dl repr numbers variants) r s (λ x y p q. one_enumed repr numbers variants x y p q) h k
 
   -- ---- a coroutine has one answer
 
@@ -207,7 +207,7 @@ module _ (dl : TargetDataLayout) where
         follows_one (IsLaying dl element) (λ p z. z ≡ elements_answer dl count p) r s (λ x y p q. one_answer element x y p q) (λ p (a : r ≡ elements_answer dl count p) b. a ∙ sym b) h k
     one_answer (struct repr always_sized all) r s h k =
         follows_one (AreLaying dl all) (IsFieldsAnswer dl repr always_sized) r s (λ x y p q. one_list all x y p q)
-        (λ ps a b. one_by (fields_fault repr ps) (IsListed dl repr (kind_of always_sized ps) (map layout_of ps)) (placed_fields ps) r s
+        (λ ps a b. one_by (fields_fault repr ps) (IsListed dl repr (kind_of always_sized ps) (map layout_of ps)) (placed_fields repr ps) r s
         (λ x y p q. one_listed dl repr (kind_of always_sized ps) (map layout_of ps) (full always_sized ps) x y p q) a b) h k
     one_answer (vector lanes packed element) r s h k =
         follows_one (IsLaying dl element) (λ p z. z ≡ vector_answer dl lanes packed p) r s (λ x y p q. one_answer element x y p q)

@@ -14,6 +14,7 @@ use Rattle.rustc_abi.specs.declared.runs.Run.{Run}
 use Rattle.std.specs.Prelude.{Vec}
 use Rattle.std.specs.declared.alloc.Global.{Global}
 use Rattle.abi_scalar.specs.Shape.{listed_offsets}
+use Rattle.rustc_abi.specs.declared.mark.Mark.{Mark}
 use Rattle.rustc_abi.specs.Placed.{Placed, Layout, scalar, pair, never, elements, vector, fields, union, single, tagged, size_of, Parts, no_parts, part, nothing}
 use Rattle.rustc_abi.specs.Places.{is_data_place, is_place_of_part, is_place_of_arm}
 use Rattle.rustc_abi.specs.Nodes.{parts_at, parts_at_0, placed_in, placed_at, types_in, arms_in, own_fields, index_of, meaning, tag_offset, encoding_of, states_in}
@@ -39,8 +40,8 @@ module _ (ns : List Node) (well : are_nodes 0 ns ≡ true) (i : ℕ) (n : Node) 
   pub scalar_node : (s : Scalar) → n.shape ≡ Number s → placed_at ns i ≡ scalar n.layout s
   scalar_node s e = (placed_at-node ns well i n (Number s) lt at e).1
 
-  pub never_node : n.shape ≡ Never → placed_at ns i ≡ never n.layout
-  never_node e = (placed_at-node ns well i n Never lt at e).1
+  pub never_node : (mark : Mark) → n.shape ≡ Never mark → placed_at ns i ≡ never n.layout mark
+  never_node mark e = (placed_at-node ns well i n (Never mark) lt at e).1
 
   pub elements_node : (count element : ℕ) → n.shape ≡ Elements count element →
       (element < i) × (placed_at ns i ≡ elements n.layout count (placed_at ns element)) × (n.layout.size ≡ size_of (placed_at ns element) * count)
@@ -50,18 +51,18 @@ module _ (ns : List Node) (well : are_nodes 0 ns ≡ true) (i : ℕ) (n : Node) 
       let both = and_parts (n.layout.size == size_of (placed_at ns element) * count) (has_room (placed_at ns element)) (ap has_room (sym is.1) ∙ room) in
       (ltb-true element i is.0, is.1, eqb-true n.layout.size (size_of (placed_at ns element) * count) both.0, both.1)
 
-  pub fields_node : (children : Vec ℕ Global) → n.shape ≡ Fields children →
-      All (λ child. child < i) children.items × (placed_at ns i ≡ fields n.layout (parts_at (listed_offsets n.layout.fields) (all_at ns children.items)))
+  pub fields_node : (mark : Mark) (children : Vec ℕ Global) → n.shape ≡ Fields mark children →
+      All (λ child. child < i) children.items × (placed_at ns i ≡ fields n.layout mark (parts_at (listed_offsets n.layout.fields) (all_at ns children.items)))
       × (have_room n.layout.size (parts_at (listed_offsets n.layout.fields) (all_at ns children.items)) ≡ true)
-  fields_node children e =
-      let is = placed_at-node ns well i n (Fields children) lt at e in
+  fields_node mark children e =
+      let is = placed_at-node ns well i n (Fields mark children) lt at e in
       (all_before i children.items is.0, is.1, ap has_room (sym is.1) ∙ room)
 
-  pub union_node : (children : Vec ℕ Global) → n.shape ≡ Union children →
-      All (λ child. child < i) children.items × (placed_at ns i ≡ union n.layout (parts_at_0 (all_at ns children.items)))
+  pub union_node : (mark : Mark) (children : Vec ℕ Global) → n.shape ≡ Union mark children →
+      All (λ child. child < i) children.items × (placed_at ns i ≡ union n.layout mark (parts_at_0 (all_at ns children.items)))
       × (have_room n.layout.size (parts_at_0 (all_at ns children.items)) ≡ true)
-  union_node children e =
-      let is = placed_at-node ns well i n (Union children) lt at e in
+  union_node mark children e =
+      let is = placed_at-node ns well i n (Union mark children) lt at e in
       (all_before i children.items is.0, is.1, ap has_room (sym is.1) ∙ room)
 
   pub vector_node : (lanes : ℕ) → n.shape ≡ Vector lanes → (lanes < i) × (placed_at ns i ≡ vector n.layout (placed_at ns lanes)) × (has_room (placed_at ns lanes) ≡ true)
@@ -78,22 +79,22 @@ module _ (ns : List Node) (well : are_nodes 0 ns ≡ true) (i : ℕ) (n : Node) 
       (all_before i (first ∷ second ∷ []) (pair_before i first second is.0), is.1, ap has_room (sym is.1) ∙ room)
 
   -- the fields of the one variant that is left
-  pub single_node : (children : Vec ℕ Global) → n.shape ≡ Single children →
+  pub single_node : (mark : Mark) (children : Vec ℕ Global) → n.shape ≡ Single mark children →
       All (λ child. child < i) children.items
-      × (placed_at ns i ≡ single n.layout (index_of n.layout.variants) (parts_at (listed_offsets n.layout.fields) (all_at ns children.items)))
+      × (placed_at ns i ≡ single n.layout mark (index_of n.layout.variants) (parts_at (listed_offsets n.layout.fields) (all_at ns children.items)))
       × (have_room n.layout.size (parts_at (listed_offsets n.layout.fields) (all_at ns children.items)) ≡ true)
-  single_node children e =
-      let is = placed_at-node ns well i n (Single children) lt at e in
+  single_node mark children e =
+      let is = placed_at-node ns well i n (Single mark children) lt at e in
       (all_before i children.items is.0, is.1, ap has_room (sym is.1) ∙ room)
 
   -- the tag and the variants beside it: all come before the node and end inside it
-  pub tagged_node : (tag : ℕ) (variants : Vec (ℕ × ℕ) Global) → n.shape ≡ Tagged tag variants →
+  pub tagged_node : (mark : Mark) (tag : ℕ) (variants : Vec (ℕ × ℕ) Global) → n.shape ≡ Tagged mark tag variants →
       (tag < i) × All (λ v. v.1 < i) variants.items
-      × (placed_at ns i ≡ tagged n.layout (tag_offset n.layout) (placed_at ns tag) (encoding_of n.layout.variants) (arms_in (types_in ns) variants.items))
+      × (placed_at ns i ≡ tagged n.layout mark (tag_offset n.layout) (placed_at ns tag) (encoding_of n.layout.variants) (arms_in (types_in ns) variants.items))
       × (tag_offset n.layout + size_of (placed_at ns tag) ≤ n.layout.size) × (has_room (placed_at ns tag) ≡ true)
       × (arms_have_room n.layout.size (arms_in (types_in ns) variants.items) ≡ true)
-  tagged_node tag variants e =
-      let is = placed_at-node ns well i n (Tagged tag variants) lt at e in
+  tagged_node mark tag variants e =
+      let is = placed_at-node ns well i n (Tagged mark tag variants) lt at e in
       let before = and_parts (nat_lt tag i) (list_all (λ v. nat_lt v.1 i) variants.items) is.0 in
       let fits = nat_le (tag_offset n.layout + size_of (placed_at ns tag)) n.layout.size in
       let both = and_parts (fits && has_room (placed_at ns tag)) (arms_have_room n.layout.size (arms_in (types_in ns) variants.items)) (ap has_room (sym is.1) ∙ room) in
@@ -110,28 +111,28 @@ module _ (ns : List Node) (well : are_nodes 0 ns ≡ true) (i : ℕ) (n : Node) 
       let beside = and_parts (nat_lt tag i) (list_all (λ v. nat_lt v.1 i) all.items) both.1 in
       (all_before i prefix.items both.0, ltb-true tag i beside.0, variants_before i all.items beside.1, is.1, ap has_room (sym is.1) ∙ room)
 
-own_fields_none : (done : List Placed) (layout : Layout) (shape : Shape) → ((children : Vec ℕ Global) → shape ≡ Fields children → ⊥) → own_fields (meaning done layout shape) ≡ no_parts
+own_fields_none : (done : List Placed) (layout : Layout) (shape : Shape) → ((mark : Mark) (children : Vec ℕ Global) → shape ≡ Fields mark children → ⊥) → own_fields (meaning done layout shape) ≡ no_parts
 own_fields_none done layout (Number s) other = refl
 own_fields_none done layout (Pair first second) other = refl
-own_fields_none done layout Never other = refl
+own_fields_none done layout (Never mark) other = refl
 own_fields_none done layout (Elements count element) other = refl
-own_fields_none done layout (Fields children) other = absurd (other children refl)
-own_fields_none done layout (Union children) other = refl
+own_fields_none done layout (Fields mark children) other = absurd (other mark children refl)
+own_fields_none done layout (Union mark children) other = refl
 own_fields_none done layout (Vector lanes) other = refl
-own_fields_none done layout (Single children) other = refl
-own_fields_none done layout (Tagged tag variants) other = refl
+own_fields_none done layout (Single mark children) other = refl
+own_fields_none done layout (Tagged mark tag variants) other = refl
 own_fields_none done layout (States prefix tag all) other = refl
 
 module _ (ns : List Node) (well : are_nodes 0 ns ≡ true) (i : ℕ) (n : Node) (lt : i < length ns) (at : n ≡ get_or ns i n) where
   -- a variant's own fields are those of its node
-  pub own_fields_node : (children : Vec ℕ Global) → n.shape ≡ Fields children →
+  pub own_fields_node : (mark : Mark) (children : Vec ℕ Global) → n.shape ≡ Fields mark children →
       All (λ child. child < i) children.items × (own_fields (placed_at ns i) ≡ parts_at (listed_offsets n.layout.fields) (all_at ns children.items))
-  own_fields_node children e =
-      let is = placed_at-node ns well i n (Fields children) lt at e in
+  own_fields_node mark children e =
+      let is = placed_at-node ns well i n (Fields mark children) lt at e in
       (all_before i children.items is.0, ap own_fields is.1)
 
   -- a node of another kind has no fields of a variant
-  pub own_fields_other : ((children : Vec ℕ Global) → n.shape ≡ Fields children → ⊥) → own_fields (placed_at ns i) ≡ no_parts
+  pub own_fields_other : ((mark : Mark) (children : Vec ℕ Global) → n.shape ≡ Fields mark children → ⊥) → own_fields (placed_at ns i) ≡ no_parts
   own_fields_other other = ap own_fields (placed_at-node ns well i n n.shape lt at refl).1 ∙ own_fields_none (types_in ns) n.layout n.shape other
 
 -- what repeats an element's runs are the array's places

@@ -24,17 +24,17 @@ mutual
   pub within_room : (placed : Placed) (k : ℕ) → has_room placed ≡ true → is_data_place placed k ≡ true → k < size_of placed
   within_room (scalar layout s) k room place = ltb-true k layout.size place
   within_room (pair layout parts) k room place = within_have layout.size parts k room place
-  within_room (never layout) k room place = ltb-true k layout.size place
+  within_room (never layout mark) k room place = ltb-true k layout.size place
   within_room (elements layout count element) k room place =
       let both = and_parts (layout.size == size_of element * count) (has_room element) room in
       within_elements layout count element (eqb-true layout.size (size_of element * count) both.0) (λ j. within_room element j both.1) k place
   within_room (vector layout lanes) k room place =
       let both = and_parts (nat_le (size_of lanes) layout.size) (has_room lanes) room in
       omega (arith, leb-true (size_of lanes) layout.size both.0, within_room lanes k both.1 place)
-  within_room (fields layout parts) k room place = within_have layout.size parts k room place
-  within_room (union layout parts) k room place = within_have layout.size parts k room place
-  within_room (single layout index parts) k room place = within_have layout.size parts k room place
-  within_room (tagged layout offset tag encoding arms) k room place =
+  within_room (fields layout mark parts) k room place = within_have layout.size parts k room place
+  within_room (union layout mark parts) k room place = within_have layout.size parts k room place
+  within_room (single layout mark index parts) k room place = within_have layout.size parts k room place
+  within_room (tagged layout mark offset tag encoding arms) k room place =
       let both = and_parts (nat_le (offset + size_of tag) layout.size && has_room tag) (arms_have_room layout.size arms) room in
       let of_tag = and_parts (nat_le (offset + size_of tag) layout.size) (has_room tag) both.0 in
       ⊎_elim

@@ -12,6 +12,7 @@ use Rattle.abi_scalar.specs.Simple.{never_layout}
 use Rattle.abi_calc.specs.Enums.Path.{variant_at, has_no_value}
 use Rattle.rustc_abi.specs.Tree.{Trees, Tree, Variants, struct, enum, no_trees, more_trees, no_variants, more_variants}
 use Rattle.rustc_abi.specs.Values.{LocalsOfVariants, LocalsOfEach, VectorsOfVariants, VectorsOfEach, VectorsHaveValues, AreValuesOfVariant, AreValuesOf, IsValueOf}
+use Rattle.rustc_abi.specs.Mark.{mark_of}
 use Rattle.rustc_abi.specs.Placed.{Parts, no_parts, Placed, layout_of, first_part, more_parts, Layout, size_of, single, fields, never}
 use Rattle.rustc_abi.specs.Value.{Values, Value, number, two, list, variant, state, bytes, no_values, more_values}
 use Rattle.rustc_abi.specs.Adding.{VariantsFit, EachFits}
@@ -108,9 +109,9 @@ module _ (dl : TargetDataLayout) where
   module _ (repr : ReprOptions) (all : Variants) (variants : List (List Placed)) (index : ℕ) (layout : Layout) (parts : Parts) (fits : VariantsFit dl all variants)
       (short : index < length variants) (absent : OthersAbsent variants index) where
     abbrev whole : Placed
-    whole = single layout index parts
+    whole = single layout (mark_of true repr) index parts
 
-    module _ (locals : LocalsOfVariants dl all) (one : IsFaithful dl (struct repr true (fields_at all index)) (fields layout parts)) where
+    module _ (locals : LocalsOfVariants dl all) (one : IsFaithful dl (struct repr true (fields_at all index)) (fields layout (mark_of false repr) parts)) where
       -- a value is one of the variant that is left
       left : (i : ℕ) (vs : Values) → AreValuesOfVariant dl all i parts vs → i ≡ index
       left i vs h = by_test (i == index) refl
@@ -131,7 +132,7 @@ module _ (dl : TargetDataLayout) where
       single_exists (bytes content) h = absurd h
 
       -- bytes that hold a value hold its fields as a struct's
-      as_struct : (b : List ℕ) (i : ℕ) (vs : Values) → Holds dl.endian whole b (variant i vs) → Holds dl.endian (fields layout parts) b (list vs)
+      as_struct : (b : List ℕ) (i : ℕ) (vs : Values) → Holds dl.endian whole b (variant i vs) → Holds dl.endian (fields layout (mark_of false repr) parts) b (list vs)
       as_struct b i vs h = (h.0, h.2)
 
       single_only : (b : List ℕ) (v : Value) → AreBytes b → Holds dl.endian whole b v → IsValueOf dl (enum repr all) whole v
@@ -162,7 +163,7 @@ module _ (dl : TargetDataLayout) where
       single_niche : IsNicheTrue dl whole
       single_niche = more_niche layout.largest_niche one.niche
         where
-          more_niche : (o : Option Niche) → IfSome o (λ n. (b : List ℕ) (v : Value) → Holds dl.endian (fields layout parts) b v → IsIn (niche_size dl n) n.valid_range (number_of dl.endian (bytes_at b n.offset (niche_size dl n))))
+          more_niche : (o : Option Niche) → IfSome o (λ n. (b : List ℕ) (v : Value) → Holds dl.endian (fields layout (mark_of false repr) parts) b v → IsIn (niche_size dl n) n.valid_range (number_of dl.endian (bytes_at b n.offset (niche_size dl n))))
               → IfSome o (λ n. (b : List ℕ) (v : Value) → Holds dl.endian whole b v → IsIn (niche_size dl n) n.valid_range (number_of dl.endian (bytes_at b n.offset (niche_size dl n))))
           more_niche None h = tt
           more_niche (Some n) h = by_value
@@ -177,7 +178,7 @@ module _ (dl : TargetDataLayout) where
 
       single_padding : (xs ys : List ℕ) (v : Value) → length xs ≡ size_of whole → length ys ≡ size_of whole → AgreeOn whole xs ys → Holds dl.endian whole xs v → Holds dl.endian whole ys v
       single_padding xs ys (variant i vs) ex ey agree h =
-          let held : Holds dl.endian (fields layout parts) ys (list vs) = one.padding xs ys (list vs) ex ey agree (as_struct xs i vs h) in
+          let held : Holds dl.endian (fields layout (mark_of false repr) parts) ys (list vs) = one.padding xs ys (list vs) ex ey agree (as_struct xs i vs h) in
           (held.0, h.1, held.1)
       single_padding xs ys (number n) ex ey agree h = absurd h
       single_padding xs ys (two n m) ex ey agree h = absurd h
@@ -196,8 +197,8 @@ module _ (dl : TargetDataLayout) where
       single_flag : IsFlagTrue dl (enum repr all) whole
       single_flag = by_flag layout.uninhabited one.flag
         where
-          by_flag : (flag : Bool) → MatchBool flag ((v : Value) → IsValueOf dl (struct repr true (fields_at all index)) (fields layout parts) v → ⊥)
-              (VectorsOfEach dl (fields_at all index) → (v : Value) × IsValueOf dl (struct repr true (fields_at all index)) (fields layout parts) v)
+          by_flag : (flag : Bool) → MatchBool flag ((v : Value) → IsValueOf dl (struct repr true (fields_at all index)) (fields layout (mark_of false repr) parts) v → ⊥)
+              (VectorsOfEach dl (fields_at all index) → (v : Value) × IsValueOf dl (struct repr true (fields_at all index)) (fields layout (mark_of false repr) parts) v)
               → MatchBool flag ((v : Value) → IsValueOf dl (enum repr all) whole v → ⊥) (VectorsOfVariants dl all → (v : Value) × IsValueOf dl (enum repr all) whole v)
           by_flag true h = none
             where
@@ -210,7 +211,7 @@ module _ (dl : TargetDataLayout) where
               none (bytes content) k = k
           by_flag false h = λ vectors. from_value (h (vectors_at all index vectors)).0 (h (vectors_at all index vectors)).1
             where
-              from_value : (v : Value) → IsValueOf dl (struct repr true (fields_at all index)) (fields layout parts) v → (v : Value) × IsValueOf dl (enum repr all) whole v
+              from_value : (v : Value) → IsValueOf dl (struct repr true (fields_at all index)) (fields layout (mark_of false repr) parts) v → (v : Value) × IsValueOf dl (enum repr all) whole v
               from_value (list vs) k = (variant index vs, values_from all variants index short fits parts vs k)
               from_value (number n) k = absurd k
               from_value (two n m) k = absurd k
@@ -231,7 +232,7 @@ module _ (dl : TargetDataLayout) where
       }
 
     -- an enum with one variant left is laid out as that variant's fields are
-    pub Fits-single : Fits dl (struct repr true (fields_at all index)) (fields layout parts) → Fits dl (enum repr all) whole
+    pub Fits-single : Fits dl (struct repr true (fields_at all index)) (fields layout (mark_of false repr) parts) → Fits dl (enum repr all) whole
     Fits-single one = record {
       faithful = λ locals. single_faithful locals (one.faithful (locals_at all index locals));
       lawful = one.lawful;
@@ -244,7 +245,7 @@ module _ (dl : TargetDataLayout) where
   module _ (repr : ReprOptions) (all : Variants) (variants : List (List Placed)) (fits : VariantsFit dl all variants)
       (absent : (i : ℕ) → i < length variants → has_no_value (variant_at (layouts_of variants) i) ≡ true) where
     abbrev no_value : Placed
-    no_value = never (never_layout dl)
+    no_value = never (never_layout dl) (mark_of true repr)
 
     none_left : LocalsOfVariants dl all → (v : Value) → IsValueOf dl (enum repr all) no_value v → ⊥
     none_left locals (variant i vs) h = none_of_variant all variants i fits locals (absent i (within_variants all variants i fits no_parts vs h)) no_parts vs h

@@ -47,7 +47,7 @@ use Rattle.rustc_abi.specs.Error.{Follows, lay_error}
 use Rattle.rustc_abi.specs.Laying.{AreLaying, IsFieldsAnswer, IsLaying, IsListed, IsCoroutineOf, IsUnionOf, IsUnited, VariantsLaying, elements_answer, fields_fault, kind_of, placed_fields, placed_together, vector_answer, IsEnumOf, enum_fault, placed_enum, coroutine_fault, most_fields, one_scalar, placed_coroutine}
 use Rattle.rustc_abi.specs.Coroutines.{IsCoroutined, IsStated, conflicts_of}
 use Rattle.rustc_abi.specs.Enums.{IsCalculated, IsEnumed, IsTagInteger, numbered_from, layouts_of, discriminants_of}
-use Rattle.rustc_abi.proofs.LaidLemmas.{IsWhole, all_whole, asked_lawful, asked_sized, length-asked, some_field, each_lawful, variants_whole, coroutine_asked, CoroutineAnswersBy}
+use Rattle.rustc_abi.proofs.LaidLemmas.{IsWhole, all_whole, whole_lawful, asked_lawful, asked_sized, length-asked, some_field, each_lawful, variants_whole, coroutine_asked, CoroutineAnswersBy}
 use Rattle.rustc_abi.proofs.CoroutineFaultLemmas.{few_states}
 use Rattle.rustc_abi.proofs.TagIntegerLemmas.{tag_integer_total}
 use Rattle.abi_scalar.specs.declared.error.LayoutCalculatorError.TheVariants as calculator
@@ -213,7 +213,7 @@ module _ (dl : TargetDataLayout) (law : IsLawfulDataLayout dl) where
 
     some_coroutined : (tag : Scalar) → IsStateTag (length states) tag → HasAnswer (IsCoroutined dl pres tag (one_scalar dl tag) ps states conflicts)
     some_coroutined tag tells =
-        let answer = some_coroutine layout_of dl pres tag (one_scalar dl tag) ps states (conflicts_of (length ps) conflicts) (coroutine_asked dl law pres ps states conflicts before there tag tells) in
+        let answer = some_coroutine layout_of dl pres tag (one_scalar dl tag) ps states (conflicts_of (length ps) conflicts) (coroutine_asked dl law pres ps states conflicts (whole_lawful dl pres before) (whole_lawful dl ps there) tag tells) in
         stated_so tag answer.0 answer.1 answer.2
 
     some_stated : (fault : Option LayError) → coroutine_fault (length pres) (length ps) states conflicts ≡ fault → HasAnswer (CoroutineAnswersBy dl pres ps states conflicts fault)
@@ -238,15 +238,15 @@ module _ (dl : TargetDataLayout) (law : IsLawfulDataLayout dl) where
     some_answer (array count element) = some_follows (IsLaying dl element) (λ p r. r ≡ elements_answer dl count p) (some_answer element) (λ p h. (elements_answer dl count p, refl))
     some_answer (struct repr always_sized all) =
         some_follows (AreLaying dl all) (IsFieldsAnswer dl repr always_sized) (some_list all)
-        (λ ps h. some_by (fields_fault repr ps) (IsListed dl repr (kind_of always_sized ps) (map layout_of ps)) (placed_fields ps) (some_listed repr always_sized ps (all_whole dl law all ps h)))
+        (λ ps h. some_by (fields_fault repr ps) (IsListed dl repr (kind_of always_sized ps) (map layout_of ps)) (placed_fields repr ps) (some_listed repr always_sized ps (all_whole dl law all ps h)))
     some_answer (vector lanes packed element) =
         some_follows (IsLaying dl element) (λ p r. r ≡ vector_answer dl lanes packed p) (some_answer element) (λ p h. (vector_answer dl lanes packed p, refl))
     some_answer (union repr all) =
         some_follows (AreLaying dl all) (IsUnionOf dl repr) (some_list all)
-        (λ ps h. some_by (fields_fault repr ps) (IsUnited dl repr (map layout_of ps)) (placed_together ps) (some_united repr (map layout_of ps)))
+        (λ ps h. some_by (fields_fault repr ps) (IsUnited dl repr (map layout_of ps)) (placed_together repr ps) (some_united repr (map layout_of ps)))
     some_answer (enum repr all) =
         some_follows (VariantsLaying dl all) (IsEnumOf dl repr (discriminants_of all)) (some_variants all)
-        (λ variants h. some_by (enum_fault dl repr (discriminants_of all) variants) (IsEnumed dl repr (discriminants_of all) variants) (placed_enum dl (discriminants_of all) variants)
+        (λ variants h. some_by (enum_fault dl repr (discriminants_of all) variants) (IsEnumed dl repr (discriminants_of all) variants) (placed_enum dl repr (discriminants_of all) variants)
         (some_enumed repr (discriminants_of all) variants (each_lawful dl variants (variants_whole dl law all variants h))))
     some_answer (coroutine prefix locals states conflicts) =
         some_follows (AreLaying dl prefix) (λ pres. Follows (AreLaying dl locals) (λ ps. IsCoroutineOf dl pres ps states conflicts)) (some_list prefix)

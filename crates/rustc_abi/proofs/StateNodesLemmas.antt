@@ -9,17 +9,22 @@ use Rattle.std.proofs.lemmas.List.FromFn.{map-range_with_len_more}
 use Rattle.std.proofs.lemmas.Simd.{map-map}
 use Rattle.abi_scalar.specs.declared.variants.VariantLayout.{VariantLayout}
 use Rattle.abi_scalar.specs.Shape.{listed_offsets}
+use Rattle.abi_scalar.specs.Variant.{variants_of}
 use Rattle.abi_calc.specs.Placement.{source_order}
 use Rattle.rustc_abi.specs.declared.node.Shape.TheVariants.{States}
 use Rattle.rustc_abi.specs.declared.node.Node.{Node}
-use Rattle.rustc_abi.specs.Placed.{Placed, Layout, states, Parts, Arms, nothing}
+use Rattle.rustc_abi.specs.declared.mark.Mark.TheVariants.{Plain}
+use Rattle.rustc_abi.specs.Placed.{Placed, Layout, size_of, states, Parts, Arms, nothing}
 use Rattle.rustc_abi.specs.Nodes.{placed_in, parts_at, arms_in, state_tag_offset, meaning, types_in, Keeps}
 use Rattle.rustc_abi.specs.Enums.{arms_at}
+use Rattle.rustc_abi.specs.Inside.{VariantsInside}
+use Rattle.rustc_abi.specs.Laws.{have_places, keeps_laws, sizes_at}
 use Rattle.rustc_abi.specs.Adding.{IsPut, AreArms, all_at, variants_in, is_node}
 use Rattle.rustc_abi.proofs.NodesLemmas.{length-types_in, Keeps-trans}
 use Rattle.rustc_abi.proofs.ListLemmas.{all_below}
 use Rattle.rustc_abi.proofs.LayLemmas.{all_at-kept}
 use Rattle.rustc_abi.proofs.ArmNodesLemmas.{tagged_before}
+use Rattle.rustc_abi.proofs.LawsLemmas.{several_laws}
 use Rattle.rustc_abi.proofs.StatePlacesLemmas.{picked_types}
 
 -- one index more
@@ -98,13 +103,41 @@ each_there m locals (ks ∷ all) (c ∷ children) there known same =
     (subst (All (λ child. child < m)) at (nodes_of-below m locals ks.items there (All-head (λ ks. All (λ k. k < length locals) ks.items) ks all known)))
     (each_there m locals all children there (All-tail (λ ks. All (λ k. k < length locals) ks.items) ks all known) later)
 
+-- they are as few as the locals of their states
+pub each_few : (n : ℕ) (locals : List ℕ) (all children : List (Vec ℕ Global)) → All (λ ks. length ks.items ≤ n) all → map (λ c. c.items) children ≡ nodes_of_each locals all →
+    All (λ fields. length fields.items ≤ n) children
+each_few n locals [] [] few same = All-nil (λ fields. length fields.items ≤ n)
+each_few n locals [] (c ∷ children) few same = absurd (cc)
+each_few n locals (ks ∷ all) [] few same = absurd (cc)
+each_few n locals (ks ∷ all) (c ∷ children) few same =
+    let at : nodes_of locals ks.items ≡ c.items = cc in
+    let later : map (λ c. c.items) children ≡ nodes_of_each locals all = cc in
+    let count : length ks.items ≡ length c.items = sym (length-map ks.items (λ k. get_or locals k 0)) ∙ ap length at in
+    All-cons (λ fields. length fields.items ≤ n) c children (omega (arith, count, All-head (λ ks. length ks.items ≤ n) ks all few))
+    (each_few n locals all children (All-tail (λ ks. length ks.items ≤ n) ks all few) later)
+
 -- ---- the whole
 
+-- the node of a coroutine keeps the laws
+pub states_keep : (old one two : List Node) (t : ℕ) (tag : Placed) (prefix : Vec ℕ Global) (all : Vec (ℕ × ℕ) Global) (arms : Arms) (layout : Layout) (each : List (List Placed)) → IsPut old one t tag →
+    AreArms one two (map (λ l. l.size) (variants_of layout.variants)) all.items arms → All (λ child. child < length old) prefix.items →
+    have_places layout.size layout.fields (map size_of (all_at old prefix.items) ++ size_of tag ∷ []) ≡ true → VariantsInside layout.size (variants_of layout.variants) each →
+    keeps_laws (types_in two) layout (States prefix t all) ≡ true
+states_keep old one two t tag prefix all arms layout each first middle there places inside =
+    let here : placed_in (types_in two) t ≡ tag = middle.kept.same t (omega (arith, length-types_in one, first.last)) ∙ first.meant in
+    let kept : Keeps (types_in old) (types_in two) = Keeps-trans (types_in old) (types_in one) (types_in two) first.kept middle.kept in
+    let sizes : sizes_at (types_in two) (prefix.items ++ t ∷ []) ≡ map size_of (all_at old prefix.items) ++ size_of tag ∷ [] =
+    map-append (λ i. size_of (placed_in (types_in two) i)) prefix.items (t ∷ [])
+    ∙ ap (λ ms. ms ++ size_of (placed_in (types_in two) t) ∷ []) (sym (map-map size_of (placed_in (types_in two)) prefix.items) ∙ ap (map size_of) (all_at-kept old two kept prefix.items there))
+    ∙ ap (λ p. map size_of (all_at old prefix.items) ++ size_of p ∷ []) here in
+    several_laws (types_in two) layout (have_places layout.size layout.fields (sizes_at (types_in two) (prefix.items ++ t ∷ []))) (map (λ v. v.1) all.items) each
+    (ap (have_places layout.size layout.fields) sizes ∙ places) middle.sized inside
+
 -- a node for a coroutine, behind those for the tag and for each state
-pub IsPut-states : (old one two new : List Node) (t i : ℕ) (tag : Placed) (prefix : Vec ℕ Global) (all : Vec (ℕ × ℕ) Global) (arms : Arms) (layout : Layout) → IsPut old one t tag →
-    AreArms one two all.items arms → IsPut two new i (meaning (types_in two) layout (States prefix t all)) → All (λ child. child < length old) prefix.items →
+pub IsPut-states : (old one two new : List Node) (t i : ℕ) (tag : Placed) (prefix : Vec ℕ Global) (all : Vec (ℕ × ℕ) Global) (sizes : List ℕ) (arms : Arms) (layout : Layout) → IsPut old one t tag →
+    AreArms one two sizes all.items arms → IsPut two new i (meaning (types_in two) layout (States prefix t all)) → All (λ child. child < length old) prefix.items →
     IsPut old new i (states layout (parts_at (listed_offsets layout.fields) (all_at old prefix.items)) (state_tag_offset layout (length prefix.items)) tag arms)
-IsPut-states old one two new t i tag prefix all arms layout first middle last there =
+IsPut-states old one two new t i tag prefix all sizes arms layout first middle last there =
     let here : placed_in (types_in two) t ≡ tag = middle.kept.same t (omega (arith, length-types_in one, first.last)) ∙ first.meant in
     let kept : Keeps (types_in old) (types_in two) = Keeps-trans (types_in old) (types_in one) (types_in two) first.kept middle.kept in
     let same : all_at two prefix.items ≡ all_at old prefix.items = all_at-kept old two kept prefix.items there in
@@ -136,10 +169,10 @@ states_told layout pres prefix tag layouts ps all same =
     ∙ ap (λ vs. states layout first (state_tag_offset layout (length pres)) tag (arms_at layouts (source_order (length (map (λ ks. ks.items) all))) vs)) (sym types)
 
 -- a node for a coroutine names earlier ones
-pub states_before : (old one two : List Node) (t n : ℕ) (tag : Placed) (prefix : Vec ℕ Global) (all : Vec (ℕ × ℕ) Global) (arms : Arms) → IsPut old one t tag → n ≡ length two →
-    AreArms one two all.items arms → All (λ child. child < length old) prefix.items → is_node n (States prefix t all) ≡ true
-states_before old one two t n tag prefix all arms put e h there =
+pub states_before : (old one two : List Node) (t n : ℕ) (tag : Placed) (prefix : Vec ℕ Global) (all : Vec (ℕ × ℕ) Global) (sizes : List ℕ) (arms : Arms) → IsPut old one t tag → n ≡ length two →
+    AreArms one two sizes all.items arms → All (λ child. child < length old) prefix.items → is_node n (States prefix t all) ≡ true
+states_before old one two t n tag prefix all sizes arms put e h there =
     let behind : length old ≤ length one = omega (arith, put.kept.longer, length-types_in old, length-types_in one) in
     let longer : length one ≤ length two = omega (arith, h.kept.longer, length-types_in one, length-types_in two) in
     both_true (all_below n prefix.items (All-weaker (λ child. child < length old) (λ child. child < n) (λ child lt. omega arith) prefix.items there))
-    (tagged_before one two t n all arms (omega (arith, put.last)) e h)
+    (tagged_before one two t n all sizes arms Plain (omega (arith, put.last)) e h)

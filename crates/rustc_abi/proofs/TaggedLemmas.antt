@@ -16,6 +16,7 @@ use Rattle.abi_scalar.specs.Scalar.{scalar_size, IsNumberOf}
 use Rattle.rustc_abi.specs.Tree.{Tree, enum, Trees, no_trees, more_trees, Variants, no_variants, more_variants}
 use Rattle.rustc_abi.specs.Bytes.{AreBytes, bytes_at, number_of}
 use Rattle.rustc_abi.specs.Value.{Value, number, two, list, variant, state, bytes, Values, no_values, more_values}
+use Rattle.rustc_abi.specs.Mark.{mark_of}
 use Rattle.rustc_abi.specs.Placed.{Placed, Layout, Parts, no_parts, part, Arms, no_arms, arm, layout_of, size_of, tagged, parts_of_arm, is_flagged}
 use Rattle.rustc_abi.specs.Places.{is_data_place, is_place_of_part, is_place_of_arm}
 use Rattle.rustc_abi.specs.Tag.{NamesDirectly}
@@ -192,7 +193,7 @@ module _ (dl : TargetDataLayout) (repr : ReprOptions) (layout : Layout) (offset 
   tree = enum repr all
 
   abbrev placed : Placed
-  placed = tagged layout offset (one_scalar dl tag) Direct arms
+  placed = tagged layout (mark_of true repr) offset (one_scalar dl tag) Direct arms
 
   -- no bytes hold two values, where the variants' numbers differ
   pub tagged_unique : NumbersDiffer (scalar_size dl tag) arms → (b : List ℕ) (v w : Value) → Holds dl.endian placed b v → Holds dl.endian placed b w → v ≡ w

@@ -41,11 +41,11 @@ union_tree_refused dl repr ts ps e exact (inr f) = inr (inr (ps, exact, f))
 -- a union's layout
 pub IsAdded-union : (dl : TargetDataLayout) (old new : List Node) (i : ℕ) (repr : ReprOptions) (ps : List Placed) (layout : Layout) (ts : Trees) →
     fields_fault repr ps ≡ None → IsUnited dl repr (map layout_of ps) (Ok layout) → IsLawfulLayout dl layout →
-    IsPut old new i (placed_together ps layout) → AreLaying dl ts (Ok ps) → EachFits dl ts ps → IsAdded dl old new i (union repr ts)
+    IsPut old new i (placed_together repr ps layout) → AreLaying dl ts (Ok ps) → EachFits dl ts ps → IsAdded dl old new i (union repr ts)
 IsAdded-union dl old new i repr ps layout ts faultless united lawful put exact fits =
     let made = united_layout dl repr (map layout_of ps) layout united in
-    let answer : IsUnionOf dl repr ps (Ok (placed_together ps layout)) = rw faultless (inr (layout, united, refl)) in
-    IsAdded-put dl old new i (placed_together ps layout) (union repr ts) put (inr (ps, exact, answer))
+    let answer : IsUnionOf dl repr ps (Ok (placed_together repr ps layout)) = rw faultless (inr (layout, united, refl)) in
+    IsAdded-put dl old new i (placed_together repr ps layout) (union repr ts) put (inr (ps, exact, answer))
     (Fits-union dl repr ts layout ps fits made.0 made.1 lawful)
 
 -- the array of the lanes is not refused

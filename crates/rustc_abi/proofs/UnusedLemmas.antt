@@ -12,6 +12,7 @@ use Rattle.rustc_abi.specs.declared.node.Shape.{Shape}
 use Rattle.rustc_abi.specs.declared.node.Shape.TheVariants.{Scalar as Number, Pair, Never, Elements, Fields, Union, Vector, Single, Tagged, States}
 use Rattle.rustc_abi.specs.declared.node.Node.{Node}
 use Rattle.rustc_abi.specs.declared.runs.Run.{Run}
+use Rattle.rustc_abi.specs.declared.mark.Mark.{Mark}
 use Rattle.rustc_abi.specs.Placed.{Placed, Layout, scalar, pair, never, elements, vector, fields, union, single, tagged, states, Arms, no_arms, arm, parts_of_arm, size_of}
 use Rattle.rustc_abi.specs.Places.{is_data_place, is_place_of_part, is_place_of_arm}
 use Rattle.abi_scalar.specs.Shape.{listed_offsets}
@@ -107,13 +108,13 @@ tag_or_arm false arms i k place = arm_place arms i k place
 place_of_variant : (placed : Placed) (i k : ℕ) → is_place_of_variant placed i k ≡ true → is_data_place placed k ≡ true
 place_of_variant (scalar layout s) i k place = place
 place_of_variant (pair layout parts) i k place = place
-place_of_variant (never layout) i k place = place
+place_of_variant (never layout mark) i k place = place
 place_of_variant (elements layout count element) i k place = place
 place_of_variant (vector layout lanes) i k place = place
-place_of_variant (fields layout parts) i k place = place
-place_of_variant (union layout parts) i k place = place
-place_of_variant (single layout index parts) i k place = place
-place_of_variant (tagged layout offset tag encoding arms) i k place =
+place_of_variant (fields layout mark parts) i k place = place
+place_of_variant (union layout mark parts) i k place = place
+place_of_variant (single layout mark index parts) i k place = place
+place_of_variant (tagged layout mark offset tag encoding arms) i k place =
     tag_or_arm (nat_le offset k && is_data_place tag (k - offset)) arms i k place
 place_of_variant (states layout prefix offset tag arms) i k place =
     let of_prefix = is_place_of_part prefix k in
@@ -166,23 +167,23 @@ one_state_room done layout prefix tag all i room =
     let beside = and_parts of_tag (arms_have_room layout.size (arms_in done all)) both.1 in
     both_true both.0 (both_true beside.0 (one_arm_room layout.size done all i beside.1))
 
-place_of_untagged : (done : List Placed) (layout : Layout) (shape : Shape) (i k : ℕ) → ((tag : ℕ) (variants : Vec (ℕ × ℕ) Global) → shape ≡ Tagged tag variants → ⊥) →
+place_of_untagged : (done : List Placed) (layout : Layout) (shape : Shape) (i k : ℕ) → ((mark : Mark) (tag : ℕ) (variants : Vec (ℕ × ℕ) Global) → shape ≡ Tagged mark tag variants → ⊥) →
     ((prefix : Vec ℕ Global) (tag : ℕ) (all : Vec (ℕ × ℕ) Global) → shape ≡ States prefix tag all → ⊥) →
     is_data_place (meaning done layout shape) k ≡ is_place_of_variant (meaning done layout shape) i k
 place_of_untagged done layout (Number s) i k other none = refl
 place_of_untagged done layout (Pair first second) i k other none = refl
-place_of_untagged done layout Never i k other none = refl
+place_of_untagged done layout (Never mark) i k other none = refl
 place_of_untagged done layout (Elements count element) i k other none = refl
-place_of_untagged done layout (Fields children) i k other none = refl
-place_of_untagged done layout (Union children) i k other none = refl
+place_of_untagged done layout (Fields mark children) i k other none = refl
+place_of_untagged done layout (Union mark children) i k other none = refl
 place_of_untagged done layout (Vector lanes) i k other none = refl
-place_of_untagged done layout (Single children) i k other none = refl
-place_of_untagged done layout (Tagged tag variants) i k other none = absurd (other tag variants refl)
+place_of_untagged done layout (Single mark children) i k other none = refl
+place_of_untagged done layout (Tagged mark tag variants) i k other none = absurd (other mark tag variants refl)
 place_of_untagged done layout (States prefix tag all) i k other none = absurd (none prefix tag all refl)
 
 -- of a node without a tag each data place is a variant's
 pub untagged_node : (ns : List Node) → are_nodes 0 ns ≡ true → (at : ℕ) (n : Node) → at < length ns → n ≡ get_or ns at n →
-    ((tag : ℕ) (variants : Vec (ℕ × ℕ) Global) → n.shape ≡ Tagged tag variants → ⊥) →
+    ((mark : Mark) (tag : ℕ) (variants : Vec (ℕ × ℕ) Global) → n.shape ≡ Tagged mark tag variants → ⊥) →
     ((prefix : Vec ℕ Global) (tag : ℕ) (all : Vec (ℕ × ℕ) Global) → n.shape ≡ States prefix tag all → ⊥) → (i k : ℕ) → is_data_place (placed_at ns at) k ≡ is_place_of_variant (placed_at ns at) i k
 untagged_node ns well at n lt is other none i k =
     let meant = (placed_at-node ns well at n n.shape lt is refl).1 in

@@ -15,19 +15,20 @@ use Rattle.rustc_abi.specs.Tree.{Tree, array, vector, struct, union, enum, corou
 use Rattle.rustc_abi.specs.Placed.{Placed, Arms}
 use Rattle.rustc_abi.specs.Fits.{Fits}
 use Rattle.rustc_abi.specs.Nodes.{placed_in, types_in, placed_at, arms_in, Keeps}
+use Rattle.rustc_abi.specs.Laws.{keep_laws, sizes_at}
 use Rattle.rustc_abi.specs.Laying.{IsLaying, AreLaying, VariantsLaying}
 
 -- a node at this place names only earlier ones
 abbrev pub is_node : ℕ → Shape → Bool
 is_node i (Scalar s) = true
 is_node i (Pair first second) = nat_lt first i && nat_lt second i
-is_node i Never = true
+is_node i (Never mark) = true
 is_node i (Elements count element) = nat_lt element i
-is_node i (Fields children) = list_all (λ child. nat_lt child i) children.items
-is_node i (Union children) = list_all (λ child. nat_lt child i) children.items
+is_node i (Fields mark children) = list_all (λ child. nat_lt child i) children.items
+is_node i (Union mark children) = list_all (λ child. nat_lt child i) children.items
 is_node i (Vector lanes) = nat_lt lanes i
-is_node i (Single children) = list_all (λ child. nat_lt child i) children.items
-is_node i (Tagged tag variants) = nat_lt tag i && list_all (λ v. nat_lt v.1 i) variants.items
+is_node i (Single mark children) = list_all (λ child. nat_lt child i) children.items
+is_node i (Tagged mark tag variants) = nat_lt tag i && list_all (λ v. nat_lt v.1 i) variants.items
 is_node i (States prefix tag all) =
     list_all (λ child. nat_lt child i) prefix.items && (nat_lt tag i && list_all (λ v. nat_lt v.1 i) all.items)
 
@@ -36,6 +37,11 @@ abbrev pub are_nodes : ℕ → List Node → Bool
 are_nodes i [] = true
 are_nodes i (n ∷ ns) = is_node i n.shape && are_nodes (i + 1) ns
 
+-- What all nodes keep.
+pub record AreWell (ns : List Node) : Type 0 where
+  pub earlier : are_nodes 0 ns ≡ true
+  pub laws : keep_laws [] ns ≡ true
+
 -- memory aside, this is the refusal
 abbrev pub IsRefusal : {A : Type 0} → Result A LayError → LayError → Type 0
 IsRefusal answer e = (e ≡ OutOfMemory) ⊎ (answer ≡ Err e)
@@ -43,14 +49,14 @@ IsRefusal answer e = (e ≡ OutOfMemory) ⊎ (answer ≡ Err e)
 -- A node was put last, and each node that was there kept.
 pub record IsPut (old new : List Node) (i : ℕ) (placed : Placed) : Type 0 where
   pub kept : Keeps (types_in old) (types_in new)
-  pub well : are_nodes 0 old ≡ true → are_nodes 0 new ≡ true
+  pub well : AreWell old → AreWell new
   pub last : i + 1 ≡ length new
   pub meant : placed_at new i ≡ placed
 
 -- A node for the tree was put last, and each node that was there kept.
 pub record IsAdded (dl : TargetDataLayout) (old new : List Node) (i : ℕ) (tree : Tree) : Type 0 where
   pub kept : Keeps (types_in old) (types_in new)
-  pub well : are_nodes 0 old ≡ true → are_nodes 0 new ≡ true
+  pub well : AreWell old → AreWell new
   pub last : i + 1 ≡ length new
   pub exact : IsLaying dl tree (Ok (placed_at new i))
   pub fits : Fits dl tree (placed_at new i)
@@ -78,7 +84,7 @@ variants_in ns children = map (λ fields. all_at ns fields.items) children
 -- Nodes for the trees were put, and each node that was there kept.
 pub record AreAdded (dl : TargetDataLayout) (old new : List Node) (children : List ℕ) (ts : List Tree) : Type 0 where
   pub kept : Keeps (types_in old) (types_in new)
-  pub well : are_nodes 0 old ≡ true → are_nodes 0 new ≡ true
+  pub well : AreWell old → AreWell new
   pub there : All (λ child. child < length new) children
   pub exact : AreLaying dl (trees ts) (Ok (all_at new children))
   pub fits : EachFits dl (trees ts) (all_at new children)
@@ -86,17 +92,19 @@ pub record AreAdded (dl : TargetDataLayout) (old new : List Node) (children : Li
 -- Nodes for the fields of variants were put, and each node that was there kept.
 pub record AreVariantsAdded (dl : TargetDataLayout) (old new : List Node) (children : List (Vec ℕ Global)) (all : Variants) : Type 0 where
   pub kept : Keeps (types_in old) (types_in new)
-  pub well : are_nodes 0 old ≡ true → are_nodes 0 new ≡ true
+  pub well : AreWell old → AreWell new
   pub there : All (λ fields. All (λ child. child < length new) fields.items) children
   pub exact : VariantsLaying dl all (Ok (variants_in new children))
   pub fits : VariantsFit dl all (variants_in new children)
 
--- A node for each variant beside a tag was put, and each node that was there kept: these variants are the arms.
-pub record AreArms (old new : List Node) (variants : List (ℕ × ℕ)) (arms : Arms) : Type 0 where
+-- A node for each variant beside a tag was put, and each node that was there kept: these variants are the arms, and their nodes have
+-- these sizes.
+pub record AreArms (old new : List Node) (sizes : List ℕ) (variants : List (ℕ × ℕ)) (arms : Arms) : Type 0 where
   pub kept : Keeps (types_in old) (types_in new)
-  pub well : are_nodes 0 old ≡ true → are_nodes 0 new ≡ true
+  pub well : AreWell old → AreWell new
   pub there : All (λ v. v.1 < length new) variants
   pub meant : arms_in (types_in new) variants ≡ arms
+  pub sized : sizes_at (types_in new) (map (λ v. v.1) variants) ≡ sizes
 
 -- the layout's variants are these many: the one that is left is one of them, and those beside a tag are as many
 abbrev pub HasVariants : (count : ℕ) → LayoutVariants ℕ ℕ → Type 0

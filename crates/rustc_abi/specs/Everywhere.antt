@@ -14,8 +14,8 @@ module _ (dl : TargetDataLayout) (P : Tree → Placed → Type 0) where
     Within (vector lanes packed element) placed = P element (element_of (element_of placed)) × Within element (element_of (element_of placed))
     Within (struct repr always_sized all) placed = OfEach all (parts_of placed)
     Within (union repr all) placed = OfEach all (parts_of placed)
-    Within (enum repr all) (single layout index parts) = OfVariant all index parts
-    Within (enum repr all) (tagged layout offset tag encoding arms) = OfArms all arms
+    Within (enum repr all) (single layout mark index parts) = OfVariant all index parts
+    Within (enum repr all) (tagged layout mark offset tag encoding arms) = OfArms all arms
     Within (coroutine prefix locals states conflicts) placed =
         OfEach prefix (parts_of placed) × ((ps : List Placed) × AreLaying dl locals (Ok ps) × OfEach locals (parts_at_0 ps))
     Within _ placed = ⊤

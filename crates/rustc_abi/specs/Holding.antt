@@ -34,11 +34,11 @@ module _ (order : Endian) where
         (length b ≡ layout.size) × (value_count vs ≡ count) × HoldEach (Holds element) (size_of element) 0 b vs
     Holds (vector layout lanes) b (list vs) =
         (length b ≡ layout.size) × IsAt 0 (size_of lanes) (λ slice. Holds lanes slice (list vs)) b
-    Holds (fields layout parts) b (list vs) = (length b ≡ layout.size) × HoldParts parts b vs
-    Holds (union layout parts) b (bytes content) =
-        (length b ≡ layout.size) × (content ≡ picked (is_data_place (union layout parts)) 0 b)
-    Holds (single layout index parts) b (variant i vs) = (length b ≡ layout.size) × (i ≡ index) × HoldParts parts b vs
-    Holds (tagged layout offset tag encoding arms) b (variant i vs) =
+    Holds (fields layout mark parts) b (list vs) = (length b ≡ layout.size) × HoldParts parts b vs
+    Holds (union layout mark parts) b (bytes content) =
+        (length b ≡ layout.size) × (content ≡ picked (is_data_place (union layout mark parts)) 0 b)
+    Holds (single layout mark index parts) b (variant i vs) = (length b ≡ layout.size) × (i ≡ index) × HoldParts parts b vs
+    Holds (tagged layout mark offset tag encoding arms) b (variant i vs) =
         (length b ≡ layout.size) × (offset + size_of tag ≤ length b)
         × Names encoding (size_of tag) arms (tag_at order b offset (size_of tag)) i × HoldArm arms i b vs
     Holds (states layout prefix offset tag arms) b (state i ps vs) =

@@ -25,6 +25,8 @@ use Rattle.rustc_abi.specs.declared.error.LayError.{LayError}
 use Rattle.rustc_abi.specs.declared.error.LayError.TheVariants.{BadIndex, BadAlign, DuplicateDiscriminant, DiscriminantTooWide, NoState, LocalTwice, SizeOverflow}
 use Rattle.rustc_abi.specs.Tree.{Tree, scalar, pair, never, unit, array, vector, struct, union, enum, coroutine, Trees, no_trees, more_trees, Variants, no_variants, more_variants}
 use Rattle.rustc_abi.specs.Placed.{Placed, Layout, layout_of, scalar as placed_scalar, pair as placed_pair, never as placed_never, elements, vector as placed_vector, fields, union as placed_union, single as placed_single, tagged as placed_tagged, states as placed_states, no_parts, part}
+use Rattle.rustc_abi.specs.declared.mark.Mark.TheVariants.{Never, Unit}
+use Rattle.rustc_abi.specs.Mark.{mark_of}
 use Rattle.rustc_abi.specs.Nodes.{parts_at, parts_at_0, placed_in, state_tag_offset, tag_offset}
 use Rattle.rustc_abi.specs.Error.{named, lay_error, Follows}
 use Rattle.rustc_abi.specs.ScalarFault.{scalar_fault}
@@ -89,8 +91,8 @@ IsListed dl repr kind layouts (Err e) =
     (error : LayoutCalculatorError Layout) × IsListError (λ l. l) dl repr kind layouts error × (e ≡ lay_error error)
 
 -- fields as parts of a struct with this layout
-abbrev pub placed_fields : List Placed → Layout → Placed
-placed_fields ps layout = fields layout (parts_at (listed_offsets layout.fields) ps)
+abbrev pub placed_fields : ReprOptions → List Placed → Layout → Placed
+placed_fields repr ps layout = fields layout (mark_of false repr) (parts_at (listed_offsets layout.fields) ps)
 
 -- the own faults of a struct or union, in their order
 abbrev pub fields_fault : ReprOptions → List Placed → Option LayError
@@ -101,7 +103,7 @@ fields_fault repr ps =
 abbrev pub IsFieldsAnswer : TargetDataLayout → ReprOptions → (always_sized : Bool) → List Placed → Result Placed LayError → Type 0
 IsFieldsAnswer dl repr always_sized ps r =
     MatchOption (fields_fault repr ps)
-    (Follows (IsListed dl repr (kind_of always_sized ps) (map layout_of ps)) (λ layout r. r ≡ Ok (placed_fields ps layout)) r)
+    (Follows (IsListed dl repr (kind_of always_sized ps) (map layout_of ps)) (λ layout r. r ≡ Ok (placed_fields repr ps layout)) r)
     (λ e. r ≡ Err e)
 
 -- the calculator's answer to a union of fields with these layouts, with its refusal by that name
@@ -111,14 +113,14 @@ IsUnited dl repr layouts (Err e) =
     (error : LayoutCalculatorError Layout) × IsUnionAnswer (λ l. l) 0 dl repr layouts (Err error) × (e ≡ lay_error error)
 
 -- fields as parts of a union with this layout
-abbrev pub placed_together : List Placed → Layout → Placed
-placed_together ps layout = placed_union layout (parts_at_0 ps)
+abbrev pub placed_together : ReprOptions → List Placed → Layout → Placed
+placed_together repr ps layout = placed_union layout (mark_of false repr) (parts_at_0 ps)
 
 -- the answer to a union: its own fault, else the calculator's answer to its fields
 abbrev pub IsUnionOf : TargetDataLayout → ReprOptions → List Placed → Result Placed LayError → Type 0
 IsUnionOf dl repr ps r =
     MatchOption (fields_fault repr ps)
-    (Follows (IsUnited dl repr (map layout_of ps)) (λ layout r. r ≡ Ok (placed_together ps layout)) r)
+    (Follows (IsUnited dl repr (map layout_of ps)) (λ layout r. r ≡ Ok (placed_together repr ps layout)) r)
     (λ e. r ≡ Err e)
 
 -- more variants or states, or more items in one, than an index can name
@@ -134,21 +136,21 @@ enum_fault dl repr numbers variants =
     else (if not (list_all (is_discriminant dl repr) numbers) then Some DiscriminantTooWide else None)))
 
 -- variants with this layout: no value, the parts of one variant, or those of each beside a tag
-abbrev pub placed_variants : TargetDataLayout → (numbers : List ℕ) → List (List Placed) → Layout → LayoutVariants ℕ ℕ → Placed
-placed_variants dl numbers variants layout Empty = placed_never layout
-placed_variants dl numbers variants layout (Single i) = placed_single layout i (parts_at (listed_offsets layout.fields) (variant_at variants i))
-placed_variants dl numbers variants layout (Multiple tag encoding field layouts) =
-    placed_tagged layout (tag_offset layout) (one_scalar dl tag) encoding (arms_at layouts numbers variants)
+abbrev pub placed_variants : TargetDataLayout → ReprOptions → (numbers : List ℕ) → List (List Placed) → Layout → LayoutVariants ℕ ℕ → Placed
+placed_variants dl repr numbers variants layout Empty = placed_never layout (mark_of true repr)
+placed_variants dl repr numbers variants layout (Single i) = placed_single layout (mark_of true repr) i (parts_at (listed_offsets layout.fields) (variant_at variants i))
+placed_variants dl repr numbers variants layout (Multiple tag encoding field layouts) =
+    placed_tagged layout (mark_of true repr) (tag_offset layout) (one_scalar dl tag) encoding (arms_at layouts numbers variants)
 
 -- an enum with this layout
-abbrev pub placed_enum : TargetDataLayout → (numbers : List ℕ) → List (List Placed) → Layout → Placed
-placed_enum dl numbers variants layout = placed_variants dl numbers variants layout layout.variants
+abbrev pub placed_enum : TargetDataLayout → ReprOptions → (numbers : List ℕ) → List (List Placed) → Layout → Placed
+placed_enum dl repr numbers variants layout = placed_variants dl repr numbers variants layout layout.variants
 
 -- the answer to an enum: its own fault, else the calculator's answer to its variants
 abbrev pub IsEnumOf : TargetDataLayout → ReprOptions → (numbers : List ℕ) → List (List Placed) → Result Placed LayError → Type 0
 IsEnumOf dl repr numbers variants r =
     MatchOption (enum_fault dl repr numbers variants)
-    (Follows (IsEnumed dl repr numbers variants) (λ layout r. r ≡ Ok (placed_enum dl numbers variants layout)) r)
+    (Follows (IsEnumed dl repr numbers variants) (λ layout r. r ≡ Ok (placed_enum dl repr numbers variants layout)) r)
     (λ e. r ≡ Err e)
 
 -- the array of a vector's lanes
@@ -188,8 +190,8 @@ abbrev mutual
   pub IsLaying : TargetDataLayout → Tree → Result Placed LayError → Type 0
   IsLaying dl (scalar s) r = r ≡ scalar_answer dl s
   IsLaying dl (pair a b) r = r ≡ pair_answer dl a b
-  IsLaying dl never r = r ≡ Ok (placed_never (never_layout dl))
-  IsLaying dl unit r = r ≡ Ok (fields (unit_layout 0 dl true) no_parts)
+  IsLaying dl never r = r ≡ Ok (placed_never (never_layout dl) Never)
+  IsLaying dl unit r = r ≡ Ok (fields (unit_layout 0 dl true) Unit no_parts)
   IsLaying dl (array count element) r = Follows (IsLaying dl element) (λ p r. r ≡ elements_answer dl count p) r
   IsLaying dl (struct repr always_sized all) r = Follows (AreLaying dl all) (IsFieldsAnswer dl repr always_sized) r
   IsLaying dl (vector lanes packed element) r = Follows (IsLaying dl element) (λ p r. r ≡ vector_answer dl lanes packed p) r

@@ -78,8 +78,8 @@ module _ (dl : TargetDataLayout) where
   -- and so has a coroutine; of other types nothing is said
   abbrev pub IsLeast : Tree → Placed → Type 0
   IsLeast (struct repr always_sized all) placed = IsLeastStruct dl repr always_sized (fields_of (parts_of placed)) (size_of placed)
-  IsLeast (enum repr all) (single layout index parts) = IsLeastSize dl repr AlwaysSized (map layout_of (fields_of parts)) layout.size
-  IsLeast (enum repr all) (tagged layout offset tag encoding arms) = IsEnumSized dl repr (discriminants_of all) (variants_of arms) layout.size
+  IsLeast (enum repr all) (single layout mark index parts) = IsLeastSize dl repr AlwaysSized (map layout_of (fields_of parts)) layout.size
+  IsLeast (enum repr all) (tagged layout mark offset tag encoding arms) = IsEnumSized dl repr (discriminants_of all) (variants_of arms) layout.size
   IsLeast (coroutine prefix locals all conflicts) (placed_states layout pre offset tag arms) =
       (ps : List Placed) × AreLaying dl locals (Ok ps) × IsCoroutineSized dl (fields_of pre) tag ps all layout.size
   IsLeast _ placed = ⊤

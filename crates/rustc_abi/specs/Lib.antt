@@ -1,6 +1,7 @@
 pub mod Tree
 pub mod Value
 pub mod Bytes
+pub mod Mark
 pub mod Placed
 pub mod Tag
 pub mod Places
@@ -10,8 +11,10 @@ pub mod Faithful
 pub mod Unions
 pub mod Room
 pub mod Fits
+pub mod Inside
 pub mod Error
 pub mod Nodes
+pub mod Typed
 pub mod ScalarFault
 pub mod Enums
 pub mod Coroutines
@@ -19,7 +22,10 @@ pub mod Laying
 pub mod Everywhere
 pub mod Least
 pub mod Clash
+pub mod Laws
 pub mod Adding
 pub mod Laid
+pub mod Handles
+pub mod Seen
 pub mod Fault
 pub mod Runs

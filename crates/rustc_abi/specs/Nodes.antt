@@ -43,7 +43,7 @@ encoding_of _ = Direct
 
 -- the fields of a variant, which has a node of its own
 abbrev pub own_fields : Placed → Parts
-own_fields (fields layout parts) = parts
+own_fields (fields layout mark parts) = parts
 own_fields _ = no_parts
 
 -- variants or states beside a tag, each with its number
@@ -62,15 +62,15 @@ abbrev pub meaning : List Placed → Layout → Shape → Placed
 meaning done layout (Scalar s) = scalar layout s
 meaning done layout (Pair first second) =
     pair layout (parts_at (listed_offsets layout.fields) (placed_in done first ∷ placed_in done second ∷ []))
-meaning done layout Never = never layout
+meaning done layout (Never mark) = never layout mark
 meaning done layout (Elements count element) = elements layout count (placed_in done element)
-meaning done layout (Fields children) = fields layout (parts_at (listed_offsets layout.fields) (map (placed_in done) children.items))
-meaning done layout (Union children) = union layout (parts_at_0 (map (placed_in done) children.items))
+meaning done layout (Fields mark children) = fields layout mark (parts_at (listed_offsets layout.fields) (map (placed_in done) children.items))
+meaning done layout (Union mark children) = union layout mark (parts_at_0 (map (placed_in done) children.items))
 meaning done layout (Vector lanes) = vector layout (placed_in done lanes)
-meaning done layout (Single children) =
-    single layout (index_of layout.variants) (parts_at (listed_offsets layout.fields) (map (placed_in done) children.items))
-meaning done layout (Tagged tag variants) =
-    tagged layout (tag_offset layout) (placed_in done tag) (encoding_of layout.variants) (arms_in done variants.items)
+meaning done layout (Single mark children) =
+    single layout mark (index_of layout.variants) (parts_at (listed_offsets layout.fields) (map (placed_in done) children.items))
+meaning done layout (Tagged mark tag variants) =
+    tagged layout mark (tag_offset layout) (placed_in done tag) (encoding_of layout.variants) (arms_in done variants.items)
 meaning done layout (States prefix tag all) = states_in done layout prefix.items tag all.items
 
 -- the meanings of all nodes, after those that are done

@@ -5,6 +5,8 @@ use Rattle.abi_scalar.specs.declared.niche.Niche.{Niche}
 use Rattle.abi_scalar.specs.declared.variants.TagEncoding.{TagEncoding}
 use Rattle.abi_scalar.specs.declared.layout_data.LayoutData.{LayoutData}
 use Rattle.abi_types.specs.Ty.Typed.{no_layout}
+use Rattle.rustc_abi.specs.declared.mark.Mark.{Mark}
+use Rattle.rustc_abi.specs.declared.mark.Mark.TheVariants.{Plain}
 
 -- a layout, with fields and variants named by their numbers
 abbrev pub Layout : Type 0
@@ -17,18 +19,18 @@ mutual
     -- two numbers
     pair : Layout → Parts → Placed
     -- no value
-    never : Layout → Placed
+    never : Layout → Mark → Placed
     -- so many elements, each as far from the one before as it is large
     elements : Layout → (count : ℕ) → Placed → Placed
     -- a vector; its one part, at 0, is the array of its lanes
     vector : Layout → (lanes : Placed) → Placed
     -- fields, and unit, which has none
-    fields : Layout → Parts → Placed
-    union : Layout → Parts → Placed
+    fields : Layout → Mark → Parts → Placed
+    union : Layout → Mark → Parts → Placed
     -- an enum of which one variant is left, so that it has no tag
-    single : Layout → (index : ℕ) → Parts → Placed
+    single : Layout → Mark → (index : ℕ) → Parts → Placed
     -- an enum whose tag, at an offset, names the variant
-    tagged : Layout → (offset : ℕ) → (tag : Placed) → TagEncoding ℕ → Arms → Placed
+    tagged : Layout → Mark → (offset : ℕ) → (tag : Placed) → TagEncoding ℕ → Arms → Placed
     -- a coroutine: the prefix fields, and a tag, at an offset, that names the state
     states : Layout → (prefix : Parts) → (offset : ℕ) → (tag : Placed) → Arms → Placed
 
@@ -45,13 +47,13 @@ mutual
 abbrev pub layout_of : Placed → Layout
 layout_of (scalar layout s) = layout
 layout_of (pair layout parts) = layout
-layout_of (never layout) = layout
+layout_of (never layout mark) = layout
 layout_of (elements layout count element) = layout
 layout_of (vector layout lanes) = layout
-layout_of (fields layout parts) = layout
-layout_of (union layout parts) = layout
-layout_of (single layout index parts) = layout
-layout_of (tagged layout offset tag encoding arms) = layout
+layout_of (fields layout mark parts) = layout
+layout_of (union layout mark parts) = layout
+layout_of (single layout mark index parts) = layout
+layout_of (tagged layout mark offset tag encoding arms) = layout
 layout_of (states layout prefix offset tag arms) = layout
 
 abbrev pub size_of : Placed → ℕ
@@ -62,7 +64,7 @@ niche_of placed = (layout_of placed).largest_niche
 
 -- what stands where a tree has no such part
 abbrev pub nothing : Placed
-nothing = never no_layout
+nothing = never no_layout Plain
 
 -- the type of the elements, or the array of the lanes
 abbrev pub element_of : Placed → Placed
@@ -72,8 +74,8 @@ element_of _ = nothing
 
 -- the fields, of a coroutine the prefix fields
 abbrev pub parts_of : Placed → Parts
-parts_of (fields layout parts) = parts
-parts_of (union layout parts) = parts
+parts_of (fields layout mark parts) = parts
+parts_of (union layout mark parts) = parts
 parts_of (states layout prefix offset tag arms) = prefix
 parts_of _ = no_parts
 
@@ -92,8 +94,8 @@ parts_of_arm (arm number parts arms) (suc i) = parts_of_arm arms i
 
 -- what the variant or state with this index has of its own
 abbrev pub own_parts : Placed → (index : ℕ) → Parts
-own_parts (single layout index parts) i = parts
-own_parts (tagged layout offset tag encoding arms) i = parts_of_arm arms i
+own_parts (single layout mark index parts) i = parts
+own_parts (tagged layout mark offset tag encoding arms) i = parts_of_arm arms i
 own_parts (states layout prefix offset tag arms) i = parts_of_arm arms i
 own_parts _ i = no_parts
 

@@ -7,14 +7,14 @@ abbrev mutual
   pub is_data_place : Placed → (k : ℕ) → Bool
   is_data_place (scalar layout s) k = nat_lt k layout.size
   is_data_place (pair layout parts) k = is_place_of_part parts k
-  is_data_place (never layout) k = nat_lt k layout.size
+  is_data_place (never layout mark) k = nat_lt k layout.size
   is_data_place (elements layout count element) k =
       nat_lt (k / size_of element) count && is_data_place element (k % size_of element)
   is_data_place (vector layout lanes) k = is_data_place lanes k
-  is_data_place (fields layout parts) k = is_place_of_part parts k
-  is_data_place (union layout parts) k = is_place_of_part parts k
-  is_data_place (single layout index parts) k = is_place_of_part parts k
-  is_data_place (tagged layout offset tag encoding arms) k =
+  is_data_place (fields layout mark parts) k = is_place_of_part parts k
+  is_data_place (union layout mark parts) k = is_place_of_part parts k
+  is_data_place (single layout mark index parts) k = is_place_of_part parts k
+  is_data_place (tagged layout mark offset tag encoding arms) k =
       (nat_le offset k && is_data_place tag (k - offset)) || is_place_of_arm arms k
   is_data_place (states layout prefix offset tag arms) k =
       is_place_of_part prefix k || ((nat_le offset k && is_data_place tag (k - offset)) || is_place_of_arm arms k)

@@ -6,13 +6,13 @@ abbrev mutual
   pub has_room : Placed → Bool
   has_room (scalar layout s) = true
   has_room (pair layout parts) = have_room layout.size parts
-  has_room (never layout) = true
+  has_room (never layout mark) = true
   has_room (elements layout count element) = (layout.size == size_of element * count) && has_room element
   has_room (vector layout lanes) = nat_le (size_of lanes) layout.size && has_room lanes
-  has_room (fields layout parts) = have_room layout.size parts
-  has_room (union layout parts) = have_room layout.size parts
-  has_room (single layout index parts) = have_room layout.size parts
-  has_room (tagged layout offset tag encoding arms) =
+  has_room (fields layout mark parts) = have_room layout.size parts
+  has_room (union layout mark parts) = have_room layout.size parts
+  has_room (single layout mark index parts) = have_room layout.size parts
+  has_room (tagged layout mark offset tag encoding arms) =
       (nat_le (offset + size_of tag) layout.size && has_room tag) && arms_have_room layout.size arms
   has_room (states layout prefix offset tag arms) =
       have_room layout.size prefix && ((nat_le (offset + size_of tag) layout.size && has_room tag) && arms_have_room layout.size arms)

@@ -33,7 +33,7 @@ padding_of placed = runs_from (λ k. not (is_data_place placed k)) None 0 (size_
 -- byte k is a data place of the tag, or of the variant or state with this index, or of a prefix field, which every state has; or,
 -- of a type without a tag, a data place
 abbrev pub is_place_of_variant : Placed → (index k : ℕ) → Bool
-is_place_of_variant (tagged layout offset tag encoding arms) i k =
+is_place_of_variant (tagged layout mark offset tag encoding arms) i k =
     (nat_le offset k && is_data_place tag (k - offset)) || is_place_of_part (parts_of_arm arms i) k
 is_place_of_variant (states layout prefix offset tag arms) i k =
     is_place_of_part prefix k || ((nat_le offset k && is_data_place tag (k - offset)) || is_place_of_part (parts_of_arm arms i) k)

@@ -27,13 +27,13 @@ abbrev mutual
   pub InUnions : (P : (field whole : Placed) → Type 0) → Placed → Type 0
   InUnions P (scalar layout s) = ⊤
   InUnions P (pair layout parts) = InUnionsOf P parts
-  InUnions P (never layout) = ⊤
+  InUnions P (never layout mark) = ⊤
   InUnions P (elements layout count element) = InUnions P element
   InUnions P (vector layout lanes) = InUnions P lanes
-  InUnions P (fields layout parts) = InUnionsOf P parts
-  InUnions P (union layout parts) = EachPart (λ field. P field (union layout parts)) parts × InUnionsOf P parts
-  InUnions P (single layout index parts) = InUnionsOf P parts
-  InUnions P (tagged layout offset tag encoding arms) = InUnions P tag × InUnionsOfArms P arms
+  InUnions P (fields layout mark parts) = InUnionsOf P parts
+  InUnions P (union layout mark parts) = EachPart (λ field. P field (union layout mark parts)) parts × InUnionsOf P parts
+  InUnions P (single layout mark index parts) = InUnionsOf P parts
+  InUnions P (tagged layout mark offset tag encoding arms) = InUnions P tag × InUnionsOfArms P arms
   InUnions P (states layout prefix offset tag arms) = InUnionsOf P prefix × InUnions P tag × InUnionsOfArms P arms
 
   pub InUnionsOf : (P : (field whole : Placed) → Type 0) → Parts → Type 0

@@ -1,16 +1,19 @@
 //! Types that were laid out.
 
-ghost use Rattle.std.specs.Prelude.{◌≡◌, ◌<◌, IfOk, length, true};
+ghost use Rattle.std.specs.Prelude.{◌≡◌, ◌<◌, [], IfOk, length, true};
 ghost use Rattle.rustc_abi.specs.Nodes.{root_of};
-ghost use Rattle.rustc_abi.specs.Adding.{are_nodes};
+ghost use Rattle.rustc_abi.specs.Adding.{AreWell, are_nodes};
+ghost use Rattle.rustc_abi.specs.Laws.{keep_laws};
 ghost use Rattle.rustc_abi.specs.Room.{has_room};
 
+use crate::handle::{TreeTy, handle_at};
 use crate::node::{Node, layout_at};
 use crate::padding::{data_runs, unused_runs};
 use crate::runs::{Run, gaps};
 use abi_base::Endian;
 use abi_index::{FieldIdx, VariantIdx};
 use abi_scalar::LayoutData;
+use abi_types::TyAndLayout;
 use std::alloc::{AllocError, Global};
 
 /// A type that was laid out: its layout, and those of its parts.
@@ -19,24 +22,37 @@ pub struct Laid {
     nodes: Vec<Node>,
     endian: Endian,
     ghost some: { 0 < length nodes.items },
-    ghost well: { are_nodes 0 nodes.items ≡ true },
+    ghost earlier: { are_nodes 0 nodes.items ≡ true },
+    ghost laws: { keep_laws [] nodes.items ≡ true },
     ghost room: { has_room (root_of nodes.items) ≡ true },
 }
 
 impl Laid {
-    ghost use Rattle.rustc_abi.specs.Laid.{placed_of, endian_of};
+    ghost use Rattle.rustc_abi.specs.Laid.{placed_of, endian_of, typed_of};
+    ghost use Rattle.rustc_abi.specs.Handles.{IsHandle, tree_type};
+    ghost use Rattle.rustc_abi.specs.Seen.{Sees};
     ghost use Rattle.rustc_abi.specs.Placed.{layout_of};
     ghost use Rattle.rustc_abi.specs.Runs.{padding_of, unused_of};
 
     /// The type of the last node.
     pub(crate) fn new(nodes: Vec<Node>, endian: Endian) -> Laid
         requires some { 0 < length nodes.items }
-        requires well { are_nodes 0 nodes.items ≡ true }
+        requires well { AreWell nodes.items }
         requires room { has_room (root_of nodes.items) ≡ true }
         ensures placed { placed_of result ≡ root_of nodes.items }
         ensures endian { endian_of result ≡ endian }
     {
         Laid { nodes, endian }
+    }
+
+    /// Its nodes, of which the last is the type's.
+    pub(crate) fn nodes(&self) -> &[Node]
+        ensures same { result.now ≡ self.now.nodes.items }
+        ensures some { 0 < length result.now }
+        ensures earlier { are_nodes 0 result.now ≡ true }
+        ensures laws { keep_laws [] result.now ≡ true }
+    {
+        self.nodes.as_slice()
     }
 
     /// The layout of the type.
@@ -45,6 +61,16 @@ impl Laid {
     {
         let nodes = self.nodes.as_slice();
         layout_at(nodes, nodes.len() - 1)
+    }
+
+    /// The type as a handle, beside its layout: what asks types for their fields and variants takes it.
+    pub fn root(&self) -> TyAndLayout<'_, TreeTy<'_>>
+        ensures valid { IsHandle result }
+        ensures told { tree_type result ≡ typed_of self.now }
+        ensures seen { Sees (tree_type result) (placed_of self.now) }
+        ensures layout { result.layout.0.now ≡ layout_of (placed_of self.now) }
+    {
+        handle_at(self, self.nodes().len() - 1)
     }
 
     /// The padding of the type: the bytes that no value of it decides, as maximal runs in ascending order.

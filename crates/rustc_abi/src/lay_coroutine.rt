@@ -1,6 +1,6 @@
 //! How coroutines are laid out, once their prefix fields and their locals are.
 
-ghost use Rattle.std.specs.Prelude.{◌≡◌, ◌≢◌, ℕ, ◌+◌, ◌<◌, ◌≤◌, ◌==◌, ◌&&◌, All, Err, IfErr, IfOk, List, None, Ok, get_or, length, map, vec_len};
+ghost use Rattle.std.specs.Prelude.{◌≡◌, ◌≢◌, ℕ, ◌+◌, ◌++◌, ◌∷◌, [], true, ◌<◌, ◌≤◌, ◌==◌, ◌&&◌, All, Err, IfErr, IfOk, List, None, Ok, get_or, length, map, vec_len};
 ghost use Rattle.std.specs.List.{AllPairs, list_any};
 ghost use Rattle.abi_base.specs.DataLayout.{IsLawfulDataLayout};
 ghost use Rattle.abi_index.specs.Relation.{column_count, is_entry, row_count};
@@ -11,7 +11,10 @@ ghost use Rattle.abi_scalar.specs.Variant.{variants_of};
 ghost use Rattle.abi_calc.specs.Coroutine.Layout.{IsStateTag};
 ghost use Rattle.abi_calc.specs.Placement.{source_order};
 ghost use Rattle.rustc_abi.specs.Tree.{Trees, coroutine};
-ghost use Rattle.rustc_abi.specs.Placed.{Placed, layout_of};
+ghost use Rattle.rustc_abi.specs.Placed.{Placed, layout_of, size_of};
+ghost use Rattle.rustc_abi.specs.Inside.{VariantsInside};
+ghost use Rattle.rustc_abi.specs.Laws.{have_places};
+ghost use Rattle.rustc_abi.specs.Nodes.{placed_in};
 ghost use Rattle.rustc_abi.specs.Coroutines.{IsCoroutined};
 ghost use Rattle.rustc_abi.specs.Laying.{AreLaying, IsCoroutineOf, coroutine_fault, most_fields, one_scalar, placed_coroutine};
 ghost use Rattle.rustc_abi.specs.Error.{IsRefused};
@@ -21,6 +24,7 @@ use crate::conflicts::{conflicts, named_each};
 use crate::coroutine_fault::coroutine_fault;
 use crate::error::LayError;
 use crate::lay_enum::add_variants;
+use crate::mark::Mark;
 use crate::node::{Node, Shape, add, layouts_at};
 use abi_base::TargetDataLayout;
 use abi_calc::{LayoutCalculator, state_tag};
@@ -83,9 +87,12 @@ fn add_states(
     requires tag { IsReadable dl.now tag }
     requires each { length (variants_of layout.variants) ≡ length states.now }
     requires few { length states.now ≤ most_fields }
+    requires few_each { All (λ ks. length ks.items ≤ most_fields) states.now }
     requires prefix { All (λ child. child < vec_len nodes.old) prefix.items }
     requires there { All (λ child. child < vec_len nodes.old) locals.now }
     requires known { All (λ ks. All (λ k. k < length locals.now) ks.items) states.now }
+    requires places { have_places layout.size layout.fields (map size_of (all_at nodes.old.items prefix.items) ++ size_of (one_scalar dl.now tag) ∷ []) ≡ true }
+    requires inside { VariantsInside layout.size (variants_of layout.variants) (map (λ ks. map (placed_in (all_at nodes.old.items locals.now)) ks.items) states.now) }
     ensures ok { IfOk result (λ i. IsPut nodes.old.items nodes.new.items i
         (placed_coroutine dl.now (all_at nodes.old.items prefix.items) tag (all_at nodes.old.items locals.now) (map (λ state. state.items) states.now) layout)) }
     ensures err { IfErr result (λ e. e ≡ LayError.OutOfMemory) }
@@ -93,7 +100,7 @@ fn add_states(
     let numbers = indices(alloc, states.len())?;
     let children = picked_each(alloc, locals, states)?;
     let tag = add(nodes, LayoutData::scalar(&dl, tag), Shape::Scalar(tag))?;
-    let states = add_variants(alloc, nodes, &layout, &numbers, &children)?;
+    let states = add_variants(alloc, nodes, &layout, Mark::Plain, &numbers, &children)?;
     add(
         nodes,
         layout,

@@ -1,6 +1,6 @@
 //! How enums are laid out, once the fields of their variants are.
 
-ghost use Rattle.std.specs.Prelude.{◌≡◌, ◌<◌, ◌≤◌, List, IfOk, IfErr, Ok, None, length, map, vec_len, All, false, true};
+ghost use Rattle.std.specs.Prelude.{◌≡◌, ◌<◌, ◌≤◌, ◌∷◌, [], List, IfOk, IfErr, Ok, None, length, map, vec_len, All, false, true};
 ghost use Rattle.std.specs.List.{list_all};
 ghost use Rattle.abi_base.specs.DataLayout.{IsLawfulDataLayout};
 ghost use Rattle.abi_scalar.specs.Lawful.{IsLawfulLayout};
@@ -8,16 +8,19 @@ ghost use Rattle.abi_scalar.specs.Scalar.{IsReadable};
 ghost use Rattle.abi_scalar.specs.Variant.{variants_of};
 ghost use Rattle.abi_calc.specs.List.{HasLawfulAligns};
 ghost use Rattle.rustc_abi.specs.Tree.{Variants as VariantTrees, enum};
-ghost use Rattle.rustc_abi.specs.Placed.{Placed, layout_of, tagged};
+ghost use Rattle.rustc_abi.specs.Placed.{Placed, layout_of, size_of, tagged};
 ghost use Rattle.rustc_abi.specs.Nodes.{encoding_of, tag_offset};
 ghost use Rattle.rustc_abi.specs.Enums.{IsEnumed, IsTagInteger, arms_at, discriminants_of, has_equal, is_discriminant, layouts_of};
 ghost use Rattle.rustc_abi.specs.Laying.{IsEnumOf, VariantsLaying, enum_fault, most_fields, one_scalar, placed_enum};
+ghost use Rattle.rustc_abi.specs.Inside.{VariantsInside};
+ghost use Rattle.rustc_abi.specs.Laws.{HavePlaces, have_places};
 ghost use Rattle.rustc_abi.specs.Error.{IsRefused};
 ghost use Rattle.rustc_abi.specs.Adding.{AreArms, HasReadableTag, HasVariants, IsAdded, IsPut, VariantsFit, variants_in};
 
 use crate::discriminants::{has_equal, is_discriminant, numbered};
 use crate::error::LayError;
 use crate::lay_fields::{has_bad_align, has_bad_index};
+use crate::mark::Mark;
 use crate::node::{Node, Shape, add, layouts_at};
 use crate::tag_integer::tag_integer;
 use abi_base::{Integer, NicheOptimizations, TargetDataLayout};
@@ -153,14 +156,17 @@ pub(crate) fn add_variants(
     alloc: Global,
     nodes: &mut Vec<Node>,
     layout: &LayoutData<FieldIdx, VariantIdx>,
+    mark: Mark,
     numbers: &[u128],
     children: &[Vec<usize>],
 ) -> Result<Vec<(u128, usize)>, LayError>
     requires variants { length (variants_of layout.now.variants) ≡ length children.now }
     requires each { length numbers.now ≡ length children.now }
     requires few { length children.now ≤ most_fields }
+    requires few_each { All (λ fields. length fields.items ≤ most_fields) children.now }
     requires there { All (λ fields. All (λ child. child < vec_len nodes.old) fields.items) children.now }
-    ensures ok { IfOk result (λ variants. AreArms nodes.old.items nodes.new.items variants.items
+    requires inside { VariantsInside layout.now.size (variants_of layout.now.variants) (variants_in nodes.old.items children.now) }
+    ensures ok { IfOk result (λ variants. AreArms nodes.old.items nodes.new.items (map (λ l. l.size) (variants_of layout.now.variants)) variants.items
         (arms_at (variants_of layout.now.variants) numbers.now (variants_in nodes.old.items children.now))) }
     ensures err { IfErr result (λ e. e ≡ LayError.OutOfMemory) }
 {
@@ -168,7 +174,7 @@ pub(crate) fn add_variants(
     for at in 0..children.len() {
         let own = LayoutData::for_variant(alloc, layout, VariantIdx::from_usize(at))?;
         let fields = Vec::from_slice(alloc, &children[at])?;
-        let node = add(nodes, own, Shape::Fields(fields))?;
+        let node = add(nodes, own, Shape::Fields(mark, fields))?;
         variants.push((numbers[at], node))?;
     }
     Ok(variants)
@@ -180,6 +186,7 @@ fn add_tagged(
     dl: &TargetDataLayout,
     nodes: &mut Vec<Node>,
     layout: LayoutData<FieldIdx, VariantIdx>,
+    mark: Mark,
     tag: Scalar,
     numbers: &[u128],
     children: &[Vec<usize>],
@@ -188,14 +195,25 @@ fn add_tagged(
     requires variants { length (variants_of layout.variants) ≡ length children.now }
     requires each { length numbers.now ≡ length children.now }
     requires few { length children.now ≤ most_fields }
+    requires few_each { All (λ fields. length fields.items ≤ most_fields) children.now }
     requires there { All (λ fields. All (λ child. child < vec_len nodes.old) fields.items) children.now }
-    ensures ok { IfOk result (λ i. IsPut nodes.old.items nodes.new.items i (tagged layout (tag_offset layout) (one_scalar dl.now tag) (encoding_of layout.variants)
+    requires places { have_places layout.size layout.fields (size_of (one_scalar dl.now tag) ∷ []) ≡ true }
+    requires inside { VariantsInside layout.size (variants_of layout.variants) (variants_in nodes.old.items children.now) }
+    ensures ok { IfOk result (λ i. IsPut nodes.old.items nodes.new.items i (tagged layout mark (tag_offset layout) (one_scalar dl.now tag) (encoding_of layout.variants)
         (arms_at (variants_of layout.variants) numbers.now (variants_in nodes.old.items children.now)))) }
     ensures err { IfErr result (λ e. e ≡ LayError.OutOfMemory) }
 {
     let tag = add(nodes, LayoutData::scalar(&dl, tag), Shape::Scalar(tag))?;
-    let variants = add_variants(alloc, nodes, &layout, numbers, children)?;
-    add(nodes, layout, Shape::Tagged { tag, variants })
+    let variants = add_variants(alloc, nodes, &layout, mark, numbers, children)?;
+    add(
+        nodes,
+        layout,
+        Shape::Tagged {
+            mark,
+            tag,
+            variants,
+        },
+    )
 }
 
 /// A node for an enum with this layout, behind those for its tag and its variants where it has several.
@@ -204,6 +222,7 @@ fn add_placed(
     dl: &TargetDataLayout,
     nodes: &mut Vec<Node>,
     layout: LayoutData<FieldIdx, VariantIdx>,
+    repr: &ReprOptions,
     numbers: &[u128],
     children: &[Vec<usize>],
 ) -> Result<usize, LayError>
@@ -211,19 +230,22 @@ fn add_placed(
     requires variants { HasVariants (length children.now) layout.variants }
     requires each { length numbers.now ≡ length children.now }
     requires few { length children.now ≤ most_fields }
+    requires few_each { All (λ fields. length fields.items ≤ most_fields) children.now }
     requires there { All (λ fields. All (λ child. child < vec_len nodes.old) fields.items) children.now }
+    requires places { HavePlaces dl.now layout (variants_in nodes.old.items children.now) layout.variants }
     ensures ok { IfOk result (λ i. IsPut nodes.old.items nodes.new.items i
-        (placed_enum dl.now numbers.now (variants_in nodes.old.items children.now) layout)) }
+        (placed_enum dl.now repr.now numbers.now (variants_in nodes.old.items children.now) layout)) }
     ensures err { IfErr result (λ e. e ≡ LayError.OutOfMemory) }
 {
+    let mark = Mark::of(true, repr);
     match layout.variants {
-        Variants::Empty => add(nodes, layout, Shape::Never),
+        Variants::Empty => add(nodes, layout, Shape::Never(mark)),
         Variants::Single { index } => {
             let fields = Vec::from_slice(alloc, &children[index.as_usize()])?;
-            add(nodes, layout, Shape::Single(fields))
+            add(nodes, layout, Shape::Single(mark, fields))
         }
         Variants::Multiple { tag, .. } => {
-            add_tagged(alloc, dl, nodes, layout, tag, numbers, children)
+            add_tagged(alloc, dl, nodes, layout, mark, tag, numbers, children)
         }
     }
 }
@@ -249,7 +271,7 @@ fn add_faultless_enum(
     ensures err { IfErr result (IsRefused (IsEnumOf dl.now repr.now numbers.now (variants_in nodes.old.items children.now))) }
 {
     let layout = enum_layout(alloc, dl, nodes, repr, numbers, children)?;
-    add_placed(alloc, dl, nodes, layout, numbers, children)
+    add_placed(alloc, dl, nodes, layout, repr, numbers, children)
 }
 
 /// A node for an enum of these variants, the fields of each as nodes.

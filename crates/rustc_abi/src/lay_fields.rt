@@ -14,6 +14,7 @@ ghost use Rattle.rustc_abi.specs.Error.{IsRefused};
 ghost use Rattle.rustc_abi.specs.Adding.{IsAdded, EachFits, all_at};
 
 use crate::error::LayError;
+use crate::mark::Mark;
 use crate::node::{Node, Shape, add, layouts_at};
 use abi_base::{Align, StructKind, TargetDataLayout};
 use abi_calc::LayoutCalculator;
@@ -133,7 +134,11 @@ fn add_faultless_fields(
 {
     let kind = kind_of(always_sized, &children);
     let layout = fields_layout(alloc, dl, nodes, repr, kind, &children)?;
-    add(nodes, layout, Shape::Fields(children))
+    add(
+        nodes,
+        layout,
+        Shape::Fields(Mark::of(false, repr), children),
+    )
 }
 
 /// A node for fields, each as one of the nodes.

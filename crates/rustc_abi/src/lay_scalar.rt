@@ -11,6 +11,7 @@ ghost use Rattle.rustc_abi.specs.ScalarFault.{is_lawful_primitive, has_range_wit
 ghost use Rattle.rustc_abi.specs.Adding.{IsPut, IsAdded, IsRefusal};
 
 use crate::error::LayError;
+use crate::mark::Mark;
 use crate::node::{Node, Shape, add};
 use abi_base::{Primitive, TargetDataLayout};
 use abi_scalar::{LayoutData, Scalar};
@@ -135,7 +136,11 @@ pub(crate) fn add_never(dl: &TargetDataLayout, nodes: &mut Vec<Node>) -> Result<
     ensures ok { IfOk result (λ i. IsAdded dl.now nodes.old.items nodes.new.items i never) }
     ensures err { IfErr result (λ e. e ≡ LayError.OutOfMemory) }
 {
-    add(nodes, LayoutData::never_type(&dl), Shape::Never)
+    add(
+        nodes,
+        LayoutData::never_type(&dl),
+        Shape::Never(Mark::Never),
+    )
 }
 
 /// A node for a type with one value, which takes no bytes.
@@ -151,6 +156,6 @@ pub(crate) fn add_unit(
     add(
         nodes,
         LayoutData::unit(alloc, &dl, true),
-        Shape::Fields(Vec::new(alloc)),
+        Shape::Fields(Mark::Unit, Vec::new(alloc)),
     )
 }

@@ -12,6 +12,7 @@ ghost use Rattle.rustc_abi.specs.Adding.{IsAdded, EachFits, all_at};
 
 use crate::error::LayError;
 use crate::lay_fields::fields_fault;
+use crate::mark::Mark;
 use crate::node::{Node, Shape, add, layouts_at};
 use abi_base::TargetDataLayout;
 use abi_calc::LayoutCalculator;
@@ -60,7 +61,7 @@ fn add_faultless_union(
     ensures err { IfErr result (IsRefused (IsUnionOf dl.now repr.now (all_at nodes.old.items children.items))) }
 {
     let layout = union_layout(alloc, dl, nodes, repr, &children)?;
-    add(nodes, layout, Shape::Union(children))
+    add(nodes, layout, Shape::Union(Mark::of(false, repr), children))
 }
 
 /// A node for a union of fields, each as one of the nodes.

@@ -5,6 +5,7 @@ mod conflicts;
 mod coroutine_fault;
 mod discriminants;
 mod error;
+mod handle;
 mod laid;
 mod lay;
 mod lay_array;
@@ -15,6 +16,7 @@ mod lay_scalar;
 mod lay_tree;
 mod lay_union;
 mod lay_vector;
+mod mark;
 mod node;
 mod padding;
 mod runs;
@@ -43,6 +45,7 @@ pub use abi_types::{
     TyAndLayout, X86Call, all_names,
 };
 pub use error::LayError;
+pub use handle::TreeTy;
 pub use laid::Laid;
 pub use lay::lay_out;
 pub use runs::Run;

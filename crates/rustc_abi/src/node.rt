@@ -3,10 +3,12 @@
 ghost use Rattle.std.specs.Prelude.{◌≡◌, ◌<◌, ◌≤◌, All, IfErr, IfOk, length, map, true, vec_len};
 ghost use Rattle.rustc_abi.specs.Placed.{layout_of};
 ghost use Rattle.rustc_abi.specs.Nodes.{types_in, placed_at, meaning};
+ghost use Rattle.rustc_abi.specs.Laws.{keeps_laws};
 ghost use Rattle.rustc_abi.specs.Laying.{most_fields};
 ghost use Rattle.rustc_abi.specs.Adding.{all_at, is_node, IsPut};
 
 use crate::error::LayError;
+use crate::mark::Mark;
 use abi_index::{FieldIdx, IndexVec, VariantIdx};
 use abi_scalar::{LayoutData, Scalar};
 use std::alloc::{AllocError, Global};
@@ -22,23 +24,24 @@ pub(crate) enum Shape {
         second: usize,
     },
     /// No value.
-    Never,
+    Never(Mark),
     /// So many elements, each as the child.
     Elements {
         count: u64,
         element: usize,
     },
     /// A child for each field, in source order; the layout says where they lie.
-    Fields(Vec<usize>),
+    Fields(Mark, Vec<usize>),
     /// A child for each field, in source order, all at offset 0.
-    Union(Vec<usize>),
+    Union(Mark, Vec<usize>),
     /// Lanes; the child is their array, which stands directly before.
     Vector(usize),
     /// A child for each field of the one variant that is left; the layout says which that is, and where they lie.
-    Single(Vec<usize>),
+    Single(Mark, Vec<usize>),
     /// A tag, and variants beside it, each a child of fields with its discriminant; the layout says where the tag lies, and
     /// how it tells them apart.
     Tagged {
+        mark: Mark,
         tag: usize,
         variants: Vec<(u128, usize)>,
     },
@@ -72,7 +75,8 @@ pub(crate) fn add(
     layout: LayoutData<FieldIdx, VariantIdx>,
     shape: Shape,
 ) -> Result<usize, LayError>
-    requires { is_node (vec_len nodes.old) shape ≡ true }
+    requires earlier { is_node (vec_len nodes.old) shape ≡ true }
+    requires laws { keeps_laws (types_in nodes.old.items) layout shape ≡ true }
     ensures ok { IfOk result (λ i. IsPut nodes.old.items nodes.new.items i (meaning (types_in nodes.old.items) layout shape)) }
     ensures err { IfErr result (λ e. e ≡ LayError.OutOfMemory) }
 {

@@ -124,7 +124,7 @@ pub(crate) fn data_runs(alloc: Global, nodes: &[Node], node: usize) -> Result<Ve
     let size = here.layout.size.bytes();
     match &here.shape {
         Shape::Scalar(_) => whole(alloc, size),
-        Shape::Never => whole(alloc, size),
+        Shape::Never(_) => whole(alloc, size),
         Shape::Pair { first, second } => fields_runs(
             alloc,
             nodes,
@@ -141,18 +141,22 @@ pub(crate) fn data_runs(alloc: Global, nodes: &[Node], node: usize) -> Result<Ve
             let stride = layout_at(nodes, *element).size.bytes();
             repeated(alloc, &runs, *count, stride)
         }
-        Shape::Fields(children) => {
+        Shape::Fields(_, children) => {
             fields_runs(alloc, nodes, node, size, offsets(&here.layout), children)
         }
-        Shape::Union(children) => {
+        Shape::Union(_, children) => {
             let zeros = zeros(alloc, children.len())?;
             fields_runs(alloc, nodes, node, size, &zeros, children)
         }
         Shape::Vector(lanes) => data_runs(alloc, nodes, *lanes),
-        Shape::Single(children) => {
+        Shape::Single(_, children) => {
             fields_runs(alloc, nodes, node, size, offsets(&here.layout), children)
         }
-        Shape::Tagged { tag, variants } => tagged_runs(
+        Shape::Tagged {
+            mark: _,
+            tag,
+            variants,
+        } => tagged_runs(
             alloc,
             nodes,
             node,
@@ -211,7 +215,7 @@ fn own_runs(
 {
     let here = &nodes[variant];
     match &here.shape {
-        Shape::Fields(children) => fields_runs(
+        Shape::Fields(_, children) => fields_runs(
             alloc,
             nodes,
             variant,
@@ -311,7 +315,11 @@ fn variant_runs(
 {
     let here = &nodes[node];
     match &here.shape {
-        Shape::Tagged { tag, variants } => tagged_runs(
+        Shape::Tagged {
+            mark: _,
+            tag,
+            variants,
+        } => tagged_runs(
             alloc,
             nodes,
             node,

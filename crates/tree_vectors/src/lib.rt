@@ -7,6 +7,8 @@ mod coroutines;
 #[cfg(test)]
 mod enums;
 #[cfg(test)]
+mod handles;
+#[cfg(test)]
 mod layouts;
 #[cfg(test)]
 mod refusals;

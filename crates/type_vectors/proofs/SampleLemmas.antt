@@ -121,7 +121,7 @@ lanes = (
   record {
     inside = λ i lt. omega (arith, lt);
     within = none;
-    named = (lit< tt, (λ i lt. refl), omega arith);
+    named = ((λ i lt. refl), omega arith);
     complex = λ e. omega arith;
   },
   (λ i lt. float),

@@ -1,5 +1,5 @@
 -- What a laid-out type keeps: the laws that handles of types have to meet.
-use Rattle.std.specs.Prelude.{◌≡◌, ℕ, ◌+◌, ◌^◌, ◌<◌, ◌≤◌, true, length}
+use Rattle.std.specs.Prelude.{◌≡◌, ℕ, ◌+◌, ◌<◌, ◌≤◌, true, length}
 use Rattle.abi_scalar.specs.declared.fields_shape.FieldsShape.{FieldsShape}
 use Rattle.abi_scalar.specs.declared.fields_shape.FieldsShape.TheVariants.{Array}
 use Rattle.abi_scalar.specs.declared.variants.Variants.{Variants}
@@ -11,7 +11,7 @@ use Rattle.abi_types.specs.Ty.Typed.{Layout, Marks, Typed, typed, no_type, layou
 -- fields can be named by their index: elements are all of one type and reach no further than to the next, and other fields are at most
 -- so many
 abbrev pub CanBeNamed : FieldsShape ℕ → (field : ℕ → Typed) → Type 0
-CanBeNamed (Array stride count) field = (count < 2 ^ 64) × ((i : ℕ) → i < count → field i ≡ field 0) × ((layout_in (field 0)).size ≤ stride)
+CanBeNamed (Array stride count) field = ((i : ℕ) → i < count → field i ≡ field 0) × ((layout_in (field 0)).size ≤ stride)
 CanBeNamed fields field = field_count fields ≤ 0xFFFF_FF01
 
 -- What a layout and the marks beside it keep of the type's fields and variants.

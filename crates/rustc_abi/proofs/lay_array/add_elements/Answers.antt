@@ -1,10 +1,17 @@
 use Rattle.std.proofs.Common.{sym}
 use Rattle.std.proofs.lemmas.Result.{IfOk-weaker}
+use Rattle.rustc_abi.specs.Nodes.{types_in}
+use Rattle.rustc_abi.proofs.LawsLemmas.{elements_laws}
 use Rattle.rustc_abi.proofs.LayLemmas.{IsAdded-elements}
 use Rattle.rustc_abi.proofs.lay_array.add_elements.Goals as goal
 
 pub elements_layout-requires-clause-lawful : goal.elements_layout-requires-clause-lawful
 elements_layout-requires-clause-lawful c = rw c.deref.ensures.value c.requires.lawful
+
+pub add-requires-clause-laws : goal.add-requires-clause-laws
+add-requires-clause-laws c =
+    let exact = rw c.deref.ensures.value at c.in_ok-layout.ensures.exact in
+    elements_laws c.args.dl.now (types_in c.args.nodes.now.items) c.args.element c.args.count c.in_ok-layout.layout (sym exact)
 
 pub returns-clause-ok : goal.returns-clause-ok
 returns-clause-ok c =

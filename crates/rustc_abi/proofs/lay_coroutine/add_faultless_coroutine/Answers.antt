@@ -1,12 +1,19 @@
-use Rattle.std.proofs.Common.{◌<◌, ◌∙◌, All, Vec, Global, arith, length, map, subst, sym, ℕ}
+use Rattle.std.proofs.Common.{◌<◌, ◌≤◌, ◌∙◌, All, List, Vec, Global, arith, length, map, subst, sym, ℕ}
 use Rattle.std.proofs.lemmas.List.{length-map}
 use Rattle.std.proofs.lemmas.Result.{IfOk-weaker}
+use Rattle.std.proofs.lemmas.Simd.{map-map}
+use Rattle.abi_scalar.specs.Variant.{variants_of}
 use Rattle.abi_scalar.proofs.ReadableLemmas.{lawful_readable}
 use Rattle.abi_calc.specs.Coroutine.Layout.{IsStateTag}
 use Rattle.abi_calc.proofs.CoroutineAnswers.{state_tag_lawful}
 use Rattle.rustc_abi.specs.Adding.{all_at}
 use Rattle.rustc_abi.proofs.AddedCoroutineLemmas.{IsAdded-coroutine, coroutine_refused, coroutine_variants, fault_of_nodes}
-use Rattle.rustc_abi.proofs.CoroutineFaultLemmas.{few_states, states_within}
+use Rattle.rustc_abi.specs.Inside.{VariantsInside}
+use Rattle.rustc_abi.specs.Laying.{most_fields}
+use Rattle.rustc_abi.specs.Nodes.{placed_in}
+use Rattle.rustc_abi.proofs.CoroutineFaultLemmas.{few_each_state, few_states, states_within}
+use Rattle.rustc_abi.proofs.InsideLemmas.{inside_coroutine}
+use Rattle.rustc_abi.proofs.StateLawsLemmas.{state_places}
 use Rattle.rustc_abi.proofs.ListLemmas.{All-from_map, passed_on}
 use Rattle.rustc_abi.proofs.lay_coroutine.add_faultless_coroutine.Goals as goal
 
@@ -50,6 +57,36 @@ add_states-requires-clause-few c =
     let all = map (λ (state : Vec ℕ Global). state.items) c.args.states.now in
     let few = few_states (length c.args.prefix.items) (length c.args.locals.now) all c.args.pairs.now c.requires.faultless in
     omega (arith, few, length-map c.args.states.now (λ (state : Vec ℕ Global). state.items))
+
+pub add_states-requires-clause-few_each : goal.add_states-requires-clause-few_each
+add_states-requires-clause-few_each c =
+    All-from_map (λ (ks : List ℕ). length ks ≤ most_fields) (λ (state : Vec ℕ Global). state.items) c.args.states.now
+    (few_each_state (length c.args.prefix.items) (length c.args.locals.now) (map (λ state. state.items) c.args.states.now) c.args.pairs.now c.requires.faultless)
+
+pub add_states-requires-clause-places : goal.add_states-requires-clause-places
+add_states-requires-clause-places c =
+    let ns = c.args.nodes.now.items in
+    let pres = all_at ns c.args.prefix.items in
+    let ps = all_at ns c.args.locals.now in
+    let all = map (λ (state : Vec ℕ Global). state.items) c.args.states.now in
+    let tag = c.state_tag-tag.result in
+    let none = fault_of_nodes ns c.args.prefix.items c.args.locals.now all c.args.pairs.now ∙ c.requires.faultless in
+    let tells : IsStateTag (length all) tag = subst (λ n. IsStateTag n tag) (sym (length-map c.args.states.now (λ (state : Vec ℕ Global). state.items))) c.state_tag-tag.ensures in
+    let laid = rw (c.deref.ensures.value, c.deref-2.ensures.value) at c.in_ok-layout.ensures.ok in
+    state_places c.args.dl.now c.requires.data_layout pres ps all c.args.pairs.now c.requires.prefix c.requires.locals none tag tells c.in_ok-layout.layout laid
+
+pub add_states-requires-clause-inside : goal.add_states-requires-clause-inside
+add_states-requires-clause-inside c =
+    let ns = c.args.nodes.now.items in
+    let pres = all_at ns c.args.prefix.items in
+    let ps = all_at ns c.args.locals.now in
+    let all = map (λ (state : Vec ℕ Global). state.items) c.args.states.now in
+    let tag = c.state_tag-tag.result in
+    let none = fault_of_nodes ns c.args.prefix.items c.args.locals.now all c.args.pairs.now ∙ c.requires.faultless in
+    let tells : IsStateTag (length all) tag = subst (λ n. IsStateTag n tag) (sym (length-map c.args.states.now (λ (state : Vec ℕ Global). state.items))) c.state_tag-tag.ensures in
+    let laid = rw (c.deref.ensures.value, c.deref-2.ensures.value) at c.in_ok-layout.ensures.ok in
+    subst (VariantsInside c.in_ok-layout.layout.size (variants_of c.in_ok-layout.layout.variants)) (map-map (map (placed_in ps)) (λ (state : Vec ℕ Global). state.items) c.args.states.now)
+    (inside_coroutine c.args.dl.now c.requires.data_layout pres ps all c.args.pairs.now c.requires.prefix c.requires.locals none tag tells c.in_ok-layout.layout laid)
 
 pub add_states-requires-clause-known : goal.add_states-requires-clause-known
 add_states-requires-clause-known c =

@@ -9,11 +9,11 @@ use Rattle.abi_scalar.specs.Variant.{variants_of}
 use Rattle.abi_calc.specs.Placement.{source_order}
 use Rattle.rustc_abi.specs.Nodes.{placed_in, types_in}
 use Rattle.rustc_abi.specs.Enums.{arms_at}
-use Rattle.rustc_abi.specs.Laying.{one_scalar}
+use Rattle.rustc_abi.specs.Laying.{most_fields, one_scalar}
 use Rattle.rustc_abi.specs.Adding.{AreArms, IsPut, all_at, variants_in}
 use Rattle.rustc_abi.proofs.NodesLemmas.{length-types_in}
 use Rattle.rustc_abi.proofs.ArmNodesLemmas.{variants_in-kept}
-use Rattle.rustc_abi.proofs.StateNodesLemmas.{IsPut-states, as_many_each, each_means, each_there, states_before, states_told}
+use Rattle.rustc_abi.proofs.StateNodesLemmas.{IsPut-states, as_many_each, each_few, each_means, each_there, states_keep, states_before, states_told}
 use Rattle.rustc_abi.proofs.lay_coroutine.add_states.Goals as goal
 
 pub add_variants-requires-clause-variants : goal.add_variants-requires-clause-variants
@@ -42,12 +42,38 @@ add_variants-requires-clause-there c =
     All-weaker (λ child. child < old.len) (λ child. child < one.len) (λ child lt. omega (arith, lt, longer, length-types_in old.items, length-types_in one.items)) c.args.locals.now c.requires.there in
     rw c.deref-2.ensures.value (each_there one.len c.args.locals.now c.args.states.now c.in_ok-children.children.items there c.requires.known c.in_ok-children.ensures)
 
-pub add-requires-2 : goal.add-requires-2
-add-requires-2 c =
+pub add_variants-requires-clause-few_each : goal.add_variants-requires-clause-few_each
+add_variants-requires-clause-few_each c =
+    rw c.deref-2.ensures.value (each_few most_fields c.args.locals.now c.args.states.now c.in_ok-children.children.items c.requires.few_each c.in_ok-children.ensures)
+
+pub add_variants-requires-clause-inside : goal.add_variants-requires-clause-inside
+add_variants-requires-clause-inside c =
+    let old = c.args.nodes.now.items in
+    let one = c.add.new.nodes.items in
+    let children : List (Vec ℕ Global) = c.in_ok-children.children.items in
+    let there : All (λ child. child < length old) c.args.locals.now =
+    All-weaker (λ child. child < c.args.nodes.now.len) (λ child. child < length old) (λ child lt. omega arith) c.args.locals.now c.requires.there in
+    let same =
+    ap (variants_in one) c.deref-2.ensures.value ∙ variants_in-kept old one c.in_ok-tag.ensures.ok.kept children (each_there (length old) c.args.locals.now c.args.states.now children there c.requires.known c.in_ok-children.ensures)
+    ∙ each_means old c.args.locals.now c.args.states.now children c.requires.known c.in_ok-children.ensures in
+    rw same c.requires.inside
+
+pub add-requires-2-clause-laws : goal.add-requires-2-clause-laws
+add-requires-2-clause-laws c =
+    let old = c.args.nodes.now.items in
+    let one = c.add.new.nodes.items in
+    let two = c.add_variants.new.nodes.items in
+    let put : IsPut old one c.in_ok-tag.tag (one_scalar c.args.dl.now c.args.tag) = rw c.scalar.ensures.exact at c.in_ok-tag.ensures.ok in
+    let prefix : All (λ child. child < length old) c.args.prefix.items =
+    All-weaker (λ child. child < c.args.nodes.now.len) (λ child. child < length old) (λ child lt. omega arith) c.args.prefix.items c.requires.prefix in
+    states_keep old one two c.in_ok-tag.tag (one_scalar c.args.dl.now c.args.tag) c.args.prefix c.in_ok-states.states _ c.args.layout _ put c.in_ok-states.ensures.ok prefix c.requires.places c.requires.inside
+
+pub add-requires-2-clause-earlier : goal.add-requires-2-clause-earlier
+add-requires-2-clause-earlier c =
     let old = c.args.nodes.now in
     let there : All (λ child. child < length old.items) c.args.prefix.items =
     All-weaker (λ child. child < old.len) (λ child. child < length old.items) (λ child lt. omega arith) c.args.prefix.items c.requires.prefix in
-    states_before old.items c.add.new.nodes.items c.add_variants.new.nodes.items c.in_ok-tag.tag _ _ c.args.prefix c.in_ok-states.states _ c.in_ok-tag.ensures.ok (omega arith) c.in_ok-states.ensures.ok there
+    states_before old.items c.add.new.nodes.items c.add_variants.new.nodes.items c.in_ok-tag.tag _ _ c.args.prefix c.in_ok-states.states _ _ c.in_ok-tag.ensures.ok (omega arith) c.in_ok-states.ensures.ok there
 
 pub returns-clause-ok : goal.returns-clause-ok
 returns-clause-ok c =
@@ -66,13 +92,13 @@ returns-clause-ok c =
     ap (variants_in one) c.deref-2.ensures.value ∙ variants_in-kept old one put.kept children (each_there (length old) locals all children there c.requires.known c.in_ok-children.ensures)
     ∙ each_means old locals all children c.requires.known c.in_ok-children.ensures in
     let numbers : c.deref.result.now ≡ source_order (length all) = c.deref.ensures.value ∙ c.in_ok-numbers.ensures in
-    let own : AreArms one two c.in_ok-states.states.items (arms_at (variants_of c.args.layout.variants) (source_order (length all)) (variants_in one c.deref-2.result.now)) =
-    subst (λ ns. AreArms one two c.in_ok-states.states.items (arms_at (variants_of c.args.layout.variants) ns (variants_in one c.deref-2.result.now))) numbers c.in_ok-states.ensures.ok in
-    let arms = subst (λ vs. AreArms one two c.in_ok-states.states.items (arms_at (variants_of c.args.layout.variants) (source_order (length all)) vs)) same own in
+    let own : AreArms one two (map (λ l. l.size) (variants_of c.args.layout.variants)) c.in_ok-states.states.items (arms_at (variants_of c.args.layout.variants) (source_order (length all)) (variants_in one c.deref-2.result.now)) =
+    subst (λ ns. AreArms one two (map (λ l. l.size) (variants_of c.args.layout.variants)) c.in_ok-states.states.items (arms_at (variants_of c.args.layout.variants) ns (variants_in one c.deref-2.result.now))) numbers c.in_ok-states.ensures.ok in
+    let arms = subst (λ vs. AreArms one two (map (λ l. l.size) (variants_of c.args.layout.variants)) c.in_ok-states.states.items (arms_at (variants_of c.args.layout.variants) (source_order (length all)) vs)) same own in
     let tag : IsPut old one c.in_ok-tag.tag (one_scalar c.args.dl.now c.args.tag) = rw c.scalar.ensures.exact at put in
     let told = states_told c.args.layout (all_at old c.args.prefix.items) c.args.prefix.items (one_scalar c.args.dl.now c.args.tag) (variants_of c.args.layout.variants) (all_at old locals) all
     (length-map c.args.prefix.items (placed_in (types_in old))) in
     IfOk-weaker c.add-2.result _ _
     (λ i last. subst (IsPut old c.add-2.new.nodes.items i) told
-    (IsPut-states old one two _ c.in_ok-tag.tag i (one_scalar c.args.dl.now c.args.tag) c.args.prefix c.in_ok-states.states _ c.args.layout tag arms last prefix))
+    (IsPut-states old one two _ c.in_ok-tag.tag i (one_scalar c.args.dl.now c.args.tag) c.args.prefix c.in_ok-states.states _ _ c.args.layout tag arms last prefix))
     c.add-2.ensures.ok

@@ -4,7 +4,8 @@ use Rattle.std.proofs.lemmas.Result.{IfOk-weaker}
 use Rattle.rustc_abi.specs.Placed.{Placed}
 use Rattle.rustc_abi.specs.Adding.{HasVariants, all_at, variants_in}
 use Rattle.rustc_abi.proofs.AddedEnumLemmas.{IsAdded-enum-as, enum_refused, enumed_nodes}
-use Rattle.rustc_abi.proofs.FaultlessLemmas.{few_variants}
+use Rattle.rustc_abi.proofs.EnumPlacesLemmas.{enum_places, few_nodes}
+use Rattle.rustc_abi.proofs.FaultlessLemmas.{few_fields, few_variants}
 use Rattle.rustc_abi.proofs.ListLemmas.{passed_on}
 use Rattle.rustc_abi.proofs.lay_enum.add_faultless_enum.Goals as goal
 
@@ -31,6 +32,19 @@ add_placed-requires-clause-few c =
     let ns = c.args.nodes.now.items in
     let few = few_variants c.args.dl.now c.args.repr.now c.args.numbers.now (variants_in ns c.args.children.now) c.requires.faultless in
     omega (arith, few, length-map c.args.children.now (λ fields. all_at ns fields.items))
+
+pub add_placed-requires-clause-few_each : goal.add_placed-requires-clause-few_each
+add_placed-requires-clause-few_each c =
+    let ns = c.args.nodes.now.items in
+    few_nodes ns c.args.children.now (few_fields c.args.dl.now c.args.repr.now c.args.numbers.now (variants_in ns c.args.children.now) c.requires.faultless)
+
+pub add_placed-requires-clause-places : goal.add_placed-requires-clause-places
+add_placed-requires-clause-places c =
+    let ns = c.args.nodes.now.items in
+    let variants : List (List Placed) = variants_in ns c.args.children.now in
+    let long : length c.args.numbers.now ≡ length variants = omega (arith, c.requires.each, length-map c.args.children.now (λ fields. all_at ns fields.items)) in
+    let enumed = rw c.deref.ensures.value at c.in_ok-layout.ensures.ok in
+    enum_places c.args.dl.now c.requires.data_layout c.args.repr.now c.args.numbers.now variants c.requires.faultless long c.requires.lawful c.in_ok-layout.layout enumed
 
 pub returns-clause-ok : goal.returns-clause-ok
 returns-clause-ok c =

@@ -1,9 +1,18 @@
-use Rattle.std.proofs.Common.{arith, ◌∙◌}
+use Rattle.std.proofs.Common.{ap, arith, sym, ◌∙◌}
+use Rattle.abi_scalar.specs.declared.variants.Variants.TheVariants.{Single as OneVariant}
+use Rattle.rustc_abi.proofs.EnumPlacesLemmas.{single_keeps}
 use Rattle.rustc_abi.proofs.ArmNodesLemmas.{one_before}
 use Rattle.rustc_abi.proofs.lay_enum.add_placed.Goals as goal
 
-pub add-requires-in-Single : goal.add-requires-in-Single
-add-requires-in-Single c =
+pub add-requires-in-Single-clause-laws : goal.add-requires-in-Single-clause-laws
+add-requires-in-Single-clause-laws c =
+    let there = rw c.in-Single.is at c.requires.variants in
+    let places = rw c.in-Single.is at c.requires.places in
+    single_keeps c.args.nodes.now.items c.args.layout c.of-mark.result c.args.children.now c.as_usize.result c.index-children-as_usize.result c.in_ok-fields-in-Single.fields
+    (c.in-Single.is ∙ ap OneVariant (sym c.as_usize.ensures)) (rw c.as_usize.ensures places) (omega arith) c.index-children-as_usize.is (c.in_ok-fields-in-Single.ensures.items ∙ c.deref.ensures.value)
+
+pub add-requires-in-Single-clause-earlier : goal.add-requires-in-Single-clause-earlier
+add-requires-in-Single-clause-earlier c =
     let there = rw c.in-Single.is at c.requires.variants in
     one_before c.args.nodes.now.len _ c.args.children.now c.as_usize.result c.index-children-as_usize.result c.in_ok-fields-in-Single.fields.items
     (omega arith) (omega arith) c.index-children-as_usize.is (c.in_ok-fields-in-Single.ensures.items ∙ c.deref.ensures.value) c.requires.there

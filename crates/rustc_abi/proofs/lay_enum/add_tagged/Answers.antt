@@ -1,11 +1,11 @@
-use Rattle.std.proofs.Common.{length, arith, subst}
+use Rattle.std.proofs.Common.{length, map, arith, subst}
 use Rattle.std.proofs.lemmas.Result.{IfOk-weaker}
 use Rattle.abi_scalar.specs.Variant.{variants_of}
 use Rattle.rustc_abi.specs.Laying.{one_scalar}
 use Rattle.rustc_abi.specs.Enums.{arms_at}
 use Rattle.rustc_abi.specs.Adding.{AreArms, IsPut}
 use Rattle.rustc_abi.proofs.NodesLemmas.{length-types_in}
-use Rattle.rustc_abi.proofs.ArmNodesLemmas.{IsPut-tagged, tagged_before, there_within, variants_in-kept}
+use Rattle.rustc_abi.proofs.ArmNodesLemmas.{IsPut-tagged, tagged_before, tagged_keeps, there_within, variants_in-kept}
 use Rattle.rustc_abi.proofs.lay_enum.add_tagged.Goals as goal
 
 pub add_variants-requires-clause-there : goal.add_variants-requires-clause-there
@@ -13,10 +13,21 @@ add_variants-requires-clause-there c =
     let put = c.in_ok-tag.ensures.ok in
     there_within c.args.nodes.now.len _ (omega (arith, put.kept.longer, length-types_in c.args.nodes.now.items, length-types_in c.add.new.nodes.items)) c.args.children.now c.requires.there
 
-pub add-requires-2 : goal.add-requires-2
-add-requires-2 c =
+pub add_variants-requires-clause-inside : goal.add_variants-requires-clause-inside
+add_variants-requires-clause-inside c =
+    let there = there_within c.args.nodes.now.len (length c.args.nodes.now.items) (omega arith) c.args.children.now c.requires.there in
+    rw (variants_in-kept c.args.nodes.now.items c.add.new.nodes.items c.in_ok-tag.ensures.ok.kept c.args.children.now there) c.requires.inside
+
+pub add-requires-2-clause-laws : goal.add-requires-2-clause-laws
+add-requires-2-clause-laws c =
+    let put : IsPut c.args.nodes.now.items c.add.new.nodes.items c.in_ok-tag.tag (one_scalar c.args.dl.now c.args.tag) = rw c.scalar.ensures.exact at c.in_ok-tag.ensures.ok in
+    tagged_keeps c.add.new.nodes.items c.add_variants.new.nodes.items c.in_ok-tag.tag (one_scalar c.args.dl.now c.args.tag) c.in_ok-variants.variants _ c.args.layout c.args.mark _
+    (omega (arith, put.last)) put.meant c.in_ok-variants.ensures.ok c.requires.places c.requires.inside
+
+pub add-requires-2-clause-earlier : goal.add-requires-2-clause-earlier
+add-requires-2-clause-earlier c =
     let put = c.in_ok-tag.ensures.ok in
-    tagged_before c.add.new.nodes.items c.add_variants.new.nodes.items c.in_ok-tag.tag _ c.in_ok-variants.variants _ (omega (arith, put.last)) (omega arith) c.in_ok-variants.ensures.ok
+    tagged_before c.add.new.nodes.items c.add_variants.new.nodes.items c.in_ok-tag.tag _ c.in_ok-variants.variants _ _ c.args.mark (omega (arith, put.last)) (omega arith) c.in_ok-variants.ensures.ok
 
 pub returns-clause-ok : goal.returns-clause-ok
 returns-clause-ok c =
@@ -26,8 +37,8 @@ returns-clause-ok c =
     let put = c.in_ok-tag.ensures.ok in
     let there = there_within c.args.nodes.now.len (length old) (omega arith) c.args.children.now c.requires.there in
     let same = variants_in-kept old one put.kept c.args.children.now there in
-    let arms = subst (λ vs. AreArms one two c.in_ok-variants.variants.items (arms_at (variants_of c.args.layout.variants) c.args.numbers.now vs)) same c.in_ok-variants.ensures.ok in
+    let arms = subst (λ vs. AreArms one two (map (λ l. l.size) (variants_of c.args.layout.variants)) c.in_ok-variants.variants.items (arms_at (variants_of c.args.layout.variants) c.args.numbers.now vs)) same c.in_ok-variants.ensures.ok in
     let tag : IsPut old one c.in_ok-tag.tag (one_scalar c.args.dl.now c.args.tag) = rw c.scalar.ensures.exact at put in
     IfOk-weaker c.add-2.result _ _
-    (λ i last. IsPut-tagged old one two _ c.in_ok-tag.tag i (one_scalar c.args.dl.now c.args.tag) c.in_ok-variants.variants _ c.args.layout tag arms last)
+    (λ i last. IsPut-tagged old one two _ c.in_ok-tag.tag i (one_scalar c.args.dl.now c.args.tag) c.in_ok-variants.variants _ _ c.args.layout c.args.mark tag arms last)
     c.add-2.ensures.ok

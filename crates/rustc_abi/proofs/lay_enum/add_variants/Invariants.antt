@@ -1,4 +1,5 @@
 -- The variants before have their nodes.
+use Rattle.std.specs.Prelude.{map, take}
 use Rattle.abi_scalar.specs.Variant.{variants_of}
 use Rattle.rustc_abi.specs.Adding.{AreArms, variants_in}
 use Rattle.rustc_abi.proofs.ArmNodesLemmas.{arms_up_to}
@@ -6,5 +7,5 @@ use Rattle.rustc_abi.proofs.lay_enum.add_variants.Given as goal
 
 abbrev pub invariant-loop-at : goal.invariant-loop-at
 invariant-loop-at l =
-    AreArms l.fn.nodes.items l.nodes.items l.variants.items
+    AreArms l.fn.nodes.items l.nodes.items (map (λ v. v.size) (take l.at (variants_of l.layout.variants))) l.variants.items
     (arms_up_to l.at (variants_of l.layout.variants) l.numbers (variants_in l.fn.nodes.items l.children))

@@ -7,6 +7,7 @@ use Rattle.rustc_abi.specs.Laying.{IsListed}
 use Rattle.rustc_abi.specs.Error.{IsRefused}
 use Rattle.rustc_abi.specs.Adding.{all_at}
 use Rattle.rustc_abi.proofs.LayLemmas.{IsAdded-fields, faultless_few, faultless_aligns, kind_cases, fields_refused}
+use Rattle.rustc_abi.proofs.LawsLemmas.{list_places}
 use Rattle.rustc_abi.proofs.ListLemmas.{all_below, passed_on}
 use Rattle.rustc_abi.proofs.lay_fields.add_faultless_fields.Goals as goal
 
@@ -29,8 +30,18 @@ fields_layout-requires-clause-count c =
 pub fields_layout-requires-clause-lawful : goal.fields_layout-requires-clause-lawful
 fields_layout-requires-clause-lawful c = rw (c.deref-2.ensures.value, c.deref-3.ensures.value) c.requires.lawful
 
-pub add-requires : goal.add-requires
-add-requires c = all_below _ c.args.children.items c.requires.there
+pub add-requires-clause-laws : goal.add-requires-clause-laws
+add-requires-clause-laws c =
+    let dl = c.args.dl.now in
+    let ns = c.args.nodes.now.items in
+    let ps = all_at ns c.args.children.items in
+    let as_many : length ps ≡ length c.args.children.items = length-map c.args.children.items (placed_in (types_in ns)) in
+    let told = rw (c.deref-2.ensures.value, c.deref-3.ensures.value) at c.in_ok-layout.ensures.ok in
+    let apart = rw (c.deref-2.ensures.value, c.deref-3.ensures.value) at c.in_ok-layout.ensures.apart in
+    list_places dl c.args.repr.now _ (types_in ns) c.in_ok-layout.layout c.args.children.items told apart (omega (arith, faultless_few c.args.repr.now ps c.requires.faultless, as_many))
+
+pub add-requires-clause-earlier : goal.add-requires-clause-earlier
+add-requires-clause-earlier c = all_below _ c.args.children.items c.requires.there
 
 pub returns-clause-ok : goal.returns-clause-ok
 returns-clause-ok c =
@@ -44,7 +55,7 @@ returns-clause-ok c =
     let niche = rw (c.deref-2.ensures.value, c.deref-3.ensures.value) at c.in_ok-layout.ensures.niche in
     IfOk-weaker c.add.result _ _
     (λ i put ts laid fits. IsAdded-fields dl _ _ i c.args.repr.now c.args.always_sized ps _ ts c.requires.faultless listed c.in_ok-layout.ensures.lawful niche apart put laid fits)
-    c.add.ensures.ok
+    (rw c.of.ensures at c.add.ensures.ok)
 
 pub returns-in_err-layout-clause-err : goal.returns-in_err-layout-clause-err
 returns-in_err-layout-clause-err c =

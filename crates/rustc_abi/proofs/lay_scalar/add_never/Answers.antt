@@ -1,6 +1,7 @@
 use Rattle.std.proofs.Common.{refl, subst}
 use Rattle.std.proofs.lemmas.Result.{IfOk-weaker}
 use Rattle.abi_scalar.specs.Lawful.{IsLawfulLayout}
+use Rattle.rustc_abi.specs.declared.mark.Mark.TheVariants.{Never}
 use Rattle.rustc_abi.specs.Placed.{never as placed_never}
 use Rattle.rustc_abi.specs.Adding.{IsPut}
 use Rattle.rustc_abi.proofs.EmptyLemmas.{Fits-never}
@@ -12,5 +13,5 @@ returns-clause-ok c =
     let dl = c.args.dl.now in
     let lawful = subst (IsLawfulLayout dl) c.never_type.ensures.exact (c.never_type.ensures.lawful c.requires) in
     IfOk-weaker c.add.result _ _
-    (λ i put. IsAdded-put dl _ _ i _ _ (subst (λ l. IsPut c.args.nodes.now.items c.add.new.nodes.items i (placed_never l)) c.never_type.ensures.exact put) refl (Fits-never dl lawful))
+    (λ i put. IsAdded-put dl _ _ i _ _ (subst (λ l. IsPut c.args.nodes.now.items c.add.new.nodes.items i (placed_never l Never)) c.never_type.ensures.exact put) refl (Fits-never dl lawful))
     c.add.ensures.ok

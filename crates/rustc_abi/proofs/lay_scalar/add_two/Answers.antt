@@ -1,4 +1,4 @@
-use Rattle.std.proofs.Common.{◌≡◌, ◌<◌, arith, ap, subst}
+use Rattle.std.proofs.Common.{◌≡◌, ◌<◌, ◌∙◌, arith, ap, subst}
 use Rattle.std.specs.Cmp.Derive.{both_true}
 use Rattle.std.proofs.lemmas.Bool.{lt-ltb}
 use Rattle.std.proofs.lemmas.Result.{IfOk-weaker}
@@ -11,6 +11,7 @@ use Rattle.rustc_abi.specs.Nodes.{meaning, types_in}
 use Rattle.rustc_abi.specs.Adding.{IsPut}
 use Rattle.rustc_abi.proofs.NodesLemmas.{length-types_in}
 use Rattle.rustc_abi.proofs.FaultLemmas.{faultless}
+use Rattle.rustc_abi.proofs.LawsLemmas.{pair_laws}
 use Rattle.rustc_abi.proofs.LayLemmas.{IsAdded-pair}
 use Rattle.rustc_abi.proofs.lay_scalar.add_two.Goals as goal
 
@@ -20,8 +21,22 @@ scalar_pair-requires-clause-first c = lawful_readable c.args.dl.now c.args.a (fa
 pub scalar_pair-requires-clause-second : goal.scalar_pair-requires-clause-second
 scalar_pair-requires-clause-second c = lawful_readable c.args.dl.now c.args.b (faultless c.args.dl.now c.args.b c.requires.second)
 
-pub add-requires : goal.add-requires
-add-requires c =
+pub add-requires-clause-laws : goal.add-requires-clause-laws
+add-requires-clause-laws c =
+    let dl = c.args.dl.now in
+    let a = c.args.a in
+    let b = c.args.b in
+    let made = c.in_ok-layout.ensures.exact in
+    let size : c.in_ok-layout.layout.size ≡ pair_size dl a b = ap (λ l. l.size) made in
+    let below : pair_size dl a b < size_bound dl = omega (arith, size, c.bytes.ensures, c.obj_size_bound.ensures, c.if-bytes-obj_size_bound.false) in
+    let lawful = c.in_ok-layout.ensures.lawful (faultless dl a c.requires.first) (faultless dl b c.requires.second) below in
+    let first = c.in_ok-first.ensures.ok in
+    let second = c.in_ok-second.ensures.ok in
+    let one = second.kept.same c.in_ok-first.first (omega (arith, first.last, length-types_in c.add_lawful.new.nodes.items)) ∙ first.meant in
+    pair_laws dl (types_in c.add_lawful-2.new.nodes.items) c.in_ok-first.first c.in_ok-second.second a b c.in_ok-layout.layout one second.meant made lawful
+
+pub add-requires-clause-earlier : goal.add-requires-clause-earlier
+add-requires-clause-earlier c =
     let first = c.in_ok-first.ensures.ok in
     let second = c.in_ok-second.ensures.ok in
     both_true (lt-ltb c.in_ok-first.first _ (omega (arith, first.last, second.last, second.kept.longer, length-types_in c.add_lawful.new.nodes.items, length-types_in c.add_lawful-2.new.nodes.items)))

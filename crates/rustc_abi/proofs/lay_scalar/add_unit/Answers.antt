@@ -2,6 +2,7 @@ use Rattle.std.proofs.Common.{refl, subst}
 use Rattle.std.proofs.lemmas.Result.{IfOk-weaker}
 use Rattle.abi_scalar.specs.Lawful.{IsLawfulLayout}
 use Rattle.abi_scalar.specs.Shape.{listed_offsets}
+use Rattle.rustc_abi.specs.declared.mark.Mark.TheVariants.{Unit}
 use Rattle.rustc_abi.specs.Placed.{fields}
 use Rattle.rustc_abi.specs.Nodes.{parts_at}
 use Rattle.rustc_abi.specs.Adding.{IsPut, all_at}
@@ -15,5 +16,5 @@ returns-clause-ok c =
     let lawful = subst (IsLawfulLayout dl) c.unit.ensures.exact (c.unit.ensures.lawful c.requires) in
     IfOk-weaker c.add.result _ _
     (λ i put. IsAdded-put dl _ _ i _ _
-    (subst (λ l. IsPut c.args.nodes.now.items c.add.new.nodes.items i (fields l (parts_at (listed_offsets l.fields) (all_at c.args.nodes.now.items c.new.result.items)))) c.unit.ensures.exact put) refl (Fits-unit dl lawful))
+    (subst (λ l. IsPut c.args.nodes.now.items c.add.new.nodes.items i (fields l Unit (parts_at (listed_offsets l.fields) (all_at c.args.nodes.now.items c.new.result.items)))) c.unit.ensures.exact put) refl (Fits-unit dl lawful))
     c.add.ensures.ok

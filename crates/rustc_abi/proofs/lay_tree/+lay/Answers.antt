@@ -7,10 +7,10 @@ use Rattle.rustc_abi.specs.Enums.{discriminants_of}
 use Rattle.rustc_abi.specs.Laying.{AreLaying}
 use Rattle.rustc_abi.specs.Adding.{tree_size, trees_size}
 use Rattle.rustc_abi.proofs.TreeLemmas.{tree_of-Array, tree_of-Enum, tree_of-Vector, tree_of-Struct, tree_of-Union, tree_of-Coroutine, trees_size-at, variants_size-at, falls-Enum}
-use Rattle.rustc_abi.proofs.LayLemmas.{EachFits-lawful, AreAdded-more, IsAdded-after, AreAdded-after, struct_refused}
+use Rattle.rustc_abi.proofs.LayLemmas.{EachFits-lawful, VariantsFit-lawful, AreAdded-more, IsAdded-after, AreAdded-after, struct_refused}
 use Rattle.rustc_abi.proofs.RefusalLemmas.{each_refused, variants_refused, enum_refused}
 use Rattle.rustc_abi.proofs.VariantsLemmas.{AreVariantsAdded-after, AreVariantsAdded-more, numbers_of_nodes}
-use Rattle.rustc_abi.proofs.AddedEnumLemmas.{VariantsFit-lawful, enum_tree_refused}
+use Rattle.rustc_abi.proofs.AddedEnumLemmas.{enum_tree_refused}
 use Rattle.rustc_abi.specs.Error.{IsRefused}
 use Rattle.rustc_abi.proofs.AddedCoroutineLemmas.{AreAdded-later, coroutine_tree_refused}
 use Rattle.rustc_abi.proofs.TogetherLemmas.{union_tree_refused}

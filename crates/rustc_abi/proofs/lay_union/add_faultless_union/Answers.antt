@@ -5,6 +5,7 @@ use Rattle.rustc_abi.specs.Nodes.{placed_in, types_in}
 use Rattle.rustc_abi.specs.Adding.{all_at}
 use Rattle.rustc_abi.proofs.LayLemmas.{faultless_few, faultless_aligns}
 use Rattle.rustc_abi.proofs.TogetherLemmas.{IsAdded-union, union_refused}
+use Rattle.rustc_abi.proofs.LawsLemmas.{union_places}
 use Rattle.rustc_abi.proofs.ListLemmas.{all_below, passed_on}
 use Rattle.rustc_abi.proofs.lay_union.add_faultless_union.Goals as goal
 
@@ -20,15 +21,23 @@ union_layout-requires-clause-count c =
 pub union_layout-requires-clause-lawful : goal.union_layout-requires-clause-lawful
 union_layout-requires-clause-lawful c = rw (c.deref.ensures.value, c.deref-2.ensures.value) c.requires.lawful
 
-pub add-requires : goal.add-requires
-add-requires c = all_below _ c.args.children.items c.requires.there
+pub add-requires-clause-laws : goal.add-requires-clause-laws
+add-requires-clause-laws c =
+    let ns = c.args.nodes.now.items in
+    let ps = all_at ns c.args.children.items in
+    let as_many : length ps ≡ length c.args.children.items = length-map c.args.children.items (placed_in (types_in ns)) in
+    let united = rw (c.deref.ensures.value, c.deref-2.ensures.value) at c.in_ok-layout.ensures.ok in
+    union_places c.args.dl.now c.args.repr.now (types_in ns) c.in_ok-layout.layout c.args.children.items united (omega (arith, faultless_few c.args.repr.now ps c.requires.faultless, as_many))
+
+pub add-requires-clause-earlier : goal.add-requires-clause-earlier
+add-requires-clause-earlier c = all_below _ c.args.children.items c.requires.there
 
 pub returns-clause-ok : goal.returns-clause-ok
 returns-clause-ok c =
     let united = rw (c.deref.ensures.value, c.deref-2.ensures.value) at c.in_ok-layout.ensures.ok in
     IfOk-weaker c.add.result _ _
     (λ i put ts laid fits. IsAdded-union c.args.dl.now _ _ i c.args.repr.now _ _ ts c.requires.faultless united c.in_ok-layout.ensures.lawful put laid fits)
-    c.add.ensures.ok
+    (rw c.of.ensures at c.add.ensures.ok)
 
 pub returns-in_err-layout-clause-err : goal.returns-in_err-layout-clause-err
 returns-in_err-layout-clause-err c =

@@ -1,10 +1,11 @@
-use Rattle.std.proofs.Common.{◌≡◌, Some, Ok, ℕ, sym, subst}
+use Rattle.std.proofs.Common.{◌≡◌, Some, Ok, ℕ, ap, sym, subst}
 use Rattle.std.proofs.lemmas.Result.{IfOk-weaker}
 use Rattle.abi_calc.specs.Array.{array_answer}
 use Rattle.abi_calc.specs.Simd.{simd_answer}
 use Rattle.rustc_abi.specs.Placed.{layout_of}
 use Rattle.rustc_abi.specs.Error.{named}
-use Rattle.rustc_abi.specs.Nodes.{placed_at}
+use Rattle.rustc_abi.specs.Nodes.{placed_at, types_in}
+use Rattle.rustc_abi.proofs.LawsLemmas.{elements_laws, vector_laws}
 use Rattle.rustc_abi.proofs.TogetherLemmas.{IsAdded-vector}
 use Rattle.rustc_abi.proofs.lay_vector.add_vector.Goals as goal
 
@@ -13,6 +14,22 @@ vector_layout-requires-clause-lawful c = rw c.deref.ensures.value c.requires.law
 
 pub elements_layout-requires-clause-lawful : goal.elements_layout-requires-clause-lawful
 elements_layout-requires-clause-lawful c = rw c.deref-2.ensures.value c.requires.lawful
+
+pub add-requires-clause-laws : goal.add-requires-clause-laws
+add-requires-clause-laws c =
+    let listed =
+    subst (λ ns. Ok c.in_ok-array.array ≡ named {H = ℕ} (array_answer 0 c.args.dl.now (layout_of (placed_at ns c.args.element)) (Some c.args.lanes))) c.deref-2.ensures.value c.in_ok-array.ensures.exact in
+    elements_laws c.args.dl.now (types_in c.args.nodes.now.items) c.args.element c.args.lanes c.in_ok-array.array (sym listed)
+
+pub add-requires-2-clause-laws : goal.add-requires-2-clause-laws
+add-requires-2-clause-laws c =
+    let dl = c.args.dl.now in
+    let answer =
+    subst (λ ns. named (simd_answer (λ h. h) 0 0 dl (layout_of (placed_at ns c.args.element)) c.args.lanes c.args.packed) ≡ Ok c.in_ok-layout.layout) c.deref.ensures.value c.in_ok-layout.ensures.ok in
+    let listed =
+    subst (λ ns. Ok c.in_ok-array.array ≡ named {H = ℕ} (array_answer 0 dl (layout_of (placed_at ns c.args.element)) (Some c.args.lanes))) c.deref-2.ensures.value c.in_ok-array.ensures.exact in
+    vector_laws dl (types_in c.add.new.nodes.items) c.in_ok-node.node (layout_of (placed_at c.args.nodes.now.items c.args.element)) c.args.lanes c.args.packed c.in_ok-array.array c.in_ok-layout.layout
+    (ap layout_of c.in_ok-node.ensures.ok.meant) answer (sym listed)
 
 pub returns-clause-ok : goal.returns-clause-ok
 returns-clause-ok c =

@@ -58,14 +58,14 @@ data_runs-fields_runs-requires t c =
 
 pub data_runs-fields_runs-requires-in-Fields : goal.data_runs-fields_runs-requires-in-Fields
 data_runs-fields_runs-requires-in-Fields t c =
-    let facts = fields_node c.args.nodes.now c.requires.well c.args.node _ c.requires.there c.index-nodes-node.is c.requires.room c.in-Fields.children c.in-Fields.is in
+    let facts = fields_node c.args.nodes.now c.requires.well c.args.node _ c.requires.there c.index-nodes-node.is c.requires.room c.in-Fields.field-0 c.in-Fields.children c.in-Fields.is in
     (omega (arith, c.decreases), (c.requires.there, (rw c.deref-in-Fields.ensures.value facts.0, (c.requires.well, rw c.bytes-size.ensures (rw c.offsets-in-Fields.ensures (rw c.deref-in-Fields.ensures.value facts.2))))))
 
 pub data_runs-fields_runs-requires-in-Union : goal.data_runs-fields_runs-requires-in-Union
 data_runs-fields_runs-requires-in-Union t c =
     let ns = c.args.nodes.now in
     let children : List ℕ = c.in-Union.children.items in
-    let facts = union_node ns c.requires.well c.args.node _ c.requires.there c.index-nodes-node.is c.requires.room c.in-Union.children c.in-Union.is in
+    let facts = union_node ns c.requires.well c.args.node _ c.requires.there c.index-nodes-node.is c.requires.room c.in-Union.field-0 c.in-Union.children c.in-Union.is in
     let many : c.len.result ≡ length children = omega arith in
     let zeros : c.deref-in-Union.result.now ≡ replicate (length children) 0 = c.deref-in-Union.ensures.value ∙ c.in_ok-zeros-in-Union.ensures ∙ ap (λ n. replicate n 0) many in
     let room : have_room c.index-nodes-node.result.layout.size (parts_at (replicate (length children) 0) (all_at ns children)) ≡ true =
@@ -81,7 +81,7 @@ pub data_runs-returns-in_ok-zeros-in-Union-clause-covers : goal.data_runs-return
 data_runs-returns-in_ok-zeros-in-Union-clause-covers t c =
     let ns = c.args.nodes.now in
     let children : List ℕ = c.in-Union.children.items in
-    let facts = union_node ns c.requires.well c.args.node _ c.requires.there c.index-nodes-node.is c.requires.room c.in-Union.children c.in-Union.is in
+    let facts = union_node ns c.requires.well c.args.node _ c.requires.there c.index-nodes-node.is c.requires.room c.in-Union.field-0 c.in-Union.children c.in-Union.is in
     let many : c.len.result ≡ length children = omega arith in
     let zeros : c.deref-in-Union.result.now ≡ replicate (length children) 0 = c.deref-in-Union.ensures.value ∙ c.in_ok-zeros-in-Union.ensures ∙ ap (λ n. replicate n 0) many in
     IfOk-weaker c.fields_runs-in-Union.result _ _
@@ -99,7 +99,7 @@ data_runs-returns-in-Vector-clause-covers t c =
 
 pub data_runs-returns-in-Never-clause-covers : goal.data_runs-returns-in-Never-clause-covers
 data_runs-returns-in-Never-clause-covers t c =
-    let is = never_node c.args.nodes.now c.requires.well c.args.node _ c.requires.there c.index-nodes-node.is c.requires.room c.in-Never.is in
+    let is = never_node c.args.nodes.now c.requires.well c.args.node _ c.requires.there c.index-nodes-node.is c.requires.room c.in-Never.field-0 c.in-Never.is in
     IfOk-weaker c.whole-in-Never.result _ _ (λ runs same k. same k ∙ ap (nat_lt k) c.bytes-size.ensures ∙ ap (λ p. is_data_place p k) (sym is)) c.whole-in-Never.ensures.covers
 
 pub data_runs-returns-in-Pair-clause-covers : goal.data_runs-returns-in-Pair-clause-covers
@@ -131,7 +131,7 @@ data_runs-returns-in_ok-runs-in-Elements-clause-covers t c =
 
 pub data_runs-returns-in-Fields-clause-covers : goal.data_runs-returns-in-Fields-clause-covers
 data_runs-returns-in-Fields-clause-covers t c =
-    let facts = fields_node c.args.nodes.now c.requires.well c.args.node _ c.requires.there c.index-nodes-node.is c.requires.room c.in-Fields.children c.in-Fields.is in
+    let facts = fields_node c.args.nodes.now c.requires.well c.args.node _ c.requires.there c.index-nodes-node.is c.requires.room c.in-Fields.field-0 c.in-Fields.children c.in-Fields.is in
     IfOk-weaker c.fields_runs-in-Fields.result _ _
     (λ runs same k. same k
     ∙ ap (λ os. is_place_of_part (parts_at os (all_at c.args.nodes.now c.deref-in-Fields.result.now)) k) c.offsets-in-Fields.ensures
@@ -210,12 +210,12 @@ fields_runs-returns-clause-covers t c =
 
 pub data_runs-fields_runs-requires-in-Single : goal.data_runs-fields_runs-requires-in-Single
 data_runs-fields_runs-requires-in-Single t c =
-    let facts = single_node c.args.nodes.now c.requires.well c.args.node _ c.requires.there c.index-nodes-node.is c.requires.room c.in-Single.children c.in-Single.is in
+    let facts = single_node c.args.nodes.now c.requires.well c.args.node _ c.requires.there c.index-nodes-node.is c.requires.room c.in-Single.field-0 c.in-Single.children c.in-Single.is in
     (omega (arith, c.decreases), (c.requires.there, (rw c.deref-in-Single.ensures.value facts.0, (c.requires.well, rw c.bytes-size.ensures (rw c.offsets-in-Single.ensures (rw c.deref-in-Single.ensures.value facts.2))))))
 
 pub data_runs-returns-in-Single-clause-covers : goal.data_runs-returns-in-Single-clause-covers
 data_runs-returns-in-Single-clause-covers t c =
-    let facts = single_node c.args.nodes.now c.requires.well c.args.node _ c.requires.there c.index-nodes-node.is c.requires.room c.in-Single.children c.in-Single.is in
+    let facts = single_node c.args.nodes.now c.requires.well c.args.node _ c.requires.there c.index-nodes-node.is c.requires.room c.in-Single.field-0 c.in-Single.children c.in-Single.is in
     IfOk-weaker c.fields_runs-in-Single.result _ _
     (λ runs same k. same k
     ∙ ap (λ os. is_place_of_part (parts_at os (all_at c.args.nodes.now c.deref-in-Single.result.now)) k) c.offsets-in-Single.ensures
@@ -225,7 +225,7 @@ data_runs-returns-in-Single-clause-covers t c =
 
 pub data_runs-tagged_runs-requires : goal.data_runs-tagged_runs-requires
 data_runs-tagged_runs-requires t c =
-    let facts = tagged_node c.args.nodes.now c.requires.well c.args.node _ c.requires.there c.index-nodes-node.is c.requires.room c.in-Tagged.tag c.in-Tagged.variants c.in-Tagged.is in (
+    let facts = tagged_node c.args.nodes.now c.requires.well c.args.node _ c.requires.there c.index-nodes-node.is c.requires.room c.in-Tagged.mark c.in-Tagged.tag c.in-Tagged.variants c.in-Tagged.is in (
       omega (arith, c.decreases),
       (
         c.requires.there,
@@ -245,7 +245,7 @@ data_runs-tagged_runs-requires t c =
 pub data_runs-returns-in-Tagged-clause-covers : goal.data_runs-returns-in-Tagged-clause-covers
 data_runs-returns-in-Tagged-clause-covers t c =
     let ns = c.args.nodes.now in
-    let facts = tagged_node ns c.requires.well c.args.node _ c.requires.there c.index-nodes-node.is c.requires.room c.in-Tagged.tag c.in-Tagged.variants c.in-Tagged.is in
+    let facts = tagged_node ns c.requires.well c.args.node _ c.requires.there c.index-nodes-node.is c.requires.room c.in-Tagged.mark c.in-Tagged.tag c.in-Tagged.variants c.in-Tagged.is in
     let tag : Placed = placed_at ns c.in-Tagged.tag in
     IfOk-weaker c.tagged_runs.result _ _
     (λ runs same k. same k
@@ -257,14 +257,14 @@ data_runs-returns-in-Tagged-clause-covers t c =
 
 pub own_runs-fields_runs-requires : goal.own_runs-fields_runs-requires
 own_runs-fields_runs-requires t c =
-    let facts = own_fields_node c.args.nodes.now c.requires.well c.args.variant _ c.requires.there c.index-nodes-variant.is c.in-Fields.children c.in-Fields.is in
+    let facts = own_fields_node c.args.nodes.now c.requires.well c.args.variant _ c.requires.there c.index-nodes-variant.is c.in-Fields.field-0 c.in-Fields.children c.in-Fields.is in
     let room : have_room c.args.size (parts_at (listed_offsets c.index-nodes-variant.result.layout.fields) (all_at c.args.nodes.now c.in-Fields.children.items)) ≡ true =
     subst (λ parts. have_room c.args.size parts ≡ true) facts.1 c.requires.room in
     (omega (arith, c.decreases), (c.requires.there, (rw c.deref.ensures.value facts.0, (c.requires.well, rw c.offsets.ensures (rw c.deref.ensures.value room)))))
 
 pub own_runs-returns-in-Fields-clause-covers : goal.own_runs-returns-in-Fields-clause-covers
 own_runs-returns-in-Fields-clause-covers t c =
-    let facts = own_fields_node c.args.nodes.now c.requires.well c.args.variant _ c.requires.there c.index-nodes-variant.is c.in-Fields.children c.in-Fields.is in
+    let facts = own_fields_node c.args.nodes.now c.requires.well c.args.variant _ c.requires.there c.index-nodes-variant.is c.in-Fields.field-0 c.in-Fields.children c.in-Fields.is in
     IfOk-weaker c.fields_runs.result _ _
     (λ runs same k. same k
     ∙ ap (λ os. is_place_of_part (parts_at os (all_at c.args.nodes.now c.deref.result.now)) k) c.offsets.ensures

@@ -12,34 +12,34 @@ use Rattle.rustc_abi.proofs.padding.variant_runs.Goals as goal
 
 pub tagged_runs-requires-clause-first : goal.tagged_runs-requires-clause-first
 tagged_runs-requires-clause-first c =
-    let facts = tagged_node c.args.nodes.now c.requires.well c.args.node _ c.requires.there c.index-nodes-node.is c.requires.room c.in-Tagged.tag c.in-Tagged.variants c.in-Tagged.is in
+    let facts = tagged_node c.args.nodes.now c.requires.well c.args.node _ c.requires.there c.index-nodes-node.is c.requires.room c.in-Tagged.mark c.in-Tagged.tag c.in-Tagged.variants c.in-Tagged.is in
     facts.0
 
 pub tagged_runs-requires-clause-before : goal.tagged_runs-requires-clause-before
 tagged_runs-requires-clause-before c =
-    let facts = tagged_node c.args.nodes.now c.requires.well c.args.node _ c.requires.there c.index-nodes-node.is c.requires.room c.in-Tagged.tag c.in-Tagged.variants c.in-Tagged.is in
+    let facts = tagged_node c.args.nodes.now c.requires.well c.args.node _ c.requires.there c.index-nodes-node.is c.requires.room c.in-Tagged.mark c.in-Tagged.tag c.in-Tagged.variants c.in-Tagged.is in
     rw c.only.ensures (rw c.deref.ensures.value (one_before c.args.node c.in-Tagged.variants.items c.args.variant facts.1))
 
 pub tagged_runs-requires-clause-fits : goal.tagged_runs-requires-clause-fits
 tagged_runs-requires-clause-fits c =
-    let facts = tagged_node c.args.nodes.now c.requires.well c.args.node _ c.requires.there c.index-nodes-node.is c.requires.room c.in-Tagged.tag c.in-Tagged.variants c.in-Tagged.is in
+    let facts = tagged_node c.args.nodes.now c.requires.well c.args.node _ c.requires.there c.index-nodes-node.is c.requires.room c.in-Tagged.mark c.in-Tagged.tag c.in-Tagged.variants c.in-Tagged.is in
     rw c.bytes.ensures (rw c.tag_offset.ensures facts.3)
 
 pub tagged_runs-requires-clause-tag : goal.tagged_runs-requires-clause-tag
 tagged_runs-requires-clause-tag c =
-    let facts = tagged_node c.args.nodes.now c.requires.well c.args.node _ c.requires.there c.index-nodes-node.is c.requires.room c.in-Tagged.tag c.in-Tagged.variants c.in-Tagged.is in
+    let facts = tagged_node c.args.nodes.now c.requires.well c.args.node _ c.requires.there c.index-nodes-node.is c.requires.room c.in-Tagged.mark c.in-Tagged.tag c.in-Tagged.variants c.in-Tagged.is in
     facts.4
 
 pub tagged_runs-requires-clause-room : goal.tagged_runs-requires-clause-room
 tagged_runs-requires-clause-room c =
-    let facts = tagged_node c.args.nodes.now c.requires.well c.args.node _ c.requires.there c.index-nodes-node.is c.requires.room c.in-Tagged.tag c.in-Tagged.variants c.in-Tagged.is in
+    let facts = tagged_node c.args.nodes.now c.requires.well c.args.node _ c.requires.there c.index-nodes-node.is c.requires.room c.in-Tagged.mark c.in-Tagged.tag c.in-Tagged.variants c.in-Tagged.is in
     rw c.bytes.ensures (rw c.only.ensures (rw c.deref.ensures.value
     (one_arm_room c.index-nodes-node.result.layout.size (types_in c.args.nodes.now) c.in-Tagged.variants.items c.args.variant facts.5)))
 
 pub returns-in-Tagged-clause-covers : goal.returns-in-Tagged-clause-covers
 returns-in-Tagged-clause-covers c =
     let ns : List Node = c.args.nodes.now in
-    let facts = tagged_node ns c.requires.well c.args.node _ c.requires.there c.index-nodes-node.is c.requires.room c.in-Tagged.tag c.in-Tagged.variants c.in-Tagged.is in
+    let facts = tagged_node ns c.requires.well c.args.node _ c.requires.there c.index-nodes-node.is c.requires.room c.in-Tagged.mark c.in-Tagged.tag c.in-Tagged.variants c.in-Tagged.is in
     let tag : Placed = placed_at ns c.in-Tagged.tag in
     let offset : ℕ = tag_offset c.index-nodes-node.result.layout in
     let vs : List (ℕ × ℕ) = c.in-Tagged.variants.items in

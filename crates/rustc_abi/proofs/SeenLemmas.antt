@@ -1,0 +1,177 @@
+-- Handles see what nodes mean.
+use Rattle.std.proofs.Common.{◌≡◌, ℕ, zero, suc, ◌+◌, ◌<◌, ◌∙◌, List, [], ◌∷◌, ◌++◌, ap, arith, get_or, length, length-append, map, refl, subst, sym, true}
+use Rattle.std.specs.Prelude.{◌&&◌, nat_lt}
+use Rattle.std.specs.List.{list_all}
+use Rattle.std.proofs.lemmas.Bool.{and_parts, false≢true, ltb-true}
+use Rattle.std.proofs.lemmas.List.{get_or-append-add, get_or_append_left, get_or_default, length-map}
+use Rattle.std.proofs.lemmas.Option.{unwrap_or-slice_get}
+use Rattle.abi_scalar.specs.declared.fields_shape.FieldsShape.{FieldsShape}
+use Rattle.abi_scalar.specs.declared.fields_shape.FieldsShape.TheVariants.{Primitive, Union as AtStart, Array, Arbitrary}
+use Rattle.abi_scalar.specs.Shape.{field_offset, listed_offsets}
+use Rattle.abi_types.specs.Ty.Typed.{Typed, field_in, layout_in, no_layout, variant_in}
+use Rattle.rustc_abi.specs.declared.mark.Mark.TheVariants.{Plain}
+use Rattle.rustc_abi.specs.declared.node.Shape.{Shape}
+use Rattle.rustc_abi.specs.declared.node.Shape.TheVariants.{Scalar, Pair, Never, Elements, Fields, Union, Vector, Single, Tagged, States}
+use Rattle.rustc_abi.specs.declared.node.Node.{Node}
+use Rattle.rustc_abi.specs.Placed.{Placed, Layout, scalar, pair, never, elements, vector, fields, union, single, tagged, states}
+use Rattle.rustc_abi.specs.Nodes.{arms_in, meaning, own_fields, parts_at, parts_at_0, placed_at, placed_in, state_tag_offset, types_in}
+use Rattle.rustc_abi.specs.Adding.{are_nodes, is_node}
+use Rattle.rustc_abi.specs.Typed.{all_told, told, type_by, type_in, typed_at}
+use Rattle.rustc_abi.specs.Laws.{has_fields, has_variants, have_places, keep_laws, sizes_at}
+use Rattle.rustc_abi.specs.Seen.{HasOffset, Sees, SeesArms, SeesParts, SeesTypes, last_of}
+use Rattle.rustc_abi.proofs.NodesLemmas.{children_before, pair_before, placed_at-node}
+use Rattle.rustc_abi.proofs.TypedLemmas.{field_count-nodes, fields_below, laws_at, place_below, type_by-place, typed_at-node, variants_below}
+
+-- what a variant has of its own is seen where the variant is
+own_seen : (t : Typed) (p : Placed) → Sees t p → SeesParts t 0 (own_fields p)
+own_seen t (scalar layout s) h = tt
+own_seen t (pair layout parts) h = tt
+own_seen t (never layout mark) h = tt
+own_seen t (elements layout count element) h = tt
+own_seen t (vector layout lanes) h = tt
+own_seen t (fields layout mark parts) h = h.1
+own_seen t (union layout mark parts) h = tt
+own_seen t (single layout mark index parts) h = tt
+own_seen t (tagged layout mark offset tag encoding arms) h = tt
+own_seen t (states layout prefix offset tag arms) h = tt
+
+-- an offset that is listed is the field's
+listed_offset : (fields : FieldsShape ℕ) (k : ℕ) → k < length (listed_offsets fields) → field_offset fields k ≡ get_or (listed_offsets fields) k 0
+listed_offset Primitive k lt = absurd (omega arith)
+listed_offset (AtStart count) k lt = absurd (omega arith)
+listed_offset (Array stride count) k lt = absurd (omega arith)
+listed_offset (Arbitrary offsets order) k lt = unwrap_or-slice_get offsets k 0
+
+-- and where fields have places one by one, it is so past the list
+placed_offset : (whole : ℕ) (fields : FieldsShape ℕ) (sizes : List ℕ) → have_places whole fields sizes ≡ true → (k : ℕ) → field_offset fields k ≡ get_or (listed_offsets fields) k 0
+placed_offset whole Primitive sizes h k = refl
+placed_offset whole (AtStart count) sizes h k = refl
+placed_offset whole (Array stride count) [] h k = absurd (false≢true h)
+placed_offset whole (Array stride count) (m ∷ sizes) h k = absurd (false≢true h)
+placed_offset whole (Arbitrary offsets order) sizes h k = unwrap_or-slice_get offsets k 0
+
+first_index : (j : ℕ) → j ≡ 0 + j
+first_index j = omega arith
+
+module _ (ps : List Placed) (t : Typed) where
+  parts_seen : (offsets cs : List ℕ) (k : ℕ) → ((j : ℕ) → j < length offsets → field_offset (layout_in t).fields (k + j) ≡ get_or offsets j 0) →
+      ((j : ℕ) → j < length cs → Sees (field_in t (k + j)) (placed_in ps (get_or cs j 0))) → SeesParts t k (parts_at offsets (map (placed_in ps) cs))
+  parts_seen [] cs k at each = tt
+  parts_seen (o ∷ offsets) [] k at each = tt
+  parts_seen (o ∷ offsets) (c ∷ cs) k at each =
+      let here : k + 0 ≡ k = omega arith in
+      let up : (j : ℕ) → k + suc j ≡ suc k + j = λ j. omega arith in (
+        subst (λ n. field_offset (layout_in t).fields n ≡ o) here (at 0 (omega arith)),
+        subst (λ n. Sees (field_in t n) (placed_in ps c)) here (each 0 (omega arith)),
+        parts_seen offsets cs (suc k)
+            (λ j lt. subst (λ n. field_offset (layout_in t).fields n ≡ get_or offsets j 0) (up j) (at (suc j) (omega arith)))
+            (λ j lt. subst (λ n. Sees (field_in t n) (placed_in ps (get_or cs j 0))) (up j) (each (suc j) (omega arith))),
+      )
+
+  types_seen : (cs : List ℕ) (k : ℕ) → ((j : ℕ) → j < length cs → Sees (field_in t (k + j)) (placed_in ps (get_or cs j 0))) → SeesTypes t k (parts_at_0 (map (placed_in ps) cs))
+  types_seen [] k each = tt
+  types_seen (c ∷ cs) k each =
+      let here : k + 0 ≡ k = omega arith in
+      let up : (j : ℕ) → k + suc j ≡ suc k + j = λ j. omega arith in (
+        subst (λ n. Sees (field_in t n) (placed_in ps c)) here (each 0 (omega arith)),
+        types_seen cs (suc k) (λ j lt. subst (λ n. Sees (field_in t n) (placed_in ps (get_or cs j 0))) (up j) (each (suc j) (omega arith))),
+      )
+
+  arms_seen : (vs : List (ℕ × ℕ)) (k : ℕ) → ((j : ℕ) → j < length vs → Sees (variant_in t (k + j)) (placed_in ps (get_or (map (λ v. v.1) vs) j 0))) → SeesArms t k (arms_in ps vs)
+  arms_seen [] k each = tt
+  arms_seen (v ∷ vs) k each =
+      let here : k + 0 ≡ k = omega arith in
+      let up : (j : ℕ) → k + suc j ≡ suc k + j = λ j. omega arith in (
+        own_seen (variant_in t k) (placed_in ps v.1) (subst (λ n. Sees (variant_in t n) (placed_in ps v.1)) here (each 0 (omega arith))),
+        arms_seen vs (suc k) (λ j lt. subst (λ n. Sees (variant_in t n) (placed_in ps (get_or (map (λ v. v.1) vs) j 0))) (up j) (each (suc j) (omega arith))),
+      )
+
+module _ (ns : List Node) (i : ℕ) (below : (c : ℕ) → c < i → Sees (typed_at ns c) (placed_at ns c)) where
+  abbrev ts : List Typed
+  ts = all_told [] ns
+
+  abbrev ps : List Placed
+  ps = types_in ns
+
+  each_seen : (cs : List ℕ) → list_all (λ child. nat_lt child i) cs ≡ true → (j : ℕ) → j < length cs → Sees (type_by ts cs j) (placed_in ps (get_or cs j 0))
+  each_seen cs before j lt =
+      let c : ℕ = get_or cs j 0 in
+      subst (λ t. Sees t (placed_in ps c)) (sym (type_by-place ts cs j lt)) (below c (place_below i cs before j lt))
+
+  listed_seen : (t : Typed) (cs : List ℕ) → list_all (λ child. nat_lt child i) cs ≡ true → ((j : ℕ) → j < length cs → field_in t j ≡ type_by ts cs j) →
+      SeesParts t 0 (parts_at (listed_offsets (layout_in t).fields) (map (placed_in ps) cs))
+  listed_seen t cs before same =
+      let offsets : List ℕ = listed_offsets (layout_in t).fields in
+      parts_seen ps t offsets cs 0 (λ j lt. subst (λ n. field_offset (layout_in t).fields n ≡ get_or offsets j 0) (first_index j) (listed_offset (layout_in t).fields j lt))
+      (λ j lt. subst (λ n. Sees (field_in t n) (placed_in ps (get_or cs j 0))) (first_index j)
+      (subst (λ u. Sees u (placed_in ps (get_or cs j 0))) (sym (same j lt)) (each_seen cs before j lt)))
+
+  variants_seen : (t : Typed) (vs : List (ℕ × ℕ)) → list_all (λ child. nat_lt child i) (map (λ v. v.1) vs) ≡ true → ((j : ℕ) → variant_in t j ≡ type_by ts (map (λ v. v.1) vs) j) →
+      SeesArms t 0 (arms_in ps vs)
+  variants_seen t vs before same =
+      let cs : List ℕ = map (λ (v : ℕ × ℕ). v.1) vs in
+      arms_seen ps t vs 0
+      (λ j lt. subst (λ n. Sees (variant_in t n) (placed_in ps (get_or cs j 0))) (first_index j)
+      (subst (λ u. Sees u (placed_in ps (get_or cs j 0))) (sym (same j)) (each_seen cs before j (omega (arith, lt, length-map vs (λ (v : ℕ × ℕ). v.1))))))
+
+  node_seen : (layout : Layout) (shape : Shape) → is_node i shape ≡ true → has_fields ps layout shape ≡ true → Sees (told ts (record { layout = layout; shape = shape })) (meaning ps layout shape)
+  node_seen layout (Scalar s) is h = (refl, refl)
+  node_seen layout (Pair first second) is h =
+      ((refl, refl), listed_seen (told ts (record { layout = layout; shape = Pair first second })) (first ∷ second ∷ []) (pair_before i first second is) (λ j lt. refl))
+  node_seen layout (Never mark) is h = (refl, refl)
+  node_seen layout (Elements count element) is h = ((refl, refl), λ k. below element (ltb-true element i is))
+  node_seen layout (Fields mark children) is h = ((refl, refl), listed_seen (told ts (record { layout = layout; shape = Fields mark children })) children.items is (λ j lt. refl))
+  node_seen layout (Union mark children) is h =
+      let t : Typed = told ts (record { layout = layout; shape = Union mark children }) in
+      let each : (j : ℕ) → j < length children.items → Sees (field_in t (0 + j)) (placed_in ps (get_or children.items j 0)) = λ j lt.
+      subst (λ n. Sees (field_in t n) (placed_in ps (get_or children.items j 0))) (first_index j) (each_seen children.items is j lt) in
+      ((refl, refl), types_seen ps t children.items 0 each)
+  node_seen layout (Vector lanes) is h = ((refl, refl), below lanes (ltb-true lanes i is))
+  node_seen layout (Single mark children) is h = ((refl, refl), listed_seen (told ts (record { layout = layout; shape = Single mark children })) children.items is (λ j lt. refl))
+  node_seen layout (Tagged mark tag variants) is h =
+      let both = and_parts (nat_lt tag i) (list_all (λ v. nat_lt v.1 i) variants.items) is in
+      let t : Typed = told ts (record { layout = layout; shape = Tagged mark tag variants }) in (
+        (refl, refl),
+        placed_offset layout.size layout.fields (sizes_at ps (tag ∷ [])) h 0,
+        below tag (ltb-true tag i both.0),
+        variants_seen t variants.items (variants_below i (Tagged mark tag variants) is) (λ j. refl),
+      )
+  node_seen layout (States prefix tag all) is h =
+      let t : Typed = told ts (record { layout = layout; shape = States prefix tag all }) in
+      let cs : List ℕ = prefix.items ++ tag ∷ [] in
+      let n : ℕ = length prefix.items in
+      let both = and_parts (list_all (λ child. nat_lt child i) prefix.items) (nat_lt tag i && list_all (λ v. nat_lt v.1 i) all.items) is in
+      let beside = and_parts (nat_lt tag i) (list_all (λ v. nat_lt v.1 i) all.items) both.1 in
+      let long : length cs ≡ n + 1 = length-append prefix.items (tag ∷ []) in
+      let last : n ≡ last_of layout = omega (arith, field_count-nodes ps layout cs h, long) in
+      let at : get_or cs n 0 ≡ tag = ap (λ k. get_or cs k 0) (omega arith) ∙ get_or-append-add prefix.items (tag ∷ []) 0 0 in
+      let seen : Sees (type_by ts cs n) (placed_in ps tag) =
+      subst (λ c. Sees (type_by ts cs n) (placed_in ps c)) at (each_seen cs (fields_below i (States prefix tag all) is) n (omega (arith, long))) in
+      let first : (j : ℕ) → j < n → type_by ts cs j ≡ type_by ts prefix.items j = λ j lt.
+      let low : j < length cs = omega (arith, long, lt) in
+      type_by-place ts cs j low ∙ ap (type_in ts) (get_or_append_left prefix.items (tag ∷ []) 0 j lt) ∙ sym (type_by-place ts prefix.items j lt) in (
+        (refl, refl),
+        listed_seen t prefix.items both.0 first,
+        subst (λ k. HasOffset t k (state_tag_offset layout n)) last (placed_offset layout.size layout.fields (sizes_at ps cs) h n),
+        subst (λ k. Sees (field_in t k) (placed_in ps tag)) last seen,
+        variants_seen t all.items (variants_below i (States prefix tag all) is) (λ j. refl),
+      )
+
+module _ (ns : List Node) (well : are_nodes 0 ns ≡ true) (laws : keep_laws [] ns ≡ true) where
+  seen_before : (n i : ℕ) → i < n → i < length ns → Sees (typed_at ns i) (placed_at ns i)
+  seen_before zero i under lt = absurd (omega arith)
+  seen_before (suc n) i under lt =
+      let d : Node = record { layout = no_layout; shape = Never Plain } in
+      let here : Node = get_or ns i d in
+      let at : here ≡ get_or ns i here = get_or_default ns i d here lt in
+      let is : is_node i here.shape ≡ true = children_before ns i d lt well in
+      let both = and_parts (has_fields (types_in ns) here.layout here.shape) (has_variants (types_in ns) here.layout here.shape) (laws_at ns well laws i d lt) in
+      let seen : Sees (told (all_told [] ns) here) (meaning (types_in ns) here.layout here.shape) =
+      node_seen ns i (λ c less. seen_before n c (omega arith) (omega arith)) here.layout here.shape is both.0 in
+      let meant = (placed_at-node ns well i here here.shape lt at refl).1 in
+      subst (λ p. Sees (typed_at ns i) p) (sym meant)
+      (subst (λ t. Sees t (meaning (types_in ns) here.layout here.shape)) (sym (typed_at-node ns well i here lt at)) seen)
+
+  -- what a node is sees what it means
+  pub seen_at : (i : ℕ) → i < length ns → Sees (typed_at ns i) (placed_at ns i)
+  seen_at i lt = seen_before (length ns) i lt lt
