@@ -1,5 +1,7 @@
 //! Walks over the types that were laid out, one of each kind.
 
+ghost use Rattle.rustc_abi.specs.Handles.{IsHandle};
+
 use abi_base::{Integer, Primitive, Size, TargetDataLayout};
 use abi_scalar::{ReprFlags, ReprOptions, Scalar};
 use abi_types::{HomogeneousAggregate, TyAndLayout};
@@ -149,7 +151,9 @@ const MARKED: [(Kind, Marks, Option<usize>); 15] = [
 ];
 
 /// What a type tells of itself.
-fn marks(it: TyAndLayout<'_, TreeTy<'_>>) -> Marks {
+fn marks(it: TyAndLayout<'_, TreeTy<'_>>) -> Marks
+    requires { IsHandle it }
+{
     (
         it.is_adt::<()>(),
         it.is_enum::<()>(),
@@ -279,7 +283,7 @@ fn is_padded(alloc: Global, kind: Kind, wanted: &[(u64, u64)]) -> Result<bool, A
         return Ok(false);
     }
     for (run, pair) in runs.iter().zip(wanted) {
-        if run.start != pair.0 || run.end - run.start != pair.1 {
+        if run.start != pair.0 || run.end != pair.0.wrapping_add(pair.1) {
             return Ok(false);
         }
     }
