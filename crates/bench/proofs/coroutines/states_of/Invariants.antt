@@ -1,0 +1,10 @@
+-- As many as the steps, each held.
+use Rattle.std.proofs.Common.{◌≡◌, All, length}
+use Rattle.bench.specs.Asked.{IsHeld}
+use Rattle.bench.proofs.coroutines.states_of.Given as goal
+
+abbrev pub invariant-loop-step : goal.invariant-loop-step
+invariant-loop-step l = record {
+  count : length l.states.items ≡ l._step;
+  held : All (IsHeld l.locals) l.states.items;
+}

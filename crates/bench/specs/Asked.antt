@@ -1,0 +1,38 @@
+-- What the calculator asks of the calls that are timed.
+use Rattle.std.specs.Prelude.{◌≡◌, ◌≢◌, ℕ, ◌<◌, ◌≤◌, All, List, length, map}
+use Rattle.std.specs.List.{AllPairs}
+use Rattle.abi_base.specs.DataLayout.{IsLawfulDataLayout}
+use Rattle.abi_calc.specs.Enums.Discriminants.{inhabited_of}
+use Rattle.abi_calc.specs.Enums.Several.{IsLawfulTag}
+use Rattle.abi_calc.specs.List.{HasLawfulAligns}
+use Rattle.abi_calc.specs.Placement.{source_order}
+use Rattle.abi_index.specs.Relation.{column_count, row_count}
+use Rattle.abi_scalar.specs.Lawful.{IsLawfulLayout}
+use Rattle.bench.specs.declared.coroutines.Coroutine.{Coroutine}
+use Rattle.bench.specs.declared.enums.Enum.{Enum}
+
+-- What is asked of an enum: each variant has one discriminant, in order, and those of the variants that may have values differ by
+-- the integer of the tag.
+pub record IsLawfulEnum (e : Enum) : Type 0 where
+  pub data_layout : IsLawfulDataLayout e.dl.now
+  pub fields : All (All (λ f. IsLawfulLayout e.dl.now f.now)) e.variants.items
+  pub aligns : HasLawfulAligns e.repr
+  pub few : length e.variants.items ≤ 1_000_000
+  pub each : map (λ item. item.0) e.discriminants.items ≡ source_order (length e.variants.items)
+  pub tag : IsLawfulTag e.dl.now e.repr (inhabited_of (λ i. i) (map (map (λ f. f.now)) e.variants.items) e.discriminants.items) e.tag
+
+-- a state holds these locals: they differ, and each is one of so many
+abbrev pub IsHeld : (count : ℕ) → List ℕ → Type 0
+IsHeld count locals = All (λ local. local < count) locals × AllPairs (λ a b. a ≢ b) locals
+
+-- What is asked of a coroutine: it has states, each holds some of its locals, and the conflicts are between these.
+pub record IsLawfulCoroutine (c : Coroutine) : Type 0 where
+  pub data_layout : IsLawfulDataLayout c.dl.now
+  pub prefix : IsLawfulLayout c.dl.now c.prefix.now
+  pub fields : All (λ f. IsLawfulLayout c.dl.now f.now) c.locals
+  pub few : length c.locals ≤ 1000
+  pub held : All (IsHeld (length c.locals)) c.states.items
+  pub some : 0 < length c.states.items
+  pub most : length c.states.items ≤ 1000
+  pub rows : row_count c.conflicts ≡ length c.locals
+  pub columns : column_count c.conflicts ≡ length c.locals

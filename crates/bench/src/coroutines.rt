@@ -1,0 +1,165 @@
+//! Coroutines.
+
+ghost use Rattle.std.specs.Prelude.{◌≡◌, ◌+◌, ◌<◌, ◌≤◌, All, IfOk, length};
+ghost use Rattle.abi_base.specs.DataLayout.{IsLawfulDataLayout};
+ghost use Rattle.abi_index.specs.Relation.{column_count, row_count};
+ghost use Rattle.abi_scalar.specs.Lawful.{IsLawfulLayout};
+ghost use Rattle.bench.specs.Asked.{IsHeld, IsLawfulCoroutine};
+
+use crate::lawful::are_lawful;
+use crate::leaves::{Fields, Laid, leaves, picked, single};
+use crate::numbers::Numbers;
+use crate::timing::{Timed, time};
+use crate::wanted::asks_for;
+use abi_base::TargetDataLayout;
+use abi_calc::{LayoutCalculator, state_tag};
+use abi_index::{BitMatrix, FieldIdx, IndexSlice, IndexVec, VariantIdx};
+use abi_scalar::LayoutData;
+use std::alloc::{AllocError, Global};
+use std::io;
+use std::rt::Clock;
+
+/// The locals that a state holds, by their places.
+type State = IndexVec<FieldIdx, u32>;
+
+/// A state of eight locals, from a place on.
+fn neighbours(alloc: Global, from: u32) -> Result<State, AllocError>
+    requires { from ≤ 1000 }
+    ensures { IfOk result (IsHeld (from + 8)) }
+{
+    let mut state = IndexVec::new(alloc);
+    for local in from..from + 8 {
+        let _field: FieldIdx = state.push(local)?;
+    }
+    Ok(state)
+}
+
+/// So many states, each of eight of so many locals.
+fn states_of(
+    alloc: Global,
+    numbers: &mut Numbers,
+    locals: u64,
+    count: u64,
+) -> Result<Vec<State>, AllocError>
+    requires some { 8 < locals }
+    requires few { locals ≤ 1000 }
+    ensures count { IfOk result (λ states. length states.items ≡ count) }
+    ensures held { IfOk result (λ states. All (IsHeld locals) states.items) }
+{
+    let mut states = Vec::new(alloc);
+    for _step in 0..count {
+        let from = numbers.below(locals - 8) as u32;
+        states.push(neighbours(alloc, from)?)?;
+    }
+    Ok(states)
+}
+
+/// Twenty times as many conflicts at random as there are locals.
+fn conflicts_of(
+    alloc: Global,
+    numbers: &mut Numbers,
+    locals: u64,
+) -> Result<BitMatrix<u32, u32>, AllocError>
+    requires some { 0 < locals }
+    requires few { locals ≤ 1000 }
+    ensures rows { IfOk result (λ m. row_count m ≡ locals) }
+    ensures columns { IfOk result (λ m. column_count m ≡ locals) }
+{
+    let mut conflicts = BitMatrix::new(alloc, locals as usize, locals as usize)?;
+    for _step in 0..20 * locals {
+        let row = numbers.below(locals) as u32;
+        let column = numbers.below(locals) as u32;
+        let _is_new = conflicts.insert(row, column)?;
+    }
+    Ok(conflicts)
+}
+
+/// A coroutine of these locals and of one prefix field.
+#[derive(Drop)]
+struct Coroutine<'a> {
+    dl: &'a TargetDataLayout,
+    prefix: &'a Laid,
+    locals: Fields<'a>,
+    states: Vec<State>,
+    conflicts: BitMatrix<u32, u32>,
+}
+
+impl Coroutine<'_> {
+    /// The size of the coroutine, 0 where it is refused.
+    #[tactic(auto, using(abi_calc::proofs::OneCoroutine::one_tag))]
+    fn size(&self, alloc: Global) -> Result<u64, AllocError>
+        requires { IsLawfulCoroutine self.now }
+    {
+        let dl = self.dl;
+        let tag: Laid = LayoutData::scalar(dl, state_tag(self.states.len()));
+        let states: IndexSlice<VariantIdx, State> = IndexSlice::new(&self.states);
+        let answer = LayoutCalculator::new(dl).layout_of_coroutine(
+            alloc,
+            IndexSlice::new(self.locals.as_slice().as_raw()),
+            single(alloc, self.prefix)?,
+            states,
+            &self.conflicts,
+            |_tag| &tag,
+        );
+        match answer {
+            Ok(layout) => Ok(layout.size.bytes()),
+            Err(_) => Ok(0),
+        }
+    }
+}
+
+impl Timed for Coroutine<'_> {
+    ghost is_ready = { IsLawfulCoroutine };
+
+    fn made(&self, alloc: Global) -> u64 {
+        self.size(alloc).unwrap_or(0)
+    }
+}
+
+/// Times a coroutine of so many locals, and of 3 states for 8 locals.
+fn time_coroutine(
+    rt: &(impl Clock + Print + AllocGlobal),
+    dl: &TargetDataLayout,
+    leaves: &[Laid],
+    count: u64,
+) -> io::Result<()>
+    requires data_layout { IsLawfulDataLayout dl.now }
+    requires leaves { length leaves.now ≡ 5 }
+    requires some { 8 < count }
+    requires few { count ≤ 1000 }
+{
+    let alloc = rt.alloc();
+    let prefix = &leaves[4];
+    let mut numbers = Numbers::from(31);
+    let locals = picked(alloc, leaves, &mut numbers, count)?;
+    let states = states_of(alloc, &mut numbers, count, 3 * count / 8)?;
+    let conflicts = conflicts_of(alloc, &mut numbers, count)?;
+    if !prefix.is_lawful(dl) || !are_lawful(dl, locals.as_slice().as_raw()) {
+        return Err(io::Error::other("a leaf is unlawful"));
+    }
+    let call = Coroutine {
+        dl,
+        prefix,
+        locals,
+        states,
+        conflicts,
+    };
+    time(rt, "coroutine", count, &call)
+}
+
+/// Times coroutines.
+pub(crate) fn time_all(
+    rt: &(impl Clock + Print + AllocGlobal),
+    words: &str,
+    dl: &TargetDataLayout,
+) -> io::Result<()>
+    requires { IsLawfulDataLayout dl.now }
+{
+    let leaves = leaves(rt.alloc(), dl)?;
+    for count in [100, 200, 400] {
+        if asks_for(words, "coroutine", count) {
+            time_coroutine(rt, dl, &leaves, count)?;
+        }
+    }
+    Ok(())
+}

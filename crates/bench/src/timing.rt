@@ -1,0 +1,48 @@
+//! Times of calls.
+
+use std::alloc::Global;
+use std::io;
+use std::rt::Clock;
+use std::time::{Duration, Instant};
+
+/// How often each call is made.
+const RUNS: u32 = 9;
+
+/// A call with all that it is given.
+pub(crate) trait Timed {
+    ghost is_ready: { Self → Type 0 };
+
+    /// Makes the call, and answers a size of what it lays out or reads, 0 where it is refused.
+    fn made(&self, alloc: Global) -> u64
+        requires { is_ready self.now };
+}
+
+/// How long a call takes that isn't refused.
+fn run_once<T: Timed>(rt: &(impl Clock + AllocGlobal), call: &T) -> io::Result<Duration>
+    requires { T.is_ready call.now }
+{
+    let start = Instant::now(rt)?;
+    let answer = call.made(rt.alloc());
+    let took = start.elapsed(rt)?;
+    if answer == 0 {
+        return Err(io::Error::other("a call is refused"));
+    }
+    Ok(took)
+}
+
+/// Prints the name and the size of a call and the microseconds of its fastest run. A call that is refused is an error.
+pub(crate) fn time<T: Timed>(
+    rt: &(impl Clock + Print + AllocGlobal),
+    name: &str,
+    size: u64,
+    call: &T,
+) -> io::Result<()>
+    requires { T.is_ready call.now }
+{
+    let mut fastest = Duration::MAX;
+    for _ in 0..RUNS {
+        fastest = fastest.min(run_once(rt, call)?);
+    }
+    let microseconds = fastest.as_nanos().saturating_add(500) / 1000;
+    println!(rt; "{name} {size} {microseconds}")
+}

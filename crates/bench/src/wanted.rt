@@ -1,0 +1,29 @@
+//! Which calls are to be timed.
+
+/// Whether some word is this name, or `all`.
+fn is_named(words: &str, name: &str) -> bool {
+    for word in words.split_ascii_whitespace() {
+        if word == name || word == "all" {
+            return true;
+        }
+    }
+    false
+}
+
+/// Whether some word is this size, or none is a size.
+fn is_sized(words: &str, size: u64) -> bool {
+    let mut is_any = true;
+    for word in words.split_ascii_whitespace() {
+        match word.parse::<u64>() {
+            Ok(wanted) if wanted == size => return true,
+            Ok(_) => is_any = false,
+            Err(_) => {}
+        }
+    }
+    is_any
+}
+
+/// Whether the words ask for a call at a size: they name it, or `all`, and they name the size, or none.
+pub(crate) fn asks_for(words: &str, name: &str, size: u64) -> bool {
+    is_named(words, name) && is_sized(words, size)
+}
