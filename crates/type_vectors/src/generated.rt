@@ -4,7 +4,7 @@ use crate::dice::Dice;
 use crate::grown::{LEAVES, grown_types};
 use crate::nodes::{Node, keeps_laws, part_of};
 use crate::plain_uniform::{Uniform, uniform_types};
-use abi_types::{Heterogeneous, HomogeneousAggregate};
+use abi_types::{Heterogeneous, HomogeneousAggregate, Reg};
 use std::alloc::{AllocError, Global};
 use std::process::Abort;
 use std::test::Fail;
@@ -22,47 +22,46 @@ enum Verdict {
     Wrong,
 }
 
-/// Whether the types that are read as uniform have the one at the place with this register or with none, and with no other; or not
-/// at all, where it is refused.
-fn is_read(
+/// Whether the type at the place is read as uniform with this register, or with none, and with no other; or not as uniform, where
+/// nothing is wanted.
+fn is_read(known: &[Uniform], at: usize, wanted: &Option<Option<Reg>>) -> bool {
+    let mut is_uniform = false;
+    for uniform in known {
+        if uniform.at == at {
+            if Some(uniform.register) != *wanted {
+                return false;
+            }
+            is_uniform = true;
+        }
+    }
+    is_uniform == wanted.is_some()
+}
+
+/// What an answer says, where the type at the place is read so.
+fn verdict_of(
     known: &[Uniform],
     at: usize,
     answer: Result<HomogeneousAggregate, Heterogeneous>,
-) -> bool {
-    let wanted = match answer {
-        Ok(HomogeneousAggregate::Homogeneous(register)) => Some(Some(register)),
-        Ok(HomogeneousAggregate::NoData) => Some(None),
-        Err(Heterogeneous) => None,
-    };
-    let mut read = None;
-    for uniform in known {
-        if uniform.at == at {
-            if Some(uniform.register) != wanted {
-                return false;
-            }
-            read = wanted;
+) -> Verdict {
+    let (wanted, verdict) = match answer {
+        Ok(HomogeneousAggregate::Homogeneous(register)) => {
+            (Some(Some(register)), Verdict::OneRegister)
         }
-    }
-    read == wanted
-}
-
-/// What an answer that is read so says.
-fn verdict_of(answer: Result<HomogeneousAggregate, Heterogeneous>) -> Verdict {
-    match answer {
-        Ok(HomogeneousAggregate::Homogeneous(_)) => Verdict::OneRegister,
-        Ok(HomogeneousAggregate::NoData) => Verdict::NoData,
-        Err(Heterogeneous) => Verdict::Refused,
+        Ok(HomogeneousAggregate::NoData) => (Some(None), Verdict::NoData),
+        Err(Heterogeneous) => (None, Verdict::Refused),
+    };
+    if is_read(known, at, &wanted) {
+        verdict
+    } else {
+        Verdict::Wrong
     }
 }
 
 /// What the type at the place is found to be.
 fn judged(nodes: &[Node], at: usize, known: &[Uniform]) -> Verdict {
-    if !keeps_laws(nodes, 8, at) {
-        return Verdict::Wrong;
-    }
-    let answer = part_of(nodes, 8, at).homogeneous_aggregate(&());
-    if is_read(known, at, answer) {
-        verdict_of(answer)
+    if keeps_laws(nodes, 8, at) {
+        let it = part_of(nodes, 8, at);
+        verdict_of(known, at, it.homogeneous_aggregate(&()))
     } else {
         Verdict::Wrong
     }

@@ -229,23 +229,23 @@ const WALKED: [(usize, Walked); 24] = [
     (28, (Some(0), Some(0), false, false)),
 ];
 
-/// The index of a field.
-fn index_of<T: Copy>(found: Option<(FieldIdx, T)>) -> Option<usize> {
-    match found {
-        Some((index, _field)) => Some(index.as_usize()),
-        None => None,
-    }
-}
-
 /// What the walks over the type at a place answer; None where it breaks a law.
 fn walked(nodes: &[Node], at: usize) -> Option<Walked> {
     if !keeps_laws(nodes, 4, at) {
         return None;
     }
     let it = part_of(nodes, 4, at);
+    let more_than_a_place = match it.non_1zst_field(&()) {
+        Some((index, _field)) => Some(index.as_usize()),
+        None => None,
+    };
+    let of_bytes = match it.non_zst_field_ignore_alignment(&()) {
+        Some((index, _field)) => Some(index.as_usize()),
+        None => None,
+    };
     Some((
-        index_of(it.non_1zst_field(&())),
-        index_of(it.non_zst_field_ignore_alignment(&())),
+        more_than_a_place,
+        of_bytes,
         it.is_single_vector_element(&(), Size::from_bytes(16)),
         it.has_variant_dependent_padding(&()),
     ))
