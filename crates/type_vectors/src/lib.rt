@@ -6,7 +6,17 @@
 mod canonical;
 #[cfg(test)]
 mod conventions;
+#[cfg(test)]
+mod dice;
+#[cfg(test)]
+mod generated;
+#[cfg(test)]
+mod grown;
+#[cfg(test)]
+mod kinds;
 mod nodes;
+#[cfg(test)]
+mod plain_uniform;
 #[cfg(test)]
 mod registers;
 mod samples;

@@ -29,7 +29,7 @@ const F64: Primitive = Primitive::Float(Float::F64);
 const MEMORY: BackendRepr = BackendRepr::Memory { sized: true };
 
 /// A type of this layout, with fields and variants that stand at these places.
-fn push(
+pub(crate) fn push(
     alloc: Global,
     nodes: &mut Vec<Node>,
     layout: Data,
@@ -53,7 +53,7 @@ fn push(
 }
 
 /// Elements of this size that follow one another.
-fn array(stride: u64, count: u64, bytes: u64) -> Data {
+pub(crate) fn array(stride: u64, count: u64, bytes: u64) -> Data {
     shaped(
         FieldsShape::Array {
             stride: Size::from_bytes(stride),
