@@ -14,11 +14,15 @@ mod timing;
 mod trees;
 mod wanted;
 
+use crate::wanted::are_known;
 use abi_base::TargetDataLayout;
 use std::io;
 
 fn main(rt: HostRuntime) -> io::Result<()> {
     let words = io::read_to_string(rt.alloc(), rt.reader())?;
+    if !are_known(&words) {
+        return Err(io::Error::other("some word is no call, no size and not `all`"));
+    }
     let dl = TargetDataLayout::default_in(rt.alloc())?;
     lists::time_all(&rt, &words, &dl)?;
     enums::time_all(&rt, &words, &dl)?;

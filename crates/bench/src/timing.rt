@@ -17,17 +17,14 @@ pub(crate) trait Timed {
         requires { is_ready self.now };
 }
 
-/// How long a call takes that isn't refused.
-fn run_once<T: Timed>(rt: &(impl Clock + AllocGlobal), call: &T) -> io::Result<Duration>
+/// How long a call takes, if it isn't refused.
+fn run_once<T: Timed>(rt: &(impl Clock + AllocGlobal), call: &T) -> io::Result<Option<Duration>>
     requires { T.is_ready call.now }
 {
     let start = Instant::now(rt)?;
     let answer = call.made(rt.alloc());
     let took = start.elapsed(rt)?;
-    if answer == 0 {
-        return Err(io::Error::other("a call is refused"));
-    }
-    Ok(took)
+    Ok(if answer > 0 { Some(took) } else { None })
 }
 
 /// Prints the name and the size of a call and the microseconds of its fastest run. A call that is refused is an error.
@@ -41,7 +38,11 @@ pub(crate) fn time<T: Timed>(
 {
     let mut fastest = Duration::MAX;
     for _ in 0..RUNS {
-        fastest = fastest.min(run_once(rt, call)?);
+        let Some(took) = run_once(rt, call)? else {
+            let text = format!(in rt.alloc(); "{name} {size} is refused")?;
+            return Err(io::Error::other(&text));
+        };
+        fastest = fastest.min(took);
     }
     let microseconds = fastest.as_nanos().saturating_add(500) / 1000;
     println!(rt; "{name} {size} {microseconds}")

@@ -1,5 +1,31 @@
 //! Which calls are to be timed.
 
+/// The calls that can be timed.
+const CALLS: [&str; 12] = [
+    "univariant_free",
+    "univariant_c",
+    "union",
+    "univariant_small_1000_times",
+    "enum_units",
+    "enum_ten_fields",
+    "enum_niche",
+    "coroutine",
+    "parse",
+    "smallest_range_containing",
+    "lay_out_wide",
+    "lay_out_deep",
+];
+
+/// Whether each word is a call that can be timed, `all`, or a size.
+pub(crate) fn are_known(words: &str) -> bool {
+    for word in words.split_ascii_whitespace() {
+        if word != "all" && !CALLS.contains(&word) && word.parse::<u64>().is_err() {
+            return false;
+        }
+    }
+    true
+}
+
 /// Whether some word is this name, or `all`.
 fn is_named(words: &str, name: &str) -> bool {
     for word in words.split_ascii_whitespace() {
