@@ -67,3 +67,6 @@ mod LeastLemmas
 mod EverywhereLemmas
 mod ClashLemmas
 mod InsideLemmas
+mod CoveredLemmas
+mod KindsLemmas
+mod SeenPlacesLemmas
