@@ -95,13 +95,13 @@ pub record IsKept (dl : TargetDataLayout) (P : Placed → Type 0) : Type 0 where
   pub of_fields : (layout : Layout) (mark : Mark) (offsets : List ℕ) (ps : List Placed) → AreFields layout offsets ps → All P ps → P (fields layout mark (parts_at offsets ps))
   pub of_single : (layout : Layout) (mark : Mark) (index : ℕ) (offsets : List ℕ) (ps : List Placed) → AreFields layout offsets ps → All P ps → P (placed_single layout mark index (parts_at offsets ps))
   pub of_union : (layout : Layout) (mark : Mark) (ps : List Placed) → layout.fields ≡ AtStart (length ps) → variants_of layout.variants ≡ [] → HasOneWhole layout (map (λ p. 0) ps) ps → All P ps →
-    P (placed_union layout mark (parts_at_0 ps))
+      P (placed_union layout mark (parts_at_0 ps))
   pub of_tagged : (layout : Layout) (mark : Mark) (offset : ℕ) (tag : Scalar) (encoding : TagEncoding ℕ) (numbers : List ℕ) (layouts : List (VariantLayout ℕ)) (variants : List (List Placed)) →
-    AreBeside layout (offset ∷ []) [] tag numbers layouts variants → IsTagWhole dl layout offset tag → All (All P) variants →
-    P (placed_tagged layout mark offset (one_scalar dl tag) encoding (arms_at layouts numbers variants))
+      AreBeside layout (offset ∷ []) [] tag numbers layouts variants → IsTagWhole dl layout offset tag → All (All P) variants →
+      P (placed_tagged layout mark offset (one_scalar dl tag) encoding (arms_at layouts numbers variants))
   pub of_states : (layout : Layout) (offsets : List ℕ) (pres : List Placed) (tag : Scalar) (numbers : List ℕ) (layouts : List (VariantLayout ℕ)) (variants : List (List Placed)) →
-    AreBeside layout offsets pres tag numbers layouts variants → IsNoScalar layout.backend_repr → All P pres → All (All P) variants →
-    P (placed_states layout (parts_at offsets pres) (get_or offsets (length pres) 0) (one_scalar dl tag) (arms_at layouts numbers variants))
+      AreBeside layout offsets pres tag numbers layouts variants → IsNoScalar layout.backend_repr → All P pres → All (All P) variants →
+      P (placed_states layout (parts_at offsets pres) (get_or offsets (length pres) 0) (one_scalar dl tag) (arms_at layouts numbers variants))
 
 -- ---- lists
 
