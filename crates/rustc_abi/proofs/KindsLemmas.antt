@@ -1,5 +1,5 @@
 -- What each kind of type has where its parts have it, each type that is laid out has.
-use Rattle.std.proofs.Common.{◌≡◌, ℕ, ◌+◌, ◌*◌, ◌<◌, ⊎_elim, Bool, true, false, List, [], ◌∷◌, Ok, Err, None, length, map, get_or, inl, inr, refl, sym, ap, ◌∙◌, subst, arith, All}
+use Rattle.std.proofs.Common.{◌≡◌, ℕ, ◌+◌, ◌*◌, ◌<◌, ⊎_elim, Bool, true, false, List, [], ◌∷◌, Ok, Err, None, length, map, get_or, inl, inr, refl, sym, ap, ◌∙◌, subst, All}
 use Rattle.std.specs.Prelude.{nat_lt, if◌then◌else◌}
 use Rattle.std.proofs.lemmas.List.{length-map}
 use Rattle.std.proofs.lemmas.List.Elements.{All-cons, All-map, All-nil, All-weaker}
@@ -52,9 +52,9 @@ use Rattle.rustc_abi.specs.Coroutines.{IsStated}
 use Rattle.rustc_abi.specs.Enums.{IsEnumed, IsTagInteger, arms_at, discriminants_of, layouts_of, numbered_from}
 use Rattle.rustc_abi.specs.Laying.{AreLaying, IsLaying, IsListed, IsUnited, VariantsLaying, coroutine_fault, enum_fault, fields_fault, kind_of, lanes_of, one_scalar, pair_answer, placed_by, placed_coroutine, placed_enum, placed_fields, placed_together, placed_variants, scalar_answer, two_scalars, unless, vector_answer}
 use Rattle.rustc_abi.proofs.CalcLemmas.{after_ok, chosen_ok, named-ok, united_layout, vector_made}
-use Rattle.rustc_abi.proofs.CalculatedLemmas.{calculated_lawful, lawful_at, some_variant, told}
+use Rattle.rustc_abi.proofs.CalculatedLemmas.{calculated_lawful, lawful_at, told}
 use Rattle.rustc_abi.proofs.CoroutineFaultLemmas.{states_within}
-use Rattle.rustc_abi.proofs.CoveredLemmas.{HasOneWhole, IsNoScalar, list_whole, memory_none, none_of_both, one_size, union_whole}
+use Rattle.rustc_abi.proofs.CoveredLemmas.{HasOneWhole, IsNoScalar, list_whole, memory_none, one_size, union_whole}
 use Rattle.rustc_abi.proofs.EnumSizeLemmas.{apart_long, fact_at}
 use Rattle.rustc_abi.proofs.InsideLemmas.{coroutine_places, inside_coroutine, inside_enum}
 use Rattle.rustc_abi.proofs.LaidLemmas.{IsWhole, aligns_of, all_whole, coroutine_laid, each_lawful, each_of, fitted, laid_by, laid_whole, no_fault, numbers_for, placed_back, stated_offsets, tags_of, variants_whole, whole_lawful}

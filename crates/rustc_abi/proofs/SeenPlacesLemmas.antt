@@ -33,7 +33,7 @@ use Rattle.abi_types.specs.Ty.Places.{covers_element, fields_cover, is_place, is
 use Rattle.rustc_abi.specs.declared.laid.Laid.{Laid}
 use Rattle.rustc_abi.specs.declared.mark.Mark.{Mark}
 use Rattle.rustc_abi.specs.Tree.{Tree}
-use Rattle.rustc_abi.specs.Placed.{Placed, Layout, Parts, Arms, layout_of, scalar, pair, never, elements, vector, fields, union, single, tagged, states, parts_of_arm, size_of}
+use Rattle.rustc_abi.specs.Placed.{Placed, Layout, Arms, layout_of, scalar, pair, never, elements, vector, fields, union, single, tagged, states, parts_of_arm, size_of}
 use Rattle.rustc_abi.specs.Places.{is_data_place, is_place_of_arm, is_place_of_part}
 use Rattle.rustc_abi.specs.Inside.{EndInside, VariantsInside}
 use Rattle.rustc_abi.specs.Laid.{placed_of, typed_of}
