@@ -173,6 +173,7 @@ module _ (dl : TargetDataLayout) (repr : ReprOptions) (all : Variants) (variants
           (list_all has_no_value (layouts_of variants)) flag (arms_flag dl layout.size all variants told.layouts each fits locals);
     }
 
+    -- its untagged variant names itself, and so do those in its fields
     untagged_named : UntaggedNamed dl.endian placed
     untagged_named = (
       names_itself dl repr layout told.niche tag told.untagged told.span.start told.span.last told.start all arms wide fit (range_of dl told.tag) own told.numbers.handed,
