@@ -9,6 +9,7 @@ pub mod Values
 pub mod Holding
 pub mod Faithful
 pub mod Unions
+pub mod Untagged
 pub mod Room
 pub mod Fits
 pub mod Inside

@@ -4,7 +4,7 @@ use Rattle.rustc_abi.specs.Laid.{typed_of}
 use Rattle.rustc_abi.specs.Least.{IsLeast}
 use Rattle.rustc_abi.proofs.ClashLemmas.{laid_clash, laid_one_offset}
 use Rattle.rustc_abi.proofs.EverywhereLemmas.{everywhere}
-use Rattle.rustc_abi.proofs.LayLemmas.{begins_root, common_root, faithful_root, laid_root, lawful_root}
+use Rattle.rustc_abi.proofs.LayLemmas.{begins_root, common_root, faithful_root, laid_root, lawful_root, untagged_root}
 use Rattle.rustc_abi.proofs.LeastLemmas.{laid_least, never_large, passed_as, told_large, told_overflow}
 use Rattle.rustc_abi.proofs.ListLemmas.{passed_on}
 use Rattle.rustc_abi.proofs.OneAnswer.{one_answer}
@@ -29,6 +29,9 @@ returns-clause-view c = λ locals. (faithful_root _ _ _ _ _ _ c.in_ok-_root.ensu
 
 pub returns-clause-uninhabited : goal.returns-clause-uninhabited
 returns-clause-uninhabited c = λ locals. (faithful_root _ _ _ _ _ _ c.in_ok-_root.ensures.ok c.new.ensures.placed locals).flag
+
+pub returns-clause-untagged : goal.returns-clause-untagged
+returns-clause-untagged c = λ locals. untagged_root _ _ _ _ _ _ c.in_ok-_root.ensures.ok c.new.ensures.placed locals
 
 pub returns-clause-begins : goal.returns-clause-begins
 returns-clause-begins c = begins_root _ _ _ _ _ _ c.in_ok-_root.ensures.ok c.new.ensures.placed
