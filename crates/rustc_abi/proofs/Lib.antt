@@ -9,6 +9,7 @@ mod FlagLemmas
 mod ElementsLemmas
 mod PartsLemmas
 mod NodesLemmas
+mod WidthLemmas
 mod TypedLemmas
 mod HandleLemmas
 mod SeenLemmas

@@ -16,6 +16,7 @@ use Rattle.rustc_abi.specs.Placed.{Placed, Arms}
 use Rattle.rustc_abi.specs.Fits.{Fits}
 use Rattle.rustc_abi.specs.Nodes.{placed_in, types_in, placed_at, arms_in, Keeps}
 use Rattle.rustc_abi.specs.Laws.{have_lists, keep_laws, sizes_at}
+use Rattle.rustc_abi.specs.Widths.{have_widths}
 use Rattle.rustc_abi.specs.Laying.{IsLaying, AreLaying, VariantsLaying}
 
 -- a node at this place names only earlier ones
@@ -41,6 +42,7 @@ are_nodes i (n ∷ ns) = is_node i n.shape && are_nodes (i + 1) ns
 pub record AreWell (ns : List Node) : Type 0 where
   pub earlier : are_nodes 0 ns ≡ true
   pub laws : keep_laws [] ns ≡ true
+  pub widths : have_widths [] ns ≡ true
 
 -- memory aside, this is the refusal
 abbrev pub IsRefusal : {A : Type 0} → Result A LayError → LayError → Type 0

@@ -24,6 +24,7 @@ pub mod Everywhere
 pub mod Least
 pub mod Clash
 pub mod Laws
+pub mod Widths
 pub mod Adding
 pub mod Laid
 pub mod Handles
