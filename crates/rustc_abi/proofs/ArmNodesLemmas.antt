@@ -1,12 +1,13 @@
 -- Nodes for the variants of an enum.
 use Rattle.std.proofs.Common.{◌≡◌, ℕ, zero, suc, ◌+◌, ◌<◌, ◌≤◌, List, [], ◌∷◌, ◌++◌, Some, true, length, map, take, get_or, arith, refl, sym, ap, ◌∙◌, subst}
-use Rattle.std.specs.Prelude.{Vec, All, nat_lt, slice_get, option_map}
+use Rattle.std.specs.Prelude.{◌&&◌, Vec, All, nat_lt, slice_get, option_map}
 use Rattle.std.specs.List.{list_all}
 use Rattle.std.specs.Cmp.Derive.{both_true}
 use Rattle.std.specs.declared.alloc.Global.{Global}
 use Rattle.std.proofs.lemmas.Bool.{lt-ltb}
 use Rattle.std.proofs.lemmas.List.{map-append, take_more, length-map, length-take-le, get_or-map}
 use Rattle.std.proofs.lemmas.List.Elements.{All-nil, All-cons, All-head, All-tail, All-append, All-weaker, All-get_or}
+use Rattle.std.proofs.lemmas.List.Folds.{list_all-append}
 use Rattle.std.proofs.lemmas.Option.{slice_get-get_or}
 use Rattle.std.proofs.lemmas.Simd.{map-map}
 use Rattle.abi_scalar.specs.declared.variants.VariantLayout.{VariantLayout}
@@ -19,7 +20,7 @@ use Rattle.rustc_abi.specs.Placed.{Placed, Layout, size_of, tagged, Parts, Arms,
 use Rattle.rustc_abi.specs.Nodes.{placed_in, parts_at, arms_in, own_fields, encoding_of, tag_offset, meaning, types_in, placed_at, Keeps}
 use Rattle.rustc_abi.specs.Enums.{arms_at}
 use Rattle.rustc_abi.specs.Inside.{EndInside, VariantsInside}
-use Rattle.rustc_abi.specs.Laws.{have_places, keeps_laws, sizes_at}
+use Rattle.rustc_abi.specs.Laws.{has_list, have_lists, have_places, is_listed, keeps_laws, sizes_at}
 use Rattle.rustc_abi.specs.Adding.{IsPut, AreArms, all_at, variants_in, is_node}
 use Rattle.rustc_abi.proofs.NodesLemmas.{length-types_in, Keeps-trans}
 use Rattle.rustc_abi.proofs.ListLemmas.{all_below}
@@ -79,11 +80,20 @@ sizes_kept old new kept (v ∷ vs) there =
     sizes_kept old new kept vs (All-tail (λ v. v.1 < length old) v vs there) in
     ap (λ m. m ∷ sizes_at (types_in new) (map (λ v. v.1) vs)) here ∙ ap (λ ms. size_of (placed_in (types_in old) v.1) ∷ ms) later
 
+lists_kept : (old new : List Node) → Keeps (types_in old) (types_in new) → (vs : List (ℕ × ℕ)) → All (λ v. v.1 < length old) vs →
+    have_lists (types_in new) (map (λ v. v.1) vs) ≡ have_lists (types_in old) (map (λ v. v.1) vs)
+lists_kept old new kept [] there = refl
+lists_kept old new kept (v ∷ vs) there =
+    let here : placed_in (types_in new) v.1 ≡ placed_in (types_in old) v.1 =
+    kept.same v.1 (omega (arith, All-head (λ v. v.1 < length old) v vs there, length-types_in old)) in
+    ap (λ p. has_list p && have_lists (types_in new) (map (λ v. v.1) vs)) here
+    ∙ ap (λ b. has_list (placed_in (types_in old) v.1) && b) (lists_kept old new kept vs (All-tail (λ v. v.1 < length old) v vs there))
+
 -- one arm more
 AreArms-push : (first old new : List Node) (vs : List (ℕ × ℕ)) (arms : Arms) (n i : ℕ) (sizes : List ℕ) (own : Layout) (mark : Mark) (fields : Vec ℕ Global) → AreArms first old sizes vs arms →
-    All (λ child. child < length first) fields.items → IsPut old new i (meaning (types_in old) own (Fields mark fields)) →
+    All (λ child. child < length first) fields.items → is_listed own.fields ≡ true → IsPut old new i (meaning (types_in old) own (Fields mark fields)) →
     AreArms first new (sizes ++ own.size ∷ []) (vs ++ (n, i) ∷ []) (push_arm arms n (parts_at (listed_offsets own.fields) (all_at first fields.items)))
-AreArms-push first old new vs arms n i sizes own mark fields h there put =
+AreArms-push first old new vs arms n i sizes own mark fields h there list put =
     let longer : length old ≤ length new = omega (arith, put.kept.longer, length-types_in old, length-types_in new) in
     let same : arms_in (types_in new) vs ≡ arms = arms_in-kept old new put.kept vs h.there ∙ h.meant in
     let offsets = listed_offsets own.fields in
@@ -104,6 +114,10 @@ AreArms-push first old new vs arms n i sizes own mark fields h there put =
           ∙ map-append (λ k. size_of (placed_in (types_in new) k)) (map (λ v. v.1) vs) (i ∷ [])
           ∙ ap (λ ms. ms ++ size_of (placed_at new i) ∷ []) (sizes_kept old new put.kept vs h.there ∙ h.sized)
           ∙ ap (λ p. sizes ++ size_of p ∷ []) put.meant;
+      listed =
+          ap (have_lists (types_in new)) (map-append (λ v. v.1) vs ((n, i) ∷ []))
+          ∙ list_all-append (λ k. has_list (placed_in (types_in new) k)) (map (λ v. v.1) vs) (i ∷ [])
+          ∙ both_true (lists_kept old new put.kept vs h.there ∙ h.listed) (both_true (ap has_list put.meant ∙ list) refl);
     }
 
 -- an element of a list, and the list up to it
@@ -154,7 +168,7 @@ module _ (first old new : List Node) (parent : Layout) (layouts : List (VariantL
       let below : All (λ child. child < length first) fields.items =
       subst (All (λ child. child < length first)) (ap (λ v. v.items) (sym c_is) ∙ sym same)
       (All-get_or (λ fields. All (λ child. child < length first) fields.items) children at c lt there) in
-      let pushed = AreArms-push first old new vs (arms_up_to at layouts numbers variants) n i (map (λ l. l.size) (take at layouts)) own mark fields h below put in
+      let pushed = AreArms-push first old new vs (arms_up_to at layouts numbers variants) n i (map (λ l. l.size) (take at layouts)) own mark fields h below (ap (λ l. is_listed l.fields) own_is) put in
       let arms : push_arm (arms_up_to at layouts numbers variants) n (parts_at (listed_offsets own.fields) ps) ≡ arms_up_to (at + 1) layouts numbers variants =
       ap (λ o. push_arm (arms_up_to at layouts numbers variants) n (parts_at o ps)) offsets
       ∙ sym (arms_more at layouts numbers variants layout.0 n ps (omega arith) (omega arith) (omega arith) layout.2 more_numbers more_variants) in
@@ -198,7 +212,7 @@ pub tagged_keeps : (one two : List Node) (t : ℕ) (tag : Placed) (variants : Ve
 tagged_keeps one two t tag variants arms layout mark all lt there h places inside =
     let here : placed_in (types_in two) t ≡ tag = h.kept.same t (omega (arith, length-types_in one)) ∙ there in
     several_laws (types_in two) layout (have_places layout.size layout.fields (size_of (placed_in (types_in two) t) ∷ [])) (map (λ v. v.1) variants.items) all
-    (ap (λ p. have_places layout.size layout.fields (size_of p ∷ [])) here ∙ places) h.sized inside
+    (ap (λ p. have_places layout.size layout.fields (size_of p ∷ [])) here ∙ places) h.sized h.listed inside
 
 -- a node for several variants, behind those for the tag and for each variant
 pub IsPut-tagged : (old one two new : List Node) (t i : ℕ) (tag : Placed) (variants : Vec (ℕ × ℕ) Global) (sizes : List ℕ) (arms : Arms) (layout : Layout) (mark : Mark) → IsPut old one t tag →

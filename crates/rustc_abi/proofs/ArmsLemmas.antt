@@ -20,10 +20,11 @@ use Rattle.rustc_abi.specs.Value.{Value, number, two, list, variant, state, byte
 use Rattle.rustc_abi.specs.Values.{IsValueOf, AreValuesOfVariant, LocalsOfVariants, VectorsOfVariants}
 use Rattle.rustc_abi.specs.Faithful.{IsFlagTrue}
 use Rattle.rustc_abi.specs.Unions.{IsCommon, InUnionsOfArms}
+use Rattle.rustc_abi.specs.Untagged.{UntaggedNamedOfArms}
 use Rattle.rustc_abi.specs.Nodes.{parts_at}
 use Rattle.rustc_abi.specs.Enums.{arms_at, discriminants_of, layouts_of, numbered_from}
 use Rattle.rustc_abi.specs.Adding.{VariantsFit}
-use Rattle.rustc_abi.proofs.FieldsLemmas.{beside_parts, common_each, room_of, together}
+use Rattle.rustc_abi.proofs.FieldsLemmas.{beside_parts, common_each, room_of, together, untagged_each}
 use Rattle.rustc_abi.proofs.FlagLemmas.{HaveSome, each_flag, flags_true}
 use Rattle.rustc_abi.proofs.InNicheLemmas.{ArmsBeside}
 use Rattle.rustc_abi.proofs.ListLemmas.{map_sizes}
@@ -125,6 +126,16 @@ module _ (dl : TargetDataLayout) where
   arms_common no_variants (ps ∷ variants) (l ∷ layouts) (n ∷ numbers) fits locals = absurd fits
   arms_common (more_variants d ts others) (ps ∷ variants) (l ∷ layouts) (n ∷ numbers) fits locals =
       (common_each dl ts l.field_offsets ps fits.0 locals.0, arms_common others variants layouts numbers fits.1 locals.1)
+
+  -- the untagged variants in each type name themselves
+  pub arms_untagged : (all : Variants) (variants : List (List Placed)) (layouts : List (VariantLayout ℕ)) (numbers : List ℕ) → VariantsFit dl all variants → LocalsOfVariants dl all →
+      UntaggedNamedOfArms dl.endian (arms_at layouts numbers variants)
+  arms_untagged all variants [] numbers fits locals = tt
+  arms_untagged all variants (l ∷ layouts) [] fits locals = tt
+  arms_untagged all [] (l ∷ layouts) (n ∷ numbers) fits locals = tt
+  arms_untagged no_variants (ps ∷ variants) (l ∷ layouts) (n ∷ numbers) fits locals = absurd fits
+  arms_untagged (more_variants d ts others) (ps ∷ variants) (l ∷ layouts) (n ∷ numbers) fits locals =
+      (untagged_each dl ts l.field_offsets ps fits.0 locals.0, arms_untagged others variants layouts numbers fits.1 locals.1)
 
 -- ---- the numbers of the variants that may have values
 

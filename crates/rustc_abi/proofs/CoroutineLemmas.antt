@@ -28,7 +28,7 @@ use Rattle.rustc_abi.specs.Enums.{arms_at}
 use Rattle.rustc_abi.specs.Laying.{one_scalar}
 use Rattle.rustc_abi.specs.Adding.{EachFits}
 use Rattle.rustc_abi.proofs.PartsLemmas.{LieBeside}
-use Rattle.rustc_abi.proofs.FieldsLemmas.{common_each, room_of, together}
+use Rattle.rustc_abi.proofs.FieldsLemmas.{common_each, room_of, together, untagged_each}
 use Rattle.rustc_abi.proofs.FlagLemmas.{HaveSome, each_flag, flags_true}
 use Rattle.rustc_abi.proofs.AnywhereLemmas.{value_anywhere}
 use Rattle.rustc_abi.proofs.TaggedLemmas.{unflagged}
@@ -37,7 +37,7 @@ use Rattle.rustc_abi.proofs.EnumLemmas.{some_niche}
 use Rattle.rustc_abi.proofs.StateArmsLemmas.{StatesFit, few_states, tree_at, value_at}
 use Rattle.rustc_abi.proofs.StatesLemmas.{states_exists, states_only, states_padding, states_unique}
 use Rattle.rustc_abi.proofs.StateFlagLemmas.{IsFlaggedBy}
-use Rattle.rustc_abi.proofs.StatePlacesLemmas.{EachStateApart, picked_types, shared_apart, state_arms, state_arms_at, state_arms_common, state_arms_fit, state_arms_room}
+use Rattle.rustc_abi.proofs.StatePlacesLemmas.{EachStateApart, picked_types, shared_apart, state_arms, state_arms_at, state_arms_common, state_arms_fit, state_arms_room, state_arms_untagged}
 
 -- ---- the flag
 
@@ -218,6 +218,10 @@ module _ (dl : TargetDataLayout) (prefix_trees locals : Trees) (pres ps : List P
       common_each dl prefix_trees starts pres prefix_fits have.0,
       tt,
       state_arms_common dl layout.size offset w starts pres same_count locals ps locals_fit 0 all layouts laid.known have.1,
+    );
+    untagged = λ have. (
+      untagged_each dl prefix_trees starts pres prefix_fits have.0,
+      state_arms_untagged dl layout.size offset w starts pres same_count locals ps locals_fit 0 all layouts laid.known have.1,
     );
   }
 

@@ -200,4 +200,5 @@ Fits-elements dl t element count layout fits size niche view flag lawful = recor
   room = both_true (eq-eqb layout.size (size_of element * count) size) fits.room;
   within = within_elements layout count element size fits.within;
   common = fits.common;
+  untagged = fits.untagged;
 }

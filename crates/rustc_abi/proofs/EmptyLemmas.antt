@@ -33,7 +33,7 @@ module _ (dl : TargetDataLayout) where
 
   -- a type with no value
   pub Fits-never : IsLawfulLayout {F = ℕ} {V = ℕ} dl (never_layout dl) → Fits dl never no_value
-  Fits-never lawful = record { faithful = λ _. never_faithful; lawful = lawful; room = refl; within = λ k place. ltb-true k 0 place; common = λ _. tt }
+  Fits-never lawful = record { faithful = λ _. never_faithful; lawful = lawful; room = refl; within = λ k place. ltb-true k 0 place; common = λ _. tt; untagged = λ _. tt }
 
   abbrev one_value : Placed
   one_value = fields (unit_layout 0 dl true) Unit no_parts
@@ -90,4 +90,4 @@ module _ (dl : TargetDataLayout) where
 
   -- a type with one value
   pub Fits-unit : IsLawfulLayout {F = ℕ} {V = ℕ} dl (unit_layout 0 dl true) → Fits dl unit one_value
-  Fits-unit lawful = record { faithful = λ _. unit_faithful; lawful = lawful; room = refl; within = λ k place. absurd (cc); common = λ _. tt }
+  Fits-unit lawful = record { faithful = λ _. unit_faithful; lawful = lawful; room = refl; within = λ k place. absurd (cc); common = λ _. tt; untagged = λ _. tt }

@@ -43,7 +43,7 @@ use Rattle.rustc_abi.specs.Values.{LocalsOfVariants}
 use Rattle.rustc_abi.proofs.ViewLemmas.{true_in}
 use Rattle.rustc_abi.proofs.PartsLemmas.{FitTogether}
 use Rattle.rustc_abi.proofs.TaggedLemmas.{ArmsFit, open_numbers, have_numbers, numbers_differ, HaveNumbers, NumbersDiffer, tagged_number, tagged_exists, tagged_only, tagged_unique, tagged_padding}
-use Rattle.rustc_abi.proofs.ArmsLemmas.{apart_behind, arms_room, open_as, flag_arms, arms_flag, arms_fit, arms_common}
+use Rattle.rustc_abi.proofs.ArmsLemmas.{apart_behind, arms_room, open_as, flag_arms, arms_flag, arms_fit, arms_common, arms_untagged}
 use Rattle.rustc_abi.proofs.RoomLemmas.{within_room}
 use Rattle.rustc_abi.proofs.TagViewLemmas.{in_full, tag_true, tag_niche_true, tag_niche_inside}
 
@@ -197,4 +197,5 @@ module _ (dl : TargetDataLayout) (repr : ReprOptions) (all : Variants) (variants
       room = room;
       within = λ k place. within_room placed k room place;
       common = λ locals. (tt, arms_common dl all variants told.layouts (discriminants_of all) fits locals);
+      untagged = λ locals. (tt, arms_untagged dl all variants told.layouts (discriminants_of all) fits locals);
     })

@@ -88,7 +88,7 @@ each_sized dl [] h = All-nil AreSized
 each_sized dl (ps ∷ variants) h =
     All-cons AreSized (map layout_of ps) (layouts_of variants) (asked_sized dl ps (All-head (All (IsWhole dl)) ps variants h)) (each_sized dl variants (All-tail (All (IsWhole dl)) ps variants h))
 
-fact_at : (P : List Placed → Type 0) → P [] → (variants : List (List Placed)) (i : ℕ) → All P variants → P (variant_at variants i)
+pub fact_at : (P : List Placed → Type 0) → P [] → (variants : List (List Placed)) (i : ℕ) → All P variants → P (variant_at variants i)
 fact_at P none [] i h = none
 fact_at P none (ps ∷ variants) zero h = All-head P ps variants h
 fact_at P none (ps ∷ variants) (suc i) h = fact_at P none variants i (All-tail P ps variants h)

@@ -26,6 +26,7 @@ use Rattle.rustc_abi.specs.Tag.{Names}
 use Rattle.rustc_abi.specs.Holding.{Holds}
 use Rattle.rustc_abi.specs.Faithful.{EachValueIsHeld, IsFlagTrue, IsViewTrue}
 use Rattle.rustc_abi.specs.Unions.{IsCommon}
+use Rattle.rustc_abi.specs.Untagged.{NamesItself}
 
 -- ---- the types
 
@@ -268,6 +269,11 @@ none_held_by_niche (two n m) h = h
 none_held_by_niche (list vs) h = h
 none_held_by_niche (state i ps vs) h = h
 none_held_by_niche (bytes content) h = h
+
+-- ---- an untagged variant with a byte in the bool's place: where the byte is 2, it names the other variant
+
+byte_names_other : NamesItself Little 0 u8_placed niche (arm 0 no_parts (arm 1 (part 0 u8_placed no_parts) no_arms)) → ⊥
+byte_names_other h = two_names_no_other (h (2 ∷ []) (more_values (number 2) no_values) ((omega arith, (refl, refl, two_is_in_all)), tt))
 
 -- ---- an enum of which one variant is left: a bool's numbers hold it, and 2 holds nothing
 

@@ -23,6 +23,7 @@ use Rattle.rustc_abi.specs.Holding.{Holds, HoldParts}
 use Rattle.rustc_abi.specs.Faithful.{AgreeOn, IsFaithful, IsFlagTrue, IsTrueOf}
 use Rattle.rustc_abi.specs.Fits.{Fits}
 use Rattle.rustc_abi.specs.Unions.{IsCommon, InUnionsOf}
+use Rattle.rustc_abi.specs.Untagged.{UntaggedNamedOf}
 use Rattle.rustc_abi.specs.Nodes.{parts_at}
 use Rattle.rustc_abi.specs.Adding.{EachFits}
 use Rattle.std.specs.List.{list_any}
@@ -197,6 +198,13 @@ common_each dl ts (o ∷ offsets) [] fits locals = tt
 common_each dl no_trees (o ∷ offsets) (p ∷ ps) fits locals = absurd fits
 common_each dl (more_trees t ts) (o ∷ offsets) (p ∷ ps) fits locals = (Fits.common fits.0 locals.0, common_each dl ts offsets ps fits.1 locals.1)
 
+-- the untagged variants in each type name themselves
+pub untagged_each : (dl : TargetDataLayout) (ts : Trees) (offsets : List ℕ) (ps : List Placed) → EachFits dl ts ps → LocalsOfEach dl ts → UntaggedNamedOf dl.endian (parts_at offsets ps)
+untagged_each dl ts [] ps fits locals = tt
+untagged_each dl ts (o ∷ offsets) [] fits locals = tt
+untagged_each dl no_trees (o ∷ offsets) (p ∷ ps) fits locals = absurd fits
+untagged_each dl (more_trees t ts) (o ∷ offsets) (p ∷ ps) fits locals = (Fits.untagged fits.0 locals.0, untagged_each dl ts offsets ps fits.1 locals.1)
+
 -- a layout of fields, wherever they lie
 pub Fits-fields : (dl : TargetDataLayout) (repr : ReprOptions) (always_sized fixed : Bool) (ts : Trees) (layout : Layout) (offsets : List ℕ) (ps : List Placed) →
     EachFits dl ts ps → AreApart layout.size offsets (map size_of ps) → IfSome layout.largest_niche (IsPartNiche (parts_at offsets ps)) →
@@ -213,4 +221,5 @@ Fits-fields dl repr always_sized fixed ts layout offsets ps fits apart niche vie
   room = room_of dl layout.size ts offsets ps apart fits;
   within = within_parts layout.size (parts_at offsets ps) (inside dl layout.size ts offsets ps apart fits);
   common = common_each dl ts offsets ps fits;
+  untagged = untagged_each dl ts offsets ps fits;
 }

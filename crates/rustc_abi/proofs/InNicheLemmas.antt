@@ -24,6 +24,7 @@ use Rattle.rustc_abi.specs.Tag.{NamesByNiche, niche_number}
 use Rattle.rustc_abi.specs.Values.{IsValueOf, AreValuesOfVariant}
 use Rattle.rustc_abi.specs.Holding.{Holds, HoldArm, tag_at}
 use Rattle.rustc_abi.specs.Faithful.{AgreeOn}
+use Rattle.rustc_abi.specs.Untagged.{NamesItself}
 use Rattle.rustc_abi.proofs.BytesLemmas.{put, length-put, bytes_at-put, AreBytes-put, same_bytes, spelled_in, length-spelled_in, number_of-spelled_in, AreBytes-spelled_in}
 use Rattle.rustc_abi.proofs.HoldLemmas.{length-bytes_at, AgreeOn-bytes_at}
 use Rattle.rustc_abi.proofs.PartsLemmas.{LieBeside, FitTogether, HoldParts-beside, exist, only, unique, padding}
@@ -267,6 +268,14 @@ module _ (dl : TargetDataLayout) (repr : ReprOptions) (layout : Layout) (n : Nic
     in_niche_number b (state i ps vs) h = absurd h
     in_niche_number b (bytes content) h = absurd h
 
+    -- where bytes hold fields of the untagged variant, the number in the niche is one of the old range, and names no other variant
+    pub names_itself : NamesItself dl.endian n.offset tag (InNiche untagged (record { start = first; last = last }) start) arms
+    names_itself b vs h =
+        let old : IsIn (niche_size dl n) n.valid_range (tag_at dl.endian b n.offset (niche_size dl n)) =
+        arm_niche dl layout.size n.offset (niche_size dl n) untagged 0 all arms fit n untagged own b vs h in
+        named_back b untagged
+        (inr (refl, λ other span e. (handed.were_free (other - first) (omega (arith, span.0, span.1))).1 (subst (IsIn (niche_size dl n) n.valid_range) e old)))
+
     -- a value of a variant has bytes that hold it, whether it is the untagged one or not
     variant_exists : n.offset + niche_size dl n ≤ layout.size → AreSpanned untagged first last arms → (i : ℕ) (vs : Values) → AreValuesOfVariant dl all i (parts_of_arm arms i) vs →
         (same : Bool) → (i == untagged) ≡ same → (b : List ℕ) × AreBytes b × Holds dl.endian placed b (variant i vs)
@@ -275,16 +284,10 @@ module _ (dl : TargetDataLayout) (repr : ReprOptions) (layout : Layout) (n : Nic
         let found = arm_exists dl layout.size n.offset (niche_size dl n) untagged 0 all arms fit i vs h in
         let b : List ℕ = found.0 in
         let here : HoldArm dl.endian arms untagged b vs = subst (λ j. HoldArm dl.endian arms j b vs) is found.3 in
-        let old : IsIn (niche_size dl n) n.valid_range (tag_at dl.endian b n.offset (niche_size dl n)) =
-        arm_niche dl layout.size n.offset (niche_size dl n) untagged 0 all arms fit n untagged own b vs here in
-        let names : NamesByNiche (niche_size dl n) untagged first last start (tag_at dl.endian b n.offset (niche_size dl n)) i =
-        inr (
-          is,
-          λ other span e.
-              (handed.were_free (other - first) (omega (arith, span.0, span.1))).1 (subst (IsIn (niche_size dl n) n.valid_range) e old),
-        ) in
+        let names : NamesByNiche (size_of tag) untagged first last start (tag_at dl.endian b n.offset (size_of tag)) i =
+        subst (NamesByNiche (size_of tag) untagged first last start (tag_at dl.endian b n.offset (size_of tag))) (sym is) (names_itself b vs here) in
         let fits : n.offset + size_of tag ≤ length b = omega (arith, wide, inside, found.1) in
-        (b, found.2, (found.1, fits, named_back b i names, found.3))
+        (b, found.2, (found.1, fits, names, found.3))
     variant_exists inside spanned i vs h false same =
         let isnt : i ≢ untagged = eqb-false i untagged same in
         let at : i ≡ 0 + i = omega arith in

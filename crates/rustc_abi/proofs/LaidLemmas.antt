@@ -274,11 +274,11 @@ module _ (dl : TargetDataLayout) (law : IsLawfulDataLayout dl) where
       ap suc (numbers_for others rest later) ∙ ap length same
 
   -- what an answer is where it is no refusal
-  no_fault : (fault : Option LayError) (r : Result Placed LayError) (p : Placed) → Ok p ≡ unless fault r → (fault ≡ None) × (Ok p ≡ r)
+  pub no_fault : (fault : Option LayError) (r : Result Placed LayError) (p : Placed) → Ok p ≡ unless fault r → (fault ≡ None) × (Ok p ≡ r)
   no_fault None r p e = (refl, e)
   no_fault (Some f) r p e = absurd (cc)
 
-  fitted : (b : Bool) (q p : Placed) (e : LayError) → Ok p ≡ (if b then Ok q else Err e) → (b ≡ true) × (p ≡ q)
+  pub fitted : (b : Bool) (q p : Placed) (e : LayError) → Ok p ≡ (if b then Ok q else Err e) → (b ≡ true) × (p ≡ q)
   fitted true q p e h = (refl, cc)
   fitted false q p e h = absurd (cc)
 

@@ -24,7 +24,7 @@ use Rattle.abi_calc.specs.Simd.{simd_answer}
 use Rattle.rustc_abi.specs.declared.node.Shape.TheVariants.{Elements, Pair, Vector}
 use Rattle.rustc_abi.specs.Error.{named}
 use Rattle.rustc_abi.specs.Inside.{EndInside, VariantsInside}
-use Rattle.rustc_abi.specs.Laws.{end_inside, has_elements, have_places, keeps_laws, sizes_at}
+use Rattle.rustc_abi.specs.Laws.{end_inside, has_elements, have_lists, have_places, keeps_laws, sizes_at}
 use Rattle.rustc_abi.specs.Laying.{IsListed, IsUnited, one_scalar}
 use Rattle.rustc_abi.specs.Nodes.{placed_in}
 use Rattle.rustc_abi.specs.Placed.{Placed, Layout, layout_of, size_of}
@@ -170,11 +170,11 @@ own_laws done parent own index l children ps is sizes inside few =
 
 -- several variants, each with a node of the size that the layout tells
 pub several_laws : (done : List Placed) (layout : Layout) (places : Bool) (nodes : List ℕ) (variants : List (List Placed)) → places ≡ true →
-    sizes_at done nodes ≡ map (λ l. l.size) (variants_of layout.variants) → VariantsInside layout.size (variants_of layout.variants) variants →
-    (places && ((length (variants_of layout.variants) == length nodes) && list_all (λ m. nat_le m layout.size) (sizes_at done nodes))) ≡ true
-several_laws done layout places nodes variants there sizes inside =
+    sizes_at done nodes ≡ map (λ l. l.size) (variants_of layout.variants) → have_lists done nodes ≡ true → VariantsInside layout.size (variants_of layout.variants) variants →
+    (places && ((length (variants_of layout.variants) == length nodes) && (list_all (λ m. nat_le m layout.size) (sizes_at done nodes) && have_lists done nodes))) ≡ true
+several_laws done layout places nodes variants there sizes listed inside =
     let layouts : List (VariantLayout ℕ) = variants_of layout.variants in
     let count : length layouts ≡ length nodes =
     sym (length-map layouts (λ l. l.size)) ∙ ap length (sym sizes) ∙ length-map nodes (λ i. size_of (placed_in done i)) in
     both_true there
-    (both_true (eq-eqb (length layouts) (length nodes) count) (ap (list_all (λ m. nat_le m layout.size)) sizes ∙ sizes_inside layout.size layouts variants inside))
+    (both_true (eq-eqb (length layouts) (length nodes) count) (both_true (ap (list_all (λ m. nat_le m layout.size)) sizes ∙ sizes_inside layout.size layouts variants inside) listed))

@@ -34,6 +34,7 @@ use Rattle.rustc_abi.specs.Values.{LocalsHaveValues}
 use Rattle.rustc_abi.specs.Faithful.{IsFaithful}
 use Rattle.rustc_abi.specs.Laying.{IsLaying, AreLaying, IsFieldsAnswer, IsListed, fields_fault, has_bad_align, is_above_limit, most_fields, kind_of, placed_fields, placed_by, unless, one_scalar, two_scalars, pair_answer}
 use Rattle.rustc_abi.specs.Unions.{Begins, IsCommon, InUnions}
+use Rattle.rustc_abi.specs.Untagged.{UntaggedNamed}
 use Rattle.rustc_abi.proofs.CommonLemmas.{begins_room}
 use Rattle.rustc_abi.specs.Adding.{IsPut, IsAdded, EachFits, VariantsFit, all_at, AreAdded}
 use Rattle.rustc_abi.proofs.ElementsLemmas.{IsElementNiche, Fits-elements}
@@ -255,6 +256,13 @@ pub common_root : (dl : TargetDataLayout) (old new : List Node) (i : ℕ) (t : T
 common_root dl old new i t placed added is locals =
     let root : i ≡ length new - 1 = omega (arith, added.last) in
     subst (InUnions (IsCommon dl.endian)) (ap (placed_at new) root ∙ sym is) (added.fits.common locals)
+
+-- the last node's type, in which the untagged variants name themselves
+pub untagged_root : (dl : TargetDataLayout) (old new : List Node) (i : ℕ) (t : Tree) (placed : Placed) → IsAdded dl old new i t → placed ≡ root_of new →
+    LocalsHaveValues dl t → UntaggedNamed dl.endian placed
+untagged_root dl old new i t placed added is locals =
+    let root : i ≡ length new - 1 = omega (arith, added.last) in
+    subst (UntaggedNamed dl.endian) (ap (placed_at new) root ∙ sym is) (added.fits.untagged locals)
 
 -- two scalars' layout
 pub IsAdded-pair : (dl : TargetDataLayout) (old one both new : List Node) (i j k : ℕ) (a b : Scalar) → scalar_fault dl a ≡ None → scalar_fault dl b ≡ None →

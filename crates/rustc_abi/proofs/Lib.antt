@@ -9,6 +9,7 @@ mod FlagLemmas
 mod ElementsLemmas
 mod PartsLemmas
 mod NodesLemmas
+mod WidthLemmas
 mod TypedLemmas
 mod HandleLemmas
 mod SeenLemmas
@@ -67,3 +68,6 @@ mod LeastLemmas
 mod EverywhereLemmas
 mod ClashLemmas
 mod InsideLemmas
+mod CoveredLemmas
+mod KindsLemmas
+mod SeenPlacesLemmas

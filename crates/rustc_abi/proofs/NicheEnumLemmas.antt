@@ -36,9 +36,10 @@ use Rattle.rustc_abi.specs.Value.{Value}
 use Rattle.rustc_abi.specs.Holding.{Holds}
 use Rattle.rustc_abi.specs.Bytes.{number_of, bytes_at}
 use Rattle.rustc_abi.specs.Faithful.{IsFaithful}
-use Rattle.rustc_abi.proofs.ArmsLemmas.{EachApart, flagged_as, apart_beside, arms_room, arms_beside, flag_arms, arms_flag, arms_common}
+use Rattle.rustc_abi.specs.Untagged.{UntaggedNamed}
+use Rattle.rustc_abi.proofs.ArmsLemmas.{EachApart, flagged_as, apart_beside, arms_room, arms_beside, flag_arms, arms_flag, arms_common, arms_untagged}
 use Rattle.rustc_abi.proofs.FieldsLemmas.{IsPartNiche, part_of_list}
-use Rattle.rustc_abi.proofs.InNicheLemmas.{IsThere, AreSpanned, ArmsBeside, in_niche_number, in_niche_exists, in_niche_only, in_niche_unique, in_niche_padding}
+use Rattle.rustc_abi.proofs.InNicheLemmas.{IsThere, AreSpanned, ArmsBeside, in_niche_number, names_itself, in_niche_exists, in_niche_only, in_niche_unique, in_niche_padding}
 use Rattle.rustc_abi.proofs.EnumLemmas.{in_below, numbers_long, some_niche}
 use Rattle.rustc_abi.proofs.LayLemmas.{VariantsFit-lawful}
 use Rattle.rustc_abi.proofs.RoomLemmas.{within_room}
@@ -172,6 +173,13 @@ module _ (dl : TargetDataLayout) (repr : ReprOptions) (all : Variants) (variants
           (list_all has_no_value (layouts_of variants)) flag (arms_flag dl layout.size all variants told.layouts each fits locals);
     }
 
+    -- its untagged variant names itself, and so do those in its fields
+    untagged_named : UntaggedNamed dl.endian placed
+    untagged_named = (
+      names_itself dl repr layout told.niche tag told.untagged told.span.start told.span.last told.start all arms wide fit (range_of dl told.tag) own told.numbers.handed,
+      arms_untagged dl all variants told.layouts (discriminants_of all) fits locals,
+    )
+
   -- an enum that a niche tells apart keeps its values
   pub Fits-by-niche : Fits dl (enum repr all) (placed_enum dl repr (discriminants_of all) variants layout)
   Fits-by-niche = subst (Fits dl (enum repr all)) (sym placed_by_niche) (record {
@@ -180,4 +188,5 @@ module _ (dl : TargetDataLayout) (repr : ReprOptions) (all : Variants) (variants
     room = room;
     within = λ k place. within_room placed k room place;
     common = λ locals. (tt, arms_common dl all variants told.layouts (discriminants_of all) fits locals);
+    untagged = untagged_named;
   })

@@ -14,6 +14,7 @@ use Rattle.rustc_abi.specs.declared.node.Node.{Node}
 use Rattle.rustc_abi.specs.Placed.{Placed, Layout, layout_of, pair, elements, vector, fields, union, single, tagged, states, Arms, arm, nothing}
 use Rattle.rustc_abi.specs.Nodes.{placed_in, parts_at, parts_at_0, arms_in, encoding_of, index_of, own_fields, tag_offset, state_tag_offset, states_in, meaning, meanings, types_in, placed_at, Keeps}
 use Rattle.rustc_abi.specs.Laws.{keeps_laws, keep_laws}
+use Rattle.rustc_abi.specs.Widths.{has_width, have_widths}
 use Rattle.rustc_abi.specs.Adding.{is_node, are_nodes, IsPut}
 
 meanings-push : (done : List Placed) (ns : List Node) (n : Node) →
@@ -30,7 +31,8 @@ length-meanings done (m ∷ ns) =
 pub length-types_in : (ns : List Node) → length (types_in ns) ≡ length ns
 length-types_in ns = omega (arith, length-meanings [] ns)
 
-meanings-first : (done : List Placed) (ns : List Node) (i : ℕ) → i < length done → placed_in (meanings done ns) i ≡ placed_in done i
+-- types that are done stay
+pub meanings-first : (done : List Placed) (ns : List Node) (i : ℕ) → i < length done → placed_in (meanings done ns) i ≡ placed_in done i
 meanings-first done [] i lt = refl
 meanings-first done (m ∷ ns) i lt =
     let x = meaning done m.layout m.shape in
@@ -102,11 +104,23 @@ keep_laws-push done (m ∷ ns) n keeps h =
     let both = and_parts (keeps_laws done m.layout m.shape) (keep_laws more ns) h in
     both_true both.0 (keep_laws-push more ns n keeps both.1)
 
+have_widths-push : (done : List Placed) (ns : List Node) (n : Node) → has_width (meanings done ns) n.layout n.shape ≡ true → have_widths done ns ≡ true → have_widths done (ns ++ n ∷ []) ≡ true
+have_widths-push done [] n has h = both_true has refl
+have_widths-push done (m ∷ ns) n has h =
+    let more = done ++ meaning done m.layout m.shape ∷ [] in
+    let both = and_parts (has_width done m.layout m.shape) (have_widths more ns) h in
+    both_true both.0 (have_widths-push more ns n has both.1)
+
 -- a node that is pushed is put
-pub IsPut-push : (ns : List Node) (n : Node) (i : ℕ) → is_node i n.shape ≡ true → keeps_laws (types_in ns) n.layout n.shape ≡ true → i ≡ length ns → IsPut ns (ns ++ n ∷ []) i (meaning (types_in ns) n.layout n.shape)
-IsPut-push ns n i is keeps e = record {
+pub IsPut-push : (ns : List Node) (n : Node) (i : ℕ) → is_node i n.shape ≡ true → keeps_laws (types_in ns) n.layout n.shape ≡ true → has_width (types_in ns) n.layout n.shape ≡ true → i ≡ length ns →
+    IsPut ns (ns ++ n ∷ []) i (meaning (types_in ns) n.layout n.shape)
+IsPut-push ns n i is keeps has e = record {
   kept = Keeps-push ns n;
-  well = λ h. record { earlier = are_nodes-push 0 ns n i (omega arith) is h.earlier; laws = keep_laws-push [] ns n keeps h.laws };
+  well = λ h. record {
+    earlier = are_nodes-push 0 ns n i (omega arith) is h.earlier;
+    laws = keep_laws-push [] ns n keeps h.laws;
+    widths = have_widths-push [] ns n has h.widths;
+  };
   last = omega (arith, length-append ns (n ∷ []));
   meant = placed_at-push ns n i e;
 }

@@ -186,4 +186,5 @@ module _ (dl : TargetDataLayout) (a b : Scalar) (ha : IsLawfulScalar dl a) (hb :
     room = both_true (both_true (le-leb (0 + scalar_size dl a) layout.size together.0) refl) (both_true (both_true (le-leb (offset + scalar_size dl b) layout.size inside) refl) refl);
     within = within_parts layout.size parts lie_inside;
     common = λ _. (tt, (tt, tt));
+    untagged = λ _. (tt, (tt, tt));
   }

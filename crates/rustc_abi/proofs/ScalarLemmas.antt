@@ -163,4 +163,5 @@ Fits-scalar dl s here lawful = record {
   room = refl;
   within = within dl s (scalar_layout 0 dl s) refl (scalar_niche dl s) refl refl here;
   common = λ _. tt;
+  untagged = λ _. tt;
 }

@@ -239,6 +239,7 @@ module _ (dl : TargetDataLayout) where
       room = one.room;
       within = one.within;
       common = λ locals. one.common (locals_at all index locals);
+      untagged = λ locals. one.untagged (locals_at all index locals);
     }
 
   -- an enum without a variant that may have values has none
@@ -271,4 +272,5 @@ module _ (dl : TargetDataLayout) where
       room = refl;
       within = λ k place. ltb-true k 0 place;
       common = λ locals. tt;
+      untagged = λ locals. tt;
     }

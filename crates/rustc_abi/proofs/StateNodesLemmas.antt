@@ -131,7 +131,7 @@ states_keep old one two t tag prefix all arms layout each first middle there pla
     ∙ ap (λ ms. ms ++ size_of (placed_in (types_in two) t) ∷ []) (sym (map-map size_of (placed_in (types_in two)) prefix.items) ∙ ap (map size_of) (all_at-kept old two kept prefix.items there))
     ∙ ap (λ p. map size_of (all_at old prefix.items) ++ size_of p ∷ []) here in
     several_laws (types_in two) layout (have_places layout.size layout.fields (sizes_at (types_in two) (prefix.items ++ t ∷ []))) (map (λ v. v.1) all.items) each
-    (ap (have_places layout.size layout.fields) sizes ∙ places) middle.sized inside
+    (ap (have_places layout.size layout.fields) sizes ∙ places) middle.sized middle.listed inside
 
 -- a node for a coroutine, behind those for the tag and for each state
 pub IsPut-states : (old one two new : List Node) (t i : ℕ) (tag : Placed) (prefix : Vec ℕ Global) (all : Vec (ℕ × ℕ) Global) (sizes : List ℕ) (arms : Arms) (layout : Layout) → IsPut old one t tag →

@@ -13,11 +13,12 @@ use Rattle.rustc_abi.specs.Values.{LocalsHaveValues, LocalsOfEach}
 use Rattle.rustc_abi.specs.Room.{arms_have_room}
 use Rattle.rustc_abi.specs.Fits.{Fits}
 use Rattle.rustc_abi.specs.Unions.{IsCommon, InUnionsOfArms}
+use Rattle.rustc_abi.specs.Untagged.{UntaggedNamedOfArms}
 use Rattle.rustc_abi.specs.Nodes.{parts_at, placed_in}
 use Rattle.rustc_abi.specs.Enums.{arms_at}
 use Rattle.rustc_abi.specs.Adding.{EachFits}
 use Rattle.rustc_abi.proofs.PartsLemmas.{LieBeside}
-use Rattle.rustc_abi.proofs.FieldsLemmas.{beside_parts, common_each, room_of, together}
+use Rattle.rustc_abi.proofs.FieldsLemmas.{beside_parts, common_each, room_of, together, untagged_each}
 use Rattle.rustc_abi.proofs.StateArmsLemmas.{AreBeside, StateArmsFit, picked_trees, tree_at}
 
 -- ---- what the calculator lays apart
@@ -174,6 +175,17 @@ module _ (dl : TargetDataLayout) where
     state_arms_common from (ks ∷ all) (l ∷ layouts) known locals = (
       common_each dl (picked_trees ts ks) l.field_offsets (picked_types ps ks) (fits_picked ts ps fits ks (All-head (All (λ k. k < length ps)) ks all known)) (locals_picked ts ks locals),
       state_arms_common (from + 1) all layouts (All-tail (All (λ k. k < length ps)) ks all known) locals,
+    )
+
+    -- the untagged variants in each local name themselves
+    pub state_arms_untagged : (from : ℕ) (all : List (List ℕ)) (layouts : List (VariantLayout ℕ)) → Known all → LocalsOfEach dl ts →
+        UntaggedNamedOfArms dl.endian (state_arms layouts ps from all)
+    state_arms_untagged from [] [] known locals = tt
+    state_arms_untagged from [] (l ∷ layouts) known locals = tt
+    state_arms_untagged from (ks ∷ all) [] known locals = tt
+    state_arms_untagged from (ks ∷ all) (l ∷ layouts) known locals = (
+      untagged_each dl (picked_trees ts ks) l.field_offsets (picked_types ps ks) (fits_picked ts ps fits ks (All-head (All (λ k. k < length ps)) ks all known)) (locals_picked ts ks locals),
+      state_arms_untagged (from + 1) all layouts (All-tail (All (λ k. k < length ps)) ks all known) locals,
     )
 
     -- where there is a state, the prefix fields lie apart, and beside the tag, which ends inside

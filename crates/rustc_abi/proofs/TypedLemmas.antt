@@ -1,5 +1,5 @@
 -- What nodes are, as handles see them: each by what its fields and its variants are, and each keeps the laws.
-use Rattle.std.proofs.Common.{◌≡◌, ℕ, zero, suc, ◌+◌, ◌*◌, ◌<◌, ◌≤◌, ◌∙◌, true, false, List, [], ◌∷◌, ◌++◌, ap, arith, get_or, length, length-append, map, refl, replicate, subst, sym}
+use Rattle.std.proofs.Common.{Bool, ◌≡◌, ℕ, zero, suc, ◌+◌, ◌*◌, ◌<◌, ◌≤◌, ◌∙◌, true, false, List, [], ◌∷◌, ◌++◌, ap, arith, get_or, length, length-append, map, refl, replicate, subst, sym}
 use Rattle.std.specs.Prelude.{◌&&◌, ◌==◌, None, nat_le, nat_lt}
 use Rattle.std.specs.Cmp.Derive.{both_true}
 use Rattle.std.specs.List.{list_all}
@@ -24,7 +24,7 @@ use Rattle.rustc_abi.specs.Placed.{Placed, Layout, layout_of, size_of, nothing}
 use Rattle.rustc_abi.specs.Nodes.{meaning, meanings, placed_at, placed_in, types_in}
 use Rattle.rustc_abi.specs.Adding.{are_nodes, is_node}
 use Rattle.rustc_abi.specs.Typed.{all_told, field_by, field_nodes, marks_in, told, type_by, type_in, typed_at, variant_nodes}
-use Rattle.rustc_abi.specs.Laws.{end_inside, has_elements, has_fields, has_variants, have_places, keep_laws, keeps_laws, sizes_at}
+use Rattle.rustc_abi.specs.Laws.{end_inside, has_elements, has_fields, has_list, has_variants, have_lists, have_places, keep_laws, keeps_laws, sizes_at}
 use Rattle.rustc_abi.proofs.NodesLemmas.{children_before, layout_of-placed_at, pair_before}
 
 all_told-first : (done : List Typed) (ns : List Node) (i : ℕ) → i < length done → type_in (all_told done ns) i ≡ type_in done i
@@ -157,6 +157,13 @@ sizes-same xs ys n same (c ∷ cs) below =
     let rest : sizes_at xs cs ≡ sizes_at ys cs = sizes-same xs ys n same cs both.1 in
     ap (λ size. size ∷ sizes_at xs cs) here ∙ ap (λ sizes. size_of (placed_in ys c) ∷ sizes) rest
 
+lists-same : (xs ys : List Placed) (n : ℕ) → ((i : ℕ) → i < n → placed_in xs i ≡ placed_in ys i) → (cs : List ℕ) → list_all (λ child. nat_lt child n) cs ≡ true →
+    have_lists xs cs ≡ have_lists ys cs
+lists-same xs ys n same [] below = refl
+lists-same xs ys n same (c ∷ cs) below =
+    let both = and_parts (nat_lt c n) (list_all (λ child. nat_lt child n) cs) below in
+    ap (λ p. has_list p && have_lists xs cs) (same c (ltb-true c n both.0)) ∙ ap (λ b. has_list (placed_in ys c) && b) (lists-same xs ys n same cs both.1)
+
 places-same : (xs ys : List Placed) (n : ℕ) → ((i : ℕ) → i < n → placed_in xs i ≡ placed_in ys i) → (layout : Layout) (cs : List ℕ) → list_all (λ child. nat_lt child n) cs ≡ true →
     have_places layout.size layout.fields (sizes_at xs cs) ≡ have_places layout.size layout.fields (sizes_at ys cs)
 places-same xs ys n same layout cs below = ap (have_places layout.size layout.fields) (sizes-same xs ys n same cs below)
@@ -179,8 +186,10 @@ has_fields-same xs ys n same layout (States prefix tag all) is =
 has_variants-same : (xs ys : List Placed) (n : ℕ) → ((i : ℕ) → i < n → placed_in xs i ≡ placed_in ys i) → (layout : Layout) (shape : Shape) → is_node n shape ≡ true →
     has_variants xs layout shape ≡ has_variants ys layout shape
 has_variants-same xs ys n same layout shape is =
-    ap (λ sizes. (length (variants_of layout.variants) == length (variant_nodes shape)) && list_all (λ m. nat_le m layout.size) sizes)
-    (sizes-same xs ys n same (variant_nodes shape) (variants_below n shape is))
+    let cs : List ℕ = variant_nodes shape in
+    let many : Bool = length (variants_of layout.variants) == length cs in
+    ap (λ sizes. many && (list_all (λ m. nat_le m layout.size) sizes && have_lists xs cs)) (sizes-same xs ys n same cs (variants_below n shape is))
+    ∙ ap (λ b. many && (list_all (λ m. nat_le m layout.size) (sizes_at ys cs) && b)) (lists-same xs ys n same cs (variants_below n shape is))
 
 laws-same : (xs ys : List Placed) (n : ℕ) → ((i : ℕ) → i < n → placed_in xs i ≡ placed_in ys i) → (layout : Layout) (shape : Shape) → is_node n shape ≡ true →
     keeps_laws xs layout shape ≡ keeps_laws ys layout shape
@@ -283,7 +292,15 @@ record HasLawfulVariants (layout : Layout) (variant : ℕ → Typed) : Type 0 wh
 pub variant_count-nodes : (ps : List Placed) (layout : Layout) (shape : Shape) → has_variants ps layout shape ≡ true → length (variants_of layout.variants) ≡ length (variant_nodes shape)
 variant_count-nodes ps layout shape is =
     eqb-true (length (variants_of layout.variants)) (length (variant_nodes shape))
-    (and_parts (length (variants_of layout.variants) == length (variant_nodes shape)) (list_all (λ m. nat_le m layout.size) (sizes_at ps (variant_nodes shape))) is).0
+    (and_parts (length (variants_of layout.variants) == length (variant_nodes shape)) (list_all (λ m. nat_le m layout.size) (sizes_at ps (variant_nodes shape)) && have_lists ps (variant_nodes shape)) is).0
+
+-- each of them ends inside the whole, and lists its fields one by one
+pub variants_listed : (ps : List Placed) (layout : Layout) (shape : Shape) → has_variants ps layout shape ≡ true →
+    (list_all (λ m. nat_le m layout.size) (sizes_at ps (variant_nodes shape)) ≡ true) × (have_lists ps (variant_nodes shape) ≡ true)
+variants_listed ps layout shape is =
+    let cs : List ℕ = variant_nodes shape in
+    and_parts (list_all (λ m. nat_le m layout.size) (sizes_at ps cs)) (have_lists ps cs)
+    (and_parts (length (variants_of layout.variants) == length cs) (list_all (λ m. nat_le m layout.size) (sizes_at ps cs) && have_lists ps cs) is).1
 
 each_within : (whole : ℕ) (sizes : List ℕ) → list_all (λ m. nat_le m whole) sizes ≡ true → (k : ℕ) → k < length sizes → get_or sizes k 0 ≤ whole
 each_within whole [] is k lt = absurd (omega arith)
@@ -381,7 +398,7 @@ module _ (ns : List Node) (i : ℕ) (past : i ≤ length ns) (below : (c : ℕ) 
       let cs : List ℕ = variant_nodes shape in
       let before = variants_below i shape is in
       let count = variant_count-nodes ps layout shape h in
-      let inside = (and_parts (length (variants_of layout.variants) == length cs) (list_all (λ m. nat_le m layout.size) (sizes_at ps cs)) h).1 in
+      let inside = (variants_listed ps layout shape h).0 in
       let long : length (sizes_at ps cs) ≡ length cs = length-map cs (λ c. size_of (placed_in ps c)) in
       record {
         within = λ k lt. subst (λ m. m ≤ layout.size) (by-size cs before k (omega (arith, lt, count))) (each_within layout.size (sizes_at ps cs) inside k (omega (arith, lt, count, long)));

@@ -31,7 +31,7 @@ use Rattle.rustc_abi.specs.Adding.{EachFits}
 use Rattle.rustc_abi.proofs.PickedLemmas.{AreBytes-picked, length-picked, picked-same, spread, length-spread, AreBytes-spread, picked-spread}
 use Rattle.rustc_abi.proofs.RoomLemmas.{within_room}
 use Rattle.rustc_abi.proofs.PartsLemmas.{place_here, place_later}
-use Rattle.rustc_abi.proofs.FieldsLemmas.{common_each}
+use Rattle.rustc_abi.proofs.FieldsLemmas.{common_each, untagged_each}
 use Rattle.rustc_abi.proofs.CommonLemmas.{common_field}
 
 IfSome-none : {X : Type 0} (P : X → Type 0) (o : Option X) → o ≡ None → IfSome o P
@@ -166,4 +166,5 @@ Fits-union dl repr ts layout ps fits view made lawful =
       room = room;
       within = λ k place. within_room (placed_union layout (mark_of false repr) (parts_at_0 ps)) k room place;
       common = λ locals. (each_common dl layout (mark_of false repr) (parts_at_0 ps) ts ps (λ j place. place) fits locals, common_each dl ts (map (λ p. 0) ps) ps fits locals);
+      untagged = untagged_each dl ts (map (λ p. 0) ps) ps fits;
     }

@@ -133,4 +133,5 @@ Fits-vector dl t count packed own element layout fits inside niche inhabited vie
   room = both_true (le-leb own.size layout.size inside) fits.room;
   within = λ k place. omega (arith, fits.within k place, inside);
   common = fits.common;
+  untagged = fits.untagged;
 }

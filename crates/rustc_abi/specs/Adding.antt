@@ -15,7 +15,8 @@ use Rattle.rustc_abi.specs.Tree.{Tree, array, vector, struct, union, enum, corou
 use Rattle.rustc_abi.specs.Placed.{Placed, Arms}
 use Rattle.rustc_abi.specs.Fits.{Fits}
 use Rattle.rustc_abi.specs.Nodes.{placed_in, types_in, placed_at, arms_in, Keeps}
-use Rattle.rustc_abi.specs.Laws.{keep_laws, sizes_at}
+use Rattle.rustc_abi.specs.Laws.{have_lists, keep_laws, sizes_at}
+use Rattle.rustc_abi.specs.Widths.{have_widths}
 use Rattle.rustc_abi.specs.Laying.{IsLaying, AreLaying, VariantsLaying}
 
 -- a node at this place names only earlier ones
@@ -41,6 +42,7 @@ are_nodes i (n ∷ ns) = is_node i n.shape && are_nodes (i + 1) ns
 pub record AreWell (ns : List Node) : Type 0 where
   pub earlier : are_nodes 0 ns ≡ true
   pub laws : keep_laws [] ns ≡ true
+  pub widths : have_widths [] ns ≡ true
 
 -- memory aside, this is the refusal
 abbrev pub IsRefusal : {A : Type 0} → Result A LayError → LayError → Type 0
@@ -98,13 +100,14 @@ pub record AreVariantsAdded (dl : TargetDataLayout) (old new : List Node) (child
   pub fits : VariantsFit dl all (variants_in new children)
 
 -- A node for each variant beside a tag was put, and each node that was there kept: these variants are the arms, and their nodes have
--- these sizes.
+-- these sizes and list their fields one by one.
 pub record AreArms (old new : List Node) (sizes : List ℕ) (variants : List (ℕ × ℕ)) (arms : Arms) : Type 0 where
   pub kept : Keeps (types_in old) (types_in new)
   pub well : AreWell old → AreWell new
   pub there : All (λ v. v.1 < length new) variants
   pub meant : arms_in (types_in new) variants ≡ arms
   pub sized : sizes_at (types_in new) (map (λ v. v.1) variants) ≡ sizes
+  pub listed : have_lists (types_in new) (map (λ v. v.1) variants) ≡ true
 
 -- the layout's variants are these many: the one that is left is one of them, and those beside a tag are as many
 abbrev pub HasVariants : (count : ℕ) → LayoutVariants ℕ ℕ → Type 0

@@ -12,7 +12,7 @@ use Rattle.abi_calc.specs.Enums.Path.{variant_at}
 use Rattle.rustc_abi.specs.declared.node.Shape.{Shape}
 use Rattle.rustc_abi.specs.declared.node.Shape.TheVariants.{Elements}
 use Rattle.rustc_abi.specs.declared.node.Node.{Node}
-use Rattle.rustc_abi.specs.Placed.{Placed, Layout, size_of}
+use Rattle.rustc_abi.specs.Placed.{Placed, Layout, fields, size_of}
 use Rattle.rustc_abi.specs.Inside.{VariantsInside}
 use Rattle.rustc_abi.specs.Laying.{one_scalar}
 use Rattle.rustc_abi.specs.Nodes.{meaning, placed_in}
@@ -44,10 +44,25 @@ abbrev pub has_fields : List Placed → Layout → Shape → Bool
 has_fields done layout (Elements count element) = has_elements layout.size layout.fields (size_of (placed_in done element))
 has_fields done layout shape = have_places layout.size layout.fields (sizes_at done (field_nodes shape))
 
--- the variants are as many as the layout has, and each ends inside the whole
+-- the fields are listed one by one
+abbrev pub is_listed : FieldsShape ℕ → Bool
+is_listed (Arbitrary offsets order) = true
+is_listed _ = false
+
+-- a type has fields that are listed one by one
+abbrev pub has_list : Placed → Bool
+has_list (fields layout mark parts) = is_listed layout.fields
+has_list _ = false
+
+-- the nodes at these places do
+abbrev pub have_lists : List Placed → (places : List ℕ) → Bool
+have_lists done places = list_all (λ i. has_list (placed_in done i)) places
+
+-- the variants are as many as the layout has, and each ends inside the whole and lists its fields one by one
 abbrev pub has_variants : List Placed → Layout → Shape → Bool
 has_variants done layout shape =
-    (length (variants_of layout.variants) == length (variant_nodes shape)) && list_all (λ m. nat_le m layout.size) (sizes_at done (variant_nodes shape))
+    (length (variants_of layout.variants) == length (variant_nodes shape))
+    && (list_all (λ m. nat_le m layout.size) (sizes_at done (variant_nodes shape)) && have_lists done (variant_nodes shape))
 
 -- a node keeps the laws, after those before it
 abbrev pub keeps_laws : List Placed → Layout → Shape → Bool

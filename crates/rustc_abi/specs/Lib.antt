@@ -9,6 +9,7 @@ pub mod Values
 pub mod Holding
 pub mod Faithful
 pub mod Unions
+pub mod Untagged
 pub mod Room
 pub mod Fits
 pub mod Inside
@@ -23,6 +24,7 @@ pub mod Everywhere
 pub mod Least
 pub mod Clash
 pub mod Laws
+pub mod Widths
 pub mod Adding
 pub mod Laid
 pub mod Handles

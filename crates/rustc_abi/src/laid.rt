@@ -4,6 +4,7 @@ ghost use Rattle.std.specs.Prelude.{◌≡◌, ◌<◌, [], IfOk, length, true};
 ghost use Rattle.rustc_abi.specs.Nodes.{root_of};
 ghost use Rattle.rustc_abi.specs.Adding.{AreWell, are_nodes};
 ghost use Rattle.rustc_abi.specs.Laws.{keep_laws};
+ghost use Rattle.rustc_abi.specs.Widths.{have_widths};
 ghost use Rattle.rustc_abi.specs.Room.{has_room};
 
 use crate::handle::{TreeTy, handle_at};
@@ -24,6 +25,7 @@ pub struct Laid {
     ghost some: { 0 < length nodes.items },
     ghost earlier: { are_nodes 0 nodes.items ≡ true },
     ghost laws: { keep_laws [] nodes.items ≡ true },
+    ghost widths: { have_widths [] nodes.items ≡ true },
     ghost room: { has_room (root_of nodes.items) ≡ true },
 }
 
@@ -51,6 +53,7 @@ impl Laid {
         ensures some { 0 < length result.now }
         ensures earlier { are_nodes 0 result.now ≡ true }
         ensures laws { keep_laws [] result.now ≡ true }
+        ensures widths { have_widths [] result.now ≡ true }
     {
         self.nodes.as_slice()
     }

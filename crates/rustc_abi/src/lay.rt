@@ -1,6 +1,6 @@
 //! The layout of a tree.
 
-ghost use Rattle.std.specs.Prelude.{◌≡◌, ◌⊎◌, IfOk, IfErr, Err, Ok, Result};
+ghost use Rattle.std.specs.Prelude.{◌≡◌, ◌⊎◌, ◌&&◌, IfOk, IfErr, Err, Ok, Result, not, ℕ};
 ghost use Rattle.std.specs.Result.{IsErrAnd};
 ghost use Rattle.abi_base.specs.DataLayout.{IsLawfulDataLayout};
 ghost use Rattle.rustc_abi.specs.Tree.{tree_of};
@@ -9,12 +9,17 @@ ghost use Rattle.rustc_abi.specs.Faithful.{EachValueIsHeld, OnlyValuesAreHeld, N
 ghost use Rattle.abi_scalar.specs.Lawful.{IsLawfulLayout};
 ghost use Rattle.rustc_abi.specs.declared.error.LayError.{LayError};
 ghost use Rattle.rustc_abi.specs.Placed.{Placed, layout_of};
-ghost use Rattle.rustc_abi.specs.Laid.{placed_of, endian_of};
+ghost use Rattle.abi_types.specs.Ty.Places.{is_place, is_unused};
+ghost use Rattle.rustc_abi.specs.Laid.{placed_of, endian_of, typed_of};
 ghost use Rattle.rustc_abi.specs.Laying.{IsLaying};
+ghost use Rattle.rustc_abi.specs.Places.{is_data_place};
+ghost use Rattle.rustc_abi.specs.Runs.{is_place_of_variant};
+ghost use Rattle.rustc_abi.specs.Seen.{IsVariantIndex};
 ghost use Rattle.rustc_abi.specs.Clash.{AreClashingApart, HaveOneOffset};
 ghost use Rattle.rustc_abi.specs.Everywhere.{Everywhere};
 ghost use Rattle.rustc_abi.specs.Least.{IsLeast, IsTooLarge};
 ghost use Rattle.rustc_abi.specs.Unions.{Begins, IsCommon, InUnions};
+ghost use Rattle.rustc_abi.specs.Untagged.{UntaggedNamed};
 ghost use Rattle.rustc_abi.specs.Fault.{IsRefusedFor};
 
 use crate::error::LayError;
@@ -64,6 +69,11 @@ pub fn lay_out(alloc: Global, dl: &TargetDataLayout, tree: &TypeTree) -> Result<
     ensures clash { IfOk result (λ laid. Everywhere dl.now AreClashingApart (tree_of tree.now) (placed_of laid)) }
     ensures one_offset { IfOk result (λ laid. Everywhere dl.now HaveOneOffset (tree_of tree.now) (placed_of laid)) }
 
+    // Which bytes are data places: those that its handle tells, and of each variant those that the variant's handle tells.
+    ensures places { IfOk result (λ laid. (k : ℕ) → is_place (typed_of laid) k ≡ is_data_place (placed_of laid) k) }
+    ensures unused { IfOk result (λ laid. (i k : ℕ) → IsVariantIndex (layout_of (placed_of laid)).variants i →
+        is_unused (typed_of laid) i k ≡ (is_data_place (placed_of laid) k && not (is_place_of_variant (placed_of laid) i k))) }
+
     // What the layout keeps of the values, where each local of a coroutine has one.
     ensures exists { IfOk result (λ laid. LocalsHaveValues dl.now (tree_of tree.now) →
         EachValueIsHeld dl.now (tree_of tree.now) (placed_of laid)) }
@@ -76,6 +86,9 @@ pub fn lay_out(alloc: Global, dl: &TargetDataLayout, tree: &TypeTree) -> Result<
         PaddingDecidesNothing dl.now (placed_of laid)) }
     ensures view { IfOk result (λ laid. LocalsHaveValues dl.now (tree_of tree.now) → IsViewTrue dl.now (placed_of laid)) }
     ensures uninhabited { IfOk result (λ laid. LocalsHaveValues dl.now (tree_of tree.now) → IsFlagTrue dl.now (tree_of tree.now) (placed_of laid)) }
+
+    // Where an enum is told apart by a niche, the fields of the untagged variant hold a number that names it, in it and in each part.
+    ensures untagged { IfOk result (λ laid. LocalsHaveValues dl.now (tree_of tree.now) → UntaggedNamed dl.now.endian (placed_of laid)) }
 
     // What each union in it keeps of its fields' bytes.
     ensures begins { IfOk result (λ laid. InUnions (Begins dl.now.endian) (placed_of laid)) }

@@ -4,6 +4,7 @@ ghost use Rattle.std.specs.Prelude.{◌≡◌, ◌<◌, ◌≤◌, All, IfErr, I
 ghost use Rattle.rustc_abi.specs.Placed.{layout_of};
 ghost use Rattle.rustc_abi.specs.Nodes.{types_in, placed_at, meaning};
 ghost use Rattle.rustc_abi.specs.Laws.{keeps_laws};
+ghost use Rattle.rustc_abi.specs.Widths.{has_width};
 ghost use Rattle.rustc_abi.specs.Laying.{most_fields};
 ghost use Rattle.rustc_abi.specs.Adding.{all_at, is_node, IsPut};
 
@@ -77,6 +78,7 @@ pub(crate) fn add(
 ) -> Result<usize, LayError>
     requires earlier { is_node (vec_len nodes.old) shape ≡ true }
     requires laws { keeps_laws (types_in nodes.old.items) layout shape ≡ true }
+    requires widths { has_width (types_in nodes.old.items) layout shape ≡ true }
     ensures ok { IfOk result (λ i. IsPut nodes.old.items nodes.new.items i (meaning (types_in nodes.old.items) layout shape)) }
     ensures err { IfErr result (λ e. e ≡ LayError.OutOfMemory) }
 {

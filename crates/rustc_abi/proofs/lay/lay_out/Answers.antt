@@ -1,12 +1,14 @@
 use Rattle.rustc_abi.specs.Tree.{tree_of}
 use Rattle.rustc_abi.specs.Clash.{AreClashingApart, HaveOneOffset}
+use Rattle.rustc_abi.specs.Laid.{typed_of}
 use Rattle.rustc_abi.specs.Least.{IsLeast}
 use Rattle.rustc_abi.proofs.ClashLemmas.{laid_clash, laid_one_offset}
 use Rattle.rustc_abi.proofs.EverywhereLemmas.{everywhere}
-use Rattle.rustc_abi.proofs.LayLemmas.{begins_root, common_root, faithful_root, laid_root, lawful_root}
+use Rattle.rustc_abi.proofs.LayLemmas.{begins_root, common_root, faithful_root, laid_root, lawful_root, untagged_root}
 use Rattle.rustc_abi.proofs.LeastLemmas.{laid_least, never_large, passed_as, told_large, told_overflow}
 use Rattle.rustc_abi.proofs.ListLemmas.{passed_on}
 use Rattle.rustc_abi.proofs.OneAnswer.{one_answer}
+use Rattle.rustc_abi.proofs.SeenPlacesLemmas.{laid_told, seen_root}
 use Rattle.rustc_abi.proofs.SomeAnswer.{some_answer}
 use Rattle.rustc_abi.proofs.lay.lay_out.Goals as goal
 
@@ -27,6 +29,9 @@ returns-clause-view c = λ locals. (faithful_root _ _ _ _ _ _ c.in_ok-_root.ensu
 
 pub returns-clause-uninhabited : goal.returns-clause-uninhabited
 returns-clause-uninhabited c = λ locals. (faithful_root _ _ _ _ _ _ c.in_ok-_root.ensures.ok c.new.ensures.placed locals).flag
+
+pub returns-clause-untagged : goal.returns-clause-untagged
+returns-clause-untagged c = λ locals. untagged_root _ _ _ _ _ _ c.in_ok-_root.ensures.ok c.new.ensures.placed locals
 
 pub returns-clause-begins : goal.returns-clause-begins
 returns-clause-begins c = begins_root _ _ _ _ _ _ c.in_ok-_root.ensures.ok c.new.ensures.placed
@@ -54,6 +59,18 @@ pub returns-clause-one_offset : goal.returns-clause-one_offset
 returns-clause-one_offset c =
     let law = c.is_lawful.ensures.0 c.if-not-is_lawful.false in
     everywhere c.args.dl.now law HaveOneOffset (laid_one_offset c.args.dl.now law) (tree_of c.args.tree.now) _ (laid_root _ _ _ _ _ _ c.in_ok-_root.ensures.ok c.new.ensures.placed)
+
+pub returns-clause-places : goal.returns-clause-places
+returns-clause-places c k =
+    let law = c.is_lawful.ensures.0 c.if-not-is_lawful.false in
+    let told = laid_told c.args.dl.now law (tree_of c.args.tree.now) _ (laid_root _ _ _ _ _ _ c.in_ok-_root.ensures.ok c.new.ensures.placed) in
+    told.places (typed_of c.new.result) (seen_root c.new.result) k
+
+pub returns-clause-unused : goal.returns-clause-unused
+returns-clause-unused c i k index =
+    let law = c.is_lawful.ensures.0 c.if-not-is_lawful.false in
+    let told = laid_told c.args.dl.now law (tree_of c.args.tree.now) _ (laid_root _ _ _ _ _ _ c.in_ok-_root.ensures.ok c.new.ensures.placed) in
+    told.unused (typed_of c.new.result) (seen_root c.new.result) i k index
 
 pub returns-clause-too_large : goal.returns-clause-too_large
 returns-clause-too_large c law large =

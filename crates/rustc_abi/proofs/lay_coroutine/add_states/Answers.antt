@@ -14,7 +14,11 @@ use Rattle.rustc_abi.specs.Adding.{AreArms, IsPut, all_at, variants_in}
 use Rattle.rustc_abi.proofs.NodesLemmas.{length-types_in}
 use Rattle.rustc_abi.proofs.ArmNodesLemmas.{variants_in-kept}
 use Rattle.rustc_abi.proofs.StateNodesLemmas.{IsPut-states, as_many_each, each_few, each_means, each_there, states_keep, states_before, states_told}
+use Rattle.rustc_abi.proofs.WidthLemmas.{scalar_width, tag_width}
 use Rattle.rustc_abi.proofs.lay_coroutine.add_states.Goals as goal
+
+pub add-requires-clause-widths : goal.add-requires-clause-widths
+add-requires-clause-widths c = scalar_width c.args.dl.now c.args.tag c.scalar.result c.scalar.ensures.exact c.requires.tag
 
 pub add_variants-requires-clause-variants : goal.add_variants-requires-clause-variants
 add_variants-requires-clause-variants c =
@@ -67,6 +71,11 @@ add-requires-2-clause-laws c =
     let prefix : All (λ child. child < length old) c.args.prefix.items =
     All-weaker (λ child. child < c.args.nodes.now.len) (λ child. child < length old) (λ child lt. omega arith) c.args.prefix.items c.requires.prefix in
     states_keep old one two c.in_ok-tag.tag (one_scalar c.args.dl.now c.args.tag) c.args.prefix c.in_ok-states.states _ c.args.layout _ put c.in_ok-states.ensures.ok prefix c.requires.places c.requires.inside
+
+pub add-requires-2-clause-widths : goal.add-requires-2-clause-widths
+add-requires-2-clause-widths c =
+    let put : IsPut c.args.nodes.now.items c.add.new.nodes.items c.in_ok-tag.tag (one_scalar c.args.dl.now c.args.tag) = rw c.scalar.ensures.exact at c.in_ok-tag.ensures.ok in
+    tag_width c.args.dl.now c.args.tag c.args.nodes.now.items c.add.new.nodes.items c.add_variants.new.nodes.items c.in_ok-tag.tag c.requires.tag put c.in_ok-states.ensures.ok.kept
 
 pub add-requires-2-clause-earlier : goal.add-requires-2-clause-earlier
 add-requires-2-clause-earlier c =

@@ -6,7 +6,11 @@ use Rattle.rustc_abi.specs.Enums.{arms_at}
 use Rattle.rustc_abi.specs.Adding.{AreArms, IsPut}
 use Rattle.rustc_abi.proofs.NodesLemmas.{length-types_in}
 use Rattle.rustc_abi.proofs.ArmNodesLemmas.{IsPut-tagged, tagged_before, tagged_keeps, there_within, variants_in-kept}
+use Rattle.rustc_abi.proofs.WidthLemmas.{scalar_width, tag_width}
 use Rattle.rustc_abi.proofs.lay_enum.add_tagged.Goals as goal
+
+pub add-requires-clause-widths : goal.add-requires-clause-widths
+add-requires-clause-widths c = scalar_width c.args.dl.now c.args.tag c.scalar.result c.scalar.ensures.exact c.requires.tag
 
 pub add_variants-requires-clause-there : goal.add_variants-requires-clause-there
 add_variants-requires-clause-there c =
@@ -23,6 +27,11 @@ add-requires-2-clause-laws c =
     let put : IsPut c.args.nodes.now.items c.add.new.nodes.items c.in_ok-tag.tag (one_scalar c.args.dl.now c.args.tag) = rw c.scalar.ensures.exact at c.in_ok-tag.ensures.ok in
     tagged_keeps c.add.new.nodes.items c.add_variants.new.nodes.items c.in_ok-tag.tag (one_scalar c.args.dl.now c.args.tag) c.in_ok-variants.variants _ c.args.layout c.args.mark _
     (omega (arith, put.last)) put.meant c.in_ok-variants.ensures.ok c.requires.places c.requires.inside
+
+pub add-requires-2-clause-widths : goal.add-requires-2-clause-widths
+add-requires-2-clause-widths c =
+    let put : IsPut c.args.nodes.now.items c.add.new.nodes.items c.in_ok-tag.tag (one_scalar c.args.dl.now c.args.tag) = rw c.scalar.ensures.exact at c.in_ok-tag.ensures.ok in
+    tag_width c.args.dl.now c.args.tag c.args.nodes.now.items c.add.new.nodes.items c.add_variants.new.nodes.items c.in_ok-tag.tag c.requires.tag put c.in_ok-variants.ensures.ok.kept
 
 pub add-requires-2-clause-earlier : goal.add-requires-2-clause-earlier
 add-requires-2-clause-earlier c =

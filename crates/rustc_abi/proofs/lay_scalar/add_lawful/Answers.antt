@@ -1,11 +1,17 @@
 use Rattle.std.proofs.Common.{subst}
 use Rattle.abi_scalar.specs.Lawful.{IsLawfulLayout}
-use Rattle.rustc_abi.proofs.FaultLemmas.{faultless}
 use Rattle.abi_scalar.proofs.ReadableLemmas.{lawful_readable}
+use Rattle.rustc_abi.proofs.FaultLemmas.{faultless}
+use Rattle.rustc_abi.proofs.WidthLemmas.{scalar_width}
 use Rattle.rustc_abi.proofs.lay_scalar.add_lawful.Goals as goal
 
 pub scalar-requires : goal.scalar-requires
 scalar-requires c = lawful_readable c.args.dl.now c.args.value (faultless c.args.dl.now c.args.value c.requires.faultless)
+
+pub add-requires-clause-widths : goal.add-requires-clause-widths
+add-requires-clause-widths c =
+    let dl = c.args.dl.now in
+    scalar_width dl c.args.value c.scalar.result c.scalar.ensures.exact (lawful_readable dl c.args.value (faultless dl c.args.value c.requires.faultless))
 
 pub returns-clause-lawful : goal.returns-clause-lawful
 returns-clause-lawful c =

@@ -6,4 +6,4 @@ use Rattle.rustc_abi.proofs.node.add.Goals as goal
 pub returns-clause-ok : goal.returns-clause-ok
 returns-clause-ok c =
     let at : c.len-node.result ≡ length c.args.nodes.now.items = omega arith in
-    rw c.in_ok-push.ensures.items (IsPut-push c.args.nodes.now.items _ c.len-node.result (subst (λ i. is_node i c.args.shape ≡ true) (sym c.len-node.ensures) c.requires.earlier) c.requires.laws at)
+    rw c.in_ok-push.ensures.items (IsPut-push c.args.nodes.now.items _ c.len-node.result (subst (λ i. is_node i c.args.shape ≡ true) (sym c.len-node.ensures) c.requires.earlier) c.requires.laws c.requires.widths at)

@@ -1,0 +1,109 @@
+-- Nodes have narrow numbers: those that are put, and so each of them.
+use Rattle.std.proofs.Common.{◌≡◌, ℕ, zero, suc, ◌+◌, ◌<◌, ◌≤◌, ◌∙◌, true, List, [], ◌∷◌, ◌++◌, ap, arith, get_or, length, length-append, refl, subst, sym}
+use Rattle.std.specs.Prelude.{◌&&◌, ⊤, Vec, nat_le, nat_lt}
+use Rattle.std.specs.Cmp.Derive.{both_true}
+use Rattle.std.specs.List.{list_all}
+use Rattle.std.specs.declared.alloc.Global.{Global}
+use Rattle.std.proofs.lemmas.Bool.{and_parts, le-leb, leb-true, lt-ltb, ltb-true}
+use Rattle.std.proofs.lemmas.List.{get_or_append_left}
+use Rattle.abi_base.specs.declared.data_layout.TargetDataLayout.{TargetDataLayout}
+use Rattle.abi_scalar.specs.declared.scalar.Scalar.{Scalar}
+use Rattle.abi_scalar.specs.declared.scalar.Scalar.TheVariants.{Initialized, Union}
+use Rattle.abi_scalar.specs.Range.{AreWithin, numbers_of}
+use Rattle.abi_scalar.specs.Scalar.{IsReadable, scalar_size}
+use Rattle.abi_scalar.specs.Simple.{scalar_layout}
+use Rattle.rustc_abi.specs.declared.mark.Mark.{Mark}
+use Rattle.rustc_abi.specs.declared.node.Shape.{Shape}
+use Rattle.rustc_abi.specs.declared.node.Shape.TheVariants.{Scalar as OneScalar, Tagged, States}
+use Rattle.rustc_abi.specs.declared.node.Node.{Node}
+use Rattle.rustc_abi.specs.Placed.{Placed, Layout, nothing, size_of}
+use Rattle.rustc_abi.specs.Nodes.{Keeps, meaning, meanings, placed_at, placed_in, types_in}
+use Rattle.rustc_abi.specs.Laying.{one_scalar}
+use Rattle.rustc_abi.specs.Adding.{are_nodes, is_node, IsPut}
+use Rattle.rustc_abi.specs.Widths.{has_width, have_widths, is_narrow}
+use Rattle.rustc_abi.proofs.NodesLemmas.{children_before, length-types_in, meanings-first}
+
+-- ---- when a node is put
+
+readable_narrow : (dl : TargetDataLayout) (s : Scalar) → IsReadable dl s → is_narrow (scalar_size dl s) s ≡ true
+readable_narrow dl (Initialized value range) h =
+    let width : ℕ = scalar_size dl (Initialized value range) in
+    both_true (le-leb width 16 h.most) (both_true (lt-ltb range.start (numbers_of width) h.within.0) (lt-ltb range.end (numbers_of width) h.within.1))
+readable_narrow dl (Union value) h = le-leb (scalar_size dl (Union value)) 16 h.most
+
+-- the number of a scalar that can be asked for its numbers is narrow
+pub scalar_width : (dl : TargetDataLayout) (s : Scalar) (layout : Layout) → layout ≡ scalar_layout 0 dl s → IsReadable dl s → is_narrow layout.size s ≡ true
+scalar_width dl s layout made h = ap (λ (l : Layout). is_narrow l.size s) made ∙ readable_narrow dl s h
+
+-- so is that of a tag, whose node was put before others
+pub tag_width : (dl : TargetDataLayout) (s : Scalar) (old one two : List Node) (t : ℕ) → IsReadable dl s → IsPut old one t (one_scalar dl s) → Keeps (types_in one) (types_in two) →
+    nat_le (size_of (placed_at two t)) 16 ≡ true
+tag_width dl s old one two t h put kept =
+    let here : placed_at two t ≡ one_scalar dl s = kept.same t (omega (arith, length-types_in one, put.last)) ∙ put.meant in
+    ap (λ p. nat_le (size_of p) 16) here ∙ le-leb (scalar_size dl s) 16 h.most
+
+-- ---- once all nodes are put
+
+width-same : (xs ys : List Placed) (n : ℕ) → ((i : ℕ) → i < n → placed_in xs i ≡ placed_in ys i) → (layout : Layout) (shape : Shape) → is_node n shape ≡ true →
+    has_width xs layout shape ≡ has_width ys layout shape
+width-same xs ys n same layout (Tagged mark tag variants) is =
+    let both = and_parts (nat_lt tag n) (list_all (λ v. nat_lt v.1 n) variants.items) is in
+    ap (λ p. nat_le (size_of p) 16) (same tag (ltb-true tag n both.0))
+width-same xs ys n same layout (States prefix tag all) is =
+    let both = and_parts (list_all (λ child. nat_lt child n) prefix.items) (nat_lt tag n && list_all (λ v. nat_lt v.1 n) all.items) is in
+    let beside = and_parts (nat_lt tag n) (list_all (λ v. nat_lt v.1 n) all.items) both.1 in
+    ap (λ p. nat_le (size_of p) 16) (same tag (ltb-true tag n beside.0))
+width-same xs ys n same layout shape is = refl
+
+widths-in : (done : List Placed) (ns : List Node) (i j : ℕ) (d : Node) → j ≡ length done + i → i < length ns → is_node j (get_or ns i d).shape ≡ true → have_widths done ns ≡ true →
+    has_width (meanings done ns) (get_or ns i d).layout (get_or ns i d).shape ≡ true
+widths-in done [] i j d e lt is widths = absurd (omega arith)
+widths-in done (m ∷ ns) zero j d e lt is widths =
+    let x = meaning done m.layout m.shape in
+    let more = done ++ x ∷ [] in
+    let long = length-append done (x ∷ []) in
+    let same : (k : ℕ) → k < j → placed_in (meanings more ns) k ≡ placed_in done k = λ k less.
+    meanings-first more ns k (omega arith) ∙ get_or_append_left done (x ∷ []) nothing k (omega arith) in
+    width-same (meanings more ns) done j same m.layout m.shape is ∙ (and_parts (has_width done m.layout m.shape) (have_widths more ns) widths).0
+widths-in done (m ∷ ns) (suc i) j d e lt is widths =
+    let x = meaning done m.layout m.shape in
+    let more = done ++ x ∷ [] in
+    widths-in more ns i j d (omega (arith, length-append done (x ∷ []))) (omega arith) is (and_parts (has_width done m.layout m.shape) (have_widths more ns) widths).1
+
+-- each node has its width, after all
+pub width_at : (ns : List Node) → are_nodes 0 ns ≡ true → have_widths [] ns ≡ true → (i : ℕ) (d : Node) → i < length ns →
+    has_width (types_in ns) (get_or ns i d).layout (get_or ns i d).shape ≡ true
+width_at ns well widths i d lt = widths-in [] ns i i d (omega arith) lt (children_before ns i d lt well) widths
+
+-- ---- what reads values rests on
+
+-- both ends of its range, if it has one, are numbers of so many bytes
+abbrev pub HasEndsWithin : (width : ℕ) → Scalar → Type 0
+HasEndsWithin width (Initialized value range) = AreWithin width range
+HasEndsWithin width (Union value) = ⊤
+
+-- what a narrow scalar is
+pub scalar_narrow : (width : ℕ) (s : Scalar) → is_narrow width s ≡ true → (width ≤ 16) × HasEndsWithin width s
+scalar_narrow width (Initialized value range) h =
+    let both = and_parts (nat_le width 16) (nat_lt range.start (numbers_of width) && nat_lt range.end (numbers_of width)) h in
+    let ends = and_parts (nat_lt range.start (numbers_of width)) (nat_lt range.end (numbers_of width)) both.1 in
+    (leb-true width 16 both.0, (ltb-true range.start (numbers_of width) ends.0, ltb-true range.end (numbers_of width) ends.1))
+scalar_narrow width (Union value) h = (leb-true width 16 h, tt)
+
+module _ (ns : List Node) (well : are_nodes 0 ns ≡ true) (widths : have_widths [] ns ≡ true) (i : ℕ) (n : Node) (lt : i < length ns) (at : n ≡ get_or ns i n) where
+  width-here : (shape : Shape) → n.shape ≡ shape → has_width (types_in ns) n.layout shape ≡ true
+  width-here shape e =
+      subst (λ s. has_width (types_in ns) n.layout s ≡ true) e
+      (subst (λ (m : Node). has_width (types_in ns) m.layout m.shape ≡ true) (sym at) (width_at ns well widths i n lt))
+
+  -- a scalar's node
+  pub scalar_width_at : (s : Scalar) → n.shape ≡ OneScalar s → (n.layout.size ≤ 16) × HasEndsWithin n.layout.size s
+  scalar_width_at s e = scalar_narrow n.layout.size s (width-here (OneScalar s) e)
+
+  -- the tag of several variants
+  pub tag_width_at : (mark : Mark) (tag : ℕ) (variants : Vec (ℕ × ℕ) Global) → n.shape ≡ Tagged mark tag variants → size_of (placed_at ns tag) ≤ 16
+  tag_width_at mark tag variants e = leb-true (size_of (placed_at ns tag)) 16 (width-here (Tagged mark tag variants) e)
+
+  -- the tag of a coroutine
+  pub state_tag_width_at : (prefix : Vec ℕ Global) (tag : ℕ) (all : Vec (ℕ × ℕ) Global) → n.shape ≡ States prefix tag all → size_of (placed_at ns tag) ≤ 16
+  state_tag_width_at prefix tag all e = leb-true (size_of (placed_at ns tag)) 16 (width-here (States prefix tag all) e)
