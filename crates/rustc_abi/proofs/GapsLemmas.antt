@@ -50,16 +50,16 @@ closes p start k j m total lt e none =
     ∙ ap (λ rest. record { start = start; end = k } ∷ rest) (skips p (k + 1) (j - k - 1) m (j - k - 1 + m) j refl (omega arith) (λ i le below. none i (omega arith) below))
 
 -- no run covers what lies before the first
-before_all : (from : ℕ) (runs : List Run) (k : ℕ) → Ascend from runs → k < from → covers runs k ≡ false
+pub before_all : (from : ℕ) (runs : List Run) (k : ℕ) → Ascend from runs → k < from → covers runs k ≡ false
 before_all from [] k h lt = refl
 before_all from (run ∷ runs) k h lt =
     let out : nat_le run.start k ≡ false = lt-leb run.start k (omega arith) in
     ap (λ b. (b && nat_lt k run.end) || covers runs k) out ∙ before_all run.end runs k h.2 (omega arith)
 
-inside_first : (run : Run) (runs : List Run) (k : ℕ) → run.start ≤ k → k < run.end → covers (run ∷ runs) k ≡ true
+pub inside_first : (run : Run) (runs : List Run) (k : ℕ) → run.start ≤ k → k < run.end → covers (run ∷ runs) k ≡ true
 inside_first run runs k le lt = ap (λ b. b || covers runs k) (both_true (le-leb run.start k le) (lt-ltb k run.end lt))
 
-after_first : (run : Run) (runs : List Run) (k : ℕ) → run.end ≤ k → covers (run ∷ runs) k ≡ covers runs k
+pub after_first : (run : Run) (runs : List Run) (k : ℕ) → run.end ≤ k → covers (run ∷ runs) k ≡ covers runs k
 after_first run runs k le = ap (λ b. (nat_le run.start k && b) || covers runs k) (le-ltb k run.end le) ∙ ap (λ b. b || covers runs k) (and-false (nat_le run.start k))
 
 module _ (size : ℕ) (runs : List Run) (i : ℕ) (run : Run) (made new : List Run) (from : ℕ) (inv : AreGaps size runs i made from) (lt : i < length runs) (at : run ≡ get_or runs i run)

@@ -71,3 +71,17 @@ mod InsideLemmas
 mod CoveredLemmas
 mod KindsLemmas
 mod SeenPlacesLemmas
+mod ValueLemmas
+mod ReadLemmas
+mod FoundLemmas
+mod NamedLemmas
+mod TakenLemmas
+mod NumberLemmas
+mod DecidedLemmas
+mod SameLemmas
+mod PutOverLemmas
+mod WriteLemmas
+mod PutPlacesLemmas
+mod TagNumberLemmas
+mod WrittenLemmas
+mod KeptLemmas

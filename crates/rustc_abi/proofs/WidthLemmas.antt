@@ -96,6 +96,10 @@ module _ (ns : List Node) (well : are_nodes 0 ns ≡ true) (widths : have_widths
       subst (λ s. has_width (types_in ns) n.layout s ≡ true) e
       (subst (λ (m : Node). has_width (types_in ns) m.layout m.shape ≡ true) (sym at) (width_at ns well widths i n lt))
 
+  -- a scalar's node: its number is narrow
+  pub narrow_at : (s : Scalar) → n.shape ≡ OneScalar s → is_narrow n.layout.size s ≡ true
+  narrow_at s e = width-here (OneScalar s) e
+
   -- a scalar's node
   pub scalar_width_at : (s : Scalar) → n.shape ≡ OneScalar s → (n.layout.size ≤ 16) × HasEndsWithin n.layout.size s
   scalar_width_at s e = scalar_narrow n.layout.size s (width-here (OneScalar s) e)

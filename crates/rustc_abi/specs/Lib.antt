@@ -7,6 +7,9 @@ pub mod Tag
 pub mod Places
 pub mod Values
 pub mod Holding
+pub mod Reading
+pub mod Covering
+pub mod Writing
 pub mod Faithful
 pub mod Unions
 pub mod Untagged

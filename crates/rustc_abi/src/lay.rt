@@ -20,6 +20,7 @@ ghost use Rattle.rustc_abi.specs.Everywhere.{Everywhere};
 ghost use Rattle.rustc_abi.specs.Least.{IsLeast, IsTooLarge};
 ghost use Rattle.rustc_abi.specs.Unions.{Begins, IsCommon, InUnions};
 ghost use Rattle.rustc_abi.specs.Untagged.{UntaggedNamed};
+ghost use Rattle.rustc_abi.specs.Reading.{KeepsValues};
 ghost use Rattle.rustc_abi.specs.Fault.{IsRefusedFor};
 
 use crate::error::LayError;
@@ -89,6 +90,9 @@ pub fn lay_out(alloc: Global, dl: &TargetDataLayout, tree: &TypeTree) -> Result<
 
     // Where an enum is told apart by a niche, the fields of the untagged variant hold a number that names it, in it and in each part.
     ensures untagged { IfOk result (λ laid. LocalsHaveValues dl.now (tree_of tree.now) → UntaggedNamed dl.now.endian (placed_of laid)) }
+
+    // So its values are those that `write_value` writes and `read_value` reads.
+    ensures keeps { IfOk result (λ laid. LocalsHaveValues dl.now (tree_of tree.now) → KeepsValues dl.now (tree_of tree.now) laid) }
 
     // What each union in it keeps of its fields' bytes.
     ensures begins { IfOk result (λ laid. InUnions (Begins dl.now.endian) (placed_of laid)) }

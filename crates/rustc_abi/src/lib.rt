@@ -22,6 +22,7 @@ mod padding;
 mod runs;
 mod tag_integer;
 mod tree;
+mod value;
 
 pub use abi_base::{
     AbiAlign, AbiFromStrErr, AddressSpace, AddressSpaces, Align, AlignFromBytesError, Endian,
@@ -50,3 +51,7 @@ pub use laid::Laid;
 pub use lay::lay_out;
 pub use runs::Run;
 pub use tree::TypeTree;
+pub use value::Value;
+pub use value::error::ValueError;
+pub use value::read::read_value;
+pub use value::write::write_value;

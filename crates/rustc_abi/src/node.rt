@@ -2,7 +2,8 @@
 
 ghost use Rattle.std.specs.Prelude.{◌≡◌, ◌<◌, ◌≤◌, All, IfErr, IfOk, length, map, true, vec_len};
 ghost use Rattle.rustc_abi.specs.Placed.{layout_of};
-ghost use Rattle.rustc_abi.specs.Nodes.{types_in, placed_at, meaning};
+ghost use Rattle.rustc_abi.specs.Nodes.{types_in, placed_at, meaning, state_tag_offset, tag_offset};
+ghost use Rattle.abi_scalar.specs.Shape.{listed_offsets};
 ghost use Rattle.rustc_abi.specs.Laws.{keeps_laws};
 ghost use Rattle.rustc_abi.specs.Widths.{has_width};
 ghost use Rattle.rustc_abi.specs.Laying.{most_fields};
@@ -10,8 +11,9 @@ ghost use Rattle.rustc_abi.specs.Adding.{all_at, is_node, IsPut};
 
 use crate::error::LayError;
 use crate::mark::Mark;
+use abi_base::Size;
 use abi_index::{FieldIdx, IndexVec, VariantIdx};
-use abi_scalar::{LayoutData, Scalar};
+use abi_scalar::{FieldsShape, LayoutData, Scalar};
 use std::alloc::{AllocError, Global};
 
 /// What a node consists of. Children are named by their places among the nodes.
@@ -102,4 +104,37 @@ pub(crate) fn layouts_at<'a>(
         let _field: FieldIdx = layouts.push(layout_at(nodes, *child))?;
     }
     Ok(layouts)
+}
+
+/// The offsets of fields that are listed one by one.
+pub(crate) fn offsets(layout: &LayoutData<FieldIdx, VariantIdx>) -> &[Size]
+    ensures { result.now ≡ listed_offsets layout.now.fields }
+{
+    match &layout.fields {
+        FieldsShape::Arbitrary {
+            offsets,
+            in_memory_order: _,
+        } => offsets.as_slice().as_raw(),
+        _ => &[],
+    }
+}
+
+/// Where the tag of several variants lies.
+pub(crate) fn tag_offset(layout: &LayoutData<FieldIdx, VariantIdx>) -> u64
+    ensures { result ≡ tag_offset layout.now }
+{
+    match offsets(layout).first() {
+        Some(offset) => offset.bytes(),
+        None => 0,
+    }
+}
+
+/// Where the tag of states lies, behind so many prefix fields.
+pub(crate) fn state_tag_offset(layout: &LayoutData<FieldIdx, VariantIdx>, prefix: usize) -> u64
+    ensures { result ≡ state_tag_offset layout.now prefix }
+{
+    match offsets(layout).get(prefix) {
+        Some(offset) => offset.bytes(),
+        None => 0,
+    }
 }

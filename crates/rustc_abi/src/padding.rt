@@ -1,53 +1,19 @@
 //! The padding of a type: the bytes that decide nothing.
 
 ghost use Rattle.std.specs.Prelude.{◌≡◌, ℕ, ◌+◌, ◌*◌, ◌^◌, ◌<◌, ◌≤◌, ◌++◌, ◌-◌, ◌&&◌, ◌||◌, All, IfOk, OnOk, length, drop, map, nat_le, nat_lt, replicate, take, true};
-ghost use Rattle.abi_scalar.specs.Shape.{listed_offsets};
 ghost use Rattle.rustc_abi.specs.Placed.{size_of, layout_of};
 ghost use Rattle.rustc_abi.specs.Places.{is_data_place, is_place_of_arm, is_place_of_part};
-ghost use Rattle.rustc_abi.specs.Nodes.{arms_in, own_fields, parts_at, placed_at, state_tag_offset, states_in, tag_offset, types_in};
+ghost use Rattle.rustc_abi.specs.Nodes.{arms_in, own_fields, parts_at, placed_at, states_in, types_in};
 ghost use Rattle.rustc_abi.specs.Adding.{all_at, are_nodes};
 ghost use Rattle.rustc_abi.specs.Room.{arms_have_room, has_room, have_room};
 ghost use Rattle.rustc_abi.specs.Runs.{covers, is_place_of_variant, shifted, repeats, unused_of, Ascend};
 
-use crate::node::{Node, Shape, layout_at};
+use crate::node::{Node, Shape, layout_at, offsets, state_tag_offset, tag_offset};
 use crate::runs::{Run, gaps, joined};
 use abi_base::Size;
 use abi_index::{FieldIdx, VariantIdx};
-use abi_scalar::{FieldsShape, LayoutData};
+use abi_scalar::LayoutData;
 use std::alloc::{AllocError, Global};
-
-/// The offsets of fields that are listed one by one.
-fn offsets(layout: &LayoutData<FieldIdx, VariantIdx>) -> &[Size]
-    ensures { result.now ≡ listed_offsets layout.now.fields }
-{
-    match &layout.fields {
-        FieldsShape::Arbitrary {
-            offsets,
-            in_memory_order: _,
-        } => offsets.as_slice().as_raw(),
-        _ => &[],
-    }
-}
-
-/// Where the tag of several variants lies.
-fn tag_offset(layout: &LayoutData<FieldIdx, VariantIdx>) -> u64
-    ensures { result ≡ tag_offset layout.now }
-{
-    match offsets(layout).first() {
-        Some(offset) => offset.bytes(),
-        None => 0,
-    }
-}
-
-/// Where the tag of states lies, behind so many prefix fields.
-fn state_tag_offset(layout: &LayoutData<FieldIdx, VariantIdx>, prefix: usize) -> u64
-    ensures { result ≡ state_tag_offset layout.now prefix }
-{
-    match offsets(layout).get(prefix) {
-        Some(offset) => offset.bytes(),
-        None => 0,
-    }
-}
 
 /// So many offsets, each 0.
 fn zeros(alloc: Global, count: usize) -> Result<Vec<Size>, AllocError>

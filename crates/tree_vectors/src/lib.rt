@@ -1,5 +1,5 @@
-//! What calls on trees tell that the program doesn't print: whole layouts, views, memory orders, seeds, and refusals of trees that
-//! no text writes. It has tests and nothing else.
+//! What calls on trees tell that the program doesn't print: whole layouts, views, memory orders, seeds, refusals of trees that no
+//! text writes, and values. It has tests and nothing else.
 #![tactic(auto)]
 
 #[cfg(test)]
@@ -14,3 +14,5 @@ mod layouts;
 mod refusals;
 #[cfg(test)]
 mod seeds;
+#[cfg(test)]
+mod values;

@@ -33,6 +33,17 @@ returns-clause-uninhabited c = λ locals. (faithful_root _ _ _ _ _ _ c.in_ok-_ro
 pub returns-clause-untagged : goal.returns-clause-untagged
 returns-clause-untagged c = λ locals. untagged_root _ _ _ _ _ _ c.in_ok-_root.ensures.ok c.new.ensures.placed locals
 
+pub returns-clause-keeps : goal.returns-clause-keeps
+returns-clause-keeps c = λ locals.
+    let faithful = faithful_root _ _ _ _ _ _ c.in_ok-_root.ensures.ok c.new.ensures.placed locals in
+    record {
+      order = c.new.ensures.endian;
+      exists = faithful.exists;
+      only = faithful.only;
+      unique = faithful.unique;
+      untagged = untagged_root _ _ _ _ _ _ c.in_ok-_root.ensures.ok c.new.ensures.placed locals;
+    }
+
 pub returns-clause-begins : goal.returns-clause-begins
 returns-clause-begins c = begins_root _ _ _ _ _ _ c.in_ok-_root.ensures.ok c.new.ensures.placed
 
