@@ -17,7 +17,7 @@ use Rattle.abi_base.specs.DataLayoutText.{data_layout_in}
 use Rattle.abi_base.specs.Float.{float_align, float_size}
 use Rattle.abi_base.specs.Integer.{integer_align, integer_size}
 use Rattle.abi_calc.proofs.SomeView.{IsTold, both, is_at_most, same_number}
-use Rattle.rustc_abi.specs.Tree.{Tree}
+use Rattle.abi_laid.specs.Tree.{Tree}
 use Rattle.rustc_abi.proofs.SomeAnswer.{some_answer}
 use Rattle.program.specs.declared.fault.Fault.{Fault}
 use Rattle.program.specs.Lines.{first_line, second_line}

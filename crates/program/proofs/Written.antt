@@ -7,7 +7,7 @@ use Rattle.std.proofs.lemmas.Bool.Decides.{nat_tests}
 use Rattle.abi_base.specs.declared.data_layout.TargetDataLayout.{TargetDataLayout}
 use Rattle.abi_scalar.specs.declared.repr.ReprOptions.{ReprOptions}
 use Rattle.abi_scalar.specs.declared.scalar.Scalar.{Scalar}
-use Rattle.rustc_abi.specs.Tree.{Tree, scalar, pair, never, unit, array, vector, struct, union, enum, coroutine, Trees, no_trees, more_trees, trees, Variants, no_variants, more_variants}
+use Rattle.abi_laid.specs.Tree.{Tree, scalar, pair, never, unit, array, vector, struct, union, enum, coroutine, Trees, no_trees, more_trees, trees, Variants, no_variants, more_variants}
 use Rattle.program.specs.declared.begun.Want.{Want}
 use Rattle.program.specs.declared.begun.Want.TheVariants as want
 use Rattle.program.specs.declared.begun.CoroutineWant.TheVariants as part

@@ -11,8 +11,8 @@ use Rattle.abi_base.specs.DataLayoutFault.{Fault as Flaw, bad_space, bad_bits, m
 use Rattle.abi_base.specs.DataLayoutText.{data_layout_in}
 use Rattle.rustc_abi.specs.declared.error.LayError.{LayError}
 use Rattle.rustc_abi.specs.declared.error.LayError.TheVariants as lay
-use Rattle.rustc_abi.specs.Tree.{Tree}
-use Rattle.rustc_abi.specs.Placed.{Placed}
+use Rattle.abi_laid.specs.Tree.{Tree}
+use Rattle.abi_laid.specs.Placed.{Placed}
 use Rattle.rustc_abi.specs.Laying.{IsLaying}
 use Rattle.program.specs.declared.answer.Answer.{Answer}
 use Rattle.program.specs.declared.fault.Fault.{Fault}

@@ -19,9 +19,9 @@ use Rattle.abi_scalar.specs.declared.variants.VariantLayout.{VariantLayout}
 use Rattle.abi_scalar.specs.declared.variants.Variants.{Variants}
 use Rattle.abi_scalar.specs.declared.variants.Variants.TheVariants.{Empty, Single, Multiple}
 use Rattle.abi_scalar.specs.RangeText.{range_text}
-use Rattle.rustc_abi.specs.declared.runs.Run.{Run}
-use Rattle.rustc_abi.specs.Placed.{Layout, Placed, layout_of, size_of}
-use Rattle.rustc_abi.specs.Runs.{padding_of, unused_of}
+use Rattle.abi_laid.specs.declared.runs.Run.{Run}
+use Rattle.abi_laid.specs.Placed.{Layout, Placed, layout_of, size_of}
+use Rattle.abi_laid.specs.Runs.{padding_of, unused_of}
 
 -- size and alignment, in bytes
 abbrev pub size_line : Layout → List ℕ

@@ -3,10 +3,10 @@
 ghost use Rattle.std.specs.Prelude.{◌≡◌, ◌<◌, IfOk, MatchOption, Ok, true, false};
 ghost use Rattle.std.specs.Str.{is_utf8};
 ghost use Rattle.abi_base.specs.DataLayoutText.{data_layout_in};
-ghost use Rattle.rustc_abi.specs.Laid.{placed_of};
-ghost use Rattle.rustc_abi.specs.Placed.{layout_of};
+ghost use Rattle.abi_laid.specs.Laid.{placed_of};
+ghost use Rattle.abi_laid.specs.Placed.{layout_of};
 ghost use Rattle.rustc_abi.specs.Laying.{IsLaying};
-ghost use Rattle.rustc_abi.specs.Tree.{tree_of};
+ghost use Rattle.abi_laid.specs.Tree.{tree_of};
 ghost use Rattle.program.specs.Output.{answered_by, data_layout_error_name, error_name, IsAnswer, IsOutputOf, IsOutputOfLines, IsOutputOfTree, IsOutputOfType, IsOutputUnder, output_of_fault, output_of_layout, refused, unreadable};
 ghost use Rattle.program.specs.Reading.{read};
 ghost use Rattle.program.specs.Words.{words_of};

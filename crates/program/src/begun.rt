@@ -1,7 +1,7 @@
 //! What has been read of a type.
 
 ghost use Rattle.std.specs.Prelude.{◌≡◌, ◌∷◌, IfOk, IfErr};
-ghost use Rattle.rustc_abi.specs.Tree.{tree_of, vector};
+ghost use Rattle.abi_laid.specs.Tree.{tree_of, vector};
 ghost use Rattle.program.specs.Reading.{begun_by, begun_in, coroutine_with, parts_by, put, put_primitive, put_scalar, state_of, waiting, with_type};
 
 use crate::fault::Fault;

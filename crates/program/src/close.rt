@@ -1,7 +1,7 @@
 //! Reads closing parentheses.
 
 ghost use Rattle.std.specs.Prelude.{◌≡◌, IfOk, IfErr, map};
-ghost use Rattle.rustc_abi.specs.Tree.{coroutine, enum, tree_of, trees};
+ghost use Rattle.abi_laid.specs.Tree.{coroutine, enum, tree_of, trees};
 ghost use Rattle.program.specs.Reading.{Agrees, begun_in, closed, indices_by, part_closed, parts_by, state_of, variant_by, variants_in};
 
 use crate::begun::{CoroutineParts, CoroutineWant, Open, Reader, Want, put, waiting, waiting_for};

@@ -2,8 +2,8 @@
 
 ghost use Rattle.std.specs.Prelude.{◌≡◌, ◌<◌, ◌++◌, OnOk, IfOk, replicate, string_bytes};
 ghost use Rattle.program.specs.Printing.{field_lines, float_text, integer_text, layout_lines, niche_line, padding_lines, primitive_text, range_lines, shape_lines, size_line, type_text, uninhabited_line};
-ghost use Rattle.rustc_abi.specs.Laid.{placed_of};
-ghost use Rattle.rustc_abi.specs.Placed.{layout_of};
+ghost use Rattle.abi_laid.specs.Laid.{placed_of};
+ghost use Rattle.abi_laid.specs.Placed.{layout_of};
 
 use crate::print_variants::write_variants;
 use abi_base::{Float, Integer, Primitive, Size};

@@ -3,8 +3,8 @@
 ghost use Rattle.std.specs.Prelude.{◌≡◌, ◌≤◌, ◌+◌, ◌++◌, OnOk, length, string_bytes};
 ghost use Rattle.abi_index.specs.Idx.{greatest_place};
 ghost use Rattle.program.specs.Printing.{each_variant, named_text, scalar_text, tag_line, unused_lines, variant_lines, variants_lines};
-ghost use Rattle.rustc_abi.specs.Laid.{placed_of};
-ghost use Rattle.rustc_abi.specs.Placed.{layout_of};
+ghost use Rattle.abi_laid.specs.Laid.{placed_of};
+ghost use Rattle.abi_laid.specs.Placed.{layout_of};
 
 use crate::print::{MOST_LISTED, write_fields, write_primitive, write_ranges};
 use abi_base::Size;

@@ -2,7 +2,7 @@
 
 ghost use Rattle.std.specs.Prelude.{◌≡◌, ◌≤◌, ℕ, List, MatchResult, codes};
 ghost use Rattle.std.specs.Str.{bytes_eq};
-ghost use Rattle.rustc_abi.specs.Tree.{Tree, tree_of};
+ghost use Rattle.abi_laid.specs.Tree.{Tree, tree_of};
 ghost use Rattle.program.specs.Reading.{Agrees, at_count, at_discriminant, at_enum_opening, at_enum_repr, at_lanes, at_opening, at_repr, at_type, at_union_opening, at_union_repr, at_variant_opening, begun_in, read, state_of, step};
 ghost use Rattle.program.specs.Numbers.{discriminant_in, number_in};
 ghost use Rattle.program.specs.Repr.{struct_repr, union_repr};

@@ -21,20 +21,21 @@ use Rattle.abi_calc.specs.Coroutine.Promotion.{promoted_of}
 use Rattle.abi_calc.proofs.CoroutineAnswers.{IsAsked, map_first, map_picked}
 use Rattle.abi_calc.proofs.CoroutineDeep.{coroutine_promised, coroutine_told}
 use Rattle.rustc_abi.specs.declared.error.LayError.{LayError}
-use Rattle.rustc_abi.specs.declared.node.Node.{Node}
-use Rattle.rustc_abi.specs.Tree.{Tree, Trees, coroutine, trees}
-use Rattle.rustc_abi.specs.Placed.{Placed, Layout, layout_of, size_of}
-use Rattle.rustc_abi.specs.Fits.{Fits}
-use Rattle.rustc_abi.specs.Nodes.{placed_in, types_in}
+use Rattle.abi_laid.specs.declared.node.Node.{Node}
+use Rattle.abi_laid.specs.Tree.{Tree, Trees, coroutine, trees}
+use Rattle.abi_laid.specs.Placed.{Placed, Layout, layout_of, size_of}
+use Rattle.abi_laid.specs.Fits.{Fits}
+use Rattle.abi_laid.specs.Nodes.{placed_in, types_in}
 use Rattle.rustc_abi.specs.Coroutines.{IsCoroutined, conflicts_of}
 use Rattle.rustc_abi.specs.Error.{IsRefused}
 use Rattle.rustc_abi.specs.Laying.{AreLaying, IsCoroutineOf, IsLaying, coroutine_fault, one_scalar, placed_coroutine}
-use Rattle.rustc_abi.specs.Adding.{AreAdded, EachFits, IsAdded, IsPut, all_at}
+use Rattle.abi_laid.specs.Well.{IsPut, all_at}
+use Rattle.rustc_abi.specs.Adding.{AreAdded, EachFits, IsAdded}
 use Rattle.rustc_abi.proofs.CoroutineFaultLemmas.{conflict_rows, some_state, states_once, states_within}
 use Rattle.rustc_abi.proofs.CoroutineLemmas.{Fits-states, IsStatesLayout}
 use Rattle.rustc_abi.proofs.LayLemmas.{IsAdded-put, all_at-kept}
 use Rattle.rustc_abi.proofs.ListLemmas.{map_sizes}
-use Rattle.rustc_abi.proofs.NodesLemmas.{Keeps-trans, length-types_in}
+use Rattle.abi_laid.proofs.NodesLemmas.{Keeps-trans, length-types_in}
 use Rattle.rustc_abi.proofs.StateFlagLemmas.{HaveOwnFlags, IsFlaggedBy, flagged_by, sizes_picked}
 use Rattle.rustc_abi.proofs.StatePlacesLemmas.{EachStateApart}
 

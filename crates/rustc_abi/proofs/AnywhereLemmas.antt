@@ -3,12 +3,12 @@ use Rattle.std.proofs.Common.{◌≡◌, ℕ, zero, suc, ◌<◌, List, [], ◌�
 use Rattle.std.proofs.lemmas.List.{length-replicate}
 use Rattle.std.proofs.lemmas.List.Elements.{All-replicate}
 use Rattle.abi_base.specs.declared.data_layout.TargetDataLayout.{TargetDataLayout}
-use Rattle.rustc_abi.specs.Tree.{Tree, scalar, pair, unit, array, vector, struct, union, enum, coroutine, Trees, no_trees, more_trees, Variants, no_variants, more_variants}
-use Rattle.rustc_abi.specs.Bytes.{place_count}
-use Rattle.rustc_abi.specs.Value.{Value, number, two, list, variant, state, bytes, Values, no_values, more_values, value_count, Each}
-use Rattle.rustc_abi.specs.Placed.{Placed, Parts, size_of, element_of, parts_of, first_part, more_parts, own_parts}
-use Rattle.rustc_abi.specs.Places.{is_data_place}
-use Rattle.rustc_abi.specs.Values.{EachAt, IsValueOf, AreValuesOf, AreValuesOfVariant, IsValueAt}
+use Rattle.abi_laid.specs.Tree.{Tree, scalar, pair, unit, array, vector, struct, union, enum, coroutine, Trees, no_trees, more_trees, Variants, no_variants, more_variants}
+use Rattle.abi_laid.specs.Bytes.{place_count}
+use Rattle.abi_laid.specs.Value.{Value, number, two, list, variant, state, bytes, Values, no_values, more_values, value_count, Each}
+use Rattle.abi_laid.specs.Placed.{Placed, Parts, size_of, element_of, parts_of, first_part, more_parts, own_parts}
+use Rattle.abi_laid.specs.Places.{is_data_place}
+use Rattle.abi_laid.specs.Values.{EachAt, IsValueOf, AreValuesOf, AreValuesOfVariant, IsValueAt}
 
 -- as many values
 each_anywhere : (P Q : Value → Type 0) → ((v : Value) → P v → (w : Value) × Q w) → (vs : Values) → Each P vs → (ws : Values) × (value_count ws ≡ value_count vs) × Each Q ws

@@ -13,16 +13,17 @@ use Rattle.std.proofs.lemmas.Simd.{map-map}
 use Rattle.abi_scalar.specs.declared.variants.VariantLayout.{VariantLayout}
 use Rattle.abi_scalar.specs.Shape.{listed_offsets}
 use Rattle.abi_scalar.specs.Variant.{variant_layout, variants_of}
-use Rattle.rustc_abi.specs.declared.node.Shape.TheVariants.{Fields, Tagged}
-use Rattle.rustc_abi.specs.declared.node.Node.{Node}
-use Rattle.rustc_abi.specs.declared.mark.Mark.{Mark}
-use Rattle.rustc_abi.specs.Placed.{Placed, Layout, size_of, tagged, Parts, Arms, no_arms, arm}
-use Rattle.rustc_abi.specs.Nodes.{placed_in, parts_at, arms_in, own_fields, encoding_of, tag_offset, meaning, types_in, placed_at, Keeps}
+use Rattle.abi_laid.specs.declared.node.Shape.TheVariants.{Fields, Tagged}
+use Rattle.abi_laid.specs.declared.node.Node.{Node}
+use Rattle.abi_laid.specs.declared.mark.Mark.{Mark}
+use Rattle.abi_laid.specs.Placed.{Placed, Layout, size_of, tagged, Parts, Arms, no_arms, arm}
+use Rattle.abi_laid.specs.Nodes.{placed_in, parts_at, arms_in, own_fields, encoding_of, tag_offset, meaning, types_in, placed_at, Keeps}
 use Rattle.rustc_abi.specs.Enums.{arms_at}
 use Rattle.rustc_abi.specs.Inside.{EndInside, VariantsInside}
-use Rattle.rustc_abi.specs.Laws.{has_list, have_lists, have_places, is_listed, keeps_laws, sizes_at}
-use Rattle.rustc_abi.specs.Adding.{IsPut, AreArms, all_at, variants_in, is_node}
-use Rattle.rustc_abi.proofs.NodesLemmas.{length-types_in, Keeps-trans}
+use Rattle.abi_laid.specs.Laws.{has_list, have_lists, have_places, is_listed, keeps_laws, sizes_at}
+use Rattle.abi_laid.specs.Well.{IsPut, all_at, is_node}
+use Rattle.rustc_abi.specs.Adding.{AreArms, variants_in}
+use Rattle.abi_laid.proofs.NodesLemmas.{length-types_in, Keeps-trans}
 use Rattle.rustc_abi.proofs.ListLemmas.{all_below}
 use Rattle.rustc_abi.proofs.LayLemmas.{all_at-kept}
 use Rattle.rustc_abi.proofs.LawsLemmas.{own_laws, several_laws}

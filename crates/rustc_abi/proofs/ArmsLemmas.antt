@@ -12,16 +12,16 @@ use Rattle.abi_calc.specs.Enums.Beside.{AreApartBeside}
 use Rattle.abi_calc.specs.Enums.Discriminants.{inhabited_of}
 use Rattle.abi_calc.specs.Enums.Path.{has_no_value, variant_at}
 use Rattle.abi_calc.specs.Enums.Places.{AreApartBehind}
-use Rattle.rustc_abi.specs.Tree.{enum, Trees, no_trees, Variants, no_variants, more_variants}
-use Rattle.rustc_abi.specs.Mark.{mark_of}
-use Rattle.rustc_abi.specs.Placed.{Placed, Layout, layout_of, size_of, Arms, arm, tagged, parts_of_arm, is_flagged}
-use Rattle.rustc_abi.specs.Room.{arms_have_room}
-use Rattle.rustc_abi.specs.Value.{Value, number, two, list, variant, state, bytes, Values}
-use Rattle.rustc_abi.specs.Values.{IsValueOf, AreValuesOfVariant, LocalsOfVariants, VectorsOfVariants}
-use Rattle.rustc_abi.specs.Faithful.{IsFlagTrue}
-use Rattle.rustc_abi.specs.Unions.{IsCommon, InUnionsOfArms}
-use Rattle.rustc_abi.specs.Untagged.{UntaggedNamedOfArms}
-use Rattle.rustc_abi.specs.Nodes.{parts_at}
+use Rattle.abi_laid.specs.Tree.{enum, Trees, no_trees, Variants, no_variants, more_variants}
+use Rattle.abi_laid.specs.Mark.{mark_of}
+use Rattle.abi_laid.specs.Placed.{Placed, Layout, layout_of, size_of, Arms, arm, tagged, parts_of_arm, is_flagged}
+use Rattle.abi_laid.specs.Room.{arms_have_room}
+use Rattle.abi_laid.specs.Value.{Value, number, two, list, variant, state, bytes, Values}
+use Rattle.abi_laid.specs.Values.{IsValueOf, AreValuesOfVariant, LocalsOfVariants, VectorsOfVariants}
+use Rattle.abi_laid.specs.Faithful.{IsFlagTrue}
+use Rattle.abi_laid.specs.Unions.{IsCommon, InUnionsOfArms}
+use Rattle.abi_laid.specs.Untagged.{UntaggedNamedOfArms}
+use Rattle.abi_laid.specs.Nodes.{parts_at}
 use Rattle.rustc_abi.specs.Enums.{arms_at, discriminants_of, layouts_of, numbered_from}
 use Rattle.rustc_abi.specs.Adding.{VariantsFit}
 use Rattle.rustc_abi.proofs.FieldsLemmas.{beside_parts, common_each, room_of, together, untagged_each}

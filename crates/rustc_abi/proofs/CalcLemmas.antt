@@ -21,10 +21,10 @@ use Rattle.abi_calc.specs.Part.{is_unsized}
 use Rattle.abi_calc.specs.Simd.{after, element_scalar, lanes_answer, vector_layout, is_tight, simd_view, simd_align, simd_answer}
 use Rattle.abi_calc.specs.Union.{IsUnionAnswer, IsUnionView, first_unsized, sized_fault, fault_before, union_fault, union_layout, union_size}
 use Rattle.rustc_abi.specs.declared.error.LayError.{LayError}
-use Rattle.rustc_abi.specs.Placed.{Layout}
+use Rattle.abi_laid.specs.Placed.{Layout}
 use Rattle.rustc_abi.specs.Error.{lay_error, named, IsRefused}
 use Rattle.rustc_abi.specs.Adding.{IsRefusal}
-use Rattle.rustc_abi.specs.Faithful.{IsTrueOf}
+use Rattle.abi_laid.specs.Faithful.{IsTrueOf}
 use Rattle.rustc_abi.specs.Laying.{IsUnited}
 
 -- ---- unions

@@ -30,11 +30,11 @@ use Rattle.abi_calc.proofs.EnumDeep.{enum_flag, enum_lawful, enum_told}
 use Rattle.abi_calc.proofs.EnumSingle.{single_lawful}
 use Rattle.abi_calc.proofs.EnumType.{index_within, several_some}
 use Rattle.abi_calc.proofs.GoodLists.{good_list}
-use Rattle.rustc_abi.specs.Tree.{Variants, enum, struct}
-use Rattle.rustc_abi.specs.Mark.{mark_of}
-use Rattle.rustc_abi.specs.Placed.{Placed, Layout, layout_of, fields}
-use Rattle.rustc_abi.specs.Fits.{Fits}
-use Rattle.rustc_abi.specs.Nodes.{parts_at}
+use Rattle.abi_laid.specs.Tree.{Variants, enum, struct}
+use Rattle.abi_laid.specs.Mark.{mark_of}
+use Rattle.abi_laid.specs.Placed.{Placed, Layout, layout_of, fields}
+use Rattle.abi_laid.specs.Fits.{Fits}
+use Rattle.abi_laid.specs.Nodes.{parts_at}
 use Rattle.rustc_abi.specs.Enums.{IsCalculated, IsTagInteger, discriminants_of, layouts_of, numbered_from}
 use Rattle.rustc_abi.specs.Laying.{placed_enum}
 use Rattle.rustc_abi.specs.Adding.{HasReadableTag, HasVariants, VariantsFit}

@@ -10,9 +10,9 @@ use Rattle.abi_calc.specs.Coroutine.Clash.{HasLocalAt}
 use Rattle.abi_calc.specs.Coroutine.Clash as calculator
 use Rattle.abi_calc.specs.Placement.{source_order}
 use Rattle.abi_calc.proofs.CoroutineDeep.{coroutine_clash, coroutine_one_offset}
-use Rattle.rustc_abi.specs.Tree.{Tree, scalar, pair, never, unit, array, vector, struct, union, enum, coroutine, Trees}
-use Rattle.rustc_abi.specs.Placed.{Placed, layout_of, parts_of_arm}
-use Rattle.rustc_abi.specs.Nodes.{parts_at, placed_in}
+use Rattle.abi_laid.specs.Tree.{Tree, scalar, pair, never, unit, array, vector, struct, union, enum, coroutine, Trees}
+use Rattle.abi_laid.specs.Placed.{Placed, layout_of, parts_of_arm}
+use Rattle.abi_laid.specs.Nodes.{parts_at, placed_in}
 use Rattle.rustc_abi.specs.Clash.{AreClashingApart, DoClash, HasLocal, HaveOneOffset, IsPart}
 use Rattle.rustc_abi.specs.Coroutines.{conflicts_of}
 use Rattle.rustc_abi.specs.Enums.{arms_at}

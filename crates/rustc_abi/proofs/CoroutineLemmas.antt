@@ -16,14 +16,14 @@ use Rattle.abi_scalar.specs.Range.{numbers_of}
 use Rattle.abi_scalar.specs.Scalar.{scalar_size, IsNumberOf}
 use Rattle.abi_calc.specs.Apart.{AreApart}
 use Rattle.abi_calc.specs.Placement.{source_order}
-use Rattle.rustc_abi.specs.Tree.{Tree, coroutine, Trees, no_trees, more_trees}
-use Rattle.rustc_abi.specs.Value.{Value, number, two, list, variant, state, bytes, Values, no_values, more_values}
-use Rattle.rustc_abi.specs.Placed.{Placed, Layout, Parts, part, first_part, more_parts, Arms, layout_of, size_of, states, parts_of_arm}
-use Rattle.rustc_abi.specs.Values.{EachAt, IsValueOf, IsValueAt, HasValue, HaveValues, LocalsHaveValues, LocalsOfEach, VectorsHaveValues}
-use Rattle.rustc_abi.specs.Room.{has_room}
-use Rattle.rustc_abi.specs.Faithful.{IsFaithful, IsFlagTrue}
-use Rattle.rustc_abi.specs.Fits.{Fits}
-use Rattle.rustc_abi.specs.Nodes.{parts_at}
+use Rattle.abi_laid.specs.Tree.{Tree, coroutine, Trees, no_trees, more_trees}
+use Rattle.abi_laid.specs.Value.{Value, number, two, list, variant, state, bytes, Values, no_values, more_values}
+use Rattle.abi_laid.specs.Placed.{Placed, Layout, Parts, part, first_part, more_parts, Arms, layout_of, size_of, states, parts_of_arm}
+use Rattle.abi_laid.specs.Values.{EachAt, IsValueOf, IsValueAt, HasValue, HaveValues, LocalsHaveValues, LocalsOfEach, VectorsHaveValues}
+use Rattle.abi_laid.specs.Room.{has_room}
+use Rattle.abi_laid.specs.Faithful.{IsFaithful, IsFlagTrue}
+use Rattle.abi_laid.specs.Fits.{Fits}
+use Rattle.abi_laid.specs.Nodes.{parts_at}
 use Rattle.rustc_abi.specs.Enums.{arms_at}
 use Rattle.rustc_abi.specs.Laying.{one_scalar}
 use Rattle.rustc_abi.specs.Adding.{EachFits}
@@ -32,7 +32,7 @@ use Rattle.rustc_abi.proofs.FieldsLemmas.{common_each, room_of, together, untagg
 use Rattle.rustc_abi.proofs.FlagLemmas.{HaveSome, each_flag, flags_true}
 use Rattle.rustc_abi.proofs.AnywhereLemmas.{value_anywhere}
 use Rattle.rustc_abi.proofs.TaggedLemmas.{unflagged}
-use Rattle.rustc_abi.proofs.RoomLemmas.{within_room}
+use Rattle.abi_laid.proofs.RoomLemmas.{within_room}
 use Rattle.rustc_abi.proofs.EnumLemmas.{some_niche}
 use Rattle.rustc_abi.proofs.StateArmsLemmas.{StatesFit, few_states, tree_at, value_at}
 use Rattle.rustc_abi.proofs.StatesLemmas.{states_exists, states_only, states_padding, states_unique}

@@ -21,9 +21,9 @@ use Rattle.abi_calc.specs.ListView.{any_unsized, bulky_parts, bulky_view, kept_v
 use Rattle.abi_calc.specs.Part.{part_of}
 use Rattle.abi_calc.specs.Placement.{no_part}
 use Rattle.abi_calc.specs.Union.{CountsForView, HasView, IsUnionView}
-use Rattle.rustc_abi.specs.Placed.{Placed, Layout, layout_of, nothing, size_of}
-use Rattle.rustc_abi.specs.Places.{is_data_place, is_place_of_part}
-use Rattle.rustc_abi.specs.Nodes.{parts_at}
+use Rattle.abi_laid.specs.Placed.{Placed, Layout, layout_of, nothing, size_of}
+use Rattle.abi_laid.specs.Places.{is_data_place, is_place_of_part}
+use Rattle.abi_laid.specs.Nodes.{parts_at}
 
 -- a type that is seen as one scalar is covered whole
 abbrev pub IsCovered : Placed → Type 0

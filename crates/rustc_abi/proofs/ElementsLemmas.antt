@@ -12,19 +12,20 @@ use Rattle.abi_scalar.specs.declared.niche.Niche.{Niche}
 use Rattle.abi_scalar.specs.Range.{IsIn}
 use Rattle.abi_scalar.specs.Niche.{niche_size}
 use Rattle.abi_scalar.specs.Lawful.{IsLawfulLayout}
-use Rattle.rustc_abi.specs.Tree.{Tree, array}
-use Rattle.rustc_abi.specs.Bytes.{AreBytes, bytes_at, number_of}
-use Rattle.rustc_abi.specs.Value.{Value, number, two, list, variant, state, bytes, Values, no_values, more_values, value_count, Each}
-use Rattle.rustc_abi.specs.Placed.{Placed, Layout, layout_of, size_of, elements}
-use Rattle.rustc_abi.specs.Places.{is_data_place}
-use Rattle.rustc_abi.specs.Values.{IsValueOf}
-use Rattle.rustc_abi.specs.Holding.{Holds, HoldEach}
-use Rattle.rustc_abi.specs.Faithful.{AgreeOn, IsFaithful}
-use Rattle.rustc_abi.specs.Fits.{Fits}
+use Rattle.abi_laid.specs.Tree.{Tree, array}
+use Rattle.abi_laid.specs.Bytes.{AreBytes, bytes_at, number_of}
+use Rattle.abi_laid.specs.Value.{Value, number, two, list, variant, state, bytes, Values, no_values, more_values, value_count, Each}
+use Rattle.abi_laid.specs.Placed.{Placed, Layout, layout_of, size_of, elements}
+use Rattle.abi_laid.specs.Places.{is_data_place}
+use Rattle.abi_laid.specs.Values.{IsValueOf}
+use Rattle.abi_laid.specs.Holding.{Holds, HoldEach}
+use Rattle.abi_laid.specs.Faithful.{AgreeOn, IsFaithful}
+use Rattle.abi_laid.specs.Fits.{Fits}
 use Rattle.abi_scalar.specs.declared.backend_repr.BackendRepr.TheVariants.{Memory}
+use Rattle.abi_laid.proofs.RoomLemmas.{within_elements}
 use Rattle.rustc_abi.proofs.FlagLemmas.{flag-elements}
-use Rattle.rustc_abi.proofs.BytesLemmas.{put, length-put, bytes_at-put, drop-put_after, AreBytes-put, AreBytes-bytes_at}
-use Rattle.rustc_abi.proofs.HoldLemmas.{length-Holds, length-bytes_at, drop_later, AgreeOn-bytes_at, IsNicheAt, niche_in_part, niche_in_whole}
+use Rattle.abi_laid.proofs.BytesLemmas.{put, length-put, bytes_at-put, drop-put_after, AreBytes-put, AreBytes-bytes_at}
+use Rattle.abi_laid.proofs.HoldLemmas.{length-Holds, length-bytes_at, drop_later, AgreeOn-bytes_at, IsNicheAt, niche_in_part, niche_in_whole}
 
 -- the niche, if there is one, is the first element's
 abbrev pub IsElementNiche : (count : ℕ) → Placed → Niche → Type 0
@@ -176,19 +177,6 @@ module _ (dl : TargetDataLayout) (t : Tree) (element : Placed) (faithful : IsFai
     view = λ b v h. rw view tt;
     flag = flag-elements dl t element count layout flag faithful.flag;
   }
-
--- an array's data places lie inside it
-pub within_elements : (layout : Layout) (count : ℕ) (element : Placed) → layout.size ≡ size_of element * count →
-    ((k : ℕ) → is_data_place element k ≡ true → k < size_of element) →
-    (k : ℕ) → is_data_place (elements layout count element) k ≡ true → k < layout.size
-within_elements layout count element size within k place =
-    let n : ℕ = size_of element in
-    let both = and_parts (nat_lt (k / n) count) (is_data_place element (k % n)) place in
-    let which : k / n < count = ltb-true (k / n) count both.0 in
-    let inside : k % n < n = within (k % n) both.1 in
-    let positive : 0 < n = omega arith in
-    let split : k ≡ k / n * n + k % n = omega arith in
-    omega (arith, split, mul-add-lt (k / n) n (k % n) count which inside, size)
 
 -- a layout of elements
 pub Fits-elements : (dl : TargetDataLayout) (t : Tree) (element : Placed) (count : ℕ) (layout : Layout) → Fits dl t element →

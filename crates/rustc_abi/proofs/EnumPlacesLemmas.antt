@@ -29,15 +29,17 @@ use Rattle.abi_calc.specs.Enums.Places.{AreApartBehind}
 use Rattle.abi_calc.proofs.GoodLists.{good_list}
 use Rattle.std.specs.Prelude.{Vec}
 use Rattle.std.specs.declared.alloc.Global.{Global}
-use Rattle.rustc_abi.specs.declared.mark.Mark.{Mark}
-use Rattle.rustc_abi.specs.declared.node.Node.{Node}
-use Rattle.rustc_abi.specs.declared.node.Shape.TheVariants.{Single}
-use Rattle.rustc_abi.specs.Adding.{all_at, variants_in}
-use Rattle.rustc_abi.specs.Nodes.{placed_in, types_in}
+use Rattle.abi_laid.specs.declared.mark.Mark.{Mark}
+use Rattle.abi_laid.specs.declared.node.Node.{Node}
+use Rattle.abi_laid.specs.declared.node.Shape.TheVariants.{Single}
+use Rattle.abi_laid.specs.Well.{all_at}
+use Rattle.rustc_abi.specs.Adding.{variants_in}
+use Rattle.abi_laid.specs.Nodes.{placed_in, types_in}
 use Rattle.rustc_abi.specs.Enums.{IsEnumed, IsTagInteger, layouts_of, numbered_from}
-use Rattle.rustc_abi.specs.Laws.{HavePlaces, have_places, keeps_laws, sizes_at}
+use Rattle.abi_laid.specs.Laws.{have_places, keeps_laws, sizes_at}
+use Rattle.rustc_abi.specs.Adding.{HavePlaces}
 use Rattle.rustc_abi.specs.Laying.{enum_fault, most_fields}
-use Rattle.rustc_abi.specs.Placed.{Placed, Layout, layout_of, size_of}
+use Rattle.abi_laid.specs.Placed.{Placed, Layout, layout_of, size_of}
 use Rattle.rustc_abi.proofs.ArmsLemmas.{apart_beside}
 use Rattle.rustc_abi.proofs.CalculatedLemmas.{lawful_at, some_variant, told}
 use Rattle.rustc_abi.proofs.FaultlessLemmas.{few_fields}

@@ -36,10 +36,10 @@ use Rattle.abi_calc.proofs.OneEnum.{one_asked_for}
 use Rattle.abi_calc.specs.Least.{IsLeastSize}
 use Rattle.rustc_abi.specs.declared.error.LayError.{LayError}
 use Rattle.rustc_abi.specs.declared.error.LayError.TheVariants.{SizeOverflow}
-use Rattle.rustc_abi.specs.Tree.{Variants, enum}
-use Rattle.rustc_abi.specs.Placed.{Placed, Layout, layout_of, size_of}
+use Rattle.abi_laid.specs.Tree.{Variants, enum}
+use Rattle.abi_laid.specs.Placed.{Placed, Layout, layout_of, size_of}
 use Rattle.rustc_abi.specs.Error.{lay_error}
-use Rattle.rustc_abi.specs.Nodes.{parts_at}
+use Rattle.abi_laid.specs.Nodes.{parts_at}
 use Rattle.rustc_abi.specs.Enums.{IsCalculated, IsEnumed, IsTagInteger, arms_at, counted, discriminants_of, layouts_of, numbered_from}
 use Rattle.rustc_abi.specs.Laying.{enum_fault, placed_enum, placed_variants}
 use Rattle.rustc_abi.specs.Least.{IsEnumSized, IsLeast, IsEnumTooLarge, IsTooLargeBy, fields_of, variants_of}

@@ -15,18 +15,18 @@ use Rattle.abi_scalar.specs.declared.variants.TagEncoding.TheVariants.{Direct, N
 use Rattle.abi_scalar.specs.declared.wrapping_range.WrappingRange.{WrappingRange}
 use Rattle.abi_scalar.specs.declared.backend_repr.BackendRepr.TheVariants.{Scalar as OneScalar}
 use Rattle.abi_scalar.specs.Range.{IsIn, full_range}
-use Rattle.rustc_abi.specs.Tree.{Tree, never, struct, enum, coroutine, no_trees, more_trees, no_variants, more_variants, scalar as number_type}
-use Rattle.rustc_abi.specs.Value.{Value, number, two, list, variant, state, bytes, no_values, more_values}
-use Rattle.rustc_abi.specs.Bytes.{picked}
-use Rattle.rustc_abi.specs.declared.mark.Mark.TheVariants.{Plain}
-use Rattle.rustc_abi.specs.Placed.{Placed, Layout, layout_of, scalar, never as nowhere, fields, union, single, tagged, states, no_parts, part, no_arms, arm, nothing}
-use Rattle.rustc_abi.specs.Places.{is_data_place}
-use Rattle.rustc_abi.specs.Runs.{padding_of, unused_of}
-use Rattle.rustc_abi.specs.Tag.{Names}
-use Rattle.rustc_abi.specs.Holding.{Holds}
-use Rattle.rustc_abi.specs.Faithful.{EachValueIsHeld, IsFlagTrue, IsViewTrue}
-use Rattle.rustc_abi.specs.Unions.{IsCommon}
-use Rattle.rustc_abi.specs.Untagged.{NamesItself}
+use Rattle.abi_laid.specs.Tree.{Tree, never, struct, enum, coroutine, no_trees, more_trees, no_variants, more_variants, scalar as number_type}
+use Rattle.abi_laid.specs.Value.{Value, number, two, list, variant, state, bytes, no_values, more_values}
+use Rattle.abi_laid.specs.Bytes.{picked}
+use Rattle.abi_laid.specs.declared.mark.Mark.TheVariants.{Plain}
+use Rattle.abi_laid.specs.Placed.{Placed, Layout, layout_of, scalar, never as nowhere, fields, union, single, tagged, states, no_parts, part, no_arms, arm, nothing}
+use Rattle.abi_laid.specs.Places.{is_data_place}
+use Rattle.abi_laid.specs.Runs.{padding_of, unused_of}
+use Rattle.abi_laid.specs.Tag.{Names}
+use Rattle.abi_laid.specs.Holding.{Holds}
+use Rattle.abi_laid.specs.Faithful.{EachValueIsHeld, IsFlagTrue, IsViewTrue}
+use Rattle.abi_laid.specs.Unions.{IsCommon}
+use Rattle.abi_laid.specs.Untagged.{NamesItself}
 
 -- ---- the types
 

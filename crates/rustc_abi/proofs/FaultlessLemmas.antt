@@ -8,7 +8,7 @@ use Rattle.abi_base.specs.declared.data_layout.TargetDataLayout.{TargetDataLayou
 use Rattle.abi_scalar.specs.declared.repr.ReprOptions.{ReprOptions}
 use Rattle.abi_calc.specs.List.{HasLawfulAligns}
 use Rattle.rustc_abi.specs.declared.error.LayError.TheVariants.{BadAlign, BadIndex, DiscriminantTooWide, DuplicateDiscriminant}
-use Rattle.rustc_abi.specs.Placed.{Placed}
+use Rattle.abi_laid.specs.Placed.{Placed}
 use Rattle.rustc_abi.specs.Enums.{has_equal, is_discriminant}
 use Rattle.rustc_abi.specs.Laying.{enum_fault, has_bad_align, has_bad_index, most_fields}
 use Rattle.rustc_abi.proofs.LayLemmas.{lawful_unless_bad, neither}

@@ -4,7 +4,7 @@ use Rattle.std.specs.Prelude.{IfSome, true, Bool}
 use Rattle.std.specs.Cmp.Derive.{both_true}
 use Rattle.std.proofs.lemmas.Bool.{le-leb}
 use Rattle.std.proofs.lemmas.Option.{IfSome_then}
-use Rattle.rustc_abi.specs.Room.{have_room}
+use Rattle.abi_laid.specs.Room.{have_room}
 use Rattle.abi_base.specs.declared.data_layout.TargetDataLayout.{TargetDataLayout}
 use Rattle.abi_scalar.specs.declared.repr.ReprOptions.{ReprOptions}
 use Rattle.abi_scalar.specs.declared.niche.Niche.{Niche}
@@ -13,25 +13,25 @@ use Rattle.abi_scalar.specs.Niche.{niche_size}
 use Rattle.abi_scalar.specs.Lawful.{IsLawfulLayout}
 use Rattle.abi_calc.specs.Apart.{AreApart, IsBeside}
 use Rattle.abi_calc.specs.ListNiche as calc
-use Rattle.rustc_abi.specs.Tree.{Tree, struct, Trees, no_trees, more_trees}
-use Rattle.rustc_abi.specs.Bytes.{AreBytes, bytes_at, number_of}
-use Rattle.rustc_abi.specs.Value.{Value, number, two, list, variant, state, bytes, Values, no_values, more_values}
-use Rattle.rustc_abi.specs.Mark.{mark_of}
-use Rattle.rustc_abi.specs.Placed.{Placed, Layout, Parts, no_parts, part, layout_of, size_of, niche_of, fields}
-use Rattle.rustc_abi.specs.Values.{IsValueOf, LocalsOfEach}
-use Rattle.rustc_abi.specs.Holding.{Holds, HoldParts}
-use Rattle.rustc_abi.specs.Faithful.{AgreeOn, IsFaithful, IsFlagTrue, IsTrueOf}
-use Rattle.rustc_abi.specs.Fits.{Fits}
-use Rattle.rustc_abi.specs.Unions.{IsCommon, InUnionsOf}
-use Rattle.rustc_abi.specs.Untagged.{UntaggedNamedOf}
-use Rattle.rustc_abi.specs.Nodes.{parts_at}
+use Rattle.abi_laid.specs.Tree.{Tree, struct, Trees, no_trees, more_trees}
+use Rattle.abi_laid.specs.Bytes.{AreBytes, bytes_at, number_of}
+use Rattle.abi_laid.specs.Value.{Value, number, two, list, variant, state, bytes, Values, no_values, more_values}
+use Rattle.abi_laid.specs.Mark.{mark_of}
+use Rattle.abi_laid.specs.Placed.{Placed, Layout, Parts, no_parts, part, layout_of, size_of, niche_of, fields}
+use Rattle.abi_laid.specs.Values.{IsValueOf, LocalsOfEach}
+use Rattle.abi_laid.specs.Holding.{Holds, HoldParts}
+use Rattle.abi_laid.specs.Faithful.{AgreeOn, IsFaithful, IsFlagTrue, IsTrueOf}
+use Rattle.abi_laid.specs.Fits.{Fits}
+use Rattle.abi_laid.specs.Unions.{IsCommon, InUnionsOf}
+use Rattle.abi_laid.specs.Untagged.{UntaggedNamedOf}
+use Rattle.abi_laid.specs.Nodes.{parts_at}
 use Rattle.rustc_abi.specs.Adding.{EachFits}
 use Rattle.std.specs.List.{list_any}
 use Rattle.abi_calc.specs.List.{parts_of}
 use Rattle.abi_calc.specs.ListView.{list_view}
 use Rattle.rustc_abi.proofs.FlagLemmas.{flag-fields}
 use Rattle.rustc_abi.proofs.ViewLemmas.{part_true, list_view_true}
-use Rattle.rustc_abi.proofs.HoldLemmas.{IsNicheAt, niche_in_part, niche_in_whole}
+use Rattle.abi_laid.proofs.HoldLemmas.{IsNicheAt, niche_in_part, niche_in_whole}
 use Rattle.rustc_abi.proofs.PartsLemmas.{LieBeside, FitTogether, LieInside, exist, only, unique, padding, within_parts}
 
 -- the niche is some part's

@@ -14,19 +14,19 @@ use Rattle.abi_scalar.specs.declared.wrapping_range.WrappingRange.{WrappingRange
 use Rattle.abi_scalar.specs.Range.{numbers_of, IsIn}
 use Rattle.abi_scalar.specs.Niche.{niche_size}
 use Rattle.abi_scalar.specs.Reserve.{HandsOut}
-use Rattle.rustc_abi.specs.Tree.{Tree, enum, Variants, no_variants, more_variants}
-use Rattle.rustc_abi.specs.Bytes.{AreBytes, bytes_at, number_of}
-use Rattle.rustc_abi.specs.Value.{Value, number, two, list, variant, state, bytes, Values}
-use Rattle.rustc_abi.specs.Mark.{mark_of}
-use Rattle.rustc_abi.specs.Placed.{Placed, Layout, Arms, no_arms, arm, size_of, tagged, parts_of_arm, is_flagged}
-use Rattle.rustc_abi.specs.Places.{is_data_place, is_place_of_part, is_place_of_arm}
-use Rattle.rustc_abi.specs.Tag.{NamesByNiche, niche_number}
-use Rattle.rustc_abi.specs.Values.{IsValueOf, AreValuesOfVariant}
-use Rattle.rustc_abi.specs.Holding.{Holds, HoldArm, tag_at}
-use Rattle.rustc_abi.specs.Faithful.{AgreeOn}
-use Rattle.rustc_abi.specs.Untagged.{NamesItself}
-use Rattle.rustc_abi.proofs.BytesLemmas.{put, length-put, bytes_at-put, AreBytes-put, same_bytes, spelled_in, length-spelled_in, number_of-spelled_in, AreBytes-spelled_in}
-use Rattle.rustc_abi.proofs.HoldLemmas.{length-bytes_at, AgreeOn-bytes_at}
+use Rattle.abi_laid.specs.Tree.{Tree, enum, Variants, no_variants, more_variants}
+use Rattle.abi_laid.specs.Bytes.{AreBytes, bytes_at, number_of}
+use Rattle.abi_laid.specs.Value.{Value, number, two, list, variant, state, bytes, Values}
+use Rattle.abi_laid.specs.Mark.{mark_of}
+use Rattle.abi_laid.specs.Placed.{Placed, Layout, Arms, no_arms, arm, size_of, tagged, parts_of_arm, is_flagged}
+use Rattle.abi_laid.specs.Places.{is_data_place, is_place_of_part, is_place_of_arm}
+use Rattle.abi_laid.specs.Tag.{NamesByNiche, niche_number}
+use Rattle.abi_laid.specs.Values.{IsValueOf, AreValuesOfVariant}
+use Rattle.abi_laid.specs.Holding.{Holds, HoldArm, tag_at}
+use Rattle.abi_laid.specs.Faithful.{AgreeOn}
+use Rattle.abi_laid.specs.Untagged.{NamesItself}
+use Rattle.abi_laid.proofs.BytesLemmas.{put, length-put, bytes_at-put, AreBytes-put, same_bytes, spelled_in, length-spelled_in, number_of-spelled_in, AreBytes-spelled_in}
+use Rattle.abi_laid.proofs.HoldLemmas.{length-bytes_at, AgreeOn-bytes_at}
 use Rattle.rustc_abi.proofs.PartsLemmas.{LieBeside, FitTogether, HoldParts-beside, exist, only, unique, padding}
 use Rattle.rustc_abi.proofs.FieldsLemmas.{IsPartNiche, part_niche}
 use Rattle.rustc_abi.proofs.TaggedLemmas.{none_flagged}

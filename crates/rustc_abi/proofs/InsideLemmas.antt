@@ -60,8 +60,8 @@ use Rattle.abi_calc.proofs.EnumType.{several_some}
 use Rattle.abi_calc.proofs.GoodLists.{good_list, good_lists, tag_prefix}
 use Rattle.abi_calc.proofs.OneCoroutine.{lists_own}
 use Rattle.abi_calc.proofs.Rounding.{rounded_to}
-use Rattle.rustc_abi.specs.Placed.{Placed, Layout, layout_of, size_of}
-use Rattle.rustc_abi.specs.Nodes.{placed_in}
+use Rattle.abi_laid.specs.Placed.{Placed, Layout, layout_of, size_of}
+use Rattle.abi_laid.specs.Nodes.{placed_in}
 use Rattle.rustc_abi.specs.Enums.{IsEnumed, IsTagInteger, layouts_of, numbered_from}
 use Rattle.rustc_abi.specs.Coroutines.{IsCoroutined, conflicts_of}
 use Rattle.rustc_abi.specs.Inside.{EndInside, VariantsInside}

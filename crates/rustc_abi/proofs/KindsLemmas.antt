@@ -38,13 +38,13 @@ use Rattle.abi_calc.specs.ListView.{list_view}
 use Rattle.abi_calc.specs.Placement.{source_order}
 use Rattle.abi_calc.specs.Simd.{is_tight, lanes_answer, simd_align, simd_answer, simd_view, vector_layout}
 use Rattle.abi_calc.proofs.GoodLists.{good_list}
-use Rattle.rustc_abi.specs.declared.mark.Mark.{Mark}
-use Rattle.rustc_abi.specs.declared.mark.Mark.TheVariants.{Never, Unit}
+use Rattle.abi_laid.specs.declared.mark.Mark.{Mark}
+use Rattle.abi_laid.specs.declared.mark.Mark.TheVariants.{Never, Unit}
 use Rattle.rustc_abi.specs.declared.error.LayError.TheVariants.{SizeOverflow}
-use Rattle.rustc_abi.specs.Mark.{mark_of}
-use Rattle.rustc_abi.specs.Tree.{Tree, scalar, pair, never, unit, array, vector, struct, union, enum, coroutine, Trees, no_trees, more_trees, Variants, no_variants, more_variants}
-use Rattle.rustc_abi.specs.Placed.{Placed, Layout, layout_of, size_of, elements, fields, nothing, no_parts, pair as placed_pair, never as placed_never, vector as placed_vector, union as placed_union, single as placed_single, tagged as placed_tagged, states as placed_states}
-use Rattle.rustc_abi.specs.Nodes.{parts_at, parts_at_0, placed_in}
+use Rattle.abi_laid.specs.Mark.{mark_of}
+use Rattle.abi_laid.specs.Tree.{Tree, scalar, pair, never, unit, array, vector, struct, union, enum, coroutine, Trees, no_trees, more_trees, Variants, no_variants, more_variants}
+use Rattle.abi_laid.specs.Placed.{Placed, Layout, layout_of, size_of, elements, fields, nothing, no_parts, pair as placed_pair, never as placed_never, vector as placed_vector, union as placed_union, single as placed_single, tagged as placed_tagged, states as placed_states}
+use Rattle.abi_laid.specs.Nodes.{parts_at, parts_at_0, placed_in}
 use Rattle.rustc_abi.specs.Inside.{VariantsInside}
 use Rattle.rustc_abi.specs.Error.{named}
 use Rattle.rustc_abi.specs.ScalarFault.{scalar_fault}

@@ -57,9 +57,9 @@ use Rattle.abi_calc.proofs.EnumDeep.{enum_sized}
 use Rattle.abi_calc.proofs.EnumType.{several_some}
 use Rattle.rustc_abi.specs.declared.error.LayError.{LayError}
 use Rattle.rustc_abi.specs.declared.error.LayError.TheVariants.{SizeOverflow}
-use Rattle.rustc_abi.specs.Tree.{Tree, scalar, pair, never, unit, array, vector, struct, union, enum, coroutine, Trees, no_trees, more_trees, Variants, no_variants, more_variants}
-use Rattle.rustc_abi.specs.declared.mark.Mark.TheVariants.{Never, Unit}
-use Rattle.rustc_abi.specs.Placed.{Placed, Layout, layout_of, size_of, elements, fields, vector as placed_vector, no_parts, never as placed_never}
+use Rattle.abi_laid.specs.Tree.{Tree, scalar, pair, never, unit, array, vector, struct, union, enum, coroutine, Trees, no_trees, more_trees, Variants, no_variants, more_variants}
+use Rattle.abi_laid.specs.declared.mark.Mark.TheVariants.{Never, Unit}
+use Rattle.abi_laid.specs.Placed.{Placed, Layout, layout_of, size_of, elements, fields, vector as placed_vector, no_parts, never as placed_never}
 use Rattle.rustc_abi.specs.ScalarFault.{scalar_fault}
 use Rattle.rustc_abi.specs.Error.{named, Follows}
 use Rattle.rustc_abi.specs.Laying.{IsLaying, AreLaying, IsListed, IsUnited, fields_fault, kind_of, lanes_of, one_scalar, pair_answer, placed_by, placed_fields, placed_together, scalar_answer, two_scalars, unless, vector_answer, placed_variants, placed_enum, enum_fault, VariantsLaying, coroutine_fault, placed_coroutine}

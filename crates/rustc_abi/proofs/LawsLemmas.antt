@@ -21,13 +21,13 @@ use Rattle.abi_scalar.specs.Variant.{variant_layout, variants_of}
 use Rattle.abi_calc.specs.Apart.{AreApart}
 use Rattle.abi_calc.specs.Array.{array_answer, elements_layout}
 use Rattle.abi_calc.specs.Simd.{simd_answer}
-use Rattle.rustc_abi.specs.declared.node.Shape.TheVariants.{Elements, Pair, Vector}
+use Rattle.abi_laid.specs.declared.node.Shape.TheVariants.{Elements, Pair, Vector}
 use Rattle.rustc_abi.specs.Error.{named}
 use Rattle.rustc_abi.specs.Inside.{EndInside, VariantsInside}
-use Rattle.rustc_abi.specs.Laws.{end_inside, has_elements, have_lists, have_places, keeps_laws, sizes_at}
+use Rattle.abi_laid.specs.Laws.{end_inside, has_elements, have_lists, have_places, keeps_laws, sizes_at}
 use Rattle.rustc_abi.specs.Laying.{IsListed, IsUnited, one_scalar}
-use Rattle.rustc_abi.specs.Nodes.{placed_in}
-use Rattle.rustc_abi.specs.Placed.{Placed, Layout, layout_of, size_of}
+use Rattle.abi_laid.specs.Nodes.{placed_in}
+use Rattle.abi_laid.specs.Placed.{Placed, Layout, layout_of, size_of}
 use Rattle.rustc_abi.proofs.CalcLemmas.{united_layout, vector_made}
 use Rattle.rustc_abi.proofs.ListLemmas.{chosen}
 use Rattle.rustc_abi.proofs.UnionLemmas.{below_greatest}

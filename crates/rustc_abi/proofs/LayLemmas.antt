@@ -16,34 +16,35 @@ use Rattle.abi_scalar.specs.Repr.{is_abi_fixed}
 use Rattle.abi_calc.specs.Array.{array_answer, elements_layout}
 use Rattle.rustc_abi.specs.declared.error.LayError.{LayError}
 use Rattle.rustc_abi.specs.declared.error.LayError.TheVariants.{BadIndex, BadAlign, SizeOverflow}
-use Rattle.rustc_abi.specs.declared.node.Node.{Node}
+use Rattle.abi_laid.specs.declared.node.Node.{Node}
 use Rattle.abi_base.specs.DataLayout.{size_bound}
 use Rattle.abi_scalar.specs.declared.scalar.Scalar.{Scalar}
 use Rattle.abi_scalar.specs.Pair.{pair_size, second_offset}
 use Rattle.std.proofs.lemmas.Bool.{lt-ltb, le-ltb, ltb-false}
-use Rattle.rustc_abi.specs.declared.node.Shape.TheVariants.{Pair}
+use Rattle.abi_laid.specs.declared.node.Shape.TheVariants.{Pair}
 use Rattle.rustc_abi.specs.ScalarFault.{scalar_fault}
 use Rattle.rustc_abi.proofs.FaultLemmas.{faultless}
 use Rattle.rustc_abi.proofs.PairLemmas.{Fits-pair}
-use Rattle.rustc_abi.specs.Tree.{Tree, pair, array, struct, Trees, no_trees, more_trees, trees, Variants, no_variants, more_variants}
-use Rattle.rustc_abi.specs.Placed.{Placed, Layout, layout_of, size_of, niche_of, pair as placed_pair, elements, part, no_parts}
+use Rattle.abi_laid.specs.Tree.{Tree, pair, array, struct, Trees, no_trees, more_trees, trees, Variants, no_variants, more_variants}
+use Rattle.abi_laid.specs.Placed.{Placed, Layout, layout_of, size_of, niche_of, pair as placed_pair, elements, part, no_parts}
 use Rattle.rustc_abi.specs.Error.{named, IsRefused}
-use Rattle.rustc_abi.specs.Fits.{Fits}
-use Rattle.rustc_abi.specs.Nodes.{placed_in, meaning, types_in, placed_at, root_of, Keeps}
-use Rattle.rustc_abi.specs.Values.{LocalsHaveValues}
-use Rattle.rustc_abi.specs.Faithful.{IsFaithful}
+use Rattle.abi_laid.specs.Fits.{Fits}
+use Rattle.abi_laid.specs.Nodes.{placed_in, meaning, types_in, placed_at, root_of, Keeps}
+use Rattle.abi_laid.specs.Values.{LocalsHaveValues}
+use Rattle.abi_laid.specs.Faithful.{IsFaithful}
 use Rattle.rustc_abi.specs.Laying.{IsLaying, AreLaying, IsFieldsAnswer, IsListed, fields_fault, has_bad_align, is_above_limit, most_fields, kind_of, placed_fields, placed_by, unless, one_scalar, two_scalars, pair_answer}
-use Rattle.rustc_abi.specs.Unions.{Begins, IsCommon, InUnions}
-use Rattle.rustc_abi.specs.Untagged.{UntaggedNamed}
+use Rattle.abi_laid.specs.Unions.{Begins, IsCommon, InUnions}
+use Rattle.abi_laid.specs.Untagged.{UntaggedNamed}
 use Rattle.rustc_abi.proofs.CommonLemmas.{begins_room}
-use Rattle.rustc_abi.specs.Adding.{IsPut, IsAdded, EachFits, VariantsFit, all_at, AreAdded}
+use Rattle.abi_laid.specs.Well.{IsPut, all_at}
+use Rattle.rustc_abi.specs.Adding.{IsAdded, EachFits, VariantsFit, AreAdded}
 use Rattle.rustc_abi.proofs.ElementsLemmas.{IsElementNiche, Fits-elements}
 use Rattle.rustc_abi.proofs.FieldsLemmas.{part_of_list, Fits-fields}
 use Rattle.abi_calc.specs.ListNiche.{IsNicheOfPart}
 use Rattle.std.proofs.lemmas.Option.{IfSome_then}
 use Rattle.abi_scalar.specs.Shape.{listed_offsets}
 use Rattle.rustc_abi.proofs.ListLemmas.{chosen}
-use Rattle.rustc_abi.proofs.NodesLemmas.{length-types_in, Keeps-trans}
+use Rattle.abi_laid.proofs.NodesLemmas.{length-types_in, Keeps-trans}
 
 pub IsAdded-put : (dl : TargetDataLayout) (old new : List Node) (i : ℕ) (placed : Placed) (t : Tree) → IsPut old new i placed →
     IsLaying dl t (Ok placed) → Fits dl t placed → IsAdded dl old new i t

@@ -39,8 +39,8 @@ use Rattle.abi_calc.proofs.OneCoroutine.{one_tag}
 use Rattle.abi_calc.proofs.CoroutinePromotion.{promoted_count}
 use Rattle.rustc_abi.specs.declared.error.LayError.{LayError}
 use Rattle.rustc_abi.specs.declared.error.LayError.TheVariants.{SizeOverflow, UnexpectedUnsized, BadIndex, BadAlign, UnknownSpace, BadRange, DuplicateDiscriminant, DiscriminantTooWide, LocalTwice, NoState}
-use Rattle.rustc_abi.specs.Tree.{Tree, scalar, pair, never, unit, array, vector, struct, union, enum, coroutine, Trees, no_trees, more_trees, Variants, no_variants, more_variants}
-use Rattle.rustc_abi.specs.Placed.{Placed, Layout, layout_of, size_of, elements, vector as placed_vector}
+use Rattle.abi_laid.specs.Tree.{Tree, scalar, pair, never, unit, array, vector, struct, union, enum, coroutine, Trees, no_trees, more_trees, Variants, no_variants, more_variants}
+use Rattle.abi_laid.specs.Placed.{Placed, Layout, layout_of, size_of, elements, vector as placed_vector}
 use Rattle.rustc_abi.specs.Error.{Follows, IsRefused, named, lay_error}
 use Rattle.rustc_abi.specs.ScalarFault.{is_lawful_primitive, has_range_within, scalar_fault}
 use Rattle.rustc_abi.specs.Laying.{AreLaying, IsFieldsAnswer, IsLaying, IsListed, IsCoroutineOf, IsUnionOf, IsUnited, VariantsLaying, elements_answer, fields_fault, kind_of, lanes_of, one_scalar, pair_answer, placed_by, placed_fields, placed_together, scalar_answer, two_scalars, unless, vector_answer, placed_enum, enum_fault, has_bad_index, has_bad_align, IsEnumOf, coroutine_fault, most_fields, placed_coroutine}

@@ -1,5 +1,4 @@
-mod BytesLemmas
-mod HoldLemmas
+mod NarrowLemmas
 mod ScalarLemmas
 mod FaultLemmas
 mod DiscriminantLemmas
@@ -8,11 +7,6 @@ mod EmptyLemmas
 mod FlagLemmas
 mod ElementsLemmas
 mod PartsLemmas
-mod NodesLemmas
-mod WidthLemmas
-mod TypedLemmas
-mod HandleLemmas
-mod SeenLemmas
 mod ViewLemmas
 mod FieldsLemmas
 pub mod TreeLemmas
@@ -21,15 +15,8 @@ mod LawsLemmas
 mod EnumPlacesLemmas
 mod StateLawsLemmas
 mod RefusalLemmas
-mod RunsLemmas
-mod GapsLemmas
-mod WalkLemmas
-mod RoomLemmas
-mod PaddingLemmas
-mod UnusedLemmas
 mod Facts
 mod LayLemmas
-mod PickedLemmas
 mod CommonLemmas
 mod UnionLemmas
 mod AnywhereLemmas
@@ -71,17 +58,3 @@ mod InsideLemmas
 mod CoveredLemmas
 mod KindsLemmas
 mod SeenPlacesLemmas
-mod ValueLemmas
-mod ReadLemmas
-mod FoundLemmas
-mod NamedLemmas
-mod TakenLemmas
-mod NumberLemmas
-mod DecidedLemmas
-mod SameLemmas
-mod PutOverLemmas
-mod WriteLemmas
-mod PutPlacesLemmas
-mod TagNumberLemmas
-mod WrittenLemmas
-mod KeptLemmas

@@ -22,7 +22,7 @@ use Rattle.abi_calc.specs.List.{IsListAnswer, parts_of}
 use Rattle.abi_calc.specs.Order.{IsNamedOrder}
 use Rattle.abi_calc.specs.Placement.{list_repr}
 use Rattle.rustc_abi.specs.declared.error.LayError.{LayError}
-use Rattle.rustc_abi.specs.Placed.{Placed, Layout, layout_of, size_of}
+use Rattle.abi_laid.specs.Placed.{Placed, Layout, layout_of, size_of}
 use Rattle.rustc_abi.specs.Error.{lay_error, named, IsRefused}
 use Rattle.rustc_abi.specs.Laying.{IsListed}
 

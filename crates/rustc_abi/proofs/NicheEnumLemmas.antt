@@ -24,25 +24,25 @@ use Rattle.abi_calc.specs.Enums.Path.{variant_at, has_no_value, takes_no_room}
 use Rattle.abi_calc.specs.Apart.{AreApart}
 use Rattle.abi_calc.specs.Enums.Beside.{IsToldByNiche}
 use Rattle.rustc_abi.specs.Enums.{layouts_of, arms_at, discriminants_of}
-use Rattle.rustc_abi.specs.Mark.{mark_of}
-use Rattle.rustc_abi.specs.Placed.{parts_of_arm, Placed, layout_of, is_flagged, size_of, Layout, Arms, tagged}
-use Rattle.rustc_abi.specs.Tree.{Variants, enum}
+use Rattle.abi_laid.specs.Mark.{mark_of}
+use Rattle.abi_laid.specs.Placed.{parts_of_arm, Placed, layout_of, is_flagged, size_of, Layout, Arms, tagged}
+use Rattle.abi_laid.specs.Tree.{Variants, enum}
 use Rattle.rustc_abi.specs.Adding.{VariantsFit}
-use Rattle.rustc_abi.specs.Fits.{Fits}
+use Rattle.abi_laid.specs.Fits.{Fits}
 use Rattle.rustc_abi.specs.Laying.{one_scalar, placed_enum, placed_variants}
-use Rattle.rustc_abi.specs.Room.{has_room}
-use Rattle.rustc_abi.specs.Values.{LocalsOfVariants}
-use Rattle.rustc_abi.specs.Value.{Value}
-use Rattle.rustc_abi.specs.Holding.{Holds}
-use Rattle.rustc_abi.specs.Bytes.{number_of, bytes_at}
-use Rattle.rustc_abi.specs.Faithful.{IsFaithful}
-use Rattle.rustc_abi.specs.Untagged.{UntaggedNamed}
+use Rattle.abi_laid.specs.Room.{has_room}
+use Rattle.abi_laid.specs.Values.{LocalsOfVariants}
+use Rattle.abi_laid.specs.Value.{Value}
+use Rattle.abi_laid.specs.Holding.{Holds}
+use Rattle.abi_laid.specs.Bytes.{number_of, bytes_at}
+use Rattle.abi_laid.specs.Faithful.{IsFaithful}
+use Rattle.abi_laid.specs.Untagged.{UntaggedNamed}
 use Rattle.rustc_abi.proofs.ArmsLemmas.{EachApart, flagged_as, apart_beside, arms_room, arms_beside, flag_arms, arms_flag, arms_common, arms_untagged}
 use Rattle.rustc_abi.proofs.FieldsLemmas.{IsPartNiche, part_of_list}
 use Rattle.rustc_abi.proofs.InNicheLemmas.{IsThere, AreSpanned, ArmsBeside, in_niche_number, names_itself, in_niche_exists, in_niche_only, in_niche_unique, in_niche_padding}
 use Rattle.rustc_abi.proofs.EnumLemmas.{in_below, numbers_long, some_niche}
 use Rattle.rustc_abi.proofs.LayLemmas.{VariantsFit-lawful}
-use Rattle.rustc_abi.proofs.RoomLemmas.{within_room}
+use Rattle.abi_laid.proofs.RoomLemmas.{within_room}
 use Rattle.rustc_abi.proofs.TagViewLemmas.{tag_niche_true, tag_niche_inside, tag_view_niche}
 
 -- an arm has the fields of its variant at the offsets of its layout: a niche of these is the arm's

@@ -7,16 +7,16 @@ use Rattle.std.proofs.lemmas.Bool.{and_parts, or_cases, leb-true, le-leb}
 use Rattle.std.proofs.Math.Bool.{or-true}
 use Rattle.std.specs.Cmp.Derive.{both_true}
 use Rattle.abi_base.specs.declared.data_layout.TargetDataLayout.{TargetDataLayout}
-use Rattle.rustc_abi.specs.Tree.{Trees, no_trees, more_trees}
-use Rattle.rustc_abi.specs.Bytes.{AreBytes, bytes_at}
-use Rattle.rustc_abi.specs.Value.{Values, no_values, more_values}
-use Rattle.rustc_abi.specs.Placed.{Placed, Parts, no_parts, part, size_of}
-use Rattle.rustc_abi.specs.Places.{is_data_place, is_place_of_part}
-use Rattle.rustc_abi.specs.Values.{AreValuesOf}
-use Rattle.rustc_abi.specs.Holding.{Holds, HoldParts}
-use Rattle.rustc_abi.specs.Faithful.{IsFaithful}
-use Rattle.rustc_abi.proofs.BytesLemmas.{put, length-put, bytes_at-put, bytes_at-put_other, AreBytes-put, AreBytes-bytes_at}
-use Rattle.rustc_abi.proofs.HoldLemmas.{length-Holds, length-bytes_at, AgreeOn-bytes_at}
+use Rattle.abi_laid.specs.Tree.{Trees, no_trees, more_trees}
+use Rattle.abi_laid.specs.Bytes.{AreBytes, bytes_at}
+use Rattle.abi_laid.specs.Value.{Values, no_values, more_values}
+use Rattle.abi_laid.specs.Placed.{Placed, Parts, no_parts, part, size_of}
+use Rattle.abi_laid.specs.Places.{is_data_place, is_place_of_part}
+use Rattle.abi_laid.specs.Values.{AreValuesOf}
+use Rattle.abi_laid.specs.Holding.{Holds, HoldParts}
+use Rattle.abi_laid.specs.Faithful.{IsFaithful}
+use Rattle.abi_laid.proofs.BytesLemmas.{put, length-put, bytes_at-put, bytes_at-put_other, AreBytes-put, AreBytes-bytes_at}
+use Rattle.abi_laid.proofs.HoldLemmas.{length-Holds, length-bytes_at, AgreeOn-bytes_at}
 
 -- n bytes at the offset lie before or after each part
 abbrev pub LieBeside : (offset n : ℕ) → Parts → Type 0

@@ -30,22 +30,22 @@ use Rattle.abi_scalar.proofs.ReadableLemmas.{lawful_readable}
 use Rattle.abi_calc.specs.Array.{elements_layout}
 use Rattle.abi_types.specs.Ty.Typed.{Typed, typed, no_type, field_in, layout_in, variant_in}
 use Rattle.abi_types.specs.Ty.Places.{covers_element, fields_cover, is_place, is_shared_place, is_unused, variants_cover}
-use Rattle.rustc_abi.specs.declared.laid.Laid.{Laid}
-use Rattle.rustc_abi.specs.declared.mark.Mark.{Mark}
-use Rattle.rustc_abi.specs.Tree.{Tree}
-use Rattle.rustc_abi.specs.Placed.{Placed, Layout, Arms, layout_of, scalar, pair, never, elements, vector, fields, union, single, tagged, states, parts_of_arm, size_of}
-use Rattle.rustc_abi.specs.Places.{is_data_place, is_place_of_arm, is_place_of_part}
+use Rattle.abi_laid.specs.declared.laid.Laid.{Laid}
+use Rattle.abi_laid.specs.declared.mark.Mark.{Mark}
+use Rattle.abi_laid.specs.Tree.{Tree}
+use Rattle.abi_laid.specs.Placed.{Placed, Layout, Arms, layout_of, scalar, pair, never, elements, vector, fields, union, single, tagged, states, parts_of_arm, size_of}
+use Rattle.abi_laid.specs.Places.{is_data_place, is_place_of_arm, is_place_of_part}
 use Rattle.rustc_abi.specs.Inside.{EndInside, VariantsInside}
-use Rattle.rustc_abi.specs.Laid.{placed_of, typed_of}
+use Rattle.abi_laid.specs.Laid.{placed_of, typed_of}
 use Rattle.rustc_abi.specs.Laying.{IsLaying, one_scalar}
-use Rattle.rustc_abi.specs.Nodes.{parts_at, parts_at_0}
+use Rattle.abi_laid.specs.Nodes.{parts_at, parts_at_0}
 use Rattle.rustc_abi.specs.Enums.{arms_at}
-use Rattle.rustc_abi.specs.Runs.{is_place_of_variant}
-use Rattle.rustc_abi.specs.Seen.{HasOffset, IsListOf, IsVariantIndex, Sees, SeesArms, SeesParts, SeesTypes, last_of}
+use Rattle.abi_laid.specs.Runs.{is_place_of_variant}
+use Rattle.abi_laid.specs.Seen.{HasOffset, IsListOf, IsVariantIndex, Sees, SeesArms, SeesParts, SeesTypes, last_of}
 use Rattle.rustc_abi.proofs.CoveredLemmas.{HasOneWhole, IsCovered, IsNoScalar, covered_parts, memory_none}
 use Rattle.rustc_abi.proofs.KindsLemmas.{AreBeside, AreFields, IsKept, IsTagWhole, laid_kept}
 use Rattle.rustc_abi.proofs.LawsLemmas.{lengths_in}
-use Rattle.rustc_abi.proofs.SeenLemmas.{count_at, seen_at}
+use Rattle.abi_laid.proofs.SeenLemmas.{count_at, seen_at}
 
 -- handles of the type tell its data places
 abbrev pub TellsPlaces : Placed → Type 0

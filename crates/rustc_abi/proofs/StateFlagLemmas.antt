@@ -5,8 +5,8 @@ use Rattle.std.specs.List.{cons_option, list_all, list_any}
 use Rattle.std.proofs.lemmas.Bool.{and_parts}
 use Rattle.std.proofs.lemmas.List.Elements.{All-head, All-tail}
 use Rattle.std.proofs.Math.Bool.{or-true}
-use Rattle.rustc_abi.specs.Placed.{Placed, Layout, layout_of, size_of}
-use Rattle.rustc_abi.specs.Nodes.{placed_in}
+use Rattle.abi_laid.specs.Placed.{Placed, Layout, layout_of, size_of}
+use Rattle.abi_laid.specs.Nodes.{placed_in}
 use Rattle.rustc_abi.proofs.ListLemmas.{map_sizes}
 use Rattle.rustc_abi.proofs.StatePlacesLemmas.{picked_types}
 

@@ -10,9 +10,9 @@ use Rattle.abi_scalar.specs.Lawful.{IsLawfulLayout}
 use Rattle.abi_scalar.specs.Shape.{listed_offsets}
 use Rattle.abi_calc.specs.Coroutine.Layout.{IsStateTag}
 use Rattle.rustc_abi.specs.Coroutines.{IsCoroutined}
-use Rattle.rustc_abi.specs.Laws.{have_places}
+use Rattle.abi_laid.specs.Laws.{have_places}
 use Rattle.rustc_abi.specs.Laying.{coroutine_fault, most_fields, one_scalar}
-use Rattle.rustc_abi.specs.Placed.{Placed, Layout, layout_of, size_of}
+use Rattle.abi_laid.specs.Placed.{Placed, Layout, layout_of, size_of}
 use Rattle.rustc_abi.proofs.CoroutineFaultLemmas.{few_items}
 use Rattle.rustc_abi.proofs.InsideLemmas.{coroutine_places}
 use Rattle.rustc_abi.proofs.LawsLemmas.{ends_in, lengths_in}

@@ -11,16 +11,17 @@ use Rattle.abi_scalar.specs.declared.variants.VariantLayout.{VariantLayout}
 use Rattle.abi_scalar.specs.Shape.{listed_offsets}
 use Rattle.abi_scalar.specs.Variant.{variants_of}
 use Rattle.abi_calc.specs.Placement.{source_order}
-use Rattle.rustc_abi.specs.declared.node.Shape.TheVariants.{States}
-use Rattle.rustc_abi.specs.declared.node.Node.{Node}
-use Rattle.rustc_abi.specs.declared.mark.Mark.TheVariants.{Plain}
-use Rattle.rustc_abi.specs.Placed.{Placed, Layout, size_of, states, Parts, Arms, nothing}
-use Rattle.rustc_abi.specs.Nodes.{placed_in, parts_at, arms_in, state_tag_offset, meaning, types_in, Keeps}
+use Rattle.abi_laid.specs.declared.node.Shape.TheVariants.{States}
+use Rattle.abi_laid.specs.declared.node.Node.{Node}
+use Rattle.abi_laid.specs.declared.mark.Mark.TheVariants.{Plain}
+use Rattle.abi_laid.specs.Placed.{Placed, Layout, size_of, states, Parts, Arms, nothing}
+use Rattle.abi_laid.specs.Nodes.{placed_in, parts_at, arms_in, state_tag_offset, meaning, types_in, Keeps}
 use Rattle.rustc_abi.specs.Enums.{arms_at}
 use Rattle.rustc_abi.specs.Inside.{VariantsInside}
-use Rattle.rustc_abi.specs.Laws.{have_places, keeps_laws, sizes_at}
-use Rattle.rustc_abi.specs.Adding.{IsPut, AreArms, all_at, variants_in, is_node}
-use Rattle.rustc_abi.proofs.NodesLemmas.{length-types_in, Keeps-trans}
+use Rattle.abi_laid.specs.Laws.{have_places, keeps_laws, sizes_at}
+use Rattle.abi_laid.specs.Well.{IsPut, all_at, is_node}
+use Rattle.rustc_abi.specs.Adding.{AreArms, variants_in}
+use Rattle.abi_laid.proofs.NodesLemmas.{length-types_in, Keeps-trans}
 use Rattle.rustc_abi.proofs.ListLemmas.{all_below}
 use Rattle.rustc_abi.proofs.LayLemmas.{all_at-kept}
 use Rattle.rustc_abi.proofs.ArmNodesLemmas.{tagged_before}

@@ -27,7 +27,7 @@ use Rattle.abi_calc.specs.Enums.Answer.{HasOneEach}
 use Rattle.abi_calc.specs.Enums.Discriminants.{IsAskedWith, counting_of, counts, discr_bits, inhabited_of, meant_by}
 use Rattle.abi_calc.specs.Enums.Path.{has_no_value, variant_at}
 use Rattle.abi_calc.specs.Enums.Several.{AreLawfulTags, IsLawfulTag}
-use Rattle.rustc_abi.specs.Placed.{Layout}
+use Rattle.abi_laid.specs.Placed.{Layout}
 use Rattle.rustc_abi.specs.Enums.{IsTagInteger, has_equal, holds_both, is_discriminant, is_negative, least_integer, least_tag, numbered_from, tag_integer}
 
 -- ---- each variant has a discriminant

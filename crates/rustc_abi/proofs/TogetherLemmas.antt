@@ -11,16 +11,17 @@ use Rattle.abi_scalar.specs.Lawful.{IsLawfulLayout}
 use Rattle.abi_calc.specs.Array.{array_answer, elements_layout}
 use Rattle.abi_calc.specs.Simd.{simd_answer}
 use Rattle.rustc_abi.specs.declared.error.LayError.{LayError}
-use Rattle.rustc_abi.specs.declared.node.Node.{Node}
-use Rattle.rustc_abi.specs.Tree.{Tree, array, vector, union, Trees}
-use Rattle.rustc_abi.specs.Placed.{Placed, Layout, layout_of, elements, vector as placed_vector}
+use Rattle.abi_laid.specs.declared.node.Node.{Node}
+use Rattle.abi_laid.specs.Tree.{Tree, array, vector, union, Trees}
+use Rattle.abi_laid.specs.Placed.{Placed, Layout, layout_of, elements, vector as placed_vector}
 use Rattle.rustc_abi.specs.Error.{named, IsRefused}
-use Rattle.rustc_abi.specs.Fits.{Fits}
-use Rattle.rustc_abi.specs.Nodes.{placed_in, types_in}
+use Rattle.abi_laid.specs.Fits.{Fits}
+use Rattle.abi_laid.specs.Nodes.{placed_in, types_in}
 use Rattle.rustc_abi.specs.Laying.{IsLaying, AreLaying, IsUnionOf, IsUnited, fields_fault, placed_together, lanes_of, placed_by}
-use Rattle.rustc_abi.specs.Adding.{IsPut, IsAdded, EachFits}
+use Rattle.abi_laid.specs.Well.{IsPut}
+use Rattle.rustc_abi.specs.Adding.{IsAdded, EachFits}
 use Rattle.rustc_abi.proofs.ListLemmas.{chosen}
-use Rattle.rustc_abi.proofs.NodesLemmas.{Keeps-trans}
+use Rattle.abi_laid.proofs.NodesLemmas.{Keeps-trans}
 use Rattle.rustc_abi.proofs.LayLemmas.{IsAdded-put, IsAdded-elements}
 use Rattle.rustc_abi.proofs.CalcLemmas.{united_layout, vector_made}
 use Rattle.rustc_abi.proofs.UnionLemmas.{Fits-union}

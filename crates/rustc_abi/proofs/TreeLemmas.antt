@@ -2,11 +2,11 @@
 use Rattle.std.proofs.Common.{Bool, Box, ◌≡◌, ℕ, zero, suc, ◌+◌, ◌*◌, ◌<◌, ◌≤◌, List, [], ◌∷◌, map, get_or, length, Vec, refl, ap, sym, ◌∙◌, arith}
 use Rattle.std.specs.declared.alloc.Global.{Global}
 use Rattle.abi_scalar.specs.declared.repr.ReprOptions.{ReprOptions}
-use Rattle.rustc_abi.specs.declared.tree.TypeTree.{TypeTree, Array, Vector, Struct, Union, Enum, Coroutine, fold-roll-TypeTree}
-use Rattle.rustc_abi.specs.declared.tree.TypeTree.TheVariants.{rolls-Array, rolls-Vector, rolls-Struct, rolls-Union, rolls-Enum, rolls-Coroutine}
-use Rattle.rustc_abi.specs.declared.tree.TypeTree.TheShapes.{former-TypeTree-Enum-1-at-3}
-use Rattle.rustc_abi.specs.declared.tree.TypeTree.TheOpen as layer
-use Rattle.rustc_abi.specs.Tree.{Tree, tree_of, layer_tree, trees, array, vector, struct, union, enum, coroutine, variants, more_variants, trees_of_variants}
+use Rattle.abi_laid.specs.declared.tree.TypeTree.{TypeTree, Array, Vector, Struct, Union, Enum, Coroutine, fold-roll-TypeTree}
+use Rattle.abi_laid.specs.declared.tree.TypeTree.TheVariants.{rolls-Array, rolls-Vector, rolls-Struct, rolls-Union, rolls-Enum, rolls-Coroutine}
+use Rattle.abi_laid.specs.declared.tree.TypeTree.TheShapes.{former-TypeTree-Enum-1-at-3}
+use Rattle.abi_laid.specs.declared.tree.TypeTree.TheOpen as layer
+use Rattle.abi_laid.specs.Tree.{Tree, tree_of, layer_tree, trees, array, vector, struct, union, enum, coroutine, variants, more_variants, trees_of_variants}
 use Rattle.rustc_abi.specs.Adding.{tree_size, trees_size, variants_size}
 
 variants-map : (all : List (ℕ × Vec TypeTree Global)) → variants (map (former-TypeTree-Enum-1-at-3.map TypeTree Tree tree_of) all) ≡ trees_of_variants all

@@ -13,23 +13,23 @@ use Rattle.abi_scalar.specs.Lawful.{IsLawfulLayout}
 use Rattle.abi_scalar.specs.View.{union_view}
 use Rattle.abi_calc.specs.Fields.{greatest}
 use Rattle.abi_calc.specs.Union.{CountsForView, HasView, IsUnionView, union_layout}
-use Rattle.rustc_abi.specs.Tree.{Tree, union, Trees, no_trees, more_trees}
-use Rattle.rustc_abi.specs.Bytes.{AreBytes, place_count}
-use Rattle.rustc_abi.specs.Value.{Value, number, two, list, variant, state, bytes}
-use Rattle.rustc_abi.specs.declared.mark.Mark.{Mark}
-use Rattle.rustc_abi.specs.Mark.{mark_of}
-use Rattle.rustc_abi.specs.Placed.{Placed, Layout, Parts, part, layout_of, size_of, union as placed_union}
-use Rattle.rustc_abi.specs.Places.{is_data_place, is_place_of_part}
-use Rattle.rustc_abi.specs.Values.{IsValueOf, LocalsOfEach, VectorsHaveValues}
-use Rattle.rustc_abi.specs.Unions.{IsCommon, EachPart}
-use Rattle.rustc_abi.specs.Holding.{Holds}
-use Rattle.rustc_abi.specs.Faithful.{AgreeOn, IsFaithful, IsTrueOf}
-use Rattle.rustc_abi.specs.Fits.{Fits}
-use Rattle.rustc_abi.specs.Room.{have_room}
-use Rattle.rustc_abi.specs.Nodes.{parts_at_0}
+use Rattle.abi_laid.specs.Tree.{Tree, union, Trees, no_trees, more_trees}
+use Rattle.abi_laid.specs.Bytes.{AreBytes, place_count}
+use Rattle.abi_laid.specs.Value.{Value, number, two, list, variant, state, bytes}
+use Rattle.abi_laid.specs.declared.mark.Mark.{Mark}
+use Rattle.abi_laid.specs.Mark.{mark_of}
+use Rattle.abi_laid.specs.Placed.{Placed, Layout, Parts, part, layout_of, size_of, union as placed_union}
+use Rattle.abi_laid.specs.Places.{is_data_place, is_place_of_part}
+use Rattle.abi_laid.specs.Values.{IsValueOf, LocalsOfEach, VectorsHaveValues}
+use Rattle.abi_laid.specs.Unions.{IsCommon, EachPart}
+use Rattle.abi_laid.specs.Holding.{Holds}
+use Rattle.abi_laid.specs.Faithful.{AgreeOn, IsFaithful, IsTrueOf}
+use Rattle.abi_laid.specs.Fits.{Fits}
+use Rattle.abi_laid.specs.Room.{have_room}
+use Rattle.abi_laid.specs.Nodes.{parts_at_0}
 use Rattle.rustc_abi.specs.Adding.{EachFits}
-use Rattle.rustc_abi.proofs.PickedLemmas.{AreBytes-picked, length-picked, picked-same, spread, length-spread, AreBytes-spread, picked-spread}
-use Rattle.rustc_abi.proofs.RoomLemmas.{within_room}
+use Rattle.abi_laid.proofs.PickedLemmas.{AreBytes-picked, length-picked, picked-same, spread, length-spread, AreBytes-spread, picked-spread}
+use Rattle.abi_laid.proofs.RoomLemmas.{within_room}
 use Rattle.rustc_abi.proofs.PartsLemmas.{place_here, place_later}
 use Rattle.rustc_abi.proofs.FieldsLemmas.{common_each, untagged_each}
 use Rattle.rustc_abi.proofs.CommonLemmas.{common_field}

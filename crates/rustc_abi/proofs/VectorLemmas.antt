@@ -11,16 +11,16 @@ use Rattle.abi_scalar.specs.declared.niche.Niche.{Niche}
 use Rattle.abi_scalar.specs.Range.{IsIn}
 use Rattle.abi_scalar.specs.Niche.{niche_size}
 use Rattle.abi_scalar.specs.Lawful.{IsLawfulLayout}
-use Rattle.rustc_abi.specs.Tree.{Tree, array, vector}
-use Rattle.rustc_abi.specs.Bytes.{AreBytes, bytes_at, number_of}
-use Rattle.rustc_abi.specs.Value.{Value, number, two, list, variant, state, bytes}
-use Rattle.rustc_abi.specs.Placed.{Placed, Layout, size_of, niche_of, elements, vector as placed_vector}
-use Rattle.rustc_abi.specs.Values.{IsValueOf, HasValue, VectorsHaveValues}
-use Rattle.rustc_abi.specs.Holding.{Holds}
-use Rattle.rustc_abi.specs.Faithful.{AgreeOn, IsFaithful, IsTrueOf}
-use Rattle.rustc_abi.specs.Fits.{Fits}
-use Rattle.rustc_abi.proofs.BytesLemmas.{put, length-put, bytes_at-put, AreBytes-put, AreBytes-bytes_at}
-use Rattle.rustc_abi.proofs.HoldLemmas.{length-Holds, length-bytes_at, AgreeOn-bytes_at, IsNicheAt, niche_in_part, niche_in_whole}
+use Rattle.abi_laid.specs.Tree.{Tree, array, vector}
+use Rattle.abi_laid.specs.Bytes.{AreBytes, bytes_at, number_of}
+use Rattle.abi_laid.specs.Value.{Value, number, two, list, variant, state, bytes}
+use Rattle.abi_laid.specs.Placed.{Placed, Layout, size_of, niche_of, elements, vector as placed_vector}
+use Rattle.abi_laid.specs.Values.{IsValueOf, HasValue, VectorsHaveValues}
+use Rattle.abi_laid.specs.Holding.{Holds}
+use Rattle.abi_laid.specs.Faithful.{AgreeOn, IsFaithful, IsTrueOf}
+use Rattle.abi_laid.specs.Fits.{Fits}
+use Rattle.abi_laid.proofs.BytesLemmas.{put, length-put, bytes_at-put, AreBytes-put, AreBytes-bytes_at}
+use Rattle.abi_laid.proofs.HoldLemmas.{length-Holds, length-bytes_at, AgreeOn-bytes_at, IsNicheAt, niche_in_part, niche_in_whole}
 use Rattle.rustc_abi.proofs.FlagLemmas.{alike}
 use Rattle.rustc_abi.proofs.AnywhereLemmas.{value_anywhere}
 

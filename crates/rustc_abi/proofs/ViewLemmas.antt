@@ -18,14 +18,14 @@ use Rattle.abi_calc.specs.List.{parts_of}
 use Rattle.abi_calc.specs.ListView.{any_unsized, bulky_parts, bulky_view, kept_view, list_view, pair_view, part_at, two_view}
 use Rattle.abi_calc.specs.Part.{part_of}
 use Rattle.abi_calc.specs.Placement.{no_part}
-use Rattle.rustc_abi.specs.Tree.{Trees, no_trees, more_trees}
-use Rattle.rustc_abi.specs.Bytes.{bytes_at, number_of}
-use Rattle.rustc_abi.specs.Value.{Values, no_values, more_values}
-use Rattle.rustc_abi.specs.Placed.{Placed, layout_of, size_of, nothing}
-use Rattle.rustc_abi.specs.Holding.{HoldParts}
-use Rattle.rustc_abi.specs.Faithful.{IsScalarTrue, IsTrueOf}
-use Rattle.rustc_abi.specs.Nodes.{parts_at}
-use Rattle.rustc_abi.proofs.HoldLemmas.{bytes_at-bytes_at}
+use Rattle.abi_laid.specs.Tree.{Trees, no_trees, more_trees}
+use Rattle.abi_laid.specs.Bytes.{bytes_at, number_of}
+use Rattle.abi_laid.specs.Value.{Values, no_values, more_values}
+use Rattle.abi_laid.specs.Placed.{Placed, layout_of, size_of, nothing}
+use Rattle.abi_laid.specs.Holding.{HoldParts}
+use Rattle.abi_laid.specs.Faithful.{IsScalarTrue, IsTrueOf}
+use Rattle.abi_laid.specs.Nodes.{parts_at}
+use Rattle.abi_laid.proofs.HoldLemmas.{bytes_at-bytes_at}
 use Rattle.rustc_abi.proofs.PartsLemmas.{FitTogether}
 
 -- what is true of a scalar in a part is true of it in the whole

@@ -1,6 +1,5 @@
 -- What the functions that lay out a tree keep, node by node.
 use Rattle.std.specs.Prelude.{◌≡◌, ℕ, ◌+◌, ◌<◌, ◌⊎◌, ◌&&◌, Bool, true, All, List, [], ◌∷◌, length, map, nat_lt, Result, Ok, Err, ⊤, Vec}
-use Rattle.std.specs.List.{list_all}
 use Rattle.std.specs.declared.alloc.Global.{Global}
 use Rattle.abi_base.specs.declared.data_layout.TargetDataLayout.{TargetDataLayout}
 use Rattle.abi_scalar.specs.declared.variants.Variants.{Variants as LayoutVariants}
@@ -8,52 +7,20 @@ use Rattle.abi_scalar.specs.declared.variants.Variants.TheVariants.{Empty, Singl
 use Rattle.abi_scalar.specs.Scalar.{IsReadable}
 use Rattle.rustc_abi.specs.declared.error.LayError.{LayError}
 use Rattle.rustc_abi.specs.declared.error.LayError.TheVariants.{OutOfMemory}
-use Rattle.rustc_abi.specs.declared.node.Shape.{Shape}
-use Rattle.rustc_abi.specs.declared.node.Shape.TheVariants.{Scalar, Pair, Never, Elements, Fields, Union, Vector, Single, Tagged, States}
-use Rattle.rustc_abi.specs.declared.node.Node.{Node}
-use Rattle.rustc_abi.specs.Tree.{Tree, array, vector, struct, union, enum, coroutine, Trees, no_trees, more_trees, trees, Variants, no_variants, more_variants}
-use Rattle.rustc_abi.specs.Placed.{Placed, Arms}
-use Rattle.rustc_abi.specs.Fits.{Fits}
-use Rattle.rustc_abi.specs.Nodes.{placed_in, types_in, placed_at, arms_in, Keeps}
-use Rattle.rustc_abi.specs.Laws.{have_lists, keep_laws, sizes_at}
-use Rattle.rustc_abi.specs.Widths.{have_widths}
-use Rattle.rustc_abi.specs.Laying.{IsLaying, AreLaying, VariantsLaying}
-
--- a node at this place names only earlier ones
-abbrev pub is_node : ℕ → Shape → Bool
-is_node i (Scalar s) = true
-is_node i (Pair first second) = nat_lt first i && nat_lt second i
-is_node i (Never mark) = true
-is_node i (Elements count element) = nat_lt element i
-is_node i (Fields mark children) = list_all (λ child. nat_lt child i) children.items
-is_node i (Union mark children) = list_all (λ child. nat_lt child i) children.items
-is_node i (Vector lanes) = nat_lt lanes i
-is_node i (Single mark children) = list_all (λ child. nat_lt child i) children.items
-is_node i (Tagged mark tag variants) = nat_lt tag i && list_all (λ v. nat_lt v.1 i) variants.items
-is_node i (States prefix tag all) =
-    list_all (λ child. nat_lt child i) prefix.items && (nat_lt tag i && list_all (λ v. nat_lt v.1 i) all.items)
-
--- each node, from this place on, names only earlier ones
-abbrev pub are_nodes : ℕ → List Node → Bool
-are_nodes i [] = true
-are_nodes i (n ∷ ns) = is_node i n.shape && are_nodes (i + 1) ns
-
--- What all nodes keep.
-pub record AreWell (ns : List Node) : Type 0 where
-  pub earlier : are_nodes 0 ns ≡ true
-  pub laws : keep_laws [] ns ≡ true
-  pub widths : have_widths [] ns ≡ true
+use Rattle.abi_laid.specs.declared.node.Node.{Node}
+use Rattle.abi_laid.specs.Tree.{Tree, array, vector, struct, union, enum, coroutine, Trees, no_trees, more_trees, trees, Variants, no_variants, more_variants}
+use Rattle.abi_laid.specs.Placed.{Placed, Layout, size_of, Arms}
+use Rattle.abi_laid.specs.Fits.{Fits}
+use Rattle.abi_laid.specs.Nodes.{types_in, placed_at, arms_in, Keeps}
+use Rattle.abi_laid.specs.Well.{AreWell, all_at}
+use Rattle.rustc_abi.specs.Inside.{VariantsInside}
+use Rattle.abi_calc.specs.Enums.Path.{variant_at}
+use Rattle.abi_laid.specs.Laws.{have_lists, have_places, sizes_at}
+use Rattle.rustc_abi.specs.Laying.{one_scalar, IsLaying, AreLaying, VariantsLaying}
 
 -- memory aside, this is the refusal
 abbrev pub IsRefusal : {A : Type 0} → Result A LayError → LayError → Type 0
 IsRefusal answer e = (e ≡ OutOfMemory) ⊎ (answer ≡ Err e)
-
--- A node was put last, and each node that was there kept.
-pub record IsPut (old new : List Node) (i : ℕ) (placed : Placed) : Type 0 where
-  pub kept : Keeps (types_in old) (types_in new)
-  pub well : AreWell old → AreWell new
-  pub last : i + 1 ≡ length new
-  pub meant : placed_at new i ≡ placed
 
 -- A node for the tree was put last, and each node that was there kept.
 pub record IsAdded (dl : TargetDataLayout) (old new : List Node) (i : ℕ) (tree : Tree) : Type 0 where
@@ -74,10 +41,6 @@ abbrev pub VariantsFit : TargetDataLayout → Variants → List (List Placed) �
 VariantsFit dl no_variants [] = ⊤
 VariantsFit dl (more_variants discriminant ts others) (ps ∷ rest) = EachFits dl ts ps × VariantsFit dl others rest
 VariantsFit dl _ _ = ⊥
-
--- what the nodes at these places mean
-abbrev pub all_at : List Node → List ℕ → List Placed
-all_at ns children = map (placed_in (types_in ns)) children
 
 -- what the nodes of variants' fields mean
 abbrev pub variants_in : List Node → List (Vec ℕ Global) → List (List Placed)
@@ -108,6 +71,13 @@ pub record AreArms (old new : List Node) (sizes : List ℕ) (variants : List (�
   pub meant : arms_in (types_in new) variants ≡ arms
   pub sized : sizes_at (types_in new) (map (λ v. v.1) variants) ≡ sizes
   pub listed : have_lists (types_in new) (map (λ v. v.1) variants) ≡ true
+
+-- the whole's own fields have their places, and so have those of each variant that a tag tells apart
+abbrev pub HavePlaces : TargetDataLayout → Layout → List (List Placed) → LayoutVariants ℕ ℕ → Type 0
+HavePlaces dl layout variants Empty = have_places layout.size layout.fields [] ≡ true
+HavePlaces dl layout variants (OneVariant i) = have_places layout.size layout.fields (map size_of (variant_at variants i)) ≡ true
+HavePlaces dl layout variants (Multiple tag encoding field layouts) =
+    (have_places layout.size layout.fields (size_of (one_scalar dl tag) ∷ []) ≡ true) × VariantsInside layout.size layouts variants
 
 -- the layout's variants are these many: the one that is left is one of them, and those beside a tag are as many
 abbrev pub HasVariants : (count : ℕ) → LayoutVariants ℕ ℕ → Type 0

@@ -18,9 +18,9 @@ use Rattle.abi_calc.specs.Enums.Answer.{IsTypeAnswer}
 use Rattle.abi_calc.specs.Enums.Discriminants.{counting_of, discr_bits}
 use Rattle.abi_calc.specs.Enums.Path.{path_of}
 use Rattle.rustc_abi.specs.declared.error.LayError.{LayError}
-use Rattle.rustc_abi.specs.Tree.{Variants, no_variants, more_variants}
-use Rattle.rustc_abi.specs.Placed.{Placed, Layout, layout_of, Arms, no_arms, arm}
-use Rattle.rustc_abi.specs.Nodes.{parts_at}
+use Rattle.abi_laid.specs.Tree.{Variants, no_variants, more_variants}
+use Rattle.abi_laid.specs.Placed.{Placed, Layout, layout_of, Arms, no_arms, arm}
+use Rattle.abi_laid.specs.Nodes.{parts_at}
 use Rattle.rustc_abi.specs.Error.{lay_error}
 
 -- each variant's discriminant

@@ -1,9 +1,9 @@
 -- What holds of a type and of each type in it.
 use Rattle.std.specs.Prelude.{ℕ, zero, suc, List, Ok, ⊤}
 use Rattle.abi_base.specs.declared.data_layout.TargetDataLayout.{TargetDataLayout}
-use Rattle.rustc_abi.specs.Tree.{Tree, array, vector, struct, union, enum, coroutine, Trees, no_trees, more_trees, Variants, no_variants, more_variants}
-use Rattle.rustc_abi.specs.Placed.{Placed, single, tagged, Parts, Arms, no_arms, arm, element_of, parts_of, first_part, more_parts}
-use Rattle.rustc_abi.specs.Nodes.{parts_at_0}
+use Rattle.abi_laid.specs.Tree.{Tree, array, vector, struct, union, enum, coroutine, Trees, no_trees, more_trees, Variants, no_variants, more_variants}
+use Rattle.abi_laid.specs.Placed.{Placed, single, tagged, Parts, Arms, no_arms, arm, element_of, parts_of, first_part, more_parts}
+use Rattle.abi_laid.specs.Nodes.{parts_at_0}
 use Rattle.rustc_abi.specs.Laying.{AreLaying}
 
 module _ (dl : TargetDataLayout) (P : Tree → Placed → Type 0) where

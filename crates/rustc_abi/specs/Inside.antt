@@ -1,7 +1,7 @@
 -- The fields of each variant end inside the variant, and the variant inside the whole.
 use Rattle.std.specs.Prelude.{ℕ, ◌+◌, ◌≤◌, List, [], ◌∷◌, map, ⊤}
 use Rattle.abi_scalar.specs.declared.variants.VariantLayout.{VariantLayout}
-use Rattle.rustc_abi.specs.Placed.{Placed, size_of}
+use Rattle.abi_laid.specs.Placed.{Placed, size_of}
 
 -- parts of these sizes, at these offsets, one offset for each, end inside the whole
 abbrev pub EndInside : (whole : ℕ) → (offsets sizes : List ℕ) → Type 0

@@ -23,11 +23,11 @@ use Rattle.abi_calc.specs.Simd.{simd_answer}
 use Rattle.abi_calc.specs.Union.{IsUnionAnswer}
 use Rattle.rustc_abi.specs.declared.error.LayError.{LayError}
 use Rattle.rustc_abi.specs.declared.error.LayError.TheVariants.{BadIndex, BadAlign, DuplicateDiscriminant, DiscriminantTooWide, NoState, LocalTwice, SizeOverflow}
-use Rattle.rustc_abi.specs.Tree.{Tree, scalar, pair, never, unit, array, vector, struct, union, enum, coroutine, Trees, no_trees, more_trees, Variants, no_variants, more_variants}
-use Rattle.rustc_abi.specs.Placed.{Placed, Layout, layout_of, scalar as placed_scalar, pair as placed_pair, never as placed_never, elements, vector as placed_vector, fields, union as placed_union, single as placed_single, tagged as placed_tagged, states as placed_states, no_parts, part}
-use Rattle.rustc_abi.specs.declared.mark.Mark.TheVariants.{Never, Unit}
-use Rattle.rustc_abi.specs.Mark.{mark_of}
-use Rattle.rustc_abi.specs.Nodes.{parts_at, parts_at_0, placed_in, state_tag_offset, tag_offset}
+use Rattle.abi_laid.specs.Tree.{Tree, scalar, pair, never, unit, array, vector, struct, union, enum, coroutine, Trees, no_trees, more_trees, Variants, no_variants, more_variants}
+use Rattle.abi_laid.specs.Placed.{Placed, Layout, layout_of, scalar as placed_scalar, pair as placed_pair, never as placed_never, elements, vector as placed_vector, fields, union as placed_union, single as placed_single, tagged as placed_tagged, states as placed_states, no_parts, part}
+use Rattle.abi_laid.specs.declared.mark.Mark.TheVariants.{Never, Unit}
+use Rattle.abi_laid.specs.Mark.{mark_of}
+use Rattle.abi_laid.specs.Nodes.{parts_at, parts_at_0, placed_in, state_tag_offset, tag_offset}
 use Rattle.rustc_abi.specs.Error.{named, lay_error, Follows}
 use Rattle.rustc_abi.specs.ScalarFault.{scalar_fault}
 use Rattle.rustc_abi.specs.Coroutines.{IsCoroutined, names_unknown}

@@ -17,8 +17,8 @@ use Rattle.abi_calc.specs.Enums.Several.{HasEnumSize, IsAskedTooLarge}
 use Rattle.abi_calc.specs.Least.{IsEachOrderTooLarge, IsLeastSize}
 use Rattle.abi_calc.specs.Simd.{IsVectorTooLarge}
 use Rattle.abi_calc.specs.Union.{IsUnionTooLarge}
-use Rattle.rustc_abi.specs.Tree.{Tree, pair, array, vector, struct, union, enum, coroutine, Trees, no_trees, more_trees, Variants, no_variants, more_variants}
-use Rattle.rustc_abi.specs.Placed.{Placed, single, tagged, states as placed_states, Parts, no_parts, part, Arms, no_arms, arm, layout_of, size_of, parts_of}
+use Rattle.abi_laid.specs.Tree.{Tree, pair, array, vector, struct, union, enum, coroutine, Trees, no_trees, more_trees, Variants, no_variants, more_variants}
+use Rattle.abi_laid.specs.Placed.{Placed, single, tagged, states as placed_states, Parts, no_parts, part, Arms, no_arms, arm, layout_of, size_of, parts_of}
 use Rattle.rustc_abi.specs.ScalarFault.{scalar_fault}
 use Rattle.rustc_abi.specs.Coroutines.{conflicts_of}
 use Rattle.rustc_abi.specs.Enums.{IsTagInteger, counted, discriminants_of, layouts_of}

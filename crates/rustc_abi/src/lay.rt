@@ -3,31 +3,30 @@
 ghost use Rattle.std.specs.Prelude.{◌≡◌, ◌⊎◌, ◌&&◌, IfOk, IfErr, Err, Ok, Result, not, ℕ};
 ghost use Rattle.std.specs.Result.{IsErrAnd};
 ghost use Rattle.abi_base.specs.DataLayout.{IsLawfulDataLayout};
-ghost use Rattle.rustc_abi.specs.Tree.{tree_of};
-ghost use Rattle.rustc_abi.specs.Values.{LocalsHaveValues};
-ghost use Rattle.rustc_abi.specs.Faithful.{EachValueIsHeld, OnlyValuesAreHeld, NoBytesHoldTwo, IsNicheTrue, IsNicheInside, PaddingDecidesNothing, IsViewTrue, IsFlagTrue};
+ghost use Rattle.abi_laid.specs.Tree.{tree_of};
+ghost use Rattle.abi_laid.specs.Values.{LocalsHaveValues};
+ghost use Rattle.abi_laid.specs.Faithful.{EachValueIsHeld, OnlyValuesAreHeld, NoBytesHoldTwo, IsNicheTrue, IsNicheInside, PaddingDecidesNothing, IsViewTrue, IsFlagTrue};
 ghost use Rattle.abi_scalar.specs.Lawful.{IsLawfulLayout};
 ghost use Rattle.rustc_abi.specs.declared.error.LayError.{LayError};
-ghost use Rattle.rustc_abi.specs.Placed.{Placed, layout_of};
+ghost use Rattle.abi_laid.specs.Placed.{Placed, layout_of};
 ghost use Rattle.abi_types.specs.Ty.Places.{is_place, is_unused};
-ghost use Rattle.rustc_abi.specs.Laid.{placed_of, endian_of, typed_of};
+ghost use Rattle.abi_laid.specs.Laid.{placed_of, endian_of, typed_of};
 ghost use Rattle.rustc_abi.specs.Laying.{IsLaying};
-ghost use Rattle.rustc_abi.specs.Places.{is_data_place};
-ghost use Rattle.rustc_abi.specs.Runs.{is_place_of_variant};
-ghost use Rattle.rustc_abi.specs.Seen.{IsVariantIndex};
+ghost use Rattle.abi_laid.specs.Places.{is_data_place};
+ghost use Rattle.abi_laid.specs.Runs.{is_place_of_variant};
+ghost use Rattle.abi_laid.specs.Seen.{IsVariantIndex};
 ghost use Rattle.rustc_abi.specs.Clash.{AreClashingApart, HaveOneOffset};
 ghost use Rattle.rustc_abi.specs.Everywhere.{Everywhere};
 ghost use Rattle.rustc_abi.specs.Least.{IsLeast, IsTooLarge};
-ghost use Rattle.rustc_abi.specs.Unions.{Begins, IsCommon, InUnions};
-ghost use Rattle.rustc_abi.specs.Untagged.{UntaggedNamed};
-ghost use Rattle.rustc_abi.specs.Reading.{KeepsValues};
+ghost use Rattle.abi_laid.specs.Unions.{Begins, IsCommon, InUnions};
+ghost use Rattle.abi_laid.specs.Untagged.{UntaggedNamed};
+ghost use Rattle.abi_laid.specs.Reading.{KeepsValues};
 ghost use Rattle.rustc_abi.specs.Fault.{IsRefusedFor};
 
 use crate::error::LayError;
-use crate::laid::Laid;
 use crate::lay_tree::lay_tree;
-use crate::tree::TypeTree;
 use abi_base::TargetDataLayout;
+use abi_laid::{Laid, TypeTree};
 use std::alloc::Global;
 
 /// Lays out a tree under a data layout: children before parents, left to right.

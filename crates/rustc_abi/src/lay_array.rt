@@ -4,19 +4,20 @@ ghost use Rattle.std.specs.Prelude.{◌≡◌, ◌<◌, ℕ, Some, IfOk, IfErr, 
 ghost use Rattle.abi_base.specs.DataLayout.{IsLawfulDataLayout};
 ghost use Rattle.abi_scalar.specs.Lawful.{IsLawfulLayout};
 ghost use Rattle.abi_calc.specs.Array.{array_answer};
-ghost use Rattle.rustc_abi.specs.Tree.{Tree, array};
-ghost use Rattle.rustc_abi.specs.Placed.{layout_of};
-ghost use Rattle.rustc_abi.specs.Nodes.{placed_at};
+ghost use Rattle.abi_laid.specs.Tree.{Tree, array};
+ghost use Rattle.abi_laid.specs.Placed.{layout_of};
+ghost use Rattle.abi_laid.specs.Nodes.{placed_at};
 ghost use Rattle.rustc_abi.specs.Laying.{IsLaying, elements_answer};
 ghost use Rattle.rustc_abi.specs.Error.{named};
-ghost use Rattle.rustc_abi.specs.Fits.{Fits};
+ghost use Rattle.abi_laid.specs.Fits.{Fits};
 ghost use Rattle.rustc_abi.specs.Adding.{IsAdded, IsRefusal};
 
 use crate::error::LayError;
-use crate::node::{Node, Shape, add, layout_at};
+use crate::node::add;
 use abi_base::TargetDataLayout;
 use abi_calc::LayoutCalculator;
 use abi_index::{FieldIdx, VariantIdx};
+use abi_laid::{Node, Shape, layout_at};
 use abi_scalar::{LayoutCalculatorError, LayoutData};
 
 /// The layout of so many elements, each as the node `element`.

@@ -7,18 +7,19 @@ ghost use Rattle.abi_scalar.specs.Shape.{listed_offsets};
 ghost use Rattle.abi_calc.specs.Apart.{AreApart};
 ghost use Rattle.abi_calc.specs.List.{HasLawfulAligns};
 ghost use Rattle.abi_calc.specs.ListNiche.{IsNicheOfPart};
-ghost use Rattle.rustc_abi.specs.Tree.{Trees, struct};
-ghost use Rattle.rustc_abi.specs.Placed.{Placed, layout_of, size_of};
+ghost use Rattle.abi_laid.specs.Tree.{Trees, struct};
+ghost use Rattle.abi_laid.specs.Placed.{Placed, layout_of, size_of};
 ghost use Rattle.rustc_abi.specs.Laying.{AreLaying, IsFieldsAnswer, IsListed, fields_fault, has_bad_align, has_bad_index, is_above_limit, kind_of, most_fields};
 ghost use Rattle.rustc_abi.specs.Error.{IsRefused};
-ghost use Rattle.rustc_abi.specs.Adding.{IsAdded, EachFits, all_at};
+ghost use Rattle.abi_laid.specs.Well.{all_at};
+ghost use Rattle.rustc_abi.specs.Adding.{IsAdded, EachFits};
 
 use crate::error::LayError;
-use crate::mark::Mark;
-use crate::node::{Node, Shape, add, layouts_at};
+use crate::node::{add, layouts_at};
 use abi_base::{Align, StructKind, TargetDataLayout};
 use abi_calc::LayoutCalculator;
 use abi_index::{FieldIdx, VariantIdx};
+use abi_laid::{Mark, Node, Shape};
 use abi_scalar::{LayoutData, ReprOptions};
 use std::alloc::Global;
 

@@ -3,17 +3,18 @@
 ghost use Rattle.std.specs.Prelude.{◌≡◌, IfOk, IfErr, None, true};
 ghost use Rattle.abi_base.specs.DataLayout.{IsLawfulDataLayout};
 ghost use Rattle.abi_scalar.specs.Scalar.{primitive_of};
-ghost use Rattle.rustc_abi.specs.Tree.{scalar, pair, never, unit};
+ghost use Rattle.abi_laid.specs.Tree.{scalar, pair, never, unit};
 ghost use Rattle.abi_scalar.specs.Lawful.{IsLawfulLayout};
-ghost use Rattle.rustc_abi.specs.Placed.{layout_of};
+ghost use Rattle.abi_laid.specs.Placed.{layout_of};
 ghost use Rattle.rustc_abi.specs.Laying.{one_scalar, scalar_answer, pair_answer};
 ghost use Rattle.rustc_abi.specs.ScalarFault.{is_lawful_primitive, has_range_within, scalar_fault};
-ghost use Rattle.rustc_abi.specs.Adding.{IsPut, IsAdded, IsRefusal};
+ghost use Rattle.abi_laid.specs.Well.{IsPut};
+ghost use Rattle.rustc_abi.specs.Adding.{IsAdded, IsRefusal};
 
 use crate::error::LayError;
-use crate::mark::Mark;
-use crate::node::{Node, Shape, add};
+use crate::node::add;
 use abi_base::{Primitive, TargetDataLayout};
+use abi_laid::{Mark, Node, Shape};
 use abi_scalar::{LayoutData, Scalar};
 use std::alloc::Global;
 

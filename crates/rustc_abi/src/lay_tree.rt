@@ -2,7 +2,7 @@
 
 ghost use Rattle.std.specs.Prelude.{IfOk, IfErr, map};
 ghost use Rattle.abi_base.specs.DataLayout.{IsLawfulDataLayout};
-ghost use Rattle.rustc_abi.specs.Tree.{tree_of, trees, trees_of_variants};
+ghost use Rattle.abi_laid.specs.Tree.{tree_of, trees, trees_of_variants};
 ghost use Rattle.rustc_abi.specs.Laying.{IsLaying, AreLaying, VariantsLaying};
 ghost use Rattle.rustc_abi.specs.Error.{IsRefused};
 ghost use Rattle.rustc_abi.specs.Adding.{IsAdded, AreAdded, AreVariantsAdded};
@@ -16,9 +16,8 @@ use crate::lay_fields::add_fields;
 use crate::lay_scalar::{add_never, add_pair, add_scalar, add_unit};
 use crate::lay_union::add_union;
 use crate::lay_vector::add_vector;
-use crate::node::Node;
-use crate::tree::TypeTree;
 use abi_base::TargetDataLayout;
+use abi_laid::{Node, TypeTree};
 use std::alloc::Global;
 
 /// Lays out a type behind the nodes that are there.

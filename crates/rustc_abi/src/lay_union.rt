@@ -4,19 +4,20 @@ ghost use Rattle.std.specs.Prelude.{◌≡◌, ◌<◌, ◌≤◌, IfOk, IfErr, 
 ghost use Rattle.abi_base.specs.DataLayout.{IsLawfulDataLayout};
 ghost use Rattle.abi_scalar.specs.Lawful.{IsLawfulLayout};
 ghost use Rattle.abi_calc.specs.List.{HasLawfulAligns};
-ghost use Rattle.rustc_abi.specs.Tree.{Trees, union};
-ghost use Rattle.rustc_abi.specs.Placed.{layout_of};
+ghost use Rattle.abi_laid.specs.Tree.{Trees, union};
+ghost use Rattle.abi_laid.specs.Placed.{layout_of};
 ghost use Rattle.rustc_abi.specs.Laying.{AreLaying, IsUnionOf, IsUnited, fields_fault, most_fields};
 ghost use Rattle.rustc_abi.specs.Error.{IsRefused};
-ghost use Rattle.rustc_abi.specs.Adding.{IsAdded, EachFits, all_at};
+ghost use Rattle.abi_laid.specs.Well.{all_at};
+ghost use Rattle.rustc_abi.specs.Adding.{IsAdded, EachFits};
 
 use crate::error::LayError;
 use crate::lay_fields::fields_fault;
-use crate::mark::Mark;
-use crate::node::{Node, Shape, add, layouts_at};
+use crate::node::{add, layouts_at};
 use abi_base::TargetDataLayout;
 use abi_calc::LayoutCalculator;
 use abi_index::{FieldIdx, IndexSlice, VariantIdx};
+use abi_laid::{Mark, Node, Shape};
 use abi_scalar::{LayoutData, ReprOptions};
 use std::alloc::Global;
 

@@ -4,20 +4,21 @@ ghost use Rattle.std.specs.Prelude.{◌≡◌, ◌<◌, IfOk, IfErr, Ok, length,
 ghost use Rattle.abi_base.specs.DataLayout.{IsLawfulDataLayout};
 ghost use Rattle.abi_scalar.specs.Lawful.{IsLawfulLayout};
 ghost use Rattle.abi_calc.specs.Simd.{simd_answer};
-ghost use Rattle.rustc_abi.specs.Tree.{Tree, vector};
-ghost use Rattle.rustc_abi.specs.Placed.{layout_of};
-ghost use Rattle.rustc_abi.specs.Nodes.{placed_at};
+ghost use Rattle.abi_laid.specs.Tree.{Tree, vector};
+ghost use Rattle.abi_laid.specs.Placed.{layout_of};
+ghost use Rattle.abi_laid.specs.Nodes.{placed_at};
 ghost use Rattle.rustc_abi.specs.Laying.{IsLaying, vector_answer};
 ghost use Rattle.rustc_abi.specs.Error.{named};
-ghost use Rattle.rustc_abi.specs.Fits.{Fits};
+ghost use Rattle.abi_laid.specs.Fits.{Fits};
 ghost use Rattle.rustc_abi.specs.Adding.{IsAdded, IsRefusal};
 
 use crate::error::LayError;
 use crate::lay_array::elements_layout;
-use crate::node::{Node, Shape, add, layout_at};
+use crate::node::add;
 use abi_base::TargetDataLayout;
 use abi_calc::LayoutCalculator;
 use abi_index::{FieldIdx, VariantIdx};
+use abi_laid::{Node, Shape, layout_at};
 use abi_scalar::LayoutData;
 use std::alloc::Global;
 

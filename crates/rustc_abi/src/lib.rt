@@ -1,12 +1,10 @@
-//! Types as trees, their layouts, and the values that their bytes hold; and all that the crates below export, under one name.
+//! How types are laid out, as trees; and all that the crates below export, under one name.
 #![tactic(auto)]
 
 mod conflicts;
 mod coroutine_fault;
 mod discriminants;
 mod error;
-mod handle;
-mod laid;
 mod lay;
 mod lay_array;
 mod lay_coroutine;
@@ -16,13 +14,8 @@ mod lay_scalar;
 mod lay_tree;
 mod lay_union;
 mod lay_vector;
-mod mark;
 mod node;
-mod padding;
-mod runs;
 mod tag_integer;
-mod tree;
-mod value;
 
 pub use abi_base::{
     AbiAlign, AbiFromStrErr, AddressSpace, AddressSpaces, Align, AlignFromBytesError, Endian,
@@ -36,6 +29,7 @@ pub use abi_index::{
     BitMatrix, BitRowIter, BitSetIter, DenseBitSet, FIRST_VARIANT, FieldIdx, Hash64, Idx,
     IndexSlice, IndexVec, Indices, RangeSet, TryClone, VariantIdx,
 };
+pub use abi_laid::{Laid, Run, TreeTy, TypeTree, Value, ValueError, read_value, write_value};
 pub use abi_scalar::{
     BackendLaneCount, BackendRepr, FieldCount, FieldsShape, IncreasingOffset,
     LayoutCalculatorError, LayoutData, LayoutHandle, Niche, RangeFull, RangeInclusive, ReprFlags,
@@ -46,12 +40,4 @@ pub use abi_types::{
     TyAndLayout, X86Call, all_names,
 };
 pub use error::LayError;
-pub use handle::TreeTy;
-pub use laid::Laid;
 pub use lay::lay_out;
-pub use runs::Run;
-pub use tree::TypeTree;
-pub use value::Value;
-pub use value::error::ValueError;
-pub use value::read::read_value;
-pub use value::write::write_value;

@@ -7,8 +7,8 @@ ghost use Rattle.abi_base.specs.declared.primitive.Primitive.TheVariants.{Int};
 ghost use Rattle.abi_scalar.specs.Range.{full_range};
 ghost use Rattle.abi_scalar.specs.Scalar.{IsBool};
 ghost use Rattle.abi_scalar.specs.declared.scalar.Scalar.TheVariants.{Initialized};
-ghost use Rattle.rustc_abi.specs.Tree as made;
-ghost use Rattle.rustc_abi.specs.Tree.{tree_of, trees, trees_of_variants};
+ghost use Rattle.abi_laid.specs.Tree as made;
+ghost use Rattle.abi_laid.specs.Tree.{tree_of, trees, trees_of_variants};
 
 use abi_base::{Integer, Primitive};
 use abi_index::Hash64;

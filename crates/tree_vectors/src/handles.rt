@@ -1,6 +1,6 @@
 //! Walks over the types that were laid out, one of each kind.
 
-ghost use Rattle.rustc_abi.specs.Handles.{IsHandle};
+ghost use Rattle.abi_laid.specs.Handles.{IsHandle};
 
 use abi_base::{Integer, Primitive, Size, TargetDataLayout};
 use abi_scalar::{ReprFlags, ReprOptions, Scalar};

@@ -4,7 +4,7 @@ use Rattle.std.proofs.lemmas.Result.{IfOk-weaker}
 use Rattle.abi_base.specs.declared.data_layout.TargetDataLayout.{TargetDataLayout}
 use Rattle.rustc_abi.specs.declared.error.LayError.{LayError}
 use Rattle.rustc_abi.specs.Fault.{IsRefusedFor}
-use Rattle.rustc_abi.specs.Tree.{Tree, tree_of}
+use Rattle.abi_laid.specs.Tree.{Tree, tree_of}
 use Rattle.program.specs.Output.{Output, IsOutputOfTree, answered_by, error_name, out_of_memory, refused}
 use Rattle.program.proofs.answer.answer_tree.Goals as goal
 

@@ -1,6 +1,6 @@
 -- The type so far goes where the first one went.
 use Rattle.std.proofs.Common.{◌≡◌, vec_len}
-use Rattle.rustc_abi.specs.Tree.{tree_of}
+use Rattle.abi_laid.specs.Tree.{tree_of}
 use Rattle.program.specs.Reading.{begun_in, put}
 use Rattle.program.proofs.begun.put.Given as goal
 

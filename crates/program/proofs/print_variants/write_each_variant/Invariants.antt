@@ -1,7 +1,7 @@
 -- The variants that are left go on from those that are written.
 use Rattle.std.proofs.Common.{◌≡◌, ◌++◌, drop, string_bytes}
 use Rattle.program.specs.Printing.{each_variant}
-use Rattle.rustc_abi.specs.Laid.{placed_of}
+use Rattle.abi_laid.specs.Laid.{placed_of}
 use Rattle.program.proofs.print_variants.write_each_variant.Given as goal
 
 abbrev pub invariant-loop-index : goal.invariant-loop-index

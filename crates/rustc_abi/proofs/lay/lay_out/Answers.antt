@@ -1,6 +1,6 @@
-use Rattle.rustc_abi.specs.Tree.{tree_of}
+use Rattle.abi_laid.specs.Tree.{tree_of}
 use Rattle.rustc_abi.specs.Clash.{AreClashingApart, HaveOneOffset}
-use Rattle.rustc_abi.specs.Laid.{typed_of}
+use Rattle.abi_laid.specs.Laid.{typed_of}
 use Rattle.rustc_abi.specs.Least.{IsLeast}
 use Rattle.rustc_abi.proofs.ClashLemmas.{laid_clash, laid_one_offset}
 use Rattle.rustc_abi.proofs.EverywhereLemmas.{everywhere}

@@ -1,6 +1,6 @@
 use Rattle.std.proofs.Common.{sym}
 use Rattle.std.proofs.lemmas.Result.{IfOk-weaker}
-use Rattle.rustc_abi.specs.Nodes.{types_in}
+use Rattle.abi_laid.specs.Nodes.{types_in}
 use Rattle.rustc_abi.proofs.LawsLemmas.{elements_laws}
 use Rattle.rustc_abi.proofs.LayLemmas.{IsAdded-elements}
 use Rattle.rustc_abi.proofs.lay_array.add_elements.Goals as goal

@@ -7,14 +7,15 @@ use Rattle.std.proofs.lemmas.List.FromFn.{length-range_with_len}
 use Rattle.std.proofs.lemmas.Result.{IfOk-weaker}
 use Rattle.abi_scalar.specs.Variant.{variants_of}
 use Rattle.abi_calc.specs.Placement.{source_order}
-use Rattle.rustc_abi.specs.Nodes.{placed_in, types_in}
+use Rattle.abi_laid.specs.Nodes.{placed_in, types_in}
 use Rattle.rustc_abi.specs.Enums.{arms_at}
 use Rattle.rustc_abi.specs.Laying.{most_fields, one_scalar}
-use Rattle.rustc_abi.specs.Adding.{AreArms, IsPut, all_at, variants_in}
-use Rattle.rustc_abi.proofs.NodesLemmas.{length-types_in}
+use Rattle.abi_laid.specs.Well.{IsPut, all_at}
+use Rattle.rustc_abi.specs.Adding.{AreArms, variants_in}
+use Rattle.abi_laid.proofs.NodesLemmas.{length-types_in}
 use Rattle.rustc_abi.proofs.ArmNodesLemmas.{variants_in-kept}
 use Rattle.rustc_abi.proofs.StateNodesLemmas.{IsPut-states, as_many_each, each_few, each_means, each_there, states_keep, states_before, states_told}
-use Rattle.rustc_abi.proofs.WidthLemmas.{scalar_width, tag_width}
+use Rattle.rustc_abi.proofs.NarrowLemmas.{scalar_width, tag_width}
 use Rattle.rustc_abi.proofs.lay_coroutine.add_states.Goals as goal
 
 pub add-requires-clause-widths : goal.add-requires-clause-widths

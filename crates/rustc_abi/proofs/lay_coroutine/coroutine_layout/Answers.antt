@@ -3,9 +3,9 @@ use Rattle.std.proofs.Common.{◌≡◌, ◌<◌, ◌≤◌, ◌∙◌, All, Vec
 use Rattle.std.proofs.lemmas.List.Elements.{All-map, All-weaker}
 use Rattle.std.proofs.lemmas.Result.{IfErr-weaker, IfOk-weaker}
 use Rattle.abi_scalar.specs.Lawful.{IsLawfulLayout}
-use Rattle.rustc_abi.specs.Adding.{all_at}
+use Rattle.abi_laid.specs.Well.{all_at}
 use Rattle.rustc_abi.specs.Laying.{most_fields}
-use Rattle.rustc_abi.specs.Placed.{layout_of}
+use Rattle.abi_laid.specs.Placed.{layout_of}
 use Rattle.rustc_abi.proofs.AddedCoroutineLemmas.{lent_count}
 use Rattle.rustc_abi.proofs.CoroutineFaultLemmas.{few_each_state, few_items, states_once, states_within}
 use Rattle.rustc_abi.proofs.ListLemmas.{All-from_map}

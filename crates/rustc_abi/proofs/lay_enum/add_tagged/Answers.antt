@@ -3,10 +3,11 @@ use Rattle.std.proofs.lemmas.Result.{IfOk-weaker}
 use Rattle.abi_scalar.specs.Variant.{variants_of}
 use Rattle.rustc_abi.specs.Laying.{one_scalar}
 use Rattle.rustc_abi.specs.Enums.{arms_at}
-use Rattle.rustc_abi.specs.Adding.{AreArms, IsPut}
-use Rattle.rustc_abi.proofs.NodesLemmas.{length-types_in}
+use Rattle.abi_laid.specs.Well.{IsPut}
+use Rattle.rustc_abi.specs.Adding.{AreArms}
+use Rattle.abi_laid.proofs.NodesLemmas.{length-types_in}
 use Rattle.rustc_abi.proofs.ArmNodesLemmas.{IsPut-tagged, tagged_before, tagged_keeps, there_within, variants_in-kept}
-use Rattle.rustc_abi.proofs.WidthLemmas.{scalar_width, tag_width}
+use Rattle.rustc_abi.proofs.NarrowLemmas.{scalar_width, tag_width}
 use Rattle.rustc_abi.proofs.lay_enum.add_tagged.Goals as goal
 
 pub add-requires-clause-widths : goal.add-requires-clause-widths

@@ -11,7 +11,7 @@ use Rattle.abi_calc.specs.Enums.Answer.{HasOneEach}
 use Rattle.abi_calc.specs.Enums.Discriminants.{IsAskedWith, counting_of, inhabited_of}
 use Rattle.abi_calc.specs.Enums.Path.{path_of}
 use Rattle.abi_calc.specs.Enums.Several.{AreLawfulTags, IsAskedFor, IsLawfulTag}
-use Rattle.rustc_abi.specs.Placed.{Layout}
+use Rattle.abi_laid.specs.Placed.{Layout}
 use Rattle.rustc_abi.specs.Enums.{IsTagInteger, numbered_from}
 use Rattle.rustc_abi.proofs.AddedEnumLemmas.{asked_otherwise, enumed_err, enumed_ok}
 use Rattle.rustc_abi.proofs.ListLemmas.{passed_on}

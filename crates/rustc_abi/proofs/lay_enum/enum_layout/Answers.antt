@@ -2,9 +2,10 @@ use Rattle.std.proofs.Common.{◌≤◌, arith, length, map, ap, ◌∙◌}
 use Rattle.std.proofs.lemmas.List.{length-map}
 use Rattle.std.proofs.lemmas.List.Elements.{All-weaker}
 use Rattle.std.proofs.lemmas.Result.{IfErr-weaker, IfOk-weaker}
-use Rattle.rustc_abi.specs.Adding.{all_at, variants_in}
-use Rattle.rustc_abi.specs.Placed.{layout_of}
-use Rattle.rustc_abi.specs.Nodes.{placed_in, types_in}
+use Rattle.abi_laid.specs.Well.{all_at}
+use Rattle.rustc_abi.specs.Adding.{variants_in}
+use Rattle.abi_laid.specs.Placed.{layout_of}
+use Rattle.abi_laid.specs.Nodes.{placed_in, types_in}
 use Rattle.rustc_abi.specs.Laying.{most_fields}
 use Rattle.rustc_abi.proofs.AddedEnumLemmas.{lent_lawful}
 use Rattle.rustc_abi.proofs.FaultlessLemmas.{all_discriminants, few_fields, few_variants, lawful_aligns, none_equal}

@@ -1,11 +1,11 @@
 use Rattle.std.proofs.Common.{◌≡◌, ⊎_elim, inl, inr, Ok, map, length, arith, ◌∙◌, subst}
 use Rattle.std.proofs.lemmas.List.{length-map}
 use Rattle.std.proofs.lemmas.Result.{IfOk-weaker}
-use Rattle.rustc_abi.specs.Placed.{layout_of}
-use Rattle.rustc_abi.specs.Nodes.{placed_in, types_in}
+use Rattle.abi_laid.specs.Placed.{layout_of}
+use Rattle.abi_laid.specs.Nodes.{placed_in, types_in}
 use Rattle.rustc_abi.specs.Laying.{IsListed}
 use Rattle.rustc_abi.specs.Error.{IsRefused}
-use Rattle.rustc_abi.specs.Adding.{all_at}
+use Rattle.abi_laid.specs.Well.{all_at}
 use Rattle.rustc_abi.proofs.LayLemmas.{IsAdded-fields, faultless_few, faultless_aligns, kind_cases, fields_refused}
 use Rattle.rustc_abi.proofs.LawsLemmas.{list_places}
 use Rattle.rustc_abi.proofs.ListLemmas.{all_below, passed_on}

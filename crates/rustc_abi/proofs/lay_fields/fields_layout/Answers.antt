@@ -6,8 +6,8 @@ use Rattle.abi_calc.specs.Apart.{AreApart}
 use Rattle.abi_calc.specs.ListNiche.{IsNicheOfPart}
 use Rattle.abi_scalar.specs.Lawful.{IsLawfulLayout}
 use Rattle.abi_scalar.specs.Shape.{listed_offsets}
-use Rattle.rustc_abi.specs.Placed.{layout_of}
-use Rattle.rustc_abi.specs.Adding.{all_at}
+use Rattle.abi_laid.specs.Placed.{layout_of}
+use Rattle.abi_laid.specs.Well.{all_at}
 use Rattle.rustc_abi.proofs.ListLemmas.{listed_ok, listed_err, All-from_map, passed_on, sizes_by}
 use Rattle.rustc_abi.proofs.lay_fields.fields_layout.Goals as goal
 

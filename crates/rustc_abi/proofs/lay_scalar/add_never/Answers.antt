@@ -1,9 +1,9 @@
 use Rattle.std.proofs.Common.{refl, subst}
 use Rattle.std.proofs.lemmas.Result.{IfOk-weaker}
 use Rattle.abi_scalar.specs.Lawful.{IsLawfulLayout}
-use Rattle.rustc_abi.specs.declared.mark.Mark.TheVariants.{Never}
-use Rattle.rustc_abi.specs.Placed.{never as placed_never}
-use Rattle.rustc_abi.specs.Adding.{IsPut}
+use Rattle.abi_laid.specs.declared.mark.Mark.TheVariants.{Never}
+use Rattle.abi_laid.specs.Placed.{never as placed_never}
+use Rattle.abi_laid.specs.Well.{IsPut}
 use Rattle.rustc_abi.proofs.EmptyLemmas.{Fits-never}
 use Rattle.rustc_abi.proofs.LayLemmas.{IsAdded-put}
 use Rattle.rustc_abi.proofs.lay_scalar.add_never.Goals as goal

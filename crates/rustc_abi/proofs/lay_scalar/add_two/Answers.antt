@@ -6,10 +6,10 @@ use Rattle.abi_base.specs.DataLayout.{size_bound}
 use Rattle.abi_scalar.specs.Lawful.{IsLawfulLayout}
 use Rattle.abi_scalar.specs.Pair.{pair_size}
 use Rattle.abi_scalar.proofs.ReadableLemmas.{lawful_readable}
-use Rattle.rustc_abi.specs.declared.node.Shape.TheVariants.{Pair}
-use Rattle.rustc_abi.specs.Nodes.{meaning, types_in}
-use Rattle.rustc_abi.specs.Adding.{IsPut}
-use Rattle.rustc_abi.proofs.NodesLemmas.{length-types_in}
+use Rattle.abi_laid.specs.declared.node.Shape.TheVariants.{Pair}
+use Rattle.abi_laid.specs.Nodes.{meaning, types_in}
+use Rattle.abi_laid.specs.Well.{IsPut}
+use Rattle.abi_laid.proofs.NodesLemmas.{length-types_in}
 use Rattle.rustc_abi.proofs.FaultLemmas.{faultless}
 use Rattle.rustc_abi.proofs.LawsLemmas.{pair_laws}
 use Rattle.rustc_abi.proofs.LayLemmas.{IsAdded-pair}

@@ -2,7 +2,7 @@ use Rattle.std.proofs.Common.{◌≡◌, ◌+◌, ◌<◌, ◌++◌, ◌∷◌, 
 use Rattle.std.proofs.lemmas.List.{take_more, map-append}
 use Rattle.std.proofs.lemmas.List.Elements.{All-weaker}
 use Rattle.std.proofs.lemmas.Result.{IfOk-weaker, IfErr-weaker}
-use Rattle.rustc_abi.specs.Tree.{tree_of, trees, trees_of_variants}
+use Rattle.abi_laid.specs.Tree.{tree_of, trees, trees_of_variants}
 use Rattle.rustc_abi.specs.Enums.{discriminants_of}
 use Rattle.rustc_abi.specs.Laying.{AreLaying}
 use Rattle.rustc_abi.specs.Adding.{tree_size, trees_size}

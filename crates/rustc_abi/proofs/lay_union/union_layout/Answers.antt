@@ -3,8 +3,8 @@ use Rattle.std.proofs.lemmas.List.Elements.{All-map}
 use Rattle.abi_index.specs.Slice.{items_of}
 use Rattle.abi_calc.specs.Union.{only_of}
 use Rattle.abi_scalar.specs.Lawful.{IsLawfulLayout}
-use Rattle.rustc_abi.specs.Placed.{layout_of}
-use Rattle.rustc_abi.specs.Adding.{all_at}
+use Rattle.abi_laid.specs.Placed.{layout_of}
+use Rattle.abi_laid.specs.Well.{all_at}
 use Rattle.rustc_abi.proofs.ListLemmas.{All-from_map, passed_on}
 use Rattle.rustc_abi.proofs.CalcLemmas.{united_ok, united_err}
 use Rattle.rustc_abi.proofs.lay_union.union_layout.Goals as goal

@@ -2,9 +2,9 @@ use Rattle.std.proofs.Common.{◌≡◌, Some, Ok, ℕ, ap, sym, subst}
 use Rattle.std.proofs.lemmas.Result.{IfOk-weaker}
 use Rattle.abi_calc.specs.Array.{array_answer}
 use Rattle.abi_calc.specs.Simd.{simd_answer}
-use Rattle.rustc_abi.specs.Placed.{layout_of}
+use Rattle.abi_laid.specs.Placed.{layout_of}
 use Rattle.rustc_abi.specs.Error.{named}
-use Rattle.rustc_abi.specs.Nodes.{placed_at, types_in}
+use Rattle.abi_laid.specs.Nodes.{placed_at, types_in}
 use Rattle.rustc_abi.proofs.LawsLemmas.{elements_laws, vector_laws}
 use Rattle.rustc_abi.proofs.TogetherLemmas.{IsAdded-vector}
 use Rattle.rustc_abi.proofs.lay_vector.add_vector.Goals as goal

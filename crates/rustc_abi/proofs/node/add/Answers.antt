@@ -1,6 +1,6 @@
 use Rattle.std.proofs.Common.{◌≡◌, length, arith, subst, sym, true}
-use Rattle.rustc_abi.specs.Adding.{is_node}
-use Rattle.rustc_abi.proofs.NodesLemmas.{IsPut-push}
+use Rattle.abi_laid.specs.Well.{is_node}
+use Rattle.abi_laid.proofs.NodesLemmas.{IsPut-push}
 use Rattle.rustc_abi.proofs.node.add.Goals as goal
 
 pub returns-clause-ok : goal.returns-clause-ok

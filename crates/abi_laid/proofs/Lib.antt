@@ -1,0 +1,28 @@
+pub mod BytesLemmas
+pub mod HoldLemmas
+pub mod NodesLemmas
+mod WidthLemmas
+mod TypedLemmas
+mod HandleLemmas
+pub mod SeenLemmas
+mod RunsLemmas
+mod GapsLemmas
+mod WalkLemmas
+pub mod RoomLemmas
+mod PaddingLemmas
+mod UnusedLemmas
+pub mod PickedLemmas
+mod ValueLemmas
+mod ReadLemmas
+mod FoundLemmas
+mod NamedLemmas
+mod TakenLemmas
+mod NumberLemmas
+mod DecidedLemmas
+mod SameLemmas
+mod PutOverLemmas
+mod WriteLemmas
+mod PutPlacesLemmas
+mod TagNumberLemmas
+mod WrittenLemmas
+mod KeptLemmas

@@ -1,0 +1,15 @@
+use Rattle.std.proofs.Common.{List, ap, sym, ◌∙◌}
+use Rattle.abi_laid.specs.declared.node.Node.{Node}
+use Rattle.abi_laid.specs.Placed.{layout_of}
+use Rattle.abi_laid.specs.Nodes.{placed_at}
+use Rattle.abi_laid.proofs.TypedLemmas.{lawful_at, layout-placed}
+use Rattle.abi_laid.proofs.handle.handle_at.Goals as goal
+
+pub returns-clause-valid : goal.returns-clause-valid
+returns-clause-valid c =
+    let ns : List Node = c.args.laid.now.nodes.items in
+    record {
+      there = c.requires;
+      layout = layout-placed ns c.args.node c.requires ∙ sym (c.layout_at.ensures ∙ ap (λ ns. layout_of (placed_at ns c.args.node)) c.nodes.ensures.same);
+      lawful = lawful_at ns c.args.laid.now.earlier c.args.laid.now.laws c.args.node c.requires;
+    }

@@ -1,0 +1,38 @@
+use Rattle.std.proofs.Common.{◌≡◌, ◌+◌, ◌*◌, ℕ, List, length}
+use Rattle.abi_laid.specs.Value.{values_of}
+use Rattle.abi_laid.specs.Bytes.{AreBytes}
+use Rattle.abi_laid.specs.Placed.{size_of}
+use Rattle.abi_laid.specs.Nodes.{parts_at, placed_at}
+use Rattle.abi_laid.specs.Well.{all_at}
+use Rattle.abi_laid.specs.Holding.{HoldEach, HoldParts, Holds}
+use Rattle.abi_laid.proofs.WriteLemmas.{AreWritten, WrittenElements}
+use Rattle.abi_laid.proofs.value.write.+write.Given as goal
+
+abbrev pub decreases-write_parts : goal.decreases-write_parts
+decreases-write_parts l = 6 * l.node
+
+abbrev pub decreases-write_own : goal.decreases-write_own
+decreases-write_own l = 6 * l.variant + 1
+
+abbrev pub decreases-write_arm : goal.decreases-write_arm
+decreases-write_arm l = 6 * l.node + 1
+
+abbrev pub decreases-write_node : goal.decreases-write_node
+decreases-write_node l = 6 * l.node + 3
+
+abbrev pub decreases-write_elements : goal.decreases-write_elements
+decreases-write_elements l = 6 * l.element + 5
+
+abbrev pub invariant-write_elements-loop-i : goal.invariant-write_elements-loop-i
+invariant-write_elements-loop-i l = record {
+  long : length l.bytes ≡ length l.fn.bytes;
+  put : (b : List ℕ) → AreBytes b → HoldEach (Holds l.order (placed_at l.nodes l.element)) (size_of (placed_at l.nodes l.element)) 0 b (values_of l.values) →
+      WrittenElements l.order (placed_at l.nodes l.element) l.values l.at b l.fn.bytes l.i l.bytes;
+}
+
+abbrev pub invariant-write_parts-loop-i : goal.invariant-write_parts-loop-i
+invariant-write_parts-loop-i l = record {
+  long : length l.bytes ≡ length l.fn.bytes;
+  put : (b : List ℕ) → AreBytes b → HoldParts l.order (parts_at l.offsets (all_at l.nodes l.children)) b (values_of l.values) →
+      AreWritten l.order l.offsets (all_at l.nodes l.children) l.values l.at b l.fn.bytes l.i l.bytes;
+}

@@ -1,0 +1,106 @@
+//! Types that were laid out.
+
+ghost use Rattle.std.specs.Prelude.{◌≡◌, ◌<◌, [], IfOk, length, true};
+ghost use Rattle.abi_laid.specs.Nodes.{root_of};
+ghost use Rattle.abi_laid.specs.Well.{AreWell, are_nodes};
+ghost use Rattle.abi_laid.specs.Laws.{keep_laws};
+ghost use Rattle.abi_laid.specs.Widths.{have_widths};
+ghost use Rattle.abi_laid.specs.Room.{has_room};
+
+use crate::handle::{TreeTy, handle_at};
+use crate::node::{Node, layout_at};
+use crate::padding::{data_runs, unused_runs};
+use crate::runs::{Run, gaps};
+use abi_base::Endian;
+use abi_index::{FieldIdx, VariantIdx};
+use abi_scalar::LayoutData;
+use abi_types::TyAndLayout;
+use std::alloc::{AllocError, Global};
+
+/// A type that was laid out: its layout, and those of its parts.
+#[derive(Drop)]
+pub struct Laid {
+    nodes: Vec<Node>,
+    endian: Endian,
+    ghost some: { 0 < length nodes.items },
+    ghost earlier: { are_nodes 0 nodes.items ≡ true },
+    ghost laws: { keep_laws [] nodes.items ≡ true },
+    ghost widths: { have_widths [] nodes.items ≡ true },
+    ghost room: { has_room (root_of nodes.items) ≡ true },
+}
+
+impl Laid {
+    ghost use Rattle.abi_laid.specs.Laid.{placed_of, endian_of, typed_of};
+    ghost use Rattle.abi_laid.specs.Handles.{IsHandle, tree_type};
+    ghost use Rattle.abi_laid.specs.Seen.{Sees};
+    ghost use Rattle.abi_laid.specs.Placed.{layout_of};
+    ghost use Rattle.abi_laid.specs.Runs.{padding_of, unused_of};
+
+    /// The type of the last node.
+    pub fn new(nodes: Vec<Node>, endian: Endian) -> Laid
+        requires some { 0 < length nodes.items }
+        requires well { AreWell nodes.items }
+        requires room { has_room (root_of nodes.items) ≡ true }
+        ensures placed { placed_of result ≡ root_of nodes.items }
+        ensures endian { endian_of result ≡ endian }
+    {
+        Laid { nodes, endian }
+    }
+
+    /// Its nodes, of which the last is the type's.
+    pub(crate) fn nodes(&self) -> &[Node]
+        ensures same { result.now ≡ self.now.nodes.items }
+        ensures some { 0 < length result.now }
+        ensures earlier { are_nodes 0 result.now ≡ true }
+        ensures laws { keep_laws [] result.now ≡ true }
+        ensures widths { have_widths [] result.now ≡ true }
+    {
+        self.nodes.as_slice()
+    }
+
+    /// The layout of the type.
+    pub fn layout(&self) -> &LayoutData<FieldIdx, VariantIdx>
+        ensures { result.now ≡ layout_of (placed_of self.now) }
+    {
+        let nodes = self.nodes.as_slice();
+        layout_at(nodes, nodes.len() - 1)
+    }
+
+    /// The type as a handle, beside its layout: what asks types for their fields and variants takes it.
+    pub fn root(&self) -> TyAndLayout<'_, TreeTy<'_>>
+        ensures valid { IsHandle result }
+        ensures told { tree_type result ≡ typed_of self.now }
+        ensures seen { Sees (tree_type result) (placed_of self.now) }
+        ensures layout { result.layout.0.now ≡ layout_of (placed_of self.now) }
+    {
+        handle_at(self, self.nodes().len() - 1)
+    }
+
+    /// The padding of the type: the bytes that no value of it decides, as maximal runs in ascending order.
+    pub fn padding(&self, alloc: Global) -> Result<Vec<Run>, AllocError>
+        ensures { IfOk result (λ runs. runs.items ≡ padding_of (placed_of self.now)) }
+    {
+        let nodes = self.nodes.as_slice();
+        let root = nodes.len() - 1;
+        let data = data_runs(alloc, nodes, root)?;
+        gaps(alloc, &data, layout_at(nodes, root).size.bytes())
+    }
+
+    /// The bytes that some variant of the type covers and this one doesn't, as maximal runs in ascending order: a value of
+    /// the variant doesn't use them, though a value of another may. They are neither padding nor bytes of the tag. Nothing
+    /// where no tag and no niche tells several variants apart. An index that names no variant uses none but those that all
+    /// variants share.
+    pub fn unused(&self, alloc: Global, variant: VariantIdx) -> Result<Vec<Run>, AllocError>
+        ensures { IfOk result (λ runs. runs.items ≡ unused_of (placed_of self.now) variant) }
+    {
+        let nodes = self.nodes.as_slice();
+        unused_runs(alloc, nodes, nodes.len() - 1, variant.as_usize())
+    }
+
+    /// The order of the bytes of a number in the type.
+    pub fn endian(&self) -> Endian
+        ensures { result ≡ endian_of self.now }
+    {
+        self.endian
+    }
+}

@@ -1,0 +1,500 @@
+//! The bytes of a value.
+
+ghost use Rattle.std.specs.Prelude.{◌≡◌, ℕ, ◌+◌, ◌*◌, ◌<◌, ◌≤◌, ◌&&◌, ◌||◌, [], All, IfErr, IfOk, List, MatchBool, OnOk, length, get_or, nat_lt, true, false};
+ghost use Rattle.abi_base.specs.declared.data_layout.TargetDataLayout.{TargetDataLayout};
+ghost use Rattle.abi_laid.specs.declared.value.error.ValueError.{ValueError};
+ghost use Rattle.abi_laid.specs.Tree.{Tree};
+ghost use Rattle.abi_laid.specs.Values.{IsValueOf};
+ghost use Rattle.abi_laid.specs.Laid.{endian_of, placed_of};
+ghost use Rattle.abi_laid.specs.Value.{Value as Meant, value_count, value_of, values_of};
+ghost use Rattle.abi_laid.specs.Bytes.{AreBytes, number_of, picked};
+ghost use Rattle.abi_laid.specs.Placed.{Placed, size_of};
+ghost use Rattle.abi_laid.specs.Tag.{Names};
+ghost use Rattle.abi_laid.specs.Holding.{HoldEach, HoldParts, Holds, tag_at};
+ghost use Rattle.abi_laid.specs.Nodes.{arms_in, own_fields, parts_at, placed_at, types_in};
+ghost use Rattle.abi_laid.specs.Well.{all_at, are_nodes};
+ghost use Rattle.abi_laid.specs.Room.{arms_have_room, has_room, have_room};
+ghost use Rattle.abi_laid.specs.Widths.{have_widths};
+ghost use Rattle.abi_laid.specs.Runs.{covers, Ascend};
+ghost use Rattle.abi_laid.specs.Reading.{IsNamedIn, KeepsValues};
+ghost use Rattle.abi_laid.specs.Covering.{are_covered, each_covered, is_arm_covered, is_byte_at, is_covered, is_told};
+ghost use Rattle.abi_laid.specs.Writing.{IsPutOver};
+
+use crate::laid::Laid;
+use crate::node::{Node, Shape, layout_at, offsets, state_tag_offset, tag_offset};
+use crate::padding::data_runs;
+use crate::runs::Run;
+use crate::value::Value;
+use crate::value::error::ValueError;
+use crate::value::named::{encoding_of, niche_number, own_parts};
+use crate::value::read::read_node;
+use crate::value::same::is_same;
+use abi_base::{Endian, Size};
+use abi_index::{Idx, VariantIdx};
+use abi_scalar::TagEncoding;
+use std::alloc::{AllocError, Global};
+
+/// One byte of a number of so many bytes: the one with this index in memory.
+fn byte_at(order: Endian, number: u128, width: usize, i: usize) -> u8
+    requires width { width ≤ 16 }
+    requires index { i < width }
+    ensures { (b : List ℕ) → AreBytes b → length b ≡ width → number ≡ number_of order b → result ≡ get_or b i 0 }
+{
+    let place = match order {
+        Endian::Little => i,
+        Endian::Big => width - 1 - i,
+    };
+    ((number >> (8 * place)) % 256) as u8
+}
+
+/// Puts a number of so many bytes over those from a place on.
+fn put_number(order: Endian, number: u128, width: usize, at: usize, bytes: &mut [u8])
+    requires width { width ≤ 16 }
+    requires fits { at + width ≤ length bytes.old }
+    ensures long { length bytes.new ≡ length bytes.old }
+    ensures put { (b : List ℕ) → AreBytes b → length b ≡ width → number ≡ number_of order b →
+        IsPutOver (λ k. nat_lt k width) at b bytes.old bytes.new }
+{
+    for i in 0..width {
+        bytes[at + i] = byte_at(order, number, width, i);
+    }
+}
+
+/// Puts a union's data bytes over those at the runs' places, counted from a place on.
+fn put_places(runs: &[Run], content: &[u8], at: usize, size: usize, bytes: &mut [u8])
+    requires ascend { Ascend 0 runs.now }
+    requires inside { All (λ run. run.end ≤ size) runs.now }
+    requires fits { at + size ≤ length bytes.old }
+    ensures long { length bytes.new ≡ length bytes.old }
+    ensures put { (b : List ℕ) → length b ≡ size → content.now ≡ picked (covers runs.now) 0 b →
+        IsPutOver (covers runs.now) at b bytes.old bytes.new }
+{
+    let mut next = 0;
+    for run in runs {
+        for k in run.start..run.end {
+            if next < content.len() {
+                bytes[at + k as usize] = content[next];
+                next += 1;
+            }
+        }
+    }
+}
+
+/// The number that a tag of this width has for a variant, where the variant has one of its own.
+fn tag_number(
+    encoding: &TagEncoding<VariantIdx>,
+    width: Size,
+    variants: &[(u128, usize)],
+    i: usize,
+) -> u128
+    requires width { width ≤ 16 }
+    requires index { i < length variants.now }
+    ensures { (done : List Placed) (tag : ℕ) → Names encoding.now width (arms_in done variants.now) tag i → is_told encoding.now i ≡ true → result ≡ tag }
+{
+    match encoding {
+        TagEncoding::Direct => width.truncate(variants[i].0),
+        TagEncoding::Niche {
+            untagged_variant: _,
+            niche_variants,
+            niche_start,
+        } => {
+            let first = niche_variants.start.as_usize();
+            if first <= i {
+                niche_number(width, first, *niche_start, i)
+            } else {
+                0
+            }
+        }
+    }
+}
+
+/// Whether the variant has a number of its own in the tag.
+fn is_told(encoding: &TagEncoding<VariantIdx>, i: usize) -> bool
+    ensures { result ≡ is_told encoding.now i }
+{
+    match encoding {
+        TagEncoding::Direct => true,
+        TagEncoding::Niche {
+            untagged_variant,
+            ..
+        } => untagged_variant.as_usize() != i,
+    }
+}
+
+/// Puts the tag of a variant over the bytes at its offset, where the variant has a number of its own.
+fn write_tag(
+    order: Endian,
+    encoding: &TagEncoding<VariantIdx>,
+    width: Size,
+    variants: &[(u128, usize)],
+    i: usize,
+    offset: u64,
+    at: usize,
+    bytes: &mut [u8],
+)
+    requires width { width ≤ 16 }
+    requires index { i < length variants.now }
+    requires fits { at + (offset + width) ≤ length bytes.old }
+    ensures long { length bytes.new ≡ length bytes.old }
+    ensures put { (b : List ℕ) (done : List Placed) → AreBytes b → offset + width ≤ length b →
+        Names encoding.now width (arms_in done variants.now) (tag_at order b offset width) i →
+        IsPutOver (λ k. is_told encoding.now i && is_byte_at offset width k) at b bytes.old bytes.new }
+{
+    if is_told(encoding, i) {
+        let number = tag_number(encoding, width, variants, i);
+        put_number(
+            order,
+            number,
+            width.bytes() as usize,
+            at + offset as usize,
+            bytes,
+        );
+    }
+}
+
+/// Puts a value over the bytes of a node, wherever its parts cover one. Of a value that no bytes of the node hold nothing is said.
+#[cycle(write)]
+pub(crate) fn write_node(
+    alloc: Global,
+    order: Endian,
+    nodes: &[Node],
+    node: usize,
+    value: &Value,
+    at: usize,
+    bytes: &mut [u8],
+) -> Result<(), AllocError>
+    requires there { node < length nodes.now }
+    requires well { are_nodes 0 nodes.now ≡ true }
+    requires widths { have_widths [] nodes.now ≡ true }
+    requires room { has_room (placed_at nodes.now node) ≡ true }
+    requires fits { at + size_of (placed_at nodes.now node) ≤ length bytes.old }
+    ensures long { length bytes.new ≡ length bytes.old }
+    ensures put { OnOk result ((b : List ℕ) → AreBytes b → Holds order (placed_at nodes.now node) b (value_of value.now) →
+        IsPutOver (is_covered (placed_at nodes.now node) (value_of value.now)) at b bytes.old bytes.new) }
+{
+    let here = &nodes[node];
+    let layout = &here.layout;
+    let size = layout.size.bytes() as usize;
+    match &here.shape {
+        Shape::Scalar(_) => {
+            put_number(order, value.number(), size, at, bytes);
+            Ok(())
+        }
+        Shape::Pair { first, second } => {
+            let (one, two) = value.pair();
+            let numbers = [Value::Num(one), Value::Num(two)];
+            write_parts(
+                alloc,
+                order,
+                nodes,
+                node,
+                offsets(layout),
+                &[*first, *second],
+                &numbers,
+                at,
+                size,
+                bytes,
+            )
+        }
+        Shape::Never(_) => Ok(()),
+        Shape::Elements { count, element } => write_elements(
+            alloc,
+            order,
+            nodes,
+            *element,
+            *count,
+            value.list(),
+            at,
+            bytes,
+        ),
+        Shape::Fields(_, children) => write_parts(
+            alloc,
+            order,
+            nodes,
+            node,
+            offsets(layout),
+            children,
+            value.list(),
+            at,
+            size,
+            bytes,
+        ),
+        Shape::Union(_, _) => {
+            let runs = data_runs(alloc, nodes, node)?;
+            put_places(&runs, value.union(), at, size, bytes);
+            Ok(())
+        }
+        Shape::Vector(lanes) => write_node(alloc, order, nodes, *lanes, value, at, bytes),
+        Shape::Single(_, children) => {
+            let (_index, values) = value.variant();
+            write_parts(
+                alloc,
+                order,
+                nodes,
+                node,
+                offsets(layout),
+                children,
+                values,
+                at,
+                size,
+                bytes,
+            )
+        }
+        Shape::Tagged {
+            mark: _,
+            tag,
+            variants,
+        } => {
+            let encoding = encoding_of(layout);
+            let (index, values) = value.variant();
+            write_arm(
+                alloc,
+                order,
+                nodes,
+                node,
+                &encoding,
+                *tag,
+                tag_offset(layout),
+                variants,
+                index,
+                values,
+                at,
+                size,
+                bytes,
+            )
+        }
+        Shape::States {
+            prefix,
+            tag,
+            states,
+        } => {
+            let (state, shared, locals) = value.state();
+            write_parts(
+                alloc,
+                order,
+                nodes,
+                node,
+                offsets(layout),
+                prefix,
+                shared,
+                at,
+                size,
+                bytes,
+            )?;
+            write_arm(
+                alloc,
+                order,
+                nodes,
+                node,
+                &TagEncoding::Direct,
+                *tag,
+                state_tag_offset(layout, prefix.len()),
+                states,
+                state,
+                locals,
+                at,
+                size,
+                bytes,
+            )
+        }
+    }
+}
+
+/// Puts the values of so many elements over their bytes, one after another.
+#[cycle(write)]
+fn write_elements(
+    alloc: Global,
+    order: Endian,
+    nodes: &[Node],
+    element: usize,
+    count: u64,
+    values: &[Value],
+    at: usize,
+    bytes: &mut [u8],
+) -> Result<(), AllocError>
+    requires there { element < length nodes.now }
+    requires well { are_nodes 0 nodes.now ≡ true }
+    requires widths { have_widths [] nodes.now ≡ true }
+    requires room { has_room (placed_at nodes.now element) ≡ true }
+    requires fits { at + size_of (placed_at nodes.now element) * count ≤ length bytes.old }
+    ensures long { length bytes.new ≡ length bytes.old }
+    ensures put { OnOk result ((b : List ℕ) → AreBytes b → value_count (values_of values.now) ≡ count →
+        HoldEach (Holds order (placed_at nodes.now element)) (size_of (placed_at nodes.now element)) 0 b (values_of values.now) →
+        IsPutOver (each_covered (is_covered (placed_at nodes.now element)) (size_of (placed_at nodes.now element)) 0 (values_of values.now)) at b
+        bytes.old bytes.new) }
+{
+    let size = layout_at(nodes, element).size.bytes() as usize;
+    for i in 0..values.len().min(count as usize) {
+        write_node(
+            alloc,
+            order,
+            nodes,
+            element,
+            &values[i],
+            at + i * size,
+            bytes,
+        )?;
+    }
+    Ok(())
+}
+
+/// Puts the values of fields over the bytes at these offsets, each as those of a node before this one.
+#[cycle(write)]
+fn write_parts(
+    alloc: Global,
+    order: Endian,
+    nodes: &[Node],
+    node: usize,
+    offsets: &[Size],
+    children: &[usize],
+    values: &[Value],
+    at: usize,
+    size: usize,
+    bytes: &mut [u8],
+) -> Result<(), AllocError>
+    requires there { node < length nodes.now }
+    requires before { All (λ child. child < node) children.now }
+    requires well { are_nodes 0 nodes.now ≡ true }
+    requires widths { have_widths [] nodes.now ≡ true }
+    requires room { have_room size (parts_at offsets.now (all_at nodes.now children.now)) ≡ true }
+    requires fits { at + size ≤ length bytes.old }
+    ensures long { length bytes.new ≡ length bytes.old }
+    ensures put { OnOk result ((b : List ℕ) → AreBytes b → HoldParts order (parts_at offsets.now (all_at nodes.now children.now)) b (values_of values.now) →
+        IsPutOver (are_covered (parts_at offsets.now (all_at nodes.now children.now)) (values_of values.now)) at b bytes.old bytes.new) }
+{
+    for i in 0..offsets.len().min(children.len()).min(values.len()) {
+        let place = at + offsets[i].bytes() as usize;
+        write_node(alloc, order, nodes, children[i], &values[i], place, bytes)?;
+    }
+    Ok(())
+}
+
+/// Puts the tag of a variant, and the values of its fields, over their bytes.
+#[cycle(write)]
+fn write_arm(
+    alloc: Global,
+    order: Endian,
+    nodes: &[Node],
+    node: usize,
+    encoding: &TagEncoding<VariantIdx>,
+    tag: usize,
+    offset: u64,
+    variants: &[(u128, usize)],
+    index: usize,
+    values: &[Value],
+    at: usize,
+    size: usize,
+    bytes: &mut [u8],
+) -> Result<(), AllocError>
+    requires there { node < length nodes.now }
+    requires first { tag < node }
+    requires before { All (λ v. v.1 < node) variants.now }
+    requires well { are_nodes 0 nodes.now ≡ true }
+    requires widths { have_widths [] nodes.now ≡ true }
+    requires width { size_of (placed_at nodes.now tag) ≤ 16 }
+    requires inside { offset + size_of (placed_at nodes.now tag) ≤ size }
+    requires room { arms_have_room size (arms_in (types_in nodes.now) variants.now) ≡ true }
+    requires fits { at + size ≤ length bytes.old }
+    ensures long { length bytes.new ≡ length bytes.old }
+    ensures put { OnOk result ((b : List ℕ) → AreBytes b →
+        IsNamedIn order b encoding.now offset (placed_at nodes.now tag) (arms_in (types_in nodes.now) variants.now) index (values_of values.now) →
+        IsPutOver (λ k. (is_told encoding.now index && is_byte_at offset (size_of (placed_at nodes.now tag)) k)
+        || is_arm_covered (arms_in (types_in nodes.now) variants.now) index (values_of values.now) k) at b bytes.old bytes.new) }
+{
+    if index >= variants.len() {
+        return Ok(());
+    }
+    let width = layout_at(nodes, tag).size;
+    write_tag(order, encoding, width, variants, index, offset, at, bytes);
+    write_own(
+        alloc,
+        order,
+        nodes,
+        variants[index].1,
+        values,
+        at,
+        size,
+        bytes,
+    )
+}
+
+/// Puts the values of the fields of a variant, which has a node of its own, over their bytes.
+#[cycle(write)]
+fn write_own(
+    alloc: Global,
+    order: Endian,
+    nodes: &[Node],
+    variant: usize,
+    values: &[Value],
+    at: usize,
+    size: usize,
+    bytes: &mut [u8],
+) -> Result<(), AllocError>
+    requires there { variant < length nodes.now }
+    requires well { are_nodes 0 nodes.now ≡ true }
+    requires widths { have_widths [] nodes.now ≡ true }
+    requires room { have_room size (own_fields (placed_at nodes.now variant)) ≡ true }
+    requires fits { at + size ≤ length bytes.old }
+    ensures long { length bytes.new ≡ length bytes.old }
+    ensures put { OnOk result ((b : List ℕ) → AreBytes b → HoldParts order (own_fields (placed_at nodes.now variant)) b (values_of values.now) →
+        IsPutOver (are_covered (own_fields (placed_at nodes.now variant)) (values_of values.now)) at b bytes.old bytes.new) }
+{
+    let (offsets, children) = own_parts(nodes, variant);
+    write_parts(
+        alloc, order, nodes, variant, offsets, children, values, at, size, bytes,
+    )
+}
+
+/// Whether these bytes hold the value as those of a node, where they hold no more than one.
+fn holds(
+    alloc: Global,
+    order: Endian,
+    nodes: &[Node],
+    node: usize,
+    value: &Value,
+    bytes: &[u8],
+) -> Result<bool, AllocError>
+    requires there { node < length nodes.now }
+    requires well { are_nodes 0 nodes.now ≡ true }
+    requires widths { have_widths [] nodes.now ≡ true }
+    requires room { has_room (placed_at nodes.now node) ≡ true }
+    ensures bytes { AreBytes bytes.now }
+    ensures held { IfOk result (λ yes. MatchBool yes
+        (Holds order (placed_at nodes.now node) bytes.now (value_of value.now))
+        (((u w : Meant) → Holds order (placed_at nodes.now node) bytes.now u → Holds order (placed_at nodes.now node) bytes.now w → u ≡ w) →
+        Holds order (placed_at nodes.now node) bytes.now (value_of value.now) → ⊥)) }
+{
+    match read_node(alloc, order, nodes, node, bytes)? {
+        Some(found) => Ok(is_same(&found, value)),
+        None => Ok(false),
+    }
+}
+
+/// The bytes that hold a value of the type: as many as the type is large, with 0 wherever no part of the value covers one.
+///
+/// `NotAValue` where the value is none of the type's: a number that its scalar doesn't have, a list of another length, a variant
+/// or a state that isn't there, or one without values, a union's bytes of another count, a value of another kind. `OutOfMemory`
+/// where a growth of memory was refused; as many bytes as the type is large are asked for before the value is looked at.
+pub fn write_value(alloc: Global, laid: &Laid, value: &Value) -> Result<Vec<u8>, ValueError>
+    // What is answered.
+    ensures holds { IfOk result (λ bytes. Holds (endian_of laid.now) (placed_of laid.now) bytes.items (value_of value.now)) }
+    ensures zero { IfOk result (λ bytes. (k : ℕ) → is_covered (placed_of laid.now) (value_of value.now) k ≡ false → get_or bytes.items k 0 ≡ 0) }
+
+    // When, for each tree whose values the layout keeps.
+    ensures value { IfOk result (λ _. (dl : TargetDataLayout) (tree : Tree) → KeepsValues dl tree laid.now →
+        IsValueOf dl tree (placed_of laid.now) (value_of value.now)) }
+    ensures not_a_value { IfErr result (λ e. e ≡ ValueError.NotAValue → (dl : TargetDataLayout) (tree : Tree) → KeepsValues dl tree laid.now →
+        IsValueOf dl tree (placed_of laid.now) (value_of value.now) → ⊥) }
+{
+    let nodes = laid.nodes();
+    let root = nodes.len() - 1;
+    let order = laid.endian();
+    let size = layout_at(nodes, root).size.bytes() as usize;
+    let mut bytes = vec![in alloc; 0u8; size]?;
+    write_node(alloc, order, nodes, root, value, 0, &mut bytes)?;
+    if holds(alloc, order, nodes, root, value, &bytes)? {
+        Ok(bytes)
+    } else {
+        Err(ValueError::NotAValue)
+    }
+}

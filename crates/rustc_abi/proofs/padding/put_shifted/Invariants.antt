@@ -1,6 +1,0 @@
-use Rattle.std.proofs.Common.{◌≡◌, ◌++◌, map, take}
-use Rattle.rustc_abi.specs.Runs.{shifted}
-use Rattle.rustc_abi.proofs.padding.put_shifted.Given as goal
-
-abbrev pub invariant-loop-run : goal.invariant-loop-run
-invariant-loop-run l = l.all.items ≡ l.initial.all.items ++ map (shifted l.offset) (take l.run-index l.runs)

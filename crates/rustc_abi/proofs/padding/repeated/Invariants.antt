@@ -1,9 +1,0 @@
-use Rattle.std.proofs.Common.{◌≡◌, ◌<◌, ℕ, All}
-use Rattle.rustc_abi.specs.Runs.{covers, repeats}
-use Rattle.rustc_abi.proofs.padding.repeated.Given as goal
-
-abbrev pub invariant-loop-i : goal.invariant-loop-i
-invariant-loop-i l = record {
-  same : (k : ℕ) → covers l.all.items k ≡ repeats l.runs l.i l.size k;
-  some : All (λ run. run.start < run.end) l.all.items;
-}
