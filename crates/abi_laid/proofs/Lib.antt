@@ -6,11 +6,10 @@ mod TypedLemmas
 mod HandleLemmas
 pub mod SeenLemmas
 mod RunsLemmas
-mod GapsLemmas
+pub mod MaximalLemmas
 mod WalkLemmas
 pub mod RoomLemmas
-mod PaddingLemmas
-mod UnusedLemmas
+mod DataPlacesLemmas
 pub mod PickedLemmas
 mod ValueLemmas
 mod ReadLemmas

@@ -9,7 +9,7 @@ use Rattle.abi_laid.specs.declared.runs.Run.{Run}
 use Rattle.abi_laid.specs.Bytes.{one_if, picked, place_count, put_if}
 use Rattle.abi_laid.specs.Runs.{covers, Ascend}
 use Rattle.abi_laid.specs.Writing.{IsPutOver}
-use Rattle.abi_laid.proofs.GapsLemmas.{after_first, before_all, inside_first}
+use Rattle.abi_laid.proofs.RunsLemmas.{after_first, before_all, inside_first}
 use Rattle.abi_laid.proofs.PutOverLemmas.{lt-more, put_like, put_none, put_one}
 
 -- ---- how many places a test picks

@@ -1,9 +1,12 @@
--- Runs that are joined, and the gaps between runs.
+-- Runs that are joined, and what runs that ascend cover.
 use Rattle.std.proofs.Common.{◌≡◌, ℕ, ◌+◌, ◌<◌, ◌≤◌, inl, inr, List, [], ◌∷◌, ◌++◌, Option, Some, None, Bool, true, false, length, get_or, take, max, arith, refl, sym, ap, ◌∙◌, subst}
-use Rattle.std.specs.Prelude.{◌||◌}
+use Rattle.std.specs.Prelude.{◌&&◌, ◌||◌, nat_lt, nat_le}
 use Rattle.std.proofs.lemmas.List.{take_more}
 use Rattle.std.proofs.lemmas.List.Folds.{list_any-append}
 use Rattle.std.proofs.lemmas.Bool.Decides.{nat_tests}
+use Rattle.std.proofs.lemmas.Bool.{lt-ltb, le-ltb, le-leb, lt-leb}
+use Rattle.std.specs.Cmp.Derive.{both_true}
+use Rattle.std.proofs.Math.Bool.{and-false}
 use Rattle.abi_laid.specs.declared.runs.Run.{Run}
 use Rattle.abi_laid.specs.Runs.{is_in, covers, Ascend, Joins, AreJoined}
 
@@ -94,3 +97,16 @@ AreJoined-more runs i run old new (Some before) now inv lt at some sorted (inr p
       first = λ none. absurd (cc);
       reached = subst (λ r. (j : ℕ) (d : Run) → i + 1 ≤ j → j < length runs → r.start ≤ (get_or runs j d).start) (sym put.2) (λ j d le below. sorted j d (omega arith) below);
     }
+
+-- no run covers what lies before the first
+pub before_all : (from : ℕ) (runs : List Run) (k : ℕ) → Ascend from runs → k < from → covers runs k ≡ false
+before_all from [] k h lt = refl
+before_all from (run ∷ runs) k h lt =
+    let out : nat_le run.start k ≡ false = lt-leb run.start k (omega arith) in
+    ap (λ b. (b && nat_lt k run.end) || covers runs k) out ∙ before_all run.end runs k h.2 (omega arith)
+
+pub inside_first : (run : Run) (runs : List Run) (k : ℕ) → run.start ≤ k → k < run.end → covers (run ∷ runs) k ≡ true
+inside_first run runs k le lt = ap (λ b. b || covers runs k) (both_true (le-leb run.start k le) (lt-ltb k run.end lt))
+
+pub after_first : (run : Run) (runs : List Run) (k : ℕ) → run.end ≤ k → covers (run ∷ runs) k ≡ covers runs k
+after_first run runs k le = ap (λ b. (nat_le run.start k && b) || covers runs k) (le-ltb k run.end le) ∙ ap (λ b. b || covers runs k) (and-false (nat_le run.start k))

@@ -7,7 +7,7 @@ use Rattle.std.proofs.lemmas.List.Elements.{All-head, All-tail}
 use Rattle.abi_laid.specs.declared.runs.Run.{Run}
 use Rattle.abi_laid.specs.Bytes.{bytes_at, picked, put_if}
 use Rattle.abi_laid.specs.Runs.{covers, Ascend}
-use Rattle.abi_laid.proofs.GapsLemmas.{after_first, before_all, inside_first}
+use Rattle.abi_laid.proofs.RunsLemmas.{after_first, before_all, inside_first}
 
 -- the bytes of each run, one run after another
 abbrev pub taken : List Run → List ℕ → List ℕ

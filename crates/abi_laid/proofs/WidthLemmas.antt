@@ -1,10 +1,9 @@
 -- Each node has narrow numbers.
 use Rattle.std.proofs.Common.{◌≡◌, ℕ, zero, suc, ◌+◌, ◌<◌, ◌≤◌, ◌∙◌, true, List, [], ◌∷◌, ◌++◌, ap, arith, get_or, length, length-append, refl, subst, sym}
 use Rattle.std.specs.Prelude.{◌&&◌, ⊤, Vec, nat_le, nat_lt}
-use Rattle.std.specs.Cmp.Derive.{both_true}
 use Rattle.std.specs.List.{list_all}
 use Rattle.std.specs.declared.alloc.Global.{Global}
-use Rattle.std.proofs.lemmas.Bool.{and_parts, le-leb, leb-true, lt-ltb, ltb-true}
+use Rattle.std.proofs.lemmas.Bool.{and_parts, leb-true, ltb-true}
 use Rattle.std.proofs.lemmas.List.{get_or_append_left}
 use Rattle.abi_scalar.specs.declared.scalar.Scalar.{Scalar}
 use Rattle.abi_scalar.specs.declared.scalar.Scalar.TheVariants.{Initialized, Union}
@@ -17,7 +16,7 @@ use Rattle.abi_laid.specs.Placed.{Placed, Layout, nothing, size_of}
 use Rattle.abi_laid.specs.Nodes.{meaning, meanings, placed_at, placed_in, types_in}
 use Rattle.abi_laid.specs.Well.{are_nodes, is_node}
 use Rattle.abi_laid.specs.Widths.{has_width, have_widths, is_narrow}
-use Rattle.abi_laid.proofs.NodesLemmas.{children_before, length-types_in, meanings-first}
+use Rattle.abi_laid.proofs.NodesLemmas.{children_before, meanings-first}
 
 width-same : (xs ys : List Placed) (n : ℕ) → ((i : ℕ) → i < n → placed_in xs i ≡ placed_in ys i) → (layout : Layout) (shape : Shape) → is_node n shape ≡ true →
     has_width xs layout shape ≡ has_width ys layout shape

@@ -24,7 +24,7 @@ use Rattle.abi_laid.specs.Reading.{IsNamedIn}
 use Rattle.abi_laid.specs.Covering.{are_covered, each_covered, is_arm_covered, is_byte_at, is_covered, is_told}
 use Rattle.abi_laid.specs.Writing.{IsPutOver}
 use Rattle.abi_laid.proofs.BytesLemmas.{AreBytes-bytes_at}
-use Rattle.abi_laid.proofs.PaddingLemmas.{or_shift}
+use Rattle.abi_laid.proofs.DataPlacesLemmas.{or_shift}
 use Rattle.abi_laid.proofs.PutOverLemmas.{put_both, put_like, put_none, put_part}
 use Rattle.abi_laid.proofs.ReadLemmas.{parts_end, parts_from}
 use Rattle.abi_laid.proofs.ValueLemmas.{value_of-Num}

@@ -1,5 +1,5 @@
 -- Runs of bytes, and the maximal runs of places that a test picks.
-use Rattle.std.specs.Prelude.{◌≡◌, ℕ, zero, suc, ◌+◌, ◌/◌, ◌%◌, ◌<◌, ◌≤◌, ◌⊎◌, ◌&&◌, ◌||◌, Bool, not, nat_lt, nat_le, max, List, [], ◌∷◌, ◌++◌, ◌-◌, take, drop, length, slice_index_or, IfSome, Option, Some, None, if◌then◌else◌, ⊤}
+use Rattle.std.specs.Prelude.{◌≡◌, ℕ, zero, suc, ◌+◌, ◌/◌, ◌%◌, ◌<◌, ◌≤◌, ◌⊎◌, ◌&&◌, ◌||◌, Bool, not, nat_lt, nat_le, max, List, [], ◌∷◌, ◌++◌, ◌-◌, take, length, slice_index_or, IfSome, Option, Some, None, if◌then◌else◌, ⊤}
 use Rattle.std.specs.List.{list_any}
 use Rattle.abi_laid.specs.declared.runs.Run.{Run}
 use Rattle.abi_laid.specs.Placed.{Placed, tagged, states, parts_of_arm, size_of}
@@ -18,16 +18,16 @@ abbrev pub Ascend : (from : ℕ) → List Run → Type 0
 Ascend from [] = ⊤
 Ascend from (run ∷ runs) = (from ≤ run.start) × (run.start < run.end) × Ascend run.end runs
 
--- the maximal runs of the places that the test picks, of the n places from k on; `open` is where a run began that may go on
-abbrev pub runs_from : (ℕ → Bool) → (open_at : Option ℕ) → (k n : ℕ) → List Run
+-- the maximal runs of the places that the test picks, of the n places from k on, each as its first byte and how many bytes it has;
+-- `open_at` is where a run began that may go on
+abbrev pub runs_from : (ℕ → Bool) → (open_at : Option ℕ) → (k n : ℕ) → List (ℕ × ℕ)
 runs_from p None k zero = []
-runs_from p (Some start) k zero = record { start = start; end = k } ∷ []
+runs_from p (Some start) k zero = (start, k - start) ∷ []
 runs_from p None k (suc n) = runs_from p (if p k then Some k else None) (k + 1) n
-runs_from p (Some start) k (suc n) =
-    if p k then runs_from p (Some start) (k + 1) n else (record { start = start; end = k } ∷ runs_from p None (k + 1) n)
+runs_from p (Some start) k (suc n) = if p k then runs_from p (Some start) (k + 1) n else ((start, k - start) ∷ runs_from p None (k + 1) n)
 
--- the maximal runs of a type's padding, ascending
-abbrev pub padding_of : Placed → List Run
+-- the maximal runs of a type's padding, ascending, each as its first byte and how many bytes it has
+abbrev pub padding_of : Placed → List (ℕ × ℕ)
 padding_of placed = runs_from (λ k. not (is_data_place placed k)) None 0 (size_of placed)
 
 -- byte k is a data place of the tag, or of the variant or state with this index, or of a prefix field, which every state has; or,
@@ -39,8 +39,9 @@ is_place_of_variant (states layout prefix offset tag arms) i k =
     is_place_of_part prefix k || ((nat_le offset k && is_data_place tag (k - offset)) || is_place_of_part (parts_of_arm arms i) k)
 is_place_of_variant placed i k = is_data_place placed k
 
--- the maximal runs, ascending, of the bytes that some variant or state of the type covers and the one with this index doesn't
-abbrev pub unused_of : Placed → (index : ℕ) → List Run
+-- the maximal runs, ascending, of the bytes that some variant or state of the type covers and the one with this index doesn't, each
+-- as its first byte and how many bytes it has
+abbrev pub unused_of : Placed → (index : ℕ) → List (ℕ × ℕ)
 unused_of placed i = runs_from (λ k. is_data_place placed k && not (is_place_of_variant placed i k)) None 0 (size_of placed)
 
 -- how a run is joined to the last one: the last grows to take it in where they meet, else the last is put behind those made
@@ -61,17 +62,6 @@ pub record AreJoined (runs : List Run) (i : ℕ) (made : List Run) (last : Optio
   pub ascend : Ascend 0 (made ++ last_of last)
   pub first : last ≡ None → made ≡ []
   pub reached : IfSome last (λ run. (j : ℕ) (d : Run) → i ≤ j → j < length runs → run.start ≤ (slice_index_or runs j d).start)
-
--- the bytes that no run covers
-abbrev pub is_beside : List Run → ℕ → Bool
-is_beside runs k = not (covers runs k)
-
--- The gaps before byte `from`: what is left are those of the later runs.
-pub record AreGaps (size : ℕ) (runs : List Run) (i : ℕ) (made : List Run) (from : ℕ) : Type 0 where
-  pub inside : from ≤ size
-  pub later : Ascend from (drop i runs)
-  pub beside : (k : ℕ) → from ≤ k → covers runs k ≡ covers (drop i runs) k
-  pub whole : made ++ runs_from (is_beside runs) None from (size - from) ≡ runs_from (is_beside runs) None 0 size
 
 -- the run, moved on
 abbrev pub shifted : (offset : ℕ) → Run → Run

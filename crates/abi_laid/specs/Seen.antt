@@ -1,7 +1,5 @@
 -- What handles see of a laid-out type: its layout, what it tells of itself, and its parts, each at its offset.
-use Rattle.std.specs.Prelude.{◌≡◌, ℕ, suc, ◌+◌, ◌-◌, ◌<◌, [], length, ⊤}
-use Rattle.abi_scalar.specs.declared.variants.Variants.{Variants}
-use Rattle.abi_scalar.specs.declared.variants.Variants.TheVariants.{Multiple}
+use Rattle.std.specs.Prelude.{◌≡◌, ℕ, suc, ◌+◌, ◌-◌, [], ⊤}
 use Rattle.abi_scalar.specs.Shape.{IsListed, field_count, field_offset}
 use Rattle.abi_scalar.specs.Variant.{variants_of}
 use Rattle.abi_types.specs.Ty.Typed.{Marks, Typed, field_in, layout_in, marks_of, no_marks, variant_in}
@@ -23,11 +21,6 @@ part_count (part offset p parts) = part_count parts + 1
 -- the type lists its fields one by one, as many as the parts, and no tag tells variants of it apart
 abbrev pub IsListOf : Parts → Typed → Type 0
 IsListOf parts t = IsListed (layout_in t).fields × (field_count (layout_in t).fields ≡ part_count parts) × (variants_of (layout_in t).variants ≡ [])
-
--- the index is that of a variant, where a tag tells several apart
-abbrev pub IsVariantIndex : Variants ℕ ℕ → (index : ℕ) → Type 0
-IsVariantIndex (Multiple tag encoding field layouts) i = i < length layouts
-IsVariantIndex _ i = ⊤
 
 -- the last field: of a coroutine the tag
 abbrev pub last_of : Layout → ℕ

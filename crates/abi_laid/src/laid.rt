@@ -1,6 +1,6 @@
 //! Types that were laid out.
 
-ghost use Rattle.std.specs.Prelude.{◌≡◌, ◌<◌, [], IfOk, length, true};
+ghost use Rattle.std.specs.Prelude.{◌≡◌, ℕ, ◌<◌, [], length, true};
 ghost use Rattle.abi_laid.specs.Nodes.{root_of};
 ghost use Rattle.abi_laid.specs.Well.{AreWell, are_nodes};
 ghost use Rattle.abi_laid.specs.Laws.{keep_laws};
@@ -9,13 +9,10 @@ ghost use Rattle.abi_laid.specs.Room.{has_room};
 
 use crate::handle::{TreeTy, handle_at};
 use crate::node::{Node, layout_at};
-use crate::padding::{data_runs, unused_runs};
-use crate::runs::{Run, gaps};
 use abi_base::Endian;
 use abi_index::{FieldIdx, VariantIdx};
 use abi_scalar::LayoutData;
 use abi_types::TyAndLayout;
-use std::alloc::{AllocError, Global};
 
 /// A type that was laid out: its layout, and those of its parts.
 #[derive(Drop)]
@@ -33,8 +30,8 @@ impl Laid {
     ghost use Rattle.abi_laid.specs.Laid.{placed_of, endian_of, typed_of};
     ghost use Rattle.abi_laid.specs.Handles.{IsHandle, tree_type};
     ghost use Rattle.abi_laid.specs.Seen.{Sees};
-    ghost use Rattle.abi_laid.specs.Placed.{layout_of};
-    ghost use Rattle.abi_laid.specs.Runs.{padding_of, unused_of};
+    ghost use Rattle.abi_laid.specs.Placed.{layout_of, size_of};
+    ghost use Rattle.abi_laid.specs.Places.{is_data_place};
 
     /// The type of the last node.
     pub fn new(nodes: Vec<Node>, endian: Endian) -> Laid
@@ -66,39 +63,20 @@ impl Laid {
         layout_at(nodes, nodes.len() - 1)
     }
 
-    /// The type as a handle, beside its layout: what asks types for their fields and variants takes it.
+    /// The type as a handle, beside its layout: what asks types for their fields and variants takes it. All data places of the type lie
+    /// below its size.
     pub fn root(&self) -> TyAndLayout<'_, TreeTy<'_>>
         ensures valid { IsHandle result }
         ensures told { tree_type result ≡ typed_of self.now }
         ensures seen { Sees (tree_type result) (placed_of self.now) }
         ensures layout { result.layout.0.now ≡ layout_of (placed_of self.now) }
+        ensures within { (k : ℕ) → is_data_place (placed_of self.now) k ≡ true → k < size_of (placed_of self.now) }
     {
         handle_at(self, self.nodes().len() - 1)
     }
 
-    /// The padding of the type: the bytes that no value of it decides, as maximal runs in ascending order.
-    pub fn padding(&self, alloc: Global) -> Result<Vec<Run>, AllocError>
-        ensures { IfOk result (λ runs. runs.items ≡ padding_of (placed_of self.now)) }
-    {
-        let nodes = self.nodes.as_slice();
-        let root = nodes.len() - 1;
-        let data = data_runs(alloc, nodes, root)?;
-        gaps(alloc, &data, layout_at(nodes, root).size.bytes())
-    }
-
-    /// The bytes that some variant of the type covers and this one doesn't, as maximal runs in ascending order: a value of
-    /// the variant doesn't use them, though a value of another may. They are neither padding nor bytes of the tag. Nothing
-    /// where no tag and no niche tells several variants apart. An index that names no variant uses none but those that all
-    /// variants share.
-    pub fn unused(&self, alloc: Global, variant: VariantIdx) -> Result<Vec<Run>, AllocError>
-        ensures { IfOk result (λ runs. runs.items ≡ unused_of (placed_of self.now) variant) }
-    {
-        let nodes = self.nodes.as_slice();
-        unused_runs(alloc, nodes, nodes.len() - 1, variant.as_usize())
-    }
-
     /// The order of the bytes of a number in the type.
-    pub fn endian(&self) -> Endian
+    pub(crate) fn endian(&self) -> Endian
         ensures { result ≡ endian_of self.now }
     {
         self.endian

@@ -1,11 +1,11 @@
-//! Types as trees and as they were laid out: their places, padding and handles, and the values that their bytes hold.
+//! Types as trees and as they were laid out: their places and handles, and the values that their bytes hold.
 #![tactic(auto)]
 
+mod data_runs;
 mod handle;
 mod laid;
 mod mark;
 mod node;
-mod padding;
 mod runs;
 mod tree;
 mod value;
@@ -14,7 +14,6 @@ pub use handle::TreeTy;
 pub use laid::Laid;
 pub use mark::Mark;
 pub use node::{Node, Shape, layout_at};
-pub use runs::Run;
 pub use tree::TypeTree;
 pub use value::Value;
 pub use value::error::ValueError;

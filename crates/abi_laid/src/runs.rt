@@ -1,13 +1,13 @@
 //! Runs of bytes.
 
-ghost use Rattle.std.specs.Prelude.{◌≡◌, ℕ, ◌<◌, ◌≤◌, ◌++◌, ◌∷◌, [], All, IfOk, OnOk, None};
-ghost use Rattle.abi_laid.specs.Runs.{covers, is_beside, runs_from, Ascend, Joins};
+ghost use Rattle.std.specs.Prelude.{◌≡◌, ℕ, ◌<◌, All, IfOk};
+ghost use Rattle.abi_laid.specs.Runs.{covers, Ascend, Joins};
 
 use std::alloc::{AllocError, Global};
 
 /// The bytes from `start` on, up to `end` and without it.
-#[derive(Clone, Copy, PartialEq, Eq, Debug)]
-pub struct Run {
+#[derive(Clone, Copy)]
+pub(crate) struct Run {
     pub start: u64,
     pub end: u64,
 }
@@ -44,34 +44,6 @@ pub(crate) fn joined(alloc: Global, runs: Vec<Run>) -> Result<Vec<Run>, AllocErr
     }
     if let Some(run) = last {
         made.push(run)?;
-    }
-    Ok(made)
-}
-
-/// Puts the run of these bytes behind the others.
-fn put(made: &mut Vec<Run>, start: u64, end: u64) -> Result<(), AllocError>
-    ensures { OnOk result (made.new.items ≡ made.old.items ++ record { start = start; end = end } ∷ []) }
-{
-    made.push(Run { start, end })?;
-    Ok(())
-}
-
-/// The runs of the bytes below the size that no run covers.
-pub(crate) fn gaps(alloc: Global, runs: &[Run], size: u64) -> Result<Vec<Run>, AllocError>
-    requires ascend { Ascend 0 runs.now }
-    requires inside { All (λ run. run.end ≤ size) runs.now }
-    ensures { IfOk result (λ made. made.items ≡ runs_from (is_beside runs.now) None 0 size) }
-{
-    let mut made = Vec::new(alloc);
-    let mut from = 0;
-    for run in runs {
-        if from < run.start {
-            put(&mut made, from, run.start)?;
-        }
-        from = run.end;
-    }
-    if from < size {
-        put(&mut made, from, size)?;
     }
     Ok(made)
 }

@@ -25,7 +25,7 @@ use Rattle.abi_scalar.specs.Variant.{variants_of}
 use Rattle.abi_types.specs.Ty.Typed.{Layout, Typed, typed, no_type, at_variant, field_in, layout_in, variant_in}
 use Rattle.abi_types.specs.Ty.Lawful.{CanBeNamed, DepthFalls, IsLawfulType}
 use Rattle.abi_types.specs.Ty.Places.{covers_element, fields_cover, is_place, is_shared_place, is_unused, variants_cover}
-use Rattle.abi_types.specs.Ty.Runs.{Adds, IsVariantBeside, elements_cover, first_cover, moved, repeated}
+use Rattle.abi_types.specs.Ty.Runs.{Adds, IsVariantIndex, elements_cover, first_cover, moved, repeated}
 use Rattle.abi_types.proofs.RunsLemmas.{adds_both, adds_nothing, adds_same, moved-moved, moved-none, moved-or, moved-same, moved-zero}
 
 -- ---- tests of numbers that follow one another
@@ -259,9 +259,9 @@ adds_stacked all new offset t slice set stride count s same some none adds =
 
 -- ---- what a variant leaves unused
 
-pub beside_at : (s : FieldsShape ℕ) (vs : Variants ℕ ℕ) (i : ℕ) (tag : Scalar) (encoding : TagEncoding ℕ) (at : ℕ) (layouts : List (VariantLayout ℕ)) → IsVariantBeside s vs i → vs ≡ Multiple tag encoding at layouts
+pub beside_at : (vs : Variants ℕ ℕ) (i : ℕ) (tag : Scalar) (encoding : TagEncoding ℕ) (at : ℕ) (layouts : List (VariantLayout ℕ)) → IsVariantIndex vs i → vs ≡ Multiple tag encoding at layouts
     → i < length layouts
-beside_at s vs i tag encoding at layouts h e = (subst (λ w. IsVariantBeside s w i) e h).1
+beside_at vs i tag encoding at layouts h e = subst (λ w. IsVariantIndex w i) e h
 
 -- where a tag tells variants apart
 unused_split : (t : Typed) (i k : ℕ) (tag : Scalar) (encoding : TagEncoding ℕ) (at : ℕ) (layouts : List (VariantLayout ℕ)) → (layout_in t).variants ≡ Multiple tag encoding at layouts

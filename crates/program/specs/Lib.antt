@@ -7,5 +7,6 @@ pub mod Scalars
 pub mod Repr
 pub mod Reading
 pub mod Printing
+pub mod Told
 pub mod Output
 pub mod Written

@@ -19,7 +19,6 @@ use Rattle.abi_scalar.specs.declared.variants.VariantLayout.{VariantLayout}
 use Rattle.abi_scalar.specs.declared.variants.Variants.{Variants}
 use Rattle.abi_scalar.specs.declared.variants.Variants.TheVariants.{Empty, Single, Multiple}
 use Rattle.abi_scalar.specs.RangeText.{range_text}
-use Rattle.abi_laid.specs.declared.runs.Run.{Run}
 use Rattle.abi_laid.specs.Placed.{Layout, Placed, layout_of, size_of}
 use Rattle.abi_laid.specs.Runs.{padding_of, unused_of}
 
@@ -74,10 +73,10 @@ niche_line None = codes "niche none\n"
 niche_line (Some n) =
     codes "niche " ++ decimal n.offset ++ codes " " ++ primitive_text n.value ++ codes " " ++ range_text n.valid_range.start n.valid_range.end ++ codes "\n"
 
--- each run of bytes behind this word, with the byte after its last
-abbrev pub range_lines : (word : List ℕ) → List Run → List ℕ
+-- each run, a first byte and how many, behind this word, with the byte after its last
+abbrev pub range_lines : (word : List ℕ) → List (ℕ × ℕ) → List ℕ
 range_lines word [] = []
-range_lines word (r ∷ runs) = word ++ codes " " ++ decimal r.start ++ codes ".." ++ decimal r.end ++ codes "\n" ++ range_lines word runs
+range_lines word (r ∷ runs) = word ++ codes " " ++ decimal r.0 ++ codes ".." ++ decimal (r.0 + r.1) ++ codes "\n" ++ range_lines word runs
 
 -- the runs of bytes that a variant doesn't use though another one may, listed for a type of at most 2 ^ 16 bytes
 abbrev pub unused_lines : Placed → (variant : ℕ) → List ℕ

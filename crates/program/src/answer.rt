@@ -3,6 +3,7 @@
 ghost use Rattle.std.specs.Prelude.{◌≡◌, ◌<◌, IfOk, MatchOption, Ok, true, false};
 ghost use Rattle.std.specs.Str.{is_utf8};
 ghost use Rattle.abi_base.specs.DataLayoutText.{data_layout_in};
+ghost use Rattle.program.specs.Told.{TellsBytes};
 ghost use Rattle.abi_laid.specs.Laid.{placed_of};
 ghost use Rattle.abi_laid.specs.Placed.{layout_of};
 ghost use Rattle.rustc_abi.specs.Laying.{IsLaying};
@@ -83,7 +84,8 @@ fn answer_fault(alloc: Global, fault: Fault) -> Result<Answer, AllocError>
 
 /// The answer to a type that was laid out.
 fn answer_laid(alloc: Global, laid: &Laid) -> Result<Answer, AllocError>
-    requires { (layout_of (placed_of laid.now)).align.abi < 64 }
+    requires align { (layout_of (placed_of laid.now)).align.abi < 64 }
+    requires told { TellsBytes laid.now }
     ensures { IfOk result (λ a. answered_by a ≡ output_of_layout (Ok (placed_of laid.now))) }
 {
     let mut text = String::new(alloc);

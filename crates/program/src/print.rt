@@ -2,6 +2,8 @@
 
 ghost use Rattle.std.specs.Prelude.{◌≡◌, ◌<◌, ◌++◌, OnOk, IfOk, replicate, string_bytes};
 ghost use Rattle.program.specs.Printing.{field_lines, float_text, integer_text, layout_lines, niche_line, padding_lines, primitive_text, range_lines, shape_lines, size_line, type_text, uninhabited_line};
+ghost use Rattle.abi_index.specs.RangeSet.{AreMaximalRuns};
+ghost use Rattle.program.specs.Told.{TellsBytes};
 ghost use Rattle.abi_laid.specs.Laid.{placed_of};
 ghost use Rattle.abi_laid.specs.Placed.{layout_of};
 
@@ -9,7 +11,7 @@ use crate::print_variants::write_variants;
 use abi_base::{Float, Integer, Primitive, Size};
 use abi_index::{FieldIdx, VariantIdx};
 use abi_scalar::{FieldsShape, LayoutData, Niche};
-use rustc_abi::{Laid, Run};
+use rustc_abi::Laid;
 use std::alloc::{AllocError, Global};
 
 /// The bytes of a larger type aren't listed. In bytes.
@@ -153,13 +155,18 @@ fn write_layout(
     write_shape(out, &layout.fields)
 }
 
-/// Writes each run of bytes behind this word, with the byte after its last.
-pub(crate) fn write_ranges(out: &mut String, word: &str, runs: &[Run]) -> Result<(), AllocError>
+/// Writes each run of bytes, its first byte and how many, behind this word, with the byte after its last.
+pub(crate) fn write_ranges(
+    out: &mut String,
+    word: &str,
+    runs: &[(u64, u64)],
+) -> Result<(), AllocError>
+    requires { AreMaximalRuns 0 runs.now }
     ensures { OnOk result (string_bytes out.new ≡ string_bytes out.old ++ range_lines word.now runs.now) }
 {
     for run in runs {
-        let start = run.start;
-        let end = run.end;
+        let (start, size) = *run;
+        let end = start + size;
         write!(out, "{word} {start}..{end}\n")?;
     }
     Ok(())
@@ -167,18 +174,20 @@ pub(crate) fn write_ranges(out: &mut String, word: &str, runs: &[Run]) -> Result
 
 /// Writes the runs of padding.
 fn write_padding(alloc: Global, out: &mut String, laid: &Laid) -> Result<(), AllocError>
+    requires { TellsBytes laid.now }
     ensures { OnOk result (string_bytes out.new ≡ string_bytes out.old ++ padding_lines (placed_of laid.now)) }
 {
     if laid.layout().size.bytes() > MOST_LISTED {
         return out.push_str("padding not listed\n");
     }
-    let runs = laid.padding(alloc)?;
-    write_ranges(out, "padding", &runs)
+    let bytes = laid.root().variant_independent_padding_ranges(alloc, &())?;
+    write_ranges(out, "padding", bytes.as_slice())
 }
 
 /// Writes all there is to say of a type.
 pub(crate) fn write_type(alloc: Global, out: &mut String, laid: &Laid) -> Result<(), AllocError>
-    requires { (layout_of (placed_of laid.now)).align.abi < 64 }
+    requires align { (layout_of (placed_of laid.now)).align.abi < 64 }
+    requires told { TellsBytes laid.now }
     ensures { OnOk result (string_bytes out.new ≡ string_bytes out.old ++ type_text (placed_of laid.now)) }
 {
     write_layout(out, laid.layout())?;

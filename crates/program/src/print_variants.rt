@@ -1,8 +1,10 @@
 //! How the variants of a laid-out type are written.
 
-ghost use Rattle.std.specs.Prelude.{◌≡◌, ◌≤◌, ◌+◌, ◌++◌, OnOk, length, string_bytes};
+ghost use Rattle.std.specs.Prelude.{◌≡◌, ℕ, ◌<◌, ◌≤◌, ◌+◌, ◌++◌, OnOk, length, string_bytes};
 ghost use Rattle.abi_index.specs.Idx.{greatest_place};
 ghost use Rattle.program.specs.Printing.{each_variant, named_text, scalar_text, tag_line, unused_lines, variant_lines, variants_lines};
+ghost use Rattle.program.specs.Told.{TellsBytes};
+ghost use Rattle.abi_types.specs.Ty.Runs.{IsVariantIndex};
 ghost use Rattle.abi_laid.specs.Laid.{placed_of};
 ghost use Rattle.abi_laid.specs.Placed.{layout_of};
 
@@ -20,13 +22,17 @@ fn write_unused(
     laid: &Laid,
     variant: VariantIdx,
 ) -> Result<(), AllocError>
+    requires told { TellsBytes laid.now }
+    requires variant { IsVariantIndex (layout_of (placed_of laid.now)).variants variant }
     ensures { OnOk result (string_bytes out.new ≡ string_bytes out.old ++ unused_lines (placed_of laid.now) variant) }
 {
     if laid.layout().size.bytes() > MOST_LISTED {
         return Ok(());
     }
-    let runs = laid.unused(alloc, variant)?;
-    write_ranges(out, "unused", &runs)
+    let bytes = laid
+        .root()
+        .variant_dependent_padding_ranges(alloc, &(), variant)?;
+    write_ranges(out, "unused", bytes.as_slice())
 }
 
 /// Writes a variant, the offsets of its fields, and the bytes that it doesn't use.
@@ -37,6 +43,8 @@ fn write_variant(
     variant: VariantIdx,
     offsets: &[Size],
 ) -> Result<(), AllocError>
+    requires told { TellsBytes laid.now }
+    requires variant { IsVariantIndex (layout_of (placed_of laid.now)).variants variant }
     ensures { OnOk result (string_bytes out.new ≡ string_bytes out.old ++ variant_lines (placed_of laid.now) variant offsets.now) }
 {
     let index = variant.as_u32();
@@ -52,7 +60,9 @@ fn write_each_variant(
     laid: &Laid,
     variants: &[VariantLayout<FieldIdx>],
 ) -> Result<(), AllocError>
-    requires { length variants.now ≤ greatest_place + 1 }
+    requires told { TellsBytes laid.now }
+    requires most { length variants.now ≤ greatest_place + 1 }
+    requires variants { (i : ℕ) → i < length variants.now → IsVariantIndex (layout_of (placed_of laid.now)).variants i }
     ensures { OnOk result (string_bytes out.new ≡ string_bytes out.old ++ each_variant (placed_of laid.now) 0 variants.now) }
 {
     for (index, variant) in variants.iter().enumerate() {
@@ -124,6 +134,7 @@ fn write_tag(
 
 /// Writes the variants of a type that has several, and the tag that tells them apart.
 pub(crate) fn write_variants(alloc: Global, out: &mut String, laid: &Laid) -> Result<(), AllocError>
+    requires { TellsBytes laid.now }
     ensures { let placed = placed_of laid.now in
         OnOk result (string_bytes out.new ≡ string_bytes out.old ++ variants_lines placed (layout_of placed).variants) }
 {

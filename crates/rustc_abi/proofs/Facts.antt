@@ -73,7 +73,7 @@ first_byte_decides = refl
 second_byte_is_padding : is_data_place three 1 ≡ false
 second_byte_is_padding = refl
 
-padding_listed : padding_of three ≡ record { start = 1; end = 4 } ∷ record { start = 10; end = 12 } ∷ []
+padding_listed : padding_of three ≡ (1, 3) ∷ (10, 2) ∷ []
 padding_listed = refl
 
 -- ---- fields at one offset: of two numbers that differ, no bytes hold both, so that not every value is held
@@ -355,17 +355,17 @@ abbrev two_variants : Placed
 two_variants =
     tagged (sized 8) Plain 0 u8_placed Direct (arm 0 (part 1 u8_placed no_parts) (arm 1 (part 4 (scalar (sized 4) (unsigned I32)) no_parts) no_arms))
 
-padding_of_variants : padding_of two_variants ≡ record { start = 2; end = 4 } ∷ []
+padding_of_variants : padding_of two_variants ≡ (2, 2) ∷ []
 padding_of_variants = refl
 
-first_leaves : unused_of two_variants 0 ≡ record { start = 4; end = 8 } ∷ []
+first_leaves : unused_of two_variants 0 ≡ (4, 4) ∷ []
 first_leaves = refl
 
-second_leaves : unused_of two_variants 1 ≡ record { start = 1; end = 2 } ∷ []
+second_leaves : unused_of two_variants 1 ≡ (1, 1) ∷ []
 second_leaves = refl
 
 -- an index that names no variant uses the tag's byte alone
-no_variant_leaves : unused_of two_variants 2 ≡ record { start = 1; end = 2 } ∷ record { start = 4; end = 8 } ∷ []
+no_variant_leaves : unused_of two_variants 2 ≡ (1, 1) ∷ (4, 4) ∷ []
 no_variant_leaves = refl
 
 -- a type without a tag leaves nothing unused
@@ -379,15 +379,15 @@ suspended =
     states (sized 8) (part 0 u8_placed no_parts) 1 u8_placed
     (arm 0 (part 2 u8_placed no_parts) (arm 1 (part 4 (scalar (sized 4) (unsigned I32)) no_parts) no_arms))
 
-padding_of_states : padding_of suspended ≡ record { start = 3; end = 4 } ∷ []
+padding_of_states : padding_of suspended ≡ (3, 1) ∷ []
 padding_of_states = refl
 
-first_state_leaves : unused_of suspended 0 ≡ record { start = 4; end = 8 } ∷ []
+first_state_leaves : unused_of suspended 0 ≡ (4, 4) ∷ []
 first_state_leaves = refl
 
-second_state_leaves : unused_of suspended 1 ≡ record { start = 2; end = 3 } ∷ []
+second_state_leaves : unused_of suspended 1 ≡ (2, 1) ∷ []
 second_state_leaves = refl
 
 -- an index that names no state uses the bytes of the prefix field and of the tag alone
-no_state_leaves : unused_of suspended 2 ≡ record { start = 2; end = 3 } ∷ record { start = 4; end = 8 } ∷ []
+no_state_leaves : unused_of suspended 2 ≡ (2, 1) ∷ (4, 4) ∷ []
 no_state_leaves = refl

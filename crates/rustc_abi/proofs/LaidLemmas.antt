@@ -57,6 +57,7 @@ use Rattle.abi_calc.proofs.EnumDeep.{enum_sized}
 use Rattle.abi_calc.proofs.EnumType.{several_some}
 use Rattle.rustc_abi.specs.declared.error.LayError.{LayError}
 use Rattle.rustc_abi.specs.declared.error.LayError.TheVariants.{SizeOverflow}
+use Rattle.abi_types.specs.Ty.Walks.{is_sized}
 use Rattle.abi_laid.specs.Tree.{Tree, scalar, pair, never, unit, array, vector, struct, union, enum, coroutine, Trees, no_trees, more_trees, Variants, no_variants, more_variants}
 use Rattle.abi_laid.specs.declared.mark.Mark.TheVariants.{Never, Unit}
 use Rattle.abi_laid.specs.Placed.{Placed, Layout, layout_of, size_of, elements, fields, vector as placed_vector, no_parts, never as placed_never}
@@ -106,6 +107,15 @@ asked_aligned dl ps h = aligned_parts dl (parts_of dl (map layout_of ps)) (asked
 pub asked_sized : (dl : TargetDataLayout) (ps : List Placed) → All (IsWhole dl) ps → AreSized (map layout_of ps)
 asked_sized dl ps h =
     All-map (λ l. is_unsized l.backend_repr ≡ false) layout_of ps (All-weaker (IsWhole dl) (λ p. is_unsized (layout_of p).backend_repr ≡ false) (λ p whole. whole.1) ps h)
+
+-- both words for a view of sized bytes are one
+sized_view : (view : BackendRepr) → is_unsized view ≡ false → is_sized view ≡ true
+sized_view (OneScalar s) h = refl
+sized_view (ScalarPair a b offset) h = refl
+sized_view (SimdScalableVector element count vectors) h = refl
+sized_view (SimdVector element count) h = refl
+sized_view (Memory true) h = refl
+sized_view (Memory false) h = absurd (cc h)
 
 -- ---- the view of sized parts is sized
 
@@ -466,3 +476,7 @@ module _ (dl : TargetDataLayout) (law : IsLawfulDataLayout dl) where
     variants_whole (more_variants d ts others) variants (inr (ps, here, inr (rest, later, e))) =
         let same : ps ∷ rest ≡ variants = cc in
         subst (All (All (IsWhole dl))) same (All-cons (All (IsWhole dl)) ps rest (all_whole ts ps here) (variants_whole others rest later))
+
+  -- its bytes are sized
+  pub laid_sized : (t : Tree) (p : Placed) → IsLaying dl t (Ok p) → is_sized (layout_of p).backend_repr ≡ true
+  laid_sized t p h = sized_view (layout_of p).backend_repr (laid_whole t p h).1

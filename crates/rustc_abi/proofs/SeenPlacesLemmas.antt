@@ -41,7 +41,8 @@ use Rattle.rustc_abi.specs.Laying.{IsLaying, one_scalar}
 use Rattle.abi_laid.specs.Nodes.{parts_at, parts_at_0}
 use Rattle.rustc_abi.specs.Enums.{arms_at}
 use Rattle.abi_laid.specs.Runs.{is_place_of_variant}
-use Rattle.abi_laid.specs.Seen.{HasOffset, IsListOf, IsVariantIndex, Sees, SeesArms, SeesParts, SeesTypes, last_of}
+use Rattle.abi_types.specs.Ty.Runs.{IsVariantIndex}
+use Rattle.abi_laid.specs.Seen.{HasOffset, IsListOf, Sees, SeesArms, SeesParts, SeesTypes, last_of}
 use Rattle.rustc_abi.proofs.CoveredLemmas.{HasOneWhole, IsCovered, IsNoScalar, covered_parts, memory_none}
 use Rattle.rustc_abi.proofs.KindsLemmas.{AreBeside, AreFields, IsKept, IsTagWhole, laid_kept}
 use Rattle.rustc_abi.proofs.LawsLemmas.{lengths_in}

@@ -1,6 +1,6 @@
 //! The layout of a tree.
 
-ghost use Rattle.std.specs.Prelude.{◌≡◌, ◌⊎◌, ◌&&◌, IfOk, IfErr, Err, Ok, Result, not, ℕ};
+ghost use Rattle.std.specs.Prelude.{◌≡◌, ◌⊎◌, ◌&&◌, IfOk, IfErr, Err, Ok, Result, not, true, ℕ};
 ghost use Rattle.std.specs.Result.{IsErrAnd};
 ghost use Rattle.abi_base.specs.DataLayout.{IsLawfulDataLayout};
 ghost use Rattle.abi_laid.specs.Tree.{tree_of};
@@ -14,7 +14,8 @@ ghost use Rattle.abi_laid.specs.Laid.{placed_of, endian_of, typed_of};
 ghost use Rattle.rustc_abi.specs.Laying.{IsLaying};
 ghost use Rattle.abi_laid.specs.Places.{is_data_place};
 ghost use Rattle.abi_laid.specs.Runs.{is_place_of_variant};
-ghost use Rattle.abi_laid.specs.Seen.{IsVariantIndex};
+ghost use Rattle.abi_types.specs.Ty.Runs.{IsVariantIndex};
+ghost use Rattle.abi_types.specs.Ty.Walks.{is_sized};
 ghost use Rattle.rustc_abi.specs.Clash.{AreClashingApart, HaveOneOffset};
 ghost use Rattle.rustc_abi.specs.Everywhere.{Everywhere};
 ghost use Rattle.rustc_abi.specs.Least.{IsLeast, IsTooLarge};
@@ -68,6 +69,9 @@ pub fn lay_out(alloc: Global, dl: &TargetDataLayout, tree: &TypeTree) -> Result<
     // What the locals of each coroutine in it share: those that clash no byte, and each has one offset.
     ensures clash { IfOk result (λ laid. Everywhere dl.now AreClashingApart (tree_of tree.now) (placed_of laid)) }
     ensures one_offset { IfOk result (λ laid. Everywhere dl.now HaveOneOffset (tree_of tree.now) (placed_of laid)) }
+
+    // It is sized.
+    ensures sized { IfOk result (λ laid. is_sized (layout_of (placed_of laid)).backend_repr ≡ true) }
 
     // Which bytes are data places: those that its handle tells, and of each variant those that the variant's handle tells.
     ensures places { IfOk result (λ laid. (k : ℕ) → is_place (typed_of laid) k ≡ is_data_place (placed_of laid) k) }

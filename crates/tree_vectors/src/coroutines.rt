@@ -7,7 +7,7 @@ use crate::layouts::{Layout, check, fields, in_memory};
 use abi_base::{Align, Integer, Primitive};
 use abi_index::{FieldIdx, IndexVec, VariantIdx};
 use abi_scalar::{LayoutData, Scalar, TagEncoding, VariantLayout, Variants, WrappingRange};
-use rustc_abi::{Run, TypeTree};
+use rustc_abi::TypeTree;
 use std::alloc::{AllocError, Global};
 use std::test::Fail;
 use tree_samples::{coroutine_of, integer};
@@ -61,5 +61,5 @@ fn suspended(alloc: Global) -> Result<(TypeTree, Layout), AllocError> {
 fn a_coroutine_is_known_whole(rt: HostRuntime) -> Result<(), Fail> {
     let alloc = rt.alloc();
     let (tree, layout) = suspended(alloc)?;
-    check(&rt, alloc, &[(tree, layout, &[Run { start: 3, end: 4 }])])
+    check(&rt, alloc, &[(tree, layout, &[(3, 1)])])
 }

@@ -265,7 +265,7 @@ const PADDED: [(Kind, &[(u64, u64)]); 8] = [
     (Kind::InNiche, &[]),
 ];
 
-/// Whether the padding of the type of a kind is this, by the walk over its handle, and by the one over its nodes.
+/// Whether the padding of the type of a kind is this.
 fn is_padded(alloc: Global, kind: Kind, wanted: &[(u64, u64)]) -> Result<bool, AllocError> {
     let tree = tree(alloc, kind)?;
     let dl = TargetDataLayout::default_in(alloc)?;
@@ -273,25 +273,12 @@ fn is_padded(alloc: Global, kind: Kind, wanted: &[(u64, u64)]) -> Result<bool, A
         Ok(laid) => laid,
         Err(_) => return Ok(false),
     };
-    let it = laid.root();
-    if it.layout.data().is_unsized() {
-        return Ok(false);
-    }
-    let padding = it.variant_independent_padding_ranges(alloc, &())?;
-    let runs = laid.padding(alloc)?;
-    if runs.len() != wanted.len() {
-        return Ok(false);
-    }
-    for (run, pair) in runs.iter().zip(wanted) {
-        if run.start != pair.0 || run.end != pair.0.wrapping_add(pair.1) {
-            return Ok(false);
-        }
-    }
+    let padding = laid.root().variant_independent_padding_ranges(alloc, &())?;
     Ok(padding.as_slice() == wanted)
 }
 
 #[test]
-fn padding_is_that_of_the_nodes(rt: HostRuntime) -> Result<(), Fail> {
+fn padding_is_listed(rt: HostRuntime) -> Result<(), Fail> {
     for &(kind, wanted) in &PADDED {
         assert!(rt; is_padded(rt.alloc(), kind, wanted)?, "{kind:?}");
     }

@@ -9,7 +9,7 @@ use abi_scalar::{
     BackendLaneCount, BackendRepr, FieldCount, FieldsShape, LayoutData, Niche, ReprFlags,
     ReprOptions, Scalar, Variants, WrappingRange,
 };
-use rustc_abi::{Run, TypeTree, lay_out};
+use rustc_abi::{TypeTree, lay_out};
 use std::alloc::{AllocError, Global};
 use std::process::Abort;
 use std::test::Fail;
@@ -17,8 +17,8 @@ use tree_samples::{TRUTH, array, flagged, integer, structure, truth, union_of, v
 
 pub(crate) type Layout = LayoutData<FieldIdx, VariantIdx>;
 
-/// A type, with its layout and its padding.
-pub(crate) type Row<'a> = (TypeTree, Layout, &'a [Run]);
+/// A type, with its layout and the runs of its padding, each a first byte and how many.
+pub(crate) type Row<'a> = (TypeTree, Layout, &'a [(u64, u64)]);
 
 /// An unsigned number of 4 bytes.
 const WORD: Scalar = Scalar::Initialized {
@@ -90,7 +90,7 @@ pub(crate) fn check(rt: &impl Abort, alloc: Global, rows: &[Row]) -> Result<(), 
     for (tree, wanted, padding) in rows {
         let laid = lay_out(alloc, &dl, tree)?;
         assert!(rt; laid.layout() == wanted, "{tree:?}");
-        let found = laid.padding(alloc)?;
+        let found = laid.root().variant_independent_padding_ranges(alloc, &())?;
         assert_eq!(rt; found.as_slice(), *padding, "{tree:?}");
     }
     Ok(())
@@ -124,11 +124,7 @@ fn leaves_are_known_whole(rt: HostRuntime) -> Result<(), Fail> {
     let unit = in_memory(fields(alloc, &[], &[])?, 0, Align::ONE, 0);
     let rows: [Row; 4] = [
         (truth(), scalar, &[]),
-        (
-            TypeTree::Pair(TRUTH, word),
-            pair,
-            &[Run { start: 1, end: 4 }],
-        ),
+        (TypeTree::Pair(TRUTH, word), pair, &[(1, 3)]),
         (TypeTree::Never, never, &[]),
         (TypeTree::Unit, unit, &[]),
     ];
@@ -173,7 +169,7 @@ fn arrays_unions_and_vectors_are_known_whole(rt: HostRuntime) -> Result<(), Fail
         (
             vector(alloc, 3, false, TypeTree::Scalar(WORD))?,
             lanes,
-            &[Run { start: 12, end: 16 }],
+            &[(12, 4)],
         ),
     ];
     check(&rt, alloc, &rows)
@@ -227,7 +223,7 @@ fn lists_are_known_whole(rt: HostRuntime) -> Result<(), Fail> {
                 ]?,
             ),
             moved,
-            &[Run { start: 7, end: 8 }],
+            &[(7, 1)],
         ),
         (
             structure(
@@ -235,7 +231,7 @@ fn lists_are_known_whole(rt: HostRuntime) -> Result<(), Fail> {
                 vec![in alloc; integer(Integer::I32, false), truth(), byte()]?,
             ),
             biased,
-            &[Run { start: 6, end: 8 }],
+            &[(6, 2)],
         ),
     ];
     check(&rt, alloc, &rows)

@@ -52,7 +52,6 @@ fn an_order_that_fits_is_found(rt: HostRuntime) -> Result<(), Fail> {
     let free = next_to_the_bound(alloc, ReprOptions::default())?;
     let laid = lay_out(alloc, &dl, &free)?;
     assert_eq!(rt; laid.layout().size, Size::from_bytes(32_766));
-    assert_eq!(rt; laid.endian(), dl.endian);
     let fixed = next_to_the_bound(alloc, flagged(ReprFlags::IS_C))?;
     assert_eq!(rt;
         lay_out(alloc, &dl, &fixed).err(),

@@ -2,7 +2,7 @@
 //! of no value.
 
 ghost use Rattle.std.specs.Prelude.{IsTrue};
-ghost use Rattle.abi_types.specs.Ty.Runs.{HasVariantAt};
+ghost use Rattle.abi_types.specs.Ty.Runs.{IsVariantIndex};
 
 use crate::nodes::{Node, keeps_laws, part_of};
 use crate::samples::{fields_at, listed, only, scalar, shaped};
@@ -348,32 +348,17 @@ const UNUSED: [(usize, usize, &[(u64, u64)]); 9] = [
     (25, 0, &[]),
 ];
 
-/// Whether fields are listed one by one, and the index is that of a variant, where a tag tells several apart.
+/// Whether the index is that of a variant, where a tag tells several apart.
 fn is_variant(layout: &Data, variant: usize) -> bool
-    ensures { IsTrue result → HasVariantAt layout.now variant }
+    ensures { IsTrue result → IsVariantIndex layout.now.variants variant }
 {
-    match (&layout.variants, &layout.fields) {
-        (
-            Variants::Multiple {
-                tag: _,
-                tag_encoding: _,
-                tag_field: _,
-                variants,
-            },
-            FieldsShape::Arbitrary {
-                offsets: _,
-                in_memory_order: _,
-            },
-        ) => variant < variants.len(),
-        (
-            Variants::Multiple {
-                tag: _,
-                tag_encoding: _,
-                tag_field: _,
-                variants: _,
-            },
-            _,
-        ) => false,
+    match &layout.variants {
+        Variants::Multiple {
+            tag: _,
+            tag_encoding: _,
+            tag_field: _,
+            variants,
+        } => variant < variants.len(),
         _ => true,
     }
 }

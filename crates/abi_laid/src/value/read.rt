@@ -22,9 +22,9 @@ ghost use Rattle.abi_laid.specs.Laid.{endian_of, placed_of};
 ghost use Rattle.abi_laid.specs.declared.value.Value.{Num, List, Variant};
 ghost use Rattle.abi_laid.specs.Reading.{Finds, FindsEach, FindsNamed, FindsNumber, HoldsTwo, IsList, IsNamedIn, KeepsValues};
 
+use crate::data_runs::data_runs;
 use crate::laid::Laid;
 use crate::node::{Node, Shape, layout_at, offsets, state_tag_offset, tag_offset};
-use crate::padding::data_runs;
 use crate::runs::Run;
 use crate::value::Value;
 use crate::value::named::{encoding_of, is_named, own_parts};

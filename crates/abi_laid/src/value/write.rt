@@ -20,9 +20,9 @@ ghost use Rattle.abi_laid.specs.Reading.{IsNamedIn, KeepsValues};
 ghost use Rattle.abi_laid.specs.Covering.{are_covered, each_covered, is_arm_covered, is_byte_at, is_covered, is_told};
 ghost use Rattle.abi_laid.specs.Writing.{IsPutOver};
 
+use crate::data_runs::data_runs;
 use crate::laid::Laid;
 use crate::node::{Node, Shape, layout_at, offsets, state_tag_offset, tag_offset};
-use crate::padding::data_runs;
 use crate::runs::Run;
 use crate::value::Value;
 use crate::value::error::ValueError;

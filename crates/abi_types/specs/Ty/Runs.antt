@@ -5,7 +5,7 @@ use Rattle.abi_index.specs.RangeSet.{is_in_ranges}
 use Rattle.abi_scalar.specs.declared.fields_shape.FieldsShape.{FieldsShape}
 use Rattle.abi_scalar.specs.declared.variants.Variants.{Variants}
 use Rattle.abi_scalar.specs.declared.variants.Variants.TheVariants.{Multiple}
-use Rattle.abi_scalar.specs.Shape.{IsListed, field_offset}
+use Rattle.abi_scalar.specs.Shape.{field_offset}
 use Rattle.abi_types.specs.Ty.Typed.{Layout, Typed, field_in, layout_in}
 use Rattle.abi_types.specs.Ty.Places.{covers_element, is_place}
 
@@ -34,11 +34,7 @@ first_cover t n k = list_any (λ i. moved (field_offset (layout_in t).fields i) 
 abbrev pub elements_cover : (element : Typed) → (stride count k : ℕ) → Bool
 elements_cover element stride count k = repeated stride count (covers_element (layout_in element) (is_place element)) k
 
--- the index is that of a variant, where there are several, and fields are listed one by one then
-abbrev pub IsVariantBeside : FieldsShape ℕ → Variants ℕ ℕ → (index : ℕ) → Type 0
-IsVariantBeside fields (Multiple tag encoding at layouts) i = IsListed fields × (i < length layouts)
-IsVariantBeside fields _ i = ⊤
-
--- a type of several variants lists its fields one by one, and the index is that of a variant
-abbrev pub HasVariantAt : Layout → (index : ℕ) → Type 0
-HasVariantAt layout i = IsVariantBeside layout.fields layout.variants i
+-- the index is that of a variant, where a tag tells several apart
+abbrev pub IsVariantIndex : Variants ℕ ℕ → (index : ℕ) → Type 0
+IsVariantIndex (Multiple tag encoding at layouts) i = i < length layouts
+IsVariantIndex _ i = ⊤

@@ -5,7 +5,7 @@ ghost use Rattle.abi_index.specs.RangeSet.{is_in_ranges};
 ghost use Rattle.abi_types.specs.Ty.Typed.{layout_in};
 ghost use Rattle.abi_types.specs.Ty.Walks.{is_sized};
 ghost use Rattle.abi_types.specs.Ty.Places.{is_padding, is_unused};
-ghost use Rattle.abi_types.specs.Ty.Runs.{HasVariantAt};
+ghost use Rattle.abi_types.specs.Ty.Runs.{IsVariantIndex};
 
 use crate::ty::interface::{TyAbiInterface, TyAndLayout};
 use crate::ty::places::{places_of, put_fields, put_places};
@@ -29,7 +29,7 @@ fn padding<W: Walk>(alloc: Global, this: W) -> Result<RangeSet, AllocError>
 /// The bytes that some variant covers, and neither this one nor a field that all of them have.
 fn unused<W: Walk>(alloc: Global, this: W, variant: VariantIdx) -> Result<RangeSet, AllocError>
     requires valid { W.is_valid this }
-    requires variant { HasVariantAt (layout_in (W.typed_of this)) variant }
+    requires variant { IsVariantIndex (layout_in (W.typed_of this)).variants variant }
     ensures { IfOk result (λ set. (k : ℕ) → is_in_ranges set k ≡ is_unused (W.typed_of this) variant k) }
 {
     match &this.layout().variants {
@@ -77,8 +77,8 @@ impl<'a, Ty> TyAndLayout<'a, Ty> {
     }
 
     /// The bytes that decide nothing in a variant and do in another: those that some variant covers, and neither this one nor a field
-    /// that all of them have, as the tag. None where no tag tells variants apart; a type with such a tag has to list its fields one by
-    /// one, and the index has to be that of a variant. `AllocError` where memory is refused.
+    /// that all of them have, as the tag. None where no tag tells variants apart; where one does, the index has to be that of a variant.
+    /// `AllocError` where memory is refused.
     pub fn variant_dependent_padding_ranges<C>(
         &self,
         alloc: Global,
@@ -88,7 +88,7 @@ impl<'a, Ty> TyAndLayout<'a, Ty> {
     where
         Ty: TyAbiInterface<'a, C> + Copy,
         requires valid { Ty.is_valid self.now }
-        requires variant { HasVariantAt (layout_in (Ty.typed_of self.now)) variant_index }
+        requires variant { IsVariantIndex (layout_in (Ty.typed_of self.now)).variants variant_index }
         ensures { IfOk result (λ set. (k : ℕ) → is_in_ranges set k ≡ is_unused (Ty.typed_of self.now) variant_index k) }
     {
         unused(

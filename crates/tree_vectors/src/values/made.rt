@@ -101,8 +101,13 @@ fn made_union(
 ) -> Result<Option<Value>, LayError> {
     let laid = laid_in(alloc, Endian::Little, tree)?;
     let mut count = laid.layout().size.bytes();
-    for run in &laid.padding(alloc)? {
-        count = count.saturating_sub(run.end.saturating_sub(run.start));
+    let root = laid.root();
+    if root.layout.data().is_unsized() {
+        return Ok(None);
+    }
+    let padding = root.variant_independent_padding_ranges(alloc, &())?;
+    for run in padding.as_slice() {
+        count = count.saturating_sub(run.1);
     }
     Ok(Some(Value::Union(source.dice.bytes(alloc, count)?)))
 }

@@ -4,6 +4,7 @@ use Rattle.abi_laid.specs.Laid.{typed_of}
 use Rattle.rustc_abi.specs.Least.{IsLeast}
 use Rattle.rustc_abi.proofs.ClashLemmas.{laid_clash, laid_one_offset}
 use Rattle.rustc_abi.proofs.EverywhereLemmas.{everywhere}
+use Rattle.rustc_abi.proofs.LaidLemmas.{laid_sized}
 use Rattle.rustc_abi.proofs.LayLemmas.{begins_root, common_root, faithful_root, laid_root, lawful_root, untagged_root}
 use Rattle.rustc_abi.proofs.LeastLemmas.{laid_least, never_large, passed_as, told_large, told_overflow}
 use Rattle.rustc_abi.proofs.ListLemmas.{passed_on}
@@ -70,6 +71,11 @@ pub returns-clause-one_offset : goal.returns-clause-one_offset
 returns-clause-one_offset c =
     let law = c.is_lawful.ensures.0 c.if-not-is_lawful.false in
     everywhere c.args.dl.now law HaveOneOffset (laid_one_offset c.args.dl.now law) (tree_of c.args.tree.now) _ (laid_root _ _ _ _ _ _ c.in_ok-_root.ensures.ok c.new.ensures.placed)
+
+pub returns-clause-sized : goal.returns-clause-sized
+returns-clause-sized c =
+    let law = c.is_lawful.ensures.0 c.if-not-is_lawful.false in
+    laid_sized c.args.dl.now law (tree_of c.args.tree.now) _ (laid_root _ _ _ _ _ _ c.in_ok-_root.ensures.ok c.new.ensures.placed)
 
 pub returns-clause-places : goal.returns-clause-places
 returns-clause-places c k =

@@ -5,6 +5,7 @@ use Rattle.abi_laid.specs.Handles.{tree_type}
 use Rattle.abi_laid.specs.Laid.{placed_of, typed_of}
 use Rattle.abi_laid.specs.Seen.{Sees}
 use Rattle.abi_laid.specs.Typed.{typed_at}
+use Rattle.abi_laid.proofs.RoomLemmas.{within_room}
 use Rattle.abi_laid.proofs.SeenLemmas.{seen_at}
 use Rattle.abi_laid.proofs.TypedLemmas.{layout-placed}
 use Rattle.abi_laid.proofs.laid.Laid.root.Goals as goal
@@ -24,3 +25,6 @@ returns-clause-layout c =
     let last : length ns - 1 < length ns = omega (arith, laid.some) in
     let told : tree_type c.handle_at.result ≡ typed_of laid = c.handle_at.ensures.told ∙ ap (λ (ms : List Node). typed_at ns (length ms - 1)) c.nodes.ensures.same in
     sym c.handle_at.ensures.valid.layout ∙ ap layout_in told ∙ layout-placed ns (length ns - 1) last
+
+pub returns-clause-within : goal.returns-clause-within
+returns-clause-within c k place = within_room (placed_of c.args.self.now) k c.args.self.now.room place

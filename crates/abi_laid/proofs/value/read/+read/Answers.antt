@@ -16,7 +16,7 @@ use Rattle.abi_laid.specs.Room.{arms_have_room, has_room, have_room}
 use Rattle.abi_laid.specs.Holding.{HoldArm, HoldEach, HoldParts, Holds, IsAt}
 use Rattle.abi_laid.specs.Reading.{Finds, FindsEach, FindsNamed, HoldsTwo, IsNamedIn}
 use Rattle.abi_laid.specs.Runs.{covers}
-use Rattle.abi_laid.proofs.PaddingLemmas.{arm_room, elements_node, field_at, fields_node, never_node, pair_node, runs_inside, scalar_node, single_node, states_node, tagged_node, union_node, vector_node}
+use Rattle.abi_laid.proofs.DataPlacesLemmas.{arm_room, elements_node, field_at, fields_node, never_node, pair_node, runs_inside, scalar_node, single_node, states_node, tagged_node, union_node, vector_node}
 use Rattle.abi_laid.proofs.WidthLemmas.{state_tag_width_at, tag_width_at}
 use Rattle.abi_laid.proofs.NamedLemmas.{count_children}
 use Rattle.abi_laid.proofs.ReadLemmas.{AreRead, HoldAll, HoldFrom, IsRead, elements_all, elements_more, elements_none, elements_stop, fields_all, fields_more, fields_stop, finds_list, finds_named, finds_number, finds_variant, from_arm, read_none, to_arm}

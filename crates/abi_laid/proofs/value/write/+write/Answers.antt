@@ -16,7 +16,7 @@ use Rattle.abi_laid.specs.Holding.{HoldParts, Holds}
 use Rattle.abi_laid.specs.Runs.{covers}
 use Rattle.abi_laid.specs.Covering.{are_covered, is_arm_covered, is_byte_at, is_covered, is_told}
 use Rattle.abi_laid.specs.Writing.{IsPutOver}
-use Rattle.abi_laid.proofs.PaddingLemmas.{arm_room, elements_node, field_at, fields_node, never_node, pair_node, runs_inside, scalar_node, single_node, states_node, tagged_node, union_node, vector_node}
+use Rattle.abi_laid.proofs.DataPlacesLemmas.{arm_room, elements_node, field_at, fields_node, never_node, pair_node, runs_inside, scalar_node, single_node, states_node, tagged_node, union_node, vector_node}
 use Rattle.abi_laid.proofs.WidthLemmas.{scalar_width_at, state_tag_width_at, tag_width_at}
 use Rattle.abi_laid.proofs.NamedLemmas.{child_is, count_children}
 use Rattle.abi_laid.proofs.ReadLemmas.{from_arm}

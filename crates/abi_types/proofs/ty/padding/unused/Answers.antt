@@ -10,7 +10,7 @@ put_places-requires-clause-fits g c =
     let law = g.met.W.Walk.lawful_law c.args.this c.requires.valid in
     let several = several_of t c.layout.result.now _ _ _ _ c.layout.ensures c.in-Multiple.is in
     let size : c.bytes-size.result ≡ (layout_in t).size = size_of t c.layout-in-Multiple.result.now c.bytes-size.result c.layout-in-Multiple.ensures c.bytes-size.ensures in
-    let lt = beside_at (layout_in t).fields (layout_in t).variants c.args.variant _ _ _ _ c.requires.variant several in
+    let lt = beside_at (layout_in t).variants c.args.variant _ _ _ _ c.requires.variant several in
     rw c.variant.ensures.variant (variant_fits t c.args.variant 0 _ _ _ _ law several lt (omega (arith, size, c.bytes-size.type_inv)))
 
 pub returns-in_ok-own-in-Multiple : goal.returns-in_ok-own-in-Multiple

@@ -6,7 +6,7 @@ use Rattle.std.proofs.lemmas.List.Elements.{All-append}
 use Rattle.abi_laid.specs.declared.runs.Run.{Run}
 use Rattle.abi_laid.specs.Runs.{covers, repeats}
 use Rattle.abi_laid.proofs.WalkLemmas.{repeats-whole, repeats-more, covers-put, some-shifted, first_covers, size_some}
-use Rattle.abi_laid.proofs.padding.repeated.Goals as goal
+use Rattle.abi_laid.proofs.data_runs.repeated.Goals as goal
 
 pub loop-i-preserved : goal.loop-i-preserved
 loop-i-preserved c =

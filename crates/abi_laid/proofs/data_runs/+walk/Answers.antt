@@ -15,8 +15,8 @@ use Rattle.abi_laid.proofs.WalkLemmas.{covers-put, covers-put_0, covers-shifted,
 use Rattle.std.proofs.lemmas.Slice.Zip.{zip_turn, zip_end}
 use Rattle.abi_scalar.specs.Shape.{listed_offsets}
 use Rattle.abi_laid.proofs.RoomLemmas.{each_some}
-use Rattle.abi_laid.proofs.PaddingLemmas.{scalar_node, never_node, pair_node, elements_node, fields_node, union_node, vector_node, single_node, tagged_node, states_node, own_fields_node, own_fields_other, parts_at-zeros, places_of_elements, places_of_none, runs_inside, parts_inside, field_at, fields_more, parts_at-all, arms_more, arm_room, or_shift}
-use Rattle.abi_laid.proofs.padding.+walk.Goals as goal
+use Rattle.abi_laid.proofs.DataPlacesLemmas.{scalar_node, never_node, pair_node, elements_node, fields_node, union_node, vector_node, single_node, tagged_node, states_node, own_fields_node, own_fields_other, parts_at-zeros, places_of_elements, places_of_none, runs_inside, parts_inside, field_at, fields_more, parts_at-all, arms_more, arm_room, or_shift}
+use Rattle.abi_laid.proofs.data_runs.+walk.Goals as goal
 
 pub data_runs-layout_at-requires : goal.data_runs-layout_at-requires
 data_runs-layout_at-requires t c =

@@ -1,4 +1,4 @@
-//! The padding of a type: the bytes that decide nothing.
+//! The runs of a node's data places: the bytes that decide which value is held.
 
 ghost use Rattle.std.specs.Prelude.{◌≡◌, ℕ, ◌+◌, ◌*◌, ◌^◌, ◌<◌, ◌≤◌, ◌++◌, ◌-◌, ◌&&◌, ◌||◌, All, IfOk, OnOk, length, drop, map, nat_le, nat_lt, replicate, take, true};
 ghost use Rattle.abi_laid.specs.Placed.{size_of, layout_of};
@@ -6,10 +6,10 @@ ghost use Rattle.abi_laid.specs.Places.{is_data_place, is_place_of_arm, is_place
 ghost use Rattle.abi_laid.specs.Nodes.{arms_in, own_fields, parts_at, placed_at, states_in, types_in};
 ghost use Rattle.abi_laid.specs.Well.{all_at, are_nodes};
 ghost use Rattle.abi_laid.specs.Room.{arms_have_room, has_room, have_room};
-ghost use Rattle.abi_laid.specs.Runs.{covers, is_place_of_variant, shifted, repeats, unused_of, Ascend};
+ghost use Rattle.abi_laid.specs.Runs.{covers, shifted, repeats, Ascend};
 
 use crate::node::{Node, Shape, layout_at, offsets, state_tag_offset, tag_offset};
-use crate::runs::{Run, gaps, joined};
+use crate::runs::{Run, joined};
 use abi_base::Size;
 use abi_index::{FieldIdx, VariantIdx};
 use abi_scalar::LayoutData;
@@ -252,82 +252,4 @@ fn states_runs(
     let beside = tagged_runs(alloc, nodes, node, size, offset, tag, states)?;
     all.extend_from_slice(&beside)?;
     joined(alloc, all)
-}
-
-/// The variant with this index alone, where there is one.
-fn only(variants: &[(u128, usize)], index: usize) -> &[(u128, usize)]
-    ensures { result.now ≡ take 1 (drop index variants.now) }
-{
-    if index < variants.len() {
-        &variants[index..index + 1]
-    } else {
-        &[]
-    }
-}
-
-/// The runs of a variant's bytes, which are the tag's and its own, and of a state's, which are also those of the prefix
-/// fields; of a node without a tag the runs of its data places.
-fn variant_runs(
-    alloc: Global,
-    nodes: &[Node],
-    node: usize,
-    variant: usize,
-) -> Result<Vec<Run>, AllocError>
-    requires there { node < length nodes.now }
-    requires well { are_nodes 0 nodes.now ≡ true }
-    requires room { has_room (placed_at nodes.now node) ≡ true }
-    ensures covers { IfOk result (λ runs. (k : ℕ) → covers runs.items k ≡ is_place_of_variant (placed_at nodes.now node) variant k) }
-    ensures ascend { IfOk result (λ runs. Ascend 0 runs.items) }
-{
-    let here = &nodes[node];
-    match &here.shape {
-        Shape::Tagged {
-            mark: _,
-            tag,
-            variants,
-        } => tagged_runs(
-            alloc,
-            nodes,
-            node,
-            here.layout.size.bytes(),
-            tag_offset(&here.layout),
-            *tag,
-            only(variants, variant),
-        ),
-        Shape::States {
-            prefix,
-            tag,
-            states,
-        } => states_runs(
-            alloc,
-            nodes,
-            node,
-            &here.layout,
-            prefix,
-            *tag,
-            only(states, variant),
-        ),
-        _ => data_runs(alloc, nodes, node),
-    }
-}
-
-/// The runs of a node's data places that the variant or state with this index doesn't use.
-pub(crate) fn unused_runs(
-    alloc: Global,
-    nodes: &[Node],
-    node: usize,
-    variant: usize,
-) -> Result<Vec<Run>, AllocError>
-    requires there { node < length nodes.now }
-    requires well { are_nodes 0 nodes.now ≡ true }
-    requires room { has_room (placed_at nodes.now node) ≡ true }
-    ensures { IfOk result (λ runs. runs.items ≡ unused_of (placed_at nodes.now node) variant) }
-{
-    let size = layout_at(nodes, node).size.bytes();
-    let data = data_runs(alloc, nodes, node)?;
-    let own = variant_runs(alloc, nodes, node, variant)?;
-    let mut all = gaps(alloc, &data, size)?;
-    all.extend_from_slice(&own)?;
-    let known = joined(alloc, all)?;
-    gaps(alloc, &known, size)
 }

@@ -1,6 +1,6 @@
 -- What each kind of node has of data places.
 use Rattle.std.proofs.Common.{◌≡◌, ℕ, zero, suc, ◌+◌, ◌-◌, ◌*◌, ◌/◌, ◌%◌, ◌<◌, ◌≤◌, List, [], ◌∷◌, ◌++◌, Bool, true, false, length, map, replicate, get_or, take, min, arith, refl, sym, ap, ◌∙◌, subst, All}
-use Rattle.std.specs.Prelude.{◌==◌, ◌&&◌, ◌||◌, nat_le, nat_lt, not, None}
+use Rattle.std.specs.Prelude.{◌==◌, ◌&&◌, ◌||◌, nat_le, nat_lt}
 use Rattle.std.specs.List.{list_all}
 use Rattle.std.proofs.lemmas.Bool.{ltb-true, leb-true, le-ltb, eqb-true, and_parts}
 use Rattle.std.proofs.lemmas.List.{take_more, length-take-le, length-map, get_or-map}
@@ -20,7 +20,7 @@ use Rattle.abi_laid.specs.Places.{is_data_place, is_place_of_part, is_place_of_a
 use Rattle.abi_laid.specs.Nodes.{parts_at, parts_at_0, placed_in, placed_at, types_in, arms_in, own_fields, index_of, meaning, tag_offset, encoding_of, states_in}
 use Rattle.abi_laid.specs.Room.{has_room, have_room, arms_have_room}
 use Rattle.abi_laid.specs.Well.{are_nodes, all_at}
-use Rattle.abi_laid.specs.Runs.{covers, repeats, Ascend, runs_from, is_beside, padding_of}
+use Rattle.abi_laid.specs.Runs.{covers, repeats, Ascend}
 use Rattle.abi_laid.proofs.NodesLemmas.{placed_at-node, pair_before}
 use Rattle.abi_laid.proofs.RoomLemmas.{within_room, within_have, room_at, ends_inside}
 
@@ -241,7 +241,3 @@ arm_room size done (v ∷ vs) (suc n) d room lt =
 pub parts_inside : (size : ℕ) (parts : Parts) (runs : List Run) → have_room size parts ≡ true → Ascend 0 runs → ((k : ℕ) → covers runs k ≡ is_place_of_part parts k) →
     All (λ run. run.end ≤ size) runs
 parts_inside size parts runs room ascend same = ends_inside 0 size runs ascend (λ k h. within_have size parts k room (sym (same k) ∙ h))
-
--- the gaps between the runs of a type's places are its padding
-pub padding_same : (placed : Placed) (runs : List Run) → ((k : ℕ) → covers runs k ≡ is_data_place placed k) → runs_from (is_beside runs) None 0 (size_of placed) ≡ padding_of placed
-padding_same placed runs same = ap (λ p. runs_from p None 0 (size_of placed)) (λ i k. not (same k i))

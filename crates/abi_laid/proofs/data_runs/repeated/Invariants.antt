@@ -1,6 +1,6 @@
 use Rattle.std.proofs.Common.{◌≡◌, ◌<◌, ℕ, All}
 use Rattle.abi_laid.specs.Runs.{covers, repeats}
-use Rattle.abi_laid.proofs.padding.repeated.Given as goal
+use Rattle.abi_laid.proofs.data_runs.repeated.Given as goal
 
 abbrev pub invariant-loop-i : goal.invariant-loop-i
 invariant-loop-i l = record {

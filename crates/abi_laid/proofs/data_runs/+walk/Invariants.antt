@@ -4,7 +4,7 @@ use Rattle.abi_laid.specs.Places.{is_data_place, is_place_of_arm, is_place_of_pa
 use Rattle.abi_laid.specs.Nodes.{arms_in, parts_at, placed_at, types_in}
 use Rattle.abi_laid.specs.Well.{all_at}
 use Rattle.abi_laid.specs.Runs.{covers}
-use Rattle.abi_laid.proofs.padding.+walk.Given as goal
+use Rattle.abi_laid.proofs.data_runs.+walk.Given as goal
 
 abbrev pub invariant-fields_runs-loop-offset : goal.invariant-fields_runs-loop-offset
 invariant-fields_runs-loop-offset l = record {
