@@ -4,6 +4,7 @@ pub mod GapLemmas
 pub mod ReserveLemmas
 pub mod CountLemmas
 pub mod LeastLemmas
+pub mod EndsLemmas
 pub mod NicheLemmas
 pub mod ReadableLemmas
 pub mod PairLemmas

@@ -1,6 +1,6 @@
 //! The least range that holds some values.
 
-ghost use Rattle.std.specs.Prelude.{◌≡◌, ◌≤◌, ◌<◌, length, All, IfOk};
+ghost use Rattle.std.specs.Prelude.{◌≡◌, ◌≤◌, ◌<◌, length, All, Contains, IfOk};
 ghost use Rattle.std.specs.List.Sorted.{IsNonDecreasing};
 ghost use Rattle.std.specs.Iterator.{IsFinite};
 ghost use Rattle.std.specs.Iterator.Runs.{EachRunFrom, WholeRun};
@@ -40,7 +40,32 @@ fn least_of_ascending(values: &[u128], size: Size) -> WrappingRange
     best
 }
 
+/// The range from the least value to the greatest.
+fn from_least_to_greatest(values: &[u128]) -> WrappingRange
+    requires any { 0 < length values.now }
+    ensures least { Contains values.now result.start }
+    ensures greatest { Contains values.now result.end }
+    ensures order { result.start ≤ result.end }
+    ensures between { All (λ v. (result.start ≤ v) × (v ≤ result.end)) values.now }
+{
+    let mut least = values[0];
+    let mut greatest = values[0];
+    for k in 1..values.len() {
+        let value = values[k];
+        least = least.min(value);
+        greatest = greatest.max(value);
+    }
+    WrappingRange {
+        start: least,
+        end: greatest,
+    }
+}
+
 /// The least range that holds the values; None for no values.
+///
+/// Where the way on from the greatest value round to the least is no shorter than the way up from the least to
+/// the greatest, which then takes at most half of all numbers, no range that wraps round is better than the one
+/// from the least to the greatest, and nothing is sorted.
 fn least_range(mut values: Vec<u128>, size: Size) -> Option<WrappingRange>
     requires some { 1 ≤ size }
     requires most { size ≤ 16 }
@@ -49,6 +74,10 @@ fn least_range(mut values: Vec<u128>, size: Size) -> Option<WrappingRange>
 {
     if values.is_empty() {
         return None;
+    }
+    let whole = from_least_to_greatest(values.as_slice());
+    if whole.end - whole.start <= steps(whole.end, whole.start, size) {
+        return Some(whole);
     }
     values.sort_unstable();
     Some(least_of_ascending(values.as_slice(), size))
