@@ -53,7 +53,7 @@ pub fn field_offsets<FieldIdx: Idx>(
     requires { length offsets.now ≤ FieldIdx.MAX_INDEX + 1 }
     ensures { IfOk result (λ list. list ≡ offsets.now) }
 {
-    let mut list = IndexVec::new(alloc);
+    let mut list = IndexVec::with_capacity(alloc, offsets.len())?;
     for offset in offsets {
         let _index = list.push(*offset)?;
     }
@@ -69,7 +69,7 @@ fn fields_named<FieldIdx: Idx>(
     requires within { All (λ i. i ≤ FieldIdx.MAX_INDEX) order.now }
     ensures { IfOk result (λ list. list ≡ map FieldIdx.at order.now) }
 {
-    let mut list = IndexVec::new(alloc);
+    let mut list = IndexVec::with_capacity(alloc, order.len())?;
     for index in order {
         let _place = list.push(FieldIdx::new(*index))?;
     }
@@ -142,7 +142,7 @@ fn layout_of_list<FieldIdx: Idx, VariantIdx: Idx, F: LayoutHandle<FieldIdx, Vari
     let fixed = repr.inhibit_newtype_abi_optimization();
     let view = list_view(dl, fixed, size, align, &parts, &offsets, &bulky);
     let unadjusted_abi_align = unadjusted_align(dl, repr, list, size, align, &parts, &bulky);
-    let offsets = field_offsets(alloc, &offsets)?;
+    let offsets = IndexVec::from_raw(offsets);
     let in_memory_order = fields_named(alloc, &order)?;
     Ok(LayoutData {
         fields: FieldsShape::Arbitrary {

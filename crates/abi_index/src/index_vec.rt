@@ -84,6 +84,28 @@ impl<I: Idx, T> IndexVec<I, T> {
         }
     }
 
+    /// An empty list with room for so many items, which are then put into it without a growth. `AllocError` where the room is
+    /// refused.
+    pub fn with_capacity(alloc: Global, capacity: usize) -> Result<Self, AllocError>
+        ensures { IfOk result (λ list. list ≡ []) }
+    {
+        Ok(IndexVec {
+            raw: Vec::with_capacity(alloc, capacity)?,
+            of: PhantomData,
+        })
+    }
+
+    /// The list of these items, which has to be no longer than the index type can name. Nothing is copied.
+    pub fn from_raw(raw: Vec<T>) -> Self
+        requires { length raw.items ≤ I.MAX_INDEX + 1 }
+        ensures { result ≡ raw.items }
+    {
+        IndexVec {
+            raw,
+            of: PhantomData,
+        }
+    }
+
     /// How many items there are: no more than the index type can name.
     pub fn len(&self) -> usize
         ensures count { result ≡ length self.now }

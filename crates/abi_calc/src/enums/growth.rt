@@ -112,7 +112,7 @@ fn moved_offsets<FieldIdx: Idx>(
     requires { length offsets.now ≤ FieldIdx.MAX_INDEX + 1 }
     ensures { IfOk result (λ list. list ≡ map (moved old new) offsets.now) }
 {
-    let mut list = IndexVec::new(alloc);
+    let mut list = IndexVec::with_capacity(alloc, offsets.len())?;
     for offset in offsets {
         let _index = list.push(moved(old, new, *offset))?;
     }

@@ -97,7 +97,7 @@ fn moved_offsets<FieldIdx: Idx>(
     requires fits { All (λ o. by + o < 2 ^ 64) offsets.now }
     ensures { IfOk result (λ list. list ≡ map (λ o. by + o) offsets.now) }
 {
-    let mut list = IndexVec::new(alloc);
+    let mut list = IndexVec::with_capacity(alloc, offsets.len())?;
     for offset in offsets {
         let _index = list.push(by + *offset)?;
     }
@@ -220,7 +220,7 @@ pub fn placed_variants<FieldIdx: Idx, VariantIdx: Idx>(
     requires count { length lists.items ≤ VariantIdx.MAX_INDEX + 1 }
     ensures { IfOk result (λ variants. variants ≡ variants_from room.now untagged 0 lists.items) }
 {
-    let mut variants = IndexVec::new(alloc);
+    let mut variants = IndexVec::with_capacity(alloc, lists.len())?;
     let mut at = 0;
     for list in lists {
         let Some(variant) = placed(alloc, room, untagged, at, list)? else {

@@ -57,14 +57,14 @@ list_view-view-requires-clause-count g c =
     = biased_of c.args.dl.now c.args.list.now (parts_of c.args.dl.now (map g.F.LayoutHandle.layout_of c.args.fields.now)) c.in-Ok.placed.order.items c.in-Ok.placed.offsets.items c.in-Ok.placed.size c.in-Ok.placed.align c.in-Ok.placed.largest_niche (subst (λ (ps : List Part). IsNamedLayout c.args.dl.now c.args.list.now ps c.in-Ok.placed.order.items c.in-Ok.placed.offsets.items c.in-Ok.placed.size c.in-Ok.placed.align c.in-Ok.placed.largest_niche) read c.in-Ok.ensures.named) in
     ap length c.deref-4.ensures.value ∙ b.placed.count ∙ sym (ap length (c.deref-3.ensures.value ∙ c.in_ok-parts.ensures))
 
-pub field_offsets-requires : goal.field_offsets-requires
-field_offsets-requires g c =
+pub from_raw-offsets-requires : goal.from_raw-offsets-requires
+from_raw-offsets-requires g c =
     let read : c.deref.result.now ≡ parts_of c.args.dl.now (map g.F.LayoutHandle.layout_of c.args.fields.now) = c.deref.ensures.value ∙ c.in_ok-parts.ensures in
     let many : length (parts_of c.args.dl.now (map g.F.LayoutHandle.layout_of c.args.fields.now)) ≡ length c.args.fields.now = length-parts g.F.LayoutHandle.layout_of c.args.dl.now c.args.fields.now in
     let tail : IsNonEmptyIfUnsized c.args.list.now.kind (length (parts_of c.args.dl.now (map g.F.LayoutHandle.layout_of c.args.fields.now))) = subst (IsNonEmptyIfUnsized c.args.list.now.kind) (sym many) c.requires.tail in
     let b : IsBiased c.args.dl.now c.args.list.now (parts_of c.args.dl.now (map g.F.LayoutHandle.layout_of c.args.fields.now)) c.in-Ok.placed.order.items c.in-Ok.placed.offsets.items c.in-Ok.placed.size c.in-Ok.placed.align c.in-Ok.placed.largest_niche
     = biased_of c.args.dl.now c.args.list.now (parts_of c.args.dl.now (map g.F.LayoutHandle.layout_of c.args.fields.now)) c.in-Ok.placed.order.items c.in-Ok.placed.offsets.items c.in-Ok.placed.size c.in-Ok.placed.align c.in-Ok.placed.largest_niche (subst (λ (ps : List Part). IsNamedLayout c.args.dl.now c.args.list.now ps c.in-Ok.placed.order.items c.in-Ok.placed.offsets.items c.in-Ok.placed.size c.in-Ok.placed.align c.in-Ok.placed.largest_niche) read c.in-Ok.ensures.named) in
-    let long : length c.deref-8.result.now ≡ length c.args.fields.now = ap length c.deref-8.ensures.value ∙ b.placed.count ∙ many in
+    let long : length c.in-Ok.placed.offsets.items ≡ length c.args.fields.now = b.placed.count ∙ many in
     omega (arith, long, c.requires.count)
 
 pub fields_named-requires-clause-count : goal.fields_named-requires-clause-count
@@ -75,7 +75,7 @@ fields_named-requires-clause-count g c =
     let b : IsBiased c.args.dl.now c.args.list.now (parts_of c.args.dl.now (map g.F.LayoutHandle.layout_of c.args.fields.now)) c.in-Ok.placed.order.items c.in-Ok.placed.offsets.items c.in-Ok.placed.size c.in-Ok.placed.align c.in-Ok.placed.largest_niche
     = biased_of c.args.dl.now c.args.list.now (parts_of c.args.dl.now (map g.F.LayoutHandle.layout_of c.args.fields.now)) c.in-Ok.placed.order.items c.in-Ok.placed.offsets.items c.in-Ok.placed.size c.in-Ok.placed.align c.in-Ok.placed.largest_niche (subst (λ (ps : List Part). IsNamedLayout c.args.dl.now c.args.list.now ps c.in-Ok.placed.order.items c.in-Ok.placed.offsets.items c.in-Ok.placed.size c.in-Ok.placed.align c.in-Ok.placed.largest_niche) read c.in-Ok.ensures.named) in
     let p = biased_permutes c.args.dl.now c.args.list.now (parts_of c.args.dl.now (map g.F.LayoutHandle.layout_of c.args.fields.now)) c.in-Ok.placed.order.items c.in-Ok.placed.offsets.items c.in-Ok.placed.size c.in-Ok.placed.align c.in-Ok.placed.largest_niche tail b in
-    let long : length c.deref-9.result.now ≡ length c.args.fields.now = ap length c.deref-9.ensures.value ∙ length_permutation (source_order (length (parts_of c.args.dl.now (map g.F.LayoutHandle.layout_of c.args.fields.now)))) c.in-Ok.placed.order.items p ∙ length-range_with_len 0 (length (parts_of c.args.dl.now (map g.F.LayoutHandle.layout_of c.args.fields.now))) ∙ many in
+    let long : length c.deref-8.result.now ≡ length c.args.fields.now = ap length c.deref-8.ensures.value ∙ length_permutation (source_order (length (parts_of c.args.dl.now (map g.F.LayoutHandle.layout_of c.args.fields.now)))) c.in-Ok.placed.order.items p ∙ length-range_with_len 0 (length (parts_of c.args.dl.now (map g.F.LayoutHandle.layout_of c.args.fields.now))) ∙ many in
     omega (arith, long, c.requires.count)
 
 pub fields_named-requires-clause-within : goal.fields_named-requires-clause-within
@@ -87,19 +87,19 @@ fields_named-requires-clause-within g c k d h =
     = biased_of c.args.dl.now c.args.list.now (parts_of c.args.dl.now (map g.F.LayoutHandle.layout_of c.args.fields.now)) c.in-Ok.placed.order.items c.in-Ok.placed.offsets.items c.in-Ok.placed.size c.in-Ok.placed.align c.in-Ok.placed.largest_niche (subst (λ (ps : List Part). IsNamedLayout c.args.dl.now c.args.list.now ps c.in-Ok.placed.order.items c.in-Ok.placed.offsets.items c.in-Ok.placed.size c.in-Ok.placed.align c.in-Ok.placed.largest_niche) read c.in-Ok.ensures.named) in
     let p = biased_permutes c.args.dl.now c.args.list.now (parts_of c.args.dl.now (map g.F.LayoutHandle.layout_of c.args.fields.now)) c.in-Ok.placed.order.items c.in-Ok.placed.offsets.items c.in-Ok.placed.size c.in-Ok.placed.align c.in-Ok.placed.largest_niche tail b in
     let within = within_order (length (parts_of c.args.dl.now (map g.F.LayoutHandle.layout_of c.args.fields.now))) c.in-Ok.placed.order.items p in
-    let there = subst (λ (xs : List ℕ). All (λ i. i < length (parts_of c.args.dl.now (map g.F.LayoutHandle.layout_of c.args.fields.now))) xs) (sym c.deref-9.ensures.value) within in
+    let there = subst (λ (xs : List ℕ). All (λ i. i < length (parts_of c.args.dl.now (map g.F.LayoutHandle.layout_of c.args.fields.now))) xs) (sym c.deref-8.ensures.value) within in
     omega (arith, there k d h, many, c.requires.count)
 
 pub returns-clause-exact : goal.returns-clause-exact
 returns-clause-exact g c =
     let read : c.deref.result.now ≡ parts_of c.args.dl.now (map g.F.LayoutHandle.layout_of c.args.fields.now) = c.deref.ensures.value ∙ c.in_ok-parts.ensures in
-    let offs : c.in_ok-offsets.offsets ≡ c.in-Ok.placed.offsets.items = c.in_ok-offsets.ensures ∙ c.deref-8.ensures.value in
+    let offs : c.from_raw-offsets.result ≡ c.in-Ok.placed.offsets.items = c.from_raw-offsets.ensures in
     let named = subst (λ (r : ListRepr). IsNamedLayout c.args.dl.now r (parts_of c.args.dl.now (map g.F.LayoutHandle.layout_of c.args.fields.now)) c.in-Ok.placed.order.items c.in-Ok.placed.offsets.items c.in-Ok.placed.size c.in-Ok.placed.align c.in-Ok.placed.largest_niche) c.requires.list (subst (λ (ps : List Part). IsNamedLayout c.args.dl.now c.args.list.now ps c.in-Ok.placed.order.items c.in-Ok.placed.offsets.items c.in-Ok.placed.size c.in-Ok.placed.align c.in-Ok.placed.largest_niche) read c.in-Ok.ensures.named) in (
       c.in-Ok.placed.order.items,
       c.in-Ok.placed.offsets.items,
       record {
         named = rw c.new-2.ensures named;
-        shape = ap₂ Arbitrary offs (c.in_ok-in_memory_order.ensures ∙ ap (map g.FieldIdx.Idx.at) c.deref-9.ensures.value);
+        shape = ap₂ Arbitrary offs (c.in_ok-in_memory_order.ensures ∙ ap (map g.FieldIdx.Idx.at) c.deref-8.ensures.value);
         variants = ap Single c.new.ensures;
         view =
             c.list_view-view.ensures

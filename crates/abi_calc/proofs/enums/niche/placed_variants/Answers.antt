@@ -9,9 +9,9 @@ use Rattle.abi_calc.proofs.enums.niche.placed_variants.Goals as goal
 
 pub loop-list-init : goal.loop-list-init
 loop-list-init g c = record {
-  all = rw (c.new-variants.ensures, c.into_iter-list-iterator.ensures.into_iter_gives.0) (option_map_id (variants_from c.args.room.now c.args.untagged 0 c.args.lists.items));
-  at = rw c.new-variants.ensures refl;
-  count = rw (c.new-variants.ensures, c.into_iter-list-iterator.ensures.into_iter_gives.0) (omega arith);
+  all = rw (c.in_ok-variants.ensures, c.into_iter-list-iterator.ensures.into_iter_gives.0) (option_map_id (variants_from c.args.room.now c.args.untagged 0 c.args.lists.items));
+  at = rw c.in_ok-variants.ensures refl;
+  count = rw (c.in_ok-variants.ensures, c.into_iter-list-iterator.ensures.into_iter_gives.0) (omega arith);
   small = subst (All IsSmallList) (sym c.into_iter-list-iterator.ensures.into_iter_gives.0) c.requires.small;
 }
 
