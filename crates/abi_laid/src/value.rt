@@ -5,6 +5,7 @@ pub(crate) mod named;
 pub(crate) mod number;
 pub(crate) mod read;
 pub(crate) mod same;
+pub(crate) mod walk;
 pub(crate) mod write;
 
 ghost use Rattle.std.specs.Prelude.{◌≡◌, ℕ, List};

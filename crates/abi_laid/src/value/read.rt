@@ -7,14 +7,14 @@ ghost use Rattle.abi_laid.specs.Values.{IsValueOf};
 ghost use Rattle.abi_laid.specs.Tree.{Tree};
 ghost use Rattle.abi_base.specs.declared.data_layout.TargetDataLayout.{TargetDataLayout};
 ghost use Rattle.abi_laid.specs.Bytes.{number_of, picked};
-ghost use Rattle.abi_laid.specs.Placed.{Placed, layout_of, size_of};
+ghost use Rattle.abi_laid.specs.declared.mark.Mark.{Mark};
+ghost use Rattle.abi_laid.specs.Placed.{Placed, layout_of, size_of, tagged};
 ghost use Rattle.abi_laid.specs.Places.{is_data_place};
 ghost use Rattle.abi_laid.specs.Tag.{Names};
 ghost use Rattle.abi_laid.specs.Holding.{HoldArm, HoldEach, HoldParts, Holds, IsAt, tag_at};
 ghost use Rattle.abi_laid.specs.Nodes.{arms_in, encoding_of, index_of, own_fields, parts_at, placed_at, state_tag_offset, states_in, tag_offset, types_in};
-ghost use Rattle.abi_laid.specs.Well.{all_at, are_nodes};
+ghost use Rattle.abi_laid.specs.Well.{all_at};
 ghost use Rattle.abi_laid.specs.Room.{arms_have_room, has_room, have_room};
-ghost use Rattle.abi_laid.specs.Widths.{have_widths};
 ghost use Rattle.abi_laid.specs.Widths.{is_narrow};
 ghost use Rattle.abi_scalar.specs.Scalar.{IsNumberOf};
 ghost use Rattle.abi_laid.specs.Runs.{covers, Ascend};
@@ -24,11 +24,12 @@ ghost use Rattle.abi_laid.specs.Reading.{Finds, FindsEach, FindsNamed, FindsNumb
 
 use crate::data_runs::data_runs;
 use crate::laid::Laid;
-use crate::node::{Node, Shape, layout_at, offsets, state_tag_offset, tag_offset};
+use crate::node::{Shape, layout_at, offsets, state_tag_offset, tag_offset};
 use crate::runs::Run;
 use crate::value::Value;
 use crate::value::named::{encoding_of, is_named, own_parts};
 use crate::value::number::{number_in, part_of};
+use crate::value::walk::Walk;
 use abi_base::{Endian, Size};
 use abi_index::{FieldIdx, Idx, VariantIdx};
 use abi_scalar::{LayoutData, Scalar, TagEncoding, Variants};
@@ -58,59 +59,47 @@ fn scalar_number(scalar: &Scalar, order: Endian, bytes: &[u8]) -> Option<u128>
 }
 
 /// The number that these bytes hold as those of a node, where it is a scalar.
-fn read_number(order: Endian, nodes: &[Node], node: usize, bytes: &[u8]) -> Option<u128>
-    requires there { node < length nodes.now }
-    requires well { are_nodes 0 nodes.now ≡ true }
-    requires widths { have_widths [] nodes.now ≡ true }
-    ensures { FindsNumber (λ n. Holds order (placed_at nodes.now node) bytes.now (number n)) result }
+fn read_number(walk: Walk<'_>, node: usize, bytes: &[u8]) -> Option<u128>
+    requires there { node < length walk.nodes.now }
+    ensures { FindsNumber (λ n. Holds walk.entry.order (placed_at walk.entry.nodes.now node) bytes.now (number n)) result }
 {
+    let nodes = walk.nodes;
     let here = &nodes[node];
     if bytes.len() as u64 != here.layout.size.bytes() {
         return None;
     }
     match &here.shape {
-        Shape::Scalar(scalar) => scalar_number(scalar, order, bytes),
+        Shape::Scalar(scalar) => scalar_number(scalar, walk.order, bytes),
         _ => None,
     }
 }
 
 /// The number that a scalar at the offset in these bytes holds.
-fn read_number_at(
-    order: Endian,
-    nodes: &[Node],
-    node: usize,
-    offset: u64,
-    bytes: &[u8],
-) -> Option<u128>
-    requires there { node < length nodes.now }
-    requires well { are_nodes 0 nodes.now ≡ true }
-    requires widths { have_widths [] nodes.now ≡ true }
-    ensures { FindsNumber (λ n. IsAt offset (size_of (placed_at nodes.now node))
-        (λ slice. Holds order (placed_at nodes.now node) slice (number n)) bytes.now) result }
+fn read_number_at(walk: Walk<'_>, node: usize, offset: u64, bytes: &[u8]) -> Option<u128>
+    requires there { node < length walk.nodes.now }
+    ensures { FindsNumber (λ n. IsAt offset (size_of (placed_at walk.entry.nodes.now node))
+        (λ slice. Holds walk.entry.order (placed_at walk.entry.nodes.now node) slice (number n)) bytes.now) result }
 {
-    let part = part_of(bytes, offset, layout_at(nodes, node).size.bytes())?;
-    read_number(order, nodes, node, part)
+    let part = part_of(bytes, offset, layout_at(walk.nodes, node).size.bytes())?;
+    read_number(walk, node, part)
 }
 
 /// The two numbers at the first two offsets.
 fn read_pair(
-    order: Endian,
-    nodes: &[Node],
+    walk: Walk<'_>,
     offsets: &[Size],
     first: usize,
     second: usize,
     bytes: &[u8],
 ) -> Option<Value>
-    requires first { first < length nodes.now }
-    requires second { second < length nodes.now }
-    requires well { are_nodes 0 nodes.now ≡ true }
-    requires widths { have_widths [] nodes.now ≡ true }
-    ensures { Finds (HoldsTwo order (parts_at offsets.now (all_at nodes.now (first ∷ second ∷ []))) bytes.now) result }
+    requires first { first < length walk.nodes.now }
+    requires second { second < length walk.nodes.now }
+    ensures { Finds (HoldsTwo walk.entry.order (parts_at offsets.now (all_at walk.entry.nodes.now (first ∷ second ∷ []))) bytes.now) result }
 {
     match offsets {
         [a, b, ..] => {
-            let one = read_number_at(order, nodes, first, a.bytes(), bytes)?;
-            let two = read_number_at(order, nodes, second, b.bytes(), bytes)?;
+            let one = read_number_at(walk, first, a.bytes(), bytes)?;
+            let two = read_number_at(walk, second, b.bytes(), bytes)?;
             Some(Value::Pair(one, two))
         }
         _ => None,
@@ -131,6 +120,17 @@ fn read_places(alloc: Global, runs: &[Run], bytes: &[u8]) -> Result<Vec<u8>, All
         }
     }
     Ok(content)
+}
+
+/// A union's data bytes.
+fn read_union(walk: Walk<'_>, node: usize, bytes: &[u8]) -> Result<Vec<u8>, AllocError>
+    requires there { node < length walk.nodes.now }
+    requires room { has_room (placed_at walk.nodes.now node) ≡ true }
+    requires size { length bytes.now ≡ size_of (placed_at walk.nodes.now node) }
+    ensures { IfOk result (λ content. content.items ≡ picked (is_data_place (placed_at walk.entry.nodes.now node)) 0 bytes.now) }
+{
+    let runs = data_runs(walk.alloc, walk.nodes, node)?;
+    read_places(walk.alloc, &runs, bytes)
 }
 
 /// A number as a value.
@@ -207,96 +207,71 @@ fn index_left(layout: &LayoutData<FieldIdx, VariantIdx>) -> usize
 /// The value that these bytes hold as those of a node.
 #[cycle(read)]
 pub(crate) fn read_node(
-    alloc: Global,
-    order: Endian,
-    nodes: &[Node],
+    walk: Walk<'_>,
     node: usize,
     bytes: &[u8],
 ) -> Result<Option<Value>, AllocError>
-    requires there { node < length nodes.now }
-    requires well { are_nodes 0 nodes.now ≡ true }
-    requires widths { have_widths [] nodes.now ≡ true }
-    requires room { has_room (placed_at nodes.now node) ≡ true }
-    ensures { IfOk result (Finds (Holds order (placed_at nodes.now node) bytes.now)) }
+    requires there { node < length walk.nodes.now }
+    requires room { has_room (placed_at walk.nodes.now node) ≡ true }
+    ensures { IfOk result (Finds (Holds walk.entry.order (placed_at walk.entry.nodes.now node) bytes.now)) }
 {
+    let nodes = walk.nodes;
     let here = &nodes[node];
     let layout = &here.layout;
     if bytes.len() as u64 != layout.size.bytes() {
         return Ok(None);
     }
     match &here.shape {
-        Shape::Scalar(_) => Ok(as_number(read_number(order, nodes, node, bytes))),
-        Shape::Pair { first, second } => Ok(read_pair(
-            order,
-            nodes,
-            offsets(layout),
-            *first,
-            *second,
-            bytes,
-        )),
+        Shape::Scalar(_) => Ok(as_number(read_number(walk, node, bytes))),
+        Shape::Pair { first, second } => {
+            Ok(read_pair(walk, offsets(layout), *first, *second, bytes))
+        }
         Shape::Never(_) => Ok(None),
         Shape::Elements { count, element } => {
-            let found = read_elements(alloc, order, nodes, *element, *count, bytes)?;
+            let found = read_elements(walk, *element, *count, bytes)?;
             Ok(as_list(found))
         }
         Shape::Fields(_, children) => {
-            let found = read_parts(alloc, order, nodes, node, offsets(layout), children, bytes)?;
+            let found = read_parts(walk, node, offsets(layout), children, bytes)?;
             Ok(as_list(found))
         }
-        Shape::Union(_, _) => {
-            let runs = data_runs(alloc, nodes, node)?;
-            let content = read_places(alloc, &runs, bytes)?;
-            Ok(Some(Value::Union(content)))
-        }
+        Shape::Union(_, _) => Ok(Some(Value::Union(read_union(walk, node, bytes)?))),
         Shape::Vector(lanes) => {
-            let found = read_part(alloc, order, nodes, *lanes, 0, bytes)?;
+            let found = read_part(walk, *lanes, 0, bytes)?;
             Ok(only_list(found))
         }
         Shape::Single(_, children) => {
-            let found = read_parts(alloc, order, nodes, node, offsets(layout), children, bytes)?;
+            let found = read_parts(walk, node, offsets(layout), children, bytes)?;
             Ok(as_variant(index_left(layout), found))
         }
         Shape::Tagged {
             mark: _,
             tag,
             variants,
-        } => {
-            let encoding = encoding_of(layout);
-            let offset = tag_offset(layout);
-            let found = read_named(
-                alloc, order, nodes, node, &encoding, *tag, offset, variants, bytes,
-            )?;
-            Ok(as_named(found))
-        }
+        } => read_variant(walk, node, layout, *tag, variants, bytes),
         Shape::States {
             prefix,
             tag,
             states,
-        } => read_state(
-            alloc, order, nodes, node, layout, prefix, *tag, states, bytes,
-        ),
+        } => read_state(walk, node, layout, prefix, *tag, states, bytes),
     }
 }
 
 /// The value that a node at the offset in these bytes holds.
 #[cycle(read)]
 fn read_part(
-    alloc: Global,
-    order: Endian,
-    nodes: &[Node],
+    walk: Walk<'_>,
     node: usize,
     offset: u64,
     bytes: &[u8],
 ) -> Result<Option<Value>, AllocError>
-    requires there { node < length nodes.now }
-    requires well { are_nodes 0 nodes.now ≡ true }
-    requires widths { have_widths [] nodes.now ≡ true }
-    requires room { has_room (placed_at nodes.now node) ≡ true }
-    ensures { IfOk result (Finds (λ v. IsAt offset (size_of (placed_at nodes.now node))
-        (λ slice. Holds order (placed_at nodes.now node) slice v) bytes.now)) }
+    requires there { node < length walk.nodes.now }
+    requires room { has_room (placed_at walk.nodes.now node) ≡ true }
+    ensures { IfOk result (Finds (λ v. IsAt offset (size_of (placed_at walk.entry.nodes.now node))
+        (λ slice. Holds walk.entry.order (placed_at walk.entry.nodes.now node) slice v) bytes.now)) }
 {
-    match part_of(bytes, offset, layout_at(nodes, node).size.bytes()) {
-        Some(part) => read_node(alloc, order, nodes, node, part),
+    match part_of(bytes, offset, layout_at(walk.nodes, node).size.bytes()) {
+        Some(part) => read_node(walk, node, part),
         None => Ok(None),
     }
 }
@@ -304,25 +279,21 @@ fn read_part(
 /// The values of so many elements, one after another.
 #[cycle(read)]
 fn read_elements(
-    alloc: Global,
-    order: Endian,
-    nodes: &[Node],
+    walk: Walk<'_>,
     element: usize,
     count: u64,
     bytes: &[u8],
 ) -> Result<Option<Vec<Value>>, AllocError>
-    requires there { element < length nodes.now }
-    requires well { are_nodes 0 nodes.now ≡ true }
-    requires widths { have_widths [] nodes.now ≡ true }
-    requires room { has_room (placed_at nodes.now element) ≡ true }
-    requires size { length bytes.now ≡ size_of (placed_at nodes.now element) * count }
+    requires there { element < length walk.nodes.now }
+    requires room { has_room (placed_at walk.nodes.now element) ≡ true }
+    requires size { length bytes.now ≡ size_of (placed_at walk.nodes.now element) * count }
     ensures { IfOk result (FindsEach (λ vs. (value_count vs ≡ count) ×
-        HoldEach (Holds order (placed_at nodes.now element)) (size_of (placed_at nodes.now element)) 0 bytes.now vs)) }
+        HoldEach (Holds walk.entry.order (placed_at walk.entry.nodes.now element)) (size_of (placed_at walk.entry.nodes.now element)) 0 bytes.now vs)) }
 {
-    let size = layout_at(nodes, element).size.bytes();
-    let mut values = Vec::with_capacity(alloc, count as usize)?;
+    let size = layout_at(walk.nodes, element).size.bytes();
+    let mut values = Vec::with_capacity(walk.alloc, count as usize)?;
     for i in 0..count {
-        match read_part(alloc, order, nodes, element, i * size, bytes)? {
+        match read_part(walk, element, i * size, bytes)? {
             Some(value) => values.push(value)?,
             None => return Ok(None),
         }
@@ -333,25 +304,21 @@ fn read_elements(
 /// The values of fields at these offsets, each as a node before this one.
 #[cycle(read)]
 fn read_parts(
-    alloc: Global,
-    order: Endian,
-    nodes: &[Node],
+    walk: Walk<'_>,
     node: usize,
     offsets: &[Size],
     children: &[usize],
     bytes: &[u8],
 ) -> Result<Option<Vec<Value>>, AllocError>
-    requires there { node < length nodes.now }
+    requires there { node < length walk.nodes.now }
     requires before { All (λ child. child < node) children.now }
-    requires well { are_nodes 0 nodes.now ≡ true }
-    requires widths { have_widths [] nodes.now ≡ true }
-    requires room { have_room (length bytes.now) (parts_at offsets.now (all_at nodes.now children.now)) ≡ true }
-    ensures { IfOk result (FindsEach (HoldParts order (parts_at offsets.now (all_at nodes.now children.now)) bytes.now)) }
+    requires room { have_room (length bytes.now) (parts_at offsets.now (all_at walk.nodes.now children.now)) ≡ true }
+    ensures { IfOk result (FindsEach (HoldParts walk.entry.order (parts_at offsets.now (all_at walk.entry.nodes.now children.now)) bytes.now)) }
 {
     let count = offsets.len().min(children.len());
-    let mut values = Vec::with_capacity(alloc, count)?;
+    let mut values = Vec::with_capacity(walk.alloc, count)?;
     for i in 0..count {
-        match read_part(alloc, order, nodes, children[i], offsets[i].bytes(), bytes)? {
+        match read_part(walk, children[i], offsets[i].bytes(), bytes)? {
             Some(value) => values.push(value)?,
             None => return Ok(None),
         }
@@ -362,9 +329,7 @@ fn read_parts(
 /// The variant that the tag names, and the values of its fields.
 #[cycle(read)]
 fn read_named(
-    alloc: Global,
-    order: Endian,
-    nodes: &[Node],
+    walk: Walk<'_>,
     node: usize,
     encoding: &TagEncoding<VariantIdx>,
     tag: usize,
@@ -372,23 +337,19 @@ fn read_named(
     variants: &[(u128, usize)],
     bytes: &[u8],
 ) -> Result<Option<(usize, Vec<Value>)>, AllocError>
-    requires there { node < length nodes.now }
+    requires there { node < length walk.nodes.now }
     requires first { tag < node }
     requires before { All (λ v. v.1 < node) variants.now }
-    requires well { are_nodes 0 nodes.now ≡ true }
-    requires widths { have_widths [] nodes.now ≡ true }
-    requires width { size_of (placed_at nodes.now tag) ≤ 16 }
-    requires room { arms_have_room (length bytes.now) (arms_in (types_in nodes.now) variants.now) ≡ true }
+    requires width { size_of (placed_at walk.nodes.now tag) ≤ 16 }
+    requires room { arms_have_room (length bytes.now) (arms_in (types_in walk.nodes.now) variants.now) ≡ true }
     ensures { IfOk result (FindsNamed
-        (IsNamedIn order bytes.now encoding.now offset (placed_at nodes.now tag) (arms_in (types_in nodes.now) variants.now))) }
+        (IsNamedIn walk.entry.order bytes.now encoding.now offset (placed_at walk.entry.nodes.now tag) (arms_in (types_in walk.entry.nodes.now) variants.now))) }
 {
-    let width = layout_at(nodes, tag).size;
+    let width = layout_at(walk.nodes, tag).size;
     match part_of(bytes, offset, width.bytes()) {
         Some(part) => {
-            let number = number_in(order, part);
-            read_arm(
-                alloc, order, nodes, node, encoding, width, number, variants, bytes,
-            )
+            let number = number_in(walk.order, part);
+            read_arm(walk, node, encoding, width, number, variants, bytes)
         }
         None => Ok(None),
     }
@@ -397,9 +358,7 @@ fn read_named(
 /// The variant that the number of a tag of this width names, and the values of its fields.
 #[cycle(read)]
 fn read_arm(
-    alloc: Global,
-    order: Endian,
-    nodes: &[Node],
+    walk: Walk<'_>,
     node: usize,
     encoding: &TagEncoding<VariantIdx>,
     width: Size,
@@ -407,18 +366,16 @@ fn read_arm(
     variants: &[(u128, usize)],
     bytes: &[u8],
 ) -> Result<Option<(usize, Vec<Value>)>, AllocError>
-    requires there { node < length nodes.now }
+    requires there { node < length walk.nodes.now }
     requires before { All (λ v. v.1 < node) variants.now }
-    requires well { are_nodes 0 nodes.now ≡ true }
-    requires widths { have_widths [] nodes.now ≡ true }
     requires width { width ≤ 16 }
-    requires room { arms_have_room (length bytes.now) (arms_in (types_in nodes.now) variants.now) ≡ true }
-    ensures { IfOk result (FindsNamed (λ i vs. Names encoding.now width (arms_in (types_in nodes.now) variants.now) tag i
-        × HoldArm order (arms_in (types_in nodes.now) variants.now) i bytes.now vs)) }
+    requires room { arms_have_room (length bytes.now) (arms_in (types_in walk.nodes.now) variants.now) ≡ true }
+    ensures { IfOk result (FindsNamed (λ i vs. Names encoding.now width (arms_in (types_in walk.entry.nodes.now) variants.now) tag i
+        × HoldArm walk.entry.order (arms_in (types_in walk.entry.nodes.now) variants.now) i bytes.now vs)) }
 {
     for i in 0..variants.len() {
-        if is_named(nodes, encoding, width, variants, i, tag) {
-            if let Some(values) = read_own(alloc, order, nodes, variants[i].1, bytes)? {
+        if is_named(walk.nodes, encoding, width, variants, i, tag) {
+            if let Some(values) = read_own(walk, variants[i].1, bytes)? {
                 return Ok(Some((i, values)));
             }
         }
@@ -428,29 +385,44 @@ fn read_arm(
 
 /// The values of the fields of a variant, which has a node of its own.
 #[cycle(read)]
-fn read_own(
-    alloc: Global,
-    order: Endian,
-    nodes: &[Node],
-    variant: usize,
-    bytes: &[u8],
-) -> Result<Option<Vec<Value>>, AllocError>
-    requires there { variant < length nodes.now }
-    requires well { are_nodes 0 nodes.now ≡ true }
-    requires widths { have_widths [] nodes.now ≡ true }
-    requires room { have_room (length bytes.now) (own_fields (placed_at nodes.now variant)) ≡ true }
-    ensures { IfOk result (FindsEach (HoldParts order (own_fields (placed_at nodes.now variant)) bytes.now)) }
+fn read_own(walk: Walk<'_>, variant: usize, bytes: &[u8]) -> Result<Option<Vec<Value>>, AllocError>
+    requires there { variant < length walk.nodes.now }
+    requires room { have_room (length bytes.now) (own_fields (placed_at walk.nodes.now variant)) ≡ true }
+    ensures { IfOk result (FindsEach (HoldParts walk.entry.order (own_fields (placed_at walk.entry.nodes.now variant)) bytes.now)) }
 {
-    let (offsets, children) = own_parts(nodes, variant);
-    read_parts(alloc, order, nodes, variant, offsets, children, bytes)
+    let (offsets, children) = own_parts(walk.nodes, variant);
+    read_parts(walk, variant, offsets, children, bytes)
+}
+
+/// The variant that the tag beside these variants names, and the values of its fields.
+#[cycle(read)]
+fn read_variant(
+    walk: Walk<'_>,
+    node: usize,
+    layout: &LayoutData<FieldIdx, VariantIdx>,
+    tag: usize,
+    variants: &[(u128, usize)],
+    bytes: &[u8],
+) -> Result<Option<Value>, AllocError>
+    requires there { node < length walk.nodes.now }
+    requires first { tag < node }
+    requires before { All (λ v. v.1 < node) variants.now }
+    requires width { size_of (placed_at walk.nodes.now tag) ≤ 16 }
+    requires size { length bytes.now ≡ layout.now.size }
+    requires room { arms_have_room layout.now.size (arms_in (types_in walk.nodes.now) variants.now) ≡ true }
+    ensures { IfOk result (λ found. (mark : Mark) → Finds (Holds walk.entry.order (tagged layout.now mark (tag_offset layout.now)
+        (placed_at walk.entry.nodes.now tag) (encoding_of layout.now.variants) (arms_in (types_in walk.entry.nodes.now) variants.now)) bytes.now) found) }
+{
+    let encoding = encoding_of(layout);
+    let offset = tag_offset(layout);
+    let found = read_named(walk, node, &encoding, tag, offset, variants, bytes)?;
+    Ok(as_named(found))
 }
 
 /// The state that the tag names, the values of the prefix fields, and those of the state's locals.
 #[cycle(read)]
 fn read_state(
-    alloc: Global,
-    order: Endian,
-    nodes: &[Node],
+    walk: Walk<'_>,
     node: usize,
     layout: &LayoutData<FieldIdx, VariantIdx>,
     prefix: &[usize],
@@ -458,33 +430,21 @@ fn read_state(
     states: &[(u128, usize)],
     bytes: &[u8],
 ) -> Result<Option<Value>, AllocError>
-    requires there { node < length nodes.now }
+    requires there { node < length walk.nodes.now }
     requires fields { All (λ child. child < node) prefix.now }
     requires first { tag < node }
     requires before { All (λ v. v.1 < node) states.now }
-    requires well { are_nodes 0 nodes.now ≡ true }
-    requires widths { have_widths [] nodes.now ≡ true }
-    requires width { size_of (placed_at nodes.now tag) ≤ 16 }
+    requires width { size_of (placed_at walk.nodes.now tag) ≤ 16 }
     requires size { length bytes.now ≡ layout.now.size }
-    requires room { has_room (states_in (types_in nodes.now) layout.now prefix.now tag states.now) ≡ true }
-    ensures { IfOk result (Finds (Holds order (states_in (types_in nodes.now) layout.now prefix.now tag states.now) bytes.now)) }
+    requires room { has_room (states_in (types_in walk.nodes.now) layout.now prefix.now tag states.now) ≡ true }
+    ensures { IfOk result (Finds (Holds walk.entry.order (states_in (types_in walk.entry.nodes.now) layout.now prefix.now tag states.now) bytes.now)) }
 {
     let offset = state_tag_offset(layout, prefix.len());
-    let shared = match read_parts(alloc, order, nodes, node, offsets(layout), prefix, bytes)? {
+    let shared = match read_parts(walk, node, offsets(layout), prefix, bytes)? {
         Some(shared) => shared,
         None => return Ok(None),
     };
-    let found = read_named(
-        alloc,
-        order,
-        nodes,
-        node,
-        &TagEncoding::Direct,
-        tag,
-        offset,
-        states,
-        bytes,
-    )?;
+    let found = read_named(walk, node, &TagEncoding::Direct, tag, offset, states, bytes)?;
     match found {
         Some((state, locals)) => Ok(Some(Value::State {
             state,
@@ -508,5 +468,10 @@ pub fn read_value(alloc: Global, laid: &Laid, bytes: &[u8]) -> Result<Option<Val
         (other : Meant) → Holds (endian_of laid.now) (placed_of laid.now) bytes.now other → other ≡ value_of v)) }
 {
     let nodes = laid.nodes();
-    read_node(alloc, laid.endian(), nodes, nodes.len() - 1, bytes)
+    let walk = Walk {
+        alloc,
+        order: laid.endian(),
+        nodes,
+    };
+    read_node(walk, nodes.len() - 1, bytes)
 }

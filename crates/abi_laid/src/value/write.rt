@@ -1,6 +1,6 @@
 //! The bytes of a value.
 
-ghost use Rattle.std.specs.Prelude.{◌≡◌, ℕ, ◌+◌, ◌*◌, ◌<◌, ◌≤◌, ◌&&◌, ◌||◌, [], All, IfErr, IfOk, List, MatchBool, OnOk, length, get_or, nat_lt, true, false};
+ghost use Rattle.std.specs.Prelude.{◌≡◌, ℕ, ◌+◌, ◌*◌, ◌<◌, ◌≤◌, ◌&&◌, ◌||◌, All, IfErr, IfOk, List, MatchBool, OnOk, length, get_or, nat_lt, true, false};
 ghost use Rattle.abi_base.specs.declared.data_layout.TargetDataLayout.{TargetDataLayout};
 ghost use Rattle.abi_laid.specs.declared.value.error.ValueError.{ValueError};
 ghost use Rattle.abi_laid.specs.Tree.{Tree};
@@ -8,13 +8,15 @@ ghost use Rattle.abi_laid.specs.Values.{IsValueOf};
 ghost use Rattle.abi_laid.specs.Laid.{endian_of, placed_of};
 ghost use Rattle.abi_laid.specs.Value.{Value as Meant, value_count, value_of, values_of};
 ghost use Rattle.abi_laid.specs.Bytes.{AreBytes, number_of, picked};
-ghost use Rattle.abi_laid.specs.Placed.{Placed, size_of};
+ghost use Rattle.abi_laid.specs.declared.mark.Mark.{Mark};
+ghost use Rattle.abi_laid.specs.Placed.{Placed, size_of, tagged};
+ghost use Rattle.abi_laid.specs.Places.{is_data_place};
+ghost use Rattle.abi_scalar.specs.Shape.{listed_offsets};
 ghost use Rattle.abi_laid.specs.Tag.{Names};
 ghost use Rattle.abi_laid.specs.Holding.{HoldEach, HoldParts, Holds, tag_at};
-ghost use Rattle.abi_laid.specs.Nodes.{arms_in, own_fields, parts_at, placed_at, types_in};
-ghost use Rattle.abi_laid.specs.Well.{all_at, are_nodes};
+ghost use Rattle.abi_laid.specs.Nodes.{arms_in, encoding_of, own_fields, parts_at, placed_at, states_in, tag_offset, types_in};
+ghost use Rattle.abi_laid.specs.Well.{all_at};
 ghost use Rattle.abi_laid.specs.Room.{arms_have_room, has_room, have_room};
-ghost use Rattle.abi_laid.specs.Widths.{have_widths};
 ghost use Rattle.abi_laid.specs.Runs.{covers, Ascend};
 ghost use Rattle.abi_laid.specs.Reading.{IsNamedIn, KeepsValues};
 ghost use Rattle.abi_laid.specs.Covering.{are_covered, each_covered, is_arm_covered, is_byte_at, is_covered, is_told};
@@ -22,16 +24,17 @@ ghost use Rattle.abi_laid.specs.Writing.{IsPutOver};
 
 use crate::data_runs::data_runs;
 use crate::laid::Laid;
-use crate::node::{Node, Shape, layout_at, offsets, state_tag_offset, tag_offset};
+use crate::node::{Shape, layout_at, offsets, state_tag_offset, tag_offset};
 use crate::runs::Run;
 use crate::value::Value;
 use crate::value::error::ValueError;
 use crate::value::named::{encoding_of, niche_number, own_parts};
 use crate::value::read::read_node;
 use crate::value::same::is_same;
+use crate::value::walk::Walk;
 use abi_base::{Endian, Size};
-use abi_index::{Idx, VariantIdx};
-use abi_scalar::TagEncoding;
+use abi_index::{FieldIdx, Idx, VariantIdx};
+use abi_scalar::{LayoutData, TagEncoding};
 use std::alloc::{AllocError, Global};
 
 /// One byte of a number of so many bytes: the one with this index in memory.
@@ -152,188 +155,106 @@ fn write_tag(
     }
 }
 
+/// Puts a union's data bytes over those from a place on.
+fn write_union(
+    walk: Walk<'_>,
+    node: usize,
+    content: &[u8],
+    at: usize,
+    bytes: &mut [u8],
+) -> Result<(), AllocError>
+    requires there { node < length walk.nodes.now }
+    requires room { has_room (placed_at walk.nodes.now node) ≡ true }
+    requires fits { at + size_of (placed_at walk.nodes.now node) ≤ length bytes.old }
+    ensures long { length bytes.new ≡ length bytes.old }
+    ensures put { OnOk result ((b : List ℕ) → length b ≡ size_of (placed_at walk.entry.nodes.now node) →
+        content.now ≡ picked (is_data_place (placed_at walk.entry.nodes.now node)) 0 b →
+        IsPutOver (is_data_place (placed_at walk.entry.nodes.now node)) at b bytes.old bytes.new) }
+{
+    let size = layout_at(walk.nodes, node).size.bytes() as usize;
+    let runs = data_runs(walk.alloc, walk.nodes, node)?;
+    put_places(&runs, content, at, size, bytes);
+    Ok(())
+}
+
 /// Puts a value over the bytes of a node, wherever its parts cover one. Of a value that no bytes of the node hold nothing is said.
 #[cycle(write)]
 pub(crate) fn write_node(
-    alloc: Global,
-    order: Endian,
-    nodes: &[Node],
+    walk: Walk<'_>,
     node: usize,
     value: &Value,
     at: usize,
     bytes: &mut [u8],
 ) -> Result<(), AllocError>
-    requires there { node < length nodes.now }
-    requires well { are_nodes 0 nodes.now ≡ true }
-    requires widths { have_widths [] nodes.now ≡ true }
-    requires room { has_room (placed_at nodes.now node) ≡ true }
-    requires fits { at + size_of (placed_at nodes.now node) ≤ length bytes.old }
+    requires there { node < length walk.nodes.now }
+    requires room { has_room (placed_at walk.nodes.now node) ≡ true }
+    requires fits { at + size_of (placed_at walk.nodes.now node) ≤ length bytes.old }
     ensures long { length bytes.new ≡ length bytes.old }
-    ensures put { OnOk result ((b : List ℕ) → AreBytes b → Holds order (placed_at nodes.now node) b (value_of value.now) →
-        IsPutOver (is_covered (placed_at nodes.now node) (value_of value.now)) at b bytes.old bytes.new) }
+    ensures put { OnOk result ((b : List ℕ) → AreBytes b → Holds walk.entry.order (placed_at walk.entry.nodes.now node) b (value_of value.now) →
+        IsPutOver (is_covered (placed_at walk.entry.nodes.now node) (value_of value.now)) at b bytes.old bytes.new) }
 {
+    let nodes = walk.nodes;
     let here = &nodes[node];
     let layout = &here.layout;
-    let size = layout.size.bytes() as usize;
     match &here.shape {
         Shape::Scalar(_) => {
-            put_number(order, value.number(), size, at, bytes);
+            let size = layout.size.bytes() as usize;
+            put_number(walk.order, value.number(), size, at, bytes);
             Ok(())
         }
         Shape::Pair { first, second } => {
             let (one, two) = value.pair();
             let numbers = [Value::Num(one), Value::Num(two)];
-            write_parts(
-                alloc,
-                order,
-                nodes,
-                node,
-                offsets(layout),
-                &[*first, *second],
-                &numbers,
-                at,
-                size,
-                bytes,
-            )
+            write_fields(walk, node, layout, &[*first, *second], &numbers, at, bytes)
         }
         Shape::Never(_) => Ok(()),
-        Shape::Elements { count, element } => write_elements(
-            alloc,
-            order,
-            nodes,
-            *element,
-            *count,
-            value.list(),
-            at,
-            bytes,
-        ),
-        Shape::Fields(_, children) => write_parts(
-            alloc,
-            order,
-            nodes,
-            node,
-            offsets(layout),
-            children,
-            value.list(),
-            at,
-            size,
-            bytes,
-        ),
-        Shape::Union(_, _) => {
-            let runs = data_runs(alloc, nodes, node)?;
-            put_places(&runs, value.union(), at, size, bytes);
-            Ok(())
+        Shape::Elements { count, element } => {
+            write_elements(walk, *element, *count, value.list(), at, bytes)
         }
-        Shape::Vector(lanes) => write_node(alloc, order, nodes, *lanes, value, at, bytes),
+        Shape::Fields(_, children) => {
+            write_fields(walk, node, layout, children, value.list(), at, bytes)
+        }
+        Shape::Union(_, _) => write_union(walk, node, value.union(), at, bytes),
+        Shape::Vector(lanes) => write_node(walk, *lanes, value, at, bytes),
         Shape::Single(_, children) => {
             let (_index, values) = value.variant();
-            write_parts(
-                alloc,
-                order,
-                nodes,
-                node,
-                offsets(layout),
-                children,
-                values,
-                at,
-                size,
-                bytes,
-            )
+            write_fields(walk, node, layout, children, values, at, bytes)
         }
         Shape::Tagged {
             mark: _,
             tag,
             variants,
-        } => {
-            let encoding = encoding_of(layout);
-            let (index, values) = value.variant();
-            write_arm(
-                alloc,
-                order,
-                nodes,
-                node,
-                &encoding,
-                *tag,
-                tag_offset(layout),
-                variants,
-                index,
-                values,
-                at,
-                size,
-                bytes,
-            )
-        }
+        } => write_variant(walk, node, layout, *tag, variants, value, at, bytes),
         Shape::States {
             prefix,
             tag,
             states,
-        } => {
-            let (state, shared, locals) = value.state();
-            write_parts(
-                alloc,
-                order,
-                nodes,
-                node,
-                offsets(layout),
-                prefix,
-                shared,
-                at,
-                size,
-                bytes,
-            )?;
-            write_arm(
-                alloc,
-                order,
-                nodes,
-                node,
-                &TagEncoding::Direct,
-                *tag,
-                state_tag_offset(layout, prefix.len()),
-                states,
-                state,
-                locals,
-                at,
-                size,
-                bytes,
-            )
-        }
+        } => write_state(walk, node, layout, prefix, *tag, states, value, at, bytes),
     }
 }
 
 /// Puts the values of so many elements over their bytes, one after another.
 #[cycle(write)]
 fn write_elements(
-    alloc: Global,
-    order: Endian,
-    nodes: &[Node],
+    walk: Walk<'_>,
     element: usize,
     count: u64,
     values: &[Value],
     at: usize,
     bytes: &mut [u8],
 ) -> Result<(), AllocError>
-    requires there { element < length nodes.now }
-    requires well { are_nodes 0 nodes.now ≡ true }
-    requires widths { have_widths [] nodes.now ≡ true }
-    requires room { has_room (placed_at nodes.now element) ≡ true }
-    requires fits { at + size_of (placed_at nodes.now element) * count ≤ length bytes.old }
+    requires there { element < length walk.nodes.now }
+    requires room { has_room (placed_at walk.nodes.now element) ≡ true }
+    requires fits { at + size_of (placed_at walk.nodes.now element) * count ≤ length bytes.old }
     ensures long { length bytes.new ≡ length bytes.old }
     ensures put { OnOk result ((b : List ℕ) → AreBytes b → value_count (values_of values.now) ≡ count →
-        HoldEach (Holds order (placed_at nodes.now element)) (size_of (placed_at nodes.now element)) 0 b (values_of values.now) →
-        IsPutOver (each_covered (is_covered (placed_at nodes.now element)) (size_of (placed_at nodes.now element)) 0 (values_of values.now)) at b
+        HoldEach (Holds walk.entry.order (placed_at walk.entry.nodes.now element)) (size_of (placed_at walk.entry.nodes.now element)) 0 b (values_of values.now) →
+        IsPutOver (each_covered (is_covered (placed_at walk.entry.nodes.now element)) (size_of (placed_at walk.entry.nodes.now element)) 0 (values_of values.now)) at b
         bytes.old bytes.new) }
 {
-    let size = layout_at(nodes, element).size.bytes() as usize;
+    let size = layout_at(walk.nodes, element).size.bytes() as usize;
     for i in 0..values.len().min(count as usize) {
-        write_node(
-            alloc,
-            order,
-            nodes,
-            element,
-            &values[i],
-            at + i * size,
-            bytes,
-        )?;
+        write_node(walk, element, &values[i], at + i * size, bytes)?;
     }
     Ok(())
 }
@@ -341,9 +262,7 @@ fn write_elements(
 /// Puts the values of fields over the bytes at these offsets, each as those of a node before this one.
 #[cycle(write)]
 fn write_parts(
-    alloc: Global,
-    order: Endian,
-    nodes: &[Node],
+    walk: Walk<'_>,
     node: usize,
     offsets: &[Size],
     children: &[usize],
@@ -352,29 +271,119 @@ fn write_parts(
     size: usize,
     bytes: &mut [u8],
 ) -> Result<(), AllocError>
-    requires there { node < length nodes.now }
+    requires there { node < length walk.nodes.now }
     requires before { All (λ child. child < node) children.now }
-    requires well { are_nodes 0 nodes.now ≡ true }
-    requires widths { have_widths [] nodes.now ≡ true }
-    requires room { have_room size (parts_at offsets.now (all_at nodes.now children.now)) ≡ true }
+    requires room { have_room size (parts_at offsets.now (all_at walk.nodes.now children.now)) ≡ true }
     requires fits { at + size ≤ length bytes.old }
     ensures long { length bytes.new ≡ length bytes.old }
-    ensures put { OnOk result ((b : List ℕ) → AreBytes b → HoldParts order (parts_at offsets.now (all_at nodes.now children.now)) b (values_of values.now) →
-        IsPutOver (are_covered (parts_at offsets.now (all_at nodes.now children.now)) (values_of values.now)) at b bytes.old bytes.new) }
+    ensures put { OnOk result ((b : List ℕ) → AreBytes b → HoldParts walk.entry.order (parts_at offsets.now (all_at walk.entry.nodes.now children.now)) b (values_of values.now) →
+        IsPutOver (are_covered (parts_at offsets.now (all_at walk.entry.nodes.now children.now)) (values_of values.now)) at b bytes.old bytes.new) }
 {
     for i in 0..offsets.len().min(children.len()).min(values.len()) {
         let place = at + offsets[i].bytes() as usize;
-        write_node(alloc, order, nodes, children[i], &values[i], place, bytes)?;
+        write_node(walk, children[i], &values[i], place, bytes)?;
     }
     Ok(())
+}
+
+/// Puts the values of the fields of a node, which has this layout, over their bytes.
+#[cycle(write)]
+fn write_fields(
+    walk: Walk<'_>,
+    node: usize,
+    layout: &LayoutData<FieldIdx, VariantIdx>,
+    children: &[usize],
+    values: &[Value],
+    at: usize,
+    bytes: &mut [u8],
+) -> Result<(), AllocError>
+    requires there { node < length walk.nodes.now }
+    requires before { All (λ child. child < node) children.now }
+    requires room { have_room layout.now.size (parts_at (listed_offsets layout.now.fields) (all_at walk.nodes.now children.now)) ≡ true }
+    requires fits { at + layout.now.size ≤ length bytes.old }
+    ensures long { length bytes.new ≡ length bytes.old }
+    ensures put { OnOk result ((b : List ℕ) → AreBytes b →
+        let parts = parts_at (listed_offsets layout.now.fields) (all_at walk.entry.nodes.now children.now) in
+        HoldParts walk.entry.order parts b (values_of values.now) → IsPutOver (are_covered parts (values_of values.now)) at b bytes.old bytes.new) }
+{
+    let size = layout.size.bytes() as usize;
+    let places = offsets(layout);
+    write_parts(walk, node, places, children, values, at, size, bytes)
+}
+
+/// Puts a variant over the bytes of a node that has this layout, a tag and these variants beside it.
+#[cycle(write)]
+fn write_variant(
+    walk: Walk<'_>,
+    node: usize,
+    layout: &LayoutData<FieldIdx, VariantIdx>,
+    tag: usize,
+    variants: &[(u128, usize)],
+    value: &Value,
+    at: usize,
+    bytes: &mut [u8],
+) -> Result<(), AllocError>
+    requires there { node < length walk.nodes.now }
+    requires first { tag < node }
+    requires before { All (λ v. v.1 < node) variants.now }
+    requires width { size_of (placed_at walk.nodes.now tag) ≤ 16 }
+    requires inside { tag_offset layout.now + size_of (placed_at walk.nodes.now tag) ≤ layout.now.size }
+    requires room { arms_have_room layout.now.size (arms_in (types_in walk.nodes.now) variants.now) ≡ true }
+    requires fits { at + layout.now.size ≤ length bytes.old }
+    ensures long { length bytes.new ≡ length bytes.old }
+    ensures put { OnOk result ((b : List ℕ) → AreBytes b → (mark : Mark) →
+        let arms = arms_in (types_in walk.entry.nodes.now) variants.now in
+        let p = tagged layout.now mark (tag_offset layout.now) (placed_at walk.entry.nodes.now tag) (encoding_of layout.now.variants) arms in
+        Holds walk.entry.order p b (value_of value.now) → IsPutOver (is_covered p (value_of value.now)) at b bytes.old bytes.new) }
+{
+    let size = layout.size.bytes() as usize;
+    let encoding = encoding_of(layout);
+    let offset = tag_offset(layout);
+    let (index, values) = value.variant();
+    write_arm(
+        walk, node, &encoding, tag, offset, variants, index, values, at, size, bytes,
+    )
+}
+
+/// Puts a state over the bytes of a node that has this layout, these prefix fields, a tag and these states beside it.
+#[cycle(write)]
+fn write_state(
+    walk: Walk<'_>,
+    node: usize,
+    layout: &LayoutData<FieldIdx, VariantIdx>,
+    prefix: &[usize],
+    tag: usize,
+    states: &[(u128, usize)],
+    value: &Value,
+    at: usize,
+    bytes: &mut [u8],
+) -> Result<(), AllocError>
+    requires there { node < length walk.nodes.now }
+    requires fields { All (λ child. child < node) prefix.now }
+    requires first { tag < node }
+    requires before { All (λ v. v.1 < node) states.now }
+    requires width { size_of (placed_at walk.nodes.now tag) ≤ 16 }
+    requires room { has_room (states_in (types_in walk.nodes.now) layout.now prefix.now tag states.now) ≡ true }
+    requires fits { at + layout.now.size ≤ length bytes.old }
+    ensures long { length bytes.new ≡ length bytes.old }
+    ensures put { OnOk result ((b : List ℕ) → AreBytes b →
+        let p = states_in (types_in walk.entry.nodes.now) layout.now prefix.now tag states.now in
+        Holds walk.entry.order p b (value_of value.now) → IsPutOver (is_covered p (value_of value.now)) at b bytes.old bytes.new) }
+{
+    let size = layout.size.bytes() as usize;
+    let direct = TagEncoding::Direct;
+    let offset = state_tag_offset(layout, prefix.len());
+    let (state, shared, locals) = value.state();
+    write_fields(walk, node, layout, prefix, shared, at, bytes)?;
+    write_arm(
+        walk, node, &direct, tag, offset, states, state, locals, at, size, bytes,
+    )
 }
 
 /// Puts the tag of a variant, and the values of its fields, over their bytes.
 #[cycle(write)]
 fn write_arm(
-    alloc: Global,
-    order: Endian,
-    nodes: &[Node],
+    walk: Walk<'_>,
     node: usize,
     encoding: &TagEncoding<VariantIdx>,
     tag: usize,
@@ -386,85 +395,60 @@ fn write_arm(
     size: usize,
     bytes: &mut [u8],
 ) -> Result<(), AllocError>
-    requires there { node < length nodes.now }
+    requires there { node < length walk.nodes.now }
     requires first { tag < node }
     requires before { All (λ v. v.1 < node) variants.now }
-    requires well { are_nodes 0 nodes.now ≡ true }
-    requires widths { have_widths [] nodes.now ≡ true }
-    requires width { size_of (placed_at nodes.now tag) ≤ 16 }
-    requires inside { offset + size_of (placed_at nodes.now tag) ≤ size }
-    requires room { arms_have_room size (arms_in (types_in nodes.now) variants.now) ≡ true }
+    requires width { size_of (placed_at walk.nodes.now tag) ≤ 16 }
+    requires inside { offset + size_of (placed_at walk.nodes.now tag) ≤ size }
+    requires room { arms_have_room size (arms_in (types_in walk.nodes.now) variants.now) ≡ true }
     requires fits { at + size ≤ length bytes.old }
     ensures long { length bytes.new ≡ length bytes.old }
     ensures put { OnOk result ((b : List ℕ) → AreBytes b →
-        IsNamedIn order b encoding.now offset (placed_at nodes.now tag) (arms_in (types_in nodes.now) variants.now) index (values_of values.now) →
-        IsPutOver (λ k. (is_told encoding.now index && is_byte_at offset (size_of (placed_at nodes.now tag)) k)
-        || is_arm_covered (arms_in (types_in nodes.now) variants.now) index (values_of values.now) k) at b bytes.old bytes.new) }
+        IsNamedIn walk.entry.order b encoding.now offset (placed_at walk.entry.nodes.now tag) (arms_in (types_in walk.entry.nodes.now) variants.now) index (values_of values.now) →
+        IsPutOver (λ k. (is_told encoding.now index && is_byte_at offset (size_of (placed_at walk.entry.nodes.now tag)) k)
+        || is_arm_covered (arms_in (types_in walk.entry.nodes.now) variants.now) index (values_of values.now) k) at b bytes.old bytes.new) }
 {
     if index >= variants.len() {
         return Ok(());
     }
-    let width = layout_at(nodes, tag).size;
+    let order = walk.order;
+    let width = layout_at(walk.nodes, tag).size;
     write_tag(order, encoding, width, variants, index, offset, at, bytes);
-    write_own(
-        alloc,
-        order,
-        nodes,
-        variants[index].1,
-        values,
-        at,
-        size,
-        bytes,
-    )
+    write_own(walk, variants[index].1, values, at, size, bytes)
 }
 
 /// Puts the values of the fields of a variant, which has a node of its own, over their bytes.
 #[cycle(write)]
 fn write_own(
-    alloc: Global,
-    order: Endian,
-    nodes: &[Node],
+    walk: Walk<'_>,
     variant: usize,
     values: &[Value],
     at: usize,
     size: usize,
     bytes: &mut [u8],
 ) -> Result<(), AllocError>
-    requires there { variant < length nodes.now }
-    requires well { are_nodes 0 nodes.now ≡ true }
-    requires widths { have_widths [] nodes.now ≡ true }
-    requires room { have_room size (own_fields (placed_at nodes.now variant)) ≡ true }
+    requires there { variant < length walk.nodes.now }
+    requires room { have_room size (own_fields (placed_at walk.nodes.now variant)) ≡ true }
     requires fits { at + size ≤ length bytes.old }
     ensures long { length bytes.new ≡ length bytes.old }
-    ensures put { OnOk result ((b : List ℕ) → AreBytes b → HoldParts order (own_fields (placed_at nodes.now variant)) b (values_of values.now) →
-        IsPutOver (are_covered (own_fields (placed_at nodes.now variant)) (values_of values.now)) at b bytes.old bytes.new) }
+    ensures put { OnOk result ((b : List ℕ) → AreBytes b → HoldParts walk.entry.order (own_fields (placed_at walk.entry.nodes.now variant)) b (values_of values.now) →
+        IsPutOver (are_covered (own_fields (placed_at walk.entry.nodes.now variant)) (values_of values.now)) at b bytes.old bytes.new) }
 {
-    let (offsets, children) = own_parts(nodes, variant);
-    write_parts(
-        alloc, order, nodes, variant, offsets, children, values, at, size, bytes,
-    )
+    let (offsets, children) = own_parts(walk.nodes, variant);
+    write_parts(walk, variant, offsets, children, values, at, size, bytes)
 }
 
 /// Whether these bytes hold the value as those of a node, where they hold no more than one.
-fn holds(
-    alloc: Global,
-    order: Endian,
-    nodes: &[Node],
-    node: usize,
-    value: &Value,
-    bytes: &[u8],
-) -> Result<bool, AllocError>
-    requires there { node < length nodes.now }
-    requires well { are_nodes 0 nodes.now ≡ true }
-    requires widths { have_widths [] nodes.now ≡ true }
-    requires room { has_room (placed_at nodes.now node) ≡ true }
+fn holds(walk: Walk<'_>, node: usize, value: &Value, bytes: &[u8]) -> Result<bool, AllocError>
+    requires there { node < length walk.nodes.now }
+    requires room { has_room (placed_at walk.nodes.now node) ≡ true }
     ensures bytes { AreBytes bytes.now }
     ensures held { IfOk result (λ yes. MatchBool yes
-        (Holds order (placed_at nodes.now node) bytes.now (value_of value.now))
-        (((u w : Meant) → Holds order (placed_at nodes.now node) bytes.now u → Holds order (placed_at nodes.now node) bytes.now w → u ≡ w) →
-        Holds order (placed_at nodes.now node) bytes.now (value_of value.now) → ⊥)) }
+        (Holds walk.entry.order (placed_at walk.entry.nodes.now node) bytes.now (value_of value.now))
+        (((u w : Meant) → Holds walk.entry.order (placed_at walk.entry.nodes.now node) bytes.now u → Holds walk.entry.order (placed_at walk.entry.nodes.now node) bytes.now w → u ≡ w) →
+        Holds walk.entry.order (placed_at walk.entry.nodes.now node) bytes.now (value_of value.now) → ⊥)) }
 {
-    match read_node(alloc, order, nodes, node, bytes)? {
+    match read_node(walk, node, bytes)? {
         Some(found) => Ok(is_same(&found, value)),
         None => Ok(false),
     }
@@ -489,10 +473,15 @@ pub fn write_value(alloc: Global, laid: &Laid, value: &Value) -> Result<Vec<u8>,
     let nodes = laid.nodes();
     let root = nodes.len() - 1;
     let order = laid.endian();
+    let walk = Walk {
+        alloc,
+        order,
+        nodes,
+    };
     let size = layout_at(nodes, root).size.bytes() as usize;
     let mut bytes = vec![in alloc; 0u8; size]?;
-    write_node(alloc, order, nodes, root, value, 0, &mut bytes)?;
-    if holds(alloc, order, nodes, root, value, &bytes)? {
+    write_node(walk, root, value, 0, &mut bytes)?;
+    if holds(walk, root, value, &bytes)? {
         Ok(bytes)
     } else {
         Err(ValueError::NotAValue)

@@ -20,6 +20,9 @@ decreases-read_own l = 6 * l.variant + 1
 abbrev pub decreases-read_named : goal.decreases-read_named
 decreases-read_named l = 6 * l.node + 1
 
+abbrev pub decreases-read_variant : goal.decreases-read_variant
+decreases-read_variant l = 6 * l.node + 2
+
 abbrev pub decreases-read_state : goal.decreases-read_state
 decreases-read_state l = 6 * l.node + 2
 
@@ -35,13 +38,13 @@ decreases-read_elements l = 6 * l.element + 5
 -- no variant before the i-th is named and held
 abbrev pub invariant-read_arm-loop-i : goal.invariant-read_arm-loop-i
 invariant-read_arm-loop-i l =
-    (j : ℕ) (vs : Values) → j < l.i → Names l.encoding l.width (arms_in (types_in l.nodes) l.variants) l.tag j → HoldArm l.order (arms_in (types_in l.nodes) l.variants) j l.bytes vs → ⊥
+    (j : ℕ) (vs : Values) → j < l.i → Names l.encoding l.width (arms_in (types_in l.walk.nodes.now) l.variants) l.tag j → HoldArm l.walk.order (arms_in (types_in l.walk.nodes.now) l.variants) j l.bytes vs → ⊥
 
 abbrev pub invariant-read_elements-loop-i : goal.invariant-read_elements-loop-i
 invariant-read_elements-loop-i l =
-    let hold = Holds l.order (placed_at l.nodes l.element) in
-    let size = size_of (placed_at l.nodes l.element) in
+    let hold = Holds l.walk.order (placed_at l.walk.nodes.now l.element) in
+    let size = size_of (placed_at l.walk.nodes.now l.element) in
     IsRead (HoldAll hold size l.bytes l.count) (HoldFrom hold size l.bytes l.count l.i) l.values.items
 
 abbrev pub invariant-read_parts-loop-i : goal.invariant-read_parts-loop-i
-invariant-read_parts-loop-i l = AreRead l.order l.offsets (all_at l.nodes l.children) l.bytes l.i l.values.items
+invariant-read_parts-loop-i l = AreRead l.walk.order l.offsets (all_at l.walk.nodes.now l.children) l.bytes l.i l.values.items

@@ -7,5 +7,5 @@ use Rattle.abi_laid.proofs.value.write.holds.Goals as goal
 
 pub returns-in-None-clause-held : goal.returns-in-None-clause-held
 returns-in-None-clause-held c =
-    let found = subst (Finds (Holds c.args.order (placed_at c.args.nodes.now c.args.node) c.args.bytes.now)) c.in-None.is c.in_ok-found.ensures in
+    let found = subst (Finds (Holds c.args.walk.order (placed_at c.args.walk.nodes.now c.args.node) c.args.bytes.now)) c.in-None.is c.in_ok-found.ensures in
     λ unique h. found (value_of c.args.value.now) h
