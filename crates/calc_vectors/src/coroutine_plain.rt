@@ -6,11 +6,12 @@ ghost use Rattle.abi_base.specs.DataLayout.{IsLawfulDataLayout};
 
 use crate::coroutines::{Coroutine, State, answered, state};
 use crate::every_order::least_size;
+use crate::fields::{Field, layouts_of};
 use crate::generated::Dice;
-use crate::samples::{Laid, elements, is_list, unsigned};
+use crate::samples::{Laid, is_list, unsigned};
 use abi_base::{Align, Integer, Size, StructKind, TargetDataLayout};
 use abi_index::{FieldIdx, VariantIdx};
-use abi_scalar::{FieldsShape, LayoutData, ReprOptions, VariantLayout, Variants};
+use abi_scalar::{FieldsShape, ReprOptions, VariantLayout, Variants};
 use std::alloc::{AllocError, Global};
 use std::process::Abort;
 use std::test::Fail;
@@ -75,10 +76,7 @@ fn do_clash(asked: Coroutine, a: u32, b: u32) -> bool {
         .conflicts
         .iter()
         .any(|pair| *pair == (a, b) || *pair == (b, a))
-        || asked
-            .states
-            .iter()
-            .any(|state| holds(state, a) && holds(state, b))
+        || stand_together(asked, a, b)
 }
 
 /// Whether two parts lie as they have to: those of one local at one place, and those that clash, or stand in one state, apart.
@@ -224,27 +222,16 @@ fn expected_size(
 }
 
 /// The types that prefix fields and locals are made of.
-fn kinds(rt: &impl Abort, alloc: Global, dl: &TargetDataLayout) -> Result<Vec<Laid>, AllocError>
-    requires { IsLawfulDataLayout dl.now }
-{
-    let byte = unsigned(dl, Integer::I8, 0xFF);
-    let three = elements(rt, dl, &byte, Some(3));
-    let five = elements(rt, dl, &byte, Some(5));
-    let mut kinds = Vec::with_capacity(alloc, 8)?;
-    for layout in [
-        byte,
-        three,
-        five,
-        unsigned(dl, Integer::I8, 1),
-        unsigned(dl, Integer::I16, 0xFFFF),
-        unsigned(dl, Integer::I32, 0xFFFF_FFFF),
-        unsigned(dl, Integer::I64, 0xFFFF_FFFF_FFFF_FFFF),
-    ] {
-        kinds.push(layout)?;
-    }
-    kinds.push(LayoutData::unit(alloc, dl, true))?;
-    Ok(kinds)
-}
+static KINDS: [Field; 8] = [
+    Field::U8,
+    Field::Bytes(3),
+    Field::Bytes(5),
+    Field::Bool,
+    Field::U16,
+    Field::U32,
+    Field::U64,
+    Field::Unit,
+];
 
 /// At most so many of these.
 fn some_of<'a>(
@@ -353,11 +340,35 @@ fn is_right(
     Ok(all_lie_well(asked, &parts, layout.size))
 }
 
-/// Counts 1,000 coroutines of at most two prefix fields, six locals and five states.
+/// Whether the next coroutine is laid out as it has to be, of at most two prefix fields, six locals and five states.
+fn next_is_right(
+    rt: &impl Abort,
+    alloc: Global,
+    dl: &TargetDataLayout,
+    kinds: &[Laid],
+    dice: &mut Dice,
+    tally: &mut Tally,
+) -> Result<bool, AllocError>
+    requires { IsLawfulDataLayout dl.now }
+{
+    let prefix = some_of(rt, alloc, dice, kinds, 2)?;
+    let locals = some_of(rt, alloc, dice, kinds, 6)?;
+    let states = states_of(rt, alloc, dice, locals.len())?;
+    let conflicts = conflicts_of(rt, alloc, dice, locals.len())?;
+    let asked = Coroutine {
+        prefix: &prefix,
+        locals: &locals,
+        states: &states,
+        conflicts: &conflicts,
+    };
+    is_right(rt, alloc, dl, asked, tally)
+}
+
+/// Counts 1,000 coroutines.
 fn counted(rt: &impl Abort, alloc: Global, dl: &TargetDataLayout) -> Result<Tally, AllocError>
     requires { IsLawfulDataLayout dl.now }
 {
-    let kinds = kinds(rt, alloc, dl)?;
+    let kinds = layouts_of(rt, alloc, dl, &KINDS)?;
     let mut dice = Dice { state: 1 };
     let mut tally = Tally {
         shared: 0,
@@ -365,17 +376,7 @@ fn counted(rt: &impl Abort, alloc: Global, dl: &TargetDataLayout) -> Result<Tall
         wrong: 0,
     };
     for _ in 0..1_000 {
-        let prefix = some_of(rt, alloc, &mut dice, &kinds, 2)?;
-        let locals = some_of(rt, alloc, &mut dice, &kinds, 6)?;
-        let states = states_of(rt, alloc, &mut dice, locals.len())?;
-        let conflicts = conflicts_of(rt, alloc, &mut dice, locals.len())?;
-        let asked = Coroutine {
-            prefix: &prefix,
-            locals: &locals,
-            states: &states,
-            conflicts: &conflicts,
-        };
-        if !is_right(rt, alloc, dl, asked, &mut tally)? {
+        if !next_is_right(rt, alloc, dl, &kinds, &mut dice, &mut tally)? {
             tally.wrong = tally.wrong.wrapping_add(1);
         }
     }

@@ -5,7 +5,8 @@ ghost use Rattle.abi_base.specs.DataLayout.{IsLawfulDataLayout};
 ghost use Rattle.abi_scalar.specs.Shape.{IsListed};
 
 use crate::coroutines::{Coroutine, State, answered, state};
-use crate::samples::{Laid, unsigned};
+use crate::fields::{Field, layouts_of, lent};
+use crate::samples::{Answer, Laid};
 use abi_base::{AbiAlign, Align, Integer, Primitive, Size, TargetDataLayout};
 use abi_index::{FieldIdx, Hash64, IndexVec, VariantIdx};
 use abi_scalar::{
@@ -15,16 +16,6 @@ use abi_scalar::{
 use std::alloc::{AllocError, Global};
 use std::process::Abort;
 use std::test::Fail;
-
-/// A field or a local: an integer, or one without values.
-#[derive(Clone, Copy)]
-enum Field {
-    U8,
-    U16,
-    U32,
-    U64,
-    Never,
-}
 
 /// A state's layout: where the locals that it lists lie, their memory order, and where the last of them ends, rounded up; and
 /// whether it has no values.
@@ -48,7 +39,7 @@ struct Row {
 }
 
 /// The layouts, each worked out by hand.
-const ROWS: &[Row] = &[
+static ROWS: [Row; 10] = [
     // Two states share the bytes of their locals behind the tag.
     Row {
         prefix: &[],
@@ -215,43 +206,6 @@ const ROWS: &[Row] = &[
     },
 ];
 
-/// The layout of a field.
-fn layout_of(dl: &TargetDataLayout, field: Field) -> Laid
-    requires { IsLawfulDataLayout dl.now }
-{
-    match field {
-        Field::U8 => unsigned(dl, Integer::I8, 0xFF),
-        Field::U16 => unsigned(dl, Integer::I16, 0xFFFF),
-        Field::U32 => unsigned(dl, Integer::I32, 0xFFFF_FFFF),
-        Field::U64 => unsigned(dl, Integer::I64, 0xFFFF_FFFF_FFFF_FFFF),
-        Field::Never => LayoutData::never_type(dl),
-    }
-}
-
-/// The layouts of fields.
-fn layouts_of(
-    alloc: Global,
-    dl: &TargetDataLayout,
-    fields: &[Field],
-) -> Result<Vec<Laid>, AllocError>
-    requires { IsLawfulDataLayout dl.now }
-{
-    let mut layouts = Vec::with_capacity(alloc, fields.len())?;
-    for field in fields {
-        layouts.push(layout_of(dl, *field))?;
-    }
-    Ok(layouts)
-}
-
-/// Each of these, lent.
-fn lent<'a>(alloc: Global, layouts: &'a [Laid]) -> Result<Vec<&'a Laid>, AllocError> {
-    let mut all = Vec::with_capacity(alloc, layouts.len())?;
-    for layout in layouts {
-        all.push(layout)?;
-    }
-    Ok(all)
-}
-
 /// The fields at these offsets, in this order.
 fn shape(
     rt: &impl Abort,
@@ -350,6 +304,28 @@ impl Row {
         ))
     }
 
+    /// The calculator's answer.
+    fn answer(
+        &self,
+        rt: &impl Abort,
+        alloc: Global,
+        dl: &TargetDataLayout,
+    ) -> Result<Answer, AllocError>
+        requires { IsLawfulDataLayout dl.now }
+    {
+        let prefix = layouts_of(rt, alloc, dl, self.prefix)?;
+        let locals = layouts_of(rt, alloc, dl, self.locals)?;
+        let (before, all) = (lent(alloc, &prefix)?, lent(alloc, &locals)?);
+        let states = states_of(rt, alloc, self.states)?;
+        let asked = Coroutine {
+            prefix: &before,
+            locals: &all,
+            states: &states,
+            conflicts: self.conflicts,
+        };
+        answered(rt, alloc, dl, asked)
+    }
+
     /// Whether the calculator's answer is the row's.
     fn agrees(
         &self,
@@ -359,23 +335,19 @@ impl Row {
     ) -> Result<bool, AllocError>
         requires { IsLawfulDataLayout dl.now }
     {
-        let prefix = layouts_of(alloc, dl, self.prefix)?;
-        let locals = layouts_of(alloc, dl, self.locals)?;
-        let (before, all) = (lent(alloc, &prefix)?, lent(alloc, &locals)?);
-        let mut states: Vec<State> = Vec::with_capacity(alloc, self.states.len())?;
-        for locals in self.states {
-            states.push(state(rt, alloc, locals)?)?;
-        }
-        let asked = Coroutine {
-            prefix: &before,
-            locals: &all,
-            states: &states,
-            conflicts: self.conflicts,
-        };
-        let answer = answered(rt, alloc, dl, asked)?;
         let last = (self.states.len() as u128).saturating_sub(1);
-        Ok(answer == Ok(self.wanted(rt, alloc, Integer::I8, last)?))
+        let wanted = self.wanted(rt, alloc, Integer::I8, last)?;
+        Ok(self.answer(rt, alloc, dl)? == Ok(wanted))
     }
+}
+
+/// States that hold these locals.
+fn states_of(rt: &impl Abort, alloc: Global, lists: &[&[u32]]) -> Result<Vec<State>, AllocError> {
+    let mut states = Vec::with_capacity(alloc, lists.len())?;
+    for locals in lists {
+        states.push(state(rt, alloc, locals)?)?;
+    }
+    Ok(states)
 }
 
 #[test]

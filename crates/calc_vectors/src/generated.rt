@@ -4,9 +4,10 @@ ghost use Rattle.std.specs.Prelude.{◌<◌, ◌≤◌, length};
 ghost use Rattle.abi_base.specs.DataLayout.{IsLawfulDataLayout};
 
 use crate::every_order::{least_size, source_size};
-use crate::samples::{Laid, elements, is_list, laid, narrow, unsigned};
-use abi_base::{Align, Integer, Size, StructKind, TargetDataLayout};
-use abi_scalar::{LayoutCalculatorError, LayoutData, ReprFlags, ReprOptions};
+use crate::fields::{Field, layout_of, layouts_of, lent};
+use crate::samples::{Laid, is_list, laid, narrow};
+use abi_base::{Align, Size, StructKind, TargetDataLayout};
+use abi_scalar::{LayoutCalculatorError, ReprFlags, ReprOptions};
 use std::alloc::{AllocError, Global};
 use std::process::Abort;
 use std::test::Fail;
@@ -75,42 +76,63 @@ impl Dice {
     }
 }
 
-/// The fields that lists are made of: with and without niches, at an edge and inside, as large as their alignment
-/// and larger, so large that few of them fit below the least bound, and of unknown size.
+/// The first of the fields that lists are made of: with and without niches, at an edge and inside, as large as their alignment and
+/// larger, so large that few of them fit below the least bound, and of unknown size.
+static FIRST: [Field; 6] = [
+    Field::Bytes(3),
+    Field::Halves(3),
+    Field::Letters(6),
+    Field::Bytes(9_001),
+    Field::Bytes(16_384),
+    Field::Slice,
+];
+
+/// The last of them. Two lists lie between.
+static LAST: [Field; 6] = [
+    Field::Unit,
+    Field::U64,
+    Field::U8,
+    Field::Bool,
+    Field::U16,
+    Field::Char,
+];
+
+/// The list of these, at least so aligned.
+fn small_list(
+    rt: &impl Abort,
+    alloc: Global,
+    dl: &TargetDataLayout,
+    fields: &[Field],
+    raised: Option<Align>,
+) -> Result<Laid, AllocError>
+    requires { IsLawfulDataLayout dl.now }
+{
+    let made = layouts_of(rt, alloc, dl, fields)?;
+    let mut repr = ReprOptions::default();
+    repr.align = raised;
+    match laid(
+        rt,
+        alloc,
+        dl,
+        &lent(alloc, &made)?,
+        &repr,
+        &StructKind::AlwaysSized,
+    ) {
+        Ok(list) => Ok(list),
+        Err(_) => panic!(rt; "a small list is refused"),
+    }
+}
+
+/// The fields that lists are made of.
 fn kinds(rt: &impl Abort, alloc: Global, dl: &TargetDataLayout) -> Result<Vec<Laid>, AllocError>
     requires { IsLawfulDataLayout dl.now }
 {
-    let byte = unsigned(dl, Integer::I8, 0xFF);
-    let truth = unsigned(dl, Integer::I8, 1);
-    let half = unsigned(dl, Integer::I16, 0xFFFF);
-    let letter = unsigned(dl, Integer::I32, 0x10_FFFF);
-    let mut kinds = Vec::with_capacity(alloc, 16)?;
-    for (element, count) in [
-        (&byte, 3),
-        (&half, 3),
-        (&letter, 6),
-        (&byte, 9_001),
-        (&byte, 16_384),
-    ] {
-        assert!(rt; element.is_lawful(dl));
-        kinds.push(elements(rt, dl, element, Some(count)))?;
-    }
-    kinds.push(elements(rt, dl, &byte, None))?;
-    for (fields, raised) in [
-        ([&half, &truth], None),
-        ([&byte, &truth], Some(Align::EIGHT)),
-    ] {
-        let mut repr = ReprOptions::default();
-        repr.align = raised;
-        match laid(rt, alloc, dl, &fields, &repr, &StructKind::AlwaysSized) {
-            Ok(list) => kinds.push(list)?,
-            Err(_) => panic!(rt; "a small list is refused"),
-        }
-    }
-    kinds.push(LayoutData::unit(alloc, dl, true))?;
-    kinds.push(unsigned(dl, Integer::I64, 0xFFFF_FFFF_FFFF_FFFF))?;
-    for scalar in [byte, truth, half, letter] {
-        kinds.push(scalar)?;
+    let mut kinds = layouts_of(rt, alloc, dl, &FIRST)?;
+    kinds.push(small_list(rt, alloc, dl, &[Field::U16, Field::Bool], None)?)?;
+    let raised = Some(Align::EIGHT);
+    kinds.push(small_list(rt, alloc, dl, &[Field::U8, Field::Bool], raised)?)?;
+    for field in &LAST {
+        kinds.push(layout_of(rt, alloc, dl, *field))?;
     }
     Ok(kinds)
 }
@@ -191,12 +213,28 @@ impl Tally {
     }
 }
 
+/// What the next list is found to be.
+fn next_judged(
+    rt: &impl Abort,
+    alloc: Global,
+    dl: &TargetDataLayout,
+    kinds: &[Laid],
+    dice: &mut Dice,
+) -> Result<Verdict, AllocError>
+    requires { IsLawfulDataLayout dl.now }
+{
+    assert!(rt; kinds.len() > 0);
+    let fields = dice.fields(alloc, kinds)?;
+    let repr = dice.repr();
+    let kind = dice.kind(fields.len());
+    Ok(judged(rt, alloc, dl, &fields, &repr, &kind))
+}
+
 /// Counts 2,000 lists.
 fn counted(rt: &impl Abort, alloc: Global, dl: &TargetDataLayout) -> Result<Tally, AllocError>
     requires { IsLawfulDataLayout dl.now }
 {
     let kinds = kinds(rt, alloc, dl)?;
-    assert!(rt; kinds.len() > 0);
     let mut dice = Dice { state: 1 };
     let mut tally = Tally {
         least: 0,
@@ -206,10 +244,7 @@ fn counted(rt: &impl Abort, alloc: Global, dl: &TargetDataLayout) -> Result<Tall
         wrong: 0,
     };
     for _ in 0..2_000 {
-        let fields = dice.fields(alloc, &kinds)?;
-        let repr = dice.repr();
-        let kind = dice.kind(fields.len());
-        tally.count(judged(rt, alloc, dl, &fields, &repr, &kind));
+        tally.count(next_judged(rt, alloc, dl, &kinds, &mut dice)?);
     }
     Ok(tally)
 }

@@ -13,6 +13,8 @@ mod coroutines;
 #[cfg(test)]
 mod every_order;
 #[cfg(test)]
+mod fields;
+#[cfg(test)]
 mod generated;
 #[cfg(test)]
 mod lists;

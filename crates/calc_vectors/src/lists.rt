@@ -4,7 +4,8 @@ ghost use Rattle.std.specs.Prelude.{◌≡◌, ◌≤◌, map};
 ghost use Rattle.abi_base.specs.DataLayout.{IsLawfulDataLayout};
 ghost use Rattle.abi_scalar.specs.Lawful.{IsLawfulLayout};
 
-use crate::samples::{Answer, Laid, elements, laid, narrow, unsigned};
+use crate::fields::{Field, layouts_of, lent};
+use crate::samples::{Answer, Laid, laid, narrow};
 use abi_base::{AbiAlign, Align, Integer, Primitive, Size, StructKind, TargetDataLayout};
 use abi_index::{FieldIdx, Hash64, IndexVec, VariantIdx};
 use abi_scalar::{
@@ -14,19 +15,6 @@ use abi_scalar::{
 use std::alloc::{AllocError, Global};
 use std::process::Abort;
 use std::test::Fail;
-
-/// A field of a row.
-#[derive(Clone, Copy)]
-enum Field {
-    U8,
-    U16,
-    U32,
-    Bool,
-    /// An array of so many bytes.
-    Bytes(u64),
-    /// A slice of bytes.
-    Slice,
-}
 
 /// What a row's `repr` asks for beside alignments.
 #[derive(Clone, Copy)]
@@ -96,7 +84,7 @@ const FREE: Row = Row {
 };
 
 /// Lists under the default data layout.
-const ROWS: [Row; 19] = [
+static ROWS: [Row; 19] = [
     Row {
         fields: &[Field::U8, Field::U32, Field::U16],
         flags: Flags::C,
@@ -289,7 +277,7 @@ const ROWS: [Row; 19] = [
 ];
 
 /// Lists next to the bound of pointers of 16 bits, which is 32768.
-const NARROW_ROWS: [Row; 3] = [
+static NARROW_ROWS: [Row; 3] = [
     Row {
         fields: &[Field::Bytes(32_767)],
         offsets: &[0],
@@ -317,7 +305,7 @@ const NARROW_ROWS: [Row; 3] = [
 ];
 
 /// Lists that are refused, for an unsized field or else for their size.
-const REFUSED: [(Row, bool); 4] = [
+static REFUSED: [(Row, bool); 4] = [
     (
         Row {
             fields: &[Field::U8, Field::Slice],
@@ -356,7 +344,7 @@ const REFUSED: [(Row, bool); 4] = [
 ];
 
 /// The same under pointers of 16 bits.
-const NARROW_REFUSED: [(Row, bool); 5] = [
+static NARROW_REFUSED: [(Row, bool); 5] = [
     (
         Row {
             fields: &[Field::Bytes(32_767)],
@@ -397,22 +385,6 @@ const NARROW_REFUSED: [(Row, bool); 5] = [
     ),
 ];
 
-/// A field of a row.
-fn made_field(rt: &impl Abort, dl: &TargetDataLayout, field: Field) -> Laid
-    requires { IsLawfulDataLayout dl.now }
-    ensures { IsLawfulLayout dl.now result }
-{
-    let byte = unsigned(dl, Integer::I8, 0xFF);
-    match field {
-        Field::U8 => byte,
-        Field::U16 => unsigned(dl, Integer::I16, 0xFFFF),
-        Field::U32 => unsigned(dl, Integer::I32, 0xFFFF_FFFF),
-        Field::Bool => unsigned(dl, Integer::I8, 1),
-        Field::Bytes(count) => elements(rt, dl, &byte, Some(count)),
-        Field::Slice => elements(rt, dl, &byte, None),
-    }
-}
-
 /// The alignment of so many bytes.
 fn aligned(rt: &impl Abort, bytes: u64) -> Align {
     match Align::from_bytes(bytes) {
@@ -422,22 +394,6 @@ fn aligned(rt: &impl Abort, bytes: u64) -> Align {
 }
 
 impl Row {
-    /// The layouts of the row's fields.
-    fn made(
-        &self,
-        rt: &impl Abort,
-        alloc: Global,
-        dl: &TargetDataLayout,
-    ) -> Result<Vec<Laid>, AllocError>
-        requires { IsLawfulDataLayout dl.now }
-    {
-        let mut made = Vec::with_capacity(alloc, self.fields.len())?;
-        for name in self.fields {
-            made.push(made_field(rt, dl, *name))?;
-        }
-        Ok(made)
-    }
-
     fn repr(&self, rt: &impl Abort) -> ReprOptions {
         let mut repr = ReprOptions::default();
         repr.pack = self.pack.map(|bytes| aligned(rt, bytes));
@@ -468,10 +424,7 @@ impl Row {
     ) -> Result<Answer, AllocError>
         requires { IsLawfulDataLayout dl.now }
     {
-        let mut fields = Vec::with_capacity(alloc, made.len())?;
-        for field in made {
-            fields.push(field)?;
-        }
+        let fields = lent(alloc, made)?;
         Ok(laid(rt, alloc, dl, &fields, &self.repr(rt), &self.kind()))
     }
 
@@ -556,6 +509,40 @@ fn pair(rt: &impl Abort, first: &Laid, second: &Laid, offset: Option<&u64>) -> B
     }
 }
 
+/// Whether the calculator answers the layout that the row tells.
+fn is_met(
+    rt: &impl Abort,
+    alloc: Global,
+    dl: &TargetDataLayout,
+    row: &Row,
+) -> Result<bool, AllocError>
+    requires { IsLawfulDataLayout dl.now }
+{
+    let made = layouts_of(rt, alloc, dl, row.fields)?;
+    let answer = row.answer(rt, alloc, dl, &made)?;
+    Ok(answer == Ok(row.wanted(rt, alloc, &made)?))
+}
+
+/// Whether the calculator refuses the row's list, for an unsized field or else for its size.
+fn is_refused(
+    rt: &impl Abort,
+    alloc: Global,
+    dl: &TargetDataLayout,
+    row: &Row,
+    for_unsized: bool,
+) -> Result<bool, AllocError>
+    requires { IsLawfulDataLayout dl.now }
+{
+    let made = layouts_of(rt, alloc, dl, row.fields)?;
+    let answer = row.answer(rt, alloc, dl, &made)?;
+    Ok(match &answer {
+        Ok(_) => false,
+        Err(LayoutCalculatorError::UnexpectedUnsized(())) => for_unsized,
+        Err(LayoutCalculatorError::SizeOverflow) => !for_unsized,
+        Err(_) => false,
+    })
+}
+
 /// Compares each row's whole layout.
 fn compare(
     rt: &impl Abort,
@@ -566,9 +553,7 @@ fn compare(
     requires { IsLawfulDataLayout dl.now }
 {
     for (at, row) in rows.iter().enumerate() {
-        let made = row.made(rt, alloc, dl)?;
-        let answer = row.answer(rt, alloc, dl, &made)?;
-        assert!(rt; answer == Ok(row.wanted(rt, alloc, &made)?), "row {at}");
+        assert!(rt; is_met(rt, alloc, dl, row)?, "row {at}");
     }
     Ok(())
 }
@@ -582,15 +567,11 @@ fn compare_refused(
 ) -> Result<(), AllocError>
     requires { IsLawfulDataLayout dl.now }
 {
-    for (at, (row, is_unsized)) in rows.iter().enumerate() {
-        let made = row.made(rt, alloc, dl)?;
-        let answer = row.answer(rt, alloc, dl, &made)?;
-        let wanted = if *is_unsized {
-            LayoutCalculatorError::UnexpectedUnsized(())
-        } else {
-            LayoutCalculatorError::SizeOverflow
-        };
-        assert!(rt; answer == Err(wanted), "refused row {at}");
+    for (at, (row, for_unsized)) in rows.iter().enumerate() {
+        assert!(rt;
+            is_refused(rt, alloc, dl, row, *for_unsized)?,
+            "refused row {at}"
+        );
     }
     Ok(())
 }
