@@ -1,211 +1,209 @@
 //! Whole layouts of enums, one of each encoding, and what each variant leaves unused.
 
-ghost use Rattle.std.specs.Prelude.{IfOk};
-ghost use Rattle.abi_scalar.specs.Shape.{IsListed};
+ghost use Rattle.std.specs.Prelude.{IsTrue};
+ghost use Rattle.abi_types.specs.Ty.Runs.{IsVariantIndex};
 
-use crate::layouts::{Layout, Row, check, fields, in_memory, niche_of_truth};
-use abi_base::{Align, Integer, Primitive, Size, TargetDataLayout};
-use abi_index::{FieldIdx, IndexVec, VariantIdx};
-use abi_scalar::{
-    BackendRepr, FieldsShape, LayoutData, Niche, RangeInclusive, ReprOptions, Scalar, TagEncoding,
-    VariantLayout, Variants, WrappingRange,
-};
-use rustc_abi::{Laid, TypeTree, lay_out};
-use std::alloc::{AllocError, Global};
+use crate::plans::{Asked, Named, Plan, Variant, laid};
+use crate::wholes::{Arm, Arms, Layout, Row, Shape, Told, View, Whole, is_whole};
+use abi_base::{Integer, Primitive};
+use abi_index::VariantIdx;
+use abi_scalar::{Scalar, Variants, WrappingRange};
+use rustc_abi::LayError;
+use std::alloc::Global;
 use std::test::Fail;
-use tree_samples::{TRUTH, enum_of, integer, truth};
+use tree_samples::TRUTH;
 
-/// A byte from 0 to a number.
-fn byte_up_to(end: u128) -> Scalar {
-    Scalar::Initialized {
-        value: Primitive::Int(Integer::I8, false),
-        valid_range: WrappingRange { start: 0, end },
-    }
-}
+/// A number of 1 byte.
+const BYTE: Plan = Plan::Number(Integer::I8);
 
-/// The niche of such a byte, at offset 0.
-fn niche_up_to(end: u128) -> Option<Niche> {
-    Some(Niche {
-        offset: Size::ZERO,
-        value: Primitive::Int(Integer::I8, false),
-        valid_range: WrappingRange { start: 0, end },
-    })
-}
+/// Four bytes and one byte beside a tag.
+const TAGGED: Named = Named(
+    "tagged",
+    Plan::Enum(
+        Asked::Nothing,
+        &[
+            Variant(0, &[Plan::Number(Integer::I32)]),
+            Variant(1, &[BYTE]),
+        ],
+    ),
+);
 
-/// A variant of fields at these offsets, in source order, and of so many bytes of memory.
-fn variant(alloc: Global, at: &[u64], size: u64) -> Result<Layout, AllocError>
-    ensures { IfOk result (λ made. IsListed made.fields) }
-{
-    let shape = match at {
-        [] => fields(alloc, &[], &[])?,
-        [first, ..] => fields(alloc, &[*first], &[0])?,
-    };
-    Ok(in_memory(shape, size, Align::ONE, 0))
-}
-
-/// Two variants, told apart by this tag at offset 0.
-fn told_apart(
-    alloc: Global,
-    tag: Scalar,
-    tag_encoding: TagEncoding<VariantIdx>,
-    first: Layout,
-    second: Layout,
-) -> Result<Variants<FieldIdx, VariantIdx>, AllocError>
-    requires first { IsListed first.fields }
-    requires second { IsListed second.fields }
-{
-    let mut variants = IndexVec::new(alloc);
-    let _first: VariantIdx = variants.push(VariantLayout::from_layout(first))?;
-    let _second: VariantIdx = variants.push(VariantLayout::from_layout(second))?;
-    Ok(Variants::Multiple {
-        tag,
-        tag_encoding,
-        tag_field: FieldIdx::ZERO,
-        variants,
-    })
-}
-
-/// An enum of two variants, with discriminants 0 and 1.
-fn of_two(
-    alloc: Global,
-    first: Vec<TypeTree>,
-    second: Vec<TypeTree>,
-) -> Result<TypeTree, AllocError> {
-    Ok(enum_of(
-        ReprOptions::default(),
-        vec![in alloc; (0, first), (1, second)]?,
-    ))
-}
-
-/// Four bytes and one byte beside a tag, and its layout.
-fn tagged(alloc: Global) -> Result<(TypeTree, Layout), AllocError> {
-    let four = integer(Integer::I32, false);
-    let one = integer(Integer::I8, false);
-    let tree = of_two(alloc, vec![in alloc; four]?, vec![in alloc; one]?)?;
-    let tag = byte_up_to(1);
-    let layout = LayoutData {
-        variants: told_apart(
-            alloc,
-            tag,
-            TagEncoding::Direct,
-            variant(alloc, &[4], 8)?,
-            variant(alloc, &[1], 2)?,
-        )?,
-        largest_niche: niche_up_to(1),
-        ..in_memory(
-            fields(alloc, &[0], &[0])?,
-            8,
-            Align::FOUR,
-            0x00FE_0004_0001_0004,
-        )
-    };
-    Ok((tree, layout))
-}
-
-/// No field, and a byte that is 0 or 1, whose other numbers tell that it isn't there; and its layout.
-fn in_niche(alloc: Global) -> Result<(TypeTree, Layout), AllocError> {
-    let tree = of_two(alloc, vec![in alloc]?, vec![in alloc; truth()]?)?;
-    let first = VariantIdx::from_u32(0);
-    let tag = byte_up_to(2);
-    let untagged = LayoutData {
-        backend_repr: BackendRepr::Scalar(TRUTH),
-        largest_niche: niche_of_truth(0),
-        ..variant(alloc, &[0], 1)?
-    };
-    let layout = LayoutData {
-        variants: told_apart(
-            alloc,
-            tag,
-            TagEncoding::Niche {
-                untagged_variant: VariantIdx::from_u32(1),
-                niche_variants: RangeInclusive {
-                    start: first,
-                    last: first,
-                },
-                niche_start: 2,
+const TAGGED_WHOLE: Whole = Whole {
+    fields: Shape::Fields(&[0], &[0]),
+    variants: Arms::Multiple(
+        1,
+        Told::Direct,
+        0,
+        &[
+            Arm {
+                at: &[4],
+                order: &[0],
+                size: 8,
+                view: View::Memory,
+                niche: None,
             },
-            variant(alloc, &[], 0)?,
-            untagged,
-        )?,
-        backend_repr: BackendRepr::Scalar(tag),
-        largest_niche: niche_up_to(2),
-        ..in_memory(
-            fields(alloc, &[0], &[0])?,
-            1,
-            Align::ONE,
-            0x0001_0002_0000_0001,
-        )
-    };
-    Ok((tree, layout))
-}
+            Arm {
+                at: &[1],
+                order: &[0],
+                size: 2,
+                view: View::Memory,
+                niche: None,
+            },
+        ],
+    ),
+    view: View::Memory,
+    niche: Some((0, 1)),
+    uninhabited: false,
+    align: 4,
+    unadjusted: 4,
+    size: 8,
+    repr_c: false,
+    seed: 0x00FE_0004_0001_0004,
+};
 
-/// A variant without values, and one of a byte, which is left alone; and its layout.
-fn left_alone(alloc: Global) -> Result<(TypeTree, Layout), AllocError> {
-    let byte = integer(Integer::I8, false);
-    let tree = of_two(
-        alloc,
-        vec![in alloc; TypeTree::Never]?,
-        vec![in alloc; byte]?,
-    )?;
-    let layout = LayoutData {
-        variants: Variants::Single {
-            index: VariantIdx::from_u32(1),
-        },
-        backend_repr: BackendRepr::Scalar(byte_up_to(255)),
-        ..in_memory(
-            fields(alloc, &[0], &[0])?,
-            1,
-            Align::ONE,
-            0x00FF_0002_0000_0001,
-        )
-    };
-    Ok((tree, layout))
+/// No field, and a byte that is 0 or 1, whose other numbers tell that it isn't there.
+const IN_NICHE: Named = Named(
+    "in a niche",
+    Plan::Enum(
+        Asked::Nothing,
+        &[Variant(0, &[]), Variant(1, &[Plan::Truth])],
+    ),
+);
+
+/// A byte from 0 to 2.
+const TO_TWO: Scalar = Scalar::Initialized {
+    value: Primitive::Int(Integer::I8, false),
+    valid_range: WrappingRange { start: 0, end: 2 },
+};
+
+const IN_NICHE_WHOLE: Whole = Whole {
+    fields: Shape::Fields(&[0], &[0]),
+    variants: Arms::Multiple(
+        2,
+        Told::Niche(1, 0, 0, 2),
+        0,
+        &[
+            Arm {
+                at: &[],
+                order: &[],
+                size: 0,
+                view: View::Memory,
+                niche: None,
+            },
+            Arm {
+                at: &[0],
+                order: &[0],
+                size: 1,
+                view: View::Scalar(TRUTH),
+                niche: Some((0, 1)),
+            },
+        ],
+    ),
+    view: View::Scalar(TO_TWO),
+    niche: Some((0, 2)),
+    uninhabited: false,
+    align: 1,
+    unadjusted: 1,
+    size: 1,
+    repr_c: false,
+    seed: 0x0001_0002_0000_0001,
+};
+
+/// A variant without values, and one of a byte, which is left alone.
+const LEFT_ALONE: Named = Named(
+    "left alone",
+    Plan::Enum(
+        Asked::Nothing,
+        &[Variant(0, &[Plan::Never]), Variant(1, &[BYTE])],
+    ),
+);
+
+/// Any byte.
+const ANY: Scalar = Scalar::Initialized {
+    value: Primitive::Int(Integer::I8, false),
+    valid_range: WrappingRange { start: 0, end: 255 },
+};
+
+const LEFT_ALONE_WHOLE: Whole = Whole {
+    fields: Shape::Fields(&[0], &[0]),
+    variants: Arms::Single(1),
+    view: View::Scalar(ANY),
+    niche: None,
+    uninhabited: false,
+    align: 1,
+    unadjusted: 1,
+    size: 1,
+    repr_c: false,
+    seed: 0x00FF_0002_0000_0001,
+};
+
+/// No variant.
+const EMPTY: Named = Named("empty", Plan::Enum(Asked::Nothing, &[]));
+
+const EMPTY_WHOLE: Whole = Whole {
+    fields: Shape::Primitive,
+    variants: Arms::Empty,
+    view: View::Memory,
+    niche: None,
+    uninhabited: true,
+    align: 1,
+    unadjusted: 1,
+    size: 0,
+    repr_c: false,
+    seed: 0,
+};
+
+const WHOLE: [Row; 4] = [
+    (TAGGED, TAGGED_WHOLE, &[(2, 2)]),
+    (IN_NICHE, IN_NICHE_WHOLE, &[]),
+    (LEFT_ALONE, LEFT_ALONE_WHOLE, &[]),
+    (EMPTY, EMPTY_WHOLE, &[]),
+];
+
+/// Whether it is the index of a variant, of which there are several.
+fn is_variant(layout: &Layout, index: VariantIdx) -> bool
+    ensures { IsTrue result → IsVariantIndex layout.now.variants index }
+{
+    match &layout.variants {
+        Variants::Multiple { variants, .. } => index.as_usize() < variants.len(),
+        _ => false,
+    }
 }
 
 /// Whether these are the bytes that the variant leaves unused.
 fn is_unused(
     alloc: Global,
-    laid: &Laid,
-    variant: usize,
+    plan: &Plan,
+    variant: u8,
     wanted: &[(u64, u64)],
-) -> Result<bool, AllocError> {
-    let root = laid.root();
-    match &root.layout.data().variants {
-        Variants::Multiple { variants, .. } if variant < variants.len() => {
-            let index = VariantIdx::from_usize(variant);
-            let found = root.variant_dependent_padding_ranges(alloc, &(), index)?;
-            Ok(found.as_slice() == wanted)
-        }
-        _ => Ok(false),
+) -> Result<bool, LayError> {
+    let laid = laid(alloc, plan)?;
+    let index = VariantIdx::from_u32(u32::from(variant));
+    if !is_variant(laid.layout(), index) {
+        return Ok(false);
     }
+    let found = laid
+        .root()
+        .variant_dependent_padding_ranges(alloc, &(), index)?;
+    Ok(found.as_slice() == wanted)
 }
+
+/// Variants, and the bytes that they leave unused.
+const UNUSED: [(u8, &[(u64, u64)]); 2] = [(0, &[(1, 1)]), (1, &[(4, 4)])];
 
 #[test]
 fn enums_are_known_whole(rt: HostRuntime) -> Result<(), Fail> {
-    let alloc = rt.alloc();
-    let tagged = tagged(alloc)?;
-    let in_niche = in_niche(alloc)?;
-    let left_alone = left_alone(alloc)?;
-    let nothing = LayoutData {
-        variants: Variants::Empty,
-        uninhabited: true,
-        ..in_memory(FieldsShape::Primitive, 0, Align::ONE, 0)
-    };
-    let dl = TargetDataLayout::default_in(alloc)?;
-    let laid = lay_out(alloc, &dl, &tagged.0)?;
-    let unused = [(1, 1), (4, 4)];
-    for at in 0..2 {
-        assert!(rt; is_unused(alloc, &laid, at, &unused[at..at + 1])?);
+    for &(Named(name, plan), wanted, padding) in &WHOLE {
+        assert!(rt; is_whole(rt.alloc(), &plan, &wanted, padding)?, "{name}");
     }
-    let rows: [Row; 4] = [
-        (tagged.0, tagged.1, &[(2, 2)]),
-        (in_niche.0, in_niche.1, &[]),
-        (left_alone.0, left_alone.1, &[]),
-        (
-            enum_of(ReprOptions::default(), vec![in alloc]?),
-            nothing,
-            &[],
-        ),
-    ];
-    check(&rt, alloc, &rows)
+    Ok(())
+}
+
+#[test]
+fn unused_bytes_are_known(rt: HostRuntime) -> Result<(), Fail> {
+    let Named(_, plan) = TAGGED;
+    for &(variant, wanted) in &UNUSED {
+        assert!(rt; is_unused(rt.alloc(), &plan, variant, wanted)?, "{variant}");
+    }
+    Ok(())
 }

@@ -2,18 +2,17 @@
 
 ghost use Rattle.abi_laid.specs.Handles.{IsHandle};
 
-use abi_base::{Integer, Primitive, Size, TargetDataLayout};
-use abi_scalar::{ReprFlags, ReprOptions, Scalar};
+use crate::plans::{Asked, IN_C, Plan, States, Variant, has_padding, laid};
+use abi_base::{Integer, Primitive, Size};
+use abi_scalar::{ReprFlags, Scalar};
 use abi_types::{HomogeneousAggregate, TyAndLayout};
-use rustc_abi::{TreeTy, TypeTree, lay_out};
-use std::alloc::{AllocError, Global};
+use rustc_abi::{LayError, TreeTy};
+use std::alloc::Global;
 use std::test::Fail;
-use tree_samples::{
-    TRUTH, array, coroutine_of, enum_of, flagged, integer, structure, truth, union_of, vector,
-};
+use tree_samples::TRUTH;
 
 /// Kinds of types.
-#[derive(Clone, Copy, PartialEq, Eq, Debug)]
+#[derive(Clone, Copy, Debug)]
 enum Kind {
     Word,
     Pair,
@@ -32,87 +31,90 @@ enum Kind {
     Suspended,
 }
 
-/// An unsigned number of so many bytes.
-fn number(width: Integer) -> TypeTree {
-    integer(width, false)
-}
+/// A number of 1 byte.
+const BYTE: Plan = Plan::Number(Integer::I8);
 
-/// A struct with these flags.
-fn fields(flags: ReprFlags, fields: Vec<TypeTree>) -> TypeTree {
-    structure(flagged(flags), fields)
-}
+/// A number of 2 bytes.
+const HALF: Plan = Plan::Number(Integer::I16);
 
-/// An enum whose layout is free.
-fn variants(all: Vec<(u128, Vec<TypeTree>)>) -> TypeTree {
-    enum_of(ReprOptions::default(), all)
-}
+/// A number of 4 bytes.
+const WORD: Plan = Plan::Number(Integer::I32);
+
+/// A number of 8 bytes.
+const DOUBLE: Plan = Plan::Number(Integer::I64);
+
+/// A byte that is 0 or 1, and any 4 bytes.
+const PAIR: Plan = Plan::Pair(
+    TRUTH,
+    Scalar::Union {
+        value: Primitive::Int(Integer::I32, false),
+    },
+);
+
+/// Three numbers of 2 bytes.
+const ARRAY: Plan = Plan::Array(3, &HALF);
+
+/// A vector of four numbers of 4 bytes.
+const LANES: Plan = Plan::Vector(4, &WORD);
+
+/// As in C, a byte and a number of 2 bytes.
+const LIST_IN_C: Plan = Plan::Struct(IN_C, &[BYTE, HALF]);
+
+/// A number of 4 bytes behind unit, as transparent.
+const WRAPPER: Plan = Plan::Struct(Asked::Flags(ReprFlags::IS_TRANSPARENT), &[Plan::Unit, WORD]);
 
 /// A number that is passed by a pointer, where the convention isn't Rust's.
-fn indirect(alloc: Global) -> Result<TypeTree, AllocError> {
-    let inside = vec![in alloc; number(Integer::I64)]?;
-    Ok(fields(ReprFlags::PASS_INDIRECTLY_IN_NON_RUSTIC_ABIS, inside))
-}
+const INDIRECT: Plan = Plan::Struct(
+    Asked::Flags(ReprFlags::PASS_INDIRECTLY_IN_NON_RUSTIC_ABIS),
+    &[DOUBLE],
+);
+
+/// The same, as transparent.
+const WRAPPED_INDIRECT: Plan = Plan::Struct(Asked::Flags(ReprFlags::IS_TRANSPARENT), &[INDIRECT]);
+
+/// A byte, or a number of 2 bytes, which share them.
+const UNION: Plan = Plan::Union(Asked::Nothing, &[BYTE, HALF]);
+
+/// An enum of one variant, a byte.
+const ONE_VARIANT: Plan = Plan::Enum(Asked::Nothing, &[Variant(0, &[BYTE])]);
+
+/// A tag, and a number of 4 bytes or a byte.
+const TAGGED: Plan = Plan::Enum(Asked::Nothing, &[Variant(0, &[WORD]), Variant(1, &[BYTE])]);
+
+/// A byte that is 0 or 1, or nothing, in whose niche it is told.
+const IN_NICHE: Plan = Plan::Enum(
+    Asked::Nothing,
+    &[Variant(0, &[Plan::Truth]), Variant(1, &[])],
+);
 
 /// Two bytes of every state, and a local of eight bytes in each of the two last states.
-fn suspended(alloc: Global) -> Result<TypeTree, AllocError> {
-    let none = vec![in alloc]?;
-    Ok(coroutine_of(
-        vec![in alloc; number(Integer::I16)]?,
-        vec![in alloc; number(Integer::I64), number(Integer::I64)]?,
-        vec![in alloc; none, vec![in alloc; 0]?, vec![in alloc; 1]?]?,
-        vec![in alloc]?,
-    ))
-}
+const SUSPENDED: Plan = Plan::Coroutine(&States {
+    prefix: &[HALF],
+    locals: &[DOUBLE, DOUBLE],
+    states: &[&[], &[0], &[1]],
+    conflicts: &[],
+});
 
-/// An enum of each encoding: of one variant, with a tag, and with a niche.
-fn choice(alloc: Global, kind: Kind) -> Result<TypeTree, AllocError> {
-    let all = match kind {
-        Kind::OneVariant => vec![in alloc; (0, vec![in alloc; number(Integer::I8)]?)]?,
-        Kind::Tagged => vec![in alloc;
-            (0, vec![in alloc; number(Integer::I32)]?),
-            (1, vec![in alloc; number(Integer::I8)]?),
-        ]?,
-        _ => vec![in alloc; (0, vec![in alloc; truth()]?), (1, vec![in alloc]?)]?,
-    };
-    Ok(variants(all))
-}
-
-/// A tree of the kind.
-fn tree(alloc: Global, kind: Kind) -> Result<TypeTree, AllocError> {
-    let word = number(Integer::I32);
+/// The type of the kind.
+fn plan(kind: Kind) -> Plan {
     match kind {
-        Kind::Word => Ok(word),
-        Kind::Pair => Ok(TypeTree::Pair(TRUTH, WORD)),
-        Kind::Never => Ok(TypeTree::Never),
-        Kind::Unit => Ok(TypeTree::Unit),
-        Kind::Array => array(alloc, 3, number(Integer::I16)),
-        Kind::Lanes => vector(alloc, 4, false, word),
-        Kind::InC => Ok(fields(
-            ReprFlags::IS_C,
-            vec![in alloc; number(Integer::I8), number(Integer::I16)]?,
-        )),
-        Kind::Wrapper => Ok(fields(
-            ReprFlags::IS_TRANSPARENT,
-            vec![in alloc; TypeTree::Unit, word]?,
-        )),
-        Kind::Indirect => indirect(alloc),
-        Kind::WrappedIndirect => Ok(fields(
-            ReprFlags::IS_TRANSPARENT,
-            vec![in alloc; indirect(alloc)?]?,
-        )),
-        Kind::Union => Ok(union_of(
-            ReprOptions::default(),
-            vec![in alloc; number(Integer::I8), number(Integer::I16)]?,
-        )),
-        Kind::Suspended => suspended(alloc),
-        _ => choice(alloc, kind),
+        Kind::Word => WORD,
+        Kind::Pair => PAIR,
+        Kind::Never => Plan::Never,
+        Kind::Unit => Plan::Unit,
+        Kind::Array => ARRAY,
+        Kind::Lanes => LANES,
+        Kind::InC => LIST_IN_C,
+        Kind::Wrapper => WRAPPER,
+        Kind::Indirect => INDIRECT,
+        Kind::WrappedIndirect => WRAPPED_INDIRECT,
+        Kind::Union => UNION,
+        Kind::OneVariant => ONE_VARIANT,
+        Kind::Tagged => TAGGED,
+        Kind::InNiche => IN_NICHE,
+        Kind::Suspended => SUSPENDED,
     }
 }
-
-/// An unsigned number of 4 bytes.
-const WORD: Scalar = Scalar::Union {
-    value: Primitive::Int(Integer::I32, false),
-};
 
 /// What a type tells of itself: a struct, a union or an enum; an enum; never; a tuple; unit; transparent.
 type Marks = (bool, bool, bool, bool, bool, bool);
@@ -170,13 +172,8 @@ fn is_marked(
     kind: Kind,
     wanted: Marks,
     only: Option<usize>,
-) -> Result<bool, AllocError> {
-    let tree = tree(alloc, kind)?;
-    let dl = TargetDataLayout::default_in(alloc)?;
-    let laid = match lay_out(alloc, &dl, &tree) {
-        Ok(laid) => laid,
-        Err(_) => return Ok(false),
-    };
+) -> Result<bool, LayError> {
+    let laid = laid(alloc, &plan(kind))?;
     let it = laid.root();
     let field = match it.non_1zst_field(&()) {
         Some((index, _field)) => Some(index.as_usize()),
@@ -220,14 +217,10 @@ fn is_passed(
     bytes: Option<u64>,
     by_pointer: bool,
     depends: bool,
-) -> Result<bool, AllocError> {
-    let tree = tree(alloc, kind)?;
-    let dl = TargetDataLayout::default_in(alloc)?;
-    let laid = match lay_out(alloc, &dl, &tree) {
-        Ok(laid) => laid,
-        Err(_) => return Ok(false),
-    };
+) -> Result<bool, LayError> {
+    let laid = laid(alloc, &plan(kind))?;
     let it = laid.root();
+    let is_lanes = matches!(kind, Kind::Lanes);
     let register = match it.homogeneous_aggregate(&()) {
         Ok(HomogeneousAggregate::Homogeneous(reg)) => Some(reg.size.bytes()),
         Ok(HomogeneousAggregate::NoData) => Some(0),
@@ -237,7 +230,7 @@ fn is_passed(
         register == bytes
             && it.pass_indirectly_in_non_rustic_abis(&()) == by_pointer
             && it.has_variant_dependent_padding(&()) == depends
-            && it.is_single_vector_element(&(), Size::from_bytes(16)) == (kind == Kind::Lanes)
+            && it.is_single_vector_element(&(), Size::from_bytes(16)) == is_lanes
             && !it.is_complex_number(&()),
     )
 }
@@ -266,15 +259,9 @@ const PADDED: [(Kind, &[(u64, u64)]); 8] = [
 ];
 
 /// Whether the padding of the type of a kind is this.
-fn is_padded(alloc: Global, kind: Kind, wanted: &[(u64, u64)]) -> Result<bool, AllocError> {
-    let tree = tree(alloc, kind)?;
-    let dl = TargetDataLayout::default_in(alloc)?;
-    let laid = match lay_out(alloc, &dl, &tree) {
-        Ok(laid) => laid,
-        Err(_) => return Ok(false),
-    };
-    let padding = laid.root().variant_independent_padding_ranges(alloc, &())?;
-    Ok(padding.as_slice() == wanted)
+fn is_padded(alloc: Global, kind: Kind, wanted: &[(u64, u64)]) -> Result<bool, LayError> {
+    let laid = laid(alloc, &plan(kind))?;
+    Ok(has_padding(alloc, &laid, wanted)?)
 }
 
 #[test]

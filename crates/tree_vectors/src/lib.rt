@@ -11,8 +11,12 @@ mod handles;
 #[cfg(test)]
 mod layouts;
 #[cfg(test)]
+mod plans;
+#[cfg(test)]
 mod refusals;
 #[cfg(test)]
 mod seeds;
 #[cfg(test)]
 mod values;
+#[cfg(test)]
+mod wholes;

@@ -5,9 +5,10 @@ mod generated;
 mod kinds;
 mod made;
 
-use crate::values::kinds::{Kind, laid_in, tree};
+use crate::plans::{built, laid_in};
+use crate::values::kinds::{Kind, plan};
 use abi_base::{Endian, TargetDataLayout};
-use rustc_abi::{LayError, Value, ValueError, lay_out, read_value, write_value};
+use rustc_abi::{Laid, LayError, TypeTree, Value, ValueError, lay_out, read_value, write_value};
 use std::alloc::{AllocError, Global};
 use std::test::Fail;
 
@@ -191,21 +192,32 @@ const WRITTEN: [(Kind, Told, &[u8], &[u8]); 31] = [
     ),
 ];
 
+/// Whether the value is written as these bytes.
+fn is_written(alloc: Global, laid: &Laid, value: &Value, wanted: &[u8]) -> bool {
+    match write_value(alloc, laid, value) {
+        Ok(bytes) => bytes.as_slice() == wanted,
+        Err(_) => false,
+    }
+}
+
+/// Whether the bytes are read as the value.
+fn is_found(alloc: Global, laid: &Laid, bytes: &[u8], wanted: &Value) -> Result<bool, AllocError> {
+    match read_value(alloc, laid, bytes)? {
+        Some(value) => Ok(value == *wanted),
+        None => Ok(false),
+    }
+}
+
 /// Whether the value is written as these bytes, with numbers in this order, and they are read as it.
 fn is_kept_in(
     alloc: Global,
     order: Endian,
-    kind: Kind,
-    told: Told,
+    tree: &TypeTree,
+    value: &Value,
     wanted: &[u8],
 ) -> Result<bool, LayError> {
-    let laid = laid_in(alloc, order, &tree(alloc, kind)?)?;
-    let value = told_value(alloc, told)?;
-    let is_written = match write_value(alloc, &laid, &value) {
-        Ok(bytes) => bytes.as_slice() == wanted,
-        Err(_) => false,
-    };
-    Ok(is_written && read_value(alloc, &laid, wanted)? == Some(value))
+    let laid = laid_in(alloc, order, tree)?;
+    Ok(is_written(alloc, &laid, value, wanted) && is_found(alloc, &laid, wanted, value)?)
 }
 
 /// Whether the value has these bytes, in the one order and in the other.
@@ -216,9 +228,11 @@ fn is_kept(
     little: &[u8],
     big: &[u8],
 ) -> Result<bool, LayError> {
+    let tree = built(alloc, &plan(kind))?;
+    let value = told_value(alloc, told)?;
     Ok(
-        is_kept_in(alloc, Endian::Little, kind, told, little)?
-            && is_kept_in(alloc, Endian::Big, kind, told, big)?,
+        is_kept_in(alloc, Endian::Little, &tree, &value, little)?
+            && is_kept_in(alloc, Endian::Big, &tree, &value, big)?,
     )
 }
 
@@ -321,6 +335,11 @@ const READ: [(Kind, Endian, &[u8], Option<Told>); 29] = [
     (Kind::Suspended, Endian::Little, &[2, 1, 7, 0, 9], None),
 ];
 
+/// Whether the bytes are read as no value.
+fn is_unread(alloc: Global, laid: &Laid, bytes: &[u8]) -> Result<bool, AllocError> {
+    Ok(read_value(alloc, laid, bytes)?.is_none())
+}
+
 /// Whether the bytes are read as this value, or as none.
 fn is_read(
     alloc: Global,
@@ -329,11 +348,14 @@ fn is_read(
     bytes: &[u8],
     wanted: Option<Told>,
 ) -> Result<bool, LayError> {
-    let laid = laid_in(alloc, order, &tree(alloc, kind)?)?;
-    let found = read_value(alloc, &laid, bytes)?;
+    let tree = built(alloc, &plan(kind))?;
+    let laid = laid_in(alloc, order, &tree)?;
     match wanted {
-        Some(told) => Ok(found == Some(told_value(alloc, told)?)),
-        None => Ok(found.is_none()),
+        Some(told) => {
+            let value = told_value(alloc, told)?;
+            Ok(is_found(alloc, &laid, bytes, &value)?)
+        }
+        None => Ok(is_unread(alloc, &laid, bytes)?),
     }
 }
 
@@ -397,17 +419,28 @@ const REFUSED: [(Kind, Told); 45] = [
     (Kind::Suspended, Told::Variant(0, &[258, 9])),
 ];
 
+/// Whether it is refused as no value, with the bytes of numbers in this order.
+fn is_refused_in(
+    alloc: Global,
+    order: Endian,
+    tree: &TypeTree,
+    value: &Value,
+) -> Result<bool, LayError> {
+    let laid = laid_in(alloc, order, tree)?;
+    match write_value(alloc, &laid, value) {
+        Err(ValueError::NotAValue) => Ok(true),
+        _ => Ok(false),
+    }
+}
+
 /// Whether it is refused as no value, in both orders of the bytes of numbers.
 fn is_refused(alloc: Global, kind: Kind, told: Told) -> Result<bool, LayError> {
-    let tree = tree(alloc, kind)?;
+    let tree = built(alloc, &plan(kind))?;
     let value = told_value(alloc, told)?;
-    for order in [Endian::Little, Endian::Big] {
-        let laid = laid_in(alloc, order, &tree)?;
-        if write_value(alloc, &laid, &value).err() != Some(ValueError::NotAValue) {
-            return Ok(false);
-        }
-    }
-    Ok(true)
+    Ok(
+        is_refused_in(alloc, Endian::Little, &tree, &value)?
+            && is_refused_in(alloc, Endian::Big, &tree, &value)?,
+    )
 }
 
 #[test]
@@ -424,7 +457,7 @@ fn the_example_is_right(rt: HostRuntime) -> Result<(), Fail> {
     let alloc = rt.alloc();
     let mut dl = TargetDataLayout::default_in(alloc)?;
     dl.endian = Endian::Little;
-    let tree = tree(alloc, Kind::Tagged)?;
+    let tree = built(alloc, &plan(Kind::Tagged))?;
     let laid = lay_out(alloc, &dl, &tree)?;
     let value = Value::Variant(1, vec![in alloc; Value::Num(5)]?);
     let bytes = write_value(alloc, &laid, &value)?;

@@ -1,7 +1,8 @@
 //! Generated values, which are written and read back the same; and bytes that look like chance.
 
+use crate::plans::{built, laid_in};
 use crate::values::dice::Dice;
-use crate::values::kinds::{Kind, laid_in, tree};
+use crate::values::kinds::{Kind, plan};
 use crate::values::made::{Source, made_value};
 use abi_base::Endian;
 use rustc_abi::{Laid, LayError, TypeTree, Value, ValueError, read_value, write_value};
@@ -212,7 +213,7 @@ fn count(
     kind: Kind,
     tally: &mut Tally,
 ) -> Result<(), LayError> {
-    let tree = tree(alloc, kind)?;
+    let tree = built(alloc, &plan(kind))?;
     for order in [Endian::Little, Endian::Big] {
         let laid = laid_in(alloc, order, &tree)?;
         for _ in 0..100 {
@@ -233,7 +234,10 @@ fn generated_values_are_kept(rt: HostRuntime) -> Result<(), Fail> {
         let before = tally.kept;
         count(rt.alloc(), &mut source, kind, &mut tally)?;
         assert_eq!(rt; tally.wrong, 0, "{kind:?}");
-        assert!(rt; tally.kept > before || kind == Kind::Never, "{kind:?}");
+        assert!(rt;
+            tally.kept > before || matches!(kind, Kind::Never),
+            "{kind:?}"
+        );
     }
     assert!(rt; tally.held > 0, "{tally:?}");
     assert!(rt; tally.unread > 0, "{tally:?}");

@@ -1,15 +1,12 @@
 //! Types whose values are written and read: one of each kind, and some that have others in them.
 
-use abi_base::{AddressSpace, Align, Endian, Integer, IntegerType, Primitive, TargetDataLayout};
-use abi_scalar::{ReprFlags, ReprOptions, Scalar, WrappingRange};
-use rustc_abi::{Laid, LayError, TypeTree, lay_out};
-use std::alloc::{AllocError, Global};
-use tree_samples::{
-    TRUTH, array, coroutine_of, enum_of, flagged, integer, structure, truth, union_of, vector,
-};
+use crate::plans::{Asked, IN_C, Plan, States, Variant};
+use abi_base::{AddressSpace, Integer, Primitive};
+use abi_scalar::{Scalar, WrappingRange};
+use tree_samples::TRUTH;
 
 /// Kinds of types.
-#[derive(Clone, Copy, PartialEq, Eq, Debug)]
+#[derive(Clone, Copy, Debug)]
 pub(crate) enum Kind {
     /// A number of 2 bytes.
     Half,
@@ -69,236 +66,175 @@ pub(crate) enum Kind {
     Woven,
 }
 
-/// An unsigned number of so many bytes.
-fn number(width: Integer) -> TypeTree {
-    integer(width, false)
-}
+/// A number of 1 byte.
+const BYTE: Plan = Plan::Number(Integer::I8);
 
-/// An unsigned number of so many bytes in a range.
-fn ranged(width: Integer, start: u128, end: u128) -> TypeTree {
-    TypeTree::Scalar(Scalar::Initialized {
-        value: Primitive::Int(width, false),
-        valid_range: WrappingRange { start, end },
-    })
-}
+/// A number of 2 bytes.
+const HALF: Plan = Plan::Number(Integer::I16);
+
+/// A number of 4 bytes.
+const WORD: Plan = Plan::Number(Integer::I32);
+
+/// A number of 16 bytes.
+const WIDE: Plan = Plan::Number(Integer::I128);
+
+/// A byte that is none of 2 to 253.
+const ENDS: Plan = Plan::Scalar(Scalar::Initialized {
+    value: Primitive::Int(Integer::I8, false),
+    valid_range: WrappingRange { start: 254, end: 1 },
+});
 
 /// A pointer that isn't 0.
-fn reference() -> TypeTree {
-    TypeTree::Scalar(Scalar::Initialized {
-        value: Primitive::Pointer(AddressSpace::ZERO),
-        valid_range: WrappingRange {
-            start: 1,
-            end: 0xFFFF_FFFF_FFFF_FFFF,
-        },
-    })
-}
+const REFERENCE: Plan = Plan::Scalar(Scalar::Initialized {
+    value: Primitive::Pointer(AddressSpace::ZERO),
+    valid_range: WrappingRange {
+        start: 1,
+        end: 0xFFFF_FFFF_FFFF_FFFF,
+    },
+});
 
 /// Any 4 bytes.
 const ANY: Scalar = Scalar::Union {
     value: Primitive::Int(Integer::I32, false),
 };
 
+/// A byte that is 0 or 1, and any 4 bytes.
+const PAIR: Plan = Plan::Pair(TRUTH, ANY);
+
+/// Three numbers of 2 bytes.
+const ARRAY: Plan = Plan::Array(3, &HALF);
+
+/// A vector of four bytes.
+const LANES: Plan = Plan::Vector(4, &BYTE);
+
+/// A vector of three numbers of 2 bytes, with bytes after them.
+const THREE_LANES: Plan = Plan::Vector(3, &HALF);
+
 /// As in C, a byte and a number of 4 bytes.
-fn in_c(alloc: Global) -> Result<TypeTree, AllocError> {
-    Ok(structure(
-        flagged(ReprFlags::IS_C),
-        vec![in alloc; number(Integer::I8), number(Integer::I32)]?,
-    ))
-}
+const LIST_IN_C: Plan = Plan::Struct(IN_C, &[BYTE, WORD]);
 
-/// Three bytes, or a number of 2 bytes.
-fn overlaid(alloc: Global) -> Result<TypeTree, AllocError> {
-    let bytes = array(alloc, 3, number(Integer::I8))?;
-    Ok(union_of(
-        ReprOptions::default(),
-        vec![in alloc; bytes, number(Integer::I16)]?,
-    ))
-}
+/// Three bytes, or a number of 2 bytes, which share them.
+const OVERLAID: Plan = Plan::Union(Asked::Nothing, &[Plan::Array(3, &BYTE), HALF]);
 
-/// Variants that are asked for nothing, with discriminants 0 and 1.
-fn of_two(
-    alloc: Global,
-    first: Vec<TypeTree>,
-    second: Vec<TypeTree>,
-) -> Result<TypeTree, AllocError> {
-    Ok(enum_of(
-        ReprOptions::default(),
-        vec![in alloc; (0, first), (1, second)]?,
-    ))
-}
+/// An enum of one variant, a number of 2 bytes.
+const ONE_VARIANT: Plan = Plan::Enum(Asked::Nothing, &[Variant(0, &[HALF])]);
 
-/// The same with discriminants 0 to 2.
-fn of_three(
-    alloc: Global,
-    first: Vec<TypeTree>,
-    second: Vec<TypeTree>,
-    third: Vec<TypeTree>,
-) -> Result<TypeTree, AllocError> {
-    Ok(enum_of(
-        ReprOptions::default(),
-        vec![in alloc; (0, first), (1, second), (2, third)]?,
-    ))
-}
+/// Two variants, the first without a value, the second a byte.
+const LEFT_ALONE: Plan = Plan::Enum(
+    Asked::Nothing,
+    &[Variant(0, &[Plan::Never]), Variant(1, &[BYTE])],
+);
 
 /// A tag, and a number of 4 bytes or a byte.
-fn tagged(alloc: Global) -> Result<TypeTree, AllocError> {
-    of_two(
-        alloc,
-        vec![in alloc; number(Integer::I32)]?,
-        vec![in alloc; number(Integer::I8)]?,
-    )
-}
+const TAGGED: Plan = Plan::Enum(Asked::Nothing, &[Variant(0, &[WORD]), Variant(1, &[BYTE])]);
 
 /// A tag of 2 bytes that is -1 or 258, with a byte behind 258.
-fn signed(alloc: Global) -> Result<TypeTree, AllocError> {
-    let repr = ReprOptions {
-        int: Some(IntegerType::Fixed(Integer::I16, true)),
-        ..ReprOptions::default()
-    };
-    let minus_one = (u128::MAX, vec![in alloc]?);
-    let other = (258, vec![in alloc; number(Integer::I8)]?);
-    Ok(enum_of(repr, vec![in alloc; minus_one, other]?))
-}
+const SIGNED: Plan = Plan::Enum(
+    Asked::Signed,
+    &[Variant(u128::MAX, &[]), Variant(258, &[BYTE])],
+);
 
-/// Nothing, or a byte that is 0 or 1.
-fn in_niche(alloc: Global) -> Result<TypeTree, AllocError> {
-    of_two(alloc, vec![in alloc]?, vec![in alloc; truth()]?)
-}
+/// A tag, and a byte, no value, or a number of 2 bytes.
+const ABSENT: Plan = Plan::Enum(
+    Asked::Nothing,
+    &[
+        Variant(0, &[BYTE]),
+        Variant(1, &[Plan::Never]),
+        Variant(2, &[HALF]),
+    ],
+);
 
-/// A letter's number, or one of two variants without fields.
-fn letter(alloc: Global) -> Result<TypeTree, AllocError> {
-    let letter = ranged(Integer::I32, 0, 0x10_FFFF);
-    of_three(
-        alloc,
-        vec![in alloc; letter]?,
-        vec![in alloc]?,
-        vec![in alloc]?,
-    )
-}
+/// Nothing, or a byte that is 0 or 1, in whose niche it is told.
+const IN_NICHE: Plan = Plan::Enum(
+    Asked::Nothing,
+    &[Variant(0, &[]), Variant(1, &[Plan::Truth])],
+);
+
+/// A number of 4 bytes that a letter has.
+const LETTERS: Plan = Plan::Scalar(Scalar::Initialized {
+    value: Primitive::Int(Integer::I32, false),
+    valid_range: WrappingRange {
+        start: 0,
+        end: 0x10_FFFF,
+    },
+});
+
+/// A letter's number of 4 bytes, or one of two variants without fields, which are told in its niche.
+const LETTER: Plan = Plan::Enum(
+    Asked::Nothing,
+    &[Variant(0, &[LETTERS]), Variant(1, &[]), Variant(2, &[])],
+);
 
 /// A byte, or a byte, a niche and a number of 2 bytes.
-fn beside(alloc: Global) -> Result<TypeTree, AllocError> {
-    of_two(
-        alloc,
-        vec![in alloc; number(Integer::I8)]?,
-        vec![in alloc; number(Integer::I8), truth(), number(Integer::I16)]?,
-    )
-}
-
-/// An enum of the kind.
-fn choice(alloc: Global, kind: Kind) -> Result<TypeTree, AllocError> {
-    match kind {
-        Kind::OneVariant => Ok(enum_of(
-            ReprOptions::default(),
-            vec![in alloc; (0, vec![in alloc; number(Integer::I16)]?)]?,
-        )),
-        Kind::LeftAlone => of_two(
-            alloc,
-            vec![in alloc; TypeTree::Never]?,
-            vec![in alloc; number(Integer::I8)]?,
-        ),
-        Kind::Signed => signed(alloc),
-        Kind::Absent => of_three(
-            alloc,
-            vec![in alloc; number(Integer::I8)]?,
-            vec![in alloc; TypeTree::Never]?,
-            vec![in alloc; number(Integer::I16)]?,
-        ),
-        Kind::InNiche => in_niche(alloc),
-        Kind::Letter => letter(alloc),
-        Kind::Beside => beside(alloc),
-        _ => tagged(alloc),
-    }
-}
+const BESIDE: Plan = Plan::Enum(
+    Asked::Nothing,
+    &[Variant(0, &[BYTE]), Variant(1, &[BYTE, Plan::Truth, HALF])],
+);
 
 /// A byte of all states; a number of 2 bytes of both states, and a byte of each state's own.
-fn suspended(alloc: Global) -> Result<TypeTree, AllocError> {
-    Ok(coroutine_of(
-        vec![in alloc; number(Integer::I8)]?,
-        vec![in alloc;
-            number(Integer::I16),
-            number(Integer::I8),
-            number(Integer::I8),
-        ]?,
-        vec![in alloc; vec![in alloc; 0, 1]?, vec![in alloc; 2, 0]?]?,
-        vec![in alloc]?,
-    ))
-}
-
-/// A coroutine of three states whose parts have parts.
-fn woven(alloc: Global) -> Result<TypeTree, AllocError> {
-    let prefix = vec![in alloc; in_niche(alloc)?, TypeTree::Unit]?;
-    let locals = vec![in alloc; tagged(alloc)?, overlaid(alloc)?, in_c(alloc)?]?;
-    let states = vec![in alloc; vec![in alloc; 0]?, vec![in alloc]?, vec![in alloc; 2, 1]?]?;
-    Ok(coroutine_of(prefix, locals, states, vec![in alloc; (0, 2), (2, 0)]?))
-}
+const SUSPENDED: Plan = Plan::Coroutine(&States {
+    prefix: &[BYTE],
+    locals: &[HALF, BYTE, BYTE],
+    states: &[&[0, 1], &[2, 0]],
+    conflicts: &[],
+});
 
 /// Fields without a gap between them.
-fn packed(alloc: Global) -> Result<TypeTree, AllocError> {
-    let repr = ReprOptions {
-        pack: Some(Align::ONE),
-        ..ReprOptions::default()
-    };
-    Ok(structure(
-        repr,
-        vec![in alloc; number(Integer::I8), number(Integer::I128), reference()]?,
-    ))
-}
+const PACKED: Plan = Plan::Struct(Asked::Packed, &[BYTE, WIDE, REFERENCE]);
 
 /// Fields of several kinds.
-fn mixed(alloc: Global) -> Result<TypeTree, AllocError> {
-    let fields = vec![in alloc;
-        in_c(alloc)?,
-        TypeTree::Pair(TRUTH, ANY),
-        in_niche(alloc)?,
-        overlaid(alloc)?,
-        letter(alloc)?,
-        signed(alloc)?,
-    ]?;
-    Ok(structure(ReprOptions::default(), fields))
-}
+const MIXED: Plan = Plan::Struct(
+    Asked::Nothing,
+    &[LIST_IN_C, PAIR, IN_NICHE, OVERLAID, LETTER, SIGNED],
+);
 
-/// A type of the kind, which has others in it.
-fn nested(alloc: Global, kind: Kind) -> Result<TypeTree, AllocError> {
+/// Three enums with a niche.
+const CHOICES: Plan = Plan::Array(3, &BESIDE);
+
+/// Nothing, or an enum with a niche.
+const TWICE: Plan = Plan::Enum(Asked::Nothing, &[Variant(0, &[]), Variant(1, &[IN_NICHE])]);
+
+/// Fields as in C, or three numbers, which share their bytes.
+const SHARED: Plan = Plan::Union(IN_C, &[LIST_IN_C, ARRAY]);
+
+/// A coroutine of three states whose parts have parts.
+const WOVEN: Plan = Plan::Coroutine(&States {
+    prefix: &[IN_NICHE, Plan::Unit],
+    locals: &[TAGGED, OVERLAID, LIST_IN_C],
+    states: &[&[0], &[], &[2, 1]],
+    conflicts: &[(0, 2), (2, 0)],
+});
+
+/// The type of the kind.
+pub(crate) fn plan(kind: Kind) -> Plan {
     match kind {
-        Kind::Packed => packed(alloc),
-        Kind::Mixed => mixed(alloc),
-        Kind::Choices => array(alloc, 3, beside(alloc)?),
-        Kind::Twice => of_two(alloc, vec![in alloc]?, vec![in alloc; in_niche(alloc)?]?),
-        Kind::Shared => {
-            let three = array(alloc, 3, number(Integer::I16))?;
-            let shared = vec![in alloc; in_c(alloc)?, three]?;
-            Ok(union_of(flagged(ReprFlags::IS_C), shared))
-        }
-        Kind::Suspended => suspended(alloc),
-        Kind::Woven => woven(alloc),
-        _ => choice(alloc, kind),
+        Kind::Half => HALF,
+        Kind::Wide => WIDE,
+        Kind::Truth => Plan::Truth,
+        Kind::Ends => ENDS,
+        Kind::Reference => REFERENCE,
+        Kind::Pair => PAIR,
+        Kind::Never => Plan::Never,
+        Kind::Unit => Plan::Unit,
+        Kind::Array => ARRAY,
+        Kind::Lanes => LANES,
+        Kind::ThreeLanes => THREE_LANES,
+        Kind::InC => LIST_IN_C,
+        Kind::Union => OVERLAID,
+        Kind::OneVariant => ONE_VARIANT,
+        Kind::LeftAlone => LEFT_ALONE,
+        Kind::Tagged => TAGGED,
+        Kind::Signed => SIGNED,
+        Kind::Absent => ABSENT,
+        Kind::InNiche => IN_NICHE,
+        Kind::Letter => LETTER,
+        Kind::Beside => BESIDE,
+        Kind::Suspended => SUSPENDED,
+        Kind::Packed => PACKED,
+        Kind::Mixed => MIXED,
+        Kind::Choices => CHOICES,
+        Kind::Twice => TWICE,
+        Kind::Shared => SHARED,
+        Kind::Woven => WOVEN,
     }
-}
-
-/// A type of the kind.
-pub(crate) fn tree(alloc: Global, kind: Kind) -> Result<TypeTree, AllocError> {
-    match kind {
-        Kind::Half => Ok(number(Integer::I16)),
-        Kind::Wide => Ok(number(Integer::I128)),
-        Kind::Truth => Ok(truth()),
-        Kind::Ends => Ok(ranged(Integer::I8, 254, 1)),
-        Kind::Reference => Ok(reference()),
-        Kind::Pair => Ok(TypeTree::Pair(TRUTH, ANY)),
-        Kind::Never => Ok(TypeTree::Never),
-        Kind::Unit => Ok(TypeTree::Unit),
-        Kind::Array => array(alloc, 3, number(Integer::I16)),
-        Kind::Lanes => vector(alloc, 4, false, number(Integer::I8)),
-        Kind::ThreeLanes => vector(alloc, 3, false, number(Integer::I16)),
-        Kind::InC => in_c(alloc),
-        Kind::Union => overlaid(alloc),
-        _ => nested(alloc, kind),
-    }
-}
-
-/// The type, laid out under the default data layout, with the bytes of numbers in this order.
-pub(crate) fn laid_in(alloc: Global, order: Endian, tree: &TypeTree) -> Result<Laid, LayError> {
-    let mut dl = TargetDataLayout::default_in(alloc)?;
-    dl.endian = order;
-    lay_out(alloc, &dl, tree)
 }

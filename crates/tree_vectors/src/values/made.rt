@@ -1,7 +1,7 @@
 //! Values that are made from their types.
 
+use crate::plans::laid_in;
 use crate::values::dice::Dice;
-use crate::values::kinds::laid_in;
 use abi_base::Endian;
 use abi_scalar::{Scalar, WrappingRange};
 use rustc_abi::{LayError, TypeTree, Value};
