@@ -14,6 +14,7 @@ pub mod FaultLemmas
 pub mod RunLemmas
 pub mod SourceLemmas
 pub mod ListLemmas
+pub mod PartsLemmas
 pub mod OneOrder
 pub mod SomeOrder
 pub mod SomeView

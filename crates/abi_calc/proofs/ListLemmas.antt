@@ -31,7 +31,7 @@ use Rattle.abi_calc.proofs.Least.{allowed_permutes, named_allowed}
 use Rattle.abi_calc.proofs.Sorting.{within_order}
 
 part_lawful_of : {F V : Type 0} (dl : TargetDataLayout) (l : LayoutData F V) → IsLawfulLayout dl l → IsLawfulPart dl (part_of dl l)
-part_lawful_of dl l h = record { aligned = h.limit; whole = h.multiple; niche = h.niche; view = h.view; niche_of_view = h.niche_of_view }
+part_lawful_of dl l h = record { aligned = h.limit; whole = h.multiple; niche = h.niche; view = h.view; niche_of_view = h.niche_of_view; counted = refl }
 
 pub parts_lawful : {F V H : Type 0} (layout_of : H → LayoutData F V) (dl : TargetDataLayout) (fields : List H) → All (λ f. IsLawfulLayout dl (layout_of f)) fields → All (IsLawfulPart dl) (parts_of dl (map layout_of fields))
 parts_lawful layout_of dl [] h = All-nil (IsLawfulPart dl)
@@ -117,10 +117,10 @@ pub view_same : (dl : TargetDataLayout) (fixed fixed2 : Bool) (size align align2
     → list_view dl fixed size align ps os ≡ list_view dl fixed2 size align2 ps2 os2
 view_same dl fixed fixed2 size align align2 ps ps2 os os2 a b c d = rw (a, b, c, d) refl
 
-movable-map : {F V H : Type 0} (layout_of : H → LayoutData F V) (kind : StructKind) (fields : List H) → map layout_of (movable kind fields) ≡ movable kind (map layout_of fields)
-movable-map layout_of AlwaysSized fields = refl
-movable-map layout_of MaybeUnsized fields = sym (take-map layout_of (length fields - 1) fields) ∙ ap (λ n. take (n - 1) (map layout_of fields)) (sym (length-map fields layout_of))
-movable-map layout_of (Prefixed size align) fields = refl
+pub movable-map : {A B : Type 0} (f : A → B) (kind : StructKind) (fields : List A) → map f (movable kind fields) ≡ movable kind (map f fields)
+movable-map f AlwaysSized fields = refl
+movable-map f MaybeUnsized fields = sym (take-map f (length fields - 1) fields) ∙ ap (λ n. take (n - 1) (map f fields)) (sym (length-map fields f))
+movable-map f (Prefixed size align) fields = refl
 
 pub seed_same : {F V H : Type 0} (layout_of : H → LayoutData F V) (repr : ReprOptions) (kind : StructKind) (fields front : List H) → front ≡ movable kind fields
     → (sum_by (λ f. f.randomization_seed) (map layout_of front) + repr.field_shuffle_seed) % 2 ^ 64 ≡ list_seed repr kind (map layout_of fields)

@@ -1,7 +1,8 @@
 -- Niches of lists: the greatest of them, and what holds of it.
-use Rattle.std.proofs.Common.{◌≡◌, ℕ, ◌+◌, ◌^◌, ◌<◌, ◌≤◌, Bool, true, false, List, [], ◌∷◌, length, map, zero, suc, get_or, Option, Some, None, refl, sym, ◌∙◌, arith, inl, inr}
+use Rattle.std.proofs.Common.{◌≡◌, ℕ, ◌+◌, ◌^◌, ◌<◌, ◌≤◌, Bool, true, false, List, [], ◌∷◌, length, map, zero, suc, get_or, Option, Some, None, refl, sym, ◌∙◌, arith, inl, inr, max, subst, ⊎_elim}
 use Rattle.std.specs.Prelude.{All, IfSome, nat_lt, if◌then◌else◌}
 use Rattle.std.proofs.lemmas.Bool.Decides.{nat_tests}
+use Rattle.std.proofs.lemmas.Bool.{cases_lt}
 use Rattle.std.proofs.lemmas.List.Elements.{All-cons, All-head, All-nil, All-tail}
 use Rattle.abi_base.specs.declared.data_layout.TargetDataLayout.{TargetDataLayout}
 use Rattle.abi_base.specs.declared.integer.Integer.TheVariants.{I8, I16, I32, I64, I128}
@@ -12,14 +13,15 @@ use Rattle.abi_base.specs.Primitive.{primitive_size, IsLawfulPrimitive, KnowsPri
 use Rattle.abi_scalar.specs.declared.niche.Niche.{Niche}
 use Rattle.abi_scalar.specs.declared.layout_data.LayoutData.{LayoutData}
 use Rattle.abi_scalar.specs.Lawful.{IsLawfulNiche}
-use Rattle.abi_scalar.specs.Niche.{IsReadableNiche, available_in}
+use Rattle.abi_scalar.specs.Niche.{IsReadableNiche, available_in, niche_size}
+use Rattle.abi_scalar.proofs.RangeLemmas.{none_free}
 use Rattle.abi_scalar.specs.Pair.{larger_niche}
 use Rattle.abi_calc.specs.declared.order.NicheBias.{NicheBias}
 use Rattle.abi_calc.specs.declared.order.NicheBias.TheVariants.{Start, End}
 use Rattle.abi_calc.specs.ListNiche.{HasLargestNiche, IsNicheAt, IsNicheOfPart, greater_niche, greatest_niche, niche_of_part}
 use Rattle.abi_calc.specs.declared.part.Part.{Part}
 use Rattle.abi_calc.specs.List.{parts_of}
-use Rattle.abi_calc.specs.Part.{part_of}
+use Rattle.abi_calc.specs.Part.{IsLawfulPart, free_numbers, part_of}
 use Rattle.abi_calc.specs.Placement.{no_part}
 
 larger_by : (dl : TargetDataLayout) (x : Option Niche) (b : Bool) (y z : Niche) → larger_niche dl x (if b then Some z else Some y) ≡ (if b then larger_niche dl x (Some z) else larger_niche dl x (Some y))
@@ -121,8 +123,44 @@ pub part_fits : (dl : TargetDataLayout) (offset size : ℕ) (own : Option Niche)
 part_fits dl offset size None h inside = tt
 part_fits dl offset size (Some own) h inside = omega (arith, h.inside)
 
-pub part_readable : (dl : TargetDataLayout) (offset size : ℕ) (own : Option Niche) → IfSome own (IsLawfulNiche dl size) → IfSome (niche_of_part offset own) (IsReadableNiche dl)
-part_readable dl offset size own h = lawful_readable dl (offset + size) (niche_of_part offset own) (part_lawful dl offset size (offset + size) own h (omega arith))
+-- ---- free numbers that are counted once
+
+-- So many free numbers are the niche's, and it has some where it is there.
+pub record IsCounted (dl : TargetDataLayout) (free : ℕ) (niche : Option Niche) : Type 0 where
+  pub count : free ≡ free_numbers dl niche
+  pub some : IfSome niche (λ n. 1 ≤ available_in dl n)
+
+some_free : (dl : TargetDataLayout) (size : ℕ) (niche : Niche) → IsLawfulNiche dl size niche → 1 ≤ available_in dl niche
+some_free dl size niche h =
+    ⊎_elim (λ (l : 0 < available_in dl niche). l)
+    (λ (e : available_in dl niche ≤ 0). absurd (h.free.1.1 (none_free (niche_size dl niche) niche.valid_range h.free.0 h.within (omega (arith, e)) h.free.1.0)))
+    (cases_lt 0 (available_in dl niche))
+
+counted_own : (dl : TargetDataLayout) (offset size : ℕ) (own : Option Niche) → IfSome own (IsLawfulNiche dl size) → IsCounted dl (free_numbers dl own) (niche_of_part offset own)
+counted_own dl offset size None h = record { count = refl; some = tt }
+counted_own dl offset size (Some own) h = record { count = refl; some = some_free dl size own h }
+
+pub counted_part : (dl : TargetDataLayout) (offset : ℕ) (part : Part) → IsLawfulPart dl part → IsCounted dl part.free (niche_of_part offset part.largest_niche)
+counted_part dl offset part law = subst (λ n. IsCounted dl n (niche_of_part offset part.largest_niche)) (sym law.counted) (counted_own dl offset part.size part.largest_niche law.niche)
+
+-- the first of equals is chosen by the counts
+pub first_counted : (dl : TargetDataLayout) (m n : ℕ) (x y : Option Niche) → IsCounted dl m x → IsCounted dl n y → larger_niche dl x y ≡ (if nat_lt m n then y else x)
+first_counted dl m n None None h k = rw (h.count, k.count) refl
+first_counted dl m n None (Some b) h k =
+    let more : nat_lt m n ≡ true = let low : m ≡ 0 = h.count in let high : n ≡ available_in dl b = k.count in let some : 1 ≤ available_in dl b = k.some in grind (arith, nat_tests) in
+    rw more refl
+first_counted dl m n (Some a) None h k =
+    let less : nat_lt m n ≡ false = let low : n ≡ 0 = k.count in grind (arith, nat_tests) in
+    rw less refl
+first_counted dl m n (Some a) (Some b) h k = rw (h.count, k.count) refl
+
+counted_by : (b : Bool) (dl : TargetDataLayout) (m n : ℕ) (x y : Option Niche) → nat_lt m n ≡ b → IsCounted dl m x → IsCounted dl n y → IsCounted dl (max m n) (if b then y else x)
+counted_by true dl m n x y e h k = let most : max m n ≡ n = grind (arith, nat_tests) in subst (λ c. IsCounted dl c y) (sym most) k
+counted_by false dl m n x y e h k = let most : max m n ≡ m = grind (arith, nat_tests) in subst (λ c. IsCounted dl c x) (sym most) h
+
+-- whichever is chosen, it has the greater count
+pub counted_more : (dl : TargetDataLayout) (m n : ℕ) (x y : Option Niche) → IsCounted dl m x → IsCounted dl n y → IsCounted dl (max m n) (if nat_lt m n then y else x)
+counted_more dl m n x y h k = counted_by (nat_lt m n) dl m n x y refl h k
 
 -- ---- it has the most free numbers
 

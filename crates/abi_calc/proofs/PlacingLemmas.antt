@@ -1,8 +1,9 @@
 -- The loop that places fields in an order.
-use Rattle.std.proofs.Common.{◌≡◌, ℕ, zero, suc, ◌+◌, ◌<◌, ◌≤◌, ◌≢◌, true, false, List, [], ◌∷◌, ◌++◌, Option, Some, length, take, drop, map, get_or, set, refl, sym, ap, ap₂, subst, ◌∙◌, arith, get_or-set_same, get_or-set_other, length-set, length-take, eqb, nat_lt}
+use Rattle.std.proofs.Common.{◌≡◌, ℕ, zero, suc, ◌+◌, ◌<◌, ◌≤◌, ◌≢◌, true, false, List, [], ◌∷◌, ◌++◌, Option, Some, length, take, drop, map, get_or, set, refl, sym, ap, ap₂, subst, ◌∙◌, arith, get_or-set_same, get_or-set_other, length-set, length-take, eqb, max, nat_lt, None}
 use Rattle.std.proofs.lemmas.Bool.Decides.{Decides-eqb}
+use Rattle.std.proofs.Math.Nat.{max_comm}
 use Rattle.std.proofs.lemmas.List.FromFn.{length-range_with_len, get_or-range_with_len}
-use Rattle.std.specs.Prelude.{All, AllPairs, IfSome, IsPermutation, slice_index, ◌&&◌, not}
+use Rattle.std.specs.Prelude.{All, AllPairs, IsPermutation, slice_index, ◌&&◌, not, if◌then◌else◌}
 use Rattle.std.proofs.lemmas.List.{take_more, map-append, get_or-take, get_or_default, drop_more}
 use Rattle.std.proofs.lemmas.Bool.Decides.{nat_tests}
 use Rattle.std.proofs.lemmas.List.Elements.{All-head, All-tail}
@@ -10,17 +11,19 @@ use Rattle.std.proofs.lemmas.Map.Keys.{IsDistinct-IsPermutation}
 use Rattle.std.proofs.lemmas.Map.Made.{AllPairs-from_IsDistinct, IsDistinct-from_AllPairs}
 use Rattle.abi_base.specs.declared.data_layout.TargetDataLayout.{TargetDataLayout}
 use Rattle.abi_scalar.specs.declared.niche.Niche.{Niche}
-use Rattle.abi_scalar.specs.Niche.{IsReadableNiche}
+use Rattle.abi_scalar.specs.Pair.{larger_niche}
 use Rattle.abi_calc.specs.declared.part.Part.{Part}
 use Rattle.abi_calc.specs.declared.list_repr.ListRepr.{ListRepr}
+use Rattle.abi_calc.specs.declared.list_niche.GreatestNiche.{GreatestNiche}
 use Rattle.abi_calc.specs.declared.order.NicheBias.{NicheBias}
+use Rattle.abi_calc.specs.declared.order.NicheBias.TheVariants.{Start, End}
 use Rattle.abi_calc.specs.declared.placing.ListFault.TheVariants.{Unsized, TooLarge}
 use Rattle.abi_calc.specs.Fault.{fault_from, is_empty, is_maybe_unsized}
 use Rattle.abi_calc.specs.ListNiche.{greatest_niche, greater_niche, niche_of_part}
 use Rattle.abi_calc.specs.Part.{IsLawfulPart, is_unsized}
 use Rattle.abi_calc.specs.Placement.{place_of, offsets_from, end_from, no_part, in_order, source_order}
 use Rattle.abi_calc.proofs.Ends.{end_from-append}
-use Rattle.abi_calc.proofs.NicheLemmas.{greater_assoc, greater_none, none_greater}
+use Rattle.abi_calc.proofs.NicheLemmas.{IsCounted, counted_more, counted_part, first_counted, greater_assoc, greater_none, none_greater}
 
 eqb_comm : (a b : ℕ) → eqb a b ≡ eqb b a
 eqb_comm a b = grind (arith, nat_tests)
@@ -79,13 +82,39 @@ greatest-push bias dl (a ∷ os) (q ∷ ps) o p e =
     ap (greater_niche bias dl (niche_of_part a q.largest_niche)) (greatest-push bias dl os ps o p (omega arith))
     ∙ sym (greater_assoc bias dl (niche_of_part a q.largest_niche) (greatest_niche bias dl os ps) (niche_of_part o p.largest_niche))
 
+-- The greatest niches of parts that lie at these offsets.
+pub record IsGreatest (dl : TargetDataLayout) (offsets : List ℕ) (parts : List Part) (niche : GreatestNiche) : Type 0 where
+  pub first : niche.first ≡ greatest_niche Start dl offsets parts
+  pub last : niche.last ≡ greatest_niche End dl offsets parts
+  pub counted_first : IsCounted dl niche.free niche.first
+  pub counted_last : IsCounted dl niche.free niche.last
+
+pub none_greatest : (dl : TargetDataLayout) (niche : GreatestNiche) → niche.first ≡ None → niche.last ≡ None → niche.free ≡ 0 → IsGreatest dl [] [] niche
+none_greatest dl niche f l n =
+    let none : IsCounted dl 0 None = record { count = refl; some = tt } in
+    record { first = f; last = l; counted_first = rw (f, n) none; counted_last = rw (l, n) none }
+
+-- with one more part
+pub greatest_more : (dl : TargetDataLayout) (os : List ℕ) (ps : List Part) (v : ℕ) (part : Part) (now next : GreatestNiche) → length os ≡ length ps → IsLawfulPart dl part → IsGreatest dl os ps now
+    → next.first ≡ (if nat_lt now.free part.free then niche_of_part v part.largest_niche else now.first)
+    → next.last ≡ (if nat_lt part.free now.free then now.last else niche_of_part v part.largest_niche) → next.free ≡ max now.free part.free
+    → IsGreatest dl (os ++ v ∷ []) (ps ++ part ∷ []) next
+greatest_more dl os ps v part now next many law g first last free =
+    let own : Option Niche = niche_of_part v part.largest_niche in
+    let here : IsCounted dl part.free (niche_of_part v part.largest_niche) = counted_part dl v part law in
+    record {
+      first = first ∙ sym (first_counted dl now.free part.free now.first own g.counted_first here) ∙ ap (λ x. larger_niche dl x (niche_of_part v part.largest_niche)) g.first ∙ sym (greatest-push Start dl os ps v part many);
+      last = last ∙ sym (first_counted dl part.free now.free own now.last here g.counted_last) ∙ ap (larger_niche dl (niche_of_part v part.largest_niche)) g.last ∙ sym (greatest-push End dl os ps v part many);
+      counted_first = rw (first, free) (counted_more dl now.free part.free now.first own g.counted_first here);
+      counted_last = rw (last, free, max_comm now.free part.free) (counted_more dl part.free now.free own now.last here g.counted_last);
+    }
+
 -- after k fields
-pub record IsPlaced (dl : TargetDataLayout) (bias : NicheBias) (repr : ListRepr) (bound from : ℕ) (parts : List Part) (order : List ℕ) (k : ℕ) (offsets : List ℕ) (end : ℕ) (largest : Option Niche) : Type 0 where
+pub record IsPlaced (dl : TargetDataLayout) (repr : ListRepr) (bound from : ℕ) (parts : List Part) (order : List ℕ) (k : ℕ) (offsets : List ℕ) (end : ℕ) (niche : GreatestNiche) : Type 0 where
   pub room : length offsets ≡ length parts
   pub places : map (slice_index offsets) (take k order) ≡ offsets_from repr.pack from (in_order parts (take k order))
   pub ends : end ≡ end_from repr.pack from (in_order parts (take k order))
-  pub niche : largest ≡ greatest_niche bias dl (offsets_from repr.pack from (in_order parts (take k order))) (in_order parts (take k order))
-  pub readable : IfSome largest (IsReadableNiche dl)
+  pub greatest : IsGreatest dl (offsets_from repr.pack from (in_order parts (take k order))) (in_order parts (take k order)) niche
   pub fault : fault_from repr bound parts end (drop k order) ≡ fault_from repr bound parts from order
 
 -- the order goes on with the field at k
@@ -124,13 +153,14 @@ empty_drop (suc k) [] = sym (grind (arith, nat_tests))
 empty_drop (suc k) (i ∷ is) = empty_drop k is ∙ grind (arith, nat_tests)
 
 -- one more field is placed
-pub placed_more : (dl : TargetDataLayout) (bias : NicheBias) (repr : ListRepr) (bound from : ℕ) (parts : List Part) (order : List ℕ) (k i : ℕ) (offsets : List ℕ) (end v next : ℕ) (best here larger : Option Niche) (part : Part)
-    → IsPermutation (source_order (length parts)) order → IsPlaced dl bias repr bound from parts order k offsets end best → k < length order → i ≡ get_or order k 0
-    → i < length parts → part ≡ get_or parts i no_part → v ≡ place_of repr.pack end part → next ≡ v + part.size
-    → here ≡ niche_of_part v part.largest_niche → larger ≡ greater_niche bias dl best here → IfSome larger (IsReadableNiche dl)
+pub placed_more : (dl : TargetDataLayout) (repr : ListRepr) (bound from : ℕ) (parts : List Part) (order : List ℕ) (k i : ℕ) (offsets : List ℕ) (end v next : ℕ) (best larger : GreatestNiche) (part : Part)
+    → IsPermutation (source_order (length parts)) order → IsPlaced dl repr bound from parts order k offsets end best → k < length order → i ≡ get_or order k 0
+    → i < length parts → part ≡ get_or parts i no_part → v ≡ place_of repr.pack end part → next ≡ v + part.size → IsLawfulPart dl part
+    → larger.first ≡ (if nat_lt best.free part.free then niche_of_part v part.largest_niche else best.first)
+    → larger.last ≡ (if nat_lt part.free best.free then best.last else niche_of_part v part.largest_niche) → larger.free ≡ max best.free part.free
     → is_unsized part.view && not (is_maybe_unsized repr.kind) ≡ false → next < bound → is_unsized part.view && nat_lt (k + 1) (length order) ≡ false
-    → IsPlaced dl bias repr bound from parts order (k + 1) (set offsets i v) next larger
-placed_more dl bias repr bound from parts order k i offsets end v next best here larger part p inv short is within named at ends own takes readable sized small last =
+    → IsPlaced dl repr bound from parts order (k + 1) (set offsets i v) next larger
+placed_more dl repr bound from parts order k i offsets end v next best larger part p inv short is within named at ends law first later free sized small last =
     let fields = in_order parts (take k order) in
     let more : in_order parts (take (k + 1) order) ≡ in_order parts (take k order) ++ part ∷ []
     = rw named (in_order-more parts order k i short is) in
@@ -144,39 +174,38 @@ placed_more dl bias repr bound from parts order k i offsets end v next best here
       room = length-set offsets i v ∙ inv.room;
       places = offsets_more offsets order k i v (order_differs (length parts) order p) short is (omega (arith, inv.room, within)) ∙ ap (λ xs. xs ++ v ∷ []) inv.places ∙ sym many;
       ends = sum ∙ ap (λ e. place_of repr.pack e part + part.size) inv.ends ∙ sym (end_from-append repr.pack from (in_order parts (take k order)) (part ∷ [])) ∙ ap (end_from repr.pack from) (sym more);
-      niche =
-          takes ∙ ap₂ (greater_niche bias dl) inv.niche own
-          ∙ sym (greatest-push bias dl (offsets_from repr.pack from (in_order parts (take k order))) (in_order parts (take k order)) v part (length-offsets repr.pack from (in_order parts (take k order))))
-          ∙ ap₂ (greatest_niche bias dl) (sym many) (sym more);
-      readable = readable;
+      greatest =
+          rw (many, more)
+          (greatest_more dl (offsets_from repr.pack from (in_order parts (take k order))) (in_order parts (take k order)) v part best larger (length-offsets repr.pack from (in_order parts (take k order)))
+          law inv.greatest first later free);
       fault =
           ap (λ e. fault_from repr bound parts e (drop (k + 1) order)) sum
           ∙ sym (fault_later repr bound parts end i (drop (k + 1) order) part named sized below tail)
           ∙ ap (fault_from repr bound parts end) (sym (goes_on order k i short is)) ∙ inv.fault;
     }
 
-pub placed_unsized : (dl : TargetDataLayout) (bias : NicheBias) (repr : ListRepr) (bound from : ℕ) (parts : List Part) (order : List ℕ) (k i : ℕ) (offsets : List ℕ) (end : ℕ) (best : Option Niche) (part : Part)
-    → IsPlaced dl bias repr bound from parts order k offsets end best → k < length order → i ≡ get_or order k 0 → part ≡ get_or parts i no_part
+pub placed_unsized : (dl : TargetDataLayout) (repr : ListRepr) (bound from : ℕ) (parts : List Part) (order : List ℕ) (k i : ℕ) (offsets : List ℕ) (end : ℕ) (best : GreatestNiche) (part : Part)
+    → IsPlaced dl repr bound from parts order k offsets end best → k < length order → i ≡ get_or order k 0 → part ≡ get_or parts i no_part
     → is_unsized part.view && not (is_maybe_unsized repr.kind) ≡ true → fault_from repr bound parts from order ≡ Some (Unsized i)
-placed_unsized dl bias repr bound from parts order k i offsets end best part inv short is named here =
+placed_unsized dl repr bound from parts order k i offsets end best part inv short is named here =
     sym inv.fault ∙ ap (fault_from repr bound parts end) (goes_on order k i short is) ∙ fault_unsized repr bound parts end i (drop (k + 1) order) part named here
 
-pub placed_large : (dl : TargetDataLayout) (bias : NicheBias) (repr : ListRepr) (bound from : ℕ) (parts : List Part) (order : List ℕ) (k i : ℕ) (offsets : List ℕ) (end v : ℕ) (best : Option Niche) (part : Part)
-    → IsPlaced dl bias repr bound from parts order k offsets end best → k < length order → i ≡ get_or order k 0 → part ≡ get_or parts i no_part
+pub placed_large : (dl : TargetDataLayout) (repr : ListRepr) (bound from : ℕ) (parts : List Part) (order : List ℕ) (k i : ℕ) (offsets : List ℕ) (end v : ℕ) (best : GreatestNiche) (part : Part)
+    → IsPlaced dl repr bound from parts order k offsets end best → k < length order → i ≡ get_or order k 0 → part ≡ get_or parts i no_part
     → is_unsized part.view && not (is_maybe_unsized repr.kind) ≡ false → v ≡ place_of repr.pack end part → ¬ (v + part.size < bound) → fault_from repr bound parts from order ≡ Some TooLarge
-placed_large dl bias repr bound from parts order k i offsets end v best part inv short is named sized at full =
+placed_large dl repr bound from parts order k i offsets end v best part inv short is named sized at full =
     let sum : v + part.size ≡ place_of repr.pack end part + part.size = ap (λ x. x + part.size) at in
     sym inv.fault ∙ ap (fault_from repr bound parts end) (goes_on order k i short is) ∙ fault_large repr bound parts end i (drop (k + 1) order) part named sized (omega (arith, sum, full))
 
-pub placed_followed : (dl : TargetDataLayout) (bias : NicheBias) (repr : ListRepr) (bound from : ℕ) (parts : List Part) (order : List ℕ) (k i : ℕ) (offsets : List ℕ) (end v : ℕ) (best : Option Niche) (part : Part)
-    → IsPlaced dl bias repr bound from parts order k offsets end best → k < length order → i ≡ get_or order k 0 → part ≡ get_or parts i no_part
+pub placed_followed : (dl : TargetDataLayout) (repr : ListRepr) (bound from : ℕ) (parts : List Part) (order : List ℕ) (k i : ℕ) (offsets : List ℕ) (end v : ℕ) (best : GreatestNiche) (part : Part)
+    → IsPlaced dl repr bound from parts order k offsets end best → k < length order → i ≡ get_or order k 0 → part ≡ get_or parts i no_part
     → is_unsized part.view && not (is_maybe_unsized repr.kind) ≡ false → v ≡ place_of repr.pack end part → v + part.size < bound → is_unsized part.view && nat_lt (k + 1) (length order) ≡ true
     → fault_from repr bound parts from order ≡ Some (Unsized i)
-placed_followed dl bias repr bound from parts order k i offsets end v best part inv short is named sized at small later =
+placed_followed dl repr bound from parts order k i offsets end v best part inv short is named sized at small later =
     let sum : v + part.size ≡ place_of repr.pack end part + part.size = ap (λ x. x + part.size) at in
     let tail : is_unsized part.view && not (is_empty (drop (k + 1) order)) ≡ true = ap (λ b. is_unsized part.view && b) (empty_drop (k + 1) order) ∙ later in
     sym inv.fault ∙ ap (fault_from repr bound parts end) (goes_on order k i short is) ∙ fault_followed repr bound parts end i (drop (k + 1) order) part named sized (omega (arith, sum, small)) tail
 
 -- a lawful part at an index
-pub part_lawful_at : (dl : TargetDataLayout) (parts : List Part) (i : ℕ) (part : Part) → All (IsLawfulPart dl) parts → i < length parts → part ≡ get_or parts i part → IsLawfulPart dl part
-part_lawful_at dl parts i part law short is = subst (IsLawfulPart dl) (sym is) (law i part short)
+pub part_lawful_at : (dl : TargetDataLayout) (parts : List Part) (i : ℕ) (part : Part) → All (IsLawfulPart dl) parts → i < length parts → part ≡ get_or parts i no_part → IsLawfulPart dl part
+part_lawful_at dl parts i part law short is = subst (IsLawfulPart dl) (sym is) (law i no_part short)

@@ -14,8 +14,8 @@ use Rattle.abi_calc.specs.declared.order.NicheBias.{NicheBias}
 use Rattle.abi_calc.specs.declared.order.NicheBias.TheVariants.{Start, End}
 use Rattle.abi_calc.specs.declared.placing.ListFault.{ListFault}
 use Rattle.abi_calc.specs.Fault.{fault_in, is_maybe_unsized}
-use Rattle.abi_calc.specs.ListNiche.{begins_after, greatest_niche, niche_in, space_beside}
-use Rattle.abi_calc.specs.Order.{IsNamedOrder}
+use Rattle.abi_calc.specs.ListNiche.{begins_after, biased_niche, greatest_niche, niche_in, space_beside}
+use Rattle.abi_calc.specs.Order.{IsNamedOrder, IsSortedBefore}
 use Rattle.abi_calc.specs.Part.{IsAlignedPart, IsLawfulPart}
 use Rattle.abi_calc.specs.Placement.{IsNonEmptyIfUnsized, align_of, end_from, in_order, offsets_from, place_of, size_in, source_order, start_of}
 use Rattle.abi_calc.specs.Run.{IsFaultOf, IsNamedLayout, IsPlacedIn, may_move, space_wanted}
@@ -86,6 +86,42 @@ named_still dl repr parts order second offsets size align space niche niche2 nam
     ((order ≡ second) × IsPlacedIn dl repr End parts order offsets size align niche)
     ((order ≡ order) × IsPlacedIn dl repr Start parts order offsets size align niche)) in
     (order, named, placed.faultless, subst P (sym wanted) (second, ends, first_is _ _ _ (ap (begins_after space) (sym largest) ∙ late) (refl, placed)))
+
+-- ---- a list whose order is fixed is placed once
+
+-- the greatest niche for a bias is the one that counts for it
+pub biased_is : (bias : NicheBias) (first last : Option Niche) (Q : NicheBias → Option Niche) → first ≡ Q Start → last ≡ Q End → biased_niche bias first last ≡ Q bias
+biased_is Start first last Q f l = f
+biased_is End first last Q f l = l
+
+-- source order is named for either bias
+named_in_source : (b : Bool) (repr : ListRepr) (parts : List Part) (order : List ℕ) → b ≡ false → MatchBool b (IsSortedBefore repr Start parts order) (order ≡ source_order (length parts))
+    → MatchBool b (IsSortedBefore repr End parts order) (order ≡ source_order (length parts))
+named_in_source true repr parts order e named = cc
+named_in_source false repr parts order e named = named
+
+placed_last : (dl : TargetDataLayout) (repr : ListRepr) (parts : List Part) (order offsets : List ℕ) (size align : ℕ) (niche last : Option Niche) → IsPlacedIn dl repr Start parts order offsets size align niche
+    → last ≡ niche_in dl repr End parts order → IsPlacedIn dl repr End parts order offsets size align last
+placed_last dl repr parts order offsets size align niche last p e =
+    record { count = p.count; places = p.places; alignment = p.alignment; extent = p.extent; faultless = p.faultless; largest = e }
+
+by_last : (b : Bool) (dl : TargetDataLayout) (repr : ListRepr) (parts : List Part) (order offsets : List ℕ) (size align space : ℕ) (niche last : Option Niche) → begins_after space last ≡ b
+    → repr.reorderable ≡ false → IsNamedOrder repr Start parts order → IsPlacedIn dl repr Start parts order offsets size align niche
+    → (if may_move repr.kind (length parts) then space_beside dl size niche else None) ≡ Some space → last ≡ niche_in dl repr End parts order
+    → IsNamedLayout dl repr parts order offsets size align (if b then last else niche)
+by_last true dl repr parts order offsets size align space niche last late fixed named placed some ends =
+    named_second dl repr parts order order offsets size size align space niche last named placed.faultless placed.extent placed.largest some
+    (named_in_source repr.reorderable repr parts order fixed named) (placed_last dl repr parts order offsets size align niche last placed ends) late
+by_last false dl repr parts order offsets size align space niche last late fixed named placed some ends =
+    named_still dl repr parts order order offsets size align space niche last named placed some (named_in_source repr.reorderable repr parts order fixed named) ends late
+
+-- so its layout has the last of its greatest niches where that begins late enough
+pub named_fixed : (dl : TargetDataLayout) (repr : ListRepr) (parts : List Part) (order offsets : List ℕ) (size align space : ℕ) (niche last : Option Niche)
+    → repr.reorderable ≡ false → IsNamedOrder repr Start parts order → IsPlacedIn dl repr Start parts order offsets size align niche
+    → (if may_move repr.kind (length parts) then space_beside dl size niche else None) ≡ Some space → last ≡ niche_in dl repr End parts order
+    → IsNamedLayout dl repr parts order offsets size align (if begins_after space last then last else niche)
+named_fixed dl repr parts order offsets size align space niche last fixed named placed some ends =
+    by_last (begins_after space last) dl repr parts order offsets size align space niche last refl fixed named placed some ends
 
 -- ---- the second run doesn't fail
 

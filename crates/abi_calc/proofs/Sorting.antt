@@ -10,16 +10,15 @@ use Rattle.abi_calc.specs.declared.part.Part.{Part}
 use Rattle.abi_base.specs.declared.struct_kind.StructKind.{StructKind}
 use Rattle.abi_base.specs.declared.struct_kind.StructKind.TheVariants.{AlwaysSized, MaybeUnsized, Prefixed}
 use Rattle.abi_calc.specs.declared.order.SortKey.{SortKey}
-use Rattle.abi_calc.specs.Part.{IsAlignedPart}
 use Rattle.abi_calc.specs.Placement.{IsNonEmptyIfUnsized, no_part, in_order, source_order}
 use Rattle.abi_calc.specs.Order.{movable, tail, compare_keys}
 use Rattle.abi_calc.proofs.Ends.{RisesFrom, FallsFrom}
 
 -- what holds of all holds of those that may move
-pub movable_lawful : (kind : StructKind) (fields : List Part) → All IsAlignedPart fields → All IsAlignedPart (movable kind fields)
-movable_lawful AlwaysSized fields law = law
-movable_lawful MaybeUnsized fields law = All-take IsAlignedPart (length fields - 1) fields law
-movable_lawful (Prefixed size align) fields law = law
+pub movable_all : {A : Type 0} (P : A → Type 0) (kind : StructKind) (fields : List A) → All P fields → All P (movable kind fields)
+movable_all P AlwaysSized fields law = law
+movable_all P MaybeUnsized fields law = All-take P (length fields - 1) fields law
+movable_all P (Prefixed size align) fields law = law
 
 pub tail_of_all : (kind : StructKind) (fields : List Part) → IsNonEmptyIfUnsized kind (length fields) → length fields ≤ length (movable kind fields) → [] ≡ tail kind fields
 tail_of_all AlwaysSized fields some h = refl

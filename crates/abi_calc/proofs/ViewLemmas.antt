@@ -17,7 +17,10 @@ use Rattle.abi_base.specs.Primitive.{KnowsPrimitive, primitive_size, primitive_a
 use Rattle.abi_scalar.specs.declared.scalar.Scalar.{Scalar}
 use Rattle.abi_scalar.specs.Scalar.{primitive_of, scalar_size, scalar_align, IsLawfulScalar}
 use Rattle.abi_calc.specs.declared.part.Part.{Part}
-use Rattle.abi_calc.specs.ListView.{bulky_parts, bulky_view, is_bulky, part_at, two_view}
+use Rattle.abi_calc.specs.ListView.{bulk_of, bulk_with, bulky_parts, bulky_view, is_bulky, one_view, part_at, two_view}
+use Rattle.abi_calc.specs.declared.list_view.Bulk.{Bulk}
+use Rattle.abi_calc.specs.declared.list_view.Bulk.TheVariants.{Nothing, One, Two, More}
+use Rattle.abi_scalar.specs.declared.backend_repr.BackendRepr.TheVariants.{Memory}
 use Rattle.abi_calc.proofs.NicheLemmas.{readable_size}
 use Rattle.abi_calc.specs.Placement.{no_part, source_order}
 
@@ -39,10 +42,6 @@ filter_push P xs x = filter-append P xs (x ∷ []) ∙ one (P x) refl
 
 pub bulky_more : (P : ℕ → Bool) (n : ℕ) → filter P (source_order (n + 1)) ≡ (if P n then filter P (source_order n) ++ n ∷ [] else filter P (source_order n))
 bulky_more P n = ap (filter P) (source_more n) ∙ filter_push P (source_order n) n
-
--- the part that was read is the one at the index
-pub part_read : (parts : List Part) (i : ℕ) (part : Part) → i < length parts → part ≡ get_or parts i part → part ≡ part_at parts i
-part_read parts i part short is = is ∙ get_or_default parts i part no_part short
 
 pub bulky_then : (P : ℕ → Bool) (n : ℕ) (now next : List ℕ) → now ≡ filter P (source_order n) → P n ≡ true → next ≡ now ++ n ∷ [] → next ≡ filter P (source_order (n + 1))
 bulky_then P n now next inv holds pushed = pushed ∙ ap (λ xs. xs ++ n ∷ []) inv ∙ sym (rw holds at (bulky_more P n))
@@ -66,18 +65,40 @@ source_within n k d h = let short : k < n = omega (arith, length-range_with_len 
 pub bulky_within : (parts : List Part) → All (λ i. i < length parts) (bulky_parts parts)
 bulky_within parts = filter_all (λ i. is_bulky (part_at parts i)) (λ i. i < length parts) (source_order (length parts)) (source_within (length parts))
 
--- ---- lists of one or two
+-- ---- as many of them as a view asks for
 
-pub one_listed : (xs : List ℕ) → length xs ≡ 1 → xs ≡ get_or xs 0 0 ∷ []
-one_listed [] e = cc
-one_listed (x ∷ []) e = refl
-one_listed (x ∷ y ∷ xs) e = absurd (omega arith)
+bulk_push : (xs : List ℕ) (i : ℕ) → bulk_of (xs ++ i ∷ []) ≡ bulk_with (bulk_of xs) i
+bulk_push [] i = refl
+bulk_push (x ∷ []) i = refl
+bulk_push (x ∷ y ∷ []) i = refl
+bulk_push (x ∷ y ∷ z ∷ xs) i = refl
 
-pub two_listed : (xs : List ℕ) → length xs ≡ 2 → xs ≡ get_or xs 0 0 ∷ get_or xs 1 0 ∷ []
-two_listed [] e = cc
-two_listed (x ∷ []) e = absurd (omega arith)
-two_listed (x ∷ y ∷ []) e = refl
-two_listed (x ∷ y ∷ z ∷ xs) e = absurd (omega arith)
+pub bulk_then : (P : ℕ → Bool) (n : ℕ) (now next : Bulk) → now ≡ bulk_of (filter P (source_order n)) → P n ≡ true → next ≡ bulk_with now n → next ≡ bulk_of (filter P (source_order (n + 1)))
+bulk_then P n now next inv holds pushed =
+    pushed ∙ ap (λ b. bulk_with b n) inv ∙ sym (bulk_push (filter P (source_order n)) n) ∙ ap bulk_of (bulky_then P n (filter P (source_order n)) (filter P (source_order n) ++ n ∷ []) refl holds refl)
+
+pub bulk_else : (P : ℕ → Bool) (n : ℕ) (now next : Bulk) → now ≡ bulk_of (filter P (source_order n)) → P n ≡ false → next ≡ now → next ≡ bulk_of (filter P (source_order (n + 1)))
+bulk_else P n now next inv fails same = same ∙ inv ∙ ap bulk_of (bulky_else P n (filter P (source_order n)) (filter P (source_order n)) refl fails refl)
+
+pub one_of : (xs : List ℕ) (i : ℕ) → One i ≡ bulk_of xs → xs ≡ i ∷ []
+one_of [] i e = cc
+one_of (x ∷ []) i e = cc
+one_of (x ∷ y ∷ []) i e = cc
+one_of (x ∷ y ∷ z ∷ xs) i e = cc
+
+pub two_of : (xs : List ℕ) (i j : ℕ) → Two i j ≡ bulk_of xs → xs ≡ i ∷ j ∷ []
+two_of [] i j e = cc
+two_of (x ∷ []) i j e = cc
+two_of (x ∷ y ∷ []) i j e = cc
+two_of (x ∷ y ∷ z ∷ xs) i j e = cc
+
+pub one_within : (parts : List Part) (i : ℕ) → One i ≡ bulk_of (bulky_parts parts) → i < length parts
+one_within parts i e = All-head (λ k. k < length parts) i [] (subst (All (λ k. k < length parts)) (one_of (bulky_parts parts) i e) (bulky_within parts))
+
+pub two_within : (parts : List Part) (i j : ℕ) → Two i j ≡ bulk_of (bulky_parts parts) → (i < length parts) × (j < length parts)
+two_within parts i j e =
+    let both : All (λ k. k < length parts) (i ∷ j ∷ []) = subst (All (λ k. k < length parts)) (two_of (bulky_parts parts) i j e) (bulky_within parts) in
+    (All-head (λ k. k < length parts) i (j ∷ []) both, All-head (λ k. k < length parts) j [] (All-tail (λ k. k < length parts) i (j ∷ []) both))
 
 -- ---- scalars are small
 
@@ -102,9 +123,22 @@ scalar_small dl s law h =
     let r = readable_size dl (primitive_of s) h.pointer in
     record { known = r.0; some = r.1; most = r.2; align = omega (arith, below_power (scalar_align dl s), le_of_dvd (omega (arith, r.1)) (primitive_multiple dl (primitive_of s) law h.pointer), r.2) }
 
-pub two_read : (dl : TargetDataLayout) (fixed : Bool) (size align : ℕ) (parts : List Part) (offsets bulky : List ℕ) (first second : ℕ) (one other : Part) → length bulky ≡ 2
-    → first ≡ get_or offsets (get_or bulky 0 0) 0 → second ≡ get_or offsets (get_or bulky 1 0) 0 → one ≡ part_at parts (get_or bulky 0 0) → other ≡ part_at parts (get_or bulky 1 0)
-    → two_view dl size align first one.view second other.view ≡ bulky_view dl fixed size align parts offsets bulky
-two_read dl fixed size align parts offsets bulky first second one other e f s o t =
-    let P : List ℕ → Type 0 = λ xs. two_view dl size align (get_or offsets (get_or bulky 0 0) 0) (part_at parts (get_or bulky 0 0)).view (get_or offsets (get_or bulky 1 0) 0) (part_at parts (get_or bulky 1 0)).view ≡ bulky_view dl fixed size align parts offsets xs in
-    rw (f, s, o, t) (subst P (sym (two_listed bulky e)) refl)
+-- ---- the view by them
+
+pub one_read : (dl : TargetDataLayout) (fixed : Bool) (size align : ℕ) (parts : List Part) (offsets : List ℕ) (i offset : ℕ) (part : Part) → One i ≡ bulk_of (bulky_parts parts)
+    → offset ≡ get_or offsets i 0 → part ≡ part_at parts i → one_view fixed size align offset part ≡ bulky_view dl fixed size align parts offsets (bulky_parts parts)
+one_read dl fixed size align parts offsets i offset part e o p = rw (o, p) (sym (ap (bulky_view dl fixed size align parts offsets) (one_of (bulky_parts parts) i e)))
+
+pub two_read : (dl : TargetDataLayout) (fixed : Bool) (size align : ℕ) (parts : List Part) (offsets : List ℕ) (i j first second : ℕ) (one other : Part) → Two i j ≡ bulk_of (bulky_parts parts)
+    → first ≡ get_or offsets i 0 → second ≡ get_or offsets j 0 → one ≡ part_at parts i → other ≡ part_at parts j
+    → two_view dl size align first one.view second other.view ≡ bulky_view dl fixed size align parts offsets (bulky_parts parts)
+two_read dl fixed size align parts offsets i j first second one other e f s o t =
+    rw (f, s, o, t) (sym (ap (bulky_view dl fixed size align parts offsets) (two_of (bulky_parts parts) i j e)))
+
+-- the view by none of them, or by more than two
+pub other_read : (dl : TargetDataLayout) (fixed : Bool) (size align : ℕ) (parts : List Part) (offsets : List ℕ) (xs : List ℕ) → ((i : ℕ) → ¬ (bulk_of xs ≡ One i)) → ((i j : ℕ) → ¬ (bulk_of xs ≡ Two i j))
+    → Memory true ≡ bulky_view dl fixed size align parts offsets xs
+other_read dl fixed size align parts offsets [] one two = refl
+other_read dl fixed size align parts offsets (x ∷ []) one two = absurd (one x refl)
+other_read dl fixed size align parts offsets (x ∷ y ∷ []) one two = absurd (two x y refl)
+other_read dl fixed size align parts offsets (x ∷ y ∷ z ∷ xs) one two = refl

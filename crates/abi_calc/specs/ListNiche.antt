@@ -27,6 +27,11 @@ greatest_niche bias dl (o ∷ offsets) (p ∷ parts) =
     greater_niche bias dl (niche_of_part o p.largest_niche) (greatest_niche bias dl offsets parts)
 greatest_niche bias dl _ _ = None
 
+-- the niche that counts for a bias: the first of equals, or the last
+abbrev pub biased_niche : NicheBias → (first last : Option Niche) → Option Niche
+biased_niche Start first last = first
+biased_niche End first last = last
+
 -- the list's niche in an order
 abbrev pub niche_in : TargetDataLayout → ListRepr → NicheBias → List Part → (order : List ℕ) → Option Niche
 niche_in dl repr bias parts order =

@@ -6,6 +6,8 @@ use Rattle.abi_scalar.specs.declared.scalar.Scalar.{Scalar}
 use Rattle.abi_scalar.specs.declared.backend_repr.BackendRepr.{BackendRepr}
 use Rattle.abi_scalar.specs.declared.backend_repr.BackendRepr.TheVariants.{Scalar as OneScalar, ScalarPair, SimdScalableVector, SimdVector, Memory}
 use Rattle.abi_scalar.specs.Pair.{pair_align, pair_size, second_offset}
+use Rattle.abi_calc.specs.declared.list_view.Bulk.{Bulk}
+use Rattle.abi_calc.specs.declared.list_view.Bulk.TheVariants.{Nothing, One, Two, More}
 use Rattle.abi_calc.specs.declared.part.Part.{Part}
 use Rattle.abi_calc.specs.Part.{is_empty_view, is_unsized}
 use Rattle.abi_calc.specs.Placement.{no_part, source_order}
@@ -21,6 +23,20 @@ is_bulky part = not (is_empty_view part.view part.size)
 -- the indices of such parts
 abbrev pub bulky_parts : List Part → List ℕ
 bulky_parts parts = filter (λ i. is_bulky (part_at parts i)) (source_order (length parts))
+
+-- as many of these as a view asks for: none, one, two, or that there are more
+abbrev pub bulk_of : List ℕ → Bulk
+bulk_of [] = Nothing
+bulk_of (i ∷ []) = One i
+bulk_of (i ∷ j ∷ []) = Two i j
+bulk_of (i ∷ j ∷ k ∷ more) = More
+
+-- with one more, which comes after them
+abbrev pub bulk_with : Bulk → ℕ → Bulk
+bulk_with Nothing index = One index
+bulk_with (One first) index = Two first index
+bulk_with (Two first second) index = More
+bulk_with More index = More
 
 -- the view of a list of one part that fills it: two scalars always, one scalar or a vector of a fixed length where the list
 -- may be passed as that

@@ -1,5 +1,5 @@
 -- What the layout of a list asks of its fields.
-use Rattle.std.specs.Prelude.{ℕ, ◌-◌, ◌+◌, ◌^◌, ◌≤◌, ◌==◌, ◌&&◌, Bool, true, false, Option, IfSome}
+use Rattle.std.specs.Prelude.{◌≡◌, ℕ, ◌-◌, ◌+◌, ◌^◌, ◌≤◌, ◌==◌, ◌&&◌, Bool, true, false, Option, IfSome}
 use Rattle.std.specs.Int.{◌∣◌}
 use Rattle.std.specs.Option.{option_map_or}
 use Rattle.abi_base.specs.declared.data_layout.TargetDataLayout.{TargetDataLayout}
@@ -50,10 +50,11 @@ pub record IsAlignedPart (part : Part) : Type 0 where
   pub aligned : part.align ≤ max_align
   pub whole : 2 ^ part.align ∣ part.size
 
--- A part whose niche and view are lawful.
+-- A part whose niche and view are lawful, and whose free numbers are the niche's.
 pub record IsLawfulPart (dl : TargetDataLayout) (part : Part) : Type 0 where
   pub aligned : part.align ≤ max_align
   pub whole : 2 ^ part.align ∣ part.size
   pub niche : IfSome part.largest_niche (IsLawfulNiche dl part.size)
   pub view : IsLawfulView dl part.size part.view
   pub niche_of_view : IfSome part.largest_niche (IsNicheOfView part.view)
+  pub counted : part.free ≡ free_numbers dl part.largest_niche

@@ -12,16 +12,16 @@ ghost use Rattle.abi_calc.specs.Apart.{AreAligned, AreApart};
 ghost use Rattle.abi_calc.specs.Fault.{IsErrorOf, IsFaultIndex};
 ghost use Rattle.abi_calc.specs.Least.{IsEachOrderTooLarge, IsLeastSize, LiesInSomeOrder};
 ghost use Rattle.abi_calc.specs.List.{AreSized, HasLawfulAligns, IsFirstFaultless, IsListAnswer, parts_of, unadjusted_of};
-ghost use Rattle.abi_calc.specs.ListView.{bulky_parts};
+ghost use Rattle.abi_calc.specs.ListView.{bulk_of, bulky_parts};
 ghost use Rattle.abi_calc.specs.ListNiche.{HasLargestNiche, IsNicheOfPart};
 ghost use Rattle.abi_calc.specs.Placement.{IsLawfulPrefix, IsNonEmptyIfUnsized, IsSized, cut, list_repr, start_of, sum_rounded};
 
 use crate::calculator::LayoutCalculator;
 use crate::fields::{greatest_repr_align, lies_as_in_c, seed_with};
 use crate::list_repr::{ListRepr, list_repr, unraised};
-use crate::list_view::{bulky_parts, list_view, transparent_align};
+use crate::list_view::{Bulk, bulk_of, list_view, transparent_align};
 use crate::order::movable;
-use crate::part::{Part, parts_of};
+use crate::part::Parts;
 use crate::placing::{ListFault, list_align};
 use crate::run::{PlacedList, layout_of_parts};
 use abi_base::{AbiAlign, Align, HasDataLayout, Size, StructKind, TargetDataLayout};
@@ -89,20 +89,20 @@ fn error_of<F: Copy>(fields: &[F], fault: ListFault) -> LayoutCalculatorError<F>
 }
 
 /// The list's alignment before `repr(align)` raised it.
-fn unadjusted_align(
+fn unadjusted_align<FieldIdx: Idx, VariantIdx: Idx, F: LayoutHandle<FieldIdx, VariantIdx>>(
     dl: &TargetDataLayout,
     repr: &ReprOptions,
     list: &ListRepr,
     size: Size,
     align: Align,
-    parts: &[Part],
-    bulky: &[usize],
+    parts: &Parts<'_, FieldIdx, VariantIdx, F>,
+    bulk: Bulk,
 ) -> Align
-    requires { bulky.now ≡ bulky_parts parts.now }
+    requires { bulk ≡ bulk_of (bulky_parts parts.now) }
     ensures { result ≡ unadjusted_of dl.now repr.now list.now.kind size align parts.now }
 {
     if repr.transparent() {
-        transparent_align(size, align, parts, bulky)
+        transparent_align(size, align, parts, bulk)
     } else {
         list_align(parts, &unraised(dl, repr, list))
     }
@@ -126,7 +126,7 @@ fn layout_of_list<FieldIdx: Idx, VariantIdx: Idx, F: LayoutHandle<FieldIdx, Vari
     ensures exact { IsListAnswer F.layout_of FieldIdx.at (VariantIdx.at 0) dl.now repr.now list.now.kind fields.now result }
     ensures lawful { IfOk result (IsLawfulLayout dl.now) }
 {
-    let parts = parts_of(alloc, dl, fields)?;
+    let parts: Parts<'_, FieldIdx, VariantIdx, F> = Parts::new(dl, fields);
     let placed = match layout_of_parts(alloc, dl, &parts, list) {
         Ok(placed) => placed,
         Err(fault) => return Err(error_of(fields, fault)),
@@ -137,11 +137,12 @@ fn layout_of_list<FieldIdx: Idx, VariantIdx: Idx, F: LayoutHandle<FieldIdx, Vari
         size,
         align,
         largest_niche,
+        last_niche: _,
     } = placed;
-    let bulky = bulky_parts(alloc, &parts)?;
+    let bulk = bulk_of(&parts);
     let fixed = repr.inhibit_newtype_abi_optimization();
-    let view = list_view(dl, fixed, size, align, &parts, &offsets, &bulky);
-    let unadjusted_abi_align = unadjusted_align(dl, repr, list, size, align, &parts, &bulky);
+    let view = list_view(dl, fixed, size, align, &parts, &offsets, bulk);
+    let unadjusted_abi_align = unadjusted_align(dl, repr, list, size, align, &parts, bulk);
     let offsets = IndexVec::from_raw(offsets);
     let in_memory_order = fields_named(alloc, &order)?;
     Ok(LayoutData {

@@ -1,12 +1,12 @@
 //! The niche of a list of fields.
 
-ghost use Rattle.std.specs.Prelude.{◌≡◌, ◌+◌, ◌^◌, ◌<◌, IfSome};
+ghost use Rattle.std.specs.Prelude.{◌≡◌, ◌+◌, ◌^◌, ◌<◌, IfSome, if◌then◌else◌, max, nat_lt};
 ghost use Rattle.abi_scalar.specs.Lawful.{IsLawfulNiche};
 ghost use Rattle.abi_scalar.specs.Niche.{IsReadableNiche};
-ghost use Rattle.abi_scalar.specs.Pair.{larger_niche};
-ghost use Rattle.abi_calc.specs.ListNiche.{niche_of_part, greater_niche, space_beside};
+ghost use Rattle.abi_calc.specs.ListNiche.{biased_niche, niche_of_part, space_beside};
 
 use crate::order::NicheBias;
+use crate::part::Part;
 use abi_base::{HasDataLayout, Size};
 use abi_scalar::Niche;
 
@@ -25,48 +25,49 @@ pub fn niche_of_part(offset: Size, own: &Option<Niche>) -> Option<Niche>
     }
 }
 
-/// The niche with more free numbers, the first where both have as many.
-fn larger_niche<C: HasDataLayout>(
-    cx: &C,
-    first: Option<Niche>,
-    second: Option<Niche>,
-) -> Option<Niche>
-    requires first { IfSome first (IsReadableNiche (C.target cx.now)) }
-    requires second { IfSome second (IsReadableNiche (C.target cx.now)) }
-    ensures value { result ≡ larger_niche (C.target cx.now) first second }
-    ensures readable { IfSome result (IsReadableNiche (C.target cx.now)) }
-{
-    match first {
-        None => second,
-        Some(low) => match second {
-            None => Some(low),
-            Some(high) => {
-                if low.available(cx) < high.available(cx) {
-                    Some(high)
-                } else {
-                    Some(low)
-                }
-            }
-        },
-    }
+/// The greatest niche of the fields placed so far: the first of those that are as great, and the last.
+#[derive(Clone, Copy)]
+pub struct GreatestNiche {
+    pub first: Option<Niche>,
+    pub last: Option<Niche>,
+    /// How many numbers each has free, 0 where there is none.
+    pub free: u128,
 }
 
-/// The niche with more free numbers. Where both have as many, a bias to the start keeps the earlier, and one to
-/// the end the later.
-pub fn greater_niche<C: HasDataLayout>(
-    cx: &C,
-    bias: NicheBias,
-    earlier: Option<Niche>,
-    later: Option<Niche>,
-) -> Option<Niche>
-    requires earlier { IfSome earlier (IsReadableNiche (C.target cx.now)) }
-    requires later { IfSome later (IsReadableNiche (C.target cx.now)) }
-    ensures value { result ≡ greater_niche bias (C.target cx.now) earlier later }
-    ensures readable { IfSome result (IsReadableNiche (C.target cx.now)) }
-{
-    match bias {
-        NicheBias::Start => larger_niche(cx, earlier, later),
-        NicheBias::End => larger_niche(cx, later, earlier),
+impl GreatestNiche {
+    /// That of no fields.
+    pub const NONE: GreatestNiche = GreatestNiche {
+        first: None,
+        last: None,
+        free: 0,
+    };
+
+    /// The greatest niche with one more field, which begins at this offset.
+    pub fn with(self, offset: Size, part: &Part) -> Self
+        requires { IfSome part.now.largest_niche (λ niche. offset + niche.offset < 2 ^ 64) }
+        ensures first { result.first ≡ (if nat_lt self.free part.now.free then niche_of_part offset part.now.largest_niche else self.first) }
+        ensures last { result.last ≡ (if nat_lt part.now.free self.free then self.last else niche_of_part offset part.now.largest_niche) }
+        ensures free { result.free ≡ max self.free part.now.free }
+    {
+        if part.free < self.free {
+            return self;
+        }
+        let last = niche_of_part(offset, &part.largest_niche);
+        GreatestNiche {
+            first: if part.free > self.free { last } else { self.first },
+            last,
+            free: part.free,
+        }
+    }
+
+    /// The one that counts: the first for a bias to the start, the last for one to the end.
+    pub fn biased(&self, bias: NicheBias) -> Option<Niche>
+        ensures { result ≡ biased_niche bias self.now.first self.now.last }
+    {
+        match bias {
+            NicheBias::Start => self.first,
+            NicheBias::End => self.last,
+        }
     }
 }
 

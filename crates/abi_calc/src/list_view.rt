@@ -4,12 +4,12 @@ ghost use Rattle.std.specs.Prelude.{◌≡◌, ℕ, ◌+◌, ◌^◌, ◌<◌, �
 ghost use Rattle.abi_base.specs.DataLayout.{IsLawfulDataLayout, size_bound};
 ghost use Rattle.abi_scalar.specs.Scalar.{IsLawfulScalar};
 ghost use Rattle.abi_calc.specs.Part.{IsLawfulPart};
-ghost use Rattle.abi_calc.specs.ListView.{any_unsized, bulky_align, bulky_parts, bulky_view, is_bulky, kept_view, list_view, one_view, pair_view, part_at, transparent_align, two_view};
+ghost use Rattle.abi_calc.specs.ListView.{any_unsized, bulk_of, bulk_with, bulky_align, bulky_parts, bulky_view, is_bulky, kept_view, list_view, one_view, pair_view, part_at, transparent_align, two_view};
 
-use crate::part::{Part, is_unsized};
+use crate::part::{Part, Parts, is_unsized};
 use abi_base::{Align, Size, TargetDataLayout};
-use abi_scalar::{BackendRepr, Scalar};
-use std::alloc::{AllocError, Global};
+use abi_index::Idx;
+use abi_scalar::{BackendRepr, LayoutHandle, Scalar};
 
 /// Whether the field has bytes, or is seen as more than bytes in memory.
 fn is_bulky(part: &Part) -> bool
@@ -21,33 +21,45 @@ fn is_bulky(part: &Part) -> bool
     }
 }
 
-/// The field at an index.
-fn part_at<'a>(parts: &'a [Part], index: usize) -> &'a Part
-    requires { index < length parts.now }
-    ensures { result.now ≡ part_at parts.now index }
-{
-    &parts[index]
+/// The fields that have bytes, or are seen as more than bytes in memory, by their indices: as far as the list's view asks.
+#[derive(Clone, Copy)]
+pub enum Bulk {
+    Nothing,
+    One(usize),
+    Two(usize, usize),
+    More,
 }
 
-/// The indices of the fields that have bytes, or are seen as more than bytes in memory.
-pub fn bulky_parts(alloc: Global, parts: &[Part]) -> Result<Vec<usize>, AllocError>
-    ensures { IfOk result (λ bulky. bulky.items ≡ bulky_parts parts.now) }
+/// Such fields with one more, which comes after them.
+fn bulk_with(bulk: Bulk, index: usize) -> Bulk
+    ensures { result ≡ bulk_with bulk index }
 {
-    let mut bulky = Vec::new(alloc);
+    match bulk {
+        Bulk::Nothing => Bulk::One(index),
+        Bulk::One(first) => Bulk::Two(first, index),
+        _ => Bulk::More,
+    }
+}
+
+/// Those of these fields.
+pub fn bulk_of<FieldIdx: Idx, VariantIdx: Idx, F: LayoutHandle<FieldIdx, VariantIdx>>(parts: &Parts<'_, FieldIdx, VariantIdx, F>) -> Bulk
+    ensures { result ≡ bulk_of (bulky_parts parts.now) }
+{
+    let mut bulk = Bulk::Nothing;
     for index in 0..parts.len() {
-        if is_bulky(&parts[index]) {
-            bulky.push(index)?;
+        if is_bulky(&parts.at(index)) {
+            bulk = bulk_with(bulk, index);
         }
     }
-    Ok(bulky)
+    bulk
 }
 
 /// Whether some field is unsized.
-pub fn any_unsized(parts: &[Part]) -> bool
+pub fn any_unsized<FieldIdx: Idx, VariantIdx: Idx, F: LayoutHandle<FieldIdx, VariantIdx>>(parts: &Parts<'_, FieldIdx, VariantIdx, F>) -> bool
     ensures { result ≡ any_unsized parts.now }
 {
-    for part in parts {
-        if is_unsized(part.view) {
+    for index in 0..parts.len() {
+        if is_unsized(parts.at(index).view) {
             return true;
         }
     }
@@ -133,49 +145,46 @@ fn two_view(
 }
 
 /// The view of a list by those of its fields that have bytes, or are seen as more than bytes in memory.
-fn bulky_view(
+fn bulky_view<FieldIdx: Idx, VariantIdx: Idx, F: LayoutHandle<FieldIdx, VariantIdx>>(
     dl: &TargetDataLayout,
     fixed: bool,
     size: Size,
     align: Align,
-    parts: &[Part],
+    parts: &Parts<'_, FieldIdx, VariantIdx, F>,
     offsets: &[Size],
-    bulky: &[usize],
+    bulk: Bulk,
 ) -> BackendRepr
     requires data_layout { IsLawfulDataLayout dl.now }
     requires parts { All (IsLawfulPart dl.now) parts.now }
     requires count { length offsets.now ≡ length parts.now }
-    requires bulky { All (λ i. i < length parts.now) bulky.now }
-    ensures { result ≡ bulky_view dl.now fixed size align parts.now offsets.now bulky.now }
+    requires bulk { bulk ≡ bulk_of (bulky_parts parts.now) }
+    ensures { result ≡ bulky_view dl.now fixed size align parts.now offsets.now (bulky_parts parts.now) }
 {
-    if bulky.len() == 1 {
-        let i = bulky[0];
-        one_view(fixed, size, align, offsets[i], part_at(parts, i))
-    } else if bulky.len() == 2 {
-        let i = bulky[0];
-        let j = bulky[1];
-        let one = part_at(parts, i);
-        let other = part_at(parts, j);
-        two_view(dl, size, align, offsets[i], one, offsets[j], other)
-    } else {
-        BackendRepr::Memory { sized: true }
+    match bulk {
+        Bulk::One(i) => one_view(fixed, size, align, offsets[i], &parts.at(i)),
+        Bulk::Two(i, j) => {
+            let one = parts.at(i);
+            let other = parts.at(j);
+            two_view(dl, size, align, offsets[i], &one, offsets[j], &other)
+        }
+        _ => BackendRepr::Memory { sized: true },
     }
 }
 
 /// How a code generator sees a list of this size and alignment, whose fields lie at these offsets.
-pub fn list_view(
+pub fn list_view<FieldIdx: Idx, VariantIdx: Idx, F: LayoutHandle<FieldIdx, VariantIdx>>(
     dl: &TargetDataLayout,
     fixed: bool,
     size: Size,
     align: Align,
-    parts: &[Part],
+    parts: &Parts<'_, FieldIdx, VariantIdx, F>,
     offsets: &[Size],
-    bulky: &[usize],
+    bulk: Bulk,
 ) -> BackendRepr
     requires data_layout { IsLawfulDataLayout dl.now }
     requires parts { All (IsLawfulPart dl.now) parts.now }
     requires count { length offsets.now ≡ length parts.now }
-    requires bulky { bulky.now ≡ bulky_parts parts.now }
+    requires bulk { bulk ≡ bulk_of (bulky_parts parts.now) }
     ensures { result ≡ list_view dl.now fixed size align parts.now offsets.now }
 {
     if any_unsized(parts) {
@@ -183,22 +192,21 @@ pub fn list_view(
     } else if size == Size::ZERO {
         BackendRepr::Memory { sized: true }
     } else {
-        bulky_view(dl, fixed, size, align, parts, offsets, bulky)
+        bulky_view(dl, fixed, size, align, parts, offsets, bulk)
     }
 }
 
 /// The alignment of a transparent list before a `repr(align)` raised it: that of its one field with bytes, else
 /// the list's.
-pub fn transparent_align(size: Size, align: Align, parts: &[Part], bulky: &[usize]) -> Align
-    requires bulky { bulky.now ≡ bulky_parts parts.now }
+pub fn transparent_align<FieldIdx: Idx, VariantIdx: Idx, F: LayoutHandle<FieldIdx, VariantIdx>>(size: Size, align: Align, parts: &Parts<'_, FieldIdx, VariantIdx, F>, bulk: Bulk) -> Align
+    requires { bulk ≡ bulk_of (bulky_parts parts.now) }
     ensures { result ≡ transparent_align size align parts.now }
 {
     if any_unsized(parts) || size == Size::ZERO {
         return align;
     }
-    if bulky.len() == 1 {
-        part_at(parts, bulky[0]).unadjusted_align
-    } else {
-        align
+    match bulk {
+        Bulk::One(i) => parts.at(i).unadjusted_align,
+        _ => align,
     }
 }

@@ -6,8 +6,10 @@ ghost use Rattle.abi_calc.specs.Placement.{source_order, IsNonEmptyIfUnsized};
 ghost use Rattle.abi_calc.specs.Order.{size_as_align, group_of, niche_from_front, niche_to_end, sort_key, key_at, IsSortedOrder, movable, is_prefixed, rule_of, IsSortedBefore, IsNamedOrder};
 
 use crate::list_repr::ListRepr;
-use crate::part::Part;
+use crate::part::{Part, Parts};
 use abi_base::{Align, StructKind};
+use abi_index::Idx;
+use abi_scalar::LayoutHandle;
 use std::alloc::{AllocError, Global};
 
 /// Where niches go among fields that share an alignment, and which of equally great niches counts.
@@ -118,13 +120,13 @@ impl SortRule {
     }
 }
 
-fn sort_keys(alloc: Global, parts: &[Part], rule: SortRule) -> Result<Vec<SortKey>, AllocError>
+fn sort_keys<FieldIdx: Idx, VariantIdx: Idx, F: LayoutHandle<FieldIdx, VariantIdx>>(alloc: Global, parts: &Parts<'_, FieldIdx, VariantIdx, F>, rule: SortRule) -> Result<Vec<SortKey>, AllocError>
     requires { All IsAlignedPart parts.now }
     ensures { IfOk result (λ keys. keys.items ≡ map (sort_key rule) parts.now) }
 {
     let mut keys = Vec::with_capacity(alloc, parts.len())?;
-    for part in parts {
-        keys.push(rule.key_of(part))?;
+    for index in 0..parts.len() {
+        keys.push(rule.key_of(&parts.at(index)))?;
     }
     Ok(keys)
 }
@@ -180,16 +182,29 @@ fn is_prefixed(kind: StructKind) -> bool
 }
 
 /// The greatest alignment of these fields.
-fn greatest_align(parts: &[Part]) -> Align
+fn greatest_align<FieldIdx: Idx, VariantIdx: Idx, F: LayoutHandle<FieldIdx, VariantIdx>>(parts: &Parts<'_, FieldIdx, VariantIdx, F>) -> Align
     ensures { result ≡ fold (λ greatest part. max greatest part.align) 0 parts.now }
 {
-    parts
-        .iter()
-        .fold(Align::ONE, |greatest, part| greatest.max(part.align))
+    let mut greatest = Align::ONE;
+    for index in 0..parts.len() {
+        greatest = greatest.max(parts.at(index).align);
+    }
+    greatest
+}
+
+/// The most free numbers that a niche of these fields has.
+fn greatest_niche<FieldIdx: Idx, VariantIdx: Idx, F: LayoutHandle<FieldIdx, VariantIdx>>(parts: &Parts<'_, FieldIdx, VariantIdx, F>) -> u128
+    ensures { result ≡ fold (λ greatest part. max greatest part.free) 0 parts.now }
+{
+    let mut greatest = 0;
+    for index in 0..parts.len() {
+        greatest = greatest.max(parts.at(index).free);
+    }
+    greatest
 }
 
 impl SortRule {
-    fn new(repr: &ListRepr, bias: NicheBias, parts: &[Part]) -> Self
+    fn new<FieldIdx: Idx, VariantIdx: Idx, F: LayoutHandle<FieldIdx, VariantIdx>>(repr: &ListRepr, bias: NicheBias, parts: &Parts<'_, FieldIdx, VariantIdx, F>) -> Self
         requires { All IsAlignedPart parts.now }
         ensures { result ≡ rule_of repr.now bias parts.now }
     {
@@ -198,16 +213,14 @@ impl SortRule {
             is_prefixed: is_prefixed(repr.kind),
             bias,
             greatest_align: exponent_of(greatest_align(parts)),
-            greatest_niche: parts
-                .iter()
-                .fold(0, |greatest, part| greatest.max(part.free)),
+            greatest_niche: greatest_niche(parts),
         }
     }
 }
 
-fn sorted_before(
+fn sorted_before<FieldIdx: Idx, VariantIdx: Idx, F: LayoutHandle<FieldIdx, VariantIdx>>(
     alloc: Global,
-    parts: &[Part],
+    parts: &Parts<'_, FieldIdx, VariantIdx, F>,
     repr: &ListRepr,
     bias: NicheBias,
 ) -> Result<Vec<usize>, AllocError>
@@ -215,8 +228,8 @@ fn sorted_before(
     requires kind { IsNonEmptyIfUnsized repr.now.kind (length parts.now) }
     ensures { IfOk result (λ order. IsSortedBefore repr.now bias parts.now order.items) }
 {
-    let movable = movable(repr.kind, parts);
-    let keys = sort_keys(alloc, movable, SortRule::new(repr, bias, movable))?;
+    let movable = parts.movable(repr.kind);
+    let keys = sort_keys(alloc, &movable, SortRule::new(repr, bias, &movable))?;
     let mut order = sorted_order(alloc, parts.len(), &keys)?;
     if movable.len() < parts.len() {
         order.push(movable.len())?;
@@ -225,9 +238,9 @@ fn sorted_before(
 }
 
 /// The fields' indices in the order that they are to have in memory.
-pub fn memory_order(
+pub fn memory_order<FieldIdx: Idx, VariantIdx: Idx, F: LayoutHandle<FieldIdx, VariantIdx>>(
     alloc: Global,
-    parts: &[Part],
+    parts: &Parts<'_, FieldIdx, VariantIdx, F>,
     repr: &ListRepr,
     bias: NicheBias,
 ) -> Result<Vec<usize>, AllocError>

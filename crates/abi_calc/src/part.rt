@@ -1,15 +1,20 @@
 //! What the layout of a list asks of its fields.
 
-ghost use Rattle.std.specs.Prelude.{◌≡◌, ◌^◌, ◌<◌, ◌≤◌, All, IfOk, IfSome, map};
+ghost use Rattle.std.specs.Prelude.{◌≡◌, ◌<◌, All, IfSome, length, map};
 ghost use Rattle.std.specs.Option.{option_map_or};
 ghost use Rattle.abi_base.specs.DataLayout.{IsLawfulDataLayout};
 ghost use Rattle.abi_scalar.specs.Lawful.{IsLawfulLayout, IsLawfulNiche};
+ghost use Rattle.abi_calc.specs.List.{parts_of};
+ghost use Rattle.abi_calc.specs.ListView.{part_at};
+ghost use Rattle.abi_calc.specs.Order.{movable};
 ghost use Rattle.abi_calc.specs.Part.{free_numbers, space_after, part_of, is_unsized};
+ghost use Rattle.abi_calc.specs.Placement.{IsNonEmptyIfUnsized};
 
-use abi_base::{Align, HasDataLayout, Size};
+use crate::order::movable;
+use abi_base::{Align, HasDataLayout, Size, StructKind, TargetDataLayout};
 use abi_index::Idx;
 use abi_scalar::{BackendRepr, LayoutData, LayoutHandle, Niche};
-use std::alloc::{AllocError, Global};
+use std::marker::{Model, PhantomData};
 
 /// A field of a list, as far as the list's layout asks.
 #[derive(Clone, Copy)]
@@ -38,6 +43,7 @@ pub fn is_unsized(view: BackendRepr) -> bool
 
 /// How many numbers the niche has free, 0 where there is none.
 #[tactic(auto, using(crate::proofs::NicheLemmas::lawful_readable))]
+#[inline]
 pub fn free_numbers<C: HasDataLayout>(cx: &C, size: Size, niche: Option<Niche>) -> u128
     requires { IfSome niche (IsLawfulNiche (C.target cx.now) size) }
     ensures { result ≡ free_numbers (C.target cx.now) niche }
@@ -49,6 +55,7 @@ pub fn free_numbers<C: HasDataLayout>(cx: &C, size: Size, niche: Option<Niche>) 
 }
 
 /// How many bytes follow the niche in a type of this size, 0 where there is none.
+#[inline]
 fn space_after<C: HasDataLayout>(cx: &C, size: Size, niche: Option<Niche>) -> Size
     requires { IfSome niche (IsLawfulNiche (C.target cx.now) size) }
     ensures { result ≡ space_after (C.target cx.now) size niche }
@@ -63,6 +70,7 @@ fn space_after<C: HasDataLayout>(cx: &C, size: Size, niche: Option<Niche>) -> Si
 }
 
 /// What a list asks of a field with this layout.
+#[inline(always)]
 fn part_of<C: HasDataLayout, FieldIdx: Idx, VariantIdx: Idx>(
     cx: &C,
     layout: &LayoutData<FieldIdx, VariantIdx>,
@@ -81,19 +89,69 @@ fn part_of<C: HasDataLayout, FieldIdx: Idx, VariantIdx: Idx>(
     }
 }
 
-/// What a list asks of each of these fields.
-pub fn parts_of<
-    C: HasDataLayout,
-    FieldIdx: Idx,
-    VariantIdx: Idx,
-    F: LayoutHandle<FieldIdx, VariantIdx>,
->(alloc: Global, cx: &C, fields: &[F]) -> Result<Vec<Part>, AllocError>
-    requires { All (λ f. IsLawfulLayout (C.target cx.now) (F.layout_of f)) fields.now }
-    ensures { IfOk result (λ parts. parts.items ≡ map (λ f. part_of (C.target cx.now) f) (map F.layout_of fields.now)) }
+/// The fields of a list, as parts: each is told by its field's layout, when it is asked for.
+#[derive(Drop)]
+pub struct Parts<'a, FieldIdx: Idx, VariantIdx: Idx, F: LayoutHandle<FieldIdx, VariantIdx>> {
+    dl: &'a TargetDataLayout,
+    fields: &'a [F],
+    of: PhantomData<(FieldIdx, VariantIdx)>,
+}
+
+impl<'a, FieldIdx: Idx, VariantIdx: Idx, F: LayoutHandle<FieldIdx, VariantIdx>> Model
+    for Parts<'a, FieldIdx, VariantIdx, F>
 {
-    let mut parts = Vec::with_capacity(alloc, fields.len())?;
-    for field in fields {
-        parts.push(part_of(cx, field.layout()))?;
+    ghost use Rattle.std.specs.Prelude.{All, List, map};
+    ghost use Rattle.abi_scalar.specs.Lawful.{IsLawfulLayout};
+    ghost use Rattle.abi_calc.specs.declared.part.Part.{Part as OnePart};
+    ghost use Rattle.abi_calc.specs.List.{parts_of};
+
+    ghost Value = { List OnePart };
+
+    ghost view = { λ p. parts_of p.dl.now (map F.layout_of p.fields.now) };
+
+    ghost invariant = { λ p. All (λ f. IsLawfulLayout p.dl.now (F.layout_of f)) p.fields.now };
+}
+
+impl<'a, FieldIdx: Idx, VariantIdx: Idx, F: LayoutHandle<FieldIdx, VariantIdx>>
+    Parts<'a, FieldIdx, VariantIdx, F>
+{
+    /// These fields, as parts.
+    pub fn new(dl: &'a TargetDataLayout, fields: &'a [F]) -> Self
+        requires { All (λ f. IsLawfulLayout dl.now (F.layout_of f)) fields.now }
+        ensures { result ≡ parts_of dl.now (map F.layout_of fields.now) }
+    {
+        Parts {
+            dl,
+            fields,
+            of: PhantomData,
+        }
     }
-    Ok(parts)
+
+    /// How many there are.
+    pub fn len(&self) -> usize
+        ensures { result ≡ length self.now }
+    {
+        self.fields.len()
+    }
+
+    /// The part at an index.
+    #[inline(always)]
+    pub fn at(&self, index: usize) -> Part
+        requires { index < length self.now }
+        ensures { result ≡ part_at self.now index }
+    {
+        part_of(self.dl, self.fields[index].layout())
+    }
+
+    /// The parts that may move: all but a last one that may be unsized.
+    pub fn movable(&self, kind: StructKind) -> Self
+        requires { IsNonEmptyIfUnsized kind (length self.now) }
+        ensures { result ≡ movable kind self.now }
+    {
+        Parts {
+            dl: self.dl,
+            fields: movable(kind, self.fields),
+            of: PhantomData,
+        }
+    }
 }

@@ -2,19 +2,19 @@
 
 ghost use Rattle.std.specs.Prelude.{◌≡◌, ℕ, ◌+◌, ◌^◌, ◌<◌, ◌≤◌, ◌⊎◌, All, IfOk, IfErr, IfSome, List, Some, None, length, map, slice_index, IsPermutation, not, ◌&&◌};
 ghost use Rattle.abi_base.specs.DataLayout.{IsLawfulDataLayout, size_bound};
-ghost use Rattle.abi_scalar.specs.Niche.{IsReadableNiche};
 ghost use Rattle.abi_calc.specs.Part.{IsLawfulPart, is_unsized, max_align};
 ghost use Rattle.abi_calc.specs.Placement.{align_of, prefix_align, end_from, in_order, IsLawfulPrefix, offsets_from, source_order, start_of};
 ghost use Rattle.abi_calc.specs.ListNiche.{niche_in};
 ghost use Rattle.abi_calc.specs.Fault.{fault_from, is_maybe_unsized};
 ghost use Rattle.abi_calc.specs.declared.placing.ListFault.TheVariants.{OutOfMemory};
 
-use crate::list_niche::{greater_niche, niche_of_part};
+use crate::list_niche::GreatestNiche;
 use crate::list_repr::{ListRepr, cut_to, rounded};
 use crate::order::NicheBias;
-use crate::part::{Part, is_unsized};
+use crate::part::{Parts, is_unsized};
 use abi_base::{Align, Size, StructKind, TargetDataLayout};
-use abi_scalar::{BackendRepr, Niche};
+use abi_index::Idx;
+use abi_scalar::{BackendRepr, LayoutHandle};
 use std::alloc::{AllocError, AllocFailed, Global};
 
 /// Why a list has no layout.
@@ -70,12 +70,14 @@ fn prefix_align(kind: StructKind, pack: Option<Align>) -> Align
 }
 
 /// The greatest alignment of the list, its prefix and its fields.
-pub fn list_align(parts: &[Part], repr: &ListRepr) -> Align
+pub fn list_align<FieldIdx: Idx, VariantIdx: Idx, F: LayoutHandle<FieldIdx, VariantIdx>>(parts: &Parts<'_, FieldIdx, VariantIdx, F>, repr: &ListRepr) -> Align
     ensures { result ≡ align_of repr.now parts.now }
 {
-    let own = repr.align.max(prefix_align(repr.kind, repr.pack));
-    let pack = repr.pack;
-    parts.iter().fold(own, |greatest, part| greatest.max(cut_to(part.align, pack)))
+    let mut greatest = repr.align.max(prefix_align(repr.kind, repr.pack));
+    for index in 0..parts.len() {
+        greatest = greatest.max(cut_to(parts.at(index).align, repr.pack));
+    }
+    greatest
 }
 
 /// Where the first field may begin.
@@ -91,22 +93,21 @@ fn list_start(kind: StructKind, pack: Option<Align>, bound: u64) -> Size
     }
 }
 
-/// Each field's offset in source order, with the end of the last one in memory and the greatest niche.
+/// Each field's offset in source order, with the end of the last one in memory and the greatest niches.
 #[derive(Drop)]
 pub struct Placement {
     pub offsets: Vec<Size>,
     pub end: Size,
-    pub largest_niche: Option<Niche>,
+    pub niche: GreatestNiche,
 }
 
 /// Places the fields in this order.
-pub fn place(
+pub fn place<FieldIdx: Idx, VariantIdx: Idx, F: LayoutHandle<FieldIdx, VariantIdx>>(
     alloc: Global,
     dl: &TargetDataLayout,
-    parts: &[Part],
+    parts: &Parts<'_, FieldIdx, VariantIdx, F>,
     order: &[usize],
     repr: &ListRepr,
-    bias: NicheBias,
 ) -> Result<Placement, ListFault>
     requires data_layout { IsLawfulDataLayout dl.now }
     requires lawful { All (IsLawfulPart dl.now) parts.now }
@@ -115,17 +116,17 @@ pub fn place(
     ensures count { IfOk result (λ placed. length placed.offsets.items ≡ length parts.now) }
     ensures offsets { IfOk result (λ placed. map (slice_index placed.offsets.items) order.now ≡ offsets_from repr.now.pack (start_of repr.now.pack repr.now.kind) (in_order parts.now order.now)) }
     ensures end { IfOk result (λ placed. placed.end ≡ end_from repr.now.pack (start_of repr.now.pack repr.now.kind) (in_order parts.now order.now)) }
-    ensures niche { IfOk result (λ placed. placed.largest_niche ≡ niche_in dl.now repr.now bias parts.now order.now) }
-    ensures readable { IfOk result (λ placed. IfSome placed.largest_niche (IsReadableNiche dl.now)) }
+    ensures first { IfOk result (λ placed. placed.niche.first ≡ niche_in dl.now repr.now NicheBias.Start parts.now order.now) }
+    ensures last { IfOk result (λ placed. placed.niche.last ≡ niche_in dl.now repr.now NicheBias.End parts.now order.now) }
     ensures small { IfOk result (λ placed. placed.end < size_bound dl.now + 2 ^ max_align) }
     ensures faultless { IfOk result (λ placed. fault_from repr.now (size_bound dl.now) parts.now (start_of repr.now.pack repr.now.kind) order.now ≡ None) }
     ensures fault { IfErr result (λ fault. (fault_from repr.now (size_bound dl.now) parts.now (start_of repr.now.pack repr.now.kind) order.now ≡ Some fault) ⊎ (fault ≡ OutOfMemory)) }
 {
     let mut offsets = vec![in alloc; Size::ZERO; parts.len()]?;
     let mut end = list_start(repr.kind, repr.pack, dl.obj_size_bound());
-    let mut largest_niche = None;
+    let mut niche = GreatestNiche::NONE;
     for (at, &index) in order.iter().enumerate() {
-        let part = &parts[index];
+        let part = parts.at(index);
         if is_misplaced(repr.kind, part.view) {
             return Err(ListFault::Unsized(index));
         }
@@ -137,13 +138,12 @@ pub fn place(
             return Err(ListFault::Unsized(index));
         }
         offsets[index] = offset;
-        let niche = niche_of_part(offset, &part.largest_niche);
-        largest_niche = greater_niche(dl, bias, largest_niche, niche);
+        niche = niche.with(offset, &part);
         end = next;
     }
     Ok(Placement {
         offsets,
         end,
-        largest_niche,
+        niche,
     })
 }

@@ -6,17 +6,18 @@ ghost use Rattle.abi_scalar.specs.Lawful.{IsLawfulNiche};
 ghost use Rattle.abi_scalar.specs.Niche.{IsReadableNiche};
 ghost use Rattle.abi_calc.specs.Part.{IsLawfulPart};
 ghost use Rattle.abi_calc.specs.Placement.{IsLawfulRepr};
-ghost use Rattle.abi_calc.specs.ListNiche.{begins_after, space_beside};
+ghost use Rattle.abi_calc.specs.ListNiche.{begins_after, niche_in, space_beside};
 ghost use Rattle.abi_calc.specs.Order.{IsNamedOrder};
 ghost use Rattle.abi_calc.specs.Run.{IsFaultOf, IsNamedLayout, IsPlacedIn, may_move};
 
 use crate::list_niche::space_beside;
 use crate::list_repr::{ListRepr, rounded};
 use crate::order::{NicheBias, memory_order};
-use crate::part::Part;
+use crate::part::Parts;
 use crate::placing::{ListFault, Placement, list_align, place};
 use abi_base::{Align, Size, StructKind, TargetDataLayout};
-use abi_scalar::Niche;
+use abi_index::Idx;
+use abi_scalar::{LayoutHandle, Niche};
 use std::alloc::Global;
 
 /// A list laid out.
@@ -30,13 +31,15 @@ pub struct PlacedList {
     pub align: Align,
     /// The greatest niche, told from the start of the list.
     pub largest_niche: Option<Niche>,
+    /// The last of those that are as great in this order.
+    pub last_niche: Option<Niche>,
 }
 
 /// The list in the order that is named for the bias.
-fn run(
+fn run<FieldIdx: Idx, VariantIdx: Idx, F: LayoutHandle<FieldIdx, VariantIdx>>(
     alloc: Global,
     dl: &TargetDataLayout,
-    parts: &[Part],
+    parts: &Parts<'_, FieldIdx, VariantIdx, F>,
     repr: &ListRepr,
     bias: NicheBias,
 ) -> Result<PlacedList, ListFault>
@@ -45,6 +48,7 @@ fn run(
     requires repr { IsLawfulRepr repr.now (length parts.now) (size_bound dl.now) }
     ensures named { IfOk result (λ list. IsNamedOrder repr.now bias parts.now list.order.items) }
     ensures placed { IfOk result (λ list. IsPlacedIn dl.now repr.now bias parts.now list.order.items list.offsets.items list.size list.align list.largest_niche) }
+    ensures last { IfOk result (λ list. list.last_niche ≡ niche_in dl.now repr.now NicheBias.End parts.now list.order.items) }
     ensures readable { IfOk result (λ list. IfSome list.largest_niche (IsReadableNiche dl.now)) }
     ensures inside { IfOk result (λ list. IfSome list.largest_niche (IsLawfulNiche dl.now list.size)) }
     ensures fits { IfOk result (λ list. list.size < size_bound dl.now) }
@@ -54,8 +58,10 @@ fn run(
     let Placement {
         offsets,
         end,
-        largest_niche,
-    } = place(alloc, dl, parts, &order, repr, bias)?;
+        niche,
+    } = place(alloc, dl, parts, &order, repr)?;
+    let largest_niche = niche.biased(bias);
+    let last_niche = niche.biased(NicheBias::End);
     let align = list_align(parts, repr);
     let size = rounded(end, align);
     if size.bytes() >= dl.obj_size_bound() {
@@ -67,6 +73,7 @@ fn run(
         size,
         align,
         largest_niche,
+        last_niche,
     })
 }
 
@@ -110,11 +117,26 @@ fn begins_after(niche: &Option<Niche>, space: Size) -> bool
     }
 }
 
+/// The list with the last of its greatest niches, where that begins after so many bytes, else as it is.
+fn with_last_niche(list: PlacedList, space: Size) -> PlacedList
+    ensures same { (result.offsets ≡ list.offsets) × (result.order ≡ list.order) × (result.size ≡ list.size) × (result.align ≡ list.align) }
+    ensures niche { result.largest_niche ≡ (if begins_after space list.last_niche then list.last_niche else list.largest_niche) }
+{
+    if begins_after(&list.last_niche, space) {
+        PlacedList {
+            largest_niche: list.last_niche,
+            ..list
+        }
+    } else {
+        list
+    }
+}
+
 /// Lays the fields out one after another, in an order of least size where they may move.
-pub fn layout_of_parts(
+pub fn layout_of_parts<FieldIdx: Idx, VariantIdx: Idx, F: LayoutHandle<FieldIdx, VariantIdx>>(
     alloc: Global,
     dl: &TargetDataLayout,
-    parts: &[Part],
+    parts: &Parts<'_, FieldIdx, VariantIdx, F>,
     repr: &ListRepr,
 ) -> Result<PlacedList, ListFault>
     requires data_layout { IsLawfulDataLayout dl.now }
@@ -128,6 +150,9 @@ pub fn layout_of_parts(
     let Some(space) = space_wanted(dl, repr, parts.len(), &first) else {
         return Ok(first);
     };
+    if !repr.reorderable {
+        return Ok(with_last_niche(first, space));
+    }
     let second = match run(alloc, dl, parts, repr, NicheBias::End) {
         Ok(second) => second,
         Err(fault) => return Err(fault),

@@ -76,7 +76,7 @@ fn variants_of<FieldIdx: Idx, VariantIdx: Idx>(
     requires listed { All (λ l. IsListed l.fields) lists.items }
     ensures { IfOk result (λ variants. variants ≡ map (λ l. seen_as view.now size (grown_variant old new (variant_of l))) lists.items) }
 {
-    let mut variants = IndexVec::new(alloc);
+    let mut variants = IndexVec::with_capacity(alloc, lists.len())?;
     for list in lists {
         let variant = grown_variant(alloc, old, new, VariantLayout::from_layout(list))?;
         let _index = variants.push(seen_as(*view, size, variant))?;

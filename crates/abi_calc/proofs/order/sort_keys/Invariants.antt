@@ -3,5 +3,5 @@ use Rattle.std.proofs.Common.{◌≡◌, map, take}
 use Rattle.abi_calc.specs.Order.{sort_key}
 use Rattle.abi_calc.proofs.order.sort_keys.Given as goal
 
-abbrev pub invariant-loop-part : goal.invariant-loop-part
-invariant-loop-part l = l.keys.items ≡ map (sort_key l.rule) (take l.part-index l.parts)
+abbrev pub invariant-loop-index : goal.invariant-loop-index
+invariant-loop-index g l = l.keys.items ≡ map (sort_key l.rule) (take l.index l.parts)

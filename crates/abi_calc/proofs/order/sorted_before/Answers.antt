@@ -1,26 +1,27 @@
 -- The sorted front, and the tail where one is left.
-use Rattle.std.proofs.Common.{rules, length, ◌<◌, ◌≤◌, append-nil}
+use Rattle.std.proofs.Common.{arith, rules, length, ◌<◌, ◌≤◌, ap, append-nil}
 use Rattle.abi_calc.specs.Order.{movable}
-use Rattle.abi_calc.proofs.Sorting.{movable_lawful, tail_of_all, tail_of_front}
+use Rattle.abi_calc.specs.Part.{IsAlignedPart}
+use Rattle.abi_calc.proofs.Sorting.{movable_all, tail_of_all, tail_of_front}
 use Rattle.abi_calc.proofs.order.sorted_before.Goals as goal
-use Rattle.abi_calc.proofs.order.sorted_before.Goals.{then-movable-parts+in_ok-push, else-movable-parts}
+use Rattle.abi_calc.proofs.order.sorted_before.Goals.{then-len+in_ok-push, else-len}
 
 pub returns : goal.returns
-returns c = (
+returns g c = (
   c.in_ok-order.order.items,
   rw (← c.movable-movable.ensures, ← c.new.ensures, ← c.in_ok-keys.ensures, ← c.deref.ensures.value) c.in_ok-order.ensures,
-  elim c.if-movable-parts.branch [
-    | then-movable-parts+in_ok-push w ↦
-        let shorter : length (movable c.args.repr.now.kind c.args.parts.now) < length c.args.parts.now = rw (← c.movable-movable.ensures) w.if-movable-parts.true in
+  elim c.if-len.branch [
+    | then-len+in_ok-push w ↦
+        let shorter : length (movable c.args.repr.now.kind c.args.parts.now) < length c.args.parts.now = omega (arith, w.if-len.true, c.len-2.ensures, c.len-3.ensures, ap length c.movable-movable.ensures) in
         rw (← tail_of_front c.args.repr.now.kind c.args.parts.now shorter, ← c.movable-movable.ensures) (search (rules, w.in_ok-push.ensures.items))
-    | else-movable-parts w ↦
-        let whole : length c.args.parts.now ≤ length (movable c.args.repr.now.kind c.args.parts.now) = rw (← c.movable-movable.ensures) w.if-movable-parts.false in
+    | else-len w ↦
+        let whole : length c.args.parts.now ≤ length (movable c.args.repr.now.kind c.args.parts.now) = omega (arith, w.if-len.false, c.len-2.ensures, c.len-3.ensures, ap length c.movable-movable.ensures) in
         rw (← tail_of_all c.args.repr.now.kind c.args.parts.now c.requires.kind whole, append-nil) (search rules)
   ],
 )
 
 pub new-requires : goal.new-requires
-new-requires c = rw c.movable-movable.ensures (movable_lawful c.args.repr.now.kind c.args.parts.now c.requires.lawful)
+new-requires g c = rw c.movable-movable.ensures (movable_all IsAlignedPart c.args.repr.now.kind c.args.parts.now c.requires.lawful)
 
 pub sort_keys-requires : goal.sort_keys-requires
-sort_keys-requires c = rw c.movable-movable.ensures (movable_lawful c.args.repr.now.kind c.args.parts.now c.requires.lawful)
+sort_keys-requires g c = rw c.movable-movable.ensures (movable_all IsAlignedPart c.args.repr.now.kind c.args.parts.now c.requires.lawful)

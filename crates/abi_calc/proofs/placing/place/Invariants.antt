@@ -7,7 +7,7 @@ use Rattle.abi_calc.proofs.PlacingLemmas.{IsPlaced}
 use Rattle.abi_calc.proofs.placing.place.Given as goal
 
 abbrev pub invariant-loop-at : goal.invariant-loop-at
-invariant-loop-at l = record {
-  placed : IsPlaced l.dl l.bias l.repr (size_bound l.dl) (start_of l.repr.pack l.repr.kind) l.parts l.order l.at l.offsets.items l.end l.largest_niche;
+invariant-loop-at g l = record {
+  placed : IsPlaced l.dl l.repr (size_bound l.dl) (start_of l.repr.pack l.repr.kind) l.parts l.order l.at l.offsets.items l.end l.niche;
   small : l.end < size_bound l.dl + 2 ^ max_align;
 }

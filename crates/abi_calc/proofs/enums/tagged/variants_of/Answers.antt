@@ -1,6 +1,7 @@
 -- The variants so far, and those that the lists left give, are all.
-use Rattle.std.proofs.Common.{◌++◌, ◌∙◌, ap, map, refl, subst, sym}
+use Rattle.std.proofs.Common.{◌++◌, ◌∙◌, ap, append-nil, map, refl, subst, sym}
 use Rattle.std.specs.Prelude.{All}
+use Rattle.std.proofs.lemmas.List.{nil_from_length}
 use Rattle.std.proofs.lemmas.List.Elements.{All-head, All-tail}
 use Rattle.abi_scalar.specs.Shape.{IsListed}
 use Rattle.abi_scalar.specs.Variant.{variant_of}
@@ -11,7 +12,7 @@ use Rattle.abi_calc.proofs.enums.tagged.variants_of.Goals as goal
 
 pub loop-list-init : goal.loop-list-init
 loop-list-init g c = record {
-  all = rw (c.new-variants.ensures, c.into_iter-list-iterator.ensures.into_iter_gives.0) refl;
+  all = rw (c.in_ok-variants.ensures, c.into_iter-list-iterator.ensures.into_iter_gives.0) refl;
   listed = subst (All (λ list. IsListed list.fields)) (sym c.into_iter-list-iterator.ensures.into_iter_gives.0) c.requires.listed;
 }
 
@@ -31,3 +32,10 @@ loop-list-preserved g c = record {
       (ap (λ rest. c.loop-list.variants ++ map (λ list. seen_as c.args.view.now c.args.size (grown_variant c.args.old c.args.new (variant_of list))) rest) (sym c.in-Some.ensures.steps.0) ∙ c.loop-list.invariant.all));
   listed = All-tail (λ list. IsListed list.fields) c.in-Some.list c.next.new.self.rest.items (subst (All (λ list. IsListed list.fields)) c.in-Some.ensures.steps.0 c.loop-list.invariant.listed);
 }
+
+pub returns : goal.returns
+returns g c =
+    let none = nil_from_length c.loop-list.list-iterator.rest.items (sym c.loop-list.list-iterator.rest.ok.0 ∙ c.in-None.ensures.steps.0) in
+    sym (append-nil c.loop-list.variants)
+    ∙ sym (ap (λ rest. c.loop-list.variants ++ map (λ list. seen_as c.args.view.now c.args.size (grown_variant c.args.old c.args.new (variant_of list))) rest) none)
+    ∙ c.loop-list.invariant.all
