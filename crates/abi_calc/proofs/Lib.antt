@@ -55,6 +55,7 @@ pub mod EnumPayload
 pub mod OneRange
 pub mod OneEnum
 pub mod SomeEnum
+pub mod NoNiche
 pub mod SameType
 pub mod CoroutineHolders
 pub mod CoroutineSteps

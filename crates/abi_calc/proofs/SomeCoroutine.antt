@@ -25,7 +25,7 @@ module _ {H : Type 0} (layout_of : H → LayoutData ℕ ℕ) (dl : TargetDataLay
     (asked : IsAsked layout_of 0 dl prefix tag field locals states) where
   -- from the lists of the states
   of_lists : (first : LayoutData ℕ ℕ) → IsListAnswer layout_of (λ i. i) 0 dl default_repr AlwaysSized (first_list prefix field locals promoted) (Ok first)
-      → AreListed layout_of dl default_repr (behind first) (own_lists locals promoted states) → HasAnswer (Answers layout_of dl prefix tag field locals states promoted)
+      → AreListed layout_of (λ i. i) 0 dl default_repr (behind first) (own_lists locals promoted states) → HasAnswer (Answers layout_of dl prefix tag field locals states promoted)
   of_lists first is (inr (error, bad, other)) =
       (Err error, inr (inl (first, is, inl (own_error layout_of (λ i. i) 0 dl (behind first) locals promoted states error bad))), λ e. (let same : error ≡ calculator.OutOfMemory = cc in other same))
   of_lists first is (inl (lists, are)) =
@@ -34,13 +34,13 @@ module _ {H : Type 0} (layout_of : H → LayoutData ℕ ℕ) (dl : TargetDataLay
       (λ (over : size_bound dl ≤ whole_size first lists). (Err calculator.SizeOverflow, inr (inl (first, is, inr (lists, own_layouts layout_of (λ i. i) 0 dl (behind first) locals promoted states lists are, over, refl))), λ e. cc))
       (cases_lt (whole_size first lists) (size_bound dl))
 
-  of_first : IsListed layout_of dl default_repr AlwaysSized (first_list prefix field locals promoted) → HasAnswer (Answers layout_of dl prefix tag field locals states promoted)
+  of_first : IsListed layout_of (λ i. i) 0 dl default_repr AlwaysSized (first_list prefix field locals promoted) → HasAnswer (Answers layout_of dl prefix tag field locals states promoted)
   of_first (inr (error, bad, other)) = (Err error, inl bad, λ e. (let same : error ≡ calculator.OutOfMemory = cc in other same))
   of_first (inl (first, is)) =
-      of_lists first is (some_lists layout_of dl default_repr (behind first) (own_lists locals promoted states) (own_all (λ f. IsLawfulLayout dl (layout_of f)) locals promoted states asked.all) (all_full (behind first) (own_lists locals promoted states) tt))
+      of_lists first is (some_lists layout_of (λ i. i) 0 dl default_repr (behind first) (own_lists locals promoted states) (own_all (λ f. IsLawfulLayout dl (layout_of f)) locals promoted states asked.all) (all_full (behind first) (own_lists locals promoted states) tt))
 
   pub some_promoted : HasAnswer (Answers layout_of dl prefix tag field locals states promoted)
-  some_promoted = of_first (some_listed layout_of dl default_repr AlwaysSized (first_list prefix field locals promoted) (first_lawful layout_of (λ i. i) (λ i. i) 0 dl prefix tag field locals states promoted asked) tt)
+  some_promoted = of_first (some_listed layout_of (λ i. i) 0 dl default_repr AlwaysSized (first_list prefix field locals promoted) (first_lawful layout_of (λ i. i) (λ i. i) 0 dl prefix tag field locals states promoted asked) tt)
 
 -- a coroutine has an answer
 pub some_coroutine : {H : Type 0} (layout_of : H → LayoutData ℕ ℕ) (dl : TargetDataLayout) (prefix : List H) (tag : Scalar) (field : H) (locals : List H) (states : List (List ℕ)) (conflicts : Relation)

@@ -80,36 +80,40 @@ some_error_of fields (Unsized i) there other =
 some_error_of fields TooLarge there other = (calculator.SizeOverflow, refl, λ e. cc)
 some_error_of fields OutOfMemory there other = absurd (other refl)
 
-module _ {H : Type 0} (layout_of : H → LayoutData ℕ ℕ) (dl : TargetDataLayout) (repr : ReprOptions) (kind : StructKind) where
+module _ {F V H : Type 0} (layout_of : H → LayoutData F V) (at : ℕ → F) (head : V) (dl : TargetDataLayout) (repr : ReprOptions) (kind : StructKind) where
   -- the fields are lawful
   abbrev pub AreLawful : List H → Type 0
   AreLawful fields = All (λ f. IsLawfulLayout dl (layout_of f)) fields
 
+  -- the parts are as many as the fields
+  as_many : (fields : List H) → IsNonEmptyIfUnsized kind (length fields) → IsNonEmptyIfUnsized kind (length (parts_of dl (map layout_of fields)))
+  as_many fields some = subst (IsNonEmptyIfUnsized kind) (sym (length-parts layout_of dl fields)) some
+
   -- the list has a layout, or an error
   abbrev pub IsListed : List H → Type 0
-  IsListed fields = ((list : LayoutData ℕ ℕ) × IsListAnswer layout_of (λ i. i) 0 dl repr kind fields (Ok list)) ⊎ HasError (IsListError layout_of dl repr kind fields)
+  IsListed fields = ((list : LayoutData F V) × IsListAnswer layout_of at head dl repr kind fields (Ok list)) ⊎ HasError (IsListError layout_of dl repr kind fields)
 
   refused : (fields : List H) (first : List ℕ) (fault : ListFault) → IsNonEmptyIfUnsized kind (length fields) → IsNamedOrder (list_repr dl repr kind) Start (parts_of dl (map layout_of fields)) first
       → fault_in (list_repr dl repr kind) (size_bound dl) (parts_of dl (map layout_of fields)) first ≡ Some fault → HasError (IsListError layout_of dl repr kind fields)
   refused fields first fault some named there =
       let parts = parts_of dl (map layout_of fields) in
       let list = list_repr dl repr kind in
-      let index : IsFaultIndex (length parts) fault = fault_named list dl parts fault (full_parts layout_of dl repr kind fields some) (inl (first, named, there)) in
+      let index : IsFaultIndex (length parts) fault = fault_named list dl parts fault (as_many fields some) (inl (first, named, there)) in
       let other : fault ≡ OutOfMemory → ⊥ = λ e. memory_in list (size_bound dl) parts first (there ∙ ap (λ f. Some f) e) in
       let error = some_error_of fields fault (subst (λ n. IsFaultIndex n fault) (length-parts layout_of dl fields) index) other in
       (error.0, (first, named, fault, there, error.1), error.2)
 
   laid : (fields : List H) (order offsets : List ℕ) (size align : ℕ) (niche : Option Niche)
       → IsNamedLayout dl (list_repr dl repr kind) (parts_of dl (map layout_of fields)) order offsets size align niche
-      → (list : LayoutData ℕ ℕ) × IsListAnswer layout_of (λ i. i) 0 dl repr kind fields (Ok list)
+      → (list : LayoutData F V) × IsListAnswer layout_of at head dl repr kind fields (Ok list)
   laid fields order offsets size align niche named =
       let layouts = map layout_of fields in
-      let made : LayoutData ℕ ℕ = record {
-        fields = Arbitrary offsets (map (λ i. i) order);
-        variants = Single 0;
+      let made : LayoutData F V = record {
+        fields = Arbitrary offsets (map at order);
+        variants = Single head;
         backend_repr = list_view dl (is_abi_fixed repr) size align (parts_of dl layouts) offsets;
         largest_niche = niche;
-        uninhabited = list_any (λ (f : LayoutData ℕ ℕ). f.uninhabited) layouts;
+        uninhabited = list_any (λ (f : LayoutData F V). f.uninhabited) layouts;
         align = record { abi = align };
         size = size;
         max_repr_align = greatest_repr_align repr.align layouts;
@@ -117,7 +121,7 @@ module _ {H : Type 0} (layout_of : H → LayoutData ℕ ℕ) (dl : TargetDataLay
         repr_c = lies_as_in_c repr layouts;
         randomization_seed = list_seed repr kind layouts;
       } in
-      let is : IsListLayout (λ i. i) 0 dl repr kind layouts order offsets made = record {
+      let is : IsListLayout at head dl repr kind layouts order offsets made = record {
         named = named;
         shape = refl;
         variants = refl;
@@ -133,7 +137,7 @@ module _ {H : Type 0} (layout_of : H → LayoutData ℕ ℕ) (dl : TargetDataLay
   -- a list of lawful fields has a layout or an error
   pub some_listed : (fields : List H) → AreLawful fields → IsNonEmptyIfUnsized kind (length fields) → IsListed fields
   some_listed fields law some =
-      either (some_layout dl (list_repr dl repr kind) (parts_of dl (map layout_of fields)) (parts_lawful layout_of dl fields law) (full_parts layout_of dl repr kind fields some))
+      either (some_layout dl (list_repr dl repr kind) (parts_of dl (map layout_of fields)) (parts_lawful layout_of dl fields law) (as_many fields some))
     where
       either : ((first : List ℕ) × IsNamedOrder (list_repr dl repr kind) Start (parts_of dl (map layout_of fields)) first
           × ((fault : ListFault) × (fault_in (list_repr dl repr kind) (size_bound dl) (parts_of dl (map layout_of fields)) first ≡ Some fault)))
@@ -143,20 +147,12 @@ module _ {H : Type 0} (layout_of : H → LayoutData ℕ ℕ) (dl : TargetDataLay
       either (inl (first, named, (fault, there))) = inr (refused fields first fault some named there)
       either (inr (order, offsets, size, align, niche, named)) = inl (laid fields order offsets size align niche named)
 
-  -- a list of lawful fields has an answer
-  pub some_list_answer : (fields : List H) → AreLawful fields → IsNonEmptyIfUnsized kind (length fields) → HasAnswer (IsListAnswer layout_of (λ i. i) 0 dl repr kind fields)
-  some_list_answer fields law some = by (some_listed fields law some)
-    where
-      by : IsListed fields → HasAnswer (IsListAnswer layout_of (λ i. i) 0 dl repr kind fields)
-      by (inl (list, is)) = (Ok list, is, λ e. cc)
-      by (inr (error, is, other)) = (Err error, inl is, err_made error other)
-
   -- ---- the lists of the variants
 
   -- each variant has a layout, or there is a first that has an error
   abbrev pub AreListed : List (List H) → Type 0
   AreListed variants =
-      ((lists : List (LayoutData ℕ ℕ)) × AreListLayouts layout_of (λ i. i) 0 dl repr kind variants lists) ⊎ HasError (IsFirstListError layout_of (λ i. i) 0 dl repr kind variants)
+      ((lists : List (LayoutData F V)) × AreListLayouts layout_of at head dl repr kind variants lists) ⊎ HasError (IsFirstListError layout_of at head dl repr kind variants)
 
   one_more : (fields : List H) (variants : List (List H)) → IsListed fields → AreListed variants → AreListed (fields ∷ variants)
   one_more fields variants (inr (error, is, other)) rest = inr (error, inl is, other)
@@ -191,9 +187,9 @@ some_asked dl repr values =
 module _ {H : Type 0} (layout_of : H → LayoutData ℕ ℕ) (dl : TargetDataLayout) (repr : ReprOptions) (variants : List (List H)) (law : All (All (λ f. IsLawfulLayout dl (layout_of f))) variants) where
   -- an enum with this tag has an answer
   pub some_tagged : (asked : Integer) (signed : Bool) (values : List ℕ) → HasAnswer (IsTaggedAnswer layout_of (λ i. i) (λ i. i) 0 dl repr asked signed values variants)
-  some_tagged asked signed values = by (some_lists layout_of dl repr (behind_tag dl repr asked (map (map layout_of) variants)) variants law (all_full (behind_tag dl repr asked (map (map layout_of) variants)) variants tt))
+  some_tagged asked signed values = by (some_lists layout_of (λ i. i) 0 dl repr (behind_tag dl repr asked (map (map layout_of) variants)) variants law (all_full (behind_tag dl repr asked (map (map layout_of) variants)) variants tt))
     where
-      by : AreListed layout_of dl repr (behind_tag dl repr asked (map (map layout_of) variants)) variants → HasAnswer (IsTaggedAnswer layout_of (λ i. i) (λ i. i) 0 dl repr asked signed values variants)
+      by : AreListed layout_of (λ i. i) 0 dl repr (behind_tag dl repr asked (map (map layout_of) variants)) variants → HasAnswer (IsTaggedAnswer layout_of (λ i. i) (λ i. i) 0 dl repr asked signed values variants)
       by (inr (error, is, other)) = (Err error, inl is, err_made error other)
       by (inl (lists, are)) = elim (cases_lt (lists_size dl lists) (size_bound dl)) [
         | inl small ↦
@@ -209,13 +205,13 @@ module _ {H : Type 0} (layout_of : H → LayoutData ℕ ℕ) (dl : TargetDataLay
   pub some_niche : (found : Option (LayoutData ℕ ℕ)) × IsNicheAnswer AreListLayouts layout_of (λ i. i) (λ i. i) dl repr variants found
   some_niche = by (is_free repr) refl
     where
-      listed : is_free repr ≡ true → AreListed layout_of dl repr AlwaysSized variants → (found : Option (LayoutData ℕ ℕ)) × IsNicheAnswer AreListLayouts layout_of (λ i. i) (λ i. i) dl repr variants found
+      listed : is_free repr ≡ true → AreListed layout_of (λ i. i) 0 dl repr AlwaysSized variants → (found : Option (LayoutData ℕ ℕ)) × IsNicheAnswer AreListLayouts layout_of (λ i. i) (λ i. i) dl repr variants found
       listed free (inl (lists, are)) = (niche_layout 0 (λ i. i) dl repr (map (map layout_of) variants) lists, inr (inr (free, lists, are, refl)))
       listed free (inr (error, is, other)) = (None, inr (inl (free, error, is, refl)))
 
       by : (b : Bool) → is_free repr ≡ b → (found : Option (LayoutData ℕ ℕ)) × IsNicheAnswer AreListLayouts layout_of (λ i. i) (λ i. i) dl repr variants found
       by false bound = (None, inl (bound, refl))
-      by true free = listed free (some_lists layout_of dl repr AlwaysSized variants law (all_full AlwaysSized variants tt))
+      by true free = listed free (some_lists layout_of (λ i. i) 0 dl repr AlwaysSized variants law (all_full AlwaysSized variants tt))
 
   better_made : (tagged : Result (LayoutData ℕ ℕ) (LayoutCalculatorError H)) (niche : Option (LayoutData ℕ ℕ)) → IsMade tagged → IsMade (better_of dl tagged niche)
   better_made (Ok l) niche made = λ e. cc
@@ -251,9 +247,9 @@ module _ {H : Type 0} (layout_of : H → LayoutData ℕ ℕ) (dl : TargetDataLay
 -- the list of one variant has an answer
 pub some_single : {H : Type 0} (layout_of : H → LayoutData ℕ ℕ) (dl : TargetDataLayout) (repr : ReprOptions) (kind : StructKind) (index : ℕ) (optimizations : NicheOptimizations) (fields : List H)
     → All (λ f. IsLawfulLayout dl (layout_of f)) fields → IsNonEmptyIfUnsized kind (length fields) → HasAnswer (IsSingleAnswer layout_of (λ i. i) 0 index dl repr kind optimizations fields)
-some_single {H} layout_of dl repr kind index optimizations fields law some = by (some_listed layout_of dl repr kind fields law some)
+some_single {H} layout_of dl repr kind index optimizations fields law some = by (some_listed layout_of (λ i. i) 0 dl repr kind fields law some)
   where
-    by : IsListed layout_of dl repr kind fields → HasAnswer (IsSingleAnswer layout_of (λ i. i) 0 index dl repr kind optimizations fields)
+    by : IsListed layout_of (λ i. i) 0 dl repr kind fields → HasAnswer (IsSingleAnswer layout_of (λ i. i) 0 index dl repr kind optimizations fields)
     by (inl (list, is)) = (Ok (single_layout index dl optimizations list), (list, is, refl), λ e. cc)
     by (inr (error, is, other)) = (Err error, inl is, err_made error other)
 
