@@ -49,7 +49,7 @@ use Rattle.abi_calc.specs.Run.{IsNamedLayout}
 use Rattle.abi_calc.proofs.EnumDiscriminants.{greatest_reached, least_reached, not_negative}
 use Rattle.abi_calc.proofs.FaultLemmas.{memory_in}
 use Rattle.abi_calc.proofs.ListLemmas.{fault_named, length-parts, parts_lawful}
-use Rattle.abi_calc.proofs.OneEnum.{AreFull, IsMade, all_full, full_parts, single_full}
+use Rattle.abi_calc.proofs.OneEnum.{AreFull, IsMade, all_full, single_full}
 use Rattle.abi_calc.proofs.OneRange.{some_tag_range}
 use Rattle.abi_calc.proofs.SomeOrder.{some_layout}
 

@@ -3,7 +3,6 @@ use Rattle.std.proofs.Common.{◌≡◌, ℕ, zero, suc, ◌+◌, ◌^◌, ◌<�
 use Rattle.std.specs.Prelude.{All, filter, if◌then◌else◌}
 use Rattle.std.specs.List.{range_with_len}
 use Rattle.std.proofs.lemmas.List.Elements.{All-cons, All-head, All-nil, All-tail, filter-append}
-use Rattle.std.proofs.lemmas.List.{get_or_default}
 use Rattle.std.specs.Int.{◌∣◌}
 use Rattle.std.proofs.Math.Nat.{two-pow-succ}
 use Rattle.std.proofs.lemmas.Nat.{pow_pos}
@@ -19,10 +18,10 @@ use Rattle.abi_scalar.specs.Scalar.{primitive_of, scalar_size, scalar_align, IsL
 use Rattle.abi_calc.specs.declared.part.Part.{Part}
 use Rattle.abi_calc.specs.ListView.{bulk_of, bulk_with, bulky_parts, bulky_view, is_bulky, one_view, part_at, two_view}
 use Rattle.abi_calc.specs.declared.list_view.Bulk.{Bulk}
-use Rattle.abi_calc.specs.declared.list_view.Bulk.TheVariants.{Nothing, One, Two, More}
+use Rattle.abi_calc.specs.declared.list_view.Bulk.TheVariants.{One, Two}
 use Rattle.abi_scalar.specs.declared.backend_repr.BackendRepr.TheVariants.{Memory}
 use Rattle.abi_calc.proofs.NicheLemmas.{readable_size}
-use Rattle.abi_calc.specs.Placement.{no_part, source_order}
+use Rattle.abi_calc.specs.Placement.{source_order}
 
 range_grows : (a k : ℕ) → range_with_len a (suc k) ≡ range_with_len a k ++ (a + k) ∷ []
 range_grows a zero = ap (λ x. x ∷ []) (omega arith)

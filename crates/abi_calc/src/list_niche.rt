@@ -54,7 +54,11 @@ impl GreatestNiche {
         }
         let last = niche_of_part(offset, &part.largest_niche);
         GreatestNiche {
-            first: if part.free > self.free { last } else { self.first },
+            first: if part.free > self.free {
+                last
+            } else {
+                self.first
+            },
             last,
             free: part.free,
         }

@@ -42,7 +42,9 @@ fn bulk_with(bulk: Bulk, index: usize) -> Bulk
 }
 
 /// Those of these fields.
-pub fn bulk_of<FieldIdx: Idx, VariantIdx: Idx, F: LayoutHandle<FieldIdx, VariantIdx>>(parts: &Parts<'_, FieldIdx, VariantIdx, F>) -> Bulk
+pub fn bulk_of<FieldIdx: Idx, VariantIdx: Idx, F: LayoutHandle<FieldIdx, VariantIdx>>(
+    parts: &Parts<'_, FieldIdx, VariantIdx, F>,
+) -> Bulk
     ensures { result ≡ bulk_of (bulky_parts parts.now) }
 {
     let mut bulk = Bulk::Nothing;
@@ -55,7 +57,9 @@ pub fn bulk_of<FieldIdx: Idx, VariantIdx: Idx, F: LayoutHandle<FieldIdx, Variant
 }
 
 /// Whether some field is unsized.
-pub fn any_unsized<FieldIdx: Idx, VariantIdx: Idx, F: LayoutHandle<FieldIdx, VariantIdx>>(parts: &Parts<'_, FieldIdx, VariantIdx, F>) -> bool
+pub fn any_unsized<FieldIdx: Idx, VariantIdx: Idx, F: LayoutHandle<FieldIdx, VariantIdx>>(
+    parts: &Parts<'_, FieldIdx, VariantIdx, F>,
+) -> bool
     ensures { result ≡ any_unsized parts.now }
 {
     for index in 0..parts.len() {
@@ -198,7 +202,12 @@ pub fn list_view<FieldIdx: Idx, VariantIdx: Idx, F: LayoutHandle<FieldIdx, Varia
 
 /// The alignment of a transparent list before a `repr(align)` raised it: that of its one field with bytes, else
 /// the list's.
-pub fn transparent_align<FieldIdx: Idx, VariantIdx: Idx, F: LayoutHandle<FieldIdx, VariantIdx>>(size: Size, align: Align, parts: &Parts<'_, FieldIdx, VariantIdx, F>, bulk: Bulk) -> Align
+pub fn transparent_align<FieldIdx: Idx, VariantIdx: Idx, F: LayoutHandle<FieldIdx, VariantIdx>>(
+    size: Size,
+    align: Align,
+    parts: &Parts<'_, FieldIdx, VariantIdx, F>,
+    bulk: Bulk,
+) -> Align
     requires { bulk ≡ bulk_of (bulky_parts parts.now) }
     ensures { result ≡ transparent_align size align parts.now }
 {

@@ -120,7 +120,11 @@ impl SortRule {
     }
 }
 
-fn sort_keys<FieldIdx: Idx, VariantIdx: Idx, F: LayoutHandle<FieldIdx, VariantIdx>>(alloc: Global, parts: &Parts<'_, FieldIdx, VariantIdx, F>, rule: SortRule) -> Result<Vec<SortKey>, AllocError>
+fn sort_keys<FieldIdx: Idx, VariantIdx: Idx, F: LayoutHandle<FieldIdx, VariantIdx>>(
+    alloc: Global,
+    parts: &Parts<'_, FieldIdx, VariantIdx, F>,
+    rule: SortRule,
+) -> Result<Vec<SortKey>, AllocError>
     requires { All IsAlignedPart parts.now }
     ensures { IfOk result (λ keys. keys.items ≡ map (sort_key rule) parts.now) }
 {
@@ -182,7 +186,9 @@ fn is_prefixed(kind: StructKind) -> bool
 }
 
 /// The greatest alignment of these fields.
-fn greatest_align<FieldIdx: Idx, VariantIdx: Idx, F: LayoutHandle<FieldIdx, VariantIdx>>(parts: &Parts<'_, FieldIdx, VariantIdx, F>) -> Align
+fn greatest_align<FieldIdx: Idx, VariantIdx: Idx, F: LayoutHandle<FieldIdx, VariantIdx>>(
+    parts: &Parts<'_, FieldIdx, VariantIdx, F>,
+) -> Align
     ensures { result ≡ fold (λ greatest part. max greatest part.align) 0 parts.now }
 {
     let mut greatest = Align::ONE;
@@ -193,7 +199,9 @@ fn greatest_align<FieldIdx: Idx, VariantIdx: Idx, F: LayoutHandle<FieldIdx, Vari
 }
 
 /// The most free numbers that a niche of these fields has.
-fn greatest_niche<FieldIdx: Idx, VariantIdx: Idx, F: LayoutHandle<FieldIdx, VariantIdx>>(parts: &Parts<'_, FieldIdx, VariantIdx, F>) -> u128
+fn greatest_niche<FieldIdx: Idx, VariantIdx: Idx, F: LayoutHandle<FieldIdx, VariantIdx>>(
+    parts: &Parts<'_, FieldIdx, VariantIdx, F>,
+) -> u128
     ensures { result ≡ fold (λ greatest part. max greatest part.free) 0 parts.now }
 {
     let mut greatest = 0;
@@ -204,7 +212,11 @@ fn greatest_niche<FieldIdx: Idx, VariantIdx: Idx, F: LayoutHandle<FieldIdx, Vari
 }
 
 impl SortRule {
-    fn new<FieldIdx: Idx, VariantIdx: Idx, F: LayoutHandle<FieldIdx, VariantIdx>>(repr: &ListRepr, bias: NicheBias, parts: &Parts<'_, FieldIdx, VariantIdx, F>) -> Self
+    fn new<FieldIdx: Idx, VariantIdx: Idx, F: LayoutHandle<FieldIdx, VariantIdx>>(
+        repr: &ListRepr,
+        bias: NicheBias,
+        parts: &Parts<'_, FieldIdx, VariantIdx, F>,
+    ) -> Self
         requires { All IsAlignedPart parts.now }
         ensures { result ≡ rule_of repr.now bias parts.now }
     {

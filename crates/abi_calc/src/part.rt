@@ -98,8 +98,7 @@ pub struct Parts<'a, FieldIdx: Idx, VariantIdx: Idx, F: LayoutHandle<FieldIdx, V
 }
 
 impl<'a, FieldIdx: Idx, VariantIdx: Idx, F: LayoutHandle<FieldIdx, VariantIdx>> Model
-    for Parts<'a, FieldIdx, VariantIdx, F>
-{
+    for Parts<'a, FieldIdx, VariantIdx, F> {
     ghost use Rattle.std.specs.Prelude.{All, List, map};
     ghost use Rattle.abi_scalar.specs.Lawful.{IsLawfulLayout};
     ghost use Rattle.abi_calc.specs.declared.part.Part.{Part as OnePart};
@@ -112,9 +111,12 @@ impl<'a, FieldIdx: Idx, VariantIdx: Idx, F: LayoutHandle<FieldIdx, VariantIdx>> 
     ghost invariant = { λ p. All (λ f. IsLawfulLayout p.dl.now (F.layout_of f)) p.fields.now };
 }
 
-impl<'a, FieldIdx: Idx, VariantIdx: Idx, F: LayoutHandle<FieldIdx, VariantIdx>>
-    Parts<'a, FieldIdx, VariantIdx, F>
-{
+impl<'a, FieldIdx: Idx, VariantIdx: Idx, F: LayoutHandle<FieldIdx, VariantIdx>> Parts<
+    'a,
+    FieldIdx,
+    VariantIdx,
+    F,
+> {
     /// These fields, as parts.
     pub fn new(dl: &'a TargetDataLayout, fields: &'a [F]) -> Self
         requires { All (λ f. IsLawfulLayout dl.now (F.layout_of f)) fields.now }

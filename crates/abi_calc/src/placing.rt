@@ -70,7 +70,10 @@ fn prefix_align(kind: StructKind, pack: Option<Align>) -> Align
 }
 
 /// The greatest alignment of the list, its prefix and its fields.
-pub fn list_align<FieldIdx: Idx, VariantIdx: Idx, F: LayoutHandle<FieldIdx, VariantIdx>>(parts: &Parts<'_, FieldIdx, VariantIdx, F>, repr: &ListRepr) -> Align
+pub fn list_align<FieldIdx: Idx, VariantIdx: Idx, F: LayoutHandle<FieldIdx, VariantIdx>>(
+    parts: &Parts<'_, FieldIdx, VariantIdx, F>,
+    repr: &ListRepr,
+) -> Align
     ensures { result ≡ align_of repr.now parts.now }
 {
     let mut greatest = repr.align.max(prefix_align(repr.kind, repr.pack));

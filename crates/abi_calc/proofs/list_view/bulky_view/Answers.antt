@@ -1,6 +1,5 @@
-use Rattle.std.proofs.Common.{rules, arith, ◌<◌, ◌∙◌, length, sym, subst}
+use Rattle.std.proofs.Common.{rules, arith, ◌<◌, ◌∙◌, length, sym}
 use Rattle.std.proofs.lemmas.List.{get_or_default}
-use Rattle.abi_calc.specs.Part.{IsLawfulPart}
 use Rattle.abi_calc.specs.Placement.{no_part}
 use Rattle.abi_calc.proofs.ViewLemmas.{one_read, one_within, two_read, two_within}
 use Rattle.abi_calc.proofs.list_view.bulky_view.Goals as goal
@@ -39,16 +38,16 @@ pub two_view-requires-clause-other : goal.two_view-requires-clause-other
 two_view-requires-clause-other g c = rw c.at-other.ensures (c.requires.parts c.in-Two.j no_part ((two_within c.args.parts.now c.in-Two.i c.in-Two.j (sym c.in-Two.is ∙ c.requires.bulk)).1))
 
 pub returns-in-One : goal.returns-in-One
-returns-in-One g c = 
-    let there : c.in-One.i < length c.args.offsets.now = omega (arith, one_within c.args.parts.now c.in-One.i (sym c.in-One.is ∙ c.requires.bulk), c.requires.count) in 
+returns-in-One g c =
+    let there : c.in-One.i < length c.args.offsets.now = omega (arith, one_within c.args.parts.now c.in-One.i (sym c.in-One.is ∙ c.requires.bulk), c.requires.count) in
     c.one_view.ensures
     ∙ one_read c.args.dl.now c.args.fixed c.args.size c.args.align c.args.parts.now c.args.offsets.now c.in-One.i c.index-offsets-i.result c.at.result (sym c.in-One.is ∙ c.requires.bulk)
     (c.index-offsets-i.is ∙ get_or_default c.args.offsets.now c.in-One.i c.index-offsets-i.result 0 there) c.at.ensures
 
 pub returns-in-Two : goal.returns-in-Two
-returns-in-Two g c = 
-    let low : c.in-Two.i < length c.args.offsets.now = omega (arith, (two_within c.args.parts.now c.in-Two.i c.in-Two.j (sym c.in-Two.is ∙ c.requires.bulk)).0, c.requires.count) in 
-    let high : c.in-Two.j < length c.args.offsets.now = omega (arith, (two_within c.args.parts.now c.in-Two.i c.in-Two.j (sym c.in-Two.is ∙ c.requires.bulk)).1, c.requires.count) in 
+returns-in-Two g c =
+    let low : c.in-Two.i < length c.args.offsets.now = omega (arith, (two_within c.args.parts.now c.in-Two.i c.in-Two.j (sym c.in-Two.is ∙ c.requires.bulk)).0, c.requires.count) in
+    let high : c.in-Two.j < length c.args.offsets.now = omega (arith, (two_within c.args.parts.now c.in-Two.i c.in-Two.j (sym c.in-Two.is ∙ c.requires.bulk)).1, c.requires.count) in
     c.two_view.ensures
     ∙ two_read c.args.dl.now c.args.fixed c.args.size c.args.align c.args.parts.now c.args.offsets.now c.in-Two.i c.in-Two.j c.index-offsets-i-in-Two.result c.index-offsets-j.result c.at-one.result c.at-other.result
     (sym c.in-Two.is ∙ c.requires.bulk)

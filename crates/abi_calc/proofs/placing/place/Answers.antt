@@ -3,7 +3,7 @@ use Rattle.abi_calc.specs.Part.{IsLawfulPart}
 use Rattle.abi_calc.specs.Placement.{start_of}
 use Rattle.abi_calc.proofs.NicheLemmas.{part_fits}
 use Rattle.abi_calc.proofs.Sorting.{within_order}
-use Rattle.abi_calc.proofs.PlacingLemmas.{none_greatest, part_lawful_at, placed_followed, placed_large, placed_more, placed_unsized}
+use Rattle.abi_calc.proofs.PlacingLemmas.{part_lawful_at, placed_followed, placed_large, placed_more, placed_unsized}
 use Rattle.abi_calc.proofs.placing.place.Goals as goal
 
 pub at-part-requires : goal.at-part-requires
