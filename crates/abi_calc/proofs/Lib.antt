@@ -1,11 +1,11 @@
 pub mod Rounding
 pub mod Ends
 pub mod Groups
+pub mod Steps
 pub mod Sorting
 pub mod Tight
 pub mod Least
 pub mod NicheLemmas
-pub mod Steps
 pub mod Lawful
 pub mod ViewLemmas
 pub mod PlacingLemmas

@@ -1,17 +1,21 @@
 -- The order that a list's fields are sorted into.
-use Rattle.std.proofs.Common.{◌≡◌, ℕ, suc, ◌+◌, ◌-◌, ◌<◌, ◌≤◌, true, false, List, [], ◌∷◌, length, get_or, refl, sym, ap, subst, arith, length-take, add-one, ltb, lt-ltb, ⊎_elim}
-use Rattle.std.specs.Prelude.{All, IsPermutation}
+use Rattle.std.proofs.Common.{◌≡◌, ℕ, suc, ◌+◌, ◌-◌, ◌<◌, ◌≤◌, true, false, List, [], ◌∷◌, ◌++◌, ◌∙◌, append-nil, map, take, length, get_or, refl, sym, ap, subst, arith, length-take, add-one, ltb, lt-ltb, ⊎_elim}
+use Rattle.std.specs.Prelude.{All, IfOk, IsPermutation, Result, Ok, Err}
 use Rattle.std.specs.Ordering.{is_lt}
 use Rattle.std.proofs.lemmas.List.Elements.{All-head, All-tail, All-take}
-use Rattle.std.proofs.lemmas.List.Sorted.{All-permutation, IsPermutation-map}
+use Rattle.std.proofs.lemmas.List.Sorted.{All-permutation, IsPermutation-map, IsPermutation-refl}
 use Rattle.std.proofs.lemmas.List.FromFn.{length-range_with_len, get_or-range_with_len, fill_by_all}
 use Rattle.std.proofs.lemmas.Bool.{cases_lt}
+use Rattle.std.proofs.lemmas.List.{length-map}
+use Rattle.abi_calc.proofs.Steps.{source_more}
 use Rattle.abi_calc.specs.declared.part.Part.{Part}
 use Rattle.abi_base.specs.declared.struct_kind.StructKind.{StructKind}
 use Rattle.abi_base.specs.declared.struct_kind.StructKind.TheVariants.{AlwaysSized, MaybeUnsized, Prefixed}
 use Rattle.abi_calc.specs.declared.order.SortKey.{SortKey}
 use Rattle.abi_calc.specs.Placement.{IsNonEmptyIfUnsized, no_part, in_order, source_order}
-use Rattle.abi_calc.specs.Order.{movable, tail, compare_keys}
+use Rattle.abi_calc.specs.declared.list_repr.ListRepr.{ListRepr}
+use Rattle.abi_calc.specs.declared.order.NicheBias.{NicheBias}
+use Rattle.abi_calc.specs.Order.{IsSortedBefore, IsSortedOrder, movable, rule_of, sort_key, tail, compare_keys}
 use Rattle.abi_calc.proofs.Ends.{RisesFrom, FallsFrom}
 
 -- what holds of all holds of those that may move
@@ -29,6 +33,40 @@ pub tail_of_front : (kind : StructKind) (fields : List Part) → length (movable
 tail_of_front AlwaysSized fields h = absurd (omega arith)
 tail_of_front MaybeUnsized fields h = ap (λ n. n ∷ []) (omega (arith, length-take (length fields - 1) fields))
 tail_of_front (Prefixed size align) fields h = absurd (omega arith)
+
+-- ---- fewer than two that may move are sorted as they stand
+
+few_sorted : (keys : List SortKey) → length keys < 2 → IsSortedOrder keys (source_order (length keys))
+few_sorted keys few = record {
+  permutes = IsPermutation-refl (source_order (length keys));
+  sorted = λ k d low high. absurd (omega (arith, high, few, length-range_with_len 0 (length keys)));
+  stable = λ x. refl;
+}
+
+source_before : (kind : StructKind) (fields : List Part) → IsNonEmptyIfUnsized kind (length fields) → source_order (length fields) ≡ source_order (length (movable kind fields)) ++ tail kind fields
+source_before AlwaysSized fields some = sym (append-nil (source_order (length fields)))
+source_before MaybeUnsized fields some =
+    let all : length fields ≡ (length fields - 1) + 1 = omega (arith, some) in
+    let front : length fields - 1 ≡ length (take (length fields - 1) fields) = omega (arith, length-take (length fields - 1) fields) in
+    ap source_order all ∙ source_more (length fields - 1) ∙ ap (λ n. source_order n ++ (length fields - 1) ∷ []) front
+source_before (Prefixed size align) fields some = sym (append-nil (source_order (length fields)))
+
+-- so source order is the one that is named
+pub few_named : (repr : ListRepr) (bias : NicheBias) (fields : List Part) → IsNonEmptyIfUnsized repr.kind (length fields) → length (movable repr.kind fields) < 2 → IsSortedBefore repr bias fields (source_order (length fields))
+few_named repr bias fields some few =
+    let front = movable repr.kind fields in
+    let key = sort_key (rule_of repr bias front) in
+    let many : length (map key front) ≡ length front = length-map front key in
+    (
+      source_order (length front),
+      subst (λ n. IsSortedOrder (map key front) (source_order n)) many (few_sorted (map key front) (omega (arith, many, few))),
+      source_before repr.kind fields some,
+    )
+
+-- what holds of a list holds of the items that are that list
+pub items_have : {A E : Type 0} (items : A → List ℕ) (P : List ℕ → Type 0) (xs : List ℕ) (r : Result A E) → IfOk r (λ a. items a ≡ xs) → P xs → IfOk r (λ a. P (items a))
+items_have items P xs (Ok a) is h = subst P (sym is) h
+items_have items P xs (Err e) is h = tt
 
 -- ---- groups along a sorted order
 

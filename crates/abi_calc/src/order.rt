@@ -241,6 +241,9 @@ fn sorted_before<FieldIdx: Idx, VariantIdx: Idx, F: LayoutHandle<FieldIdx, Varia
     ensures { IfOk result (λ order. IsSortedBefore repr.now bias parts.now order.items) }
 {
     let movable = parts.movable(repr.kind);
+    if movable.len() < 2 {
+        return indices(alloc, parts.len(), parts.len());
+    }
     let keys = sort_keys(alloc, &movable, SortRule::new(repr, bias, &movable))?;
     let mut order = sorted_order(alloc, parts.len(), &keys)?;
     if movable.len() < parts.len() {
