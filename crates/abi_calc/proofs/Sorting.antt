@@ -56,8 +56,7 @@ pub few_named : (repr : ListRepr) (bias : NicheBias) (fields : List Part) → Is
 few_named repr bias fields some few =
     let front = movable repr.kind fields in
     let key = sort_key (rule_of repr bias front) in
-    let many : length (map key front) ≡ length front = length-map front key in
-    (
+    let many : length (map key front) ≡ length front = length-map front key in (
       source_order (length front),
       subst (λ n. IsSortedOrder (map key front) (source_order n)) many (few_sorted (map key front) (omega (arith, many, few))),
       source_before repr.kind fields some,
