@@ -109,6 +109,7 @@ fn unadjusted_align<FieldIdx: Idx, VariantIdx: Idx, F: LayoutHandle<FieldIdx, Va
 }
 
 /// The layout of these fields as one list.
+#[inline(never)]
 fn layout_of_list<FieldIdx: Idx, VariantIdx: Idx, F: LayoutHandle<FieldIdx, VariantIdx> + Copy>(
     alloc: Global,
     dl: &TargetDataLayout,

@@ -83,7 +83,7 @@ fn least_range(mut values: Vec<u128>, size: Size) -> Option<WrappingRange>
     Some(least_of_ascending(values.as_slice(), size))
 }
 
-/// The values as a list, in the order in which they come.
+/// The values as a list, in the order in which they come, with room for as many as the iterator is sure of.
 fn values_of<I: Iterator<Item = u128>>(alloc: Global, values: I) -> Result<Vec<u128>, AllocError>
 where
     I: Drop,
@@ -91,7 +91,8 @@ where
     requires ends { IsFinite (I.remaining values) }
     ensures { IfOk result (λ list. WholeRun I.next_gives values (λ p. list.items ≡ p.items)) }
 {
-    let mut list = Vec::new(alloc);
+    let (least, _) = values.size_hint();
+    let mut list = Vec::with_capacity(alloc, least)?;
     for value in values {
         list.push(value)?;
     }
