@@ -1,5 +1,5 @@
 -- The loop that places fields in an order.
-use Rattle.std.proofs.Common.{◌≡◌, ℕ, zero, suc, ◌+◌, ◌<◌, ◌≤◌, ◌≢◌, true, false, List, [], ◌∷◌, ◌++◌, Option, Some, length, take, drop, map, get_or, set, refl, sym, ap, ap₂, subst, ◌∙◌, arith, get_or-set_same, get_or-set_other, length-set, length-take, eqb, max, nat_lt, None}
+use Rattle.std.proofs.Common.{◌≡◌, ℕ, zero, suc, ◌+◌, ◌<◌, ◌≤◌, ◌≢◌, true, false, List, [], ◌∷◌, ◌++◌, Option, Some, length, take, drop, map, get_or, set, refl, sym, ap, ap₂, subst, ◌∙◌, arith, get_or-set_same, get_or-set_other, length-set, length-take, eqb, max, nat_lt}
 use Rattle.std.proofs.lemmas.Bool.Decides.{Decides-eqb}
 use Rattle.std.proofs.Math.Nat.{max_comm}
 use Rattle.std.proofs.lemmas.List.FromFn.{length-range_with_len, get_or-range_with_len}
@@ -88,11 +88,6 @@ pub record IsGreatest (dl : TargetDataLayout) (offsets : List ℕ) (parts : List
   pub last : niche.last ≡ greatest_niche End dl offsets parts
   pub counted_first : IsCounted dl niche.free niche.first
   pub counted_last : IsCounted dl niche.free niche.last
-
-pub none_greatest : (dl : TargetDataLayout) (niche : GreatestNiche) → niche.first ≡ None → niche.last ≡ None → niche.free ≡ 0 → IsGreatest dl [] [] niche
-none_greatest dl niche f l n =
-    let none : IsCounted dl 0 None = record { count = refl; some = tt } in
-    record { first = f; last = l; counted_first = rw (f, n) none; counted_last = rw (l, n) none }
 
 -- with one more part
 pub greatest_more : (dl : TargetDataLayout) (os : List ℕ) (ps : List Part) (v : ℕ) (part : Part) (now next : GreatestNiche) → length os ≡ length ps → IsLawfulPart dl part → IsGreatest dl os ps now

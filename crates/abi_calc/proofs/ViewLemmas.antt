@@ -19,7 +19,6 @@ use Rattle.abi_calc.specs.declared.part.Part.{Part}
 use Rattle.abi_calc.specs.ListView.{bulk_of, bulk_with, bulky_parts, bulky_view, is_bulky, one_view, part_at, two_view}
 use Rattle.abi_calc.specs.declared.list_view.Bulk.{Bulk}
 use Rattle.abi_calc.specs.declared.list_view.Bulk.TheVariants.{One, Two}
-use Rattle.abi_scalar.specs.declared.backend_repr.BackendRepr.TheVariants.{Memory}
 use Rattle.abi_calc.proofs.NicheLemmas.{readable_size}
 use Rattle.abi_calc.specs.Placement.{source_order}
 
@@ -133,11 +132,3 @@ pub two_read : (dl : TargetDataLayout) (fixed : Bool) (size align : ℕ) (parts 
     → two_view dl size align first one.view second other.view ≡ bulky_view dl fixed size align parts offsets (bulky_parts parts)
 two_read dl fixed size align parts offsets i j first second one other e f s o t =
     rw (f, s, o, t) (sym (ap (bulky_view dl fixed size align parts offsets) (two_of (bulky_parts parts) i j e)))
-
--- the view by none of them, or by more than two
-pub other_read : (dl : TargetDataLayout) (fixed : Bool) (size align : ℕ) (parts : List Part) (offsets : List ℕ) (xs : List ℕ) → ((i : ℕ) → ¬ (bulk_of xs ≡ One i)) → ((i j : ℕ) → ¬ (bulk_of xs ≡ Two i j))
-    → Memory true ≡ bulky_view dl fixed size align parts offsets xs
-other_read dl fixed size align parts offsets [] one two = refl
-other_read dl fixed size align parts offsets (x ∷ []) one two = absurd (one x refl)
-other_read dl fixed size align parts offsets (x ∷ y ∷ []) one two = absurd (two x y refl)
-other_read dl fixed size align parts offsets (x ∷ y ∷ z ∷ xs) one two = refl
