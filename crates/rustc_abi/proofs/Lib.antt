@@ -16,6 +16,7 @@ mod EnumPlacesLemmas
 mod StateLawsLemmas
 mod RefusalLemmas
 mod Facts
+mod Findings
 mod LayLemmas
 mod CommonLemmas
 mod UnionLemmas
