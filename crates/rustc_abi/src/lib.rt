@@ -32,12 +32,13 @@ pub use abi_index::{
 pub use abi_laid::{Laid, TreeTy, TypeTree, Value, ValueError, read_value, write_value};
 pub use abi_scalar::{
     BackendLaneCount, BackendRepr, FieldCount, FieldsShape, IncreasingOffset,
-    LayoutCalculatorError, LayoutData, LayoutHandle, Niche, RangeFull, RangeInclusive, ReprFlags,
-    ReprOptions, Scalar, TagEncoding, VariantLayout, Variants, WrappingRange,
+    LayoutCalculatorError, LayoutData, LayoutHandle, Niche, RangeFrom, RangeFull, RangeInclusive,
+    RangeToInclusive, ReprFlags, ReprOptions, Scalar, TagEncoding, VariantLayout, Variants,
+    WrappingRange,
 };
 pub use abi_types::{
-    ArmCall, CVariadicStatus, CanonAbi, ExternAbi, InterruptKind, Layout, Reg, TyAbiInterface,
-    TyAndLayout, X86Call, all_names,
+    ArmCall, CVariadicStatus, CanonAbi, ExternAbi, Heterogeneous, HomogeneousAggregate,
+    InterruptKind, Layout, Reg, TyAbiInterface, TyAndLayout, X86Call, all_names,
 };
 pub use error::LayError;
 pub use lay::lay_out;
