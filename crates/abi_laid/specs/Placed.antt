@@ -39,8 +39,8 @@ mutual
     no_parts : Parts
     part : (offset : ℕ) → Placed → Parts → Parts
 
-  -- variants or states: each one's number, which is its discriminant or index, the layout that it has by itself, what it tells of
-  -- itself, and the parts that it has of its own
+  -- variants or states: each one's number, which is its discriminant or index, the layout that it has as a type of its
+  -- own, what it tells of itself, and the parts that it has of its own
   pub data Arms : Type 0 where
     no_arms : Arms
     arm : (number : ℕ) → Layout → Mark → Parts → Arms → Arms

@@ -62,8 +62,8 @@ pub record AreVariantsAdded (dl : TargetDataLayout) (old new : List Node) (child
   pub exact : VariantsLaying dl all (Ok (variants_in new children))
   pub fits : VariantsFit dl all (variants_in new children)
 
--- A node for each variant beside a tag was put, and each node that was there kept: these variants are the arms, with their layouts
--- and marks, and their nodes have these sizes and list their fields one by one.
+-- A node for each variant beside a tag was put, and each node that was there kept: these variants are the arms, with
+-- their layouts and marks, and their nodes have these sizes and list their fields one by one.
 pub record AreArms (old new : List Node) (sizes : List ℕ) (variants : List (ℕ × ℕ)) (arms : Arms) : Type 0 where
   pub kept : Keeps (types_in old) (types_in new)
   pub well : AreWell old → AreWell new

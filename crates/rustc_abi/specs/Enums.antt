@@ -104,8 +104,8 @@ IsEnumed dl repr numbers variants (Err e) =
 
 -- ---- its parts
 
--- the variants or states beside a tag, from this index on: each has its number, the layout that it has as a type of its own,
--- the mark, and its fields at the offsets of its layout
+-- the variants or states beside a tag, from this index on: each has its number, the layout that it has as a type of its
+-- own, as one of this whole, the mark, and its fields at the offsets of its layout
 abbrev pub arms_at : (whole : Layout) → Mark → (index : ℕ) → List (VariantLayout ℕ) → (numbers : List ℕ)
     → List (List Placed) → Arms
 arms_at whole mark i (layout ∷ layouts) (n ∷ numbers) (fields ∷ variants) =

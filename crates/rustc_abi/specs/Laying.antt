@@ -135,8 +135,8 @@ enum_fault dl repr numbers variants =
     else (if has_equal numbers then Some DuplicateDiscriminant
     else (if not (list_all (is_discriminant dl repr) numbers) then Some DiscriminantTooWide else None)))
 
--- variants with this layout: no value, the parts of one variant, or those of each beside a tag; each of these tells of itself what
--- the whole does
+-- variants with this layout: no value, the parts of one variant, or those of each beside a tag; each of these tells of
+-- itself what the whole does
 abbrev pub placed_variants : TargetDataLayout → ReprOptions → (numbers : List ℕ) → List (List Placed) → Layout → LayoutVariants ℕ ℕ → Placed
 placed_variants dl repr numbers variants layout Empty = placed_never layout (mark_of true repr)
 placed_variants dl repr numbers variants layout (Single i) = placed_single layout (mark_of true repr) i (parts_at (listed_offsets layout.fields) (variant_at variants i))
@@ -177,7 +177,8 @@ coroutine_fault prefix locals states conflicts =
 abbrev pub placed_coroutine : TargetDataLayout → (prefix : List Placed) → (tag : Scalar) → (locals : List Placed) → (states : List (List ℕ)) → Layout → Placed
 placed_coroutine dl prefix tag locals states layout =
     placed_states layout (parts_at (listed_offsets layout.fields) prefix) (state_tag_offset layout (length prefix)) (one_scalar dl tag)
-    (arms_at layout Plain 0 (variants_of layout.variants) (source_order (length states)) (map (map (placed_in locals)) states))
+    (arms_at layout Plain 0 (variants_of layout.variants) (source_order (length states))
+    (map (map (placed_in locals)) states))
 
 -- the answer to a coroutine: its own fault, else the calculator's answer to its prefix fields, its tag and its locals
 abbrev pub IsCoroutineOf : TargetDataLayout → (prefix locals : List Placed) → (states : List (List ℕ)) → (conflicts : List (ℕ × ℕ)) → Result Placed LayError → Type 0

@@ -74,8 +74,8 @@ fn picked_each(
     Ok(children)
 }
 
-/// A node for each state beside the tag, with its locals and with its index as number. A state is no struct, union or enum, and
-/// tells nothing of itself.
+/// A node for each state beside the tag, with its locals and with its index as number. A state is no struct, union or
+/// enum, and tells nothing of itself.
 fn add_each_state(
     alloc: Global,
     nodes: &mut Vec<Node>,

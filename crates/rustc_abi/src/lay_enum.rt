@@ -153,7 +153,7 @@ fn enum_layout(
     )
 }
 
-/// The node of a variant or state, which is its fields: it has the layout that it has as a type of its own, and the mark.
+/// The node of a variant or state: its fields, with the layout that it has as a type of its own, and the mark.
 fn own_node(
     alloc: Global,
     whole: &LayoutData<FieldIdx, VariantIdx>,
@@ -162,8 +162,8 @@ fn own_node(
     fields: Vec<usize>,
 ) -> Result<Node, AllocError>
     requires { index < length (variants_of whole.now.variants) }
-    ensures layout { IfOk result (λ node.
-        Some node.layout ≡ option_map (variant_layout whole.now index) (slice_get (variants_of whole.now.variants) index)) }
+    ensures layout { IfOk result (λ node. Some node.layout
+        ≡ option_map (variant_layout whole.now index) (slice_get (variants_of whole.now.variants) index)) }
     ensures shape { IfOk result (λ node. node.shape ≡ Shape.Fields mark fields) }
 {
     let layout = LayoutData::for_variant(alloc, whole, index)?;
@@ -173,7 +173,8 @@ fn own_node(
     })
 }
 
-/// A node for each variant or state beside a tag, with the layout that it has as a type of its own, the mark and its number.
+/// A node for each variant or state beside a tag, with its number, the layout that it has as a type of its own, and the
+/// mark.
 pub(crate) fn add_variants(
     alloc: Global,
     nodes: &mut Vec<Node>,
@@ -189,7 +190,8 @@ pub(crate) fn add_variants(
     requires there { All (λ fields. All (λ child. child < vec_len nodes.old) fields.items) children.now }
     requires inside { VariantsInside layout.now.size (variants_of layout.now.variants) (variants_in nodes.old.items children.now) }
     ensures ok { IfOk result (λ variants. AreArms nodes.old.items nodes.new.items (map (λ l. l.size) (variants_of layout.now.variants)) variants.items
-        (arms_at layout.now mark 0 (variants_of layout.now.variants) numbers.now (variants_in nodes.old.items children.now))) }
+        (arms_at layout.now mark 0 (variants_of layout.now.variants) numbers.now
+        (variants_in nodes.old.items children.now))) }
     ensures err { IfErr result (λ e. e ≡ LayError.OutOfMemory) }
 {
     let mut variants = Vec::with_capacity(alloc, children.len())?;

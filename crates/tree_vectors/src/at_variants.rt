@@ -64,8 +64,8 @@ const HALF_REACHED: Named = Named(
     }),
 );
 
-/// What is told of a variant or a state beside what its layout has of its own: whether it has no value; the alignment in bytes of the
-/// type that it is of, and whether that lies as C has it; what it is; and whether it is passed by a pointer.
+/// What is told of a variant or a state beside what its layout has of its own: whether it has no value; the alignment in
+/// bytes of the type that it is of, and whether that lies as C has it; what it is; and whether it is passed by a pointer.
 #[derive(Clone, Copy)]
 struct Told {
     uninhabited: bool,
