@@ -1,5 +1,5 @@
 -- Worked facts: the definitions, tried on small types in both directions.
-use Rattle.std.proofs.Common.{◌≡◌, ℕ, zero, suc, ◌-◌, ◌^◌, ◌≤◌, List, [], ◌∷◌, true, false, None, inl, inr, arith, refl}
+use Rattle.std.proofs.Common.{◌≡◌, ℕ, zero, suc, ◌-◌, ◌^◌, ◌≤◌, List, [], ◌∷◌, true, false, None, inl, inr, ap, arith, refl}
 use Rattle.abi_base.specs.declared.endian.Endian.{Endian}
 use Rattle.abi_base.specs.declared.endian.Endian.TheVariants.{Little, Big}
 use Rattle.abi_base.specs.declared.primitive.Primitive.TheVariants.{Int}
@@ -15,6 +15,7 @@ use Rattle.abi_scalar.specs.declared.variants.TagEncoding.TheVariants.{Direct, N
 use Rattle.abi_scalar.specs.declared.wrapping_range.WrappingRange.{WrappingRange}
 use Rattle.abi_scalar.specs.declared.backend_repr.BackendRepr.TheVariants.{Scalar as OneScalar}
 use Rattle.abi_scalar.specs.Range.{IsIn, full_range}
+use Rattle.abi_types.specs.Ty.Typed.{Marks, Typed, layout_in, marks_of, variant_in}
 use Rattle.abi_laid.specs.Tree.{Tree, never, struct, enum, coroutine, no_trees, more_trees, no_variants, more_variants, scalar as number_type}
 use Rattle.abi_laid.specs.Value.{Value, number, two, list, variant, state, bytes, no_values, more_values}
 use Rattle.abi_laid.specs.Bytes.{picked}
@@ -22,6 +23,7 @@ use Rattle.abi_laid.specs.declared.mark.Mark.TheVariants.{Plain}
 use Rattle.abi_laid.specs.Placed.{Placed, Layout, layout_of, scalar, never as nowhere, fields, union, single, tagged, states, Parts, no_parts, part, Arms, no_arms, arm, nothing}
 use Rattle.abi_laid.specs.Places.{is_data_place}
 use Rattle.abi_laid.specs.Runs.{padding_of, unused_of}
+use Rattle.abi_laid.specs.Seen.{Sees}
 use Rattle.abi_laid.specs.Tag.{Names}
 use Rattle.abi_laid.specs.Holding.{Holds}
 use Rattle.abi_laid.specs.Faithful.{EachValueIsHeld, IsFlagTrue, IsViewTrue}
@@ -335,6 +337,14 @@ second_state_held = (refl, tt, omega arith, (refl, refl), ((omega arith, (refl, 
 -- the byte 7 is no value of the second state's local
 no_second_state : (n : ℕ) → Holds Little two_states (1 ∷ 7 ∷ []) (state 1 no_values (more_values (number n) no_values)) → ⊥
 no_second_state n h = h.4.0.1.2.2 1 (omega (arith, h.4.0.1.1, h.4.0.1.2.1)) refl
+
+-- ---- what handles see of a state: it is not flagged as one without values, and isn't told as the type without a value
+
+state_is_not_flagged : (t : Typed) → Sees t two_states → (layout_in (variant_in t 1)).uninhabited ≡ false
+state_is_not_flagged t seen = ap (λ (l : Layout). l.uninhabited) seen.4.3.0.0
+
+state_is_not_never : (t : Typed) → Sees t two_states → (marks_of (variant_in t 1)).is_never ≡ false
+state_is_not_never t seen = ap (λ (m : Marks). m.is_never) seen.4.3.0.1
 
 -- ---- the range from 254 to 1 wraps round: it has 254, 255, 0 and 1
 
