@@ -1,5 +1,5 @@
 -- How large an enum is, what its layout is, and when it is too large, from the calculator's answer.
-use Rattle.std.proofs.Common.{◌≡◌, ℕ, zero, suc, ◌<◌, ◌≤◌, List, [], ◌∷◌, map, length, true, None, arith, refl, sym, ap, subst, ◌∙◌, inl, inr, All, Result, Ok, Err, ⊎_elim}
+use Rattle.std.proofs.Common.{◌≡◌, ℕ, zero, suc, ◌+◌, ◌<◌, ◌≤◌, List, [], ◌∷◌, map, length, true, None, arith, refl, sym, ap, subst, ◌∙◌, inl, inr, All, Result, Ok, Err, ⊎_elim}
 use Rattle.std.specs.Prelude.{◌⊎◌, ⊤}
 use Rattle.std.proofs.lemmas.List.{length-map}
 use Rattle.std.proofs.lemmas.List.Elements.{All-head, All-tail, All-nil, All-cons}

@@ -49,8 +49,8 @@ sized n = record {
 }
 
 -- a variant or state with this number, by itself of so many bytes
-abbrev plain_arm : (number size : ℕ) → Parts → Arms → Arms
-plain_arm number n parts arms = arm number (sized n) Plain parts arms
+abbrev plain_arm : (code size : ℕ) → Parts → Arms → Arms
+plain_arm code n parts arms = arm code (sized n) Plain parts arms
 
 abbrev unsigned : Integer → Scalar
 unsigned integer = Initialized (Int integer false) (full_range (integer_size integer))
