@@ -145,5 +145,5 @@ module _ (order : Endian) where
     decides_arm : (arms : Arms) → UntaggedNamedOfArms order arms → (i : ℕ) (vs : Values) (b w : List ℕ) → length w ≡ length b → HoldArm order arms i b vs →
         ((k : ℕ) → is_arm_covered arms i vs k ≡ true → get_or w k 0 ≡ get_or b k 0) → HoldArm order arms i w vs
     decides_arm no_arms named i vs b w long h same = absurd h
-    decides_arm (arm code parts arms) named zero vs b w long h same = decides_parts parts named.0 vs b w long h same
-    decides_arm (arm code parts arms) named (suc i) vs b w long h same = decides_arm arms named.1 i vs b w long h same
+    decides_arm (arm code layout mark parts arms) named zero vs b w long h same = decides_parts parts named.0 vs b w long h same
+    decides_arm (arm code layout mark parts arms) named (suc i) vs b w long h same = decides_arm arms named.1 i vs b w long h same

@@ -11,8 +11,8 @@ use Rattle.abi_scalar.specs.Shape.{listed_offsets}
 use Rattle.abi_laid.specs.declared.node.Shape.{Shape}
 use Rattle.abi_laid.specs.declared.node.Shape.TheVariants.{Scalar, Pair, Never, Elements, Fields, Union, Vector, Single, Tagged, States}
 use Rattle.abi_laid.specs.declared.node.Node.{Node}
-use Rattle.abi_laid.specs.Placed.{Placed, Layout, layout_of, pair, elements, vector, fields, union, single, tagged, states, Arms, arm, nothing}
-use Rattle.abi_laid.specs.Nodes.{placed_in, parts_at, parts_at_0, arms_in, encoding_of, index_of, own_fields, tag_offset, state_tag_offset, states_in, meaning, meanings, types_in, placed_at, Keeps}
+use Rattle.abi_laid.specs.Placed.{Placed, Layout, layout_of, pair, elements, vector, fields, union, single, tagged, states, Arms, nothing}
+use Rattle.abi_laid.specs.Nodes.{placed_in, parts_at, parts_at_0, arms_in, encoding_of, index_of, own_arm, tag_offset, state_tag_offset, states_in, meaning, meanings, types_in, placed_at, Keeps}
 use Rattle.abi_laid.specs.Laws.{keeps_laws, keep_laws}
 use Rattle.abi_laid.specs.Widths.{has_width, have_widths}
 use Rattle.abi_laid.specs.Well.{is_node, are_nodes, IsPut}
@@ -152,7 +152,7 @@ arms-same xs ys n same (v ∷ vs) below =
     let both = and_parts (nat_lt v.1 n) (list_all (λ v. nat_lt v.1 n) vs) below in
     let here : placed_in xs v.1 ≡ placed_in ys v.1 = same v.1 (ltb-true v.1 n both.0) in
     let rest : arms_in xs vs ≡ arms_in ys vs = arms-same xs ys n same vs both.1 in
-    ap (λ p. arm v.0 (own_fields p) (arms_in xs vs)) here ∙ ap (arm v.0 (own_fields (placed_in ys v.1))) rest
+    ap (λ p. own_arm v.0 p (arms_in xs vs)) here ∙ ap (own_arm v.0 (placed_in ys v.1)) rest
 
 -- both children of a pair's node come before it
 pub pair_before : (n first second : ℕ) → (nat_lt first n && nat_lt second n) ≡ true → list_all (λ child. nat_lt child n) (first ∷ second ∷ []) ≡ true

@@ -79,7 +79,7 @@ mutual
 
   within_arms : (size : ℕ) (arms : Arms) (k : ℕ) → arms_have_room size arms ≡ true → is_place_of_arm arms k ≡ true → k < size
   within_arms size no_arms k room place = absurd (cc)
-  within_arms size (arm number parts arms) k room place =
+  within_arms size (arm number layout mark parts arms) k room place =
       let both = and_parts (have_room size parts) (arms_have_room size arms) room in
       ⊎_elim (within_have size parts k both.0) (within_arms size arms k both.1) (or_cases (is_place_of_part parts k) (is_place_of_arm arms k) place)
 

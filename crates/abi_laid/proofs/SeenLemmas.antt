@@ -11,15 +11,16 @@ use Rattle.abi_scalar.specs.Shape.{IsListed, field_count, field_offset, listed_o
 use Rattle.abi_scalar.specs.Variant.{variants_of}
 use Rattle.abi_types.specs.Ty.Typed.{Typed, field_in, layout_in, no_layout, variant_in}
 use Rattle.abi_laid.specs.declared.mark.Mark.TheVariants.{Plain}
+use Rattle.abi_laid.specs.Mark.{marks_by}
 use Rattle.abi_laid.specs.declared.node.Shape.{Shape}
 use Rattle.abi_laid.specs.declared.node.Shape.TheVariants.{Scalar, Pair, Never, Elements, Fields, Union, Vector, Single, Tagged, States}
 use Rattle.abi_laid.specs.declared.node.Node.{Node}
-use Rattle.abi_laid.specs.Placed.{Placed, Layout, scalar, pair, never, elements, vector, fields, union, single, tagged, states}
-use Rattle.abi_laid.specs.Nodes.{arms_in, meaning, own_fields, parts_at, parts_at_0, placed_at, placed_in, state_tag_offset, types_in}
+use Rattle.abi_laid.specs.Placed.{Placed, Layout, layout_of, scalar, pair, never, elements, vector, fields, union, single, tagged, states}
+use Rattle.abi_laid.specs.Nodes.{arms_in, meaning, own_fields, own_mark, parts_at, parts_at_0, placed_at, placed_in, state_tag_offset, types_in}
 use Rattle.abi_laid.specs.Well.{are_nodes, is_node}
 use Rattle.abi_laid.specs.Typed.{all_told, told, type_by, type_in, typed_at}
 use Rattle.abi_laid.specs.Laws.{has_fields, has_list, has_variants, have_lists, have_places, is_listed, keep_laws, sizes_at}
-use Rattle.abi_laid.specs.Seen.{HasOffset, IsListOf, Sees, SeesArms, SeesParts, SeesTypes, last_of, part_count}
+use Rattle.abi_laid.specs.Seen.{HasOffset, IsListOf, Sees, SeesArms, SeesParts, SeesTypes, SeesWhole, last_of, part_count}
 use Rattle.abi_laid.proofs.NodesLemmas.{children_before, pair_before, placed_at-node}
 use Rattle.abi_laid.proofs.TypedLemmas.{field_count-nodes, fields_below, laws_at, place_below, type_by-place, typed_at-node, variant_count-nodes, variants_below, variants_listed}
 
@@ -35,6 +36,19 @@ own_seen t (union layout mark parts) h = tt
 own_seen t (single layout mark index parts) h = tt
 own_seen t (tagged layout mark offset tag encoding arms) h = tt
 own_seen t (states layout prefix offset tag arms) h = tt
+
+-- and so are its layout and what it tells of itself, where it lists its fields one by one
+own_whole : (t : Typed) (p : Placed) → has_list p ≡ true → Sees t p → SeesWhole t (layout_of p) (marks_by (own_mark p))
+own_whole t (scalar layout s) is h = absurd (false≢true is)
+own_whole t (pair layout parts) is h = absurd (false≢true is)
+own_whole t (never layout mark) is h = absurd (false≢true is)
+own_whole t (elements layout count element) is h = absurd (false≢true is)
+own_whole t (vector layout lanes) is h = absurd (false≢true is)
+own_whole t (fields layout mark parts) is h = h.0
+own_whole t (union layout mark parts) is h = absurd (false≢true is)
+own_whole t (single layout mark index parts) is h = absurd (false≢true is)
+own_whole t (tagged layout mark offset tag encoding arms) is h = absurd (false≢true is)
+own_whole t (states layout prefix offset tag arms) is h = absurd (false≢true is)
 
 -- ---- what lists its fields one by one lists all of its own
 
@@ -120,14 +134,18 @@ module _ (ps : List Placed) (t : Typed) where
       )
 
   arms_seen : (vs : List (ℕ × ℕ)) (k : ℕ) → ((j : ℕ) → j < length vs → Sees (variant_in t (k + j)) (placed_in ps (get_or (map (λ v. v.1) vs) j 0))) →
+      ((j : ℕ) → j < length vs → has_list (placed_in ps (get_or (map (λ v. v.1) vs) j 0)) ≡ true) →
       ((j : ℕ) → j < length vs → IsListOf (own_fields (placed_in ps (get_or (map (λ v. v.1) vs) j 0))) (variant_in t (k + j))) → SeesArms t k (arms_in ps vs)
-  arms_seen [] k each list = tt
-  arms_seen (v ∷ vs) k each list =
+  arms_seen [] k each is list = tt
+  arms_seen (v ∷ vs) k each is list =
       let here : k + 0 ≡ k = omega arith in
-      let up : (j : ℕ) → k + suc j ≡ suc k + j = λ j. omega arith in (
+      let up : (j : ℕ) → k + suc j ≡ suc k + j = λ j. omega arith in
+      let seen : Sees (variant_in t k) (placed_in ps v.1) = subst (λ n. Sees (variant_in t n) (placed_in ps v.1)) here (each 0 (omega arith)) in (
+        own_whole (variant_in t k) (placed_in ps v.1) (is 0 (omega arith)) seen,
         subst (λ n. IsListOf (own_fields (placed_in ps v.1)) (variant_in t n)) here (list 0 (omega arith)),
-        own_seen (variant_in t k) (placed_in ps v.1) (subst (λ n. Sees (variant_in t n) (placed_in ps v.1)) here (each 0 (omega arith))),
+        own_seen (variant_in t k) (placed_in ps v.1) seen,
         arms_seen vs (suc k) (λ j lt. subst (λ n. Sees (variant_in t n) (placed_in ps (get_or (map (λ v. v.1) vs) j 0))) (up j) (each (suc j) (omega arith)))
+            (λ j lt. is (suc j) (omega arith))
             (λ j lt. subst (λ n. IsListOf (own_fields (placed_in ps (get_or (map (λ v. v.1) vs) j 0))) (variant_in t n)) (up j) (list (suc j) (omega arith))),
       )
 
@@ -159,6 +177,7 @@ module _ (ns : List Node) (i : ℕ) (below : (c : ℕ) → c < i → Sees (typed
       arms_seen ps t vs 0
       (λ j lt. subst (λ n. Sees (variant_in t n) (placed_in ps (get_or cs j 0))) (first_index j)
       (subst (λ u. Sees u (placed_in ps (get_or cs j 0))) (sym (same j)) (each_seen cs before j (omega (arith, lt, long)))))
+      (λ j lt. lists_each ps cs lists j (omega (arith, lt, long)))
       (λ j lt. subst (λ n. IsListOf (own_fields (placed_in ps (get_or cs j 0))) (variant_in t n)) (first_index j)
       (subst (IsListOf (own_fields (placed_in ps (get_or cs j 0)))) (sym (same j ∙ type_by-place ts cs j (omega (arith, lt, long))))
       (list (get_or cs j 0) (place_below i cs before j (omega (arith, lt, long))) (lists_each ps cs lists j (omega (arith, lt, long))))))

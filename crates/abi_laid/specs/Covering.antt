@@ -44,5 +44,5 @@ abbrev mutual
   -- byte k is covered by the value of some part of the arm with this index
   pub is_arm_covered : Arms → (index : ℕ) → Values → (k : ℕ) → Bool
   is_arm_covered no_arms i vs k = false
-  is_arm_covered (arm code parts arms) zero vs k = are_covered parts vs k
-  is_arm_covered (arm code parts arms) (suc i) vs k = is_arm_covered arms i vs k
+  is_arm_covered (arm code layout mark parts arms) zero vs k = are_covered parts vs k
+  is_arm_covered (arm code layout mark parts arms) (suc i) vs k = is_arm_covered arms i vs k

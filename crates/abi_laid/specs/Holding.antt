@@ -56,5 +56,5 @@ module _ (order : Endian) where
     -- the parts of the arm with this index hold these values
     pub HoldArm : Arms → (index : ℕ) → List ℕ → Values → Type 0
     HoldArm no_arms i b vs = ⊥
-    HoldArm (arm code parts arms) zero b vs = HoldParts parts b vs
-    HoldArm (arm code parts arms) (suc i) b vs = HoldArm arms i b vs
+    HoldArm (arm code layout mark parts arms) zero b vs = HoldParts parts b vs
+    HoldArm (arm code layout mark parts arms) (suc i) b vs = HoldArm arms i b vs

@@ -5,7 +5,9 @@ use Rattle.abi_scalar.specs.declared.variants.TagEncoding.{TagEncoding}
 use Rattle.abi_scalar.specs.declared.variants.TagEncoding.TheVariants.{Direct}
 use Rattle.abi_scalar.specs.declared.variants.Variants.{Variants}
 use Rattle.abi_scalar.specs.declared.variants.Variants.TheVariants.{Single as OneVariant, Multiple}
-use Rattle.abi_laid.specs.Placed.{Placed, Layout, scalar, pair, never, elements, vector, fields, union, single, tagged, states, Parts, no_parts, part, Arms, no_arms, arm, nothing}
+use Rattle.abi_laid.specs.Placed.{Placed, Layout, scalar, pair, never, elements, vector, fields, union, single, tagged, states, Parts, no_parts, part, Arms, no_arms, arm, layout_of, nothing}
+use Rattle.abi_laid.specs.declared.mark.Mark.{Mark}
+use Rattle.abi_laid.specs.declared.mark.Mark.TheVariants.{Plain}
 use Rattle.abi_laid.specs.declared.node.Shape.{Shape}
 use Rattle.abi_laid.specs.declared.node.Shape.TheVariants.{Scalar, Pair, Never, Elements, Fields, Union, Vector, Single, Tagged, States}
 use Rattle.abi_laid.specs.declared.node.Node.{Node}
@@ -46,10 +48,19 @@ abbrev pub own_fields : Placed → Parts
 own_fields (fields layout mark parts) = parts
 own_fields _ = no_parts
 
+-- what it tells of itself
+abbrev pub own_mark : Placed → Mark
+own_mark (fields layout mark parts) = mark
+own_mark _ = Plain
+
+-- a variant or state with this number, which has a node of its own, before others
+abbrev pub own_arm : (number : ℕ) → Placed → Arms → Arms
+own_arm number placed arms = arm number (layout_of placed) (own_mark placed) (own_fields placed) arms
+
 -- variants or states beside a tag, each with its number
 abbrev pub arms_in : List Placed → List (ℕ × ℕ) → Arms
 arms_in done [] = no_arms
-arms_in done (v ∷ vs) = arm v.0 (own_fields (placed_in done v.1)) (arms_in done vs)
+arms_in done (v ∷ vs) = own_arm v.0 (placed_in done v.1) (arms_in done vs)
 
 -- prefix fields, a tag, and states beside it
 abbrev pub states_in : List Placed → Layout → (prefix : List ℕ) → (tag : ℕ) → (all : List (ℕ × ℕ)) → Placed

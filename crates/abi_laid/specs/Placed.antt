@@ -39,10 +39,11 @@ mutual
     no_parts : Parts
     part : (offset : ℕ) → Placed → Parts → Parts
 
-  -- variants or states: each one's number, which is its discriminant or index, and what it has of its own
+  -- variants or states: each one's number, which is its discriminant or index, the layout that it has as a type of its
+  -- own, what it tells of itself, and the parts that it has of its own
   pub data Arms : Type 0 where
     no_arms : Arms
-    arm : (number : ℕ) → Parts → Arms → Arms
+    arm : (number : ℕ) → Layout → Mark → Parts → Arms → Arms
 
 abbrev pub layout_of : Placed → Layout
 layout_of (scalar layout s) = layout
@@ -89,8 +90,8 @@ more_parts (part offset placed parts) = parts
 
 abbrev pub parts_of_arm : Arms → (index : ℕ) → Parts
 parts_of_arm no_arms i = no_parts
-parts_of_arm (arm number parts arms) zero = parts
-parts_of_arm (arm number parts arms) (suc i) = parts_of_arm arms i
+parts_of_arm (arm number layout mark parts arms) zero = parts
+parts_of_arm (arm number layout mark parts arms) (suc i) = parts_of_arm arms i
 
 -- what the variant or state with this index has of its own
 abbrev pub own_parts : Placed → (index : ℕ) → Parts

@@ -28,4 +28,4 @@ abbrev mutual
   -- byte k is a data place of some arm
   pub is_place_of_arm : Arms → (k : ℕ) → Bool
   is_place_of_arm no_arms k = false
-  is_place_of_arm (arm number parts arms) k = is_place_of_part parts k || is_place_of_arm arms k
+  is_place_of_arm (arm number layout mark parts arms) k = is_place_of_part parts k || is_place_of_arm arms k

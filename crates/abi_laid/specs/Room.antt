@@ -23,4 +23,4 @@ abbrev mutual
 
   pub arms_have_room : (size : ℕ) → Arms → Bool
   arms_have_room size no_arms = true
-  arms_have_room size (arm number parts arms) = have_room size parts && arms_have_room size arms
+  arms_have_room size (arm number layout mark parts arms) = have_room size parts && arms_have_room size arms

@@ -51,7 +51,10 @@ abbrev mutual
   SeesTypes t i no_parts = ⊤
   SeesTypes t i (part offset p parts) = Sees (field_in t i) p × SeesTypes t (suc i) parts
 
-  -- the variants from this index on have the parts that the arms have of their own, and no others
+  -- each variant from this index on has the arm's layout, tells of itself what the arm does, and has the parts that the
+  -- arm has of its own, and no others
   pub SeesArms : Typed → (index : ℕ) → Arms → Type 0
   SeesArms t i no_arms = ⊤
-  SeesArms t i (arm number parts arms) = IsListOf parts (variant_in t i) × SeesParts (variant_in t i) 0 parts × SeesArms t (suc i) arms
+  SeesArms t i (arm number layout mark parts arms) =
+      SeesWhole (variant_in t i) layout (marks_by mark) × IsListOf parts (variant_in t i)
+      × SeesParts (variant_in t i) 0 parts × SeesArms t (suc i) arms

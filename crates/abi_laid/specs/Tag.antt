@@ -8,8 +8,9 @@ use Rattle.abi_laid.specs.Placed.{Arms, no_arms, arm, is_flagged}
 -- directly: the arm with no part that is flagged, whose number, cut to the tag's width, is the tag's
 abbrev pub NamesDirectly : (width : ℕ) → Arms → (tag index : ℕ) → Type 0
 NamesDirectly width no_arms tag i = ⊥
-NamesDirectly width (arm number parts arms) tag zero = (is_flagged parts ≡ false) × (number % numbers_of width ≡ tag)
-NamesDirectly width (arm number parts arms) tag (suc i) = NamesDirectly width arms tag i
+NamesDirectly width (arm number layout mark parts arms) tag zero =
+    (is_flagged parts ≡ false) × (number % numbers_of width ≡ tag)
+NamesDirectly width (arm number layout mark parts arms) tag (suc i) = NamesDirectly width arms tag i
 
 -- a variant of the span from first to last, other than the untagged one
 abbrev pub IsSpanned : (untagged first last index : ℕ) → Type 0

@@ -42,4 +42,4 @@ abbrev mutual
 
   pub InUnionsOfArms : (P : (field whole : Placed) → Type 0) → Arms → Type 0
   InUnionsOfArms P no_arms = ⊤
-  InUnionsOfArms P (arm number parts arms) = InUnionsOf P parts × InUnionsOfArms P arms
+  InUnionsOfArms P (arm number layout mark parts arms) = InUnionsOf P parts × InUnionsOfArms P arms

@@ -36,4 +36,4 @@ module _ (order : Endian) where
 
     pub UntaggedNamedOfArms : Arms → Type 0
     UntaggedNamedOfArms no_arms = ⊤
-    UntaggedNamedOfArms (arm number parts arms) = UntaggedNamedOf parts × UntaggedNamedOfArms arms
+    UntaggedNamedOfArms (arm number layout mark parts arms) = UntaggedNamedOf parts × UntaggedNamedOfArms arms

@@ -16,8 +16,8 @@ use Rattle.abi_scalar.specs.Variant.{variant_layout, variants_of}
 use Rattle.abi_laid.specs.declared.node.Shape.TheVariants.{Fields, Tagged}
 use Rattle.abi_laid.specs.declared.node.Node.{Node}
 use Rattle.abi_laid.specs.declared.mark.Mark.{Mark}
-use Rattle.abi_laid.specs.Placed.{Placed, Layout, size_of, tagged, Parts, Arms, no_arms, arm}
-use Rattle.abi_laid.specs.Nodes.{placed_in, parts_at, arms_in, own_fields, encoding_of, tag_offset, meaning, types_in, placed_at, Keeps}
+use Rattle.abi_laid.specs.Placed.{Placed, Layout, layout_of, size_of, tagged, Parts, Arms, no_arms, arm}
+use Rattle.abi_laid.specs.Nodes.{placed_in, parts_at, arms_in, own_arm, own_fields, own_mark, encoding_of, tag_offset, meaning, types_in, placed_at, Keeps}
 use Rattle.rustc_abi.specs.Enums.{arms_at}
 use Rattle.rustc_abi.specs.Inside.{EndInside, VariantsInside}
 use Rattle.abi_laid.specs.Laws.{has_list, have_lists, have_places, is_listed, keeps_laws, sizes_at}
@@ -31,24 +31,35 @@ use Rattle.rustc_abi.proofs.LawsLemmas.{own_laws, several_laws}
 -- ---- arms
 
 -- arms with one more
-abbrev push_arm : Arms → (number : ℕ) → Parts → Arms
-push_arm no_arms n parts = arm n parts no_arms
-push_arm (arm m own arms) n parts = arm m own (push_arm arms n parts)
+abbrev push_arm : Arms → (number : ℕ) → Layout → Mark → Parts → Arms
+push_arm no_arms n layout mark parts = arm n layout mark parts no_arms
+push_arm (arm m own told fields arms) n layout mark parts = arm m own told fields (push_arm arms n layout mark parts)
 
-arms_in-push : (done : List Placed) (vs : List (ℕ × ℕ)) (v : ℕ × ℕ) → arms_in done (vs ++ v ∷ []) ≡ push_arm (arms_in done vs) v.0 (own_fields (placed_in done v.1))
+-- with one more, which has a node of its own
+abbrev push_own : Arms → (number : ℕ) → Placed → Arms
+push_own arms n p = push_arm arms n (layout_of p) (own_mark p) (own_fields p)
+
+arms_in-push : (done : List Placed) (vs : List (ℕ × ℕ)) (v : ℕ × ℕ) →
+    arms_in done (vs ++ v ∷ []) ≡ push_own (arms_in done vs) v.0 (placed_in done v.1)
 arms_in-push done [] v = refl
-arms_in-push done (u ∷ vs) v = ap (arm u.0 (own_fields (placed_in done u.1))) (arms_in-push done vs v)
+arms_in-push done (u ∷ vs) v = ap (own_arm u.0 (placed_in done u.1)) (arms_in-push done vs v)
 
-arms_at-push : (layouts : List (VariantLayout ℕ)) (numbers : List ℕ) (variants : List (List Placed)) (layout : VariantLayout ℕ) (n : ℕ) (fields : List Placed) →
-    length layouts ≡ length numbers → length layouts ≡ length variants →
-    arms_at (layouts ++ layout ∷ []) (numbers ++ n ∷ []) (variants ++ fields ∷ []) ≡ push_arm (arms_at layouts numbers variants) n (parts_at layout.field_offsets fields)
-arms_at-push [] [] [] layout n fields as_many as_long = refl
-arms_at-push [] [] (v ∷ variants) layout n fields as_many as_long = absurd (omega arith)
-arms_at-push [] (m ∷ numbers) variants layout n fields as_many as_long = absurd (omega arith)
-arms_at-push (l ∷ layouts) [] variants layout n fields as_many as_long = absurd (omega arith)
-arms_at-push (l ∷ layouts) (m ∷ numbers) [] layout n fields as_many as_long = absurd (omega arith)
-arms_at-push (l ∷ layouts) (m ∷ numbers) (v ∷ variants) layout n fields as_many as_long =
-    ap (arm m (parts_at l.field_offsets v)) (arms_at-push layouts numbers variants layout n fields (omega arith) (omega arith))
+arms_at-push : (whole : Layout) (mark : Mark) (first : ℕ) (layouts : List (VariantLayout ℕ)) (numbers : List ℕ)
+    (variants : List (List Placed)) (layout : VariantLayout ℕ) (n : ℕ) (fields : List Placed) (index : ℕ) →
+    length layouts ≡ length numbers → length layouts ≡ length variants → index ≡ first + length layouts →
+    arms_at whole mark first (layouts ++ layout ∷ []) (numbers ++ n ∷ []) (variants ++ fields ∷ [])
+    ≡ push_arm (arms_at whole mark first layouts numbers variants) n (variant_layout whole index layout) mark
+    (parts_at layout.field_offsets fields)
+arms_at-push whole mark first [] [] [] layout n fields index as_many as_long at =
+    let here : first ≡ index = omega arith in
+    ap (λ k. arm n (variant_layout whole k layout) mark (parts_at layout.field_offsets fields) no_arms) here
+arms_at-push whole mark first [] [] (v ∷ variants) layout n fields index as_many as_long at = absurd (omega arith)
+arms_at-push whole mark first [] (m ∷ numbers) variants layout n fields index as_many as_long at = absurd (omega arith)
+arms_at-push whole mark first (l ∷ layouts) [] variants layout n fields index as_many as_long at = absurd (omega arith)
+arms_at-push whole mark first (l ∷ layouts) (m ∷ numbers) [] layout n fields index as_many as_long at = absurd (omega arith)
+arms_at-push whole mark first (l ∷ layouts) (m ∷ numbers) (v ∷ variants) layout n fields index as_many as_long at =
+    ap (arm m (variant_layout whole first l) mark (parts_at l.field_offsets v))
+    (arms_at-push whole mark (first + 1) layouts numbers variants layout n fields index (omega arith) (omega arith) (omega arith))
 
 -- arms that were there mean the same
 arms_in-kept : (old new : List Node) → Keeps (types_in old) (types_in new) → (vs : List (ℕ × ℕ)) → All (λ v. v.1 < length old) vs →
@@ -57,8 +68,8 @@ arms_in-kept old new kept [] there = refl
 arms_in-kept old new kept (v ∷ vs) there =
     let here : placed_in (types_in new) v.1 ≡ placed_in (types_in old) v.1 =
     kept.same v.1 (omega (arith, length-types_in old, All-head (λ v. v.1 < length old) v vs there)) in
-    ap (λ p. arm v.0 (own_fields p) (arms_in (types_in new) vs)) here
-    ∙ ap (arm v.0 (own_fields (placed_in (types_in old) v.1))) (arms_in-kept old new kept vs (All-tail (λ v. v.1 < length old) v vs there))
+    ap (λ p. own_arm v.0 p (arms_in (types_in new) vs)) here
+    ∙ ap (own_arm v.0 (placed_in (types_in old) v.1)) (arms_in-kept old new kept vs (All-tail (λ v. v.1 < length old) v vs there))
 
 -- variants that were there mean the same
 pub variants_in-kept : (old new : List Node) → Keeps (types_in old) (types_in new) → (children : List (Vec ℕ Global)) →
@@ -93,13 +104,12 @@ lists_kept old new kept (v ∷ vs) there =
 -- one arm more
 AreArms-push : (first old new : List Node) (vs : List (ℕ × ℕ)) (arms : Arms) (n i : ℕ) (sizes : List ℕ) (own : Layout) (mark : Mark) (fields : Vec ℕ Global) → AreArms first old sizes vs arms →
     All (λ child. child < length first) fields.items → is_listed own.fields ≡ true → IsPut old new i (meaning (types_in old) own (Fields mark fields)) →
-    AreArms first new (sizes ++ own.size ∷ []) (vs ++ (n, i) ∷ []) (push_arm arms n (parts_at (listed_offsets own.fields) (all_at first fields.items)))
+    AreArms first new (sizes ++ own.size ∷ []) (vs ++ (n, i) ∷ [])
+    (push_arm arms n own mark (parts_at (listed_offsets own.fields) (all_at first fields.items)))
 AreArms-push first old new vs arms n i sizes own mark fields h there list put =
     let longer : length old ≤ length new = omega (arith, put.kept.longer, length-types_in old, length-types_in new) in
     let same : arms_in (types_in new) vs ≡ arms = arms_in-kept old new put.kept vs h.there ∙ h.meant in
     let offsets = listed_offsets own.fields in
-    let own_parts : own_fields (placed_at new i) ≡ parts_at offsets (all_at first fields.items) =
-    ap own_fields put.meant ∙ ap (parts_at offsets) (all_at-kept first old h.kept fields.items there) in
     record {
       kept = Keeps-trans (types_in first) (types_in old) (types_in new) h.kept put.kept;
       well = λ first_well. put.well (h.well first_well);
@@ -108,8 +118,8 @@ AreArms-push first old new vs arms n i sizes own mark fields h there list put =
           (All-weaker (λ v. v.1 < length old) (λ v. v.1 < length new) (λ v lt. omega arith) vs h.there)
           (All-cons (λ v. v.1 < length new) (n, i) [] (omega (arith, put.last)) (All-nil (λ v. v.1 < length new)));
       meant =
-          arms_in-push (types_in new) vs (n, i) ∙ ap (λ a. push_arm a n (own_fields (placed_at new i))) same
-          ∙ ap (push_arm arms n) own_parts;
+          arms_in-push (types_in new) vs (n, i) ∙ ap (λ a. push_own a n (placed_at new i)) same ∙ ap (push_own arms n) put.meant
+          ∙ ap (λ ps. push_arm arms n own mark (parts_at offsets ps)) (all_at-kept first old h.kept fields.items there);
       sized =
           ap (sizes_at (types_in new)) (map-append (λ v. v.1) vs ((n, i) ∷ []))
           ∙ map-append (λ k. size_of (placed_in (types_in new) k)) (map (λ v. v.1) vs) (i ∷ [])
@@ -127,38 +137,40 @@ taken [] i lt = absurd (omega arith)
 taken (d ∷ xs) i lt = (get_or (d ∷ xs) i d, slice_get-get_or (d ∷ xs) i d lt, take_more (d ∷ xs) i d lt)
 
 -- the arms up to an index
-abbrev pub arms_up_to : (i : ℕ) → List (VariantLayout ℕ) → (numbers : List ℕ) → List (List Placed) → Arms
-arms_up_to i layouts numbers variants = arms_at (take i layouts) (take i numbers) (take i variants)
+abbrev pub arms_up_to : (whole : Layout) → Mark → (i : ℕ) → List (VariantLayout ℕ) → (numbers : List ℕ) → List (List Placed) → Arms
+arms_up_to whole mark i layouts numbers variants = arms_at whole mark 0 (take i layouts) (take i numbers) (take i variants)
 
-arms_more : (at : ℕ) (layouts : List (VariantLayout ℕ)) (numbers : List ℕ) (variants : List (List Placed)) (layout : VariantLayout ℕ) (n : ℕ) (fields : List Placed) →
+arms_more : (whole : Layout) (mark : Mark) (at : ℕ) (layouts : List (VariantLayout ℕ)) (numbers : List ℕ)
+    (variants : List (List Placed)) (layout : VariantLayout ℕ) (n : ℕ) (fields : List Placed) →
     at < length layouts → at < length numbers → at < length variants → take (at + 1) layouts ≡ take at layouts ++ layout ∷ [] →
     take (at + 1) numbers ≡ take at numbers ++ n ∷ [] → take (at + 1) variants ≡ take at variants ++ fields ∷ [] →
-    arms_up_to (at + 1) layouts numbers variants ≡ push_arm (arms_up_to at layouts numbers variants) n (parts_at layout.field_offsets fields)
-arms_more at layouts numbers variants layout n fields in_layouts in_numbers in_variants more_layouts more_numbers more_variants =
-    let as_many : length (take at layouts) ≡ length (take at numbers) =
-    length-take-le at layouts (omega arith) ∙ sym (length-take-le at numbers (omega arith)) in
-    let as_long : length (take at layouts) ≡ length (take at variants) =
-    length-take-le at layouts (omega arith) ∙ sym (length-take-le at variants (omega arith)) in
-    ap (λ ls. arms_at ls (take (at + 1) numbers) (take (at + 1) variants)) more_layouts
-    ∙ ap (λ ns. arms_at (take at layouts ++ layout ∷ []) ns (take (at + 1) variants)) more_numbers
-    ∙ ap (arms_at (take at layouts ++ layout ∷ []) (take at numbers ++ n ∷ [])) more_variants
-    ∙ arms_at-push (take at layouts) (take at numbers) (take at variants) layout n fields as_many as_long
+    arms_up_to whole mark (at + 1) layouts numbers variants
+    ≡ push_arm (arms_up_to whole mark at layouts numbers variants) n (variant_layout whole at layout) mark
+    (parts_at layout.field_offsets fields)
+arms_more whole mark at layouts numbers variants layout n fields in_layouts in_numbers in_variants more_layouts more_numbers more_variants =
+    let long : length (take at layouts) ≡ at = length-take-le at layouts (omega arith) in
+    let as_many : length (take at layouts) ≡ length (take at numbers) = long ∙ sym (length-take-le at numbers (omega arith)) in
+    let as_long : length (take at layouts) ≡ length (take at variants) = long ∙ sym (length-take-le at variants (omega arith)) in
+    ap (λ ls. arms_at whole mark 0 ls (take (at + 1) numbers) (take (at + 1) variants)) more_layouts
+    ∙ ap (λ ns. arms_at whole mark 0 (take at layouts ++ layout ∷ []) ns (take (at + 1) variants)) more_numbers
+    ∙ ap (arms_at whole mark 0 (take at layouts ++ layout ∷ []) (take at numbers ++ n ∷ [])) more_variants
+    ∙ arms_at-push whole mark 0 (take at layouts) (take at numbers) (take at variants) layout n fields at as_many as_long
+    (omega (arith, long))
 
 module _ (first old new : List Node) (parent : Layout) (layouts : List (VariantLayout ℕ)) (numbers : List ℕ) (children : List (Vec ℕ Global)) where
   -- the node of one variant more: `own` is the layout of that variant by itself, and its node has the fields of the variant
-  pub AreArms-more : (vs : List (ℕ × ℕ)) (at n i index : ℕ) (own : Layout) (mark : Mark) (fields : Vec ℕ Global) → at < length children →
+  pub AreArms-more : (vs : List (ℕ × ℕ)) (at n i : ℕ) (own : Layout) (mark : Mark) (fields : Vec ℕ Global) → at < length children →
       length layouts ≡ length children → length numbers ≡ length children → All (λ fields. All (λ child. child < length first) fields.items) children →
-      Some own ≡ option_map (variant_layout parent index) (slice_get layouts at) → n ≡ get_or numbers at 0 → (c : Vec ℕ Global) → c ≡ get_or children at c → fields.items ≡ c.items →
-      AreArms first old (map (λ l. l.size) (take at layouts)) vs (arms_up_to at layouts numbers (variants_in first children)) → IsPut old new i (meaning (types_in old) own (Fields mark fields)) →
-      AreArms first new (map (λ l. l.size) (take (at + 1) layouts)) (vs ++ (n, i) ∷ []) (arms_up_to (at + 1) layouts numbers (variants_in first children))
-  AreArms-more vs at n i index own mark fields lt as_many each there made number c c_is same h put =
+      Some own ≡ option_map (variant_layout parent at) (slice_get layouts at) → n ≡ get_or numbers at 0 → (c : Vec ℕ Global) → c ≡ get_or children at c → fields.items ≡ c.items →
+      AreArms first old (map (λ l. l.size) (take at layouts)) vs (arms_up_to parent mark at layouts numbers (variants_in first children)) → IsPut old new i (meaning (types_in old) own (Fields mark fields)) →
+      AreArms first new (map (λ l. l.size) (take (at + 1) layouts)) (vs ++ (n, i) ∷ []) (arms_up_to parent mark (at + 1) layouts numbers (variants_in first children))
+  AreArms-more vs at n i own mark fields lt as_many each there made number c c_is same h put =
       let variants = variants_in first children in
       let long : length variants ≡ length children = length-map children (λ fields. all_at first fields.items) in
       let layout = taken layouts at (omega arith) in
-      let own_is : own ≡ variant_layout parent index layout.0 =
-      let some : Some own ≡ Some (variant_layout parent index layout.0) = made ∙ ap (option_map (variant_layout parent index)) layout.1 in
+      let own_is : own ≡ variant_layout parent at layout.0 =
+      let some : Some own ≡ Some (variant_layout parent at layout.0) = made ∙ ap (option_map (variant_layout parent at)) layout.1 in
       cc in
-      let offsets : listed_offsets own.fields ≡ layout.0.field_offsets = ap (λ l. listed_offsets l.fields) own_is in
       let more_numbers : take (at + 1) numbers ≡ take at numbers ++ n ∷ [] =
       take_more numbers at 0 (omega arith) ∙ ap (λ k. take at numbers ++ k ∷ []) (sym number) in
       let ps = all_at first fields.items in
@@ -169,13 +181,14 @@ module _ (first old new : List Node) (parent : Layout) (layouts : List (VariantL
       let below : All (λ child. child < length first) fields.items =
       subst (All (λ child. child < length first)) (ap (λ v. v.items) (sym c_is) ∙ sym same)
       (All-get_or (λ fields. All (λ child. child < length first) fields.items) children at c lt there) in
-      let pushed = AreArms-push first old new vs (arms_up_to at layouts numbers variants) n i (map (λ l. l.size) (take at layouts)) own mark fields h below (ap (λ l. is_listed l.fields) own_is) put in
-      let arms : push_arm (arms_up_to at layouts numbers variants) n (parts_at (listed_offsets own.fields) ps) ≡ arms_up_to (at + 1) layouts numbers variants =
-      ap (λ o. push_arm (arms_up_to at layouts numbers variants) n (parts_at o ps)) offsets
-      ∙ sym (arms_more at layouts numbers variants layout.0 n ps (omega arith) (omega arith) (omega arith) layout.2 more_numbers more_variants) in
+      let pushed = AreArms-push first old new vs (arms_up_to parent mark at layouts numbers variants) n i (map (λ l. l.size) (take at layouts)) own mark fields h below (ap (λ l. is_listed l.fields) own_is) put in
+      let before : Arms = arms_up_to parent mark at layouts numbers variants in
+      let arms : push_arm before n own mark (parts_at (listed_offsets own.fields) ps) ≡ arms_up_to parent mark (at + 1) layouts numbers variants =
+      ap (λ (l : Layout). push_arm before n l mark (parts_at (listed_offsets l.fields) ps)) own_is
+      ∙ sym (arms_more parent mark at layouts numbers variants layout.0 n ps (omega arith) (omega arith) (omega arith) layout.2 more_numbers more_variants) in
       let sizes : map (λ l. l.size) (take at layouts) ++ own.size ∷ [] ≡ map (λ l. l.size) (take (at + 1) layouts) =
       ap (λ l. map (λ l. l.size) (take at layouts) ++ l.size ∷ []) own_is ∙ sym (ap (map (λ l. l.size)) layout.2 ∙ map-append (λ l. l.size) (take at layouts) (layout.0 ∷ [])) in
-      subst (λ ms. AreArms first new ms (vs ++ (n, i) ∷ []) (arms_up_to (at + 1) layouts numbers variants)) sizes
+      subst (λ ms. AreArms first new ms (vs ++ (n, i) ∷ []) (arms_up_to parent mark (at + 1) layouts numbers variants)) sizes
       (subst (AreArms first new (map (λ l. l.size) (take at layouts) ++ own.size ∷ []) (vs ++ (n, i) ∷ [])) arms pushed)
 
 inside_at : (whole : ℕ) (layouts : List (VariantLayout ℕ)) (variants : List (List Placed)) (at : ℕ) → VariantsInside whole layouts variants → at < length variants →

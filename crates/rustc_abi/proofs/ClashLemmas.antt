@@ -1,5 +1,5 @@
 -- What the locals of a coroutine that is laid out share: those that clash share no byte, and each has one offset.
-use Rattle.std.proofs.Common.{◌≡◌, ℕ, zero, suc, ◌<◌, List, [], ◌∷◌, Some, All, length, map, inl, inr, refl, sym, ap, subst, ◌∙◌, Ok}
+use Rattle.std.proofs.Common.{◌≡◌, ℕ, zero, suc, ◌+◌, ◌<◌, List, [], ◌∷◌, Some, All, length, map, inl, inr, refl, sym, ap, subst, ◌∙◌, Ok}
 use Rattle.std.specs.Prelude.{slice_get, option_map}
 use Rattle.std.proofs.lemmas.Option.{get_or_from_slice_get, same_Some, slice_get-get_or, slice_get-map, slice_get_within}
 use Rattle.abi_base.specs.declared.data_layout.TargetDataLayout.{TargetDataLayout}
@@ -11,7 +11,9 @@ use Rattle.abi_calc.specs.Coroutine.Clash as calculator
 use Rattle.abi_calc.specs.Placement.{source_order}
 use Rattle.abi_calc.proofs.CoroutineDeep.{coroutine_clash, coroutine_one_offset}
 use Rattle.abi_laid.specs.Tree.{Tree, scalar, pair, never, unit, array, vector, struct, union, enum, coroutine, Trees}
-use Rattle.abi_laid.specs.Placed.{Placed, layout_of, parts_of_arm}
+use Rattle.abi_laid.specs.declared.mark.Mark.{Mark}
+use Rattle.abi_laid.specs.declared.mark.Mark.TheVariants.{Plain}
+use Rattle.abi_laid.specs.Placed.{Placed, Layout, layout_of, parts_of_arm}
 use Rattle.abi_laid.specs.Nodes.{parts_at, placed_in}
 use Rattle.rustc_abi.specs.Clash.{AreClashingApart, DoClash, HasLocal, HaveOneOffset, IsPart}
 use Rattle.rustc_abi.specs.Coroutines.{conflicts_of}
@@ -30,13 +32,13 @@ part_of (x ∷ offsets) (q ∷ ps) zero o p h = (ap (λ y. Some y) h.0, ap (λ y
 part_of (x ∷ offsets) (q ∷ ps) (suc place) o p h = part_of offsets ps place o p h
 
 -- a part of an arm has the offset of its layout, and is of its types
-arm_part : (layouts : List (VariantLayout ℕ)) (numbers : List ℕ) (all : List (List Placed)) (i place o : ℕ) (p : Placed) → IsPart (parts_of_arm (arms_at layouts numbers all) i) place o p
+arm_part : (whole : Layout) (mark : Mark) (first : ℕ) (layouts : List (VariantLayout ℕ)) (numbers : List ℕ) (all : List (List Placed)) (i place o : ℕ) (p : Placed) → IsPart (parts_of_arm (arms_at whole mark first layouts numbers all) i) place o p
     → (layout : VariantLayout ℕ) × (slice_get layouts i ≡ Some layout) × (slice_get layout.field_offsets place ≡ Some o) × (ps : List Placed) × (slice_get all i ≡ Some ps) × (slice_get ps place ≡ Some p)
-arm_part [] numbers all i place o p h = absurd h
-arm_part (l ∷ layouts) [] all i place o p h = absurd h
-arm_part (l ∷ layouts) (n ∷ numbers) [] i place o p h = absurd h
-arm_part (l ∷ layouts) (n ∷ numbers) (ps ∷ all) zero place o p h = let found = part_of l.field_offsets ps place o p h in (l, refl, found.0, ps, refl, found.1)
-arm_part (l ∷ layouts) (n ∷ numbers) (ps ∷ all) (suc i) place o p h = arm_part layouts numbers all i place o p h
+arm_part whole mark first [] numbers all i place o p h = absurd h
+arm_part whole mark first (l ∷ layouts) [] all i place o p h = absurd h
+arm_part whole mark first (l ∷ layouts) (n ∷ numbers) [] i place o p h = absurd h
+arm_part whole mark first (l ∷ layouts) (n ∷ numbers) (ps ∷ all) zero place o p h = let found = part_of l.field_offsets ps place o p h in (l, refl, found.0, ps, refl, found.1)
+arm_part whole mark first (l ∷ layouts) (n ∷ numbers) (ps ∷ all) (suc i) place o p h = arm_part whole mark (first + 1) layouts numbers all i place o p h
 
 -- what stands at a place of a list, for each item something
 mapped_at : {A B : Type 0} (f : A → B) (xs : List A) (i : ℕ) (x : A) (y : B) → slice_get xs i ≡ Some x → slice_get (map f xs) i ≡ Some y → f x ≡ y
@@ -49,10 +51,10 @@ module _ (ps : List Placed) (states : List (List ℕ)) (layouts : List (VariantL
       subst (λ l. l < length ps) (get_or_from_slice_get state place local 0 there) (whole place 0 (slice_get_within state place local there))
 
   -- a local that some state has is one of the locals, where the calculator's layout of the state has it
-  has_local : (local o : ℕ) (x : Placed) → HasLocal states (arms_at layouts numbers (map (map (placed_in ps)) states)) local o x
+  has_local : (whole : Layout) (mark : Mark) (local o : ℕ) (x : Placed) → HasLocal states (arms_at whole mark 0 layouts numbers (map (map (placed_in ps)) states)) local o x
       → HasLocalAt states layouts local o × (slice_get (map layout_of ps) local ≡ Some (layout_of x))
-  has_local local o x (i, state, place, here, there, is) =
-      let found = arm_part layouts numbers (map (map (placed_in ps)) states) i place o x is in
+  has_local whole mark local o x (i, state, place, here, there, is) =
+      let found = arm_part whole mark 0 layouts numbers (map (map (placed_in ps)) states) i place o x is in
       let own : map (placed_in ps) state ≡ found.3 = mapped_at (map (placed_in ps)) states i state found.3 here found.4 in
       let type : placed_in ps local ≡ x = mapped_at (placed_in ps) state place local x there (ap (λ qs. slice_get qs place) own ∙ found.5) in
       let short : local < length ps = local_short i place local state here there in (
@@ -78,8 +80,8 @@ module _ (dl : TargetDataLayout) (law : IsLawfulDataLayout dl) where
         let apart =
         coroutine_clash layout_of dl pres found.0 (one_scalar dl found.0) ps states (conflicts_of (length ps) conflicts) asked within (conflict_rows (length ps) conflicts) (conflict_columns (length ps) conflicts) found.2 found.3 in
         subst (AreClashingApart (coroutine prefix locals states conflicts)) found.4 (λ a b o q x y differ clash here also.
-        (let one = has_local ps states (variants_of found.2.variants) (source_order (length states)) within a o x here in
-        let other = has_local ps states (variants_of found.2.variants) (source_order (length states)) within b q y also in
+        (let one = has_local ps states (variants_of found.2.variants) (source_order (length states)) within found.2 Plain a o x here in
+        let other = has_local ps states (variants_of found.2.variants) (source_order (length states)) within found.2 Plain b q y also in
         apart a b o q (layout_of x) (layout_of y) differ (do_clash (length ps) states conflicts a b known clash) one.1 other.1 one.0 other.0))
 
     one_offset_coroutine : HaveOneOffset (coroutine prefix locals states conflicts) p
@@ -90,8 +92,8 @@ module _ (dl : TargetDataLayout) (law : IsLawfulDataLayout dl) where
         let once = states_once (length pres) (length ps) states conflicts found.5 in
         let one = coroutine_one_offset layout_of dl pres found.0 (one_scalar dl found.0) ps states (conflicts_of (length ps) conflicts) asked within (conflict_rows (length ps) conflicts) once found.2 found.3 in
         subst (HaveOneOffset (coroutine prefix locals states conflicts)) found.4 (λ local o q x y here also.
-        one local o q (has_local ps states (variants_of found.2.variants) (source_order (length states)) within local o x here).0
-        (has_local ps states (variants_of found.2.variants) (source_order (length states)) within local q y also).0)
+        one local o q (has_local ps states (variants_of found.2.variants) (source_order (length states)) within found.2 Plain local o x here).0
+        (has_local ps states (variants_of found.2.variants) (source_order (length states)) within found.2 Plain local q y also).0)
 
   -- locals that clash share no byte
   pub laid_clash : (t : Tree) (p : Placed) → IsLaying dl t (Ok p) → AreClashingApart t p

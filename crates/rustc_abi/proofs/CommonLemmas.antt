@@ -64,7 +64,7 @@ module _ (order : Endian) where
 
     begins_arms : (size : ℕ) (arms : Arms) → arms_have_room size arms ≡ true → InUnionsOfArms (Begins order) arms
     begins_arms size no_arms room = tt
-    begins_arms size (arm code parts arms) room =
+    begins_arms size (arm code layout mark parts arms) room =
         let both = and_parts (have_room size parts) (arms_have_room size arms) room in
         (begins_have size parts both.0, begins_arms size arms both.1)
 

@@ -18,6 +18,7 @@ use Rattle.abi_calc.specs.Apart.{AreApart}
 use Rattle.abi_calc.specs.Placement.{source_order}
 use Rattle.abi_laid.specs.Tree.{Tree, coroutine, Trees, no_trees, more_trees}
 use Rattle.abi_laid.specs.Value.{Value, number, two, list, variant, state, bytes, Values, no_values, more_values}
+use Rattle.abi_laid.specs.declared.mark.Mark.TheVariants.{Plain}
 use Rattle.abi_laid.specs.Placed.{Placed, Layout, Parts, part, first_part, more_parts, Arms, layout_of, size_of, states, parts_of_arm}
 use Rattle.abi_laid.specs.Values.{EachAt, IsValueOf, IsValueAt, HasValue, HaveValues, LocalsHaveValues, LocalsOfEach, VectorsHaveValues}
 use Rattle.abi_laid.specs.Room.{has_room}
@@ -150,7 +151,7 @@ module _ (dl : TargetDataLayout) (prefix_trees locals : Trees) (pres ps : List P
   w = scalar_size dl tag
 
   abbrev arms : Arms
-  arms = state_arms layouts ps 0 all
+  arms = state_arms layout layouts ps 0 all
 
   abbrev whole_tree : Tree
   whole_tree = coroutine prefix_trees locals all conflicts
@@ -165,12 +166,12 @@ module _ (dl : TargetDataLayout) (prefix_trees locals : Trees) (pres ps : List P
   apart = subst (λ os. EachStateApart layout.size os (map size_of pres ++ w ∷ []) ps all layouts) (sym (split_last offsets (length pres) laid.long)) laid.apart
 
   shared : AreApart layout.size starts (map size_of pres) × LieBeside offset w (parts_at starts pres) × (offset + w ≤ layout.size)
-  shared = shared_apart dl layout.size offset w starts pres same_count locals ps locals_fit all layouts laid.some apart
+  shared = shared_apart dl layout layout.size offset w starts pres same_count locals ps locals_fit all layouts laid.some apart
 
   room : has_room whole ≡ true
   room =
       both_true (room_of dl layout.size prefix_trees starts pres shared.0 prefix_fits)
-      (both_true (both_true (le-leb (offset + w) layout.size shared.2) refl) (state_arms_room dl layout.size offset w starts pres same_count locals ps locals_fit 0 all layouts apart laid.known))
+      (both_true (both_true (le-leb (offset + w) layout.size shared.2) refl) (state_arms_room dl layout layout.size offset w starts pres same_count locals ps locals_fit 0 all layouts apart laid.known))
 
   number_of_state : (i : ℕ) → i < length all → IsNumberOf w tag i
   number_of_state i below =
@@ -187,7 +188,7 @@ module _ (dl : TargetDataLayout) (prefix_trees locals : Trees) (pres ps : List P
     fit = record {
       first = together dl layout.size prefix_trees starts pres shared.0 prefix_fits have.0;
       beside = shared.1;
-      each = state_arms_fit dl layout.size offset w starts pres same_count locals ps locals_fit 0 all layouts apart laid.known have.1;
+      each = state_arms_fit dl layout layout.size offset w starts pres same_count locals ps locals_fit 0 all layouts apart laid.known have.1;
     }
 
     flag : layout.uninhabited ≡ list_any (λ f. f.uninhabited) (map layout_of pres)
@@ -217,16 +218,16 @@ module _ (dl : TargetDataLayout) (prefix_trees locals : Trees) (pres ps : List P
     common = λ have. (
       common_each dl prefix_trees starts pres prefix_fits have.0,
       tt,
-      state_arms_common dl layout.size offset w starts pres same_count locals ps locals_fit 0 all layouts laid.known have.1,
+      state_arms_common dl layout layout.size offset w starts pres same_count locals ps locals_fit 0 all layouts laid.known have.1,
     );
     untagged = λ have. (
       untagged_each dl prefix_trees starts pres prefix_fits have.0,
-      state_arms_untagged dl layout.size offset w starts pres same_count locals ps locals_fit 0 all layouts laid.known have.1,
+      state_arms_untagged dl layout layout.size offset w starts pres same_count locals ps locals_fit 0 all layouts laid.known have.1,
     );
   }
 
   -- a coroutine that a tag tells apart keeps its values
-  pub Fits-states : Fits dl whole_tree (states layout (parts_at offsets pres) offset (one_scalar dl tag) (arms_at layouts (source_order (length all)) (map (picked_types ps) all)))
+  pub Fits-states : Fits dl whole_tree (states layout (parts_at offsets pres) offset (one_scalar dl tag) (arms_at layout Plain 0 layouts (source_order (length all)) (map (picked_types ps) all)))
   Fits-states =
-      subst (λ arms. Fits dl whole_tree (states layout (parts_at offsets pres) offset (one_scalar dl tag) arms)) (sym (state_arms_at layouts ps 0 all))
+      subst (λ arms. Fits dl whole_tree (states layout (parts_at offsets pres) offset (one_scalar dl tag) arms)) (sym (state_arms_at layout layouts ps 0 all))
       (subst (λ prefix. Fits dl whole_tree (states layout prefix offset (one_scalar dl tag) arms)) (parts_of_few offsets pres) fits_whole)

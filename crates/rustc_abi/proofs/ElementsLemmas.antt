@@ -1,11 +1,11 @@
 -- An array's layout keeps its elements' values.
 use Rattle.std.proofs.Common.{◌≡◌, ℕ, ◌+◌, ◌*◌, ◌/◌, ◌%◌, ◌<◌, ◌≤◌, List, length, replicate, drop, take, arith, refl, sym, ap, ◌∙◌, subst, le_refl}
-use Rattle.std.specs.Prelude.{IfSome, true, nat_lt, ◌==◌, ◌&&◌, not}
+use Rattle.std.specs.Prelude.{IfSome, true, ◌==◌, ◌&&◌, not}
 use Rattle.std.proofs.lemmas.List.{length-replicate}
 use Rattle.std.proofs.lemmas.List.Elements.{All-replicate}
 use Rattle.std.proofs.lemmas.Option.{IfSome_then}
-use Rattle.std.proofs.lemmas.Nat.{mul-le, mul-add-lt, div-mul-add, mod-mul-add}
-use Rattle.std.proofs.lemmas.Bool.{ltb-true, lt-ltb, eq-eqb, and_parts}
+use Rattle.std.proofs.lemmas.Nat.{mul-le, div-mul-add, mod-mul-add}
+use Rattle.std.proofs.lemmas.Bool.{lt-ltb, eq-eqb}
 use Rattle.std.specs.Cmp.Derive.{both_true}
 use Rattle.abi_base.specs.declared.data_layout.TargetDataLayout.{TargetDataLayout}
 use Rattle.abi_scalar.specs.declared.niche.Niche.{Niche}

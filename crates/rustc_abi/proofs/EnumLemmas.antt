@@ -29,6 +29,7 @@ use Rattle.abi_calc.specs.Enums.Discriminants.{inhabited_of}
 use Rattle.abi_laid.specs.Tree.{enum, Trees, no_trees, more_trees, Variants, no_variants, more_variants}
 use Rattle.abi_laid.specs.Bytes.{bytes_at, number_of}
 use Rattle.abi_laid.specs.Value.{Value, number, two, list, variant, state, bytes, Values, no_values, more_values}
+use Rattle.abi_laid.specs.declared.mark.Mark.{Mark}
 use Rattle.abi_laid.specs.Mark.{mark_of}
 use Rattle.abi_laid.specs.Placed.{Placed, Layout, Arms, layout_of, size_of, tagged}
 use Rattle.abi_laid.specs.Room.{has_room}
@@ -82,16 +83,16 @@ module _ (dl : TargetDataLayout) (w o : ℕ) (b : List ℕ) where
       number_of_fields size ts offsets ps later fit.3 fits.1 vs h.1
 
   -- and so does each variant
-  number_of_arm : (size w0 : ℕ) (all : Variants) (layouts : List (VariantLayout ℕ)) (variants : List (List Placed)) → EachHasNumberAt dl w o layouts (layouts_of variants) →
-      ArmsFit dl size 0 w0 all (arms_at layouts (discriminants_of all) variants) → VariantsFit dl all variants → (i : ℕ) (vs : Values) →
-      HoldArm dl.endian (arms_at layouts (discriminants_of all) variants) i b vs → number_of dl.endian (bytes_at b o w) < numbers_of w
-  number_of_arm size w0 all [] variants has fit fits i vs h = absurd h
-  number_of_arm size w0 no_variants (l ∷ layouts) variants has fit fits i vs h = absurd h
-  number_of_arm size w0 (more_variants d ts others) (l ∷ layouts) [] has fit fits i vs h = absurd h
-  number_of_arm size w0 (more_variants d ts others) (l ∷ layouts) (ps ∷ variants) has fit fits zero vs h =
+  number_of_arm : (whole : Layout) (mark : Mark) (first : ℕ) (size w0 : ℕ) (all : Variants) (layouts : List (VariantLayout ℕ)) (variants : List (List Placed)) → EachHasNumberAt dl w o layouts (layouts_of variants) →
+      ArmsFit dl size 0 w0 all (arms_at whole mark first layouts (discriminants_of all) variants) → VariantsFit dl all variants → (i : ℕ) (vs : Values) →
+      HoldArm dl.endian (arms_at whole mark first layouts (discriminants_of all) variants) i b vs → number_of dl.endian (bytes_at b o w) < numbers_of w
+  number_of_arm whole mark first size w0 all [] variants has fit fits i vs h = absurd h
+  number_of_arm whole mark first size w0 no_variants (l ∷ layouts) variants has fit fits i vs h = absurd h
+  number_of_arm whole mark first size w0 (more_variants d ts others) (l ∷ layouts) [] has fit fits i vs h = absurd h
+  number_of_arm whole mark first size w0 (more_variants d ts others) (l ∷ layouts) (ps ∷ variants) has fit fits zero vs h =
       number_of_fields size ts l.field_offsets ps has.0 fit.1 fits.0 vs h
-  number_of_arm size w0 (more_variants d ts others) (l ∷ layouts) (ps ∷ variants) has fit fits (suc i) vs h =
-      number_of_arm size w0 others layouts variants has.1 fit.3 fits.1 i vs h
+  number_of_arm whole mark first size w0 (more_variants d ts others) (l ∷ layouts) (ps ∷ variants) has fit fits (suc i) vs h =
+      number_of_arm whole mark (first + 1) size w0 others layouts variants has.1 fit.3 fits.1 i vs h
 
 -- what holds of each niche that there may be holds of the one there is
 pub some_niche : (o : Option Niche) (P : Niche → Type 0) → ((n : Niche) → o ≡ Some n → P n) → IfSome o P
@@ -114,7 +115,7 @@ module _ (dl : TargetDataLayout) (repr : ReprOptions) (all : Variants) (variants
     w = scalar_size dl told.tag
 
     abbrev arms : Arms
-    arms = arms_at told.layouts (discriminants_of all) variants
+    arms = arms_at layout (mark_of true repr) 0 told.layouts (discriminants_of all) variants
 
     abbrev placed : Placed
     placed = tagged layout (mark_of true repr) 0 (one_scalar dl told.tag) Direct arms
@@ -134,11 +135,11 @@ module _ (dl : TargetDataLayout) (repr : ReprOptions) (all : Variants) (variants
     tag_room = tag_inside variants told.layouts some told.apart
 
     room : has_room placed ≡ true
-    room = both_true (both_true (le-leb (0 + w) layout.size tag_room) refl) (arms_room dl layout.size all variants told.layouts (discriminants_of all) (apart_behind layout.size w variants told.layouts told.apart) fits)
+    room = both_true (both_true (le-leb (0 + w) layout.size tag_room) refl) (arms_room dl layout (mark_of true repr) 0 layout.size all variants told.layouts (discriminants_of all) (apart_behind layout.size w variants told.layouts told.apart) fits)
 
     listed : open_numbers arms ≡ inhabited_of (λ v. v) (layouts_of variants) (numbered_from 0 (discriminants_of all))
     listed =
-        open_as (layouts_of variants) layout.size 0 variants told.layouts (discriminants_of all) (apart_behind layout.size w variants told.layouts told.apart) (numbers_long dl all variants fits)
+        open_as layout (mark_of true repr) 0 (layouts_of variants) layout.size 0 variants told.layouts (discriminants_of all) (apart_behind layout.size w variants told.layouts told.apart) (numbers_long dl all variants fits)
         (λ j. let at : 0 + j ≡ j = omega arith in ap (variant_at (layouts_of variants)) at)
 
     have : HaveNumbers w told.tag arms
@@ -149,7 +150,7 @@ module _ (dl : TargetDataLayout) (repr : ReprOptions) (all : Variants) (variants
 
     module _ (locals : LocalsOfVariants dl all) where
       fit : ArmsFit dl layout.size 0 w all arms
-      fit = arms_fit dl layout.size w all variants told.layouts told.apart fits locals
+      fit = arms_fit dl layout (mark_of true repr) 0 layout.size w all variants told.layouts told.apart fits locals
 
       number_there : (b : List ℕ) (v : Value) → Holds dl.endian placed b v → IsNumberOf w told.tag (number_of dl.endian (bytes_at b 0 w))
       number_there b v h = tagged_number dl repr layout 0 told.tag all arms fit have b v h
@@ -160,7 +161,7 @@ module _ (dl : TargetDataLayout) (repr : ReprOptions) (all : Variants) (variants
       second_true value range o wide has b (variant i vs) h =
           let k : ℕ = primitive_size dl value in
           subst (λ r. IsIn k r (number_of dl.endian (bytes_at b o k))) (sym wide)
-          (in_full k (number_of dl.endian (bytes_at b o k)) (number_of_arm dl k o b layout.size w all told.layouts variants has fit fits i vs h.3))
+          (in_full k (number_of dl.endian (bytes_at b o k)) (number_of_arm dl k o b layout (mark_of true repr) 0 layout.size w all told.layouts variants has fit fits i vs h.3))
       second_true value range o wide has b (number n) h = absurd h
       second_true value range o wide has b (two n m) h = absurd h
       second_true value range o wide has b (list vs) h = absurd h
@@ -186,7 +187,7 @@ module _ (dl : TargetDataLayout) (repr : ReprOptions) (all : Variants) (variants
         padding = tagged_padding dl repr layout 0 told.tag all arms fit;
         view = view_by layout.backend_repr told.view told.filled;
         flag = flag_arms dl repr all layout 0 (one_scalar dl told.tag) Direct arms (list_all has_no_value (layouts_of variants)) flag
-            (arms_flag dl layout.size all variants told.layouts (apart_behind layout.size w variants told.layouts told.apart) fits locals);
+            (arms_flag dl layout (mark_of true repr) 0 layout.size all variants told.layouts (apart_behind layout.size w variants told.layouts told.apart) fits locals);
       }
 
     -- an enum that a tag tells apart keeps its values
@@ -196,6 +197,6 @@ module _ (dl : TargetDataLayout) (repr : ReprOptions) (all : Variants) (variants
       lawful = lawful;
       room = room;
       within = λ k place. within_room placed k room place;
-      common = λ locals. (tt, arms_common dl all variants told.layouts (discriminants_of all) fits locals);
-      untagged = λ locals. (tt, arms_untagged dl all variants told.layouts (discriminants_of all) fits locals);
+      common = λ locals. (tt, arms_common dl layout (mark_of true repr) 0 all variants told.layouts (discriminants_of all) fits locals);
+      untagged = λ locals. (tt, arms_untagged dl layout (mark_of true repr) 0 all variants told.layouts (discriminants_of all) fits locals);
     })

@@ -1,5 +1,5 @@
 -- How large an enum is, what its layout is, and when it is too large, from the calculator's answer.
-use Rattle.std.proofs.Common.{◌≡◌, ℕ, zero, suc, ◌<◌, ◌≤◌, List, [], ◌∷◌, map, length, true, None, arith, refl, sym, ap, subst, ◌∙◌, inl, inr, All, Result, Ok, Err, ⊎_elim}
+use Rattle.std.proofs.Common.{◌≡◌, ℕ, zero, suc, ◌+◌, ◌<◌, ◌≤◌, List, [], ◌∷◌, map, length, true, None, arith, refl, sym, ap, subst, ◌∙◌, inl, inr, All, Result, Ok, Err, ⊎_elim}
 use Rattle.std.specs.Prelude.{◌⊎◌, ⊤}
 use Rattle.std.proofs.lemmas.List.{length-map}
 use Rattle.std.proofs.lemmas.List.Elements.{All-head, All-tail, All-nil, All-cons}
@@ -37,6 +37,8 @@ use Rattle.abi_calc.specs.Least.{IsLeastSize}
 use Rattle.rustc_abi.specs.declared.error.LayError.{LayError}
 use Rattle.rustc_abi.specs.declared.error.LayError.TheVariants.{SizeOverflow}
 use Rattle.abi_laid.specs.Tree.{Variants, enum}
+use Rattle.abi_laid.specs.declared.mark.Mark.{Mark}
+use Rattle.abi_laid.specs.Mark.{mark_of}
 use Rattle.abi_laid.specs.Placed.{Placed, Layout, layout_of, size_of}
 use Rattle.rustc_abi.specs.Error.{lay_error}
 use Rattle.abi_laid.specs.Nodes.{parts_at}
@@ -62,15 +64,15 @@ apart_long size (o ∷ offsets) [] h = absurd h
 apart_long size [] (n ∷ sizes) h = absurd h
 apart_long size (o ∷ offsets) (n ∷ sizes) h = ap suc (apart_long size offsets sizes h.2)
 
-variants_back : (size : ℕ) (layouts : List (VariantLayout ℕ)) (numbers : List ℕ) (variants : List (List Placed)) → EachApart size variants layouts → length numbers ≡ length variants →
-    variants_of (arms_at layouts numbers variants) ≡ variants
-variants_back size [] numbers [] apart long = refl
-variants_back size [] numbers (ps ∷ variants) apart long = absurd apart
-variants_back size (l ∷ layouts) numbers [] apart long = absurd apart
-variants_back size (l ∷ layouts) [] (ps ∷ variants) apart long = absurd (omega (arith, long))
-variants_back size (l ∷ layouts) (n ∷ numbers) (ps ∷ variants) apart long =
+variants_back : (whole : Layout) (mark : Mark) (first : ℕ) (size : ℕ) (layouts : List (VariantLayout ℕ)) (numbers : List ℕ) (variants : List (List Placed)) → EachApart size variants layouts → length numbers ≡ length variants →
+    variants_of (arms_at whole mark first layouts numbers variants) ≡ variants
+variants_back whole mark first size [] numbers [] apart long = refl
+variants_back whole mark first size [] numbers (ps ∷ variants) apart long = absurd apart
+variants_back whole mark first size (l ∷ layouts) numbers [] apart long = absurd apart
+variants_back whole mark first size (l ∷ layouts) [] (ps ∷ variants) apart long = absurd (omega (arith, long))
+variants_back whole mark first size (l ∷ layouts) (n ∷ numbers) (ps ∷ variants) apart long =
     let here : fields_of (parts_at l.field_offsets ps) ≡ ps = fields_back l.field_offsets ps (omega (arith, apart_long size l.field_offsets (map size_of ps) apart.0 ∙ length-map ps size_of)) in
-    ap (λ qs. qs ∷ variants_of (arms_at layouts numbers variants)) here ∙ ap (λ rest. ps ∷ rest) (variants_back size layouts numbers variants apart.1 (omega (arith, long)))
+    ap (λ qs. qs ∷ variants_of (arms_at whole mark (first + 1) layouts numbers variants)) here ∙ ap (λ rest. ps ∷ rest) (variants_back whole mark (first + 1) size layouts numbers variants apart.1 (omega (arith, long)))
 
 -- an error that is told as that of a size is it
 pub size_error : (error : LayoutCalculatorError Placed) → SizeOverflow ≡ lay_error error → error ≡ calculator.SizeOverflow
@@ -208,7 +210,7 @@ module _ (dl : TargetDataLayout) (law : IsLawfulDataLayout dl) (repr : ReprOptio
   least_by all l (Single i) is h =
       subst (λ qs. IsLeastSize dl repr AlwaysSized (map layout_of qs) l.size) (sym (fields_back (listed_offsets l.fields) (variant_at variants i) (omega (arith, h.1)))) h.2
   least_by all l (Multiple tag encoding field layouts) is h =
-      subst (λ qs. IsEnumSized dl repr (discriminants_of all) qs l.size) (sym (variants_back l.size layouts numbers variants h.0 long)) (subst (λ ns. IsEnumSized dl repr ns variants l.size) is h.1)
+      subst (λ qs. IsEnumSized dl repr (discriminants_of all) qs l.size) (sym (variants_back l (mark_of true repr) 0 l.size layouts numbers variants h.0 long)) (subst (λ ns. IsEnumSized dl repr ns variants l.size) is h.1)
 
   -- and has the size that its variants allow
   pub enumed_least : (all : Variants) → numbers ≡ discriminants_of all → (l : Layout) → IsEnumed dl repr numbers variants (Ok l) → IsLeast dl (enum repr all) (placed_enum dl repr numbers variants l)

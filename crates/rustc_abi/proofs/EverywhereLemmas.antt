@@ -1,5 +1,5 @@
 -- What holds of each type that is laid out holds of each type in one.
-use Rattle.std.proofs.Common.{◌≡◌, ℕ, ◌*◌, ◌<◌, ◌≤◌, Bool, true, false, List, [], ◌∷◌, length, map, inl, inr, sym, ap, ◌∙◌, subst, arith, Ok, Err, zero, suc}
+use Rattle.std.proofs.Common.{◌≡◌, ℕ, ◌+◌, ◌*◌, ◌<◌, ◌≤◌, Bool, true, false, List, [], ◌∷◌, length, map, inl, inr, sym, ap, ◌∙◌, subst, arith, Ok, Err, zero, suc}
 use Rattle.std.specs.Prelude.{nat_lt, if◌then◌else◌}
 use Rattle.std.proofs.lemmas.List.{length-map}
 use Rattle.abi_base.specs.declared.data_layout.TargetDataLayout.{TargetDataLayout}
@@ -13,6 +13,8 @@ use Rattle.abi_calc.specs.Array.{elements_layout}
 use Rattle.abi_calc.specs.Enums.Path.{variant_at}
 use Rattle.abi_calc.specs.Simd.{simd_answer}
 use Rattle.abi_laid.specs.Tree.{Tree, scalar, pair, never, unit, array, vector, struct, union, enum, coroutine, Trees, no_trees, more_trees, Variants, no_variants, more_variants}
+use Rattle.abi_laid.specs.declared.mark.Mark.{Mark}
+use Rattle.abi_laid.specs.Mark.{mark_of}
 use Rattle.abi_laid.specs.Placed.{Placed, Layout, layout_of, size_of, elements, vector as placed_vector}
 use Rattle.abi_laid.specs.Nodes.{parts_at}
 use Rattle.rustc_abi.specs.Error.{named}
@@ -35,7 +37,7 @@ module _ (dl : TargetDataLayout) (P : Tree → Placed → Type 0) where
   -- from the fields of one variant that is left, or of each one beside a tag
   within_variants : (repr : ReprOptions) (all : Variants) (numbers : List ℕ) (variants : List (List Placed)) (l : Layout) (vs : LayoutVariants ℕ ℕ) → IsShaped dl repr numbers variants l vs
       → ((i : ℕ) (offsets : List ℕ) → i < length variants → length offsets ≡ length (variant_at variants i) → OfVariant dl P all i (parts_at offsets (variant_at variants i)))
-      → ((size : ℕ) (layouts : List (VariantLayout ℕ)) → EachApart size variants layouts → OfArms dl P all (arms_at layouts numbers variants))
+      → ((size : ℕ) (layouts : List (VariantLayout ℕ)) → EachApart size variants layouts → OfArms dl P all (arms_at l (mark_of true repr) 0 layouts numbers variants))
       → Within dl P (enum repr all) (placed_variants dl repr numbers variants l vs)
   within_variants repr all numbers variants l Empty h each_at each_arm = tt
   within_variants repr all numbers variants l (Single i) h each_at each_arm = each_at i (listed_offsets l.fields) h.0 h.1
@@ -72,7 +74,7 @@ module _ (dl : TargetDataLayout) (law : IsLawfulDataLayout dl) (P : Tree → Pla
         let shaped = enumed_shaped dl law repr (discriminants_of all) variants found.3 (numbers_for dl law all variants there) (variants_whole dl law all variants there) found.0 found.1 in
         subst (Within dl P (enum repr all)) found.2
         (within_variants dl P repr all (discriminants_of all) variants found.0 found.0.variants shaped (λ i offsets short e. of_variant all variants i offsets short e there)
-        (λ size layouts apart. of_arms all variants size layouts apart there))
+        (λ size layouts apart. of_arms found.0 (mark_of true repr) 0 all variants size layouts apart there))
     within (coroutine prefix locals states conflicts) p (inl f) = absurd (cc f.2)
     within (coroutine prefix locals states conflicts) p (inr (pres, before, inl f)) = absurd (cc f.2)
     within (coroutine prefix locals states conflicts) p (inr (pres, before, inr (ps, there, answer))) =
@@ -111,21 +113,21 @@ module _ (dl : TargetDataLayout) (law : IsLawfulDataLayout dl) (P : Tree → Pla
         (of_variant others rest i offsets (omega (arith, short, long)) (e ∙ ap (λ vs. length (variant_at vs (suc i))) (sym same)) later)
 
     -- and of each variant's
-    of_arms : (all : Variants) (variants : List (List Placed)) (size : ℕ) (layouts : List (VariantLayout ℕ)) → EachApart size variants layouts → VariantsLaying dl all (Ok variants) →
-        OfArms dl P all (arms_at layouts (discriminants_of all) variants)
-    of_arms no_variants variants size [] apart h = tt
-    of_arms no_variants [] size (l ∷ layouts) apart h = absurd apart
-    of_arms no_variants (ps ∷ variants) size (l ∷ layouts) apart h = tt
-    of_arms (more_variants d ts others) variants size layouts apart (inl f) = absurd (cc f.2)
-    of_arms (more_variants d ts others) variants size layouts apart (inr (ps, here, inl f)) = absurd (cc f.2)
-    of_arms (more_variants d ts others) [] size layouts apart (inr (ps, here, inr (rest, later, is))) = absurd (cc)
-    of_arms (more_variants d ts others) (qs ∷ variants) size [] apart (inr (ps, here, inr (rest, later, is))) = absurd apart
-    of_arms (more_variants d ts others) (qs ∷ variants) size (l ∷ layouts) apart (inr (ps, here, inr (rest, later, is))) =
+    of_arms : (whole : Layout) (mark : Mark) (from : ℕ) (all : Variants) (variants : List (List Placed)) (size : ℕ) (layouts : List (VariantLayout ℕ)) → EachApart size variants layouts → VariantsLaying dl all (Ok variants) →
+        OfArms dl P all (arms_at whole mark from layouts (discriminants_of all) variants)
+    of_arms whole mark from no_variants variants size [] apart h = tt
+    of_arms whole mark from no_variants [] size (l ∷ layouts) apart h = absurd apart
+    of_arms whole mark from no_variants (ps ∷ variants) size (l ∷ layouts) apart h = tt
+    of_arms whole mark from (more_variants d ts others) variants size layouts apart (inl f) = absurd (cc f.2)
+    of_arms whole mark from (more_variants d ts others) variants size layouts apart (inr (ps, here, inl f)) = absurd (cc f.2)
+    of_arms whole mark from (more_variants d ts others) [] size layouts apart (inr (ps, here, inr (rest, later, is))) = absurd (cc)
+    of_arms whole mark from (more_variants d ts others) (qs ∷ variants) size [] apart (inr (ps, here, inr (rest, later, is))) = absurd apart
+    of_arms whole mark from (more_variants d ts others) (qs ∷ variants) size (l ∷ layouts) apart (inr (ps, here, inr (rest, later, is))) =
         let first : ps ≡ qs = cc in
         let others_same : rest ≡ variants = cc in
         let count : length l.field_offsets ≡ length qs = apart_long size l.field_offsets (map size_of qs) apart.0 ∙ length-map qs size_of in (
           of_each ts qs l.field_offsets (omega (arith, count)) (subst (λ xs. AreLaying dl ts (Ok xs)) first here),
-          of_arms others variants size layouts apart.1 (subst (λ xs. VariantsLaying dl others (Ok xs)) others_same later),
+          of_arms whole mark (from + 1) others variants size layouts apart.1 (subst (λ xs. VariantsLaying dl others (Ok xs)) others_same later),
         )
 
 -- what holds of each type that is laid out holds of it and of each type in it

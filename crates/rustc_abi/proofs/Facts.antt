@@ -1,5 +1,5 @@
 -- Worked facts: the definitions, tried on small types in both directions.
-use Rattle.std.proofs.Common.{◌≡◌, ℕ, zero, suc, ◌-◌, ◌^◌, ◌≤◌, List, [], ◌∷◌, true, false, None, inl, inr, arith, refl}
+use Rattle.std.proofs.Common.{◌≡◌, ℕ, zero, suc, ◌-◌, ◌^◌, ◌≤◌, List, [], ◌∷◌, true, false, None, inl, inr, ap, arith, refl}
 use Rattle.abi_base.specs.declared.endian.Endian.{Endian}
 use Rattle.abi_base.specs.declared.endian.Endian.TheVariants.{Little, Big}
 use Rattle.abi_base.specs.declared.primitive.Primitive.TheVariants.{Int}
@@ -15,13 +15,15 @@ use Rattle.abi_scalar.specs.declared.variants.TagEncoding.TheVariants.{Direct, N
 use Rattle.abi_scalar.specs.declared.wrapping_range.WrappingRange.{WrappingRange}
 use Rattle.abi_scalar.specs.declared.backend_repr.BackendRepr.TheVariants.{Scalar as OneScalar}
 use Rattle.abi_scalar.specs.Range.{IsIn, full_range}
+use Rattle.abi_types.specs.Ty.Typed.{Marks, Typed, layout_in, marks_of, variant_in}
 use Rattle.abi_laid.specs.Tree.{Tree, never, struct, enum, coroutine, no_trees, more_trees, no_variants, more_variants, scalar as number_type}
 use Rattle.abi_laid.specs.Value.{Value, number, two, list, variant, state, bytes, no_values, more_values}
 use Rattle.abi_laid.specs.Bytes.{picked}
 use Rattle.abi_laid.specs.declared.mark.Mark.TheVariants.{Plain}
-use Rattle.abi_laid.specs.Placed.{Placed, Layout, layout_of, scalar, never as nowhere, fields, union, single, tagged, states, no_parts, part, no_arms, arm, nothing}
+use Rattle.abi_laid.specs.Placed.{Placed, Layout, layout_of, scalar, never as nowhere, fields, union, single, tagged, states, Parts, no_parts, part, Arms, no_arms, arm, nothing}
 use Rattle.abi_laid.specs.Places.{is_data_place}
 use Rattle.abi_laid.specs.Runs.{padding_of, unused_of}
+use Rattle.abi_laid.specs.Seen.{Sees}
 use Rattle.abi_laid.specs.Tag.{Names}
 use Rattle.abi_laid.specs.Holding.{Holds}
 use Rattle.abi_laid.specs.Faithful.{EachValueIsHeld, IsFlagTrue, IsViewTrue}
@@ -45,6 +47,10 @@ sized n = record {
   repr_c = false;
   randomization_seed = 0;
 }
+
+-- a variant or state with this number, by itself of so many bytes
+abbrev plain_arm : (code size : ℕ) → Parts → Arms → Arms
+plain_arm code n parts arms = arm code (sized n) Plain parts arms
 
 abbrev unsigned : Integer → Scalar
 unsigned integer = Initialized (Int integer false) (full_range (integer_size integer))
@@ -110,7 +116,8 @@ abbrev byte_each : Tree
 byte_each = enum plain_c (more_variants 0 (more_trees (number_type (unsigned I8)) no_trees) (more_variants 1 (more_trees (number_type (unsigned I8)) no_trees) no_variants))
 
 abbrev on_the_tag : Placed
-on_the_tag = tagged (sized 2) Plain 0 u8_placed Direct (arm 0 (part 0 u8_placed no_parts) (arm 1 (part 1 u8_placed no_parts) no_arms))
+on_the_tag =
+    tagged (sized 2) Plain 0 u8_placed Direct (plain_arm 0 1 (part 0 u8_placed no_parts) (plain_arm 1 2 (part 1 u8_placed no_parts) no_arms))
 
 abbrev one_in_first : Value
 one_in_first = variant 0 (more_values (number 1) no_values)
@@ -129,7 +136,7 @@ abbrev byte_beside : Tree
 byte_beside = coroutine (more_trees (number_type (unsigned I8)) no_trees) (more_trees (number_type (unsigned I8)) no_trees) ((0 ∷ []) ∷ []) []
 
 abbrev on_the_prefix : Placed
-on_the_prefix = states (sized 2) (part 0 u8_placed no_parts) 1 u8_placed (arm 0 (part 0 u8_placed no_parts) no_arms)
+on_the_prefix = states (sized 2) (part 0 u8_placed no_parts) 1 u8_placed (plain_arm 0 1 (part 0 u8_placed no_parts) no_arms)
 
 abbrev zero_beside_one : Value
 zero_beside_one = state 0 (more_values (number 0) no_values) (more_values (number 1) no_values)
@@ -145,7 +152,7 @@ prefix_matters held =
 -- ---- a variant that is missing: values come from the tree, so that one of the second variant is to be held, and no bytes hold it
 
 abbrev first_alone : Placed
-first_alone = tagged (sized 2) Plain 0 u8_placed Direct (arm 0 (part 1 u8_placed no_parts) no_arms)
+first_alone = tagged (sized 2) Plain 0 u8_placed Direct (plain_arm 0 2 (part 1 u8_placed no_parts) no_arms)
 
 abbrev one_in_second : Value
 one_in_second = variant 1 (more_values (number 1) no_values)
@@ -225,7 +232,8 @@ one_names_no_other (inr h) = absurd (omega (arith, h.0))
 -- is 255; 1 names the second variant, and 2 names none, so that bytes that begin with it hold nothing
 
 abbrev by_tag : Placed
-by_tag = tagged (sized 2) Plain 0 u8_placed Direct (arm (2 ^ 128 - 1) (part 1 u8_placed no_parts) (arm 1 no_parts no_arms))
+by_tag =
+    tagged (sized 2) Plain 0 u8_placed Direct (plain_arm (2 ^ 128 - 1) 2 (part 1 u8_placed no_parts) (plain_arm 1 1 no_parts no_arms))
 
 first_held_by_tag : Holds Little by_tag (255 ∷ 7 ∷ []) (variant 0 (more_values (number 7) no_values))
 first_held_by_tag = (refl, omega arith, (refl, refl), ((omega arith, (refl, refl, seven_is_in)), tt))
@@ -246,7 +254,7 @@ none_held_by_tag (bytes content) h = h
 -- ---- an enum by a niche: 2 holds the variant without fields, the numbers of the bool hold the other, and 3 holds neither
 
 abbrev by_niche : Placed
-by_niche = tagged (sized 1) Plain 0 u8_placed niche (arm 0 no_parts (arm 1 (part 0 bool_placed no_parts) no_arms))
+by_niche = tagged (sized 1) Plain 0 u8_placed niche (plain_arm 0 1 no_parts (plain_arm 1 1 (part 0 bool_placed no_parts) no_arms))
 
 first_held_by_niche : Holds Little by_niche (2 ∷ []) (variant 0 no_values)
 first_held_by_niche = (refl, omega arith, two_names_first, tt)
@@ -272,7 +280,7 @@ none_held_by_niche (bytes content) h = h
 
 -- ---- an untagged variant with a byte in the bool's place: where the byte is 2, it names the other variant
 
-byte_names_other : NamesItself Little 0 u8_placed niche (arm 0 no_parts (arm 1 (part 0 u8_placed no_parts) no_arms)) → ⊥
+byte_names_other : NamesItself Little 0 u8_placed niche (plain_arm 0 1 no_parts (plain_arm 1 1 (part 0 u8_placed no_parts) no_arms)) → ⊥
 byte_names_other h = two_names_no_other (h (2 ∷ []) (more_values (number 2) no_values) ((omega arith, (refl, refl, two_is_in_all)), tt))
 
 -- ---- an enum of which one variant is left: a bool's numbers hold it, and 2 holds nothing
@@ -317,7 +325,8 @@ field_missing h =
 -- ---- two states of a coroutine, whose locals share the byte after the tag
 
 abbrev two_states : Placed
-two_states = states (sized 2) no_parts 0 u8_placed (arm 0 (part 1 u8_placed no_parts) (arm 1 (part 1 bool_placed no_parts) no_arms))
+two_states =
+    states (sized 2) no_parts 0 u8_placed (plain_arm 0 2 (part 1 u8_placed no_parts) (plain_arm 1 2 (part 1 bool_placed no_parts) no_arms))
 
 first_state_held : Holds Little two_states (0 ∷ 7 ∷ []) (state 0 no_values (more_values (number 7) no_values))
 first_state_held = (refl, tt, omega arith, (refl, refl), ((omega arith, (refl, refl, seven_is_in)), tt))
@@ -328,6 +337,14 @@ second_state_held = (refl, tt, omega arith, (refl, refl), ((omega arith, (refl, 
 -- the byte 7 is no value of the second state's local
 no_second_state : (n : ℕ) → Holds Little two_states (1 ∷ 7 ∷ []) (state 1 no_values (more_values (number n) no_values)) → ⊥
 no_second_state n h = h.4.0.1.2.2 1 (omega (arith, h.4.0.1.1, h.4.0.1.2.1)) refl
+
+-- ---- what handles see of a state: it is not flagged as one without values, and isn't told as the type without a value
+
+state_is_not_flagged : (t : Typed) → Sees t two_states → (layout_in (variant_in t 1)).uninhabited ≡ false
+state_is_not_flagged t seen = ap (λ (l : Layout). l.uninhabited) seen.4.3.0.0
+
+state_is_not_never : (t : Typed) → Sees t two_states → (marks_of (variant_in t 1)).is_never ≡ false
+state_is_not_never t seen = ap (λ (m : Marks). m.is_never) seen.4.3.0.1
 
 -- ---- the range from 254 to 1 wraps round: it has 254, 255, 0 and 1
 
@@ -353,7 +370,8 @@ before_start h = h.2 3 (omega (arith, h.1)) refl
 
 abbrev two_variants : Placed
 two_variants =
-    tagged (sized 8) Plain 0 u8_placed Direct (arm 0 (part 1 u8_placed no_parts) (arm 1 (part 4 (scalar (sized 4) (unsigned I32)) no_parts) no_arms))
+    tagged (sized 8) Plain 0 u8_placed Direct
+    (plain_arm 0 2 (part 1 u8_placed no_parts) (plain_arm 1 8 (part 4 (scalar (sized 4) (unsigned I32)) no_parts) no_arms))
 
 padding_of_variants : padding_of two_variants ≡ (2, 2) ∷ []
 padding_of_variants = refl
@@ -377,7 +395,7 @@ struct_leaves = refl
 abbrev suspended : Placed
 suspended =
     states (sized 8) (part 0 u8_placed no_parts) 1 u8_placed
-    (arm 0 (part 2 u8_placed no_parts) (arm 1 (part 4 (scalar (sized 4) (unsigned I32)) no_parts) no_arms))
+    (plain_arm 0 3 (part 2 u8_placed no_parts) (plain_arm 1 8 (part 4 (scalar (sized 4) (unsigned I32)) no_parts) no_arms))
 
 padding_of_states : padding_of suspended ≡ (3, 1) ∷ []
 padding_of_states = refl

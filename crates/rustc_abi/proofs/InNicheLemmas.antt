@@ -35,7 +35,7 @@ use Rattle.rustc_abi.proofs.TaggedLemmas.{none_flagged}
 -- beside a niche of w bytes at the offset
 abbrev pub ArmsBeside : TargetDataLayout → (size offset w untagged from : ℕ) → Variants → Arms → Type 0
 ArmsBeside dl size offset w untagged from no_variants no_arms = ⊤
-ArmsBeside dl size offset w untagged from (more_variants d ts others) (arm n parts arms) =
+ArmsBeside dl size offset w untagged from (more_variants d ts others) (arm n layout mark parts arms) =
     (n ≡ d) × FitTogether dl size ts parts × ((from == untagged) ≡ false → LieBeside offset w parts)
     × ArmsBeside dl size offset w untagged (from + 1) others arms
 ArmsBeside dl size offset w untagged from _ _ = ⊥
@@ -43,8 +43,8 @@ ArmsBeside dl size offset w untagged from _ _ = ⊥
 -- there is an arm with this index
 abbrev pub IsThere : Arms → (index : ℕ) → Type 0
 IsThere no_arms i = ⊥
-IsThere (arm n parts arms) zero = ⊤
-IsThere (arm n parts arms) (suc i) = IsThere arms i
+IsThere (arm n layout mark parts arms) zero = ⊤
+IsThere (arm n layout mark parts arms) (suc i) = IsThere arms i
 
 -- each arm that isn't flagged is the untagged one or lies in the span
 abbrev pub AreSpanned : (untagged first last : ℕ) → Arms → Type 0
@@ -91,30 +91,30 @@ module _ (dl : TargetDataLayout) (size offset w untagged : ℕ) where
   arm_only : (from : ℕ) (all : Variants) (arms : Arms) → ArmsBeside dl size offset w untagged from all arms → (i : ℕ) (b : List ℕ) (vs : Values) → AreBytes b →
       HoldArm dl.endian arms i b vs → AreValuesOfVariant dl all i (parts_of_arm arms i) vs
   arm_only from no_variants no_arms fit i b vs are h = h
-  arm_only from no_variants (arm n parts arms) fit i b vs are h = absurd fit
+  arm_only from no_variants (arm n layout mark parts arms) fit i b vs are h = absurd fit
   arm_only from (more_variants d ts others) no_arms fit i b vs are h = absurd fit
-  arm_only from (more_variants d ts others) (arm n parts arms) fit zero b vs are h = only dl size ts parts fit.1 b vs are h
-  arm_only from (more_variants d ts others) (arm n parts arms) fit (suc i) b vs are h = arm_only (from + 1) others arms fit.3 i b vs are h
+  arm_only from (more_variants d ts others) (arm n layout mark parts arms) fit zero b vs are h = only dl size ts parts fit.1 b vs are h
+  arm_only from (more_variants d ts others) (arm n layout mark parts arms) fit (suc i) b vs are h = arm_only (from + 1) others arms fit.3 i b vs are h
 
   -- no bytes hold two lists of values of one arm
   arm_unique : (from : ℕ) (all : Variants) (arms : Arms) → ArmsBeside dl size offset w untagged from all arms → (i : ℕ) (b : List ℕ) (vs ws : Values) →
       HoldArm dl.endian arms i b vs → HoldArm dl.endian arms i b ws → vs ≡ ws
   arm_unique from no_variants no_arms fit i b vs ws h g = absurd h
-  arm_unique from no_variants (arm n parts arms) fit i b vs ws h g = absurd fit
+  arm_unique from no_variants (arm n layout mark parts arms) fit i b vs ws h g = absurd fit
   arm_unique from (more_variants d ts others) no_arms fit i b vs ws h g = absurd fit
-  arm_unique from (more_variants d ts others) (arm n parts arms) fit zero b vs ws h g = unique dl size ts parts fit.1 b vs ws h g
-  arm_unique from (more_variants d ts others) (arm n parts arms) fit (suc i) b vs ws h g = arm_unique (from + 1) others arms fit.3 i b vs ws h g
+  arm_unique from (more_variants d ts others) (arm n layout mark parts arms) fit zero b vs ws h g = unique dl size ts parts fit.1 b vs ws h g
+  arm_unique from (more_variants d ts others) (arm n layout mark parts arms) fit (suc i) b vs ws h g = arm_unique (from + 1) others arms fit.3 i b vs ws h g
 
   -- bytes that agree on the arms' data places hold the same values of an arm
   arm_padding : (from : ℕ) (all : Variants) (arms : Arms) → ArmsBeside dl size offset w untagged from all arms → (xs ys : List ℕ) → length xs ≡ length ys →
       ((k : ℕ) → is_place_of_arm arms k ≡ true → get_or xs k 0 ≡ get_or ys k 0) → (i : ℕ) (vs : Values) →
       HoldArm dl.endian arms i xs vs → HoldArm dl.endian arms i ys vs
   arm_padding from no_variants no_arms fit xs ys same agree i vs h = h
-  arm_padding from no_variants (arm n parts arms) fit xs ys same agree i vs h = absurd fit
+  arm_padding from no_variants (arm n layout mark parts arms) fit xs ys same agree i vs h = absurd fit
   arm_padding from (more_variants d ts others) no_arms fit xs ys same agree i vs h = absurd fit
-  arm_padding from (more_variants d ts others) (arm n parts arms) fit xs ys same agree zero vs h =
+  arm_padding from (more_variants d ts others) (arm n layout mark parts arms) fit xs ys same agree zero vs h =
       padding dl size ts parts fit.1 xs ys vs same (λ k place. agree k (ap (λ x. x || is_place_of_arm arms k) place)) h
-  arm_padding from (more_variants d ts others) (arm n parts arms) fit xs ys same agree (suc i) vs h =
+  arm_padding from (more_variants d ts others) (arm n layout mark parts arms) fit xs ys same agree (suc i) vs h =
       arm_padding (from + 1) others arms fit.3 xs ys same
       (λ k place. agree k (ap (λ x. is_place_of_part parts k || x) place ∙ or-true (is_place_of_part parts k))) i vs h
 
@@ -122,37 +122,37 @@ module _ (dl : TargetDataLayout) (size offset w untagged : ℕ) where
   arm_niche : (from : ℕ) (all : Variants) (arms : Arms) → ArmsBeside dl size offset w untagged from all arms → (n : Niche) (i : ℕ) → IsPartNiche (parts_of_arm arms i) n →
       (b : List ℕ) (vs : Values) → HoldArm dl.endian arms i b vs → IsIn (niche_size dl n) n.valid_range (tag_at dl.endian b n.offset (niche_size dl n))
   arm_niche from no_variants no_arms fit n i has b vs h = absurd h
-  arm_niche from no_variants (arm m parts arms) fit n i has b vs h = absurd fit
+  arm_niche from no_variants (arm m layout mark parts arms) fit n i has b vs h = absurd fit
   arm_niche from (more_variants d ts others) no_arms fit n i has b vs h = absurd fit
-  arm_niche from (more_variants d ts others) (arm m parts arms) fit n zero has b vs h = part_niche dl size ts parts fit.1 n has b vs h
-  arm_niche from (more_variants d ts others) (arm m parts arms) fit n (suc i) has b vs h = arm_niche (from + 1) others arms fit.3 n i has b vs h
+  arm_niche from (more_variants d ts others) (arm m layout mark parts arms) fit n zero has b vs h = part_niche dl size ts parts fit.1 n has b vs h
+  arm_niche from (more_variants d ts others) (arm m layout mark parts arms) fit n (suc i) has b vs h = arm_niche (from + 1) others arms fit.3 n i has b vs h
 
   -- a variant with values has an arm, which isn't flagged
   arm_open : (from : ℕ) (all : Variants) (arms : Arms) → ArmsBeside dl size offset w untagged from all arms → (i : ℕ) (vs : Values) →
       AreValuesOfVariant dl all i (parts_of_arm arms i) vs → IsThere arms i × (is_flagged (parts_of_arm arms i) ≡ false)
   arm_open from no_variants no_arms fit i vs h = absurd h
-  arm_open from no_variants (arm n parts arms) fit i vs h = absurd fit
+  arm_open from no_variants (arm n layout mark parts arms) fit i vs h = absurd fit
   arm_open from (more_variants d ts others) no_arms fit i vs h = absurd fit
-  arm_open from (more_variants d ts others) (arm n parts arms) fit zero vs h = (tt, none_flagged dl size ts parts fit.1 vs h)
-  arm_open from (more_variants d ts others) (arm n parts arms) fit (suc i) vs h = arm_open (from + 1) others arms fit.3 i vs h
+  arm_open from (more_variants d ts others) (arm n layout mark parts arms) fit zero vs h = (tt, none_flagged dl size ts parts fit.1 vs h)
+  arm_open from (more_variants d ts others) (arm n layout mark parts arms) fit (suc i) vs h = arm_open (from + 1) others arms fit.3 i vs h
 
   -- the values of a variant have bytes that hold them
   arm_exists : (from : ℕ) (all : Variants) (arms : Arms) → ArmsBeside dl size offset w untagged from all arms → (i : ℕ) (vs : Values) →
       AreValuesOfVariant dl all i (parts_of_arm arms i) vs → (b : List ℕ) × (length b ≡ size) × AreBytes b × HoldArm dl.endian arms i b vs
   arm_exists from no_variants no_arms fit i vs h = absurd h
-  arm_exists from no_variants (arm n parts arms) fit i vs h = absurd fit
+  arm_exists from no_variants (arm n layout mark parts arms) fit i vs h = absurd fit
   arm_exists from (more_variants d ts others) no_arms fit i vs h = absurd fit
-  arm_exists from (more_variants d ts others) (arm n parts arms) fit zero vs h = exist dl size ts parts fit.1 vs h
-  arm_exists from (more_variants d ts others) (arm n parts arms) fit (suc i) vs h = arm_exists (from + 1) others arms fit.3 i vs h
+  arm_exists from (more_variants d ts others) (arm n layout mark parts arms) fit zero vs h = exist dl size ts parts fit.1 vs h
+  arm_exists from (more_variants d ts others) (arm n layout mark parts arms) fit (suc i) vs h = arm_exists (from + 1) others arms fit.3 i vs h
 
   -- those of a variant other than the untagged one have such bytes with any number at the niche's place
   arm_exists_with : offset + w ≤ size → (m : ℕ) → m < numbers_of w → (from : ℕ) (all : Variants) (arms : Arms) → ArmsBeside dl size offset w untagged from all arms →
       (i : ℕ) → (from + i == untagged) ≡ false → (vs : Values) → AreValuesOfVariant dl all i (parts_of_arm arms i) vs →
       (b : List ℕ) × (length b ≡ size) × AreBytes b × (tag_at dl.endian b offset w ≡ m) × HoldArm dl.endian arms i b vs
   arm_exists_with inside m below from no_variants no_arms fit i other vs h = absurd h
-  arm_exists_with inside m below from no_variants (arm n parts arms) fit i other vs h = absurd fit
+  arm_exists_with inside m below from no_variants (arm n layout mark parts arms) fit i other vs h = absurd fit
   arm_exists_with inside m below from (more_variants d ts others) no_arms fit i other vs h = absurd fit
-  arm_exists_with inside m below from (more_variants d ts others) (arm n parts arms) fit zero other vs h =
+  arm_exists_with inside m below from (more_variants d ts others) (arm n layout mark parts arms) fit zero other vs h =
       let at : from + 0 ≡ from = omega arith in
       let beside : LieBeside offset w parts = fit.2 (subst (λ k. (k == untagged) ≡ false) at other) in
       let own : List ℕ = spelled_in dl.endian w m in
@@ -166,7 +166,7 @@ module _ (dl : TargetDataLayout) (size offset w untagged : ℕ) where
         ap (number_of dl.endian) here ∙ number_of-spelled_in dl.endian w m below,
         HoldParts-beside dl ts parts offset rest.0 own (subst (λ k. LieBeside offset k parts) (sym long) beside) fits vs rest.3,
       )
-  arm_exists_with inside m below from (more_variants d ts others) (arm n parts arms) fit (suc i) other vs h =
+  arm_exists_with inside m below from (more_variants d ts others) (arm n layout mark parts arms) fit (suc i) other vs h =
       let at : from + suc i ≡ from + 1 + i = omega arith in
       arm_exists_with inside m below (from + 1) others arms fit.3 i (subst (λ k. (k == untagged) ≡ false) at other) vs h
 

@@ -39,7 +39,7 @@ use Rattle.abi_calc.specs.Placement.{source_order}
 use Rattle.abi_calc.specs.Simd.{is_tight, lanes_answer, simd_align, simd_answer, simd_view, vector_layout}
 use Rattle.abi_calc.proofs.GoodLists.{good_list}
 use Rattle.abi_laid.specs.declared.mark.Mark.{Mark}
-use Rattle.abi_laid.specs.declared.mark.Mark.TheVariants.{Never, Unit}
+use Rattle.abi_laid.specs.declared.mark.Mark.TheVariants.{Never, Plain, Unit}
 use Rattle.rustc_abi.specs.declared.error.LayError.TheVariants.{SizeOverflow}
 use Rattle.abi_laid.specs.Mark.{mark_of}
 use Rattle.abi_laid.specs.Tree.{Tree, scalar, pair, never, unit, array, vector, struct, union, enum, coroutine, Trees, no_trees, more_trees, Variants, no_variants, more_variants}
@@ -98,10 +98,10 @@ pub record IsKept (dl : TargetDataLayout) (P : Placed → Type 0) : Type 0 where
       P (placed_union layout mark (parts_at_0 ps))
   pub of_tagged : (layout : Layout) (mark : Mark) (offset : ℕ) (tag : Scalar) (encoding : TagEncoding ℕ) (numbers : List ℕ) (layouts : List (VariantLayout ℕ)) (variants : List (List Placed)) →
       AreBeside layout (offset ∷ []) [] tag numbers layouts variants → IsTagWhole dl layout offset tag → All (All P) variants →
-      P (placed_tagged layout mark offset (one_scalar dl tag) encoding (arms_at layouts numbers variants))
+      P (placed_tagged layout mark offset (one_scalar dl tag) encoding (arms_at layout mark 0 layouts numbers variants))
   pub of_states : (layout : Layout) (offsets : List ℕ) (pres : List Placed) (tag : Scalar) (numbers : List ℕ) (layouts : List (VariantLayout ℕ)) (variants : List (List Placed)) →
       AreBeside layout offsets pres tag numbers layouts variants → IsNoScalar layout.backend_repr → All P pres → All (All P) variants →
-      P (placed_states layout (parts_at offsets pres) (get_or offsets (length pres) 0) (one_scalar dl tag) (arms_at layouts numbers variants))
+      P (placed_states layout (parts_at offsets pres) (get_or offsets (length pres) 0) (one_scalar dl tag) (arms_at layout Plain 0 layouts numbers variants))
 
 -- ---- lists
 
@@ -196,7 +196,7 @@ module _ (dl : TargetDataLayout) (law : IsLawfulDataLayout dl) (P : Placed → T
     kept_tagged : (l : Layout) → IsEnumed dl repr numbers variants (Ok l) → (offset field : ℕ) (tag : Scalar) (encoding : TagEncoding ℕ) (layouts : List (VariantLayout ℕ)) →
         l.fields ≡ Arbitrary (offset ∷ []) (field ∷ []) → l.variants ≡ Multiple tag encoding field layouts → IsTagWhole dl l offset tag → P (placed_enum dl repr numbers variants l)
     kept_tagged l enumed offset field tag encoding layouts place told view =
-        let made = λ (o : ℕ). placed_tagged l (mark_of true repr) o (one_scalar dl tag) encoding (arms_at layouts numbers variants) in
+        let made = λ (o : ℕ). placed_tagged l (mark_of true repr) o (one_scalar dl tag) encoding (arms_at l (mark_of true repr) 0 layouts numbers variants) in
         let same : placed_enum dl repr numbers variants l ≡ made offset =
         ap (placed_variants dl repr numbers variants l) told ∙ ap made (ap (λ shape. get_or (listed_offsets shape) 0 0) place) in
         subst P (sym same)

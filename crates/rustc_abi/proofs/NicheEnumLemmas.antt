@@ -25,6 +25,7 @@ use Rattle.abi_calc.specs.Apart.{AreApart}
 use Rattle.abi_calc.specs.Enums.Beside.{IsToldByNiche}
 use Rattle.rustc_abi.specs.Enums.{layouts_of, arms_at, discriminants_of}
 use Rattle.abi_laid.specs.Mark.{mark_of}
+use Rattle.abi_laid.specs.declared.mark.Mark.{Mark}
 use Rattle.abi_laid.specs.Placed.{parts_of_arm, Placed, layout_of, is_flagged, size_of, Layout, Arms, tagged}
 use Rattle.abi_laid.specs.Tree.{Variants, enum}
 use Rattle.rustc_abi.specs.Adding.{VariantsFit}
@@ -46,27 +47,27 @@ use Rattle.abi_laid.proofs.RoomLemmas.{within_room}
 use Rattle.rustc_abi.proofs.TagViewLemmas.{tag_niche_true, tag_niche_inside, tag_view_niche}
 
 -- an arm has the fields of its variant at the offsets of its layout: a niche of these is the arm's
-pub arm_niche_of : (size : ℕ) (layouts : List (VariantLayout ℕ)) (numbers : List ℕ) (variants : List (List Placed)) (i : ℕ) (variant : VariantLayout ℕ) (n : Niche) → EachApart size variants layouts →
+pub arm_niche_of : (whole : Layout) (mark : Mark) (first : ℕ) (size : ℕ) (layouts : List (VariantLayout ℕ)) (numbers : List ℕ) (variants : List (List Placed)) (i : ℕ) (variant : VariantLayout ℕ) (n : Niche) → EachApart size variants layouts →
     length numbers ≡ length variants → slice_get layouts i ≡ Some variant → IsNicheOfPart variant.field_offsets (variant_at (layouts_of variants) i) n →
-    IsPartNiche (parts_of_arm (arms_at layouts numbers variants) i) n
-arm_niche_of size [] numbers variants i variant n apart long there has = absurd (cc)
-arm_niche_of size (l ∷ layouts) numbers [] i variant n apart long there has = absurd apart
-arm_niche_of size (l ∷ layouts) [] (ps ∷ variants) i variant n apart long there has = absurd (omega (arith, long))
-arm_niche_of size (l ∷ layouts) (k ∷ numbers) (ps ∷ variants) zero variant n apart long there has =
+    IsPartNiche (parts_of_arm (arms_at whole mark first layouts numbers variants) i) n
+arm_niche_of whole mark first size [] numbers variants i variant n apart long there has = absurd (cc)
+arm_niche_of whole mark first size (l ∷ layouts) numbers [] i variant n apart long there has = absurd apart
+arm_niche_of whole mark first size (l ∷ layouts) [] (ps ∷ variants) i variant n apart long there has = absurd (omega (arith, long))
+arm_niche_of whole mark first size (l ∷ layouts) (k ∷ numbers) (ps ∷ variants) zero variant n apart long there has =
     let same : variant ≡ l = cc in
     part_of_list l.field_offsets ps n (subst (λ v. IsNicheOfPart v.field_offsets (map layout_of ps) n) same has)
-arm_niche_of size (l ∷ layouts) (k ∷ numbers) (ps ∷ variants) (suc i) variant n apart long there has =
-    arm_niche_of size layouts numbers variants i variant n apart.1 (omega (arith, long)) there has
+arm_niche_of whole mark first size (l ∷ layouts) (k ∷ numbers) (ps ∷ variants) (suc i) variant n apart long there has =
+    arm_niche_of whole mark (first + 1) size layouts numbers variants i variant n apart.1 (omega (arith, long)) there has
 
 -- an arm is flagged where its variant has a field without values; there are as many as there are variants
-pub arm_flagged : (size : ℕ) (layouts : List (VariantLayout ℕ)) (numbers : List ℕ) (variants : List (List Placed)) (i : ℕ) → EachApart size variants layouts → length numbers ≡ length variants →
-    IsThere (arms_at layouts numbers variants) i → (i < length variants) × (is_flagged (parts_of_arm (arms_at layouts numbers variants) i) ≡ has_no_value (variant_at (layouts_of variants) i))
-arm_flagged size [] numbers variants i apart long there = absurd there
-arm_flagged size (l ∷ layouts) numbers [] i apart long there = absurd apart
-arm_flagged size (l ∷ layouts) [] (ps ∷ variants) i apart long there = absurd there
-arm_flagged size (l ∷ layouts) (k ∷ numbers) (ps ∷ variants) zero apart long there = (omega arith, flagged_as size l.field_offsets ps apart.0)
-arm_flagged size (l ∷ layouts) (k ∷ numbers) (ps ∷ variants) (suc i) apart long there =
-    let rest = arm_flagged size layouts numbers variants i apart.1 (omega (arith, long)) there in (omega (arith, rest.0), rest.1)
+pub arm_flagged : (whole : Layout) (mark : Mark) (first : ℕ) (size : ℕ) (layouts : List (VariantLayout ℕ)) (numbers : List ℕ) (variants : List (List Placed)) (i : ℕ) → EachApart size variants layouts → length numbers ≡ length variants →
+    IsThere (arms_at whole mark first layouts numbers variants) i → (i < length variants) × (is_flagged (parts_of_arm (arms_at whole mark first layouts numbers variants) i) ≡ has_no_value (variant_at (layouts_of variants) i))
+arm_flagged whole mark first size [] numbers variants i apart long there = absurd there
+arm_flagged whole mark first size (l ∷ layouts) numbers [] i apart long there = absurd apart
+arm_flagged whole mark first size (l ∷ layouts) [] (ps ∷ variants) i apart long there = absurd there
+arm_flagged whole mark first size (l ∷ layouts) (k ∷ numbers) (ps ∷ variants) zero apart long there = (omega arith, flagged_as size l.field_offsets ps apart.0)
+arm_flagged whole mark first size (l ∷ layouts) (k ∷ numbers) (ps ∷ variants) (suc i) apart long there =
+    let rest = arm_flagged whole mark (first + 1) size layouts numbers variants i apart.1 (omega (arith, long)) there in (omega (arith, rest.0), rest.1)
 
 -- the niche of a field lies inside the whole
 niche_of_fields : (dl : TargetDataLayout) (size : ℕ) (offsets : List ℕ) (ps : List Placed) (n : Niche) → IsNicheOfPart offsets (map layout_of ps) n → AreApart size offsets (map size_of ps) →
@@ -110,7 +111,7 @@ module _ (dl : TargetDataLayout) (repr : ReprOptions) (all : Variants) (variants
   w = niche_size dl told.niche
 
   abbrev arms : Arms
-  arms = arms_at told.layouts (discriminants_of all) variants
+  arms = arms_at layout (mark_of true repr) 0 told.layouts (discriminants_of all) variants
 
   abbrev tag : Placed
   tag = one_scalar dl told.tag
@@ -137,22 +138,22 @@ module _ (dl : TargetDataLayout) (repr : ReprOptions) (all : Variants) (variants
   inside = niche_of_arm dl layout.size told.layouts variants told.untagged told.variant told.niche each (VariantsFit-lawful dl all variants fits) told.own told.niche_of
 
   room : has_room placed ≡ true
-  room = both_true (both_true (le-leb (told.niche.offset + size_of tag) layout.size (omega (arith, wide, inside))) refl) (arms_room dl layout.size all variants told.layouts (discriminants_of all) each fits)
+  room = both_true (both_true (le-leb (told.niche.offset + size_of tag) layout.size (omega (arith, wide, inside))) refl) (arms_room dl layout (mark_of true repr) 0 layout.size all variants told.layouts (discriminants_of all) each fits)
 
   spanned : AreSpanned told.untagged told.span.start told.span.last arms
   spanned i there other clear =
-      let at = arm_flagged layout.size told.layouts (discriminants_of all) variants i each long there in
+      let at = arm_flagged layout (mark_of true repr) 0 layout.size told.layouts (discriminants_of all) variants i each long there in
       let short : i < length (layouts_of variants) = omega (arith, at.0, length-map variants (map layout_of)) in
       let none : has_no_value (variant_at (layouts_of variants) i) ≡ false = sym at.1 ∙ clear in
       told.numbers.span i short (unequal i told.untagged (i == told.untagged) refl other) (ap (λ b. b && list_all takes_no_room (variant_at (layouts_of variants) i)) none)
 
   own : IsPartNiche (parts_of_arm arms told.untagged) told.niche
-  own = arm_niche_of layout.size told.layouts (discriminants_of all) variants told.untagged told.variant told.niche each long told.own told.niche_of
+  own = arm_niche_of layout (mark_of true repr) 0 layout.size told.layouts (discriminants_of all) variants told.untagged told.variant told.niche each long told.own told.niche_of
 
   module _ (locals : LocalsOfVariants dl all) where
     fit : ArmsBeside dl layout.size told.niche.offset w told.untagged 0 all arms
     fit = subst (λ k. ArmsBeside dl layout.size told.niche.offset k told.untagged 0 all arms) wide
-        (arms_beside dl layout.size told.niche.offset (scalar_size dl told.tag) told.untagged 0 all variants told.layouts told.apart fits locals)
+        (arms_beside dl layout (mark_of true repr) 0 layout.size told.niche.offset (scalar_size dl told.tag) told.untagged 0 all variants told.layouts told.apart fits locals)
 
     number_there : (b : List ℕ) (v : Value) → Holds dl.endian placed b v → IsNumberOf (scalar_size dl told.tag) told.tag (number_of dl.endian (bytes_at b told.niche.offset (scalar_size dl told.tag)))
     number_there b v h =
@@ -170,14 +171,14 @@ module _ (dl : TargetDataLayout) (repr : ReprOptions) (all : Variants) (variants
       padding = in_niche_padding dl repr layout told.niche tag told.untagged told.span.start told.span.last told.start all arms wide fit (λ j below. lt-ltb j (size_of tag) below);
       view = λ b v h. tag_view_niche dl told.tag told.niche.offset b (number_there b v h) layout.backend_repr told.view;
       flag = flag_arms dl repr all layout told.niche.offset tag (InNiche told.untagged (record { start = told.span.start; last = told.span.last }) told.start) arms
-          (list_all has_no_value (layouts_of variants)) flag (arms_flag dl layout.size all variants told.layouts each fits locals);
+          (list_all has_no_value (layouts_of variants)) flag (arms_flag dl layout (mark_of true repr) 0 layout.size all variants told.layouts each fits locals);
     }
 
     -- its untagged variant names itself, and so do those in its fields
     untagged_named : UntaggedNamed dl.endian placed
     untagged_named = (
       names_itself dl repr layout told.niche tag told.untagged told.span.start told.span.last told.start all arms wide fit (range_of dl told.tag) own told.numbers.handed,
-      arms_untagged dl all variants told.layouts (discriminants_of all) fits locals,
+      arms_untagged dl layout (mark_of true repr) 0 all variants told.layouts (discriminants_of all) fits locals,
     )
 
   -- an enum that a niche tells apart keeps its values
@@ -187,6 +188,6 @@ module _ (dl : TargetDataLayout) (repr : ReprOptions) (all : Variants) (variants
     lawful = lawful;
     room = room;
     within = λ k place. within_room placed k room place;
-    common = λ locals. (tt, arms_common dl all variants told.layouts (discriminants_of all) fits locals);
+    common = λ locals. (tt, arms_common dl layout (mark_of true repr) 0 all variants told.layouts (discriminants_of all) fits locals);
     untagged = untagged_named;
   })

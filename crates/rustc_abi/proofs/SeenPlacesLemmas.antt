@@ -32,6 +32,7 @@ use Rattle.abi_types.specs.Ty.Typed.{Typed, typed, no_type, field_in, layout_in,
 use Rattle.abi_types.specs.Ty.Places.{covers_element, fields_cover, is_place, is_shared_place, is_unused, variants_cover}
 use Rattle.abi_laid.specs.declared.laid.Laid.{Laid}
 use Rattle.abi_laid.specs.declared.mark.Mark.{Mark}
+use Rattle.abi_laid.specs.declared.mark.Mark.TheVariants.{Plain}
 use Rattle.abi_laid.specs.Tree.{Tree}
 use Rattle.abi_laid.specs.Placed.{Placed, Layout, Arms, layout_of, scalar, pair, never, elements, vector, fields, union, single, tagged, states, parts_of_arm, size_of}
 use Rattle.abi_laid.specs.Places.{is_data_place, is_place_of_arm, is_place_of_part}
@@ -162,33 +163,33 @@ variant_places : (t : Typed) (size : ℕ) (offsets : List ℕ) (ps : List Placed
     SeesParts t 0 (parts_at offsets ps) → (k : ℕ) → is_place t k ≡ is_place_of_part (parts_at offsets ps) k
 variant_places t size offsets ps inside tell list seen k = list_places t offsets ps (lengths_in size offsets (map size_of ps) inside ∙ length-map ps size_of) tell list seen k
 
-arms_cover : (t : Typed) (k i size : ℕ) (numbers : List ℕ) (layouts : List (VariantLayout ℕ)) (variants : List (List Placed)) → length numbers ≡ length variants → VariantsInside size layouts variants →
-    All (All TellsPlaces) variants → SeesArms t i (arms_at layouts numbers variants) →
-    list_any (λ v. is_place (variant_in t v) k) (range_with_len i (length layouts)) ≡ is_place_of_arm (arms_at layouts numbers variants) k
-arms_cover t k i size numbers [] variants long inside tell seen = refl
-arms_cover t k i size numbers (l ∷ layouts) [] long inside tell seen = absurd inside
-arms_cover t k i size [] (l ∷ layouts) (ps ∷ variants) long inside tell seen = absurd (omega arith)
-arms_cover t k i size (n ∷ numbers) (l ∷ layouts) (ps ∷ variants) long inside tell seen =
+arms_cover : (whole : Layout) (mark : Mark) (t : Typed) (k i size : ℕ) (numbers : List ℕ) (layouts : List (VariantLayout ℕ)) (variants : List (List Placed)) → length numbers ≡ length variants → VariantsInside size layouts variants →
+    All (All TellsPlaces) variants → SeesArms t i (arms_at whole mark i layouts numbers variants) →
+    list_any (λ v. is_place (variant_in t v) k) (range_with_len i (length layouts)) ≡ is_place_of_arm (arms_at whole mark i layouts numbers variants) k
+arms_cover whole mark t k i size numbers [] variants long inside tell seen = refl
+arms_cover whole mark t k i size numbers (l ∷ layouts) [] long inside tell seen = absurd inside
+arms_cover whole mark t k i size [] (l ∷ layouts) (ps ∷ variants) long inside tell seen = absurd (omega arith)
+arms_cover whole mark t k i size (n ∷ numbers) (l ∷ layouts) (ps ∷ variants) long inside tell seen =
     let next : suc i ≡ i + 1 = omega arith in
-    let here = variant_places (variant_in t i) l.size l.field_offsets ps inside.1 (All-head (All TellsPlaces) ps variants tell) seen.0 seen.1 k in
+    let here = variant_places (variant_in t i) l.size l.field_offsets ps inside.1 (All-head (All TellsPlaces) ps variants tell) seen.1 seen.2 k in
     let later =
-    arms_cover t k (i + 1) size numbers layouts variants (omega arith) inside.2 (All-tail (All TellsPlaces) ps variants tell) (subst (λ j. SeesArms t j (arms_at layouts numbers variants)) next seen.2) in
+    arms_cover whole mark t k (i + 1) size numbers layouts variants (omega arith) inside.2 (All-tail (All TellsPlaces) ps variants tell) (subst (λ j. SeesArms t j (arms_at whole mark (i + 1) layouts numbers variants)) next seen.3) in
     ap (λ b. b || list_any (λ v. is_place (variant_in t v) k) (range_with_len (i + 1) (length layouts))) here ∙ ap (λ b. is_place_of_part (parts_at l.field_offsets ps) k || b) later
 
-arm_cover : (t : Typed) (k i size : ℕ) (numbers : List ℕ) (layouts : List (VariantLayout ℕ)) (variants : List (List Placed)) → length numbers ≡ length variants → VariantsInside size layouts variants →
-    All (All TellsPlaces) variants → SeesArms t i (arms_at layouts numbers variants) → (j : ℕ) → j < length layouts →
-    is_place (variant_in t (i + j)) k ≡ is_place_of_part (parts_of_arm (arms_at layouts numbers variants) j) k
-arm_cover t k i size numbers [] variants long inside tell seen j lt = absurd (omega arith)
-arm_cover t k i size numbers (l ∷ layouts) [] long inside tell seen j lt = absurd inside
-arm_cover t k i size [] (l ∷ layouts) (ps ∷ variants) long inside tell seen j lt = absurd (omega arith)
-arm_cover t k i size (n ∷ numbers) (l ∷ layouts) (ps ∷ variants) long inside tell seen zero lt =
+arm_cover : (whole : Layout) (mark : Mark) (t : Typed) (k i size : ℕ) (numbers : List ℕ) (layouts : List (VariantLayout ℕ)) (variants : List (List Placed)) → length numbers ≡ length variants → VariantsInside size layouts variants →
+    All (All TellsPlaces) variants → SeesArms t i (arms_at whole mark i layouts numbers variants) → (j : ℕ) → j < length layouts →
+    is_place (variant_in t (i + j)) k ≡ is_place_of_part (parts_of_arm (arms_at whole mark i layouts numbers variants) j) k
+arm_cover whole mark t k i size numbers [] variants long inside tell seen j lt = absurd (omega arith)
+arm_cover whole mark t k i size numbers (l ∷ layouts) [] long inside tell seen j lt = absurd inside
+arm_cover whole mark t k i size [] (l ∷ layouts) (ps ∷ variants) long inside tell seen j lt = absurd (omega arith)
+arm_cover whole mark t k i size (n ∷ numbers) (l ∷ layouts) (ps ∷ variants) long inside tell seen zero lt =
     let same : i + 0 ≡ i = omega arith in
-    ap (λ v. is_place (variant_in t v) k) same ∙ variant_places (variant_in t i) l.size l.field_offsets ps inside.1 (All-head (All TellsPlaces) ps variants tell) seen.0 seen.1 k
-arm_cover t k i size (n ∷ numbers) (l ∷ layouts) (ps ∷ variants) long inside tell seen (suc j) lt =
+    ap (λ v. is_place (variant_in t v) k) same ∙ variant_places (variant_in t i) l.size l.field_offsets ps inside.1 (All-head (All TellsPlaces) ps variants tell) seen.1 seen.2 k
+arm_cover whole mark t k i size (n ∷ numbers) (l ∷ layouts) (ps ∷ variants) long inside tell seen (suc j) lt =
     let next : suc i ≡ i + 1 = omega arith in
     let same : i + suc j ≡ i + 1 + j = omega arith in
     ap (λ v. is_place (variant_in t v) k) same
-    ∙ arm_cover t k (i + 1) size numbers layouts variants (omega arith) inside.2 (All-tail (All TellsPlaces) ps variants tell) (subst (λ j. SeesArms t j (arms_at layouts numbers variants)) next seen.2) j (omega arith)
+    ∙ arm_cover whole mark t k (i + 1) size numbers layouts variants (omega arith) inside.2 (All-tail (All TellsPlaces) ps variants tell) (subst (λ j. SeesArms t j (arms_at whole mark (i + 1) layouts numbers variants)) next seen.3) j (omega arith)
 
 -- ---- what a tag tells
 
@@ -208,10 +209,10 @@ scalar_places : (dl : TargetDataLayout) (s : Scalar) → TellsPlaces (one_scalar
 scalar_places dl s t seen k =
     place_alone t k (ap (λ (l : Layout). variants_of l.variants) seen.0) ∙ shared_as t k Primitive (ap (λ (l : Layout). l.fields) seen.0) ∙ ap (λ (l : Layout). nat_lt k l.size) seen.0
 
-module _ (layout : Layout) (offsets : List ℕ) (pres : List Placed) (tag : Placed) (mark : Scalar) (numbers : List ℕ) (layouts : List (VariantLayout ℕ)) (variants : List (List Placed))
+module _ (layout : Layout) (kind : Mark) (offsets : List ℕ) (pres : List Placed) (tag : Placed) (mark : Scalar) (numbers : List ℕ) (layouts : List (VariantLayout ℕ)) (variants : List (List Placed))
     (beside : AreBeside layout offsets pres mark numbers layouts variants) (tells : TellsPlaces tag) (own : All TellsPlaces pres) (each : All (All TellsPlaces) variants)
     (t : Typed) (same : layout_in t ≡ layout) (front : SeesParts t 0 (parts_at offsets pres)) (offset : ℕ) (at : HasOffset t (length pres) offset) (seen : Sees (field_in t (length pres)) tag)
-    (held : SeesArms t 0 (arms_at layouts numbers variants)) where
+    (held : SeesArms t 0 (arms_at layout kind 0 layouts numbers variants)) where
   shape : (layout_in t).fields ≡ Arbitrary offsets beside.order
   shape = ap (λ (l : Layout). l.fields) same ∙ beside.shape
 
@@ -224,27 +225,27 @@ module _ (layout : Layout) (offsets : List ℕ) (pres : List Placed) (tag : Plac
       ∙ ap (λ b. b || covers_at t k (length pres)) (parts_cover t k 0 offsets pres (omega (arith, beside.count)) own front)
       ∙ ap (λ b. is_place_of_part (parts_at offsets pres) k || b) (covers_seen t k (length pres) offset tag tells at seen)
 
-  beside_places : (k : ℕ) → is_place t k ≡ (is_place_of_part (parts_at offsets pres) k || ((nat_le offset k && is_data_place tag (k - offset)) || is_place_of_arm (arms_at layouts numbers variants) k))
+  beside_places : (k : ℕ) → is_place t k ≡ (is_place_of_part (parts_at offsets pres) k || ((nat_le offset k && is_data_place tag (k - offset)) || is_place_of_arm (arms_at layout kind 0 layouts numbers variants) k))
   beside_places k =
       place_by t k ∙ ap (λ b. b || variants_cover (layout_in t).variants (λ v. is_place (variant_in t v)) k) (beside_shared k)
       ∙ ap (λ b. (is_place_of_part (parts_at offsets pres) k || (nat_le offset k && is_data_place tag (k - offset))) || b)
-      (ap (λ (vs : Variants ℕ ℕ). variants_cover vs (λ v. is_place (variant_in t v)) k) told ∙ arms_cover t k 0 layout.size numbers layouts variants beside.numbered beside.inside each held)
-      ∙ or_assoc (is_place_of_part (parts_at offsets pres) k) (nat_le offset k && is_data_place tag (k - offset)) (is_place_of_arm (arms_at layouts numbers variants) k)
+      (ap (λ (vs : Variants ℕ ℕ). variants_cover vs (λ v. is_place (variant_in t v)) k) told ∙ arms_cover layout kind t k 0 layout.size numbers layouts variants beside.numbered beside.inside each held)
+      ∙ or_assoc (is_place_of_part (parts_at offsets pres) k) (nat_le offset k && is_data_place tag (k - offset)) (is_place_of_arm (arms_at layout kind 0 layouts numbers variants) k)
 
   beside_unused : (i k : ℕ) → IsVariantIndex layout.variants i →
       is_unused t i k
-      ≡ ((is_place_of_part (parts_at offsets pres) k || ((nat_le offset k && is_data_place tag (k - offset)) || is_place_of_arm (arms_at layouts numbers variants) k))
-      && not (is_place_of_part (parts_at offsets pres) k || ((nat_le offset k && is_data_place tag (k - offset)) || is_place_of_part (parts_of_arm (arms_at layouts numbers variants) i) k)))
+      ≡ ((is_place_of_part (parts_at offsets pres) k || ((nat_le offset k && is_data_place tag (k - offset)) || is_place_of_arm (arms_at layout kind 0 layouts numbers variants) k))
+      && not (is_place_of_part (parts_at offsets pres) k || ((nat_le offset k && is_data_place tag (k - offset)) || is_place_of_part (parts_of_arm (arms_at layout kind 0 layouts numbers variants) i) k)))
   beside_unused i k index =
       let lt : i < length layouts = subst (λ vs. IsVariantIndex vs i) beside.told index in
       let first : 0 + i ≡ i = omega arith in
-      let arm = ap (λ v. is_place (variant_in t v) k) (sym first) ∙ arm_cover t k 0 layout.size numbers layouts variants beside.numbered beside.inside each held i lt in
+      let arm = ap (λ v. is_place (variant_in t v) k) (sym first) ∙ arm_cover layout kind t k 0 layout.size numbers layouts variants beside.numbered beside.inside each held i lt in
       several_unused t i k mark beside.encoding beside.field layouts told
       ∙ ap (λ b. b && not (is_shared_place t k || is_place (variant_in t i) k)) (beside_places k)
-      ∙ ap (λ b. (is_place_of_part (parts_at offsets pres) k || ((nat_le offset k && is_data_place tag (k - offset)) || is_place_of_arm (arms_at layouts numbers variants) k)) && not b)
+      ∙ ap (λ b. (is_place_of_part (parts_at offsets pres) k || ((nat_le offset k && is_data_place tag (k - offset)) || is_place_of_arm (arms_at layout kind 0 layouts numbers variants) k)) && not b)
       (ap (λ b. b || is_place (variant_in t i) k) (beside_shared k)
       ∙ ap (λ b. (is_place_of_part (parts_at offsets pres) k || (nat_le offset k && is_data_place tag (k - offset))) || b) arm
-      ∙ or_assoc (is_place_of_part (parts_at offsets pres) k) (nat_le offset k && is_data_place tag (k - offset)) (is_place_of_part (parts_of_arm (arms_at layouts numbers variants) i) k))
+      ∙ or_assoc (is_place_of_part (parts_at offsets pres) k) (nat_le offset k && is_data_place tag (k - offset)) (is_place_of_part (parts_of_arm (arms_at layout kind 0 layouts numbers variants) i) k))
 
 -- an element
 element_by : (view : BackendRepr) (t : Typed) (q : Placed) (j : ℕ) → (layout_in t).backend_repr ≡ view → layout_in t ≡ layout_of q → IsTold q → Sees t q → ((s : Scalar) → view ≡ OneScalar s → j < size_of q) →
@@ -362,33 +363,33 @@ module _ (dl : TargetDataLayout) (law : IsLawfulDataLayout dl) where
 
   told_tagged : (layout : Layout) (mark : Mark) (offset : ℕ) (tag : Scalar) (encoding : TagEncoding ℕ) (numbers : List ℕ) (layouts : List (VariantLayout ℕ)) (variants : List (List Placed)) →
       AreBeside layout (offset ∷ []) [] tag numbers layouts variants → IsTagWhole dl layout offset tag → All (All IsTold) variants →
-      IsTold (tagged layout mark offset (one_scalar dl tag) encoding (arms_at layouts numbers variants))
+      IsTold (tagged layout mark offset (one_scalar dl tag) encoding (arms_at layout mark 0 layouts numbers variants))
   told_tagged layout mark offset tag encoding numbers layouts variants beside whole own =
-      let arms : Arms = arms_at layouts numbers variants in
+      let arms : Arms = arms_at layout mark 0 layouts numbers variants in
       record {
         covered = λ s e k lt.
             let view = whole s e in
             or_left (nat_le offset k && is_data_place (one_scalar dl tag) (k - offset)) (is_place_of_arm arms k)
             (both_true (le-leb offset k (omega (arith, view.0))) (lt-ltb (k - offset) (scalar_size dl tag) (omega (arith, lt, view.0, view.1))));
         places = λ t seen.
-            beside_places layout (offset ∷ []) [] (one_scalar dl tag) tag numbers layouts variants beside (scalar_places dl tag) (All-nil TellsPlaces) (each_tell variants own) t seen.0.0 tt offset seen.1 seen.2 seen.3;
+            beside_places layout mark (offset ∷ []) [] (one_scalar dl tag) tag numbers layouts variants beside (scalar_places dl tag) (All-nil TellsPlaces) (each_tell variants own) t seen.0.0 tt offset seen.1 seen.2 seen.3;
         unused = λ t seen.
-            beside_unused layout (offset ∷ []) [] (one_scalar dl tag) tag numbers layouts variants beside (scalar_places dl tag) (All-nil TellsPlaces) (each_tell variants own) t seen.0.0 tt offset seen.1 seen.2 seen.3;
+            beside_unused layout mark (offset ∷ []) [] (one_scalar dl tag) tag numbers layouts variants beside (scalar_places dl tag) (All-nil TellsPlaces) (each_tell variants own) t seen.0.0 tt offset seen.1 seen.2 seen.3;
       }
 
   told_states : (layout : Layout) (offsets : List ℕ) (pres : List Placed) (tag : Scalar) (numbers : List ℕ) (layouts : List (VariantLayout ℕ)) (variants : List (List Placed)) →
       AreBeside layout offsets pres tag numbers layouts variants → IsNoScalar layout.backend_repr → All IsTold pres → All (All IsTold) variants →
-      IsTold (states layout (parts_at offsets pres) (get_or offsets (length pres) 0) (one_scalar dl tag) (arms_at layouts numbers variants))
+      IsTold (states layout (parts_at offsets pres) (get_or offsets (length pres) 0) (one_scalar dl tag) (arms_at layout Plain 0 layouts numbers variants))
   told_states layout offsets pres tag numbers layouts variants beside none front own =
       let offset : ℕ = get_or offsets (length pres) 0 in
       let last : last_of layout ≡ length pres = let count : field_count layout.fields ≡ length offsets = ap field_count beside.shape in omega (arith, count, beside.count) in
       record {
         covered = λ s e. absurd (none s e);
         places = λ t seen.
-            beside_places layout offsets pres (one_scalar dl tag) tag numbers layouts variants beside (scalar_places dl tag) (all_tell pres front) (each_tell variants own) t seen.0.0 seen.1 offset
+            beside_places layout Plain offsets pres (one_scalar dl tag) tag numbers layouts variants beside (scalar_places dl tag) (all_tell pres front) (each_tell variants own) t seen.0.0 seen.1 offset
             (subst (λ n. HasOffset t n offset) last seen.2) (subst (λ n. Sees (field_in t n) (one_scalar dl tag)) last seen.3) seen.4;
         unused = λ t seen.
-            beside_unused layout offsets pres (one_scalar dl tag) tag numbers layouts variants beside (scalar_places dl tag) (all_tell pres front) (each_tell variants own) t seen.0.0 seen.1 offset
+            beside_unused layout Plain offsets pres (one_scalar dl tag) tag numbers layouts variants beside (scalar_places dl tag) (all_tell pres front) (each_tell variants own) t seen.0.0 seen.1 offset
             (subst (λ n. HasOffset t n offset) last seen.2) (subst (λ n. Sees (field_in t n) (one_scalar dl tag)) last seen.3) seen.4;
       }
 

@@ -72,7 +72,7 @@ AreBeside (part o placed parts) others = LieBeside o (size_of placed) others × 
 -- tag of w bytes at the offset and beside the prefix fields
 abbrev pub StateArmsFit : TargetDataLayout → (size offset w : ℕ) → (prefix : Parts) → (locals : Trees) → (from : ℕ) → List (List ℕ) → Arms → Type 0
 StateArmsFit dl size offset w prefix locals from [] no_arms = ⊤
-StateArmsFit dl size offset w prefix locals from (ks ∷ more) (arm n parts arms) =
+StateArmsFit dl size offset w prefix locals from (ks ∷ more) (arm n layout mark parts arms) =
     (n ≡ from) × FitTogether dl size (picked_trees locals ks) parts × LieBeside offset w parts × AreBeside prefix parts
     × StateArmsFit dl size offset w prefix locals (from + 1) more arms
 StateArmsFit dl size offset w prefix locals from _ _ = ⊥
@@ -95,9 +95,9 @@ module _ (dl : TargetDataLayout) (size offset w : ℕ) (prefix : Parts) (locals 
   pub states_numbers : (from : ℕ) (all : List (List ℕ)) (arms : Arms) → StateArmsFit dl size offset w prefix locals from all arms →
       ((i : ℕ) → i < length all → IsNumberOf w tag (from + i)) → HaveNumbers w tag arms
   states_numbers from [] no_arms fit numbers = tt
-  states_numbers from [] (arm n parts arms) fit numbers = absurd fit
+  states_numbers from [] (arm n layout mark parts arms) fit numbers = absurd fit
   states_numbers from (ks ∷ all) no_arms fit numbers = absurd fit
-  states_numbers from (ks ∷ all) (arm n parts arms) fit numbers =
+  states_numbers from (ks ∷ all) (arm n layout mark parts arms) fit numbers =
       let at : from + 0 ≡ n = omega (arith, fit.0) in
       let own : IsNumberOf w tag n = subst (IsNumberOf w tag) at (numbers 0 (omega arith)) in (
         λ clear. subst (IsNumberOf w tag) (sym (mod-eq_of_lt (number_within w tag n own))) own,
@@ -108,9 +108,9 @@ module _ (dl : TargetDataLayout) (size offset w : ℕ) (prefix : Parts) (locals 
   -- an earlier number is no arm's
   earlier : (k from : ℕ) (all : List (List ℕ)) (arms : Arms) → StateArmsFit dl size offset w prefix locals from all arms → from + length all ≤ numbers_of w → k < from → IsNoNumber w k arms
   earlier k from [] no_arms fit few before = tt
-  earlier k from [] (arm n parts arms) fit few before = absurd fit
+  earlier k from [] (arm n layout mark parts arms) fit few before = absurd fit
   earlier k from (ks ∷ all) no_arms fit few before = absurd fit
-  earlier k from (ks ∷ all) (arm n parts arms) fit few before =
+  earlier k from (ks ∷ all) (arm n layout mark parts arms) fit few before =
       let own : n < numbers_of w = omega (arith, few, fit.0) in
       let cut : n % numbers_of w ≡ n = mod-eq_of_lt own in
       (λ clear same. omega (arith, same, cut, fit.0, before), earlier k (from + 1) all arms fit.4 (omega (arith, few)) (omega (arith, before)))
@@ -118,9 +118,9 @@ module _ (dl : TargetDataLayout) (size offset w : ℕ) (prefix : Parts) (locals 
   -- no two states have one number
   pub states_differ : (from : ℕ) (all : List (List ℕ)) (arms : Arms) → StateArmsFit dl size offset w prefix locals from all arms → from + length all ≤ numbers_of w → NumbersDiffer w arms
   states_differ from [] no_arms fit few = tt
-  states_differ from [] (arm n parts arms) fit few = absurd fit
+  states_differ from [] (arm n layout mark parts arms) fit few = absurd fit
   states_differ from (ks ∷ all) no_arms fit few = absurd fit
-  states_differ from (ks ∷ all) (arm n parts arms) fit few =
+  states_differ from (ks ∷ all) (arm n layout mark parts arms) fit few =
       let own : n < numbers_of w = omega (arith, few, fit.0) in
       let cut : n % numbers_of w ≡ n = mod-eq_of_lt own in (
         λ clear. earlier (n % numbers_of w) (from + 1) all arms fit.4 (omega (arith, few)) (omega (arith, cut, fit.0)),
@@ -139,11 +139,11 @@ module _ (dl : TargetDataLayout) (size offset w : ℕ) (prefix : Parts) (locals 
   pub state_only : (from : ℕ) (all : List (List ℕ)) (arms : Arms) → StateArmsFit dl size offset w prefix locals from all arms → (i : ℕ) (b : List ℕ) (vs : Values) → AreBytes b →
       HoldArm dl.endian arms i b vs → (i < length all) × EachAt (IsValueAt dl locals) (get_or all i []) (parts_of_arm arms i) vs
   state_only from [] no_arms fit i b vs are h = absurd h
-  state_only from [] (arm n parts arms) fit i b vs are h = absurd fit
+  state_only from [] (arm n layout mark parts arms) fit i b vs are h = absurd fit
   state_only from (ks ∷ all) no_arms fit i b vs are h = absurd fit
-  state_only from (ks ∷ all) (arm n parts arms) fit zero b vs are h =
+  state_only from (ks ∷ all) (arm n layout mark parts arms) fit zero b vs are h =
       (omega arith, values_each dl locals ks parts vs (only dl size (picked_trees locals ks) parts fit.1 b vs are h))
-  state_only from (ks ∷ all) (arm n parts arms) fit (suc i) b vs are h =
+  state_only from (ks ∷ all) (arm n layout mark parts arms) fit (suc i) b vs are h =
       let rest = state_only (from + 1) all arms fit.4 i b vs are h in
       (omega (arith, rest.0), rest.1)
 
@@ -151,21 +151,21 @@ module _ (dl : TargetDataLayout) (size offset w : ℕ) (prefix : Parts) (locals 
   pub state_unique : (from : ℕ) (all : List (List ℕ)) (arms : Arms) → StateArmsFit dl size offset w prefix locals from all arms → (i : ℕ) (b : List ℕ) (vs ws : Values) →
       HoldArm dl.endian arms i b vs → HoldArm dl.endian arms i b ws → vs ≡ ws
   state_unique from [] no_arms fit i b vs ws h g = absurd h
-  state_unique from [] (arm n parts arms) fit i b vs ws h g = absurd fit
+  state_unique from [] (arm n layout mark parts arms) fit i b vs ws h g = absurd fit
   state_unique from (ks ∷ all) no_arms fit i b vs ws h g = absurd fit
-  state_unique from (ks ∷ all) (arm n parts arms) fit zero b vs ws h g = unique dl size (picked_trees locals ks) parts fit.1 b vs ws h g
-  state_unique from (ks ∷ all) (arm n parts arms) fit (suc i) b vs ws h g = state_unique (from + 1) all arms fit.4 i b vs ws h g
+  state_unique from (ks ∷ all) (arm n layout mark parts arms) fit zero b vs ws h g = unique dl size (picked_trees locals ks) parts fit.1 b vs ws h g
+  state_unique from (ks ∷ all) (arm n layout mark parts arms) fit (suc i) b vs ws h g = state_unique (from + 1) all arms fit.4 i b vs ws h g
 
   -- bytes that agree on the arms' data places hold the same values of an arm
   pub state_padding : (from : ℕ) (all : List (List ℕ)) (arms : Arms) → StateArmsFit dl size offset w prefix locals from all arms → (xs ys : List ℕ) → length xs ≡ length ys →
       ((k : ℕ) → is_place_of_arm arms k ≡ true → get_or xs k 0 ≡ get_or ys k 0) → (i : ℕ) (vs : Values) →
       HoldArm dl.endian arms i xs vs → HoldArm dl.endian arms i ys vs
   state_padding from [] no_arms fit xs ys same agree i vs h = absurd h
-  state_padding from [] (arm n parts arms) fit xs ys same agree i vs h = absurd fit
+  state_padding from [] (arm n layout mark parts arms) fit xs ys same agree i vs h = absurd fit
   state_padding from (ks ∷ all) no_arms fit xs ys same agree i vs h = absurd fit
-  state_padding from (ks ∷ all) (arm n parts arms) fit xs ys same agree zero vs h =
+  state_padding from (ks ∷ all) (arm n layout mark parts arms) fit xs ys same agree zero vs h =
       padding dl size (picked_trees locals ks) parts fit.1 xs ys vs same (λ k place. agree k (ap (λ x. x || is_place_of_arm arms k) place)) h
-  state_padding from (ks ∷ all) (arm n parts arms) fit xs ys same agree (suc i) vs h =
+  state_padding from (ks ∷ all) (arm n layout mark parts arms) fit xs ys same agree (suc i) vs h =
       state_padding (from + 1) all arms fit.4 xs ys same
       (λ k place. agree k (ap (λ x. is_place_of_part parts k || x) place ∙ or-true (is_place_of_part parts k))) i vs h
 
@@ -222,9 +222,9 @@ module _ (dl : TargetDataLayout) (size offset w : ℕ) (prefix_trees : Trees) (p
       AreValuesOf dl prefix_trees prefix ps → (i : ℕ) (vs : Values) → i < length all → EachAt (IsValueAt dl locals) (get_or all i []) (parts_of_arm arms i) vs →
       InState dl size offset w prefix arms i ps vs
   in_state from [] no_arms fit few ps has i vs below h = absurd (omega (arith, below))
-  in_state from [] (arm n parts arms) fit few ps has i vs below h = absurd fit
+  in_state from [] (arm n layout mark parts arms) fit few ps has i vs below h = absurd fit
   in_state from (ks ∷ all) no_arms fit few ps has i vs below h = absurd fit
-  in_state from (ks ∷ all) (arm n parts arms) fit few ps has zero vs below h =
+  in_state from (ks ∷ all) (arm n layout mark parts arms) fit few ps has zero vs below h =
       let values : AreValuesOf dl (picked_trees locals ks) parts vs = values_picked dl locals ks parts vs h in
       let start = exist dl size (picked_trees locals ks) parts fit.1 vs values in
       let full : Filled dl size prefix parts ps vs = fill dl size prefix_trees prefix first ps has (picked_trees locals ks) parts fit.3 vs start.0 start.1 start.2 start.3 in
@@ -242,6 +242,6 @@ module _ (dl : TargetDataLayout) (size offset w : ℕ) (prefix_trees : Trees) (p
         named = (none_flagged dl size (picked_trees locals ks) parts fit.1 vs values, mod-eq_of_lt few_here ∙ sym told);
         own = HoldParts-beside dl (picked_trees locals ks) parts offset full.content tag (subst (λ k. LieBeside offset k parts) (sym wide) fit.2) fits vs full.kept;
       }
-  in_state from (ks ∷ all) (arm n parts arms) fit few ps has (suc i) vs below h =
+  in_state from (ks ∷ all) (arm n layout mark parts arms) fit few ps has (suc i) vs below h =
       let rest : InState dl size offset w prefix arms i ps vs = in_state (from + 1) all arms fit.4 (omega (arith, few)) ps has i vs (omega (arith, below)) h in
       record { content = rest.content; long = rest.long; are = rest.are; held = rest.held; named = rest.named; own = rest.own }

@@ -158,16 +158,16 @@ IsPut-states old one two new t i tag prefix all sizes arms layout first middle l
 pub states_told : (layout : Layout) (pres : List Placed) (prefix : List ℕ) (tag : Placed) (layouts : List (VariantLayout ℕ)) (ps : List Placed) (all : List (Vec ℕ Global)) →
     length pres ≡ length prefix →
     states layout (parts_at (listed_offsets layout.fields) pres) (state_tag_offset layout (length prefix)) tag
-    (arms_at layouts (source_order (length all)) (map (λ ks. map (placed_in ps) ks.items) all))
+    (arms_at layout Plain 0 layouts (source_order (length all)) (map (λ ks. map (placed_in ps) ks.items) all))
     ≡ states layout (parts_at (listed_offsets layout.fields) pres) (get_or (listed_offsets layout.fields) (length pres) 0) tag
-    (arms_at layouts (source_order (length (map (λ ks. ks.items) all))) (map (picked_types ps) (map (λ ks. ks.items) all)))
+    (arms_at layout Plain 0 layouts (source_order (length (map (λ ks. ks.items) all))) (map (picked_types ps) (map (λ ks. ks.items) all)))
 states_told layout pres prefix tag layouts ps all same =
     let first : Parts = parts_at (listed_offsets layout.fields) pres in
     let many : length (map (λ ks. ks.items) all) ≡ length all = length-map all (λ ks. ks.items) in
     let types : map (picked_types ps) (map (λ ks. ks.items) all) ≡ map (λ ks. map (placed_in ps) ks.items) all = map-map (picked_types ps) (λ ks. ks.items) all in
-    ap (λ n. states layout first (state_tag_offset layout n) tag (arms_at layouts (source_order (length all)) (map (λ ks. map (placed_in ps) ks.items) all))) (sym same)
-    ∙ ap (λ n. states layout first (state_tag_offset layout (length pres)) tag (arms_at layouts (source_order n) (map (λ ks. map (placed_in ps) ks.items) all))) (sym many)
-    ∙ ap (λ vs. states layout first (state_tag_offset layout (length pres)) tag (arms_at layouts (source_order (length (map (λ ks. ks.items) all))) vs)) (sym types)
+    ap (λ n. states layout first (state_tag_offset layout n) tag (arms_at layout Plain 0 layouts (source_order (length all)) (map (λ ks. map (placed_in ps) ks.items) all))) (sym same)
+    ∙ ap (λ n. states layout first (state_tag_offset layout (length pres)) tag (arms_at layout Plain 0 layouts (source_order n) (map (λ ks. map (placed_in ps) ks.items) all))) (sym many)
+    ∙ ap (λ vs. states layout first (state_tag_offset layout (length pres)) tag (arms_at layout Plain 0 layouts (source_order (length (map (λ ks. ks.items) all))) vs)) (sym types)
 
 -- a node for a coroutine names earlier ones
 pub states_before : (old one two : List Node) (t n : ℕ) (tag : Placed) (prefix : Vec ℕ Global) (all : Vec (ℕ × ℕ) Global) (sizes : List ℕ) (arms : Arms) → IsPut old one t tag → n ≡ length two →

@@ -6,9 +6,11 @@ use Rattle.std.specs.Cmp.Derive.{both_true}
 use Rattle.std.proofs.lemmas.List.Elements.{All-head, All-tail}
 use Rattle.abi_base.specs.declared.data_layout.TargetDataLayout.{TargetDataLayout}
 use Rattle.abi_scalar.specs.declared.variants.VariantLayout.{VariantLayout}
+use Rattle.abi_scalar.specs.Variant.{variant_layout}
 use Rattle.abi_calc.specs.Apart.{AreApart, IsBeside}
 use Rattle.abi_laid.specs.Tree.{Trees, no_trees, more_trees}
-use Rattle.abi_laid.specs.Placed.{Placed, Arms, no_arms, arm, size_of}
+use Rattle.abi_laid.specs.declared.mark.Mark.TheVariants.{Plain}
+use Rattle.abi_laid.specs.Placed.{Placed, Layout, Arms, no_arms, arm, size_of}
 use Rattle.abi_laid.specs.Values.{LocalsHaveValues, LocalsOfEach}
 use Rattle.abi_laid.specs.Room.{arms_have_room}
 use Rattle.abi_laid.specs.Fits.{Fits}
@@ -27,17 +29,20 @@ use Rattle.rustc_abi.proofs.StateArmsLemmas.{AreBeside, StateArmsFit, picked_tre
 abbrev pub picked_types : List Placed → (indices : List ℕ) → List Placed
 picked_types ps ks = map (placed_in ps) ks
 
--- states beside a tag: each has its index, counted from the first one's on, and its locals at the offsets of its layout
-abbrev pub state_arms : List (VariantLayout ℕ) → (locals : List Placed) → (from : ℕ) → List (List ℕ) → Arms
-state_arms (l ∷ layouts) ps from (ks ∷ all) = arm from (parts_at l.field_offsets (picked_types ps ks)) (state_arms layouts ps (from + 1) all)
-state_arms _ ps from _ = no_arms
+-- states beside a tag: each has its index, counted from the first one's on, the layout that it has as a type of its own, and its locals
+-- at the offsets of its layout
+abbrev pub state_arms : (whole : Layout) → List (VariantLayout ℕ) → (locals : List Placed) → (from : ℕ) → List (List ℕ) → Arms
+state_arms whole (l ∷ layouts) ps from (ks ∷ all) =
+    arm from (variant_layout whole from l) Plain (parts_at l.field_offsets (picked_types ps ks)) (state_arms whole layouts ps (from + 1) all)
+state_arms whole _ ps from _ = no_arms
 
 -- they are the variants with the indices as numbers
-pub state_arms_at : (layouts : List (VariantLayout ℕ)) (ps : List Placed) (from : ℕ) (all : List (List ℕ)) →
-    arms_at layouts (range_with_len from (length all)) (map (picked_types ps) all) ≡ state_arms layouts ps from all
-state_arms_at [] ps from all = refl
-state_arms_at (l ∷ layouts) ps from [] = refl
-state_arms_at (l ∷ layouts) ps from (ks ∷ all) = ap (arm from (parts_at l.field_offsets (picked_types ps ks))) (state_arms_at layouts ps (from + 1) all)
+pub state_arms_at : (whole : Layout) (layouts : List (VariantLayout ℕ)) (ps : List Placed) (from : ℕ) (all : List (List ℕ)) →
+    arms_at whole Plain from layouts (range_with_len from (length all)) (map (picked_types ps) all) ≡ state_arms whole layouts ps from all
+state_arms_at whole [] ps from all = refl
+state_arms_at whole (l ∷ layouts) ps from [] = refl
+state_arms_at whole (l ∷ layouts) ps from (ks ∷ all) =
+    ap (arm from (variant_layout whole from l) Plain (parts_at l.field_offsets (picked_types ps ks))) (state_arms_at whole layouts ps (from + 1) all)
 
 -- the shared fields and the locals of each state share no byte and end inside the size
 abbrev pub EachStateApart : (size : ℕ) → (offsets sizes : List ℕ) → (locals : List Placed) → List (List ℕ) → List (VariantLayout ℕ) → Type 0
@@ -130,7 +135,7 @@ module _ (dl : TargetDataLayout) where
   locals_picked ts [] locals = tt
   locals_picked ts (k ∷ ks) locals = (locals_of ts k locals, locals_picked ts ks locals)
 
-  module _ (size o w : ℕ) (starts : List ℕ) (pres : List Placed) (same : length starts ≡ length pres) (ts : Trees) (ps : List Placed) (fits : EachFits dl ts ps) where
+  module _ (whole : Layout) (size o w : ℕ) (starts : List ℕ) (pres : List Placed) (same : length starts ≡ length pres) (ts : Trees) (ps : List Placed) (fits : EachFits dl ts ps) where
     abbrev Apart : List (List ℕ) → List (VariantLayout ℕ) → Type 0
     Apart all layouts = EachStateApart size (starts ++ o ∷ []) (map size_of pres ++ w ∷ []) ps all layouts
 
@@ -139,7 +144,7 @@ module _ (dl : TargetDataLayout) where
 
     -- locals that lie apart fit together, beside the tag and the prefix fields
     pub state_arms_fit : (from : ℕ) (all : List (List ℕ)) (layouts : List (VariantLayout ℕ)) → Apart all layouts → Known all → LocalsOfEach dl ts →
-        StateArmsFit dl size o w (parts_at starts pres) ts from all (state_arms layouts ps from all)
+        StateArmsFit dl size o w (parts_at starts pres) ts from all (state_arms whole layouts ps from all)
     state_arms_fit from [] [] apart known locals = tt
     state_arms_fit from [] (l ∷ layouts) apart known locals = absurd apart
     state_arms_fit from (ks ∷ all) [] apart known locals = absurd apart
@@ -155,7 +160,7 @@ module _ (dl : TargetDataLayout) where
         )
 
     -- each local of each state ends inside the size
-    pub state_arms_room : (from : ℕ) (all : List (List ℕ)) (layouts : List (VariantLayout ℕ)) → Apart all layouts → Known all → arms_have_room size (state_arms layouts ps from all) ≡ true
+    pub state_arms_room : (from : ℕ) (all : List (List ℕ)) (layouts : List (VariantLayout ℕ)) → Apart all layouts → Known all → arms_have_room size (state_arms whole layouts ps from all) ≡ true
     state_arms_room from [] [] apart known = refl
     state_arms_room from [] (l ∷ layouts) apart known = absurd apart
     state_arms_room from (ks ∷ all) [] apart known = absurd apart
@@ -168,7 +173,7 @@ module _ (dl : TargetDataLayout) where
 
     -- what each local keeps in its unions
     pub state_arms_common : (from : ℕ) (all : List (List ℕ)) (layouts : List (VariantLayout ℕ)) → Known all → LocalsOfEach dl ts →
-        InUnionsOfArms (IsCommon dl.endian) (state_arms layouts ps from all)
+        InUnionsOfArms (IsCommon dl.endian) (state_arms whole layouts ps from all)
     state_arms_common from [] [] known locals = tt
     state_arms_common from [] (l ∷ layouts) known locals = tt
     state_arms_common from (ks ∷ all) [] known locals = tt
@@ -179,7 +184,7 @@ module _ (dl : TargetDataLayout) where
 
     -- the untagged variants in each local name themselves
     pub state_arms_untagged : (from : ℕ) (all : List (List ℕ)) (layouts : List (VariantLayout ℕ)) → Known all → LocalsOfEach dl ts →
-        UntaggedNamedOfArms dl.endian (state_arms layouts ps from all)
+        UntaggedNamedOfArms dl.endian (state_arms whole layouts ps from all)
     state_arms_untagged from [] [] known locals = tt
     state_arms_untagged from [] (l ∷ layouts) known locals = tt
     state_arms_untagged from (ks ∷ all) [] known locals = tt

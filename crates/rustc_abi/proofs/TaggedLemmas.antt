@@ -31,29 +31,29 @@ use Rattle.rustc_abi.proofs.PartsLemmas.{LieBeside, FitTogether, HoldParts-besid
 -- each arm has its variant's number and fields, which fit together, beside a tag of w bytes at the offset
 abbrev pub ArmsFit : TargetDataLayout → (size offset w : ℕ) → Variants → Arms → Type 0
 ArmsFit dl size offset w no_variants no_arms = ⊤
-ArmsFit dl size offset w (more_variants d ts others) (arm n parts arms) =
+ArmsFit dl size offset w (more_variants d ts others) (arm n layout mark parts arms) =
     (n ≡ d) × FitTogether dl size ts parts × LieBeside offset w parts × ArmsFit dl size offset w others arms
 ArmsFit dl size offset w _ _ = ⊥
 
 -- the number of each arm that isn't flagged, cut to w bytes, is one of the tag's
 abbrev pub HaveNumbers : (w : ℕ) → Scalar → Arms → Type 0
 HaveNumbers w tag no_arms = ⊤
-HaveNumbers w tag (arm n parts arms) = (is_flagged parts ≡ false → IsNumberOf w tag (n % numbers_of w)) × HaveNumbers w tag arms
+HaveNumbers w tag (arm n layout mark parts arms) = (is_flagged parts ≡ false → IsNumberOf w tag (n % numbers_of w)) × HaveNumbers w tag arms
 
 -- k isn't the number of an arm, cut to w bytes, unless that is flagged
 abbrev pub IsNoNumber : (w k : ℕ) → Arms → Type 0
 IsNoNumber w k no_arms = ⊤
-IsNoNumber w k (arm n parts arms) = (is_flagged parts ≡ false → k ≢ n % numbers_of w) × IsNoNumber w k arms
+IsNoNumber w k (arm n layout mark parts arms) = (is_flagged parts ≡ false → k ≢ n % numbers_of w) × IsNoNumber w k arms
 
 -- the numbers of two arms that aren't flagged differ, cut to w bytes
 abbrev pub NumbersDiffer : (w : ℕ) → Arms → Type 0
 NumbersDiffer w no_arms = ⊤
-NumbersDiffer w (arm n parts arms) = (is_flagged parts ≡ false → IsNoNumber w (n % numbers_of w) arms) × NumbersDiffer w arms
+NumbersDiffer w (arm n layout mark parts arms) = (is_flagged parts ≡ false → IsNoNumber w (n % numbers_of w) arms) × NumbersDiffer w arms
 
 -- the numbers of the arms that aren't flagged
 abbrev pub open_numbers : Arms → List ℕ
 open_numbers no_arms = []
-open_numbers (arm n parts arms) = if is_flagged parts then open_numbers arms else n ∷ open_numbers arms
+open_numbers (arm n layout mark parts arms) = if is_flagged parts then open_numbers arms else n ∷ open_numbers arms
 
 -- what holds of the numbers that are listed holds of the first, where it is listed, and of the others
 split : (flag : Bool) (n : ℕ) (xs : List ℕ) (P : ℕ → Type 0) → All P (if flag then xs else n ∷ xs) → ((flag ≡ false → P n) × All P xs)
@@ -63,14 +63,14 @@ split false n xs P h = (λ e. All-head P n xs h, All-tail P n xs h)
 -- the arms have numbers of the tag where the listed numbers are such
 pub have_numbers : (w : ℕ) (tag : Scalar) (arms : Arms) → All (λ n. IsNumberOf w tag (n % numbers_of w)) (open_numbers arms) → HaveNumbers w tag arms
 have_numbers w tag no_arms h = tt
-have_numbers w tag (arm n parts arms) h =
+have_numbers w tag (arm n layout mark parts arms) h =
     let both = split (is_flagged parts) n (open_numbers arms) (λ m. IsNumberOf w tag (m % numbers_of w)) h in
     (both.0, have_numbers w tag arms both.1)
 
 -- a number that is none of those listed is no arm's
 no_number : (w k : ℕ) (arms : Arms) → All (λ n. k ≢ n % numbers_of w) (open_numbers arms) → IsNoNumber w k arms
 no_number w k no_arms h = tt
-no_number w k (arm n parts arms) h =
+no_number w k (arm n layout mark parts arms) h =
     let both = split (is_flagged parts) n (open_numbers arms) (λ m. k ≢ m % numbers_of w) h in
     (both.0, no_number w k arms both.1)
 
@@ -86,31 +86,31 @@ split_pairs false n xs R h = (
 -- the arms' numbers differ where the listed ones do
 pub numbers_differ : (w : ℕ) (arms : Arms) → AllPairs (λ n m. n % numbers_of w ≢ m % numbers_of w) (open_numbers arms) → NumbersDiffer w arms
 numbers_differ w no_arms h = tt
-numbers_differ w (arm n parts arms) h =
+numbers_differ w (arm n layout mark parts arms) h =
     let both = split_pairs (is_flagged parts) n (open_numbers arms) (λ a b. a % numbers_of w ≢ b % numbers_of w) h in
     (λ clear. no_number w (n % numbers_of w) arms (both.0 clear), numbers_differ w arms both.1)
 
 -- a number that no arm has names none
 names_none : (w k : ℕ) (arms : Arms) → IsNoNumber w k arms → (i : ℕ) → NamesDirectly w arms k i → ⊥
 names_none w k no_arms none i h = h
-names_none w k (arm n parts arms) none zero h = none.0 h.0 (sym h.1)
-names_none w k (arm n parts arms) none (suc i) h = names_none w k arms none.1 i h
+names_none w k (arm n layout mark parts arms) none zero h = none.0 h.0 (sym h.1)
+names_none w k (arm n layout mark parts arms) none (suc i) h = names_none w k arms none.1 i h
 
 -- a number names one arm
 pub names_one : (w k : ℕ) (arms : Arms) → NumbersDiffer w arms → (i j : ℕ) → NamesDirectly w arms k i → NamesDirectly w arms k j → i ≡ j
 names_one w k no_arms differ i j h g = absurd h
-names_one w k (arm n parts arms) differ zero zero h g = refl
-names_one w k (arm n parts arms) differ zero (suc j) h g =
+names_one w k (arm n layout mark parts arms) differ zero zero h g = refl
+names_one w k (arm n layout mark parts arms) differ zero (suc j) h g =
     absurd (names_none w k arms (subst (λ m. IsNoNumber w m arms) h.1 (differ.0 h.0)) j g)
-names_one w k (arm n parts arms) differ (suc i) zero h g =
+names_one w k (arm n layout mark parts arms) differ (suc i) zero h g =
     absurd (names_none w k arms (subst (λ m. IsNoNumber w m arms) g.1 (differ.0 g.0)) i h)
-names_one w k (arm n parts arms) differ (suc i) (suc j) h g = ap suc (names_one w k arms differ.1 i j h g)
+names_one w k (arm n layout mark parts arms) differ (suc i) (suc j) h g = ap suc (names_one w k arms differ.1 i j h g)
 
 -- a number that names an arm is one of the tag's
 pub names_number : (w : ℕ) (tag : Scalar) (k : ℕ) (arms : Arms) → HaveNumbers w tag arms → (i : ℕ) → NamesDirectly w arms k i → IsNumberOf w tag k
 names_number w tag k no_arms numbers i h = absurd h
-names_number w tag k (arm n parts arms) numbers zero h = subst (IsNumberOf w tag) h.1 (numbers.0 h.0)
-names_number w tag k (arm n parts arms) numbers (suc i) h = names_number w tag k arms numbers.1 i h
+names_number w tag k (arm n layout mark parts arms) numbers zero h = subst (IsNumberOf w tag) h.1 (numbers.0 h.0)
+names_number w tag k (arm n layout mark parts arms) numbers (suc i) h = names_number w tag k arms numbers.1 i h
 
 -- a type with a value isn't flagged
 pub unflagged : (dl : TargetDataLayout) (t : Tree) (placed : Placed) (flag : Bool) →
@@ -135,30 +135,30 @@ module _ (dl : TargetDataLayout) (size offset w : ℕ) where
   arm_only : (all : Variants) (arms : Arms) → ArmsFit dl size offset w all arms → (i : ℕ) (b : List ℕ) (vs : Values) → AreBytes b →
       HoldArm dl.endian arms i b vs → AreValuesOfVariant dl all i (parts_of_arm arms i) vs
   arm_only no_variants no_arms fit i b vs are h = h
-  arm_only no_variants (arm n parts arms) fit i b vs are h = absurd fit
+  arm_only no_variants (arm n layout mark parts arms) fit i b vs are h = absurd fit
   arm_only (more_variants d ts others) no_arms fit i b vs are h = absurd fit
-  arm_only (more_variants d ts others) (arm n parts arms) fit zero b vs are h = only dl size ts parts fit.1 b vs are h
-  arm_only (more_variants d ts others) (arm n parts arms) fit (suc i) b vs are h = arm_only others arms fit.3 i b vs are h
+  arm_only (more_variants d ts others) (arm n layout mark parts arms) fit zero b vs are h = only dl size ts parts fit.1 b vs are h
+  arm_only (more_variants d ts others) (arm n layout mark parts arms) fit (suc i) b vs are h = arm_only others arms fit.3 i b vs are h
 
   -- no bytes hold two lists of values of one arm
   arm_unique : (all : Variants) (arms : Arms) → ArmsFit dl size offset w all arms → (i : ℕ) (b : List ℕ) (vs ws : Values) →
       HoldArm dl.endian arms i b vs → HoldArm dl.endian arms i b ws → vs ≡ ws
   arm_unique no_variants no_arms fit i b vs ws h g = absurd h
-  arm_unique no_variants (arm n parts arms) fit i b vs ws h g = absurd fit
+  arm_unique no_variants (arm n layout mark parts arms) fit i b vs ws h g = absurd fit
   arm_unique (more_variants d ts others) no_arms fit i b vs ws h g = absurd fit
-  arm_unique (more_variants d ts others) (arm n parts arms) fit zero b vs ws h g = unique dl size ts parts fit.1 b vs ws h g
-  arm_unique (more_variants d ts others) (arm n parts arms) fit (suc i) b vs ws h g = arm_unique others arms fit.3 i b vs ws h g
+  arm_unique (more_variants d ts others) (arm n layout mark parts arms) fit zero b vs ws h g = unique dl size ts parts fit.1 b vs ws h g
+  arm_unique (more_variants d ts others) (arm n layout mark parts arms) fit (suc i) b vs ws h g = arm_unique others arms fit.3 i b vs ws h g
 
   -- bytes that agree on the arms' data places hold the same values of an arm
   arm_padding : (all : Variants) (arms : Arms) → ArmsFit dl size offset w all arms → (xs ys : List ℕ) → length xs ≡ length ys →
       ((k : ℕ) → is_place_of_arm arms k ≡ true → get_or xs k 0 ≡ get_or ys k 0) → (i : ℕ) (vs : Values) →
       HoldArm dl.endian arms i xs vs → HoldArm dl.endian arms i ys vs
   arm_padding no_variants no_arms fit xs ys same agree i vs h = h
-  arm_padding no_variants (arm n parts arms) fit xs ys same agree i vs h = absurd fit
+  arm_padding no_variants (arm n layout mark parts arms) fit xs ys same agree i vs h = absurd fit
   arm_padding (more_variants d ts others) no_arms fit xs ys same agree i vs h = absurd fit
-  arm_padding (more_variants d ts others) (arm n parts arms) fit xs ys same agree zero vs h =
+  arm_padding (more_variants d ts others) (arm n layout mark parts arms) fit xs ys same agree zero vs h =
       padding dl size ts parts fit.1 xs ys vs same (λ k place. agree k (ap (λ x. x || is_place_of_arm arms k) place)) h
-  arm_padding (more_variants d ts others) (arm n parts arms) fit xs ys same agree (suc i) vs h =
+  arm_padding (more_variants d ts others) (arm n layout mark parts arms) fit xs ys same agree (suc i) vs h =
       arm_padding others arms fit.3 xs ys same
       (λ k place. agree k (ap (λ x. is_place_of_part parts k || x) place ∙ or-true (is_place_of_part parts k))) i vs h
 
@@ -167,9 +167,9 @@ arm_exists : (dl : TargetDataLayout) (size offset w : ℕ) → offset + w ≤ si
     (i : ℕ) (vs : Values) → AreValuesOfVariant dl all i (parts_of_arm arms i) vs →
     (b : List ℕ) × (length b ≡ size) × AreBytes b × NamesDirectly w arms (tag_at dl.endian b offset w) i × HoldArm dl.endian arms i b vs
 arm_exists dl size offset w inside no_variants no_arms fit i vs h = absurd h
-arm_exists dl size offset w inside no_variants (arm n parts arms) fit i vs h = absurd fit
+arm_exists dl size offset w inside no_variants (arm n layout mark parts arms) fit i vs h = absurd fit
 arm_exists dl size offset w inside (more_variants d ts others) no_arms fit i vs h = absurd fit
-arm_exists dl size offset w inside (more_variants d ts others) (arm n parts arms) fit zero vs h =
+arm_exists dl size offset w inside (more_variants d ts others) (arm n layout mark parts arms) fit zero vs h =
     let m : ℕ = n % numbers_of w in
     let own : List ℕ = spelled_in dl.endian w m in
     let long : length own ≡ w = length-spelled_in dl.endian w m in
@@ -184,7 +184,7 @@ arm_exists dl size offset w inside (more_variants d ts others) (arm n parts arms
       (none_flagged dl size ts parts fit.1 vs h, sym held),
       HoldParts-beside dl ts parts offset rest.0 own (subst (λ k. LieBeside offset k parts) (sym long) fit.2) fits vs rest.3,
     )
-arm_exists dl size offset w inside (more_variants d ts others) (arm n parts arms) fit (suc i) vs h =
+arm_exists dl size offset w inside (more_variants d ts others) (arm n layout mark parts arms) fit (suc i) vs h =
     arm_exists dl size offset w inside others arms fit.3 i vs h
 
 module _ (dl : TargetDataLayout) (repr : ReprOptions) (layout : Layout) (offset : ℕ) (tag : Scalar) (all : Variants) (arms : Arms)

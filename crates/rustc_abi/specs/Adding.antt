@@ -1,5 +1,5 @@
 -- What the functions that lay out a tree keep, node by node.
-use Rattle.std.specs.Prelude.{◌≡◌, ℕ, ◌+◌, ◌<◌, ◌⊎◌, ◌&&◌, Bool, true, All, List, [], ◌∷◌, length, map, nat_lt, Result, Ok, Err, ⊤, Vec}
+use Rattle.std.specs.Prelude.{◌≡◌, ℕ, ◌+◌, ◌<◌, ◌⊎◌, true, All, List, [], ◌∷◌, length, map, Result, Ok, Err, ⊤, Vec}
 use Rattle.std.specs.declared.alloc.Global.{Global}
 use Rattle.abi_base.specs.declared.data_layout.TargetDataLayout.{TargetDataLayout}
 use Rattle.abi_scalar.specs.declared.variants.Variants.{Variants as LayoutVariants}
@@ -62,8 +62,8 @@ pub record AreVariantsAdded (dl : TargetDataLayout) (old new : List Node) (child
   pub exact : VariantsLaying dl all (Ok (variants_in new children))
   pub fits : VariantsFit dl all (variants_in new children)
 
--- A node for each variant beside a tag was put, and each node that was there kept: these variants are the arms, and their nodes have
--- these sizes and list their fields one by one.
+-- A node for each variant beside a tag was put, and each node that was there kept: these variants are the arms, with
+-- their layouts and marks, and their nodes have these sizes and list their fields one by one.
 pub record AreArms (old new : List Node) (sizes : List ℕ) (variants : List (ℕ × ℕ)) (arms : Arms) : Type 0 where
   pub kept : Keeps (types_in old) (types_in new)
   pub well : AreWell old → AreWell new

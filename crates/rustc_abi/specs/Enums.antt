@@ -14,11 +14,13 @@ use Rattle.abi_scalar.specs.declared.variants.RangeFrom.{RangeFrom}
 use Rattle.abi_scalar.specs.declared.variants.RangeToInclusive.{RangeToInclusive}
 use Rattle.abi_scalar.specs.declared.variants.VariantLayout.{VariantLayout}
 use Rattle.abi_scalar.specs.Repr.{discr_type_of, is_c}
+use Rattle.abi_scalar.specs.Variant.{variant_layout}
 use Rattle.abi_calc.specs.Enums.Answer.{IsTypeAnswer}
 use Rattle.abi_calc.specs.Enums.Discriminants.{counting_of, discr_bits}
 use Rattle.abi_calc.specs.Enums.Path.{path_of}
 use Rattle.rustc_abi.specs.declared.error.LayError.{LayError}
 use Rattle.abi_laid.specs.Tree.{Variants, no_variants, more_variants}
+use Rattle.abi_laid.specs.declared.mark.Mark.{Mark}
 use Rattle.abi_laid.specs.Placed.{Placed, Layout, layout_of, Arms, no_arms, arm}
 use Rattle.abi_laid.specs.Nodes.{parts_at}
 use Rattle.rustc_abi.specs.Error.{lay_error}
@@ -102,7 +104,11 @@ IsEnumed dl repr numbers variants (Err e) =
 
 -- ---- its parts
 
--- the variants beside a tag: each has its discriminant, and its fields at the offsets of its layout
-abbrev pub arms_at : List (VariantLayout ℕ) → (numbers : List ℕ) → List (List Placed) → Arms
-arms_at (layout ∷ layouts) (n ∷ numbers) (fields ∷ variants) = arm n (parts_at layout.field_offsets fields) (arms_at layouts numbers variants)
-arms_at _ _ _ = no_arms
+-- the variants or states beside a tag, from this index on: each has its number, the layout that it has as a type of its
+-- own, as one of this whole, the mark, and its fields at the offsets of its layout
+abbrev pub arms_at : (whole : Layout) → Mark → (index : ℕ) → List (VariantLayout ℕ) → (numbers : List ℕ)
+    → List (List Placed) → Arms
+arms_at whole mark i (layout ∷ layouts) (n ∷ numbers) (fields ∷ variants) =
+    arm n (variant_layout whole i layout) mark (parts_at layout.field_offsets fields)
+    (arms_at whole mark (i + 1) layouts numbers variants)
+arms_at whole mark i _ _ _ = no_arms

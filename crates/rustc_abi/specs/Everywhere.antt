@@ -34,7 +34,8 @@ module _ (dl : TargetDataLayout) (P : Tree → Placed → Type 0) where
     -- of each field of each variant beside a tag
     pub OfArms : Variants → Arms → Type 0
     OfArms no_variants no_arms = ⊤
-    OfArms (more_variants discriminant ts others) (arm number parts arms) = OfEach ts parts × OfArms others arms
+    OfArms (more_variants discriminant ts others) (arm number layout mark parts arms) =
+        OfEach ts parts × OfArms others arms
     OfArms _ _ = ⊥
 
   -- the fact holds of the type, and of each in it

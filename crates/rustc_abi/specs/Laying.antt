@@ -25,7 +25,7 @@ use Rattle.rustc_abi.specs.declared.error.LayError.{LayError}
 use Rattle.rustc_abi.specs.declared.error.LayError.TheVariants.{BadIndex, BadAlign, DuplicateDiscriminant, DiscriminantTooWide, NoState, LocalTwice, SizeOverflow}
 use Rattle.abi_laid.specs.Tree.{Tree, scalar, pair, never, unit, array, vector, struct, union, enum, coroutine, Trees, no_trees, more_trees, Variants, no_variants, more_variants}
 use Rattle.abi_laid.specs.Placed.{Placed, Layout, layout_of, scalar as placed_scalar, pair as placed_pair, never as placed_never, elements, vector as placed_vector, fields, union as placed_union, single as placed_single, tagged as placed_tagged, states as placed_states, no_parts, part}
-use Rattle.abi_laid.specs.declared.mark.Mark.TheVariants.{Never, Unit}
+use Rattle.abi_laid.specs.declared.mark.Mark.TheVariants.{Never, Plain, Unit}
 use Rattle.abi_laid.specs.Mark.{mark_of}
 use Rattle.abi_laid.specs.Nodes.{parts_at, parts_at_0, placed_in, state_tag_offset, tag_offset}
 use Rattle.rustc_abi.specs.Error.{named, lay_error, Follows}
@@ -135,12 +135,14 @@ enum_fault dl repr numbers variants =
     else (if has_equal numbers then Some DuplicateDiscriminant
     else (if not (list_all (is_discriminant dl repr) numbers) then Some DiscriminantTooWide else None)))
 
--- variants with this layout: no value, the parts of one variant, or those of each beside a tag
+-- variants with this layout: no value, the parts of one variant, or those of each beside a tag; each of these tells of
+-- itself what the whole does
 abbrev pub placed_variants : TargetDataLayout → ReprOptions → (numbers : List ℕ) → List (List Placed) → Layout → LayoutVariants ℕ ℕ → Placed
 placed_variants dl repr numbers variants layout Empty = placed_never layout (mark_of true repr)
 placed_variants dl repr numbers variants layout (Single i) = placed_single layout (mark_of true repr) i (parts_at (listed_offsets layout.fields) (variant_at variants i))
 placed_variants dl repr numbers variants layout (Multiple tag encoding field layouts) =
-    placed_tagged layout (mark_of true repr) (tag_offset layout) (one_scalar dl tag) encoding (arms_at layouts numbers variants)
+    placed_tagged layout (mark_of true repr) (tag_offset layout) (one_scalar dl tag) encoding
+    (arms_at layout (mark_of true repr) 0 layouts numbers variants)
 
 -- an enum with this layout
 abbrev pub placed_enum : TargetDataLayout → ReprOptions → (numbers : List ℕ) → List (List Placed) → Layout → Placed
@@ -171,11 +173,12 @@ coroutine_fault prefix locals states conflicts =
     else (if list_any has_equal states then Some LocalTwice else None)))
 
 -- a coroutine with this layout and this tag: the prefix fields, the tag behind them, and beside it each state, with the locals that it
--- names and with its index as number
+-- names and with its index as number; a state tells nothing of itself
 abbrev pub placed_coroutine : TargetDataLayout → (prefix : List Placed) → (tag : Scalar) → (locals : List Placed) → (states : List (List ℕ)) → Layout → Placed
 placed_coroutine dl prefix tag locals states layout =
     placed_states layout (parts_at (listed_offsets layout.fields) prefix) (state_tag_offset layout (length prefix)) (one_scalar dl tag)
-    (arms_at (variants_of layout.variants) (source_order (length states)) (map (map (placed_in locals)) states))
+    (arms_at layout Plain 0 (variants_of layout.variants) (source_order (length states))
+    (map (map (placed_in locals)) states))
 
 -- the answer to a coroutine: its own fault, else the calculator's answer to its prefix fields, its tag and its locals
 abbrev pub IsCoroutineOf : TargetDataLayout → (prefix locals : List Placed) → (states : List (List ℕ)) → (conflicts : List (ℕ × ℕ)) → Result Placed LayError → Type 0

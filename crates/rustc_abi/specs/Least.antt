@@ -32,7 +32,7 @@ fields_of (part offset placed parts) = placed ∷ fields_of parts
 -- the laid-out fields of variants beside a tag
 abbrev pub variants_of : Arms → List (List Placed)
 variants_of no_arms = []
-variants_of (arm number parts arms) = fields_of parts ∷ variants_of arms
+variants_of (arm number layout mark parts arms) = fields_of parts ∷ variants_of arms
 
 -- several variants with these discriminants have the size that their lists allow: with a niche, where these leave room for one, else
 -- behind a tag

@@ -19,7 +19,8 @@ ghost use Rattle.rustc_abi.specs.Coroutines.{IsCoroutined};
 ghost use Rattle.rustc_abi.specs.Laying.{AreLaying, IsCoroutineOf, coroutine_fault, most_fields, one_scalar, placed_coroutine};
 ghost use Rattle.rustc_abi.specs.Error.{IsRefused};
 ghost use Rattle.abi_laid.specs.Well.{IsPut, all_at};
-ghost use Rattle.rustc_abi.specs.Adding.{EachFits, IsAdded};
+ghost use Rattle.rustc_abi.specs.Adding.{AreArms, EachFits, IsAdded, variants_in};
+ghost use Rattle.rustc_abi.specs.Enums.{arms_at};
 
 use crate::conflicts::{conflicts, named_each};
 use crate::coroutine_fault::coroutine_fault;
@@ -73,6 +74,29 @@ fn picked_each(
     Ok(children)
 }
 
+/// A node for each state beside the tag, with its locals and with its index as number. A state is no struct, union or
+/// enum, and tells nothing of itself.
+fn add_each_state(
+    alloc: Global,
+    nodes: &mut Vec<Node>,
+    layout: &LayoutData<FieldIdx, VariantIdx>,
+    children: &[Vec<usize>],
+) -> Result<Vec<(u128, usize)>, LayError>
+    requires each { length (variants_of layout.now.variants) ≡ length children.now }
+    requires few { length children.now ≤ most_fields }
+    requires few_each { All (λ fields. length fields.items ≤ most_fields) children.now }
+    requires there { All (λ fields. All (λ child. child < vec_len nodes.old) fields.items) children.now }
+    requires inside { VariantsInside layout.now.size (variants_of layout.now.variants) (variants_in nodes.old.items children.now) }
+    ensures ok { IfOk result (λ states.
+        AreArms nodes.old.items nodes.new.items (map (λ l. l.size) (variants_of layout.now.variants)) states.items
+        (arms_at layout.now Mark.Plain 0 (variants_of layout.now.variants) (source_order (length children.now))
+        (variants_in nodes.old.items children.now))) }
+    ensures err { IfErr result (λ e. e ≡ LayError.OutOfMemory) }
+{
+    let numbers = indices(alloc, children.len())?;
+    add_variants(alloc, nodes, layout, Mark::Plain, &numbers, children)
+}
+
 /// A node for a coroutine with this layout and this tag, behind one for the tag and one for each state: each state has the
 /// locals that its indices name, and its own index as number.
 fn add_states(
@@ -98,10 +122,9 @@ fn add_states(
         (placed_coroutine dl.now (all_at nodes.old.items prefix.items) tag (all_at nodes.old.items locals.now) (map (λ state. state.items) states.now) layout)) }
     ensures err { IfErr result (λ e. e ≡ LayError.OutOfMemory) }
 {
-    let numbers = indices(alloc, states.len())?;
     let children = picked_each(alloc, locals, states)?;
     let tag = add(nodes, LayoutData::scalar(&dl, tag), Shape::Scalar(tag))?;
-    let states = add_variants(alloc, nodes, &layout, Mark::Plain, &numbers, &children)?;
+    let states = add_each_state(alloc, nodes, &layout, &children)?;
     add(
         nodes,
         layout,

@@ -1,11 +1,11 @@
 //! How enums are laid out, once the fields of their variants are.
 
-ghost use Rattle.std.specs.Prelude.{◌≡◌, ◌<◌, ◌≤◌, ◌∷◌, [], List, IfOk, IfErr, Ok, None, length, map, vec_len, All, false, true};
+ghost use Rattle.std.specs.Prelude.{◌≡◌, ◌<◌, ◌≤◌, ◌∷◌, [], List, IfOk, IfErr, Ok, None, Some, length, map, option_map, slice_get, vec_len, All, false, true};
 ghost use Rattle.std.specs.List.{list_all};
 ghost use Rattle.abi_base.specs.DataLayout.{IsLawfulDataLayout};
 ghost use Rattle.abi_scalar.specs.Lawful.{IsLawfulLayout};
 ghost use Rattle.abi_scalar.specs.Scalar.{IsReadable};
-ghost use Rattle.abi_scalar.specs.Variant.{variants_of};
+ghost use Rattle.abi_scalar.specs.Variant.{variant_layout, variants_of};
 ghost use Rattle.abi_calc.specs.List.{HasLawfulAligns};
 ghost use Rattle.abi_laid.specs.Tree.{Variants as VariantTrees, enum};
 ghost use Rattle.abi_laid.specs.Placed.{Placed, layout_of, size_of, tagged};
@@ -153,7 +153,28 @@ fn enum_layout(
     )
 }
 
-/// A node for each variant or state beside a tag, with the layout that it has by itself and with its number.
+/// The node of a variant or state: its fields, with the layout that it has as a type of its own, and the mark.
+fn own_node(
+    alloc: Global,
+    whole: &LayoutData<FieldIdx, VariantIdx>,
+    mark: Mark,
+    index: VariantIdx,
+    fields: Vec<usize>,
+) -> Result<Node, AllocError>
+    requires { index < length (variants_of whole.now.variants) }
+    ensures layout { IfOk result (λ node. Some node.layout
+        ≡ option_map (variant_layout whole.now index) (slice_get (variants_of whole.now.variants) index)) }
+    ensures shape { IfOk result (λ node. node.shape ≡ Shape.Fields mark fields) }
+{
+    let layout = LayoutData::for_variant(alloc, whole, index)?;
+    Ok(Node {
+        layout,
+        shape: Shape::Fields(mark, fields),
+    })
+}
+
+/// A node for each variant or state beside a tag, with its number, the layout that it has as a type of its own, and the
+/// mark.
 pub(crate) fn add_variants(
     alloc: Global,
     nodes: &mut Vec<Node>,
@@ -169,14 +190,15 @@ pub(crate) fn add_variants(
     requires there { All (λ fields. All (λ child. child < vec_len nodes.old) fields.items) children.now }
     requires inside { VariantsInside layout.now.size (variants_of layout.now.variants) (variants_in nodes.old.items children.now) }
     ensures ok { IfOk result (λ variants. AreArms nodes.old.items nodes.new.items (map (λ l. l.size) (variants_of layout.now.variants)) variants.items
-        (arms_at (variants_of layout.now.variants) numbers.now (variants_in nodes.old.items children.now))) }
+        (arms_at layout.now mark 0 (variants_of layout.now.variants) numbers.now
+        (variants_in nodes.old.items children.now))) }
     ensures err { IfErr result (λ e. e ≡ LayError.OutOfMemory) }
 {
     let mut variants = Vec::with_capacity(alloc, children.len())?;
     for at in 0..children.len() {
-        let own = LayoutData::for_variant(alloc, layout, VariantIdx::from_usize(at))?;
         let fields = Vec::from_slice(alloc, &children[at])?;
-        let node = add(nodes, own, Shape::Fields(mark, fields))?;
+        let own = own_node(alloc, layout, mark, VariantIdx::from_usize(at), fields)?;
+        let node = add(nodes, own.layout, own.shape)?;
         variants.push((numbers[at], node))?;
     }
     Ok(variants)
@@ -202,7 +224,7 @@ fn add_tagged(
     requires places { have_places layout.size layout.fields (size_of (one_scalar dl.now tag) ∷ []) ≡ true }
     requires inside { VariantsInside layout.size (variants_of layout.variants) (variants_in nodes.old.items children.now) }
     ensures ok { IfOk result (λ i. IsPut nodes.old.items nodes.new.items i (tagged layout mark (tag_offset layout) (one_scalar dl.now tag) (encoding_of layout.variants)
-        (arms_at (variants_of layout.variants) numbers.now (variants_in nodes.old.items children.now)))) }
+        (arms_at layout mark 0 (variants_of layout.variants) numbers.now (variants_in nodes.old.items children.now)))) }
     ensures err { IfErr result (λ e. e ≡ LayError.OutOfMemory) }
 {
     let tag = add(nodes, LayoutData::scalar(&dl, tag), Shape::Scalar(tag))?;

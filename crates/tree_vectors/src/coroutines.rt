@@ -6,7 +6,7 @@ use abi_base::Integer;
 use std::test::Fail;
 
 /// Two bytes of every state, a tag behind them, and a local of eight bytes in each of the two last states.
-const SUSPENDED: Named = Named(
+pub(crate) const SUSPENDED: Named = Named(
     "suspended",
     Plan::Coroutine(&States {
         prefix: &[Plan::Number(Integer::I16)],
@@ -17,7 +17,7 @@ const SUSPENDED: Named = Named(
 );
 
 /// A state of no local, which ends at offset 4.
-const BARE: Arm = Arm {
+pub(crate) const BARE: Arm = Arm {
     at: &[],
     order: &[],
     size: 4,
@@ -26,7 +26,7 @@ const BARE: Arm = Arm {
 };
 
 /// A state of one local at offset 4.
-const OF_ONE: Arm = Arm {
+pub(crate) const OF_ONE: Arm = Arm {
     at: &[4],
     order: &[0],
     size: 12,

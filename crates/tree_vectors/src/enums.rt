@@ -17,7 +17,7 @@ use tree_samples::TRUTH;
 const BYTE: Plan = Plan::Number(Integer::I8);
 
 /// Four bytes and one byte beside a tag.
-const TAGGED: Named = Named(
+pub(crate) const TAGGED: Named = Named(
     "tagged",
     Plan::Enum(
         Asked::Nothing,
@@ -62,7 +62,7 @@ const TAGGED_WHOLE: Whole = Whole {
 };
 
 /// No field, and a byte that is 0 or 1, whose other numbers tell that it isn't there.
-const IN_NICHE: Named = Named(
+pub(crate) const IN_NICHE: Named = Named(
     "in a niche",
     Plan::Enum(
         Asked::Nothing,
@@ -110,7 +110,7 @@ const IN_NICHE_WHOLE: Whole = Whole {
 };
 
 /// A variant without values, and one of a byte, which is left alone.
-const LEFT_ALONE: Named = Named(
+pub(crate) const LEFT_ALONE: Named = Named(
     "left alone",
     Plan::Enum(
         Asked::Nothing,
@@ -119,12 +119,12 @@ const LEFT_ALONE: Named = Named(
 );
 
 /// Any byte.
-const ANY: Scalar = Scalar::Initialized {
+pub(crate) const ANY: Scalar = Scalar::Initialized {
     value: Primitive::Int(Integer::I8, false),
     valid_range: WrappingRange { start: 0, end: 255 },
 };
 
-const LEFT_ALONE_WHOLE: Whole = Whole {
+pub(crate) const LEFT_ALONE_WHOLE: Whole = Whole {
     fields: Shape::Fields(&[0], &[0]),
     variants: Arms::Single(1),
     view: View::Scalar(ANY),

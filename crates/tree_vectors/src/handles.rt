@@ -117,13 +117,13 @@ fn plan(kind: Kind) -> Plan {
 }
 
 /// What a type tells of itself: a struct, a union or an enum; an enum; never; a tuple; unit; transparent.
-type Marks = (bool, bool, bool, bool, bool, bool);
+pub(crate) type Marks = (bool, bool, bool, bool, bool, bool);
 
-const NONE: Marks = (false, false, false, false, false, false);
+pub(crate) const NONE: Marks = (false, false, false, false, false, false);
 
-const STRUCT: Marks = (true, false, false, false, false, false);
+pub(crate) const STRUCT: Marks = (true, false, false, false, false, false);
 
-const ENUM: Marks = (true, true, false, false, false, false);
+pub(crate) const ENUM: Marks = (true, true, false, false, false, false);
 
 /// Each kind, what it tells of itself, and which of its fields is the only one that is more than a place.
 const MARKED: [(Kind, Marks, Option<usize>); 15] = [
@@ -153,7 +153,7 @@ const MARKED: [(Kind, Marks, Option<usize>); 15] = [
 ];
 
 /// What a type tells of itself.
-fn marks(it: TyAndLayout<'_, TreeTy<'_>>) -> Marks
+pub(crate) fn marks(it: TyAndLayout<'_, TreeTy<'_>>) -> Marks
     requires { IsHandle it }
 {
     (

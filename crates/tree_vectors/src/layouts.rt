@@ -163,26 +163,27 @@ fn arrays_unions_and_vectors_are_known_whole(rt: HostRuntime) -> Result<(), Fail
     Ok(())
 }
 
+/// Three bytes, of which two are 0 or 1, as C has them.
+pub(crate) const LIST_IN_C: Named = Named(
+    "in C",
+    Plan::Struct(IN_C, &[BYTE, Plan::Truth, Plan::Truth]),
+);
+
+pub(crate) const LIST_IN_C_WHOLE: Whole = Whole {
+    fields: Shape::Fields(&[0, 1, 2], &[0, 1, 2]),
+    variants: Arms::Single(0),
+    view: View::Memory,
+    niche: Some((2, 1)),
+    uninhabited: false,
+    align: 1,
+    unadjusted: 1,
+    size: 3,
+    repr_c: true,
+    seed: 0x0101_0006_0000_0003,
+};
+
 const LISTS: [Row; 3] = [
-    (
-        Named(
-            "in C",
-            Plan::Struct(IN_C, &[BYTE, Plan::Truth, Plan::Truth]),
-        ),
-        Whole {
-            fields: Shape::Fields(&[0, 1, 2], &[0, 1, 2]),
-            variants: Arms::Single(0),
-            view: View::Memory,
-            niche: Some((2, 1)),
-            uninhabited: false,
-            align: 1,
-            unadjusted: 1,
-            size: 3,
-            repr_c: true,
-            seed: 0x0101_0006_0000_0003,
-        },
-        &[],
-    ),
+    (LIST_IN_C, LIST_IN_C_WHOLE, &[]),
     (
         Named(
             "moved",

@@ -3,6 +3,8 @@
 #![tactic(auto)]
 
 #[cfg(test)]
+mod at_variants;
+#[cfg(test)]
 mod coroutines;
 #[cfg(test)]
 mod enums;

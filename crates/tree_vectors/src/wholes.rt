@@ -7,7 +7,7 @@ use abi_scalar::{
     BackendLaneCount, BackendRepr, FieldCount, FieldsShape, LayoutData, Niche, RangeInclusive,
     Scalar, TagEncoding, VariantLayout, Variants, WrappingRange,
 };
-use rustc_abi::{Laid, LayError};
+use rustc_abi::LayError;
 use std::alloc::Global;
 
 pub(crate) type Layout = LayoutData<FieldIdx, VariantIdx>;
@@ -252,10 +252,10 @@ fn layout(alloc: Global, whole: &Whole) -> Result<Layout, LayError> {
     })
 }
 
-/// Whether the type has this layout.
-fn has_layout(alloc: Global, laid: &Laid, wanted: &Whole) -> Result<bool, LayError> {
+/// Whether it is this layout.
+pub(crate) fn is_layout(alloc: Global, found: &Layout, wanted: &Whole) -> Result<bool, LayError> {
     let wanted = layout(alloc, wanted)?;
-    Ok(*laid.layout() == wanted)
+    Ok(*found == wanted)
 }
 
 /// Whether the type has this layout, and these runs of padding.
@@ -266,5 +266,5 @@ pub(crate) fn is_whole(
     padding: &[(u64, u64)],
 ) -> Result<bool, LayError> {
     let laid = laid(alloc, plan)?;
-    Ok(has_layout(alloc, &laid, wanted)? && has_padding(alloc, &laid, padding)?)
+    Ok(is_layout(alloc, laid.layout(), wanted)? && has_padding(alloc, &laid, padding)?)
 }

@@ -3,11 +3,11 @@ use Rattle.std.specs.Prelude.{Vec}
 use Rattle.std.specs.declared.alloc.Global.{Global}
 use Rattle.std.proofs.lemmas.List.{length-map}
 use Rattle.std.proofs.lemmas.List.Elements.{All-weaker}
-use Rattle.std.proofs.lemmas.List.FromFn.{length-range_with_len}
 use Rattle.std.proofs.lemmas.Result.{IfOk-weaker}
 use Rattle.abi_scalar.specs.Variant.{variants_of}
 use Rattle.abi_calc.specs.Placement.{source_order}
 use Rattle.abi_laid.specs.Nodes.{placed_in, types_in}
+use Rattle.abi_laid.specs.declared.mark.Mark.TheVariants.{Plain}
 use Rattle.rustc_abi.specs.Enums.{arms_at}
 use Rattle.rustc_abi.specs.Laying.{most_fields, one_scalar}
 use Rattle.abi_laid.specs.Well.{IsPut, all_at}
@@ -21,45 +21,39 @@ use Rattle.rustc_abi.proofs.lay_coroutine.add_states.Goals as goal
 pub add-requires-clause-widths : goal.add-requires-clause-widths
 add-requires-clause-widths c = scalar_width c.args.dl.now c.args.tag c.scalar.result c.scalar.ensures.exact c.requires.tag
 
-pub add_variants-requires-clause-variants : goal.add_variants-requires-clause-variants
-add_variants-requires-clause-variants c =
+pub add_each_state-requires-clause-each : goal.add_each_state-requires-clause-each
+add_each_state-requires-clause-each c =
     let many = as_many_each c.args.locals.now c.args.states.now c.in_ok-children.children.items c.in_ok-children.ensures in
-    rw c.deref-2.ensures.value (c.requires.each ∙ sym many)
+    rw c.deref.ensures.value (c.requires.each ∙ sym many)
 
-pub add_variants-requires-clause-each : goal.add_variants-requires-clause-each
-add_variants-requires-clause-each c =
+pub add_each_state-requires-clause-few : goal.add_each_state-requires-clause-few
+add_each_state-requires-clause-few c =
     let many = as_many_each c.args.locals.now c.args.states.now c.in_ok-children.children.items c.in_ok-children.ensures in
-    rw (c.deref.ensures.value, c.deref-2.ensures.value)
-    (ap length c.in_ok-numbers.ensures ∙ length-range_with_len 0 (length c.args.states.now) ∙ sym many)
+    rw (c.deref.ensures.value, many) c.requires.few
 
-pub add_variants-requires-clause-few : goal.add_variants-requires-clause-few
-add_variants-requires-clause-few c =
-    let many = as_many_each c.args.locals.now c.args.states.now c.in_ok-children.children.items c.in_ok-children.ensures in
-    rw (c.deref-2.ensures.value, many) c.requires.few
-
-pub add_variants-requires-clause-there : goal.add_variants-requires-clause-there
-add_variants-requires-clause-there c =
+pub add_each_state-requires-clause-there : goal.add_each_state-requires-clause-there
+add_each_state-requires-clause-there c =
     let old = c.args.nodes.now in
     let one = c.add.new.nodes in
     let put = c.in_ok-tag.ensures.ok in
     let longer = put.kept.longer in
     let there : All (λ child. child < one.len) c.args.locals.now =
     All-weaker (λ child. child < old.len) (λ child. child < one.len) (λ child lt. omega (arith, lt, longer, length-types_in old.items, length-types_in one.items)) c.args.locals.now c.requires.there in
-    rw c.deref-2.ensures.value (each_there one.len c.args.locals.now c.args.states.now c.in_ok-children.children.items there c.requires.known c.in_ok-children.ensures)
+    rw c.deref.ensures.value (each_there one.len c.args.locals.now c.args.states.now c.in_ok-children.children.items there c.requires.known c.in_ok-children.ensures)
 
-pub add_variants-requires-clause-few_each : goal.add_variants-requires-clause-few_each
-add_variants-requires-clause-few_each c =
-    rw c.deref-2.ensures.value (each_few most_fields c.args.locals.now c.args.states.now c.in_ok-children.children.items c.requires.few_each c.in_ok-children.ensures)
+pub add_each_state-requires-clause-few_each : goal.add_each_state-requires-clause-few_each
+add_each_state-requires-clause-few_each c =
+    rw c.deref.ensures.value (each_few most_fields c.args.locals.now c.args.states.now c.in_ok-children.children.items c.requires.few_each c.in_ok-children.ensures)
 
-pub add_variants-requires-clause-inside : goal.add_variants-requires-clause-inside
-add_variants-requires-clause-inside c =
+pub add_each_state-requires-clause-inside : goal.add_each_state-requires-clause-inside
+add_each_state-requires-clause-inside c =
     let old = c.args.nodes.now.items in
     let one = c.add.new.nodes.items in
     let children : List (Vec ℕ Global) = c.in_ok-children.children.items in
     let there : All (λ child. child < length old) c.args.locals.now =
     All-weaker (λ child. child < c.args.nodes.now.len) (λ child. child < length old) (λ child lt. omega arith) c.args.locals.now c.requires.there in
     let same =
-    ap (variants_in one) c.deref-2.ensures.value ∙ variants_in-kept old one c.in_ok-tag.ensures.ok.kept children (each_there (length old) c.args.locals.now c.args.states.now children there c.requires.known c.in_ok-children.ensures)
+    ap (variants_in one) c.deref.ensures.value ∙ variants_in-kept old one c.in_ok-tag.ensures.ok.kept children (each_there (length old) c.args.locals.now c.args.states.now children there c.requires.known c.in_ok-children.ensures)
     ∙ each_means old c.args.locals.now c.args.states.now children c.requires.known c.in_ok-children.ensures in
     rw same c.requires.inside
 
@@ -67,7 +61,7 @@ pub add-requires-2-clause-laws : goal.add-requires-2-clause-laws
 add-requires-2-clause-laws c =
     let old = c.args.nodes.now.items in
     let one = c.add.new.nodes.items in
-    let two = c.add_variants.new.nodes.items in
+    let two = c.add_each_state.new.nodes.items in
     let put : IsPut old one c.in_ok-tag.tag (one_scalar c.args.dl.now c.args.tag) = rw c.scalar.ensures.exact at c.in_ok-tag.ensures.ok in
     let prefix : All (λ child. child < length old) c.args.prefix.items =
     All-weaker (λ child. child < c.args.nodes.now.len) (λ child. child < length old) (λ child lt. omega arith) c.args.prefix.items c.requires.prefix in
@@ -76,20 +70,20 @@ add-requires-2-clause-laws c =
 pub add-requires-2-clause-widths : goal.add-requires-2-clause-widths
 add-requires-2-clause-widths c =
     let put : IsPut c.args.nodes.now.items c.add.new.nodes.items c.in_ok-tag.tag (one_scalar c.args.dl.now c.args.tag) = rw c.scalar.ensures.exact at c.in_ok-tag.ensures.ok in
-    tag_width c.args.dl.now c.args.tag c.args.nodes.now.items c.add.new.nodes.items c.add_variants.new.nodes.items c.in_ok-tag.tag c.requires.tag put c.in_ok-states.ensures.ok.kept
+    tag_width c.args.dl.now c.args.tag c.args.nodes.now.items c.add.new.nodes.items c.add_each_state.new.nodes.items c.in_ok-tag.tag c.requires.tag put c.in_ok-states.ensures.ok.kept
 
 pub add-requires-2-clause-earlier : goal.add-requires-2-clause-earlier
 add-requires-2-clause-earlier c =
     let old = c.args.nodes.now in
     let there : All (λ child. child < length old.items) c.args.prefix.items =
     All-weaker (λ child. child < old.len) (λ child. child < length old.items) (λ child lt. omega arith) c.args.prefix.items c.requires.prefix in
-    states_before old.items c.add.new.nodes.items c.add_variants.new.nodes.items c.in_ok-tag.tag _ _ c.args.prefix c.in_ok-states.states _ _ c.in_ok-tag.ensures.ok (omega arith) c.in_ok-states.ensures.ok there
+    states_before old.items c.add.new.nodes.items c.add_each_state.new.nodes.items c.in_ok-tag.tag _ _ c.args.prefix c.in_ok-states.states _ _ c.in_ok-tag.ensures.ok (omega arith) c.in_ok-states.ensures.ok there
 
 pub returns-clause-ok : goal.returns-clause-ok
 returns-clause-ok c =
     let old = c.args.nodes.now.items in
     let one = c.add.new.nodes.items in
-    let two = c.add_variants.new.nodes.items in
+    let two = c.add_each_state.new.nodes.items in
     let locals : List ℕ = c.args.locals.now in
     let all : List (Vec ℕ Global) = c.args.states.now in
     let children : List (Vec ℕ Global) = c.in_ok-children.children.items in
@@ -98,13 +92,20 @@ returns-clause-ok c =
     All-weaker (λ child. child < c.args.nodes.now.len) (λ child. child < length old) (λ child lt. omega arith) c.args.prefix.items c.requires.prefix in
     let there : All (λ child. child < length old) locals =
     All-weaker (λ child. child < c.args.nodes.now.len) (λ child. child < length old) (λ child lt. omega arith) locals c.requires.there in
-    let same : variants_in one c.deref-2.result.now ≡ map (λ ks. map (placed_in (all_at old locals)) ks.items) all =
-    ap (variants_in one) c.deref-2.ensures.value ∙ variants_in-kept old one put.kept children (each_there (length old) locals all children there c.requires.known c.in_ok-children.ensures)
+    let same : variants_in one c.deref.result.now ≡ map (λ ks. map (placed_in (all_at old locals)) ks.items) all =
+    ap (variants_in one) c.deref.ensures.value ∙ variants_in-kept old one put.kept children (each_there (length old) locals all children there c.requires.known c.in_ok-children.ensures)
     ∙ each_means old locals all children c.requires.known c.in_ok-children.ensures in
-    let numbers : c.deref.result.now ≡ source_order (length all) = c.deref.ensures.value ∙ c.in_ok-numbers.ensures in
-    let own : AreArms one two (map (λ l. l.size) (variants_of c.args.layout.variants)) c.in_ok-states.states.items (arms_at (variants_of c.args.layout.variants) (source_order (length all)) (variants_in one c.deref-2.result.now)) =
-    subst (λ ns. AreArms one two (map (λ l. l.size) (variants_of c.args.layout.variants)) c.in_ok-states.states.items (arms_at (variants_of c.args.layout.variants) ns (variants_in one c.deref-2.result.now))) numbers c.in_ok-states.ensures.ok in
-    let arms = subst (λ vs. AreArms one two (map (λ l. l.size) (variants_of c.args.layout.variants)) c.in_ok-states.states.items (arms_at (variants_of c.args.layout.variants) (source_order (length all)) vs)) same own in
+    let count : length c.deref.result.now ≡ length all =
+    ap length c.deref.ensures.value ∙ as_many_each locals all children c.in_ok-children.ensures in
+    let layout = c.args.layout in
+    let sizes = map (λ l. l.size) (variants_of layout.variants) in
+    let own : AreArms one two sizes c.in_ok-states.states.items
+    (arms_at layout Plain 0 (variants_of layout.variants) (source_order (length all)) (variants_in one c.deref.result.now)) =
+    subst (λ n. AreArms one two sizes c.in_ok-states.states.items
+    (arms_at layout Plain 0 (variants_of layout.variants) (source_order n) (variants_in one c.deref.result.now))) count c.in_ok-states.ensures.ok in
+    let arms =
+    subst (λ vs. AreArms one two sizes c.in_ok-states.states.items
+    (arms_at layout Plain 0 (variants_of layout.variants) (source_order (length all)) vs)) same own in
     let tag : IsPut old one c.in_ok-tag.tag (one_scalar c.args.dl.now c.args.tag) = rw c.scalar.ensures.exact at put in
     let told = states_told c.args.layout (all_at old c.args.prefix.items) c.args.prefix.items (one_scalar c.args.dl.now c.args.tag) (variants_of c.args.layout.variants) (all_at old locals) all
     (length-map c.args.prefix.items (placed_in (types_in old))) in
