@@ -73,3 +73,10 @@ pub mod OneCoroutine
 pub mod CoroutineDeep
 pub mod SomeCoroutine
 pub mod SameCoroutine
+pub mod Seen
+pub mod Made
+pub mod CoroutineSeen
+pub mod EnumSeen
+pub mod EnumMade
+pub mod EnumOrdered
+pub mod CoroutineOrdered

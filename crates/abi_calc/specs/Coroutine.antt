@@ -6,3 +6,4 @@ pub mod Layout
 pub mod Answer
 pub mod Clash
 pub mod Sizes
+pub mod Made

@@ -15,3 +15,4 @@ pub mod Choice
 pub mod Room
 pub mod Beside
 pub mod Answer
+pub mod Made

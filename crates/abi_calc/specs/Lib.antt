@@ -15,3 +15,7 @@ pub mod Union
 pub mod Simd
 pub mod Enums
 pub mod Coroutine
+pub mod Marks
+pub mod Seen
+pub mod Made
+pub mod Ordered

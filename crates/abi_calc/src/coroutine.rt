@@ -5,12 +5,13 @@ mod lists;
 mod promotion;
 mod states;
 
-ghost use Rattle.std.specs.Prelude.{◌≡◌, ◌≢◌, ◌+◌, ◌<◌, ◌≤◌, ◌⊎◌, All, Err, IfErr, IfOk, length, map};
+ghost use Rattle.std.specs.Prelude.{◌≡◌, ◌≢◌, ◌+◌, ◌<◌, ◌≤◌, ◌⊎◌, All, Err, IfErr, IfOk, None, length, map, true};
 ghost use Rattle.std.specs.List.{AllPairs};
 ghost use Rattle.abi_base.specs.DataLayout.{IsLawfulDataLayout};
 ghost use Rattle.abi_index.specs.BitSet.{domain_size};
 ghost use Rattle.abi_index.specs.Relation.{Relation, column_count, row_count};
 ghost use Rattle.abi_index.specs.Slice.{items_of};
+ghost use Rattle.abi_scalar.specs.declared.backend_repr.BackendRepr.TheVariants.{Memory};
 ghost use Rattle.abi_scalar.specs.declared.scalar.Scalar.{Scalar};
 ghost use Rattle.abi_scalar.specs.Lawful.{IsLawfulLayout};
 ghost use Rattle.abi_scalar.specs.Simple.{scalar_layout};
@@ -20,8 +21,11 @@ ghost use Rattle.abi_calc.specs.List.{AreSized};
 ghost use Rattle.abi_calc.specs.Coroutine.Answer.{IsCoroutineAnswer, IsPromotedAnswer};
 ghost use Rattle.abi_calc.specs.Coroutine.Clash.{AreClashingApart, HaveOneOffset, IsToldByState};
 ghost use Rattle.abi_calc.specs.Coroutine.Layout.{IsStateTag};
+ghost use Rattle.abi_calc.specs.Coroutine.Made.{IsAlignedAsLists, IsMadeOfStates};
 ghost use Rattle.abi_calc.specs.Coroutine.Promotion.{promoted_of};
 ghost use Rattle.abi_calc.specs.Coroutine.Sizes.{IsOverlapSize, IsSizeWith, IsTooLargeWith, MayOverlap};
+ghost use Rattle.abi_calc.specs.Marks.{HasCoroutineMarks};
+ghost use Rattle.abi_calc.specs.Ordered.{IsOrderedWhole};
 
 use crate::calculator::LayoutCalculator;
 use crate::coroutine::layout::layout_of_lists;
@@ -235,6 +239,25 @@ impl<Cx: HasDataLayout> LayoutCalculator<Cx> {
         ensures exact { (tag : Scalar) × IsStateTag (length (items_of variant_fields.entry)) tag × (field : _) × T.post tag_to_layout tag field
             × IsCoroutineAnswer F.layout_of FieldIdx.at FieldIdx.number (VariantIdx.at 0) (Cx.target self.now.cx) prefix_layouts tag field (items_of local_layouts.entry) (map (map LocalIdx.number) (items_of variant_fields.entry)) storage_conflicts.now result }
         ensures lawful { IfOk result (IsLawfulLayout (Cx.target self.now.cx)) }
+
+        // It has no niche, is seen as bytes in memory, is aligned as the greatest of its lists is, and has no values where the
+        // first list has none, or each state's.
+        ensures niche { IfOk result (λ l. l.largest_niche ≡ None) }
+        ensures view { IfOk result (λ l. l.backend_repr ≡ Memory true) }
+        ensures alignment { IfOk result (IsAlignedAsLists (VariantIdx.at 0) (Cx.target self.now.cx)
+            (map F.layout_of prefix_layouts) (map F.layout_of (items_of local_layouts.entry))
+            (map (map LocalIdx.number) (items_of variant_fields.entry)) storage_conflicts.now) }
+        ensures marks { IfOk result (HasCoroutineMarks (map F.layout_of prefix_layouts)
+            (map F.layout_of (items_of local_layouts.entry)) (map (map LocalIdx.number) (items_of variant_fields.entry))
+            storage_conflicts.now) }
+
+        // Its fields, and those of each state, have a place in memory order each, which never steps back.
+        ensures ordered { IfOk result (IsOrderedWhole FieldIdx.number) }
+
+        // Each of its lists lies in an allowed order of the least size, and its fields lie where the lists have them.
+        ensures made { IfOk result (IsMadeOfStates FieldIdx.at (VariantIdx.at 0) (Cx.target self.now.cx)
+            (map F.layout_of prefix_layouts) (map F.layout_of (items_of local_layouts.entry))
+            (map (map LocalIdx.number) (items_of variant_fields.entry)) storage_conflicts.now) }
 
         // The prefix fields, the tag and the locals of each state share no byte, and the tag may hold each state's index.
         ensures told { IfOk result (IsToldByState (Cx.target self.now.cx) FieldIdx.at (map F.layout_of prefix_layouts) (map F.layout_of (items_of local_layouts.entry)) (map (map LocalIdx.number) (items_of variant_fields.entry))) }

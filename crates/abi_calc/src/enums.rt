@@ -12,21 +12,27 @@ mod several;
 mod single;
 pub(crate) mod tagged;
 
-ghost use Rattle.std.specs.Prelude.{◌≡◌, ◌⊎◌, All, Err, IfErr, IfOk, IsSome, IsTrue, None, false, length, map};
+ghost use Rattle.std.specs.Prelude.{◌≡◌, ◌⊎◌, All, Err, IfErr, IfOk, IsSome, IsTrue, None, Ok, false, length, map};
 ghost use Rattle.std.specs.Iterator.{IsFinite};
 ghost use Rattle.std.specs.Iterator.Runs.{EachRunFrom, WholeRun};
+ghost use Rattle.std.specs.List.{list_all};
 ghost use Rattle.abi_index.specs.Slice.{items_of};
 ghost use Rattle.abi_base.specs.DataLayout.{IsLawfulDataLayout};
 ghost use Rattle.abi_scalar.specs.Lawful.{IsLawfulLayout};
+ghost use Rattle.abi_scalar.specs.Simple.{never_layout};
+ghost use Rattle.abi_scalar.specs.Variant.{variants_of};
 ghost use Rattle.abi_calc.specs.Answer.{IsAnswer};
 ghost use Rattle.abi_calc.specs.Least.{IsEachOrderTooLarge};
 ghost use Rattle.abi_calc.specs.List.{AreSized, HasLawfulAligns};
 ghost use Rattle.abi_calc.specs.Enums.Answer.{HasOneEach, IsGoodSingle, IsTypeAnswer, kind_at};
 ghost use Rattle.abi_calc.specs.Enums.Beside.{AreToldApart};
 ghost use Rattle.abi_calc.specs.Enums.Discriminants.{counting_of};
-ghost use Rattle.abi_calc.specs.Enums.Path.{path_of, variant_at};
+ghost use Rattle.abi_calc.specs.Enums.Made.{AreVariantsAligned, HasLeastTag, IsMadeOfLists};
+ghost use Rattle.abi_calc.specs.Enums.Path.{has_no_value, path_of, variant_at};
 ghost use Rattle.abi_calc.specs.Enums.Several.{AreLawfulTags, HasEnumSize, IsAlwaysTooLarge, IsAskedTooLarge};
-ghost use Rattle.abi_calc.specs.declared.enums.path.Path.TheVariants.{OneList as IsOneList, Several as AreSeveral};
+ghost use Rattle.abi_calc.specs.declared.enums.path.Path.TheVariants.{NoValue as HasNoValue, OneList as IsOneList, Several as AreSeveral};
+ghost use Rattle.abi_calc.specs.Ordered.{IsOrderedWhole, IsTagField};
+ghost use Rattle.abi_calc.specs.Seen.{IsSeenAsList};
 
 use crate::calculator::LayoutCalculator;
 use crate::enums::path::{Path, path_of};
@@ -103,9 +109,41 @@ impl<Cx: HasDataLayout> LayoutCalculator<Cx> {
         ensures list_no_other { (i : _) → path_of is_enum repr.now (map (map F.layout_of) (items_of variants.entry)) ≡ IsOneList i → AreSized (map F.layout_of (variant_at (items_of variants.entry) i))
             → IfErr result (λ e. (e ≡ LayoutCalculatorError.SizeOverflow) ⊎ (e ≡ LayoutCalculatorError.OutOfMemory)) }
 
+        // It has one variant, and the niche, the view and the marks of the list, where niches may be used.
+        ensures seen { (i : _) → path_of is_enum repr.now (map (map F.layout_of) (items_of variants.entry)) ≡ IsOneList i
+            → IfOk result (IsSeenAsList (VariantIdx.at i) (Cx.target self.now.cx) repr.now
+            (kind_at is_enum always_sized (items_of variants.entry) i) niche_optimizations
+            (map F.layout_of (variant_at (items_of variants.entry) i))) }
+
+        // Without a present variant it is the type without values, which is never refused.
+        ensures never { path_of is_enum repr.now (map (map F.layout_of) (items_of variants.entry)) ≡ HasNoValue
+            → result ≡ Ok (never_layout (Cx.target self.now.cx)) }
+
         // Several variants are told apart by a tag of its own, behind which their fields lie, or by a niche of the untagged one.
         ensures told { path_of is_enum repr.now (map (map F.layout_of) (items_of variants.entry)) ≡ AreSeveral
             → IfOk result (λ l. WholeRun I.next_gives discriminants (λ run. AreToldApart (Cx.target self.now.cx) VariantIdx.number (map (map F.layout_of) (items_of variants.entry)) run.items l)) }
+
+        // Each of their variants is laid out as a list, in an allowed order of the least size; the alignment is the greatest of
+        // these lists', and the marks are theirs. They have no values where none of the variants may have one.
+        ensures made { path_of is_enum repr.now (map (map F.layout_of) (items_of variants.entry)) ≡ AreSeveral
+            → IfOk result (λ l. WholeRun I.next_gives discriminants (λ run. IsMadeOfLists FieldIdx.at VariantIdx.number
+            (Cx.target self.now.cx) repr.now (D.post discr_range_of_repr)
+            (counting_of VariantIdx.number repr.now (map (map F.layout_of) (items_of variants.entry)) run.items)
+            (map (map F.layout_of) (items_of variants.entry)) l)) }
+        ensures uninhabited { path_of is_enum repr.now (map (map F.layout_of) (items_of variants.entry)) ≡ AreSeveral
+            → IfOk result (λ l. l.uninhabited ≡ list_all has_no_value (map (map F.layout_of) (items_of variants.entry))) }
+
+        // The tag is field 0, and one of its own holds the least range of the discriminants that count. Fields lie at multiples
+        // of their alignments, and memory order never steps back.
+        ensures tag { path_of is_enum repr.now (map (map F.layout_of) (items_of variants.entry)) ≡ AreSeveral
+            → IfOk result (λ l. WholeRun I.next_gives discriminants (λ run. HasLeastTag (counting_of VariantIdx.number
+            repr.now (map (map F.layout_of) (items_of variants.entry)) run.items) l.variants)) }
+        ensures tag_field { path_of is_enum repr.now (map (map F.layout_of) (items_of variants.entry)) ≡ AreSeveral
+            → IfOk result (λ l. IsTagField FieldIdx.number 0 l.variants) }
+        ensures aligned { path_of is_enum repr.now (map (map F.layout_of) (items_of variants.entry)) ≡ AreSeveral
+            → IfOk result (λ l. AreVariantsAligned (map (map F.layout_of) (items_of variants.entry)) (variants_of l.variants)) }
+        ensures ordered { path_of is_enum repr.now (map (map F.layout_of) (items_of variants.entry)) ≡ AreSeveral
+            → IfOk result (IsOrderedWhole FieldIdx.number) }
 
         // Their size is that of the variants' always sized lists where these leave room for a niche, else the tagged size.
         ensures size { path_of is_enum repr.now (map (map F.layout_of) (items_of variants.entry)) ≡ AreSeveral

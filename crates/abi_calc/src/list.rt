@@ -4,6 +4,7 @@ ghost use Rattle.std.specs.Prelude.{◌≡◌, ◌+◌, ◌≤◌, ◌<◌, ◌�
 ghost use Rattle.std.specs.List.{list_any};
 ghost use Rattle.abi_index.specs.Slice.{items_of};
 ghost use Rattle.abi_base.specs.DataLayout.{IsLawfulDataLayout, size_bound};
+ghost use Rattle.abi_scalar.specs.declared.variants.Variants.TheVariants.{Single};
 ghost use Rattle.abi_scalar.specs.Lawful.{IsLawfulLayout};
 ghost use Rattle.abi_scalar.specs.Order.{HasPlaceForEach, IsAscending};
 ghost use Rattle.abi_scalar.specs.Shape.{listed_offsets};
@@ -14,7 +15,9 @@ ghost use Rattle.abi_calc.specs.Least.{IsEachOrderTooLarge, IsLeastSize, LiesInS
 ghost use Rattle.abi_calc.specs.List.{AreSized, HasLawfulAligns, IsFirstFaultless, IsListAnswer, parts_of, unadjusted_of};
 ghost use Rattle.abi_calc.specs.ListView.{bulk_of, bulky_parts};
 ghost use Rattle.abi_calc.specs.ListNiche.{HasLargestNiche, IsNicheOfPart};
+ghost use Rattle.abi_calc.specs.Marks.{HasListMarks};
 ghost use Rattle.abi_calc.specs.Placement.{IsLawfulPrefix, IsNonEmptyIfUnsized, IsSized, cut, list_repr, start_of, sum_rounded};
+ghost use Rattle.abi_calc.specs.Seen.{view_of_fields};
 
 use crate::calculator::LayoutCalculator;
 use crate::fields::{greatest_repr_align, lies_as_in_c, seed_with};
@@ -223,6 +226,13 @@ impl<Cx: HasDataLayout> LayoutCalculator<Cx> {
 
         // Where the order is free, sized fields leave no padding but at the end.
         ensures sum { IsTrue (list_repr (Cx.target self.now.cx) repr.now kind).reorderable → IsSized kind → IfOk result (λ l. l.size ≡ sum_rounded (list_repr (Cx.target self.now.cx) repr.now kind) (parts_of (Cx.target self.now.cx) (map F.layout_of (items_of fields.entry)))) }
+
+        // It has one variant, is seen as its fields tell, and has their marks.
+        ensures single { IfOk result (λ l. l.variants ≡ Single (VariantIdx.at 0)) }
+        ensures view { IfOk result (λ l. l.backend_repr ≡ view_of_fields (Cx.target self.now.cx) repr.now
+            (map F.layout_of (items_of fields.entry)) l) }
+        ensures marks { IfOk result (HasListMarks (Cx.target self.now.cx) repr.now kind
+            (map F.layout_of (items_of fields.entry))) }
 
         // The memory order has a place for each field and never steps back.
         ensures places { IfOk result (λ l. HasPlaceForEach l.fields) }

@@ -10,6 +10,7 @@ ghost use Rattle.abi_scalar.specs.Lawful.{IsLawfulLayout};
 ghost use Rattle.abi_scalar.specs.Order.{HasPlaceForEach, IsAscending};
 ghost use Rattle.abi_scalar.specs.View.{union_view};
 ghost use Rattle.abi_calc.specs.Fields.{greatest_align, greatest_size};
+ghost use Rattle.abi_calc.specs.Marks.{HasUnionMarks};
 ghost use Rattle.abi_calc.specs.Union.{CountsForView, HasView, IsAlignedFor, IsCommonView, IsUnionAnswer, IsUnionTooLarge, IsUnionView, KnowsScalarsOf, first_unsized, only_of, raised_to, unraised_align, union_align};
 
 use crate::calculator::LayoutCalculator;
@@ -253,6 +254,8 @@ impl<Cx: HasDataLayout> LayoutCalculator<Cx> {
         ensures lawful { IfOk result (IsLawfulLayout (Cx.target self.now.cx)) }
         ensures niche { IfOk result (λ l. l.largest_niche ≡ None) }
         ensures inhabited { IfOk result (λ l. l.uninhabited ≡ false) }
+        ensures marks { IfOk result (HasUnionMarks (Cx.target self.now.cx) repr.now
+            (map F.layout_of (only_of (items_of variants.entry)))) }
 
         // It is refused for its size exactly where its fields are sized and it is too large.
         ensures too_large { result ≡ Err LayoutCalculatorError.SizeOverflow → IsUnionTooLarge (Cx.target self.now.cx) repr.now (map F.layout_of (only_of (items_of variants.entry))) }

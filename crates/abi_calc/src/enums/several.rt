@@ -51,6 +51,7 @@ impl<Cx: HasDataLayout> LayoutCalculator<Cx> {
         requires tags { AreLawfulTags VariantIdx.number (Cx.target self.now.cx) repr.now (D.post discr_range_of_repr) (map (map F.layout_of) variants.now) discriminants.now }
         ensures exact { (result ≡ Err LayoutCalculatorError.OutOfMemory) ⊎ IsAskedAnswer F.layout_of FieldIdx.at FieldIdx.number (VariantIdx.at 0) (Cx.target self.now.cx) repr.now (D.post discr_range_of_repr) (counting_of VariantIdx.number repr.now (map (map F.layout_of) variants.now) discriminants.now) variants.now result }
         ensures lawful { IfOk result (IsLawfulLayout (Cx.target self.now.cx)) }
+        ensures within { IfOk result (λ l. All (λ fields. length fields ≤ FieldIdx.MAX_INDEX + 1) variants.now) }
         ensures told { IfOk result (IsToldByTag (Cx.target self.now.cx) VariantIdx.number (map (map F.layout_of) variants.now) discriminants.now) }
         ensures size { IfOk result (λ l. HasTaggedSize F.layout_of FieldIdx.at (VariantIdx.at 0) (Cx.target self.now.cx) repr.now (D.post discr_range_of_repr) (counting_of VariantIdx.number repr.now (map (map F.layout_of) variants.now) discriminants.now) variants.now l.size) }
         ensures too_large { result ≡ Err LayoutCalculatorError.SizeOverflow → IsAskedTooLarge (Cx.target self.now.cx) repr.now (D.post discr_range_of_repr) (counting_of VariantIdx.number repr.now (map (map F.layout_of) variants.now) discriminants.now) (map (map F.layout_of) variants.now) }
@@ -97,6 +98,7 @@ impl<Cx: HasDataLayout> LayoutCalculator<Cx> {
         requires tags { AreLawfulTags VariantIdx.number (Cx.target self.now.cx) repr.now (D.post discr_range_of_repr) (map (map F.layout_of) variants.now) discriminants.now }
         ensures exact { IsEnumAnswer F.layout_of FieldIdx.at FieldIdx.number VariantIdx.at VariantIdx.number (Cx.target self.now.cx) repr.now (D.post discr_range_of_repr) variants.now discriminants.now result }
         ensures lawful { IfOk result (IsLawfulLayout (Cx.target self.now.cx)) }
+        ensures within { IfOk result (λ l. All (λ fields. length fields ≤ FieldIdx.MAX_INDEX + 1) variants.now) }
         ensures told { IfOk result (AreToldApart (Cx.target self.now.cx) VariantIdx.number (map (map F.layout_of) variants.now) discriminants.now) }
         ensures size { IfOk result (λ l. HasEnumSize F.layout_of FieldIdx.at (VariantIdx.at 0) (Cx.target self.now.cx) repr.now (D.post discr_range_of_repr) (counting_of VariantIdx.number repr.now (map (map F.layout_of) variants.now) discriminants.now) variants.now l.size) }
         ensures too_large { result ≡ Err LayoutCalculatorError.SizeOverflow → IsAskedTooLarge (Cx.target self.now.cx) repr.now (D.post discr_range_of_repr) (counting_of VariantIdx.number repr.now (map (map F.layout_of) variants.now) discriminants.now) (map (map F.layout_of) variants.now) }
@@ -144,6 +146,7 @@ impl<Cx: HasDataLayout> LayoutCalculator<Cx> {
             × AreLawfulTags VariantIdx.number (Cx.target self.now.cx) repr.now (D.post discr_range_of_repr) (map (map F.layout_of) variants.now) run.items) }
         ensures exact { IsSeveralAnswer F.layout_of FieldIdx.at FieldIdx.number VariantIdx.at VariantIdx.number (Cx.target self.now.cx) repr.now (D.post discr_range_of_repr) variants.now (λ items. WholeRun I.next_gives discriminants (λ run. items ≡ run.items)) result }
         ensures lawful { IfOk result (IsLawfulLayout (Cx.target self.now.cx)) }
+        ensures within { IfOk result (λ l. All (λ fields. length fields ≤ FieldIdx.MAX_INDEX + 1) variants.now) }
         ensures told { IfOk result (λ l. WholeRun I.next_gives discriminants (λ run. AreToldApart (Cx.target self.now.cx) VariantIdx.number (map (map F.layout_of) variants.now) run.items l)) }
         ensures size { IfOk result (λ l. WholeRun I.next_gives discriminants (λ run. HasEnumSize F.layout_of FieldIdx.at (VariantIdx.at 0) (Cx.target self.now.cx) repr.now (D.post discr_range_of_repr) (counting_of VariantIdx.number repr.now (map (map F.layout_of) variants.now) run.items) variants.now l.size)) }
         ensures packed { IsSome repr.now.pack → result ≡ Err LayoutCalculatorError.ReprConflict }

@@ -206,6 +206,9 @@ impl<Cx: HasDataLayout> LayoutCalculator<Cx> {
 
         ensures lawful { IfOk result (IsLawfulLayout (Cx.target self.now.cx)) }
 
+        // Each variant's fields can be named by their index type.
+        ensures within { IfOk result (λ l. All (λ fields. length fields ≤ FieldIdx.MAX_INDEX + 1) variants.now) }
+
         // A view of scalars begins with the tag, and what stands beside it holds anything.
         ensures view { IfOk result (λ l. HasViewOfTag (Cx.target self.now.cx) l) }
 

@@ -1,10 +1,17 @@
 -- The slices have the views' items.
-use Rattle.std.proofs.Common.{◌≢◌, ◌+◌, ◌<◌, ◌≤◌, ◌∙◌, ap, length, map, subst, sym}
+use Rattle.std.proofs.Common.{◌≡◌, ◌≢◌, ◌+◌, ◌<◌, ◌≤◌, ◌∙◌, ℕ, List, ap, get_or, length, map, subst, sym}
 use Rattle.std.specs.Prelude.{All}
 use Rattle.std.specs.List.{AllPairs}
+use Rattle.std.proofs.lemmas.List.{length-map}
+use Rattle.std.proofs.lemmas.List.Elements.{All-map}
+use Rattle.abi_base.specs.declared.data_layout.TargetDataLayout.{TargetDataLayout}
 use Rattle.abi_index.specs.Slice.{items_of}
 use Rattle.abi_scalar.specs.Lawful.{IsLawfulLayout}
+use Rattle.abi_scalar.specs.Simple.{scalar_layout}
 use Rattle.abi_calc.specs.Coroutine.Layout.{IsStateTag}
+use Rattle.abi_calc.proofs.CoroutineAnswers.{IsAsked}
+use Rattle.abi_calc.proofs.CoroutineOrdered.{coroutine_ordered}
+use Rattle.abi_calc.proofs.CoroutineSeen.{coroutine_align, coroutine_made, coroutine_marks, coroutine_niche, coroutine_view}
 use Rattle.abi_calc.proofs.calculator.LayoutCalculator.layout_of_coroutine.Goals as goal
 
 pub layout_of_states-requires-clause-locals : goal.layout_of_states-requires-clause-locals
@@ -40,15 +47,38 @@ layout_of_states-requires-clause-tag g c =
     λ tag field is post. c.requires.tag tag field (subst (λ s. IsStateTag (length s) tag) c.as_raw-states.ensures.items is) post
 
 pub returns : goal.returns
-returns g c = record {
-  exact = rw (sym c.as_raw-locals.ensures.items, sym c.as_raw-states.ensures.items) c.layout_of_states.ensures.exact;
-  lawful = c.layout_of_states.ensures.lawful;
-  told = rw (sym c.as_raw-locals.ensures.items, sym c.as_raw-states.ensures.items) c.layout_of_states.ensures.told;
-  clash = rw (sym c.as_raw-locals.ensures.items, sym c.as_raw-states.ensures.items) c.layout_of_states.ensures.clash;
-  one_offset = rw (sym c.as_raw-states.ensures.items) c.layout_of_states.ensures.one_offset;
-  size = rw (sym c.as_raw-locals.ensures.items, sym c.as_raw-states.ensures.items) c.layout_of_states.ensures.size;
-  overlap = rw (sym c.as_raw-locals.ensures.items, sym c.as_raw-states.ensures.items) c.layout_of_states.ensures.overlap;
-  too_large = rw (sym c.as_raw-locals.ensures.items, sym c.as_raw-states.ensures.items) c.layout_of_states.ensures.too_large;
-  refused = rw (sym c.as_raw-locals.ensures.items, sym c.as_raw-states.ensures.items) c.layout_of_states.ensures.refused;
-  no_other = rw (sym c.as_raw-locals.ensures.items) c.layout_of_states.ensures.no_other;
-}
+returns g c =
+    let dl : TargetDataLayout = g.Cx.HasDataLayout.target c.args.self.now.cx in
+    let locals = items_of c.args.local_layouts in
+    let states : List (List ℕ) = map (map g.LocalIdx.Idx.number) (items_of c.args.variant_fields) in
+    let exact = rw (c.as_raw-locals.ensures.items, c.as_raw-states.ensures.items) at c.layout_of_states.ensures.exact in
+    let holds : g.F.LayoutHandle.layout_of exact.2 ≡ scalar_layout (g.VariantIdx.Idx.at 0) dl exact.0 = c.requires.tag exact.0 exact.2 exact.1 exact.3 in
+    let tells : IsStateTag (length states) exact.0 = subst (λ n. IsStateTag n exact.0) (sym (length-map (items_of c.args.variant_fields) (map g.LocalIdx.Idx.number))) exact.1 in
+    let asked : IsAsked g.F.LayoutHandle.layout_of (g.VariantIdx.Idx.at 0) dl c.args.prefix_layouts exact.0 exact.2 locals states
+    = record { law = c.requires.data_layout; before = c.requires.prefix; all = c.requires.locals; tells = tells; holds = holds } in
+    record {
+      exact = exact;
+      lawful = c.layout_of_states.ensures.lawful;
+      niche = coroutine_niche g.F.LayoutHandle.layout_of g.FieldIdx.Idx.at g.FieldIdx.Idx.number (g.VariantIdx.Idx.at 0) dl c.args.prefix_layouts exact.0 exact.2 locals states c.args.storage_conflicts.now c.layout_of_states.result exact.4;
+      view = coroutine_view g.F.LayoutHandle.layout_of g.FieldIdx.Idx.at g.FieldIdx.Idx.number (g.VariantIdx.Idx.at 0) dl c.args.prefix_layouts exact.0 exact.2 locals states c.args.storage_conflicts.now c.layout_of_states.result exact.4;
+      alignment = coroutine_align g.F.LayoutHandle.layout_of g.FieldIdx.Idx.at g.FieldIdx.Idx.number (g.VariantIdx.Idx.at 0) dl c.args.prefix_layouts exact.0 exact.2 locals states c.args.storage_conflicts.now holds tells
+          c.layout_of_states.result exact.4;
+      marks = coroutine_marks g.F.LayoutHandle.layout_of g.FieldIdx.Idx.at g.FieldIdx.Idx.number (g.VariantIdx.Idx.at 0) dl c.args.prefix_layouts exact.0 exact.2 locals states c.args.storage_conflicts.now holds
+          c.layout_of_states.result exact.4;
+      made = coroutine_made g.F.LayoutHandle.layout_of g.FieldIdx.Idx.at g.FieldIdx.Idx.number (g.VariantIdx.Idx.at 0) dl c.args.prefix_layouts exact.0 exact.2 locals states c.args.storage_conflicts.now holds asked
+          c.layout_of_states.result exact.4;
+      ordered = coroutine_ordered g.F.LayoutHandle.layout_of g.FieldIdx.Idx.at g.FieldIdx.Idx.number g.FieldIdx.Idx.MAX_INDEX g.met.FieldIdx.Idx.number_at (g.VariantIdx.Idx.at 0) dl c.args.prefix_layouts exact.0 exact.2 locals states
+          c.args.storage_conflicts.now c.requires.rows c.requires.count
+          (All-map (AllPairs (λ a b. a ≢ b)) (map g.LocalIdx.Idx.number) (items_of c.args.variant_fields) c.requires.once)
+          (All-map (All (λ l. l < length locals)) (map g.LocalIdx.Idx.number) (items_of c.args.variant_fields)
+          (λ k d short. All-map (λ l. l < length locals) g.LocalIdx.Idx.number (get_or (items_of c.args.variant_fields) k d) (c.requires.within k d short)))
+          c.layout_of_states.result exact.4;
+      told = rw (sym c.as_raw-locals.ensures.items, sym c.as_raw-states.ensures.items) c.layout_of_states.ensures.told;
+      clash = rw (sym c.as_raw-locals.ensures.items, sym c.as_raw-states.ensures.items) c.layout_of_states.ensures.clash;
+      one_offset = rw (sym c.as_raw-states.ensures.items) c.layout_of_states.ensures.one_offset;
+      size = rw (sym c.as_raw-locals.ensures.items, sym c.as_raw-states.ensures.items) c.layout_of_states.ensures.size;
+      overlap = rw (sym c.as_raw-locals.ensures.items, sym c.as_raw-states.ensures.items) c.layout_of_states.ensures.overlap;
+      too_large = rw (sym c.as_raw-locals.ensures.items, sym c.as_raw-states.ensures.items) c.layout_of_states.ensures.too_large;
+      refused = rw (sym c.as_raw-locals.ensures.items, sym c.as_raw-states.ensures.items) c.layout_of_states.ensures.refused;
+      no_other = rw (sym c.as_raw-locals.ensures.items) c.layout_of_states.ensures.no_other;
+    }

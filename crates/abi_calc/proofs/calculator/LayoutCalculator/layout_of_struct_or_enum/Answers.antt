@@ -1,7 +1,8 @@
 -- The type is laid out by the way that its variants tell: as one list, or as several variants.
-use Rattle.std.proofs.Common.{◌≡◌, ◌∙◌, ◌<◌, ℕ, ap, arith, length, map, subst, sym}
+use Rattle.std.proofs.Common.{◌≡◌, ◌+◌, ◌∙◌, ◌<◌, ◌≤◌, ℕ, ap, arith, length, map, subst, sym}
 use Rattle.std.specs.Prelude.{◌⊎◌, All, Bool, Err, IfErr, IfOk, IsTrue, None, ℤ}
 use Rattle.std.specs.Iterator.Runs.{EachRunFrom, WholeRun}
+use Rattle.std.specs.List.{list_all}
 use Rattle.abi_base.specs.declared.data_layout.TargetDataLayout.{TargetDataLayout}
 use Rattle.abi_base.specs.declared.integer.Integer.{Integer}
 use Rattle.abi_index.specs.Slice.{items_of}
@@ -9,14 +10,20 @@ use Rattle.abi_scalar.specs.declared.error.LayoutCalculatorError.TheVariants.{Ou
 use Rattle.abi_scalar.specs.declared.variants.RangeFrom.{RangeFrom}
 use Rattle.abi_scalar.specs.declared.variants.RangeToInclusive.{RangeToInclusive}
 use Rattle.abi_scalar.specs.Lawful.{IsLawfulLayout}
+use Rattle.abi_scalar.specs.Variant.{variants_of}
 use Rattle.abi_calc.specs.Answer.{IsAnswer}
 use Rattle.abi_calc.specs.Least.{IsEachOrderTooLarge}
 use Rattle.abi_calc.specs.List.{AreSized}
+use Rattle.abi_calc.specs.Placement.{IsNonEmptyIfUnsized}
 use Rattle.abi_calc.specs.Enums.Answer.{HasOneEach, IsGoodSingle}
 use Rattle.abi_calc.specs.Enums.Beside.{AreToldApart}
 use Rattle.abi_calc.specs.Enums.Discriminants.{counting_of}
-use Rattle.abi_calc.specs.Enums.Path.{path_of}
-use Rattle.abi_calc.specs.Enums.Several.{AreLawfulTags, HasEnumSize, IsAlwaysTooLarge, IsAskedTooLarge}
+use Rattle.abi_calc.specs.Enums.Made.{AreVariantsAligned, HasLeastTag, IsMadeOfLists}
+use Rattle.abi_calc.specs.Enums.Path.{has_no_value, path_of}
+use Rattle.abi_calc.specs.Ordered.{IsTagField}
+use Rattle.abi_calc.specs.Enums.Several.{AreLawfulTags, HasEnumSize, IsAlwaysTooLarge, IsAskedTooLarge, IsSeveralAnswer}
+use Rattle.abi_calc.proofs.EnumMade.{niche_aligned, niche_field, niche_flag, niche_least, niche_made, several_ok, several_ordered, several_run, tagged_aligned, tagged_field, tagged_flag, tagged_least, tagged_made}
+use Rattle.abi_calc.proofs.EnumSeen.{seen_at}
 use Rattle.abi_calc.proofs.EnumType.{IsReadAt, at_listed, fields_hold, good_single, index_within, read_at, several_exact, several_some, single_exact}
 use Rattle.abi_calc.proofs.calculator.LayoutCalculator.layout_of_struct_or_enum.Given as given
 use Rattle.abi_calc.proofs.calculator.LayoutCalculator.layout_of_struct_or_enum.Goals as goal
@@ -100,6 +107,14 @@ returns-in-OneList-clause-list_no_other g c =
     c.args.is_enum c.args.always_sized vs (path_of c.args.is_enum c.args.repr.now (map (map g.F.LayoutHandle.layout_of) vs)) c.in-OneList.index c.single_kind-kind.result (items_of c.as_slice.result) (read g c)
     c.layout_of_single.ensures.no_other
 
+pub returns-in-OneList-clause-seen : goal.returns-in-OneList-clause-seen
+returns-in-OneList-clause-seen g c =
+    let vs = items_of c.args.variants in
+    let count : c.len.result ≡ length (items_of c.as_slice.result) = c.len.ensures.count ∙ ap length (sym c.as_slice.ensures) in
+    seen_at g.F.LayoutHandle.layout_of g.FieldIdx.Idx.at g.VariantIdx.Idx.at (g.Cx.HasDataLayout.target c.args.self.now.cx) c.args.repr.now vs c.args.is_enum c.args.always_sized c.args.niche_optimizations
+    (path_of c.args.is_enum c.args.repr.now (map (map g.F.LayoutHandle.layout_of) vs)) c.layout_of_single.result c.in-OneList.index c.single_kind-kind.result (items_of c.as_slice.result) c.new.result (read g c) c.new.ensures
+    (subst (IsNonEmptyIfUnsized c.single_kind-kind.result) count c.single_kind-kind.ensures.tail) c.layout_of_single.ensures.exact
+
 -- ---- several variants
 
 pub layout_of_several-requires-clause-fields : goal.layout_of_several-requires-clause-fields
@@ -161,3 +176,90 @@ pub returns-in-Several-clause-no_other : goal.returns-in-Several-clause-no_other
 returns-in-Several-clause-no_other g c way =
     subst (λ vs. c.args.repr.now.pack ≡ None → All AreSized (map (map g.F.LayoutHandle.layout_of) vs) → IfErr c.layout_of_several.result (λ e. (e ≡ SizeOverflow) ⊎ (e ≡ OutOfMemory)))
     c.as_raw-all.ensures.items c.layout_of_several.ensures.no_other
+
+pub returns-in-Several-clause-made : goal.returns-in-Several-clause-made
+returns-in-Several-clause-made g c way =
+    let dl : TargetDataLayout = g.Cx.HasDataLayout.target c.args.self.now.cx in
+    let asks : RangeFrom ℤ → RangeToInclusive ℕ → Integer × Bool → Type 0 = λ least greatest answer. g.D.Fn.post c.args.discr_range_of_repr (least, (greatest, tt)) answer in
+    let vs = items_of c.args.variants in
+    let exact : IsSeveralAnswer g.F.LayoutHandle.layout_of g.FieldIdx.Idx.at g.FieldIdx.Idx.number g.VariantIdx.Idx.at g.VariantIdx.Idx.number dl c.args.repr.now asks vs
+    (λ items. WholeRun g.I.Iterator.next_gives c.args.discriminants (λ run. items ≡ run.items)) c.layout_of_several.result
+    = subst (λ vs. IsSeveralAnswer g.F.LayoutHandle.layout_of g.FieldIdx.Idx.at g.FieldIdx.Idx.number g.VariantIdx.Idx.at g.VariantIdx.Idx.number dl c.args.repr.now asks vs
+    (λ items. WholeRun g.I.Iterator.next_gives c.args.discriminants (λ run. items ≡ run.items)) c.layout_of_several.result) c.as_raw-all.ensures.items c.layout_of_several.ensures.exact in
+    let few : length vs ≤ g.VariantIdx.Idx.MAX_INDEX + 1 = subst (λ vs. length vs ≤ g.VariantIdx.Idx.MAX_INDEX + 1) c.as_raw-all.ensures.items c.as_raw-all.ensures.within in
+    several_run g.F.LayoutHandle.layout_of g.FieldIdx.Idx.at g.FieldIdx.Idx.number g.VariantIdx.Idx.at g.VariantIdx.Idx.number dl c.args.repr.now asks vs
+    (λ items l. IsMadeOfLists g.FieldIdx.Idx.at g.VariantIdx.Idx.number dl c.args.repr.now asks (counting_of g.VariantIdx.Idx.number c.args.repr.now (map (map g.F.LayoutHandle.layout_of) vs) items) (map (map g.F.LayoutHandle.layout_of) vs) l)
+    (tagged_made g.F.LayoutHandle.layout_of g.FieldIdx.Idx.at g.FieldIdx.Idx.number g.VariantIdx.Idx.at g.VariantIdx.Idx.number dl c.args.repr.now asks vs c.requires.fields) (niche_made g.F.LayoutHandle.layout_of g.FieldIdx.Idx.at g.FieldIdx.Idx.number g.VariantIdx.Idx.at g.VariantIdx.Idx.number dl c.args.repr.now asks vs c.requires.fields g.VariantIdx.Idx.MAX_INDEX g.met.VariantIdx.Idx.number_at few)
+    g.I.Iterator.next_gives c.args.discriminants c.layout_of_several.result exact
+
+pub returns-in-Several-clause-uninhabited : goal.returns-in-Several-clause-uninhabited
+returns-in-Several-clause-uninhabited g c way =
+    let dl : TargetDataLayout = g.Cx.HasDataLayout.target c.args.self.now.cx in
+    let asks : RangeFrom ℤ → RangeToInclusive ℕ → Integer × Bool → Type 0 = λ least greatest answer. g.D.Fn.post c.args.discr_range_of_repr (least, (greatest, tt)) answer in
+    let vs = items_of c.args.variants in
+    let exact : IsSeveralAnswer g.F.LayoutHandle.layout_of g.FieldIdx.Idx.at g.FieldIdx.Idx.number g.VariantIdx.Idx.at g.VariantIdx.Idx.number dl c.args.repr.now asks vs
+    (λ items. WholeRun g.I.Iterator.next_gives c.args.discriminants (λ run. items ≡ run.items)) c.layout_of_several.result
+    = subst (λ vs. IsSeveralAnswer g.F.LayoutHandle.layout_of g.FieldIdx.Idx.at g.FieldIdx.Idx.number g.VariantIdx.Idx.at g.VariantIdx.Idx.number dl c.args.repr.now asks vs
+    (λ items. WholeRun g.I.Iterator.next_gives c.args.discriminants (λ run. items ≡ run.items)) c.layout_of_several.result) c.as_raw-all.ensures.items c.layout_of_several.ensures.exact in
+    several_ok g.F.LayoutHandle.layout_of g.FieldIdx.Idx.at g.FieldIdx.Idx.number g.VariantIdx.Idx.at g.VariantIdx.Idx.number dl c.args.repr.now asks vs
+    (λ l. l.uninhabited ≡ list_all (λ fields. has_no_value fields) (map (map g.F.LayoutHandle.layout_of) vs))
+    (tagged_flag g.F.LayoutHandle.layout_of g.FieldIdx.Idx.at g.FieldIdx.Idx.number g.VariantIdx.Idx.at g.VariantIdx.Idx.number dl c.args.repr.now asks vs) (niche_flag g.F.LayoutHandle.layout_of g.FieldIdx.Idx.at g.FieldIdx.Idx.number g.VariantIdx.Idx.at g.VariantIdx.Idx.number dl c.args.repr.now asks vs)
+    (λ items. WholeRun g.I.Iterator.next_gives c.args.discriminants (λ run. items ≡ run.items)) c.layout_of_several.result exact
+
+pub returns-in-Several-clause-tag : goal.returns-in-Several-clause-tag
+returns-in-Several-clause-tag g c way =
+    let dl : TargetDataLayout = g.Cx.HasDataLayout.target c.args.self.now.cx in
+    let asks : RangeFrom ℤ → RangeToInclusive ℕ → Integer × Bool → Type 0 = λ least greatest answer. g.D.Fn.post c.args.discr_range_of_repr (least, (greatest, tt)) answer in
+    let vs = items_of c.args.variants in
+    let exact : IsSeveralAnswer g.F.LayoutHandle.layout_of g.FieldIdx.Idx.at g.FieldIdx.Idx.number g.VariantIdx.Idx.at g.VariantIdx.Idx.number dl c.args.repr.now asks vs
+    (λ items. WholeRun g.I.Iterator.next_gives c.args.discriminants (λ run. items ≡ run.items)) c.layout_of_several.result
+    = subst (λ vs. IsSeveralAnswer g.F.LayoutHandle.layout_of g.FieldIdx.Idx.at g.FieldIdx.Idx.number g.VariantIdx.Idx.at g.VariantIdx.Idx.number dl c.args.repr.now asks vs
+    (λ items. WholeRun g.I.Iterator.next_gives c.args.discriminants (λ run. items ≡ run.items)) c.layout_of_several.result) c.as_raw-all.ensures.items c.layout_of_several.ensures.exact in
+    several_run g.F.LayoutHandle.layout_of g.FieldIdx.Idx.at g.FieldIdx.Idx.number g.VariantIdx.Idx.at g.VariantIdx.Idx.number dl c.args.repr.now asks vs
+    (λ items l. HasLeastTag (counting_of g.VariantIdx.Idx.number c.args.repr.now (map (map g.F.LayoutHandle.layout_of) vs) items) l.variants)
+    (tagged_least g.F.LayoutHandle.layout_of g.FieldIdx.Idx.at g.FieldIdx.Idx.number g.VariantIdx.Idx.at g.VariantIdx.Idx.number dl c.args.repr.now asks vs) (niche_least g.F.LayoutHandle.layout_of g.FieldIdx.Idx.at g.FieldIdx.Idx.number g.VariantIdx.Idx.at g.VariantIdx.Idx.number dl c.args.repr.now asks vs)
+    g.I.Iterator.next_gives c.args.discriminants c.layout_of_several.result exact
+
+pub returns-in-Several-clause-tag_field : goal.returns-in-Several-clause-tag_field
+returns-in-Several-clause-tag_field g c way =
+    let dl : TargetDataLayout = g.Cx.HasDataLayout.target c.args.self.now.cx in
+    let asks : RangeFrom ℤ → RangeToInclusive ℕ → Integer × Bool → Type 0 = λ least greatest answer. g.D.Fn.post c.args.discr_range_of_repr (least, (greatest, tt)) answer in
+    let vs = items_of c.args.variants in
+    let exact : IsSeveralAnswer g.F.LayoutHandle.layout_of g.FieldIdx.Idx.at g.FieldIdx.Idx.number g.VariantIdx.Idx.at g.VariantIdx.Idx.number dl c.args.repr.now asks vs
+    (λ items. WholeRun g.I.Iterator.next_gives c.args.discriminants (λ run. items ≡ run.items)) c.layout_of_several.result
+    = subst (λ vs. IsSeveralAnswer g.F.LayoutHandle.layout_of g.FieldIdx.Idx.at g.FieldIdx.Idx.number g.VariantIdx.Idx.at g.VariantIdx.Idx.number dl c.args.repr.now asks vs
+    (λ items. WholeRun g.I.Iterator.next_gives c.args.discriminants (λ run. items ≡ run.items)) c.layout_of_several.result) c.as_raw-all.ensures.items c.layout_of_several.ensures.exact in
+    let first : g.FieldIdx.Idx.number (g.FieldIdx.Idx.at 0) ≡ 0 = g.met.FieldIdx.Idx.number_at 0 (omega arith) in
+    several_ok g.F.LayoutHandle.layout_of g.FieldIdx.Idx.at g.FieldIdx.Idx.number g.VariantIdx.Idx.at g.VariantIdx.Idx.number dl c.args.repr.now asks vs
+    (λ l. IsTagField g.FieldIdx.Idx.number 0 l.variants)
+    (tagged_field g.F.LayoutHandle.layout_of g.FieldIdx.Idx.at g.FieldIdx.Idx.number g.VariantIdx.Idx.at g.VariantIdx.Idx.number dl c.args.repr.now asks vs first) (niche_field g.F.LayoutHandle.layout_of g.FieldIdx.Idx.at g.FieldIdx.Idx.number g.VariantIdx.Idx.at g.VariantIdx.Idx.number dl c.args.repr.now asks vs first)
+    (λ items. WholeRun g.I.Iterator.next_gives c.args.discriminants (λ run. items ≡ run.items)) c.layout_of_several.result exact
+
+pub returns-in-Several-clause-aligned : goal.returns-in-Several-clause-aligned
+returns-in-Several-clause-aligned g c way =
+    let dl : TargetDataLayout = g.Cx.HasDataLayout.target c.args.self.now.cx in
+    let asks : RangeFrom ℤ → RangeToInclusive ℕ → Integer × Bool → Type 0 = λ least greatest answer. g.D.Fn.post c.args.discr_range_of_repr (least, (greatest, tt)) answer in
+    let vs = items_of c.args.variants in
+    let exact : IsSeveralAnswer g.F.LayoutHandle.layout_of g.FieldIdx.Idx.at g.FieldIdx.Idx.number g.VariantIdx.Idx.at g.VariantIdx.Idx.number dl c.args.repr.now asks vs
+    (λ items. WholeRun g.I.Iterator.next_gives c.args.discriminants (λ run. items ≡ run.items)) c.layout_of_several.result
+    = subst (λ vs. IsSeveralAnswer g.F.LayoutHandle.layout_of g.FieldIdx.Idx.at g.FieldIdx.Idx.number g.VariantIdx.Idx.at g.VariantIdx.Idx.number dl c.args.repr.now asks vs
+    (λ items. WholeRun g.I.Iterator.next_gives c.args.discriminants (λ run. items ≡ run.items)) c.layout_of_several.result) c.as_raw-all.ensures.items c.layout_of_several.ensures.exact in
+    several_ok g.F.LayoutHandle.layout_of g.FieldIdx.Idx.at g.FieldIdx.Idx.number g.VariantIdx.Idx.at g.VariantIdx.Idx.number dl c.args.repr.now asks vs
+    (λ l. AreVariantsAligned (map (map g.F.LayoutHandle.layout_of) vs) (variants_of l.variants))
+    (tagged_aligned g.F.LayoutHandle.layout_of g.FieldIdx.Idx.at g.FieldIdx.Idx.number g.VariantIdx.Idx.at g.VariantIdx.Idx.number dl c.args.repr.now asks vs) (niche_aligned g.F.LayoutHandle.layout_of g.FieldIdx.Idx.at g.FieldIdx.Idx.number g.VariantIdx.Idx.at g.VariantIdx.Idx.number dl c.args.repr.now asks vs)
+    (λ items. WholeRun g.I.Iterator.next_gives c.args.discriminants (λ run. items ≡ run.items)) c.layout_of_several.result exact
+
+pub returns-in-Several-clause-ordered : goal.returns-in-Several-clause-ordered
+returns-in-Several-clause-ordered g c way =
+    let dl : TargetDataLayout = g.Cx.HasDataLayout.target c.args.self.now.cx in
+    let asks : RangeFrom ℤ → RangeToInclusive ℕ → Integer × Bool → Type 0 = λ least greatest answer. g.D.Fn.post c.args.discr_range_of_repr (least, (greatest, tt)) answer in
+    let vs = items_of c.args.variants in
+    let exact : IsSeveralAnswer g.F.LayoutHandle.layout_of g.FieldIdx.Idx.at g.FieldIdx.Idx.number g.VariantIdx.Idx.at g.VariantIdx.Idx.number dl c.args.repr.now asks vs
+    (λ items. WholeRun g.I.Iterator.next_gives c.args.discriminants (λ run. items ≡ run.items)) c.layout_of_several.result
+    = subst (λ vs. IsSeveralAnswer g.F.LayoutHandle.layout_of g.FieldIdx.Idx.at g.FieldIdx.Idx.number g.VariantIdx.Idx.at g.VariantIdx.Idx.number dl c.args.repr.now asks vs
+    (λ items. WholeRun g.I.Iterator.next_gives c.args.discriminants (λ run. items ≡ run.items)) c.layout_of_several.result) c.as_raw-all.ensures.items c.layout_of_several.ensures.exact in
+    let few : IfOk c.layout_of_several.result (λ l. All (λ fields. length fields ≤ g.FieldIdx.Idx.MAX_INDEX + 1) vs)
+    = subst (λ vs. IfOk c.layout_of_several.result (λ l. All (λ fields. length fields ≤ g.FieldIdx.Idx.MAX_INDEX + 1) vs)) c.as_raw-all.ensures.items c.layout_of_several.ensures.within in
+    several_ordered g.F.LayoutHandle.layout_of g.FieldIdx.Idx.at g.FieldIdx.Idx.number g.VariantIdx.Idx.at g.VariantIdx.Idx.number dl c.args.repr.now asks vs
+    g.FieldIdx.Idx.MAX_INDEX g.met.FieldIdx.Idx.number_at c.requires.data_layout c.requires.fields c.requires.repr
+    (λ items. WholeRun g.I.Iterator.next_gives c.args.discriminants (λ run. items ≡ run.items)) c.layout_of_several.result exact few

@@ -1,11 +1,12 @@
 -- The data layout is the calculator's; the lists are those of the variants.
-use Rattle.std.proofs.Common.{◌≡◌, ◌∙◌, ap, map, refl, subst}
-use Rattle.std.specs.Prelude.{◌⊎◌, IfErr, IfOk}
+use Rattle.std.proofs.Common.{◌≡◌, ◌+◌, ◌≤◌, ◌∙◌, ap, length, map, refl, subst}
+use Rattle.std.specs.Prelude.{◌⊎◌, All, IfErr, IfOk}
 use Rattle.abi_base.specs.declared.data_layout.TargetDataLayout.{TargetDataLayout}
 use Rattle.abi_base.specs.declared.struct_kind.StructKind.{StructKind}
 use Rattle.abi_scalar.specs.declared.error.LayoutCalculatorError.TheVariants.{OutOfMemory}
 use Rattle.abi_calc.specs.Enums.Lists.{AreGoodLists, IsFirstListError, behind_tag}
 use Rattle.abi_calc.proofs.EnumAnswers.{HasGoodLists, IsBy, IsWholeFault, by_apart, by_differ, by_good, by_lawful, by_no_other, by_numbers, by_refused, by_size, by_too_large, by_view, list_no_other, list_refused, list_too_large}
+use Rattle.abi_calc.proofs.EnumOrdered.{if_any}
 use Rattle.abi_calc.proofs.EnumTagged.{tagged_answer}
 use Rattle.abi_calc.proofs.calculator.LayoutCalculator.layout_of_tagged.Goals as goal
 
@@ -42,6 +43,7 @@ returns-in-Ok g c =
       good = by_good layout_of at number first dl c.args.repr.now c.args.asked c.args.signed c.args.values.now behind c.args.variants.now c.in-Ok.lists.items c.layout_of_lists.result h;
       size = by_size layout_of at number first dl c.args.repr.now c.args.asked c.args.signed c.args.values.now behind c.args.variants.now c.in-Ok.lists.items c.layout_of_lists.result h by;
       lawful = by_lawful layout_of at number first dl c.args.repr.now c.args.asked c.args.signed c.args.values.now behind c.args.variants.now c.in-Ok.lists.items g.FieldIdx.Idx.MAX_INDEX g.met.FieldIdx.Idx.number_at c.requires.data_layout refl c.in-Ok.ensures.within c.requires.fields c.in-Ok.ensures.lawful c.layout_of_lists.result h by;
+      within = if_any (All (λ fields. length fields ≤ g.FieldIdx.Idx.MAX_INDEX + 1) c.args.variants.now) c.layout_of_lists.result c.in-Ok.ensures.within;
       view = by_view layout_of at number first dl c.args.repr.now c.args.asked c.args.signed c.args.values.now behind c.args.variants.now c.in-Ok.lists.items c.layout_of_lists.result by;
       apart = by_apart layout_of at number first dl c.args.repr.now c.args.asked c.args.signed c.args.values.now behind c.args.variants.now c.in-Ok.lists.items g.FieldIdx.Idx.MAX_INDEX g.met.FieldIdx.Idx.number_at c.requires.data_layout refl c.in-Ok.ensures.within c.layout_of_lists.result h by;
       numbers = by_numbers layout_of at number first dl c.args.repr.now c.args.asked c.args.signed c.args.values.now behind c.args.variants.now c.in-Ok.lists.items c.layout_of_lists.result by;

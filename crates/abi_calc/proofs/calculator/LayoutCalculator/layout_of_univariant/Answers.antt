@@ -1,6 +1,7 @@
 use Rattle.std.proofs.Common.{◌+◌, ◌≤◌, length, refl, inr}
 use Rattle.abi_index.specs.Slice.{items_of}
 use Rattle.abi_calc.proofs.LeastLemmas.{answer_large, answer_refused, ascends, first_never, has_greatest_niche, has_least, has_own_niche, has_places, keeps_apart, lies_after, lies_aligned, lies_in_order, listed_err, listed_ok, sized_error, sums_up}
+use Rattle.abi_calc.proofs.Seen.{list_marks, list_viewed}
 use Rattle.abi_calc.proofs.calculator.LayoutCalculator.layout_of_univariant.Goals as goal
 
 pub layout_of_list-requires-clause-fields : goal.layout_of_list-requires-clause-fields
@@ -83,3 +84,18 @@ returns-clause-ascending g c =
     let exact = rw (c.as_raw.ensures.items, c.list_repr-list.ensures, c.data_layout-dl.ensures) at c.layout_of_list.ensures.exact in
     listed_ok g.F.LayoutHandle.layout_of _ _ _ c.args.repr.now c.args.kind _ _
     (λ order offsets l r. ascends g.F.LayoutHandle.layout_of _ _ _ c.args.repr.now c.args.kind _ g.FieldIdx.Idx.number _ g.met.FieldIdx.Idx.number_at few order offsets l c.requires.tail r) c.layout_of_list.result exact
+
+pub returns-clause-single : goal.returns-clause-single
+returns-clause-single g c =
+    let exact = rw (c.as_raw.ensures.items, c.list_repr-list.ensures, c.data_layout-dl.ensures) at c.layout_of_list.ensures.exact in
+    listed_ok g.F.LayoutHandle.layout_of _ _ _ c.args.repr.now c.args.kind _ _ (λ order offsets l r. r.variants) c.layout_of_list.result exact
+
+pub returns-clause-view : goal.returns-clause-view
+returns-clause-view g c =
+    let exact = rw (c.as_raw.ensures.items, c.list_repr-list.ensures, c.data_layout-dl.ensures) at c.layout_of_list.ensures.exact in
+    listed_ok g.F.LayoutHandle.layout_of _ _ _ c.args.repr.now c.args.kind _ _ (λ order offsets l r. list_viewed g.F.LayoutHandle.layout_of _ _ _ c.args.repr.now c.args.kind _ order offsets l r) c.layout_of_list.result exact
+
+pub returns-clause-marks : goal.returns-clause-marks
+returns-clause-marks g c =
+    let exact = rw (c.as_raw.ensures.items, c.list_repr-list.ensures, c.data_layout-dl.ensures) at c.layout_of_list.ensures.exact in
+    listed_ok g.F.LayoutHandle.layout_of _ _ _ c.args.repr.now c.args.kind _ _ (λ order offsets l r. list_marks g.F.LayoutHandle.layout_of _ _ _ c.args.repr.now c.args.kind _ order offsets l r) c.layout_of_list.result exact

@@ -35,6 +35,7 @@ returns g c =
     record {
       exact = inr (c.discr_range_of_repr-integer.result.0, c.discr_range_of_repr-integer.result.1, asked, exact);
       lawful = c.layout_of_tagged.ensures.lawful;
+      within = c.layout_of_tagged.ensures.within;
       told = told_by_tag layout_of g.FieldIdx.Idx.at g.FieldIdx.Idx.number (g.VariantIdx.Idx.at 0) g.VariantIdx.Idx.number dl c.args.repr.now c.discr_range_of_repr-integer.result.0 c.discr_range_of_repr-integer.result.1
           c.args.variants.now c.args.discriminants.now c.layout_of_tagged.result exact c.layout_of_tagged.ensures.apart
           (subst (λ (ns : List ℕ). IfOk c.layout_of_tagged.result (λ l. AreNumbersAmong dl ns l.variants)) same c.layout_of_tagged.ensures.numbers) c.layout_of_tagged.ensures.view

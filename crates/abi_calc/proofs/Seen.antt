@@ -1,0 +1,72 @@
+-- How lists, unions and types of one list are seen, from the answers that the rules give them.
+use Rattle.std.proofs.Common.{◌≡◌, ℕ, ◌∙◌, List, ap, length, map, refl, subst, sym}
+use Rattle.std.specs.Prelude.{IfOk, Result, Ok, Err}
+use Rattle.abi_base.specs.declared.data_layout.TargetDataLayout.{TargetDataLayout}
+use Rattle.abi_base.specs.declared.niche_optimizations.NicheOptimizations.{NicheOptimizations}
+use Rattle.abi_base.specs.declared.niche_optimizations.NicheOptimizations.TheVariants.{Enabled, Disabled}
+use Rattle.abi_base.specs.declared.struct_kind.StructKind.{StructKind}
+use Rattle.abi_scalar.specs.declared.error.LayoutCalculatorError.{LayoutCalculatorError}
+use Rattle.abi_scalar.specs.declared.layout_data.LayoutData.{LayoutData}
+use Rattle.abi_scalar.specs.declared.repr.ReprOptions.{ReprOptions}
+use Rattle.abi_scalar.specs.Repr.{is_abi_fixed}
+use Rattle.abi_scalar.specs.Shape.{listed_offsets}
+use Rattle.abi_calc.specs.Enums.Single.{IsSingleAnswer, single_layout, widened_view}
+use Rattle.abi_calc.specs.List.{IsListLayout, parts_of}
+use Rattle.abi_calc.specs.ListView.{list_view}
+use Rattle.abi_calc.specs.Marks.{HasListMarks, HasUnionMarks}
+use Rattle.abi_calc.specs.Placement.{IsNonEmptyIfUnsized}
+use Rattle.abi_calc.specs.Seen.{IsSeenAsList, view_of_fields}
+use Rattle.abi_calc.specs.Union.{IsUnionAnswer}
+use Rattle.abi_calc.proofs.LeastLemmas.{has_greatest_niche, has_own_niche}
+
+module _ {F V H : Type 0} (layout_of : H → LayoutData F V) (at : ℕ → F) (first : V) (dl : TargetDataLayout) (repr : ReprOptions) (kind : StructKind) (hs : List H) where
+  -- a list is marked as its fields are
+  pub list_marks : (order offsets : List ℕ) (l : LayoutData F V) → IsListLayout at first dl repr kind (map layout_of hs) order offsets l → HasListMarks dl repr kind (map layout_of hs) l
+  list_marks order offsets l r = record {
+    uninhabited = r.uninhabited;
+    max_repr_align = r.max_repr_align;
+    unadjusted_abi_align = r.unadjusted_abi_align;
+    repr_c = r.repr_c;
+    seed = r.seed;
+  }
+
+  -- and has their view
+  pub list_viewed : (order offsets : List ℕ) (l : LayoutData F V) → IsListLayout at first dl repr kind (map layout_of hs) order offsets l → l.backend_repr ≡ view_of_fields dl repr (map layout_of hs) l
+  list_viewed order offsets l r =
+      r.view ∙ ap (λ os. list_view dl (is_abi_fixed repr) l.size l.align.abi (parts_of dl (map layout_of hs)) os) (sym (ap listed_offsets r.shape))
+
+  -- as a type it is seen so
+  as_type : (optimizations : NicheOptimizations) (index : V) (order offsets : List ℕ) (l : LayoutData F V) → IsNonEmptyIfUnsized kind (length hs) → IsListLayout at first dl repr kind (map layout_of hs) order offsets l
+      → IsSeenAsList index dl repr kind optimizations (map layout_of hs) (single_layout index dl optimizations l)
+  as_type Enabled index order offsets l tail r = record {
+    variants = refl;
+    view = list_viewed order offsets l r;
+    niche = has_own_niche layout_of at first dl repr kind hs order offsets l tail r;
+    largest = has_greatest_niche layout_of at first dl repr kind hs order offsets l tail r;
+    marks = record { uninhabited = r.uninhabited; max_repr_align = r.max_repr_align; unadjusted_abi_align = r.unadjusted_abi_align; repr_c = r.repr_c; seed = r.seed };
+  }
+  as_type Disabled index order offsets l tail r = record {
+    variants = refl;
+    view = ap (widened_view dl) (list_viewed order offsets l r);
+    niche = tt;
+    largest = refl;
+    marks = record { uninhabited = r.uninhabited; max_repr_align = r.max_repr_align; unadjusted_abi_align = r.unadjusted_abi_align; repr_c = r.repr_c; seed = r.seed };
+  }
+
+  pub single_seen : (optimizations : NicheOptimizations) (index : V) (result : Result (LayoutData F V) (LayoutCalculatorError H)) → IsNonEmptyIfUnsized kind (length hs)
+      → IsSingleAnswer layout_of at first index dl repr kind optimizations hs result → IfOk result (IsSeenAsList index dl repr kind optimizations (map layout_of hs))
+  single_seen optimizations index (Ok l) tail (list, (order, offsets, r), is) =
+      subst (IsSeenAsList index dl repr kind optimizations (map layout_of hs)) (sym is) (as_type optimizations index order offsets list tail r)
+  single_seen optimizations index (Err e) tail h = tt
+
+-- a union is marked as its fields are
+pub union_marks : {F V H : Type 0} (layout_of : H → LayoutData F V) (first : V) (dl : TargetDataLayout) (repr : ReprOptions) (fields : List H) (result : Result (LayoutData F V) (LayoutCalculatorError H))
+    → IsUnionAnswer layout_of first dl repr fields result → IfOk result (HasUnionMarks dl repr (map layout_of fields))
+union_marks layout_of first dl repr fields (Ok l) (none, view, is) = record {
+  uninhabited = ap (λ m. m.uninhabited) is;
+  max_repr_align = ap (λ m. m.max_repr_align) is;
+  unadjusted_abi_align = ap (λ m. m.unadjusted_abi_align) is;
+  repr_c = ap (λ m. m.repr_c) is;
+  seed = ap (λ m. m.randomization_seed) is;
+}
+union_marks layout_of first dl repr fields (Err e) h = tt

@@ -1,0 +1,132 @@
+-- What an enum of several variants takes over from the lists of its variants.
+use Rattle.std.specs.Prelude.{◌≡◌, ℕ, ◌+◌, ◌^◌, ◌≤◌, ◌==◌, ◌⊎◌, ⊤, Bool, ℤ, List, [], ◌∷◌, MatchBool, None, Some, map, slice_get}
+use Rattle.std.specs.Int.{next_multiple_of}
+use Rattle.abi_base.specs.declared.data_layout.TargetDataLayout.{TargetDataLayout}
+use Rattle.abi_base.specs.declared.integer.Integer.{Integer}
+use Rattle.abi_base.specs.declared.primitive.Primitive.TheVariants.{Int}
+use Rattle.abi_base.specs.declared.struct_kind.StructKind.TheVariants.{AlwaysSized}
+use Rattle.abi_base.specs.Integer.{integer_size}
+use Rattle.abi_scalar.specs.declared.layout_data.LayoutData.{LayoutData}
+use Rattle.abi_scalar.specs.declared.niche.Niche.{Niche}
+use Rattle.abi_scalar.specs.declared.repr.ReprOptions.{ReprOptions}
+use Rattle.abi_scalar.specs.declared.scalar.Scalar.{Scalar}
+use Rattle.abi_scalar.specs.declared.scalar.Scalar.TheVariants.{Initialized}
+use Rattle.abi_scalar.specs.declared.variants.RangeFrom.{RangeFrom}
+use Rattle.abi_scalar.specs.declared.variants.RangeInclusive.{RangeInclusive}
+use Rattle.abi_scalar.specs.declared.variants.RangeToInclusive.{RangeToInclusive}
+use Rattle.abi_scalar.specs.declared.variants.TagEncoding.TheVariants.{Direct, Niche as InNiche}
+use Rattle.abi_scalar.specs.declared.variants.VariantLayout.{VariantLayout}
+use Rattle.abi_scalar.specs.declared.variants.Variants.{Variants}
+use Rattle.abi_scalar.specs.declared.variants.Variants.TheVariants.{Multiple}
+use Rattle.abi_scalar.specs.declared.wrapping_range.WrappingRange.{WrappingRange}
+use Rattle.abi_scalar.specs.Niche.{niche_size}
+use Rattle.abi_scalar.specs.Scalar.{scalar_size}
+use Rattle.abi_scalar.specs.Shape.{listed_offsets, listed_order}
+use Rattle.abi_scalar.specs.Variant.{variant_of}
+use Rattle.abi_calc.specs.Apart.{AreAligned}
+use Rattle.abi_calc.specs.Enums.Discriminants.{IsTagRange}
+use Rattle.abi_calc.specs.Enums.Growth.{moved}
+use Rattle.abi_calc.specs.Enums.Lists.{behind_tag}
+use Rattle.abi_calc.specs.Enums.Several.{IsAskedFor}
+use Rattle.abi_calc.specs.Fields.{greatest_align}
+use Rattle.abi_calc.specs.Made.{AreFieldLists}
+use Rattle.abi_calc.specs.Marks.{HasEnumMarks}
+
+-- ---- behind a tag
+
+-- A variant behind a tag, from its list behind a tag of so many bytes that grew to so many: fields at the old tag's end lie at
+-- the new one's.
+pub record IsBehindTag {F V : Type 0} (old new : ℕ) (list : LayoutData F V) (layout : VariantLayout F) : Type 0 where
+  pub offsets : layout.field_offsets ≡ map (moved old new) (listed_offsets list.fields)
+  pub order : layout.fields_in_memory_order ≡ listed_order list.fields
+  pub size : list.size ≤ layout.size
+  pub niche : layout.largest_niche ≡ list.largest_niche
+  pub uninhabited : layout.uninhabited ≡ list.uninhabited
+
+-- each variant from its list
+abbrev pub AreBehindTag : {F V : Type 0} → (old new : ℕ) → (lists : List (LayoutData F V)) → (layouts : List (VariantLayout F)) → Type 0
+AreBehindTag old new [] [] = ⊤
+AreBehindTag old new (list ∷ lists) (layout ∷ layouts) = IsBehindTag old new list layout × AreBehindTag old new lists layouts
+AreBehindTag old new _ _ = ⊥
+
+-- An enum with a tag is made of its variants' lists behind the integer that is asked for, whose place the tag takes: it is
+-- aligned as the greatest of them, and marked as they are.
+pub record IsMadeByTag {F V : Type 0} (at : ℕ → F) (dl : TargetDataLayout) (repr : ReprOptions) (asks : RangeFrom ℤ → RangeToInclusive ℕ → Integer × Bool → Type 0) (values : List ℕ)
+    (variants : List (List (LayoutData F V))) (layout : LayoutData F V) : Type 0 where
+  pub asked : Integer
+  pub signed : Bool
+  pub is : IsAskedFor dl repr asks values asked signed
+  pub lists : List (LayoutData F V)
+  pub own : AreFieldLists at dl repr (behind_tag dl repr asked variants) variants lists
+  pub alignment : layout.align.abi ≡ greatest_align dl.aggregate_align lists
+  pub marks : HasEnumMarks dl repr lists layout
+  pub tag : Scalar
+  pub field : F
+  pub layouts : List (VariantLayout F)
+  pub told : layout.variants ≡ Multiple tag Direct field layouts
+  pub places : AreBehindTag (integer_size asked) (scalar_size dl tag) lists layouts
+
+-- ---- beside a niche
+
+-- A variant whose list is moved by so many bytes.
+pub record IsMovedBy {F V : Type 0} (by : ℕ) (list : LayoutData F V) (layout : VariantLayout F) : Type 0 where
+  pub offsets : layout.field_offsets ≡ map (λ o. by + o) (listed_offsets list.fields)
+  pub order : layout.fields_in_memory_order ≡ listed_order list.fields
+  pub size : layout.size ≡ by + list.size
+  pub niche : layout.largest_niche ≡ None
+  pub uninhabited : layout.uninhabited ≡ list.uninhabited
+
+-- a variant beside a niche of so many bytes at this place: it stays where it ends before the niche, or begins at the first
+-- multiple of its alignment after it, and ends inside the whole
+abbrev pub IsBesideNiche : {F V : Type 0} → (place width whole : ℕ) → LayoutData F V → VariantLayout F → Type 0
+IsBesideNiche place width whole list layout =
+    ((list.size ≤ place) × IsMovedBy 0 list layout)
+    ⊎ ((next_multiple_of (place + width) (2 ^ list.align.abi) + list.size ≤ whole) × IsMovedBy (next_multiple_of (place + width) (2 ^ list.align.abi)) list layout)
+
+-- each variant, those from a place on: the untagged one is its list, the others lie beside the niche
+abbrev pub AreBesideNiche : {F V : Type 0} → (place width whole untagged from : ℕ) → (lists : List (LayoutData F V)) → (layouts : List (VariantLayout F)) → Type 0
+AreBesideNiche place width whole untagged from [] [] = ⊤
+AreBesideNiche place width whole untagged from (list ∷ lists) (layout ∷ layouts) =
+    MatchBool (from == untagged) (layout ≡ variant_of list) (IsBesideNiche place width whole list layout)
+    × AreBesideNiche place width whole untagged (from + 1) lists layouts
+AreBesideNiche place width whole untagged from _ _ = ⊥
+
+-- An enum with a niche is made of its variants' always sized lists: it is aligned as the greatest of them, and marked as they
+-- are. The niche is that of the untagged one's list; `number` tells the place of a variant.
+pub record IsMadeInNiche {F V : Type 0} (at : ℕ → F) (number : V → ℕ) (dl : TargetDataLayout) (repr : ReprOptions) (variants : List (List (LayoutData F V))) (layout : LayoutData F V) : Type 0 where
+  pub lists : List (LayoutData F V)
+  pub own : AreFieldLists at dl repr AlwaysSized variants lists
+  pub alignment : layout.align.abi ≡ greatest_align dl.aggregate_align lists
+  pub marks : HasEnumMarks dl repr lists layout
+  pub tag : Scalar
+  pub untagged : V
+  pub span : RangeInclusive V
+  pub start : ℕ
+  pub field : F
+  pub layouts : List (VariantLayout F)
+  pub told : layout.variants ≡ Multiple tag (InNiche untagged span start) field layouts
+  pub list : LayoutData F V
+  pub there : slice_get lists (number untagged) ≡ Some list
+  pub niche : Niche
+  pub largest : list.largest_niche ≡ Some niche
+  pub places : AreBesideNiche niche.offset (niche_size dl niche) layout.size (number untagged) 0 lists layouts
+
+-- an enum is made of its variants' lists, behind a tag or beside a niche
+abbrev pub IsMadeOfLists : {F V : Type 0} → (at : ℕ → F) → (number : V → ℕ) → TargetDataLayout → ReprOptions → (asks : RangeFrom ℤ → RangeToInclusive ℕ → Integer × Bool → Type 0) → (values : List ℕ)
+    → (variants : List (List (LayoutData F V))) → LayoutData F V → Type 0
+IsMadeOfLists at number dl repr asks values variants layout = IsMadeByTag at dl repr asks values variants layout ⊎ IsMadeInNiche at number dl repr variants layout
+
+-- ---- the tag, and where fields lie
+
+-- a tag of its own holds the least range of these discriminants, cut to its width
+abbrev pub HasLeastTag : {F V : Type 0} → (values : List ℕ) → Variants F V → Type 0
+HasLeastTag values (Multiple tag Direct field layouts) =
+    (integer : Integer) × (signed : Bool) × (range : WrappingRange) × (tag ≡ Initialized (Int integer signed) range) × IsTagRange (integer_size integer) values range
+HasLeastTag values _ = ⊤
+
+-- the fields of each variant lie at multiples of their alignments
+abbrev pub AreVariantsAligned : {F V : Type 0} → (variants : List (List (LayoutData F V))) → (layouts : List (VariantLayout F)) → Type 0
+AreVariantsAligned [] [] = ⊤
+AreVariantsAligned (fields ∷ variants) (layout ∷ layouts) =
+    AreAligned layout.field_offsets (map (λ f. f.align.abi) fields) × AreVariantsAligned variants layouts
+AreVariantsAligned _ _ = ⊥
