@@ -140,7 +140,8 @@ module _ (ps : List Placed) (t : Typed) where
   arms_seen (v ∷ vs) k each is list =
       let here : k + 0 ≡ k = omega arith in
       let up : (j : ℕ) → k + suc j ≡ suc k + j = λ j. omega arith in
-      let seen : Sees (variant_in t k) (placed_in ps v.1) = subst (λ n. Sees (variant_in t n) (placed_in ps v.1)) here (each 0 (omega arith)) in (
+      let seen : Sees (variant_in t k) (placed_in ps v.1) =
+      subst (λ n. Sees (variant_in t n) (placed_in ps v.1)) here (each 0 (omega arith)) in (
         own_whole (variant_in t k) (placed_in ps v.1) (is 0 (omega arith)) seen,
         subst (λ n. IsListOf (own_fields (placed_in ps v.1)) (variant_in t n)) here (list 0 (omega arith)),
         own_seen (variant_in t k) (placed_in ps v.1) seen,

@@ -56,10 +56,12 @@ arms_at-push whole mark first [] [] [] layout n fields index as_many as_long at 
 arms_at-push whole mark first [] [] (v ∷ variants) layout n fields index as_many as_long at = absurd (omega arith)
 arms_at-push whole mark first [] (m ∷ numbers) variants layout n fields index as_many as_long at = absurd (omega arith)
 arms_at-push whole mark first (l ∷ layouts) [] variants layout n fields index as_many as_long at = absurd (omega arith)
-arms_at-push whole mark first (l ∷ layouts) (m ∷ numbers) [] layout n fields index as_many as_long at = absurd (omega arith)
+arms_at-push whole mark first (l ∷ layouts) (m ∷ numbers) [] layout n fields index as_many as_long at =
+    absurd (omega arith)
 arms_at-push whole mark first (l ∷ layouts) (m ∷ numbers) (v ∷ variants) layout n fields index as_many as_long at =
     ap (arm m (variant_layout whole first l) mark (parts_at l.field_offsets v))
-    (arms_at-push whole mark (first + 1) layouts numbers variants layout n fields index (omega arith) (omega arith) (omega arith))
+    (arms_at-push whole mark (first + 1) layouts numbers variants layout n fields index
+    (omega arith) (omega arith) (omega arith))
 
 -- arms that were there mean the same
 arms_in-kept : (old new : List Node) → Keeps (types_in old) (types_in new) → (vs : List (ℕ × ℕ)) → All (λ v. v.1 < length old) vs →
@@ -118,7 +120,8 @@ AreArms-push first old new vs arms n i sizes own mark fields h there list put =
           (All-weaker (λ v. v.1 < length old) (λ v. v.1 < length new) (λ v lt. omega arith) vs h.there)
           (All-cons (λ v. v.1 < length new) (n, i) [] (omega (arith, put.last)) (All-nil (λ v. v.1 < length new)));
       meant =
-          arms_in-push (types_in new) vs (n, i) ∙ ap (λ a. push_own a n (placed_at new i)) same ∙ ap (push_own arms n) put.meant
+          arms_in-push (types_in new) vs (n, i) ∙ ap (λ a. push_own a n (placed_at new i)) same
+          ∙ ap (push_own arms n) put.meant
           ∙ ap (λ ps. push_arm arms n own mark (parts_at offsets ps)) (all_at-kept first old h.kept fields.items there);
       sized =
           ap (sizes_at (types_in new)) (map-append (λ v. v.1) vs ((n, i) ∷ []))
@@ -137,8 +140,10 @@ taken [] i lt = absurd (omega arith)
 taken (d ∷ xs) i lt = (get_or (d ∷ xs) i d, slice_get-get_or (d ∷ xs) i d lt, take_more (d ∷ xs) i d lt)
 
 -- the arms up to an index
-abbrev pub arms_up_to : (whole : Layout) → Mark → (i : ℕ) → List (VariantLayout ℕ) → (numbers : List ℕ) → List (List Placed) → Arms
-arms_up_to whole mark i layouts numbers variants = arms_at whole mark 0 (take i layouts) (take i numbers) (take i variants)
+abbrev pub arms_up_to : (whole : Layout) → Mark → (i : ℕ) → List (VariantLayout ℕ) → (numbers : List ℕ) → List (List Placed)
+    → Arms
+arms_up_to whole mark i layouts numbers variants =
+    arms_at whole mark 0 (take i layouts) (take i numbers) (take i variants)
 
 arms_more : (whole : Layout) (mark : Mark) (at : ℕ) (layouts : List (VariantLayout ℕ)) (numbers : List ℕ)
     (variants : List (List Placed)) (layout : VariantLayout ℕ) (n : ℕ) (fields : List Placed) →
@@ -147,19 +152,22 @@ arms_more : (whole : Layout) (mark : Mark) (at : ℕ) (layouts : List (VariantLa
     arms_up_to whole mark (at + 1) layouts numbers variants
     ≡ push_arm (arms_up_to whole mark at layouts numbers variants) n (variant_layout whole at layout) mark
     (parts_at layout.field_offsets fields)
-arms_more whole mark at layouts numbers variants layout n fields in_layouts in_numbers in_variants more_layouts more_numbers more_variants =
+arms_more whole mark at layouts numbers variants layout n fields in_layouts in_numbers in_variants first second third =
     let long : length (take at layouts) ≡ at = length-take-le at layouts (omega arith) in
-    let as_many : length (take at layouts) ≡ length (take at numbers) = long ∙ sym (length-take-le at numbers (omega arith)) in
-    let as_long : length (take at layouts) ≡ length (take at variants) = long ∙ sym (length-take-le at variants (omega arith)) in
-    ap (λ ls. arms_at whole mark 0 ls (take (at + 1) numbers) (take (at + 1) variants)) more_layouts
-    ∙ ap (λ ns. arms_at whole mark 0 (take at layouts ++ layout ∷ []) ns (take (at + 1) variants)) more_numbers
-    ∙ ap (arms_at whole mark 0 (take at layouts ++ layout ∷ []) (take at numbers ++ n ∷ [])) more_variants
-    ∙ arms_at-push whole mark 0 (take at layouts) (take at numbers) (take at variants) layout n fields at as_many as_long
-    (omega (arith, long))
+    let as_many : length (take at layouts) ≡ length (take at numbers) =
+    long ∙ sym (length-take-le at numbers (omega arith)) in
+    let as_long : length (take at layouts) ≡ length (take at variants) =
+    long ∙ sym (length-take-le at variants (omega arith)) in
+    ap (λ ls. arms_at whole mark 0 ls (take (at + 1) numbers) (take (at + 1) variants)) first
+    ∙ ap (λ ns. arms_at whole mark 0 (take at layouts ++ layout ∷ []) ns (take (at + 1) variants)) second
+    ∙ ap (arms_at whole mark 0 (take at layouts ++ layout ∷ []) (take at numbers ++ n ∷ [])) third
+    ∙ arms_at-push whole mark 0 (take at layouts) (take at numbers) (take at variants) layout n fields at
+    as_many as_long (omega (arith, long))
 
 module _ (first old new : List Node) (parent : Layout) (layouts : List (VariantLayout ℕ)) (numbers : List ℕ) (children : List (Vec ℕ Global)) where
   -- the node of one variant more: `own` is the layout of that variant by itself, and its node has the fields of the variant
-  pub AreArms-more : (vs : List (ℕ × ℕ)) (at n i : ℕ) (own : Layout) (mark : Mark) (fields : Vec ℕ Global) → at < length children →
+  pub AreArms-more : (vs : List (ℕ × ℕ)) (at n i : ℕ) (own : Layout) (mark : Mark) (fields : Vec ℕ Global) →
+      at < length children →
       length layouts ≡ length children → length numbers ≡ length children → All (λ fields. All (λ child. child < length first) fields.items) children →
       Some own ≡ option_map (variant_layout parent at) (slice_get layouts at) → n ≡ get_or numbers at 0 → (c : Vec ℕ Global) → c ≡ get_or children at c → fields.items ≡ c.items →
       AreArms first old (map (λ l. l.size) (take at layouts)) vs (arms_up_to parent mark at layouts numbers (variants_in first children)) → IsPut old new i (meaning (types_in old) own (Fields mark fields)) →
@@ -169,7 +177,8 @@ module _ (first old new : List Node) (parent : Layout) (layouts : List (VariantL
       let long : length variants ≡ length children = length-map children (λ fields. all_at first fields.items) in
       let layout = taken layouts at (omega arith) in
       let own_is : own ≡ variant_layout parent at layout.0 =
-      let some : Some own ≡ Some (variant_layout parent at layout.0) = made ∙ ap (option_map (variant_layout parent at)) layout.1 in
+      let some : Some own ≡ Some (variant_layout parent at layout.0) =
+      made ∙ ap (option_map (variant_layout parent at)) layout.1 in
       cc in
       let more_numbers : take (at + 1) numbers ≡ take at numbers ++ n ∷ [] =
       take_more numbers at 0 (omega arith) ∙ ap (λ k. take at numbers ++ k ∷ []) (sym number) in
@@ -183,7 +192,8 @@ module _ (first old new : List Node) (parent : Layout) (layouts : List (VariantL
       (All-get_or (λ fields. All (λ child. child < length first) fields.items) children at c lt there) in
       let pushed = AreArms-push first old new vs (arms_up_to parent mark at layouts numbers variants) n i (map (λ l. l.size) (take at layouts)) own mark fields h below (ap (λ l. is_listed l.fields) own_is) put in
       let before : Arms = arms_up_to parent mark at layouts numbers variants in
-      let arms : push_arm before n own mark (parts_at (listed_offsets own.fields) ps) ≡ arms_up_to parent mark (at + 1) layouts numbers variants =
+      let arms : push_arm before n own mark (parts_at (listed_offsets own.fields) ps)
+      ≡ arms_up_to parent mark (at + 1) layouts numbers variants =
       ap (λ (l : Layout). push_arm before n l mark (parts_at (listed_offsets l.fields) ps)) own_is
       ∙ sym (arms_more parent mark at layouts numbers variants layout.0 n ps (omega arith) (omega arith) (omega arith) layout.2 more_numbers more_variants) in
       let sizes : map (λ l. l.size) (take at layouts) ++ own.size ∷ [] ≡ map (λ l. l.size) (take (at + 1) layouts) =

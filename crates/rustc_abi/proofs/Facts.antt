@@ -117,7 +117,8 @@ byte_each = enum plain_c (more_variants 0 (more_trees (number_type (unsigned I8)
 
 abbrev on_the_tag : Placed
 on_the_tag =
-    tagged (sized 2) Plain 0 u8_placed Direct (plain_arm 0 1 (part 0 u8_placed no_parts) (plain_arm 1 2 (part 1 u8_placed no_parts) no_arms))
+    tagged (sized 2) Plain 0 u8_placed Direct
+    (plain_arm 0 1 (part 0 u8_placed no_parts) (plain_arm 1 2 (part 1 u8_placed no_parts) no_arms))
 
 abbrev one_in_first : Value
 one_in_first = variant 0 (more_values (number 1) no_values)
@@ -136,7 +137,8 @@ abbrev byte_beside : Tree
 byte_beside = coroutine (more_trees (number_type (unsigned I8)) no_trees) (more_trees (number_type (unsigned I8)) no_trees) ((0 ∷ []) ∷ []) []
 
 abbrev on_the_prefix : Placed
-on_the_prefix = states (sized 2) (part 0 u8_placed no_parts) 1 u8_placed (plain_arm 0 1 (part 0 u8_placed no_parts) no_arms)
+on_the_prefix =
+    states (sized 2) (part 0 u8_placed no_parts) 1 u8_placed (plain_arm 0 1 (part 0 u8_placed no_parts) no_arms)
 
 abbrev zero_beside_one : Value
 zero_beside_one = state 0 (more_values (number 0) no_values) (more_values (number 1) no_values)
@@ -233,7 +235,8 @@ one_names_no_other (inr h) = absurd (omega (arith, h.0))
 
 abbrev by_tag : Placed
 by_tag =
-    tagged (sized 2) Plain 0 u8_placed Direct (plain_arm (2 ^ 128 - 1) 2 (part 1 u8_placed no_parts) (plain_arm 1 1 no_parts no_arms))
+    tagged (sized 2) Plain 0 u8_placed Direct
+    (plain_arm (2 ^ 128 - 1) 2 (part 1 u8_placed no_parts) (plain_arm 1 1 no_parts no_arms))
 
 first_held_by_tag : Holds Little by_tag (255 ∷ 7 ∷ []) (variant 0 (more_values (number 7) no_values))
 first_held_by_tag = (refl, omega arith, (refl, refl), ((omega arith, (refl, refl, seven_is_in)), tt))
@@ -254,7 +257,8 @@ none_held_by_tag (bytes content) h = h
 -- ---- an enum by a niche: 2 holds the variant without fields, the numbers of the bool hold the other, and 3 holds neither
 
 abbrev by_niche : Placed
-by_niche = tagged (sized 1) Plain 0 u8_placed niche (plain_arm 0 1 no_parts (plain_arm 1 1 (part 0 bool_placed no_parts) no_arms))
+by_niche =
+    tagged (sized 1) Plain 0 u8_placed niche (plain_arm 0 1 no_parts (plain_arm 1 1 (part 0 bool_placed no_parts) no_arms))
 
 first_held_by_niche : Holds Little by_niche (2 ∷ []) (variant 0 no_values)
 first_held_by_niche = (refl, omega arith, two_names_first, tt)
@@ -280,7 +284,8 @@ none_held_by_niche (bytes content) h = h
 
 -- ---- an untagged variant with a byte in the bool's place: where the byte is 2, it names the other variant
 
-byte_names_other : NamesItself Little 0 u8_placed niche (plain_arm 0 1 no_parts (plain_arm 1 1 (part 0 u8_placed no_parts) no_arms)) → ⊥
+byte_names_other :
+    NamesItself Little 0 u8_placed niche (plain_arm 0 1 no_parts (plain_arm 1 1 (part 0 u8_placed no_parts) no_arms)) → ⊥
 byte_names_other h = two_names_no_other (h (2 ∷ []) (more_values (number 2) no_values) ((omega arith, (refl, refl, two_is_in_all)), tt))
 
 -- ---- an enum of which one variant is left: a bool's numbers hold it, and 2 holds nothing
@@ -326,7 +331,8 @@ field_missing h =
 
 abbrev two_states : Placed
 two_states =
-    states (sized 2) no_parts 0 u8_placed (plain_arm 0 2 (part 1 u8_placed no_parts) (plain_arm 1 2 (part 1 bool_placed no_parts) no_arms))
+    states (sized 2) no_parts 0 u8_placed
+    (plain_arm 0 2 (part 1 u8_placed no_parts) (plain_arm 1 2 (part 1 bool_placed no_parts) no_arms))
 
 first_state_held : Holds Little two_states (0 ∷ 7 ∷ []) (state 0 no_values (more_values (number 7) no_values))
 first_state_held = (refl, tt, omega arith, (refl, refl), ((omega arith, (refl, refl, seven_is_in)), tt))
@@ -371,7 +377,8 @@ before_start h = h.2 3 (omega (arith, h.1)) refl
 abbrev two_variants : Placed
 two_variants =
     tagged (sized 8) Plain 0 u8_placed Direct
-    (plain_arm 0 2 (part 1 u8_placed no_parts) (plain_arm 1 8 (part 4 (scalar (sized 4) (unsigned I32)) no_parts) no_arms))
+    (plain_arm 0 2 (part 1 u8_placed no_parts)
+    (plain_arm 1 8 (part 4 (scalar (sized 4) (unsigned I32)) no_parts) no_arms))
 
 padding_of_variants : padding_of two_variants ≡ (2, 2) ∷ []
 padding_of_variants = refl
@@ -395,7 +402,8 @@ struct_leaves = refl
 abbrev suspended : Placed
 suspended =
     states (sized 8) (part 0 u8_placed no_parts) 1 u8_placed
-    (plain_arm 0 3 (part 2 u8_placed no_parts) (plain_arm 1 8 (part 4 (scalar (sized 4) (unsigned I32)) no_parts) no_arms))
+    (plain_arm 0 3 (part 2 u8_placed no_parts)
+    (plain_arm 1 8 (part 4 (scalar (sized 4) (unsigned I32)) no_parts) no_arms))
 
 padding_of_states : padding_of suspended ≡ (3, 1) ∷ []
 padding_of_states = refl

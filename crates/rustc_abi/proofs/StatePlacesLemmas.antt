@@ -29,20 +29,24 @@ use Rattle.rustc_abi.proofs.StateArmsLemmas.{AreBeside, StateArmsFit, picked_tre
 abbrev pub picked_types : List Placed → (indices : List ℕ) → List Placed
 picked_types ps ks = map (placed_in ps) ks
 
--- states beside a tag: each has its index, counted from the first one's on, the layout that it has as a type of its own, and its locals
--- at the offsets of its layout
-abbrev pub state_arms : (whole : Layout) → List (VariantLayout ℕ) → (locals : List Placed) → (from : ℕ) → List (List ℕ) → Arms
+-- states beside a tag: each has its index, counted from the first one's on, the layout that it has as a type of its own, and
+-- its locals at the offsets of its layout
+abbrev pub state_arms : (whole : Layout) → List (VariantLayout ℕ) → (locals : List Placed) → (from : ℕ) → List (List ℕ)
+    → Arms
 state_arms whole (l ∷ layouts) ps from (ks ∷ all) =
-    arm from (variant_layout whole from l) Plain (parts_at l.field_offsets (picked_types ps ks)) (state_arms whole layouts ps (from + 1) all)
+    arm from (variant_layout whole from l) Plain (parts_at l.field_offsets (picked_types ps ks))
+    (state_arms whole layouts ps (from + 1) all)
 state_arms whole _ ps from _ = no_arms
 
 -- they are the variants with the indices as numbers
-pub state_arms_at : (whole : Layout) (layouts : List (VariantLayout ℕ)) (ps : List Placed) (from : ℕ) (all : List (List ℕ)) →
-    arms_at whole Plain from layouts (range_with_len from (length all)) (map (picked_types ps) all) ≡ state_arms whole layouts ps from all
+pub state_arms_at : (whole : Layout) (layouts : List (VariantLayout ℕ)) (ps : List Placed) (from : ℕ) (all : List (List ℕ))
+    → arms_at whole Plain from layouts (range_with_len from (length all)) (map (picked_types ps) all)
+    ≡ state_arms whole layouts ps from all
 state_arms_at whole [] ps from all = refl
 state_arms_at whole (l ∷ layouts) ps from [] = refl
 state_arms_at whole (l ∷ layouts) ps from (ks ∷ all) =
-    ap (arm from (variant_layout whole from l) Plain (parts_at l.field_offsets (picked_types ps ks))) (state_arms_at whole layouts ps (from + 1) all)
+    ap (arm from (variant_layout whole from l) Plain (parts_at l.field_offsets (picked_types ps ks)))
+    (state_arms_at whole layouts ps (from + 1) all)
 
 -- the shared fields and the locals of each state share no byte and end inside the size
 abbrev pub EachStateApart : (size : ℕ) → (offsets sizes : List ℕ) → (locals : List Placed) → List (List ℕ) → List (VariantLayout ℕ) → Type 0

@@ -100,9 +100,11 @@ returns-clause-ok c =
     let layout = c.args.layout in
     let sizes = map (λ l. l.size) (variants_of layout.variants) in
     let own : AreArms one two sizes c.in_ok-states.states.items
-    (arms_at layout Plain 0 (variants_of layout.variants) (source_order (length all)) (variants_in one c.deref.result.now)) =
+    (arms_at layout Plain 0 (variants_of layout.variants) (source_order (length all))
+    (variants_in one c.deref.result.now)) =
     subst (λ n. AreArms one two sizes c.in_ok-states.states.items
-    (arms_at layout Plain 0 (variants_of layout.variants) (source_order n) (variants_in one c.deref.result.now))) count c.in_ok-states.ensures.ok in
+    (arms_at layout Plain 0 (variants_of layout.variants) (source_order n) (variants_in one c.deref.result.now))) count
+    c.in_ok-states.ensures.ok in
     let arms =
     subst (λ vs. AreArms one two sizes c.in_ok-states.states.items
     (arms_at layout Plain 0 (variants_of layout.variants) (source_order (length all)) vs)) same own in

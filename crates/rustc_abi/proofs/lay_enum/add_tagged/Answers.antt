@@ -47,7 +47,10 @@ returns-clause-ok c =
     let put = c.in_ok-tag.ensures.ok in
     let there = there_within c.args.nodes.now.len (length old) (omega arith) c.args.children.now c.requires.there in
     let same = variants_in-kept old one put.kept c.args.children.now there in
-    let arms = subst (λ vs. AreArms one two (map (λ l. l.size) (variants_of c.args.layout.variants)) c.in_ok-variants.variants.items (arms_at c.args.layout c.args.mark 0 (variants_of c.args.layout.variants) c.args.numbers.now vs)) same c.in_ok-variants.ensures.ok in
+    let layout = c.args.layout in
+    let arms =
+    subst (λ vs. AreArms one two (map (λ l. l.size) (variants_of layout.variants)) c.in_ok-variants.variants.items
+    (arms_at layout c.args.mark 0 (variants_of layout.variants) c.args.numbers.now vs)) same c.in_ok-variants.ensures.ok in
     let tag : IsPut old one c.in_ok-tag.tag (one_scalar c.args.dl.now c.args.tag) = rw c.scalar.ensures.exact at put in
     IfOk-weaker c.add-2.result _ _
     (λ i last. IsPut-tagged old one two _ c.in_ok-tag.tag i (one_scalar c.args.dl.now c.args.tag) c.in_ok-variants.variants _ _ c.args.layout c.args.mark tag arms last)

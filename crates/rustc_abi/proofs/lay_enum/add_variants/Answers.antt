@@ -5,32 +5,36 @@ use Rattle.rustc_abi.proofs.lay_enum.add_variants.Goals as goal
 
 pub add-requires-clause-earlier : goal.add-requires-clause-earlier
 add-requires-clause-earlier c =
-    let there = there_within c.args.nodes.now.len (length c.args.nodes.now.items) (omega arith) c.args.children.now c.requires.there in
+    let first = c.args.nodes.now in
+    let there = there_within first.len (length first.items) (omega arith) c.args.children.now c.requires.there in
     rw c.in_ok-own.ensures.shape
-    (fields_before c.args.nodes.now.items c.loop-at.nodes.items _ c.loop-at.variants.items _ _ c.args.children.now c.loop-at.at
-    c.index-children-at.result c.in_ok-fields.fields.items c.loop-at.invariant (omega arith) c.loop-at-test.true c.index-children-at.is
-    (c.in_ok-fields.ensures.items ∙ c.deref.ensures.value) there)
+    (fields_before first.items c.loop-at.nodes.items _ c.loop-at.variants.items _ _ c.args.children.now c.loop-at.at
+    c.index-children-at.result c.in_ok-fields.fields.items c.loop-at.invariant (omega arith) c.loop-at-test.true
+    c.index-children-at.is (c.in_ok-fields.ensures.items ∙ c.deref.ensures.value) there)
 
 pub add-requires-clause-laws : goal.add-requires-clause-laws
 add-requires-clause-laws c =
+    let first = c.args.nodes.now in
     let parent = c.args.layout.now in
-    let there = there_within c.args.nodes.now.len (length c.args.nodes.now.items) (omega arith) c.args.children.now c.requires.there in
+    let there = there_within first.len (length first.items) (omega arith) c.args.children.now c.requires.there in
     let made = rw c.from_usize.ensures at c.in_ok-own.ensures.layout in
     rw c.in_ok-own.ensures.shape
-    (own_keeps c.args.nodes.now.items c.loop-at.nodes.items _ c.loop-at.variants.items _ parent c.in_ok-own.own.layout c.args.mark
-    (variants_of parent.variants) c.args.children.now c.loop-at.at _ c.index-children-at.result c.in_ok-fields.fields c.loop-at.invariant
-    c.loop-at-test.true c.requires.inside made c.index-children-at.is (c.in_ok-fields.ensures.items ∙ c.deref.ensures.value) there
-    c.requires.few_each)
+    (own_keeps first.items c.loop-at.nodes.items _ c.loop-at.variants.items _ parent c.in_ok-own.own.layout c.args.mark
+    (variants_of parent.variants) c.args.children.now c.loop-at.at _ c.index-children-at.result c.in_ok-fields.fields
+    c.loop-at.invariant c.loop-at-test.true c.requires.inside made c.index-children-at.is
+    (c.in_ok-fields.ensures.items ∙ c.deref.ensures.value) there c.requires.few_each)
 
 pub loop-at-preserved : goal.loop-at-preserved
 loop-at-preserved c =
+    let first = c.args.nodes.now in
     let parent = c.args.layout.now in
-    let there = there_within c.args.nodes.now.len (length c.args.nodes.now.items) (omega arith) c.args.children.now c.requires.there in
+    let there = there_within first.len (length first.items) (omega arith) c.args.children.now c.requires.there in
     let made = rw c.from_usize.ensures at c.in_ok-own.ensures.layout in
     let put = rw c.in_ok-own.ensures.shape at c.in_ok-node.ensures.ok in
     let more =
-    AreArms-more c.args.nodes.now.items c.loop-at.nodes.items c.add.new.nodes.items parent (variants_of parent.variants)
-    c.args.numbers.now c.args.children.now c.loop-at.variants.items c.loop-at.at _ c.in_ok-node.node c.in_ok-own.own.layout c.args.mark
-    c.in_ok-fields.fields c.loop-at-test.true c.requires.variants c.requires.each there made refl c.index-children-at.result
-    c.index-children-at.is (c.in_ok-fields.ensures.items ∙ c.deref.ensures.value) c.loop-at.invariant put in
+    AreArms-more first.items c.loop-at.nodes.items c.add.new.nodes.items parent (variants_of parent.variants)
+    c.args.numbers.now c.args.children.now c.loop-at.variants.items c.loop-at.at _ c.in_ok-node.node
+    c.in_ok-own.own.layout c.args.mark c.in_ok-fields.fields c.loop-at-test.true c.requires.variants c.requires.each there
+    made refl c.index-children-at.result c.index-children-at.is
+    (c.in_ok-fields.ensures.items ∙ c.deref.ensures.value) c.loop-at.invariant put in
     rw c.in_ok-push.ensures.items more
