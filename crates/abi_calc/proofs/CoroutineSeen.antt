@@ -13,6 +13,8 @@ use Rattle.abi_scalar.specs.declared.backend_repr.BackendRepr.TheVariants.{Memor
 use Rattle.abi_scalar.specs.declared.error.LayoutCalculatorError.{LayoutCalculatorError}
 use Rattle.abi_scalar.specs.declared.layout_data.LayoutData.{LayoutData}
 use Rattle.abi_scalar.specs.declared.scalar.Scalar.{Scalar}
+use Rattle.abi_scalar.specs.declared.variants.TagEncoding.TheVariants.{Direct}
+use Rattle.abi_scalar.specs.declared.variants.Variants.TheVariants.{Multiple}
 use Rattle.abi_scalar.specs.Lawful.{IsLawfulLayout}
 use Rattle.abi_scalar.specs.Shape.{listed_offsets, listed_order}
 use Rattle.abi_scalar.specs.Simple.{scalar_layout}
@@ -144,6 +146,8 @@ module _ {F V H : Type 0} (layout_of : H → LayoutData F V) (at : ℕ → F) (n
             shared = subst (λ fs. IsFieldList at dl default_repr AlwaysSized fs first) fields_are one;
             lists = lists;
             own = subst (λ vs. AreFieldLists at dl default_repr (behind first) vs lists) (map_own layout_of locals promoted states) others;
+            told = subst (λ (m : LayoutData F V). m.variants ≡ Multiple tag Direct (at (length (map layout_of prefix))) (variants_of m.variants)) (sym is)
+                (ap (λ k. Multiple tag Direct (at k) (state_layouts at number (length prefix + 1) promoted first states lists)) count);
             fields = ap (λ m. listed_offsets m.fields) is ∙ ap (λ k. take (k + 1) (listed_offsets first.fields)) count;
             order = ap (λ m. listed_order m.fields) is ∙ ap (λ k. filter (λ i. nat_lt (number i) (k + 1)) (listed_order first.fields)) count;
             layouts = subst (λ k. AreStatesOf at number promoted (drop (k + 1) (listed_offsets first.fields)) (ranks_of number (k + 1) (listed_order first.fields)) states lists (variants_of l.variants)) count
