@@ -1,6 +1,6 @@
 -- How a coroutine is seen, and what it takes over from its lists, from the answer that the rules give it.
 use Rattle.std.proofs.Common.{◌≡◌, ℕ, suc, ◌+◌, ◌∙◌, true, Bool, List, [], ◌∷◌, ap, ap₂, arith, drop, length, map, max, refl, subst, sym}
-use Rattle.std.specs.Prelude.{◌||◌, ◌&&◌, None, IfOk, Result, Ok, Err, take}
+use Rattle.std.specs.Prelude.{◌||◌, ◌&&◌, None, IfOk, Result, Ok, Err, take, filter, nat_lt}
 use Rattle.std.specs.List.{list_all}
 use Rattle.std.proofs.lemmas.List.{length-map}
 use Rattle.std.proofs.lemmas.List.Folds.{list_any-append}
@@ -13,8 +13,10 @@ use Rattle.abi_scalar.specs.declared.backend_repr.BackendRepr.TheVariants.{Memor
 use Rattle.abi_scalar.specs.declared.error.LayoutCalculatorError.{LayoutCalculatorError}
 use Rattle.abi_scalar.specs.declared.layout_data.LayoutData.{LayoutData}
 use Rattle.abi_scalar.specs.declared.scalar.Scalar.{Scalar}
+use Rattle.abi_scalar.specs.declared.variants.TagEncoding.TheVariants.{Direct}
+use Rattle.abi_scalar.specs.declared.variants.Variants.TheVariants.{Multiple}
 use Rattle.abi_scalar.specs.Lawful.{IsLawfulLayout}
-use Rattle.abi_scalar.specs.Shape.{listed_offsets}
+use Rattle.abi_scalar.specs.Shape.{listed_offsets, listed_order}
 use Rattle.abi_scalar.specs.Simple.{scalar_layout}
 use Rattle.abi_scalar.specs.Variant.{variants_of}
 use Rattle.abi_calc.specs.Coroutine.Answer.{IsCoroutineAnswer}
@@ -23,7 +25,7 @@ use Rattle.abi_calc.specs.Coroutine.Lists.{AreOwnLists, behind, default_repr, fi
 use Rattle.abi_calc.specs.Coroutine.Made.{AreStatesOf, IsAlignedAsLists, IsMadeOfStates}
 use Rattle.abi_calc.specs.Coroutine.Promotion.{promoted_of}
 use Rattle.abi_calc.specs.Coroutine.Sizes.{align_of_all, own_lists}
-use Rattle.abi_calc.specs.Coroutine.States.{state_layouts}
+use Rattle.abi_calc.specs.Coroutine.States.{ranks_of, state_layouts}
 use Rattle.abi_calc.specs.Enums.Lists.{AreListLayouts}
 use Rattle.abi_calc.specs.Enums.Path.{has_no_value}
 use Rattle.abi_calc.specs.Fields.{greatest}
@@ -35,12 +37,12 @@ use Rattle.abi_calc.proofs.Made.{field_list, field_lists, list_align, lists_alig
 
 -- each state from its list, whatever they are
 pub states_of : {F V : Type 0} (at : ℕ → F) (number : F → ℕ) (before : ℕ) (promoted : List Bool) (first : LayoutData F V) (states : List (List ℕ)) (lists : List (LayoutData F V)) → length states ≡ length lists
-    → AreStatesOf promoted (drop before (listed_offsets first.fields)) states lists (state_layouts at number before promoted first states lists)
+    → AreStatesOf at number promoted (drop before (listed_offsets first.fields)) (ranks_of number before (listed_order first.fields)) states lists (state_layouts at number before promoted first states lists)
 states_of at number before promoted first [] [] e = tt
 states_of at number before promoted first [] (l ∷ ls) e = absurd (cc)
 states_of at number before promoted first (s ∷ ss) [] e = absurd (cc)
 states_of at number before promoted first (s ∷ ss) (l ∷ ls) e =
-    (record { offsets = refl; size = refl; view = refl; niche = refl; uninhabited = refl }, states_of at number before promoted first ss ls (omega (arith, e)))
+    (record { offsets = refl; order = refl; size = refl; view = refl; niche = refl; uninhabited = refl }, states_of at number before promoted first ss ls (omega (arith, e)))
 
 module _ {F V H : Type 0} (layout_of : H → LayoutData F V) (at : ℕ → F) (number : F → ℕ) (zeroth : V) (dl : TargetDataLayout) (prefix : List H) (tag : Scalar) (field : H) (locals : List H) (states : List (List ℕ)) (conflicts : Relation) where
   -- what the rules answer
@@ -129,7 +131,7 @@ module _ {F V H : Type 0} (layout_of : H → LayoutData F V) (at : ℕ → F) (n
 
     module _ (asked : IsAsked layout_of zeroth dl prefix tag field locals states) where
       -- it is made of its lists
-      pub coroutine_made : (r : Result (LayoutData F V) (LayoutCalculatorError H)) → Answers r → IfOk r (IsMadeOfStates at zeroth dl (map layout_of prefix) (map layout_of locals) states conflicts)
+      pub coroutine_made : (r : Result (LayoutData F V) (LayoutCalculatorError H)) → Answers r → IfOk r (IsMadeOfStates at number zeroth dl (map layout_of prefix) (map layout_of locals) states conflicts)
       coroutine_made (Ok l) (first, h, lists, hs, below, is) =
           let one : IsFieldList at dl default_repr AlwaysSized (map layout_of (first_list prefix field locals promoted)) first
           = field_list layout_of at zeroth dl default_repr AlwaysSized (first_list prefix field locals promoted) first (first_lawful layout_of at number zeroth dl prefix tag field locals states promoted asked) tt h in
@@ -144,9 +146,12 @@ module _ {F V H : Type 0} (layout_of : H → LayoutData F V) (at : ℕ → F) (n
             shared = subst (λ fs. IsFieldList at dl default_repr AlwaysSized fs first) fields_are one;
             lists = lists;
             own = subst (λ vs. AreFieldLists at dl default_repr (behind first) vs lists) (map_own layout_of locals promoted states) others;
+            told = subst (λ (m : LayoutData F V). m.variants ≡ Multiple tag Direct (at (length (map layout_of prefix))) (variants_of m.variants)) (sym is)
+                (ap (λ k. Multiple tag Direct (at k) (state_layouts at number (length prefix + 1) promoted first states lists)) count);
             fields = ap (λ m. listed_offsets m.fields) is ∙ ap (λ k. take (k + 1) (listed_offsets first.fields)) count;
-            layouts = subst (λ k. AreStatesOf promoted (drop (k + 1) (listed_offsets first.fields)) states lists (variants_of l.variants)) count
-                (subst (λ (m : LayoutData F V). AreStatesOf promoted (drop (length prefix + 1) (listed_offsets first.fields)) states lists (variants_of m.variants)) (sym is)
+            order = ap (λ m. listed_order m.fields) is ∙ ap (λ k. filter (λ i. nat_lt (number i) (k + 1)) (listed_order first.fields)) count;
+            layouts = subst (λ k. AreStatesOf at number promoted (drop (k + 1) (listed_offsets first.fields)) (ranks_of number (k + 1) (listed_order first.fields)) states lists (variants_of l.variants)) count
+                (subst (λ (m : LayoutData F V). AreStatesOf at number promoted (drop (length prefix + 1) (listed_offsets first.fields)) (ranks_of number (length prefix + 1) (listed_order first.fields)) states lists (variants_of m.variants)) (sym is)
                 (states_of at number (length prefix + 1) promoted first states lists (as_many (behind first) states lists hs)));
           }
       coroutine_made (Err e) h = tt

@@ -41,7 +41,8 @@ use Rattle.abi_calc.specs.Enums.Several.{IsAskedAnswer, IsAskedFor, IsEnumAnswer
 use Rattle.abi_calc.specs.Enums.Tagged.{IsTaggedBy, lists_align, lists_size, payloads_of}
 use Rattle.abi_calc.specs.List.{HasLawfulAligns}
 use Rattle.abi_calc.specs.Ordered.{IsOrderedWhole, IsTagField}
-use Rattle.abi_calc.proofs.EnumDeep.{no_values}
+use Rattle.abi_calc.specs.Part.{is_unsized}
+use Rattle.abi_calc.proofs.EnumDeep.{niche_is_sized, no_values, tagged_is_sized}
 use Rattle.abi_calc.proofs.EnumGrowth.{grown_size}
 use Rattle.abi_calc.proofs.EnumNicheLawful.{niche_parts}
 use Rattle.abi_calc.proofs.EnumOrdered.{AreLeft, IsLeft, behind_aligned, behind_ordered, beside_aligned, beside_ordered, left_clear, one_field, size_divides}
@@ -112,21 +113,21 @@ stays old new same (o ∷ os) = rw (here (o == old) refl, stays old new same os)
     here false e = refl
 
 module _ {F V : Type 0} (old new : ℕ) (le : old ≤ new) (view : BackendRepr) (whole : ℕ) where
-  seen_by : (b : Bool) (list : LayoutData F V) (v : VariantLayout F) → IsBehindTag old new list v → IsBehindTag old new list (if b then record v { backend_repr = view; size = max v.size whole } else v)
-  seen_by true list v h = record { offsets = h.offsets; order = h.order; size = omega (arith, h.size); niche = h.niche; uninhabited = h.uninhabited }
+  seen_by : (b : Bool) (list : LayoutData F V) (v : VariantLayout F) → IsBehindTag old new whole list v → IsBehindTag old new whole list (if b then record v { backend_repr = view; size = max v.size whole } else v)
+  seen_by true list v h = record { offsets = h.offsets; order = h.order; size = omega (arith, h.size); most = omega (arith, h.most); niche = h.niche; uninhabited = h.uninhabited }
   seen_by false list v h = h
 
   grown_by : (list : LayoutData F V) (b : Bool) → nat_lt old new ≡ b
-      → IsBehindTag old new list (if b then record (variant_of list) { size = max list.size new; field_offsets = map (moved old new) (listed_offsets list.fields) } else variant_of list)
-  grown_by list true e = record { offsets = refl; order = refl; size = omega arith; niche = refl; uninhabited = refl }
+      → IsBehindTag old new whole list (if b then record (variant_of list) { size = max list.size new; field_offsets = map (moved old new) (listed_offsets list.fields) } else variant_of list)
+  grown_by list true e = record { offsets = refl; order = refl; size = omega arith; most = omega arith; niche = refl; uninhabited = refl }
   grown_by list false e =
       let same : old ≡ new = omega (arith, le, ltb-false old new e) in
-      record { offsets = sym (stays old new same (listed_offsets list.fields)); order = refl; size = omega arith; niche = refl; uninhabited = refl }
+      record { offsets = sym (stays old new same (listed_offsets list.fields)); order = refl; size = omega arith; most = omega arith; niche = refl; uninhabited = refl }
 
-  pub one_behind : (list : LayoutData F V) → IsBehindTag old new list (seen_as view whole (grown_variant old new (variant_of list)))
+  pub one_behind : (list : LayoutData F V) → IsBehindTag old new whole list (seen_as view whole (grown_variant old new (variant_of list)))
   one_behind list = seen_by _ list (grown_variant old new (variant_of list)) (grown_by list (nat_lt old new) refl)
 
-  pub all_behind : (lists : List (LayoutData F V)) → AreBehindTag old new lists (map (λ list. seen_as view whole (grown_variant old new (variant_of list))) lists)
+  pub all_behind : (lists : List (LayoutData F V)) → AreBehindTag old new whole lists (map (λ list. seen_as view whole (grown_variant old new (variant_of list))) lists)
   all_behind [] = tt
   all_behind (l ∷ ls) = (one_behind l, all_behind ls)
 
@@ -266,10 +267,15 @@ module _ {F V H : Type 0} (layout_of : H → LayoutData F V) (at : ℕ → F) (n
             seed = ap (λ m. m.randomization_seed) same;
           };
           tag = tag;
+          grown = grown;
+          no_less = (grown_size dl repr asked (start_align number (map (map layout_of) variants) lists)).no_less;
+          holds = refl;
           field = at 0;
           layouts = map (λ list. seen_as view (lists_size dl lists) (grown_variant (integer_size asked) (integer_size grown) (variant_of list))) lists;
           told = ap (λ m. m.variants) same;
-          places = all_behind (integer_size asked) (integer_size grown) (grown_size dl repr asked (start_align number (map (map layout_of) variants) lists)).no_less view (lists_size dl lists) lists;
+          places = subst (λ n. AreBehindTag (integer_size asked) (integer_size grown) n lists
+              (map (λ list. seen_as view (lists_size dl lists) (grown_variant (integer_size asked) (integer_size grown) (variant_of list))) lists)) (sym (ap (λ m. m.size) same))
+              (all_behind (integer_size asked) (integer_size grown) (grown_size dl repr asked (start_align number (map (map layout_of) variants) lists)).no_less view (lists_size dl lists) lists);
         })
 
     -- and so is one with a niche
@@ -318,6 +324,13 @@ module _ {F V H : Type 0} (layout_of : H → LayoutData F V) (at : ℕ → F) (n
   niche_flag items lists t unpacked are is =
       ap (λ (m : LayoutData F V). m.uninhabited) (niche_parts (at 0) index dl repr (map (map layout_of) variants) lists t is).is ∙ no_values layout_of at (index 0) dl repr AlwaysSized variants lists are
 
+  -- it is sized
+  pub tagged_sized : OfTagged layout_of at number index place dl repr asks variants (λ items l. is_unsized l.backend_repr ≡ false)
+  tagged_sized items asked signed lists t unpacked is are by = tagged_is_sized number (at 0) dl repr asked signed (own_values items) (map (map layout_of) variants) lists t by
+
+  pub niche_sized : OfNiche layout_of at number index place dl repr asks variants (λ items l. is_unsized l.backend_repr ≡ false)
+  niche_sized items lists t unpacked are is = niche_is_sized (at 0) index dl repr (map (map layout_of) variants) lists t is
+
   -- its fields are aligned
   pub tagged_aligned : OfTagged layout_of at number index place dl repr asks variants (λ items l. AreVariantsAligned (map (map layout_of) variants) (variants_of l.variants))
   tagged_aligned items asked signed lists t unpacked is are by =
@@ -326,7 +339,7 @@ module _ {F V H : Type 0} (layout_of : H → LayoutData F V) (at : ℕ → F) (n
       let view = tagged_view dl tag (lists_size dl lists) (lists_align dl lists) (payloads_of dl (integer_size asked) (integer_size grown) (map (map layout_of) variants) lists) in
       let more = (grown_size dl repr asked (start_align number (map (map layout_of) variants) lists)).no_less in
       subst (λ (m : LayoutData F V). AreVariantsAligned (map (map layout_of) variants) (variants_of m.variants)) (sym by.ranged.2)
-      (behind_aligned layout_of at number (index 0) dl repr (behind_tag dl repr asked (map (map layout_of) variants)) unpacked tt (integer_size asked) (integer_size grown) (size_divides asked grown more) variants lists
+      (behind_aligned layout_of at number (index 0) dl repr (behind_tag dl repr asked (map (map layout_of) variants)) unpacked tt (integer_size asked) (integer_size grown) (lists_size dl lists) (size_divides asked grown more) variants lists
       (map (λ list. seen_as view (lists_size dl lists) (grown_variant (integer_size asked) (integer_size grown) (variant_of list))) lists) are
       (all_behind (integer_size asked) (integer_size grown) more view (lists_size dl lists) lists))
 
@@ -362,7 +375,7 @@ module _ {F V H : Type 0} (layout_of : H → LayoutData F V) (at : ℕ → F) (n
           let more = (grown_size dl repr asked (start_align number (map (map layout_of) variants) lists)).no_less in
           subst (IsOrderedWhole number) (sym by.ranged.2) (
             one_field number 0 (at 0),
-            behind_ordered layout_of at number (index 0) dl repr (behind_tag dl repr asked (map (map layout_of) variants)) unpacked tt most law (integer_size asked) (integer_size grown) more variants lists
+            behind_ordered layout_of at number (index 0) dl repr (behind_tag dl repr asked (map (map layout_of) variants)) unpacked tt most law (integer_size asked) (integer_size grown) (lists_size dl lists) more variants lists
                 (map (λ list. seen_as view (lists_size dl lists) (grown_variant (integer_size asked) (integer_size grown) (variant_of list))) lists) few
                 (left_behind asked lists unpacked are (nat_lt (integer_size asked) (integer_size grown)) refl) are
                 (all_behind (integer_size asked) (integer_size grown) more view (lists_size dl lists) lists),

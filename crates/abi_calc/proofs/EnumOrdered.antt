@@ -189,17 +189,17 @@ left_clear layout_of old new (v ∷ vs) (l ∷ ls) h =
 
 module _ {F V H : Type 0} (layout_of : H → LayoutData F V) (at : ℕ → F) (number : F → ℕ) (first : V) (dl : TargetDataLayout) (repr : ReprOptions) (kind : StructKind) (unpacked : repr.pack ≡ None) (sized : IsSized kind) where
   -- behind a tag
-  pub behind_aligned : (old new : ℕ) → old ∣ new → (variants : List (List H)) (lists : List (LayoutData F V)) (layouts : List (VariantLayout F)) → AreListLayouts layout_of at first dl repr kind variants lists
-      → AreBehindTag old new lists layouts → AreVariantsAligned (map (map layout_of) variants) layouts
-  behind_aligned old new d [] [] [] h b = tt
-  behind_aligned old new d [] [] (x ∷ xs) h b = absurd b
-  behind_aligned old new d [] (l ∷ ls) xs h b = absurd h
-  behind_aligned old new d (v ∷ vs) [] xs h b = absurd h
-  behind_aligned old new d (v ∷ vs) (l ∷ ls) [] h b = absurd b
-  behind_aligned old new d (v ∷ vs) (l ∷ ls) (x ∷ xs) h b = (
+  pub behind_aligned : (old new whole : ℕ) → old ∣ new → (variants : List (List H)) (lists : List (LayoutData F V)) (layouts : List (VariantLayout F)) → AreListLayouts layout_of at first dl repr kind variants lists
+      → AreBehindTag old new whole lists layouts → AreVariantsAligned (map (map layout_of) variants) layouts
+  behind_aligned old new whole d [] [] [] h b = tt
+  behind_aligned old new whole d [] [] (x ∷ xs) h b = absurd b
+  behind_aligned old new whole d [] (l ∷ ls) xs h b = absurd h
+  behind_aligned old new whole d (v ∷ vs) [] xs h b = absurd h
+  behind_aligned old new whole d (v ∷ vs) (l ∷ ls) [] h b = absurd b
+  behind_aligned old new whole d (v ∷ vs) (l ∷ ls) (x ∷ xs) h b = (
     subst (λ os. AreAligned os (map (λ f. f.align.abi) (map layout_of v))) (sym b.0.offsets)
         (aligned_moved old new d (listed_offsets l.fields) (map (λ f. f.align.abi) (map layout_of v)) (list_aligned layout_of at first dl repr kind v l unpacked (tail_of_sized kind (length v) sized) h.0)),
-    behind_aligned old new d vs ls xs h.1 b.1,
+    behind_aligned old new whole d vs ls xs h.1 b.1,
   )
 
   -- a field's alignment is no greater than its list's
@@ -244,19 +244,19 @@ module _ {F V H : Type 0} (layout_of : H → LayoutData F V) (at : ℕ → F) (n
     in_order : (v : List H) (l : LayoutData F V) → length v ≤ most + 1 → IsListAnswer layout_of at first dl repr kind v (Ok l) → IsOrderedList number l
     in_order v l small h = list_ordered layout_of at first dl repr kind number most law v l small (tail_of_sized kind (length v) sized) h
 
-    pub behind_ordered : (old new : ℕ) → old ≤ new → (variants : List (List H)) (lists : List (LayoutData F V)) (layouts : List (VariantLayout F)) → All (λ fields. length fields ≤ most + 1) variants
-        → AreLeft old new lists → AreListLayouts layout_of at first dl repr kind variants lists → AreBehindTag old new lists layouts → All (IsOrderedVariant number) layouts
-    behind_ordered old new le [] [] [] few left h b = All-nil (IsOrderedVariant number)
-    behind_ordered old new le [] [] (x ∷ xs) few left h b = absurd b
-    behind_ordered old new le [] (l ∷ ls) xs few left h b = absurd h
-    behind_ordered old new le (v ∷ vs) [] xs few left h b = absurd h
-    behind_ordered old new le (v ∷ vs) (l ∷ ls) [] few left h b = absurd b
-    behind_ordered old new le (v ∷ vs) (l ∷ ls) (x ∷ xs) few left h b =
+    pub behind_ordered : (old new whole : ℕ) → old ≤ new → (variants : List (List H)) (lists : List (LayoutData F V)) (layouts : List (VariantLayout F)) → All (λ fields. length fields ≤ most + 1) variants
+        → AreLeft old new lists → AreListLayouts layout_of at first dl repr kind variants lists → AreBehindTag old new whole lists layouts → All (IsOrderedVariant number) layouts
+    behind_ordered old new whole le [] [] [] few left h b = All-nil (IsOrderedVariant number)
+    behind_ordered old new whole le [] [] (x ∷ xs) few left h b = absurd b
+    behind_ordered old new whole le [] (l ∷ ls) xs few left h b = absurd h
+    behind_ordered old new whole le (v ∷ vs) [] xs few left h b = absurd h
+    behind_ordered old new whole le (v ∷ vs) (l ∷ ls) [] few left h b = absurd b
+    behind_ordered old new whole le (v ∷ vs) (l ∷ ls) (x ∷ xs) few left h b =
         let own : All (IsLeft old new) (listed_offsets l.fields) = All-head (λ list. All (IsLeft old new) (listed_offsets list.fields)) l ls left in
         All-cons (IsOrderedVariant number) x xs
         (ordered_by number (moved old new) l x (in_order v l (All-head (λ fields. length fields ≤ most + 1) v vs few) h.0) b.0.offsets b.0.order
         (λ i j low high up. keeps_moved old new (get_or (listed_offsets l.fields) i 0) (get_or (listed_offsets l.fields) j 0) le (own i 0 low) (own j 0 high) up))
-        (behind_ordered old new le vs ls xs (All-tail (λ fields. length fields ≤ most + 1) v vs few) (All-tail (λ list. All (IsLeft old new) (listed_offsets list.fields)) l ls left) h.1 b.1)
+        (behind_ordered old new whole le vs ls xs (All-tail (λ fields. length fields ≤ most + 1) v vs few) (All-tail (λ list. All (IsLeft old new) (listed_offsets list.fields)) l ls left) h.1 b.1)
 
     moved_order : (by : ℕ) (l : LayoutData F V) (x : VariantLayout F) → IsOrderedList number l → IsMovedBy by l x → IsOrderedVariant number x
     moved_order by l x own b = ordered_by number (λ o. by + o) l x own b.offsets b.order (λ i j low high up. omega (arith, up))

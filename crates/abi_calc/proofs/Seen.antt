@@ -8,6 +8,7 @@ use Rattle.abi_base.specs.declared.struct_kind.StructKind.{StructKind}
 use Rattle.abi_scalar.specs.declared.error.LayoutCalculatorError.{LayoutCalculatorError}
 use Rattle.abi_scalar.specs.declared.layout_data.LayoutData.{LayoutData}
 use Rattle.abi_scalar.specs.declared.repr.ReprOptions.{ReprOptions}
+use Rattle.abi_scalar.specs.declared.variants.Variants.TheVariants.{Single}
 use Rattle.abi_scalar.specs.Repr.{is_abi_fixed}
 use Rattle.abi_scalar.specs.Shape.{listed_offsets}
 use Rattle.abi_calc.specs.Enums.Single.{IsSingleAnswer, single_layout, widened_view}
@@ -16,7 +17,7 @@ use Rattle.abi_calc.specs.ListView.{list_view}
 use Rattle.abi_calc.specs.Marks.{HasListMarks, HasUnionMarks}
 use Rattle.abi_calc.specs.Placement.{IsNonEmptyIfUnsized}
 use Rattle.abi_calc.specs.Seen.{IsSeenAsList, view_of_fields}
-use Rattle.abi_calc.specs.Union.{IsUnionAnswer}
+use Rattle.abi_calc.specs.Union.{IsUnionAnswer, IsUnionView, union_align}
 use Rattle.abi_calc.proofs.LeastLemmas.{has_greatest_niche, has_own_niche}
 
 module _ {F V H : Type 0} (layout_of : H → LayoutData F V) (at : ℕ → F) (first : V) (dl : TargetDataLayout) (repr : ReprOptions) (kind : StructKind) (hs : List H) where
@@ -58,6 +59,22 @@ module _ {F V H : Type 0} (layout_of : H → LayoutData F V) (at : ℕ → F) (f
   single_seen optimizations index (Ok l) tail (list, (order, offsets, r), is) =
       subst (IsSeenAsList index dl repr kind optimizations (map layout_of hs)) (sym is) (as_type optimizations index order offsets list tail r)
   single_seen optimizations index (Err e) tail h = tt
+
+-- a union has one variant, is aligned as its fields ask, and is seen as they tell
+pub union_single : {F V H : Type 0} (layout_of : H → LayoutData F V) (first : V) (dl : TargetDataLayout) (repr : ReprOptions) (fields : List H) (result : Result (LayoutData F V) (LayoutCalculatorError H))
+    → IsUnionAnswer layout_of first dl repr fields result → IfOk result (λ l. l.variants ≡ Single first)
+union_single layout_of first dl repr fields (Ok l) (none, view, is) = ap (λ m. m.variants) is
+union_single layout_of first dl repr fields (Err e) h = tt
+
+pub union_aligned : {F V H : Type 0} (layout_of : H → LayoutData F V) (first : V) (dl : TargetDataLayout) (repr : ReprOptions) (fields : List H) (result : Result (LayoutData F V) (LayoutCalculatorError H))
+    → IsUnionAnswer layout_of first dl repr fields result → IfOk result (λ l. l.align.abi ≡ union_align dl repr (map layout_of fields))
+union_aligned layout_of first dl repr fields (Ok l) (none, view, is) = ap (λ m. m.align.abi) is
+union_aligned layout_of first dl repr fields (Err e) h = tt
+
+pub union_viewed : {F V H : Type 0} (layout_of : H → LayoutData F V) (first : V) (dl : TargetDataLayout) (repr : ReprOptions) (fields : List H) (result : Result (LayoutData F V) (LayoutCalculatorError H))
+    → IsUnionAnswer layout_of first dl repr fields result → IfOk result (λ l. IsUnionView dl repr (map layout_of fields) l.backend_repr)
+union_viewed layout_of first dl repr fields (Ok l) (none, view, is) = view
+union_viewed layout_of first dl repr fields (Err e) h = tt
 
 -- a union is marked as its fields are
 pub union_marks : {F V H : Type 0} (layout_of : H → LayoutData F V) (first : V) (dl : TargetDataLayout) (repr : ReprOptions) (fields : List H) (result : Result (LayoutData F V) (LayoutCalculatorError H))

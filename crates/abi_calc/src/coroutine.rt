@@ -254,9 +254,10 @@ impl<Cx: HasDataLayout> LayoutCalculator<Cx> {
         // Its fields, and those of each state, have a place in memory order each, which never steps back.
         ensures ordered { IfOk result (IsOrderedWhole FieldIdx.number) }
 
-        // Each of its lists lies in an allowed order of the least size, and its fields lie where the lists have them.
-        ensures made { IfOk result (IsMadeOfStates FieldIdx.at (VariantIdx.at 0) (Cx.target self.now.cx)
-            (map F.layout_of prefix_layouts) (map F.layout_of (items_of local_layouts.entry))
+        // Each of its lists lies in an allowed order of the least size, and its fields lie where the lists have them, in their
+        // orders.
+        ensures made { IfOk result (IsMadeOfStates FieldIdx.at FieldIdx.number (VariantIdx.at 0)
+            (Cx.target self.now.cx) (map F.layout_of prefix_layouts) (map F.layout_of (items_of local_layouts.entry))
             (map (map LocalIdx.number) (items_of variant_fields.entry)) storage_conflicts.now) }
 
         // The prefix fields, the tag and the locals of each state share no byte, and the tag may hold each state's index.

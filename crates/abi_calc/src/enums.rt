@@ -32,6 +32,7 @@ ghost use Rattle.abi_calc.specs.Enums.Path.{has_no_value, path_of, variant_at};
 ghost use Rattle.abi_calc.specs.Enums.Several.{AreLawfulTags, HasEnumSize, IsAlwaysTooLarge, IsAskedTooLarge};
 ghost use Rattle.abi_calc.specs.declared.enums.path.Path.TheVariants.{NoValue as HasNoValue, OneList as IsOneList, Several as AreSeveral};
 ghost use Rattle.abi_calc.specs.Ordered.{IsOrderedWhole, IsTagField};
+ghost use Rattle.abi_calc.specs.Part.{is_unsized};
 ghost use Rattle.abi_calc.specs.Seen.{IsSeenAsList};
 
 use crate::calculator::LayoutCalculator;
@@ -124,7 +125,7 @@ impl<Cx: HasDataLayout> LayoutCalculator<Cx> {
             → IfOk result (λ l. WholeRun I.next_gives discriminants (λ run. AreToldApart (Cx.target self.now.cx) VariantIdx.number (map (map F.layout_of) (items_of variants.entry)) run.items l)) }
 
         // Each of their variants is laid out as a list, in an allowed order of the least size; the alignment is the greatest of
-        // these lists', and the marks are theirs. They have no values where none of the variants may have one.
+        // these lists', and the marks are theirs. They have no values where none of the variants may have one, and are sized.
         ensures made { path_of is_enum repr.now (map (map F.layout_of) (items_of variants.entry)) ≡ AreSeveral
             → IfOk result (λ l. WholeRun I.next_gives discriminants (λ run. IsMadeOfLists FieldIdx.at VariantIdx.number
             (Cx.target self.now.cx) repr.now (D.post discr_range_of_repr)
@@ -132,6 +133,8 @@ impl<Cx: HasDataLayout> LayoutCalculator<Cx> {
             (map (map F.layout_of) (items_of variants.entry)) l)) }
         ensures uninhabited { path_of is_enum repr.now (map (map F.layout_of) (items_of variants.entry)) ≡ AreSeveral
             → IfOk result (λ l. l.uninhabited ≡ list_all has_no_value (map (map F.layout_of) (items_of variants.entry))) }
+        ensures sized { path_of is_enum repr.now (map (map F.layout_of) (items_of variants.entry)) ≡ AreSeveral
+            → IfOk result (λ l. is_unsized l.backend_repr ≡ false) }
 
         // The tag is field 0, and one of its own holds the least range of the discriminants that count. Fields lie at multiples
         // of their alignments, and memory order never steps back.

@@ -5,6 +5,7 @@ ghost use Rattle.std.specs.Int.{next_multiple_of};
 ghost use Rattle.abi_index.specs.Slice.{items_of};
 ghost use Rattle.abi_base.specs.DataLayout.{IsLawfulDataLayout};
 ghost use Rattle.abi_scalar.specs.declared.backend_repr.BackendRepr.{BackendRepr};
+ghost use Rattle.abi_scalar.specs.declared.variants.Variants.TheVariants.{Single};
 ghost use Rattle.abi_scalar.specs.Layout.{IsZst};
 ghost use Rattle.abi_scalar.specs.Lawful.{IsLawfulLayout};
 ghost use Rattle.abi_scalar.specs.Order.{HasPlaceForEach, IsAscending};
@@ -254,6 +255,11 @@ impl<Cx: HasDataLayout> LayoutCalculator<Cx> {
         ensures lawful { IfOk result (IsLawfulLayout (Cx.target self.now.cx)) }
         ensures niche { IfOk result (λ l. l.largest_niche ≡ None) }
         ensures inhabited { IfOk result (λ l. l.uninhabited ≡ false) }
+        ensures single { IfOk result (λ l. l.variants ≡ Single (VariantIdx.at 0)) }
+        ensures alignment { IfOk result (λ l. l.align.abi ≡ union_align (Cx.target self.now.cx) repr.now
+            (map F.layout_of (only_of (items_of variants.entry)))) }
+        ensures view { IfOk result (λ l. IsUnionView (Cx.target self.now.cx) repr.now
+            (map F.layout_of (only_of (items_of variants.entry))) l.backend_repr) }
         ensures marks { IfOk result (HasUnionMarks (Cx.target self.now.cx) repr.now
             (map F.layout_of (only_of (items_of variants.entry)))) }
 

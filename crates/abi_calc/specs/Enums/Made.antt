@@ -1,5 +1,5 @@
 -- What an enum of several variants takes over from the lists of its variants.
-use Rattle.std.specs.Prelude.{◌≡◌, ℕ, ◌+◌, ◌^◌, ◌≤◌, ◌==◌, ◌⊎◌, ⊤, Bool, ℤ, List, [], ◌∷◌, MatchBool, None, Some, map, slice_get}
+use Rattle.std.specs.Prelude.{◌≡◌, ℕ, ◌+◌, ◌^◌, ◌≤◌, ◌==◌, ◌⊎◌, ⊤, Bool, ℤ, List, [], ◌∷◌, MatchBool, None, Some, map, max, slice_get}
 use Rattle.std.specs.Int.{next_multiple_of}
 use Rattle.abi_base.specs.declared.data_layout.TargetDataLayout.{TargetDataLayout}
 use Rattle.abi_base.specs.declared.integer.Integer.{Integer}
@@ -20,7 +20,7 @@ use Rattle.abi_scalar.specs.declared.variants.Variants.{Variants}
 use Rattle.abi_scalar.specs.declared.variants.Variants.TheVariants.{Multiple}
 use Rattle.abi_scalar.specs.declared.wrapping_range.WrappingRange.{WrappingRange}
 use Rattle.abi_scalar.specs.Niche.{niche_size}
-use Rattle.abi_scalar.specs.Scalar.{scalar_size}
+use Rattle.abi_scalar.specs.Scalar.{primitive_of}
 use Rattle.abi_scalar.specs.Shape.{listed_offsets, listed_order}
 use Rattle.abi_scalar.specs.Variant.{variant_of}
 use Rattle.abi_calc.specs.Apart.{AreAligned}
@@ -34,23 +34,24 @@ use Rattle.abi_calc.specs.Marks.{HasEnumMarks}
 
 -- ---- behind a tag
 
--- A variant behind a tag, from its list behind a tag of so many bytes that grew to so many: fields at the old tag's end lie at
--- the new one's.
-pub record IsBehindTag {F V : Type 0} (old new : ℕ) (list : LayoutData F V) (layout : VariantLayout F) : Type 0 where
+-- A variant behind a tag, from its list behind a tag of so many bytes that grew to so many, in a whole of this size: fields at the
+-- old tag's end lie at the new one's.
+pub record IsBehindTag {F V : Type 0} (old new whole : ℕ) (list : LayoutData F V) (layout : VariantLayout F) : Type 0 where
   pub offsets : layout.field_offsets ≡ map (moved old new) (listed_offsets list.fields)
   pub order : layout.fields_in_memory_order ≡ listed_order list.fields
   pub size : list.size ≤ layout.size
+  pub most : layout.size ≤ max (max list.size new) whole
   pub niche : layout.largest_niche ≡ list.largest_niche
   pub uninhabited : layout.uninhabited ≡ list.uninhabited
 
 -- each variant from its list
-abbrev pub AreBehindTag : {F V : Type 0} → (old new : ℕ) → (lists : List (LayoutData F V)) → (layouts : List (VariantLayout F)) → Type 0
-AreBehindTag old new [] [] = ⊤
-AreBehindTag old new (list ∷ lists) (layout ∷ layouts) = IsBehindTag old new list layout × AreBehindTag old new lists layouts
-AreBehindTag old new _ _ = ⊥
+abbrev pub AreBehindTag : {F V : Type 0} → (old new whole : ℕ) → (lists : List (LayoutData F V)) → (layouts : List (VariantLayout F)) → Type 0
+AreBehindTag old new whole [] [] = ⊤
+AreBehindTag old new whole (list ∷ lists) (layout ∷ layouts) = IsBehindTag old new whole list layout × AreBehindTag old new whole lists layouts
+AreBehindTag old new whole _ _ = ⊥
 
--- An enum with a tag is made of its variants' lists behind the integer that is asked for, whose place the tag takes: it is
--- aligned as the greatest of them, and marked as they are.
+-- An enum with a tag is made of its variants' lists behind the integer that is asked for: it is aligned as the greatest of them,
+-- and marked as they are. The tag is an integer that is no smaller, with the same sign.
 pub record IsMadeByTag {F V : Type 0} (at : ℕ → F) (dl : TargetDataLayout) (repr : ReprOptions) (asks : RangeFrom ℤ → RangeToInclusive ℕ → Integer × Bool → Type 0) (values : List ℕ)
     (variants : List (List (LayoutData F V))) (layout : LayoutData F V) : Type 0 where
   pub asked : Integer
@@ -61,10 +62,13 @@ pub record IsMadeByTag {F V : Type 0} (at : ℕ → F) (dl : TargetDataLayout) (
   pub alignment : layout.align.abi ≡ greatest_align dl.aggregate_align lists
   pub marks : HasEnumMarks dl repr lists layout
   pub tag : Scalar
+  pub grown : Integer
+  pub no_less : integer_size asked ≤ integer_size grown
+  pub holds : primitive_of tag ≡ Int grown signed
   pub field : F
   pub layouts : List (VariantLayout F)
   pub told : layout.variants ≡ Multiple tag Direct field layouts
-  pub places : AreBehindTag (integer_size asked) (scalar_size dl tag) lists layouts
+  pub places : AreBehindTag (integer_size asked) (integer_size grown) layout.size lists layouts
 
 -- ---- beside a niche
 

@@ -1,6 +1,6 @@
 -- The type is laid out by the way that its variants tell: as one list, or as several variants.
 use Rattle.std.proofs.Common.{◌≡◌, ◌+◌, ◌∙◌, ◌<◌, ◌≤◌, ℕ, ap, arith, length, map, subst, sym}
-use Rattle.std.specs.Prelude.{◌⊎◌, All, Bool, Err, IfErr, IfOk, IsTrue, None, ℤ}
+use Rattle.std.specs.Prelude.{◌⊎◌, All, Bool, Err, IfErr, IfOk, IsTrue, None, ℤ, false}
 use Rattle.std.specs.Iterator.Runs.{EachRunFrom, WholeRun}
 use Rattle.std.specs.List.{list_all}
 use Rattle.abi_base.specs.declared.data_layout.TargetDataLayout.{TargetDataLayout}
@@ -21,8 +21,9 @@ use Rattle.abi_calc.specs.Enums.Discriminants.{counting_of}
 use Rattle.abi_calc.specs.Enums.Made.{AreVariantsAligned, HasLeastTag, IsMadeOfLists}
 use Rattle.abi_calc.specs.Enums.Path.{has_no_value, path_of}
 use Rattle.abi_calc.specs.Ordered.{IsTagField}
+use Rattle.abi_calc.specs.Part.{is_unsized}
 use Rattle.abi_calc.specs.Enums.Several.{AreLawfulTags, HasEnumSize, IsAlwaysTooLarge, IsAskedTooLarge, IsSeveralAnswer}
-use Rattle.abi_calc.proofs.EnumMade.{niche_aligned, niche_field, niche_flag, niche_least, niche_made, several_ok, several_ordered, several_run, tagged_aligned, tagged_field, tagged_flag, tagged_least, tagged_made}
+use Rattle.abi_calc.proofs.EnumMade.{niche_aligned, niche_field, niche_flag, niche_least, niche_made, niche_sized, several_ok, several_ordered, several_run, tagged_aligned, tagged_field, tagged_flag, tagged_least, tagged_made, tagged_sized}
 use Rattle.abi_calc.proofs.EnumSeen.{seen_at}
 use Rattle.abi_calc.proofs.EnumType.{IsReadAt, at_listed, fields_hold, good_single, index_within, read_at, several_exact, several_some, single_exact}
 use Rattle.abi_calc.proofs.calculator.LayoutCalculator.layout_of_struct_or_enum.Given as given
@@ -204,6 +205,20 @@ returns-in-Several-clause-uninhabited g c way =
     several_ok g.F.LayoutHandle.layout_of g.FieldIdx.Idx.at g.FieldIdx.Idx.number g.VariantIdx.Idx.at g.VariantIdx.Idx.number dl c.args.repr.now asks vs
     (λ l. l.uninhabited ≡ list_all (λ fields. has_no_value fields) (map (map g.F.LayoutHandle.layout_of) vs))
     (tagged_flag g.F.LayoutHandle.layout_of g.FieldIdx.Idx.at g.FieldIdx.Idx.number g.VariantIdx.Idx.at g.VariantIdx.Idx.number dl c.args.repr.now asks vs) (niche_flag g.F.LayoutHandle.layout_of g.FieldIdx.Idx.at g.FieldIdx.Idx.number g.VariantIdx.Idx.at g.VariantIdx.Idx.number dl c.args.repr.now asks vs)
+    (λ items. WholeRun g.I.Iterator.next_gives c.args.discriminants (λ run. items ≡ run.items)) c.layout_of_several.result exact
+
+pub returns-in-Several-clause-sized : goal.returns-in-Several-clause-sized
+returns-in-Several-clause-sized g c way =
+    let dl : TargetDataLayout = g.Cx.HasDataLayout.target c.args.self.now.cx in
+    let asks : RangeFrom ℤ → RangeToInclusive ℕ → Integer × Bool → Type 0 = λ least greatest answer. g.D.Fn.post c.args.discr_range_of_repr (least, (greatest, tt)) answer in
+    let vs = items_of c.args.variants in
+    let exact : IsSeveralAnswer g.F.LayoutHandle.layout_of g.FieldIdx.Idx.at g.FieldIdx.Idx.number g.VariantIdx.Idx.at g.VariantIdx.Idx.number dl c.args.repr.now asks vs
+    (λ items. WholeRun g.I.Iterator.next_gives c.args.discriminants (λ run. items ≡ run.items)) c.layout_of_several.result
+    = subst (λ vs. IsSeveralAnswer g.F.LayoutHandle.layout_of g.FieldIdx.Idx.at g.FieldIdx.Idx.number g.VariantIdx.Idx.at g.VariantIdx.Idx.number dl c.args.repr.now asks vs
+    (λ items. WholeRun g.I.Iterator.next_gives c.args.discriminants (λ run. items ≡ run.items)) c.layout_of_several.result) c.as_raw-all.ensures.items c.layout_of_several.ensures.exact in
+    several_ok g.F.LayoutHandle.layout_of g.FieldIdx.Idx.at g.FieldIdx.Idx.number g.VariantIdx.Idx.at g.VariantIdx.Idx.number dl c.args.repr.now asks vs
+    (λ l. is_unsized l.backend_repr ≡ false)
+    (tagged_sized g.F.LayoutHandle.layout_of g.FieldIdx.Idx.at g.FieldIdx.Idx.number g.VariantIdx.Idx.at g.VariantIdx.Idx.number dl c.args.repr.now asks vs) (niche_sized g.F.LayoutHandle.layout_of g.FieldIdx.Idx.at g.FieldIdx.Idx.number g.VariantIdx.Idx.at g.VariantIdx.Idx.number dl c.args.repr.now asks vs)
     (λ items. WholeRun g.I.Iterator.next_gives c.args.discriminants (λ run. items ≡ run.items)) c.layout_of_several.result exact
 
 pub returns-in-Several-clause-tag : goal.returns-in-Several-clause-tag
