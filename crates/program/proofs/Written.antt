@@ -6,60 +6,16 @@ use Rattle.std.specs.Str.{all_ascii_digits, bytes_eq}
 use Rattle.std.proofs.lemmas.Bool.Decides.{nat_tests}
 use Rattle.abi_base.specs.declared.data_layout.TargetDataLayout.{TargetDataLayout}
 use Rattle.abi_scalar.specs.declared.repr.ReprOptions.{ReprOptions}
-use Rattle.abi_scalar.specs.declared.scalar.Scalar.{Scalar}
-use Rattle.abi_laid.specs.Tree.{Tree, scalar, pair, never, unit, array, vector, struct, union, enum, coroutine, Trees, no_trees, more_trees, trees, Variants, no_variants, more_variants}
+use Rattle.abi_laid.specs.Tree.{Tree, pair, never, unit, array, vector, struct, union, enum, coroutine, Trees, no_trees, more_trees, trees, Variants, no_variants, more_variants}
 use Rattle.program.specs.declared.begun.Want.{Want}
 use Rattle.program.specs.declared.begun.Want.TheVariants as want
+use Rattle.program.specs.declared.begun.ScalarPlace.TheVariants as scalar_place
 use Rattle.program.specs.declared.begun.CoroutineWant.TheVariants as part
 use Rattle.program.specs.declared.repr_text.StructRepr.{StructRepr}
-use Rattle.program.specs.Reading.{Begun, State, elements, lanes, fields, members, variants_so_far, variant, variants_in, coroutine_with, in_prefix, in_locals, between_states, in_state, in_conflicts, first, second, range, range_of, range_from, union_of, at_count, at_lanes, at_repr, at_union_repr, at_enum_repr, at_discriminant, at_local, at_row, at_column, next, put, put_scalar, read, read_from, waiting}
+use Rattle.program.specs.Reading.{Begun, State, elements, lanes, fields, members, variants_so_far, variant, variants_in, coroutine_with, in_prefix, in_locals, between_states, in_state, in_conflicts, at_count, at_lanes, at_repr, at_union_repr, at_enum_repr, at_discriminant, at_local, at_row, at_column, next, put, read, read_from, waiting}
 use Rattle.program.specs.Written.{IsWrittenAs, AreWrittenAs, a_scalar, a_pair, no_value, one_value, an_array, a_vector, a_struct, a_union, an_enum, a_coroutine, no_more, one_more, AreVariantsWrittenAs, no_variant_more, one_variant_more, IsNumeral, IsDiscriminant, not_negative, negative, in_parentheses, AreNumerals, no_number_more, one_number_more, AreStatesWrittenAs, no_state_more, one_state_more, AreConflictsWrittenAs, no_conflict_more, one_conflict_more, nesting, nesting_of_fields, nesting_of_variants, vector_word}
 use Rattle.program.proofs.Numerals.{both, numeral_read, numeral_digits, discriminant_read}
-use Rattle.program.proofs.ScalarsRead.{IsFree, not_deep, one_word, read_scalar}
-
--- a place where a type may stand: not in a scalar
-abbrev AreTypes : List Begun → Type 0
-AreTypes [] = Unit {0}
-AreTypes (elements n ∷ begun) = Unit {0}
-AreTypes (fields asked ts ∷ begun) = Unit {0}
-AreTypes (lanes n packed ∷ begun) = Unit {0}
-AreTypes (members repr ts ∷ begun) = Unit {0}
-AreTypes (variant repr vs d ts ∷ begun) = Unit {0}
-AreTypes (coroutine_with (in_prefix ts) ∷ begun) = Unit {0}
-AreTypes (coroutine_with (in_locals ps ts) ∷ begun) = Unit {0}
-AreTypes (b ∷ begun) = ⊥
-
-types_free : (begun : List Begun) → AreTypes begun → IsFree begun
-types_free [] h = tt
-types_free (elements n ∷ begun) h = tt
-types_free (fields asked ts ∷ begun) h = tt
-types_free (lanes n packed ∷ begun) h = tt
-types_free (members repr ts ∷ begun) h = tt
-types_free (variants_so_far repr vs ∷ begun) h = tt
-types_free (variant repr vs d ts ∷ begun) h = tt
-types_free (coroutine_with parts ∷ begun) h = tt
-types_free (first ∷ begun) h = tt
-types_free (second a ∷ begun) h = tt
-types_free (range ∷ begun) h = h
-types_free (range_of p ∷ begun) h = tt
-types_free (range_from p n ∷ begun) h = tt
-types_free (union_of ∷ begun) h = h
-
-scalar_put : (s : Scalar) (begun : List Begun) → AreTypes begun → put_scalar s begun ≡ put (scalar s) begun
-scalar_put s [] h = refl
-scalar_put s (elements n ∷ begun) h = refl
-scalar_put s (fields asked ts ∷ begun) h = refl
-scalar_put s (lanes n packed ∷ begun) h = refl
-scalar_put s (members repr ts ∷ begun) h = refl
-scalar_put s (variants_so_far repr vs ∷ begun) h = absurd h
-scalar_put s (variant repr vs d ts ∷ begun) h = refl
-scalar_put s (coroutine_with parts ∷ begun) h = refl
-scalar_put s (first ∷ begun) h = absurd h
-scalar_put s (second a ∷ begun) h = absurd h
-scalar_put s (range ∷ begun) h = absurd h
-scalar_put s (range_of p ∷ begun) h = absurd h
-scalar_put s (range_from p n ∷ begun) h = absurd h
-scalar_put s (union_of ∷ begun) h = absurd h
+use Rattle.program.proofs.ScalarsRead.{not_deep, one_word, pair_takes, read_scalar, type_takes}
 
 abbrev list_in : Trees → List Tree
 list_in no_trees = []
@@ -79,23 +35,22 @@ variants_listed (more_variants d ts vs) = ap₂ (more_variants d) (trees_in ts) 
 
 -- a struct, a union, a variant, or a coroutine's prefix or its locals, that take a type as their next one
 abbrev TakesMore : (List Tree → Begun) → Type 0
-TakesMore top = ((t : Tree) (ts : List Tree) (begun : List Begun) → put t (top ts ∷ begun) ≡ waiting want.Tree (top (ts ++ t ∷ []) ∷ begun))
-    × ((ts : List Tree) (begun : List Begun) → AreTypes (top ts ∷ begun))
+TakesMore top = (t : Tree) (ts : List Tree) (begun : List Begun) → put t (top ts ∷ begun) ≡ waiting want.Tree (top (ts ++ t ∷ []) ∷ begun)
 
 takes_fields : (asked : StructRepr) → TakesMore (fields asked)
-takes_fields asked = (λ t ts begun. refl, λ ts begun. tt)
+takes_fields asked t ts begun = refl
 
 takes_members : (repr : ReprOptions) → TakesMore (members repr)
-takes_members repr = (λ t ts begun. refl, λ ts begun. tt)
+takes_members repr t ts begun = refl
 
 takes_in_variant : (repr : ReprOptions) (vs : List (ℕ × List Tree)) (d : ℕ) → TakesMore (variant repr vs d)
-takes_in_variant repr vs d = (λ t ts begun. refl, λ ts begun. tt)
+takes_in_variant repr vs d t ts begun = refl
 
 takes_in_prefix : TakesMore (λ ts. coroutine_with (in_prefix ts))
-takes_in_prefix = (λ t ts begun. refl, λ ts begun. tt)
+takes_in_prefix t ts begun = refl
 
 takes_in_locals : (ps : List Tree) → TakesMore (λ ts. coroutine_with (in_locals ps ts))
-takes_in_locals ps = (λ t ts begun. refl, λ ts begun. tt)
+takes_in_locals ps t ts begun = refl
 
 -- a word that begins with a digit, or with `-`, closes nothing
 digits_no_end : (w : List ℕ) → 0 < length w → all_ascii_digits w ≡ true → bytes_eq w (codes ")") ≡ false
@@ -189,32 +144,32 @@ module _ (dl : TargetDataLayout) where
   vector_at false begun number h = rw (not_deep begun h) refl
 
   mutual
-    read_tree : (t : Tree) (words : List (List ℕ)) → IsWrittenAs dl t words → (begun : List Begun) (number : ℕ) (rest : List (List ℕ)) → AreTypes begun → length begun + nesting t ≤ 200
+    read_tree : (t : Tree) (words : List (List ℕ)) → IsWrittenAs dl t words → (begun : List Begun) (number : ℕ) (rest : List (List ℕ)) → length begun + nesting t ≤ 200
         → read_from dl number (waiting want.Tree begun) (words ++ rest) ≡ read_from dl (number + length words) (put t begun) rest
-    read_tree t words (a_scalar s text is) begun number rest types deep =
-        read_scalar dl s text is want.Tree begun number rest (omega arith) (types_free begun types) ∙ ap (λ state. read_from dl (number + length text) state rest) (scalar_put s begun types)
-    read_tree t words (a_pair a b one two is also) begun number rest types deep =
+    read_tree t words (a_scalar s text is) begun number rest deep =
+        read_scalar dl s text is want.Tree scalar_place.Alone begun number rest (type_takes dl begun (omega arith))
+    read_tree t words (a_pair a b one two is also) begun number rest deep =
         let there : number + 1 + length one + length two ≡ number + length (codes "pair" ∷ (one ++ two)) = omega (arith, length-append one two) in
-        one_word dl want.Tree begun number (codes "pair") ((one ++ two) ++ rest) (waiting want.Scalar (first ∷ begun)) (rw (not_deep begun (omega arith)) refl)
-        ∙ ap (read_from dl (number + 1) (waiting want.Scalar (first ∷ begun))) (append_assoc one two rest)
-        ∙ read_scalar dl a one is want.Scalar (first ∷ begun) (number + 1) (two ++ rest) tt tt
-        ∙ read_scalar dl b two also want.Scalar (second a ∷ begun) (number + 1 + length one) rest tt tt
+        one_word dl want.Tree begun number (codes "pair") ((one ++ two) ++ rest) (waiting (want.Scalar scalar_place.First) begun) (rw (not_deep begun (omega arith)) refl)
+        ∙ ap (read_from dl (number + 1) (waiting (want.Scalar scalar_place.First) begun)) (append_assoc one two rest)
+        ∙ read_scalar dl a one is (want.Scalar scalar_place.First) scalar_place.First begun (number + 1) (two ++ rest) (pair_takes dl scalar_place.First begun)
+        ∙ read_scalar dl b two also (want.Scalar (scalar_place.Second a)) (scalar_place.Second a) begun (number + 1 + length one) rest (pair_takes dl (scalar_place.Second a) begun)
         ∙ ap (λ n. read_from dl n (put (pair a b) begun) rest) there
-    read_tree t words no_value begun number rest types deep = one_word dl want.Tree begun number (codes "never") rest (put never begun) (rw (not_deep begun (omega arith)) refl)
-    read_tree t words one_value begun number rest types deep = one_word dl want.Tree begun number (codes "unit") rest (put unit begun) (rw (not_deep begun (omega arith)) refl)
-    read_tree t words (an_array count text e more said is) begun number rest types deep =
+    read_tree t words no_value begun number rest deep = one_word dl want.Tree begun number (codes "never") rest (put never begun) (rw (not_deep begun (omega arith)) refl)
+    read_tree t words one_value begun number rest deep = one_word dl want.Tree begun number (codes "unit") rest (put unit begun) (rw (not_deep begun (omega arith)) refl)
+    read_tree t words (an_array count text e more said is) begun number rest deep =
         let there : number + 1 + 1 + length more ≡ number + length (codes "array" ∷ text ∷ more) = omega arith in
         one_word dl want.Tree begun number (codes "array") (text ∷ (more ++ rest)) (waiting want.Count begun) (rw (not_deep begun (omega arith)) refl)
         ∙ one_word dl want.Count begun (number + 1) text (more ++ rest) (waiting want.Tree (elements count ∷ begun)) (ap (at_count (number + 1) begun) (numeral_read 64 count text (omega arith) said))
-        ∙ read_tree e more is (elements count ∷ begun) (number + 1 + 1) rest tt (omega arith)
+        ∙ read_tree e more is (elements count ∷ begun) (number + 1 + 1) rest (omega arith)
         ∙ ap (λ n. read_from dl n (put (array count e) begun) rest) there
-    read_tree t words (a_vector count packed text e more said is) begun number rest types deep =
+    read_tree t words (a_vector count packed text e more said is) begun number rest deep =
         let there : number + 1 + 1 + length more ≡ number + length (vector_word packed ∷ text ∷ more) = omega arith in
         one_word dl want.Tree begun number (vector_word packed) (text ∷ (more ++ rest)) (waiting (want.Lanes packed) begun) (vector_at packed begun number (omega arith))
         ∙ one_word dl (want.Lanes packed) begun (number + 1) text (more ++ rest) (waiting want.Tree (lanes count packed ∷ begun)) (ap (at_lanes (number + 1) packed begun) (numeral_read 64 count text (omega arith) said))
-        ∙ read_tree e more is (lanes count packed ∷ begun) (number + 1 + 1) rest tt (omega arith)
+        ∙ read_tree e more is (lanes count packed ∷ begun) (number + 1 + 1) rest (omega arith)
         ∙ ap (λ n. read_from dl n (put (vector count packed e) begun) rest) there
-    read_tree t words (a_struct asked text ts more said are) begun number rest types deep =
+    read_tree t words (a_struct asked text ts more said are) begun number rest deep =
         let there : number + 1 + 1 + 1 + length more + 1 ≡ number + length (codes "struct" ∷ text ∷ codes "(" ∷ (more ++ codes ")" ∷ [])) = omega (arith, length-append more (codes ")" ∷ [])) in
         one_word dl want.Tree begun number (codes "struct") (text ∷ codes "(" ∷ ((more ++ codes ")" ∷ []) ++ rest)) (waiting want.Repr begun) (rw (not_deep begun (omega arith)) refl)
         ∙ one_word dl want.Repr begun (number + 1) text (codes "(" ∷ ((more ++ codes ")" ∷ []) ++ rest)) (waiting (want.Opening asked) begun) (ap (at_repr (number + 1) begun) said)
@@ -223,7 +178,7 @@ module _ (dl : TargetDataLayout) where
         ∙ read_trees ts more are (fields asked) (takes_fields asked) begun [] (number + 1 + 1 + 1) (codes ")" ∷ rest) deep
         ∙ one_word dl want.Tree (fields asked (list_in ts) ∷ begun) (number + 1 + 1 + 1 + length more) (codes ")") rest (put (struct asked.repr asked.always_sized (trees (list_in ts))) begun) refl
         ∙ ap₂ (λ n ts. read_from dl n (put (struct asked.repr asked.always_sized ts) begun) rest) there (trees_in ts)
-    read_tree t words (a_union repr text ts more said are) begun number rest types deep =
+    read_tree t words (a_union repr text ts more said are) begun number rest deep =
         let there : number + 1 + 1 + 1 + length more + 1 ≡ number + length (codes "union" ∷ text ∷ codes "(" ∷ (more ++ codes ")" ∷ [])) = omega (arith, length-append more (codes ")" ∷ [])) in
         one_word dl want.Tree begun number (codes "union") (text ∷ codes "(" ∷ ((more ++ codes ")" ∷ []) ++ rest)) (waiting want.UnionRepr begun) (rw (not_deep begun (omega arith)) refl)
         ∙ one_word dl want.UnionRepr begun (number + 1) text (codes "(" ∷ ((more ++ codes ")" ∷ []) ++ rest)) (waiting (want.UnionOpening repr) begun) (ap (at_union_repr (number + 1) begun) said)
@@ -232,7 +187,7 @@ module _ (dl : TargetDataLayout) where
         ∙ read_trees ts more are (members repr) (takes_members repr) begun [] (number + 1 + 1 + 1) (codes ")" ∷ rest) deep
         ∙ one_word dl want.Tree (members repr (list_in ts) ∷ begun) (number + 1 + 1 + 1 + length more) (codes ")") rest (put (union repr (trees (list_in ts))) begun) refl
         ∙ ap₂ (λ n ts. read_from dl n (put (union repr ts) begun) rest) there (trees_in ts)
-    read_tree t words (an_enum repr text vs more said are) begun number rest types deep =
+    read_tree t words (an_enum repr text vs more said are) begun number rest deep =
         let there : number + 1 + 1 + 1 + length more + 1 ≡ number + length (codes "enum" ∷ text ∷ codes "(" ∷ (more ++ codes ")" ∷ [])) = omega (arith, length-append more (codes ")" ∷ [])) in
         one_word dl want.Tree begun number (codes "enum") (text ∷ codes "(" ∷ ((more ++ codes ")" ∷ []) ++ rest)) (waiting want.EnumRepr begun) (rw (not_deep begun (omega arith)) refl)
         ∙ one_word dl want.EnumRepr begun (number + 1) text (codes "(" ∷ ((more ++ codes ")" ∷ []) ++ rest)) (waiting (want.EnumOpening repr) begun) (ap (at_enum_repr (number + 1) begun) said)
@@ -241,7 +196,7 @@ module _ (dl : TargetDataLayout) where
         ∙ read_variants vs more are repr begun [] (number + 1 + 1 + 1) (codes ")" ∷ rest) deep
         ∙ one_word dl want.Discriminant (variants_so_far repr (variant_list vs) ∷ begun) (number + 1 + 1 + 1 + length more) (codes ")") rest (put (enum repr (variants_in (variant_list vs))) begun) refl
         ∙ ap₂ (λ n us. read_from dl n (put (enum repr us) begun) rest) there (variants_listed vs)
-    read_tree t words (a_coroutine ps ls ss cs prefix locals states conflicts first_types then_types then_states then_conflicts) begun number rest types deep =
+    read_tree t words (a_coroutine ps ls ss cs prefix locals states conflicts first_types then_types then_states then_conflicts) begun number rest deep =
         let ps_read = list_in ps in
         let ls_read = list_in ls in
         let last = in_parentheses conflicts ++ rest in
@@ -282,8 +237,8 @@ module _ (dl : TargetDataLayout) where
     read_trees ts words (one_more t others text more is are) top takes begun done number rest deep =
         let there : number + length text + length more ≡ number + length (text ++ more) = omega (arith, length-append text more) in
         ap (read_from dl number (waiting want.Tree (top done ∷ begun))) (append_assoc text more rest)
-        ∙ read_tree t text is (top done ∷ begun) number (more ++ rest) (takes.1 done begun) (omega arith)
-        ∙ ap (λ state. read_from dl (number + length text) state (more ++ rest)) (takes.0 t done begun)
+        ∙ read_tree t text is (top done ∷ begun) number (more ++ rest) (omega arith)
+        ∙ ap (λ state. read_from dl (number + length text) state (more ++ rest)) (takes t done begun)
         ∙ read_trees others more are top takes begun (done ++ t ∷ []) (number + length text) rest (omega arith)
         ∙ ap₂ (λ n ts. read_from dl n (waiting want.Tree (top ts ∷ begun)) rest) there (append_assoc done (t ∷ []) (list_in others))
 
@@ -308,4 +263,4 @@ module _ (dl : TargetDataLayout) where
 
   -- the words that write a type read back as that type
   pub words_read : (t : Tree) (words : List (List ℕ)) → IsWrittenAs dl t words → nesting t ≤ 200 → read dl words ≡ Ok t
-  words_read t words is deep = ap (read dl) (sym (append-nil words)) ∙ read_tree t words is [] 1 [] tt (omega arith)
+  words_read t words is deep = ap (read dl) (sym (append-nil words)) ∙ read_tree t words is [] 1 [] (omega arith)

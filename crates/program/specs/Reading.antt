@@ -19,6 +19,10 @@ use Rattle.program.specs.declared.type_word.TypeWord.TheVariants as type
 use Rattle.program.specs.declared.repr_text.StructRepr.{StructRepr}
 use Rattle.program.specs.declared.begun.Want.{Want}
 use Rattle.program.specs.declared.begun.Want.TheVariants as want
+use Rattle.program.specs.declared.begun.ScalarPlace.{ScalarPlace}
+use Rattle.program.specs.declared.begun.ScalarPlace.TheVariants as scalar_place
+use Rattle.program.specs.declared.begun.ScalarForm.{ScalarForm}
+use Rattle.program.specs.declared.begun.ScalarForm.TheVariants as form
 use Rattle.program.specs.declared.begun.CoroutineWant.{CoroutineWant}
 use Rattle.program.specs.declared.begun.CoroutineWant.TheVariants as part
 use Rattle.program.specs.declared.begun.Open.{Open}
@@ -46,7 +50,7 @@ pub data Parts : Type 0 where
   -- within the conflicts
   in_conflicts : (prefix locals : List Tree) → (states : List (List ℕ)) → List (ℕ × ℕ) → Parts
 
--- a type, or a scalar, that is begun
+-- a type that is begun
 pub data Begun : Type 0 where
   -- an array that waits for its element
   elements : (count : ℕ) → Begun
@@ -62,15 +66,6 @@ pub data Begun : Type 0 where
   variant : ReprOptions → List (ℕ × List Tree) → (discriminant : ℕ) → List Tree → Begun
   -- a coroutine, with its parts so far
   coroutine_with : Parts → Begun
-  -- a pair that waits for its first scalar, or its second
-  first : Begun
-  second : Scalar → Begun
-  -- a range that waits for its primitive, its start, or its end
-  range : Begun
-  range_of : Primitive → Begun
-  range_from : Primitive → (start : ℕ) → Begun
-  -- a union's scalar that waits for its primitive
-  union_of : Begun
 
 -- What has been read: what comes next, the types that are begun, the innermost first, and the whole type once it's complete.
 pub record State : Type 0 where
@@ -90,22 +85,26 @@ with_type t (in_prefix ts) = in_prefix (ts ++ t ∷ [])
 with_type t (in_locals ps ts) = in_locals ps (ts ++ t ∷ [])
 with_type t parts = parts
 
+-- a type more in the list of types of what is begun
+abbrev pub with_member : Tree → Begun → Begun
+with_member t (fields asked ts) = fields asked (ts ++ t ∷ [])
+with_member t (members repr ts) = members repr (ts ++ t ∷ [])
+with_member t (variant repr vs d ts) = variant repr vs d (ts ++ t ∷ [])
+with_member t (coroutine_with parts) = coroutine_with (with_type t parts)
+with_member t begun = begun
+
 -- a complete type goes into the innermost type that is begun, and completes it where that is an array or a vector
 abbrev pub put : Tree → List Begun → State
 put t [] = record { want = want.End; begun = []; tree = Some t }
 put t (elements n ∷ begun) = put (array n t) begun
 put t (lanes n packed ∷ begun) = put (vector n packed t) begun
-put t (fields asked ts ∷ begun) = waiting want.Tree (fields asked (ts ++ t ∷ []) ∷ begun)
-put t (members repr ts ∷ begun) = waiting want.Tree (members repr (ts ++ t ∷ []) ∷ begun)
-put t (variant repr vs d ts ∷ begun) = waiting want.Tree (variant repr vs d (ts ++ t ∷ []) ∷ begun)
-put t (coroutine_with parts ∷ begun) = waiting want.Tree (coroutine_with (with_type t parts) ∷ begun)
-put t (_ ∷ begun) = put t begun
+put t (b ∷ begun) = waiting want.Tree (with_member t b ∷ begun)
 
--- a complete scalar goes into a pair that waits for one, or is a type
-abbrev pub put_scalar : Scalar → List Begun → State
-put_scalar s (first ∷ begun) = waiting want.Scalar (second s ∷ begun)
-put_scalar s (second a ∷ begun) = put (pair a s) begun
-put_scalar s begun = put (scalar s) begun
+-- a complete scalar is a type, or goes into its pair
+abbrev pub put_scalar : Scalar → ScalarPlace → List Begun → State
+put_scalar s scalar_place.Alone begun = put (scalar s) begun
+put_scalar s scalar_place.First begun = waiting (want.Scalar (scalar_place.Second s)) begun
+put_scalar s (scalar_place.Second a) begun = put (pair a s) begun
 
 -- the variants of a list
 abbrev pub variants_in : List (ℕ × List Tree) → Variants
@@ -172,11 +171,14 @@ at_variant_opening number d _ _ = Err (Unreadable number)
 abbrev pub at_part_opening : (number : ℕ) → Want → List Begun → (opens : Bool) → Result State Fault
 at_part_opening number w begun opens = if opens then Ok (waiting w begun) else Err (Unreadable number)
 
+-- a state begins between the states
+abbrev pub state_opened : (number : ℕ) → List Begun → Result State Fault
+state_opened number (coroutine_with (between_states ps ls ss) ∷ begun) = Ok (waiting (want.Coroutine part.Local) (coroutine_with (in_state ps ls ss []) ∷ begun))
+state_opened number _ = Err (Unreadable number)
+
 -- where a state may come, a closing parenthesis ends the states
 abbrev pub at_state : (number : ℕ) → (closes opens : Bool) → List Begun → Result State Fault
-at_state number true opens begun = closed number begun
-at_state number false true (coroutine_with (between_states ps ls ss) ∷ begun) = Ok (waiting (want.Coroutine part.Local) (coroutine_with (in_state ps ls ss []) ∷ begun))
-at_state number false _ _ = Err (Unreadable number)
+at_state number closes opens begun = if closes then closed number begun else (if opens then state_opened number begun else Err (Unreadable number))
 
 -- where the index of a local may come, a closing parenthesis ends the state
 abbrev pub at_local : (number : ℕ) → (closes : Bool) → List Begun → Option ℕ → Result State Fault
@@ -205,13 +207,13 @@ next_in_coroutine number begun w part.ConflictsOpening = at_part_opening number 
 next_in_coroutine number begun w part.Row = at_row number (bytes_eq w (codes ")")) begun (number_in 64 w)
 next_in_coroutine number begun w (part.Column row) = at_column number row begun (number_in 64 w)
 
-abbrev pub at_start : (number : ℕ) → List Begun → Option ℕ → Result State Fault
-at_start number (range_of p ∷ begun) (Some n) = Ok (waiting want.RangeEnd (range_from p n ∷ begun))
-at_start number _ _ = Err (Unreadable number)
+abbrev pub at_start : (number : ℕ) → Primitive → ScalarPlace → List Begun → Option ℕ → Result State Fault
+at_start number p place begun None = Err (Unreadable number)
+at_start number p place begun (Some n) = Ok (waiting (want.RangeEnd p n place) begun)
 
-abbrev pub at_end : (number : ℕ) → List Begun → Option ℕ → Result State Fault
-at_end number (range_from p n ∷ begun) (Some m) = Ok (put_scalar (Initialized p (record { start = n; end = m })) begun)
-at_end number _ _ = Err (Unreadable number)
+abbrev pub at_end : (number : ℕ) → Primitive → (start : ℕ) → ScalarPlace → List Begun → Option ℕ → Result State Fault
+at_end number p n place begun None = Err (Unreadable number)
+at_end number p n place begun (Some m) = Ok (put_scalar (Initialized p (record { start = n; end = m })) place begun)
 
 -- the word begins a primitive
 abbrev pub is_primitive : ScalarWord → Bool
@@ -223,41 +225,41 @@ is_primitive word.PointerIn = true
 is_primitive _ = false
 
 module _ (dl : TargetDataLayout) where
-  -- a complete primitive goes into what waits for one, or is a scalar with its full range
-  abbrev pub put_primitive : Primitive → List Begun → State
-  put_primitive p (range ∷ begun) = waiting want.RangeStart (range_of p ∷ begun)
-  put_primitive p (union_of ∷ begun) = put_scalar (Union p) begun
-  put_primitive p begun = put_scalar (full dl p) begun
+  -- a complete primitive is a scalar with its full range, or a union's, or that of a range
+  abbrev pub put_primitive : Primitive → ScalarForm → ScalarPlace → List Begun → State
+  put_primitive p form.Full place begun = put_scalar (full dl p) place begun
+  put_primitive p form.Range place begun = waiting (want.RangeStart p place) begun
+  put_primitive p form.Union place begun = put_scalar (Union p) place begun
 
-  -- a word that begins a scalar
-  abbrev pub begin_scalar : List Begun → ScalarWord → State
-  begin_scalar begun (word.Integer integer signed) = put_primitive (Int integer signed) begun
-  begin_scalar begun (word.Index signed) = put_primitive (index_primitive dl signed) begun
-  begin_scalar begun (word.Float float) = put_primitive (Float float) begun
-  begin_scalar begun word.Pointer = put_primitive default_pointer begun
-  begin_scalar begun word.PointerIn = waiting want.Space begun
-  begin_scalar begun word.Bool = put_scalar a_bool begun
-  begin_scalar begun word.Char = put_scalar a_char begun
-  begin_scalar begun word.Ref = put_scalar (a_ref dl) begun
-  begin_scalar begun word.Range = waiting want.Primitive (range ∷ begun)
-  begin_scalar begun word.UnionOf = waiting want.Primitive (union_of ∷ begun)
+  -- a word that begins a scalar, whose primitive, if it is one, makes a scalar of this form
+  abbrev pub begin_scalar : ScalarForm → ScalarPlace → List Begun → ScalarWord → State
+  begin_scalar shape place begun (word.Integer integer signed) = put_primitive (Int integer signed) shape place begun
+  begin_scalar shape place begun (word.Index signed) = put_primitive (index_primitive dl signed) shape place begun
+  begin_scalar shape place begun (word.Float float) = put_primitive (Float float) shape place begun
+  begin_scalar shape place begun word.Pointer = put_primitive default_pointer shape place begun
+  begin_scalar shape place begun word.PointerIn = waiting (want.Space shape place) begun
+  begin_scalar shape place begun word.Bool = put_scalar a_bool place begun
+  begin_scalar shape place begun word.Char = put_scalar a_char place begun
+  begin_scalar shape place begun word.Ref = put_scalar (a_ref dl) place begun
+  begin_scalar shape place begun word.Range = waiting (want.Primitive form.Range place) begun
+  begin_scalar shape place begun word.UnionOf = waiting (want.Primitive form.Union place) begun
 
-  abbrev pub at_scalar : (number : ℕ) → List Begun → Option ScalarWord → Result State Fault
-  at_scalar number begun None = Err (Unreadable number)
-  at_scalar number begun (Some w) = Ok (begin_scalar begun w)
+  abbrev pub at_scalar : (number : ℕ) → ScalarPlace → List Begun → Option ScalarWord → Result State Fault
+  at_scalar number place begun None = Err (Unreadable number)
+  at_scalar number place begun (Some w) = Ok (begin_scalar form.Full place begun w)
 
-  abbrev pub at_primitive : (number : ℕ) → List Begun → Option ScalarWord → Result State Fault
-  at_primitive number begun None = Err (Unreadable number)
-  at_primitive number begun (Some w) = if is_primitive w then Ok (begin_scalar begun w) else Err (Unreadable number)
+  abbrev pub at_primitive : (number : ℕ) → ScalarForm → ScalarPlace → List Begun → Option ScalarWord → Result State Fault
+  at_primitive number shape place begun None = Err (Unreadable number)
+  at_primitive number shape place begun (Some w) = if is_primitive w then Ok (begin_scalar shape place begun w) else Err (Unreadable number)
 
-  abbrev pub at_space : (number : ℕ) → List Begun → Option ℕ → Result State Fault
-  at_space number begun None = Err (Unreadable number)
-  at_space number begun (Some n) = Ok (put_primitive (Pointer (record { 0 = n })) begun)
+  abbrev pub at_space : (number : ℕ) → ScalarForm → ScalarPlace → List Begun → Option ℕ → Result State Fault
+  at_space number shape place begun None = Err (Unreadable number)
+  at_space number shape place begun (Some n) = Ok (put_primitive (Pointer (record { 0 = n })) shape place begun)
 
   -- a word that begins a type
   abbrev pub begin : List Begun → TypeWord → State
-  begin begun (type.Scalar w) = begin_scalar begun w
-  begin begun type.Pair = waiting want.Scalar (first ∷ begun)
+  begin begun (type.Scalar w) = begin_scalar form.Full scalar_place.Alone begun w
+  begin begun type.Pair = waiting (want.Scalar scalar_place.First) begun
   begin begun type.Never = put never begun
   begin begun type.Unit = put unit begun
   begin begun type.Array = waiting want.Count begun
@@ -275,11 +277,11 @@ module _ (dl : TargetDataLayout) where
   -- what has been read with the next word, of this number
   abbrev pub next : (number : ℕ) → List Begun → (word : List ℕ) → Want → Result State Fault
   next number begun w want.Tree = at_type number (bytes_eq w (codes ")")) begun (type_word w)
-  next number begun w want.Scalar = at_scalar number begun (scalar_word w)
-  next number begun w want.Primitive = at_primitive number begun (scalar_word w)
-  next number begun w want.Space = at_space number begun (number_in 32 w)
-  next number begun w want.RangeStart = at_start number begun (number_in 128 w)
-  next number begun w want.RangeEnd = at_end number begun (number_in 128 w)
+  next number begun w (want.Scalar place) = at_scalar number place begun (scalar_word w)
+  next number begun w (want.Primitive shape place) = at_primitive number shape place begun (scalar_word w)
+  next number begun w (want.Space shape place) = at_space number shape place begun (number_in 32 w)
+  next number begun w (want.RangeStart p place) = at_start number p place begun (number_in 128 w)
+  next number begun w (want.RangeEnd p n place) = at_end number p n place begun (number_in 128 w)
   next number begun w want.Count = at_count number begun (number_in 64 w)
   next number begun w (want.Lanes packed) = at_lanes number packed begun (number_in 64 w)
   next number begun w want.Repr = at_repr number begun (struct_repr w)
@@ -339,12 +341,6 @@ begun_by (open_type.Members repr ts) = members repr (map tree_of ts.items)
 begun_by (open_type.Variants repr vs) = variants_so_far repr (map variant_by vs.items)
 begun_by (open_type.Variant repr vs d ts) = variant repr (map variant_by vs.items) d (map tree_of ts.items)
 begun_by (open_type.Coroutine parts) = coroutine_with (parts_by parts)
-begun_by open_type.First = first
-begun_by (open_type.Second a) = second a
-begun_by open_type.Range = range
-begun_by (open_type.RangeOf p) = range_of p
-begun_by (open_type.RangeFrom p n) = range_from p n
-begun_by open_type.UnionOf = union_of
 
 abbrev pub begun_in : List Open → List Begun
 begun_in all = reverse (map begun_by all)

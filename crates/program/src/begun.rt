@@ -2,18 +2,18 @@
 
 ghost use Rattle.std.specs.Prelude.{◌≡◌, ◌∷◌, IfOk, IfErr};
 ghost use Rattle.abi_laid.specs.Tree.{tree_of, vector};
-ghost use Rattle.program.specs.Reading.{begun_by, begun_in, coroutine_with, parts_by, put, put_primitive, put_scalar, state_of, waiting, with_type};
+ghost use Rattle.program.specs.Reading.{begun_by, begun_in, coroutine_with, parts_by, put, put_primitive, put_scalar, state_of, waiting, with_member, with_type};
 
 use crate::fault::Fault;
 use crate::repr_text::StructRepr;
 use crate::scalars::full;
 use abi_base::{Primitive, TargetDataLayout};
-use abi_scalar::{ReprOptions, Scalar, WrappingRange};
+use abi_scalar::{ReprOptions, Scalar};
 use rustc_abi::TypeTree;
 use std::alloc::{AllocError, Global};
 
 /// What comes next in a coroutine's text, where no type may come.
-#[derive(Clone, Copy, PartialEq, Eq, Debug)]
+#[derive(Clone, Copy)]
 pub(crate) enum CoroutineWant {
     /// The prefix fields, or the locals.
     TypesOpening,
@@ -31,18 +31,42 @@ pub(crate) enum CoroutineWant {
     Column(u64),
 }
 
+/// Where a scalar belongs.
+#[derive(Clone, Copy)]
+pub(crate) enum ScalarPlace {
+    /// It is a type.
+    Alone,
+    /// It is a pair's first scalar.
+    First,
+    /// It is the second scalar of a pair that has this first one.
+    Second(Scalar),
+}
+
+/// What a primitive makes of a scalar.
+#[derive(Clone, Copy)]
+pub(crate) enum ScalarForm {
+    /// One with every number of its width.
+    Full,
+    /// One with a range, whose ends follow.
+    Range,
+    /// A union's.
+    Union,
+}
+
 /// What comes next in a type's text.
-#[derive(Clone, Copy, PartialEq, Eq, Debug)]
+#[derive(Clone, Copy)]
 pub(crate) enum Want {
     Tree,
     /// A scalar of a pair.
-    Scalar,
+    Scalar(ScalarPlace),
     /// The primitive of a range, or of a union's scalar.
-    Primitive,
+    Primitive(ScalarForm, ScalarPlace),
     /// The number of an address space.
-    Space,
-    RangeStart,
-    RangeEnd,
+    Space(ScalarForm, ScalarPlace),
+    /// The start of a range of this primitive.
+    RangeStart(Primitive, ScalarPlace),
+    /// The end of a range of this primitive that has this start.
+    RangeEnd(Primitive, u128, ScalarPlace),
     /// An array's count.
     Count,
     /// How many lanes a vector has, a packed one or another.
@@ -81,7 +105,7 @@ pub(crate) enum CoroutineParts {
     Conflicts(Vec<TypeTree>, Vec<TypeTree>, Vec<Vec<u64>>, Vec<(u64, u64)>),
 }
 
-/// A type, or a scalar, that is begun.
+/// A type that is begun.
 #[derive(Drop)]
 pub(crate) enum Open {
     /// An array, which waits for its element.
@@ -97,18 +121,6 @@ pub(crate) enum Open {
     /// An enum within a variant: the variants before it, its discriminant, and its fields so far.
     Variant(ReprOptions, Vec<(u128, Vec<TypeTree>)>, u128, Vec<TypeTree>),
     Coroutine(CoroutineParts),
-    /// A pair that waits for its first scalar.
-    First,
-    /// A pair that has its first scalar.
-    Second(Scalar),
-    /// A range that waits for its primitive.
-    Range,
-    /// A range that waits for its start.
-    RangeOf(Primitive),
-    /// A range that waits for its end.
-    RangeFrom(Primitive, u128),
-    /// A union's scalar that waits for its primitive.
-    UnionOf,
 }
 
 /// What has been read of a type.
@@ -132,7 +144,7 @@ pub(crate) fn waiting(want: Want, begun: Vec<Open>) -> Reader
     }
 }
 
-/// Waits for something within these types, and within one type or scalar more.
+/// Waits for something within these types, and within one type more.
 pub(crate) fn waiting_in(want: Want, top: Open, begun: Vec<Open>) -> Result<Reader, Fault>
     ensures ok { IfOk result (λ reader. state_of reader ≡ waiting want (begun_by top ∷ begun_in begun.items)) }
     ensures err { IfErr result (λ fault. fault ≡ Fault.OutOfMemory) }
@@ -188,6 +200,29 @@ fn with_type(tree: TypeTree, parts: CoroutineParts) -> Result<CoroutineParts, Fa
     }
 }
 
+/// A type that is begun, with one type more in its list of types.
+fn with_member(tree: TypeTree, top: Open) -> Result<Open, Fault>
+    ensures ok { IfOk result (λ more. begun_by more ≡ with_member (tree_of tree) (begun_by top)) }
+    ensures err { IfErr result (λ fault. fault ≡ Fault.OutOfMemory) }
+{
+    match top {
+        Open::Fields(repr, mut fields) => {
+            fields.push(tree)?;
+            Ok(Open::Fields(repr, fields))
+        }
+        Open::Members(repr, mut fields) => {
+            fields.push(tree)?;
+            Ok(Open::Members(repr, fields))
+        }
+        Open::Variant(repr, done, discriminant, mut fields) => {
+            fields.push(tree)?;
+            Ok(Open::Variant(repr, done, discriminant, fields))
+        }
+        Open::Coroutine(parts) => Ok(Open::Coroutine(with_type(tree, parts)?)),
+        other => Ok(other),
+    }
+}
+
 /// Puts a complete type into the innermost type that is begun.
 pub(crate) fn put(alloc: Global, tree: TypeTree, begun: Vec<Open>) -> Result<Reader, Fault>
     ensures ok { IfOk result (λ reader. state_of reader ≡ put (tree_of tree) (begun_in begun.items)) }
@@ -199,24 +234,7 @@ pub(crate) fn put(alloc: Global, tree: TypeTree, begun: Vec<Open>) -> Result<Rea
         match top {
             Open::Elements(count) => tree = TypeTree::Array(count, Box::new(alloc, tree)?),
             Open::Lanes(lanes, packed) => tree = vector(alloc, lanes, packed, tree)?,
-            Open::Fields(repr, mut fields) => {
-                fields.push(tree)?;
-                return waiting_in(Want::Tree, Open::Fields(repr, fields), begun);
-            }
-            Open::Members(repr, mut fields) => {
-                fields.push(tree)?;
-                return waiting_in(Want::Tree, Open::Members(repr, fields), begun);
-            }
-            Open::Variant(repr, done, discriminant, mut fields) => {
-                fields.push(tree)?;
-                let top = Open::Variant(repr, done, discriminant, fields);
-                return waiting_in(Want::Tree, top, begun);
-            }
-            Open::Coroutine(parts) => {
-                let top = Open::Coroutine(with_type(tree, parts)?);
-                return waiting_in(Want::Tree, top, begun);
-            }
-            _ => {}
+            other => return waiting_in(Want::Tree, with_member(tree, other)?, begun),
         }
     }
     Ok(Reader {
@@ -226,23 +244,20 @@ pub(crate) fn put(alloc: Global, tree: TypeTree, begun: Vec<Open>) -> Result<Rea
     })
 }
 
-/// Puts a complete scalar into a pair that waits for one, or makes it a type.
-pub(crate) fn put_scalar(alloc: Global, scalar: Scalar, begun: Vec<Open>) -> Result<Reader, Fault>
-    ensures ok { IfOk result (λ reader. state_of reader ≡ put_scalar scalar (begun_in begun.items)) }
+/// Puts a complete scalar where it belongs.
+pub(crate) fn put_scalar(
+    alloc: Global,
+    scalar: Scalar,
+    place: ScalarPlace,
+    begun: Vec<Open>,
+) -> Result<Reader, Fault>
+    ensures ok { IfOk result (λ reader. state_of reader ≡ put_scalar scalar place (begun_in begun.items)) }
     ensures err { IfErr result (λ fault. fault ≡ Fault.OutOfMemory) }
 {
-    let mut begun = begun;
-    match begun.pop() {
-        Some(Open::First) => {
-            begun.push(Open::Second(scalar))?;
-            Ok(waiting(Want::Scalar, begun))
-        }
-        Some(Open::Second(first)) => put(alloc, TypeTree::Pair(first, scalar), begun),
-        Some(other) => {
-            begun.push(other)?;
-            put(alloc, TypeTree::Scalar(scalar), begun)
-        }
-        None => put(alloc, TypeTree::Scalar(scalar), begun),
+    match place {
+        ScalarPlace::Alone => put(alloc, TypeTree::Scalar(scalar), begun),
+        ScalarPlace::First => Ok(waiting(Want::Scalar(ScalarPlace::Second(scalar)), begun)),
+        ScalarPlace::Second(first) => put(alloc, TypeTree::Pair(first, scalar), begun),
     }
 }
 
@@ -251,22 +266,16 @@ pub(crate) fn put_primitive(
     alloc: Global,
     dl: &TargetDataLayout,
     value: Primitive,
+    form: ScalarForm,
+    place: ScalarPlace,
     begun: Vec<Open>,
 ) -> Result<Reader, Fault>
-    ensures ok { IfOk result (λ reader. state_of reader ≡ put_primitive dl.now value (begun_in begun.items)) }
+    ensures ok { IfOk result (λ reader. state_of reader ≡ put_primitive dl.now value form place (begun_in begun.items)) }
     ensures err { IfErr result (λ fault. fault ≡ Fault.OutOfMemory) }
 {
-    let mut begun = begun;
-    match begun.pop() {
-        Some(Open::Range) => {
-            begun.push(Open::RangeOf(value))?;
-            Ok(waiting(Want::RangeStart, begun))
-        }
-        Some(Open::UnionOf) => put_scalar(alloc, Scalar::Union { value }, begun),
-        Some(other) => {
-            begun.push(other)?;
-            put_scalar(alloc, full(dl, value), begun)
-        }
-        None => put_scalar(alloc, full(dl, value), begun),
+    match form {
+        ScalarForm::Full => put_scalar(alloc, full(dl, value), place, begun),
+        ScalarForm::Range => Ok(waiting(Want::RangeStart(value, place), begun)),
+        ScalarForm::Union => put_scalar(alloc, Scalar::Union { value }, place, begun),
     }
 }

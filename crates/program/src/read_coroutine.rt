@@ -3,7 +3,7 @@
 ghost use Rattle.std.specs.Prelude.{◌≡◌, ◌∷◌, IfOk, IfErr, [], codes};
 ghost use Rattle.std.specs.Str.{bytes_eq};
 ghost use Rattle.program.specs.Numbers.{number_in};
-ghost use Rattle.program.specs.Reading.{Agrees, at_column, at_local, at_part_opening, at_row, at_state, begun_in, coroutine_with, in_prefix, next_in_coroutine, state_of, waiting};
+ghost use Rattle.program.specs.Reading.{Agrees, at_column, at_local, at_part_opening, at_row, at_state, begun_in, coroutine_with, in_prefix, next_in_coroutine, state_of, state_opened, waiting};
 
 use crate::begun::{CoroutineParts, CoroutineWant, Open, Reader, Want, waiting, waiting_for};
 use crate::close::close;
@@ -36,6 +36,20 @@ fn read_part_opening(
     }
 }
 
+/// Begins a state, between the states.
+fn open_state(alloc: Global, number: u64, begun: Vec<Open>) -> Result<Reader, Fault>
+    ensures { Agrees state_of (state_opened number (begun_in begun.items)) result }
+{
+    let mut begun = begun;
+    match begun.pop() {
+        Some(Open::Coroutine(CoroutineParts::States(prefix, locals, states))) => {
+            let parts = CoroutineParts::State(prefix, locals, states, Vec::new(alloc));
+            waiting_for(CoroutineWant::Local, parts, begun)
+        }
+        _ => Err(Fault::Unreadable(number)),
+    }
+}
+
 /// Reads the parenthesis that opens a state, or the one that ends the states.
 fn read_state(alloc: Global, number: u64, begun: Vec<Open>, word: &[u8]) -> Result<Reader, Fault>
     ensures { Agrees state_of (at_state number (bytes_eq word.now (codes ")")) (bytes_eq word.now (codes "(")) (begun_in begun.items)) result }
@@ -43,13 +57,10 @@ fn read_state(alloc: Global, number: u64, begun: Vec<Open>, word: &[u8]) -> Resu
     if word == b")".as_slice() {
         return close(alloc, number, begun);
     }
-    let mut begun = begun;
-    match (begun.pop(), word == b"(".as_slice()) {
-        (Some(Open::Coroutine(CoroutineParts::States(prefix, locals, states))), true) => {
-            let parts = CoroutineParts::State(prefix, locals, states, Vec::new(alloc));
-            waiting_for(CoroutineWant::Local, parts, begun)
-        }
-        _ => Err(Fault::Unreadable(number)),
+    if word == b"(".as_slice() {
+        open_state(alloc, number, begun)
+    } else {
+        Err(Fault::Unreadable(number))
     }
 }
 

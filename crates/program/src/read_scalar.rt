@@ -5,7 +5,9 @@ ghost use Rattle.program.specs.Numbers.{number_in};
 ghost use Rattle.program.specs.Reading.{Agrees, at_end, at_primitive, at_scalar, at_space, at_start, begin_scalar, begun_in, is_primitive, state_of};
 ghost use Rattle.program.specs.ScalarWords.{scalar_word};
 
-use crate::begun::{Open, Reader, Want, put_primitive, put_scalar, waiting, waiting_in};
+use crate::begun::{
+    Open, Reader, ScalarForm, ScalarPlace, Want, put_primitive, put_scalar, waiting,
+};
 use crate::fault::Fault;
 use crate::number::{short, wide};
 use crate::scalar_word::{ScalarWord, scalar_word};
@@ -14,29 +16,42 @@ use abi_base::{AddressSpace, Primitive, TargetDataLayout};
 use abi_scalar::{Scalar, WrappingRange};
 use std::alloc::Global;
 
-/// Reads a word that begins a scalar.
+/// Reads a word that begins a scalar, whose primitive, if it is one, makes a scalar of this form.
 pub(crate) fn begin_scalar(
     alloc: Global,
     dl: &TargetDataLayout,
+    form: ScalarForm,
+    place: ScalarPlace,
     begun: Vec<Open>,
     word: ScalarWord,
 ) -> Result<Reader, Fault>
-    ensures ok { IfOk result (λ reader. state_of reader ≡ begin_scalar dl.now (begun_in begun.items) word) }
+    ensures ok { IfOk result (λ reader. state_of reader ≡ begin_scalar dl.now form place (begun_in begun.items) word) }
     ensures err { IfErr result (λ fault. fault ≡ Fault.OutOfMemory) }
 {
     match word {
         ScalarWord::Integer(integer, signed) => {
-            put_primitive(alloc, dl, Primitive::Int(integer, signed), begun)
+            put_primitive(
+                alloc,
+                dl,
+                Primitive::Int(integer, signed),
+                form,
+                place,
+                begun,
+            )
         }
-        ScalarWord::Index(signed) => put_primitive(alloc, dl, index_primitive(dl, signed), begun),
-        ScalarWord::Float(float) => put_primitive(alloc, dl, Primitive::Float(float), begun),
-        ScalarWord::Pointer => put_primitive(alloc, dl, default_pointer(), begun),
-        ScalarWord::PointerIn => Ok(waiting(Want::Space, begun)),
-        ScalarWord::Bool => put_scalar(alloc, a_bool(), begun),
-        ScalarWord::Char => put_scalar(alloc, a_char(), begun),
-        ScalarWord::Ref => put_scalar(alloc, a_ref(dl), begun),
-        ScalarWord::Range => waiting_in(Want::Primitive, Open::Range, begun),
-        ScalarWord::UnionOf => waiting_in(Want::Primitive, Open::UnionOf, begun),
+        ScalarWord::Index(signed) => {
+            put_primitive(alloc, dl, index_primitive(dl, signed), form, place, begun)
+        }
+        ScalarWord::Float(float) => {
+            put_primitive(alloc, dl, Primitive::Float(float), form, place, begun)
+        }
+        ScalarWord::Pointer => put_primitive(alloc, dl, default_pointer(), form, place, begun),
+        ScalarWord::PointerIn => Ok(waiting(Want::Space(form, place), begun)),
+        ScalarWord::Bool => put_scalar(alloc, a_bool(), place, begun),
+        ScalarWord::Char => put_scalar(alloc, a_char(), place, begun),
+        ScalarWord::Ref => put_scalar(alloc, a_ref(dl), place, begun),
+        ScalarWord::Range => Ok(waiting(Want::Primitive(ScalarForm::Range, place), begun)),
+        ScalarWord::UnionOf => Ok(waiting(Want::Primitive(ScalarForm::Union, place), begun)),
     }
 }
 
@@ -59,13 +74,14 @@ pub(crate) fn read_scalar(
     alloc: Global,
     dl: &TargetDataLayout,
     number: u64,
+    place: ScalarPlace,
     begun: Vec<Open>,
     word: &[u8],
 ) -> Result<Reader, Fault>
-    ensures { Agrees state_of (at_scalar dl.now number (begun_in begun.items) (scalar_word word.now)) result }
+    ensures { Agrees state_of (at_scalar dl.now number place (begun_in begun.items) (scalar_word word.now)) result }
 {
     match scalar_word(word) {
-        Some(scalar) => begin_scalar(alloc, dl, begun, scalar),
+        Some(scalar) => begin_scalar(alloc, dl, ScalarForm::Full, place, begun, scalar),
         None => Err(Fault::Unreadable(number)),
     }
 }
@@ -75,16 +91,18 @@ pub(crate) fn read_primitive(
     alloc: Global,
     dl: &TargetDataLayout,
     number: u64,
+    form: ScalarForm,
+    place: ScalarPlace,
     begun: Vec<Open>,
     word: &[u8],
 ) -> Result<Reader, Fault>
-    ensures { Agrees state_of (at_primitive dl.now number (begun_in begun.items) (scalar_word word.now)) result }
+    ensures { Agrees state_of (at_primitive dl.now number form place (begun_in begun.items) (scalar_word word.now)) result }
 {
     let Some(scalar) = scalar_word(word) else {
         return Err(Fault::Unreadable(number));
     };
     if is_primitive(scalar) {
-        begin_scalar(alloc, dl, begun, scalar)
+        begin_scalar(alloc, dl, form, place, begun, scalar)
     } else {
         Err(Fault::Unreadable(number))
     }
@@ -95,28 +113,35 @@ pub(crate) fn read_space(
     alloc: Global,
     dl: &TargetDataLayout,
     number: u64,
+    form: ScalarForm,
+    place: ScalarPlace,
     begun: Vec<Open>,
     word: &[u8],
 ) -> Result<Reader, Fault>
-    ensures { Agrees state_of (at_space dl.now number (begun_in begun.items) (number_in 32 word.now)) result }
+    ensures { Agrees state_of (at_space dl.now number form place (begun_in begun.items) (number_in 32 word.now)) result }
 {
     match short(word) {
-        Some(space) => { put_primitive(alloc, dl, Primitive::Pointer(AddressSpace(space)), begun) }
+        Some(space) => {
+            let value = Primitive::Pointer(AddressSpace(space));
+            put_primitive(alloc, dl, value, form, place, begun)
+        }
         None => Err(Fault::Unreadable(number)),
     }
 }
 
 /// Reads the start of a range.
-pub(crate) fn read_start(number: u64, begun: Vec<Open>, word: &[u8]) -> Result<Reader, Fault>
-    ensures { Agrees state_of (at_start number (begun_in begun.items) (number_in 128 word.now)) result }
+pub(crate) fn read_start(
+    number: u64,
+    value: Primitive,
+    place: ScalarPlace,
+    begun: Vec<Open>,
+    word: &[u8],
+) -> Result<Reader, Fault>
+    ensures { Agrees state_of (at_start number value place (begun_in begun.items) (number_in 128 word.now)) result }
 {
-    let mut begun = begun;
-    match (begun.pop(), wide(word)) {
-        (Some(Open::RangeOf(value)), Some(start)) => {
-            begun.push(Open::RangeFrom(value, start))?;
-            Ok(waiting(Want::RangeEnd, begun))
-        }
-        _ => Err(Fault::Unreadable(number)),
+    match wide(word) {
+        Some(start) => Ok(waiting(Want::RangeEnd(value, start, place), begun)),
+        None => Err(Fault::Unreadable(number)),
     }
 }
 
@@ -124,17 +149,24 @@ pub(crate) fn read_start(number: u64, begun: Vec<Open>, word: &[u8]) -> Result<R
 pub(crate) fn read_end(
     alloc: Global,
     number: u64,
+    value: Primitive,
+    start: u128,
+    place: ScalarPlace,
     begun: Vec<Open>,
     word: &[u8],
 ) -> Result<Reader, Fault>
-    ensures { Agrees state_of (at_end number (begun_in begun.items) (number_in 128 word.now)) result }
+    ensures { Agrees state_of (at_end number value start place (begun_in begun.items) (number_in 128 word.now)) result }
 {
-    let mut begun = begun;
-    match (begun.pop(), wide(word)) {
-        (Some(Open::RangeFrom(value, start)), Some(end)) => {
+    match wide(word) {
+        Some(end) => {
             let valid_range = WrappingRange { start, end };
-            put_scalar(alloc, Scalar::Initialized { value, valid_range }, begun)
+            put_scalar(
+                alloc,
+                Scalar::Initialized { value, valid_range },
+                place,
+                begun,
+            )
         }
-        _ => Err(Fault::Unreadable(number)),
+        None => Err(Fault::Unreadable(number)),
     }
 }

@@ -3,13 +3,13 @@
 ghost use Rattle.std.specs.Prelude.{◌≡◌, ◌≤◌, ℕ, List, MatchResult, codes};
 ghost use Rattle.std.specs.Str.{bytes_eq};
 ghost use Rattle.abi_laid.specs.Tree.{Tree, tree_of};
-ghost use Rattle.program.specs.Reading.{Agrees, at_count, at_discriminant, at_enum_opening, at_enum_repr, at_lanes, at_opening, at_repr, at_type, at_union_opening, at_union_repr, at_variant_opening, begun_in, read, state_of, step};
+ghost use Rattle.program.specs.Reading.{Agrees, at_count, at_discriminant, at_enum_opening, at_enum_repr, at_lanes, at_opening, at_repr, at_type, at_union_opening, at_union_repr, at_variant_opening, begun_in, next, read, state_of};
 ghost use Rattle.program.specs.Numbers.{discriminant_in, number_in};
 ghost use Rattle.program.specs.Repr.{struct_repr, union_repr};
 ghost use Rattle.program.specs.Words.{words_of};
 ghost use Rattle.program.specs.Written.{IsLineOf, IsWrittenAs, nesting};
 
-use crate::begun::{Open, Reader, Want, put, waiting, waiting_in};
+use crate::begun::{Open, Reader, ScalarForm, ScalarPlace, Want, put, waiting};
 use crate::close::close;
 use crate::fault::Fault;
 use crate::number::{decimal, discriminant};
@@ -49,8 +49,11 @@ fn read_type_word(
         return Err(Fault::TooDeep);
     }
     match word {
-        TypeWord::Scalar(scalar) => begin_scalar(alloc, dl, begun, scalar),
-        TypeWord::Pair => waiting_in(Want::Scalar, Open::First, begun),
+        TypeWord::Scalar(scalar) => {
+            let (form, place) = (ScalarForm::Full, ScalarPlace::Alone);
+            begin_scalar(alloc, dl, form, place, begun, scalar)
+        }
+        TypeWord::Pair => Ok(waiting(Want::Scalar(ScalarPlace::First), begun)),
         TypeWord::Never => put(alloc, TypeTree::Never, begun),
         TypeWord::Unit => put(alloc, TypeTree::Unit, begun),
         TypeWord::Array => Ok(waiting(Want::Count, begun)),
@@ -215,31 +218,31 @@ fn read_variant_opening(
     }
 }
 
-/// Reads the next word, of this number.
-fn step(
+/// Reads the next word, of this number, where this comes next within these types.
+fn read_next(
     alloc: Global,
     dl: &TargetDataLayout,
     number: u64,
-    reader: Reader,
+    want: Want,
+    begun: Vec<Open>,
     word: &[u8],
 ) -> Result<Reader, Fault>
-    ensures { Agrees state_of (step dl.now number (state_of reader) word.now) result }
+    ensures { Agrees state_of (next dl.now number (begun_in begun.items) word.now want) result }
 {
-    let Reader {
-        want,
-        begun,
-        tree: _,
-    } = reader;
     match want {
         Want::Tree => {
             let closes = word == b")".as_slice();
             read_type_word(alloc, dl, number, closes, begun, type_word(word))
         }
-        Want::Scalar => read_scalar(alloc, dl, number, begun, word),
-        Want::Primitive => read_primitive(alloc, dl, number, begun, word),
-        Want::Space => read_space(alloc, dl, number, begun, word),
-        Want::RangeStart => read_start(number, begun, word),
-        Want::RangeEnd => read_end(alloc, number, begun, word),
+        Want::Scalar(place) => read_scalar(alloc, dl, number, place, begun, word),
+        Want::Primitive(form, place) => {
+            read_primitive(alloc, dl, number, form, place, begun, word)
+        }
+        Want::Space(form, place) => read_space(alloc, dl, number, form, place, begun, word),
+        Want::RangeStart(value, place) => read_start(number, value, place, begun, word),
+        Want::RangeEnd(value, start, place) => {
+            read_end(alloc, number, value, start, place, begun, word)
+        }
         Want::Count => read_count(number, begun, word),
         Want::Lanes(packed) => read_lanes(number, packed, begun, word),
         Want::Repr => read_repr(number, begun, word),
@@ -263,7 +266,12 @@ fn read_words(alloc: Global, dl: &TargetDataLayout, line: &[u8]) -> Result<TypeT
     let mut rest = line;
     let mut number = 1u64;
     while let Some((word, more)) = next_word(rest) {
-        reader = step(alloc, dl, number, reader, word)?;
+        let Reader {
+            want,
+            begun,
+            tree: _,
+        } = reader;
+        reader = read_next(alloc, dl, number, want, begun, word)?;
         rest = more;
         number += 1;
     }

@@ -13,7 +13,7 @@ use abi_scalar::{ReprFlags, ReprOptions};
 use bitflags::Flags;
 
 /// A word of a repr, and what it asks for.
-#[derive(Clone, Copy, PartialEq, Eq, Debug)]
+#[derive(Clone, Copy)]
 pub(crate) enum ReprPart {
     C,
     Transparent,
@@ -26,7 +26,7 @@ pub(crate) enum ReprPart {
 }
 
 /// A kind of word in a repr.
-#[derive(Clone, Copy, PartialEq, Eq, Debug)]
+#[derive(Clone, Copy, PartialEq, Eq)]
 pub(crate) enum ReprKind {
     C,
     Transparent,
@@ -38,7 +38,7 @@ pub(crate) enum ReprKind {
 }
 
 /// What a struct's repr asks for.
-#[derive(Clone, Copy, PartialEq, Eq, Debug)]
+#[derive(Clone, Copy)]
 pub(crate) struct StructRepr {
     pub(crate) repr: ReprOptions,
     pub(crate) always_sized: bool,

@@ -6,7 +6,7 @@ ghost use Rattle.program.specs.ScalarWords.{integer_named, is_index_word, float_
 use abi_base::{Float, Integer};
 
 /// What a word means where a scalar may begin.
-#[derive(Clone, Copy, PartialEq, Eq, Debug)]
+#[derive(Clone, Copy)]
 pub(crate) enum ScalarWord {
     /// An integer, signed or not.
     Integer(Integer, bool),

@@ -6,7 +6,7 @@ ghost use Rattle.program.specs.TypeWords.{other_word, type_word};
 use crate::scalar_word::{ScalarWord, scalar_word};
 
 /// What a word means where a type begins.
-#[derive(Clone, Copy, PartialEq, Eq, Debug)]
+#[derive(Clone, Copy)]
 pub(crate) enum TypeWord {
     Scalar(ScalarWord),
     /// Two scalars follow.
