@@ -6,7 +6,8 @@ use Rattle.rustc_abi.specs.declared.error.LayError.{LayError}
 use Rattle.rustc_abi.specs.Fault.{IsRefusedFor}
 use Rattle.abi_laid.specs.Laid.{placed_of}
 use Rattle.abi_laid.specs.Tree.{Tree, tree_of}
-use Rattle.program.specs.Output.{Output, IsOutputOfTree, answered_by, error_name, out_of_memory, refused}
+use Rattle.abi_text.specs.Names.{error_name}
+use Rattle.program.specs.Output.{Output, IsOutputOfTree, answered_by, out_of_memory, refused}
 use Rattle.program.proofs.answer.answer_tree.Goals as goal
 
 -- a refusal, as it is written
