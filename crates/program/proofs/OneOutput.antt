@@ -6,14 +6,14 @@ use Rattle.std.proofs.lemmas.Slice.Eq.{bytes_eq-Decides}
 use Rattle.abi_base.specs.declared.data_layout.TargetDataLayout.{TargetDataLayout}
 use Rattle.abi_base.specs.DataLayout.{IsLawfulDataLayout}
 use Rattle.abi_base.specs.DataLayoutFault.{Fault as Flaw}
-use Rattle.abi_base.specs.DataLayoutText.{data_layout_in}
 use Rattle.abi_laid.specs.Tree.{Tree}
 use Rattle.rustc_abi.proofs.OneAnswer.{one_answer}
-use Rattle.program.specs.declared.fault.Fault.{Fault}
+use Rattle.abi_text.specs.declared.fault.Fault.{Fault}
+use Rattle.abi_text.specs.DataLayoutLine.{data_layout_of}
 use Rattle.program.specs.Lines.{first_line, second_line}
 use Rattle.program.specs.Output.{Output, IsOutputOf, IsOutputOfTree, IsOutputOfType, IsOutputUnder, output_of_layout, unreadable}
-use Rattle.program.specs.Reading.{read}
-use Rattle.program.specs.Words.{words_of}
+use Rattle.abi_text.specs.Reading.{read}
+use Rattle.abi_text.specs.Words.{words_of}
 
 -- status and text
 abbrev whole : Output → List ℕ
@@ -63,4 +63,4 @@ of_lines false r second a b h g = h ∙ sym g
 -- an input has one output
 pub one_output : (input : List ℕ) (a b : Output) → IsOutputOf input a → IsOutputOf input b → a ≡ b
 one_output input a b h g =
-    of_lines (is_utf8 (first_line input) && is_utf8 (second_line input)) (data_layout_in (record { 0 = 0 }) (first_line input)) (second_line input) a b h g
+    of_lines (is_utf8 (first_line input) && is_utf8 (second_line input)) (data_layout_of (first_line input)) (second_line input) a b h g

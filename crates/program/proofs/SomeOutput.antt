@@ -13,17 +13,18 @@ use Rattle.abi_base.specs.declared.integer.Integer.TheVariants.{I8, I16, I32, I6
 use Rattle.abi_base.specs.Align.{max_exponent}
 use Rattle.abi_base.specs.DataLayout.{IsLawfulDataLayout, IsPointerWidth, alignments_of}
 use Rattle.abi_base.specs.DataLayoutFault.{Fault as Flaw}
-use Rattle.abi_base.specs.DataLayoutText.{data_layout_in}
 use Rattle.abi_base.specs.Float.{float_align, float_size}
 use Rattle.abi_base.specs.Integer.{integer_align, integer_size}
 use Rattle.abi_calc.proofs.SomeView.{IsTold, both, is_at_most, same_number}
 use Rattle.abi_laid.specs.Tree.{Tree}
 use Rattle.rustc_abi.proofs.SomeAnswer.{some_answer}
-use Rattle.program.specs.declared.fault.Fault.{Fault}
+use Rattle.abi_text.specs.declared.fault.Fault.{Fault}
+use Rattle.abi_text.specs.DataLayoutLine.{data_layout_of}
 use Rattle.program.specs.Lines.{first_line, second_line}
-use Rattle.program.specs.Output.{Output, IsOutputOf, IsOutputOfTree, IsOutputOfType, IsOutputUnder, output_of_fault, output_of_layout, refused, flaw_name, unreadable}
-use Rattle.program.specs.Reading.{read}
-use Rattle.program.specs.Words.{words_of}
+use Rattle.program.specs.Output.{Output, IsOutputOf, IsOutputOfTree, IsOutputOfType, IsOutputUnder, output_of_fault, output_of_layout, refused, unreadable}
+use Rattle.abi_text.specs.Names.{flaw_name}
+use Rattle.abi_text.specs.Reading.{read}
+use Rattle.abi_text.specs.Words.{words_of}
 use Rattle.std.specs.Prelude.{codes}
 
 either : {A B : Type 0} → IsTold A → IsTold B → IsTold (A ⊎ B)
@@ -111,4 +112,4 @@ of_lines false r second = (unreadable 0, refl)
 
 -- an input has an output
 pub some_output : (input : List ℕ) → HasOutput (IsOutputOf input)
-some_output input = of_lines (is_utf8 (first_line input) && is_utf8 (second_line input)) (data_layout_in (record { 0 = 0 }) (first_line input)) (second_line input)
+some_output input = of_lines (is_utf8 (first_line input) && is_utf8 (second_line input)) (data_layout_of (first_line input)) (second_line input)

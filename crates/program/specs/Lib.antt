@@ -1,12 +1,2 @@
 pub mod Lines
-pub mod Words
-pub mod Numbers
-pub mod ScalarWords
-pub mod TypeWords
-pub mod Scalars
-pub mod Repr
-pub mod Reading
-pub mod Printing
-pub mod Told
 pub mod Output
-pub mod Written

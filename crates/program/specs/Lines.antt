@@ -1,15 +1,6 @@
 -- How a text falls into lines.
-use Rattle.std.specs.Prelude.{ℕ, ◌-◌, ◌==◌, List, [], ◌∷◌, length, take, slice_index, Option, None, Some, unwrap_or, if◌then◌else◌}
-
--- what stands before the first such byte, or the whole
-abbrev pub before : (b : ℕ) → List ℕ → List ℕ
-before b [] = []
-before b (c ∷ cs) = if c == b then [] else c ∷ before b cs
-
--- what follows the first such byte, if there is one
-abbrev pub after : (b : ℕ) → List ℕ → Option (List ℕ)
-after b [] = None
-after b (c ∷ cs) = if c == b then Some cs else after b cs
+use Rattle.std.specs.Prelude.{ℕ, ◌-◌, ◌==◌, List, [], length, take, slice_index, unwrap_or, if◌then◌else◌}
+use Rattle.abi_text.specs.Pieces.{before, after}
 
 -- a line without a carriage return at its end
 abbrev pub without_return : List ℕ → List ℕ

@@ -5,22 +5,20 @@ use Rattle.std.specs.Io.KnownBytes.{Appends}
 use Rattle.std.specs.Str.{is_utf8}
 use Rattle.abi_base.specs.declared.data_layout.TargetDataLayout.{TargetDataLayout}
 use Rattle.abi_base.specs.DataLayout.{IsLawfulDataLayout}
-use Rattle.abi_base.specs.declared.parse_error.TargetDataLayoutError.{TargetDataLayoutError}
-use Rattle.abi_base.specs.declared.parse_error.TargetDataLayoutError.TheVariants as data_layout
-use Rattle.abi_base.specs.DataLayoutFault.{Fault as Flaw, bad_space, bad_bits, missing_alignment, bad_alignment, unknown_pointer}
-use Rattle.abi_base.specs.DataLayoutText.{data_layout_in}
+use Rattle.abi_base.specs.DataLayoutFault.{Fault as Flaw}
 use Rattle.rustc_abi.specs.declared.error.LayError.{LayError}
-use Rattle.rustc_abi.specs.declared.error.LayError.TheVariants as lay
 use Rattle.abi_laid.specs.Tree.{Tree}
 use Rattle.abi_laid.specs.Placed.{Placed}
 use Rattle.rustc_abi.specs.Laying.{IsLaying}
 use Rattle.program.specs.declared.answer.Answer.{Answer}
-use Rattle.program.specs.declared.fault.Fault.{Fault}
-use Rattle.program.specs.declared.fault.Fault.TheVariants.{Unreadable, TooDeep, OutOfMemory}
+use Rattle.abi_text.specs.declared.fault.Fault.{Fault}
+use Rattle.abi_text.specs.declared.fault.Fault.TheVariants.{Unreadable, TooDeep, OutOfMemory}
+use Rattle.abi_text.specs.DataLayoutLine.{data_layout_of}
 use Rattle.program.specs.Lines.{first_line, second_line}
-use Rattle.program.specs.Printing.{type_text}
-use Rattle.program.specs.Reading.{read}
-use Rattle.program.specs.Words.{words_of}
+use Rattle.abi_text.specs.Names.{error_name, flaw_name}
+use Rattle.abi_text.specs.Printing.{type_text}
+use Rattle.abi_text.specs.Reading.{read}
+use Rattle.abi_text.specs.Words.{words_of}
 
 -- What is written, and the status.
 pub record Output : Type 0 where
@@ -37,44 +35,6 @@ unreadable number = record { text = codes "unreadable word " ++ decimal number +
 
 abbrev pub out_of_memory : Output
 out_of_memory = refused (codes "OutOfMemory")
-
-abbrev pub error_name : LayError → List ℕ
-error_name lay.UnlawfulDataLayout = codes "UnlawfulDataLayout"
-error_name lay.BadIndex = codes "BadIndex"
-error_name lay.UnknownSpace = codes "UnknownSpace"
-error_name lay.BadRange = codes "BadRange"
-error_name lay.BadAlign = codes "BadAlign"
-error_name lay.DuplicateDiscriminant = codes "DuplicateDiscriminant"
-error_name lay.DiscriminantTooWide = codes "DiscriminantTooWide"
-error_name lay.NoState = codes "NoState"
-error_name lay.LocalTwice = codes "LocalTwice"
-error_name lay.UnexpectedUnsized = codes "UnexpectedUnsized"
-error_name lay.SizeOverflow = codes "SizeOverflow"
-error_name lay.EmptyUnion = codes "EmptyUnion"
-error_name lay.ReprConflict = codes "ReprConflict"
-error_name lay.ZeroLengthSimdType = codes "ZeroLengthSimdType"
-error_name lay.OversizedSimdType = codes "OversizedSimdType"
-error_name lay.NonPrimitiveSimdType = codes "NonPrimitiveSimdType"
-error_name lay.OutOfMemory = codes "OutOfMemory"
-
--- the name of what is wrong with a data layout string
-abbrev pub flaw_name : Flaw → List ℕ
-flaw_name (bad_space text cause err) = codes "InvalidAddressSpace"
-flaw_name (bad_bits kind text cause err) = codes "InvalidBits"
-flaw_name (missing_alignment cause) = codes "MissingAlignment"
-flaw_name (bad_alignment cause err) = codes "InvalidAlignment"
-flaw_name (unknown_pointer rest) = codes "UnknownPointerSpecification"
-
-abbrev pub data_layout_error_name : TargetDataLayoutError → List ℕ
-data_layout_error_name (data_layout.InvalidAddressSpace text cause err) = codes "InvalidAddressSpace"
-data_layout_error_name (data_layout.InvalidBits kind text cause err) = codes "InvalidBits"
-data_layout_error_name (data_layout.MissingAlignment cause) = codes "MissingAlignment"
-data_layout_error_name (data_layout.InvalidAlignment cause err) = codes "InvalidAlignment"
-data_layout_error_name (data_layout.InconsistentTargetArchitecture dl target) = codes "InconsistentTargetArchitecture"
-data_layout_error_name (data_layout.InconsistentTargetPointerWidth size target) = codes "InconsistentTargetPointerWidth"
-data_layout_error_name (data_layout.InvalidBitsSize err) = codes "InvalidBitsSize"
-data_layout_error_name (data_layout.UnknownPointerSpecification rest) = codes "UnknownPointerSpecification"
-data_layout_error_name data_layout.OutOfMemory = codes "OutOfMemory"
 
 abbrev pub output_of_fault : Fault → Output
 output_of_fault (Unreadable number) = unreadable number
@@ -103,7 +63,7 @@ IsOutputUnder (Err flaw) second output = output ≡ refused (flaw_name flaw)
 abbrev pub IsOutputOfLines : (first second : List ℕ) → Output → Type 0
 IsOutputOfLines first second output =
     MatchBool (is_utf8 first && is_utf8 second)
-    (IsOutputUnder (data_layout_in (record { 0 = 0 }) first) second output)
+    (IsOutputUnder (data_layout_of first) second output)
     (output ≡ unreadable 0)
 
 -- the output for an input

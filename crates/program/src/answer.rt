@@ -2,22 +2,23 @@
 
 ghost use Rattle.std.specs.Prelude.{◌≡◌, ◌<◌, IfOk, MatchOption, Ok, true, false};
 ghost use Rattle.std.specs.Str.{is_utf8};
-ghost use Rattle.abi_base.specs.DataLayoutText.{data_layout_in};
-ghost use Rattle.program.specs.Told.{TellsBytes};
+ghost use Rattle.abi_text.specs.Told.{TellsBytes};
 ghost use Rattle.abi_laid.specs.Laid.{placed_of};
 ghost use Rattle.abi_laid.specs.Placed.{layout_of};
 ghost use Rattle.rustc_abi.specs.Laying.{IsLaying};
 ghost use Rattle.abi_laid.specs.Tree.{tree_of};
-ghost use Rattle.program.specs.Output.{answered_by, data_layout_error_name, error_name, IsAnswer, IsOutputOf, IsOutputOfLines, IsOutputOfTree, IsOutputOfType, IsOutputUnder, output_of_fault, output_of_layout, refused, unreadable};
-ghost use Rattle.program.specs.Reading.{read};
-ghost use Rattle.program.specs.Words.{words_of};
+ghost use Rattle.abi_text.specs.DataLayoutLine.{data_layout_of};
+ghost use Rattle.program.specs.Output.{answered_by, IsAnswer, IsOutputOf, IsOutputOfLines, IsOutputOfTree, IsOutputOfType, IsOutputUnder, output_of_fault, output_of_layout, refused, unreadable};
+ghost use Rattle.abi_text.specs.Reading.{read};
+ghost use Rattle.abi_text.specs.Words.{words_of};
 
-use crate::fault::Fault;
 use crate::lines::two_lines;
-use crate::print::write_type;
-use crate::reader::read_type;
-use abi_base::{AddressSpace, TargetDataLayout, TargetDataLayoutError};
-use rustc_abi::{Laid, LayError, TypeTree, lay_out};
+use abi_base::TargetDataLayout;
+use abi_laid::{Laid, TypeTree};
+use abi_text::{
+    Fault, data_layout_error_name, error_name, read_data_layout, read_type, write_type,
+};
+use rustc_abi::lay_out;
 use std::alloc::{AllocError, Global};
 
 /// What is written, and the status.
@@ -45,30 +46,6 @@ fn unreadable(alloc: Global, number: u64) -> Result<Answer, AllocError>
         text: format!(in alloc; "unreadable word {number}\n")?,
         status: 2,
     })
-}
-
-fn error_name(error: LayError) -> &'static str
-    ensures { result.now ≡ error_name error }
-{
-    match error {
-        LayError::UnlawfulDataLayout => "UnlawfulDataLayout",
-        LayError::BadIndex => "BadIndex",
-        LayError::UnknownSpace => "UnknownSpace",
-        LayError::BadRange => "BadRange",
-        LayError::BadAlign => "BadAlign",
-        LayError::DuplicateDiscriminant => "DuplicateDiscriminant",
-        LayError::DiscriminantTooWide => "DiscriminantTooWide",
-        LayError::NoState => "NoState",
-        LayError::LocalTwice => "LocalTwice",
-        LayError::UnexpectedUnsized => "UnexpectedUnsized",
-        LayError::SizeOverflow => "SizeOverflow",
-        LayError::EmptyUnion => "EmptyUnion",
-        LayError::ReprConflict => "ReprConflict",
-        LayError::ZeroLengthSimdType => "ZeroLengthSimdType",
-        LayError::OversizedSimdType => "OversizedSimdType",
-        LayError::NonPrimitiveSimdType => "NonPrimitiveSimdType",
-        LayError::OutOfMemory => "OutOfMemory",
-    }
 }
 
 /// The answer to a text that can't be read.
@@ -113,31 +90,11 @@ fn answer_type(alloc: Global, dl: &TargetDataLayout, line: &[u8]) -> Result<Answ
     }
 }
 
-fn data_layout_error_name(error: &TargetDataLayoutError<'_>) -> &'static str
-    ensures { result.now ≡ data_layout_error_name error.now }
-{
-    match error {
-        TargetDataLayoutError::InvalidAddressSpace { .. } => "InvalidAddressSpace",
-        TargetDataLayoutError::InvalidBits { .. } => "InvalidBits",
-        TargetDataLayoutError::MissingAlignment { .. } => "MissingAlignment",
-        TargetDataLayoutError::InvalidAlignment { .. } => "InvalidAlignment",
-        TargetDataLayoutError::InconsistentTargetArchitecture { .. } => {
-            "InconsistentTargetArchitecture"
-        }
-        TargetDataLayoutError::InconsistentTargetPointerWidth { .. } => {
-            "InconsistentTargetPointerWidth"
-        }
-        TargetDataLayoutError::InvalidBitsSize { .. } => "InvalidBitsSize",
-        TargetDataLayoutError::UnknownPointerSpecification { .. } => "UnknownPointerSpecification",
-        TargetDataLayoutError::OutOfMemory => "OutOfMemory",
-    }
-}
-
 /// The answer to the two lines of a text: a data layout, and a type.
 fn answer_text(alloc: Global, first: &str, second: &[u8]) -> Result<Answer, AllocError>
-    ensures { IfOk result (IsAnswer (IsOutputUnder (data_layout_in (record { 0 = 0 }) first.now) second.now)) }
+    ensures { IfOk result (IsAnswer (IsOutputUnder (data_layout_of first.now) second.now)) }
 {
-    match TargetDataLayout::parse_from_llvm_datalayout_string(alloc, first, AddressSpace::ZERO) {
+    match read_data_layout(alloc, first) {
         Ok(dl) => answer_type(alloc, &dl, second),
         Err(error) => refused(alloc, data_layout_error_name(&error)),
     }

@@ -1,22 +1,9 @@
 //! The lines of a text.
 
-ghost use Rattle.std.specs.Prelude.{◌≡◌, ◌<◌, IfSome, length};
-ghost use Rattle.std.specs.Option.{option_copied};
-ghost use Rattle.program.specs.Lines.{before, after, first_line, second_line, without_return};
+ghost use Rattle.std.specs.Prelude.{◌≡◌};
+ghost use Rattle.program.specs.Lines.{first_line, second_line, without_return};
 
-/// What stands before the first such byte, and what follows it, if there is one.
-pub(crate) fn cut(text: &[u8], at: u8) -> (&[u8], Option<&[u8]>)
-    ensures front { result.0.now ≡ before at text.now }
-    ensures back { option_copied result.1 ≡ after at text.now }
-    ensures shorter { IfSome result.1 (λ rest. length rest.now < length text.now) }
-{
-    for (index, byte) in text.iter().enumerate() {
-        if *byte == at {
-            return (&text[..index], Some(&text[index + 1..]));
-        }
-    }
-    (text, None)
-}
+use abi_text::cut;
 
 fn without_return(line: &[u8]) -> &[u8]
     ensures { result.now ≡ without_return line.now }

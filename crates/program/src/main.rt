@@ -2,24 +2,10 @@
 #![tactic(auto)]
 
 mod answer;
-mod begun;
-mod close;
-mod fault;
 mod lines;
-mod number;
-mod print;
-mod print_variants;
-mod read_coroutine;
-mod read_scalar;
-mod reader;
-mod repr_text;
 mod run;
-mod scalar_word;
-mod scalars;
 #[cfg(test)]
 mod tests;
-mod type_word;
-mod words;
 
 pub use run::run;
 use std::io;

@@ -1,0 +1,10 @@
+pub mod Text
+pub mod Parts
+pub mod Fields
+pub mod EnumsBegun
+pub mod Numerals
+pub mod ScalarsRead
+pub mod Written
+pub mod ReprWords
+pub mod ReadBack
+mod Facts

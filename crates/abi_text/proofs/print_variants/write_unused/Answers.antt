@@ -1,0 +1,29 @@
+use Rattle.std.proofs.Common.{◌≡◌, ℕ, List, [], ◌++◌, ◌≤◌, ap, ◌∙◌, arith, string_bytes, sym}
+use Rattle.std.specs.Prelude.{codes, if◌then◌else◌}
+use Rattle.std.proofs.lemmas.Bool.{le-ltb}
+use Rattle.std.proofs.lemmas.Result.{on_ok_weaker}
+use Rattle.abi_index.specs.RangeSet.{is_in_ranges}
+use Rattle.abi_types.specs.Ty.Places.{is_unused}
+use Rattle.abi_types.specs.Ty.Typed.{Typed}
+use Rattle.abi_laid.specs.Handles.{tree_type}
+use Rattle.abi_laid.specs.Laid.{placed_of}
+use Rattle.abi_laid.specs.Placed.{Placed, size_of}
+use Rattle.abi_laid.specs.Runs.{unused_of}
+use Rattle.abi_laid.proofs.MaximalLemmas.{unused_listed}
+use Rattle.abi_text.specs.Printing.{range_lines, unused_lines}
+use Rattle.abi_text.proofs.print_variants.write_unused.Goals as goal
+
+pub returns : goal.returns
+returns c =
+    let placed : Placed = placed_of c.args.laid.now in
+    let t : Typed = tree_type c.root.result in
+    let i : ℕ = c.args.variant in
+    let runs : List (ℕ × ℕ) = c.as_slice.result.now in
+    let listed : runs ≡ unused_of placed i =
+    unused_listed t placed i runs c.root.ensures.within (λ k. ap (λ s. is_unused s i k) c.root.ensures.told ∙ c.requires.told.unused i k c.requires.variant) c.as_slice.ensures.maximal
+    (λ k. ap (λ rs. is_in_ranges rs k) c.as_slice.ensures.runs ∙ c.in_ok-bytes.ensures k) in
+    let few : size_of placed ≤ 65536 = omega (arith, c.if-bytes-gt-MOST_LISTED.false, c.bytes.ensures, ap (λ l. l.size) c.layout.ensures) in
+    let lines : range_lines (codes "unused") runs ≡ unused_lines placed i =
+    ap (range_lines (codes "unused")) listed
+    ∙ ap (λ b. if b then [] else range_lines (codes "unused") (unused_of placed i)) (sym (le-ltb 65536 (size_of placed) few)) in
+    on_ok_weaker c.write_ranges.result (λ made. made ∙ ap (λ l. string_bytes c.args.out.now ++ l) lines) c.write_ranges.ensures

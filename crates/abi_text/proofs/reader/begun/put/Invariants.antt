@@ -1,0 +1,11 @@
+-- The type so far goes where the first one went.
+use Rattle.std.proofs.Common.{◌≡◌, vec_len}
+use Rattle.abi_laid.specs.Tree.{tree_of}
+use Rattle.abi_text.specs.Reading.{begun_in, put}
+use Rattle.abi_text.proofs.reader.begun.put.Given as goal
+
+abbrev pub invariant-loop-top : goal.invariant-loop-top
+invariant-loop-top l = put (tree_of l.tree) (begun_in l.begun.items) ≡ put (tree_of l.initial.tree) (begun_in l.initial.begun.items)
+
+abbrev pub decreases-loop-top : goal.decreases-loop-top
+decreases-loop-top l = vec_len l.begun

@@ -1,0 +1,13 @@
+pub mod Pieces
+pub mod Words
+pub mod Numbers
+pub mod DataLayoutLine
+pub mod ScalarWords
+pub mod TypeWords
+pub mod Scalars
+pub mod Repr
+pub mod Reading
+pub mod Printing
+pub mod Told
+pub mod Names
+pub mod Written

@@ -1,0 +1,20 @@
+//! Data layouts and types read from text, and laid-out types printed: what programs over text share. `docs/FORMATS.md` has
+//! the format.
+#![tactic(auto)]
+
+mod data_layout;
+mod fault;
+mod names;
+mod number;
+mod pieces;
+mod print;
+mod print_variants;
+mod reader;
+mod words;
+
+pub use data_layout::read_data_layout;
+pub use fault::Fault;
+pub use names::{data_layout_error_name, error_name};
+pub use pieces::cut;
+pub use print::write_type;
+pub use reader::read_type;

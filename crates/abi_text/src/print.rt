@@ -1,0 +1,203 @@
+//! How a laid-out type is written.
+
+ghost use Rattle.std.specs.Prelude.{◌≡◌, ◌<◌, ◌++◌, OnOk, IfOk, replicate, string_bytes};
+ghost use Rattle.abi_text.specs.Printing.{field_lines, float_text, integer_text, layout_lines, niche_line, padding_lines, primitive_text, range_lines, shape_lines, size_line, type_text, uninhabited_line};
+ghost use Rattle.abi_index.specs.RangeSet.{AreMaximalRuns};
+ghost use Rattle.abi_text.specs.Told.{TellsBytes};
+ghost use Rattle.abi_laid.specs.Laid.{placed_of};
+ghost use Rattle.abi_laid.specs.Placed.{layout_of};
+
+use crate::print_variants::write_variants;
+use abi_base::{Float, Integer, Primitive, Size};
+use abi_index::{FieldIdx, VariantIdx};
+use abi_laid::Laid;
+use abi_scalar::{FieldsShape, LayoutData, Niche};
+use std::alloc::{AllocError, Global};
+
+/// The bytes of a larger type aren't listed. In bytes.
+pub(crate) const MOST_LISTED: u64 = 65_536;
+
+/// Writes the size and the alignment, in bytes.
+fn write_size(out: &mut String, layout: &LayoutData<FieldIdx, VariantIdx>) -> Result<(), AllocError>
+    requires { layout.now.align.abi < 64 }
+    ensures { OnOk result (string_bytes out.new ≡ string_bytes out.old ++ size_line layout.now) }
+{
+    let size = layout.size.bytes();
+    let align = layout.align.abi.bytes();
+    write!(out, "size {size} align {align}\n")
+}
+
+/// Writes whether the type has no values.
+fn write_uninhabited(out: &mut String, uninhabited: bool) -> Result<(), AllocError>
+    ensures { OnOk result (string_bytes out.new ≡ string_bytes out.old ++ uninhabited_line uninhabited) }
+{
+    if uninhabited {
+        out.push_str("uninhabited\n")
+    } else {
+        Ok(())
+    }
+}
+
+/// Writes the offset of each field.
+pub(crate) fn write_fields(out: &mut String, offsets: &[Size]) -> Result<(), AllocError>
+    ensures { OnOk result (string_bytes out.new ≡ string_bytes out.old ++ field_lines 0 offsets.now) }
+{
+    for (index, offset) in offsets.iter().enumerate() {
+        let offset = offset.bytes();
+        write!(out, "field {index} offset {offset}\n")?;
+    }
+    Ok(())
+}
+
+/// Writes the offset of each of so many fields of a union.
+fn write_union_fields(out: &mut String, count: usize) -> Result<(), AllocError>
+    ensures { OnOk result (string_bytes out.new ≡ string_bytes out.old ++ field_lines 0 (replicate count 0)) }
+{
+    let offset = 0u64;
+    for index in 0..count {
+        write!(out, "field {index} offset {offset}\n")?;
+    }
+    Ok(())
+}
+
+/// Writes where the elements or fields lie.
+fn write_shape(out: &mut String, shape: &FieldsShape<FieldIdx>) -> Result<(), AllocError>
+    ensures { OnOk result (string_bytes out.new ≡ string_bytes out.old ++ shape_lines shape.now) }
+{
+    match shape {
+        FieldsShape::Array { stride, count } => {
+            let stride = stride.bytes();
+            let count = *count;
+            write!(out, "elements stride {stride} count {count}\n")
+        }
+        FieldsShape::Arbitrary {
+            offsets,
+            in_memory_order: _,
+        } => write_fields(out, offsets.as_slice().as_raw()),
+        FieldsShape::Primitive => Ok(()),
+        FieldsShape::Union(count) => write_union_fields(out, count.get()),
+    }
+}
+
+fn integer_text(integer: Integer, signed: bool) -> &'static str
+    ensures { result.now ≡ integer_text integer signed }
+{
+    match (integer, signed) {
+        (Integer::I8, false) => "u8",
+        (Integer::I8, true) => "i8",
+        (Integer::I16, false) => "u16",
+        (Integer::I16, true) => "i16",
+        (Integer::I32, false) => "u32",
+        (Integer::I32, true) => "i32",
+        (Integer::I64, false) => "u64",
+        (Integer::I64, true) => "i64",
+        (Integer::I128, false) => "u128",
+        (Integer::I128, true) => "i128",
+    }
+}
+
+fn float_text(float: Float) -> &'static str
+    ensures { result.now ≡ float_text float }
+{
+    match float {
+        Float::F16 => "f16",
+        Float::F16B => "f16b",
+        Float::F32 => "f32",
+        Float::F64 => "f64",
+        Float::F128 => "f128",
+        Float::PpcF128 => "ppcf128",
+    }
+}
+
+pub(crate) fn write_primitive(out: &mut String, primitive: Primitive) -> Result<(), AllocError>
+    ensures { OnOk result (string_bytes out.new ≡ string_bytes out.old ++ primitive_text primitive) }
+{
+    match primitive {
+        Primitive::Int(integer, signed) => out.push_str(integer_text(integer, signed)),
+        Primitive::Float(float) => out.push_str(float_text(float)),
+        Primitive::Pointer(space) => {
+            let number = space.0;
+            if number == 0 {
+                out.push_str("pointer")
+            } else {
+                write!(out, "pointer(AddressSpace({number}))")
+            }
+        }
+    }
+}
+
+/// Writes the place with the most free numbers.
+fn write_niche(out: &mut String, niche: Option<Niche>) -> Result<(), AllocError>
+    ensures { OnOk result (string_bytes out.new ≡ string_bytes out.old ++ niche_line niche) }
+{
+    match niche {
+        Some(niche) => {
+            let offset = niche.offset.bytes();
+            let range = niche.valid_range;
+            write!(out, "niche {offset} ")?;
+            write_primitive(out, niche.value)?;
+            write!(out, " {range:?}\n")
+        }
+        None => out.push_str("niche none\n"),
+    }
+}
+
+/// Writes what there is to say of a type as a whole.
+fn write_layout(
+    out: &mut String,
+    layout: &LayoutData<FieldIdx, VariantIdx>,
+) -> Result<(), AllocError>
+    requires { layout.now.align.abi < 64 }
+    ensures { OnOk result (string_bytes out.new ≡ string_bytes out.old ++ layout_lines layout.now) }
+{
+    write_size(out, layout)?;
+    write_uninhabited(out, layout.uninhabited)?;
+    write_shape(out, &layout.fields)
+}
+
+/// Writes each run of bytes, its first byte and how many, behind this word, with the byte after its last.
+pub(crate) fn write_ranges(
+    out: &mut String,
+    word: &str,
+    runs: &[(u64, u64)],
+) -> Result<(), AllocError>
+    requires { AreMaximalRuns 0 runs.now }
+    ensures { OnOk result (string_bytes out.new ≡ string_bytes out.old ++ range_lines word.now runs.now) }
+{
+    for run in runs {
+        let (start, size) = *run;
+        let end = start + size;
+        write!(out, "{word} {start}..{end}\n")?;
+    }
+    Ok(())
+}
+
+/// Writes the runs of padding.
+fn write_padding(alloc: Global, out: &mut String, laid: &Laid) -> Result<(), AllocError>
+    requires { TellsBytes laid.now }
+    ensures { OnOk result (string_bytes out.new ≡ string_bytes out.old ++ padding_lines (placed_of laid.now)) }
+{
+    if laid.layout().size.bytes() > MOST_LISTED {
+        return out.push_str("padding not listed\n");
+    }
+    let bytes = laid.root().variant_independent_padding_ranges(alloc, &())?;
+    write_ranges(out, "padding", bytes.as_slice())
+}
+
+/// Writes all there is to say of a laid-out type behind what stands in the text, a line for each fact: the size and the
+/// alignment, whether it has no values, its fields, its variants with the bytes that each doesn't use, the tag, the largest
+/// niche, and the runs of padding, all in bytes. The lines are in `docs/FORMATS.md`. Of a type of more than 65,536 bytes
+/// neither padding nor what variants don't use is listed.
+///
+/// What it asks holds of each type that `lay_out` answers. An error comes where a growth of memory was refused; a beginning
+/// of the lines may then stand in the text.
+pub fn write_type(alloc: Global, out: &mut String, laid: &Laid) -> Result<(), AllocError>
+    requires align { (layout_of (placed_of laid.now)).align.abi < 64 }
+    requires told { TellsBytes laid.now }
+    ensures { OnOk result (string_bytes out.new ≡ string_bytes out.old ++ type_text (placed_of laid.now)) }
+{
+    write_layout(out, laid.layout())?;
+    write_variants(alloc, out, laid)?;
+    write_niche(out, laid.layout().largest_niche)?;
+    write_padding(alloc, out, laid)
+}

@@ -1,0 +1,281 @@
+//! What has been read of a type.
+
+ghost use Rattle.std.specs.Prelude.{◌≡◌, ◌∷◌, IfOk, IfErr};
+ghost use Rattle.abi_laid.specs.Tree.{tree_of, vector};
+ghost use Rattle.abi_text.specs.Reading.{begun_by, begun_in, coroutine_with, parts_by, put, put_primitive, put_scalar, state_of, waiting, with_member, with_type};
+
+use crate::fault::Fault;
+use crate::reader::repr_text::StructRepr;
+use crate::reader::scalars::full;
+use abi_base::{Primitive, TargetDataLayout};
+use abi_laid::TypeTree;
+use abi_scalar::{ReprOptions, Scalar};
+use std::alloc::{AllocError, Global};
+
+/// What comes next in a coroutine's text, where no type may come.
+#[derive(Clone, Copy)]
+pub(crate) enum CoroutineWant {
+    /// The prefix fields, or the locals.
+    TypesOpening,
+    /// The states.
+    StatesOpening,
+    /// The next state.
+    State,
+    /// The index of a state's next local.
+    Local,
+    /// The conflicts.
+    ConflictsOpening,
+    /// The row of the next conflict.
+    Row,
+    /// The column of a conflict with this row.
+    Column(u64),
+}
+
+/// Where a scalar belongs.
+#[derive(Clone, Copy)]
+pub(crate) enum ScalarPlace {
+    /// It is a type.
+    Alone,
+    /// It is a pair's first scalar.
+    First,
+    /// It is the second scalar of a pair that has this first one.
+    Second(Scalar),
+}
+
+/// What a primitive makes of a scalar.
+#[derive(Clone, Copy)]
+pub(crate) enum ScalarForm {
+    /// One with every number of its width.
+    Full,
+    /// One with a range, whose ends follow.
+    Range,
+    /// A union's.
+    Union,
+}
+
+/// What comes next in a type's text.
+#[derive(Clone, Copy)]
+pub(crate) enum Want {
+    Tree,
+    /// A scalar of a pair.
+    Scalar(ScalarPlace),
+    /// The primitive of a range, or of a union's scalar.
+    Primitive(ScalarForm, ScalarPlace),
+    /// The number of an address space.
+    Space(ScalarForm, ScalarPlace),
+    /// The start of a range of this primitive.
+    RangeStart(Primitive, ScalarPlace),
+    /// The end of a range of this primitive that has this start.
+    RangeEnd(Primitive, u128, ScalarPlace),
+    /// An array's count.
+    Count,
+    /// How many lanes a vector has, a packed one or another.
+    Lanes(bool),
+    /// A struct's repr.
+    Repr,
+    UnionRepr,
+    EnumRepr,
+    /// The fields of a struct with this repr.
+    Opening(StructRepr),
+    /// The fields of a union with this repr.
+    UnionOpening(ReprOptions),
+    /// The variants of an enum with this repr.
+    EnumOpening(ReprOptions),
+    /// The discriminant of an enum's next variant.
+    Discriminant,
+    /// The fields of a variant with this discriminant.
+    VariantOpening(u128),
+    Coroutine(CoroutineWant),
+    /// Nothing: the type is complete.
+    End,
+}
+
+/// The parts so far of a coroutine that is begun.
+#[derive(Drop)]
+pub(crate) enum CoroutineParts {
+    /// Within the prefix fields.
+    Prefix(Vec<TypeTree>),
+    /// Within the locals: the prefix fields, and the locals so far.
+    Locals(Vec<TypeTree>, Vec<TypeTree>),
+    /// Between the states: the prefix fields, the locals, and for each state so far the indices of its locals.
+    States(Vec<TypeTree>, Vec<TypeTree>, Vec<Vec<u64>>),
+    /// Within a state: the same, and the indices of this state's locals so far.
+    State(Vec<TypeTree>, Vec<TypeTree>, Vec<Vec<u64>>, Vec<u64>),
+    /// Within the conflicts: the prefix fields, the locals, the states, and the rows and columns so far.
+    Conflicts(Vec<TypeTree>, Vec<TypeTree>, Vec<Vec<u64>>, Vec<(u64, u64)>),
+}
+
+/// A type that is begun.
+#[derive(Drop)]
+pub(crate) enum Open {
+    /// An array, which waits for its element.
+    Elements(u64),
+    /// A vector of so many lanes, packed or not, which waits for its element.
+    Lanes(u64, bool),
+    /// A struct, with the fields so far.
+    Fields(StructRepr, Vec<TypeTree>),
+    /// A union, with the fields so far.
+    Members(ReprOptions, Vec<TypeTree>),
+    /// An enum between its variants, with those so far.
+    Variants(ReprOptions, Vec<(u128, Vec<TypeTree>)>),
+    /// An enum within a variant: the variants before it, its discriminant, and its fields so far.
+    Variant(ReprOptions, Vec<(u128, Vec<TypeTree>)>, u128, Vec<TypeTree>),
+    Coroutine(CoroutineParts),
+}
+
+/// What has been read of a type.
+#[derive(Drop)]
+pub(crate) struct Reader {
+    pub(crate) want: Want,
+    /// The types that are begun, the innermost last.
+    pub(crate) begun: Vec<Open>,
+    /// The type, once it's complete.
+    pub(crate) tree: Option<TypeTree>,
+}
+
+/// Waits for something within these types.
+pub(crate) fn waiting(want: Want, begun: Vec<Open>) -> Reader
+    ensures { state_of result ≡ waiting want (begun_in begun.items) }
+{
+    Reader {
+        want,
+        begun,
+        tree: None,
+    }
+}
+
+/// Waits for something within these types, and within one type more.
+pub(crate) fn waiting_in(want: Want, top: Open, begun: Vec<Open>) -> Result<Reader, Fault>
+    ensures ok { IfOk result (λ reader. state_of reader ≡ waiting want (begun_by top ∷ begun_in begun.items)) }
+    ensures err { IfErr result (λ fault. fault ≡ Fault.OutOfMemory) }
+{
+    let mut begun = begun;
+    begun.push(top)?;
+    Ok(waiting(want, begun))
+}
+
+/// Waits for something that is no type, within a coroutine with these parts so far.
+pub(crate) fn waiting_for(
+    part: CoroutineWant,
+    parts: CoroutineParts,
+    begun: Vec<Open>,
+) -> Result<Reader, Fault>
+    ensures ok { IfOk result (λ reader. state_of reader ≡ waiting (Want.Coroutine part) (coroutine_with (parts_by parts) ∷ begun_in begun.items)) }
+    ensures err { IfErr result (λ fault. fault ≡ Fault.OutOfMemory) }
+{
+    waiting_in(Want::Coroutine(part), Open::Coroutine(parts), begun)
+}
+
+/// A vector of so many lanes, packed or not.
+fn vector(
+    alloc: Global,
+    lanes: u64,
+    packed: bool,
+    element: TypeTree,
+) -> Result<TypeTree, AllocError>
+    ensures { IfOk result (λ tree. tree_of tree ≡ vector lanes packed (tree_of element)) }
+{
+    Ok(TypeTree::Vector {
+        lanes,
+        packed,
+        element: Box::new(alloc, element)?,
+    })
+}
+
+/// A coroutine's parts with one type more in the part that is begun.
+fn with_type(tree: TypeTree, parts: CoroutineParts) -> Result<CoroutineParts, Fault>
+    ensures ok { IfOk result (λ more. parts_by more ≡ with_type (tree_of tree) (parts_by parts)) }
+    ensures err { IfErr result (λ fault. fault ≡ Fault.OutOfMemory) }
+{
+    match parts {
+        CoroutineParts::Prefix(mut prefix) => {
+            prefix.push(tree)?;
+            Ok(CoroutineParts::Prefix(prefix))
+        }
+        CoroutineParts::Locals(prefix, mut locals) => {
+            locals.push(tree)?;
+            Ok(CoroutineParts::Locals(prefix, locals))
+        }
+        other => Ok(other),
+    }
+}
+
+/// A type that is begun, with one type more in its list of types.
+fn with_member(tree: TypeTree, top: Open) -> Result<Open, Fault>
+    ensures ok { IfOk result (λ more. begun_by more ≡ with_member (tree_of tree) (begun_by top)) }
+    ensures err { IfErr result (λ fault. fault ≡ Fault.OutOfMemory) }
+{
+    match top {
+        Open::Fields(repr, mut fields) => {
+            fields.push(tree)?;
+            Ok(Open::Fields(repr, fields))
+        }
+        Open::Members(repr, mut fields) => {
+            fields.push(tree)?;
+            Ok(Open::Members(repr, fields))
+        }
+        Open::Variant(repr, done, discriminant, mut fields) => {
+            fields.push(tree)?;
+            Ok(Open::Variant(repr, done, discriminant, fields))
+        }
+        Open::Coroutine(parts) => Ok(Open::Coroutine(with_type(tree, parts)?)),
+        other => Ok(other),
+    }
+}
+
+/// Puts a complete type into the innermost type that is begun.
+pub(crate) fn put(alloc: Global, tree: TypeTree, begun: Vec<Open>) -> Result<Reader, Fault>
+    ensures ok { IfOk result (λ reader. state_of reader ≡ put (tree_of tree) (begun_in begun.items)) }
+    ensures err { IfErr result (λ fault. fault ≡ Fault.OutOfMemory) }
+{
+    let mut tree = tree;
+    let mut begun = begun;
+    while let Some(top) = begun.pop() {
+        match top {
+            Open::Elements(count) => tree = TypeTree::Array(count, Box::new(alloc, tree)?),
+            Open::Lanes(lanes, packed) => tree = vector(alloc, lanes, packed, tree)?,
+            other => return waiting_in(Want::Tree, with_member(tree, other)?, begun),
+        }
+    }
+    Ok(Reader {
+        want: Want::End,
+        begun,
+        tree: Some(tree),
+    })
+}
+
+/// Puts a complete scalar where it belongs.
+pub(crate) fn put_scalar(
+    alloc: Global,
+    scalar: Scalar,
+    place: ScalarPlace,
+    begun: Vec<Open>,
+) -> Result<Reader, Fault>
+    ensures ok { IfOk result (λ reader. state_of reader ≡ put_scalar scalar place (begun_in begun.items)) }
+    ensures err { IfErr result (λ fault. fault ≡ Fault.OutOfMemory) }
+{
+    match place {
+        ScalarPlace::Alone => put(alloc, TypeTree::Scalar(scalar), begun),
+        ScalarPlace::First => Ok(waiting(Want::Scalar(ScalarPlace::Second(scalar)), begun)),
+        ScalarPlace::Second(first) => put(alloc, TypeTree::Pair(first, scalar), begun),
+    }
+}
+
+/// Puts a complete primitive into what waits for one, or makes it a scalar with its full range.
+pub(crate) fn put_primitive(
+    alloc: Global,
+    dl: &TargetDataLayout,
+    value: Primitive,
+    form: ScalarForm,
+    place: ScalarPlace,
+    begun: Vec<Open>,
+) -> Result<Reader, Fault>
+    ensures ok { IfOk result (λ reader. state_of reader ≡ put_primitive dl.now value form place (begun_in begun.items)) }
+    ensures err { IfErr result (λ fault. fault ≡ Fault.OutOfMemory) }
+{
+    match form {
+        ScalarForm::Full => put_scalar(alloc, full(dl, value), place, begun),
+        ScalarForm::Range => Ok(waiting(Want::RangeStart(value, place), begun)),
+        ScalarForm::Union => put_scalar(alloc, Scalar::Union { value }, place, begun),
+    }
+}

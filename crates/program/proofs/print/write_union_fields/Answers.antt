@@ -1,8 +1,0 @@
-use Rattle.std.proofs.Common.{◌∙◌, ◌<◌, rules}
-use Rattle.program.proofs.Fields.{line_written}
-use Rattle.program.proofs.print.write_union_fields.Goals as goal
-
-pub loop-index-preserved : goal.loop-index-preserved
-loop-index-preserved c =
-    let more : c.loop-index.index-counter < c.args.count = search rules in
-    line_written _ _ c.args.count c.loop-index.index-counter more c.in_ok-write.ensures.bytes ∙ c.loop-index.invariant
