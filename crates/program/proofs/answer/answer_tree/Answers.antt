@@ -1,10 +1,9 @@
-use Rattle.std.proofs.Common.{◌≡◌, Ok, Err, inl, inr, ap, ◌∙◌, arith}
+use Rattle.std.proofs.Common.{◌≡◌, Err, inl, inr, ap, ◌∙◌}
 use Rattle.std.specs.Prelude.{◌⊎◌}
 use Rattle.std.proofs.lemmas.Result.{IfOk-weaker}
 use Rattle.abi_base.specs.declared.data_layout.TargetDataLayout.{TargetDataLayout}
 use Rattle.rustc_abi.specs.declared.error.LayError.{LayError}
 use Rattle.rustc_abi.specs.Fault.{IsRefusedFor}
-use Rattle.abi_laid.specs.Laid.{placed_of}
 use Rattle.abi_laid.specs.Tree.{Tree, tree_of}
 use Rattle.abi_text.specs.Names.{error_name}
 use Rattle.program.specs.Output.{Output, IsOutputOfTree, answered_by, out_of_memory, refused}
@@ -21,15 +20,3 @@ returns-in-Err c =
     IfOk-weaker c.refused.result _ _
     (λ a is. told c.args.dl.now (tree_of c.args.tree.now) c.in-Err.error c.in-Err.ensures.refused (answered_by a) (is ∙ ap refused c.error_name.ensures))
     c.refused.ensures
-
-pub answer_laid-requires : goal.answer_laid-requires
-answer_laid-requires c = record {
-  align = omega (arith, c.in-Ok.ensures.layout.limit);
-  told = record { sized = c.in-Ok.ensures.sized; places = c.in-Ok.ensures.places; unused = c.in-Ok.ensures.unused };
-}
-
-pub returns-in-Ok : goal.returns-in-Ok
-returns-in-Ok c =
-    IfOk-weaker c.answer_laid.result _ _
-    (λ a is. inl (record { lawful = λ law. (Ok (placed_of c.in-Ok.laid), c.in-Ok.ensures.laid, is); unlawful = λ un. absurd (un c.in-Ok.ensures.lawful) }))
-    c.answer_laid.ensures
