@@ -240,8 +240,8 @@ impl<Cx: HasDataLayout> LayoutCalculator<Cx> {
             × IsCoroutineAnswer F.layout_of FieldIdx.at FieldIdx.number (VariantIdx.at 0) (Cx.target self.now.cx) prefix_layouts tag field (items_of local_layouts.entry) (map (map LocalIdx.number) (items_of variant_fields.entry)) storage_conflicts.now result }
         ensures lawful { IfOk result (IsLawfulLayout (Cx.target self.now.cx)) }
 
-        // It has no niche, is seen as bytes in memory, is aligned as the greatest of its lists is, and has no values where the
-        // first list has none, or each state's.
+        // It has no niche, is seen as bytes in memory, is aligned as the greatest of its lists is, and has no values
+        // where the first list has none, or each state's.
         ensures niche { IfOk result (λ l. l.largest_niche ≡ None) }
         ensures view { IfOk result (λ l. l.backend_repr ≡ Memory true) }
         ensures alignment { IfOk result (IsAlignedAsLists (VariantIdx.at 0) (Cx.target self.now.cx)
@@ -254,8 +254,8 @@ impl<Cx: HasDataLayout> LayoutCalculator<Cx> {
         // Its fields, and those of each state, have a place in memory order each, which never steps back.
         ensures ordered { IfOk result (IsOrderedWhole FieldIdx.number) }
 
-        // Each of its lists lies in an allowed order of the least size, and its fields lie where the lists have them, in their
-        // orders.
+        // Each of its lists lies in an allowed order of the least size, and its fields lie where the lists have them,
+        // in their orders.
         ensures made { IfOk result (IsMadeOfStates FieldIdx.at FieldIdx.number (VariantIdx.at 0)
             (Cx.target self.now.cx) (map F.layout_of prefix_layouts) (map F.layout_of (items_of local_layouts.entry))
             (map (map LocalIdx.number) (items_of variant_fields.entry)) storage_conflicts.now) }

@@ -111,7 +111,8 @@ impl<Cx: HasDataLayout> LayoutCalculator<Cx> {
             → IfErr result (λ e. (e ≡ LayoutCalculatorError.SizeOverflow) ⊎ (e ≡ LayoutCalculatorError.OutOfMemory)) }
 
         // It has one variant, and the niche, the view and the marks of the list, where niches may be used.
-        ensures seen { (i : _) → path_of is_enum repr.now (map (map F.layout_of) (items_of variants.entry)) ≡ IsOneList i
+        ensures seen { (i : _)
+            → path_of is_enum repr.now (map (map F.layout_of) (items_of variants.entry)) ≡ IsOneList i
             → IfOk result (IsSeenAsList (VariantIdx.at i) (Cx.target self.now.cx) repr.now
             (kind_at is_enum always_sized (items_of variants.entry) i) niche_optimizations
             (map F.layout_of (variant_at (items_of variants.entry) i))) }
@@ -124,27 +125,30 @@ impl<Cx: HasDataLayout> LayoutCalculator<Cx> {
         ensures told { path_of is_enum repr.now (map (map F.layout_of) (items_of variants.entry)) ≡ AreSeveral
             → IfOk result (λ l. WholeRun I.next_gives discriminants (λ run. AreToldApart (Cx.target self.now.cx) VariantIdx.number (map (map F.layout_of) (items_of variants.entry)) run.items l)) }
 
-        // Each of their variants is laid out as a list, in an allowed order of the least size; the alignment is the greatest of
-        // these lists', and the marks are theirs. They have no values where none of the variants may have one, and are sized.
+        // Each of their variants is laid out as a list, in an allowed order of the least size; the alignment is the
+        // greatest of these lists', and the marks are theirs. They have no values where none of the variants may have
+        // one, and are sized.
         ensures made { path_of is_enum repr.now (map (map F.layout_of) (items_of variants.entry)) ≡ AreSeveral
             → IfOk result (λ l. WholeRun I.next_gives discriminants (λ run. IsMadeOfLists FieldIdx.at VariantIdx.number
             (Cx.target self.now.cx) repr.now (D.post discr_range_of_repr)
             (counting_of VariantIdx.number repr.now (map (map F.layout_of) (items_of variants.entry)) run.items)
             (map (map F.layout_of) (items_of variants.entry)) l)) }
         ensures uninhabited { path_of is_enum repr.now (map (map F.layout_of) (items_of variants.entry)) ≡ AreSeveral
-            → IfOk result (λ l. l.uninhabited ≡ list_all has_no_value (map (map F.layout_of) (items_of variants.entry))) }
+            → IfOk result (λ l. l.uninhabited
+            ≡ list_all has_no_value (map (map F.layout_of) (items_of variants.entry))) }
         ensures sized { path_of is_enum repr.now (map (map F.layout_of) (items_of variants.entry)) ≡ AreSeveral
             → IfOk result (λ l. is_unsized l.backend_repr ≡ false) }
 
-        // The tag is field 0, and one of its own holds the least range of the discriminants that count. Fields lie at multiples
-        // of their alignments, and memory order never steps back.
+        // The tag is field 0, and one of its own holds the least range of the discriminants that count. Fields lie at
+        // multiples of their alignments, and memory order never steps back.
         ensures tag { path_of is_enum repr.now (map (map F.layout_of) (items_of variants.entry)) ≡ AreSeveral
             → IfOk result (λ l. WholeRun I.next_gives discriminants (λ run. HasLeastTag (counting_of VariantIdx.number
             repr.now (map (map F.layout_of) (items_of variants.entry)) run.items) l.variants)) }
         ensures tag_field { path_of is_enum repr.now (map (map F.layout_of) (items_of variants.entry)) ≡ AreSeveral
             → IfOk result (λ l. IsTagField FieldIdx.number 0 l.variants) }
         ensures aligned { path_of is_enum repr.now (map (map F.layout_of) (items_of variants.entry)) ≡ AreSeveral
-            → IfOk result (λ l. AreVariantsAligned (map (map F.layout_of) (items_of variants.entry)) (variants_of l.variants)) }
+            → IfOk result (λ l. AreVariantsAligned (map (map F.layout_of) (items_of variants.entry))
+            (variants_of l.variants)) }
         ensures ordered { path_of is_enum repr.now (map (map F.layout_of) (items_of variants.entry)) ≡ AreSeveral
             → IfOk result (IsOrderedWhole FieldIdx.number) }
 
