@@ -14,3 +14,4 @@ pub mod DataLayoutFault
 pub mod DataLayoutSpec
 pub mod DataLayoutText
 pub mod Setting
+pub mod ErrorText

@@ -8,6 +8,7 @@ ghost use Rattle.abi_base.specs.Align.{align_of_bytes, align_error_text, factor_
 
 use crate::data_layout::TargetDataLayout;
 use crate::size::Size;
+use std::error::Error;
 use std::fmt;
 use std::fmt::{Debug, Display};
 use std::marker::Model;
@@ -235,6 +236,8 @@ impl Display for AlignFromBytesError {
         write!(f, "{self:?}")
     }
 }
+
+impl Error for AlignFromBytesError {}
 
 /// The alignment that an ABI asks of a type.
 #[derive(Clone, Copy, PartialEq, Eq, Hash)]

@@ -4,6 +4,7 @@ ghost use Rattle.std.specs.Prelude.{◌≡◌, ◌≢◌, codes, IfOk, IfErr, Ma
 ghost use Rattle.abi_base.specs.declared.endian.Endian.{Endian};
 ghost use Rattle.abi_base.specs.Endian.{endian_text, unknown_endian_text};
 
+use std::error::Error;
 use std::fmt;
 use std::fmt::{Debug, Display};
 use std::str::FromStr;
@@ -68,6 +69,8 @@ impl Display for UnknownEndian {
     }
 }
 
+impl Error for UnknownEndian {}
+
 /// This text is no order's name.
 #[derive(Clone, Copy, PartialEq, Eq, Debug)]
 pub struct UnknownEndianText<'a> {
@@ -82,6 +85,8 @@ impl<'a> Display for UnknownEndianText<'a> {
         write!(f, "unknown endian: \"{}\"", self.text)
     }
 }
+
+impl<'a> Error for UnknownEndianText<'a> {}
 
 impl Debug for Endian {
     ghost debug_output = { λ endian. Some (endian_text endian) };

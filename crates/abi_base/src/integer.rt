@@ -11,6 +11,7 @@ ghost use Rattle.abi_base.specs.IntegerType.{KnowsIndex, integer_of_type, is_sig
 use crate::align::Align;
 use crate::data_layout::HasDataLayout;
 use crate::size::Size;
+use std::error::Error;
 use std::fmt;
 use std::fmt::Display;
 
@@ -236,6 +237,8 @@ impl Display for NoSuchInteger {
         write!(f, "rust does not support integers with {} bits", self.0)
     }
 }
+
+impl Error for NoSuchInteger {}
 
 /// An integer type as a repr names it; true where it is signed.
 #[derive(Clone, Copy, PartialEq, Eq, Debug)]

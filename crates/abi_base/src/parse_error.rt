@@ -1,8 +1,14 @@
 //! Why a text is no data layout string.
 
+ghost use Rattle.std.specs.Prelude.{Some};
+ghost use Rattle.abi_base.specs.ErrorText.{data_layout_error_text};
+
 use crate::align::AlignFromBytesError;
 use crate::parse_number::NumberError;
 use std::alloc::{AllocError, AllocFailed};
+use std::error::Error;
+use std::fmt;
+use std::fmt::Display;
 
 /// Why a text is no data layout string. Texts are parts of the one that was read. A cause says
 /// where the fault stands: the word of the spec, `P`, `i`, `v`, or `p-` for pointers.
@@ -67,6 +73,45 @@ pub enum TargetDataLayoutError<'a> {
     /// A growth of memory was refused.
     OutOfMemory,
 }
+
+impl<'a> Display for TargetDataLayoutError<'a> {
+    ghost output = { λ error. Some (data_layout_error_text error) };
+
+    /// What is wrong, of which spec, and why.
+    fn fmt<W: fmt::Write>(&self, f: &mut fmt::Formatter<W>) -> fmt::Result {
+        match self {
+            Self::InvalidAddressSpace {
+                addr_space,
+                cause,
+                err,
+            } => write!(f, "address space \"{addr_space}\" of \"{cause}\": {err}"),
+            Self::InvalidBits {
+                kind,
+                bit,
+                cause,
+                err,
+            } => write!(f, "{kind} \"{bit}\" of \"{cause}\": {err}"),
+            Self::MissingAlignment { cause } => write!(f, "no alignment of \"{cause}\""),
+            Self::InvalidAlignment { cause, err } => write!(f, "alignment of \"{cause}\": {err}"),
+            Self::InconsistentTargetArchitecture { dl, target } => write!(
+                f,
+                "byte order {dl}, not {target}"
+            ),
+            Self::InconsistentTargetPointerWidth {
+                pointer_size,
+                target,
+            } => write!(f, "pointers of {pointer_size}, not {target} bits"),
+            Self::InvalidBitsSize { err } => f.write_str(err),
+            Self::UnknownPointerSpecification { err } => write!(
+                f,
+                "unknown kind of pointers \"{err}\""
+            ),
+            Self::OutOfMemory => f.write_str("out of memory"),
+        }
+    }
+}
+
+impl<'a> Error for TargetDataLayoutError<'a> {}
 
 impl<'a> From<AllocError> for TargetDataLayoutError<'a> {
     ghost use Rattle.std.specs.Prelude.{◌≡◌};

@@ -1,9 +1,14 @@
 //! Numbers in a data layout string.
 
-ghost use Rattle.std.specs.Prelude.{◌≡◌, ◌^◌};
+ghost use Rattle.std.specs.Prelude.{◌≡◌, ◌^◌, Some};
 ghost use Rattle.std.specs.Str.{all_ascii_digits};
 ghost use Rattle.std.specs.Str.Parse.{without_leading_plus};
 ghost use Rattle.abi_base.specs.NumberText.{is_numeral, number_answer, number_error};
+ghost use Rattle.abi_base.specs.ErrorText.{number_error_text};
+
+use std::error::Error;
+use std::fmt;
+use std::fmt::Display;
 
 /// Why a text is no number that fits. A number is one decimal digit or more, after at most one
 /// plus.
@@ -16,6 +21,21 @@ pub enum NumberError {
     /// The number has too many bits.
     PosOverflow,
 }
+
+impl Display for NumberError {
+    ghost output = { λ error. Some (number_error_text error) };
+
+    /// Why it is no number.
+    fn fmt<W: fmt::Write>(&self, f: &mut fmt::Formatter<W>) -> fmt::Result {
+        f.write_str(match self {
+            NumberError::Empty => "no number",
+            NumberError::InvalidDigit => "not a decimal number",
+            NumberError::PosOverflow => "too large a number",
+        })
+    }
+}
+
+impl Error for NumberError {}
 
 /// Whether it is one decimal digit or more, and nothing else.
 fn is_numeral(digits: &[u8]) -> bool

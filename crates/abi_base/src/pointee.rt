@@ -6,12 +6,23 @@ use crate::size::Size;
 /// Which safe pointer it is.
 #[derive(Clone, Copy, PartialEq, Eq, Debug)]
 pub enum PointerKind {
-    /// A shared reference; `frozen` where no `UnsafeCell` is behind it.
-    SharedRef { frozen: bool },
-    /// A mutable reference; `unpin` where nothing behind it is pinned.
-    MutableRef { unpin: bool },
-    /// A box; `unpin` where nothing in it is pinned, `global` where it has the global allocator.
-    Box { unpin: bool, global: bool },
+    /// A shared reference.
+    SharedRef {
+        /// Whether no `UnsafeCell` is behind it.
+        frozen: bool,
+    },
+    /// A mutable reference.
+    MutableRef {
+        /// Whether nothing behind it is pinned.
+        unpin: bool,
+    },
+    /// A box.
+    Box {
+        /// Whether nothing in it is pinned.
+        unpin: bool,
+        /// Whether its allocator is the global one.
+        global: bool,
+    },
 }
 
 /// What is known of the value behind a pointer.
@@ -21,6 +32,6 @@ pub struct PointeeInfo {
     pub safe: Option<PointerKind>,
     /// How many bytes can be read where the pointer is not null; nothing is known where it is 0.
     pub size: Size,
-    /// The alignment that the pointer has.
+    /// The alignment that the pointer has, in bytes.
     pub align: Align,
 }

@@ -21,32 +21,32 @@ use Rattle.abi_scalar.specs.Lawful.{IsLawfulLayout}
 use Rattle.abi_scalar.specs.Scalar.{IsLawfulScalar}
 use Rattle.abi_scalar.specs.Simple.{scalar_layout}
 use Rattle.abi_index.specs.BitSet.{is_member, members_of}
-use Rattle.abi_calc.specs.Answer.{IsAnswer}
+use Rattle.abi_lists.specs.Answer.{IsAnswer}
+use Rattle.abi_lists.specs.Fields.{greatest, greatest_size}
+use Rattle.abi_lists.specs.Least.{IsEachOrderTooLarge, align_by}
+use Rattle.abi_lists.specs.List.{AreSized, IsListError}
+use Rattle.abi_lists.specs.Part.{is_unsized}
+use Rattle.abi_lists.specs.Placement.{list_repr, source_order}
+use Rattle.abi_lists.proofs.Least.{allowed_permutes}
+use Rattle.abi_lists.proofs.Sorting.{within_order}
+use Rattle.abi_lists.proofs.LeastLemmas.{large_in_each, sized_error}
+use Rattle.abi_lists.proofs.Rounding.{rounded_to}
 use Rattle.abi_calc.specs.Coroutine.Answer.{IsPromotedAnswer}
 use Rattle.abi_calc.specs.Coroutine.Layout.{IsStateTag, coroutine_layout, whole_align, whole_size}
 use Rattle.abi_calc.specs.Coroutine.Lists.{AreOwnLists, IsFirstOwnError, behind, default_repr, first_list, own_list, own_of, picked}
 use Rattle.abi_calc.specs.Coroutine.Sizes.{AreListsTooLarge, IsSizeOfLists, IsSizeWith, IsTooLargeWith, align_of_all, behind_first, own_lists}
 use Rattle.abi_calc.specs.Enums.Lists.{AreGoodLists, AreListLayouts, IsFirstListError, IsGoodList}
 use Rattle.abi_calc.specs.Enums.Sizes.{AreLeastSizes}
-use Rattle.abi_calc.specs.Fields.{greatest, greatest_size}
-use Rattle.abi_calc.specs.Least.{IsEachOrderTooLarge, align_by}
-use Rattle.abi_calc.specs.List.{AreSized, IsListError}
-use Rattle.abi_calc.specs.Part.{is_unsized}
-use Rattle.abi_calc.specs.Placement.{list_repr, source_order}
 use Rattle.abi_calc.specs.Coroutine.States.{HasFields}
 use Rattle.abi_scalar.specs.Shape.{listed_order}
 use Rattle.abi_scalar.proofs.LawfulLemmas.{scalar_lawful}
 use Rattle.abi_scalar.proofs.ReadableLemmas.{lawful_readable}
 use Rattle.abi_calc.proofs.CoroutinePlaces.{members_within, picked_count}
 use Rattle.abi_calc.proofs.EnumPlaces.{named_back}
-use Rattle.abi_calc.proofs.Least.{allowed_permutes}
-use Rattle.abi_calc.proofs.Sorting.{within_order}
 use Rattle.abi_calc.proofs.CoroutineLayout.{whole_align_small}
 use Rattle.abi_calc.proofs.CoroutineLists.{all_picked}
 use Rattle.abi_calc.proofs.EnumLists.{good_exact, good_lawful}
 use Rattle.abi_calc.proofs.EnumSizes.{all_fit, error_in_each, error_sized, good_aligns, good_fits, good_sizes, least_unique, sizes_unique}
-use Rattle.abi_calc.proofs.LeastLemmas.{large_in_each, sized_error}
-use Rattle.abi_calc.proofs.Rounding.{rounded_to}
 
 -- ---- the layouts of picked items
 

@@ -18,20 +18,20 @@ use Rattle.abi_scalar.specs.declared.variants.Variants.TheVariants.{Multiple}
 use Rattle.abi_scalar.specs.Scalar.{IsNumberOf, scalar_size}
 use Rattle.abi_scalar.specs.Shape.{listed_offsets, listed_order}
 use Rattle.abi_scalar.specs.Simple.{scalar_layout}
-use Rattle.abi_calc.specs.Apart.{AreApart}
+use Rattle.abi_lists.specs.Apart.{AreApart}
+use Rattle.abi_lists.specs.Fields.{greatest_size}
+use Rattle.abi_lists.specs.Placement.{source_order, start_of}
+use Rattle.abi_lists.proofs.Rounding.{rounded_to}
 use Rattle.abi_calc.specs.Coroutine.Clash.{AreStatesApart, IsToldByState}
 use Rattle.abi_calc.specs.Coroutine.Layout.{IsStateTag, coroutine_layout, whole_align, whole_size}
 use Rattle.abi_calc.specs.Coroutine.Lists.{behind, default_repr, first_list, own_of, picked}
 use Rattle.abi_calc.specs.Coroutine.Sizes.{own_lists}
 use Rattle.abi_calc.specs.Coroutine.States.{state_layouts, state_offsets}
 use Rattle.abi_calc.specs.Enums.Lists.{AreGoodLists, IsGoodList}
-use Rattle.abi_calc.specs.Fields.{greatest_size}
-use Rattle.abi_calc.specs.Placement.{source_order, start_of}
 use Rattle.abi_calc.proofs.CoroutineAnswers.{first_count, map_picked}
 use Rattle.abi_calc.proofs.CoroutinePlaces.{members_within}
 use Rattle.abi_calc.proofs.CoroutineTold.{picked_sizes, state_apart}
 use Rattle.abi_calc.proofs.EnumPlaces.{sizes_as}
-use Rattle.abi_calc.proofs.Rounding.{rounded_to}
 
 -- ---- the numbers
 

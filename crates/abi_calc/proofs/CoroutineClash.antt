@@ -17,7 +17,8 @@ use Rattle.abi_index.specs.Relation.{Relation, column_count, is_entry, row_count
 use Rattle.abi_scalar.specs.declared.layout_data.LayoutData.{LayoutData}
 use Rattle.abi_scalar.specs.declared.variants.VariantLayout.{VariantLayout}
 use Rattle.abi_scalar.specs.Shape.{listed_offsets}
-use Rattle.abi_calc.specs.Apart.{AreApart}
+use Rattle.abi_lists.specs.Apart.{AreApart}
+use Rattle.abi_lists.proofs.Rounding.{rounded_to}
 use Rattle.abi_calc.specs.Coroutine.Clash.{AreClashingApart, DoClash, HasLocalAt, HaveOneOffset}
 use Rattle.abi_calc.specs.Coroutine.Lists.{behind, default_repr, first_list, own_list, own_of, picked}
 use Rattle.abi_calc.specs.Coroutine.Promotion.{holder_of, promoted_of}
@@ -26,7 +27,6 @@ use Rattle.abi_calc.specs.Coroutine.States.{rank_of, state_layout, state_layouts
 use Rattle.abi_calc.specs.Enums.Lists.{AreGoodLists, IsGoodList}
 use Rattle.abi_calc.proofs.CoroutinePlaces.{apart_at, inside_at, item_behind, item_left, members_within, own_offset, picked_at, picked_count, promoted_offset, ranked}
 use Rattle.abi_calc.proofs.CoroutinePromotion.{held_once, holder_is, one_holder, promoted_count, settled}
-use Rattle.abi_calc.proofs.Rounding.{rounded_to}
 
 -- ---- states that hold a local
 

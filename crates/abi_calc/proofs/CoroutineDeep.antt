@@ -11,6 +11,7 @@ use Rattle.abi_scalar.specs.declared.layout_data.LayoutData.{LayoutData}
 use Rattle.abi_scalar.specs.declared.scalar.Scalar.{Scalar}
 use Rattle.abi_scalar.specs.Lawful.{IsLawfulLayout}
 use Rattle.abi_scalar.specs.Variant.{variants_of}
+use Rattle.abi_lists.specs.List.{HasLawfulAligns}
 use Rattle.abi_calc.specs.Coroutine.Answer.{IsCoroutineAnswer}
 use Rattle.abi_calc.specs.Coroutine.Clash.{AreClashingApart, HaveOneOffset, IsToldByState}
 use Rattle.abi_calc.specs.Coroutine.Layout.{whole_size}
@@ -18,7 +19,6 @@ use Rattle.abi_calc.specs.Coroutine.Lists.{behind, default_repr, first_list}
 use Rattle.abi_calc.specs.Coroutine.Promotion.{promoted_of}
 use Rattle.abi_calc.specs.Coroutine.Sizes.{own_lists}
 use Rattle.abi_calc.specs.Enums.Lists.{AreGoodLists, IsGoodList}
-use Rattle.abi_calc.specs.List.{HasLawfulAligns}
 use Rattle.abi_calc.proofs.CoroutineAnswers.{IsAsked, IsPromised, first_lawful, first_promised, memory_promised, own_all, own_promised, whole_promised}
 use Rattle.abi_calc.proofs.CoroutineApart.{told_promised}
 use Rattle.abi_calc.proofs.CoroutinePromotion.{promoted_count}

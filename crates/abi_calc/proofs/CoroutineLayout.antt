@@ -14,14 +14,14 @@ use Rattle.abi_scalar.specs.declared.layout_data.LayoutData.{LayoutData}
 use Rattle.abi_scalar.specs.declared.variants.VariantLayout.{VariantLayout}
 use Rattle.abi_scalar.specs.Lawful.{IsLawfulLayout}
 use Rattle.abi_scalar.specs.Shape.{listed_order}
+use Rattle.abi_lists.specs.Fields.{greatest_align, greatest_size}
+use Rattle.abi_lists.specs.Placement.{source_order}
+use Rattle.abi_lists.proofs.Sorting.{within_order}
 use Rattle.abi_calc.specs.Coroutine.Layout.{whole_align}
 use Rattle.abi_calc.specs.Coroutine.States.{HasFields, ranks_of, state_layout, state_layouts}
-use Rattle.abi_calc.specs.Fields.{greatest_align, greatest_size}
-use Rattle.abi_calc.specs.Placement.{source_order}
 use Rattle.abi_calc.proofs.CoroutineStates.{kept_map, none_kept, range_split}
 use Rattle.abi_calc.proofs.EnumLists.{align_small}
 use Rattle.abi_calc.proofs.EnumTagged.{size_of_lists_small}
-use Rattle.abi_calc.proofs.Sorting.{within_order}
 
 -- ---- size and alignment
 

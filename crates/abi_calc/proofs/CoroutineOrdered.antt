@@ -30,14 +30,18 @@ use Rattle.abi_scalar.specs.declared.scalar.Scalar.{Scalar}
 use Rattle.abi_scalar.specs.Order.{HasOrder, IsAscending}
 use Rattle.abi_scalar.specs.Shape.{IsListed, listed_offsets, listed_order}
 use Rattle.abi_scalar.specs.Variant.{IsOrderedVariant}
-use Rattle.abi_calc.specs.Apart.{AreApart}
+use Rattle.abi_lists.specs.Apart.{AreApart}
+use Rattle.abi_lists.specs.List.{IsListAnswer}
+use Rattle.abi_lists.specs.Placement.{IsNonEmptyIfUnsized, list_repr, source_order, start_of}
+use Rattle.abi_lists.proofs.Least.{allowed_permutes}
+use Rattle.abi_lists.proofs.LeastLemmas.{keeps_apart, lies_after, lies_in_order}
+use Rattle.abi_lists.proofs.Rounding.{rounded_to}
+use Rattle.abi_lists.proofs.Sorting.{within_order}
 use Rattle.abi_calc.specs.Coroutine.Answer.{IsCoroutineAnswer}
 use Rattle.abi_calc.specs.Coroutine.Lists.{AreOwnLists, behind, default_repr, first_list, own_list, own_of}
 use Rattle.abi_calc.specs.Coroutine.Promotion.{promoted_of}
 use Rattle.abi_calc.specs.Coroutine.States.{HasFields, own_places, places_with, rank_of, ranks_of, state_layout, state_layouts, state_offsets, state_order}
-use Rattle.abi_calc.specs.List.{IsListAnswer}
 use Rattle.abi_calc.specs.Ordered.{IsOrderedWhole}
-use Rattle.abi_calc.specs.Placement.{IsNonEmptyIfUnsized, list_repr, source_order, start_of}
 use Rattle.abi_calc.proofs.CoroutineAnswers.{first_count, own_list_count}
 use Rattle.abi_calc.proofs.CoroutineLayout.{ranks_count, ranks_within}
 use Rattle.abi_calc.proofs.CoroutinePlaces.{item_left, own_offset, promoted_offset}
@@ -45,10 +49,6 @@ use Rattle.abi_calc.proofs.CoroutinePromotion.{promoted_count}
 use Rattle.abi_calc.proofs.CoroutineStates.{count_own_places, kept_map, member_rank, members_few, range_split}
 use Rattle.abi_calc.proofs.EnumOrdered.{IsOrderedList, list_ordered}
 use Rattle.abi_calc.proofs.EnumPlaces.{named_back}
-use Rattle.abi_calc.proofs.Least.{allowed_permutes}
-use Rattle.abi_calc.proofs.LeastLemmas.{keeps_apart, lies_after, lies_in_order}
-use Rattle.abi_calc.proofs.Rounding.{rounded_to}
-use Rattle.abi_calc.proofs.Sorting.{within_order}
 
 -- ---- sums
 

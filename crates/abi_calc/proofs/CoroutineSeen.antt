@@ -19,6 +19,8 @@ use Rattle.abi_scalar.specs.Lawful.{IsLawfulLayout}
 use Rattle.abi_scalar.specs.Shape.{listed_offsets, listed_order}
 use Rattle.abi_scalar.specs.Simple.{scalar_layout}
 use Rattle.abi_scalar.specs.Variant.{variants_of}
+use Rattle.abi_lists.specs.Fields.{greatest}
+use Rattle.abi_lists.specs.Least.{align_by}
 use Rattle.abi_calc.specs.Coroutine.Answer.{IsCoroutineAnswer}
 use Rattle.abi_calc.specs.Coroutine.Layout.{IsStateTag, whole_align}
 use Rattle.abi_calc.specs.Coroutine.Lists.{AreOwnLists, behind, default_repr, first_list, own_of, picked}
@@ -28,8 +30,6 @@ use Rattle.abi_calc.specs.Coroutine.Sizes.{align_of_all, own_lists}
 use Rattle.abi_calc.specs.Coroutine.States.{ranks_of, state_layouts}
 use Rattle.abi_calc.specs.Enums.Lists.{AreListLayouts}
 use Rattle.abi_calc.specs.Enums.Path.{has_no_value}
-use Rattle.abi_calc.specs.Fields.{greatest}
-use Rattle.abi_calc.specs.Least.{align_by}
 use Rattle.abi_calc.specs.Made.{AreFieldLists, IsFieldList}
 use Rattle.abi_calc.specs.Marks.{HasCoroutineMarks}
 use Rattle.abi_calc.proofs.CoroutineAnswers.{IsAsked, first_lawful, map_first, map_own, map_picked, own_all}

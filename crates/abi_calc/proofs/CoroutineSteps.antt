@@ -9,8 +9,8 @@ use Rattle.std.proofs.lemmas.List.Filters.{length-filter_more}
 use Rattle.std.proofs.lemmas.List.FromFn.{fill_by_all, get_or-map-range_with_len, get_or-range_with_len, length-map-range_with_len, length-range_with_len}
 use Rattle.abi_index.specs.BitSet.{is_member}
 use Rattle.abi_index.specs.Relation.{Relation, column_count, columns_of, is_entry}
+use Rattle.abi_lists.specs.Placement.{source_order}
 use Rattle.abi_calc.specs.Coroutine.Promotion.{holder_of, holders_of, promote, used_count}
-use Rattle.abi_calc.specs.Placement.{source_order}
 use Rattle.abi_calc.proofs.CoroutineHolders.{numbers_there}
 
 -- a set to which one more local is added

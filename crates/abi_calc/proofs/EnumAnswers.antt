@@ -14,6 +14,11 @@ use Rattle.abi_scalar.specs.declared.wrapping_range.WrappingRange.{WrappingRange
 use Rattle.abi_scalar.specs.LeastRange.{IsSmallestOf}
 use Rattle.abi_scalar.specs.Range.{IsIn, numbers_of}
 use Rattle.abi_scalar.specs.Scalar.{IsLawfulScalar}
+use Rattle.abi_lists.proofs.Rounding.{pow_dvd, rounded_to}
+use Rattle.abi_lists.specs.Answer.{IsAnswer}
+use Rattle.abi_lists.specs.List.{AreSized}
+use Rattle.abi_lists.specs.Placement.{IsSized}
+use Rattle.abi_lists.specs.Fields.{greatest_size}
 use Rattle.abi_calc.specs.Enums.Discriminants.{IsTagRange}
 use Rattle.abi_calc.specs.Enums.Growth.{grown_tag, start_align}
 use Rattle.abi_calc.specs.Enums.Payload.{tagged_view}
@@ -22,7 +27,6 @@ use Rattle.abi_calc.proofs.EnumGrowth.{grown_size}
 use Rattle.abi_calc.proofs.EnumPlaces.{greatest_within, new_fits, tagged_apart}
 use Rattle.abi_calc.proofs.EnumTagged.{align_of_lists_small, tag_lawful}
 use Rattle.abi_calc.proofs.EnumViews.{niche_inside, niche_of_tag, payloads_lawful, payloads_wide, view_lawful, view_true}
-use Rattle.abi_calc.proofs.Rounding.{pow_dvd, rounded_to}
 use Rattle.abi_base.specs.declared.data_layout.TargetDataLayout.{TargetDataLayout}
 use Rattle.abi_base.specs.declared.integer.Integer.{Integer}
 use Rattle.abi_base.specs.declared.struct_kind.StructKind.{StructKind}
@@ -32,13 +36,9 @@ use Rattle.abi_scalar.specs.declared.error.LayoutCalculatorError.TheVariants.{Ou
 use Rattle.abi_scalar.specs.declared.layout_data.LayoutData.{LayoutData}
 use Rattle.abi_scalar.specs.declared.repr.ReprOptions.{ReprOptions}
 use Rattle.abi_scalar.specs.Lawful.{IsLawfulLayout}
-use Rattle.abi_calc.specs.Answer.{IsAnswer}
-use Rattle.abi_calc.specs.List.{AreSized}
-use Rattle.abi_calc.specs.Placement.{IsSized}
 use Rattle.abi_calc.specs.Enums.Lists.{AreGoodLists, HaveGoodLists, IsFirstListError, behind_tag}
 use Rattle.abi_calc.specs.Enums.Sizes.{IsTaggedSize, IsTaggedTooLarge}
 use Rattle.abi_calc.specs.Enums.Tagged.{IsTaggedBy, lists_align, lists_size, payloads_of}
-use Rattle.abi_calc.specs.Fields.{greatest_size}
 use Rattle.abi_calc.proofs.EnumSizes.{error_large, error_sized, not_too_large, tagged_size, too_large_whole}
 
 -- ---- the numbers of the tag

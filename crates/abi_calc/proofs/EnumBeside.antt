@@ -23,20 +23,20 @@ use Rattle.abi_scalar.specs.Scalar.{scalar_size}
 use Rattle.abi_scalar.specs.Shape.{listed_offsets}
 use Rattle.abi_scalar.specs.Variant.{variant_of}
 use Rattle.abi_scalar.proofs.ReserveLemmas.{reserved_hands_out}
+use Rattle.abi_lists.specs.Apart.{AreApart, IsBeside}
+use Rattle.abi_lists.specs.Fields.{greatest_size}
+use Rattle.abi_lists.specs.ListNiche.{IsNicheOfPart}
+use Rattle.abi_lists.specs.Placement.{source_order}
+use Rattle.abi_lists.proofs.Rounding.{rounded_to}
 use Rattle.abi_calc.specs.declared.enums.niche.Room.{Room}
-use Rattle.abi_calc.specs.Apart.{AreApart, IsBeside}
 use Rattle.abi_calc.specs.Enums.Beside.{AreApartBeside, AreNumbersInNiche, HasTagAt, IsToldByNiche}
 use Rattle.abi_calc.specs.Enums.Lists.{AreGoodLists, IsGoodList}
 use Rattle.abi_calc.specs.Enums.Niche.{beside_niche, last_or, layout_in_niche, moved_on, needing_numbers, niche_of_list, place_after, room_beside, span_count, span_of, untagged_of, variants_from, with_first, without_niche}
 use Rattle.abi_calc.specs.Enums.Path.{is_absent, variant_at}
 use Rattle.abi_calc.specs.Enums.Tagged.{lists_size}
-use Rattle.abi_calc.specs.Fields.{greatest_size}
-use Rattle.abi_calc.specs.ListNiche.{IsNicheOfPart}
-use Rattle.abi_calc.specs.Placement.{source_order}
 use Rattle.abi_calc.proofs.EnumInNiche.{handed_from, holds_there, needing_ascends, needing_within, niche_known, of_some, span_holds}
 use Rattle.abi_calc.proofs.EnumNicheLawful.{size_at_most, tag_size}
 use Rattle.abi_calc.proofs.EnumPlaces.{greatest_within, sizes_as, wider}
-use Rattle.abi_calc.proofs.Rounding.{rounded_to}
 
 -- ---- parts that share no byte, in a larger whole beside a niche
 

@@ -25,9 +25,11 @@ use Rattle.abi_scalar.specs.Lawful.{IsLawfulLayout}
 use Rattle.abi_scalar.specs.Pair.{second_offset}
 use Rattle.abi_scalar.specs.Reserve.{reserved}
 use Rattle.abi_scalar.specs.Scalar.{primitive_of, scalar_size}
+use Rattle.abi_lists.specs.Answer.{IsAnswer}
+use Rattle.abi_lists.specs.List.{AreSized, HasLawfulAligns}
+use Rattle.abi_lists.specs.Part.{is_unsized}
 use Rattle.abi_calc.specs.declared.enums.payload.Payload.{Payload}
 use Rattle.abi_calc.specs.declared.enums.payload.Payload.TheVariants.{Nothing, One, Other}
-use Rattle.abi_calc.specs.Answer.{IsAnswer}
 use Rattle.abi_calc.specs.Enums.Answer.{HasOneEach}
 use Rattle.abi_calc.specs.Enums.Beside.{AreToldApart, IsToldByTag}
 use Rattle.abi_calc.specs.Enums.Choice.{IsNicheAnswer, better, takes_niche}
@@ -40,8 +42,6 @@ use Rattle.abi_calc.specs.Enums.Payload.{beside_tag, common_of, tagged_view}
 use Rattle.abi_calc.specs.Enums.Several.{AreLawfulTags, HasEnumSize, HasTaggedSize, IsAlwaysTooLarge, IsAskedAnswer, IsAskedFor, IsAskedTooLarge, IsEnumAnswer, IsSeveralAnswer, better_of}
 use Rattle.abi_calc.specs.Enums.Sizes.{IsTaggedTooLarge}
 use Rattle.abi_calc.specs.Enums.Tagged.{IsTaggedAnswer, IsTaggedBy, lists_align, lists_size, payloads_of}
-use Rattle.abi_calc.specs.List.{AreSized, HasLawfulAligns}
-use Rattle.abi_calc.specs.Part.{is_unsized}
 use Rattle.abi_calc.proofs.EnumAnswers.{HasGoodLists, by_apart, by_good, by_lawful, by_numbers, by_size, by_view}
 use Rattle.abi_calc.proofs.EnumLists.{good_exact, good_lawful}
 use Rattle.abi_calc.proofs.EnumNicheLawful.{niche_parts}

@@ -20,6 +20,9 @@ use Rattle.abi_scalar.specs.declared.scalar.Scalar.{Scalar}
 use Rattle.abi_scalar.specs.declared.scalar.Scalar.TheVariants.{Initialized, Union}
 use Rattle.abi_scalar.specs.declared.variants.Variants.TheVariants.{Single}
 use Rattle.abi_scalar.proofs.LeastLemmas.{IsBestSoFar, best_first, best_taken, least_from_best}
+use Rattle.abi_lists.specs.Least.{IsLeastSize, size_by}
+use Rattle.abi_lists.specs.Placement.{source_order}
+use Rattle.abi_lists.proofs.Sorting.{within_order}
 use Rattle.abi_calc.specs.declared.enums.path.Path.TheVariants.{NoValue, OneList, Several}
 use Rattle.abi_calc.specs.declared.enums.payload.Payload.TheVariants.{Nothing, One, Other}
 use Rattle.abi_calc.specs.Enums.Discriminants.{IsAskedWith, IsTagRange, counting_of, meant_by}
@@ -28,10 +31,7 @@ use Rattle.abi_calc.specs.Enums.Lists.{behind_tag}
 use Rattle.abi_calc.specs.Enums.Path.{path_of}
 use Rattle.abi_calc.specs.Enums.Payload.{beside, common, scalar_of, shared_primitive, tagged_view}
 use Rattle.abi_calc.specs.Enums.Sizes.{IsTaggedSize}
-use Rattle.abi_calc.specs.Least.{IsLeastSize, size_by}
-use Rattle.abi_calc.specs.Placement.{source_order}
 use Rattle.abi_calc.proofs.EnumDiscriminants.{cut_within, greatest_reached, least_reached}
-use Rattle.abi_calc.proofs.Sorting.{within_order}
 
 -- an attribute with these flags, and this integer for the tag
 abbrev pub repr_of : (flags : ℕ) → (int : Option IntegerType) → ReprOptions

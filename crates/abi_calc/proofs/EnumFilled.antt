@@ -24,6 +24,8 @@ use Rattle.abi_scalar.specs.Pair.{pair_align, pair_size, second_offset}
 use Rattle.abi_scalar.specs.Scalar.{primitive_of, scalar_size}
 use Rattle.abi_scalar.specs.Shape.{listed_offsets}
 use Rattle.abi_scalar.specs.Variant.{variant_of, variants_of}
+use Rattle.abi_lists.specs.Part.{is_empty_view}
+use Rattle.abi_lists.proofs.LawfulList.{by_test}
 use Rattle.abi_calc.specs.declared.enums.payload.Payload.{Payload}
 use Rattle.abi_calc.specs.declared.enums.payload.Payload.TheVariants.{Nothing, One, Other}
 use Rattle.abi_calc.specs.Enums.Filled.{EachHasNumberAt, HasNumberAt, IsFilled, IsNumber}
@@ -31,10 +33,8 @@ use Rattle.abi_calc.specs.Enums.Growth.{grown_tag, grown_variant, moved, start_a
 use Rattle.abi_calc.specs.Enums.Lists.{AreListLayouts}
 use Rattle.abi_calc.specs.Enums.Payload.{beside, beside_tag, common, common_of, has_same_place, is_same_float, payload_at, payload_of, payload_of_field, payload_of_view, seen_as, shared_primitive, tagged_view}
 use Rattle.abi_calc.specs.Enums.Tagged.{IsTaggedBy, lists_align, lists_size, payloads_of}
-use Rattle.abi_calc.specs.Part.{is_empty_view}
 use Rattle.abi_calc.proofs.EnumGrowth.{grown_size}
 use Rattle.abi_calc.proofs.EnumPlaces.{seen_offsets}
-use Rattle.abi_calc.proofs.LawfulList.{by_test}
 
 -- ---- the payload of one variant
 

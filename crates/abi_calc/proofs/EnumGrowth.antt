@@ -11,10 +11,10 @@ use Rattle.abi_base.specs.Integer.{integer_align, integer_size, integers, is_of_
 use Rattle.abi_scalar.specs.declared.layout_data.LayoutData.{LayoutData}
 use Rattle.abi_scalar.specs.declared.repr.ReprOptions.{ReprOptions}
 use Rattle.abi_scalar.specs.Order.{indices_by_offset}
+use Rattle.abi_lists.specs.Part.{max_align}
 use Rattle.abi_calc.specs.Enums.Growth.{first_align, grown_tag, larger_integer, start_align}
 use Rattle.abi_calc.specs.Enums.Lists.{AreListsOf, IsListOf}
 use Rattle.abi_calc.specs.Enums.Path.{is_free}
-use Rattle.abi_calc.specs.Part.{max_align}
 
 -- what is left of a list is the item at the index and what is left behind it
 pub left_at : {A : Type 0} (xs : List A) (i : ℕ) (x : A) → i < length xs → x ≡ get_or xs i x → drop i xs ≡ x ∷ drop (i + 1) xs

@@ -12,25 +12,25 @@ use Rattle.abi_scalar.specs.declared.error.LayoutCalculatorError.TheVariants.{Ou
 use Rattle.abi_scalar.specs.declared.layout_data.LayoutData.{LayoutData}
 use Rattle.abi_scalar.specs.declared.repr.ReprOptions.{ReprOptions}
 use Rattle.abi_scalar.specs.Lawful.{IsLawfulLayout}
-use Rattle.abi_calc.specs.declared.list_repr.ListRepr.{ListRepr}
-use Rattle.abi_calc.specs.declared.order.NicheBias.TheVariants.{Start}
-use Rattle.abi_calc.specs.declared.part.Part.{Part}
-use Rattle.abi_calc.specs.declared.placing.ListFault.{ListFault}
-use Rattle.abi_calc.specs.declared.placing.ListFault.TheVariants.{Unsized, TooLarge, OutOfMemory}
+use Rattle.abi_lists.specs.declared.list_repr.ListRepr.{ListRepr}
+use Rattle.abi_lists.specs.declared.order.NicheBias.TheVariants.{Start}
+use Rattle.abi_lists.specs.declared.part.Part.{Part}
+use Rattle.abi_lists.specs.declared.placing.ListFault.{ListFault}
+use Rattle.abi_lists.specs.declared.placing.ListFault.TheVariants.{Unsized, TooLarge, OutOfMemory}
+use Rattle.abi_lists.specs.Fault.{IsErrorOf, fault_in, is_maybe_unsized}
+use Rattle.abi_lists.specs.Fields.{greatest}
+use Rattle.abi_lists.specs.Least.{IsEachOrderTooLarge, IsLeastSize, align_by, size_by}
+use Rattle.abi_lists.specs.List.{AreSized, IsListError, parts_of}
+use Rattle.abi_lists.specs.Order.{IsNamedOrder}
+use Rattle.abi_lists.specs.Part.{is_unsized}
+use Rattle.abi_lists.specs.Placement.{IsNonEmptyIfUnsized, in_order, list_repr, no_part, source_order, start_of}
+use Rattle.abi_lists.proofs.FaultLemmas.{IsSizedAt, clear_of, memory_in, sized_of_faultless}
+use Rattle.abi_lists.proofs.Least.{allowed_permutes, named_allowed}
+use Rattle.abi_lists.proofs.LeastLemmas.{large_in_each, sized_error}
+use Rattle.abi_lists.proofs.Prefixes.{align_of-grows, round_lower, size_by-prefixed}
+use Rattle.abi_lists.proofs.Sorting.{in_order-permutation}
 use Rattle.abi_calc.specs.Enums.Lists.{AreGoodLists, IsFirstListError, IsGoodList}
 use Rattle.abi_calc.specs.Enums.Sizes.{AreLeastSizes, IsTaggedSize}
-use Rattle.abi_calc.specs.Fault.{IsErrorOf, fault_in, is_maybe_unsized}
-use Rattle.abi_calc.specs.Fields.{greatest}
-use Rattle.abi_calc.specs.Least.{IsEachOrderTooLarge, IsLeastSize, align_by, size_by}
-use Rattle.abi_calc.specs.List.{AreSized, IsListError, parts_of}
-use Rattle.abi_calc.specs.Order.{IsNamedOrder}
-use Rattle.abi_calc.specs.Part.{is_unsized}
-use Rattle.abi_calc.specs.Placement.{IsNonEmptyIfUnsized, in_order, list_repr, no_part, source_order, start_of}
-use Rattle.abi_calc.proofs.FaultLemmas.{IsSizedAt, clear_of, memory_in, sized_of_faultless}
-use Rattle.abi_calc.proofs.Least.{allowed_permutes, named_allowed}
-use Rattle.abi_calc.proofs.LeastLemmas.{large_in_each, sized_error}
-use Rattle.abi_calc.proofs.Prefixes.{align_of-grows, round_lower, size_by-prefixed}
-use Rattle.abi_calc.proofs.Sorting.{in_order-permutation}
 
 -- ---- sizes
 

@@ -19,13 +19,13 @@ use Rattle.abi_scalar.specs.declared.fields_shape.FieldsShape.TheVariants.{Arbit
 use Rattle.abi_scalar.specs.Lawful.{IsLawfulLayout}
 use Rattle.abi_scalar.specs.Order.{HasPlaceForEach}
 use Rattle.abi_scalar.specs.Shape.{IsListed, listed_offsets}
-use Rattle.abi_calc.specs.Apart.{AreApart}
-use Rattle.abi_calc.specs.ListNiche.{HasLargestNiche, IsNicheOfPart}
-use Rattle.abi_calc.specs.Least.{IsLeastSize, LiesInSomeOrder}
-use Rattle.abi_calc.specs.Placement.{start_of}
-use Rattle.abi_calc.specs.List.{IsListAnswer, IsListError}
+use Rattle.abi_lists.specs.Apart.{AreApart}
+use Rattle.abi_lists.specs.ListNiche.{HasLargestNiche, IsNicheOfPart}
+use Rattle.abi_lists.specs.Least.{IsLeastSize, LiesInSomeOrder}
+use Rattle.abi_lists.specs.Placement.{start_of}
+use Rattle.abi_lists.specs.List.{IsListAnswer, IsListError}
+use Rattle.abi_lists.specs.Fields.{greatest_align}
 use Rattle.abi_calc.specs.Enums.Lists.{AreGoodLists, AreListLayouts, AreListsOf, IsFirstListError, IsGoodList, align_with_all}
-use Rattle.abi_calc.specs.Fields.{greatest_align}
 
 large_bound_at : (bytes : ℕ) → IsPointerWidth bytes → 16 < bound_of_pointer bytes
 large_bound_at bytes (inl e) = rw e (omega arith)

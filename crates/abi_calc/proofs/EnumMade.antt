@@ -28,6 +28,8 @@ use Rattle.abi_scalar.specs.Niche.{niche_size}
 use Rattle.abi_scalar.specs.Reserve.{reserved}
 use Rattle.abi_scalar.specs.Shape.{listed_offsets}
 use Rattle.abi_scalar.specs.Variant.{variant_of, variants_of}
+use Rattle.abi_lists.specs.List.{HasLawfulAligns}
+use Rattle.abi_lists.specs.Part.{is_unsized}
 use Rattle.abi_calc.specs.declared.enums.niche.Room.{Room}
 use Rattle.abi_calc.specs.Enums.Choice.{IsNicheAnswer, better, takes_niche}
 use Rattle.abi_calc.specs.Enums.Discriminants.{counting_of}
@@ -39,9 +41,7 @@ use Rattle.abi_calc.specs.Enums.Path.{has_no_value}
 use Rattle.abi_calc.specs.Enums.Payload.{seen_as, tagged_view}
 use Rattle.abi_calc.specs.Enums.Several.{IsAskedAnswer, IsAskedFor, IsEnumAnswer, IsSeveralAnswer, better_of}
 use Rattle.abi_calc.specs.Enums.Tagged.{IsTaggedBy, lists_align, lists_size, payloads_of}
-use Rattle.abi_calc.specs.List.{HasLawfulAligns}
 use Rattle.abi_calc.specs.Ordered.{IsOrderedWhole, IsTagField}
-use Rattle.abi_calc.specs.Part.{is_unsized}
 use Rattle.abi_calc.proofs.EnumDeep.{niche_is_sized, no_values, tagged_is_sized}
 use Rattle.abi_calc.proofs.EnumGrowth.{grown_size}
 use Rattle.abi_calc.proofs.EnumNicheLawful.{niche_parts}

@@ -7,12 +7,12 @@ use Rattle.std.proofs.lemmas.List.{get_or-map, get_or-take, length-append, lengt
 use Rattle.std.proofs.lemmas.List.Folds.{list_any-append}
 use Rattle.abi_scalar.specs.declared.layout_data.LayoutData.{LayoutData}
 use Rattle.abi_scalar.specs.declared.variants.VariantLayout.{VariantLayout}
+use Rattle.abi_lists.specs.Placement.{source_order}
+use Rattle.abi_lists.proofs.ViewLemmas.{bulky_else, bulky_then}
 use Rattle.abi_calc.specs.Enums.Niche.{last_greatest, last_or, needing_numbers, others_empty, span_of, with_first}
 use Rattle.abi_calc.specs.Enums.Path.{is_absent, variant_at}
-use Rattle.abi_calc.specs.Placement.{source_order}
 use Rattle.abi_calc.proofs.EnumGrowth.{left_at}
 use Rattle.abi_calc.proofs.EnumPath.{variant_read}
-use Rattle.abi_calc.proofs.ViewLemmas.{bulky_else, bulky_then}
 
 -- ---- the untagged variant
 

@@ -20,20 +20,20 @@ use Rattle.abi_scalar.specs.declared.variants.VariantLayout.{VariantLayout}
 use Rattle.abi_scalar.specs.Order.{HasOrder, HasPlaceForEach, IsAscending}
 use Rattle.abi_scalar.specs.Shape.{listed_offsets, listed_order}
 use Rattle.abi_scalar.specs.Variant.{IsOrderedVariant, variant_of}
-use Rattle.abi_calc.specs.declared.part.Part.{Part}
-use Rattle.abi_calc.specs.Apart.{AreAligned}
+use Rattle.abi_lists.specs.declared.part.Part.{Part}
+use Rattle.abi_lists.specs.Apart.{AreAligned}
+use Rattle.abi_lists.specs.List.{IsListAnswer, parts_of}
+use Rattle.abi_lists.specs.Placement.{IsNonEmptyIfUnsized, IsSized, cut, list_repr, prefix_align}
+use Rattle.abi_lists.proofs.LeastLemmas.{ascends, biased, has_places, lies_aligned, lies_in_order}
+use Rattle.abi_lists.proofs.Least.{allowed_permutes}
+use Rattle.abi_lists.proofs.Rounding.{pow_dvd, rounded_to}
+use Rattle.abi_lists.proofs.Sorting.{within_order}
+use Rattle.abi_lists.proofs.Tight.{greatest_above}
 use Rattle.abi_calc.specs.Enums.Growth.{moved}
 use Rattle.abi_calc.specs.Enums.Lists.{AreListLayouts}
 use Rattle.abi_calc.specs.Enums.Made.{AreBehindTag, AreBesideNiche, AreVariantsAligned, IsBesideNiche, IsMovedBy}
-use Rattle.abi_calc.specs.List.{IsListAnswer, parts_of}
-use Rattle.abi_calc.specs.Placement.{IsNonEmptyIfUnsized, IsSized, cut, list_repr, prefix_align}
 use Rattle.abi_calc.proofs.EnumPlaces.{AreClear, AreClearAmong}
 use Rattle.abi_calc.proofs.EnumSizes.{tail_of_sized}
-use Rattle.abi_calc.proofs.LeastLemmas.{ascends, biased, has_places, lies_aligned, lies_in_order}
-use Rattle.abi_calc.proofs.Least.{allowed_permutes}
-use Rattle.abi_calc.proofs.Rounding.{pow_dvd, rounded_to}
-use Rattle.abi_calc.proofs.Sorting.{within_order}
-use Rattle.abi_calc.proofs.Tight.{greatest_above}
 
 -- what holds anyway holds of an answer
 pub if_any : {A E : Type 0} (Q : Type 0) (r : Result A E) → Q → IfOk r (λ x. Q)

@@ -22,24 +22,24 @@ use Rattle.abi_scalar.specs.Repr.{is_c}
 use Rattle.abi_scalar.specs.Order.{indices_by_offset}
 use Rattle.abi_scalar.specs.Shape.{listed_offsets}
 use Rattle.abi_scalar.specs.Variant.{variant_of}
-use Rattle.abi_calc.specs.declared.part.Part.{Part}
-use Rattle.abi_calc.specs.Apart.{AreApart, IsBeside}
+use Rattle.abi_lists.specs.declared.part.Part.{Part}
+use Rattle.abi_lists.specs.Apart.{AreApart, IsBeside}
+use Rattle.abi_lists.specs.Fields.{greatest_size}
+use Rattle.abi_lists.specs.List.{parts_of}
+use Rattle.abi_lists.specs.Part.{is_unsized, max_align, part_of}
+use Rattle.abi_lists.specs.Placement.{IsAllowed, align_of, cut, end_from, in_order, list_repr, no_part, offsets_from, place_of, start_of}
+use Rattle.abi_lists.proofs.Ends.{end_from-above}
+use Rattle.abi_lists.proofs.Least.{allowed_permutes}
+use Rattle.abi_lists.proofs.Sorting.{within_order}
+use Rattle.abi_lists.proofs.Rounding.{round_multiple, rounded_to}
+use Rattle.abi_lists.proofs.SourceLemmas.{Lies, field_at, length-in, offset_at, part_in, stands}
 use Rattle.abi_calc.specs.Enums.Growth.{align_or, first_align, grown_tag, grown_variant, moved, start_align}
 use Rattle.abi_calc.specs.Enums.Lists.{AreGoodLists, IsGoodList, align_with_all, behind_tag, tag_align}
 use Rattle.abi_calc.specs.Enums.Path.{is_free, takes_no_room}
 use Rattle.abi_calc.specs.Enums.Payload.{is_memory, is_of_scalars, seen_as, tagged_view}
 use Rattle.abi_calc.specs.Enums.Places.{AreApartAmong, AreApartBehind}
 use Rattle.abi_calc.specs.Enums.Tagged.{lists_align, lists_size, payloads_of, tagged_layout}
-use Rattle.abi_calc.specs.Fields.{greatest_size}
-use Rattle.abi_calc.specs.List.{parts_of}
-use Rattle.abi_calc.specs.Part.{is_unsized, max_align, part_of}
-use Rattle.abi_calc.specs.Placement.{IsAllowed, align_of, cut, end_from, in_order, list_repr, no_part, offsets_from, place_of, start_of}
-use Rattle.abi_calc.proofs.Ends.{end_from-above}
 use Rattle.abi_calc.proofs.EnumGrowth.{grown_size}
-use Rattle.abi_calc.proofs.Least.{allowed_permutes}
-use Rattle.abi_calc.proofs.Sorting.{within_order}
-use Rattle.abi_calc.proofs.Rounding.{round_multiple, rounded_to}
-use Rattle.abi_calc.proofs.SourceLemmas.{Lies, field_at, length-in, offset_at, part_in, stands}
 
 -- ---- behind the tag that is asked for
 

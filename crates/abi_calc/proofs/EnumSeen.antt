@@ -7,12 +7,12 @@ use Rattle.abi_base.specs.declared.struct_kind.StructKind.{StructKind}
 use Rattle.abi_scalar.specs.declared.error.LayoutCalculatorError.{LayoutCalculatorError}
 use Rattle.abi_scalar.specs.declared.layout_data.LayoutData.{LayoutData}
 use Rattle.abi_scalar.specs.declared.repr.ReprOptions.{ReprOptions}
+use Rattle.abi_lists.specs.Placement.{IsNonEmptyIfUnsized}
 use Rattle.abi_calc.specs.declared.enums.path.Path.{Path}
 use Rattle.abi_calc.specs.declared.enums.path.Path.TheVariants.{OneList}
 use Rattle.abi_calc.specs.Enums.Answer.{kind_at}
 use Rattle.abi_calc.specs.Enums.Path.{variant_at}
 use Rattle.abi_calc.specs.Enums.Single.{IsSingleAnswer}
-use Rattle.abi_calc.specs.Placement.{IsNonEmptyIfUnsized}
 use Rattle.abi_calc.specs.Seen.{IsSeenAsList}
 use Rattle.abi_calc.proofs.EnumType.{IsReadAt, at_listed}
 use Rattle.abi_calc.proofs.Seen.{single_seen}

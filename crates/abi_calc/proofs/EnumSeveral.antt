@@ -15,6 +15,8 @@ use Rattle.abi_scalar.specs.declared.repr.ReprOptions.{ReprOptions}
 use Rattle.abi_scalar.specs.declared.variants.RangeFrom.{RangeFrom}
 use Rattle.abi_scalar.specs.declared.variants.RangeToInclusive.{RangeToInclusive}
 use Rattle.abi_scalar.specs.Lawful.{IsLawfulLayout, IsLawfulNiche}
+use Rattle.abi_lists.specs.Answer.{IsAnswer}
+use Rattle.abi_lists.specs.Part.{free_numbers}
 use Rattle.abi_calc.specs.Enums.Beside.{AreToldApart, IsToldByTag}
 use Rattle.abi_calc.specs.Enums.Choice.{IsNicheAnswer, better, takes_niche}
 use Rattle.abi_calc.specs.Enums.Discriminants.{counting_of}
@@ -22,7 +24,6 @@ use Rattle.abi_calc.specs.Enums.Lists.{AreGoodLists, AreListLayouts, behind_tag,
 use Rattle.abi_calc.specs.Enums.Niche.{niche_layout}
 use Rattle.abi_calc.specs.Enums.Path.{is_free}
 use Rattle.abi_calc.specs.Enums.Room.{IsEnumSize}
-use Rattle.abi_calc.specs.Answer.{IsAnswer}
 use Rattle.abi_calc.specs.Enums.Several.{HasEnumSize, HasTaggedSize, IsAskedAnswer, IsEnumAnswer, better_of}
 use Rattle.abi_calc.specs.Enums.Sizes.{IsTaggedSize}
 use Rattle.abi_calc.specs.Enums.Tagged.{lists_size}
@@ -32,7 +33,6 @@ use Rattle.abi_calc.proofs.EnumLess.{no_first_error, tagged_less}
 use Rattle.abi_calc.proofs.EnumNicheLawful.{IsInNiche, niche_lawful, niche_of_niche, niche_parts, niche_size_is, niche_view_tag}
 use Rattle.abi_calc.proofs.EnumRoom.{leaves_none, leaves_room}
 use Rattle.abi_calc.proofs.EnumSizes.{tagged_size}
-use Rattle.abi_calc.specs.Part.{free_numbers}
 
 -- ---- the choice
 

@@ -12,16 +12,16 @@ use Rattle.abi_scalar.specs.declared.error.LayoutCalculatorError.TheVariants.{Ou
 use Rattle.abi_scalar.specs.declared.layout_data.LayoutData.{LayoutData}
 use Rattle.abi_scalar.specs.declared.repr.ReprOptions.{ReprOptions}
 use Rattle.abi_scalar.specs.Lawful.{IsLawfulLayout}
-use Rattle.abi_calc.specs.declared.part.Part.{Part}
+use Rattle.abi_lists.specs.declared.part.Part.{Part}
+use Rattle.abi_lists.specs.Fields.{greatest, greatest_size}
+use Rattle.abi_lists.specs.Least.{IsEachOrderTooLarge, IsLeastSize, align_by, size_by}
+use Rattle.abi_lists.specs.List.{AreSized, parts_of}
+use Rattle.abi_lists.specs.Placement.{IsNonEmptyIfUnsized, IsSized, cut, list_repr, own_align, prefix_align}
+use Rattle.abi_lists.proofs.LeastLemmas.{large_in_each, sized_error}
+use Rattle.abi_lists.proofs.Tight.{greatest_from}
 use Rattle.abi_calc.specs.Enums.Lists.{AreGoodLists, IsFirstListError, IsGoodList}
 use Rattle.abi_calc.specs.Enums.Sizes.{AreLeastSizes, IsTaggedSize, IsTaggedTooLarge}
 use Rattle.abi_calc.specs.Enums.Tagged.{lists_align, lists_size}
-use Rattle.abi_calc.specs.Fields.{greatest, greatest_size}
-use Rattle.abi_calc.specs.Least.{IsEachOrderTooLarge, IsLeastSize, align_by, size_by}
-use Rattle.abi_calc.specs.List.{AreSized, parts_of}
-use Rattle.abi_calc.specs.Placement.{IsNonEmptyIfUnsized, IsSized, cut, list_repr, own_align, prefix_align}
-use Rattle.abi_calc.proofs.LeastLemmas.{large_in_each, sized_error}
-use Rattle.abi_calc.proofs.Tight.{greatest_from}
 
 -- a sized list needs no last field
 pub tail_of_sized : (kind : StructKind) (count : ℕ) → IsSized kind → IsNonEmptyIfUnsized kind count

@@ -28,11 +28,11 @@ use Rattle.abi_scalar.specs.declared.error.LayoutCalculatorError.{LayoutCalculat
 use Rattle.abi_scalar.specs.declared.error.LayoutCalculatorError.TheVariants.{OutOfMemory, SizeOverflow}
 use Rattle.abi_scalar.specs.declared.layout_data.LayoutData.{LayoutData}
 use Rattle.abi_scalar.specs.Lawful.{IsLawfulLayout}
+use Rattle.abi_lists.specs.Fields.{greatest_align, greatest_size}
+use Rattle.abi_lists.proofs.Lawful.{aggregate_small}
+use Rattle.abi_lists.proofs.UnionLawful.{greatest_size_small}
 use Rattle.abi_calc.specs.Enums.Tagged.{IsTaggedAnswer, IsTaggedBy, layout_seen_as, lists_align, lists_size, payloads_of, tagged_layout}
-use Rattle.abi_calc.specs.Fields.{greatest_align, greatest_size}
 use Rattle.abi_calc.proofs.EnumLists.{align_small}
-use Rattle.abi_calc.proofs.Lawful.{aggregate_small}
-use Rattle.abi_calc.proofs.UnionLawful.{greatest_size_small}
 
 -- lawful lists are small
 pub size_of_lists_small : {F V : Type 0} (dl : TargetDataLayout) (lists : List (LayoutData F V)) → IsLawfulDataLayout dl → All (IsLawfulLayout dl) lists → greatest_size lists < 2 ^ 62

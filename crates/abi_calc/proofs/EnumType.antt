@@ -16,16 +16,16 @@ use Rattle.abi_scalar.specs.declared.variants.RangeFrom.{RangeFrom}
 use Rattle.abi_scalar.specs.declared.variants.RangeToInclusive.{RangeToInclusive}
 use Rattle.abi_scalar.specs.Order.{HasPlaceForEach, IsAscending}
 use Rattle.abi_scalar.specs.Shape.{listed_offsets}
+use Rattle.abi_lists.specs.Apart.{AreApart}
+use Rattle.abi_lists.specs.Least.{IsLeastSize, LiesInSomeOrder}
+use Rattle.abi_lists.specs.Placement.{source_order}
+use Rattle.abi_lists.proofs.Sorting.{within_order}
 use Rattle.abi_calc.specs.declared.enums.path.Path.{Path}
 use Rattle.abi_calc.specs.declared.enums.path.Path.TheVariants.{NoValue, OneList, Several}
-use Rattle.abi_calc.specs.Apart.{AreApart}
 use Rattle.abi_calc.specs.Enums.Answer.{HasOneEach, IsGoodSingle, IsTypeAnswer, kind_at}
 use Rattle.abi_calc.specs.Enums.Path.{is_free, is_present, path_among, path_of, present_of, variant_at}
 use Rattle.abi_calc.specs.Enums.Several.{IsSeveralAnswer}
 use Rattle.abi_calc.specs.Enums.Single.{IsSingleAnswer, single_kind}
-use Rattle.abi_calc.specs.Least.{IsLeastSize, LiesInSomeOrder}
-use Rattle.abi_calc.specs.Placement.{source_order}
-use Rattle.abi_calc.proofs.Sorting.{within_order}
 
 -- ---- where the variant lies whose list the type is
 

@@ -20,17 +20,17 @@ use Rattle.abi_scalar.specs.Pair.{pair_align, pair_size, second_offset}
 use Rattle.abi_scalar.specs.Scalar.{IsLawfulScalar, primitive_of, scalar_size}
 use Rattle.abi_scalar.specs.Shape.{listed_offsets}
 use Rattle.abi_scalar.proofs.LawfulLemmas.{niche_lawful, niche_viewed}
+use Rattle.abi_lists.specs.Part.{is_empty_view}
+use Rattle.abi_lists.proofs.Lawful.{niche_within}
+use Rattle.abi_lists.proofs.LawfulList.{by_test, pair_lawful}
 use Rattle.abi_calc.specs.declared.enums.payload.Payload.{Payload}
 use Rattle.abi_calc.specs.declared.enums.payload.Payload.TheVariants.{Nothing, One, Other}
 use Rattle.abi_calc.specs.Enums.Growth.{moved}
 use Rattle.abi_calc.specs.Enums.Payload.{IsLawfulPayload, BeginsWithTag, IsWide, beside, beside_tag, common, common_of, has_same_place, is_initialized, is_same_float, payload_at, payload_of, payload_of_field, payload_of_view, scalar_of, shared_primitive, tagged_view}
 use Rattle.abi_calc.specs.Enums.Single.{widened}
 use Rattle.abi_calc.specs.Enums.Tagged.{payloads_of}
-use Rattle.abi_calc.specs.Part.{is_empty_view}
 use Rattle.abi_calc.proofs.EnumPayload.{beside_lawful}
 use Rattle.abi_calc.proofs.EnumSingle.{widened_lawful}
-use Rattle.abi_calc.proofs.Lawful.{niche_within}
-use Rattle.abi_calc.proofs.LawfulList.{by_test, pair_lawful}
 
 -- the payload's scalar holds any number of its width, or any bytes
 abbrev pub IsWidePayload : TargetDataLayout → Payload → Type 0

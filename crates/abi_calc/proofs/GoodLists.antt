@@ -12,18 +12,18 @@ use Rattle.abi_scalar.specs.declared.layout_data.LayoutData.{LayoutData}
 use Rattle.abi_scalar.specs.declared.repr.ReprOptions.{ReprOptions}
 use Rattle.abi_scalar.specs.Lawful.{IsLawfulLayout}
 use Rattle.abi_scalar.specs.Repr.{is_abi_fixed, is_c}
+use Rattle.abi_lists.specs.List.{HasLawfulAligns, IsListAnswer, parts_of}
+use Rattle.abi_lists.specs.Placement.{IsLawfulPrefix, IsNonEmptyIfUnsized, IsSized, align_of, end_from, in_order, list_repr, size_in, start_of}
+use Rattle.abi_lists.proofs.DeepLemmas.{biased_index, biased_inside}
+use Rattle.abi_lists.proofs.FaultLemmas.{clear_of}
+use Rattle.abi_lists.proofs.LawfulList.{made_lawful}
+use Rattle.abi_lists.proofs.Least.{align_small}
+use Rattle.abi_lists.proofs.LeastLemmas.{has_greatest_niche, has_least, has_own_niche, has_places, keeps_apart, lies_after, lies_in_order}
+use Rattle.abi_lists.proofs.ListLemmas.{length-parts, parts_lawful, repr_lawful}
+use Rattle.abi_lists.proofs.RunLemmas.{aligned_parts, biased_of}
 use Rattle.abi_calc.specs.Enums.Lists.{AreGoodLists, AreListLayouts, IsGoodList, align_with_all, behind_tag}
-use Rattle.abi_calc.specs.List.{HasLawfulAligns, IsListAnswer, parts_of}
-use Rattle.abi_calc.specs.Placement.{IsLawfulPrefix, IsNonEmptyIfUnsized, IsSized, align_of, end_from, in_order, list_repr, size_in, start_of}
-use Rattle.abi_calc.proofs.DeepLemmas.{biased_index, biased_inside}
 use Rattle.abi_calc.proofs.EnumLists.{align_small_all, good_of, integer_below, integer_small}
 use Rattle.abi_calc.proofs.EnumSizes.{tail_of_sized}
-use Rattle.abi_calc.proofs.FaultLemmas.{clear_of}
-use Rattle.abi_calc.proofs.LawfulList.{made_lawful}
-use Rattle.abi_calc.proofs.Least.{align_small}
-use Rattle.abi_calc.proofs.LeastLemmas.{has_greatest_niche, has_least, has_own_niche, has_places, keeps_apart, lies_after, lies_in_order}
-use Rattle.abi_calc.proofs.ListLemmas.{length-parts, parts_lawful, repr_lawful}
-use Rattle.abi_calc.proofs.RunLemmas.{aligned_parts, biased_of}
 
 -- a list of lawful fields that the rules give is lawful
 pub list_lawful : {F V H : Type 0} (layout_of : H → LayoutData F V) (at : ℕ → F) (first : V) (dl : TargetDataLayout) (repr : ReprOptions) (kind : StructKind) (fields : List H) (list : LayoutData F V) → IsLawfulDataLayout dl

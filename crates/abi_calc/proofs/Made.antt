@@ -7,13 +7,13 @@ use Rattle.abi_base.specs.declared.struct_kind.StructKind.{StructKind}
 use Rattle.abi_scalar.specs.declared.layout_data.LayoutData.{LayoutData}
 use Rattle.abi_scalar.specs.declared.repr.ReprOptions.{ReprOptions}
 use Rattle.abi_scalar.specs.Lawful.{IsLawfulLayout}
+use Rattle.abi_lists.specs.Least.{align_by}
+use Rattle.abi_lists.specs.List.{IsListAnswer}
+use Rattle.abi_lists.specs.Placement.{IsNonEmptyIfUnsized, IsSized}
+use Rattle.abi_lists.proofs.LeastLemmas.{biased, has_greatest_niche, has_least, has_own_niche, lies_in_order}
 use Rattle.abi_calc.specs.Enums.Lists.{AreListLayouts}
-use Rattle.abi_calc.specs.Least.{align_by}
-use Rattle.abi_calc.specs.List.{IsListAnswer}
 use Rattle.abi_calc.specs.Made.{AreFieldLists, IsFieldList}
-use Rattle.abi_calc.specs.Placement.{IsNonEmptyIfUnsized, IsSized}
 use Rattle.abi_calc.proofs.EnumSizes.{tail_of_sized}
-use Rattle.abi_calc.proofs.LeastLemmas.{biased, has_greatest_niche, has_least, has_own_niche, lies_in_order}
 use Rattle.abi_calc.proofs.Seen.{list_marks, list_viewed}
 
 module _ {F V H : Type 0} (layout_of : H → LayoutData F V) (at : ℕ → F) (first : V) (dl : TargetDataLayout) (repr : ReprOptions) (kind : StructKind) where

@@ -10,12 +10,12 @@ use Rattle.abi_scalar.specs.declared.niche.Niche.{Niche}
 use Rattle.abi_scalar.specs.declared.repr.ReprOptions.{ReprOptions}
 use Rattle.abi_scalar.specs.Lawful.{IsLawfulLayout}
 use Rattle.abi_scalar.specs.Shape.{listed_offsets}
+use Rattle.abi_lists.specs.List.{HasLawfulAligns}
+use Rattle.abi_lists.specs.ListNiche.{IsNicheAt, IsNicheOfPart}
 use Rattle.abi_calc.specs.Enums.Choice.{IsNicheAnswer}
 use Rattle.abi_calc.specs.Enums.Lists.{AreGoodLists, AreListLayouts, IsGoodList}
 use Rattle.abi_calc.specs.Enums.Niche.{any_niche, has_niche, if_list, if_niche, if_span, needing_numbers, niche_layout, span_of, untagged_of}
 use Rattle.abi_calc.specs.Enums.Path.{is_free}
-use Rattle.abi_calc.specs.List.{HasLawfulAligns}
-use Rattle.abi_calc.specs.ListNiche.{IsNicheAt, IsNicheOfPart}
 use Rattle.abi_calc.proofs.GoodLists.{good_lists}
 use Rattle.abi_calc.proofs.OneEnum.{all_full}
 use Rattle.abi_calc.proofs.SomeEnum.{AreListed, some_lists}

@@ -14,13 +14,13 @@ use Rattle.abi_scalar.specs.declared.error.LayoutCalculatorError.TheVariants as 
 use Rattle.abi_scalar.specs.declared.layout_data.LayoutData.{LayoutData}
 use Rattle.abi_scalar.specs.declared.scalar.Scalar.{Scalar}
 use Rattle.abi_scalar.specs.declared.scalar.Scalar.TheVariants.{Initialized}
+use Rattle.abi_lists.specs.List.{IsListAnswer, IsListError}
 use Rattle.abi_calc.specs.Coroutine.Answer.{IsCoroutineAnswer, IsPromotedAnswer}
 use Rattle.abi_calc.specs.Coroutine.Layout.{IsStateTag, coroutine_layout, whole_size}
 use Rattle.abi_calc.specs.Coroutine.Lists.{AreOwnLists, IsFirstOwnError, behind, default_repr, first_list}
 use Rattle.abi_calc.specs.Coroutine.Promotion.{promoted_of}
 use Rattle.abi_calc.specs.Coroutine.Sizes.{own_lists}
 use Rattle.abi_calc.specs.Enums.Lists.{AreListLayouts, IsFirstListError}
-use Rattle.abi_calc.specs.List.{IsListAnswer, IsListError}
 use Rattle.abi_calc.proofs.OneEnum.{IsMade, all_full, never_both, never_lists_and_error, one_first_error, one_list_error, one_list_layout, one_lists}
 
 -- ---- the tag

@@ -16,14 +16,16 @@ use Rattle.abi_scalar.specs.declared.layout_data.LayoutData.{LayoutData}
 use Rattle.abi_scalar.specs.declared.repr.ReprOptions.{ReprOptions}
 use Rattle.abi_scalar.specs.declared.variants.RangeFrom.{RangeFrom}
 use Rattle.abi_scalar.specs.declared.variants.RangeToInclusive.{RangeToInclusive}
-use Rattle.abi_calc.specs.declared.order.NicheBias.TheVariants.{Start}
-use Rattle.abi_calc.specs.declared.placing.ListFault.{ListFault}
-use Rattle.abi_calc.specs.declared.placing.ListFault.TheVariants.{Unsized, TooLarge, OutOfMemory}
+use Rattle.abi_lists.specs.declared.order.NicheBias.TheVariants.{Start}
+use Rattle.abi_lists.specs.declared.placing.ListFault.{ListFault}
+use Rattle.abi_lists.specs.declared.placing.ListFault.TheVariants.{Unsized, TooLarge, OutOfMemory}
+use Rattle.abi_lists.specs.Fault.{IsErrorOf, fault_in}
+use Rattle.abi_lists.specs.List.{IsListAnswer, IsListError, parts_of}
+use Rattle.abi_lists.specs.Placement.{IsNonEmptyIfUnsized, IsSized, list_repr}
+use Rattle.abi_lists.proofs.ListLemmas.{length-parts}
+use Rattle.abi_lists.proofs.OneOrder.{never_refused, one_layout, one_named}
 use Rattle.abi_calc.specs.declared.enums.path.Path.{Path}
 use Rattle.abi_calc.specs.declared.enums.path.Path.TheVariants.{NoValue, OneList, Several}
-use Rattle.abi_calc.specs.Fault.{IsErrorOf, fault_in}
-use Rattle.abi_calc.specs.List.{IsListAnswer, IsListError, parts_of}
-use Rattle.abi_calc.specs.Placement.{IsNonEmptyIfUnsized, IsSized, list_repr}
 use Rattle.abi_calc.specs.Enums.Lists.{AreListLayouts, IsFirstListError, behind_tag}
 use Rattle.abi_calc.specs.Enums.Answer.{IsTypeAnswer, kind_at}
 use Rattle.abi_calc.specs.Enums.Choice.{IsNicheAnswer}
@@ -34,8 +36,6 @@ use Rattle.abi_calc.specs.Enums.Path.{variant_at}
 use Rattle.abi_calc.specs.Enums.Several.{IsAskedAnswer, IsAskedFor, IsEnumAnswer, IsSeveralAnswer, better_of}
 use Rattle.abi_calc.specs.Enums.Single.{IsSingleAnswer, single_kind, single_layout}
 use Rattle.abi_calc.specs.Enums.Tagged.{IsTaggedAnswer, IsTaggedBy, lists_size, tagged_layout}
-use Rattle.abi_calc.proofs.ListLemmas.{length-parts}
-use Rattle.abi_calc.proofs.OneOrder.{never_refused, one_layout, one_named}
 use Rattle.abi_calc.proofs.OneRange.{one_tag_range}
 
 -- ---- a list has one answer

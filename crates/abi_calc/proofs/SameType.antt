@@ -15,9 +15,13 @@ use Rattle.abi_scalar.specs.declared.repr.ReprOptions.{ReprOptions}
 use Rattle.abi_scalar.specs.declared.variants.RangeFrom.{RangeFrom}
 use Rattle.abi_scalar.specs.declared.variants.RangeToInclusive.{RangeToInclusive}
 use Rattle.abi_scalar.specs.Simple.{never_layout}
-use Rattle.abi_calc.specs.declared.order.NicheBias.TheVariants.{Start}
-use Rattle.abi_calc.specs.declared.placing.ListFault.{ListFault}
-use Rattle.abi_calc.specs.declared.placing.ListFault.TheVariants as fault
+use Rattle.abi_lists.specs.declared.order.NicheBias.TheVariants.{Start}
+use Rattle.abi_lists.specs.declared.placing.ListFault.{ListFault}
+use Rattle.abi_lists.specs.declared.placing.ListFault.TheVariants as fault
+use Rattle.abi_lists.specs.Fault.{IsErrorOf, fault_in}
+use Rattle.abi_lists.specs.List.{IsListAnswer, IsListError, IsListLayout, parts_of}
+use Rattle.abi_lists.specs.Order.{IsNamedOrder}
+use Rattle.abi_lists.specs.Placement.{list_repr}
 use Rattle.abi_calc.specs.declared.enums.path.Path.{Path}
 use Rattle.abi_calc.specs.declared.enums.path.Path.TheVariants.{NoValue, OneList, Several}
 use Rattle.abi_calc.specs.Enums.Answer.{IsTypeAnswer, kind_at}
@@ -29,10 +33,6 @@ use Rattle.abi_calc.specs.Enums.Path.{variant_at}
 use Rattle.abi_calc.specs.Enums.Several.{IsAskedAnswer, IsEnumAnswer, IsSeveralAnswer, better_of}
 use Rattle.abi_calc.specs.Enums.Single.{IsSingleAnswer, single_kind}
 use Rattle.abi_calc.specs.Enums.Tagged.{IsTaggedAnswer, IsTaggedBy}
-use Rattle.abi_calc.specs.Fault.{IsErrorOf, fault_in}
-use Rattle.abi_calc.specs.List.{IsListAnswer, IsListError, IsListLayout, parts_of}
-use Rattle.abi_calc.specs.Order.{IsNamedOrder}
-use Rattle.abi_calc.specs.Placement.{list_repr}
 
 -- errors of one name, whatever field they are told of
 abbrev pub IsSameError : {H K : Type 0} → LayoutCalculatorError H → LayoutCalculatorError K → Type 0

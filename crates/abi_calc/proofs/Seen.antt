@@ -11,14 +11,14 @@ use Rattle.abi_scalar.specs.declared.repr.ReprOptions.{ReprOptions}
 use Rattle.abi_scalar.specs.declared.variants.Variants.TheVariants.{Single}
 use Rattle.abi_scalar.specs.Repr.{is_abi_fixed}
 use Rattle.abi_scalar.specs.Shape.{listed_offsets}
+use Rattle.abi_lists.specs.List.{IsListLayout, parts_of}
+use Rattle.abi_lists.specs.ListView.{list_view}
+use Rattle.abi_lists.specs.Placement.{IsNonEmptyIfUnsized}
+use Rattle.abi_lists.specs.Union.{IsUnionAnswer, IsUnionView, union_align}
+use Rattle.abi_lists.proofs.LeastLemmas.{has_greatest_niche, has_own_niche}
 use Rattle.abi_calc.specs.Enums.Single.{IsSingleAnswer, single_layout, widened_view}
-use Rattle.abi_calc.specs.List.{IsListLayout, parts_of}
-use Rattle.abi_calc.specs.ListView.{list_view}
 use Rattle.abi_calc.specs.Marks.{HasListMarks, HasUnionMarks}
-use Rattle.abi_calc.specs.Placement.{IsNonEmptyIfUnsized}
 use Rattle.abi_calc.specs.Seen.{IsSeenAsList, view_of_fields}
-use Rattle.abi_calc.specs.Union.{IsUnionAnswer, IsUnionView, union_align}
-use Rattle.abi_calc.proofs.LeastLemmas.{has_greatest_niche, has_own_niche}
 
 module _ {F V H : Type 0} (layout_of : H → LayoutData F V) (at : ℕ → F) (first : V) (dl : TargetDataLayout) (repr : ReprOptions) (kind : StructKind) (hs : List H) where
   -- a list is marked as its fields are

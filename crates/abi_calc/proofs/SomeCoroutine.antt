@@ -9,12 +9,12 @@ use Rattle.abi_index.specs.Relation.{Relation}
 use Rattle.abi_scalar.specs.declared.error.LayoutCalculatorError.TheVariants as calculator
 use Rattle.abi_scalar.specs.declared.layout_data.LayoutData.{LayoutData}
 use Rattle.abi_scalar.specs.declared.scalar.Scalar.{Scalar}
+use Rattle.abi_lists.specs.List.{IsListAnswer}
 use Rattle.abi_calc.specs.Coroutine.Answer.{IsCoroutineAnswer}
 use Rattle.abi_calc.specs.Coroutine.Layout.{coroutine_layout, whole_size}
 use Rattle.abi_calc.specs.Coroutine.Lists.{behind, default_repr, first_list}
 use Rattle.abi_calc.specs.Coroutine.Promotion.{promoted_of}
 use Rattle.abi_calc.specs.Coroutine.Sizes.{own_lists}
-use Rattle.abi_calc.specs.List.{IsListAnswer}
 use Rattle.abi_scalar.specs.Lawful.{IsLawfulLayout}
 use Rattle.abi_calc.proofs.CoroutineAnswers.{IsAsked, first_lawful, own_all, own_error, own_layouts}
 use Rattle.abi_calc.proofs.OneCoroutine.{Answers}

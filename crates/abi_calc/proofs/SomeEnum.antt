@@ -24,11 +24,21 @@ use Rattle.abi_scalar.specs.declared.variants.Variants.TheVariants.{Single}
 use Rattle.abi_scalar.specs.Lawful.{IsLawfulLayout}
 use Rattle.abi_scalar.specs.Repr.{is_abi_fixed}
 use Rattle.abi_scalar.specs.Simple.{never_layout}
+use Rattle.abi_lists.specs.declared.order.NicheBias.TheVariants.{Start}
+use Rattle.abi_lists.specs.declared.placing.ListFault.{ListFault}
+use Rattle.abi_lists.specs.declared.placing.ListFault.TheVariants.{Unsized, TooLarge, OutOfMemory}
+use Rattle.abi_lists.specs.Fault.{IsErrorOf, IsFaultIndex, fault_in}
+use Rattle.abi_lists.specs.Fields.{greatest_repr_align, lies_as_in_c}
+use Rattle.abi_lists.specs.List.{IsListAnswer, IsListError, IsListLayout, list_seed, parts_of, unadjusted_of}
+use Rattle.abi_lists.specs.ListView.{list_view}
+use Rattle.abi_lists.specs.Order.{IsNamedOrder}
+use Rattle.abi_lists.specs.Placement.{IsNonEmptyIfUnsized, list_repr}
+use Rattle.abi_lists.specs.Run.{IsNamedLayout}
+use Rattle.abi_lists.proofs.FaultLemmas.{memory_in}
+use Rattle.abi_lists.proofs.ListLemmas.{fault_named, length-parts, parts_lawful}
+use Rattle.abi_lists.proofs.SomeOrder.{some_layout}
 use Rattle.abi_calc.specs.declared.enums.path.Path.{Path}
 use Rattle.abi_calc.specs.declared.enums.path.Path.TheVariants.{NoValue, OneList, Several}
-use Rattle.abi_calc.specs.declared.order.NicheBias.TheVariants.{Start}
-use Rattle.abi_calc.specs.declared.placing.ListFault.{ListFault}
-use Rattle.abi_calc.specs.declared.placing.ListFault.TheVariants.{Unsized, TooLarge, OutOfMemory}
 use Rattle.abi_calc.specs.Enums.Answer.{IsTypeAnswer, kind_at}
 use Rattle.abi_calc.specs.Enums.Choice.{IsNicheAnswer}
 use Rattle.abi_calc.specs.Enums.Discriminants.{IsAskedWith, counting_of, meant_by}
@@ -39,19 +49,9 @@ use Rattle.abi_calc.specs.Enums.Path.{is_free, variant_at}
 use Rattle.abi_calc.specs.Enums.Several.{IsAskedAnswer, IsEnumAnswer, IsSeveralAnswer, better_of}
 use Rattle.abi_calc.specs.Enums.Single.{IsSingleAnswer, single_layout}
 use Rattle.abi_calc.specs.Enums.Tagged.{IsTaggedAnswer, lists_size, tagged_layout}
-use Rattle.abi_calc.specs.Fault.{IsErrorOf, IsFaultIndex, fault_in}
-use Rattle.abi_calc.specs.Fields.{greatest_repr_align, lies_as_in_c}
-use Rattle.abi_calc.specs.List.{IsListAnswer, IsListError, IsListLayout, list_seed, parts_of, unadjusted_of}
-use Rattle.abi_calc.specs.ListView.{list_view}
-use Rattle.abi_calc.specs.Order.{IsNamedOrder}
-use Rattle.abi_calc.specs.Placement.{IsNonEmptyIfUnsized, list_repr}
-use Rattle.abi_calc.specs.Run.{IsNamedLayout}
 use Rattle.abi_calc.proofs.EnumDiscriminants.{greatest_reached, least_reached, not_negative}
-use Rattle.abi_calc.proofs.FaultLemmas.{memory_in}
-use Rattle.abi_calc.proofs.ListLemmas.{fault_named, length-parts, parts_lawful}
 use Rattle.abi_calc.proofs.OneEnum.{AreFull, IsMade, all_full, single_full}
 use Rattle.abi_calc.proofs.OneRange.{some_tag_range}
-use Rattle.abi_calc.proofs.SomeOrder.{some_layout}
 
 -- some result has the property, and isn't want of memory
 abbrev pub HasAnswer : {H : Type 0} → (Result (LayoutData ℕ ℕ) (LayoutCalculatorError H) → Type 0) → Type 0

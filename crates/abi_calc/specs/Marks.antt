@@ -8,13 +8,13 @@ use Rattle.abi_index.specs.Relation.{Relation}
 use Rattle.abi_scalar.specs.declared.layout_data.LayoutData.{LayoutData}
 use Rattle.abi_scalar.specs.declared.repr.ReprOptions.{ReprOptions}
 use Rattle.abi_scalar.specs.Repr.{is_c}
+use Rattle.abi_lists.specs.Fields.{greatest_repr_align, greatest_unadjusted, lies_as_in_c, seed_with}
+use Rattle.abi_lists.specs.List.{list_seed, parts_of, unadjusted_of}
+use Rattle.abi_lists.specs.Union.{unraised_align}
 use Rattle.abi_calc.specs.Coroutine.Lists.{picked}
 use Rattle.abi_calc.specs.Coroutine.Promotion.{promoted_of}
 use Rattle.abi_calc.specs.Coroutine.Sizes.{own_lists}
 use Rattle.abi_calc.specs.Enums.Path.{has_no_value}
-use Rattle.abi_calc.specs.Fields.{greatest_repr_align, greatest_unadjusted, lies_as_in_c, seed_with}
-use Rattle.abi_calc.specs.List.{list_seed, parts_of, unadjusted_of}
-use Rattle.abi_calc.specs.Union.{unraised_align}
 
 -- Whether it is marked as having no values, the greatest alignment that a `repr(align)` in it asks for, its alignment before
 -- one raised it, whether it lies as `repr(C)` has it, and the seed of a shuffle of its fields.

@@ -4,12 +4,13 @@ ghost use Rattle.std.specs.Prelude.{◌≡◌, ℕ, ◌*◌, IfOk, unwrap_or};
 ghost use Rattle.abi_base.specs.DataLayout.{IsLawfulDataLayout};
 ghost use Rattle.abi_scalar.specs.Lawful.{IsLawfulLayout};
 ghost use Rattle.abi_scalar.specs.Order.{HasPlaceForEach, IsAscending};
-ghost use Rattle.abi_calc.specs.Array.{array_answer};
+ghost use Rattle.abi_lists.specs.Array.{array_answer};
 
 use crate::calculator::LayoutCalculator;
-use abi_base::{AbiAlign, HasDataLayout};
-use abi_index::{Hash64, Idx};
-use abi_scalar::{BackendRepr, FieldsShape, LayoutCalculatorError, LayoutData, Variants};
+use abi_base::HasDataLayout;
+use abi_index::Idx;
+use abi_lists::layout_of_array;
+use abi_scalar::{LayoutCalculatorError, LayoutData};
 
 impl<Cx: HasDataLayout> LayoutCalculator<Cx> {
     /// The layout of so many elements, one after another; without a count, that of a slice.
@@ -32,33 +33,6 @@ impl<Cx: HasDataLayout> LayoutCalculator<Cx> {
         ensures places { IfOk result (λ array. HasPlaceForEach array.fields) }
         ensures ascending { IfOk result (λ array. IsAscending FieldIdx.number array.fields) }
     {
-        let count = count_if_sized.unwrap_or(0);
-        let Some(size) = element.size.checked_mul(count, &self.cx) else {
-            return Err(LayoutCalculatorError::SizeOverflow);
-        };
-        Ok(LayoutData {
-            fields: FieldsShape::Array {
-                stride: element.size,
-                count,
-            },
-            variants: Variants::Single {
-                index: VariantIdx::new(0),
-            },
-            backend_repr: BackendRepr::Memory {
-                sized: count_if_sized.is_some(),
-            },
-            largest_niche: if count == 0 {
-                None
-            } else {
-                element.largest_niche
-            },
-            uninhabited: element.uninhabited && count != 0,
-            align: element.align,
-            size,
-            max_repr_align: None,
-            unadjusted_abi_align: element.align.abi,
-            repr_c: element.repr_c,
-            randomization_seed: element.randomization_seed.wrapping_add(Hash64::new(count)),
-        })
+        layout_of_array(self.cx.data_layout(), element, count_if_sized)
     }
 }

@@ -5,16 +5,7 @@ mod array;
 mod calculator;
 mod coroutine;
 mod enums;
-mod fields;
 mod list;
-mod list_niche;
-mod list_repr;
-mod list_view;
-mod one_item;
-mod order;
-mod part;
-mod placing;
-mod run;
 mod simd;
 mod unions;
 

@@ -7,7 +7,7 @@ use crate::idx::Idx;
 use std::marker::PhantomData;
 
 /// The columns that are related to a row, ascending.
-#[derive(Drop, Debug)]
+#[derive(Drop, PartialEq, Eq, Debug)]
 pub struct BitRowIter<'a, C: Idx> {
     left: &'a [u32],
     of: PhantomData<C>,

@@ -8,7 +8,7 @@ use crate::idx::Idx;
 use std::marker::PhantomData;
 
 /// The members of a set, ascending.
-#[derive(Drop, Debug)]
+#[derive(Drop, PartialEq, Eq, Debug)]
 pub struct BitSetIter<'a, I: Idx> {
     bits: &'a [bool],
     next: usize,

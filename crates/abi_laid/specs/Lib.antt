@@ -24,3 +24,4 @@ pub mod Laid
 pub mod Handles
 pub mod Seen
 pub mod Runs
+pub mod ErrorText

@@ -33,7 +33,7 @@ impl Laid {
     ghost use Rattle.abi_laid.specs.Placed.{layout_of, size_of};
     ghost use Rattle.abi_laid.specs.Places.{is_data_place};
 
-    /// The type of the last node.
+    /// The type of the last node, as it was laid out. For `lay_out` alone, which makes the nodes.
     pub fn new(nodes: Vec<Node>, endian: Endian) -> Laid
         requires some { 0 < length nodes.items }
         requires well { AreWell nodes.items }

@@ -17,6 +17,7 @@ pub enum Mark {
     Unit,
     /// A struct, a union or an enum, or a variant of one.
     Adt {
+        /// It is an enum, or a variant of one.
         is_enum: bool,
         /// It is laid out as its one field that isn't of no bytes and no alignment.
         is_transparent: bool,

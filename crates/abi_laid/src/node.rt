@@ -17,14 +17,18 @@ pub enum Shape {
     Scalar(Scalar),
     /// Two numbers, each a child; the layout says where they lie.
     Pair {
+        /// The first.
         first: usize,
+        /// The second.
         second: usize,
     },
     /// No value.
     Never(Mark),
     /// So many elements, each as the child.
     Elements {
+        /// How many there are.
         count: u64,
+        /// The child.
         element: usize,
     },
     /// A child for each field, in source order; the layout says where they lie.
@@ -38,15 +42,21 @@ pub enum Shape {
     /// A tag, and variants beside it, each a child of fields with its discriminant; the layout says where the tag lies, and
     /// how it tells them apart.
     Tagged {
+        /// What it tells of itself.
         mark: Mark,
+        /// The tag.
         tag: usize,
+        /// Each variant's discriminant and child, in source order.
         variants: Vec<(u128, usize)>,
     },
     /// A child for each prefix field, a tag, and states beside it, each a child of fields with its index; the layout says
     /// where the prefix fields lie and, behind them in its list of offsets, the tag.
     States {
+        /// The prefix fields, in source order.
         prefix: Vec<usize>,
+        /// The tag.
         tag: usize,
+        /// Each state's index and child, in order.
         states: Vec<(u128, usize)>,
     },
 }
@@ -54,7 +64,9 @@ pub enum Shape {
 /// A type that was laid out.
 #[derive(Drop)]
 pub struct Node {
+    /// How it is laid out.
     pub layout: LayoutData<FieldIdx, VariantIdx>,
+    /// What it consists of.
     pub shape: Shape,
 }
 

@@ -8,7 +8,9 @@ use std::alloc::{AllocError, Global};
 /// The bytes from `start` on, up to `end` and without it.
 #[derive(Clone, Copy)]
 pub(crate) struct Run {
+    /// The first byte.
     pub start: u64,
+    /// The byte behind the last.
     pub end: u64,
 }
 

@@ -13,36 +13,49 @@ pub enum TypeTree {
     Never,
     /// A type with one value, which takes no bytes.
     Unit,
-    /// So many elements.
+    /// So many elements, each of this type.
     Array(u64, Box<TypeTree>),
-    /// A vector of so many lanes; a packed one has no bytes after its lanes.
+    /// A vector of lanes.
     Vector {
+        /// How many lanes there are.
         lanes: u64,
+        /// Whether it has no bytes after its lanes.
         packed: bool,
+        /// What each lane is, which has to be a scalar.
         element: Box<TypeTree>,
     },
     /// Fields in source order. Where it isn't always sized, the last field may lose its size by coercion.
     Struct {
+        /// What its `repr` asks for.
         repr: ReprOptions,
+        /// Whether it is always sized: no coercion takes the size of its last field.
         always_sized: bool,
+        /// The fields, in source order.
         fields: Vec<TypeTree>,
     },
     /// Fields that share their bytes.
     Union {
+        /// What its `repr` asks for.
         repr: ReprOptions,
+        /// The fields, in source order.
         fields: Vec<TypeTree>,
     },
-    /// Variants, each with its discriminant, a 128-bit two's complement number, and its fields in source order.
+    /// One variant or another.
     Enum {
+        /// What its `repr` asks for.
         repr: ReprOptions,
+        /// Each variant's discriminant, a 128-bit two's complement number, and its fields, both in source order.
         variants: Vec<(u128, Vec<TypeTree>)>,
     },
-    /// A suspended computation: fields that every state has, locals, for each state the indices of the locals that it
-    /// keeps, and pairs of locals that may not share bytes.
+    /// A suspended computation.
     Coroutine {
+        /// The fields that every state has.
         prefix: Vec<TypeTree>,
+        /// The locals.
         locals: Vec<TypeTree>,
+        /// For each state the indices of the locals that it keeps.
         states: Vec<Vec<u64>>,
+        /// Pairs of indices of locals that may not share bytes.
         conflicts: Vec<(u64, u64)>,
     },
 }

@@ -23,10 +23,13 @@ pub enum Value {
     List(Vec<Value>),
     /// A variant's index, and one value for each of its fields.
     Variant(usize, Vec<Value>),
-    /// A state's index, one value for each prefix field, and one for each local of the state.
+    /// A coroutine in one of its states.
     State {
+        /// The state's index.
         state: usize,
+        /// One value for each prefix field.
         prefix: Vec<Value>,
+        /// One value for each local that the state keeps, in the state's order.
         locals: Vec<Value>,
     },
     /// A union's data bytes, ascending.

@@ -11,19 +11,27 @@ pub enum BackendRepr {
     Scalar(Scalar),
     /// Two scalars, the second at an offset.
     ScalarPair {
+        /// The first, at offset 0.
         a: Scalar,
+        /// The second.
         b: Scalar,
+        /// The second one's offset, in bytes.
         b_offset: Size,
     },
     /// Vectors whose length the machine decides.
     SimdScalableVector {
+        /// What each lane is.
         element: Scalar,
+        /// How many lanes each vector has at least; the machine has a multiple of them.
         count: BackendLaneCount,
+        /// How many vectors there are, one behind another.
         number_of_vectors: NumScalableVectors,
     },
     /// A vector of so many lanes.
     SimdVector {
+        /// What each lane is.
         element: Scalar,
+        /// How many lanes there are.
         count: BackendLaneCount,
     },
     /// Bytes in memory.

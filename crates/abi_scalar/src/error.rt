@@ -1,16 +1,18 @@
 //! Why a type has no layout.
 
-ghost use Rattle.std.specs.Prelude.{◌≡◌};
+ghost use Rattle.std.specs.Prelude.{◌≡◌, Some};
 ghost use Rattle.std.specs.Fmt.{WritesOnOk};
 ghost use Rattle.abi_scalar.specs.LayoutError.{bare_error, fallback_text};
 
 use std::alloc::AllocError;
+use std::error::Error;
 use std::fmt;
+use std::fmt::{Debug, Display};
 
 /// Why a type has no layout; with the field that was refused, where there is one.
 #[derive(Clone, Copy, PartialEq, Eq, Debug)]
 pub enum LayoutCalculatorError<F> {
-    /// A field that has to be sized is unsized.
+    /// A field that has to be sized is unsized: this one.
     UnexpectedUnsized(F),
     /// The size is not below the data layout's bound.
     SizeOverflow,
@@ -21,8 +23,11 @@ pub enum LayoutCalculatorError<F> {
     /// A vector has no lane.
     ZeroLengthSimdType,
     /// A vector has more lanes than the greatest number.
-    OversizedSimdType { max_lanes: usize },
-    /// A vector's element is no scalar.
+    OversizedSimdType {
+        /// The greatest number of lanes.
+        max_lanes: usize,
+    },
+    /// A vector's element is no scalar: this one.
     NonPrimitiveSimdType(F),
     /// A growth of memory was refused.
     OutOfMemory,
@@ -71,6 +76,17 @@ impl<F> LayoutCalculatorError<F> {
         })
     }
 }
+
+impl<F> Display for LayoutCalculatorError<F> {
+    ghost output = { λ error. Some (fallback_text error) };
+
+    /// What is wrong, in plain words.
+    fn fmt<W: fmt::Write>(&self, f: &mut fmt::Formatter<W>) -> fmt::Result {
+        self.fallback_fmt(f)
+    }
+}
+
+impl<F: Debug + Drop> Error for LayoutCalculatorError<F> {}
 
 impl<F> From<AllocError> for LayoutCalculatorError<F> {
     ghost use Rattle.std.specs.Prelude.{◌≡◌};

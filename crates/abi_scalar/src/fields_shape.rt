@@ -56,12 +56,16 @@ pub enum FieldsShape<FieldIdx: Idx> {
     Union(FieldCount),
     /// `count` elements, each `stride` bytes after the one before.
     Array {
+        /// How many bytes each element begins after the one before.
         stride: Size,
+        /// How many elements there are.
         count: u64,
     },
     /// Fields at these offsets, in source order; and which field lies first in memory, which next, and so on.
     Arbitrary {
+        /// Each field's offset, in bytes, in source order.
         offsets: IndexVec<FieldIdx, Size>,
+        /// The fields as they lie in memory, the first one first.
         in_memory_order: IndexVec<u32, FieldIdx>,
     },
 }

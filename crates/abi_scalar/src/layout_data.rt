@@ -15,6 +15,7 @@ use std::fmt::Debug;
 pub struct LayoutData<FieldIdx: Idx, VariantIdx: Idx> {
     /// Where the fields lie, without those that one variant alone has.
     pub fields: FieldsShape<FieldIdx>,
+    /// The variants that the type has, and what tells them apart.
     pub variants: Variants<FieldIdx, VariantIdx>,
     /// How a code generator sees the values.
     pub backend_repr: BackendRepr,
@@ -22,8 +23,9 @@ pub struct LayoutData<FieldIdx: Idx, VariantIdx: Idx> {
     pub largest_niche: Option<Niche>,
     /// Whether no value of the type can be.
     pub uninhabited: bool,
+    /// The alignment, in bytes.
     pub align: AbiAlign,
-    /// In bytes.
+    /// How many bytes a value takes, with padding at its end; of an unsized type those before its tail.
     pub size: Size,
     /// The greatest alignment that a `repr(align)` in the type asks for.
     pub max_repr_align: Option<Align>,

@@ -66,11 +66,13 @@ impl Debug for ReprFlags {
 pub struct ReprOptions {
     /// The integer of an enum's tag.
     pub int: Option<IntegerType>,
-    /// The least alignment of the type.
+    /// The least alignment of the type, in bytes.
     pub align: Option<Align>,
-    /// The greatest alignment of each field.
+    /// The greatest alignment of each field, in bytes; the type is packed where there is one.
     pub pack: Option<Align>,
+    /// What else is asked for: each of it is there or not.
     pub flags: ReprFlags,
+    /// The element of a scalable vector.
     pub scalable: Option<ScalableElt>,
     /// A hash of the type's path, to seed a shuffle of its fields with.
     pub field_shuffle_seed: Hash64,

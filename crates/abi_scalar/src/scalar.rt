@@ -15,11 +15,14 @@ use abi_base::{Align, HasDataLayout, Integer, Primitive, Size};
 pub enum Scalar {
     /// It holds a number of the range.
     Initialized {
+        /// What it consists of.
         value: Primitive,
+        /// The numbers that it may hold, each as an unsigned one of its width.
         valid_range: WrappingRange,
     },
     /// It holds any number, and may be uninitialised, as in a union.
     Union {
+        /// What it consists of.
         value: Primitive,
     },
 }

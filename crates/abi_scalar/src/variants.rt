@@ -17,19 +17,23 @@ use std::alloc::{AllocError, Global};
 /// The numbers or indices from `start` to `last`, both of them in it.
 #[derive(Clone, Copy, PartialEq, Eq, Hash, Debug)]
 pub struct RangeInclusive<I> {
+    /// The first.
     pub start: I,
+    /// The last, which is in it.
     pub last: I,
 }
 
 /// The numbers from `start` on.
 #[derive(Clone, Copy, PartialEq, Eq, Hash, Debug)]
 pub struct RangeFrom<I> {
+    /// The first.
     pub start: I,
 }
 
 /// The numbers up to `last`, itself in it.
 #[derive(Clone, Copy, PartialEq, Eq, Hash, Debug)]
 pub struct RangeToInclusive<I> {
+    /// The last, which is in it.
     pub last: I,
 }
 
@@ -41,8 +45,11 @@ pub enum TagEncoding<VariantIdx: Idx> {
     /// The tag lies in a niche of the untagged variant. The variants of the span are named by the numbers from
     /// `niche_start` on, and every other number names the untagged one.
     Niche {
+        /// The variant in whose bytes the niche lies, which no number of its own names.
         untagged_variant: VariantIdx,
+        /// The span of the variants that have a number each; the untagged one may stand among them.
         niche_variants: RangeInclusive<VariantIdx>,
+        /// The number of the first variant of the span, cut to the tag's width; each next variant's is one more.
         niche_start: u128,
     },
 }
@@ -50,11 +57,17 @@ pub enum TagEncoding<VariantIdx: Idx> {
 /// What the layout of one variant has of its own.
 #[derive(Drop, PartialEq, Eq, Hash, Debug)]
 pub struct VariantLayout<FieldIdx: Idx> {
+    /// How many bytes the variant takes, from the first of the whole type on.
     pub size: Size,
+    /// How a code generator sees the variant.
     pub backend_repr: BackendRepr,
+    /// The offset of each of its fields in the whole type, in bytes, in source order.
     pub field_offsets: IndexVec<FieldIdx, Size>,
+    /// Which of its fields lies first in memory, which next, and so on.
     pub(crate) fields_in_memory_order: IndexVec<u32, FieldIdx>,
+    /// The place among its fields with the most free numbers.
     pub(crate) largest_niche: Option<Niche>,
+    /// Whether no value of the variant can be.
     pub(crate) uninhabited: bool,
 }
 
@@ -65,13 +78,18 @@ pub enum Variants<FieldIdx: Idx, VariantIdx: Idx> {
     Empty,
     /// One, so that no tag is needed.
     Single {
+        /// Which it is.
         index: VariantIdx,
     },
     /// Several, told apart by a tag.
     Multiple {
+        /// The scalar that the tag is, with the numbers that it may hold.
         tag: Scalar,
+        /// How its number names a variant.
         tag_encoding: TagEncoding<VariantIdx>,
+        /// The field that the tag is, among those of the whole type.
         tag_field: FieldIdx,
+        /// What each variant has of its own, in source order.
         variants: IndexVec<VariantIdx, VariantLayout<FieldIdx>>,
     },
 }

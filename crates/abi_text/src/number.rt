@@ -29,8 +29,8 @@ fn number_to(word: &[u8], most: u128) -> Option<u128>
     Some(number)
 }
 
-/// A number of 128 bits.
-pub(crate) fn wide(word: &[u8]) -> Option<u128>
+/// The number of 128 bits that a word is: decimal digits without a sign. None where it is something else, or greater.
+pub fn wide(word: &[u8]) -> Option<u128>
     ensures { result ≡ number_in 128 word.now }
 {
     number_to(word, u128::MAX)
@@ -46,8 +46,9 @@ fn negated(number: u128) -> Option<u128>
     Some(u128::MAX - (number - 1))
 }
 
-/// A discriminant: a number of 128 bits, or `-` and a number from 1 to 2^127, as two's complement.
-pub(crate) fn discriminant(word: &[u8]) -> Option<u128>
+/// The discriminant that a word is: a number of 128 bits, or `-` and a number from 1 to 2^127, as two's complement. None
+/// where it is something else.
+pub fn discriminant(word: &[u8]) -> Option<u128>
     ensures { result ≡ discriminant_in word.now }
 {
     match word.split_first() {
@@ -56,8 +57,8 @@ pub(crate) fn discriminant(word: &[u8]) -> Option<u128>
     }
 }
 
-/// A number of 64 bits.
-pub(crate) fn decimal(word: &[u8]) -> Option<u64>
+/// The number of 64 bits that a word is: decimal digits without a sign. None where it is something else, or greater.
+pub fn decimal(word: &[u8]) -> Option<u64>
     ensures { result ≡ number_in 64 word.now }
 {
     match number_to(word, u128::from(u64::MAX)) {
@@ -66,8 +67,8 @@ pub(crate) fn decimal(word: &[u8]) -> Option<u64>
     }
 }
 
-/// A number of 32 bits.
-pub(crate) fn short(word: &[u8]) -> Option<u32>
+/// The number of 32 bits that a word is: decimal digits without a sign. None where it is something else, or greater.
+pub fn short(word: &[u8]) -> Option<u32>
     ensures { result ≡ number_in 32 word.now }
 {
     match number_to(word, u128::from(u32::MAX)) {

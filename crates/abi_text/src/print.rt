@@ -109,7 +109,9 @@ fn float_text(float: Float) -> &'static str
     }
 }
 
-pub(crate) fn write_primitive(out: &mut String, primitive: Primitive) -> Result<(), AllocError>
+/// Writes a primitive's name: `i8` to `u128` with the sign, `f32` and its like, `pointer` in the default address space and
+/// `pointer(AddressSpace(N))` in another. An error comes where a growth of memory was refused.
+pub fn write_primitive(out: &mut String, primitive: Primitive) -> Result<(), AllocError>
     ensures { OnOk result (string_bytes out.new ≡ string_bytes out.old ++ primitive_text primitive) }
 {
     match primitive {

@@ -4,7 +4,7 @@ mod begun;
 mod close;
 mod read_coroutine;
 mod read_scalar;
-mod repr_text;
+pub(crate) mod repr_text;
 mod scalar_word;
 mod scalars;
 mod type_word;

@@ -1,5 +1,5 @@
 -- Calling conventions.
-use Rattle.std.specs.Prelude.{◌≡◌, ℕ, List, ◌++◌, Bool, true, false, codes, Result, Ok, IfOk, IfErr}
+use Rattle.std.specs.Prelude.{◌≡◌, ℕ, List, Bool, true, false, codes, Result, Ok, IfOk, IfErr}
 use Rattle.std.specs.declared.cmp.Ordering.{Ordering}
 use Rattle.std.specs.Str.{bytes_eq}
 use Rattle.std.specs.Ordering.{on, nat_cmp}
@@ -71,10 +71,6 @@ have_same_name = on name_of bytes_eq
 -- the order of the names, byte by byte
 abbrev pub name_cmp : ExternAbi → ExternAbi → Ordering
 name_cmp = on name_of (slice_cmp nat_cmp)
-
--- a text in double quotes
-abbrev pub quoted : List ℕ → List ℕ
-quoted text = codes "\"" ++ text ++ codes "\""
 
 -- What is read from a text: the convention of that name, and `Unknown` where it is no convention's.
 pub record IsReading (text : List ℕ) (read : Result ExternAbi AbiFromStrErr) : Type 0 where

@@ -1,9 +1,12 @@
 //! What the question answers whether all of a value is passed in registers of one kind and size.
 
-ghost use Rattle.std.specs.Prelude.{◌≡◌};
+ghost use Rattle.std.specs.Prelude.{◌≡◌, codes, Some};
 ghost use Rattle.abi_types.specs.Homogeneous.{Answers, IsOneOf, register_of};
 
 use crate::reg::Reg;
+use std::error::Error;
+use std::fmt;
+use std::fmt::Display;
 
 /// What a type holds whose bytes are those of registers of one kind and size, one after another, or which has none. Calling conventions
 /// ask for it that pass such a type in registers of that kind.
@@ -43,7 +46,17 @@ impl HomogeneousAggregate {
     }
 }
 
-/// A type isn't such: parts of it are passed in different registers, or bytes of it belong to no part, or it has no value or no known
-/// size.
+/// A type isn't held by registers of one kind and size: parts of it are passed in different ones, or
+/// bytes of it belong to no part, or it has no value or no known size.
 #[derive(Clone, Copy, PartialEq, Eq, Debug)]
 pub struct Heterogeneous;
+
+impl Display for Heterogeneous {
+    ghost output = { λ _. Some (codes "not held by registers of one kind and size") };
+
+    fn fmt<W: fmt::Write>(&self, f: &mut fmt::Formatter<W>) -> fmt::Result {
+        f.write_str("not held by registers of one kind and size")
+    }
+}
+
+impl Error for Heterogeneous {}

@@ -90,8 +90,8 @@ impl Reg {
     }
 
     /// Its alignment. An integer has to have 1 to 16 bytes, and is aligned as the least integer
-    /// that holds it; a float has to have 2, 4, 8 or 16 bytes; a vector that the data layout
-    /// doesn't list has to be at most 2^29 bytes.
+    /// that holds it; a float has to have 2, 4, 8 or 16 bytes. A vector of a size that the data
+    /// layout doesn't list is aligned to the next power of two, and has to be at most 2^29 bytes.
     pub fn align<C: HasDataLayout>(&self, cx: &C) -> Align
         requires { HasAlign (C.target cx.now) self.now }
         ensures { result ≡ reg_align (C.target cx.now) self.now }

@@ -2,10 +2,10 @@
 use Rattle.std.specs.Prelude.{◌≡◌, ◌≢◌, ℕ, ◌<◌, ◌≤◌, All, List, length, map}
 use Rattle.std.specs.List.{AllPairs}
 use Rattle.abi_base.specs.DataLayout.{IsLawfulDataLayout}
+use Rattle.abi_lists.specs.List.{HasLawfulAligns}
+use Rattle.abi_lists.specs.Placement.{source_order}
 use Rattle.abi_calc.specs.Enums.Discriminants.{inhabited_of}
 use Rattle.abi_calc.specs.Enums.Several.{IsLawfulTag}
-use Rattle.abi_calc.specs.List.{HasLawfulAligns}
-use Rattle.abi_calc.specs.Placement.{source_order}
 use Rattle.abi_index.specs.Relation.{column_count, row_count}
 use Rattle.abi_scalar.specs.Lawful.{IsLawfulLayout}
 use Rattle.bench.specs.declared.coroutines.Coroutine.{Coroutine}

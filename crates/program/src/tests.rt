@@ -1,4 +1,4 @@
-//! Runs of `run` with readers and writers that fail: what a text gives is told by the case files.
+//! Runs of `run` with readers and writers that fail, at each of their steps: what a text gives is told by the case files.
 
 use crate::run;
 use std::io;
@@ -67,4 +67,125 @@ fn a_failed_write_ends_with_one(rt: HostRuntime) {
         (output.room, output.failed, output.asked_again),
         (0, true, false)
     );
+}
+
+/// A line, a type, and the answer to them.
+const INPUT: &[u8] = b"\nstruct C ( u8 u32 )\n";
+
+const ANSWER: &[u8] =
+    b"size 8 align 4\nfield 0 offset 0\nfield 1 offset 4\nniche none\npadding 1..4\n";
+
+/// A reader that is interrupted first, then gives a byte a read, and fails at one of its reads.
+#[derive(Drop)]
+struct Slow<'a> {
+    left: &'a [u8],
+    reads: u64,
+    fails_at: u64,
+    failed: bool,
+}
+
+impl Read for Slow<'_> {
+    fn read(&mut self, buf: &mut [u8]) -> io::Result<usize> {
+        if self.reads == self.fails_at {
+            self.failed = true;
+            return Err(io::Error::from(ErrorKind::ConnectionReset));
+        }
+        self.reads = self.reads.saturating_add(1);
+        if self.reads == 1 {
+            return Err(io::Error::from(ErrorKind::Interrupted));
+        }
+        let Some((first, rest)) = self.left.split_first() else {
+            return Ok(0);
+        };
+        let Some(place) = buf.first_mut() else {
+            return Ok(0);
+        };
+        *place = *first;
+        self.left = rest;
+        Ok(1)
+    }
+}
+
+#[test]
+fn each_failed_read_is_refused(rt: HostRuntime) {
+    let mut answered = false;
+    for fails_at in 0..100 {
+        let mut input = Slow {
+            left: INPUT,
+            reads: 0,
+            fails_at,
+            failed: false,
+        };
+        let mut output = Vec::new(rt.alloc());
+        let status = run(rt.alloc(), &mut input, &mut output);
+        if input.failed {
+            assert!(rt; status == 1 && output.as_slice() == b"refused Input\n".as_slice());
+        } else {
+            assert!(rt; status == 0 && output.as_slice() == ANSWER);
+            answered = true;
+        }
+    }
+    assert!(rt; answered);
+}
+
+/// A writer that is interrupted first, then takes a byte a write, and fails at one of its writes; what it is asked for afterwards it
+/// notes.
+#[derive(Drop)]
+struct Drip {
+    taken: Vec<u8>,
+    writes: u64,
+    fails_at: u64,
+    failed: bool,
+    asked_again: bool,
+}
+
+impl Write for Drip {
+    fn write(&mut self, buf: &[u8]) -> io::Result<usize> {
+        if self.failed {
+            self.asked_again = true;
+        }
+        if self.writes == self.fails_at {
+            self.failed = true;
+            return Err(io::Error::from(ErrorKind::ConnectionReset));
+        }
+        self.writes = self.writes.saturating_add(1);
+        if self.writes == 1 {
+            return Err(io::Error::from(ErrorKind::Interrupted));
+        }
+        let Some(first) = buf.first() else {
+            return Ok(0);
+        };
+        match self.taken.push(*first) {
+            Ok(()) => Ok(1),
+            Err(_) => Err(io::Error::from(ErrorKind::OutOfMemory)),
+        }
+    }
+
+    fn flush(&mut self) -> io::Result<()> {
+        Ok(())
+    }
+}
+
+#[test]
+fn each_failed_write_ends_with_one(rt: HostRuntime) {
+    let mut answered = false;
+    for fails_at in 0..200 {
+        let mut output = Drip {
+            taken: Vec::new(rt.alloc()),
+            writes: 0,
+            fails_at,
+            failed: false,
+            asked_again: false,
+        };
+        let mut input = INPUT;
+        let status = run(rt.alloc(), &mut input, &mut output);
+        if output.failed {
+            assert!(rt; status == 1 && !output.asked_again);
+            assert!(rt; ANSWER.starts_with(&output.taken) && output.taken.len() < ANSWER.len());
+        } else {
+            assert!(rt; status == 0 && output.taken.as_slice() == ANSWER);
+            answered = true;
+        }
+    }
+    assert!(rt; answered);
 }

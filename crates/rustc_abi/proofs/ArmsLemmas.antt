@@ -8,7 +8,7 @@ use Rattle.abi_scalar.specs.declared.repr.ReprOptions.{ReprOptions}
 use Rattle.abi_scalar.specs.declared.variants.TagEncoding.{TagEncoding}
 use Rattle.abi_scalar.specs.declared.variants.VariantLayout.{VariantLayout}
 use Rattle.abi_scalar.specs.Variant.{variant_layout}
-use Rattle.abi_calc.specs.Apart.{AreApart, IsBeside}
+use Rattle.abi_lists.specs.Apart.{AreApart, IsBeside}
 use Rattle.abi_calc.specs.Enums.Beside.{AreApartBeside}
 use Rattle.abi_calc.specs.Enums.Discriminants.{inhabited_of}
 use Rattle.abi_calc.specs.Enums.Path.{has_no_value, variant_at}

@@ -16,10 +16,10 @@ use Rattle.abi_scalar.specs.declared.error.LayoutCalculatorError.TheVariants as 
 use Rattle.abi_scalar.specs.declared.fields_shape.FieldsShape.TheVariants.{Arbitrary}
 use Rattle.abi_scalar.specs.declared.variants.Variants.TheVariants.{Single}
 use Rattle.abi_scalar.specs.LaneCount.{lane_count}
-use Rattle.abi_calc.specs.Answer.{IsAnswer}
-use Rattle.abi_calc.specs.Part.{is_unsized}
-use Rattle.abi_calc.specs.Simd.{after, element_scalar, lanes_answer, vector_layout, is_tight, simd_view, simd_align, simd_answer}
-use Rattle.abi_calc.specs.Union.{IsUnionAnswer, IsUnionView, first_unsized, sized_fault, fault_before, union_fault, union_layout, union_size}
+use Rattle.abi_lists.specs.Answer.{IsAnswer}
+use Rattle.abi_lists.specs.Part.{is_unsized}
+use Rattle.abi_lists.specs.Simd.{after, element_scalar, lanes_answer, vector_layout, is_tight, simd_view, simd_align, simd_answer}
+use Rattle.abi_lists.specs.Union.{IsUnionAnswer, IsUnionView, first_unsized, sized_fault, fault_before, union_fault, union_layout, union_size}
 use Rattle.rustc_abi.specs.declared.error.LayError.{LayError}
 use Rattle.abi_laid.specs.Placed.{Layout}
 use Rattle.rustc_abi.specs.Error.{lay_error, named, IsRefused}

@@ -17,6 +17,8 @@ use Rattle.abi_scalar.specs.Shape.{listed_offsets}
 use Rattle.abi_scalar.specs.Simple.{never_layout}
 use Rattle.abi_scalar.proofs.LawfulLemmas.{empty_lawful}
 use Rattle.abi_scalar.proofs.ReadableLemmas.{lawful_readable}
+use Rattle.abi_lists.specs.List.{HasLawfulAligns, parts_of}
+use Rattle.abi_lists.specs.ListView.{list_view}
 use Rattle.abi_calc.specs.declared.enums.path.Path.{Path}
 use Rattle.abi_calc.specs.declared.enums.path.Path.TheVariants.{NoValue, OneList, Several}
 use Rattle.abi_calc.specs.Enums.Answer.{HasOneEach, IsTypeAnswer}
@@ -24,8 +26,6 @@ use Rattle.abi_calc.specs.Enums.Beside.{AreToldApart}
 use Rattle.abi_calc.specs.Enums.Path.{path_of, variant_at}
 use Rattle.abi_calc.specs.Enums.Several.{AreLawfulTags}
 use Rattle.abi_calc.specs.Enums.Single.{IsSingleAnswer, single_layout}
-use Rattle.abi_calc.specs.List.{HasLawfulAligns, parts_of}
-use Rattle.abi_calc.specs.ListView.{list_view}
 use Rattle.abi_calc.proofs.EnumDeep.{enum_flag, enum_lawful, enum_told}
 use Rattle.abi_calc.proofs.EnumSingle.{single_lawful}
 use Rattle.abi_calc.proofs.EnumType.{index_within, several_some}

@@ -6,9 +6,9 @@ use Rattle.abi_base.specs.declared.data_layout.TargetDataLayout.{TargetDataLayou
 use Rattle.abi_base.specs.DataLayout.{IsLawfulDataLayout}
 use Rattle.abi_scalar.specs.declared.variants.VariantLayout.{VariantLayout}
 use Rattle.abi_scalar.specs.Variant.{variants_of}
+use Rattle.abi_lists.specs.Placement.{source_order}
 use Rattle.abi_calc.specs.Coroutine.Clash.{HasLocalAt}
 use Rattle.abi_calc.specs.Coroutine.Clash as calculator
-use Rattle.abi_calc.specs.Placement.{source_order}
 use Rattle.abi_calc.proofs.CoroutineDeep.{coroutine_clash, coroutine_one_offset}
 use Rattle.abi_laid.specs.Tree.{Tree, scalar, pair, never, unit, array, vector, struct, union, enum, coroutine, Trees}
 use Rattle.abi_laid.specs.declared.mark.Mark.{Mark}

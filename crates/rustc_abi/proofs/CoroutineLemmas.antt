@@ -14,8 +14,8 @@ use Rattle.abi_scalar.specs.declared.variants.VariantLayout.{VariantLayout}
 use Rattle.abi_scalar.specs.Lawful.{IsLawfulLayout}
 use Rattle.abi_scalar.specs.Range.{numbers_of}
 use Rattle.abi_scalar.specs.Scalar.{scalar_size, IsNumberOf}
-use Rattle.abi_calc.specs.Apart.{AreApart}
-use Rattle.abi_calc.specs.Placement.{source_order}
+use Rattle.abi_lists.specs.Apart.{AreApart}
+use Rattle.abi_lists.specs.Placement.{source_order}
 use Rattle.abi_laid.specs.Tree.{Tree, coroutine, Trees, no_trees, more_trees}
 use Rattle.abi_laid.specs.Value.{Value, number, two, list, variant, state, bytes, Values, no_values, more_values}
 use Rattle.abi_laid.specs.declared.mark.Mark.TheVariants.{Plain}

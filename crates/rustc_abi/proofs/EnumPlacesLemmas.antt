@@ -19,9 +19,9 @@ use Rattle.abi_scalar.specs.Shape.{listed_offsets}
 use Rattle.abi_scalar.specs.Simple.{never_layout}
 use Rattle.abi_scalar.specs.Variant.{variants_of}
 use Rattle.abi_scalar.specs.declared.variants.Variants.TheVariants.{Single as OneVariant}
+use Rattle.abi_lists.specs.Apart.{AreApart}
 use Rattle.abi_calc.specs.declared.enums.path.Path.{Path}
 use Rattle.abi_calc.specs.declared.enums.path.Path.TheVariants.{NoValue, OneList, Several}
-use Rattle.abi_calc.specs.Apart.{AreApart}
 use Rattle.abi_calc.specs.Enums.Answer.{IsTypeAnswer}
 use Rattle.abi_calc.specs.Enums.Beside.{IsToldByNiche, IsToldByTag}
 use Rattle.abi_calc.specs.Enums.Path.{path_of, variant_at}

@@ -17,34 +17,33 @@ use Rattle.abi_scalar.specs.declared.variants.Variants.TheVariants.{Empty, Multi
 use Rattle.abi_scalar.specs.Lawful.{IsLawfulLayout}
 use Rattle.abi_scalar.specs.Shape.{listed_offsets}
 use Rattle.abi_scalar.specs.Simple.{never_layout}
+use Rattle.abi_lists.specs.Answer.{IsAnswer}
+use Rattle.abi_lists.specs.Apart.{AreApart}
+use Rattle.abi_lists.specs.List.{AreSized}
+use Rattle.abi_lists.proofs.LeastLemmas.{answer_large, answer_refused, never_large as listed_never_large}
+use Rattle.abi_lists.specs.Least.{IsLeastSize}
 use Rattle.abi_calc.specs.declared.enums.path.Path.{Path}
 use Rattle.abi_calc.specs.declared.enums.path.Path.TheVariants.{NoValue, OneList, Several}
-use Rattle.abi_calc.specs.Answer.{IsAnswer}
-use Rattle.abi_calc.specs.Apart.{AreApart}
 use Rattle.abi_calc.specs.Enums.Answer.{IsTypeAnswer}
 use Rattle.abi_calc.specs.Enums.Lists.{behind_tag}
 use Rattle.abi_calc.specs.Enums.Path.{path_of, variant_at}
 use Rattle.abi_calc.specs.Enums.Several.{IsAlwaysTooLarge, IsAskedTooLarge, IsSeveralAnswer}
 use Rattle.abi_calc.specs.Enums.Single.{IsSingleAnswer}
 use Rattle.abi_calc.specs.Enums.Sizes.{IsTaggedTooLarge}
-use Rattle.abi_calc.specs.List.{AreSized}
 use Rattle.abi_calc.proofs.EnumDeep.{enum_refused, enum_size, enum_told, enum_too_large}
 use Rattle.abi_calc.proofs.EnumType.{index_within, several_some}
 use Rattle.abi_calc.proofs.GoodLists.{good_list}
-use Rattle.abi_calc.proofs.LeastLemmas.{answer_large, answer_refused, never_large as listed_never_large}
 use Rattle.abi_calc.proofs.OneEnum.{one_asked_for}
-use Rattle.abi_calc.specs.Least.{IsLeastSize}
 use Rattle.rustc_abi.specs.declared.error.LayError.{LayError}
 use Rattle.rustc_abi.specs.declared.error.LayError.TheVariants.{SizeOverflow}
-use Rattle.abi_laid.specs.Tree.{Variants, enum}
 use Rattle.abi_laid.specs.declared.mark.Mark.{Mark}
 use Rattle.abi_laid.specs.Mark.{mark_of}
 use Rattle.abi_laid.specs.Placed.{Placed, Layout, layout_of, size_of}
 use Rattle.rustc_abi.specs.Error.{lay_error}
 use Rattle.abi_laid.specs.Nodes.{parts_at}
-use Rattle.rustc_abi.specs.Enums.{IsCalculated, IsEnumed, IsTagInteger, arms_at, counted, discriminants_of, layouts_of, numbered_from}
+use Rattle.rustc_abi.specs.Enums.{IsCalculated, IsEnumed, IsTagInteger, arms_at, counted, layouts_of, numbered_from}
 use Rattle.rustc_abi.specs.Laying.{enum_fault, placed_enum, placed_variants}
-use Rattle.rustc_abi.specs.Least.{IsEnumSized, IsLeast, IsEnumTooLarge, IsTooLargeBy, fields_of, variants_of}
+use Rattle.rustc_abi.specs.Least.{IsEnumSized, IsEnumTooLarge, IsLeastEnum, IsTooLargeBy, fields_of, variants_of}
 use Rattle.rustc_abi.proofs.ArmsLemmas.{EachApart, apart_behind, apart_beside}
 use Rattle.rustc_abi.proofs.LaidLemmas.{IsWhole, aligns_of, asked_sized, each_lawful, each_of, tags_of}
 use Rattle.rustc_abi.proofs.TagIntegerLemmas.{tag_integer_one}
@@ -64,7 +63,10 @@ apart_long size (o ∷ offsets) [] h = absurd h
 apart_long size [] (n ∷ sizes) h = absurd h
 apart_long size (o ∷ offsets) (n ∷ sizes) h = ap suc (apart_long size offsets sizes h.2)
 
-variants_back : (whole : Layout) (mark : Mark) (first : ℕ) (size : ℕ) (layouts : List (VariantLayout ℕ)) (numbers : List ℕ) (variants : List (List Placed)) → EachApart size variants layouts → length numbers ≡ length variants →
+-- the variants are the types that were put at the offsets, of which there are enough
+pub variants_back : (whole : Layout) (mark : Mark) (first : ℕ) (size : ℕ) (layouts : List (VariantLayout ℕ))
+    (numbers : List ℕ) (variants : List (List Placed)) → EachApart size variants layouts
+    → length numbers ≡ length variants →
     variants_of (arms_at whole mark first layouts numbers variants) ≡ variants
 variants_back whole mark first size [] numbers [] apart long = refl
 variants_back whole mark first size [] numbers (ps ∷ variants) apart long = absurd apart
@@ -105,14 +107,14 @@ IsShaped dl repr numbers variants l (Multiple tag encoding field layouts) = Each
 
 module _ (dl : TargetDataLayout) (law : IsLawfulDataLayout dl) (repr : ReprOptions) (numbers : List ℕ) (variants : List (List Placed)) (none : enum_fault dl repr numbers variants ≡ None)
     (long : length numbers ≡ length variants) (whole : All (All (IsWhole dl)) variants) where
-  abbrev Answers : Path → Result Layout (LayoutCalculatorError Placed) → Type 0
+  abbrev pub Answers : Path → Result Layout (LayoutCalculatorError Placed) → Type 0
   Answers path r =
       IsTypeAnswer layout_of (λ i. i) (λ i. i) (λ i. i) (λ i. i) dl repr variants true true Enabled (IsTagInteger dl repr) (λ items. items ≡ numbered_from 0 numbers) path r
 
   lawful : All (All (λ p. IsLawfulLayout dl (layout_of p))) variants
   lawful = each_lawful dl variants whole
 
-  lawful_at : (i : ℕ) → All (λ p. IsLawfulLayout dl (layout_of p)) (variant_at variants i)
+  pub lawful_at : (i : ℕ) → All (λ p. IsLawfulLayout dl (layout_of p)) (variant_at variants i)
   lawful_at i = fact_at (All (λ p. IsLawfulLayout dl (layout_of p))) (All-nil (λ p. IsLawfulLayout dl (layout_of p))) variants i lawful
 
   sized_at : (i : ℕ) → AreSized (map layout_of (variant_at variants i))
@@ -183,35 +185,70 @@ module _ (dl : TargetDataLayout) (law : IsLawfulDataLayout dl) (repr : ReprOptio
       let count : length (listed_offsets h.0.fields) ≡ length ps = apart_long h.0.size (listed_offsets h.0.fields) (map size_of ps) good.apart ∙ length-map ps size_of in
       subst (λ (m : Layout). IsShaped dl repr numbers variants m m.variants) (sym h.2) (index_within layout_of repr variants true i (λ e. absurd (cc)) way, count, good.least)
 
-  shaped_arms : (l : Layout) (tag : Scalar) (encoding : TagEncoding ℕ) (field : ℕ) (layouts : List (VariantLayout ℕ)) → l.variants ≡ Multiple tag encoding field layouts → EachApart l.size variants layouts →
-      IsEnumSized dl repr numbers variants l.size → IsShaped dl repr numbers variants l l.variants
-  shaped_arms l tag encoding field layouts told apart size = subst (IsShaped dl repr numbers variants l) (sym told) (apart, size)
+  abbrev pub OfArmsApart : (Q : LayoutVariants ℕ ℕ → Type 0) → (size : ℕ) → Type 0
+  OfArmsApart Q size = (tag : Scalar) (encoding : TagEncoding ℕ) (field : ℕ) (layouts : List (VariantLayout ℕ))
+      → EachApart size variants layouts → Q (Multiple tag encoding field layouts)
+
+  arms_by : (Q : LayoutVariants ℕ ℕ → Type 0) (l : Layout) (tag : Scalar) (encoding : TagEncoding ℕ) (field : ℕ)
+      (layouts : List (VariantLayout ℕ)) → l.variants ≡ Multiple tag encoding field layouts
+      → EachApart l.size variants layouts →
+      OfArmsApart Q l.size → Q l.variants
+  arms_by Q l tag encoding field layouts told apart each = subst Q (sym told) (each tag encoding field layouts apart)
+
+  -- what holds of several variants that are laid apart holds of those of the layout
+  pub by_arms : (Q : LayoutVariants ℕ ℕ → Type 0) (l : Layout) → path_of true repr (layouts_of variants) ≡ Several
+      → Answers Several (Ok l) → OfArmsApart Q l.size → Q l.variants
+  by_arms Q l way h each =
+      ⊎_elim
+      (λ t. arms_by Q l t.tag _ t.field t.layouts t.told (apart_behind l.size _ variants t.layouts t.apart) each)
+      (λ t. arms_by Q l t.tag _ t.field t.layouts t.told (apart_beside l.size _ _ _ 0 variants t.layouts t.apart) each)
+      (enum_told layout_of dl law repr (IsTagInteger dl repr) variants (numbered_from 0 numbers)
+      (aligns_of dl law repr numbers variants none long) lawful (several_some layout_of repr variants true way)
+      (each_of dl law repr numbers variants none long) (tags_of dl law repr numbers variants none long) l h)
+
+  several_size : (l : Layout) → path_of true repr (layouts_of variants) ≡ Several → Answers Several (Ok l)
+      → IsEnumSized dl repr numbers variants l.size
+  several_size l way h =
+      enum_size layout_of dl law repr (IsTagInteger dl repr) variants (numbered_from 0 numbers)
+      (aligns_of dl law repr numbers variants none long) lawful (several_some layout_of repr variants true way)
+      (each_of dl law repr numbers variants none long) (tags_of dl law repr numbers variants none long) l h
 
   shaped_by : (path : Path) → path_of true repr (layouts_of variants) ≡ path → (l : Layout) → Answers path (Ok l) → IsShaped dl repr numbers variants l l.variants
   shaped_by NoValue way l h = let same : never_layout dl ≡ l = cc in subst (λ (m : Layout). IsShaped dl repr numbers variants m m.variants) same tt
   shaped_by (OneList i) way l h = shaped_one i way l h
   shaped_by Several way l h =
-      let aligns = aligns_of dl law repr numbers variants none long in
-      let some = several_some layout_of repr variants true way in
-      let each = each_of dl law repr numbers variants none long in
-      let tags = tags_of dl law repr numbers variants none long in
-      let size = enum_size layout_of dl law repr (IsTagInteger dl repr) variants (numbered_from 0 numbers) aligns lawful some each tags l h in
-      ⊎_elim
-      (λ t. shaped_arms l t.tag _ t.field t.layouts t.told (apart_behind l.size _ variants t.layouts t.apart) size)
-      (λ t. shaped_arms l t.tag _ t.field t.layouts t.told (apart_beside l.size _ _ _ 0 variants t.layouts t.apart) size)
-      (enum_told layout_of dl law repr (IsTagInteger dl repr) variants (numbered_from 0 numbers) aligns lawful some each tags l h)
+      by_arms (IsShaped dl repr numbers variants l) l way h
+      (λ tag encoding field layouts apart. (apart, several_size l way h))
 
   -- an enum that is laid out has such a layout
   pub enumed_shaped : (l : Layout) → IsEnumed dl repr numbers variants (Ok l) → IsShaped dl repr numbers variants l l.variants
   enumed_shaped l h = shaped_by (path_of true repr (layouts_of variants)) refl l h
 
-  least_by : (all : Variants) (l : Layout) (vs : LayoutVariants ℕ ℕ) → numbers ≡ discriminants_of all → IsShaped dl repr numbers variants l vs → IsLeast dl (enum repr all) (placed_variants dl repr numbers variants l vs)
-  least_by all l Empty is h = tt
-  least_by all l (Single i) is h =
-      subst (λ qs. IsLeastSize dl repr AlwaysSized (map layout_of qs) l.size) (sym (fields_back (listed_offsets l.fields) (variant_at variants i) (omega (arith, h.1)))) h.2
-  least_by all l (Multiple tag encoding field layouts) is h =
-      subst (λ qs. IsEnumSized dl repr (discriminants_of all) qs l.size) (sym (variants_back l (mark_of true repr) 0 l.size layouts numbers variants h.0 long)) (subst (λ ns. IsEnumSized dl repr ns variants l.size) is h.1)
+  abbrev IsLeastBy : Path → Layout → LayoutVariants ℕ ℕ → Type 0
+  IsLeastBy path l vs = IsLeastEnum dl repr numbers variants path (placed_variants dl repr numbers variants l vs)
+
+  least_one : (i : ℕ) (l : Layout) → IsSingleAnswer layout_of (λ i. i) 0 i dl repr AlwaysSized Enabled
+      (variant_at variants i) (Ok l) → IsLeastBy (OneList i) l l.variants
+  least_one i l h =
+      let ps : List Placed = variant_at variants i in
+      let good = good_list layout_of (λ i. i) 0 dl repr AlwaysSized ps h.0 law (lawful_at i)
+      (aligns_of dl law repr numbers variants none long) tt tt h.1 in
+      let count : length (listed_offsets h.0.fields) ≡ length ps = apart_long h.0.size (listed_offsets h.0.fields)
+      (map size_of ps) good.apart ∙ length-map ps size_of in
+      subst (λ (m : Layout). IsLeastBy (OneList i) m m.variants) (sym h.2)
+      (refl, fields_back (listed_offsets h.0.fields) ps (omega (arith, count)), good.least)
+
+  least_by : (path : Path) → path_of true repr (layouts_of variants) ≡ path → (l : Layout) → Answers path (Ok l)
+      → IsLeastBy path l l.variants
+  least_by NoValue way l h = let same : never_layout dl ≡ l = cc in
+      subst (λ (m : Layout). IsLeastBy NoValue m m.variants) same refl
+  least_by (OneList i) way l h = least_one i l h
+  least_by Several way l h =
+      by_arms (IsLeastBy Several l) l way h (λ tag encoding field layouts
+      apart. (variants_back l (mark_of true repr) 0 l.size layouts numbers variants apart long, several_size l way h))
 
   -- and has the size that its variants allow
-  pub enumed_least : (all : Variants) → numbers ≡ discriminants_of all → (l : Layout) → IsEnumed dl repr numbers variants (Ok l) → IsLeast dl (enum repr all) (placed_enum dl repr numbers variants l)
-  enumed_least all is l h = least_by all l l.variants is (enumed_shaped l h)
+  pub enumed_least : (l : Layout) → IsEnumed dl repr numbers variants (Ok l)
+      → IsLeastEnum dl repr numbers variants (path_of true repr (layouts_of variants))
+      (placed_enum dl repr numbers variants l)
+  enumed_least l h = least_by (path_of true repr (layouts_of variants)) refl l h

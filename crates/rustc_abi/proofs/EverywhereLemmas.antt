@@ -1,6 +1,7 @@
 -- What holds of each type that is laid out holds of each type in one.
-use Rattle.std.proofs.Common.{◌≡◌, ℕ, ◌+◌, ◌*◌, ◌<◌, ◌≤◌, Bool, true, false, List, [], ◌∷◌, length, map, inl, inr, sym, ap, ◌∙◌, subst, arith, Ok, Err, zero, suc}
-use Rattle.std.specs.Prelude.{nat_lt, if◌then◌else◌}
+use Rattle.std.proofs.Common.{◌≡◌, ℕ, ◌+◌, ◌*◌, ◌<◌, ◌≤◌, true, List, [], ◌∷◌, length, map, inl, inr, sym, ap, ◌∙◌}
+use Rattle.std.proofs.Common.{subst, arith, refl, All, Bool, Ok, zero, suc}
+use Rattle.std.specs.Prelude.{nat_lt}
 use Rattle.std.proofs.lemmas.List.{length-map}
 use Rattle.abi_base.specs.declared.data_layout.TargetDataLayout.{TargetDataLayout}
 use Rattle.abi_base.specs.DataLayout.{IsLawfulDataLayout, size_bound}
@@ -9,39 +10,87 @@ use Rattle.abi_scalar.specs.declared.variants.VariantLayout.{VariantLayout}
 use Rattle.abi_scalar.specs.declared.variants.Variants.{Variants as LayoutVariants}
 use Rattle.abi_scalar.specs.declared.variants.Variants.TheVariants.{Empty, Multiple, Single}
 use Rattle.abi_scalar.specs.Shape.{listed_offsets}
-use Rattle.abi_calc.specs.Array.{elements_layout}
+use Rattle.abi_lists.specs.Array.{elements_layout}
 use Rattle.abi_calc.specs.Enums.Path.{variant_at}
-use Rattle.abi_calc.specs.Simd.{simd_answer}
+use Rattle.abi_lists.specs.Simd.{simd_answer}
 use Rattle.abi_laid.specs.Tree.{Tree, scalar, pair, never, unit, array, vector, struct, union, enum, coroutine, Trees, no_trees, more_trees, Variants, no_variants, more_variants}
 use Rattle.abi_laid.specs.declared.mark.Mark.{Mark}
 use Rattle.abi_laid.specs.Mark.{mark_of}
-use Rattle.abi_laid.specs.Placed.{Placed, Layout, layout_of, size_of, elements, vector as placed_vector}
-use Rattle.abi_laid.specs.Nodes.{parts_at}
+use Rattle.abi_laid.specs.Placed.{Placed, Layout, layout_of, size_of, vector as placed_vector}
+use Rattle.abi_laid.specs.Nodes.{parts_at, placed_in}
+use Rattle.abi_laid.specs.declared.mark.Mark.TheVariants.{Plain}
+use Rattle.std.proofs.lemmas.List.FromFn.{length-range_with_len}
+use Rattle.abi_scalar.specs.declared.scalar.Scalar.{Scalar}
+use Rattle.abi_scalar.specs.Lawful.{IsLawfulLayout}
+use Rattle.abi_scalar.specs.Variant.{variants_of as layouts_in}
+use Rattle.abi_calc.specs.Coroutine.Layout.{IsStateTag}
+use Rattle.abi_calc.specs.Coroutine.Made.{AreStatesOf, IsMadeOfStates}
+use Rattle.abi_calc.specs.Coroutine.Promotion.{promoted_of}
+use Rattle.abi_lists.specs.Placement.{source_order}
+use Rattle.abi_calc.proofs.CoroutineSeen.{coroutine_made}
+use Rattle.rustc_abi.specs.Coroutines.{IsStated, conflicts_of}
+use Rattle.rustc_abi.proofs.EachListLemmas.{state_count}
 use Rattle.rustc_abi.specs.Error.{named}
 use Rattle.rustc_abi.specs.Enums.{IsEnumed, arms_at, discriminants_of}
-use Rattle.rustc_abi.specs.Laying.{AreLaying, IsLaying, IsListed, IsUnited, VariantsLaying, coroutine_fault, enum_fault, fields_fault, kind_of, lanes_of, placed_by, placed_enum, placed_fields, placed_together, placed_variants}
-use Rattle.rustc_abi.specs.Everywhere.{Everywhere, OfArms, OfEach, OfVariant, Within}
+use Rattle.rustc_abi.specs.Laying.{AreLaying, IsLaying, IsListed, IsUnited, VariantsLaying, coroutine_fault, enum_fault}
+use Rattle.rustc_abi.specs.Laying.{one_scalar}
+use Rattle.rustc_abi.specs.Laying.{fields_fault, kind_of, lanes_of, placed_enum, placed_fields, placed_together}
+use Rattle.rustc_abi.specs.Laying.{placed_variants}
+use Rattle.rustc_abi.specs.Everywhere.{Everywhere, HaveLocals, OfAbsent, OfArms, OfEach, OfVariant, Within}
 use Rattle.rustc_abi.proofs.ArmsLemmas.{EachApart}
-use Rattle.rustc_abi.proofs.EnumSizeLemmas.{IsShaped, apart_long, enumed_shaped}
-use Rattle.rustc_abi.proofs.LaidLemmas.{all_whole, whole_lawful, coroutine_laid, laid_by, numbers_for, placed_back, stated_offsets, variants_whole}
+use Rattle.rustc_abi.proofs.EnumSizeLemmas.{IsShaped, apart_long, enumed_shaped, fields_back}
+use Rattle.rustc_abi.proofs.LaidLemmas.{all_whole, whole_lawful, coroutine_asked, coroutine_laid, laid_by, numbers_for}
+use Rattle.rustc_abi.proofs.LaidLemmas.{placed_back, stated_offsets, variants_whole}
 use Rattle.rustc_abi.proofs.LeastLemmas.{listed_count}
-use Rattle.abi_scalar.specs.declared.error.LayoutCalculatorError.TheVariants as calculator
-
--- elements that are laid out
-elements_there : (b : Bool) (count : ℕ) (layout : Layout) (q p : Placed)
-    → Ok p ≡ placed_by (λ l. elements l count q) (named {H = ℕ} (if b then Ok layout else Err calculator.SizeOverflow)) → elements layout count q ≡ p
-elements_there true count layout q p e = cc
-elements_there false count layout q p e = absurd (cc)
+use Rattle.rustc_abi.proofs.SizeLemmas.{elements_there}
 
 module _ (dl : TargetDataLayout) (P : Tree → Placed → Type 0) where
   -- from the fields of one variant that is left, or of each one beside a tag
   within_variants : (repr : ReprOptions) (all : Variants) (numbers : List ℕ) (variants : List (List Placed)) (l : Layout) (vs : LayoutVariants ℕ ℕ) → IsShaped dl repr numbers variants l vs
+      → OfAbsent dl P all
       → ((i : ℕ) (offsets : List ℕ) → i < length variants → length offsets ≡ length (variant_at variants i) → OfVariant dl P all i (parts_at offsets (variant_at variants i)))
       → ((size : ℕ) (layouts : List (VariantLayout ℕ)) → EachApart size variants layouts → OfArms dl P all (arms_at l (mark_of true repr) 0 layouts numbers variants))
       → Within dl P (enum repr all) (placed_variants dl repr numbers variants l vs)
-  within_variants repr all numbers variants l Empty h each_at each_arm = tt
-  within_variants repr all numbers variants l (Single i) h each_at each_arm = each_at i (listed_offsets l.fields) h.0 h.1
-  within_variants repr all numbers variants l (Multiple tag encoding field layouts) h each_at each_arm = each_arm l.size layouts h.0
+  within_variants repr all numbers variants l Empty h absent each_at each_arm = absent
+  within_variants repr all numbers variants l (Single i) h absent each_at each_arm =
+      each_at i (listed_offsets l.fields) h.0 h.1
+  within_variants repr all numbers variants l (Multiple tag encoding field layouts) h absent each_at each_arm =
+      each_arm l.size layouts h.0
+
+-- each state of a coroutine has the locals that it holds
+module _ (ps : List Placed) (promoted : List Bool) (shared ranks : List ℕ) (whole : Layout) (mark : Mark) where
+  states_have : (first : ℕ) (numbers : List ℕ) (states : List (List ℕ)) (lists : List Layout)
+      (layouts : List (VariantLayout ℕ)) → length numbers ≡ length states
+      → AreStatesOf (λ i. i) (λ i. i) promoted shared ranks states lists layouts
+      → HaveLocals ps states (arms_at whole mark first layouts numbers (map (map (placed_in ps)) states))
+  states_have first numbers [] [] [] long h = tt
+  states_have first numbers [] [] (l ∷ layouts) long h = absurd h
+  states_have first numbers [] (x ∷ lists) layouts long h = absurd h
+  states_have first numbers (s ∷ states) [] layouts long h = absurd h
+  states_have first numbers (s ∷ states) (x ∷ lists) [] long h = absurd h
+  states_have first [] (s ∷ states) (x ∷ lists) (l ∷ layouts) long h = absurd (omega (arith, long))
+  states_have first (n ∷ numbers) (s ∷ states) (x ∷ lists) (l ∷ layouts) long h =
+      let count : length l.field_offsets ≡ length (map (placed_in ps) s) = ap length h.0.offsets
+      ∙ state_count promoted shared (listed_offsets x.fields) s ∙ sym (length-map s (placed_in ps)) in (
+        fields_back l.field_offsets (map (placed_in ps) s) (omega (arith, count)),
+        states_have (first + 1) numbers states lists layouts (omega (arith, long)) h.1,
+      )
+
+module _ (dl : TargetDataLayout) (law : IsLawfulDataLayout dl) where
+  coroutine_has : (pres ps : List Placed) (states : List (List ℕ)) (conflicts : List (ℕ × ℕ))
+      → All (λ p. IsLawfulLayout dl (layout_of p)) pres → All (λ p. IsLawfulLayout dl (layout_of p)) ps
+      → (tag : Scalar) → IsStateTag (length states) tag → (layout : Layout)
+      → IsStated dl pres tag (one_scalar dl tag) ps states conflicts (Ok layout)
+      → HaveLocals ps states (arms_at layout Plain 0 (layouts_in layout.variants) (source_order (length states))
+      (map (map (placed_in ps)) states))
+  coroutine_has pres ps states conflicts before there tag tells layout stated =
+      let rules = conflicts_of (length ps) conflicts in
+      let asked = coroutine_asked dl law pres ps states conflicts before there tag tells in
+      let made : IsMadeOfStates (λ i. i) (λ i. i) 0 dl (map layout_of pres) (map layout_of ps) states rules layout =
+      coroutine_made layout_of (λ i. i) (λ i. i) 0 dl pres tag (one_scalar dl tag) ps states rules refl asked
+      (Ok layout) stated in
+      states_have ps (promoted_of states rules) _ _ layout Plain 0 (source_order (length states)) states made.lists
+      (layouts_in layout.variants) (length-range_with_len 0 (length states)) made.layouts
 
 module _ (dl : TargetDataLayout) (law : IsLawfulDataLayout dl) (P : Tree → Placed → Type 0) (each : (t : Tree) (p : Placed) → IsLaying dl t (Ok p) → P t p) where
   mutual
@@ -73,17 +122,22 @@ module _ (dl : TargetDataLayout) (law : IsLawfulDataLayout dl) (P : Tree → Pla
         let found = laid_by (enum_fault dl repr (discriminants_of all) variants) (IsEnumed dl repr (discriminants_of all) variants) (placed_enum dl repr (discriminants_of all) variants) p answer in
         let shaped = enumed_shaped dl law repr (discriminants_of all) variants found.3 (numbers_for dl law all variants there) (variants_whole dl law all variants there) found.0 found.1 in
         subst (Within dl P (enum repr all)) found.2
-        (within_variants dl P repr all (discriminants_of all) variants found.0 found.0.variants shaped (λ i offsets short e. of_variant all variants i offsets short e there)
+        (within_variants dl P repr all (discriminants_of all) variants found.0 found.0.variants shaped
+        (of_absent all variants there)
+        (λ i offsets short e. of_variant all variants i offsets short e there)
         (λ size layouts apart. of_arms found.0 (mark_of true repr) 0 all variants size layouts apart there))
     within (coroutine prefix locals states conflicts) p (inl f) = absurd (cc f.2)
     within (coroutine prefix locals states conflicts) p (inr (pres, before, inl f)) = absurd (cc f.2)
     within (coroutine prefix locals states conflicts) p (inr (pres, before, inr (ps, there, answer))) =
         let found = coroutine_laid dl law pres ps states conflicts (coroutine_fault (length pres) (length ps) states conflicts) p answer in
-        let count = stated_offsets dl law pres ps states conflicts (whole_lawful dl pres (all_whole dl law prefix pres before)) (whole_lawful dl ps (all_whole dl law locals ps there)) found.5 found.0 found.1 found.2 found.3 in
-        subst (Within dl P (coroutine prefix locals states conflicts)) found.4 (
-          of_each prefix pres (listed_offsets found.2.fields) (omega (arith, count)) before,
-          (ps, there, of_each locals ps (map (λ q. 0) ps) (omega (arith, length-map {B = ℕ} ps (λ q. 0))) there),
-        )
+        let first = whole_lawful dl pres (all_whole dl law prefix pres before) in
+        let others = whole_lawful dl ps (all_whole dl law locals ps there) in
+        let count =
+        stated_offsets dl law pres ps states conflicts first others found.5 found.0 found.1 found.2 found.3 in
+        let own = of_each locals ps (map (λ q. 0) ps) (omega (arith, length-map {B = ℕ} ps (λ q. 0))) there in
+        let held = coroutine_has dl law pres ps states conflicts first others found.0 found.1 found.2 found.3 in
+        subst (Within dl P (coroutine prefix locals states conflicts)) found.4
+        (of_each prefix pres (listed_offsets found.2.fields) (omega (arith, count)) before, (ps, there, own, held))
 
     -- of each of these types
     of_each : (ts : Trees) (ps : List Placed) (offsets : List ℕ) → length ps ≤ length offsets → AreLaying dl ts (Ok ps) → OfEach dl P ts (parts_at offsets ps)
@@ -96,6 +150,17 @@ module _ (dl : TargetDataLayout) (law : IsLawfulDataLayout dl) (P : Tree → Pla
         subst (λ qs. OfEach dl P (more_trees t ts) (parts_at (o ∷ offsets) qs)) same
         ((each t p here, within t p here), of_each ts rest offsets (omega (arith, e, ap (λ qs. length qs) same)) later)
 
+    -- of each field of variants that have no place
+    of_absent : (all : Variants) (variants : List (List Placed)) → VariantsLaying dl all (Ok variants)
+        → OfAbsent dl P all
+    of_absent no_variants variants h = tt
+    of_absent (more_variants d ts others) variants (inl f) = absurd (cc f.2)
+    of_absent (more_variants d ts others) variants (inr (ps, here, inl f)) = absurd (cc f.2)
+    of_absent (more_variants d ts others) variants (inr (ps, here, inr (rest, later, is))) = (
+      (ps, here, of_each ts ps (map (λ q. 0) ps) (omega (arith, length-map {B = ℕ} ps (λ q. 0))) here),
+      of_absent others rest later,
+    )
+
     -- of each field of the variant with this index
     of_variant : (all : Variants) (variants : List (List Placed)) (i : ℕ) (offsets : List ℕ) → i < length variants → length offsets ≡ length (variant_at variants i) → VariantsLaying dl all (Ok variants) →
         OfVariant dl P all i (parts_at offsets (variant_at variants i))
@@ -105,12 +170,17 @@ module _ (dl : TargetDataLayout) (law : IsLawfulDataLayout dl) (P : Tree → Pla
     of_variant (more_variants d ts others) variants zero offsets short e (inr (ps, here, inr (rest, later, is))) =
         let same : ps ∷ rest ≡ variants = cc in
         let enough : length offsets ≡ length ps = e ∙ ap (λ vs. length (variant_at vs 0)) (sym same) in
-        subst (λ vs. OfEach dl P ts (parts_at offsets (variant_at vs 0))) same (of_each ts ps offsets (omega (arith, enough)) here)
+        subst (λ vs. OfVariant dl P (more_variants d ts others) 0 (parts_at offsets (variant_at vs 0))) same
+        (of_each ts ps offsets (omega (arith, enough)) here, of_absent others rest later)
     of_variant (more_variants d ts others) variants (suc i) offsets short e (inr (ps, here, inr (rest, later, is))) =
         let same : ps ∷ rest ≡ variants = cc in
         let long : length variants ≡ suc (length rest) = ap (λ vs. length vs) (sym same) in
-        subst (λ vs. OfVariant dl P others i (parts_at offsets (variant_at vs (suc i)))) same
-        (of_variant others rest i offsets (omega (arith, short, long)) (e ∙ ap (λ vs. length (variant_at vs (suc i))) (sym same)) later)
+        let own = of_each ts ps (map (λ q. 0) ps) (omega (arith, length-map {B = ℕ} ps (λ q. 0))) here in (
+          (ps, here, own),
+          subst (λ vs. OfVariant dl P others i (parts_at offsets (variant_at vs (suc i)))) same
+              (of_variant others rest i offsets (omega (arith, short, long))
+              (e ∙ ap (λ vs. length (variant_at vs (suc i))) (sym same)) later),
+        )
 
     -- and of each variant's
     of_arms : (whole : Layout) (mark : Mark) (from : ℕ) (all : Variants) (variants : List (List Placed)) (size : ℕ) (layouts : List (VariantLayout ℕ)) → EachApart size variants layouts → VariantsLaying dl all (Ok variants) →

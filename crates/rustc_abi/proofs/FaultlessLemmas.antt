@@ -6,7 +6,7 @@ use Rattle.std.proofs.lemmas.Bool.{ltb-false}
 use Rattle.std.proofs.lemmas.List.Elements.{All-cons, All-nil}
 use Rattle.abi_base.specs.declared.data_layout.TargetDataLayout.{TargetDataLayout}
 use Rattle.abi_scalar.specs.declared.repr.ReprOptions.{ReprOptions}
-use Rattle.abi_calc.specs.List.{HasLawfulAligns}
+use Rattle.abi_lists.specs.List.{HasLawfulAligns}
 use Rattle.rustc_abi.specs.declared.error.LayError.TheVariants.{BadAlign, BadIndex, DiscriminantTooWide, DuplicateDiscriminant}
 use Rattle.abi_laid.specs.Placed.{Placed}
 use Rattle.rustc_abi.specs.Enums.{has_equal, is_discriminant}

@@ -11,8 +11,8 @@ use Rattle.abi_scalar.specs.declared.niche.Niche.{Niche}
 use Rattle.abi_scalar.specs.Range.{IsIn}
 use Rattle.abi_scalar.specs.Niche.{niche_size}
 use Rattle.abi_scalar.specs.Lawful.{IsLawfulLayout}
-use Rattle.abi_calc.specs.Apart.{AreApart, IsBeside}
-use Rattle.abi_calc.specs.ListNiche as calc
+use Rattle.abi_lists.specs.Apart.{AreApart, IsBeside}
+use Rattle.abi_lists.specs.ListNiche as calc
 use Rattle.abi_laid.specs.Tree.{Tree, struct, Trees, no_trees, more_trees}
 use Rattle.abi_laid.specs.Bytes.{AreBytes, bytes_at, number_of}
 use Rattle.abi_laid.specs.Value.{Value, number, two, list, variant, state, bytes, Values, no_values, more_values}
@@ -27,8 +27,8 @@ use Rattle.abi_laid.specs.Untagged.{UntaggedNamedOf}
 use Rattle.abi_laid.specs.Nodes.{parts_at}
 use Rattle.rustc_abi.specs.Adding.{EachFits}
 use Rattle.std.specs.List.{list_any}
-use Rattle.abi_calc.specs.List.{parts_of}
-use Rattle.abi_calc.specs.ListView.{list_view}
+use Rattle.abi_lists.specs.List.{parts_of}
+use Rattle.abi_lists.specs.ListView.{list_view}
 use Rattle.rustc_abi.proofs.FlagLemmas.{flag-fields}
 use Rattle.rustc_abi.proofs.ViewLemmas.{part_true, list_view_true}
 use Rattle.abi_laid.proofs.HoldLemmas.{IsNicheAt, niche_in_part, niche_in_whole}

@@ -5,7 +5,7 @@ use Rattle.std.specs.List.{list_any}
 use Rattle.std.proofs.lemmas.Bool.{eqb-true, eqb-false}
 use Rattle.abi_base.specs.declared.data_layout.TargetDataLayout.{TargetDataLayout}
 use Rattle.abi_scalar.specs.declared.repr.ReprOptions.{ReprOptions}
-use Rattle.abi_calc.specs.Apart.{AreApart}
+use Rattle.abi_lists.specs.Apart.{AreApart}
 use Rattle.abi_laid.specs.Tree.{Tree, array, struct, Trees, no_trees, more_trees}
 use Rattle.abi_laid.specs.Value.{Value, number, two, list, variant, state, bytes, Values, no_values, more_values, value_count, Each}
 use Rattle.abi_laid.specs.Mark.{mark_of}

@@ -26,10 +26,15 @@ use Rattle.abi_scalar.specs.declared.fields_shape.FieldsShape.TheVariants.{Arbit
 use Rattle.abi_scalar.specs.Shape.{field_count, listed_offsets, listed_order}
 use Rattle.abi_scalar.specs.Simple.{never_layout}
 use Rattle.abi_scalar.specs.Variant.{variant_of, variants_of}
+use Rattle.abi_lists.specs.Apart.{AreApart}
+use Rattle.abi_lists.specs.Fields.{greatest_size}
+use Rattle.abi_lists.specs.List.{HasLawfulAligns, IsListAnswer, parts_of}
+use Rattle.abi_lists.specs.Placement.{IsLawfulPrefix, IsSized, align_of, cut, end_from, in_order, list_repr, start_of}
+use Rattle.abi_lists.proofs.Ends.{end_from-above}
+use Rattle.abi_lists.proofs.Rounding.{rounded_to}
 use Rattle.abi_calc.specs.declared.enums.niche.Room.{Room}
 use Rattle.abi_calc.specs.declared.enums.path.Path.{Path}
 use Rattle.abi_calc.specs.declared.enums.path.Path.TheVariants.{NoValue, OneList, Several}
-use Rattle.abi_calc.specs.Apart.{AreApart}
 use Rattle.abi_calc.specs.Coroutine.Layout.{IsStateTag, whole_size}
 use Rattle.abi_index.specs.BitSet.{members_of}
 use Rattle.abi_calc.specs.Coroutine.Lists.{AreOwnLists, behind, default_repr, first_list, own_list, picked}
@@ -46,20 +51,15 @@ use Rattle.abi_calc.specs.Enums.Path.{path_of}
 use Rattle.abi_calc.specs.Enums.Payload.{is_memory, is_of_scalars, seen_as, tagged_view}
 use Rattle.abi_calc.specs.Enums.Several.{IsAskedAnswer, IsSeveralAnswer, better_of}
 use Rattle.abi_calc.specs.Enums.Tagged.{IsTaggedAnswer, lists_align, lists_size, payloads_of}
-use Rattle.abi_calc.specs.Fields.{greatest_size}
-use Rattle.abi_calc.specs.List.{HasLawfulAligns, IsListAnswer, parts_of}
-use Rattle.abi_calc.specs.Placement.{IsLawfulPrefix, IsSized, align_of, cut, end_from, in_order, list_repr, start_of}
 use Rattle.abi_calc.proofs.CoroutineAnswers.{first_lawful, own_all}
 use Rattle.abi_calc.proofs.CoroutineApart.{shared_count, shared_offsets, shared_sizes, states_apart, whole_above}
 use Rattle.abi_calc.proofs.CoroutinePromotion.{promoted_count}
-use Rattle.abi_calc.proofs.Ends.{end_from-above}
 use Rattle.abi_calc.proofs.EnumNicheLawful.{niche_parts}
 use Rattle.abi_calc.proofs.EnumPlaces.{AreClear, AreClearAmong, IsClear, clear_grown, greatest_within, new_fits}
 use Rattle.abi_calc.proofs.EnumSeveral.{by_both}
 use Rattle.abi_calc.proofs.EnumType.{several_some}
 use Rattle.abi_calc.proofs.GoodLists.{good_list, good_lists, tag_prefix}
 use Rattle.abi_calc.proofs.OneCoroutine.{lists_own}
-use Rattle.abi_calc.proofs.Rounding.{rounded_to}
 use Rattle.abi_laid.specs.Placed.{Placed, Layout, layout_of, size_of}
 use Rattle.abi_laid.specs.Nodes.{placed_in}
 use Rattle.rustc_abi.specs.Enums.{IsEnumed, IsTagInteger, layouts_of, numbered_from}

@@ -24,19 +24,19 @@ use Rattle.abi_scalar.specs.Scalar.{scalar_size}
 use Rattle.abi_scalar.specs.Shape.{listed_offsets, listed_order}
 use Rattle.abi_scalar.specs.Simple.{never_layout, unit_layout}
 use Rattle.abi_scalar.specs.Variant.{variants_of}
+use Rattle.abi_lists.specs.Array.{elements_layout}
+use Rattle.abi_lists.specs.List.{IsListLayout, parts_of}
+use Rattle.abi_lists.specs.ListView.{list_view}
+use Rattle.abi_lists.specs.Placement.{source_order}
+use Rattle.abi_lists.specs.Simd.{is_tight, lanes_answer, simd_align, simd_answer, simd_view, vector_layout}
 use Rattle.abi_calc.specs.declared.enums.path.Path.{Path}
 use Rattle.abi_calc.specs.declared.enums.path.Path.TheVariants.{NoValue, OneList, Several}
-use Rattle.abi_calc.specs.Array.{elements_layout}
 use Rattle.abi_calc.specs.Coroutine.Layout.{IsStateTag}
 use Rattle.abi_calc.specs.Enums.Answer.{IsTypeAnswer}
 use Rattle.abi_calc.specs.Enums.Beside.{HasTagAt, IsToldByNiche, IsToldByTag}
 use Rattle.abi_calc.specs.Enums.Path.{path_of, variant_at}
 use Rattle.abi_calc.specs.Enums.Payload.{BeginsWithTag}
 use Rattle.abi_calc.specs.Enums.Single.{single_layout}
-use Rattle.abi_calc.specs.List.{IsListLayout, parts_of}
-use Rattle.abi_calc.specs.ListView.{list_view}
-use Rattle.abi_calc.specs.Placement.{source_order}
-use Rattle.abi_calc.specs.Simd.{is_tight, lanes_answer, simd_align, simd_answer, simd_view, vector_layout}
 use Rattle.abi_calc.proofs.GoodLists.{good_list}
 use Rattle.abi_laid.specs.declared.mark.Mark.{Mark}
 use Rattle.abi_laid.specs.declared.mark.Mark.TheVariants.{Never, Plain, Unit}

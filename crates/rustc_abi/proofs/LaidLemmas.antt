@@ -27,25 +27,25 @@ use Rattle.abi_scalar.specs.View.{union_view}
 use Rattle.abi_scalar.proofs.LawfulLemmas.{scalar_lawful, empty_lawful}
 use Rattle.abi_scalar.proofs.PairLemmas.{pair_lawful_at}
 use Rattle.abi_scalar.proofs.ReadableLemmas.{lawful_readable}
+use Rattle.abi_lists.specs.declared.part.Part.{Part}
+use Rattle.abi_lists.specs.Array.{elements_layout}
+use Rattle.abi_lists.specs.List.{AreSized, parts_of, HasLawfulAligns}
+use Rattle.abi_lists.specs.ListView.{any_unsized, bulky_parts, bulky_view, kept_view, list_view, pair_view, part_at, two_view}
+use Rattle.abi_lists.specs.Part.{IsAlignedPart, IsLawfulPart, is_unsized, part_of}
+use Rattle.abi_lists.specs.Placement.{IsLawfulPrefix, IsNonEmptyIfUnsized, align_of, end_from, in_order, list_repr, size_in, start_of}
+use Rattle.abi_lists.specs.Simd.{if_below, is_tight, lanes_answer, simd_align, simd_answer, simd_view, vector_layout}
+use Rattle.abi_lists.specs.Union.{CountsForView, HasView, IsUnionView, fault_before, first_unsized, sized_fault, union_size}
+use Rattle.abi_lists.proofs.DeepLemmas.{biased_index, biased_inside}
+use Rattle.abi_lists.proofs.FaultLemmas.{clear_of}
+use Rattle.abi_lists.proofs.LawfulList.{made_lawful}
+use Rattle.abi_lists.proofs.Lawful.{array_lawful}
+use Rattle.abi_lists.proofs.Least.{align_small}
+use Rattle.abi_lists.proofs.ListLemmas.{parts_lawful, repr_lawful}
+use Rattle.abi_lists.proofs.RunLemmas.{aligned_parts, biased_of}
+use Rattle.abi_lists.proofs.UnionLawful.{union_is_lawful}
+use Rattle.abi_lists.proofs.VectorLemmas.{factor_small, lanes_are, lanes_bounded, simd_of_view, simd_viewed, vector_small, vectors_lawful}
 use Rattle.abi_calc.specs.declared.enums.path.Path.{Path}
 use Rattle.abi_calc.specs.declared.enums.path.Path.TheVariants.{NoValue, OneList, Several}
-use Rattle.abi_calc.specs.declared.part.Part.{Part}
-use Rattle.abi_calc.specs.Array.{elements_layout}
-use Rattle.abi_calc.specs.List.{AreSized, parts_of, HasLawfulAligns}
-use Rattle.abi_calc.specs.ListView.{any_unsized, bulky_parts, bulky_view, kept_view, list_view, pair_view, part_at, two_view}
-use Rattle.abi_calc.specs.Part.{IsAlignedPart, IsLawfulPart, is_unsized, part_of}
-use Rattle.abi_calc.specs.Placement.{IsLawfulPrefix, IsNonEmptyIfUnsized, align_of, end_from, in_order, list_repr, size_in, start_of}
-use Rattle.abi_calc.specs.Simd.{if_below, is_tight, lanes_answer, simd_align, simd_answer, simd_view, vector_layout}
-use Rattle.abi_calc.specs.Union.{CountsForView, HasView, IsUnionView, fault_before, first_unsized, sized_fault, union_size}
-use Rattle.abi_calc.proofs.DeepLemmas.{biased_index, biased_inside}
-use Rattle.abi_calc.proofs.FaultLemmas.{clear_of}
-use Rattle.abi_calc.proofs.LawfulList.{made_lawful}
-use Rattle.abi_calc.proofs.Lawful.{array_lawful}
-use Rattle.abi_calc.proofs.Least.{align_small}
-use Rattle.abi_calc.proofs.ListLemmas.{parts_lawful, repr_lawful}
-use Rattle.abi_calc.proofs.RunLemmas.{aligned_parts, biased_of}
-use Rattle.abi_calc.proofs.UnionLawful.{union_is_lawful}
-use Rattle.abi_calc.proofs.VectorLemmas.{factor_small, lanes_are, lanes_bounded, simd_of_view, simd_viewed, vector_small, vectors_lawful}
 use Rattle.abi_calc.specs.Coroutine.Layout.{IsStateTag}
 use Rattle.abi_calc.specs.Coroutine.Promotion.{promoted_of}
 use Rattle.abi_calc.proofs.CoroutineAnswers.{IsAsked, IsPromised}

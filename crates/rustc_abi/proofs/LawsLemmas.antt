@@ -18,9 +18,9 @@ use Rattle.abi_scalar.specs.Pair.{pair_layout, second_offset}
 use Rattle.abi_scalar.specs.Scalar.{scalar_size}
 use Rattle.abi_scalar.specs.Shape.{listed_offsets}
 use Rattle.abi_scalar.specs.Variant.{variant_layout, variants_of}
-use Rattle.abi_calc.specs.Apart.{AreApart}
-use Rattle.abi_calc.specs.Array.{array_answer, elements_layout}
-use Rattle.abi_calc.specs.Simd.{simd_answer}
+use Rattle.abi_lists.specs.Apart.{AreApart}
+use Rattle.abi_lists.specs.Array.{array_answer, elements_layout}
+use Rattle.abi_lists.specs.Simd.{simd_answer}
 use Rattle.abi_laid.specs.declared.node.Shape.TheVariants.{Elements, Pair, Vector}
 use Rattle.rustc_abi.specs.Error.{named}
 use Rattle.rustc_abi.specs.Inside.{EndInside, VariantsInside}

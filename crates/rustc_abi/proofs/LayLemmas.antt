@@ -8,12 +8,12 @@ use Rattle.abi_base.specs.declared.data_layout.TargetDataLayout.{TargetDataLayou
 use Rattle.abi_scalar.specs.declared.repr.ReprOptions.{ReprOptions}
 use Rattle.abi_scalar.specs.declared.niche.Niche.{Niche}
 use Rattle.abi_scalar.specs.Lawful.{IsLawfulLayout}
-use Rattle.abi_calc.specs.Apart.{AreApart}
-use Rattle.abi_calc.specs.List.{HasLawfulAligns, parts_of}
+use Rattle.abi_lists.specs.Apart.{AreApart}
+use Rattle.abi_lists.specs.List.{HasLawfulAligns, parts_of}
 use Rattle.abi_base.specs.declared.struct_kind.StructKind.TheVariants.{AlwaysSized, MaybeUnsized}
-use Rattle.abi_calc.specs.ListView.{list_view}
+use Rattle.abi_lists.specs.ListView.{list_view}
 use Rattle.abi_scalar.specs.Repr.{is_abi_fixed}
-use Rattle.abi_calc.specs.Array.{array_answer, elements_layout}
+use Rattle.abi_lists.specs.Array.{array_answer, elements_layout}
 use Rattle.rustc_abi.specs.declared.error.LayError.{LayError}
 use Rattle.rustc_abi.specs.declared.error.LayError.TheVariants.{BadIndex, BadAlign, SizeOverflow}
 use Rattle.abi_laid.specs.declared.node.Node.{Node}
@@ -40,7 +40,7 @@ use Rattle.abi_laid.specs.Well.{IsPut, all_at}
 use Rattle.rustc_abi.specs.Adding.{IsAdded, EachFits, VariantsFit, AreAdded}
 use Rattle.rustc_abi.proofs.ElementsLemmas.{IsElementNiche, Fits-elements}
 use Rattle.rustc_abi.proofs.FieldsLemmas.{part_of_list, Fits-fields}
-use Rattle.abi_calc.specs.ListNiche.{IsNicheOfPart}
+use Rattle.abi_lists.specs.ListNiche.{IsNicheOfPart}
 use Rattle.std.proofs.lemmas.Option.{IfSome_then}
 use Rattle.abi_scalar.specs.Shape.{listed_offsets}
 use Rattle.rustc_abi.proofs.ListLemmas.{chosen}

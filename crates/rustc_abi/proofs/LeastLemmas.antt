@@ -13,44 +13,50 @@ use Rattle.abi_scalar.specs.declared.scalar.Scalar.{Scalar}
 use Rattle.abi_scalar.specs.Pair.{pair_size}
 use Rattle.abi_scalar.specs.Scalar.{primitive_of}
 use Rattle.abi_scalar.specs.Shape.{listed_offsets}
-use Rattle.abi_calc.specs.declared.order.NicheBias.TheVariants.{Start}
-use Rattle.abi_calc.specs.declared.placing.ListFault.{ListFault}
-use Rattle.abi_calc.specs.declared.placing.ListFault.TheVariants.{Unsized, TooLarge, OutOfMemory}
-use Rattle.abi_calc.specs.Array.{elements_layout}
-use Rattle.abi_calc.specs.Fault.{IsErrorOf, fault_in}
-use Rattle.abi_calc.specs.List.{AreSized, parts_of as asked_of}
-use Rattle.abi_calc.specs.Order.{IsNamedOrder}
-use Rattle.abi_calc.specs.Simd.{simd_answer, IsVectorTooLarge}
-use Rattle.abi_calc.specs.Placement.{IsAllowed, IsNonEmptyIfUnsized, list_repr, size_in}
-use Rattle.abi_calc.proofs.DeepLemmas.{sized_fault}
-use Rattle.abi_calc.proofs.FaultLemmas.{large_in, memory_in}
-use Rattle.abi_calc.proofs.Least.{all_too_large}
-use Rattle.abi_calc.specs.Least.{IsOrderOf}
-use Rattle.abi_calc.specs.Union.{IsUnionTooLarge}
-use Rattle.abi_calc.proofs.LeastLemmas.{has_least, never_large as listed_never_large}
-use Rattle.abi_calc.proofs.RunLemmas.{biased_of}
-use Rattle.abi_calc.proofs.TooLarge.{tells_size, union_large, union_refused}
-use Rattle.abi_calc.specs.Answer.{IsAnswer}
+use Rattle.abi_lists.specs.declared.order.NicheBias.TheVariants.{Start}
+use Rattle.abi_lists.specs.declared.placing.ListFault.{ListFault}
+use Rattle.abi_lists.specs.declared.placing.ListFault.TheVariants.{Unsized, TooLarge, OutOfMemory}
+use Rattle.abi_lists.specs.Array.{elements_layout}
+use Rattle.abi_lists.specs.Fault.{IsErrorOf, fault_in}
+use Rattle.abi_lists.specs.List.{AreSized, parts_of as asked_of}
+use Rattle.abi_lists.specs.Order.{IsNamedOrder}
+use Rattle.abi_lists.specs.Simd.{simd_answer, IsVectorTooLarge}
+use Rattle.abi_lists.specs.Placement.{IsAllowed, IsNonEmptyIfUnsized, list_repr, size_in}
+use Rattle.abi_lists.proofs.DeepLemmas.{sized_fault}
+use Rattle.abi_lists.proofs.FaultLemmas.{large_in, memory_in}
+use Rattle.abi_lists.proofs.Least.{all_too_large}
+use Rattle.abi_lists.specs.Least.{IsOrderOf}
+use Rattle.abi_lists.specs.Union.{IsUnionTooLarge}
+use Rattle.abi_lists.proofs.LeastLemmas.{has_least, never_large as listed_never_large}
+use Rattle.abi_lists.proofs.RunLemmas.{biased_of}
+use Rattle.abi_lists.proofs.TooLarge.{tells_size, union_large, union_refused}
+use Rattle.abi_lists.specs.Answer.{IsAnswer}
 use Rattle.abi_calc.specs.Coroutine.Layout.{IsStateTag}
 use Rattle.abi_calc.specs.Coroutine.Promotion.{promoted_of}
-use Rattle.abi_calc.specs.Coroutine.Sizes.{IsTooLargeWith}
+use Rattle.abi_calc.specs.Coroutine.Sizes.{IsTooLargeWith, MayOverlap}
 use Rattle.abi_calc.proofs.CoroutineAnswers.{IsPromised}
 use Rattle.abi_calc.proofs.OneCoroutine.{one_tag}
-use Rattle.abi_calc.proofs.CoroutinePromotion.{promoted_count}
+use Rattle.abi_calc.proofs.CoroutineShared.{overlap_promised}
 use Rattle.rustc_abi.specs.declared.error.LayError.{LayError}
 use Rattle.rustc_abi.specs.declared.error.LayError.TheVariants.{SizeOverflow, UnexpectedUnsized, BadIndex, BadAlign, UnknownSpace, BadRange, DuplicateDiscriminant, DiscriminantTooWide, LocalTwice, NoState}
 use Rattle.abi_laid.specs.Tree.{Tree, scalar, pair, never, unit, array, vector, struct, union, enum, coroutine, Trees, no_trees, more_trees, Variants, no_variants, more_variants}
 use Rattle.abi_laid.specs.Placed.{Placed, Layout, layout_of, size_of, elements, vector as placed_vector}
+use Rattle.abi_laid.specs.Placed.{states as placed_states}
 use Rattle.rustc_abi.specs.Error.{Follows, IsRefused, named, lay_error}
 use Rattle.rustc_abi.specs.ScalarFault.{is_lawful_primitive, has_range_within, scalar_fault}
 use Rattle.rustc_abi.specs.Laying.{AreLaying, IsFieldsAnswer, IsLaying, IsListed, IsCoroutineOf, IsUnionOf, IsUnited, VariantsLaying, elements_answer, fields_fault, kind_of, lanes_of, one_scalar, pair_answer, placed_by, placed_fields, placed_together, scalar_answer, two_scalars, unless, vector_answer, placed_enum, enum_fault, has_bad_index, has_bad_align, IsEnumOf, coroutine_fault, most_fields, placed_coroutine}
 use Rattle.rustc_abi.specs.Coroutines.{IsCoroutined, IsStated, conflicts_of, names_unknown}
-use Rattle.rustc_abi.specs.Least.{IsCoroutineSized, IsCoroutineTooLarge, IsLeast, IsLeastStruct, IsStructTooLarge, IsTooLarge, AreTooLarge, AreVariantsTooLarge, IsEnumTooLarge}
+use Rattle.rustc_abi.specs.Least.{HasOverlapSize, IsCoroutineSized, IsCoroutineTooLarge, IsLeast, IsOverlapSized}
+use Rattle.rustc_abi.specs.Least.{fields_of, IsLeastStruct, IsStructTooLarge, IsTooLarge, AreTooLarge}
+use Rattle.rustc_abi.specs.Least.{AreVariantsTooLarge, IsEnumTooLarge}
 use Rattle.rustc_abi.specs.Enums.{IsEnumed, discriminants_of, has_equal, is_discriminant}
 use Rattle.rustc_abi.proofs.LaidLemmas.{IsWhole, all_whole, whole_lawful, asked_aligned, asked_sized, length-asked, some_field, numbers_for, variants_whole, CoroutineAnswersBy, coroutine_laid, laid_by, stated_offsets, stated_promised}
 use Rattle.rustc_abi.proofs.CoroutineFaultLemmas.{conflict_rows}
 use Rattle.rustc_abi.proofs.LayLemmas.{pair_overflows}
 use Rattle.rustc_abi.proofs.OneAnswer.{one_answer, one_list, one_list_each}
+use Rattle.rustc_abi.proofs.SizeLemmas.{sized_elements, sized_never, sized_pair, sized_scalar, sized_union, sized_unit}
+use Rattle.rustc_abi.proofs.SizeLemmas.{sized_vector}
+use Rattle.abi_laid.specs.Nodes.{parts_at}
 use Rattle.rustc_abi.proofs.EnumSizeLemmas.{enumed_large, enumed_refused, enumed_least, fields_back, size_error}
 use Rattle.abi_scalar.specs.declared.error.LayoutCalculatorError.TheVariants as calculator
 
@@ -322,8 +328,12 @@ module _ (dl : TargetDataLayout) (law : IsLawfulDataLayout dl) where
     least_enum : (fault : Option LayError) → enum_fault dl repr (discriminants_of all) variants ≡ fault → (p : Placed) → EnumAnswersBy fault (Ok p) → IsLeast dl (enum repr all) p
     least_enum fault is p answer =
         let found = laid_by fault (IsEnumed dl repr (discriminants_of all) variants) (placed_enum dl repr (discriminants_of all) variants) p answer in
-        subst (IsLeast dl (enum repr all)) found.2
-        (enumed_least dl law repr (discriminants_of all) variants (is ∙ found.3) (numbers_for dl law all variants there) (variants_whole dl law all variants there) all refl found.0 found.1)
+        subst (IsLeast dl (enum repr all)) found.2 (
+          variants,
+          there,
+          enumed_least dl law repr (discriminants_of all) variants (is ∙ found.3)
+              (numbers_for dl law all variants there) (variants_whole dl law all variants there) found.0 found.1,
+        )
 
   -- ---- a coroutine
 
@@ -333,19 +343,33 @@ module _ (dl : TargetDataLayout) (law : IsLawfulDataLayout dl) where
         → IsPromised layout_of (λ i. i) (λ i. i) 0 dl pres tag (one_scalar dl tag) ps states (promoted_of states (conflicts_of (length ps) conflicts)) r
     promised tag tells r h = stated_promised dl law pres ps states conflicts (whole_lawful dl pres (all_whole dl law prefix pres before)) (whole_lawful dl ps (all_whole dl law locals ps there)) tag tells r h
 
+    module _ (none : coroutine_fault (length pres) (length ps) states conflicts ≡ None) (tag : Scalar)
+        (tells : IsStateTag (length states) tag) (layout : Layout)
+        (stated : IsStated dl pres tag (one_scalar dl tag) ps states conflicts (Ok layout)) where
+      -- the prefix fields are there
+      prefix_back : fields_of (parts_at (listed_offsets layout.fields) pres) ≡ pres
+      prefix_back =
+          let offsets = stated_offsets dl law pres ps states conflicts
+          (whole_lawful dl pres (all_whole dl law prefix pres before))
+          (whole_lawful dl ps (all_whole dl law locals ps there)) none tag tells layout stated in
+          fields_back (listed_offsets layout.fields) pres (omega (arith, offsets))
+
+      stated_sized : IsCoroutineSized dl pres ps states conflicts layout.size
+      stated_sized = (tag, tells, IsPromised.size (promised tag tells (Ok layout) stated))
+
     -- a coroutine has the size that its lists allow
     least_coroutine : (fault : Option LayError) → coroutine_fault (length pres) (length ps) states conflicts ≡ fault → (p : Placed) → CoroutineAnswersBy dl pres ps states conflicts fault (Ok p)
         → IsLeast dl (coroutine prefix locals states conflicts) p
     least_coroutine fault is p answer =
         let found = coroutine_laid dl law pres ps states conflicts fault p answer in
-        let tag : Scalar = found.0 in
         let layout : Layout = found.2 in
-        let promoted : List Bool = promoted_of states (conflicts_of (length ps) conflicts) in
-        let offsets = stated_offsets dl law pres ps states conflicts (whole_lawful dl pres (all_whole dl law prefix pres before)) (whole_lawful dl ps (all_whole dl law locals ps there)) (is ∙ found.5) tag found.1 layout found.3 in
-        let sized : IsCoroutineSized dl pres (one_scalar dl tag) ps states layout.size
-        = (promoted, promoted_count states (conflicts_of (length ps) conflicts) ∙ conflict_rows (length ps) conflicts, IsPromised.size (promised tag found.1 (Ok layout) found.3)) in
-        subst (IsLeast dl (coroutine prefix locals states conflicts)) found.4
-        (ps, there, subst (λ qs. IsCoroutineSized dl qs (one_scalar dl tag) ps states layout.size) (sym (fields_back (listed_offsets layout.fields) pres (omega (arith, offsets)))) sized)
+        subst (IsLeast dl (coroutine prefix locals states conflicts)) found.4 (
+          ps,
+          there,
+          subst (λ qs. IsCoroutineSized dl qs ps states conflicts layout.size)
+              (sym (prefix_back (is ∙ found.5) found.0 found.1 found.2 found.3))
+              (stated_sized (is ∙ found.5) found.0 found.1 found.2 found.3),
+        )
 
     -- one that is refused for its size is too large
     large_coroutine : (fault : Option LayError) → coroutine_fault (length pres) (length ps) states conflicts ≡ fault → CoroutineAnswersBy dl pres ps states conflicts fault (Err SizeOverflow)
@@ -387,23 +411,48 @@ module _ (dl : TargetDataLayout) (law : IsLawfulDataLayout dl) where
   refused_pair : (a b : Scalar) (r : Result Placed LayError) → IsTooLarge dl (pair a b) → r ≡ pair_answer dl a b → r ≡ Err SizeOverflow
   refused_pair a b r (fa, fb, large) e = e ∙ pair_overflows dl a b fa fb large
 
-  -- a struct has its least size, and an enum or a coroutine the one that its lists allow
+  -- each type has the size that its rule or its lists allow
   pub laid_least : (t : Tree) (p : Placed) → IsLaying dl t (Ok p) → IsLeast dl t p
-  laid_least (scalar s) p h = tt
-  laid_least (pair a b) p h = tt
-  laid_least never p h = tt
-  laid_least unit p h = tt
-  laid_least (array count element) p h = tt
-  laid_least (vector lanes packed element) p h = tt
+  laid_least (scalar s) p h = sized_scalar dl law s p h
+  laid_least (pair a b) p h = sized_pair dl law a b p h
+  laid_least never p h = sized_never dl law p h
+  laid_least unit p h = sized_unit dl law p h
+  laid_least (array count element) p (inl f) = absurd (cc f.2)
+  laid_least (array count element) p (inr (q, there, e)) = sized_elements dl law count element q p e
+  laid_least (vector lanes packed element) p (inl f) = absurd (cc f.2)
+  laid_least (vector lanes packed element) p (inr (q, there, e)) = sized_vector dl law lanes packed element q p e
   laid_least (struct repr always_sized all) p (inl f) = absurd (cc f.2)
   laid_least (struct repr always_sized all) p (inr (ps, there, answer)) = least_fields (fields_fault repr ps) repr always_sized all ps p there answer
-  laid_least (union repr all) p h = tt
+  laid_least (union repr all) p (inl f) = absurd (cc f.2)
+  laid_least (union repr all) p (inr (ps, there, answer)) =
+      let found = laid_by (fields_fault repr ps) (IsUnited dl repr (map layout_of ps))
+      (placed_together repr ps) p answer in
+      subst (IsLeast dl (union repr all)) found.2 (sized_union dl law repr all ps found.0 found.1)
   laid_least (enum repr all) p (inl f) = absurd (cc f.2)
   laid_least (enum repr all) p (inr (variants, there, answer)) = least_enum repr all variants there (enum_fault dl repr (discriminants_of all) variants) refl p answer
   laid_least (coroutine prefix locals states conflicts) p (inl f) = absurd (cc f.2)
   laid_least (coroutine prefix locals states conflicts) p (inr (pres, before, inl f)) = absurd (cc f.2)
   laid_least (coroutine prefix locals states conflicts) p (inr (pres, before, inr (ps, there, answer))) =
       least_coroutine prefix locals pres ps states conflicts before there (coroutine_fault (length pres) (length ps) states conflicts) refl p answer
+
+  -- where a coroutine's states may share all their bytes, its size is the one that this allows
+  overlapped : (pres ps : List Placed) (states : List (List ℕ)) (conflicts : List (ℕ × ℕ)) (layout : Layout)
+      → IsCoroutineSized dl pres ps states conflicts layout.size
+      → IsOverlapSized dl pres ps states conflicts layout.size
+  overlapped pres ps states conflicts layout (tag, tells, size) may =
+      let rules = conflicts_of (length ps) conflicts in
+      let known = subst (λ n. MayOverlap n states rules) (sym (conflict_rows (length ps) conflicts)) may in
+      let answer : Result Layout (LayoutCalculatorError Placed) = Ok layout in
+      let own = layout_of (one_scalar dl tag) in
+      (tag, tells, overlap_promised dl (map layout_of pres) own (map layout_of ps) states rules answer known size)
+
+  overlap_of : (t : Tree) (p : Placed) → IsLeast dl t p → HasOverlapSize dl t p
+  overlap_of (coroutine prefix locals all conflicts) (placed_states layout pre offset tag arms) (ps, there, least) =
+      (ps, there, overlapped (fields_of pre) ps all conflicts layout least)
+  overlap_of _ _ least = tt
+
+  pub laid_overlap : (t : Tree) (p : Placed) → IsLaying dl t (Ok p) → HasOverlapSize dl t p
+  laid_overlap t p h = overlap_of t p (laid_least t p h)
 
   mutual
     -- a tree that is refused for a size is too large

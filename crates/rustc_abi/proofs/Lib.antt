@@ -52,8 +52,11 @@ mod AddedCoroutineLemmas
 mod VariantsLemmas
 pub mod OneAnswer
 pub mod SomeAnswer
+mod SizeLemmas
 mod LeastLemmas
 mod EverywhereLemmas
+mod EachListLemmas
+mod SizeFacts
 mod ClashLemmas
 mod InsideLemmas
 mod CoveredLemmas

@@ -19,9 +19,9 @@ use Rattle.abi_scalar.specs.Lawful.{IsLawfulNiche, IsLawfulLayout}
 use Rattle.abi_scalar.specs.Range.{IsIn, full_range}
 use Rattle.abi_scalar.specs.Scalar.{scalar_size, range_of, IsNumberOf}
 use Rattle.abi_scalar.specs.Shape.{listed_offsets}
-use Rattle.abi_calc.specs.ListNiche.{IsNicheAt, IsNicheOfPart}
+use Rattle.abi_lists.specs.ListNiche.{IsNicheAt, IsNicheOfPart}
+use Rattle.abi_lists.specs.Apart.{AreApart}
 use Rattle.abi_calc.specs.Enums.Path.{variant_at, has_no_value, takes_no_room}
-use Rattle.abi_calc.specs.Apart.{AreApart}
 use Rattle.abi_calc.specs.Enums.Beside.{IsToldByNiche}
 use Rattle.rustc_abi.specs.Enums.{layouts_of, arms_at, discriminants_of}
 use Rattle.abi_laid.specs.Mark.{mark_of}

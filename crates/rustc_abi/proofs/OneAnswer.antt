@@ -9,16 +9,16 @@ use Rattle.abi_base.specs.DataLayout.{size_bound}
 use Rattle.abi_scalar.specs.declared.error.LayoutCalculatorError.{LayoutCalculatorError}
 use Rattle.abi_scalar.specs.declared.repr.ReprOptions.{ReprOptions}
 use Rattle.abi_scalar.specs.declared.scalar.Scalar.{Scalar}
-use Rattle.abi_calc.specs.declared.order.NicheBias.TheVariants.{Start}
-use Rattle.abi_calc.specs.declared.placing.ListFault.{ListFault}
-use Rattle.abi_calc.specs.declared.placing.ListFault.TheVariants.{Unsized, TooLarge, OutOfMemory}
-use Rattle.abi_calc.specs.Fault.{IsErrorOf, fault_in}
-use Rattle.abi_calc.specs.List.{IsListError, parts_of}
-use Rattle.abi_calc.specs.Order.{IsNamedOrder}
-use Rattle.abi_calc.specs.Placement.{IsNonEmptyIfUnsized, list_repr}
-use Rattle.abi_calc.specs.Union.{union_fault, union_layout}
-use Rattle.abi_calc.proofs.UnionLemmas.{one_union_view}
-use Rattle.abi_calc.proofs.OneOrder.{one_layout, one_named, never_refused}
+use Rattle.abi_lists.specs.declared.order.NicheBias.TheVariants.{Start}
+use Rattle.abi_lists.specs.declared.placing.ListFault.{ListFault}
+use Rattle.abi_lists.specs.declared.placing.ListFault.TheVariants.{Unsized, TooLarge, OutOfMemory}
+use Rattle.abi_lists.specs.Fault.{IsErrorOf, fault_in}
+use Rattle.abi_lists.specs.List.{IsListError, parts_of}
+use Rattle.abi_lists.specs.Order.{IsNamedOrder}
+use Rattle.abi_lists.specs.Placement.{IsNonEmptyIfUnsized, list_repr}
+use Rattle.abi_lists.specs.Union.{union_fault, union_layout}
+use Rattle.abi_lists.proofs.UnionLemmas.{one_union_view}
+use Rattle.abi_lists.proofs.OneOrder.{one_layout, one_named, never_refused}
 use Rattle.abi_calc.proofs.OneEnum.{one_type, IsMade}
 use Rattle.abi_calc.proofs.OneCoroutine.{one_coroutine, one_tag}
 use Rattle.abi_calc.specs.Enums.Path.{path_of}

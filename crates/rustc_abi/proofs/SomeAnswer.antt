@@ -20,23 +20,23 @@ use Rattle.abi_scalar.specs.declared.scalar.Scalar.TheVariants.{Initialized}
 use Rattle.abi_scalar.specs.declared.variants.Variants.TheVariants.{Single}
 use Rattle.abi_scalar.specs.Repr.{is_abi_fixed}
 use Rattle.abi_scalar.specs.Lawful.{IsLawfulLayout}
-use Rattle.abi_calc.specs.declared.order.NicheBias.TheVariants.{Start}
-use Rattle.abi_calc.specs.declared.placing.ListFault.{ListFault}
-use Rattle.abi_calc.specs.declared.placing.ListFault.TheVariants.{Unsized, TooLarge, OutOfMemory}
+use Rattle.abi_lists.specs.declared.order.NicheBias.TheVariants.{Start}
+use Rattle.abi_lists.specs.declared.placing.ListFault.{ListFault}
+use Rattle.abi_lists.specs.declared.placing.ListFault.TheVariants.{Unsized, TooLarge, OutOfMemory}
+use Rattle.abi_lists.specs.Fault.{IsErrorOf, fault_in}
+use Rattle.abi_lists.specs.Fields.{greatest_repr_align, lies_as_in_c}
+use Rattle.abi_lists.specs.List.{AreSized, IsListLayout, list_seed, parts_of as asked_of, unadjusted_of}
+use Rattle.abi_lists.specs.ListView.{list_view}
+use Rattle.abi_lists.specs.Order.{IsNamedOrder}
+use Rattle.abi_lists.specs.Placement.{IsNonEmptyIfUnsized, list_repr}
+use Rattle.abi_lists.specs.Run.{IsNamedLayout}
+use Rattle.abi_lists.specs.Union.{union_fault, union_layout}
+use Rattle.abi_lists.proofs.DeepLemmas.{sized_fault}
+use Rattle.abi_lists.proofs.FaultLemmas.{memory_in}
+use Rattle.abi_lists.proofs.SomeOrder.{some_layout}
+use Rattle.abi_lists.proofs.SomeView.{some_union_view}
 use Rattle.abi_calc.specs.Coroutine.Layout.{IsStateTag}
-use Rattle.abi_calc.specs.Fault.{IsErrorOf, fault_in}
-use Rattle.abi_calc.specs.Fields.{greatest_repr_align, lies_as_in_c}
-use Rattle.abi_calc.specs.List.{AreSized, IsListLayout, list_seed, parts_of as asked_of, unadjusted_of}
-use Rattle.abi_calc.specs.ListView.{list_view}
-use Rattle.abi_calc.specs.Order.{IsNamedOrder}
-use Rattle.abi_calc.specs.Placement.{IsNonEmptyIfUnsized, list_repr}
-use Rattle.abi_calc.specs.Run.{IsNamedLayout}
-use Rattle.abi_calc.specs.Union.{union_fault, union_layout}
-use Rattle.abi_calc.proofs.DeepLemmas.{sized_fault}
-use Rattle.abi_calc.proofs.FaultLemmas.{memory_in}
 use Rattle.abi_calc.proofs.SomeCoroutine.{some_coroutine}
-use Rattle.abi_calc.proofs.SomeOrder.{some_layout}
-use Rattle.abi_calc.proofs.SomeView.{some_union_view}
 use Rattle.abi_calc.proofs.SomeEnum.{some_type}
 use Rattle.abi_calc.specs.Enums.Path.{path_of}
 use Rattle.rustc_abi.specs.declared.error.LayError.{LayError}

@@ -10,7 +10,7 @@ use Rattle.std.proofs.lemmas.Simd.{map-map}
 use Rattle.abi_scalar.specs.declared.variants.VariantLayout.{VariantLayout}
 use Rattle.abi_scalar.specs.Shape.{listed_offsets}
 use Rattle.abi_scalar.specs.Variant.{variants_of}
-use Rattle.abi_calc.specs.Placement.{source_order}
+use Rattle.abi_lists.specs.Placement.{source_order}
 use Rattle.abi_laid.specs.declared.node.Shape.TheVariants.{States}
 use Rattle.abi_laid.specs.declared.node.Node.{Node}
 use Rattle.abi_laid.specs.declared.mark.Mark.TheVariants.{Plain}

@@ -7,7 +7,7 @@ use Rattle.std.proofs.lemmas.List.Elements.{All-head, All-tail}
 use Rattle.abi_base.specs.declared.data_layout.TargetDataLayout.{TargetDataLayout}
 use Rattle.abi_scalar.specs.declared.variants.VariantLayout.{VariantLayout}
 use Rattle.abi_scalar.specs.Variant.{variant_layout}
-use Rattle.abi_calc.specs.Apart.{AreApart, IsBeside}
+use Rattle.abi_lists.specs.Apart.{AreApart, IsBeside}
 use Rattle.abi_laid.specs.Tree.{Trees, no_trees, more_trees}
 use Rattle.abi_laid.specs.declared.mark.Mark.TheVariants.{Plain}
 use Rattle.abi_laid.specs.Placed.{Placed, Layout, Arms, no_arms, arm, size_of}

@@ -8,8 +8,8 @@ use Rattle.abi_base.specs.DataLayout.{size_bound}
 use Rattle.abi_scalar.specs.declared.repr.ReprOptions.{ReprOptions}
 use Rattle.abi_scalar.specs.declared.error.LayoutCalculatorError.TheVariants as calculator
 use Rattle.abi_scalar.specs.Lawful.{IsLawfulLayout}
-use Rattle.abi_calc.specs.Array.{array_answer, elements_layout}
-use Rattle.abi_calc.specs.Simd.{simd_answer}
+use Rattle.abi_lists.specs.Array.{array_answer, elements_layout}
+use Rattle.abi_lists.specs.Simd.{simd_answer}
 use Rattle.rustc_abi.specs.declared.error.LayError.{LayError}
 use Rattle.abi_laid.specs.declared.node.Node.{Node}
 use Rattle.abi_laid.specs.Tree.{Tree, array, vector, union, Trees}

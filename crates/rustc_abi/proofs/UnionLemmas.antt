@@ -11,8 +11,8 @@ use Rattle.abi_scalar.specs.declared.backend_repr.BackendRepr.TheVariants.{Scala
 use Rattle.abi_scalar.specs.declared.repr.ReprOptions.{ReprOptions}
 use Rattle.abi_scalar.specs.Lawful.{IsLawfulLayout}
 use Rattle.abi_scalar.specs.View.{union_view}
-use Rattle.abi_calc.specs.Fields.{greatest}
-use Rattle.abi_calc.specs.Union.{CountsForView, HasView, IsUnionView, union_layout}
+use Rattle.abi_lists.specs.Fields.{greatest}
+use Rattle.abi_lists.specs.Union.{CountsForView, HasView, IsUnionView, union_layout}
 use Rattle.abi_laid.specs.Tree.{Tree, union, Trees, no_trees, more_trees}
 use Rattle.abi_laid.specs.Bytes.{AreBytes, place_count}
 use Rattle.abi_laid.specs.Value.{Value, number, two, list, variant, state, bytes}

@@ -6,8 +6,8 @@ use Rattle.abi_index.specs.Relation.{Relation}
 use Rattle.abi_scalar.specs.declared.error.LayoutCalculatorError.{LayoutCalculatorError}
 use Rattle.abi_scalar.specs.declared.error.LayoutCalculatorError.TheVariants.{OutOfMemory}
 use Rattle.abi_scalar.specs.declared.scalar.Scalar.{Scalar}
+use Rattle.abi_lists.specs.Placement.{source_order}
 use Rattle.abi_calc.specs.Coroutine.Answer.{IsCoroutineAnswer}
-use Rattle.abi_calc.specs.Placement.{source_order}
 use Rattle.rustc_abi.specs.declared.error.LayError.{LayError}
 use Rattle.abi_laid.specs.Placed.{Placed, Layout, layout_of}
 use Rattle.rustc_abi.specs.Error.{lay_error}

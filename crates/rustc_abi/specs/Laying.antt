@@ -14,13 +14,13 @@ use Rattle.abi_scalar.specs.Simple.{scalar_layout, never_layout, unit_layout}
 use Rattle.abi_scalar.specs.Pair.{pair_layout, pair_size, second_offset}
 use Rattle.abi_scalar.specs.Shape.{listed_offsets}
 use Rattle.abi_scalar.specs.Variant.{variants_of}
-use Rattle.abi_calc.specs.Array.{array_answer, elements_layout}
+use Rattle.abi_lists.specs.Array.{array_answer, elements_layout}
+use Rattle.abi_lists.specs.List.{IsListError, IsListLayout}
+use Rattle.abi_lists.specs.Placement.{source_order}
+use Rattle.abi_lists.specs.Simd.{simd_answer}
+use Rattle.abi_lists.specs.Union.{IsUnionAnswer}
 use Rattle.abi_calc.specs.Coroutine.Layout.{IsStateTag}
 use Rattle.abi_calc.specs.Enums.Path.{variant_at}
-use Rattle.abi_calc.specs.List.{IsListError, IsListLayout}
-use Rattle.abi_calc.specs.Placement.{source_order}
-use Rattle.abi_calc.specs.Simd.{simd_answer}
-use Rattle.abi_calc.specs.Union.{IsUnionAnswer}
 use Rattle.rustc_abi.specs.declared.error.LayError.{LayError}
 use Rattle.rustc_abi.specs.declared.error.LayError.TheVariants.{BadIndex, BadAlign, DuplicateDiscriminant, DiscriminantTooWide, NoState, LocalTwice, SizeOverflow}
 use Rattle.abi_laid.specs.Tree.{Tree, scalar, pair, never, unit, array, vector, struct, union, enum, coroutine, Trees, no_trees, more_trees, Variants, no_variants, more_variants}

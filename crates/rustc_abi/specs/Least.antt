@@ -1,5 +1,5 @@
--- How large types are: structs as small as an order of their fields allows, enums and coroutines as their lists allow; and which sizes
--- are refused.
+-- How large types are: structs as small as an order of their fields allows, enums and coroutines as their lists allow,
+-- others by their rule; and which sizes are refused.
 use Rattle.std.specs.Prelude.{◌≡◌, ℕ, true, ◌*◌, ◌≤◌, ◌⊎◌, Bool, List, [], ◌∷◌, length, map, None, Ok, ⊤}
 use Rattle.abi_base.specs.declared.data_layout.TargetDataLayout.{TargetDataLayout}
 use Rattle.abi_base.specs.DataLayout.{size_bound}
@@ -7,18 +7,23 @@ use Rattle.abi_scalar.specs.declared.repr.ReprOptions.{ReprOptions}
 use Rattle.abi_scalar.specs.declared.scalar.Scalar.{Scalar}
 use Rattle.abi_base.specs.declared.struct_kind.StructKind.TheVariants.{AlwaysSized}
 use Rattle.abi_scalar.specs.Pair.{pair_size}
+use Rattle.abi_scalar.specs.Scalar.{scalar_size}
 use Rattle.abi_calc.specs.Coroutine.Layout.{IsStateTag}
 use Rattle.abi_calc.specs.Coroutine.Promotion.{promoted_of}
-use Rattle.abi_calc.specs.Coroutine.Sizes.{IsSizeWith, IsTooLargeWith}
+use Rattle.abi_calc.specs.Coroutine.Sizes.{IsOverlapSize, IsSizeWith, IsTooLargeWith, MayOverlap}
 use Rattle.abi_calc.specs.declared.enums.path.Path.{Path}
 use Rattle.abi_calc.specs.declared.enums.path.Path.TheVariants.{NoValue, OneList, Several}
 use Rattle.abi_calc.specs.Enums.Path.{path_of, variant_at}
 use Rattle.abi_calc.specs.Enums.Several.{HasEnumSize, IsAskedTooLarge}
-use Rattle.abi_calc.specs.Least.{IsEachOrderTooLarge, IsLeastSize}
-use Rattle.abi_calc.specs.Simd.{IsVectorTooLarge}
-use Rattle.abi_calc.specs.Union.{IsUnionTooLarge}
-use Rattle.abi_laid.specs.Tree.{Tree, pair, array, vector, struct, union, enum, coroutine, Trees, no_trees, more_trees, Variants, no_variants, more_variants}
-use Rattle.abi_laid.specs.Placed.{Placed, single, tagged, states as placed_states, Parts, no_parts, part, Arms, no_arms, arm, layout_of, size_of, parts_of}
+use Rattle.abi_lists.specs.Least.{IsEachOrderTooLarge, IsLeastSize}
+use Rattle.abi_lists.specs.Simd.{IsVectorTooLarge, vector_size}
+use Rattle.abi_lists.specs.Union.{IsUnionTooLarge, union_size}
+use Rattle.abi_laid.specs.Tree.{Tree, scalar, pair, never, unit, array, vector, struct, union, enum, coroutine, Trees}
+use Rattle.abi_laid.specs.Tree.{no_trees, more_trees, Variants, no_variants, more_variants}
+use Rattle.abi_laid.specs.Placed.{Placed, scalar as one_number, pair as two, never as nowhere, elements}
+use Rattle.abi_laid.specs.Placed.{vector as lanes_of_vector, fields, union as together, single, tagged}
+use Rattle.abi_laid.specs.Placed.{states as placed_states}
+use Rattle.abi_laid.specs.Placed.{Parts, no_parts, part, Arms, no_arms, arm, element_of, layout_of, size_of}
 use Rattle.rustc_abi.specs.ScalarFault.{scalar_fault}
 use Rattle.rustc_abi.specs.Coroutines.{conflicts_of}
 use Rattle.rustc_abi.specs.Enums.{IsTagInteger, counted, discriminants_of, layouts_of}
@@ -59,12 +64,24 @@ IsLeastStruct dl repr always_sized ps size = IsLeastSize dl repr (kind_of always
 abbrev pub IsStructTooLarge : TargetDataLayout → ReprOptions → (always_sized : Bool) → List Placed → Type 0
 IsStructTooLarge dl repr always_sized ps = IsEachOrderTooLarge dl repr (kind_of always_sized ps) (map layout_of ps)
 
--- a coroutine of these prefix fields, this tag, these locals and states has the size that its lists allow: for some set of its locals,
--- the list of prefix fields, tag and these has its least size, and so has the list of each state's others behind it; the size is the
--- greatest of them, rounded up to the greatest alignment
-abbrev pub IsCoroutineSized : TargetDataLayout → (prefix : List Placed) → (tag : Placed) → (locals : List Placed) → (states : List (List ℕ)) → (size : ℕ) → Type 0
-IsCoroutineSized dl prefix tag locals states size =
-    (promoted : List Bool) × (length promoted ≡ length locals) × IsSizeWith dl (map layout_of prefix) (layout_of tag) (map layout_of locals) states promoted size
+-- a coroutine of these prefix fields, locals, states and conflicts has the size that its lists allow, with those of its
+-- locals promoted that its states and conflicts tell: the list of prefix fields, tag and these has its least size, and
+-- so has the list of each state's others behind it; the size is the greatest of them, rounded up to the greatest
+-- alignment
+abbrev pub IsCoroutineSized : TargetDataLayout → (prefix locals : List Placed) → (states : List (List ℕ))
+    → (conflicts : List (ℕ × ℕ)) → (size : ℕ) → Type 0
+IsCoroutineSized dl prefix locals states conflicts size =
+    (tag : Scalar) × IsStateTag (length states) tag
+    × IsSizeWith dl (map layout_of prefix) (layout_of (one_scalar dl tag)) (map layout_of locals) states
+    (promoted_of states (conflicts_of (length locals) conflicts)) size
+
+-- where the states may share all their bytes, it has the size that this allows: no local is promoted
+abbrev pub IsOverlapSized : TargetDataLayout → (prefix locals : List Placed) → (states : List (List ℕ))
+    → (conflicts : List (ℕ × ℕ)) → (size : ℕ) → Type 0
+IsOverlapSized dl prefix locals states conflicts size =
+    MayOverlap (length locals) states (conflicts_of (length locals) conflicts)
+    → (tag : Scalar) × IsStateTag (length states) tag
+    × IsOverlapSize dl (map layout_of prefix) (layout_of (one_scalar dl tag)) (map layout_of locals) states size
 
 -- a coroutine of these is too large, with those of its locals promoted that its states and conflicts tell: a list is in each order, or
 -- the greatest of them is
@@ -73,16 +90,48 @@ IsCoroutineTooLarge dl prefix locals states conflicts =
     (tag : Scalar) × IsStateTag (length states) tag
     × IsTooLargeWith dl (map layout_of prefix) (layout_of (one_scalar dl tag)) (map layout_of locals) states (promoted_of states (conflicts_of (length locals) conflicts))
 
+-- An enum of variants with these discriminants and fields has its size, by the way in which it is laid out: without a
+-- value it has no bytes, the one that is left has the least size of its list, and several have the size that their
+-- lists allow.
+abbrev pub IsLeastEnum : TargetDataLayout → ReprOptions → (numbers : List ℕ) → (variants : List (List Placed)) → Path
+    → Placed → Type 0
+IsLeastEnum dl repr numbers variants NoValue (nowhere layout mark) = layout.size ≡ 0
+IsLeastEnum dl repr numbers variants (OneList i) (single layout mark index parts) =
+    (index ≡ i) × (fields_of parts ≡ variant_at variants i)
+    × IsLeastSize dl repr AlwaysSized (map layout_of (variant_at variants i)) layout.size
+IsLeastEnum dl repr numbers variants Several (tagged layout mark offset tag encoding arms) =
+    (variants_of arms ≡ variants) × IsEnumSized dl repr numbers variants layout.size
+IsLeastEnum dl repr numbers variants _ _ = ⊥
+
 module _ (dl : TargetDataLayout) where
-  -- a struct has its least size, and so has an enum of which one variant is left; several variants have the size that their lists allow,
-  -- and so has a coroutine; of other types nothing is said
+  -- Each type has its size: scalars, pairs, elements, vectors and unions the one that their rule tells, a struct the
+  -- least of its list; an enum and a coroutine the one that their lists allow. A type laid out as one of another kind
+  -- has none.
   abbrev pub IsLeast : Tree → Placed → Type 0
-  IsLeast (struct repr always_sized all) placed = IsLeastStruct dl repr always_sized (fields_of (parts_of placed)) (size_of placed)
-  IsLeast (enum repr all) (single layout mark index parts) = IsLeastSize dl repr AlwaysSized (map layout_of (fields_of parts)) layout.size
-  IsLeast (enum repr all) (tagged layout mark offset tag encoding arms) = IsEnumSized dl repr (discriminants_of all) (variants_of arms) layout.size
+  IsLeast (scalar s) (one_number layout value) = layout.size ≡ scalar_size dl s
+  IsLeast (pair a b) (two layout parts) = layout.size ≡ pair_size dl a b
+  IsLeast never (nowhere layout mark) = layout.size ≡ 0
+  IsLeast unit (fields layout mark parts) = layout.size ≡ 0
+  IsLeast (array count element) (elements layout n placed) = layout.size ≡ size_of placed * count
+  IsLeast (vector lanes packed element) (lanes_of_vector layout all) =
+      layout.size ≡ vector_size dl (layout_of (element_of all)) lanes packed
+  IsLeast (struct repr always_sized all) (fields layout mark parts) =
+      IsLeastStruct dl repr always_sized (fields_of parts) layout.size
+  IsLeast (union repr all) (together layout mark parts) =
+      layout.size ≡ union_size dl repr (map layout_of (fields_of parts))
+  IsLeast (enum repr all) placed =
+      (variants : List (List Placed)) × VariantsLaying dl all (Ok variants)
+      × IsLeastEnum dl repr (discriminants_of all) variants (path_of true repr (layouts_of variants)) placed
   IsLeast (coroutine prefix locals all conflicts) (placed_states layout pre offset tag arms) =
-      (ps : List Placed) × AreLaying dl locals (Ok ps) × IsCoroutineSized dl (fields_of pre) tag ps all layout.size
-  IsLeast _ placed = ⊤
+      (ps : List Placed) × AreLaying dl locals (Ok ps)
+      × IsCoroutineSized dl (fields_of pre) ps all conflicts layout.size
+  IsLeast _ _ = ⊥
+
+  -- a coroutine whose states may share all their bytes has the size that this allows; of other types nothing is said
+  abbrev pub HasOverlapSize : Tree → Placed → Type 0
+  HasOverlapSize (coroutine prefix locals all conflicts) (placed_states layout pre offset tag arms) =
+      (ps : List Placed) × AreLaying dl locals (Ok ps) × IsOverlapSized dl (fields_of pre) ps all conflicts layout.size
+  HasOverlapSize _ placed = ⊤
 
   abbrev mutual
     -- The first fault is a size: of two scalars, of so many elements, of a struct that is too large in every order, of a vector, of a

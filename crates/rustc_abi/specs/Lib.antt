@@ -6,6 +6,7 @@ pub mod Coroutines
 pub mod Laying
 pub mod Everywhere
 pub mod Least
+pub mod Lists
 pub mod Clash
 pub mod Adding
 pub mod Fault

@@ -2,13 +2,17 @@
 
 use abi_scalar::LayoutCalculatorError;
 use std::alloc::{AllocError, AllocFailed};
+use std::error::Error;
+use std::fmt;
+use std::fmt::Display;
 
 /// Why a tree has no layout.
 #[derive(Clone, Copy, PartialEq, Eq, Debug)]
 pub enum LayError {
     /// The data layout isn't lawful, so that no type has a layout under it.
     UnlawfulDataLayout,
-    /// A list has more items than its index type can name.
+    /// A list has more items than its index type can name, or a state or a conflict of a coroutine
+    /// names a local that isn't there.
     BadIndex,
     /// A scalar is a pointer into a space that the data layout doesn't know, or whose pointers aren't lawful.
     UnknownSpace,
@@ -41,6 +45,57 @@ pub enum LayError {
     /// A growth of memory was refused.
     OutOfMemory,
 }
+
+impl Display for LayError {
+    ghost use Rattle.std.specs.Prelude.{ℕ, List, Some, codes};
+    ghost use Rattle.rustc_abi.specs.declared.error.LayError.TheVariants as refusal;
+
+    ghost output = { λ error. Some (elim error as (λ _. List ℕ) [
+      | refusal.UnlawfulDataLayout ↦ codes "the data layout is not lawful"
+      | refusal.BadIndex ↦ codes "a list is too long, or an index names no local"
+      | refusal.UnknownSpace ↦ codes "a pointer into an unknown address space"
+      | refusal.BadRange ↦ codes "an end of a range does not fit its width"
+      | refusal.BadAlign ↦ codes "an alignment is above 2^29 bytes"
+      | refusal.DuplicateDiscriminant ↦ codes "two variants have one discriminant"
+      | refusal.DiscriminantTooWide ↦ codes "a discriminant does not fit its type"
+      | refusal.NoState ↦ codes "a coroutine has no state"
+      | refusal.LocalTwice ↦ codes "a state holds a local twice"
+      | refusal.UnexpectedUnsized ↦ codes "an unsized type was found where a sized type was expected"
+      | refusal.SizeOverflow ↦ codes "size overflow"
+      | refusal.EmptyUnion ↦ codes "type is a union with no fields"
+      | refusal.ReprConflict ↦ codes "type has an invalid repr"
+      | refusal.ZeroLengthSimdType ↦ codes "invalid simd type definition"
+      | refusal.OversizedSimdType ↦ codes "invalid simd type definition"
+      | refusal.NonPrimitiveSimdType ↦ codes "invalid simd type definition"
+      | refusal.OutOfMemory ↦ codes "out of memory"
+    ]) };
+
+    /// What is wrong; what the calculator refuses in its words.
+    fn fmt<W: fmt::Write>(&self, f: &mut fmt::Formatter<W>) -> fmt::Result {
+        f.write_str(match self {
+            LayError::UnlawfulDataLayout => "the data layout is not lawful",
+            LayError::BadIndex => "a list is too long, or an index names no local",
+            LayError::UnknownSpace => "a pointer into an unknown address space",
+            LayError::BadRange => "an end of a range does not fit its width",
+            LayError::BadAlign => "an alignment is above 2^29 bytes",
+            LayError::DuplicateDiscriminant => "two variants have one discriminant",
+            LayError::DiscriminantTooWide => "a discriminant does not fit its type",
+            LayError::NoState => "a coroutine has no state",
+            LayError::LocalTwice => "a state holds a local twice",
+            LayError::UnexpectedUnsized =>
+                "an unsized type was found where a sized type was expected",
+            LayError::SizeOverflow => "size overflow",
+            LayError::EmptyUnion => "type is a union with no fields",
+            LayError::ReprConflict => "type has an invalid repr",
+            LayError::ZeroLengthSimdType => "invalid simd type definition",
+            LayError::OversizedSimdType => "invalid simd type definition",
+            LayError::NonPrimitiveSimdType => "invalid simd type definition",
+            LayError::OutOfMemory => "out of memory",
+        })
+    }
+}
+
+impl Error for LayError {}
 
 impl From<AllocError> for LayError {
     ghost use Rattle.std.specs.Prelude.{◌≡◌};

@@ -18,7 +18,8 @@ ghost use Rattle.abi_types.specs.Ty.Runs.{IsVariantIndex};
 ghost use Rattle.abi_types.specs.Ty.Walks.{is_sized};
 ghost use Rattle.rustc_abi.specs.Clash.{AreClashingApart, HaveOneOffset};
 ghost use Rattle.rustc_abi.specs.Everywhere.{Everywhere};
-ghost use Rattle.rustc_abi.specs.Least.{IsLeast, IsTooLarge};
+ghost use Rattle.rustc_abi.specs.Least.{HasOverlapSize, IsLeast, IsTooLarge};
+ghost use Rattle.rustc_abi.specs.Lists.{HasLeastLists};
 ghost use Rattle.abi_laid.specs.Unions.{Begins, IsCommon, InUnions};
 ghost use Rattle.abi_laid.specs.Untagged.{UntaggedNamed};
 ghost use Rattle.abi_laid.specs.Reading.{KeepsValues};
@@ -56,12 +57,23 @@ pub fn lay_out(alloc: Global, dl: &TargetDataLayout, tree: &TypeTree) -> Result<
     ensures order { IfOk result (λ laid. endian_of laid ≡ dl.now.endian) }
 
     // How large it is: each struct, and each enum of which one variant is left, has the least size of all orders that its
-    // repr and kind allow, and each other enum the size that its variants' lists allow, with a niche or behind a tag. A
-    // coroutine has the size that its lists allow: for some set of its locals, the list of prefix fields, tag and these has
-    // its least size, and so has the list of each state's others behind it; the size is the greatest of them, rounded up to
-    // the greatest alignment. A size is refused exactly where every such order is too large, or the tagged size is; of a
-    // coroutine, with the set of locals that its states and conflicts tell, where a list is in every order, or the size is.
+    // repr and kind allow, and each other enum the size that its variants' lists allow, with a niche or behind a tag;
+    // one without a present variant has no bytes. A coroutine has the size that its lists allow, with the locals
+    // promoted that its states and conflicts tell: the list of prefix fields, tag and these has its least size, and so
+    // has the list of each state's others behind it; the size is the greatest of them, rounded up to the greatest
+    // alignment. Where each local stands in one state, several states hold locals and no conflict joins two of them, no
+    // local is promoted. Scalars, pairs, arrays, vectors and unions have the size of their rule.
     ensures least { IfOk result (λ laid. Everywhere dl.now (IsLeast dl.now) (tree_of tree.now) (placed_of laid)) }
+    ensures overlap { IfOk result (λ laid.
+        Everywhere dl.now (HasOverlapSize dl.now) (tree_of tree.now) (placed_of laid)) }
+
+    // And how large each list in it is, and not the whole alone: that of a struct, of each variant before the tag grew
+    // or it was moved beside a niche, and each of a coroutine has the least size of its orders, and its fields lie so.
+    ensures each_list { IfOk result (λ laid.
+        Everywhere dl.now (HasLeastLists dl.now) (tree_of tree.now) (placed_of laid)) }
+
+    // A size is refused exactly where every such order is too large, or the tagged size is; of a coroutine where a list
+    // is in every order, or the size is.
     ensures overflow { IfErr result (λ e. e ≡ LayError.SizeOverflow → IsTooLarge dl.now (tree_of tree.now)) }
     ensures too_large { IsLawfulDataLayout dl.now → IsTooLarge dl.now (tree_of tree.now) →
         IsErrAnd result (λ e. (e ≡ LayError.SizeOverflow) ⊎ (e ≡ LayError.OutOfMemory)) }

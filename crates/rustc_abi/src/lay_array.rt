@@ -3,7 +3,7 @@
 ghost use Rattle.std.specs.Prelude.{◌≡◌, ◌<◌, ℕ, Some, IfOk, IfErr, Ok, length, vec_len};
 ghost use Rattle.abi_base.specs.DataLayout.{IsLawfulDataLayout};
 ghost use Rattle.abi_scalar.specs.Lawful.{IsLawfulLayout};
-ghost use Rattle.abi_calc.specs.Array.{array_answer};
+ghost use Rattle.abi_lists.specs.Array.{array_answer};
 ghost use Rattle.abi_laid.specs.Tree.{Tree, array};
 ghost use Rattle.abi_laid.specs.Placed.{layout_of};
 ghost use Rattle.abi_laid.specs.Nodes.{placed_at};

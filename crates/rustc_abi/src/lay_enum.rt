@@ -6,7 +6,7 @@ ghost use Rattle.abi_base.specs.DataLayout.{IsLawfulDataLayout};
 ghost use Rattle.abi_scalar.specs.Lawful.{IsLawfulLayout};
 ghost use Rattle.abi_scalar.specs.Scalar.{IsReadable};
 ghost use Rattle.abi_scalar.specs.Variant.{variant_layout, variants_of};
-ghost use Rattle.abi_calc.specs.List.{HasLawfulAligns};
+ghost use Rattle.abi_lists.specs.List.{HasLawfulAligns};
 ghost use Rattle.abi_laid.specs.Tree.{Variants as VariantTrees, enum};
 ghost use Rattle.abi_laid.specs.Placed.{Placed, layout_of, size_of, tagged};
 ghost use Rattle.abi_laid.specs.Nodes.{encoding_of, tag_offset};

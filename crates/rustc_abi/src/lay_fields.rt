@@ -4,9 +4,9 @@ ghost use Rattle.std.specs.Prelude.{◌≡◌, ◌<◌, ◌≤◌, ◌⊎◌, Li
 ghost use Rattle.abi_base.specs.DataLayout.{IsLawfulDataLayout};
 ghost use Rattle.abi_scalar.specs.Lawful.{IsLawfulLayout};
 ghost use Rattle.abi_scalar.specs.Shape.{listed_offsets};
-ghost use Rattle.abi_calc.specs.Apart.{AreApart};
-ghost use Rattle.abi_calc.specs.List.{HasLawfulAligns};
-ghost use Rattle.abi_calc.specs.ListNiche.{IsNicheOfPart};
+ghost use Rattle.abi_lists.specs.Apart.{AreApart};
+ghost use Rattle.abi_lists.specs.List.{HasLawfulAligns};
+ghost use Rattle.abi_lists.specs.ListNiche.{IsNicheOfPart};
 ghost use Rattle.abi_laid.specs.Tree.{Trees, struct};
 ghost use Rattle.abi_laid.specs.Placed.{Placed, layout_of, size_of};
 ghost use Rattle.rustc_abi.specs.Laying.{AreLaying, IsFieldsAnswer, IsListed, fields_fault, has_bad_align, has_bad_index, is_above_limit, kind_of, most_fields};

@@ -3,7 +3,7 @@
 ghost use Rattle.std.specs.Prelude.{◌≡◌, ◌<◌, ◌≤◌, IfOk, IfErr, Ok, None, length, vec_len, All, map};
 ghost use Rattle.abi_base.specs.DataLayout.{IsLawfulDataLayout};
 ghost use Rattle.abi_scalar.specs.Lawful.{IsLawfulLayout};
-ghost use Rattle.abi_calc.specs.List.{HasLawfulAligns};
+ghost use Rattle.abi_lists.specs.List.{HasLawfulAligns};
 ghost use Rattle.abi_laid.specs.Tree.{Trees, union};
 ghost use Rattle.abi_laid.specs.Placed.{layout_of};
 ghost use Rattle.rustc_abi.specs.Laying.{AreLaying, IsUnionOf, IsUnited, fields_fault, most_fields};

@@ -3,7 +3,7 @@
 ghost use Rattle.std.specs.Prelude.{◌≡◌, ◌<◌, IfOk, IfErr, Ok, length, vec_len};
 ghost use Rattle.abi_base.specs.DataLayout.{IsLawfulDataLayout};
 ghost use Rattle.abi_scalar.specs.Lawful.{IsLawfulLayout};
-ghost use Rattle.abi_calc.specs.Simd.{simd_answer};
+ghost use Rattle.abi_lists.specs.Simd.{simd_answer};
 ghost use Rattle.abi_laid.specs.Tree.{Tree, vector};
 ghost use Rattle.abi_laid.specs.Placed.{layout_of};
 ghost use Rattle.abi_laid.specs.Nodes.{placed_at};

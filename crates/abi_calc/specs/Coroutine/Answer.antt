@@ -8,10 +8,10 @@ use Rattle.abi_scalar.specs.declared.error.LayoutCalculatorError.{LayoutCalculat
 use Rattle.abi_scalar.specs.declared.error.LayoutCalculatorError.TheVariants.{OutOfMemory, SizeOverflow}
 use Rattle.abi_scalar.specs.declared.layout_data.LayoutData.{LayoutData}
 use Rattle.abi_scalar.specs.declared.scalar.Scalar.{Scalar}
+use Rattle.abi_lists.specs.List.{IsListAnswer, IsListError}
 use Rattle.abi_calc.specs.Coroutine.Layout.{coroutine_layout, whole_size}
 use Rattle.abi_calc.specs.Coroutine.Lists.{AreOwnLists, IsFirstOwnError, behind, default_repr, first_list}
 use Rattle.abi_calc.specs.Coroutine.Promotion.{promoted_of}
-use Rattle.abi_calc.specs.List.{IsListAnswer, IsListError}
 
 -- the answer where these locals are promoted, memory aside: the layout that the lists make; else the error of the first list, of
 -- the first state whose list has none, or that the whole is too large. `tag` is the tag and `field` the field that holds it.

@@ -17,13 +17,13 @@ use Rattle.abi_scalar.specs.Niche.{niche_at, niche_size}
 use Rattle.abi_scalar.specs.Range.{numbers_of}
 use Rattle.abi_scalar.specs.Reserve.{HandsOut}
 use Rattle.abi_scalar.specs.Scalar.{IsNumberOf, primitive_of, range_of, scalar_size}
-use Rattle.abi_calc.specs.Apart.{AreApart}
+use Rattle.abi_lists.specs.Apart.{AreApart}
+use Rattle.abi_lists.specs.ListNiche.{IsNicheOfPart}
 use Rattle.abi_calc.specs.Enums.Discriminants.{inhabited_of}
 use Rattle.abi_calc.specs.Enums.Filled.{IsFilled}
 use Rattle.abi_calc.specs.Enums.Path.{is_absent, variant_at}
 use Rattle.abi_calc.specs.Enums.Payload.{BeginsWithTag}
 use Rattle.abi_calc.specs.Enums.Places.{AreApartBehind}
-use Rattle.abi_calc.specs.ListNiche.{IsNicheOfPart}
 
 -- a niche of so many bytes at this place, and each variant's fields, those from a place on: parts that share no byte and end
 -- inside the whole; only the untagged variant's fields may lie where the niche does, as one of them has it

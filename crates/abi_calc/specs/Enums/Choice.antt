@@ -6,10 +6,10 @@ use Rattle.abi_base.specs.declared.struct_kind.StructKind.TheVariants.{AlwaysSiz
 use Rattle.abi_scalar.specs.declared.error.LayoutCalculatorError.{LayoutCalculatorError}
 use Rattle.abi_scalar.specs.declared.layout_data.LayoutData.{LayoutData}
 use Rattle.abi_scalar.specs.declared.repr.ReprOptions.{ReprOptions}
+use Rattle.abi_lists.specs.Part.{free_numbers}
 use Rattle.abi_calc.specs.Enums.Lists.{IsFirstListError}
 use Rattle.abi_calc.specs.Enums.Niche.{niche_layout}
 use Rattle.abi_calc.specs.Enums.Path.{is_free}
-use Rattle.abi_calc.specs.Part.{free_numbers}
 
 -- the niche layout is taken where it is smaller, or as large with more free numbers left
 abbrev pub takes_niche : {F V : Type 0} → TargetDataLayout → (tagged niche : LayoutData F V) → Bool

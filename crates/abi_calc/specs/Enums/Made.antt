@@ -23,12 +23,12 @@ use Rattle.abi_scalar.specs.Niche.{niche_size}
 use Rattle.abi_scalar.specs.Scalar.{primitive_of}
 use Rattle.abi_scalar.specs.Shape.{listed_offsets, listed_order}
 use Rattle.abi_scalar.specs.Variant.{variant_of}
-use Rattle.abi_calc.specs.Apart.{AreAligned}
+use Rattle.abi_lists.specs.Apart.{AreAligned}
+use Rattle.abi_lists.specs.Fields.{greatest_align}
 use Rattle.abi_calc.specs.Enums.Discriminants.{IsTagRange}
 use Rattle.abi_calc.specs.Enums.Growth.{moved}
 use Rattle.abi_calc.specs.Enums.Lists.{behind_tag}
 use Rattle.abi_calc.specs.Enums.Several.{IsAskedFor}
-use Rattle.abi_calc.specs.Fields.{greatest_align}
 use Rattle.abi_calc.specs.Made.{AreFieldLists}
 use Rattle.abi_calc.specs.Marks.{HasEnumMarks}
 

@@ -20,12 +20,12 @@ use Rattle.abi_scalar.specs.Reserve.{reserved}
 use Rattle.abi_scalar.specs.Scalar.{primitive_of}
 use Rattle.abi_scalar.specs.Shape.{IsListed, listed_offsets}
 use Rattle.abi_scalar.specs.Variant.{variant_of}
+use Rattle.abi_lists.specs.Fields.{greatest_repr_align, greatest_unadjusted, seed_with}
+use Rattle.abi_lists.specs.Part.{max_align}
+use Rattle.abi_lists.specs.Placement.{source_order}
 use Rattle.abi_calc.specs.declared.enums.niche.Room.{Room}
 use Rattle.abi_calc.specs.Enums.Path.{is_absent, variant_at}
 use Rattle.abi_calc.specs.Enums.Tagged.{lists_align, lists_size}
-use Rattle.abi_calc.specs.Fields.{greatest_repr_align, greatest_unadjusted, seed_with}
-use Rattle.abi_calc.specs.Part.{max_align}
-use Rattle.abi_calc.specs.Placement.{source_order}
 
 -- the place of the last of the greatest: the first that no later one reaches
 abbrev pub last_greatest : List ℕ → ℕ

@@ -15,11 +15,11 @@ use Rattle.abi_scalar.specs.declared.scalar.Scalar.TheVariants.{Initialized, Uni
 use Rattle.abi_scalar.specs.declared.variants.VariantLayout.{VariantLayout}
 use Rattle.abi_scalar.specs.Range.{full_range}
 use Rattle.abi_scalar.specs.Scalar.{IsLawfulScalar, primitive_of, scalar_size}
+use Rattle.abi_lists.specs.ListView.{pair_view}
+use Rattle.abi_lists.specs.Part.{is_empty_view}
 use Rattle.abi_calc.specs.declared.enums.payload.Payload.{Payload}
 use Rattle.abi_calc.specs.declared.enums.payload.Payload.TheVariants.{Nothing, One, Other}
 use Rattle.abi_calc.specs.Enums.Single.{widened}
-use Rattle.abi_calc.specs.ListView.{pair_view}
-use Rattle.abi_calc.specs.Part.{is_empty_view}
 
 -- what a field with bytes is: one scalar at its offset, or something else
 abbrev pub payload_of_view : TargetDataLayout → BackendRepr → (offset : ℕ) → Payload

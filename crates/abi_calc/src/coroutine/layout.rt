@@ -12,11 +12,9 @@ ghost use Rattle.abi_calc.specs.Coroutine.States.{HasFields, ranks_of, state_lay
 use crate::coroutine::states::{listed_order, ranks_below, state_layout};
 use crate::enums::lists::listed_offsets;
 use crate::enums::tagged::all_uninhabited;
-use crate::fields::{greatest_align, greatest_size};
-use crate::list::field_offsets;
-use crate::list_repr::rounded;
 use abi_base::{AbiAlign, Align, HasDataLayout, Integer, Primitive, Size, TargetDataLayout};
 use abi_index::{DenseBitSet, Hash64, Idx, IndexVec};
+use abi_lists::{field_offsets, greatest_align, greatest_size, rounded};
 use abi_scalar::{
     BackendRepr, FieldsShape, LayoutCalculatorError, LayoutData, Scalar, TagEncoding,
     VariantLayout, Variants, WrappingRange,
@@ -204,7 +202,7 @@ fn layout_of_size<FieldIdx: Idx, VariantIdx: Idx, LocalIdx: Idx>(
 
 /// The layout of a coroutine with so many prefix fields, from the layouts of its lists. Refused as `SizeOverflow` where the
 /// size isn't below the data layout's bound.
-pub fn layout_of_lists<FieldIdx: Idx, VariantIdx: Idx, LocalIdx: Idx, F>(
+pub(crate) fn layout_of_lists<FieldIdx: Idx, VariantIdx: Idx, LocalIdx: Idx, F>(
     alloc: Global,
     dl: &TargetDataLayout,
     prefix: usize,

@@ -4,11 +4,11 @@ ghost use Rattle.std.specs.Prelude.{◌≡◌, ◌+◌, ◌<◌, ◌≤◌, ◌�
 ghost use Rattle.abi_base.specs.DataLayout.{IsLawfulDataLayout, size_bound};
 ghost use Rattle.abi_index.specs.BitSet.{domain_size};
 ghost use Rattle.abi_scalar.specs.Lawful.{IsLawfulLayout};
+ghost use Rattle.abi_lists.specs.List.{IsListError};
+ghost use Rattle.abi_lists.specs.Placement.{IsLawfulPrefix, IsSized};
 ghost use Rattle.abi_calc.specs.Coroutine.Lists.{behind, default_repr, first_list, own_list};
 ghost use Rattle.abi_calc.specs.Coroutine.Sizes.{own_lists};
 ghost use Rattle.abi_calc.specs.Enums.Lists.{AreGoodLists, IsFirstListError, IsGoodList};
-ghost use Rattle.abi_calc.specs.List.{IsListError};
-ghost use Rattle.abi_calc.specs.Placement.{IsLawfulPrefix, IsSized};
 
 use crate::calculator::LayoutCalculator;
 use abi_base::{HasDataLayout, StructKind};
@@ -17,14 +17,14 @@ use abi_scalar::{LayoutCalculatorError, LayoutData, LayoutHandle, ReprOptions};
 use std::alloc::{AllocError, Global};
 
 /// The `repr` of each list: it asks for nothing.
-pub fn default_repr() -> ReprOptions
+pub(crate) fn default_repr() -> ReprOptions
     ensures { result ≡ default_repr }
 {
     ReprOptions::default()
 }
 
 /// Of which kind the states' lists are: each lies behind the first one.
-pub fn behind<FieldIdx: Idx, VariantIdx: Idx>(
+pub(crate) fn behind<FieldIdx: Idx, VariantIdx: Idx>(
     first: &LayoutData<FieldIdx, VariantIdx>,
 ) -> StructKind
     ensures { result ≡ behind first.now }
@@ -33,7 +33,7 @@ pub fn behind<FieldIdx: Idx, VariantIdx: Idx>(
 }
 
 /// The fields of the first list: the prefix fields, the one that holds the tag, and the promoted locals, ascending.
-pub fn first_fields<FieldIdx: Idx, LocalIdx: Idx, F: Copy>(
+pub(crate) fn first_fields<FieldIdx: Idx, LocalIdx: Idx, F: Copy>(
     prefix: IndexVec<FieldIdx, F>,
     tag: F,
     locals: &[F],

@@ -5,9 +5,9 @@ ghost use Rattle.std.specs.List.{AllPairs};
 ghost use Rattle.std.specs.Option.{option_to_list};
 ghost use Rattle.abi_index.specs.BitSet.{domain_size, is_member, members_of};
 ghost use Rattle.abi_scalar.specs.Shape.{IsListed, listed_offsets, listed_order};
+ghost use Rattle.abi_lists.specs.Placement.{source_order};
 ghost use Rattle.abi_calc.specs.Coroutine.Lists.{own_of};
 ghost use Rattle.abi_calc.specs.Coroutine.States.{HasFields, joined_places, own_places, places_with, rank_of, state_offsets, state_order, stitched_layout};
-ghost use Rattle.abi_calc.specs.Placement.{source_order};
 
 use crate::enums::lists::listed_offsets;
 use abi_base::Size;
@@ -16,7 +16,7 @@ use abi_scalar::{FieldsShape, LayoutData, VariantLayout};
 use std::alloc::{AllocError, Global};
 
 /// How many promoted locals are below each of so many locals: a promoted one's place in the list of them.
-pub fn ranks_below<LocalIdx: Idx>(
+pub(crate) fn ranks_below<LocalIdx: Idx>(
     alloc: Global,
     promoted: &DenseBitSet<LocalIdx>,
     count: usize,
@@ -37,7 +37,7 @@ pub fn ranks_below<LocalIdx: Idx>(
 }
 
 /// The fields as they follow one another in memory, where they are listed one by one.
-pub fn listed_order<FieldIdx: Idx>(shape: &FieldsShape<FieldIdx>) -> &[FieldIdx]
+pub(crate) fn listed_order<FieldIdx: Idx>(shape: &FieldsShape<FieldIdx>) -> &[FieldIdx]
     requires { IsListed shape.now }
     ensures { result.now ≡ listed_order shape.now }
 {
@@ -195,7 +195,7 @@ fn state_order<FieldIdx: Idx, LocalIdx: Idx>(
 
 /// A state in the whole: its own list, with the promoted locals that it holds. The promoted ones lie at these offsets, by
 /// rank, and follow one another in memory as these ranks do; so many of them are `below` each local.
-pub fn state_layout<FieldIdx: Idx, VariantIdx: Idx, LocalIdx: Idx>(
+pub(crate) fn state_layout<FieldIdx: Idx, VariantIdx: Idx, LocalIdx: Idx>(
     alloc: Global,
     promoted: &DenseBitSet<LocalIdx>,
     below: &[usize],

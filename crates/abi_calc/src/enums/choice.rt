@@ -4,9 +4,9 @@ ghost use Rattle.std.specs.Prelude.{◌≡◌, IfSome};
 ghost use Rattle.abi_scalar.specs.Lawful.{IsLawfulNiche};
 ghost use Rattle.abi_calc.specs.Enums.Choice.{better, takes_niche};
 
-use crate::part::free_numbers;
 use abi_base::TargetDataLayout;
 use abi_index::Idx;
+use abi_lists::free_numbers;
 use abi_scalar::LayoutData;
 
 /// Whether the layout with a niche is the better one: it is smaller, or as large with more free numbers left.
@@ -26,7 +26,7 @@ fn takes_niche<FieldIdx: Idx, VariantIdx: Idx>(
 }
 
 /// The better of both layouts, the tagged one where there is no other.
-pub fn better<FieldIdx: Idx, VariantIdx: Idx>(
+pub(crate) fn better<FieldIdx: Idx, VariantIdx: Idx>(
     dl: &TargetDataLayout,
     tagged: LayoutData<FieldIdx, VariantIdx>,
     niche: Option<LayoutData<FieldIdx, VariantIdx>>,

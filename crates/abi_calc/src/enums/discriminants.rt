@@ -7,9 +7,9 @@ ghost use Rattle.abi_base.specs.DataLayout.{IsLawfulDataLayout};
 ghost use Rattle.abi_base.specs.Size.{signed_value};
 ghost use Rattle.abi_calc.specs.Enums.Discriminants.{IsAskedWith, IsGreatestOf, IsLeastOf, IsTagRange, counting_of, counts};
 
-use crate::list::any_uninhabited;
 use abi_base::{Integer, Size, TargetDataLayout};
 use abi_index::{Idx, IndexVec};
+use abi_lists::any_uninhabited;
 use abi_scalar::{LayoutHandle, ReprOptions, WrappingRange};
 use std::alloc::{AllocError, Global};
 
@@ -22,7 +22,7 @@ pub struct Asked {
 }
 
 /// The discriminants that the iterator gives; there is room for `count` of them before any is asked for.
-pub fn listed<VariantIdx: Idx, I: Iterator<Item = (VariantIdx, u128)>>(
+pub(crate) fn listed<VariantIdx: Idx, I: Iterator<Item = (VariantIdx, u128)>>(
     alloc: Global,
     count: usize,
     discriminants: I,
@@ -54,7 +54,7 @@ fn counts<FieldIdx: Idx, VariantIdx: Idx, F: LayoutHandle<FieldIdx, VariantIdx>>
 }
 
 /// The discriminants that count.
-pub fn counting_of<FieldIdx: Idx, VariantIdx: Idx, F: LayoutHandle<FieldIdx, VariantIdx>>(
+pub(crate) fn counting_of<FieldIdx: Idx, VariantIdx: Idx, F: LayoutHandle<FieldIdx, VariantIdx>>(
     alloc: Global,
     repr: &ReprOptions,
     variants: &[IndexVec<FieldIdx, F>],
@@ -103,7 +103,7 @@ fn signed_ends(size: Size, values: &[u128]) -> Asked
 }
 
 /// The least and the greatest of 0 and what the discriminants stand for: the tag's integer has to hold them.
-pub fn asked_with(dl: &TargetDataLayout, repr: &ReprOptions, values: &[u128]) -> Asked
+pub(crate) fn asked_with(dl: &TargetDataLayout, repr: &ReprOptions, values: &[u128]) -> Asked
     requires { IsLawfulDataLayout dl.now }
     ensures { IsAskedWith dl.now repr.now values.now result.least result.greatest }
 {
@@ -119,7 +119,11 @@ pub fn asked_with(dl: &TargetDataLayout, repr: &ReprOptions, values: &[u128]) ->
 }
 
 /// The range of a tag of so many bytes.
-pub fn tag_range(alloc: Global, size: Size, values: &[u128]) -> Result<WrappingRange, AllocError>
+pub(crate) fn tag_range(
+    alloc: Global,
+    size: Size,
+    values: &[u128],
+) -> Result<WrappingRange, AllocError>
     requires some { 1 ≤ size }
     requires most { size ≤ 16 }
     ensures { IfOk result (IsTagRange size values.now) }

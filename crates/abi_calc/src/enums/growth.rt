@@ -2,9 +2,9 @@
 
 ghost use Rattle.std.specs.Prelude.{◌≡◌, ◌+◌, ◌≤◌, IfOk, None, Some, length, map, min, slice_get, unwrap_or};
 ghost use Rattle.abi_scalar.specs.Order.{HasPlaceForEach, indices_by_offset};
+ghost use Rattle.abi_lists.specs.Part.{max_align};
 ghost use Rattle.abi_calc.specs.Enums.Growth.{align_or, first_align, grown_tag, grown_variant, moved, start_align};
 ghost use Rattle.abi_calc.specs.Enums.Lists.{AreListsOf};
-ghost use Rattle.abi_calc.specs.Part.{max_align};
 
 use crate::enums::path::{is_free, takes_no_room};
 use abi_base::{Align, Integer, Size, TargetDataLayout};
@@ -67,7 +67,7 @@ fn least_with(least: Align, other: Option<Align>) -> Align
 
 /// The least of those alignments over the variants, whose lists these are; where no variant has one the greatest there
 /// is, which no integer has.
-pub fn start_align<FieldIdx: Idx, VariantIdx: Idx, F: LayoutHandle<FieldIdx, VariantIdx>>(
+pub(crate) fn start_align<FieldIdx: Idx, VariantIdx: Idx, F: LayoutHandle<FieldIdx, VariantIdx>>(
     variants: &[IndexVec<FieldIdx, F>],
     lists: &[LayoutData<FieldIdx, VariantIdx>],
 ) -> Align
@@ -83,7 +83,12 @@ pub fn start_align<FieldIdx: Idx, VariantIdx: Idx, F: LayoutHandle<FieldIdx, Var
 }
 
 /// The tag's integer: the one that was asked for, or where the layout is free a larger one of this size and alignment.
-pub fn grown_tag(dl: &TargetDataLayout, repr: &ReprOptions, asked: Integer, start: Align) -> Integer
+pub(crate) fn grown_tag(
+    dl: &TargetDataLayout,
+    repr: &ReprOptions,
+    asked: Integer,
+    start: Align,
+) -> Integer
     ensures { result ≡ grown_tag dl.now repr.now asked start }
 {
     if !is_free(repr) {
@@ -96,7 +101,7 @@ pub fn grown_tag(dl: &TargetDataLayout, repr: &ReprOptions, asked: Integer, star
 }
 
 /// Where a field lies beside a tag that grew from the old size to the new one.
-pub fn moved(old: Size, new: Size, offset: Size) -> Size
+pub(crate) fn moved(old: Size, new: Size, offset: Size) -> Size
     ensures { result ≡ moved old new offset }
 {
     if offset == old { new } else { offset }
@@ -120,7 +125,7 @@ fn moved_offsets<FieldIdx: Idx>(
 }
 
 /// The variant beside a tag that grew from the old size to the new one.
-pub fn grown_variant<FieldIdx: Idx>(
+pub(crate) fn grown_variant<FieldIdx: Idx>(
     alloc: Global,
     old: Size,
     new: Size,

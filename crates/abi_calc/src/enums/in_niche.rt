@@ -8,7 +8,7 @@ ghost use Rattle.abi_scalar.specs.declared.variants.TagEncoding.TheVariants.{Nic
 ghost use Rattle.abi_scalar.specs.Niche.{IsReadableNiche, niche_size};
 ghost use Rattle.abi_scalar.specs.Reserve.{reserved};
 ghost use Rattle.abi_scalar.specs.Scalar.{IsLawfulScalar};
-ghost use Rattle.abi_calc.specs.List.{HasLawfulAligns};
+ghost use Rattle.abi_lists.specs.List.{HasLawfulAligns};
 ghost use Rattle.abi_calc.specs.Enums.Choice.{IsNicheAnswer};
 ghost use Rattle.abi_calc.specs.Enums.Lists.{AreGoodLists, AreListLayouts};
 ghost use Rattle.abi_calc.specs.Enums.Niche.{IsRoomy, IsSmallList, any_niche, has_niche, if_placed, niche_layout, niche_of_list, others_empty, room_beside, span_count, variants_from, view_with};
@@ -17,10 +17,9 @@ use crate::calculator::LayoutCalculator;
 use crate::enums::niche::{Room, others_empty, placed_variants, span_of, untagged_of, view_with};
 use crate::enums::path::is_free;
 use crate::enums::tagged::{all_uninhabited, lists_size};
-use crate::fields::{greatest_align, greatest_repr_align, greatest_unadjusted, seed_with};
-use crate::one_item::one;
 use abi_base::{AbiAlign, Align, HasDataLayout, Size, StructKind, TargetDataLayout};
 use abi_index::{Idx, IndexVec};
+use abi_lists::{greatest_align, greatest_repr_align, greatest_unadjusted, one, seed_with};
 use abi_scalar::{
     BackendRepr, FieldsShape, LayoutCalculatorError, LayoutData, LayoutHandle, Niche,
     RangeInclusive, ReprOptions, Scalar, TagEncoding, VariantLayout, Variants,
@@ -185,7 +184,7 @@ fn niche_at<FieldIdx: Idx, VariantIdx: Idx>(
 }
 
 /// The layout with a niche, where there is one, of variants whose fields have these layouts as always sized lists.
-pub fn niche_of_lists<FieldIdx: Idx, VariantIdx: Idx, F: LayoutHandle<FieldIdx, VariantIdx>>(
+pub(crate) fn niche_of_lists<FieldIdx: Idx, VariantIdx: Idx, F: LayoutHandle<FieldIdx, VariantIdx>>(
     alloc: Global,
     dl: &TargetDataLayout,
     repr: &ReprOptions,

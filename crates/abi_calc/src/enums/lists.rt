@@ -4,19 +4,19 @@ ghost use Rattle.std.specs.Prelude.{◌≡◌, ◌+◌, ◌≤◌, ◌⊎◌, Al
 ghost use Rattle.abi_base.specs.DataLayout.{IsLawfulDataLayout, size_bound};
 ghost use Rattle.abi_scalar.specs.Lawful.{IsLawfulLayout};
 ghost use Rattle.abi_scalar.specs.Shape.{IsListed, listed_offsets};
-ghost use Rattle.abi_calc.specs.List.{HasLawfulAligns, IsListError};
-ghost use Rattle.abi_calc.specs.Placement.{IsLawfulPrefix, IsNonEmptyIfUnsized, IsSized};
+ghost use Rattle.abi_lists.specs.List.{HasLawfulAligns, IsListError};
+ghost use Rattle.abi_lists.specs.Placement.{IsLawfulPrefix, IsNonEmptyIfUnsized, IsSized};
 ghost use Rattle.abi_calc.specs.Enums.Lists.{AreGoodLists, AreListLayouts, AreListsOf, IsFirstListError, IsGoodList, align_with_all, behind_tag, tag_align};
 
 use crate::calculator::LayoutCalculator;
-use crate::fields::greatest_align;
 use abi_base::{Align, HasDataLayout, Integer, Size, StructKind, TargetDataLayout};
 use abi_index::{Idx, IndexVec};
+use abi_lists::greatest_align;
 use abi_scalar::{FieldsShape, LayoutCalculatorError, LayoutData, LayoutHandle, ReprOptions};
 use std::alloc::Global;
 
 /// The offsets of fields that are listed one by one.
-pub fn listed_offsets<FieldIdx: Idx>(shape: &FieldsShape<FieldIdx>) -> &[Size]
+pub(crate) fn listed_offsets<FieldIdx: Idx>(shape: &FieldsShape<FieldIdx>) -> &[Size]
     requires { IsListed shape.now }
     ensures { result.now ≡ listed_offsets shape.now }
 {
@@ -41,7 +41,7 @@ fn align_with_all<FieldIdx: Idx, VariantIdx: Idx, F: LayoutHandle<FieldIdx, Vari
 }
 
 /// Of which kind the variants' lists are: each lies behind the tag; under C behind as much as a union of them would.
-pub fn behind_tag<FieldIdx: Idx, VariantIdx: Idx, F: LayoutHandle<FieldIdx, VariantIdx>>(
+pub(crate) fn behind_tag<FieldIdx: Idx, VariantIdx: Idx, F: LayoutHandle<FieldIdx, VariantIdx>>(
     dl: &TargetDataLayout,
     repr: &ReprOptions,
     tag: Integer,

@@ -3,14 +3,14 @@
 ghost use Rattle.std.specs.Prelude.{◌≡◌, ◌==◌, ◌&&◌, ◌||◌, ◌+◌, ◌++◌, ◌∷◌, ◌^◌, ◌<◌, ◌≤◌, [], All, IfOk, List, Some, if◌then◌else◌, length, map, nat_le, not, ℕ};
 ghost use Rattle.abi_scalar.specs.Shape.{IsListed, listed_offsets};
 ghost use Rattle.abi_scalar.specs.Variant.{variant_of};
+ghost use Rattle.abi_lists.specs.Part.{max_align};
 ghost use Rattle.abi_calc.specs.Enums.Path.{is_absent};
-ghost use Rattle.abi_calc.specs.Part.{max_align};
 ghost use Rattle.abi_calc.specs.Enums.Niche.{IsRoomy, IsSmallList, beside_niche, moved_on, needing_numbers, others_empty, place_after, span_of, untagged_of, variants_from, view_with, without_niche};
 
 use crate::enums::path::is_absent;
-use crate::list_repr::rounded;
 use abi_base::Size;
 use abi_index::{Idx, IndexVec};
+use abi_lists::rounded;
 use abi_scalar::{BackendRepr, LayoutData, LayoutHandle, Scalar, VariantLayout};
 use std::alloc::{AllocError, Global};
 
@@ -36,7 +36,7 @@ fn reaches<FieldIdx: Idx, VariantIdx: Idx>(
 }
 
 /// The variant to which no number is given: the last of those whose lists are greatest.
-pub fn untagged_of<FieldIdx: Idx, VariantIdx: Idx>(
+pub(crate) fn untagged_of<FieldIdx: Idx, VariantIdx: Idx>(
     lists: &[LayoutData<FieldIdx, VariantIdx>],
 ) -> usize
     ensures { result ≡ untagged_of lists.now }
@@ -72,7 +72,7 @@ fn span_to(span: Option<(usize, usize)>, index: usize) -> Option<(usize, usize)>
 }
 
 /// The first and the last of the variants that need a number.
-pub fn span_of<FieldIdx: Idx, VariantIdx: Idx, F: LayoutHandle<FieldIdx, VariantIdx>>(
+pub(crate) fn span_of<FieldIdx: Idx, VariantIdx: Idx, F: LayoutHandle<FieldIdx, VariantIdx>>(
     untagged: usize,
     variants: &[IndexVec<FieldIdx, F>],
 ) -> Option<(usize, usize)>
@@ -209,7 +209,7 @@ fn placed<FieldIdx: Idx, VariantIdx: Idx>(
 }
 
 /// The variants: the untagged one as it is, the others beside its niche, if there is room for each.
-pub fn placed_variants<FieldIdx: Idx, VariantIdx: Idx>(
+pub(crate) fn placed_variants<FieldIdx: Idx, VariantIdx: Idx>(
     alloc: Global,
     room: &Room,
     untagged: usize,
@@ -233,7 +233,7 @@ pub fn placed_variants<FieldIdx: Idx, VariantIdx: Idx>(
 }
 
 /// The untagged variant's view, with the numbers of the others.
-pub fn view_with(offset: Size, tag: Scalar, view: BackendRepr) -> BackendRepr
+pub(crate) fn view_with(offset: Size, tag: Scalar, view: BackendRepr) -> BackendRepr
     ensures { result ≡ view_with offset tag view }
 {
     match view {
@@ -269,7 +269,10 @@ fn stays_empty<FieldIdx: Idx>(
 }
 
 /// Whether all variants but the untagged one have no bytes.
-pub fn others_empty<FieldIdx: Idx>(untagged: usize, variants: &[VariantLayout<FieldIdx>]) -> bool
+pub(crate) fn others_empty<FieldIdx: Idx>(
+    untagged: usize,
+    variants: &[VariantLayout<FieldIdx>],
+) -> bool
     ensures { result ≡ others_empty untagged 0 variants.now }
 {
     for index in 0..variants.len() {

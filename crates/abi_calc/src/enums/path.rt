@@ -4,8 +4,8 @@ ghost use Rattle.std.specs.Prelude.{◌≡◌, ◌-◌, length, map};
 ghost use Rattle.std.specs.List.{find, list_all, range_with_len};
 ghost use Rattle.abi_calc.specs.Enums.Path.{is_absent, is_free, is_present, path_of, takes_no_room, variant_at};
 
-use crate::list::any_uninhabited;
 use abi_index::{Idx, IndexVec};
+use abi_lists::any_uninhabited;
 use abi_scalar::{LayoutData, LayoutHandle, ReprOptions};
 
 /// Which way a type with variants is laid out.
@@ -20,7 +20,7 @@ pub enum Path {
 }
 
 /// Whether the type is sized, has no bytes and is aligned to one.
-pub fn takes_no_room<FieldIdx: Idx, VariantIdx: Idx>(
+pub(crate) fn takes_no_room<FieldIdx: Idx, VariantIdx: Idx>(
     layout: &LayoutData<FieldIdx, VariantIdx>,
 ) -> bool
     ensures { result ≡ takes_no_room layout.now }
@@ -43,7 +43,7 @@ fn all_take_no_room<FieldIdx: Idx, VariantIdx: Idx, F: LayoutHandle<FieldIdx, Va
 }
 
 /// Whether a variant with these fields is absent: it has no values and takes no room.
-pub fn is_absent<FieldIdx: Idx, VariantIdx: Idx, F: LayoutHandle<FieldIdx, VariantIdx>>(
+pub(crate) fn is_absent<FieldIdx: Idx, VariantIdx: Idx, F: LayoutHandle<FieldIdx, VariantIdx>>(
     fields: &[F],
 ) -> bool
     ensures { result ≡ is_absent (map F.layout_of fields.now) }
@@ -52,7 +52,7 @@ pub fn is_absent<FieldIdx: Idx, VariantIdx: Idx, F: LayoutHandle<FieldIdx, Varia
 }
 
 /// Whether the layout of the variants is free: neither C nor an integer is asked for.
-pub fn is_free(repr: &ReprOptions) -> bool
+pub(crate) fn is_free(repr: &ReprOptions) -> bool
     ensures { result ≡ is_free repr.now }
 {
     !repr.inhibit_enum_layout_opt()
@@ -86,7 +86,7 @@ fn present_from<FieldIdx: Idx, VariantIdx: Idx, F: LayoutHandle<FieldIdx, Varian
 }
 
 /// Which way a struct, or an enum, with these variants is laid out.
-pub fn path_of<FieldIdx: Idx, VariantIdx: Idx, F: LayoutHandle<FieldIdx, VariantIdx>>(
+pub(crate) fn path_of<FieldIdx: Idx, VariantIdx: Idx, F: LayoutHandle<FieldIdx, VariantIdx>>(
     is_enum: bool,
     repr: &ReprOptions,
     variants: &[IndexVec<FieldIdx, F>],

@@ -14,9 +14,9 @@ ghost use Rattle.abi_calc.specs.Enums.Tagged.{payloads_of};
 use crate::enums::growth::moved;
 use crate::enums::lists::listed_offsets;
 use crate::enums::single::widened;
-use crate::list_view::pair_view;
 use abi_base::{Align, HasDataLayout, Primitive, Size, TargetDataLayout};
 use abi_index::{Idx, IndexVec};
+use abi_lists::pair_view;
 use abi_scalar::{BackendRepr, LayoutData, LayoutHandle, Scalar, VariantLayout, WrappingRange};
 
 /// What one variant holds beside the tag.
@@ -63,7 +63,7 @@ fn beside(first: Payload, second: Payload) -> Payload
 
 /// What a variant's fields are together, beside a tag that grew from the old size to the new one; the offsets are those
 /// beside the old tag.
-pub fn payload_of<FieldIdx: Idx, VariantIdx: Idx, F: LayoutHandle<FieldIdx, VariantIdx>>(
+pub(crate) fn payload_of<FieldIdx: Idx, VariantIdx: Idx, F: LayoutHandle<FieldIdx, VariantIdx>>(
     dl: &TargetDataLayout,
     old: Size,
     new: Size,
@@ -289,7 +289,7 @@ fn beside_tag(
 
 /// How a code generator sees a tagged enum of this size and alignment.
 #[tactic(auto, using(crate::proofs::EnumPayload::tag_known))]
-pub fn tagged_view<FieldIdx: Idx, VariantIdx: Idx, F: LayoutHandle<FieldIdx, VariantIdx>>(
+pub(crate) fn tagged_view<FieldIdx: Idx, VariantIdx: Idx, F: LayoutHandle<FieldIdx, VariantIdx>>(
     dl: &TargetDataLayout,
     tag: Scalar,
     size: Size,
@@ -345,7 +345,7 @@ fn takes_view<FieldIdx: Idx>(view: &BackendRepr, variant: &VariantLayout<FieldId
 }
 
 /// The variant as a part of an enum of this view and size.
-pub fn seen_as<FieldIdx: Idx>(
+pub(crate) fn seen_as<FieldIdx: Idx>(
     view: BackendRepr,
     size: Size,
     mut variant: VariantLayout<FieldIdx>,

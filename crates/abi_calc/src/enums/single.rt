@@ -7,11 +7,11 @@ ghost use Rattle.abi_scalar.specs.Lawful.{IsLawfulLayout};
 ghost use Rattle.abi_scalar.specs.Scalar.{IsLawfulScalar};
 ghost use Rattle.abi_scalar.specs.Order.{HasPlaceForEach, IsAscending};
 ghost use Rattle.abi_scalar.specs.Shape.{listed_offsets};
-ghost use Rattle.abi_calc.specs.Answer.{IsAnswer};
-ghost use Rattle.abi_calc.specs.Apart.{AreApart};
-ghost use Rattle.abi_calc.specs.Least.{IsEachOrderTooLarge, IsLeastSize, LiesInSomeOrder};
-ghost use Rattle.abi_calc.specs.List.{AreSized, HasLawfulAligns};
-ghost use Rattle.abi_calc.specs.Placement.{IsLawfulPrefix, IsNonEmptyIfUnsized};
+ghost use Rattle.abi_lists.specs.Answer.{IsAnswer};
+ghost use Rattle.abi_lists.specs.Apart.{AreApart};
+ghost use Rattle.abi_lists.specs.Least.{IsEachOrderTooLarge, IsLeastSize, LiesInSomeOrder};
+ghost use Rattle.abi_lists.specs.List.{AreSized, HasLawfulAligns};
+ghost use Rattle.abi_lists.specs.Placement.{IsLawfulPrefix, IsNonEmptyIfUnsized};
 ghost use Rattle.abi_calc.specs.Enums.Single.{HasLawfulScalars, IsSingleAnswer, allowed_niche, allowed_view, single_kind, widened, widened_view};
 
 use crate::calculator::LayoutCalculator;
@@ -24,7 +24,7 @@ use abi_scalar::{
 use std::alloc::Global;
 
 /// Of which kind the list of a type with one variant of so many fields is.
-pub fn single_kind(is_enum: bool, always_sized: bool, count: usize) -> StructKind
+pub(crate) fn single_kind(is_enum: bool, always_sized: bool, count: usize) -> StructKind
     ensures kind { result ≡ single_kind is_enum always_sized count }
     ensures tail { IsNonEmptyIfUnsized result count }
 {
@@ -36,7 +36,7 @@ pub fn single_kind(is_enum: bool, always_sized: bool, count: usize) -> StructKin
 }
 
 /// The scalar, holding every number of its width where it holds numbers.
-pub fn widened(dl: &TargetDataLayout, scalar: Scalar) -> Scalar
+pub(crate) fn widened(dl: &TargetDataLayout, scalar: Scalar) -> Scalar
     requires data_layout { IsLawfulDataLayout dl.now }
     requires scalar { IsLawfulScalar dl.now scalar }
     ensures { result ≡ widened dl.now scalar }

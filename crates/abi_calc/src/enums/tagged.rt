@@ -8,8 +8,8 @@ ghost use Rattle.abi_scalar.specs.Lawful.{IsLawfulLayout};
 ghost use Rattle.abi_scalar.specs.Scalar.{IsLawfulScalar, scalar_size};
 ghost use Rattle.abi_scalar.specs.Shape.{IsListed};
 ghost use Rattle.abi_scalar.specs.Variant.{variant_of};
-ghost use Rattle.abi_calc.specs.Answer.{IsAnswer};
-ghost use Rattle.abi_calc.specs.List.{AreSized, HasLawfulAligns};
+ghost use Rattle.abi_lists.specs.Answer.{IsAnswer};
+ghost use Rattle.abi_lists.specs.List.{AreSized, HasLawfulAligns};
 ghost use Rattle.abi_calc.specs.Enums.Growth.{grown_variant};
 ghost use Rattle.abi_calc.specs.Enums.Lists.{AreListsOf, HaveGoodLists, behind_tag};
 ghost use Rattle.abi_calc.specs.Enums.Payload.{seen_as};
@@ -22,13 +22,12 @@ use crate::enums::discriminants::tag_range;
 use crate::enums::growth::{grown_tag, grown_variant, start_align};
 use crate::enums::lists::behind_tag;
 use crate::enums::payload::{seen_as, tagged_view};
-use crate::fields::{
-    greatest_align, greatest_repr_align, greatest_size, greatest_unadjusted, seed_with,
-};
-use crate::list_repr::rounded;
-use crate::one_item::one;
 use abi_base::{AbiAlign, Align, HasDataLayout, Integer, Primitive, Size, TargetDataLayout};
 use abi_index::{Idx, IndexVec};
+use abi_lists::{
+    greatest_align, greatest_repr_align, greatest_size, greatest_unadjusted, one, rounded,
+    seed_with,
+};
 use abi_scalar::{
     BackendRepr, FieldsShape, LayoutCalculatorError, LayoutData, LayoutHandle, Niche, ReprOptions,
     Scalar, TagEncoding, VariantLayout, Variants,
@@ -36,7 +35,7 @@ use abi_scalar::{
 use std::alloc::{AllocError, Global};
 
 /// The greatest size of the variants' lists, rounded up to the greatest alignment.
-pub fn lists_size<FieldIdx: Idx, VariantIdx: Idx>(
+pub(crate) fn lists_size<FieldIdx: Idx, VariantIdx: Idx>(
     dl: &TargetDataLayout,
     lists: &[LayoutData<FieldIdx, VariantIdx>],
     align: Align,
@@ -50,7 +49,7 @@ pub fn lists_size<FieldIdx: Idx, VariantIdx: Idx>(
 }
 
 /// Whether no variant has values.
-pub fn all_uninhabited<FieldIdx: Idx, VariantIdx: Idx>(
+pub(crate) fn all_uninhabited<FieldIdx: Idx, VariantIdx: Idx>(
     lists: &[LayoutData<FieldIdx, VariantIdx>],
 ) -> bool
     ensures { result ≡ list_all (λ list. list.uninhabited) lists.now }

@@ -1,6 +1,12 @@
 //! Why a value wasn't written.
 
+ghost use Rattle.std.specs.Prelude.{Some};
+ghost use Rattle.abi_laid.specs.ErrorText.{value_error_text};
+
 use std::alloc::AllocError;
+use std::error::Error;
+use std::fmt;
+use std::fmt::Display;
 
 /// Why a value wasn't written.
 #[derive(Clone, Copy, PartialEq, Eq, Debug)]
@@ -10,6 +16,20 @@ pub enum ValueError {
     /// A growth of memory was refused.
     OutOfMemory,
 }
+
+impl Display for ValueError {
+    ghost output = { λ error. Some (value_error_text error) };
+
+    /// Why it wasn't written.
+    fn fmt<W: fmt::Write>(&self, f: &mut fmt::Formatter<W>) -> fmt::Result {
+        f.write_str(match self {
+            ValueError::NotAValue => "not a value of the type",
+            ValueError::OutOfMemory => "out of memory",
+        })
+    }
+}
+
+impl Error for ValueError {}
 
 impl From<AllocError> for ValueError {
     ghost use Rattle.std.specs.Prelude.{◌≡◌};

@@ -137,40 +137,29 @@ fn read_union(walk: Walk<'_>, node: usize, bytes: &[u8]) -> Result<Vec<u8>, Allo
 fn as_number(found: Option<u128>) -> Option<Value>
     ensures { MatchOption found (result ≡ None) (λ n. result ≡ Some (Num n)) }
 {
-    match found {
-        Some(n) => Some(Value::Num(n)),
-        None => None,
-    }
+    found.map(Value::Num)
 }
 
 /// Values as those of a list.
 fn as_list(found: Option<Vec<Value>>) -> Option<Value>
     ensures { MatchOption found (result ≡ None) (λ values. result ≡ Some (List values)) }
 {
-    match found {
-        Some(values) => Some(Value::List(values)),
-        None => None,
-    }
+    found.map(Value::List)
 }
 
 /// Values as those of the variant with this index.
 fn as_variant(index: usize, found: Option<Vec<Value>>) -> Option<Value>
     ensures { MatchOption found (result ≡ None) (λ values. result ≡ Some (Variant index values)) }
 {
-    match found {
-        Some(values) => Some(Value::Variant(index, values)),
-        None => None,
-    }
+    Some(Value::Variant(index, found?))
 }
 
 /// Values as those of the variant with the index beside them.
 fn as_named(found: Option<(usize, Vec<Value>)>) -> Option<Value>
     ensures { MatchOption found (result ≡ None) (λ named. result ≡ Some (Variant named.0 named.1)) }
 {
-    match found {
-        Some((index, values)) => Some(Value::Variant(index, values)),
-        None => None,
-    }
+    let (index, values) = found?;
+    Some(Value::Variant(index, values))
 }
 
 /// Whether the value is a list.
@@ -188,10 +177,8 @@ fn only_list(found: Option<Value>) -> Option<Value>
     ensures { MatchOption found (result ≡ None) (λ v.
         ((result ≡ Some v) × IsList (value_of v)) ⊎ ((result ≡ None) × (IsList (value_of v) → ⊥))) }
 {
-    match found {
-        Some(value) => { if is_list(&value) { Some(value) } else { None } }
-        None => None,
-    }
+    let value = found?;
+    if is_list(&value) { Some(value) } else { None }
 }
 
 /// Which variant is left of an enum without a tag.

@@ -39,9 +39,11 @@ pub(crate) enum ReprKind {
 
 /// What a struct's repr asks for.
 #[derive(Clone, Copy)]
-pub(crate) struct StructRepr {
-    pub(crate) repr: ReprOptions,
-    pub(crate) always_sized: bool,
+pub struct StructRepr {
+    /// Its options.
+    pub repr: ReprOptions,
+    /// Whether the last field can't be unsized: false for `tail`.
+    pub always_sized: bool,
 }
 
 /// Asks for nothing.
@@ -243,8 +245,8 @@ fn asked_by(text: &[u8]) -> StructRepr
     asked
 }
 
-/// What a word asks for where a struct's repr stands. None where it is no repr.
-pub(crate) fn struct_repr(word: &[u8]) -> Option<StructRepr>
+/// What a word asks for where a struct's repr stands, as `docs/FORMATS.md` tells. None where it is no repr.
+pub fn struct_repr(word: &[u8]) -> Option<StructRepr>
     ensures { result ≡ struct_repr word.now }
 {
     if word == b"-".as_slice() {

@@ -2,11 +2,10 @@
 use Rattle.std.specs.Prelude.{◌≡◌, ℕ, ◌+◌, ◌-◌, ◌/◌, ◌%◌, ◌^◌, ◌<◌, ◌&&◌, ◌||◌, Bool, All, List, ⊤, length, nat_le, nat_lt}
 use Rattle.std.specs.List.{list_any, range_with_len}
 use Rattle.abi_index.specs.RangeSet.{is_in_ranges}
-use Rattle.abi_scalar.specs.declared.fields_shape.FieldsShape.{FieldsShape}
 use Rattle.abi_scalar.specs.declared.variants.Variants.{Variants}
 use Rattle.abi_scalar.specs.declared.variants.Variants.TheVariants.{Multiple}
 use Rattle.abi_scalar.specs.Shape.{field_offset}
-use Rattle.abi_types.specs.Ty.Typed.{Layout, Typed, field_in, layout_in}
+use Rattle.abi_types.specs.Ty.Typed.{Typed, field_in, layout_in}
 use Rattle.abi_types.specs.Ty.Places.{covers_element, is_place}
 
 -- each run ends where 64 bits can tell it

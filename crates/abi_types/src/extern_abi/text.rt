@@ -2,7 +2,8 @@
 
 ghost use Rattle.std.specs.Prelude.{◌≡◌, ◌++◌, codes, Some};
 ghost use Rattle.std.specs.List.{find};
-ghost use Rattle.abi_types.specs.ExternAbi.{name_of, quoted, has_name, IsReading};
+ghost use Rattle.abi_base.specs.ErrorText.{quoted};
+ghost use Rattle.abi_types.specs.ExternAbi.{name_of, has_name, IsReading};
 
 use crate::extern_abi::ExternAbi;
 use abi_base::AbiFromStrErr;

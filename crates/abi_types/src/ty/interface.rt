@@ -41,10 +41,21 @@ impl<'a, Ty> TyAndLayout<'a, Ty> {
 }
 
 /// What a type tells of itself, beside its layout: its fields and variants, each with its own layout, and marks.
+///
+/// The laws speak of `this` alone and hold for every `cx`: all that is told has to be found from
+/// `this`, and nothing in `cx` alone. So a type carries what it tells, as interned types do: an index
+/// beside a reference to the table that it points into.
+///
+/// An implementation proves its laws of each `this` of which `is_valid` holds. The type has the layout
+/// beside it. Each field lies inside it, at its offset, and no variant is larger. The elements of an
+/// array are all one type, each of at most as many bytes as the stride; fields that are no elements are
+/// at most 0xFFFF_FF01, as many as an index names. A complex number has a field. All of this holds of
+/// its fields and variants, too, and of theirs; the depth falls at each field, and at each variant that
+/// a tag tells apart.
 pub trait TyAbiInterface<'a, C>: Sized + Debug + Display {
     ghost use Rattle.abi_types.specs.declared.ty.interface.TyAndLayout.{TyAndLayout};
 
-    /// The layout is one of this type.
+    /// The layout is one of this type. Every call asks for it, and none tests it.
     ghost is_valid: { TyAndLayout Self → Type 0 };
 
     /// At least as many as types lie one in another in it.
@@ -133,10 +144,12 @@ pub trait TyAbiInterface<'a, C>: Sized + Debug + Display {
         requires { is_valid this }
         ensures { result ≡ depth_of this.entry };
 
-    /// It tells its layout.
+    /// The layout that it tells is the one beside it.
     ghost layout_law: { (this : TyAndLayout Self) → is_valid this → layout_in (typed_of this) ≡ this.layout.0.now };
 
-    /// Its fields and variants lie inside it, and are those that its layout promises.
+    /// Its fields and variants lie inside it, its elements are all one type and no greater than the
+    /// stride, its other fields can be named by an index, and a complex number has a field; and so of
+    /// all that is in it.
     ghost lawful_law: { (this : TyAndLayout Self) → is_valid this → IsLawfulType (typed_of this) };
 }
 
@@ -150,7 +163,8 @@ impl<'a, Ty> TyAndLayout<'a, Ty> {
         requires named { NamesVariant (layout_in (Ty.typed_of self)).variants variant_index }
         ensures valid { Ty.is_valid result }
         ensures variant { Ty.typed_of result ≡ at_variant (Ty.typed_of self.entry) variant_index }
-        ensures falls { DepthFalls (layout_in (Ty.typed_of self.entry)).variants (Ty.depth_of result) (Ty.depth_of self.entry) }
+        ensures falls { DepthFalls (layout_in (Ty.typed_of self.entry)).variants (Ty.depth_of result)
+            (Ty.depth_of self.entry) }
     {
         Ty::ty_and_layout_for_variant(self, cx, variant_index)
     }

@@ -68,10 +68,8 @@ fn only_field_of<W: Walk>(this: W, kind: NoBytes) -> Option<(FieldIdx, W)>
     ensures field { IfSome result (λ found. W.typed_of found.1 ≡ field_in (W.typed_of this) found.0) }
     ensures valid { IfSome result (λ found. W.is_valid found.1) }
 {
-    match only_field(this, kind) {
-        Some(i) => Some((FieldIdx::from_usize(i), this.field(i))),
-        None => None,
-    }
+    let i = only_field(this, kind)?;
+    Some((FieldIdx::from_usize(i), this.field(i)))
 }
 
 impl<'a, Ty> TyAndLayout<'a, Ty> {
@@ -89,10 +87,8 @@ impl<'a, Ty> TyAndLayout<'a, Ty> {
             layout: self.layout,
             cx,
         };
-        match only_field_of(at, NoBytes::OfLeastAlign) {
-            Some((i, field)) => Some((i, field.alone())),
-            None => None,
-        }
+        let (i, field) = only_field_of(at, NoBytes::OfLeastAlign)?;
+        Some((i, field.alone()))
     }
 
     /// The one field that has bytes, and its index; None where there is no such field, or several.
@@ -112,9 +108,7 @@ impl<'a, Ty> TyAndLayout<'a, Ty> {
             layout: self.layout,
             cx,
         };
-        match only_field_of(at, NoBytes::OfAnyAlign) {
-            Some((i, field)) => Some((i, field.alone())),
-            None => None,
-        }
+        let (i, field) = only_field_of(at, NoBytes::OfAnyAlign)?;
+        Some((i, field.alone()))
     }
 }

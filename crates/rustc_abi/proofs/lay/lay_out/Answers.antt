@@ -1,12 +1,14 @@
 use Rattle.abi_laid.specs.Tree.{tree_of}
 use Rattle.rustc_abi.specs.Clash.{AreClashingApart, HaveOneOffset}
 use Rattle.abi_laid.specs.Laid.{typed_of}
-use Rattle.rustc_abi.specs.Least.{IsLeast}
+use Rattle.rustc_abi.specs.Least.{HasOverlapSize, IsLeast}
+use Rattle.rustc_abi.specs.Lists.{HasLeastLists}
 use Rattle.rustc_abi.proofs.ClashLemmas.{laid_clash, laid_one_offset}
+use Rattle.rustc_abi.proofs.EachListLemmas.{laid_lists}
 use Rattle.rustc_abi.proofs.EverywhereLemmas.{everywhere}
 use Rattle.rustc_abi.proofs.LaidLemmas.{laid_sized}
 use Rattle.rustc_abi.proofs.LayLemmas.{begins_root, common_root, faithful_root, laid_root, lawful_root, untagged_root}
-use Rattle.rustc_abi.proofs.LeastLemmas.{laid_least, never_large, passed_as, told_large, told_overflow}
+use Rattle.rustc_abi.proofs.LeastLemmas.{laid_least, laid_overlap, never_large, passed_as, told_large, told_overflow}
 use Rattle.rustc_abi.proofs.ListLemmas.{passed_on}
 use Rattle.rustc_abi.proofs.OneAnswer.{one_answer}
 use Rattle.rustc_abi.proofs.SeenPlacesLemmas.{laid_told, seen_root}
@@ -61,6 +63,18 @@ pub returns-clause-least : goal.returns-clause-least
 returns-clause-least c =
     let law = c.is_lawful.ensures.0 c.if-not-is_lawful.false in
     everywhere c.args.dl.now law (IsLeast c.args.dl.now) (laid_least c.args.dl.now law) (tree_of c.args.tree.now) _ (laid_root _ _ _ _ _ _ c.in_ok-_root.ensures.ok c.new.ensures.placed)
+
+pub returns-clause-overlap : goal.returns-clause-overlap
+returns-clause-overlap c =
+    let law = c.is_lawful.ensures.0 c.if-not-is_lawful.false in
+    everywhere c.args.dl.now law (HasOverlapSize c.args.dl.now) (laid_overlap c.args.dl.now law)
+    (tree_of c.args.tree.now) _ (laid_root _ _ _ _ _ _ c.in_ok-_root.ensures.ok c.new.ensures.placed)
+
+pub returns-clause-each_list : goal.returns-clause-each_list
+returns-clause-each_list c =
+    let law = c.is_lawful.ensures.0 c.if-not-is_lawful.false in
+    everywhere c.args.dl.now law (HasLeastLists c.args.dl.now) (laid_lists c.args.dl.now law)
+    (tree_of c.args.tree.now) _ (laid_root _ _ _ _ _ _ c.in_ok-_root.ensures.ok c.new.ensures.placed)
 
 pub returns-clause-clash : goal.returns-clause-clash
 returns-clause-clash c =

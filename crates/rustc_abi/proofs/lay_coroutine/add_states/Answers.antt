@@ -5,7 +5,7 @@ use Rattle.std.proofs.lemmas.List.{length-map}
 use Rattle.std.proofs.lemmas.List.Elements.{All-weaker}
 use Rattle.std.proofs.lemmas.Result.{IfOk-weaker}
 use Rattle.abi_scalar.specs.Variant.{variants_of}
-use Rattle.abi_calc.specs.Placement.{source_order}
+use Rattle.abi_lists.specs.Placement.{source_order}
 use Rattle.abi_laid.specs.Nodes.{placed_in, types_in}
 use Rattle.abi_laid.specs.declared.mark.Mark.TheVariants.{Plain}
 use Rattle.rustc_abi.specs.Enums.{arms_at}

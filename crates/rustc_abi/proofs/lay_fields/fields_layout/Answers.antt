@@ -2,8 +2,8 @@ use Rattle.std.proofs.Common.{◌≡◌, map, All, sym, ap, ◌∙◌, subst}
 use Rattle.std.specs.Prelude.{IfSome}
 use Rattle.std.proofs.lemmas.List.Elements.{All-map}
 use Rattle.abi_index.specs.Slice.{items_of}
-use Rattle.abi_calc.specs.Apart.{AreApart}
-use Rattle.abi_calc.specs.ListNiche.{IsNicheOfPart}
+use Rattle.abi_lists.specs.Apart.{AreApart}
+use Rattle.abi_lists.specs.ListNiche.{IsNicheOfPart}
 use Rattle.abi_scalar.specs.Lawful.{IsLawfulLayout}
 use Rattle.abi_scalar.specs.Shape.{listed_offsets}
 use Rattle.abi_laid.specs.Placed.{layout_of}

@@ -1,7 +1,7 @@
 use Rattle.std.proofs.Common.{◌≡◌, map, All, sym, ap, ◌∙◌, subst}
 use Rattle.std.proofs.lemmas.List.Elements.{All-map}
 use Rattle.abi_index.specs.Slice.{items_of}
-use Rattle.abi_calc.specs.Union.{only_of}
+use Rattle.abi_lists.specs.Union.{only_of}
 use Rattle.abi_scalar.specs.Lawful.{IsLawfulLayout}
 use Rattle.abi_laid.specs.Placed.{layout_of}
 use Rattle.abi_laid.specs.Well.{all_at}

@@ -1,7 +1,7 @@
 use Rattle.std.proofs.Common.{◌≡◌, Some, Ok, ℕ, ap, sym, subst}
 use Rattle.std.proofs.lemmas.Result.{IfOk-weaker}
-use Rattle.abi_calc.specs.Array.{array_answer}
-use Rattle.abi_calc.specs.Simd.{simd_answer}
+use Rattle.abi_lists.specs.Array.{array_answer}
+use Rattle.abi_lists.specs.Simd.{simd_answer}
 use Rattle.abi_laid.specs.Placed.{layout_of}
 use Rattle.rustc_abi.specs.Error.{named}
 use Rattle.abi_laid.specs.Nodes.{placed_at, types_in}

@@ -1,9 +1,24 @@
-use Rattle.std.proofs.Common.{rules, arith, refl, inl, inr}
-use Rattle.abi_calc.proofs.Lawful.{array_lawful}
+use Rattle.std.proofs.Common.{◌≡◌, ◌*◌, refl}
+use Rattle.std.specs.Prelude.{unwrap_or}
+use Rattle.abi_scalar.specs.Order.{HasPlaceForEach, IsAscending}
+use Rattle.abi_lists.proofs.Lawful.{array_ok}
 use Rattle.abi_calc.proofs.calculator.LayoutCalculator.layout_of_array_like.Goals as goal
-use Rattle.abi_calc.proofs.calculator.LayoutCalculator.layout_of_array_like.Goals.{then-count-eq0, else-count-eq0}
+
+pub returns-clause-size : goal.returns-clause-size
+returns-clause-size g c =
+    array_ok (λ l. l.size ≡ c.args.element.now.size * unwrap_or c.args.count_if_sized 0) (g.VariantIdx.Idx.at 0)
+    c.data_layout.result.now c.args.element.now c.args.count_if_sized c.layout_of_array.result
+    c.layout_of_array.ensures.exact refl
 
 pub returns-clause-lawful : goal.returns-clause-lawful
-returns-clause-lawful g c =
-    array_lawful _ c.args.element.now _ c.new.result c.is_some.result c.unwrap_or-count.result c.requires.element (search rules) (search rules) refl
-    (elim c.if-count-eq0.branch [ then-count-eq0 w ↦ inl w.result-is | else-count-eq0 w ↦ inr (w.result-is, omega arith) ]) refl refl
+returns-clause-lawful g c = rw c.data_layout.ensures at c.layout_of_array.ensures.lawful
+
+pub returns-clause-places : goal.returns-clause-places
+returns-clause-places g c =
+    array_ok (λ l. HasPlaceForEach l.fields) (g.VariantIdx.Idx.at 0) c.data_layout.result.now c.args.element.now
+    c.args.count_if_sized c.layout_of_array.result c.layout_of_array.ensures.exact tt
+
+pub returns-clause-ascending : goal.returns-clause-ascending
+returns-clause-ascending g c =
+    array_ok (λ l. IsAscending g.FieldIdx.Idx.number l.fields) (g.VariantIdx.Idx.at 0) c.data_layout.result.now
+    c.args.element.now c.args.count_if_sized c.layout_of_array.result c.layout_of_array.ensures.exact tt

@@ -1,31 +1,30 @@
-use Rattle.std.proofs.Common.{rules, ap, ◌≡◌, ◌≤◌, ◌*◌, ◌∙◌, arith}
-use Rattle.abi_base.specs.DataLayout.{size_bound}
-use Rattle.std.proofs.Math.Nat.{mul-le-mul_left}
-use Rattle.abi_calc.proofs.VectorLemmas.{lanes_are, lanes_bounded, vectors_lawful}
+use Rattle.std.proofs.Common.{refl, arith}
+use Rattle.abi_scalar.specs.Order.{HasPlaceForEach, IsAscending}
+use Rattle.abi_lists.proofs.VectorLemmas.{scalable_ok, scalable_size}
 use Rattle.abi_calc.proofs.calculator.LayoutCalculator.layout_of_scalable_vector_type.Goals as goal
 
-pub mul-bytes-requires : goal.mul-bytes-requires
-mul-bytes-requires g c =
-    let are = lanes_are g.F.LayoutHandle.layout_of (size_bound (g.Cx.HasDataLayout.target c.args.self.now.cx)) c.args.element c.args.count c.in_ok-lanes.lanes c.in_ok-lanes.ensures in
-    let bounded = lanes_bounded (g.Cx.HasDataLayout.target c.args.self.now.cx) (g.F.LayoutHandle.layout_of c.args.element) c.args.count c.in_ok-lanes.lanes c.requires.element are in
-    let few : c.from.result ≤ 255 = search rules in
-    let all : c.in_ok-lanes.lanes.size * c.from.result ≤ c.in_ok-lanes.lanes.size * 255 = mul-le-mul_left c.in_ok-lanes.lanes.size few in
-    omega (arith, bounded.most)
+pub layout_of_scalable-requires-clause-element : goal.layout_of_scalable-requires-clause-element
+layout_of_scalable-requires-clause-element g c = rw c.data_layout.ensures c.requires.element
 
-pub layout_of_vectors-requires-clause-small : goal.layout_of_vectors-requires-clause-small
-layout_of_vectors-requires-clause-small g c =
-    let are = lanes_are g.F.LayoutHandle.layout_of (size_bound (g.Cx.HasDataLayout.target c.args.self.now.cx)) c.args.element c.args.count c.in_ok-lanes.lanes c.in_ok-lanes.ensures in
-    let bounded = lanes_bounded (g.Cx.HasDataLayout.target c.args.self.now.cx) (g.F.LayoutHandle.layout_of c.args.element) c.args.count c.in_ok-lanes.lanes c.requires.element are in
-    let few : c.from.result ≤ 255 = search rules in
-    let all : c.in_ok-lanes.lanes.size * c.from.result ≤ c.in_ok-lanes.lanes.size * 255 = mul-le-mul_left c.in_ok-lanes.lanes.size few in
-    omega (arith, bounded.most)
+pub returns-clause-exact : goal.returns-clause-exact
+returns-clause-exact g c = rw c.data_layout.ensures at c.layout_of_scalable.ensures.exact
+
+pub returns-clause-size : goal.returns-clause-size
+returns-clause-size g c =
+    scalable_size g.F.LayoutHandle.layout_of (g.VariantIdx.Idx.at 0) (g.FieldIdx.Idx.at 0) c.data_layout.result.now
+    c.args.element c.args.count c.args.number_of_vectors c.layout_of_scalable.result c.layout_of_scalable.ensures.exact
 
 pub returns-clause-lawful : goal.returns-clause-lawful
-returns-clause-lawful g c some =
-    let dl = g.Cx.HasDataLayout.target c.args.self.now.cx in
-    let are = lanes_are g.F.LayoutHandle.layout_of (size_bound (g.Cx.HasDataLayout.target c.args.self.now.cx)) c.args.element c.args.count c.in_ok-lanes.lanes c.in_ok-lanes.ensures in
-    let answer = rw c.layout.ensures at c.layout_of_vectors.ensures in
-    let one : c.in_ok-lanes.lanes.size * 1 ≤ c.in_ok-lanes.lanes.size * c.args.number_of_vectors.0 = mul-le-mul_left c.in_ok-lanes.lanes.size (omega arith) in
-    let all : c.mul-bytes.result ≡ c.in_ok-lanes.lanes.size * c.args.number_of_vectors.0 = c.mul-bytes.ensures ∙ ap (λ n. c.in_ok-lanes.lanes.size * n) c.from.ensures in
-    vectors_lawful dl (g.F.LayoutHandle.layout_of c.args.element) c.args.count c.in_ok-lanes.lanes _ _ _ c.mul-bytes.result c.vector_align-align.result
-    c.layout_of_vectors.result c.requires.element are (omega arith) c.vector_align-align.ensures.limit (λ n h. h) (λ n. tt) answer
+returns-clause-lawful g c = rw c.data_layout.ensures at c.layout_of_scalable.ensures.lawful
+
+pub returns-clause-places : goal.returns-clause-places
+returns-clause-places g c =
+    scalable_ok g.F.LayoutHandle.layout_of (g.VariantIdx.Idx.at 0) (g.FieldIdx.Idx.at 0) c.data_layout.result.now
+    c.args.element c.args.count (λ l. HasPlaceForEach l.fields) c.args.number_of_vectors
+    c.layout_of_scalable.result c.layout_of_scalable.ensures.exact (λ lanes are. refl)
+
+pub returns-clause-ascending : goal.returns-clause-ascending
+returns-clause-ascending g c =
+    scalable_ok g.F.LayoutHandle.layout_of (g.VariantIdx.Idx.at 0) (g.FieldIdx.Idx.at 0) c.data_layout.result.now
+    c.args.element c.args.count (λ l. IsAscending g.FieldIdx.Idx.number l.fields) c.args.number_of_vectors
+    c.layout_of_scalable.result c.layout_of_scalable.ensures.exact (λ lanes are i j d low high. absurd (omega arith))

@@ -11,17 +11,17 @@ use Rattle.abi_scalar.specs.declared.variants.RangeFrom.{RangeFrom}
 use Rattle.abi_scalar.specs.declared.variants.RangeToInclusive.{RangeToInclusive}
 use Rattle.abi_scalar.specs.Lawful.{IsLawfulLayout}
 use Rattle.abi_scalar.specs.Variant.{variants_of}
-use Rattle.abi_calc.specs.Answer.{IsAnswer}
-use Rattle.abi_calc.specs.Least.{IsEachOrderTooLarge}
-use Rattle.abi_calc.specs.List.{AreSized}
-use Rattle.abi_calc.specs.Placement.{IsNonEmptyIfUnsized}
+use Rattle.abi_lists.specs.Answer.{IsAnswer}
+use Rattle.abi_lists.specs.Least.{IsEachOrderTooLarge}
+use Rattle.abi_lists.specs.List.{AreSized}
+use Rattle.abi_lists.specs.Placement.{IsNonEmptyIfUnsized}
+use Rattle.abi_lists.specs.Part.{is_unsized}
 use Rattle.abi_calc.specs.Enums.Answer.{HasOneEach, IsGoodSingle}
 use Rattle.abi_calc.specs.Enums.Beside.{AreToldApart}
 use Rattle.abi_calc.specs.Enums.Discriminants.{counting_of}
 use Rattle.abi_calc.specs.Enums.Made.{AreVariantsAligned, HasLeastTag, IsMadeOfLists}
 use Rattle.abi_calc.specs.Enums.Path.{has_no_value, path_of}
 use Rattle.abi_calc.specs.Ordered.{IsTagField}
-use Rattle.abi_calc.specs.Part.{is_unsized}
 use Rattle.abi_calc.specs.Enums.Several.{AreLawfulTags, HasEnumSize, IsAlwaysTooLarge, IsAskedTooLarge, IsSeveralAnswer}
 use Rattle.abi_calc.proofs.EnumMade.{niche_aligned, niche_field, niche_flag, niche_least, niche_made, niche_sized, several_ok, several_ordered, several_run, tagged_aligned, tagged_field, tagged_flag, tagged_least, tagged_made, tagged_sized}
 use Rattle.abi_calc.proofs.EnumSeen.{seen_at}

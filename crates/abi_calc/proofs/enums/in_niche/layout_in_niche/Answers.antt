@@ -6,7 +6,7 @@ use Rattle.std.specs.List.{list_all}
 use Rattle.std.proofs.lemmas.List.{map-id}
 use Rattle.abi_scalar.specs.declared.backend_repr.BackendRepr.TheVariants.{Memory}
 use Rattle.abi_scalar.proofs.ReadableLemmas.{lawful_readable}
-use Rattle.abi_calc.specs.Fields.{greatest_align, greatest_repr_align, greatest_unadjusted, seed_with}
+use Rattle.abi_lists.specs.Fields.{greatest_align, greatest_repr_align, greatest_unadjusted, seed_with}
 use Rattle.abi_calc.specs.Enums.Niche.{if_placed, layout_in_niche, others_empty, room_beside, span_count, variants_from, view_with}
 use Rattle.abi_calc.specs.Enums.Tagged.{lists_align, lists_size}
 use Rattle.abi_scalar.specs.Reserve.{reserved}

@@ -1,7 +1,7 @@
 -- The first and the last of those below the counter.
 use Rattle.std.proofs.Common.{◌≡◌, filter, map}
+use Rattle.abi_lists.specs.Placement.{source_order}
 use Rattle.abi_calc.specs.Enums.Niche.{span_of}
-use Rattle.abi_calc.specs.Placement.{source_order}
 use Rattle.abi_calc.proofs.EnumNiche.{needs_number}
 use Rattle.abi_calc.proofs.enums.niche.span_of.Given as goal
 

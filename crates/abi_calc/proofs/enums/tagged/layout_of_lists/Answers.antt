@@ -5,7 +5,7 @@ use Rattle.abi_base.specs.Integer.{integer_size}
 use Rattle.abi_base.specs.declared.primitive.Primitive.TheVariants.{Int}
 use Rattle.abi_scalar.specs.declared.scalar.Scalar.{Scalar}
 use Rattle.abi_scalar.specs.declared.scalar.Scalar.TheVariants.{Initialized}
-use Rattle.abi_calc.specs.Fields.{greatest_align}
+use Rattle.abi_lists.specs.Fields.{greatest_align}
 use Rattle.abi_calc.specs.Enums.Discriminants.{IsTagRange}
 use Rattle.abi_calc.specs.Enums.Growth.{grown_tag, start_align}
 use Rattle.abi_calc.specs.Enums.Payload.{tagged_view}

@@ -4,10 +4,10 @@ use Rattle.std.specs.List.{list_all}
 use Rattle.std.proofs.lemmas.List.{map-id}
 use Rattle.abi_scalar.specs.Scalar.{primitive_of, scalar_size}
 use Rattle.abi_scalar.proofs.ReadableLemmas.{lawful_readable}
-use Rattle.abi_calc.specs.Fields.{greatest_repr_align, greatest_unadjusted, seed_with}
+use Rattle.abi_lists.specs.Fields.{greatest_repr_align, greatest_unadjusted, seed_with}
+use Rattle.abi_lists.proofs.NicheLemmas.{readable_size}
 use Rattle.abi_calc.specs.Enums.Tagged.{layout_seen_as}
 use Rattle.abi_calc.proofs.EnumTagged.{same_parts}
-use Rattle.abi_calc.proofs.NicheLemmas.{readable_size}
 use Rattle.abi_calc.proofs.enums.tagged.layout_seen_as.Goals as goal
 
 pub size-requires : goal.size-requires

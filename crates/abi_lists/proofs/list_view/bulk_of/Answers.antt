@@ -1,0 +1,16 @@
+use Rattle.std.proofs.Common.{◌≡◌, sym, ap, ◌∙◌}
+use Rattle.abi_lists.specs.ListView.{is_bulky, part_at}
+use Rattle.abi_lists.proofs.ViewLemmas.{bulk_else, bulk_then}
+use Rattle.abi_lists.proofs.list_view.bulk_of.Goals as goal
+use Rattle.abi_lists.proofs.list_view.bulk_of.Goals.{then-is_bulky, else-is_bulky}
+
+pub loop-index-preserved : goal.loop-index-preserved
+loop-index-preserved g c =
+    let test : c.is_bulky.result ≡ is_bulky (part_at c.args.parts.now c.loop-index.index) = c.is_bulky.ensures ∙ ap is_bulky c.at.ensures in
+    elim c.if-is_bulky.branch [
+      | then-is_bulky w ↦
+          bulk_then (λ i. is_bulky (part_at c.args.parts.now i)) c.loop-index.index c.loop-index.bulk c.if-is_bulky.bulk c.loop-index.invariant (sym test ∙ w.if-is_bulky.true)
+          (w.bulk-is ∙ w.bulk_with-bulk.ensures)
+      | else-is_bulky w ↦
+          bulk_else (λ i. is_bulky (part_at c.args.parts.now i)) c.loop-index.index c.loop-index.bulk c.if-is_bulky.bulk c.loop-index.invariant (sym test ∙ w.if-is_bulky.false) w.bulk-is
+    ]

@@ -1,0 +1,13 @@
+-- The fields up to the index lie where the order places them.
+use Rattle.std.proofs.Common.{◌+◌, ◌^◌, ◌<◌}
+use Rattle.abi_base.specs.DataLayout.{size_bound}
+use Rattle.abi_lists.specs.Part.{max_align}
+use Rattle.abi_lists.specs.Placement.{start_of}
+use Rattle.abi_lists.proofs.PlacingLemmas.{IsPlaced}
+use Rattle.abi_lists.proofs.placing.place.Given as goal
+
+abbrev pub invariant-loop-at : goal.invariant-loop-at
+invariant-loop-at g l = record {
+  placed : IsPlaced l.dl l.repr (size_bound l.dl) (start_of l.repr.pack l.repr.kind) l.parts l.order l.at l.offsets.items l.end l.niche;
+  small : l.end < size_bound l.dl + 2 ^ max_align;
+}

@@ -1,0 +1,15 @@
+pub mod Answer
+pub mod Array
+pub mod Apart
+pub mod Part
+pub mod Placement
+pub mod ListNiche
+pub mod Order
+pub mod Fault
+pub mod Run
+pub mod ListView
+pub mod Fields
+pub mod List
+pub mod Least
+pub mod Union
+pub mod Simd

@@ -1,0 +1,29 @@
+//! The layouts of types whose parts lie one after another, or all at the start: arrays and slices, lists of fields,
+//! unions and vectors.
+#![tactic(auto)]
+
+mod array;
+mod fields;
+mod list;
+mod list_niche;
+mod list_repr;
+mod list_view;
+mod one_item;
+mod order;
+mod part;
+mod placing;
+mod run;
+mod simd;
+mod unions;
+
+pub use array::layout_of_array;
+pub use fields::{
+    greatest_align, greatest_repr_align, greatest_size, greatest_unadjusted, seed_with,
+};
+pub use list::{any_uninhabited, field_offsets, layout_of_fields};
+pub use list_repr::rounded;
+pub use list_view::pair_view;
+pub use one_item::one;
+pub use part::free_numbers;
+pub use simd::{layout_of_scalable, layout_of_simd};
+pub use unions::layout_of_union;

@@ -1,0 +1,191 @@
+//! Lists of fields, one after another in memory.
+
+ghost use Rattle.std.specs.Prelude.{◌≡◌, ◌+◌, ◌≤◌, All, IfOk, length, map};
+ghost use Rattle.std.specs.List.{list_any};
+ghost use Rattle.abi_index.specs.Slice.{items_of};
+ghost use Rattle.abi_base.specs.DataLayout.{IsLawfulDataLayout, size_bound};
+ghost use Rattle.abi_scalar.specs.Lawful.{IsLawfulLayout};
+ghost use Rattle.abi_lists.specs.Fault.{IsErrorOf, IsFaultIndex};
+ghost use Rattle.abi_lists.specs.List.{HasLawfulAligns, IsListAnswer, unadjusted_of};
+ghost use Rattle.abi_lists.specs.ListView.{bulk_of, bulky_parts};
+ghost use Rattle.abi_lists.specs.Placement.{IsLawfulPrefix, IsNonEmptyIfUnsized, list_repr};
+
+use crate::fields::{greatest_repr_align, lies_as_in_c, seed_with};
+use crate::list_repr::{ListRepr, list_repr, unraised};
+use crate::list_view::{Bulk, bulk_of, list_view, transparent_align};
+use crate::order::movable;
+use crate::part::Parts;
+use crate::placing::{ListFault, list_align};
+use crate::run::{PlacedList, layout_of_parts};
+use abi_base::{AbiAlign, Align, Size, StructKind, TargetDataLayout};
+use abi_index::{Idx, IndexSlice, IndexVec};
+use abi_scalar::{
+    FieldsShape, LayoutCalculatorError, LayoutData, LayoutHandle, ReprOptions, Variants,
+};
+use std::alloc::{AllocError, Global};
+
+/// Whether some field has no values.
+pub fn any_uninhabited<FieldIdx: Idx, VariantIdx: Idx, F: LayoutHandle<FieldIdx, VariantIdx>>(
+    fields: &[F],
+) -> bool
+    ensures { result ≡ list_any (λ f. f.uninhabited) (map F.layout_of fields.now) }
+{
+    for field in fields {
+        if field.layout().uninhabited {
+            return true;
+        }
+    }
+    false
+}
+
+/// These offsets, as those of fields.
+pub fn field_offsets<FieldIdx: Idx>(
+    alloc: Global,
+    offsets: &[Size],
+) -> Result<IndexVec<FieldIdx, Size>, AllocError>
+    requires { length offsets.now ≤ FieldIdx.MAX_INDEX + 1 }
+    ensures { IfOk result (λ list. list ≡ offsets.now) }
+{
+    let mut list = IndexVec::with_capacity(alloc, offsets.len())?;
+    for offset in offsets {
+        let _index = list.push(*offset)?;
+    }
+    Ok(list)
+}
+
+/// The fields of these indices.
+fn fields_named<FieldIdx: Idx>(
+    alloc: Global,
+    order: &[usize],
+) -> Result<IndexVec<u32, FieldIdx>, AllocError>
+    requires count { length order.now ≤ FieldIdx.MAX_INDEX + 1 }
+    requires within { All (λ i. i ≤ FieldIdx.MAX_INDEX) order.now }
+    ensures { IfOk result (λ list. list ≡ map FieldIdx.at order.now) }
+{
+    let mut list = IndexVec::with_capacity(alloc, order.len())?;
+    for index in order {
+        let _place = list.push(FieldIdx::new(*index))?;
+    }
+    Ok(list)
+}
+
+/// The error that tells a fault.
+fn error_of<F: Copy>(fields: &[F], fault: ListFault) -> LayoutCalculatorError<F>
+    requires { IsFaultIndex (length fields.now) fault }
+    ensures { IsErrorOf fields.now fault result }
+{
+    match fault {
+        ListFault::Unsized(index) => LayoutCalculatorError::UnexpectedUnsized(fields[index]),
+        ListFault::TooLarge => LayoutCalculatorError::SizeOverflow,
+        ListFault::OutOfMemory => LayoutCalculatorError::OutOfMemory,
+    }
+}
+
+/// The list's alignment before `repr(align)` raised it.
+fn unadjusted_align<FieldIdx: Idx, VariantIdx: Idx, F: LayoutHandle<FieldIdx, VariantIdx>>(
+    dl: &TargetDataLayout,
+    repr: &ReprOptions,
+    list: &ListRepr,
+    size: Size,
+    align: Align,
+    parts: &Parts<'_, FieldIdx, VariantIdx, F>,
+    bulk: Bulk,
+) -> Align
+    requires { bulk ≡ bulk_of (bulky_parts parts.now) }
+    ensures { result ≡ unadjusted_of dl.now repr.now list.now.kind size align parts.now }
+{
+    if repr.transparent() {
+        transparent_align(size, align, parts, bulk)
+    } else {
+        list_align(parts, &unraised(dl, repr, list))
+    }
+}
+
+/// The layout of these fields as one list.
+#[inline(never)]
+fn layout_of_list<FieldIdx: Idx, VariantIdx: Idx, F: LayoutHandle<FieldIdx, VariantIdx> + Copy>(
+    alloc: Global,
+    dl: &TargetDataLayout,
+    fields: &[F],
+    repr: &ReprOptions,
+    list: &ListRepr,
+) -> Result<LayoutData<FieldIdx, VariantIdx>, LayoutCalculatorError<F>>
+    requires data_layout { IsLawfulDataLayout dl.now }
+    requires fields { All (λ f. IsLawfulLayout dl.now (F.layout_of f)) fields.now }
+    requires repr { HasLawfulAligns repr.now }
+    requires list { list.now ≡ list_repr dl.now repr.now list.now.kind }
+    requires prefix { IsLawfulPrefix list.now.kind (size_bound dl.now) }
+    requires tail { IsNonEmptyIfUnsized list.now.kind (length fields.now) }
+    requires count { length fields.now ≤ FieldIdx.MAX_INDEX + 1 }
+    ensures exact { IsListAnswer F.layout_of FieldIdx.at (VariantIdx.at 0) dl.now repr.now list.now.kind fields.now result }
+    ensures lawful { IfOk result (IsLawfulLayout dl.now) }
+{
+    let parts: Parts<'_, FieldIdx, VariantIdx, F> = Parts::new(dl, fields);
+    let placed = match layout_of_parts(alloc, dl, &parts, list) {
+        Ok(placed) => placed,
+        Err(fault) => return Err(error_of(fields, fault)),
+    };
+    let PlacedList {
+        offsets,
+        order,
+        size,
+        align,
+        largest_niche,
+        last_niche: _,
+    } = placed;
+    let bulk = bulk_of(&parts);
+    let fixed = repr.inhibit_newtype_abi_optimization();
+    let view = list_view(dl, fixed, size, align, &parts, &offsets, bulk);
+    let unadjusted_abi_align = unadjusted_align(dl, repr, list, size, align, &parts, bulk);
+    let offsets = IndexVec::from_raw(offsets);
+    let in_memory_order = fields_named(alloc, &order)?;
+    Ok(LayoutData {
+        fields: FieldsShape::Arbitrary {
+            offsets,
+            in_memory_order,
+        },
+        variants: Variants::Single {
+            index: VariantIdx::new(0),
+        },
+        backend_repr: view,
+        largest_niche,
+        uninhabited: any_uninhabited(fields),
+        align: AbiAlign::new(align),
+        size,
+        max_repr_align: greatest_repr_align(repr.align, fields),
+        unadjusted_abi_align,
+        repr_c: lies_as_in_c(repr, fields),
+        randomization_seed: seed_with(repr.field_shuffle_seed, movable(list.kind, fields)),
+    })
+}
+
+/// The layout of these fields as one list of this kind, one after another in memory, in an order that the `repr`
+/// allows. Where it leaves a choice, the list has the least size of all orders.
+///
+/// Refused as `UnexpectedUnsized` with a field whose size isn't known beforehand, unless it is the last of a
+/// maybe-unsized list, and as `SizeOverflow` where a field's end or the size isn't below the data layout's bound: the
+/// first fault in memory order is told. `OutOfMemory` may come at any time.
+pub fn layout_of_fields<
+    FieldIdx: Idx,
+    VariantIdx: Idx,
+    F: LayoutHandle<FieldIdx, VariantIdx> + Copy,
+>(
+    alloc: Global,
+    dl: &TargetDataLayout,
+    fields: IndexSlice<'_, FieldIdx, F>,
+    repr: &ReprOptions,
+    kind: StructKind,
+) -> Result<LayoutData<FieldIdx, VariantIdx>, LayoutCalculatorError<F>>
+    requires data_layout { IsLawfulDataLayout dl.now }
+    requires fields { All (λ f. IsLawfulLayout dl.now (F.layout_of f)) (items_of fields) }
+    requires repr { HasLawfulAligns repr.now }
+    requires prefix { IsLawfulPrefix kind (size_bound dl.now) }
+    requires tail { IsNonEmptyIfUnsized kind (length (items_of fields)) }
+    ensures exact { IsListAnswer F.layout_of FieldIdx.at (VariantIdx.at 0) dl.now repr.now kind
+        (items_of fields.entry) result }
+    ensures lawful { IfOk result (IsLawfulLayout dl.now) }
+    ensures within { length (items_of fields.entry) ≤ FieldIdx.MAX_INDEX + 1 }
+{
+    let list = list_repr(dl, repr, kind);
+    layout_of_list(alloc, dl, fields.as_raw(), repr, &list)
+}

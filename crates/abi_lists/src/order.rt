@@ -1,0 +1,271 @@
+//! The order that fields have in memory.
+
+ghost use Rattle.std.specs.Prelude.{◌≡◌, ℕ, ◌≤◌, All, IfOk, fold, map, max, length};
+ghost use Rattle.abi_lists.specs.Part.{IsAlignedPart, max_align};
+ghost use Rattle.abi_lists.specs.Placement.{source_order, IsNonEmptyIfUnsized};
+ghost use Rattle.abi_lists.specs.Order.{size_as_align, group_of, niche_from_front, niche_to_end, sort_key, key_at, IsSortedOrder, movable, is_prefixed, rule_of, IsSortedBefore, IsNamedOrder};
+
+use crate::list_repr::ListRepr;
+use crate::part::{Part, Parts};
+use abi_base::{Align, StructKind};
+use abi_index::Idx;
+use abi_scalar::LayoutHandle;
+use std::alloc::{AllocError, Global};
+
+/// Where niches go among fields that share an alignment, and which of equally great niches counts.
+#[derive(Clone, Copy)]
+pub enum NicheBias {
+    /// To the start; the one that comes first in memory.
+    Start,
+    /// To the end; the one that comes last.
+    End,
+}
+
+/// What the order of the fields that may move goes by.
+#[derive(Clone, Copy)]
+pub struct SortRule {
+    pub pack: Option<Align>,
+    pub is_prefixed: bool,
+    pub bias: NicheBias,
+    /// The greatest alignment of those fields, as an exponent of two.
+    pub greatest_align: u32,
+    /// The most free numbers that a niche of theirs has.
+    pub greatest_niche: u128,
+}
+
+/// A field's place in the order: least first.
+#[derive(Clone, Copy, PartialEq, Eq, PartialOrd, Ord)]
+pub struct SortKey {
+    pub group: u32,
+    pub niche: u128,
+    pub distance: u64,
+}
+
+/// The alignment's exponent.
+#[tactic(auto, using(crate::proofs::Groups::trailing_power))]
+fn exponent_of(align: Align) -> u32
+    requires { align ≤ max_align }
+    ensures { result ≡ align }
+{
+    align.bytes().trailing_zeros()
+}
+
+fn distance_from_front(part: &Part) -> u64
+    ensures { result ≡ niche_from_front part.now }
+{
+    match part.largest_niche {
+        Some(niche) => niche.offset.bytes(),
+        None => 0,
+    }
+}
+
+/// A rank that falls as the niche's distance from the end grows.
+fn nearness_to_end(part: &Part) -> u64
+    ensures { result ≡ niche_to_end part.now }
+{
+    u64::MAX - part.after.bytes()
+}
+
+/// The greatest power of two that the size is a multiple of, as an exponent; for no bytes the alignment.
+fn effective_align(part: &Part) -> u32
+    requires { IsAlignedPart part.now }
+    ensures { result ≡ size_as_align part.now }
+{
+    part.size.bytes().max(part.align.bytes()).trailing_zeros()
+}
+
+impl SortRule {
+    fn group_of(&self, part: &Part) -> u32
+        requires { IsAlignedPart part.now }
+        ensures { result ≡ group_of self.now part.now }
+    {
+        if let Some(pack) = self.pack {
+            return exponent_of(part.align.min(pack));
+        }
+        if self.greatest_niche == 0 {
+            return effective_align(part);
+        }
+        match self.bias {
+            NicheBias::Start => self.greatest_align.min(effective_align(part)),
+            NicheBias::End if part.free == self.greatest_niche => exponent_of(part.align),
+            NicheBias::End => effective_align(part),
+        }
+    }
+
+    fn key_of(&self, part: &Part) -> SortKey
+        requires { IsAlignedPart part.now }
+        ensures { result ≡ sort_key self.now part.now }
+    {
+        let group = self.group_of(part);
+        if self.is_prefixed {
+            return SortKey {
+                group,
+                niche: part.free,
+                distance: 0,
+            };
+        }
+        let group = u64::BITS - group;
+        match self.bias {
+            NicheBias::Start => SortKey {
+                group,
+                niche: u128::MAX - part.free,
+                distance: distance_from_front(part),
+            },
+            NicheBias::End => SortKey {
+                group,
+                niche: part.free,
+                distance: nearness_to_end(part),
+            },
+        }
+    }
+}
+
+fn sort_keys<FieldIdx: Idx, VariantIdx: Idx, F: LayoutHandle<FieldIdx, VariantIdx>>(
+    alloc: Global,
+    parts: &Parts<'_, FieldIdx, VariantIdx, F>,
+    rule: SortRule,
+) -> Result<Vec<SortKey>, AllocError>
+    requires { All IsAlignedPart parts.now }
+    ensures { IfOk result (λ keys. keys.items ≡ map (sort_key rule) parts.now) }
+{
+    let mut keys = Vec::with_capacity(alloc, parts.len())?;
+    for index in 0..parts.len() {
+        keys.push(rule.key_of(&parts.at(index)))?;
+    }
+    Ok(keys)
+}
+
+fn key_at(keys: &[SortKey], index: usize) -> SortKey
+    ensures { result ≡ key_at keys.now index }
+{
+    keys.get(index).copied().unwrap_or(SortKey {
+        group: 0,
+        niche: 0,
+        distance: 0,
+    })
+}
+
+/// The first `count` indices, with room for so many.
+#[tactic(auto, using(crate::proofs::Steps::source_more))]
+fn indices(alloc: Global, room: usize, count: usize) -> Result<Vec<usize>, AllocError>
+    ensures { IfOk result (λ order. order.items ≡ source_order count) }
+{
+    let mut order = Vec::with_capacity(alloc, room)?;
+    for index in 0..count {
+        order.push(index)?;
+    }
+    Ok(order)
+}
+
+fn sorted_order(alloc: Global, room: usize, keys: &[SortKey]) -> Result<Vec<usize>, AllocError>
+    ensures { IfOk result (λ order. IsSortedOrder keys.now order.items) }
+{
+    let mut order = indices(alloc, room, keys.len())?;
+    order.sort_by_key(|&index| key_at(keys, index))?;
+    Ok(order)
+}
+
+/// The fields that may move: all but a last one that may be unsized.
+pub(crate) fn movable<'a, F>(kind: StructKind, fields: &'a [F]) -> &'a [F]
+    requires { IsNonEmptyIfUnsized kind (length fields.now) }
+    ensures { result.now ≡ movable kind fields.now }
+{
+    match kind {
+        StructKind::MaybeUnsized => &fields[..fields.len() - 1],
+        _ => fields,
+    }
+}
+
+fn is_prefixed(kind: StructKind) -> bool
+    ensures { result ≡ is_prefixed kind }
+{
+    match kind {
+        StructKind::Prefixed(_, _) => true,
+        _ => false,
+    }
+}
+
+/// The greatest alignment of these fields.
+fn greatest_align<FieldIdx: Idx, VariantIdx: Idx, F: LayoutHandle<FieldIdx, VariantIdx>>(
+    parts: &Parts<'_, FieldIdx, VariantIdx, F>,
+) -> Align
+    ensures { result ≡ fold (λ greatest part. max greatest part.align) 0 parts.now }
+{
+    let mut greatest = Align::ONE;
+    for index in 0..parts.len() {
+        greatest = greatest.max(parts.at(index).align);
+    }
+    greatest
+}
+
+/// The most free numbers that a niche of these fields has.
+fn greatest_niche<FieldIdx: Idx, VariantIdx: Idx, F: LayoutHandle<FieldIdx, VariantIdx>>(
+    parts: &Parts<'_, FieldIdx, VariantIdx, F>,
+) -> u128
+    ensures { result ≡ fold (λ greatest part. max greatest part.free) 0 parts.now }
+{
+    let mut greatest = 0;
+    for index in 0..parts.len() {
+        greatest = greatest.max(parts.at(index).free);
+    }
+    greatest
+}
+
+impl SortRule {
+    fn new<FieldIdx: Idx, VariantIdx: Idx, F: LayoutHandle<FieldIdx, VariantIdx>>(
+        repr: &ListRepr,
+        bias: NicheBias,
+        parts: &Parts<'_, FieldIdx, VariantIdx, F>,
+    ) -> Self
+        requires { All IsAlignedPart parts.now }
+        ensures { result ≡ rule_of repr.now bias parts.now }
+    {
+        SortRule {
+            pack: repr.pack,
+            is_prefixed: is_prefixed(repr.kind),
+            bias,
+            greatest_align: exponent_of(greatest_align(parts)),
+            greatest_niche: greatest_niche(parts),
+        }
+    }
+}
+
+fn sorted_before<FieldIdx: Idx, VariantIdx: Idx, F: LayoutHandle<FieldIdx, VariantIdx>>(
+    alloc: Global,
+    parts: &Parts<'_, FieldIdx, VariantIdx, F>,
+    repr: &ListRepr,
+    bias: NicheBias,
+) -> Result<Vec<usize>, AllocError>
+    requires lawful { All IsAlignedPart parts.now }
+    requires kind { IsNonEmptyIfUnsized repr.now.kind (length parts.now) }
+    ensures { IfOk result (λ order. IsSortedBefore repr.now bias parts.now order.items) }
+{
+    let movable = parts.movable(repr.kind);
+    if movable.len() < 2 {
+        return indices(alloc, parts.len(), parts.len());
+    }
+    let keys = sort_keys(alloc, &movable, SortRule::new(repr, bias, &movable))?;
+    let mut order = sorted_order(alloc, parts.len(), &keys)?;
+    if movable.len() < parts.len() {
+        order.push(movable.len())?;
+    }
+    Ok(order)
+}
+
+/// The fields' indices in the order that they are to have in memory.
+pub(crate) fn memory_order<FieldIdx: Idx, VariantIdx: Idx, F: LayoutHandle<FieldIdx, VariantIdx>>(
+    alloc: Global,
+    parts: &Parts<'_, FieldIdx, VariantIdx, F>,
+    repr: &ListRepr,
+    bias: NicheBias,
+) -> Result<Vec<usize>, AllocError>
+    requires lawful { All IsAlignedPart parts.now }
+    requires kind { IsNonEmptyIfUnsized repr.now.kind (length parts.now) }
+    ensures { IfOk result (λ order. IsNamedOrder repr.now bias parts.now order.items) }
+{
+    if repr.reorderable {
+        sorted_before(alloc, parts, repr, bias)
+    } else {
+        indices(alloc, parts.len(), parts.len())
+    }
+}

@@ -1,0 +1,40 @@
+-- Types that stand in one list, each made of others by their places.
+use Rattle.std.specs.Prelude.{◌≡◌, ℕ, zero, suc, List, slice_get, Option, None, Some, unwrap_or}
+use Rattle.abi_scalar.specs.declared.fields_shape.FieldsShape.{FieldsShape}
+use Rattle.abi_scalar.specs.declared.fields_shape.FieldsShape.TheVariants.{Array}
+use Rattle.abi_types.specs.declared.ty.interface.TyAndLayout.{TyAndLayout}
+use Rattle.abi_types.specs.Ty.Typed.{Typed, typed, no_type, no_marks, layout_in}
+use Rattle.abi_types.specs.Ty.Lawful.{IsLawfulType}
+use Rattle.abi_tests.specs.declared.nodes.Node.{Node}
+use Rattle.abi_tests.specs.declared.nodes.Part.{Part}
+
+-- the place at an index, and the first one where there is none
+abbrev pub place_at : List ℕ → (index : ℕ) → ℕ
+place_at places i = unwrap_or (slice_get places i) 0
+
+-- where the type of a field stands: elements have one type
+abbrev pub place_by : FieldsShape ℕ → List ℕ → (index : ℕ) → ℕ
+place_by (Array stride count) places i = place_at places 0
+place_by shape places i = place_at places i
+
+-- a type, of what stands at the places
+abbrev pub made : Option Node → (inner : ℕ → Typed) → Typed
+made None inner = no_type
+made (Some node) inner =
+    typed node.layout no_marks (λ i. inner (place_by node.layout.fields node.fields.items i)) (λ v. inner (place_at node.variants.items v))
+
+-- the type at a place, of at most so many that lie one in another
+abbrev pub typed_in : List Node → (depth place : ℕ) → Typed
+typed_in nodes zero at = no_type
+typed_in nodes (suc depth) at = made (slice_get nodes at) (typed_in nodes depth)
+
+abbrev pub part_type : TyAndLayout Part → Typed
+part_type this = typed_in this.ty.nodes.now this.ty.depth this.ty.at
+
+abbrev pub part_depth : TyAndLayout Part → ℕ
+part_depth this = this.ty.depth
+
+-- The layout beside a type is its own, and the type keeps the laws.
+pub record IsPart (this : TyAndLayout Part) : Type 0 where
+  pub layout : layout_in (part_type this) ≡ this.layout.0.now
+  pub lawful : IsLawfulType (part_type this)

@@ -1,0 +1,30 @@
+//! What no line of text can ask of the libraries: index types and handles of a caller's own, a caller's own types with their walks, and
+//! what only a text, a hash or a refusal of a tree that no line writes shows. It has tests, and types for them.
+#![tactic(auto)]
+
+#[cfg(test)]
+mod canonical;
+#[cfg(test)]
+mod conventions;
+#[cfg(test)]
+mod indices;
+#[cfg(test)]
+mod kinds;
+#[cfg(test)]
+mod layouts;
+mod nodes;
+#[cfg(test)]
+mod reprs;
+mod samples;
+#[cfg(test)]
+mod small;
+#[cfg(test)]
+mod texts;
+#[cfg(test)]
+mod trees;
+#[cfg(test)]
+mod typed;
+#[cfg(test)]
+mod uniform;
+#[cfg(test)]
+mod views;

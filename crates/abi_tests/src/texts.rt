@@ -1,0 +1,250 @@
+//! What is written of sizes, scalars, layouts and errors.
+
+use abi_base::{
+    AbiAlign, AddressSpace, Align, AlignFromBytesError, Endian, Float, Integer, NoSuchInteger,
+    Primitive, Size, TargetDataLayout, TargetDataLayoutError, UnknownEndian, UnknownEndianText,
+};
+use abi_index::{FieldIdx, VariantIdx};
+use abi_scalar::{LayoutCalculatorError, LayoutData, Scalar, WrappingRange};
+use std::alloc::{AllocError, Global};
+use std::test::Fail;
+
+/// Whether the refusal has this text, and is this one without what it tells.
+fn is_told(
+    alloc: Global,
+    refusal: LayoutCalculatorError<u8>,
+    bare: LayoutCalculatorError<()>,
+    text: &str,
+) -> Result<bool, AllocError> {
+    let written = format!(in alloc; "{refusal}")?;
+    Ok(written.as_str() == text && refusal.without_payload() == bare)
+}
+
+#[test]
+fn refusals_have_texts(rt: HostRuntime) -> Result<(), Fail> {
+    let simd = "invalid simd type definition";
+    for &(refusal, bare, wanted) in &[
+        (
+            LayoutCalculatorError::UnexpectedUnsized(1),
+            LayoutCalculatorError::UnexpectedUnsized(()),
+            "an unsized type was found where a sized type was expected",
+        ),
+        (
+            LayoutCalculatorError::SizeOverflow,
+            LayoutCalculatorError::SizeOverflow,
+            "size overflow",
+        ),
+        (
+            LayoutCalculatorError::EmptyUnion,
+            LayoutCalculatorError::EmptyUnion,
+            "type is a union with no fields",
+        ),
+        (
+            LayoutCalculatorError::ReprConflict,
+            LayoutCalculatorError::ReprConflict,
+            "type has an invalid repr",
+        ),
+        (
+            LayoutCalculatorError::ZeroLengthSimdType,
+            LayoutCalculatorError::ZeroLengthSimdType,
+            simd,
+        ),
+        (
+            LayoutCalculatorError::OversizedSimdType { max_lanes: 32_768 },
+            LayoutCalculatorError::OversizedSimdType { max_lanes: 32_768 },
+            simd,
+        ),
+        (
+            LayoutCalculatorError::NonPrimitiveSimdType(1),
+            LayoutCalculatorError::NonPrimitiveSimdType(()),
+            simd,
+        ),
+        (
+            LayoutCalculatorError::OutOfMemory,
+            LayoutCalculatorError::OutOfMemory,
+            "out of memory",
+        ),
+    ] {
+        assert!(rt; is_told(rt.alloc(), refusal, bare, wanted)?, "{wanted}");
+    }
+    Ok(())
+}
+
+/// Whether the scalar is written so.
+fn is_written(alloc: Global, scalar: Scalar, text: &str) -> Result<bool, AllocError> {
+    let written = format!(in alloc; "{scalar:?}")?;
+    Ok(written.as_str() == text)
+}
+
+#[test]
+fn scalars_have_texts(rt: HostRuntime) -> Result<(), Fail> {
+    let unsigned = Primitive::Int(Integer::I8, false);
+    let signed = Primitive::Int(Integer::I8, true);
+    let pointer = Primitive::Pointer(AddressSpace::ZERO);
+    let float = Primitive::Float(Float::F32);
+    for &(value, start, end, text) in &[
+        (unsigned, 0, 1, "u8 is 0..=1"),
+        (unsigned, 0, 255, "u8 is .."),
+        (unsigned, 1, 0, "u8 is (..=0) | (1..)"),
+        (signed, 0, 255, "i8 is .."),
+        (signed, 255, 1, "i8 is -1..=1"),
+        (signed, 100, 200, "i8 is (..=-56) | (100..)"),
+        (pointer, 0, u128::MAX, "pointer is .."),
+        (pointer, 0, 65_535, "pointer is 0..=65535"),
+        (float, 0, 0xFFFF_FFFF, "f32 is .."),
+    ] {
+        let valid_range = WrappingRange { start, end };
+        let scalar = Scalar::Initialized { value, valid_range };
+        assert!(rt; is_written(rt.alloc(), scalar, text)?, "{text}");
+    }
+    Ok(())
+}
+
+/// Whether the primitive is written so behind the word of a union, in a union's scalar and alone.
+fn is_written_in_union(alloc: Global, value: Primitive, text: &str) -> Result<bool, AllocError> {
+    let alone = format!(in alloc; "union {value:?}")?;
+    Ok(alone.as_str() == text && is_written(alloc, Scalar::Union { value }, text)?)
+}
+
+#[test]
+fn primitives_have_texts(rt: HostRuntime) -> Result<(), Fail> {
+    for &(value, text) in &[
+        (Primitive::Int(Integer::I8, false), "union u8"),
+        (Primitive::Int(Integer::I64, true), "union i64"),
+        (Primitive::Float(Float::F32), "union f32"),
+        (Primitive::Float(Float::PpcF128), "union ppcf128"),
+        (Primitive::Pointer(AddressSpace::ZERO), "union pointer"),
+        (
+            Primitive::Pointer(AddressSpace(5)),
+            "union pointer(AddressSpace(5))",
+        ),
+    ] {
+        assert!(rt; is_written_in_union(rt.alloc(), value, text)?, "{text}");
+    }
+    Ok(())
+}
+
+/// A size and alignments.
+fn text_of_sizes(alloc: Global) -> Result<String, AllocError> {
+    format!(in alloc;
+        "{:?} {:?} {:?}",
+        Size::from_bytes(4),
+        Align::FOUR,
+        AbiAlign::new(Align::EIGHT)
+    )
+}
+
+/// A range, and one that wraps round.
+fn text_of_ranges(alloc: Global) -> Result<String, AllocError> {
+    let plain = WrappingRange { start: 0, end: 1 };
+    let wrapping = WrappingRange { start: 255, end: 1 };
+    format!(in alloc; "{plain:?}, {wrapping:?}")
+}
+
+/// Bytes that are no alignments.
+fn text_of_alignments(alloc: Global) -> Result<String, AllocError> {
+    let not_power = AlignFromBytesError::NotPowerOfTwo(3);
+    let too_large = AlignFromBytesError::TooLarge(1 << 30);
+    format!(in alloc; "{not_power}, {not_power:?}, {too_large}")
+}
+
+/// Byte orders, texts that are none, and a size that no integer has.
+fn text_of_byte_orders(alloc: Global) -> Result<String, AllocError> {
+    format!(in alloc;
+        "{:?} {:?} {}: {}; {}",
+        Endian::Little,
+        Endian::Big,
+        UnknownEndian,
+        UnknownEndianText { text: "x" },
+        NoSuchInteger(24)
+    )
+}
+
+/// What is said of a text that is no data layout string; nothing of one that is.
+fn text_of_refusal(alloc: Global, text: &str) -> Result<String, AllocError> {
+    match TargetDataLayout::parse_from_llvm_datalayout_string(alloc, text, AddressSpace::ZERO) {
+        Ok(_) => Ok(String::new(alloc)),
+        Err(error) => format!(in alloc; "{error}"),
+    }
+}
+
+#[test]
+fn refused_data_layouts_have_texts(rt: HostRuntime) -> Result<(), Fail> {
+    for &(text, wanted) in &[
+        ("P", "address space \"\" of \"P\": no number"),
+        ("ix:32", "size \"x\" of \"i\": not a decimal number"),
+        ("i64", "no alignment of \"i64\""),
+        ("a:24", "alignment of \"a\": 3 is not a power of 2"),
+        ("px:64:64", "unknown kind of pointers \"x\""),
+        ("e", ""),
+    ] {
+        let written = text_of_refusal(rt.alloc(), text)?;
+        assert!(rt; written.as_str() == wanted, "{text}: {written}");
+    }
+    Ok(())
+}
+
+/// Errors of the target's, which the parser never answers.
+fn text_of_target(alloc: Global) -> Result<String, AllocError> {
+    let order = TargetDataLayoutError::InconsistentTargetArchitecture {
+        dl: "big",
+        target: "little",
+    };
+    let width = TargetDataLayoutError::InconsistentTargetPointerWidth {
+        pointer_size: 64,
+        target: 32,
+    };
+    format!(in alloc; "{order}; {width}; {}", TargetDataLayoutError::OutOfMemory)
+}
+
+#[test]
+fn errors_of_targets_have_texts(rt: HostRuntime) -> Result<(), Fail> {
+    let text = text_of_target(rt.alloc())?;
+    assert!(rt;
+        text.as_str() == "byte order big, not little; pointers of 64, not 32 bits; out of memory"
+    );
+    Ok(())
+}
+
+#[test]
+fn values_have_texts(rt: HostRuntime) -> Result<(), Fail> {
+    let text = text_of_sizes(rt.alloc())?;
+    assert!(rt; text.as_str() == "Size(4 bytes) Align(4 bytes) Align(8 bytes)");
+    let text = text_of_ranges(rt.alloc())?;
+    assert!(rt; text.as_str() == "0..=1, (..=1) | (255..)");
+    Ok(())
+}
+
+#[test]
+fn errors_have_texts(rt: HostRuntime) -> Result<(), Fail> {
+    let text = text_of_alignments(rt.alloc())?;
+    assert!(rt;
+        text.as_str() == "3 is not a power of 2, 3 is not a power of 2, 1073741824 is too large"
+    );
+    let text = text_of_byte_orders(rt.alloc())?;
+    assert!(rt;
+        text.as_str()
+            == "little big unknown endian: unknown endian: \"x\"; rust does not support integers with 24 bits"
+    );
+    Ok(())
+}
+
+/// The layout of a type with no values.
+fn text_of_never(alloc: Global) -> Result<String, AllocError> {
+    let dl = TargetDataLayout::default_in(alloc)?;
+    let never: LayoutData<FieldIdx, VariantIdx> = LayoutData::never_type(&dl);
+    format!(in alloc; "{never:?}")
+}
+
+#[test]
+fn layouts_are_written_part_by_part(rt: HostRuntime) -> Result<(), Fail> {
+    let text = text_of_never(rt.alloc())?;
+    assert!(rt;
+        text.as_str()
+            == "Layout { size: Size(0 bytes), align: Align(1 bytes), backend_repr: Memory { sized: true }, \
+                fields: Primitive, largest_niche: None, uninhabited: true, variants: Empty, \
+                max_repr_align: None, unadjusted_abi_align: Align(1 bytes), repr_c: false, \
+                randomization_seed: Hash64 { inner: 0 } }"
+    );
+    Ok(())
+}

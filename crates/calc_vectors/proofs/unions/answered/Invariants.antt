@@ -1,6 +1,0 @@
--- The fields before the index.
-use Rattle.std.proofs.Common.{◌≡◌, take}
-use Rattle.calc_vectors.proofs.unions.answered.Given as goal
-
-abbrev pub invariant-loop-field : goal.invariant-loop-field
-invariant-loop-field g l = l.list ≡ take l.field-index l.fields

@@ -1,0 +1,7 @@
+-- There are so many rows and columns.
+use Rattle.std.proofs.Common.{◌≡◌}
+use Rattle.abi_index.specs.Relation.{column_count, row_count}
+use Rattle.calls.proofs.sets.relation.Given as goal
+
+abbrev pub invariant-loop-step : goal.invariant-loop-step
+invariant-loop-step l = (row_count l.relation ≡ l.rows) × (column_count l.relation ≡ l.columns)

@@ -1,0 +1,241 @@
+//! Calls of the calculator for coroutines.
+
+ghost use Rattle.std.specs.Prelude.{◌≡◌, ◌≢◌, ◌<◌, ◌≤◌, All, IfOk, IsTrue, length};
+ghost use Rattle.std.specs.List.{AllPairs};
+ghost use Rattle.abi_base.specs.DataLayout.{IsLawfulDataLayout};
+ghost use Rattle.abi_index.specs.Relation.{column_count, row_count};
+ghost use Rattle.calls.specs.Asked.{IsHeld};
+
+use crate::layouts::{Layout, MOST_ITEMS, are_lawful, layouts, lent};
+use crate::line::Line;
+use crate::print::{write_answer, write_scalar};
+use crate::stop::{Clause, Stop, calculator};
+use abi_base::TargetDataLayout;
+use abi_calc::{LayoutCalculator, state_tag};
+use abi_index::{BitMatrix, FieldIdx, IndexSlice, IndexVec, VariantIdx};
+use abi_scalar::LayoutData;
+use std::alloc::{AllocError, Global};
+
+/// The locals that a state holds, by their places.
+pub(crate) type State = IndexVec<FieldIdx, u32>;
+
+/// A coroutine of a line has no more locals, and no more states.
+const MOST_LOCALS: usize = 4096;
+
+/// The locals of a coroutine, which of them its states hold, and which pairs of them conflict.
+#[derive(Clone, Copy)]
+pub(crate) struct Parts<'a> {
+    pub(crate) locals: &'a [&'a Layout],
+    pub(crate) states: &'a [State],
+    pub(crate) conflicts: &'a [(u32, u32)],
+}
+
+/// Whether each of these locals is one of so many.
+fn are_within(locals: &[u32], count: usize) -> bool
+    ensures { IsTrue result → All (λ local. local < count) locals.now }
+{
+    for local in locals {
+        if *local as usize >= count {
+            return false;
+        }
+    }
+    true
+}
+
+/// Whether none of these is this local.
+fn is_new(local: u32, locals: &[u32]) -> bool
+    ensures { IsTrue result → All (λ other. other ≢ local) locals.now }
+{
+    for other in locals {
+        if *other == local {
+            return false;
+        }
+    }
+    true
+}
+
+/// Whether these locals differ.
+fn differ(locals: &[u32]) -> bool
+    ensures { IsTrue result → AllPairs (λ a b. a ≢ b) locals.now }
+{
+    for at in 0..locals.len() {
+        if !is_new(locals[at], &locals[..at]) {
+            return false;
+        }
+    }
+    true
+}
+
+/// Whether these locals differ, each one of so many.
+fn is_held(state: &State, count: usize) -> bool
+    ensures { IsTrue result → IsHeld count state.now }
+{
+    let locals = state.as_slice().as_raw();
+    are_within(locals, count) && differ(locals)
+}
+
+/// Whether each state holds different locals, each one of so many.
+fn are_held(states: &[State], count: usize) -> bool
+    ensures { IsTrue result → All (IsHeld count) states.now }
+{
+    for state in states {
+        if !is_held(state, count) {
+            return false;
+        }
+    }
+    true
+}
+
+/// The relation of these pairs between so many locals.
+fn matrix(alloc: Global, count: usize, pairs: &[(u32, u32)]) -> Result<BitMatrix<u32, u32>, Stop>
+    requires { count ≤ 4096 }
+    ensures rows { IfOk result (λ m. row_count m ≡ count) }
+    ensures columns { IfOk result (λ m. column_count m ≡ count) }
+{
+    let mut conflicts = BitMatrix::new(alloc, count, count)?;
+    for (row, column) in pairs {
+        if *row as usize >= count || *column as usize >= count {
+            return Err(Stop::Asks(Clause::Rows));
+        }
+        let _is_new = conflicts.insert(*row, *column)?;
+    }
+    Ok(conflicts)
+}
+
+/// The layout of a coroutine of these prefix fields and parts.
+#[tactic(auto, using(abi_calc::proofs::OneCoroutine::one_tag))]
+pub(crate) fn laid(
+    alloc: Global,
+    dl: &TargetDataLayout,
+    prefix: Vec<&Layout>,
+    parts: Parts<'_>,
+) -> Result<Layout, Stop>
+    requires { IsLawfulDataLayout dl.now }
+{
+    if parts.locals.len() > MOST_LOCALS
+        || prefix.len() > MOST_LOCALS
+        || parts.states.len() > MOST_LOCALS
+    {
+        return Err(Stop::Asks(Clause::Count));
+    }
+    if parts.states.is_empty() {
+        return Err(Stop::Asks(Clause::Any));
+    }
+    if !are_lawful(dl, parts.locals) {
+        return Err(Stop::Asks(Clause::Locals));
+    }
+    if !are_lawful(dl, &prefix) {
+        return Err(Stop::Asks(Clause::Prefix));
+    }
+    if !are_held(parts.states, parts.locals.len()) {
+        return Err(Stop::Asks(Clause::Within));
+    }
+    let conflicts = matrix(alloc, parts.locals.len(), parts.conflicts)?;
+    let tag: Layout = LayoutData::scalar(dl, state_tag(parts.states.len()));
+    let states: IndexSlice<VariantIdx, State> = IndexSlice::new(parts.states);
+    LayoutCalculator::new(dl)
+        .layout_of_coroutine(
+            alloc,
+            IndexSlice::new(parts.locals),
+            IndexVec::from_raw(prefix),
+            states,
+            &conflicts,
+            |_tag| &tag,
+        )
+        .map_err(calculator)
+}
+
+/// The numbers between the parentheses that are next.
+fn numbers(alloc: Global, line: &mut Line<'_>) -> Result<Vec<u32>, Stop>
+    ensures { IfOk result (λ all. length all.items ≤ 1_000_000) }
+{
+    line.expect(b"(")?;
+    let mut all = Vec::new(alloc);
+    for _ in 0..u64::MAX {
+        if line.takes(b")") {
+            break;
+        }
+        all.push(line.short()?)?;
+    }
+    if all.len() > MOST_ITEMS {
+        return Err(Stop::Asks(Clause::Count));
+    }
+    Ok(all)
+}
+
+/// The states between the parentheses that are next: for each the locals that it holds.
+fn states(alloc: Global, line: &mut Line<'_>) -> Result<Vec<State>, Stop> {
+    line.expect(b"(")?;
+    let mut all = Vec::new(alloc);
+    for _ in 0..u64::MAX {
+        if line.takes(b")") {
+            break;
+        }
+        all.push(IndexVec::from_raw(numbers(alloc, line)?))?;
+    }
+    Ok(all)
+}
+
+/// The pairs of numbers between the parentheses that are next.
+fn pairs(alloc: Global, line: &mut Line<'_>) -> Result<Vec<(u32, u32)>, Stop> {
+    line.expect(b"(")?;
+    let mut all = Vec::new(alloc);
+    for _ in 0..u64::MAX {
+        if line.takes(b")") {
+            break;
+        }
+        all.push((line.short()?, line.short()?))?;
+    }
+    Ok(all)
+}
+
+/// `coroutine ( PREFIX.. ) ( LOCAL.. ) ( ( NUMBER.. ) .. ) ( NUMBER NUMBER .. )`
+fn coroutine_of(alloc: Global, dl: &TargetDataLayout, line: &mut Line<'_>) -> Result<Layout, Stop>
+    requires { IsLawfulDataLayout dl.now }
+{
+    let prefix = layouts(alloc, dl, line)?;
+    let locals = layouts(alloc, dl, line)?;
+    let states = states(alloc, line)?;
+    let conflicts = pairs(alloc, line)?;
+    let lent_locals = lent(alloc, &locals)?;
+    let parts = Parts {
+        locals: &lent_locals,
+        states: &states,
+        conflicts: &conflicts,
+    };
+    laid(alloc, dl, lent(alloc, &prefix)?, parts)
+}
+
+/// `state-tag COUNT`: the tag of so many states
+fn tag(line: &mut Line<'_>, out: &mut String) -> Result<bool, Stop> {
+    let count = line.number()?;
+    line.end()?;
+    if count == 0 {
+        return Err(Stop::Asks(Clause::Any));
+    }
+    write_scalar(out, state_tag(count as usize))?;
+    Ok(true)
+}
+
+/// Answers a call of this name; whether there is one.
+pub(crate) fn call(
+    alloc: Global,
+    dl: &TargetDataLayout,
+    name: &[u8],
+    line: &mut Line<'_>,
+    out: &mut String,
+) -> Result<bool, Stop>
+    requires { IsLawfulDataLayout dl.now }
+{
+    if name == b"state-tag".as_slice() {
+        return tag(line, out);
+    }
+    if name != b"coroutine".as_slice() {
+        return Ok(false);
+    }
+    let layout = coroutine_of(alloc, dl, line)?;
+    let with_seed = line.takes(b"seed");
+    line.end()?;
+    write_answer(alloc, out, &layout, with_seed)?;
+    Ok(true)
+}

@@ -1,0 +1,138 @@
+//! The least size of a short list, found by trying every order that it may have: no groups, no niches, no sorting.
+
+use crate::layouts::Layout;
+use abi_base::{Align, StructKind, TargetDataLayout};
+use abi_scalar::ReprOptions;
+use std::alloc::{AllocError, Global};
+
+/// The alignment, but no more than the pack's.
+fn cut_to(align: Align, pack: Option<Align>) -> Align {
+    match pack {
+        Some(pack) => align.min(pack),
+        None => align,
+    }
+}
+
+/// The least multiple of the alignment that is no less.
+pub(crate) fn rounded_up(from: u128, align: Align) -> u128 {
+    let bytes = u128::from(align.min(Align::MAX).bytes());
+    match from.checked_rem(bytes) {
+        Some(over) if over > 0 => from.saturating_add(bytes.saturating_sub(over)),
+        _ => from,
+    }
+}
+
+/// The greatest alignment of these fields, no more than the pack's each, and of what comes before them.
+pub(crate) fn list_align(
+    dl: &TargetDataLayout,
+    fields: &[&Layout],
+    repr: &ReprOptions,
+    kind: &StructKind,
+) -> Align {
+    let own = match repr.pack {
+        Some(_) => dl.i8_align,
+        None => dl.aggregate_align,
+    };
+    let mut greatest = own.max(repr.align.unwrap_or(Align::ONE));
+    if let StructKind::Prefixed(_, align) = kind {
+        greatest = greatest.max(cut_to(*align, repr.pack));
+    }
+    for field in fields {
+        greatest = greatest.max(cut_to(field.align.abi, repr.pack));
+    }
+    greatest
+}
+
+/// The list's size with its fields in this order, before it is rounded up.
+fn end_by(fields: &[&Layout], repr: &ReprOptions, kind: &StructKind, order: &[usize]) -> u128 {
+    let mut end = match kind {
+        StructKind::Prefixed(size, align) => {
+            rounded_up(u128::from(size.bytes()), cut_to(*align, repr.pack))
+        }
+        _ => 0,
+    };
+    for index in order {
+        if let Some(field) = fields.get(*index) {
+            let size = u128::from(field.size.bytes());
+            end = rounded_up(end, cut_to(field.align.abi, repr.pack)).saturating_add(size);
+        }
+    }
+    end
+}
+
+/// The order of so many fields that has this number: each takes one of the fields that are left.
+fn order_of(alloc: Global, number: u64, count: usize) -> Result<Vec<usize>, AllocError> {
+    let mut left = Vec::new(alloc);
+    for index in 0..count {
+        left.push(index)?;
+    }
+    let mut number = number;
+    let mut order = Vec::new(alloc);
+    for _ in 0..count {
+        let many = left.len() as u64;
+        if many == 0 {
+            break;
+        }
+        order.push(left.remove((number % many) as usize))?;
+        number /= many;
+    }
+    Ok(order)
+}
+
+/// How many orders so many fields have; 720 for six and more.
+fn order_count(count: usize) -> u64 {
+    match count {
+        0 | 1 => 1,
+        2 => 2,
+        3 => 6,
+        4 => 24,
+        5 => 120,
+        _ => 720,
+    }
+}
+
+/// The size of a list in source order.
+pub(crate) fn source_size(
+    alloc: Global,
+    dl: &TargetDataLayout,
+    fields: &[&Layout],
+    repr: &ReprOptions,
+    kind: &StructKind,
+) -> Result<u128, AllocError> {
+    let mut order = Vec::new(alloc);
+    for index in 0..fields.len() {
+        order.push(index)?;
+    }
+    let end = end_by(fields, repr, kind, &order);
+    Ok(rounded_up(end, list_align(dl, fields, repr, kind)))
+}
+
+/// Whether a list of this kind may have the order: one whose last field may be unsized keeps it last.
+fn is_allowed(kind: &StructKind, order: &[usize]) -> bool {
+    match kind {
+        StructKind::MaybeUnsized => order.last() == Some(&order.len().saturating_sub(1)),
+        _ => true,
+    }
+}
+
+/// The least size that a list of at most six fields has in an order that it may have.
+pub(crate) fn least_size(
+    alloc: Global,
+    dl: &TargetDataLayout,
+    fields: &[&Layout],
+    repr: &ReprOptions,
+    kind: &StructKind,
+) -> Result<u128, AllocError> {
+    let mut least = source_size(alloc, dl, fields, repr, kind)?;
+    if repr.inhibit_struct_field_reordering() {
+        return Ok(least);
+    }
+    let align = list_align(dl, fields, repr, kind);
+    for number in 0..order_count(fields.len()) {
+        let order = order_of(alloc, number, fields.len())?;
+        if is_allowed(kind, &order) {
+            least = least.min(rounded_up(end_by(fields, repr, kind, &order), align));
+        }
+    }
+    Ok(least)
+}

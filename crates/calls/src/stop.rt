@@ -1,0 +1,172 @@
+//! Why a line has no answer but a refusal.
+
+use abi_base::TargetDataLayoutError;
+use abi_scalar::LayoutCalculatorError;
+use abi_text::error_name;
+use rustc_abi::LayError;
+use std::alloc::{AllocError, AllocFailed};
+
+/// The name of a refusal.
+#[derive(Clone, Copy)]
+pub(crate) enum Name {
+    /// That of a type, or of the calculator.
+    Lay(LayError),
+    /// A type or a value stands in too many others.
+    TooDeep,
+    /// A value is none of the type's.
+    NotAValue,
+    /// A text is no convention's name.
+    Unknown,
+    /// Of a data layout string, as the next.
+    InvalidAddressSpace,
+    InvalidBits,
+    MissingAlignment,
+    InvalidAlignment,
+    UnknownPointerSpecification,
+    /// A data layout and a target don't agree, which no text shows.
+    Inconsistent,
+}
+
+impl Name {
+    /// As it is written.
+    pub(crate) fn as_str(self) -> &'static str {
+        match self {
+            Name::Lay(error) => error_name(error),
+            Name::TooDeep => "TooDeep",
+            Name::NotAValue => "NotAValue",
+            Name::Unknown => "Unknown",
+            Name::InvalidAddressSpace => "InvalidAddressSpace",
+            Name::InvalidBits => "InvalidBits",
+            Name::MissingAlignment => "MissingAlignment",
+            Name::InvalidAlignment => "InvalidAlignment",
+            Name::UnknownPointerSpecification => "UnknownPointerSpecification",
+            Name::Inconsistent => "Inconsistent",
+        }
+    }
+}
+
+/// What a call asks, by the name of the clause in its contract, or that a count is within the limit.
+#[derive(Clone, Copy)]
+pub(crate) enum Clause {
+    Align,
+    Any,
+    Count,
+    DataLayout,
+    Each,
+    Element,
+    Fields,
+    Fits,
+    Known,
+    Limit,
+    Locals,
+    Named,
+    Number,
+    One,
+    Prefix,
+    Readable,
+    Repr,
+    Rows,
+    Size,
+    Sized,
+    Tail,
+    Variant,
+    Width,
+    Within,
+}
+
+impl Clause {
+    /// As it is written.
+    pub(crate) fn as_str(self) -> &'static str {
+        match self {
+            Clause::Align => "align",
+            Clause::Any => "some",
+            Clause::Count => "count",
+            Clause::DataLayout => "data_layout",
+            Clause::Each => "each",
+            Clause::Element => "element",
+            Clause::Fields => "fields",
+            Clause::Fits => "fits",
+            Clause::Known => "known",
+            Clause::Limit => "limit",
+            Clause::Locals => "locals",
+            Clause::Named => "named",
+            Clause::Number => "number",
+            Clause::One => "one",
+            Clause::Prefix => "prefix",
+            Clause::Readable => "readable",
+            Clause::Repr => "repr",
+            Clause::Rows => "rows",
+            Clause::Size => "size",
+            Clause::Sized => "sized",
+            Clause::Tail => "tail",
+            Clause::Variant => "variant",
+            Clause::Width => "width",
+            Clause::Within => "within",
+        }
+    }
+}
+
+/// Why a line has no answer but a refusal.
+#[derive(Clone, Copy)]
+pub(crate) enum Stop {
+    /// The word of this number doesn't fit; words are numbered from 1.
+    Unreadable(u64),
+    /// The call refuses what it was given.
+    Refused(Name),
+    /// The call asks for something that it wasn't given.
+    Asks(Clause),
+    /// A growth of memory was refused.
+    OutOfMemory,
+}
+
+impl From<AllocError> for Stop {
+    fn from(_error: AllocError) -> Self {
+        Stop::OutOfMemory
+    }
+}
+
+impl<T: Drop> From<AllocFailed<T>> for Stop {
+    fn from(_error: AllocFailed<T>) -> Self {
+        Stop::OutOfMemory
+    }
+}
+
+impl From<LayError> for Stop {
+    fn from(error: LayError) -> Self {
+        match error {
+            LayError::OutOfMemory => Stop::OutOfMemory,
+            _ => Stop::Refused(Name::Lay(error)),
+        }
+    }
+}
+
+/// The refusal that an error of the calculator is.
+pub(crate) fn calculator<F: Drop>(error: LayoutCalculatorError<F>) -> Stop {
+    match error {
+        LayoutCalculatorError::UnexpectedUnsized(_) => Stop::from(LayError::UnexpectedUnsized),
+        LayoutCalculatorError::SizeOverflow => Stop::from(LayError::SizeOverflow),
+        LayoutCalculatorError::EmptyUnion => Stop::from(LayError::EmptyUnion),
+        LayoutCalculatorError::ReprConflict => Stop::from(LayError::ReprConflict),
+        LayoutCalculatorError::ZeroLengthSimdType => Stop::from(LayError::ZeroLengthSimdType),
+        LayoutCalculatorError::OversizedSimdType { .. } => Stop::from(LayError::OversizedSimdType),
+        LayoutCalculatorError::NonPrimitiveSimdType(_) => {
+            Stop::from(LayError::NonPrimitiveSimdType)
+        }
+        LayoutCalculatorError::OutOfMemory => Stop::OutOfMemory,
+    }
+}
+
+/// The refusal that a fault of a data layout string is.
+pub(crate) fn data_layout(error: &TargetDataLayoutError<'_>) -> Stop {
+    Stop::Refused(match error {
+        TargetDataLayoutError::InvalidAddressSpace { .. } => Name::InvalidAddressSpace,
+        TargetDataLayoutError::InvalidBits { .. } => Name::InvalidBits,
+        TargetDataLayoutError::MissingAlignment { .. } => Name::MissingAlignment,
+        TargetDataLayoutError::InvalidAlignment { .. } => Name::InvalidAlignment,
+        TargetDataLayoutError::UnknownPointerSpecification { .. } => {
+            Name::UnknownPointerSpecification
+        }
+        TargetDataLayoutError::OutOfMemory => return Stop::OutOfMemory,
+        _ => Name::Inconsistent,
+    })
+}
