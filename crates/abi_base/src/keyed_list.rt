@@ -1,7 +1,7 @@
 //! Values under keys.
 
 ghost use Rattle.std.specs.Prelude.{◌≡◌, ◌<◌, ◌++◌, ◌∷◌, [], MatchOption, length, slice_set};
-ghost use Rattle.std.specs.Result.{OnOk};
+ghost use Rattle.std.specs.Result.{OnErr, OnOk};
 ghost use Rattle.abi_base.specs.KeyedList.{value_of, put_entry};
 
 use std::alloc::{AllocError, Global};
@@ -94,7 +94,8 @@ impl<K: PartialEq + Copy, V: Copy> KeyedList<K, V> {
 
     /// The key and its value, added last.
     pub(crate) fn push(&mut self, key: K, value: V) -> Result<(), AllocError>
-        ensures { OnOk result (self.new ≡ self.old ++ ((key, value) ∷ [])) }
+        ensures ok { OnOk result (self.new ≡ self.old ++ ((key, value) ∷ [])) }
+        ensures err { OnErr result (self.new ≡ self.old) }
     {
         self.entries.push((key, value))?;
         Ok(())
@@ -102,7 +103,8 @@ impl<K: PartialEq + Copy, V: Copy> KeyedList<K, V> {
 
     /// The value of the key replaced, or added last.
     pub(crate) fn put(&mut self, key: K, value: V) -> Result<(), AllocError>
-        ensures { OnOk result (self.new ≡ put_entry K.eq key value self.old) }
+        ensures ok { OnOk result (self.new ≡ put_entry K.eq key value self.old) }
+        ensures err { OnErr result (self.new ≡ self.old) }
     {
         match self.place(key) {
             Some(index) => {

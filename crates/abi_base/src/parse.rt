@@ -1,7 +1,7 @@
 //! Reading a data layout string.
 
 ghost use Rattle.std.specs.Prelude.{◌≡◌, ◌∷◌, IfOk, IfErr, Ok, List, unwrap_or};
-ghost use Rattle.std.specs.Result.{OnOk};
+ghost use Rattle.std.specs.Result.{OnErr, OnOk};
 ghost use Rattle.abi_base.specs.declared.setting.Setting.{Setting};
 ghost use Rattle.abi_base.specs.declared.data_layout.TargetDataLayout.{TargetDataLayout};
 ghost use Rattle.abi_base.specs.DataLayout.{Knows};
@@ -76,6 +76,7 @@ impl Reading {
     fn set_pointers(&mut self, space: AddressSpace, spec: PointerSpec) -> Result<(), AllocError>
         ensures one_more { OnOk result ((ss : List Setting) → with_settings self.new.dl self.new.widest ss ≡ with_settings self.old.dl self.old.widest (Pointer space spec ∷ ss)) }
         ensures widest { self.new.widest ≡ self.old.widest }
+        ensures err { OnErr result (self.new ≡ self.old) }
     {
         if space.0 == self.dl.default_address_space.0 {
             self.dl.default_address_space_pointer_spec = spec;
@@ -90,6 +91,7 @@ impl Reading {
         requires { IsWide self.old.widest }
         ensures one_more { OnOk result ((ss : List Setting) → with_settings self.new.dl self.new.widest ss ≡ with_settings self.old.dl self.old.widest (setting ∷ ss)) }
         ensures wide { OnOk result (IsWide self.new.widest) }
+        ensures err { OnErr result (self.new ≡ self.old) }
     {
         match setting {
             Setting::Order(endian) => self.dl.endian = endian,

@@ -13,7 +13,7 @@ use Rattle.abi_lists.specs.Placement.{IsNonEmptyIfUnsized, IsSized}
 use Rattle.abi_lists.proofs.LeastLemmas.{biased, has_greatest_niche, has_least, has_own_niche, lies_in_order}
 use Rattle.abi_calc.specs.Enums.Lists.{AreListLayouts}
 use Rattle.abi_calc.specs.Made.{AreFieldLists, IsFieldList}
-use Rattle.abi_calc.proofs.EnumSizes.{tail_of_sized}
+use Rattle.abi_calc.proofs.EnumLemmas.Sizes.{tail_of_sized}
 use Rattle.abi_calc.proofs.Seen.{list_marks, list_viewed}
 
 module _ {F V H : Type 0} (layout_of : H → LayoutData F V) (at : ℕ → F) (first : V) (dl : TargetDataLayout) (repr : ReprOptions) (kind : StructKind) where

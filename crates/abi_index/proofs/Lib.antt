@@ -5,3 +5,5 @@ pub mod BitMatrixLemmas
 pub mod RangeSetLemmas
 pub mod LastRunLemmas
 pub mod UncutLemmas
+pub mod RunsLemmas
+pub mod RepeatedLemmas

@@ -1,7 +1,7 @@
 -- What cuts leave of a run of bytes.
 use Rattle.std.proofs.Common.{◌≡◌, ℕ, ◌+◌, ◌-◌, ◌<◌, ◌≤◌, ◌^◌, ◌&&◌, ◌||◌, not, Bool, true, false, List, [], ◌∷◌, length, nat_lt, nat_le, min, max, zero, arith, refl, sym, ap, ◌∙◌, inl, inr, take, drop, get_or, suc, subst, drop-cons}
 use Rattle.std.proofs.lemmas.Bool.{cases_lt, lt-ltb, le-ltb, le-leb, lt-leb, and_right}
-use Rattle.std.proofs.Math.Bool.{and-true}
+use Rattle.std.proofs.Math.Bool.{and-false, and-true}
 use Rattle.std.proofs.lemmas.List.{take-append-drop, take_more}
 use Rattle.std.proofs.lemmas.List.Folds.{list_any-append}
 use Rattle.abi_index.specs.RangeSet.{is_in_run, is_in_ranges, AreMaximalRuns, EndBy}
@@ -142,3 +142,21 @@ pub step_over_end : (k start to i : ℕ) (cuts : List (ℕ × ℕ)) (d : ℕ × 
     → (is_in_run k (start, min (get_or cuts i d).0 to - start) || made) ≡ (is_uncut k start to (drop i cuts) || made)
 step_over_end k start to i cuts d made within ascend ends maximal =
     rw (drop-cons cuts i d within, cut_over_end k start to (get_or cuts i d) (drop (suc i) cuts) ascend ends (maximal_at i cuts d within maximal)) refl
+
+-- no run has the last byte that 64 bits can name, or one behind it
+none_beyond : (low : ℕ) (runs : List (ℕ × ℕ)) (k : ℕ) → AreMaximalRuns low runs → 2 ^ 64 ≤ k + 1 → is_in_ranges runs k ≡ false
+none_beyond low [] k maximal past = refl
+none_beyond low (run ∷ runs) k maximal past =
+    rw (le-ltb k (run.0 + run.1) (omega (arith, maximal.2, past)), none_beyond (run.0 + run.1 + 1) runs k maximal.3 past, and-false (nat_le run.0 k)) refl
+
+-- what a run of all bytes from one on leaves is what lies before it
+pub first_bytes : (runs whole rest : List (ℕ × ℕ)) (end k : ℕ) → AreMaximalRuns 0 runs → ((j : ℕ) → is_in_ranges whole j ≡ (is_in_run j (end, 2 ^ 64 - 1 - end) || false))
+    → is_in_ranges rest k ≡ (is_in_ranges runs k && not (is_in_ranges whole k)) → is_in_ranges rest k ≡ (nat_lt k end && is_in_ranges runs k)
+first_bytes runs whole rest end k maximal all left =
+    elim (cases_lt k end) [
+      | inl before ↦ left ∙ rw (all k, lt-leb end k before, lt-ltb k end before, and-true (is_in_ranges runs k)) refl
+      | inr past ↦ elim (cases_lt (k + 1) (2 ^ 64)) [
+        | inl within ↦ left ∙ rw (all k, le-leb end k past, lt-ltb k (end + (2 ^ 64 - 1 - end)) (omega (arith, within)), le-ltb k end past, and-false (is_in_ranges runs k)) refl
+        | inr beyond ↦ left ∙ rw (none_beyond 0 runs k maximal beyond, le-ltb k end past) refl
+      ]
+    ]

@@ -14,6 +14,7 @@ mod index_slice;
 mod index_vec;
 mod indices;
 mod range_set;
+mod range_set_builder;
 mod try_clone;
 mod uncut;
 
@@ -27,4 +28,5 @@ pub use index_slice::IndexSlice;
 pub use index_vec::IndexVec;
 pub use indices::Indices;
 pub use range_set::RangeSet;
+pub use range_set_builder::RangeSetBuilder;
 pub use try_clone::TryClone;

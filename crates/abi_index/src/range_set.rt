@@ -1,6 +1,6 @@
 //! Sets of bytes, kept as runs.
 
-ghost use Rattle.std.specs.Prelude.{◌≡◌, ℕ, ◌<◌, ◌+◌, ◌^◌, ◌&&◌, ◌||◌, not, [], IfOk, OnOk, OnErr};
+ghost use Rattle.std.specs.Prelude.{◌≡◌, ℕ, ◌<◌, ◌+◌, ◌^◌, ◌&&◌, ◌||◌, not, nat_lt, [], IfOk, OnOk, OnErr};
 ghost use Rattle.abi_index.specs.RangeSet.{is_in_run, is_in_ranges, AreMaximalRuns};
 
 use crate::add_run::add_run;
@@ -100,6 +100,16 @@ impl RangeSet {
             next = add_uncut(&mut rest, offset, offset + size, other.as_slice(), next)?;
         }
         Ok(rest)
+    }
+
+    /// The bytes of this set before byte `end`. `AllocError` where memory is refused.
+    #[tactic(auto, using(crate::proofs::UncutLemmas::first_bytes))]
+    pub fn before(&self, alloc: Global, end: u64) -> Result<RangeSet, AllocError>
+        ensures bytes { IfOk result (λ set. (k : ℕ) → is_in_ranges set k ≡ (nat_lt k end && is_in_ranges self.now k)) }
+    {
+        let mut beyond = RangeSet::new(alloc);
+        beyond.add_range(end, u64::MAX - end)?;
+        self.difference(alloc, &beyond)
     }
 
     /// The runs, each as its offset and its size in bytes: ascending, none empty, no two of them meet.

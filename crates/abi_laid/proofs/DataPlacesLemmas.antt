@@ -1,36 +1,34 @@
 -- What each kind of node has of data places.
-use Rattle.std.proofs.Common.{◌≡◌, ℕ, zero, suc, ◌+◌, ◌-◌, ◌*◌, ◌/◌, ◌%◌, ◌<◌, ◌≤◌, List, [], ◌∷◌, ◌++◌, Bool, true, false, length, map, replicate, get_or, take, min, arith, refl, sym, ap, ◌∙◌, subst, All}
+use Rattle.std.proofs.Common.{◌≡◌, ℕ, zero, suc, ◌+◌, ◌*◌, ◌<◌, ◌≤◌, List, [], ◌∷◌, Bool, true, false, length, get_or, arith, refl, sym, ap, ◌∙◌, subst, All}
 use Rattle.std.specs.Prelude.{◌==◌, ◌&&◌, ◌||◌, nat_le, nat_lt}
 use Rattle.std.specs.List.{list_all}
-use Rattle.std.proofs.lemmas.Bool.{ltb-true, leb-true, le-ltb, eqb-true, and_parts}
-use Rattle.std.proofs.lemmas.List.{take_more, length-take-le, length-map, get_or-map}
+use Rattle.std.proofs.lemmas.Bool.{ltb-true, leb-true, eqb-true, and_parts}
+use Rattle.std.proofs.lemmas.List.{length-map, get_or-map}
 use Rattle.std.proofs.lemmas.List.Elements.{All-nil, All-cons}
-use Rattle.std.proofs.Math.Bool.{or-false}
 use Rattle.abi_scalar.specs.declared.scalar.Scalar.{Scalar}
 use Rattle.abi_laid.specs.declared.node.Shape.{Shape}
 use Rattle.abi_laid.specs.declared.node.Shape.TheVariants.{Scalar as Number, Pair, Never, Elements, Fields, Union, Vector, Single, Tagged, States}
 use Rattle.abi_laid.specs.declared.node.Node.{Node}
-use Rattle.abi_laid.specs.declared.runs.Run.{Run}
 use Rattle.std.specs.Prelude.{Vec}
 use Rattle.std.specs.declared.alloc.Global.{Global}
 use Rattle.abi_scalar.specs.Shape.{listed_offsets}
 use Rattle.abi_laid.specs.declared.mark.Mark.{Mark}
-use Rattle.abi_laid.specs.Placed.{Placed, Layout, scalar, pair, never, elements, vector, fields, union, single, tagged, size_of, Parts, no_parts, part, nothing}
-use Rattle.abi_laid.specs.Places.{is_data_place, is_place_of_part, is_place_of_arm}
+use Rattle.abi_laid.specs.Placed.{Placed, Layout, scalar, pair, never, elements, vector, fields, union, single, tagged, size_of, no_parts, nothing}
+use Rattle.abi_laid.specs.Places.{is_data_place}
 use Rattle.abi_laid.specs.Nodes.{parts_at, parts_at_0, placed_in, placed_at, types_in, arms_in, own_fields, index_of, meaning, tag_offset, encoding_of, states_in}
 use Rattle.abi_laid.specs.Room.{has_room, have_room, arms_have_room}
 use Rattle.abi_laid.specs.Well.{are_nodes, all_at}
-use Rattle.abi_laid.specs.Runs.{covers, repeats, Ascend}
+use Rattle.abi_index.specs.RangeSet.{AreMaximalRuns, is_in_ranges}
 use Rattle.abi_laid.proofs.NodesLemmas.{placed_at-node, pair_before}
-use Rattle.abi_laid.proofs.RoomLemmas.{within_room, within_have, room_at, ends_inside}
+use Rattle.abi_laid.proofs.RoomLemmas.{within_room, room_at, ends_inside}
 
-all_before : (i : ℕ) (cs : List ℕ) → list_all (λ child. nat_lt child i) cs ≡ true → All (λ child. child < i) cs
+pub all_before : (i : ℕ) (cs : List ℕ) → list_all (λ child. nat_lt child i) cs ≡ true → All (λ child. child < i) cs
 all_before i [] h = All-nil (λ child. child < i)
 all_before i (c ∷ cs) h =
     let both = and_parts (nat_lt c i) (list_all (λ child. nat_lt child i) cs) h in
     All-cons (λ child. child < i) c cs (ltb-true c i both.0) (all_before i cs both.1)
 
-variants_before : (i : ℕ) (vs : List (ℕ × ℕ)) → list_all (λ v. nat_lt v.1 i) vs ≡ true → All (λ v. v.1 < i) vs
+pub variants_before : (i : ℕ) (vs : List (ℕ × ℕ)) → list_all (λ v. nat_lt v.1 i) vs ≡ true → All (λ v. v.1 < i) vs
 variants_before i [] h = All-nil (λ v. v.1 < i)
 variants_before i (v ∷ vs) h =
     let both = and_parts (nat_lt v.1 i) (list_all (λ v. nat_lt v.1 i) vs) h in
@@ -135,65 +133,15 @@ module _ (ns : List Node) (well : are_nodes 0 ns ≡ true) (i : ℕ) (n : Node) 
   pub own_fields_other : ((mark : Mark) (children : Vec ℕ Global) → n.shape ≡ Fields mark children → ⊥) → own_fields (placed_at ns i) ≡ no_parts
   own_fields_other other = ap own_fields (placed_at-node ns well i n n.shape lt at refl).1 ∙ own_fields_none (types_in ns) n.layout n.shape other
 
--- what repeats an element's runs are the array's places
-pub places_of_elements : (layout : Layout) (count : ℕ) (element : Placed) (runs : List Run) → ((k : ℕ) → covers runs k ≡ is_data_place element k) → (k : ℕ) →
-    repeats runs count (size_of element) k ≡ is_data_place (elements layout count element) k
-places_of_elements layout count element runs same k = ap (λ b. nat_lt (k / size_of element) count && b) (same (k % size_of element))
-
--- as many zeros as types
-zeros_at : (ps : List Placed) (n : ℕ) → length ps ≡ n → map {B = ℕ} (λ p. 0) ps ≡ replicate n 0
-zeros_at [] zero e = refl
-zeros_at [] (suc n) e = absurd (omega arith)
-zeros_at (p ∷ ps) zero e = absurd (omega arith)
-zeros_at (p ∷ ps) (suc n) e = ap (λ zeros. 0 ∷ zeros) (zeros_at ps n (omega arith))
-
--- a union's fields lie at as many zeros
-pub parts_at-zeros : (ns : List Node) (children : List ℕ) → parts_at (replicate (length children) 0) (all_at ns children) ≡ parts_at_0 (all_at ns children)
-parts_at-zeros ns children =
-    ap (λ zeros. parts_at zeros (all_at ns children)) (sym (zeros_at (all_at ns children) (length children) (length-map children (placed_at ns))))
-
--- an array of nothing has no place
-pub places_of_none : (layout : Layout) (element : Placed) (k : ℕ) → false ≡ is_data_place (elements layout 0 element) k
-places_of_none layout element k = sym (ap (λ b. b && is_data_place element (k % size_of element)) (le-ltb (k / size_of element) 0 (omega arith)))
-
 -- runs of a type's places end inside it
-pub runs_inside : (placed : Placed) (runs : List Run) → has_room placed ≡ true → Ascend 0 runs → ((k : ℕ) → covers runs k ≡ is_data_place placed k) → All (λ run. run.end ≤ size_of placed) runs
-runs_inside placed runs room ascend same = ends_inside 0 (size_of placed) runs ascend (λ k h. within_room placed k room (sym (same k) ∙ h))
+pub runs_inside : (placed : Placed) (runs : List (ℕ × ℕ)) → has_room placed ≡ true → AreMaximalRuns 0 runs → ((k : ℕ) → is_in_ranges runs k ≡ is_data_place placed k) →
+    All (λ run. run.0 + run.1 ≤ size_of placed) runs
+runs_inside placed runs room maximal same = ends_inside 0 (size_of placed) runs maximal (λ k h. within_room placed k room (sym (same k) ∙ h))
 
 -- the order in which tests are joined doesn't count
 pub or_shift : (a b c : Bool) → (a || (b || c)) ≡ ((a || b) || c)
 or_shift true b c = refl
 or_shift false b c = refl
-
--- one part more
-parts_at-push : (os : List ℕ) (ps : List Placed) (o : ℕ) (p : Placed) (k : ℕ) → length os ≡ length ps →
-    is_place_of_part (parts_at (os ++ o ∷ []) (ps ++ p ∷ [])) k ≡ (is_place_of_part (parts_at os ps) k || (nat_le o k && is_data_place p (k - o)))
-parts_at-push [] [] o p k same = or-false (nat_le o k && is_data_place p (k - o))
-parts_at-push [] (q ∷ ps) o p k same = absurd (omega arith)
-parts_at-push (r ∷ os) [] o p k same = absurd (omega arith)
-parts_at-push (r ∷ os) (q ∷ ps) o p k same =
-    ap (λ b. (nat_le r k && is_data_place q (k - r)) || b) (parts_at-push os ps o p k (omega arith))
-    ∙ or_shift (nat_le r k && is_data_place q (k - r)) (is_place_of_part (parts_at os ps) k) (nat_le o k && is_data_place p (k - o))
-
--- the first parts, and one more
-pub parts_at-more : (os : List ℕ) (ps : List Placed) (n k : ℕ) → n < length os → n < length ps →
-    is_place_of_part (parts_at (take (n + 1) os) (take (n + 1) ps)) k
-    ≡ (is_place_of_part (parts_at (take n os) (take n ps)) k || (nat_le (get_or os n 0) k && is_data_place (get_or ps n nothing) (k - get_or os n 0)))
-parts_at-more os ps n k lt below =
-    ap (λ xs. is_place_of_part (parts_at xs (take (n + 1) ps)) k) (take_more os n 0 lt)
-    ∙ ap (λ xs. is_place_of_part (parts_at (take n os ++ get_or os n 0 ∷ []) xs) k) (take_more ps n nothing below)
-    ∙ parts_at-push (take n os) (take n ps) (get_or os n 0) (get_or ps n nothing) k (length-take-le n os (omega arith) ∙ sym (length-take-le n ps (omega arith)))
-
--- as many offsets as types as there are of both
-pub parts_at-all : (os : List ℕ) (ps : List Placed) (n : ℕ) → n ≡ min (length os) (length ps) → parts_at (take n os) (take n ps) ≡ parts_at os ps
-parts_at-all [] ps n e =
-    let none : n ≡ 0 = omega arith in
-    ap (λ m. parts_at (take m []) (take m ps)) none
-parts_at-all (o ∷ os) [] n e =
-    let none : n ≡ 0 = omega arith in
-    ap (λ m. parts_at (take m (o ∷ os)) (take m [])) none
-parts_at-all (o ∷ os) (p ∷ ps) zero e = absurd (omega arith)
-parts_at-all (o ∷ os) (p ∷ ps) (suc n) e = ap (part o p) (parts_at-all os ps n (omega arith))
 
 -- the n-th field: it comes before the node, ends inside it, and so do its own parts
 module _ (ns : List Node) (os children : List ℕ) (n : ℕ) (lt : n < length os) (below : n < length children) where
@@ -209,26 +157,6 @@ module _ (ns : List Node) (os children : List ℕ) (n : ℕ) (lt : n < length os
       let at = room_at size os (all_at ns children) n room lt as_many in
       (before n 0 below, subst (λ p. get_or os n 0 + size_of p ≤ size) child_at at.0, subst (λ p. has_room p ≡ true) child_at at.1)
 
-  pub fields_more : (k : ℕ) →
-      is_place_of_part (parts_at (take (n + 1) os) (take (n + 1) (all_at ns children))) k
-      ≡ (is_place_of_part (parts_at (take n os) (take n (all_at ns children))) k || (nat_le (get_or os n 0) k && is_data_place (placed_at ns (get_or children n 0)) (k - get_or os n 0)))
-  fields_more k =
-      parts_at-more os (all_at ns children) n k lt as_many
-      ∙ ap (λ p. is_place_of_part (parts_at (take n os) (take n (all_at ns children))) k || (nat_le (get_or os n 0) k && is_data_place p (k - get_or os n 0))) child_at
-
--- one variant more
-arms_in-push : (done : List Placed) (vs : List (ℕ × ℕ)) (v : ℕ × ℕ) (k : ℕ) →
-    is_place_of_arm (arms_in done (vs ++ v ∷ [])) k ≡ (is_place_of_arm (arms_in done vs) k || is_place_of_part (own_fields (placed_in done v.1)) k)
-arms_in-push done [] v k = or-false (is_place_of_part (own_fields (placed_in done v.1)) k)
-arms_in-push done (w ∷ vs) v k =
-    ap (λ b. is_place_of_part (own_fields (placed_in done w.1)) k || b) (arms_in-push done vs v k)
-    ∙ or_shift (is_place_of_part (own_fields (placed_in done w.1)) k) (is_place_of_arm (arms_in done vs) k) (is_place_of_part (own_fields (placed_in done v.1)) k)
-
--- the first variants, and one more
-pub arms_more : (done : List Placed) (vs : List (ℕ × ℕ)) (n k : ℕ) (d : ℕ × ℕ) → n < length vs →
-    is_place_of_arm (arms_in done (take (n + 1) vs)) k ≡ (is_place_of_arm (arms_in done (take n vs)) k || is_place_of_part (own_fields (placed_in done (get_or vs n d).1)) k)
-arms_more done vs n k d lt = ap (λ xs. is_place_of_arm (arms_in done xs) k) (take_more vs n d lt) ∙ arms_in-push done (take n vs) (get_or vs n d) k
-
 -- the n-th variant's fields end inside
 pub arm_room : (size : ℕ) (done : List Placed) (vs : List (ℕ × ℕ)) (n : ℕ) (d : ℕ × ℕ) → arms_have_room size (arms_in done vs) ≡ true → n < length vs →
     have_room size (own_fields (placed_in done (get_or vs n d).1)) ≡ true
@@ -236,8 +164,3 @@ arm_room size done [] n d room lt = absurd (omega arith)
 arm_room size done (v ∷ vs) zero d room lt = (and_parts (have_room size (own_fields (placed_in done v.1))) (arms_have_room size (arms_in done vs)) room).0
 arm_room size done (v ∷ vs) (suc n) d room lt =
     arm_room size done vs n d (and_parts (have_room size (own_fields (placed_in done v.1))) (arms_have_room size (arms_in done vs)) room).1 (omega arith)
-
--- runs of parts' places end inside the size that the parts have room in
-pub parts_inside : (size : ℕ) (parts : Parts) (runs : List Run) → have_room size parts ≡ true → Ascend 0 runs → ((k : ℕ) → covers runs k ≡ is_place_of_part parts k) →
-    All (λ run. run.end ≤ size) runs
-parts_inside size parts runs room ascend same = ends_inside 0 size runs ascend (λ k h. within_have size parts k room (sym (same k) ∙ h))

@@ -124,15 +124,15 @@ tells_no_more ns well laws i lt =
 
 -- a field's node, where the nodes are known by what lends them
 pub field_here : (ns : List Node) → are_nodes 0 ns ≡ true → keep_laws [] ns ≡ true → (ms : List Node) → ms ≡ ns → (i : ℕ) (n : Node) → i < length ns → n ≡ get_or ms i n → (k : ℕ) →
-    k < field_count (layout_in (typed_at ns i)).fields → HasFieldAt ns i k (get_or ms i n).shape
+    k < field_count (layout_in (typed_at ns i)).fields → HasFieldAt ns i k n.shape
 field_here ns well laws ms same i n lt at k below =
-    subst (λ (m : Node). HasFieldAt ns i k m.shape) at (field_at ns well laws i n lt (at ∙ ap (λ xs. get_or xs i n) same) k below)
+    field_at ns well laws i n lt (at ∙ ap (λ xs. get_or xs i n) same) k below
 
 -- and a variant's
 pub variant_here : (ns : List Node) → are_nodes 0 ns ≡ true → keep_laws [] ns ≡ true → (ms : List Node) → ms ≡ ns → (i : ℕ) (n : Node) → i < length ns → n ≡ get_or ms i n → (v : ℕ) →
-    v < length (variants_of (layout_in (typed_at ns i)).variants) → HasVariantAt ns i v (get_or ms i n).shape
+    v < length (variants_of (layout_in (typed_at ns i)).variants) → HasVariantAt ns i v n.shape
 variant_here ns well laws ms same i n lt at v below =
-    subst (λ (m : Node). HasVariantAt ns i v m.shape) at (variant_at ns well laws i n lt (at ∙ ap (λ xs. get_or xs i n) same) v below)
+    variant_at ns well laws i n lt (at ∙ ap (λ xs. get_or xs i n) same) v below
 
 -- one of several variants that a tag tells apart
 pub several_named : (variants : Variants ℕ ℕ) (v : ℕ) (tag : Number) (encoding : TagEncoding ℕ) (field : ℕ) (layouts : List (VariantLayout ℕ)) → variants ≡ Multiple tag encoding field layouts →

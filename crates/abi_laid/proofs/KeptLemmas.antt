@@ -16,10 +16,10 @@ use Rattle.abi_laid.specs.Laid.{endian_of, placed_of}
 use Rattle.abi_laid.specs.Reading.{Finds, KeepsValues}
 
 -- the value of a laid-out type is that of its last node
-pub found_laid : (laid : Laid) (b : List ℕ) (ns : List Node) (order : Endian) (found : Option Kept) → ns ≡ laid.nodes.items → order ≡ endian_of laid →
-    Finds (Holds order (placed_at ns (length ns - 1)) b) found → Finds (Holds (endian_of laid) (placed_of laid) b) found
-found_laid laid b ns order found same is h =
-    subst (λ xs. Finds (Holds (endian_of laid) (root_of xs) b) found) same (subst (λ o. Finds (Holds o (root_of ns) b) found) is h)
+pub found_laid : (laid : Laid) (b : List ℕ) (ns : List Node) (last : ℕ) (order : Endian) (found : Option Kept) → ns ≡ laid.nodes → last ≡ length ns - 1 → order ≡ endian_of laid →
+    Finds (Holds order (placed_at ns last) b) found → Finds (Holds (endian_of laid) (placed_of laid) b) found
+found_laid laid b ns last order found same end is h =
+    subst (λ xs. Finds (Holds (endian_of laid) (root_of xs) b) found) same (subst (λ o. Finds (Holds o (root_of ns) b) found) is (subst (λ i. Finds (Holds order (placed_at ns i) b) found) end h))
 
 module _ (laid : Laid) (b : List ℕ) where
   -- it is one of the tree's

@@ -5,11 +5,11 @@ mod WidthLemmas
 mod TypedLemmas
 mod HandleLemmas
 pub mod SeenLemmas
-mod RunsLemmas
 pub mod MaximalLemmas
-mod WalkLemmas
 pub mod RoomLemmas
 mod DataPlacesLemmas
+mod NeededLemmas
+mod MadeLemmas
 pub mod PickedLemmas
 mod ValueLemmas
 mod ReadLemmas

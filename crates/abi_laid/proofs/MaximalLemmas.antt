@@ -1,6 +1,6 @@
 -- Maximal runs that cover the places of a test are the runs that are listed of them.
 use Rattle.std.proofs.Common.{◌≡◌, ℕ, zero, suc, ◌+◌, ◌-◌, ◌<◌, ◌≤◌, inl, inr, List, [], ◌∷◌, Some, None, Bool, true, false, arith, refl, sym, ap, ◌∙◌, subst}
-use Rattle.std.specs.Prelude.{◌&&◌, ◌||◌, not, nat_le, if◌then◌else◌}
+use Rattle.std.specs.Prelude.{◌&&◌, ◌||◌, not, nat_le, nat_lt, if◌then◌else◌}
 use Rattle.std.proofs.lemmas.Bool.{cases_lt, lt-ltb, le-ltb, le-leb}
 use Rattle.std.proofs.Math.Bool.{and-false}
 use Rattle.std.specs.Cmp.Derive.{both_true}
@@ -10,14 +10,14 @@ use Rattle.abi_types.specs.Ty.Typed.{Typed, layout_in}
 use Rattle.abi_types.specs.Ty.Places.{is_place, is_padding, is_unused}
 use Rattle.abi_laid.specs.Placed.{Placed, size_of}
 use Rattle.abi_laid.specs.Places.{is_data_place}
-use Rattle.abi_laid.specs.Runs.{runs_from, is_place_of_variant, padding_of, unused_of}
+use Rattle.abi_laid.specs.Runs.{runs_from, is_padding_of, is_place_of_variant, padding_of, unused_of}
 
 -- a byte of the first run
-in_first : (start size : ℕ) (rest : List (ℕ × ℕ)) (k : ℕ) → start ≤ k → k < start + size → is_in_ranges ((start, size) ∷ rest) k ≡ true
+pub in_first : (start size : ℕ) (rest : List (ℕ × ℕ)) (k : ℕ) → start ≤ k → k < start + size → is_in_ranges ((start, size) ∷ rest) k ≡ true
 in_first start size rest k le lt = ap (λ b. b || is_in_ranges rest k) (both_true (le-leb start k le) (lt-ltb k (start + size) lt))
 
 -- a byte behind the first run
-behind_first : (start size : ℕ) (rest : List (ℕ × ℕ)) (k : ℕ) → start + size ≤ k → is_in_ranges ((start, size) ∷ rest) k ≡ is_in_ranges rest k
+pub behind_first : (start size : ℕ) (rest : List (ℕ × ℕ)) (k : ℕ) → start + size ≤ k → is_in_ranges ((start, size) ∷ rest) k ≡ is_in_ranges rest k
 behind_first start size rest k le =
     ap (λ b. (nat_le start k && b) || is_in_ranges rest k) (le-ltb k (start + size) le) ∙ ap (λ b. b || is_in_ranges rest k) (and-false (nat_le start k))
 
@@ -96,13 +96,16 @@ pub maximal_are : (p : ℕ → Bool) (n : ℕ) (xs : List (ℕ × ℕ)) → AreM
     xs ≡ runs_from p None 0 n
 maximal_are p n xs maximal picked none = closed_are p n 0 xs maximal (λ j le lt. picked j (omega arith), λ j le. none j (omega arith))
 
--- maximal runs of what the type tells of its padding are its padding
-pub padding_listed : (t : Typed) (placed : Placed) (xs : List (ℕ × ℕ)) → (layout_in t).size ≡ size_of placed → ((k : ℕ) → is_place t k ≡ is_data_place placed k) →
-    AreMaximalRuns 0 xs → ((k : ℕ) → is_in_ranges xs k ≡ is_padding t k) → xs ≡ padding_of placed
-padding_listed t placed xs size same maximal padding =
+-- maximal runs of the padding are what is listed of it
+pub padding_listed : (placed : Placed) (xs : List (ℕ × ℕ)) → AreMaximalRuns 0 xs → ((k : ℕ) → is_in_ranges xs k ≡ is_padding_of placed k) → xs ≡ padding_of placed
+padding_listed placed xs maximal padding =
     maximal_are (λ k. not (is_data_place placed k)) (size_of placed) xs maximal
-    (λ k lt. padding k ∙ ap (λ b. b && not (is_place t k)) (lt-ltb k (layout_in t).size (omega (arith, size, lt))) ∙ ap not (same k))
-    (λ k le. padding k ∙ ap (λ b. b && not (is_place t k)) (le-ltb k (layout_in t).size (omega (arith, size, le))))
+    (λ k lt. padding k ∙ ap (λ b. b && not (is_data_place placed k)) (lt-ltb k (size_of placed) lt))
+    (λ k le. padding k ∙ ap (λ b. b && not (is_data_place placed k)) (le-ltb k (size_of placed) le))
+
+-- what a type tells as padding is padding, where it tells the data places
+pub padding_told : (t : Typed) (placed : Placed) → (layout_in t).size ≡ size_of placed → ((k : ℕ) → is_place t k ≡ is_data_place placed k) → (k : ℕ) → is_padding t k ≡ is_padding_of placed k
+padding_told t placed size same k = ap (λ n. nat_lt k n && not (is_place t k)) size ∙ ap (λ b. nat_lt k (size_of placed) && not b) (same k)
 
 -- what is no data place is no unused one
 not_unused : (place own : Bool) → (place ≡ true → ⊥) → (place && not own) ≡ false

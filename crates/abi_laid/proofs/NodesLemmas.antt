@@ -38,7 +38,7 @@ meanings-first done (m ∷ ns) i lt =
     let x = meaning done m.layout m.shape in
     meanings-first (done ++ x ∷ []) ns i (omega (arith, length-append done (x ∷ []))) ∙ get_or_append_left done (x ∷ []) nothing i lt
 
-layout_of-meaning : (done : List Placed) (layout : Layout) (shape : Shape) → layout_of (meaning done layout shape) ≡ layout
+pub layout_of-meaning : (done : List Placed) (layout : Layout) (shape : Shape) → layout_of (meaning done layout shape) ≡ layout
 layout_of-meaning done layout (Scalar s) = refl
 layout_of-meaning done layout (Pair first second) = refl
 layout_of-meaning done layout (Never mark) = refl

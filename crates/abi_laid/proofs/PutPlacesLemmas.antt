@@ -1,15 +1,16 @@
 -- Bytes put at the places that runs cover, one place after another.
 use Rattle.std.proofs.Common.{◌≡◌, ℕ, zero, suc, ◌+◌, ◌-◌, ◌<◌, ◌≤◌, ⊎_elim, List, [], ◌∷◌, length, drop, get_or, arith, refl, sym, ap, ◌∙◌, subst}
-use Rattle.std.specs.Prelude.{Bool, true, false, ◌==◌, ◌&&◌, ◌||◌, ◌≢◌, nat_lt}
+use Rattle.std.specs.Prelude.{Bool, true, false, ◌==◌, ◌&&◌, ◌||◌, ◌≢◌, ◌^◌, nat_lt}
 use Rattle.std.specs.Cmp.Derive.{both_true}
 use Rattle.std.proofs.Math.Bool.{or-false}
-use Rattle.std.proofs.lemmas.Bool.{and_left, and_right, cases_Bool, cases_eq, cases_lt, eq-eqb, eqb-true, false_from_ne_true, le-ltb, lt-leb, lt-ltb, or_right}
+use Rattle.std.proofs.lemmas.Bool.{and_left, and_right, cases_Bool, cases_eq, cases_lt, eq-eqb, eqb-true, false_from_ne_true, le-ltb, lt-ltb, or_right}
 use Rattle.std.proofs.lemmas.List.{drop_all, drop_more}
-use Rattle.abi_laid.specs.declared.runs.Run.{Run}
 use Rattle.abi_laid.specs.Bytes.{one_if, picked, place_count, put_if}
-use Rattle.abi_laid.specs.Runs.{covers, Ascend}
 use Rattle.abi_laid.specs.Writing.{IsPutOver}
-use Rattle.abi_laid.proofs.RunsLemmas.{after_first, before_all, inside_first}
+use Rattle.abi_index.specs.RangeSet.{AreMaximalRuns, is_in_ranges}
+use Rattle.abi_index.proofs.RangeSetLemmas.{earlier}
+use Rattle.abi_index.proofs.UncutLemmas.{none_below}
+use Rattle.abi_laid.proofs.MaximalLemmas.{behind_first, in_first}
 use Rattle.abi_laid.proofs.PutOverLemmas.{lt-more, put_like, put_none, put_one}
 
 -- ---- how many places a test picks
@@ -152,46 +153,44 @@ module _ (p : ℕ → Bool) (at size : ℕ) (content old : List ℕ) where
 
 -- ---- the runs that are left
 
--- The runs from the i-th on ascend from this byte on, and no other run covers bytes from there on.
-pub record AreLeft (runs : List Run) (i from : ℕ) : Type 0 where
-  pub later : Ascend from (drop i runs)
-  pub beside : (k : ℕ) → from ≤ k → covers runs k ≡ covers (drop i runs) k
+-- The runs from the i-th on begin at this byte or later, and no other run has bytes from there on.
+pub record AreLeft (runs : List (ℕ × ℕ)) (i from : ℕ) : Type 0 where
+  pub later : AreMaximalRuns from (drop i runs)
+  pub beside : (k : ℕ) → from ≤ k → is_in_ranges runs k ≡ is_in_ranges (drop i runs) k
 
-module _ (runs : List Run) (i from : ℕ) (d : Run) (left : AreLeft runs i from) (lt : i < length runs) where
-  abbrev run : Run
+module _ (runs : List (ℕ × ℕ)) (i from : ℕ) (d : ℕ × ℕ) (left : AreLeft runs i from) (lt : i < length runs) where
+  abbrev run : ℕ × ℕ
   run = get_or runs i d
 
-  ascends : Ascend from (run ∷ drop (i + 1) runs)
-  ascends = subst (Ascend from) (drop_more runs i d lt) left.later
+  ascends : AreMaximalRuns from (run ∷ drop (i + 1) runs)
+  ascends = subst (AreMaximalRuns from) (drop_more runs i d lt) left.later
 
-  seen : (k : ℕ) → from ≤ k → covers runs k ≡ covers (run ∷ drop (i + 1) runs) k
-  seen k le = left.beside k le ∙ ap (λ rs. covers rs k) (drop_more runs i d lt)
+  seen : (k : ℕ) → from ≤ k → is_in_ranges runs k ≡ is_in_ranges (run ∷ drop (i + 1) runs) k
+  seen k le = left.beside k le ∙ ap (λ rs. is_in_ranges rs k) (drop_more runs i d lt)
 
   -- the next run begins there or later
-  pub left-before : from ≤ run.start
+  pub left-before : from ≤ run.0
   left-before = ascends.0
 
-  -- and is not empty
-  pub left-some : run.start < run.end
-  left-some = ascends.1
+  -- and ends where 64 bits can tell it
+  pub left-ends : run.0 + run.1 < 2 ^ 64
+  left-ends = ascends.2
 
-  -- no run covers what lies before the next
-  pub left-free : (k : ℕ) → from ≤ k → k < run.start → covers runs k ≡ false
-  left-free k le below =
-      seen k le ∙ ap (λ t. (t && nat_lt k run.end) || covers (drop (i + 1) runs) k) (lt-leb run.start k below)
-      ∙ before_all run.end (drop (i + 1) runs) k ascends.2 (omega (arith, left-some))
+  -- no run has what lies before the next
+  pub left-free : (k : ℕ) → from ≤ k → k < run.0 → is_in_ranges runs k ≡ false
+  left-free k le below = seen k le ∙ none_below run.0 (run ∷ drop (i + 1) runs) k (omega arith, ascends.1, ascends.2, ascends.3) below
 
-  -- the next run covers its own bytes
-  pub left-covered : (k : ℕ) → run.start ≤ k → k < run.end → covers runs k ≡ true
-  left-covered k le below = seen k (omega (arith, left-before)) ∙ inside_first run (drop (i + 1) runs) k le below
+  -- the next run has its own bytes
+  pub left-covered : (k : ℕ) → run.0 ≤ k → k < run.0 + run.1 → is_in_ranges runs k ≡ true
+  left-covered k le below = seen k (omega (arith, left-before)) ∙ in_first run.0 run.1 (drop (i + 1) runs) k le below
 
   -- behind it the later ones are left
-  pub AreLeft-more : AreLeft runs (i + 1) run.end
+  pub AreLeft-more : AreLeft runs (i + 1) (run.0 + run.1)
   AreLeft-more = record {
-    later = ascends.2;
-    beside = λ k le. seen k (omega (arith, left-before, left-some)) ∙ after_first run (drop (i + 1) runs) k le;
+    later = earlier (run.0 + run.1) (run.0 + run.1 + 1) (drop (i + 1) runs) (omega arith) ascends.3;
+    beside = λ k le. seen k (omega (arith, left-before)) ∙ behind_first run.0 run.1 (drop (i + 1) runs) k le;
   }
 
--- no run covers what lies behind the last
-pub left-none : (runs : List Run) (i from : ℕ) → AreLeft runs i from → length runs ≤ i → (k : ℕ) → from ≤ k → covers runs k ≡ false
-left-none runs i from left done k le = left.beside k le ∙ ap (λ rs. covers rs k) (drop_all i runs done)
+-- no run has what lies behind the last
+pub left-none : (runs : List (ℕ × ℕ)) (i from : ℕ) → AreLeft runs i from → length runs ≤ i → (k : ℕ) → from ≤ k → is_in_ranges runs k ≡ false
+left-none runs i from left done k le = left.beside k le ∙ ap (λ rs. is_in_ranges rs k) (drop_all i runs done)

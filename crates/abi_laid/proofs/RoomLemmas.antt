@@ -1,17 +1,16 @@
 -- Data places lie inside their type where its parts do.
 use Rattle.std.proofs.Common.{◌≡◌, ℕ, zero, suc, ◌+◌, ◌-◌, ◌*◌, ◌/◌, ◌%◌, ◌<◌, ◌≤◌, ⊎_elim, List, [], ◌∷◌, Bool, true, length, get_or, arith, ap, ◌∙◌, All}
 use Rattle.std.specs.Prelude.{◌==◌, ◌&&◌, ◌||◌, nat_le, nat_lt}
-use Rattle.std.proofs.lemmas.Bool.{ltb-true, leb-true, eqb-true, and_parts, or_cases, le-leb, lt-ltb}
+use Rattle.std.proofs.lemmas.Bool.{ltb-true, leb-true, eqb-true, and_parts, or_cases}
 use Rattle.std.proofs.lemmas.List.Elements.{All-nil, All-cons}
 use Rattle.std.proofs.lemmas.Nat.{mul-add-lt}
-use Rattle.std.specs.Cmp.Derive.{both_true}
 use Rattle.std.proofs.Math.Bool.{or-true}
-use Rattle.abi_laid.specs.declared.runs.Run.{Run}
 use Rattle.abi_laid.specs.Placed.{Placed, Layout, scalar, pair, never, elements, vector, fields, union, single, tagged, states, Parts, no_parts, part, Arms, no_arms, arm, size_of, nothing}
 use Rattle.abi_laid.specs.Places.{is_data_place, is_place_of_part, is_place_of_arm}
 use Rattle.abi_laid.specs.Room.{has_room, have_room, arms_have_room}
 use Rattle.abi_laid.specs.Nodes.{parts_at}
-use Rattle.abi_laid.specs.Runs.{covers, Ascend}
+use Rattle.abi_index.specs.RangeSet.{AreMaximalRuns, is_in_run, is_in_ranges}
+use Rattle.abi_laid.proofs.MaximalLemmas.{in_first}
 
 -- a place of what lies at an offset, and ends inside the size
 at_offset : (offset n size k : ℕ) (p : ℕ → Bool) → offset + n ≤ size → ((j : ℕ) → p j ≡ true → j < n) → (nat_le offset k && p (k - offset)) ≡ true → k < size
@@ -96,16 +95,11 @@ room_at size (o ∷ offsets) (p ∷ ps) (suc n) room lt below =
     let both = and_parts (nat_le (o + size_of p) size && has_room p) (have_room size (parts_at offsets ps)) room in
     room_at size offsets ps n both.1 (omega arith) (omega arith)
 
--- runs that cover bytes below the size alone end inside it
-pub ends_inside : (from size : ℕ) (runs : List Run) → Ascend from runs → ((k : ℕ) → covers runs k ≡ true → k < size) → All (λ run. run.end ≤ size) runs
-ends_inside from size [] ascend inside = All-nil (λ run. run.end ≤ size)
-ends_inside from size (run ∷ runs) ascend inside =
-    let last : ℕ = run.end - 1 in
-    let covered : covers (run ∷ runs) last ≡ true =
-    ap (λ b. b || covers runs last) (both_true (le-leb run.start last (omega (arith, ascend.1))) (lt-ltb last run.end (omega (arith, ascend.1)))) in
-    All-cons (λ run. run.end ≤ size) run runs (omega (arith, inside last covered, ascend.1))
-    (ends_inside run.end size runs ascend.2 (λ k h. inside k (ap (λ b. (nat_le run.start k && nat_lt k run.end) || b) h ∙ or-true (nat_le run.start k && nat_lt k run.end))))
-
-pub each_some : (from : ℕ) (runs : List Run) → Ascend from runs → All (λ run. run.start < run.end) runs
-each_some from [] ascend = All-nil (λ run. run.start < run.end)
-each_some from (run ∷ runs) ascend = All-cons (λ run. run.start < run.end) run runs ascend.1 (each_some run.end runs ascend.2)
+-- runs of bytes below the size alone end inside it
+pub ends_inside : (low size : ℕ) (runs : List (ℕ × ℕ)) → AreMaximalRuns low runs → ((k : ℕ) → is_in_ranges runs k ≡ true → k < size) → All (λ run. run.0 + run.1 ≤ size) runs
+ends_inside low size [] maximal inside = All-nil (λ run. run.0 + run.1 ≤ size)
+ends_inside low size (run ∷ runs) maximal inside =
+    let last : ℕ = run.0 + run.1 - 1 in
+    let in_it : is_in_ranges (run ∷ runs) last ≡ true = in_first run.0 run.1 runs last (omega (arith, maximal.1)) (omega (arith, maximal.1)) in
+    All-cons (λ run. run.0 + run.1 ≤ size) run runs (omega (arith, inside last in_it, maximal.1))
+    (ends_inside (run.0 + run.1 + 1) size runs maximal.3 (λ k h. inside k (ap (λ b. is_in_run k run || b) h ∙ or-true (is_in_run k run))))

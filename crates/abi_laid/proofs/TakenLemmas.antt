@@ -1,27 +1,25 @@
 -- The bytes that runs cover, taken out one run after another.
 use Rattle.std.proofs.Common.{◌≡◌, ℕ, zero, suc, ◌+◌, ◌-◌, ◌<◌, ◌≤◌, List, [], ◌∷◌, ◌++◌, Bool, true, false, All, length, get_or, take, drop, length-drop, arith, refl, sym, ap, ◌∙◌, append_assoc}
-use Rattle.std.specs.Prelude.{◌||◌, nat_lt, ◌&&◌}
-use Rattle.std.proofs.lemmas.Bool.{lt-leb}
 use Rattle.std.proofs.lemmas.List.{append-nil, drop-drop, take_more}
 use Rattle.std.proofs.lemmas.List.Elements.{All-head, All-tail}
-use Rattle.abi_laid.specs.declared.runs.Run.{Run}
+use Rattle.abi_index.specs.RangeSet.{AreMaximalRuns, is_in_ranges}
+use Rattle.abi_index.proofs.RangeSetLemmas.{earlier}
+use Rattle.abi_index.proofs.UncutLemmas.{none_below}
 use Rattle.abi_laid.specs.Bytes.{bytes_at, picked, put_if}
-use Rattle.abi_laid.specs.Runs.{covers, Ascend}
-use Rattle.abi_laid.proofs.RunsLemmas.{after_first, before_all, inside_first}
+use Rattle.abi_laid.proofs.MaximalLemmas.{behind_first, in_first}
 
 -- the bytes of each run, one run after another
-abbrev pub taken : List Run → List ℕ → List ℕ
+abbrev pub taken : List (ℕ × ℕ) → List ℕ → List ℕ
 taken [] b = []
-taken (run ∷ runs) b = bytes_at b run.start (run.end - run.start) ++ taken runs b
+taken (run ∷ runs) b = bytes_at b run.0 run.1 ++ taken runs b
 
-taken-push : (runs : List Run) (run : Run) (b : List ℕ) → taken (runs ++ run ∷ []) b ≡ taken runs b ++ bytes_at b run.start (run.end - run.start)
-taken-push [] run b = append-nil (bytes_at b run.start (run.end - run.start))
+taken-push : (runs : List (ℕ × ℕ)) (run : ℕ × ℕ) (b : List ℕ) → taken (runs ++ run ∷ []) b ≡ taken runs b ++ bytes_at b run.0 run.1
+taken-push [] run b = append-nil (bytes_at b run.0 run.1)
 taken-push (first ∷ runs) run b =
-    ap (λ xs. bytes_at b first.start (first.end - first.start) ++ xs) (taken-push runs run b)
-    ∙ sym (append_assoc (bytes_at b first.start (first.end - first.start)) (taken runs b) (bytes_at b run.start (run.end - run.start)))
+    ap (λ xs. bytes_at b first.0 first.1 ++ xs) (taken-push runs run b) ∙ sym (append_assoc (bytes_at b first.0 first.1) (taken runs b) (bytes_at b run.0 run.1))
 
-pub taken_more : (runs : List Run) (i : ℕ) (d : Run) (b : List ℕ) → i < length runs →
-    taken (take (i + 1) runs) b ≡ taken (take i runs) b ++ bytes_at b (get_or runs i d).start ((get_or runs i d).end - (get_or runs i d).start)
+pub taken_more : (runs : List (ℕ × ℕ)) (i : ℕ) (d : ℕ × ℕ) (b : List ℕ) → i < length runs →
+    taken (take (i + 1) runs) b ≡ taken (take i runs) b ++ bytes_at b (get_or runs i d).0 (get_or runs i d).1
 taken_more runs i d b lt = ap (λ rs. taken rs b) (take_more runs i d lt) ∙ taken-push (take i runs) (get_or runs i d) b
 
 -- no place is picked from k on
@@ -53,28 +51,26 @@ picked_like p q k [] same = refl
 picked_like p q k (x ∷ b) same =
     ap (λ t. put_if t x (picked p (k + 1) b)) (same k (omega arith)) ∙ ap (put_if (q k) x) (picked_like p q (k + 1) b (λ j le. same j (omega arith)))
 
-none_before : (run : Run) (runs : List Run) (j : ℕ) → Ascend run.end runs → run.start < run.end → j < run.start → covers (run ∷ runs) j ≡ false
-none_before run runs j ascend some lt =
-    ap (λ t. (t && nat_lt j run.end) || covers runs j) (lt-leb run.start j lt) ∙ before_all run.end runs j ascend (omega arith)
-
 -- the runs' bytes are those that they cover
-pub taken-picked : (runs : List Run) (from : ℕ) (b : List ℕ) → Ascend from runs → All (λ run. run.end ≤ length b) runs → taken runs b ≡ picked (covers runs) from (drop from b)
-taken-picked [] from b ascend inside = sym (picked_none (covers []) from (drop from b) (λ j le. refl))
-taken-picked (run ∷ runs) from b ascend inside =
-    let p : ℕ → Bool = covers (run ∷ runs) in
-    let end : run.end ≤ length b = All-head (λ run. run.end ≤ length b) run runs inside in
-    let to_start : from + (run.start - from) ≡ run.start = omega (arith, ascend.0) in
-    let to_end : run.start + (run.end - run.start) ≡ run.end = omega (arith, ascend.1) in
-    let long : run.end - run.start ≤ length (drop run.start b) = omega (arith, length-drop run.start b, end) in
-    let free : picked p from (drop from b) ≡ picked p run.start (drop run.start b) =
-    picked_free p from (run.start - from) (drop from b) (λ j le lt. none_before run runs j ascend.2 ascend.1 (omega (arith, to_start)))
-    ∙ ap (λ i. picked p i (drop (run.start - from) (drop from b))) to_start
-    ∙ ap (picked p run.start) (drop-drop (run.start - from) from b ∙ ap (λ i. drop i b) to_start) in
-    let all : picked p run.start (drop run.start b) ≡ bytes_at b run.start (run.end - run.start) ++ picked p run.end (drop run.end b) =
-    picked_taken p run.start (run.end - run.start) (drop run.start b) long (λ j le lt. inside_first run runs j le (omega (arith, to_end)))
-    ∙ ap (λ i. bytes_at b run.start (run.end - run.start) ++ picked p i (drop (run.end - run.start) (drop run.start b))) to_end
-    ∙ ap (λ xs. bytes_at b run.start (run.end - run.start) ++ picked p run.end xs) (drop-drop (run.end - run.start) run.start b ∙ ap (λ i. drop i b) to_end) in
-    let rest : picked p run.end (drop run.end b) ≡ taken runs b =
-    picked_like p (covers runs) run.end (drop run.end b) (λ j le. after_first run runs j le)
-    ∙ sym (taken-picked runs run.end b ascend.2 (All-tail (λ run. run.end ≤ length b) run runs inside)) in
-    sym (free ∙ all ∙ ap (λ xs. bytes_at b run.start (run.end - run.start) ++ xs) rest)
+pub taken-picked : (runs : List (ℕ × ℕ)) (from : ℕ) (b : List ℕ) → AreMaximalRuns from runs → All (λ run. run.0 + run.1 ≤ length b) runs →
+    taken runs b ≡ picked (is_in_ranges runs) from (drop from b)
+taken-picked [] from b maximal inside = sym (picked_none (is_in_ranges []) from (drop from b) (λ j le. refl))
+taken-picked (run ∷ runs) from b maximal inside =
+    let p : ℕ → Bool = is_in_ranges (run ∷ runs) in
+    let end : ℕ = run.0 + run.1 in
+    let past : end ≤ length b = All-head (λ run. run.0 + run.1 ≤ length b) run runs inside in
+    let to_start : from + (run.0 - from) ≡ run.0 = omega (arith, maximal.0) in
+    let long : run.1 ≤ length (drop run.0 b) = omega (arith, length-drop run.0 b, past) in
+    let rest_runs : AreMaximalRuns end runs = earlier end (end + 1) runs (omega arith) maximal.3 in
+    let free : picked p from (drop from b) ≡ picked p run.0 (drop run.0 b) =
+    picked_free p from (run.0 - from) (drop from b)
+    (λ j le lt. none_below run.0 (run ∷ runs) j (omega arith, maximal.1, maximal.2, maximal.3) (omega (arith, to_start, lt)))
+    ∙ ap (λ i. picked p i (drop (run.0 - from) (drop from b))) to_start
+    ∙ ap (picked p run.0) (drop-drop (run.0 - from) from b ∙ ap (λ i. drop i b) to_start) in
+    let all : picked p run.0 (drop run.0 b) ≡ bytes_at b run.0 run.1 ++ picked p end (drop end b) =
+    picked_taken p run.0 run.1 (drop run.0 b) long (λ j le lt. in_first run.0 run.1 runs j le lt)
+    ∙ ap (λ xs. bytes_at b run.0 run.1 ++ picked p end xs) (drop-drop run.1 run.0 b) in
+    let rest : picked p end (drop end b) ≡ taken runs b =
+    picked_like p (is_in_ranges runs) end (drop end b) (λ j le. behind_first run.0 run.1 runs j le)
+    ∙ sym (taken-picked runs end b rest_runs (All-tail (λ run. run.0 + run.1 ≤ length b) run runs inside)) in
+    sym (free ∙ all ∙ ap (λ xs. bytes_at b run.0 run.1 ++ xs) rest)

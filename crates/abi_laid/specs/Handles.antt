@@ -24,7 +24,7 @@ variant_place shape v = get_or (variant_nodes shape) v 0
 
 -- the type that a handle tells of
 abbrev pub tree_type : TyAndLayout TreeTy → Typed
-tree_type this = typed_at this.ty.laid.now.nodes.items this.ty.node
+tree_type this = typed_at this.ty.laid.now.nodes this.ty.node
 
 -- its depth: the number of its node, which is greater than those of its fields and its variants
 abbrev pub tree_depth : TyAndLayout TreeTy → ℕ
@@ -32,6 +32,6 @@ tree_depth this = this.ty.node
 
 -- There is such a node, the layout beside the handle's type is its own, and the type keeps the laws.
 pub record IsHandle (this : TyAndLayout TreeTy) : Type 0 where
-  pub there : this.ty.node < length this.ty.laid.now.nodes.items
+  pub there : this.ty.node < length this.ty.laid.now.nodes
   pub layout : layout_in (tree_type this) ≡ this.layout.0.now
   pub lawful : IsLawfulType (tree_type this)

@@ -1,5 +1,5 @@
 -- Types that were laid out, as the definitions see them.
-use Rattle.std.specs.Prelude.{◌-◌, length}
+use Rattle.std.specs.Prelude.{ℕ, ◌-◌, length}
 use Rattle.abi_base.specs.declared.endian.Endian.{Endian}
 use Rattle.abi_types.specs.Ty.Typed.{Typed}
 use Rattle.abi_laid.specs.declared.laid.Laid.{Laid}
@@ -9,12 +9,16 @@ use Rattle.abi_laid.specs.Typed.{typed_at}
 
 -- the type, with its parts
 abbrev pub placed_of : Laid → Placed
-placed_of laid = root_of laid.nodes.items
+placed_of laid = root_of laid.nodes
 
 -- the type, as handles tell of it
 abbrev pub typed_of : Laid → Typed
-typed_of laid = typed_at laid.nodes.items (length laid.nodes.items - 1)
+typed_of laid = typed_at laid.nodes (length laid.nodes - 1)
 
 -- the order of a number's bytes in it
 abbrev pub endian_of : Laid → Endian
 endian_of laid = laid.endian
+
+-- how many nodes it is laid out as
+abbrev pub node_count_of : Laid → ℕ
+node_count_of laid = length laid.nodes

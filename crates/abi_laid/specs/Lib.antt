@@ -24,4 +24,5 @@ pub mod Laid
 pub mod Handles
 pub mod Seen
 pub mod Runs
+pub mod Needed
 pub mod ErrorText

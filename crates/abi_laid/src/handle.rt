@@ -8,7 +8,8 @@ ghost use Rattle.abi_laid.specs.Typed.{marks_in, typed_at, variant_nodes};
 
 use crate::laid::Laid;
 use crate::mark::Mark;
-use crate::node::{Node, Shape, layout_at};
+use crate::node::Shape;
+use crate::read_one::{read_layout, read_one};
 use abi_base::{PointeeInfo, Size};
 use abi_index::VariantIdx;
 use abi_scalar::Variants;
@@ -39,14 +40,14 @@ impl Display for TreeTy<'_> {
 
 /// The type of the node at a place, beside its layout.
 pub(crate) fn handle_at(laid: &Laid, node: usize) -> TyAndLayout<'_, TreeTy<'_>>
-    requires { node < length laid.now.nodes.items }
+    requires { node < length laid.now.nodes }
     ensures valid { IsHandle result }
-    ensures told { tree_type result ≡ typed_at laid.now.nodes.items node }
+    ensures told { tree_type result ≡ typed_at laid.now.nodes node }
     ensures depth { tree_depth result ≡ node }
 {
     TyAndLayout {
         ty: TreeTy { laid, node },
-        layout: Layout(layout_at(laid.nodes(), node)),
+        layout: Layout(read_layout(laid.nodes(), node)),
     }
 }
 
@@ -122,7 +123,7 @@ fn mark_of(this: TyAndLayout<'_, TreeTy<'_>>) -> Mark
     requires { IsHandle this }
     ensures { marks_by result ≡ marks_of (tree_type this.entry) }
 {
-    mark_in(&this.ty.laid.nodes()[this.ty.node].shape)
+    mark_in(&read_one(this.ty.laid.nodes(), this.ty.node).shape)
 }
 
 /// A handle needs no context to answer, so any serves.
@@ -164,7 +165,7 @@ impl<'a, C> TyAbiInterface<'a, C> for TreeTy<'a> {
                 variants: _,
             } => {
                 let laid = this.ty.laid;
-                let shape = &laid.nodes()[this.ty.node].shape;
+                let shape = &read_one(laid.nodes(), this.ty.node).shape;
                 handle_at(laid, variant_node(shape, variant_index.as_usize()))
             }
             Variants::Single { index: _ } => this,
@@ -186,7 +187,7 @@ impl<'a, C> TyAbiInterface<'a, C> for TreeTy<'a> {
         ensures falls { tree_depth result < tree_depth this.entry }
     {
         let laid = this.ty.laid;
-        let shape = &laid.nodes()[this.ty.node].shape;
+        let shape = &read_one(laid.nodes(), this.ty.node).shape;
         handle_at(laid, field_node(shape, i))
     }
 

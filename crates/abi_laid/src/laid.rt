@@ -1,6 +1,6 @@
 //! Types that were laid out.
 
-ghost use Rattle.std.specs.Prelude.{◌≡◌, ℕ, ◌<◌, [], length, true};
+ghost use Rattle.std.specs.Prelude.{◌≡◌, ℕ, ◌<◌, ◌≤◌, [], IfOk, length, true};
 ghost use Rattle.abi_laid.specs.Nodes.{root_of};
 ghost use Rattle.abi_laid.specs.Well.{AreWell, are_nodes};
 ghost use Rattle.abi_laid.specs.Laws.{keep_laws};
@@ -8,30 +8,36 @@ ghost use Rattle.abi_laid.specs.Widths.{have_widths};
 ghost use Rattle.abi_laid.specs.Room.{has_room};
 
 use crate::handle::{TreeTy, handle_at};
-use crate::node::{Node, layout_at};
+use crate::node::Node;
+use crate::nodes::Nodes;
+use crate::read_one::read_layout;
+use crate::runs_of::padding;
 use abi_base::Endian;
-use abi_index::{FieldIdx, VariantIdx};
+use abi_index::{FieldIdx, RangeSet, VariantIdx};
 use abi_scalar::LayoutData;
 use abi_types::TyAndLayout;
+use std::alloc::{AllocError, Global};
 
 /// A type that was laid out: its layout, and those of its parts.
 #[derive(Drop)]
 pub struct Laid {
-    nodes: Vec<Node>,
+    nodes: Nodes,
     endian: Endian,
-    ghost some: { 0 < length nodes.items },
-    ghost earlier: { are_nodes 0 nodes.items ≡ true },
-    ghost laws: { keep_laws [] nodes.items ≡ true },
-    ghost widths: { have_widths [] nodes.items ≡ true },
-    ghost room: { has_room (root_of nodes.items) ≡ true },
+    ghost some: { 0 < length nodes },
+    ghost earlier: { are_nodes 0 nodes ≡ true },
+    ghost laws: { keep_laws [] nodes ≡ true },
+    ghost widths: { have_widths [] nodes ≡ true },
+    ghost room: { has_room (root_of nodes) ≡ true },
 }
 
 impl Laid {
-    ghost use Rattle.abi_laid.specs.Laid.{placed_of, endian_of, typed_of};
+    ghost use Rattle.abi_laid.specs.Laid.{placed_of, endian_of, node_count_of, typed_of};
     ghost use Rattle.abi_laid.specs.Handles.{IsHandle, tree_type};
     ghost use Rattle.abi_laid.specs.Seen.{Sees};
     ghost use Rattle.abi_laid.specs.Placed.{layout_of, size_of};
     ghost use Rattle.abi_laid.specs.Places.{is_data_place};
+    ghost use Rattle.abi_laid.specs.Runs.{is_padding_of};
+    ghost use Rattle.abi_index.specs.RangeSet.{is_in_ranges};
 
     /// The type of the last node, as it was laid out. For `lay_out` alone, which makes the nodes.
     pub fn new(nodes: Vec<Node>, endian: Endian) -> Laid
@@ -40,27 +46,30 @@ impl Laid {
         requires room { has_room (root_of nodes.items) ≡ true }
         ensures placed { placed_of result ≡ root_of nodes.items }
         ensures endian { endian_of result ≡ endian }
+        ensures count { node_count_of result ≡ length nodes.items }
     {
-        Laid { nodes, endian }
+        Laid {
+            nodes: Nodes::new(nodes),
+            endian,
+        }
     }
 
     /// Its nodes, of which the last is the type's.
-    pub(crate) fn nodes(&self) -> &[Node]
-        ensures same { result.now ≡ self.now.nodes.items }
+    pub(crate) fn nodes(&self) -> &Nodes
+        ensures same { result.now ≡ self.now.nodes }
         ensures some { 0 < length result.now }
         ensures earlier { are_nodes 0 result.now ≡ true }
         ensures laws { keep_laws [] result.now ≡ true }
         ensures widths { have_widths [] result.now ≡ true }
     {
-        self.nodes.as_slice()
+        &self.nodes
     }
 
     /// The layout of the type.
     pub fn layout(&self) -> &LayoutData<FieldIdx, VariantIdx>
         ensures { result.now ≡ layout_of (placed_of self.now) }
     {
-        let nodes = self.nodes.as_slice();
-        layout_at(nodes, nodes.len() - 1)
+        read_layout(&self.nodes, self.nodes.len() - 1)
     }
 
     /// The type as a handle, beside its layout: what asks types for their fields and variants takes it. All data places of the type lie
@@ -73,6 +82,22 @@ impl Laid {
         ensures within { (k : ℕ) → is_data_place (placed_of self.now) k ≡ true → k < size_of (placed_of self.now) }
     {
         handle_at(self, self.nodes().len() - 1)
+    }
+
+    /// How many nodes the type is laid out as: one for each type in it, and more where it has a pair, a vector, or variants beside a tag.
+    pub fn node_count(&self) -> usize
+        ensures { result ≡ node_count_of self.now }
+    {
+        self.nodes.len()
+    }
+
+    /// The bytes of the type that decide nothing, whatever the value: those below its size that are no data places; and how many nodes
+    /// were read to tell, each of those once. `AllocError` where memory is refused.
+    pub fn padding(&self, alloc: Global) -> Result<(RangeSet, usize), AllocError>
+        ensures ranges { IfOk result (λ r. (k : ℕ) → is_in_ranges r.0 k ≡ is_padding_of (placed_of self.now) k) }
+        ensures visits { IfOk result (λ r. r.1 ≤ node_count_of self.now) }
+    {
+        padding(alloc, &self.nodes, self.nodes.len() - 1)
     }
 
     /// The order of the bytes of a number in the type.

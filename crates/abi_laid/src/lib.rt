@@ -1,12 +1,14 @@
 //! Types as trees and as they were laid out: their places and handles, and the values that their bytes hold.
 #![tactic(auto)]
 
-mod data_runs;
 mod handle;
 mod laid;
 mod mark;
+mod needed;
 mod node;
-mod runs;
+mod nodes;
+mod read_one;
+mod runs_of;
 mod tree;
 mod value;
 

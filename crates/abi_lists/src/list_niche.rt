@@ -15,14 +15,12 @@ pub(crate) fn niche_of_part(offset: Size, own: &Option<Niche>) -> Option<Niche>
     requires { IfSome own.now (λ niche. offset + niche.offset < 2 ^ 64) }
     ensures { result ≡ niche_of_part offset own.now }
 {
-    match own {
-        Some(niche) => Some(Niche {
-            offset: offset + niche.offset,
-            value: niche.value,
-            valid_range: niche.valid_range,
-        }),
-        None => None,
-    }
+    let niche = (*own)?;
+    Some(Niche {
+        offset: offset + niche.offset,
+        value: niche.value,
+        valid_range: niche.valid_range,
+    })
 }
 
 /// The greatest niche of the fields placed so far: the first of those that are as great, and the last.

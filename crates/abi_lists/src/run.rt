@@ -101,10 +101,7 @@ fn space_wanted(
     if !may_move(repr.kind, count) {
         return None;
     }
-    match &first.largest_niche {
-        Some(niche) => space_beside(dl, first.size, niche),
-        None => None,
-    }
+    space_beside(dl, first.size, first.largest_niche.as_ref()?)
 }
 
 /// Whether the niche begins after so many bytes.

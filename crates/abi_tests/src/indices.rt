@@ -3,7 +3,9 @@
 ghost use Rattle.std.specs.Prelude.{◌≡◌, ◌∷◌, [], IfOk};
 
 use abi_base::{Integer, Primitive, Size, TargetDataLayout};
-use abi_index::{FIRST_VARIANT, FieldIdx, Hash64, Idx, IndexVec, VariantIdx};
+use abi_index::{
+    BitMatrix, DenseBitSet, FIRST_VARIANT, FieldIdx, Hash64, Idx, IndexSlice, IndexVec, VariantIdx,
+};
 use abi_scalar::{LayoutData, LayoutHandle, Scalar};
 use std::alloc::{AllocError, Global};
 use std::test::Fail;
@@ -184,6 +186,46 @@ fn lists_grow(rt: HostRuntime) -> Result<(), Fail> {
     let mut list = three(rt.alloc())?;
     assert!(rt; list.push(1)? == FieldIdx::from_u32(3));
     assert!(rt; list.as_slice().as_raw() == [5, 6, 9, 1].as_slice());
+    Ok(())
+}
+
+/// Whether a list takes an item for each index, and each is named by its number.
+fn is_filled(alloc: Global) -> Result<bool, AllocError> {
+    let mut list: IndexVec<Place, u8> = IndexVec::new(alloc);
+    for number in 0..256usize {
+        if list.len() > 255 || list.next_index().number as usize != number {
+            return Ok(false);
+        }
+        if list.push(number as u8)?.number as usize != number {
+            return Ok(false);
+        }
+    }
+    Ok(list.len() == 256 && list.as_slice().len() == 256)
+}
+
+/// Whether a view of a list has an item for each index.
+fn is_viewed(raw: &[u8]) -> bool {
+    if raw.len() > 256 {
+        return false;
+    }
+    let list: IndexSlice<'_, Place, u8> = IndexSlice::new(raw);
+    list.len() == 256 && list.get(Place { number: 255 }) == Some(&7)
+}
+
+/// Whether a set and a relation have members for the last index.
+fn have_the_last(alloc: Global) -> Result<bool, AllocError> {
+    let last = Place { number: 255 };
+    let mut set: DenseBitSet<Place> = DenseBitSet::new_empty(alloc, 256)?;
+    let mut relation: BitMatrix<Place, Place> = BitMatrix::new(alloc, 256, 256)?;
+    let are_new = set.insert(last) && relation.insert(last, last)?;
+    Ok(are_new && set.contains(last) && relation.contains(last, last) && relation.count(last) == 1)
+}
+
+#[test]
+fn each_index_names_an_item(rt: HostRuntime) -> Result<(), Fail> {
+    assert!(rt; is_filled(rt.alloc())?);
+    assert!(rt; is_viewed(&[7; 256]));
+    assert!(rt; have_the_last(rt.alloc())?);
     Ok(())
 }
 

@@ -7,9 +7,13 @@ mod canonical;
 #[cfg(test)]
 mod conventions;
 #[cfg(test)]
+mod edges;
+#[cfg(test)]
 mod indices;
 #[cfg(test)]
 mod kinds;
+#[cfg(test)]
+mod lawful;
 #[cfg(test)]
 mod layouts;
 mod nodes;

@@ -74,6 +74,13 @@ fn is_lawful_for_lists(alloc: Global, align: Align) -> Result<bool, AllocError> 
     Ok(dl.is_lawful())
 }
 
+/// Whether the default data layout is lawful with this alignment of `bool`.
+fn is_lawful_for_truths(alloc: Global, align: Align) -> Result<bool, AllocError> {
+    let mut dl = TargetDataLayout::default_in(alloc)?;
+    dl.i1_align = align;
+    Ok(dl.is_lawful())
+}
+
 /// Whether the default data layout is lawful with this one alignment of vectors of 8 bytes; none where it isn't listed.
 fn is_lawful_for_vectors(alloc: Global, align: Align) -> Result<Option<bool>, AllocError> {
     let mut entries = Vec::new(alloc);
@@ -92,7 +99,10 @@ fn alignments_above_the_limit_are_unlawful(rt: HostRuntime) -> Result<(), Fail> 
     let above = Align::max_aligned_factor(Size::from_bytes(1 << 30));
     assert!(rt; !is_lawful_for_lists(rt.alloc(), above)?);
     assert!(rt; is_lawful_for_lists(rt.alloc(), Align::MAX)?);
+    assert!(rt; !is_lawful_for_truths(rt.alloc(), above)?);
+    assert!(rt; is_lawful_for_truths(rt.alloc(), Align::MAX)?);
     assert!(rt; is_lawful_for_vectors(rt.alloc(), above)? == Some(false));
+    assert!(rt; is_lawful_for_vectors(rt.alloc(), Align::MAX)? == Some(true));
     Ok(())
 }
 

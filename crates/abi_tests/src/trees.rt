@@ -101,6 +101,21 @@ fn has_hash(alloc: Global, tree: &TypeTree, wanted: u64) -> Result<bool, Fail> {
     }
 }
 
+/// A type without fields, of this seed.
+fn alone(alloc: Global, seed: u64) -> TypeTree {
+    structure(seeded(seed), Vec::new(alloc))
+}
+
+/// As many of them as a list can tell.
+fn most(alloc: Global) -> Result<TypeTree, AllocError> {
+    Ok(TypeTree::Array(u64::MAX, Box::new(alloc, alone(alloc, 0))?))
+}
+
+/// A byte under the greatest seed, so that the sum goes round.
+fn round(alloc: Global) -> Result<TypeTree, AllocError> {
+    Ok(structure(seeded(u64::MAX), vec![in alloc; byte()]?))
+}
+
 /// Fields with a seed of their own beside a signed byte, under another seed.
 fn seeds_within(alloc: Global) -> Result<TypeTree, AllocError> {
     let half = integer(Integer::I16, false, 0xFFFF);
@@ -112,17 +127,16 @@ fn seeds_within(alloc: Global) -> Result<TypeTree, AllocError> {
 #[test]
 fn seeds_are_summed(rt: HostRuntime) -> Result<(), Fail> {
     let alloc = rt.alloc();
-    for seed in [0, 7] {
-        let tree = structure(seeded(seed), Vec::new(alloc));
-        assert!(rt; has_hash(alloc, &tree, seed)?, "{seed}");
-    }
-    let most = TypeTree::Array(
-        u64::MAX,
-        Box::new(alloc, structure(seeded(0), Vec::new(alloc)))?,
-    );
-    assert!(rt; has_hash(alloc, &most, u64::MAX)?);
-    let round = structure(seeded(u64::MAX), vec![in alloc; byte()]?);
-    assert!(rt; has_hash(alloc, &round, 0x00FF_0002_0000_0000)?);
+    assert!(rt; has_hash(alloc, &alone(alloc, 0), 0)?);
+    assert!(rt; has_hash(alloc, &alone(alloc, 7), 7)?);
+    assert!(rt; has_hash(alloc, &most(alloc)?, u64::MAX)?);
+    Ok(())
+}
+
+#[test]
+fn seeds_of_fields_are_summed(rt: HostRuntime) -> Result<(), Fail> {
+    let alloc = rt.alloc();
+    assert!(rt; has_hash(alloc, &round(alloc)?, 0x00FF_0002_0000_0000)?);
     assert!(rt; has_hash(alloc, &seeds_within(alloc)?, 0x01FD_0005_0000_000C)?);
     Ok(())
 }

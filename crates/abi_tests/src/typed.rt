@@ -1,8 +1,8 @@
 //! Walks over types, and their padding.
 
-ghost use Rattle.std.specs.Prelude.{◌≡◌};
+ghost use Rattle.abi_tests.specs.Samples.{IsTable};
 
-use crate::samples::{Kind, layouts, sample_of};
+use crate::samples::{Kind, Table, layouts, sample_of};
 use abi_base::{Float, Numeric, Size};
 use abi_index::VariantIdx;
 use std::test::Fail;
@@ -18,14 +18,21 @@ const FLOATS: [(Kind, Option<Float>); 7] = [
     (Kind::Choice, None),
 ];
 
+/// Whether the parts of a complex number that the type is passed as are this float, or it is none.
+fn has_parts(table: &Table, kind: Kind, float: Option<Float>) -> bool
+    requires { IsTable table.now }
+{
+    let it = sample_of(table, kind);
+    it.complex_float(&()) == float
+        && it.is_complex_number(&()) == float.is_some()
+        && it.complex_number(&()) == float.map(Numeric::Float)
+}
+
 #[test]
 fn complex_numbers_are_told(rt: HostRuntime) -> Result<(), Fail> {
     let table = layouts(rt.alloc())?;
     for &(kind, float) in &FLOATS {
-        let it = sample_of(&table, kind);
-        assert!(rt; it.complex_float(&()) == float);
-        assert!(rt; it.is_complex_number(&()) == float.is_some());
-        assert!(rt; it.complex_number(&()) == float.map(Numeric::Float));
+        assert!(rt; has_parts(&table, kind, float));
     }
     Ok(())
 }
@@ -40,12 +47,18 @@ const VECTORS: [(Kind, u64, bool); 6] = [
     (Kind::Float, 4, false),
 ];
 
+/// Whether the type is a vector of so many bytes.
+fn is_vector(table: &Table, kind: Kind, bytes: u64) -> bool
+    requires { IsTable table.now }
+{
+    sample_of(table, kind).is_single_vector_element(&(), Size::from_bytes(bytes))
+}
+
 #[test]
 fn single_vectors_are_told(rt: HostRuntime) -> Result<(), Fail> {
     let table = layouts(rt.alloc())?;
     for &(kind, bytes, holds) in &VECTORS {
-        let it = sample_of(&table, kind);
-        assert!(rt; it.is_single_vector_element(&(), Size::from_bytes(bytes)) == holds);
+        assert!(rt; is_vector(&table, kind, bytes) == holds);
     }
     Ok(())
 }
@@ -59,17 +72,29 @@ const PEELED: [(Kind, Option<usize>, bool); 5] = [
     (Kind::Marker, None, false),
 ];
 
+/// Whether this field of the type, or none, is the only one that is more than a place.
+fn has_only(table: &Table, kind: Kind, field: Option<usize>) -> bool
+    requires { IsTable table.now }
+{
+    match sample_of(table, kind).non_1zst_field(&()) {
+        Some((index, _field)) => Some(index.as_usize()) == field,
+        None => field.is_none(),
+    }
+}
+
+/// Whether the type is passed by a pointer.
+fn is_indirect(table: &Table, kind: Kind) -> bool
+    requires { IsTable table.now }
+{
+    sample_of(table, kind).pass_indirectly_in_non_rustic_abis(&())
+}
+
 #[test]
 fn transparent_types_are_peeled(rt: HostRuntime) -> Result<(), Fail> {
     let table = layouts(rt.alloc())?;
     for &(kind, field, by_pointer) in &PEELED {
-        let it = sample_of(&table, kind);
-        let index = match it.non_1zst_field(&()) {
-            Some((index, _field)) => Some(index.as_usize()),
-            None => None,
-        };
-        assert!(rt; index == field);
-        assert!(rt; it.pass_indirectly_in_non_rustic_abis(&()) == by_pointer);
+        assert!(rt; has_only(&table, kind, field));
+        assert!(rt; is_indirect(&table, kind) == by_pointer);
     }
     Ok(())
 }

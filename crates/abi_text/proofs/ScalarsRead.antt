@@ -20,7 +20,8 @@ use Rattle.abi_text.specs.declared.reader.begun.ScalarForm.{ScalarForm}
 use Rattle.abi_text.specs.declared.reader.begun.ScalarForm.TheVariants as form
 use Rattle.abi_text.specs.declared.reader.scalar_word.ScalarWord.{ScalarWord}
 use Rattle.abi_text.specs.declared.reader.scalar_word.ScalarWord.TheVariants as word
-use Rattle.abi_text.specs.Printing.{integer_text, float_text}
+use Rattle.abi_base.specs.Float.{float_text}
+use Rattle.abi_text.specs.Printing.{integer_text}
 use Rattle.abi_text.specs.Reading.{Begun, State, at_end, at_primitive, at_scalar, at_space, at_start, at_type, begin_scalar, is_primitive, next, on_ok, put_primitive, put_scalar, read_from, waiting}
 use Rattle.abi_text.specs.ScalarWords.{scalar_word}
 use Rattle.abi_text.specs.TypeWords.{other_word, word_with}

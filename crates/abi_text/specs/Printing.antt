@@ -3,10 +3,9 @@ use Rattle.std.specs.Prelude.{ℕ, ◌+◌, ◌^◌, ◌==◌, Bool, true, false
 use Rattle.std.specs.Fmt.{decimal}
 use Rattle.abi_base.specs.declared.primitive.Primitive.{Primitive}
 use Rattle.abi_base.specs.declared.primitive.Primitive.TheVariants.{Int, Float, Pointer}
-use Rattle.abi_base.specs.declared.float.Float.{Float as Format}
-use Rattle.abi_base.specs.declared.float.Float.TheVariants.{F16, F16B, F32, F64, F128, PpcF128}
 use Rattle.abi_base.specs.declared.integer.Integer.{Integer}
-use Rattle.abi_base.specs.declared.integer.Integer.TheVariants.{I8, I16, I32, I64, I128}
+use Rattle.abi_base.specs.Float.{float_text}
+use Rattle.abi_base.specs.Integer.{signed_text, unsigned_text}
 use Rattle.abi_scalar.specs.declared.fields_shape.FieldsShape.{FieldsShape}
 use Rattle.abi_scalar.specs.declared.fields_shape.FieldsShape.TheVariants.{Primitive as NoFields, Union, Array, Arbitrary}
 use Rattle.abi_scalar.specs.declared.niche.Niche.{Niche}
@@ -42,25 +41,10 @@ shape_lines (Union count) = field_lines 0 (replicate count 0)
 shape_lines (Array stride count) = codes "elements stride " ++ decimal stride ++ codes " count " ++ decimal count ++ codes "\n"
 shape_lines (Arbitrary offsets order) = field_lines 0 offsets
 
+-- the name of an integer type
 abbrev pub integer_text : Integer → (signed : Bool) → List ℕ
-integer_text I8 false = codes "u8"
-integer_text I8 true = codes "i8"
-integer_text I16 false = codes "u16"
-integer_text I16 true = codes "i16"
-integer_text I32 false = codes "u32"
-integer_text I32 true = codes "i32"
-integer_text I64 false = codes "u64"
-integer_text I64 true = codes "i64"
-integer_text I128 false = codes "u128"
-integer_text I128 true = codes "i128"
-
-abbrev pub float_text : Format → List ℕ
-float_text F16 = codes "f16"
-float_text F16B = codes "f16b"
-float_text F32 = codes "f32"
-float_text F64 = codes "f64"
-float_text F128 = codes "f128"
-float_text PpcF128 = codes "ppcf128"
+integer_text integer true = signed_text integer
+integer_text integer false = unsigned_text integer
 
 -- a pointer has the number of its address space, unless that is 0
 abbrev pub primitive_text : Primitive → List ℕ
@@ -82,14 +66,14 @@ range_lines word (r ∷ runs) = word ++ codes " " ++ decimal r.0 ++ codes ".." +
 abbrev pub unused_lines : Placed → (variant : ℕ) → List ℕ
 unused_lines placed variant = if nat_lt 65536 (size_of placed) then [] else range_lines (codes "unused") (unused_of placed variant)
 
--- a variant, with the offsets of its fields
-abbrev pub variant_lines : Placed → (variant : ℕ) → (offsets : List ℕ) → List ℕ
-variant_lines placed variant offsets = codes "variant " ++ decimal variant ++ codes "\n" ++ field_lines 0 offsets ++ unused_lines placed variant
+-- a variant, with the offsets of its fields and the lines of the bytes that it doesn't use
+abbrev pub variant_lines : (variant : ℕ) → (offsets unused : List ℕ) → List ℕ
+variant_lines variant offsets unused = codes "variant " ++ decimal variant ++ codes "\n" ++ field_lines 0 offsets ++ unused
 
 -- variants, the first of which has this index
 abbrev pub each_variant : {F : Type 0} → Placed → (index : ℕ) → List (VariantLayout F) → List ℕ
 each_variant placed index [] = []
-each_variant placed index (v ∷ variants) = variant_lines placed index v.field_offsets ++ each_variant placed (index + 1) variants
+each_variant placed index (v ∷ variants) = variant_lines index v.field_offsets (unused_lines placed index) ++ each_variant placed (index + 1) variants
 
 -- a scalar's primitive, and its range, which a union's scalar doesn't have
 abbrev pub scalar_text : Scalar → List ℕ

@@ -11,7 +11,8 @@ use Rattle.abi_scalar.specs.declared.scalar.Scalar.{Scalar}
 use Rattle.abi_scalar.specs.declared.scalar.Scalar.TheVariants.{Initialized, Union}
 use Rattle.abi_laid.specs.Tree.{Tree, scalar, pair, never, unit, array, vector, struct, union, enum, coroutine, Trees, no_trees, more_trees, Variants, no_variants, more_variants}
 use Rattle.abi_text.specs.declared.reader.repr_text.StructRepr.{StructRepr}
-use Rattle.abi_text.specs.Printing.{integer_text, float_text}
+use Rattle.abi_base.specs.Float.{float_text}
+use Rattle.abi_text.specs.Printing.{integer_text}
 use Rattle.abi_text.specs.Repr.{struct_repr, union_repr}
 use Rattle.abi_text.specs.Scalars.{a_bool, a_char, a_ref, default_pointer, full, index_primitive}
 use Rattle.abi_text.specs.Words.{begins_plain}

@@ -61,18 +61,12 @@ pub fn discriminant(word: &[u8]) -> Option<u128>
 pub fn decimal(word: &[u8]) -> Option<u64>
     ensures { result ≡ number_in 64 word.now }
 {
-    match number_to(word, u128::from(u64::MAX)) {
-        Some(number) => Some(number as u64),
-        None => None,
-    }
+    Some(number_to(word, u128::from(u64::MAX))? as u64)
 }
 
 /// The number of 32 bits that a word is: decimal digits without a sign. None where it is something else, or greater.
 pub fn short(word: &[u8]) -> Option<u32>
     ensures { result ≡ number_in 32 word.now }
 {
-    match number_to(word, u128::from(u32::MAX)) {
-        Some(number) => Some(number as u32),
-        None => None,
-    }
+    Some(number_to(word, u128::from(u32::MAX))? as u32)
 }

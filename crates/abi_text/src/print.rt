@@ -1,14 +1,14 @@
 //! How a laid-out type is written.
 
 ghost use Rattle.std.specs.Prelude.{◌≡◌, ◌<◌, ◌++◌, OnOk, IfOk, replicate, string_bytes};
-ghost use Rattle.abi_text.specs.Printing.{field_lines, float_text, integer_text, layout_lines, niche_line, padding_lines, primitive_text, range_lines, shape_lines, size_line, type_text, uninhabited_line};
+ghost use Rattle.abi_text.specs.Printing.{field_lines, integer_text, layout_lines, niche_line, padding_lines, primitive_text, range_lines, shape_lines, size_line, type_text, uninhabited_line};
 ghost use Rattle.abi_index.specs.RangeSet.{AreMaximalRuns};
 ghost use Rattle.abi_text.specs.Told.{TellsBytes};
 ghost use Rattle.abi_laid.specs.Laid.{placed_of};
 ghost use Rattle.abi_laid.specs.Placed.{layout_of};
 
 use crate::print_variants::write_variants;
-use abi_base::{Float, Integer, Primitive, Size};
+use abi_base::{Integer, Primitive, Size};
 use abi_index::{FieldIdx, VariantIdx};
 use abi_laid::Laid;
 use abi_scalar::{FieldsShape, LayoutData, Niche};
@@ -79,33 +79,14 @@ fn write_shape(out: &mut String, shape: &FieldsShape<FieldIdx>) -> Result<(), Al
     }
 }
 
+/// The name of an integer type, as `i8` or `u8`.
 fn integer_text(integer: Integer, signed: bool) -> &'static str
     ensures { result.now ≡ integer_text integer signed }
 {
-    match (integer, signed) {
-        (Integer::I8, false) => "u8",
-        (Integer::I8, true) => "i8",
-        (Integer::I16, false) => "u16",
-        (Integer::I16, true) => "i16",
-        (Integer::I32, false) => "u32",
-        (Integer::I32, true) => "i32",
-        (Integer::I64, false) => "u64",
-        (Integer::I64, true) => "i64",
-        (Integer::I128, false) => "u128",
-        (Integer::I128, true) => "i128",
-    }
-}
-
-fn float_text(float: Float) -> &'static str
-    ensures { result.now ≡ float_text float }
-{
-    match float {
-        Float::F16 => "f16",
-        Float::F16B => "f16b",
-        Float::F32 => "f32",
-        Float::F64 => "f64",
-        Float::F128 => "f128",
-        Float::PpcF128 => "ppcf128",
+    if signed {
+        integer.int_ty_str()
+    } else {
+        integer.uint_ty_str()
     }
 }
 
@@ -116,7 +97,7 @@ pub fn write_primitive(out: &mut String, primitive: Primitive) -> Result<(), All
 {
     match primitive {
         Primitive::Int(integer, signed) => out.push_str(integer_text(integer, signed)),
-        Primitive::Float(float) => out.push_str(float_text(float)),
+        Primitive::Float(float) => out.push_str(float.ty_str()),
         Primitive::Pointer(space) => {
             let number = space.0;
             if number == 0 {
@@ -176,13 +157,12 @@ pub(crate) fn write_ranges(
 
 /// Writes the runs of padding.
 fn write_padding(alloc: Global, out: &mut String, laid: &Laid) -> Result<(), AllocError>
-    requires { TellsBytes laid.now }
     ensures { OnOk result (string_bytes out.new ≡ string_bytes out.old ++ padding_lines (placed_of laid.now)) }
 {
     if laid.layout().size.bytes() > MOST_LISTED {
         return out.push_str("padding not listed\n");
     }
-    let bytes = laid.root().variant_independent_padding_ranges(alloc, &())?;
+    let (bytes, _visits) = laid.padding(alloc)?;
     write_ranges(out, "padding", bytes.as_slice())
 }
 

@@ -1,56 +1,61 @@
 //! How the variants of a laid-out type are written.
 
-ghost use Rattle.std.specs.Prelude.{◌≡◌, ℕ, ◌<◌, ◌≤◌, ◌+◌, ◌++◌, OnOk, length, string_bytes};
+ghost use Rattle.std.specs.Prelude.{◌≡◌, ℕ, ◌<◌, ◌≤◌, ◌+◌, ◌++◌, List, [], IfOk, OnOk, codes, get_or, length, string_bytes};
 ghost use Rattle.abi_index.specs.Idx.{greatest_place};
-ghost use Rattle.abi_text.specs.Printing.{each_variant, named_text, scalar_text, tag_line, unused_lines, variant_lines, variants_lines};
+ghost use Rattle.abi_index.specs.RangeSet.{AreMaximalRuns};
+ghost use Rattle.abi_text.specs.Printing.{each_variant, named_text, range_lines, scalar_text, tag_line, unused_lines, variant_lines, variants_lines};
 ghost use Rattle.abi_text.specs.Told.{TellsBytes};
-ghost use Rattle.abi_types.specs.Ty.Runs.{IsVariantIndex};
+ghost use Rattle.abi_types.specs.Ty.Runs.{IsBeside};
 ghost use Rattle.abi_laid.specs.Laid.{placed_of};
 ghost use Rattle.abi_laid.specs.Placed.{layout_of};
 
 use crate::print::{MOST_LISTED, write_fields, write_primitive, write_ranges};
 use abi_base::Size;
-use abi_index::{FieldIdx, VariantIdx};
+use abi_index::{FieldIdx, IndexVec, RangeSet, VariantIdx};
 use abi_laid::Laid;
 use abi_scalar::{RangeInclusive, Scalar, TagEncoding, VariantLayout, Variants};
 use std::alloc::{AllocError, Global};
 
-/// Writes the runs of bytes that a variant doesn't use though another one may.
-fn write_unused(
-    alloc: Global,
-    out: &mut String,
-    laid: &Laid,
-    variant: VariantIdx,
-) -> Result<(), AllocError>
-    requires told { TellsBytes laid.now }
-    requires variant { IsVariantIndex (layout_of (placed_of laid.now)).variants variant }
-    ensures { OnOk result (string_bytes out.new ≡ string_bytes out.old ++ unused_lines (placed_of laid.now) variant) }
+/// Of each variant that a tag tells apart the bytes that it doesn't use though another one may; none where the type has more bytes than
+/// are listed.
+fn listed_unused(alloc: Global, laid: &Laid) -> Result<IndexVec<VariantIdx, RangeSet>, AllocError>
+    requires { TellsBytes laid.now }
+    ensures { IfOk result (λ sets. (i : ℕ) (runs : List (ℕ × ℕ)) → IsBeside (layout_of (placed_of laid.now)).variants i →
+        runs ≡ get_or sets i [] → AreMaximalRuns 0 runs →
+        range_lines (codes "unused") runs ≡ unused_lines (placed_of laid.now) i) }
 {
     if laid.layout().size.bytes() > MOST_LISTED {
-        return Ok(());
+        return Ok(IndexVec::new(alloc));
     }
-    let bytes = laid
-        .root()
-        .variant_dependent_padding_ranges(alloc, &(), variant)?;
-    write_ranges(out, "unused", bytes.as_slice())
+    laid.root()
+        .each_variant_dependent_padding_ranges(alloc, &())
 }
 
-/// Writes a variant, the offsets of its fields, and the bytes that it doesn't use.
+/// The runs of the set of a variant, where there is one.
+fn runs_of<'a>(sets: &'a IndexVec<VariantIdx, RangeSet>, variant: VariantIdx) -> &'a [(u64, u64)]
+    ensures runs { result.now ≡ get_or sets.now variant [] }
+    ensures maximal { AreMaximalRuns 0 result.now }
+{
+    match sets.get(variant) {
+        Some(set) => set.as_slice(),
+        None => &[],
+    }
+}
+
+/// Writes a variant, the offsets of its fields, and the runs of bytes that it doesn't use.
 fn write_variant(
-    alloc: Global,
     out: &mut String,
-    laid: &Laid,
     variant: VariantIdx,
     offsets: &[Size],
+    unused: &[(u64, u64)],
 ) -> Result<(), AllocError>
-    requires told { TellsBytes laid.now }
-    requires variant { IsVariantIndex (layout_of (placed_of laid.now)).variants variant }
-    ensures { OnOk result (string_bytes out.new ≡ string_bytes out.old ++ variant_lines (placed_of laid.now) variant offsets.now) }
+    requires { AreMaximalRuns 0 unused.now }
+    ensures { OnOk result (string_bytes out.new ≡ string_bytes out.old ++ variant_lines variant offsets.now (range_lines (codes "unused") unused.now)) }
 {
     let index = variant.as_u32();
     write!(out, "variant {index}\n")?;
     write_fields(out, offsets)?;
-    write_unused(alloc, out, laid, variant)
+    write_ranges(out, "unused", unused)
 }
 
 /// Writes each of the variants, the first of which has the index 0.
@@ -62,12 +67,14 @@ fn write_each_variant(
 ) -> Result<(), AllocError>
     requires told { TellsBytes laid.now }
     requires most { length variants.now ≤ greatest_place + 1 }
-    requires variants { (i : ℕ) → i < length variants.now → IsVariantIndex (layout_of (placed_of laid.now)).variants i }
+    requires variants { (i : ℕ) → i < length variants.now → IsBeside (layout_of (placed_of laid.now)).variants i }
     ensures { OnOk result (string_bytes out.new ≡ string_bytes out.old ++ each_variant (placed_of laid.now) 0 variants.now) }
 {
+    let unused = listed_unused(alloc, laid)?;
     for (index, variant) in variants.iter().enumerate() {
         let offsets = variant.field_offsets.as_slice().as_raw();
-        write_variant(alloc, out, laid, VariantIdx::from_usize(index), offsets)?;
+        let variant = VariantIdx::from_usize(index);
+        write_variant(out, variant, offsets, runs_of(&unused, variant))?;
     }
     Ok(())
 }

@@ -4,8 +4,6 @@ pub mod PeelLemmas
 pub mod ComplexLemmas
 pub mod VectorLemmas
 pub mod VariantPaddingLemmas
-pub mod RunsLemmas
-pub mod RepeatedLemmas
 pub mod PlacesLemmas
 pub mod RegisterLemmas
 pub mod UniformLemmas

@@ -6,7 +6,7 @@ use Rattle.std.specs.Cmp.Derive.{both_true}
 use Rattle.std.proofs.Math.Bool.{and-false, or-false}
 use Rattle.std.proofs.Math.Nat.{div-zero, mod-zero}
 use Rattle.std.proofs.lemmas.Bool.{cases_lt, le-leb, le-ltb, lt-ltb, or_parts, true≢false}
-use Rattle.std.proofs.lemmas.List.{map-id}
+use Rattle.std.proofs.lemmas.List.{get_or_append_left, get_or_push, length-append, map-id}
 use Rattle.std.proofs.lemmas.List.Elements.{All-nil, All-cons}
 use Rattle.std.proofs.lemmas.List.Folds.{list_any-append}
 use Rattle.std.proofs.lemmas.List.FromFn.{map-range_with_len_more}
@@ -23,10 +23,11 @@ use Rattle.abi_scalar.specs.declared.variants.Variants.TheVariants.{Empty, Singl
 use Rattle.abi_scalar.specs.Shape.{field_count, field_offset}
 use Rattle.abi_scalar.specs.Variant.{variants_of}
 use Rattle.abi_types.specs.Ty.Typed.{Layout, Typed, typed, no_type, at_variant, field_in, layout_in, variant_in}
-use Rattle.abi_types.specs.Ty.Lawful.{CanBeNamed, DepthFalls, IsLawfulType}
+use Rattle.abi_types.specs.Ty.Lawful.{CanBeNamed, DepthFalls, IsLawfulType, NamesVariant}
 use Rattle.abi_types.specs.Ty.Places.{covers_element, fields_cover, is_place, is_shared_place, is_unused, variants_cover}
-use Rattle.abi_types.specs.Ty.Runs.{Adds, IsVariantIndex, elements_cover, first_cover, moved, repeated}
-use Rattle.abi_types.proofs.RunsLemmas.{adds_both, adds_nothing, adds_same, moved-moved, moved-none, moved-or, moved-same, moved-zero}
+use Rattle.abi_index.specs.Runs.{Adds, moved, repeated}
+use Rattle.abi_types.specs.Ty.Runs.{AreUnusedOf, IsBeside, IsVariantIndex, elements_cover, first_cover, variant_count}
+use Rattle.abi_index.proofs.RunsLemmas.{adds_both, adds_nothing, adds_same, moved-moved, moved-none, moved-or, moved-same, moved-zero}
 
 -- ---- tests of numbers that follow one another
 
@@ -220,42 +221,34 @@ runs_end size low (run ∷ runs) maximal none =
     (cases_lt size (run.0 + run.1)))
     (runs_end size (run.0 + run.1 + 1) runs maximal.3 (λ k past. (or_parts (is_in_run k run) (is_in_ranges runs k) (none k past)).1))
 
--- a set that covers what an element does has no byte behind the element
-pub beyond : (t : Typed) (set : List (ℕ × ℕ)) (size : ℕ) → IsLawfulType t → size ≡ (layout_in t).size → ((k : ℕ) → is_in_ranges set k ≡ covers_element (layout_in t) (is_place t) k) → (k : ℕ) → size ≤ k
-    → is_in_ranges set k ≡ false
-beyond t set size law e same k past = same k ∙ covers_inside t law k (omega (arith, e, past))
+-- a set of what an element covers ends inside the element
+pub one_ends : (t : Typed) (set : List (ℕ × ℕ)) → IsLawfulType t → AreMaximalRuns 0 set → ((k : ℕ) → is_in_ranges set k ≡ covers_element (layout_in t) (is_place t) k)
+    → All (λ run. run.0 + run.1 ≤ (layout_in t).size) set
+one_ends t set law maximal same = runs_end (layout_in t).size 0 set maximal (λ k past. same k ∙ covers_inside t law k past)
 
--- its runs end inside
-pub one_ends : (t : Typed) (slice set : List (ℕ × ℕ)) (size : ℕ) → IsLawfulType t → size ≡ (layout_in t).size → slice ≡ set → AreMaximalRuns 0 slice
-    → ((k : ℕ) → is_in_ranges set k ≡ covers_element (layout_in t) (is_place t) k) → All (λ run. run.0 + run.1 ≤ size) slice
-one_ends t slice set size law e s maximal same = runs_end size 0 slice maximal (λ k past. ap (λ rs. is_in_ranges rs k) s ∙ beyond t set size law e same k past)
+-- its part below a number ends there
+pub cut_ends : (set below : List (ℕ × ℕ)) (stride : ℕ) → AreMaximalRuns 0 below → ((k : ℕ) → is_in_ranges below k ≡ (nat_lt k stride && is_in_ranges set k))
+    → All (λ run. run.0 + run.1 ≤ stride) below
+cut_ends set below stride maximal same = runs_end stride 0 below maximal (λ k past. same k ∙ ap (λ b. b && is_in_ranges set k) (le-ltb k stride past))
 
--- those of its part below a number end there
-pub cut_ends : (slice set below : List (ℕ × ℕ)) (stride : ℕ) → slice ≡ below → AreMaximalRuns 0 slice → ((k : ℕ) → is_in_ranges below k ≡ (nat_lt k stride && is_in_ranges set k))
-    → All (λ run. run.0 + run.1 ≤ stride) slice
-cut_ends slice set below stride s maximal same =
-    runs_end stride 0 slice maximal (λ k past. ap (λ rs. is_in_ranges rs k) s ∙ same k ∙ ap (λ b. b && is_in_ranges set k) (le-ltb k stride past))
-
--- and inside
-pub cut_ends_inside : (t : Typed) (slice set below : List (ℕ × ℕ)) (stride size : ℕ) → IsLawfulType t → size ≡ (layout_in t).size → slice ≡ below → AreMaximalRuns 0 slice
+-- and inside the element
+pub cut_ends_inside : (t : Typed) (set below : List (ℕ × ℕ)) (stride : ℕ) → IsLawfulType t → AreMaximalRuns 0 below
     → ((k : ℕ) → is_in_ranges set k ≡ covers_element (layout_in t) (is_place t) k) → ((k : ℕ) → is_in_ranges below k ≡ (nat_lt k stride && is_in_ranges set k))
-    → All (λ run. run.0 + run.1 ≤ size) slice
-cut_ends_inside t slice set below stride size law e s maximal one same =
-    runs_end size 0 slice maximal
-    (λ k past. ap (λ rs. is_in_ranges rs k) s ∙ same k ∙ ap (λ b. nat_lt k stride && b) (beyond t set size law e one k past) ∙ and-false (nat_lt k stride))
+    → All (λ run. run.0 + run.1 ≤ (layout_in t).size) below
+cut_ends_inside t set below stride law maximal one same =
+    runs_end (layout_in t).size 0 below maximal (λ k past. same k ∙ ap (λ b. nat_lt k stride && b) (one k ∙ covers_inside t law k past) ∙ and-false (nat_lt k stride))
 
 stacked : (count : ℕ) (c : ℕ → Bool) → 0 < count → (k : ℕ) → c k ≡ repeated 0 count c k
 stacked count c some k = sym (ap (λ n. nat_lt n count && c (k % 0)) (div-zero k) ∙ ap (λ b. b && c (k % 0)) (lt-ltb 0 count some) ∙ ap c (mod-zero k))
 
 -- elements that all lie at one place
-pub adds_stacked : (all new : List (ℕ × ℕ)) (offset : ℕ) (t : Typed) (slice set : List (ℕ × ℕ)) (stride count : ℕ) → slice ≡ set
+pub adds_stacked : (all new : List (ℕ × ℕ)) (offset : ℕ) (t : Typed) (set : List (ℕ × ℕ)) (stride count : ℕ)
     → ((k : ℕ) → is_in_ranges set k ≡ covers_element (layout_in t) (is_place t) k) → 0 < count → stride ≡ 0
-    → Adds all new (moved offset (is_in_ranges slice)) → Adds all new (moved offset (elements_cover t stride count))
-adds_stacked all new offset t slice set stride count s same some none adds =
+    → Adds all new (moved offset (is_in_ranges set)) → Adds all new (moved offset (elements_cover t stride count))
+adds_stacked all new offset t set stride count same some none adds =
     let p : ℕ → Bool = covers_element (layout_in t) (is_place t) in
-    adds_same all new (moved offset (is_in_ranges slice)) (moved offset (elements_cover t stride count)) adds
-    (moved-same offset (is_in_ranges slice) (elements_cover t stride count)
-    (λ k. ap (λ rs. is_in_ranges rs k) s ∙ same k ∙ stacked count p some k ∙ ap (λ m. repeated m count p k) (sym none)))
+    adds_same all new (moved offset (is_in_ranges set)) (moved offset (elements_cover t stride count)) adds
+    (moved-same offset (is_in_ranges set) (elements_cover t stride count) (λ k. same k ∙ stacked count p some k ∙ ap (λ m. repeated m count p k) (sym none)))
 
 -- ---- what a variant leaves unused
 
@@ -263,23 +256,70 @@ pub beside_at : (vs : Variants ℕ ℕ) (i : ℕ) (tag : Scalar) (encoding : Tag
     → i < length layouts
 beside_at vs i tag encoding at layouts h e = subst (λ w. IsVariantIndex w i) e h
 
+pub beside_parts : (vs : Variants ℕ ℕ) (i : ℕ) → IsBeside vs i
+    → (tag : Scalar) × (encoding : TagEncoding ℕ) × (at : ℕ) × (layouts : List (VariantLayout ℕ)) × (vs ≡ Multiple tag encoding at layouts) × (i < length layouts)
+beside_parts (Multiple tag encoding at layouts) i h = (tag, encoding, at, layouts, refl, h)
+beside_parts Empty i h = absurd h
+beside_parts (Single only) i h = absurd h
+
 -- where a tag tells variants apart
 unused_split : (t : Typed) (i k : ℕ) (tag : Scalar) (encoding : TagEncoding ℕ) (at : ℕ) (layouts : List (VariantLayout ℕ)) → (layout_in t).variants ≡ Multiple tag encoding at layouts
     → is_unused t i k ≡ (is_place t k && not (is_shared_place t k || is_place (variant_in t i) k))
 unused_split t i k tag encoding at layouts e = rw e refl
 
--- what the shared fields cover and what the variant covers, behind nothing
-own_bytes : (old middle new : List (ℕ × ℕ)) (p q : ℕ → Bool) → old ≡ [] → Adds old middle (moved 0 p) → Adds middle new (moved 0 q) → (k : ℕ) → is_in_ranges new k ≡ (p k || q k)
-own_bytes old middle new p q e first second k =
-    second.bytes k ∙ ap (λ b. b || moved 0 q k) (first.bytes k ∙ ap (λ rs. is_in_ranges rs k || moved 0 p k) e ∙ moved-zero p k) ∙ ap (λ b. p k || b) (moved-zero q k)
+-- what is put behind nothing
+pub first_bytes : (old new : List (ℕ × ℕ)) (p : ℕ → Bool) → old ≡ [] → Adds old new (moved 0 p) → (k : ℕ) → is_in_ranges new k ≡ p k
+first_bytes old new p e put k = put k ∙ ap (λ rs. is_in_ranges rs k || moved 0 p k) e ∙ moved-zero p k
 
--- what any variant covers, without what the fields that all have and this variant cover
-pub unused_bytes : (t u : Typed) (i : ℕ) (tag : Scalar) (encoding : TagEncoding ℕ) (at : ℕ) (layouts : List (VariantLayout ℕ)) → (layout_in t).variants ≡ Multiple tag encoding at layouts → u ≡ at_variant t i
-    → (any own old middle new rest : List (ℕ × ℕ)) → old ≡ [] → Adds old middle (moved 0 (is_shared_place t)) → Adds middle new (moved 0 (is_place u))
-    → ((k : ℕ) → is_in_ranges any k ≡ is_place t k) → ((k : ℕ) → is_in_ranges own k ≡ is_in_ranges new k)
-    → ((k : ℕ) → is_in_ranges rest k ≡ (is_in_ranges any k && not (is_in_ranges own k))) → (k : ℕ) → is_in_ranges rest k ≡ is_unused t i k
-unused_bytes t u i tag encoding at layouts e same any own old middle new rest none shared variant all mine left k =
-    let covered : is_in_ranges own k ≡ (is_shared_place t k || is_place (variant_in t i) k) =
-    mine k ∙ own_bytes old middle new (is_shared_place t) (is_place u) none shared variant k
-    ∙ ap (λ w. is_shared_place t k || is_place w k) (same ∙ of_variant t i tag encoding at layouts e) in
-    left k ∙ ap (λ b. b && not (is_in_ranges own k)) (all k) ∙ ap (λ b. is_place t k && not b) covered ∙ sym (unused_split t i k tag encoding at layouts e)
+-- without one, and without another
+without_both : (p s o : Bool) → ((p && not s) && not o) ≡ (p && not (s || o))
+without_both true true o = refl
+without_both true false o = refl
+without_both false s o = refl
+
+-- what any variant covers and no shared field, without what this variant covers
+pub unused_bytes : (t u : Typed) (i : ℕ) → IsBeside (layout_in t).variants i → u ≡ at_variant t i → (beside own rest : List (ℕ × ℕ))
+    → ((k : ℕ) → is_in_ranges beside k ≡ (is_place t k && not (is_shared_place t k))) → ((k : ℕ) → is_in_ranges own k ≡ is_place u k)
+    → ((k : ℕ) → is_in_ranges rest k ≡ (is_in_ranges beside k && not (is_in_ranges own k))) → (k : ℕ) → is_in_ranges rest k ≡ is_unused t i k
+unused_bytes t u i several same beside own rest all mine left k =
+    let (tag, encoding, at, layouts, e, lt) = beside_parts (layout_in t).variants i several in
+    let covered : is_in_ranges own k ≡ is_place (variant_in t i) k = mine k ∙ ap (λ w. is_place w k) (same ∙ of_variant t i tag encoding at layouts e) in
+    left k ∙ ap (λ b. b && not (is_in_ranges own k)) (all k) ∙ ap (λ b. (is_place t k && not (is_shared_place t k)) && not b) covered
+    ∙ without_both (is_place t k) (is_shared_place t k) (is_place (variant_in t i) k) ∙ sym (unused_split t i k tag encoding at layouts e)
+
+-- such a variant is one of the type's, one of those that are counted, and fits where the type does
+pub beside_index : (vs : Variants ℕ ℕ) (i : ℕ) → IsBeside vs i → IsVariantIndex vs i
+beside_index (Multiple tag encoding at layouts) i h = h
+beside_index Empty i h = absurd h
+beside_index (Single only) i h = absurd h
+
+beside_count : (vs : Variants ℕ ℕ) (i : ℕ) → IsBeside vs i → i < variant_count vs
+beside_count (Multiple tag encoding at layouts) i h = h
+beside_count Empty i h = absurd h
+beside_count (Single only) i h = absurd h
+
+pub beside_counted : (l m : Layout) (i : ℕ) → l ≡ m → IsBeside m.variants i → i < variant_count l.variants
+beside_counted l m i same h = subst (λ k. i < variant_count k.variants) (sym same) (beside_count m.variants i h)
+
+pub beside_named : (vs : Variants ℕ ℕ) (i : ℕ) → IsBeside vs i → NamesVariant vs i
+beside_named (Multiple tag encoding at layouts) i h = h
+beside_named Empty i h = absurd h
+beside_named (Single only) i h = absurd h
+
+pub beside_fits : (t : Typed) (i : ℕ) → IsLawfulType t → IsBeside (layout_in t).variants i → (layout_in t).size < 2 ^ 64 → (layout_in (at_variant t i)).size < 2 ^ 64
+beside_fits t i law several fits =
+    let (tag, encoding, at, layouts, e, lt) = beside_parts (layout_in t).variants i several in
+    let all = variant_fits t i 0 tag encoding at layouts law e lt (omega (arith, fits)) in
+    omega (arith, all)
+
+-- what one variant more leaves unused
+pub unused_more : (t : Typed) (n : ℕ) (sets : List (List (ℕ × ℕ))) (set : List (ℕ × ℕ)) → AreUnusedOf t n sets → ((k : ℕ) → is_in_ranges set k ≡ is_unused t n k)
+    → AreUnusedOf t (n + 1) (sets ++ set ∷ [])
+unused_more t n sets set h one = (
+  length-append sets (set ∷ []) ∙ ap (λ m. m + 1) h.0,
+  λ v k lt. ⊎_elim
+      (λ less. ap (λ s. is_in_ranges s k) (get_or_append_left sets (set ∷ []) [] v (omega (arith, less, h.0))) ∙ h.1 v k less)
+      (λ above. let at : n ≡ v = omega (arith, lt, above) in
+      ap (λ s. is_in_ranges s k) (get_or_push sets set [] v (h.0 ∙ at)) ∙ one k ∙ ap (λ m. is_unused t m k) at)
+      (cases_lt v n),
+)

@@ -7,7 +7,6 @@ mod one_field;
 mod padding;
 mod peel;
 mod places;
-mod runs;
 mod uniform;
 mod variant_padding;
 mod vector;

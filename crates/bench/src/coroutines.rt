@@ -86,7 +86,7 @@ struct Coroutine<'a> {
 
 impl Coroutine<'_> {
     /// The size of the coroutine, 0 where it is refused.
-    #[tactic(auto, using(abi_calc::proofs::OneCoroutine::one_tag))]
+    #[tactic(auto, using(abi_calc::proofs::CoroutineLemmas::OneCoroutine::one_tag))]
     fn size(&self, alloc: Global) -> Result<u64, AllocError>
         requires { IsLawfulCoroutine self.now }
     {

@@ -7,6 +7,7 @@ use crate::numbers::Numbers;
 use crate::timing::{Timed, time};
 use crate::wanted::asks_for;
 use abi_base::TargetDataLayout;
+use abi_laid::Laid;
 use abi_scalar::ReprOptions;
 use rustc_abi::{TypeTree, lay_out};
 use std::alloc::{AllocError, Global};
@@ -86,6 +87,50 @@ impl Timed for Type<'_> {
     }
 }
 
+/// A type that was laid out, if it could be.
+#[derive(Drop)]
+struct Padding {
+    laid: Option<Laid>,
+}
+
+impl Timed for Padding {
+    ghost is_ready = { λ _. ⊤ };
+
+    fn made(&self, alloc: Global) -> u64 {
+        match &self.laid {
+            Some(laid) => match laid.padding(alloc) {
+                Ok((_ranges, visits)) => visits as u64,
+                Err(_) => 0,
+            },
+            None => 0,
+        }
+    }
+}
+
+/// The same, whose padding the walk over handles lists.
+#[derive(Drop)]
+struct WalkedPadding {
+    laid: Option<Laid>,
+}
+
+impl Timed for WalkedPadding {
+    ghost is_ready = { λ _. ⊤ };
+
+    fn made(&self, alloc: Global) -> u64 {
+        let Some(laid) = &self.laid else {
+            return 0;
+        };
+        let root = laid.root();
+        if root.data().is_unsized() {
+            return 0;
+        }
+        match root.variant_independent_padding_ranges(alloc, &()) {
+            Ok(_ranges) => 1,
+            Err(_) => 0,
+        }
+    }
+}
+
 /// Times whole trees.
 pub(crate) fn time_all(
     rt: &(impl Clock + Print + AllocGlobal),
@@ -100,6 +145,14 @@ pub(crate) fn time_all(
     if asks_for(words, "lay_out_deep", DEPTH) {
         let tree = deep(alloc)?;
         time(rt, "lay_out_deep", DEPTH, &Type { dl, tree })?;
+    }
+    if asks_for(words, "padding_wide", NODES) {
+        let laid = lay_out(alloc, dl, &wide(alloc)?).ok();
+        time(rt, "padding_wide", NODES, &Padding { laid })?;
+    }
+    if asks_for(words, "padding_walk_wide", NODES) {
+        let laid = lay_out(alloc, dl, &wide(alloc)?).ok();
+        time(rt, "padding_walk_wide", NODES, &WalkedPadding { laid })?;
     }
     Ok(())
 }

@@ -1,7 +1,7 @@
 //! Which calls are to be timed.
 
 /// The calls that can be timed.
-const CALLS: [&str; 12] = [
+const CALLS: [&str; 14] = [
     "univariant_free",
     "univariant_c",
     "union",
@@ -14,6 +14,8 @@ const CALLS: [&str; 12] = [
     "smallest_range_containing",
     "lay_out_wide",
     "lay_out_deep",
+    "padding_wide",
+    "padding_walk_wide",
 ];
 
 /// Whether each word is a call that can be timed, `all`, or a size.

@@ -74,6 +74,7 @@ fn write_stop(out: &mut String, stop: Stop) -> Result<(), AllocError> {
             write!(out, "asks {clause}")
         }
         Stop::OutOfMemory => out.push_str("refused OutOfMemory"),
+        Stop::Changed => out.push_str("changed"),
     }
 }
 

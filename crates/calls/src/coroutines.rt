@@ -103,7 +103,7 @@ fn matrix(alloc: Global, count: usize, pairs: &[(u32, u32)]) -> Result<BitMatrix
 }
 
 /// The layout of a coroutine of these prefix fields and parts.
-#[tactic(auto, using(abi_calc::proofs::OneCoroutine::one_tag))]
+#[tactic(auto, using(abi_calc::proofs::CoroutineLemmas::OneCoroutine::one_tag))]
 pub(crate) fn laid(
     alloc: Global,
     dl: &TargetDataLayout,

@@ -5,7 +5,7 @@ use crate::print::{write_align, write_true};
 use crate::stop::{Clause, Name, Stop};
 use abi_base::{Align, Integer, Numeric, Primitive, RegKind, Size, TargetDataLayout};
 use abi_text::write_primitive;
-use abi_types::{CVariadicStatus, ExternAbi, Reg};
+use abi_types::{CVariadicStatus, ExternAbi, Reg, all_names};
 use std::alloc::{AllocError, Global};
 
 /// Writes a register: its kind and its size in bytes.
@@ -233,16 +233,35 @@ enum ConventionCall {
     Convention,
     ConventionNumber,
     ConventionOrder,
+    ConventionNames,
 }
 
-const CONVENTION_CALLS: [(&[u8], ConventionCall); 3] = [
+const CONVENTION_CALLS: [(&[u8], ConventionCall); 4] = [
     (b"convention", ConventionCall::Convention),
     (b"convention-number", ConventionCall::ConventionNumber),
     (b"convention-order", ConventionCall::ConventionOrder),
+    (b"convention-names", ConventionCall::ConventionNames),
 ];
 
+/// Writes the names of all conventions.
+fn write_names(alloc: Global, out: &mut String) -> Result<(), AllocError> {
+    let names = all_names(alloc)?;
+    let mut between = "";
+    for name in &names {
+        out.push_str(between)?;
+        out.push_str(*name)?;
+        between = " ";
+    }
+    Ok(())
+}
+
 /// Answers a call on conventions of this name; whether there is one.
-fn call_on_conventions(name: &[u8], line: &mut Line<'_>, out: &mut String) -> Result<bool, Stop> {
+fn call_on_conventions(
+    alloc: Global,
+    name: &[u8],
+    line: &mut Line<'_>,
+    out: &mut String,
+) -> Result<bool, Stop> {
     match named(&CONVENTION_CALLS, name) {
         Some(ConventionCall::Convention) => write_convention(out, convention(line)?)?,
         Some(ConventionCall::ConventionNumber) => write_convention(
@@ -253,6 +272,7 @@ fn call_on_conventions(name: &[u8], line: &mut Line<'_>, out: &mut String) -> Re
             let first = convention(line)?;
             out.push_str(order(first, convention(line)?))?
         }
+        Some(ConventionCall::ConventionNames) => write_names(alloc, out)?,
         None => return Ok(false),
     }
     Ok(true)
@@ -267,7 +287,7 @@ pub(crate) fn call(
     out: &mut String,
 ) -> Result<bool, Stop> {
     let is_known = call_on_registers(alloc, dl, name, line, out)?
-        || call_on_conventions(name, line, out)?;
+        || call_on_conventions(alloc, name, line, out)?;
     if is_known {
         line.end()?;
     }

@@ -1,4 +1,5 @@
-//! Calls of sets of bytes, of sets of indices, and of relations between them.
+//! Calls of sets of bytes, of sets of indices, of relations between them, and of lists that indices name. Where a growth
+//! is refused, what should have grown is compared with a copy made before.
 
 ghost use Rattle.std.specs.Prelude.{◌≡◌, ◌≤◌, ◌<◌, IfOk};
 ghost use Rattle.abi_index.specs.Relation.{row_count};
@@ -6,7 +7,7 @@ ghost use Rattle.abi_index.specs.Relation.{row_count};
 use crate::line::{Line, named};
 use crate::print::write_runs;
 use crate::stop::{Clause, Stop};
-use abi_index::{BitMatrix, DenseBitSet, RangeSet};
+use abi_index::{BitMatrix, DenseBitSet, IndexVec, RangeSet, TryClone};
 use std::alloc::{AllocError, Global};
 
 /// No set of indices is over more of them.
@@ -21,7 +22,10 @@ fn bytes(alloc: Global, line: &mut Line<'_>) -> Result<RangeSet, Stop> {
             break;
         }
         let (offset, size) = (line.short()?, line.short()?);
-        bytes.add_range(u64::from(offset), u64::from(size))?;
+        let before = bytes.try_clone(alloc)?;
+        if bytes.add_range(u64::from(offset), u64::from(size)).is_err() {
+            return Err(Stop::refused(bytes == before));
+        }
     }
     Ok(bytes)
 }
@@ -102,6 +106,7 @@ fn write_row(out: &mut String, relation: &BitMatrix<u32, u32>, row: u32) -> Resu
 fn relation(alloc: Global, line: &mut Line<'_>, out: &mut String) -> Result<(), Stop> {
     let (rows, columns) = (domain(line)?, domain(line)?);
     let mut relation: BitMatrix<u32, u32> = BitMatrix::new(alloc, rows, columns)?;
+    let mut before: BitMatrix<u32, u32> = BitMatrix::new(alloc, rows, columns)?;
     line.expect(b"(")?;
     out.push_str("new")?;
     for _step in 0..u64::MAX {
@@ -112,27 +117,55 @@ fn relation(alloc: Global, line: &mut Line<'_>, out: &mut String) -> Result<(), 
         if row as usize >= rows || column as usize >= columns {
             return Err(Stop::Asks(Clause::Within));
         }
-        let is_new = relation.insert(row, column)?;
+        let Ok(is_new) = relation.insert(row, column) else {
+            return Err(Stop::refused(relation == before));
+        };
+        let _is_new = before.insert(row, column)?;
         write!(out, " {is_new}")?;
     }
     write_rows(out, &relation, rows)?;
     Ok(())
 }
 
-/// Calls on sets and relations.
+/// `index-list ( ITEM .. )`: each item behind its index, how many there are, and whether a copy is the same
+fn index_list(alloc: Global, line: &mut Line<'_>, out: &mut String) -> Result<(), Stop> {
+    let mut list: IndexVec<u32, u64> = IndexVec::new(alloc);
+    line.expect(b"(")?;
+    for _step in 0..u64::MAX {
+        if line.takes(b")") {
+            break;
+        }
+        if list.len() >= 4096 {
+            return Err(Stop::Asks(Clause::Count));
+        }
+        let item = line.number()?;
+        let before = list.try_clone(alloc)?;
+        let Ok(index) = list.push(item) else {
+            return Err(Stop::refused(list == before));
+        };
+        write!(out, "{index}:{item} ")?;
+    }
+    let count = list.len();
+    let is_copied = list.try_clone(alloc)? == list;
+    Ok(write!(out, "count {count} copied {is_copied}")?)
+}
+
+/// Calls on sets, relations and lists.
 #[derive(Clone, Copy)]
 enum SetCall {
     RangeSet,
     Difference,
     BitSet,
     Relation,
+    IndexList,
 }
 
-const SET_CALLS: [(&[u8], SetCall); 4] = [
+const SET_CALLS: [(&[u8], SetCall); 5] = [
     (b"range-set", SetCall::RangeSet),
     (b"difference", SetCall::Difference),
     (b"bit-set", SetCall::BitSet),
     (b"relation", SetCall::Relation),
+    (b"index-list", SetCall::IndexList),
 ];
 
 /// Answers a call of this name; whether there is one.
@@ -147,6 +180,7 @@ pub(crate) fn call(
         Some(SetCall::Difference) => write_runs(out, &difference(alloc, line)?)?,
         Some(SetCall::BitSet) => bit_set(alloc, line, out)?,
         Some(SetCall::Relation) => relation(alloc, line, out)?,
+        Some(SetCall::IndexList) => index_list(alloc, line, out)?,
         None => return Ok(false),
     }
     line.end()?;

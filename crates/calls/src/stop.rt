@@ -117,6 +117,19 @@ pub(crate) enum Stop {
     Asks(Clause),
     /// A growth of memory was refused.
     OutOfMemory,
+    /// A growth of memory was refused, and what should have grown isn't what it was.
+    Changed,
+}
+
+impl Stop {
+    /// What the refused growth of what is lent for writing stops a line with, by whether it equals a copy made before.
+    pub(crate) fn refused(is_kept: bool) -> Self {
+        if is_kept {
+            Stop::OutOfMemory
+        } else {
+            Stop::Changed
+        }
+    }
 }
 
 impl From<AllocError> for Stop {

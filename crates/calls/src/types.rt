@@ -14,6 +14,7 @@ use crate::stop::{Clause, Stop};
 use crate::types::handle::{Handle, handle, variant_of};
 use abi_base::{Size, TargetDataLayout};
 use abi_index::VariantIdx;
+use abi_laid::Laid;
 use abi_scalar::Variants;
 use abi_types::{Heterogeneous, HomogeneousAggregate};
 use rustc_abi::lay_out;
@@ -200,6 +201,36 @@ fn answer(
     Ok(())
 }
 
+/// Calls on a laid-out type as a whole.
+#[derive(Clone, Copy)]
+enum LaidCall {
+    NodeCount,
+    Padding,
+}
+
+const LAID_CALLS: [(&[u8], LaidCall); 2] = [
+    (b"node-count", LaidCall::NodeCount),
+    (b"laid-padding", LaidCall::Padding),
+];
+
+/// Answers a call on a laid-out type.
+fn answer_laid(
+    alloc: Global,
+    call: LaidCall,
+    laid: &Laid,
+    out: &mut String,
+) -> Result<(), AllocError> {
+    let count = laid.node_count();
+    match call {
+        LaidCall::NodeCount => write!(out, "{count}"),
+        LaidCall::Padding => {
+            let (padding, visits) = laid.padding(alloc)?;
+            write_runs(out, &padding)?;
+            write!(out, " reads {visits} of {count}")
+        }
+    }
+}
+
 /// Whether a call has a number before its type.
 fn has_number(call: TypeCall) -> bool {
     matches!(call, TypeCall::SingleVector | TypeCall::Unused)
@@ -213,6 +244,13 @@ pub(crate) fn call(
     line: &mut Line<'_>,
     out: &mut String,
 ) -> Result<bool, Stop> {
+    if let Some(call) = named(&LAID_CALLS, name) {
+        let tree = line.tree(alloc, dl)?;
+        let laid = lay_out(alloc, dl, &tree)?;
+        line.end()?;
+        answer_laid(alloc, call, &laid, out)?;
+        return Ok(true);
+    }
     let Some(call) = named(&TYPE_CALLS, name) else {
         return Ok(false);
     };

@@ -7,7 +7,7 @@ use Rattle.abi_base.specs.declared.data_layout.TargetDataLayout.{TargetDataLayou
 use Rattle.abi_base.specs.DataLayout.{IsLawfulDataLayout}
 use Rattle.abi_base.specs.DataLayoutFault.{Fault as Flaw}
 use Rattle.abi_laid.specs.Tree.{Tree}
-use Rattle.rustc_abi.proofs.OneAnswer.{one_answer}
+use Rattle.rustc_abi.proofs.Trees.OneAnswer.{one_answer}
 use Rattle.abi_text.specs.declared.fault.Fault.{Fault}
 use Rattle.abi_text.specs.DataLayoutLine.{data_layout_of}
 use Rattle.program.specs.Lines.{first_line, second_line}

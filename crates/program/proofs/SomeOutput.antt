@@ -17,7 +17,7 @@ use Rattle.abi_base.specs.Float.{float_align, float_size}
 use Rattle.abi_base.specs.Integer.{integer_align, integer_size}
 use Rattle.abi_lists.proofs.SomeView.{IsTold, both, is_at_most, same_number}
 use Rattle.abi_laid.specs.Tree.{Tree}
-use Rattle.rustc_abi.proofs.SomeAnswer.{some_answer}
+use Rattle.rustc_abi.proofs.Trees.SomeAnswer.{some_answer}
 use Rattle.abi_text.specs.declared.fault.Fault.{Fault}
 use Rattle.abi_text.specs.DataLayoutLine.{data_layout_of}
 use Rattle.program.specs.Lines.{first_line, second_line}

@@ -9,4 +9,5 @@ pub mod Least
 pub mod Lists
 pub mod Clash
 pub mod Adding
+pub mod Count
 pub mod Fault

@@ -1,6 +1,6 @@
 //! The own faults of a coroutine.
 
-ghost use Rattle.std.specs.Prelude.{◌≡◌, ◌+◌, ◌++◌, ◌||◌, IfOk, OnOk, map, nat_le, nat_lt};
+ghost use Rattle.std.specs.Prelude.{◌≡◌, ◌+◌, ◌++◌, ◌||◌, ℕ, IfOk, OnErr, OnOk, map, nat_le, nat_lt, take};
 ghost use Rattle.std.specs.List.{list_any};
 ghost use Rattle.rustc_abi.specs.Enums.{has_equal};
 ghost use Rattle.rustc_abi.specs.Laying.{coroutine_fault, has_bad_index, most_fields};
@@ -53,9 +53,11 @@ fn has_unknown_local(locals: u64, states: &[Vec<u64>]) -> bool
     false
 }
 
-/// Puts these indices behind the others, as numbers of 128 bits.
+/// Puts these indices behind the others, as numbers of 128 bits. `AllocError` where memory is refused: then some of them stand
+/// behind the others.
 fn put_numbers(numbers: &mut Vec<u128>, indices: &[u64]) -> Result<(), AllocError>
-    ensures { OnOk result (numbers.new.items ≡ numbers.old.items ++ indices.now) }
+    ensures ok { OnOk result (numbers.new.items ≡ numbers.old.items ++ indices.now) }
+    ensures err { OnErr result ((count : ℕ) × (numbers.new.items ≡ numbers.old.items ++ take count indices.now)) }
 {
     for index in indices {
         numbers.push(*index as u128)?;

@@ -10,13 +10,14 @@ ghost use Rattle.abi_scalar.specs.Lawful.{IsLawfulLayout};
 ghost use Rattle.rustc_abi.specs.declared.error.LayError.{LayError};
 ghost use Rattle.abi_laid.specs.Placed.{Placed, layout_of};
 ghost use Rattle.abi_types.specs.Ty.Places.{is_place, is_unused};
-ghost use Rattle.abi_laid.specs.Laid.{placed_of, endian_of, typed_of};
+ghost use Rattle.abi_laid.specs.Laid.{placed_of, endian_of, node_count_of, typed_of};
 ghost use Rattle.rustc_abi.specs.Laying.{IsLaying};
 ghost use Rattle.abi_laid.specs.Places.{is_data_place};
 ghost use Rattle.abi_laid.specs.Runs.{is_place_of_variant};
 ghost use Rattle.abi_types.specs.Ty.Runs.{IsVariantIndex};
 ghost use Rattle.abi_types.specs.Ty.Walks.{is_sized};
 ghost use Rattle.rustc_abi.specs.Clash.{AreClashingApart, HaveOneOffset};
+ghost use Rattle.rustc_abi.specs.Count.{HasNodes};
 ghost use Rattle.rustc_abi.specs.Everywhere.{Everywhere};
 ghost use Rattle.rustc_abi.specs.Least.{HasOverlapSize, IsLeast, IsTooLarge};
 ghost use Rattle.rustc_abi.specs.Lists.{HasLeastLists};
@@ -81,6 +82,9 @@ pub fn lay_out(alloc: Global, dl: &TargetDataLayout, tree: &TypeTree) -> Result<
     // What the locals of each coroutine in it share: those that clash no byte, and each has one offset.
     ensures clash { IfOk result (λ laid. Everywhere dl.now AreClashingApart (tree_of tree.now) (placed_of laid)) }
     ensures one_offset { IfOk result (λ laid. Everywhere dl.now HaveOneOffset (tree_of tree.now) (placed_of laid)) }
+
+    // With how many nodes it is laid out.
+    ensures counted { IfOk result (λ laid. HasNodes dl.now (tree_of tree.now) (node_count_of laid)) }
 
     // It is sized.
     ensures sized { IfOk result (λ laid. is_sized (layout_of (placed_of laid)).backend_repr ≡ true) }

@@ -1,6 +1,6 @@
 //! How arrays are laid out, once their element is.
 
-ghost use Rattle.std.specs.Prelude.{◌≡◌, ◌<◌, ℕ, Some, IfOk, IfErr, Ok, length, vec_len};
+ghost use Rattle.std.specs.Prelude.{◌≡◌, ◌<◌, ℕ, Some, IfOk, IfErr, Ok, OnErr, length, vec_len};
 ghost use Rattle.abi_base.specs.DataLayout.{IsLawfulDataLayout};
 ghost use Rattle.abi_scalar.specs.Lawful.{IsLawfulLayout};
 ghost use Rattle.abi_lists.specs.Array.{array_answer};
@@ -11,6 +11,7 @@ ghost use Rattle.rustc_abi.specs.Laying.{IsLaying, elements_answer};
 ghost use Rattle.rustc_abi.specs.Error.{named};
 ghost use Rattle.abi_laid.specs.Fits.{Fits};
 ghost use Rattle.rustc_abi.specs.Adding.{IsAdded, IsRefusal};
+ghost use Rattle.rustc_abi.specs.Count.{IsOwnPut};
 
 use crate::error::LayError;
 use crate::node::add;
@@ -53,7 +54,9 @@ pub(crate) fn add_elements(
         (λ i. (t : Tree) → IsLaying dl.now t (Ok (placed_at nodes.old.items element)) →
         Fits dl.now t (placed_at nodes.old.items element) →
         IsAdded dl.now nodes.old.items nodes.new.items i (array count t)) }
+    ensures own { IfOk result (IsOwnPut nodes.old.items nodes.new.items) }
     ensures err { IfErr result (IsRefusal (elements_answer dl.now count (placed_at nodes.old.items element))) }
+    ensures kept { OnErr result (nodes.new.items ≡ nodes.old.items) }
 {
     let layout = elements_layout(dl, nodes, count, element)?;
     add(nodes, layout, Shape::Elements { count, element })

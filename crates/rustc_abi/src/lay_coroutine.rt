@@ -21,6 +21,7 @@ ghost use Rattle.rustc_abi.specs.Error.{IsRefused};
 ghost use Rattle.abi_laid.specs.Well.{IsPut, all_at};
 ghost use Rattle.rustc_abi.specs.Adding.{AreArms, EachFits, IsAdded, variants_in};
 ghost use Rattle.rustc_abi.specs.Enums.{arms_at};
+ghost use Rattle.rustc_abi.specs.Count.{IsOwnPut};
 
 use crate::conflicts::{conflicts, named_each};
 use crate::coroutine_fault::coroutine_fault;
@@ -35,7 +36,7 @@ use abi_scalar::{LayoutData, Scalar};
 use std::alloc::{AllocError, Global};
 
 /// The indices of so many states, as the numbers that name them.
-#[tactic(auto, using(crate::proofs::StateNodesLemmas::indices_more))]
+#[tactic(auto, using(crate::proofs::Coroutines::StateNodesLemmas::indices_more))]
 fn indices(alloc: Global, count: usize) -> Result<Vec<u128>, AllocError>
     ensures { IfOk result (λ indices. indices.items ≡ source_order count) }
 {
@@ -91,6 +92,7 @@ fn add_each_state(
         AreArms nodes.old.items nodes.new.items (map (λ l. l.size) (variants_of layout.now.variants)) states.items
         (arms_at layout.now Mark.Plain 0 (variants_of layout.now.variants) (source_order (length children.now))
         (variants_in nodes.old.items children.now))) }
+    ensures count { IfOk result (λ states. length nodes.new.items ≡ length nodes.old.items + length states.items) }
     ensures err { IfErr result (λ e. e ≡ LayError.OutOfMemory) }
 {
     let numbers = indices(alloc, children.len())?;
@@ -120,6 +122,7 @@ fn add_states(
     requires inside { VariantsInside layout.size (variants_of layout.variants) (map (λ ks. map (placed_in (all_at nodes.old.items locals.now)) ks.items) states.now) }
     ensures ok { IfOk result (λ i. IsPut nodes.old.items nodes.new.items i
         (placed_coroutine dl.now (all_at nodes.old.items prefix.items) tag (all_at nodes.old.items locals.now) (map (λ state. state.items) states.now) layout)) }
+    ensures own { IfOk result (IsOwnPut nodes.old.items nodes.new.items) }
     ensures err { IfErr result (λ e. e ≡ LayError.OutOfMemory) }
 {
     let children = picked_each(alloc, locals, states)?;
@@ -232,6 +235,7 @@ fn add_faultless_coroutine(
         (λ i. (pres ts : Trees) → AreLaying dl.now pres (Ok (all_at nodes.old.items prefix.items)) → AreLaying dl.now ts (Ok (all_at nodes.old.items locals.now)) →
         EachFits dl.now pres (all_at nodes.old.items prefix.items) → EachFits dl.now ts (all_at nodes.old.items locals.now) →
         IsAdded dl.now nodes.old.items nodes.new.items i (coroutine pres ts (map (λ state. state.items) states.now) pairs.now)) }
+    ensures own { IfOk result (IsOwnPut nodes.old.items nodes.new.items) }
     ensures err { IfErr result (IsRefused (IsCoroutineOf dl.now (all_at nodes.old.items prefix.items) (all_at nodes.old.items locals.now) (map (λ state. state.items) states.now) pairs.now)) }
 {
     let tag = state_tag(states.len());
@@ -258,6 +262,7 @@ pub(crate) fn add_coroutine(
         (λ i. (pres ts : Trees) → AreLaying dl.now pres (Ok (all_at nodes.old.items prefix.items)) → AreLaying dl.now ts (Ok (all_at nodes.old.items locals.now)) →
         EachFits dl.now pres (all_at nodes.old.items prefix.items) → EachFits dl.now ts (all_at nodes.old.items locals.now) →
         IsAdded dl.now nodes.old.items nodes.new.items i (coroutine pres ts (map (λ state. state.items) states.now) pairs.now)) }
+    ensures own { IfOk result (IsOwnPut nodes.old.items nodes.new.items) }
     ensures err { IfErr result (IsRefused (IsCoroutineOf dl.now (all_at nodes.old.items prefix.items) (all_at nodes.old.items locals.now) (map (λ state. state.items) states.now) pairs.now)) }
 {
     match coroutine_fault(alloc, prefix.len(), locals.len(), states, pairs)? {

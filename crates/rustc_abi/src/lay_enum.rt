@@ -1,6 +1,6 @@
 //! How enums are laid out, once the fields of their variants are.
 
-ghost use Rattle.std.specs.Prelude.{◌≡◌, ◌<◌, ◌≤◌, ◌∷◌, [], List, IfOk, IfErr, Ok, None, Some, length, map, option_map, slice_get, vec_len, All, false, true};
+ghost use Rattle.std.specs.Prelude.{◌≡◌, ◌+◌, ◌<◌, ◌≤◌, ◌∷◌, [], List, IfOk, IfErr, Ok, None, Some, length, map, option_map, slice_get, vec_len, All, false, true};
 ghost use Rattle.std.specs.List.{list_all};
 ghost use Rattle.abi_base.specs.DataLayout.{IsLawfulDataLayout};
 ghost use Rattle.abi_scalar.specs.Lawful.{IsLawfulLayout};
@@ -18,6 +18,7 @@ ghost use Rattle.rustc_abi.specs.Adding.{HavePlaces};
 ghost use Rattle.rustc_abi.specs.Error.{IsRefused};
 ghost use Rattle.abi_laid.specs.Well.{IsPut};
 ghost use Rattle.rustc_abi.specs.Adding.{AreArms, HasReadableTag, HasVariants, IsAdded, VariantsFit, variants_in};
+ghost use Rattle.rustc_abi.specs.Count.{IsOwnPut};
 
 use crate::discriminants::{has_equal, is_discriminant, numbered};
 use crate::error::LayError;
@@ -192,6 +193,7 @@ pub(crate) fn add_variants(
     ensures ok { IfOk result (λ variants. AreArms nodes.old.items nodes.new.items (map (λ l. l.size) (variants_of layout.now.variants)) variants.items
         (arms_at layout.now mark 0 (variants_of layout.now.variants) numbers.now
         (variants_in nodes.old.items children.now))) }
+    ensures count { IfOk result (λ variants. length nodes.new.items ≡ length nodes.old.items + length variants.items) }
     ensures err { IfErr result (λ e. e ≡ LayError.OutOfMemory) }
 {
     let mut variants = Vec::with_capacity(alloc, children.len())?;
@@ -225,6 +227,7 @@ fn add_tagged(
     requires inside { VariantsInside layout.size (variants_of layout.variants) (variants_in nodes.old.items children.now) }
     ensures ok { IfOk result (λ i. IsPut nodes.old.items nodes.new.items i (tagged layout mark (tag_offset layout) (one_scalar dl.now tag) (encoding_of layout.variants)
         (arms_at layout mark 0 (variants_of layout.variants) numbers.now (variants_in nodes.old.items children.now)))) }
+    ensures own { IfOk result (IsOwnPut nodes.old.items nodes.new.items) }
     ensures err { IfErr result (λ e. e ≡ LayError.OutOfMemory) }
 {
     let tag = add(nodes, LayoutData::scalar(&dl, tag), Shape::Scalar(tag))?;
@@ -259,6 +262,7 @@ fn add_placed(
     requires places { HavePlaces dl.now layout (variants_in nodes.old.items children.now) layout.variants }
     ensures ok { IfOk result (λ i. IsPut nodes.old.items nodes.new.items i
         (placed_enum dl.now repr.now numbers.now (variants_in nodes.old.items children.now) layout)) }
+    ensures own { IfOk result (IsOwnPut nodes.old.items nodes.new.items) }
     ensures err { IfErr result (λ e. e ≡ LayError.OutOfMemory) }
 {
     let mark = Mark::of(true, repr);
@@ -292,6 +296,7 @@ fn add_faultless_enum(
         (λ i. (all : VariantTrees) → numbers.now ≡ discriminants_of all → VariantsLaying dl.now all (Ok (variants_in nodes.old.items children.now)) →
         VariantsFit dl.now all (variants_in nodes.old.items children.now) →
         IsAdded dl.now nodes.old.items nodes.new.items i (enum repr.now all)) }
+    ensures own { IfOk result (IsOwnPut nodes.old.items nodes.new.items) }
     ensures err { IfErr result (IsRefused (IsEnumOf dl.now repr.now numbers.now (variants_in nodes.old.items children.now))) }
 {
     let layout = enum_layout(alloc, dl, nodes, repr, numbers, children)?;
@@ -315,6 +320,7 @@ pub(crate) fn add_enum(
         (λ i. (all : VariantTrees) → numbers.now ≡ discriminants_of all → VariantsLaying dl.now all (Ok (variants_in nodes.old.items children.now)) →
         VariantsFit dl.now all (variants_in nodes.old.items children.now) →
         IsAdded dl.now nodes.old.items nodes.new.items i (enum repr.now all)) }
+    ensures own { IfOk result (IsOwnPut nodes.old.items nodes.new.items) }
     ensures err { IfErr result (IsRefused (IsEnumOf dl.now repr.now numbers.now (variants_in nodes.old.items children.now))) }
 {
     match enum_fault(alloc, dl, repr, numbers, children)? {

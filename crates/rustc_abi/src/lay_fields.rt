@@ -1,6 +1,6 @@
 //! How structs are laid out, once their fields are.
 
-ghost use Rattle.std.specs.Prelude.{◌≡◌, ◌<◌, ◌≤◌, ◌⊎◌, List, IfOk, IfErr, IfSome, Ok, None, length, vec_len, All, map};
+ghost use Rattle.std.specs.Prelude.{◌≡◌, ◌<◌, ◌≤◌, ◌⊎◌, List, IfOk, IfErr, IfSome, Ok, None, length, vec_len, All, OnErr, map};
 ghost use Rattle.abi_base.specs.DataLayout.{IsLawfulDataLayout};
 ghost use Rattle.abi_scalar.specs.Lawful.{IsLawfulLayout};
 ghost use Rattle.abi_scalar.specs.Shape.{listed_offsets};
@@ -13,6 +13,7 @@ ghost use Rattle.rustc_abi.specs.Laying.{AreLaying, IsFieldsAnswer, IsListed, fi
 ghost use Rattle.rustc_abi.specs.Error.{IsRefused};
 ghost use Rattle.abi_laid.specs.Well.{all_at};
 ghost use Rattle.rustc_abi.specs.Adding.{IsAdded, EachFits};
+ghost use Rattle.rustc_abi.specs.Count.{IsOwnPut};
 
 use crate::error::LayError;
 use crate::node::{add, layouts_at};
@@ -131,7 +132,9 @@ fn add_faultless_fields(
         (λ i. (ts : Trees) → AreLaying dl.now ts (Ok (all_at nodes.old.items children.items)) →
         EachFits dl.now ts (all_at nodes.old.items children.items) →
         IsAdded dl.now nodes.old.items nodes.new.items i (struct repr.now always_sized ts)) }
+    ensures own { IfOk result (IsOwnPut nodes.old.items nodes.new.items) }
     ensures err { IfErr result (IsRefused (IsFieldsAnswer dl.now repr.now always_sized (all_at nodes.old.items children.items))) }
+    ensures kept { OnErr result (nodes.new.items ≡ nodes.old.items) }
 {
     let kind = kind_of(always_sized, &children);
     let layout = fields_layout(alloc, dl, nodes, repr, kind, &children)?;
@@ -158,7 +161,9 @@ pub(crate) fn add_fields(
         (λ i. (ts : Trees) → AreLaying dl.now ts (Ok (all_at nodes.old.items children.items)) →
         EachFits dl.now ts (all_at nodes.old.items children.items) →
         IsAdded dl.now nodes.old.items nodes.new.items i (struct repr.now always_sized ts)) }
+    ensures own { IfOk result (IsOwnPut nodes.old.items nodes.new.items) }
     ensures err { IfErr result (IsRefused (IsFieldsAnswer dl.now repr.now always_sized (all_at nodes.old.items children.items))) }
+    ensures kept { OnErr result (nodes.new.items ≡ nodes.old.items) }
 {
     match fields_fault(repr, &children) {
         Some(fault) => Err(fault),

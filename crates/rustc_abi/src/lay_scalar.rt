@@ -1,6 +1,6 @@
 //! How types without parts, and pairs of scalars, are laid out.
 
-ghost use Rattle.std.specs.Prelude.{◌≡◌, IfOk, IfErr, None, true};
+ghost use Rattle.std.specs.Prelude.{◌≡◌, ◌+◌, IfOk, IfErr, None, OnErr, length, true};
 ghost use Rattle.abi_base.specs.DataLayout.{IsLawfulDataLayout};
 ghost use Rattle.abi_scalar.specs.Scalar.{primitive_of};
 ghost use Rattle.abi_laid.specs.Tree.{scalar, pair, never, unit};
@@ -10,6 +10,7 @@ ghost use Rattle.rustc_abi.specs.Laying.{one_scalar, scalar_answer, pair_answer}
 ghost use Rattle.rustc_abi.specs.ScalarFault.{is_lawful_primitive, has_range_within, scalar_fault};
 ghost use Rattle.abi_laid.specs.Well.{IsPut};
 ghost use Rattle.rustc_abi.specs.Adding.{IsAdded, IsRefusal};
+ghost use Rattle.rustc_abi.specs.Count.{IsOwnPut};
 
 use crate::error::LayError;
 use crate::node::add;
@@ -66,7 +67,9 @@ fn add_lawful(
     requires faultless { scalar_fault dl.now value ≡ None }
     ensures ok { IfOk result (λ i. IsPut nodes.old.items nodes.new.items i (one_scalar dl.now value)) }
     ensures lawful { IsLawfulLayout dl.now (layout_of (one_scalar dl.now value)) }
+    ensures count { IfOk result (λ i. length nodes.new.items ≡ length nodes.old.items + 1) }
     ensures err { IfErr result (λ e. e ≡ LayError.OutOfMemory) }
+    ensures kept { OnErr result (nodes.new.items ≡ nodes.old.items) }
 {
     add(nodes, LayoutData::scalar(&dl, value), Shape::Scalar(value))
 }
@@ -79,7 +82,9 @@ pub(crate) fn add_scalar(
 ) -> Result<usize, LayError>
     requires { IsLawfulDataLayout dl.now }
     ensures ok { IfOk result (λ i. IsAdded dl.now nodes.old.items nodes.new.items i (scalar value)) }
+    ensures own { IfOk result (IsOwnPut nodes.old.items nodes.new.items) }
     ensures err { IfErr result (IsRefusal (scalar_answer dl.now value)) }
+    ensures kept { OnErr result (nodes.new.items ≡ nodes.old.items) }
 {
     match scalar_fault(dl, value) {
         Some(fault) => Err(fault),
@@ -99,6 +104,7 @@ fn add_two(
     requires first { scalar_fault dl.now a ≡ None }
     requires second { scalar_fault dl.now b ≡ None }
     ensures ok { IfOk result (λ i. IsAdded dl.now nodes.old.items nodes.new.items i (pair a b)) }
+    ensures own { IfOk result (IsOwnPut nodes.old.items nodes.new.items) }
     ensures err { IfErr result (IsRefusal (pair_answer dl.now a b)) }
 {
     let layout = LayoutData::scalar_pair(alloc, &dl, a, b)?;
@@ -120,6 +126,7 @@ pub(crate) fn add_pair(
 ) -> Result<usize, LayError>
     requires { IsLawfulDataLayout dl.now }
     ensures ok { IfOk result (λ i. IsAdded dl.now nodes.old.items nodes.new.items i (pair a b)) }
+    ensures own { IfOk result (IsOwnPut nodes.old.items nodes.new.items) }
     ensures err { IfErr result (IsRefusal (pair_answer dl.now a b)) }
 {
     if let Some(fault) = scalar_fault(dl, a) {
@@ -135,7 +142,9 @@ pub(crate) fn add_pair(
 pub(crate) fn add_never(dl: &TargetDataLayout, nodes: &mut Vec<Node>) -> Result<usize, LayError>
     requires { IsLawfulDataLayout dl.now }
     ensures ok { IfOk result (λ i. IsAdded dl.now nodes.old.items nodes.new.items i never) }
+    ensures own { IfOk result (IsOwnPut nodes.old.items nodes.new.items) }
     ensures err { IfErr result (λ e. e ≡ LayError.OutOfMemory) }
+    ensures kept { OnErr result (nodes.new.items ≡ nodes.old.items) }
 {
     add(
         nodes,
@@ -152,7 +161,9 @@ pub(crate) fn add_unit(
 ) -> Result<usize, LayError>
     requires { IsLawfulDataLayout dl.now }
     ensures ok { IfOk result (λ i. IsAdded dl.now nodes.old.items nodes.new.items i unit) }
+    ensures own { IfOk result (IsOwnPut nodes.old.items nodes.new.items) }
     ensures err { IfErr result (λ e. e ≡ LayError.OutOfMemory) }
+    ensures kept { OnErr result (nodes.new.items ≡ nodes.old.items) }
 {
     add(
         nodes,

@@ -6,6 +6,7 @@ ghost use Rattle.abi_laid.specs.Tree.{tree_of, trees, trees_of_variants};
 ghost use Rattle.rustc_abi.specs.Laying.{IsLaying, AreLaying, VariantsLaying};
 ghost use Rattle.rustc_abi.specs.Error.{IsRefused};
 ghost use Rattle.rustc_abi.specs.Adding.{IsAdded, AreAdded, AreVariantsAdded};
+ghost use Rattle.rustc_abi.specs.Count.{AreCounted, AreVariantsCounted, IsCounted};
 
 use crate::discriminants::discriminants;
 use crate::error::LayError;
@@ -30,6 +31,7 @@ pub(crate) fn lay_tree(
 ) -> Result<usize, LayError>
     requires { IsLawfulDataLayout dl.now }
     ensures ok { IfOk result (λ i. IsAdded dl.now nodes.old.items nodes.new.items i (tree_of tree.now)) }
+    ensures counted { IfOk result (λ i. IsCounted dl.now nodes.old.items nodes.new.items (tree_of tree.now)) }
     ensures err { IfErr result (IsRefused (IsLaying dl.now (tree_of tree.now))) }
 {
     match tree {
@@ -89,6 +91,7 @@ fn lay_each(
 ) -> Result<Vec<usize>, LayError>
     requires { IsLawfulDataLayout dl.now }
     ensures ok { IfOk result (λ children. AreAdded dl.now nodes.old.items nodes.new.items children.items (map tree_of fields.now)) }
+    ensures counted { IfOk result (λ children. AreCounted dl.now nodes.old.items nodes.new.items (trees (map tree_of fields.now))) }
     ensures err { IfErr result (IsRefused (AreLaying dl.now (trees (map tree_of fields.now)))) }
 {
     let mut children = Vec::new(alloc);
@@ -109,6 +112,7 @@ fn lay_variants(
 ) -> Result<Vec<Vec<usize>>, LayError>
     requires { IsLawfulDataLayout dl.now }
     ensures ok { IfOk result (λ children. AreVariantsAdded dl.now nodes.old.items nodes.new.items children.items (trees_of_variants all.now)) }
+    ensures counted { IfOk result (λ children. AreVariantsCounted dl.now nodes.old.items nodes.new.items (trees_of_variants all.now)) }
     ensures err { IfErr result (IsRefused (VariantsLaying dl.now (trees_of_variants all.now))) }
 {
     let mut children = Vec::with_capacity(alloc, all.len())?;

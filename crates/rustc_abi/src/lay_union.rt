@@ -1,6 +1,6 @@
 //! How unions are laid out, once their fields are.
 
-ghost use Rattle.std.specs.Prelude.{◌≡◌, ◌<◌, ◌≤◌, IfOk, IfErr, Ok, None, length, vec_len, All, map};
+ghost use Rattle.std.specs.Prelude.{◌≡◌, ◌<◌, ◌≤◌, IfOk, IfErr, Ok, None, length, vec_len, All, OnErr, map};
 ghost use Rattle.abi_base.specs.DataLayout.{IsLawfulDataLayout};
 ghost use Rattle.abi_scalar.specs.Lawful.{IsLawfulLayout};
 ghost use Rattle.abi_lists.specs.List.{HasLawfulAligns};
@@ -10,6 +10,7 @@ ghost use Rattle.rustc_abi.specs.Laying.{AreLaying, IsUnionOf, IsUnited, fields_
 ghost use Rattle.rustc_abi.specs.Error.{IsRefused};
 ghost use Rattle.abi_laid.specs.Well.{all_at};
 ghost use Rattle.rustc_abi.specs.Adding.{IsAdded, EachFits};
+ghost use Rattle.rustc_abi.specs.Count.{IsOwnPut};
 
 use crate::error::LayError;
 use crate::lay_fields::fields_fault;
@@ -59,7 +60,9 @@ fn add_faultless_union(
         (λ i. (ts : Trees) → AreLaying dl.now ts (Ok (all_at nodes.old.items children.items)) →
         EachFits dl.now ts (all_at nodes.old.items children.items) →
         IsAdded dl.now nodes.old.items nodes.new.items i (union repr.now ts)) }
+    ensures own { IfOk result (IsOwnPut nodes.old.items nodes.new.items) }
     ensures err { IfErr result (IsRefused (IsUnionOf dl.now repr.now (all_at nodes.old.items children.items))) }
+    ensures kept { OnErr result (nodes.new.items ≡ nodes.old.items) }
 {
     let layout = union_layout(alloc, dl, nodes, repr, &children)?;
     add(nodes, layout, Shape::Union(Mark::of(false, repr), children))
@@ -80,7 +83,9 @@ pub(crate) fn add_union(
         (λ i. (ts : Trees) → AreLaying dl.now ts (Ok (all_at nodes.old.items children.items)) →
         EachFits dl.now ts (all_at nodes.old.items children.items) →
         IsAdded dl.now nodes.old.items nodes.new.items i (union repr.now ts)) }
+    ensures own { IfOk result (IsOwnPut nodes.old.items nodes.new.items) }
     ensures err { IfErr result (IsRefused (IsUnionOf dl.now repr.now (all_at nodes.old.items children.items))) }
+    ensures kept { OnErr result (nodes.new.items ≡ nodes.old.items) }
 {
     match fields_fault(repr, &children) {
         Some(fault) => Err(fault),

@@ -11,6 +11,7 @@ ghost use Rattle.rustc_abi.specs.Laying.{IsLaying, vector_answer};
 ghost use Rattle.rustc_abi.specs.Error.{named};
 ghost use Rattle.abi_laid.specs.Fits.{Fits};
 ghost use Rattle.rustc_abi.specs.Adding.{IsAdded, IsRefusal};
+ghost use Rattle.rustc_abi.specs.Count.{IsOwnPut};
 
 use crate::error::LayError;
 use crate::lay_array::elements_layout;
@@ -63,6 +64,7 @@ pub(crate) fn add_vector(
         (λ i. (t : Tree) → IsLaying dl.now t (Ok (placed_at nodes.old.items element)) →
         Fits dl.now t (placed_at nodes.old.items element) →
         IsAdded dl.now nodes.old.items nodes.new.items i (vector lanes packed t)) }
+    ensures own { IfOk result (IsOwnPut nodes.old.items nodes.new.items) }
     ensures err { IfErr result (IsRefusal (vector_answer dl.now lanes packed (placed_at nodes.old.items element))) }
 {
     let layout = vector_layout(alloc, dl, nodes, lanes, packed, element)?;

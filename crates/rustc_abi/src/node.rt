@@ -1,6 +1,6 @@
 //! Nodes that are put behind others.
 
-ghost use Rattle.std.specs.Prelude.{◌≡◌, ◌<◌, ◌≤◌, All, IfErr, IfOk, length, map, true, vec_len};
+ghost use Rattle.std.specs.Prelude.{◌≡◌, ◌+◌, ◌<◌, ◌≤◌, All, IfErr, IfOk, OnErr, length, map, true, vec_len};
 ghost use Rattle.abi_laid.specs.Placed.{layout_of};
 ghost use Rattle.abi_laid.specs.Nodes.{types_in, meaning};
 ghost use Rattle.abi_laid.specs.Laws.{keeps_laws};
@@ -14,7 +14,7 @@ use abi_laid::{Node, Shape, layout_at};
 use abi_scalar::LayoutData;
 use std::alloc::{AllocError, Global};
 
-/// Puts a node behind the others.
+/// Puts a node behind the others. `OutOfMemory` where memory is refused: then they are as they were.
 pub(crate) fn add(
     nodes: &mut Vec<Node>,
     layout: LayoutData<FieldIdx, VariantIdx>,
@@ -24,7 +24,9 @@ pub(crate) fn add(
     requires laws { keeps_laws (types_in nodes.old.items) layout shape ≡ true }
     requires widths { has_width (types_in nodes.old.items) layout shape ≡ true }
     ensures ok { IfOk result (λ i. IsPut nodes.old.items nodes.new.items i (meaning (types_in nodes.old.items) layout shape)) }
+    ensures count { IfOk result (λ i. length nodes.new.items ≡ length nodes.old.items + 1) }
     ensures err { IfErr result (λ e. e ≡ LayError.OutOfMemory) }
+    ensures kept { OnErr result (nodes.new.items ≡ nodes.old.items) }
 {
     let node = nodes.len();
     nodes.push(Node { layout, shape })?;

@@ -83,7 +83,7 @@ fn held_by_several<FieldIdx: Idx, LocalIdx: Idx>(
 }
 
 /// Whether one state is the first that holds both locals, or no state holds either.
-#[tactic(auto, using(crate::proofs::CoroutineSteps::same_holder))]
+#[tactic(auto, using(crate::proofs::CoroutineLemmas::Steps::same_holder))]
 fn have_same_holder<LocalIdx: Idx>(holders: &[usize], a: LocalIdx, b: LocalIdx) -> bool
     requires first { LocalIdx.number a < length holders.now }
     requires second { LocalIdx.number b < length holders.now }
@@ -128,7 +128,7 @@ fn given_up<LocalIdx: Idx>(
 }
 
 /// Promotes one more local.
-#[tactic(auto, using(crate::proofs::CoroutineSteps::promoted_one))]
+#[tactic(auto, using(crate::proofs::CoroutineLemmas::Steps::promoted_one))]
 fn promote<LocalIdx: Idx>(local: LocalIdx, promoted: &mut DenseBitSet<LocalIdx>)
     requires { LocalIdx.number local < domain_size promoted.old }
     ensures { promoted.new ≡ promote (LocalIdx.number local) promoted.old }
@@ -137,7 +137,7 @@ fn promote<LocalIdx: Idx>(local: LocalIdx, promoted: &mut DenseBitSet<LocalIdx>)
 }
 
 /// Settles the conflict of a row's local with a column's: promotes one of them where that is needed.
-#[tactic(auto, using(crate::proofs::CoroutineSteps::promoted_size))]
+#[tactic(auto, using(crate::proofs::CoroutineLemmas::Steps::promoted_size))]
 fn settle<LocalIdx: Idx>(
     holders: &[usize],
     conflicts: &BitMatrix<LocalIdx, LocalIdx>,
@@ -232,7 +232,7 @@ fn used_count<FieldIdx: Idx, LocalIdx: Idx>(
 }
 
 /// Promotes all locals where fewer than two states hold another.
-#[tactic(auto, using(crate::proofs::CoroutineSteps::promoted_all))]
+#[tactic(auto, using(crate::proofs::CoroutineLemmas::Steps::promoted_all))]
 fn promote_if_few<FieldIdx: Idx, LocalIdx: Idx>(
     states: &[IndexVec<FieldIdx, LocalIdx>],
     promoted: &mut DenseBitSet<LocalIdx>,

@@ -177,10 +177,7 @@ fn niche_at<FieldIdx: Idx, VariantIdx: Idx>(
 ) -> Option<Niche>
     ensures { result ≡ niche_of_list (slice_get lists.now place) }
 {
-    match lists.get(place) {
-        Some(list) => list.largest_niche,
-        None => None,
-    }
+    lists.get(place)?.largest_niche
 }
 
 /// The layout with a niche, where there is one, of variants whose fields have these layouts as always sized lists.

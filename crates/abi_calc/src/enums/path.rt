@@ -69,7 +69,7 @@ fn is_present<FieldIdx: Idx, VariantIdx: Idx, F: LayoutHandle<FieldIdx, VariantI
 }
 
 /// The first variant that is present, from a place on.
-#[tactic(auto, using(crate::proofs::EnumPath::find_end))]
+#[tactic(auto, using(crate::proofs::EnumLemmas::Path::find_end))]
 fn present_from<FieldIdx: Idx, VariantIdx: Idx, F: LayoutHandle<FieldIdx, VariantIdx>>(
     repr: &ReprOptions,
     variants: &[IndexVec<FieldIdx, F>],

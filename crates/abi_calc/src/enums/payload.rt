@@ -288,7 +288,7 @@ fn beside_tag(
 }
 
 /// How a code generator sees a tagged enum of this size and alignment.
-#[tactic(auto, using(crate::proofs::EnumPayload::tag_known))]
+#[tactic(auto, using(crate::proofs::EnumLemmas::Payload::tag_known))]
 pub(crate) fn tagged_view<FieldIdx: Idx, VariantIdx: Idx, F: LayoutHandle<FieldIdx, VariantIdx>>(
     dl: &TargetDataLayout,
     tag: Scalar,

@@ -6,7 +6,9 @@ ghost use Rattle.abi_laid.specs.Nodes.{arms_in, encoding_of, own_fields, parts_a
 ghost use Rattle.abi_laid.specs.Well.{all_at, are_nodes};
 ghost use Rattle.abi_laid.specs.Tag.{IsSpanned, Names, NamesByNiche, NamesDirectly, niche_number};
 
-use crate::node::{Node, Shape, layout_at, offsets};
+use crate::node::{Shape, offsets};
+use crate::nodes::Nodes;
+use crate::read_one::{read_layout, read_one};
 use abi_base::Size;
 use abi_index::{FieldIdx, Idx, VariantIdx};
 use abi_scalar::{LayoutData, TagEncoding, Variants};
@@ -22,13 +24,13 @@ pub(crate) fn encoding_of(layout: &LayoutData<FieldIdx, VariantIdx>) -> TagEncod
 }
 
 /// The offsets and nodes of the fields of a variant, which has a node of its own.
-pub(crate) fn own_parts(nodes: &[Node], variant: usize) -> (&[Size], &[usize])
+pub(crate) fn own_parts(nodes: &Nodes, variant: usize) -> (&[Size], &[usize])
     requires there { variant < length nodes.now }
     requires well { are_nodes 0 nodes.now ≡ true }
     ensures parts { own_fields (placed_at nodes.now variant) ≡ parts_at result.0.now (all_at nodes.now result.1.now) }
     ensures before { All (λ child. child < variant) result.1.now }
 {
-    let here = &nodes[variant];
+    let here = read_one(nodes, variant);
     match &here.shape {
         Shape::Fields(_, children) => (offsets(&here.layout), children),
         _ => (&[], &[]),
@@ -36,14 +38,14 @@ pub(crate) fn own_parts(nodes: &[Node], variant: usize) -> (&[Size], &[usize])
 }
 
 /// Whether the layout of a field of the variant is flagged as having no value.
-fn is_flagged(nodes: &[Node], variant: usize) -> bool
+fn is_flagged(nodes: &Nodes, variant: usize) -> bool
     requires there { variant < length nodes.now }
     requires well { are_nodes 0 nodes.now ≡ true }
     ensures { result ≡ is_flagged (own_fields (placed_at nodes.now variant)) }
 {
     let (offsets, children) = own_parts(nodes, variant);
     for i in 0..children.len() {
-        if i < offsets.len() && layout_at(nodes, children[i]).uninhabited {
+        if i < offsets.len() && read_layout(nodes, children[i]).uninhabited {
             return true;
         }
     }
@@ -52,7 +54,7 @@ fn is_flagged(nodes: &[Node], variant: usize) -> bool
 
 /// Whether the number of a tag of this width names the variant directly.
 fn is_named_directly(
-    nodes: &[Node],
+    nodes: &Nodes,
     width: Size,
     variants: &[(u128, usize)],
     i: usize,
@@ -129,7 +131,7 @@ fn is_named_by_niche(
 
 /// Whether the number of a tag of this width names the variant with this index.
 pub(crate) fn is_named(
-    nodes: &[Node],
+    nodes: &Nodes,
     encoding: &TagEncoding<VariantIdx>,
     width: Size,
     variants: &[(u128, usize)],

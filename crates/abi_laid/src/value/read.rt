@@ -17,15 +17,15 @@ ghost use Rattle.abi_laid.specs.Well.{all_at};
 ghost use Rattle.abi_laid.specs.Room.{arms_have_room, has_room, have_room};
 ghost use Rattle.abi_laid.specs.Widths.{is_narrow};
 ghost use Rattle.abi_scalar.specs.Scalar.{IsNumberOf};
-ghost use Rattle.abi_laid.specs.Runs.{covers, Ascend};
+ghost use Rattle.abi_index.specs.RangeSet.{AreMaximalRuns, is_in_ranges};
 ghost use Rattle.abi_laid.specs.Laid.{endian_of, placed_of};
 ghost use Rattle.abi_laid.specs.declared.value.Value.{Num, List, Variant};
 ghost use Rattle.abi_laid.specs.Reading.{Finds, FindsEach, FindsNamed, FindsNumber, HoldsTwo, IsList, IsNamedIn, KeepsValues};
 
-use crate::data_runs::data_runs;
 use crate::laid::Laid;
-use crate::node::{Shape, layout_at, offsets, state_tag_offset, tag_offset};
-use crate::runs::Run;
+use crate::node::{Shape, offsets, state_tag_offset, tag_offset};
+use crate::read_one::{read_layout, read_one};
+use crate::runs_of::data_places;
 use crate::value::Value;
 use crate::value::named::{encoding_of, is_named, own_parts};
 use crate::value::number::{number_in, part_of};
@@ -64,7 +64,7 @@ fn read_number(walk: Walk<'_>, node: usize, bytes: &[u8]) -> Option<u128>
     ensures { FindsNumber (λ n. Holds walk.entry.order (placed_at walk.entry.nodes.now node) bytes.now (number n)) result }
 {
     let nodes = walk.nodes;
-    let here = &nodes[node];
+    let here = read_one(nodes, node);
     if bytes.len() as u64 != here.layout.size.bytes() {
         return None;
     }
@@ -80,7 +80,7 @@ fn read_number_at(walk: Walk<'_>, node: usize, offset: u64, bytes: &[u8]) -> Opt
     ensures { FindsNumber (λ n. IsAt offset (size_of (placed_at walk.entry.nodes.now node))
         (λ slice. Holds walk.entry.order (placed_at walk.entry.nodes.now node) slice (number n)) bytes.now) result }
 {
-    let part = part_of(bytes, offset, layout_at(walk.nodes, node).size.bytes())?;
+    let part = part_of(bytes, offset, read_layout(walk.nodes, node).size.bytes())?;
     read_number(walk, node, part)
 }
 
@@ -107,14 +107,14 @@ fn read_pair(
 }
 
 /// A union's data bytes, which are those of these runs.
-fn read_places(alloc: Global, runs: &[Run], bytes: &[u8]) -> Result<Vec<u8>, AllocError>
-    requires ascend { Ascend 0 runs.now }
-    requires inside { All (λ run. run.end ≤ length bytes.now) runs.now }
-    ensures { IfOk result (λ content. content.items ≡ picked (covers runs.now) 0 bytes.now) }
+fn read_places(alloc: Global, runs: &[(u64, u64)], bytes: &[u8]) -> Result<Vec<u8>, AllocError>
+    requires maximal { AreMaximalRuns 0 runs.now }
+    requires inside { All (λ run. run.0 + run.1 ≤ length bytes.now) runs.now }
+    ensures { IfOk result (λ content. content.items ≡ picked (is_in_ranges runs.now) 0 bytes.now) }
 {
     let mut content = Vec::new(alloc);
     for run in runs {
-        match part_of(bytes, run.start, run.end - run.start) {
+        match part_of(bytes, run.0, run.1) {
             Some(part) => content.extend_from_slice(part)?,
             None => return Ok(content),
         }
@@ -129,8 +129,8 @@ fn read_union(walk: Walk<'_>, node: usize, bytes: &[u8]) -> Result<Vec<u8>, Allo
     requires size { length bytes.now ≡ size_of (placed_at walk.nodes.now node) }
     ensures { IfOk result (λ content. content.items ≡ picked (is_data_place (placed_at walk.entry.nodes.now node)) 0 bytes.now) }
 {
-    let runs = data_runs(walk.alloc, walk.nodes, node)?;
-    read_places(walk.alloc, &runs, bytes)
+    let places = data_places(walk.alloc, walk.nodes, node)?;
+    read_places(walk.alloc, places.as_slice(), bytes)
 }
 
 /// A number as a value.
@@ -203,7 +203,7 @@ pub(crate) fn read_node(
     ensures { IfOk result (Finds (Holds walk.entry.order (placed_at walk.entry.nodes.now node) bytes.now)) }
 {
     let nodes = walk.nodes;
-    let here = &nodes[node];
+    let here = read_one(nodes, node);
     let layout = &here.layout;
     if bytes.len() as u64 != layout.size.bytes() {
         return Ok(None);
@@ -257,7 +257,7 @@ fn read_part(
     ensures { IfOk result (Finds (λ v. IsAt offset (size_of (placed_at walk.entry.nodes.now node))
         (λ slice. Holds walk.entry.order (placed_at walk.entry.nodes.now node) slice v) bytes.now)) }
 {
-    match part_of(bytes, offset, layout_at(walk.nodes, node).size.bytes()) {
+    match part_of(bytes, offset, read_layout(walk.nodes, node).size.bytes()) {
         Some(part) => read_node(walk, node, part),
         None => Ok(None),
     }
@@ -277,7 +277,7 @@ fn read_elements(
     ensures { IfOk result (FindsEach (λ vs. (value_count vs ≡ count) ×
         HoldEach (Holds walk.entry.order (placed_at walk.entry.nodes.now element)) (size_of (placed_at walk.entry.nodes.now element)) 0 bytes.now vs)) }
 {
-    let size = layout_at(walk.nodes, element).size.bytes();
+    let size = read_layout(walk.nodes, element).size.bytes();
     let mut values = Vec::with_capacity(walk.alloc, count as usize)?;
     for i in 0..count {
         match read_part(walk, element, i * size, bytes)? {
@@ -332,7 +332,7 @@ fn read_named(
     ensures { IfOk result (FindsNamed
         (IsNamedIn walk.entry.order bytes.now encoding.now offset (placed_at walk.entry.nodes.now tag) (arms_in (types_in walk.entry.nodes.now) variants.now))) }
 {
-    let width = layout_at(walk.nodes, tag).size;
+    let width = read_layout(walk.nodes, tag).size;
     match part_of(bytes, offset, width.bytes()) {
         Some(part) => {
             let number = number_in(walk.order, part);

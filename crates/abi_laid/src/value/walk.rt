@@ -2,9 +2,10 @@
 
 ghost use Rattle.std.specs.Prelude.{◌≡◌, [], true};
 ghost use Rattle.abi_laid.specs.Well.{are_nodes};
+ghost use Rattle.abi_laid.specs.Laws.{keep_laws};
 ghost use Rattle.abi_laid.specs.Widths.{have_widths};
 
-use crate::node::Node;
+use crate::nodes::Nodes;
 use abi_base::Endian;
 use std::alloc::Global;
 
@@ -13,7 +14,8 @@ use std::alloc::Global;
 pub(crate) struct Walk<'a> {
     pub(crate) alloc: Global,
     pub(crate) order: Endian,
-    pub(crate) nodes: &'a [Node],
+    pub(crate) nodes: &'a Nodes,
     pub(crate) ghost well: { are_nodes 0 nodes.now ≡ true },
+    pub(crate) ghost laws: { keep_laws [] nodes.now ≡ true },
     pub(crate) ghost widths: { have_widths [] nodes.now ≡ true },
 }

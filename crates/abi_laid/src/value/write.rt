@@ -17,15 +17,15 @@ ghost use Rattle.abi_laid.specs.Holding.{HoldEach, HoldParts, Holds, tag_at};
 ghost use Rattle.abi_laid.specs.Nodes.{arms_in, encoding_of, own_fields, parts_at, placed_at, states_in, tag_offset, types_in};
 ghost use Rattle.abi_laid.specs.Well.{all_at};
 ghost use Rattle.abi_laid.specs.Room.{arms_have_room, has_room, have_room};
-ghost use Rattle.abi_laid.specs.Runs.{covers, Ascend};
+ghost use Rattle.abi_index.specs.RangeSet.{AreMaximalRuns, is_in_ranges};
 ghost use Rattle.abi_laid.specs.Reading.{IsNamedIn, KeepsValues};
 ghost use Rattle.abi_laid.specs.Covering.{are_covered, each_covered, is_arm_covered, is_byte_at, is_covered, is_told};
 ghost use Rattle.abi_laid.specs.Writing.{IsPutOver};
 
-use crate::data_runs::data_runs;
 use crate::laid::Laid;
-use crate::node::{Shape, layout_at, offsets, state_tag_offset, tag_offset};
-use crate::runs::Run;
+use crate::node::{Shape, offsets, state_tag_offset, tag_offset};
+use crate::read_one::{read_layout, read_one};
+use crate::runs_of::data_places;
 use crate::value::Value;
 use crate::value::error::ValueError;
 use crate::value::named::{encoding_of, niche_number, own_parts};
@@ -64,17 +64,17 @@ fn put_number(order: Endian, number: u128, width: usize, at: usize, bytes: &mut 
 }
 
 /// Puts a union's data bytes over those at the runs' places, counted from a place on.
-fn put_places(runs: &[Run], content: &[u8], at: usize, size: usize, bytes: &mut [u8])
-    requires ascend { Ascend 0 runs.now }
-    requires inside { All (λ run. run.end ≤ size) runs.now }
+fn put_places(runs: &[(u64, u64)], content: &[u8], at: usize, size: usize, bytes: &mut [u8])
+    requires maximal { AreMaximalRuns 0 runs.now }
+    requires inside { All (λ run. run.0 + run.1 ≤ size) runs.now }
     requires fits { at + size ≤ length bytes.old }
     ensures long { length bytes.new ≡ length bytes.old }
-    ensures put { (b : List ℕ) → length b ≡ size → content.now ≡ picked (covers runs.now) 0 b →
-        IsPutOver (covers runs.now) at b bytes.old bytes.new }
+    ensures put { (b : List ℕ) → length b ≡ size → content.now ≡ picked (is_in_ranges runs.now) 0 b →
+        IsPutOver (is_in_ranges runs.now) at b bytes.old bytes.new }
 {
     let mut next = 0;
     for run in runs {
-        for k in run.start..run.end {
+        for k in run.0..run.0 + run.1 {
             if next < content.len() {
                 bytes[at + k as usize] = content[next];
                 next += 1;
@@ -171,9 +171,9 @@ fn write_union(
         content.now ≡ picked (is_data_place (placed_at walk.entry.nodes.now node)) 0 b →
         IsPutOver (is_data_place (placed_at walk.entry.nodes.now node)) at b bytes.old bytes.new) }
 {
-    let size = layout_at(walk.nodes, node).size.bytes() as usize;
-    let runs = data_runs(walk.alloc, walk.nodes, node)?;
-    put_places(&runs, content, at, size, bytes);
+    let size = read_layout(walk.nodes, node).size.bytes() as usize;
+    let places = data_places(walk.alloc, walk.nodes, node)?;
+    put_places(places.as_slice(), content, at, size, bytes);
     Ok(())
 }
 
@@ -194,7 +194,7 @@ pub(crate) fn write_node(
         IsPutOver (is_covered (placed_at walk.entry.nodes.now node) (value_of value.now)) at b bytes.old bytes.new) }
 {
     let nodes = walk.nodes;
-    let here = &nodes[node];
+    let here = read_one(nodes, node);
     let layout = &here.layout;
     match &here.shape {
         Shape::Scalar(_) => {
@@ -252,7 +252,7 @@ fn write_elements(
         IsPutOver (each_covered (is_covered (placed_at walk.entry.nodes.now element)) (size_of (placed_at walk.entry.nodes.now element)) 0 (values_of values.now)) at b
         bytes.old bytes.new) }
 {
-    let size = layout_at(walk.nodes, element).size.bytes() as usize;
+    let size = read_layout(walk.nodes, element).size.bytes() as usize;
     for i in 0..values.len().min(count as usize) {
         write_node(walk, element, &values[i], at + i * size, bytes)?;
     }
@@ -412,7 +412,7 @@ fn write_arm(
         return Ok(());
     }
     let order = walk.order;
-    let width = layout_at(walk.nodes, tag).size;
+    let width = read_layout(walk.nodes, tag).size;
     write_tag(order, encoding, width, variants, index, offset, at, bytes);
     write_own(walk, variants[index].1, values, at, size, bytes)
 }
@@ -478,7 +478,7 @@ pub fn write_value(alloc: Global, laid: &Laid, value: &Value) -> Result<Vec<u8>,
         order,
         nodes,
     };
-    let size = layout_at(nodes, root).size.bytes() as usize;
+    let size = read_layout(nodes, root).size.bytes() as usize;
     let mut bytes = vec![in alloc; 0u8; size]?;
     write_node(walk, root, value, 0, &mut bytes)?;
     if holds(walk, root, value, &bytes)? {

@@ -67,13 +67,7 @@ fn plain() -> StructRepr
 fn alignment_after(word: &[u8], name: &[u8]) -> Option<Align>
     ensures { result ≡ alignment_after name.now word.now }
 {
-    match decimal(word.strip_prefix(name)?) {
-        Some(bytes) => match Align::from_bytes(bytes) {
-            Ok(align) => Some(align),
-            Err(_) => None,
-        },
-        None => None,
-    }
+    Align::from_bytes(decimal(word.strip_prefix(name)?)?).ok()
 }
 
 /// The integer type of this name.
@@ -86,10 +80,8 @@ fn integer_type_named(word: &[u8]) -> Option<IntegerType>
     if word == b"isize".as_slice() {
         return Some(IntegerType::Pointer(true));
     }
-    match integer_named(word) {
-        Some((integer, signed)) => Some(IntegerType::Fixed(integer, signed)),
-        None => None,
-    }
+    let (integer, signed) = integer_named(word)?;
+    Some(IntegerType::Fixed(integer, signed))
 }
 
 /// What a part of a repr with a value asks for.
@@ -102,10 +94,7 @@ fn valued_part(part: &[u8]) -> Option<ReprPart>
     if let Some(align) = alignment_after(part, b"packed=") {
         return Some(ReprPart::Packed(align));
     }
-    match alignment_after(part, b"align=") {
-        Some(align) => Some(ReprPart::Align(align)),
-        None => None,
-    }
+    Some(ReprPart::Align(alignment_after(part, b"align=")?))
 }
 
 /// What a part of a repr asks for. None for what is no word of a repr.
@@ -263,14 +252,10 @@ pub fn struct_repr(word: &[u8]) -> Option<StructRepr>
 pub(crate) fn union_repr(word: &[u8]) -> Option<ReprOptions>
     ensures { result ≡ union_repr word.now }
 {
-    match struct_repr(word) {
-        Some(asked) => {
-            if asked.always_sized {
-                Some(asked.repr)
-            } else {
-                None
-            }
-        }
-        None => None,
+    let asked = struct_repr(word)?;
+    if asked.always_sized {
+        Some(asked.repr)
+    } else {
+        None
     }
 }

@@ -87,19 +87,14 @@ fn float_named(word: &[u8]) -> Option<Float>
 fn integer_word(word: &[u8]) -> Option<ScalarWord>
     ensures { result ≡ integer_word word.now }
 {
-    match integer_named(word) {
-        Some((integer, signed)) => Some(ScalarWord::Integer(integer, signed)),
-        None => None,
-    }
+    let (integer, signed) = integer_named(word)?;
+    Some(ScalarWord::Integer(integer, signed))
 }
 
 fn float_word(word: &[u8]) -> Option<ScalarWord>
     ensures { result ≡ float_word word.now }
 {
-    match float_named(word) {
-        Some(float) => Some(ScalarWord::Float(float)),
-        None => None,
-    }
+    Some(ScalarWord::Float(float_named(word)?))
 }
 
 /// A word that is no integer's and no float's name.

@@ -1,29 +1,13 @@
--- Runs of bytes that a walk collects, each a pair of its first byte and of how many bytes it has.
-use Rattle.std.specs.Prelude.{◌≡◌, ℕ, ◌+◌, ◌-◌, ◌/◌, ◌%◌, ◌^◌, ◌<◌, ◌&&◌, ◌||◌, Bool, All, List, ⊤, length, nat_le, nat_lt}
+-- What a walk collects of fields and elements, and which variants there are.
+use Rattle.std.specs.Prelude.{◌≡◌, ℕ, ◌<◌, Bool, List, [], ⊤, get_or, length}
 use Rattle.std.specs.List.{list_any, range_with_len}
 use Rattle.abi_index.specs.RangeSet.{is_in_ranges}
+use Rattle.abi_index.specs.Runs.{moved, repeated}
 use Rattle.abi_scalar.specs.declared.variants.Variants.{Variants}
 use Rattle.abi_scalar.specs.declared.variants.Variants.TheVariants.{Multiple}
 use Rattle.abi_scalar.specs.Shape.{field_offset}
 use Rattle.abi_types.specs.Ty.Typed.{Typed, field_in, layout_in}
-use Rattle.abi_types.specs.Ty.Places.{covers_element, is_place}
-
--- each run ends where 64 bits can tell it
-abbrev pub HaveEnds : List (ℕ × ℕ) → Type 0
-HaveEnds runs = All (λ run. run.0 + run.1 < 2 ^ 64) runs
-
--- what is covered where that which covers lies at an offset
-abbrev pub moved : (offset : ℕ) → (covers : ℕ → Bool) → (k : ℕ) → Bool
-moved offset covers k = nat_le offset k && covers (k - offset)
-
--- what is covered by one of so many parts, each so many bytes after the one before; a part reaches no further than to the next
-abbrev pub repeated : (stride count : ℕ) → (covers : ℕ → Bool) → (k : ℕ) → Bool
-repeated stride count covers k = nat_lt (k / stride) count && covers (k % stride)
-
--- the new runs cover what the old ones do, and these bytes too
-pub record Adds (old new : List (ℕ × ℕ)) (covers : ℕ → Bool) : Type 0 where
-  pub bytes : (k : ℕ) → is_in_ranges new k ≡ (is_in_ranges old k || covers k)
-  pub ends : HaveEnds old → HaveEnds new
+use Rattle.abi_types.specs.Ty.Places.{covers_element, is_place, is_unused}
 
 -- byte k is covered by one of the first n fields, at its offset
 abbrev pub first_cover : Typed → (n k : ℕ) → Bool
@@ -37,3 +21,22 @@ elements_cover element stride count k = repeated stride count (covers_element (l
 abbrev pub IsVariantIndex : Variants ℕ ℕ → (index : ℕ) → Type 0
 IsVariantIndex (Multiple tag encoding at layouts) i = i < length layouts
 IsVariantIndex _ i = ⊤
+
+-- the index is that of one of several variants that a tag tells apart
+abbrev pub IsBeside : Variants ℕ ℕ → (index : ℕ) → Type 0
+IsBeside (Multiple tag encoding at layouts) i = i < length layouts
+IsBeside _ i = ⊥
+
+-- how many variants a tag tells apart
+abbrev pub variant_count : Variants ℕ ℕ → ℕ
+variant_count (Multiple tag encoding at layouts) = length layouts
+variant_count _ = 0
+
+-- a set for each of the first n variants that a tag tells apart: the bytes that this variant leaves unused
+abbrev pub AreUnusedOf : Typed → (n : ℕ) → List (List (ℕ × ℕ)) → Type 0
+AreUnusedOf t n sets =
+    (length sets ≡ n) × ((v k : ℕ) → v < n → is_in_ranges (get_or sets v []) k ≡ is_unused t v k)
+
+-- a set for each variant that a tag tells apart
+abbrev pub AreUnused : Typed → List (List (ℕ × ℕ)) → Type 0
+AreUnused t sets = AreUnusedOf t (variant_count (layout_in t).variants) sets

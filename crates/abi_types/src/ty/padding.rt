@@ -1,17 +1,17 @@
 //! The padding of a type: the bytes that no part of it covers, in any variant or in one.
 
-ghost use Rattle.std.specs.Prelude.{◌≡◌, ℕ, ◌<◌, ◌^◌, IfOk, true};
+ghost use Rattle.std.specs.Prelude.{◌≡◌, ℕ, ◌+◌, ◌<◌, ◌≤◌, ◌^◌, ◌&&◌, IfOk, not, true};
+ghost use Rattle.abi_index.specs.Idx.{greatest_place};
 ghost use Rattle.abi_index.specs.RangeSet.{is_in_ranges};
 ghost use Rattle.abi_types.specs.Ty.Typed.{layout_in};
 ghost use Rattle.abi_types.specs.Ty.Walks.{is_sized};
-ghost use Rattle.abi_types.specs.Ty.Places.{is_padding, is_unused};
-ghost use Rattle.abi_types.specs.Ty.Runs.{IsVariantIndex};
+ghost use Rattle.abi_types.specs.Ty.Places.{is_padding, is_place, is_shared_place, is_unused};
+ghost use Rattle.abi_types.specs.Ty.Runs.{AreUnused, AreUnusedOf, IsBeside, IsVariantIndex};
 
 use crate::ty::interface::{TyAbiInterface, TyAndLayout};
-use crate::ty::places::{places_of, put_fields, put_places};
-use crate::ty::runs::set_of;
+use crate::ty::places::{places_of, put_fields};
 use crate::ty::walk::{At, Walk};
-use abi_index::{RangeSet, VariantIdx};
+use abi_index::{IndexVec, RangeSet, RangeSetBuilder, VariantIdx};
 use abi_scalar::Variants;
 use std::alloc::{AllocError, Global};
 
@@ -24,6 +24,37 @@ fn padding<W: Walk>(alloc: Global, this: W) -> Result<RangeSet, AllocError>
     whole.add_range(0, this.layout().size.bytes())?;
     let places = places_of(alloc, this)?;
     whole.difference(alloc, &places)
+}
+
+/// The bytes that some part covers, and no field that all variants have.
+fn beside_shared<W: Walk>(alloc: Global, this: W) -> Result<RangeSet, AllocError>
+    requires { W.is_valid this }
+    ensures { IfOk result (λ set. (k : ℕ) → is_in_ranges set k ≡ (is_place (W.typed_of this) k && not (is_shared_place (W.typed_of this) k))) }
+{
+    // It is a number of 64 bits, which the walks ask for.
+    let _size = this.layout().size.bytes();
+    let any = places_of(alloc, this)?;
+    let mut runs = RangeSetBuilder::new(alloc);
+    put_fields(alloc, this, 0, &mut runs)?;
+    let shared = runs.build(alloc)?;
+    any.difference(alloc, &shared)
+}
+
+/// Those of the bytes beside the shared ones that this variant, one of several, doesn't cover.
+fn unused_of<W: Walk>(
+    alloc: Global,
+    this: W,
+    variant: VariantIdx,
+    beside: &RangeSet,
+) -> Result<RangeSet, AllocError>
+    requires valid { W.is_valid this }
+    requires variant { IsBeside (layout_in (W.typed_of this)).variants variant }
+    requires beside { (k : ℕ) → is_in_ranges beside.now k ≡ (is_place (W.typed_of this) k && not (is_shared_place (W.typed_of this) k)) }
+    ensures { IfOk result (λ set. (k : ℕ) → is_in_ranges set k ≡ is_unused (W.typed_of this) variant k) }
+{
+    let _size = this.layout().size.bytes();
+    let own = places_of(alloc, this.variant(variant))?;
+    beside.difference(alloc, &own)
 }
 
 /// The bytes that some variant covers, and neither this one nor a field that all of them have.
@@ -39,16 +70,48 @@ fn unused<W: Walk>(alloc: Global, this: W, variant: VariantIdx) -> Result<RangeS
             tag_field: _,
             variants: _,
         } => {
-            // It is a number of 64 bits, which the walks ask for.
-            let _size = this.layout().size.bytes();
-            let any = places_of(alloc, this)?;
-            let mut runs = Vec::new(alloc);
-            put_fields(alloc, this, 0, &mut runs)?;
-            put_places(alloc, this.variant(variant), 0, &mut runs)?;
-            let own = set_of(alloc, runs)?;
-            any.difference(alloc, &own)
+            let beside = beside_shared(alloc, this)?;
+            unused_of(alloc, this, variant, &beside)
         }
         _ => Ok(RangeSet::new(alloc)),
+    }
+}
+
+/// Of each of the first variants, so many, the bytes that some variant covers, and neither this one nor a field that all of them have.
+fn unused_of_each<W: Walk>(
+    alloc: Global,
+    this: W,
+    count: usize,
+) -> Result<IndexVec<VariantIdx, RangeSet>, AllocError>
+    requires valid { W.is_valid this }
+    requires several { (v : ℕ) → v < count → IsBeside (layout_in (W.typed_of this)).variants v }
+    requires few { count ≤ greatest_place + 1 }
+    ensures { IfOk result (λ sets. AreUnusedOf (W.typed_of this) count sets) }
+{
+    let beside = beside_shared(alloc, this)?;
+    let mut sets = Vec::with_capacity(alloc, count)?;
+    for v in 0..count {
+        sets.push(unused_of(alloc, this, VariantIdx::from_usize(v), &beside)?)?;
+    }
+    Ok(IndexVec::from_raw(sets))
+}
+
+/// Of each variant that a tag tells apart the bytes that it leaves unused.
+fn each_unused<W: Walk>(
+    alloc: Global,
+    this: W,
+) -> Result<IndexVec<VariantIdx, RangeSet>, AllocError>
+    requires { W.is_valid this }
+    ensures { IfOk result (λ sets. AreUnused (W.typed_of this) sets) }
+{
+    match &this.layout().variants {
+        Variants::Multiple {
+            tag: _,
+            tag_encoding: _,
+            tag_field: _,
+            variants,
+        } => unused_of_each(alloc, this, variants.len()),
+        _ => Ok(IndexVec::new(alloc)),
     }
 }
 
@@ -99,6 +162,28 @@ impl<'a, Ty> TyAndLayout<'a, Ty> {
                 cx,
             },
             variant_index,
+        )
+    }
+
+    /// What `variant_dependent_padding_ranges` answers, of each variant that a tag tells apart, in one walk over the type; none where no
+    /// tag does. `AllocError` where memory is refused.
+    pub fn each_variant_dependent_padding_ranges<C>(
+        &self,
+        alloc: Global,
+        cx: &C,
+    ) -> Result<IndexVec<VariantIdx, RangeSet>, AllocError>
+    where
+        Ty: TyAbiInterface<'a, C> + Copy,
+        requires { Ty.is_valid self.now }
+        ensures { IfOk result (λ sets. AreUnused (Ty.typed_of self.now) sets) }
+    {
+        each_unused(
+            alloc,
+            At {
+                ty: self.ty,
+                layout: self.layout,
+                cx,
+            },
         )
     }
 }

@@ -5,12 +5,12 @@ ghost use Rattle.abi_index.specs.RangeSet.{is_in_ranges};
 ghost use Rattle.abi_scalar.specs.Shape.{field_count};
 ghost use Rattle.abi_types.specs.Ty.Typed.{layout_in, variant_in};
 ghost use Rattle.abi_types.specs.Ty.Places.{covers_element, is_place, is_shared_place, variants_cover};
-ghost use Rattle.abi_types.specs.Ty.Runs.{Adds, elements_cover, first_cover, moved};
+ghost use Rattle.abi_index.specs.Runs.{Adds, moved};
+ghost use Rattle.abi_types.specs.Ty.Runs.{elements_cover, first_cover};
 
-use crate::ty::runs::{cut, put_repeated, put_run, put_runs, set_of};
 use crate::ty::walk::Walk;
 use abi_base::Size;
-use abi_index::{RangeSet, VariantIdx};
+use abi_index::{RangeSet, RangeSetBuilder, VariantIdx};
 use abi_scalar::{FieldsShape, Variants};
 use std::alloc::{AllocError, Global};
 
@@ -20,11 +20,11 @@ pub(crate) fn put_places<W: Walk>(
     alloc: Global,
     this: W,
     offset: u64,
-    all: &mut Vec<(u64, u64)>,
+    all: &mut RangeSetBuilder,
 ) -> Result<(), AllocError>
     requires valid { W.is_valid this }
     requires fits { offset + (layout_in (W.typed_of this)).size < 2 ^ 64 }
-    ensures { OnOk result (Adds all.old.items all.new.items (moved offset (is_place (W.typed_of this)))) }
+    ensures { OnOk result (Adds all.old all.new (moved offset (is_place (W.typed_of this)))) }
 {
     // A type of no bytes has no data places, however many fields it has.
     if this.layout().size == Size::ZERO {
@@ -40,14 +40,14 @@ pub(crate) fn put_fields<W: Walk>(
     alloc: Global,
     this: W,
     offset: u64,
-    all: &mut Vec<(u64, u64)>,
+    all: &mut RangeSetBuilder,
 ) -> Result<(), AllocError>
     requires valid { W.is_valid this }
     requires fits { offset + (layout_in (W.typed_of this)).size < 2 ^ 64 }
-    ensures { OnOk result (Adds all.old.items all.new.items (moved offset (is_shared_place (W.typed_of this)))) }
+    ensures { OnOk result (Adds all.old all.new (moved offset (is_shared_place (W.typed_of this)))) }
 {
     match &this.layout().fields {
-        FieldsShape::Primitive => put_run(all, offset, this.layout().size.bytes()),
+        FieldsShape::Primitive => all.add_range(offset, this.layout().size.bytes()),
         FieldsShape::Union(count) => put_listed(alloc, this, count.get(), offset, all),
         FieldsShape::Array { stride, count } => {
             if *count == 0 {
@@ -69,12 +69,12 @@ fn put_listed<W: Walk>(
     this: W,
     count: usize,
     offset: u64,
-    all: &mut Vec<(u64, u64)>,
+    all: &mut RangeSetBuilder,
 ) -> Result<(), AllocError>
     requires valid { W.is_valid this }
     requires within { count ≤ field_count (layout_in (W.typed_of this)).fields }
     requires fits { offset + (layout_in (W.typed_of this)).size < 2 ^ 64 }
-    ensures { OnOk result (Adds all.old.items all.new.items (moved offset (first_cover (W.typed_of this) count))) }
+    ensures { OnOk result (Adds all.old all.new (moved offset (first_cover (W.typed_of this) count))) }
 {
     for i in 0..count {
         let place = offset + this.layout().fields.offset(i).bytes();
@@ -92,20 +92,19 @@ fn put_elements<W: Walk>(
     stride: u64,
     count: u64,
     offset: u64,
-    all: &mut Vec<(u64, u64)>,
+    all: &mut RangeSetBuilder,
 ) -> Result<(), AllocError>
     requires valid { W.is_valid element }
     requires some { 0 < count }
     requires fits { offset + stride * (count - 1) + (layout_in (W.typed_of element)).size < 2 ^ 64 }
-    ensures { OnOk result (Adds all.old.items all.new.items (moved offset (elements_cover (W.typed_of element) stride count))) }
+    ensures { OnOk result (Adds all.old all.new (moved offset (elements_cover (W.typed_of element) stride count))) }
 {
-    let size = element.layout().size.bytes();
     let one = element_places(alloc, element)?;
     if stride == 0 {
-        return put_runs(all, one.as_slice(), offset);
+        return all.add_set(&one, offset);
     }
-    let below = cut(alloc, one, stride, size)?;
-    put_repeated(all, below.as_slice(), stride, count, offset)
+    let below = one.before(alloc, stride)?;
+    all.add_repeated(&below, stride, count, offset)
 }
 
 /// The bytes that an element of an array covers: all where it is one scalar.
@@ -130,9 +129,9 @@ pub(crate) fn places_of<W: Walk>(alloc: Global, this: W) -> Result<RangeSet, All
     requires fits { (layout_in (W.typed_of this)).size < 2 ^ 64 }
     ensures { IfOk result (λ set. (k : ℕ) → is_in_ranges set k ≡ is_place (W.typed_of this) k) }
 {
-    let mut runs = Vec::new(alloc);
+    let mut runs = RangeSetBuilder::new(alloc);
     put_places(alloc, this, 0, &mut runs)?;
-    set_of(alloc, runs)
+    runs.build(alloc)
 }
 
 /// Puts the runs of what the variants cover that a tag tells apart behind the others, moved on by an offset.
@@ -142,11 +141,11 @@ fn put_variants<W: Walk>(
     alloc: Global,
     this: W,
     offset: u64,
-    all: &mut Vec<(u64, u64)>,
+    all: &mut RangeSetBuilder,
 ) -> Result<(), AllocError>
     requires valid { W.is_valid this }
     requires fits { offset + (layout_in (W.typed_of this)).size < 2 ^ 64 }
-    ensures { OnOk result (Adds all.old.items all.new.items
+    ensures { OnOk result (Adds all.old all.new
         (moved offset (variants_cover (layout_in (W.typed_of this)).variants (λ v. is_place (variant_in (W.typed_of this) v))))) }
 {
     match &this.layout().variants {

@@ -5,6 +5,7 @@ ghost use Rattle.abi_base.specs.DataLayout.{IsLawfulDataLayout};
 ghost use Rattle.abi_base.specs.Primitive.{KnowsPrimitive};
 
 use crate::line::{Line, named};
+use crate::numbers::sizes::small;
 use crate::print::write_align;
 use crate::stop::{Clause, Stop, calculator};
 use abi_base::{Float, Integer, NumScalableVectors, Numeric, Primitive, Size, TargetDataLayout};
@@ -117,9 +118,9 @@ fn call_to_find(
         Some(FindCall::ApproximateAlign) => {
             write_name(out, Some(Integer::approximate_align(dl, line.align()?)))?
         }
-        Some(FindCall::IntegerFromSize) => match Integer::from_size(Size::from_bytes(u64::from(
-            line.short()?,
-        ))) {
+        Some(FindCall::IntegerFromSize) => match Integer::from_size(Size::from_bytes(small(
+            line,
+        )?)) {
             Ok(integer) => write_name(out, Some(integer))?,
             Err(error) => write!(out, "refused {error}")?,
         },

@@ -6,6 +6,8 @@ ghost use Rattle.abi_base.specs.DataLayout.{IsLawfulDataLayout};
 use crate::line::{Line, named};
 use crate::stop::{Clause, Stop};
 use abi_base::{Size, TargetDataLayout};
+use abi_index::FieldIdx;
+use abi_scalar::FieldsShape;
 use std::alloc::AllocError;
 
 /// The width of a number, in bytes: 1 to 16.
@@ -32,7 +34,7 @@ fn width_or_none(line: &mut Line<'_>) -> Result<Size, Stop>
 }
 
 /// A size in bytes that is no number of bits beyond 64 bits.
-fn small(line: &mut Line<'_>) -> Result<u64, Stop>
+pub(crate) fn small(line: &mut Line<'_>) -> Result<u64, Stop>
     ensures { IfOk result (λ bytes. bytes ≤ 2_305_843_009_213_693_951) }
 {
     let bytes = line.number()?;
@@ -128,6 +130,20 @@ fn call_on_two(name: &[u8], line: &mut Line<'_>, out: &mut String) -> Result<boo
     Ok(true)
 }
 
+/// `element-offset STRIDE COUNT INDEX`: where an element of an array begins
+fn element_offset(line: &mut Line<'_>) -> Result<Size, Stop> {
+    let (stride, count, index) = (line.number()?, line.number()?, line.number()?);
+    if index >= count {
+        return Err(Stop::Asks(Clause::Within));
+    }
+    if stride.checked_mul(index).is_none() {
+        return Err(Stop::Asks(Clause::Fits));
+    }
+    let stride = Size::from_bytes(stride);
+    let shape: FieldsShape<FieldIdx> = FieldsShape::Array { stride, count };
+    Ok(shape.offset(index as usize))
+}
+
 /// Calls on sizes.
 #[derive(Clone, Copy)]
 enum SizeCall {
@@ -135,13 +151,15 @@ enum SizeCall {
     SizeBits,
     CheckedAdd,
     CheckedMul,
+    ElementOffset,
 }
 
-const SIZE_CALLS: [(&[u8], SizeCall); 4] = [
+const SIZE_CALLS: [(&[u8], SizeCall); 5] = [
     (b"size-from-bits", SizeCall::SizeFromBits),
     (b"size-bits", SizeCall::SizeBits),
     (b"checked-add", SizeCall::CheckedAdd),
     (b"checked-mul", SizeCall::CheckedMul),
+    (b"element-offset", SizeCall::ElementOffset),
 ];
 
 /// Answers a call of this name; whether there is one.
@@ -167,6 +185,7 @@ pub(crate) fn call(
             let size = Size::from_bytes(line.number()?);
             write_size(out, size.checked_mul(line.number()?, dl))?
         }
+        Some(SizeCall::ElementOffset) => write_size(out, Some(element_offset(line)?))?,
         None => return Ok(call_on_two(name, line, out)? || call_on_width(name, line, out)?),
     }
     Ok(true)

@@ -7,9 +7,9 @@ use Rattle.abi_laid.proofs.handle.handle_at.Goals as goal
 
 pub returns-clause-valid : goal.returns-clause-valid
 returns-clause-valid c =
-    let ns : List Node = c.args.laid.now.nodes.items in
+    let ns : List Node = c.args.laid.now.nodes in
     record {
       there = c.requires;
-      layout = layout-placed ns c.args.node c.requires ∙ sym (c.layout_at.ensures ∙ ap (λ ns. layout_of (placed_at ns c.args.node)) c.nodes.ensures.same);
+      layout = layout-placed ns c.args.node c.requires ∙ sym (c.read_layout.ensures ∙ ap (λ ns. layout_of (placed_at ns c.args.node)) c.nodes.ensures.same);
       lawful = lawful_at ns c.args.laid.now.earlier c.args.laid.now.laws c.args.node c.requires;
     }

@@ -3,9 +3,6 @@ use Rattle.std.specs.Prelude.{codes, if◌then◌else◌}
 use Rattle.std.proofs.lemmas.Bool.{le-ltb}
 use Rattle.std.proofs.lemmas.Result.{on_ok_weaker}
 use Rattle.abi_index.specs.RangeSet.{is_in_ranges}
-use Rattle.abi_types.specs.Ty.Places.{is_place}
-use Rattle.abi_types.specs.Ty.Typed.{Typed, layout_in}
-use Rattle.abi_laid.specs.Handles.{tree_type}
 use Rattle.abi_laid.specs.Laid.{placed_of}
 use Rattle.abi_laid.specs.Placed.{Placed, size_of}
 use Rattle.abi_laid.specs.Runs.{padding_of}
@@ -16,12 +13,9 @@ use Rattle.abi_text.proofs.print.write_padding.Goals as goal
 pub returns : goal.returns
 returns c =
     let placed : Placed = placed_of c.args.laid.now in
-    let t : Typed = tree_type c.root.result in
     let runs : List (ℕ × ℕ) = c.as_slice.result.now in
-    let size : (layout_in t).size ≡ size_of placed = ap (λ l. l.size) (c.root.ensures.valid.layout ∙ c.root.ensures.layout) in
     let listed : runs ≡ padding_of placed =
-    padding_listed t placed runs size (λ k. ap (λ s. is_place s k) c.root.ensures.told ∙ c.requires.places k) c.as_slice.ensures.maximal
-    (λ k. ap (λ rs. is_in_ranges rs k) c.as_slice.ensures.runs ∙ c.in_ok-bytes.ensures k) in
+    padding_listed placed runs c.as_slice.ensures.maximal (λ k. ap (λ rs. is_in_ranges rs k) c.as_slice.ensures.runs ∙ c.in_ok-bytes.ensures.ranges k) in
     let few : size_of placed ≤ 65536 = omega (arith, c.if-bytes-gt-MOST_LISTED.false, c.bytes.ensures, ap (λ l. l.size) c.layout.ensures) in
     let lines : range_lines (codes "padding") runs ≡ padding_lines placed =
     ap (range_lines (codes "padding")) listed

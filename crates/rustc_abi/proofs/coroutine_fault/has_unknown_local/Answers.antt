@@ -1,7 +1,7 @@
 use Rattle.std.proofs.Common.{◌∙◌, ap, sym}
 use Rattle.std.specs.Prelude.{nat_le}
 use Rattle.std.specs.List.{list_any}
-use Rattle.rustc_abi.proofs.LongLemmas.{any_items}
+use Rattle.rustc_abi.proofs.Faults.LongLemmas.{any_items}
 use Rattle.rustc_abi.proofs.coroutine_fault.has_unknown_local.Goals as goal
 
 pub returns-then-is_some_unknown : goal.returns-then-is_some_unknown

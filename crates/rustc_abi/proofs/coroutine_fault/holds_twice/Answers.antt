@@ -1,6 +1,6 @@
 use Rattle.std.proofs.Common.{◌∙◌, ap, sym}
 use Rattle.rustc_abi.specs.Enums.{has_equal}
-use Rattle.rustc_abi.proofs.LongLemmas.{any_items}
+use Rattle.rustc_abi.proofs.Faults.LongLemmas.{any_items}
 use Rattle.rustc_abi.proofs.coroutine_fault.holds_twice.Goals as goal
 
 pub returns-then-branch : goal.returns-then-branch

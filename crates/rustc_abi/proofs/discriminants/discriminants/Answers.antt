@@ -1,5 +1,5 @@
 use Rattle.std.proofs.Common.{◌∷◌, [], ◌++◌, sym, ap, ◌∙◌}
-use Rattle.rustc_abi.proofs.DiscriminantLemmas.{discriminants_more}
+use Rattle.rustc_abi.proofs.Enums.DiscriminantLemmas.{discriminants_more}
 use Rattle.rustc_abi.proofs.discriminants.discriminants.Goals as goal
 
 pub loop-variant-preserved : goal.loop-variant-preserved

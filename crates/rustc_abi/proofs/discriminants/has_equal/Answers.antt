@@ -1,7 +1,7 @@
 use Rattle.std.proofs.Common.{◌-◌, arith, sym, ◌∙◌}
 use Rattle.std.proofs.lemmas.List.{get_or_read}
 use Rattle.std.proofs.lemmas.List.Sorted.{IsNonDecreasingBy-from_sort}
-use Rattle.rustc_abi.proofs.DiscriminantLemmas.{sorted_differ, some_equal}
+use Rattle.rustc_abi.proofs.Enums.DiscriminantLemmas.{sorted_differ, some_equal}
 use Rattle.rustc_abi.proofs.discriminants.has_equal.Goals as goal
 
 pub returns-then-index : goal.returns-then-index

@@ -1,5 +1,5 @@
 use Rattle.std.proofs.Common.{◌∷◌, [], ◌++◌, get_or, refl, sym, ap, ◌∙◌}
-use Rattle.rustc_abi.proofs.DiscriminantLemmas.{numbered_more}
+use Rattle.rustc_abi.proofs.Enums.DiscriminantLemmas.{numbered_more}
 use Rattle.rustc_abi.proofs.discriminants.numbered.Goals as goal
 
 pub loop-at-preserved : goal.loop-at-preserved

@@ -1,18 +1,20 @@
+use Rattle.std.proofs.Common.{◌≡◌, ap, arith, length, subst}
 use Rattle.abi_laid.specs.Tree.{tree_of}
 use Rattle.rustc_abi.specs.Clash.{AreClashingApart, HaveOneOffset}
-use Rattle.abi_laid.specs.Laid.{typed_of}
+use Rattle.rustc_abi.specs.Count.{HasNodes}
+use Rattle.abi_laid.specs.Laid.{node_count_of, typed_of}
 use Rattle.rustc_abi.specs.Least.{HasOverlapSize, IsLeast}
 use Rattle.rustc_abi.specs.Lists.{HasLeastLists}
-use Rattle.rustc_abi.proofs.ClashLemmas.{laid_clash, laid_one_offset}
-use Rattle.rustc_abi.proofs.EachListLemmas.{laid_lists}
-use Rattle.rustc_abi.proofs.EverywhereLemmas.{everywhere}
-use Rattle.rustc_abi.proofs.LaidLemmas.{laid_sized}
-use Rattle.rustc_abi.proofs.LayLemmas.{begins_root, common_root, faithful_root, laid_root, lawful_root, untagged_root}
-use Rattle.rustc_abi.proofs.LeastLemmas.{laid_least, laid_overlap, never_large, passed_as, told_large, told_overflow}
-use Rattle.rustc_abi.proofs.ListLemmas.{passed_on}
-use Rattle.rustc_abi.proofs.OneAnswer.{one_answer}
-use Rattle.rustc_abi.proofs.SeenPlacesLemmas.{laid_told, seen_root}
-use Rattle.rustc_abi.proofs.SomeAnswer.{some_answer}
+use Rattle.rustc_abi.proofs.Coroutines.ClashLemmas.{laid_clash, laid_one_offset}
+use Rattle.rustc_abi.proofs.Sizes.EachListLemmas.{laid_lists}
+use Rattle.rustc_abi.proofs.Trees.EverywhereLemmas.{everywhere}
+use Rattle.rustc_abi.proofs.Trees.LaidLemmas.{laid_sized}
+use Rattle.rustc_abi.proofs.Trees.LayLemmas.{begins_root, common_root, faithful_root, laid_root, lawful_root, untagged_root}
+use Rattle.rustc_abi.proofs.Sizes.LeastLemmas.{laid_least, laid_overlap, never_large, passed_as, told_large, told_overflow}
+use Rattle.rustc_abi.proofs.Trees.ListLemmas.{passed_on}
+use Rattle.rustc_abi.proofs.Trees.OneAnswer.{one_answer}
+use Rattle.rustc_abi.proofs.Places.SeenPlacesLemmas.{laid_told, seen_root}
+use Rattle.rustc_abi.proofs.Trees.SomeAnswer.{some_answer}
 use Rattle.rustc_abi.proofs.lay.lay_out.Goals as goal
 
 pub returns-clause-exists : goal.returns-clause-exists
@@ -133,3 +135,9 @@ returns-in_err-_root-clause-some c law = some_answer c.args.dl.now law (tree_of 
 
 pub returns-then-not-is_lawful-clause-some : goal.returns-then-not-is_lawful-clause-some
 returns-then-not-is_lawful-clause-some c law = some_answer c.args.dl.now law (tree_of c.args.tree.now)
+
+pub returns-clause-counted : goal.returns-clause-counted
+returns-clause-counted c =
+    let counted = c.in_ok-_root.ensures.counted in
+    let all : counted.0 ≡ node_count_of c.new.result = omega (arith, counted.2, ap length c.new-nodes.ensures.items, c.new.ensures.count) in
+    subst (HasNodes c.args.dl.now (tree_of c.args.tree.now)) all counted.1

@@ -1,8 +1,9 @@
 use Rattle.std.proofs.Common.{sym}
 use Rattle.std.proofs.lemmas.Result.{IfOk-weaker}
 use Rattle.abi_laid.specs.Nodes.{types_in}
-use Rattle.rustc_abi.proofs.LawsLemmas.{elements_laws}
-use Rattle.rustc_abi.proofs.LayLemmas.{IsAdded-elements}
+use Rattle.rustc_abi.proofs.Places.LawsLemmas.{elements_laws}
+use Rattle.rustc_abi.proofs.Trees.LayLemmas.{IsAdded-elements}
+use Rattle.rustc_abi.proofs.Sizes.CountLemmas.{both_ok, own_put}
 use Rattle.rustc_abi.proofs.lay_array.add_elements.Goals as goal
 
 pub elements_layout-requires-clause-lawful : goal.elements_layout-requires-clause-lawful
@@ -19,3 +20,8 @@ returns-clause-ok c =
     IfOk-weaker c.add.result _ _
     (λ i put t laid fits. IsAdded-elements _ _ _ i _ c.args.count _ t (sym exact) c.in_ok-layout.ensures.lawful put laid fits)
     c.add.ensures.ok
+
+pub returns-clause-own : goal.returns-clause-own
+returns-clause-own c =
+    both_ok c.add.result _ _ _ c.add.ensures.ok c.add.ensures.count
+    (λ i put count. own_put c.args.nodes.now.items c.args.nodes.now.items c.add.new.nodes.items i _ put count)

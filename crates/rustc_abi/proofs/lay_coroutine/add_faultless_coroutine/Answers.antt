@@ -5,16 +5,16 @@ use Rattle.std.proofs.lemmas.Simd.{map-map}
 use Rattle.abi_scalar.specs.Variant.{variants_of}
 use Rattle.abi_scalar.proofs.ReadableLemmas.{lawful_readable}
 use Rattle.abi_calc.specs.Coroutine.Layout.{IsStateTag}
-use Rattle.abi_calc.proofs.CoroutineAnswers.{state_tag_lawful}
+use Rattle.abi_calc.proofs.CoroutineLemmas.Promised.{state_tag_lawful}
 use Rattle.abi_laid.specs.Well.{all_at}
-use Rattle.rustc_abi.proofs.AddedCoroutineLemmas.{IsAdded-coroutine, coroutine_refused, coroutine_variants, fault_of_nodes}
+use Rattle.rustc_abi.proofs.Coroutines.AddedCoroutineLemmas.{IsAdded-coroutine, coroutine_refused, coroutine_variants, fault_of_nodes}
 use Rattle.rustc_abi.specs.Inside.{VariantsInside}
 use Rattle.rustc_abi.specs.Laying.{most_fields}
 use Rattle.abi_laid.specs.Nodes.{placed_in}
-use Rattle.rustc_abi.proofs.CoroutineFaultLemmas.{few_each_state, few_states, states_within}
-use Rattle.rustc_abi.proofs.InsideLemmas.{inside_coroutine}
-use Rattle.rustc_abi.proofs.StateLawsLemmas.{state_places}
-use Rattle.rustc_abi.proofs.ListLemmas.{All-from_map, passed_on}
+use Rattle.rustc_abi.proofs.Faults.CoroutineFaultLemmas.{few_each_state, few_states, states_within}
+use Rattle.rustc_abi.proofs.Places.InsideLemmas.{inside_coroutine}
+use Rattle.rustc_abi.proofs.Coroutines.StateLawsLemmas.{state_places}
+use Rattle.rustc_abi.proofs.Trees.ListLemmas.{All-from_map, passed_on}
 use Rattle.rustc_abi.proofs.lay_coroutine.add_faultless_coroutine.Goals as goal
 
 pub coroutine_layout-requires-clause-prefix : goal.coroutine_layout-requires-clause-prefix

@@ -13,9 +13,10 @@ use Rattle.rustc_abi.specs.Laying.{most_fields, one_scalar}
 use Rattle.abi_laid.specs.Well.{IsPut, all_at}
 use Rattle.rustc_abi.specs.Adding.{AreArms, variants_in}
 use Rattle.abi_laid.proofs.NodesLemmas.{length-types_in}
-use Rattle.rustc_abi.proofs.ArmNodesLemmas.{variants_in-kept}
-use Rattle.rustc_abi.proofs.StateNodesLemmas.{IsPut-states, as_many_each, each_few, each_means, each_there, states_keep, states_before, states_told}
-use Rattle.rustc_abi.proofs.NarrowLemmas.{scalar_width, tag_width}
+use Rattle.rustc_abi.proofs.Enums.ArmNodesLemmas.{variants_in-kept}
+use Rattle.rustc_abi.proofs.Coroutines.StateNodesLemmas.{IsPut-states, as_many_each, each_few, each_means, each_there, states_keep, states_before, states_told}
+use Rattle.rustc_abi.proofs.Values.NarrowLemmas.{scalar_width, tag_width}
+use Rattle.rustc_abi.proofs.Sizes.CountLemmas.{arms_listed, both_ok, own_put}
 use Rattle.rustc_abi.proofs.lay_coroutine.add_states.Goals as goal
 
 pub add-requires-clause-widths : goal.add-requires-clause-widths
@@ -115,3 +116,10 @@ returns-clause-ok c =
     (λ i last. subst (IsPut old c.add-2.new.nodes.items i) told
     (IsPut-states old one two _ c.in_ok-tag.tag i (one_scalar c.args.dl.now c.args.tag) c.args.prefix c.in_ok-states.states _ _ c.args.layout tag arms last prefix))
     c.add-2.ensures.ok
+
+pub returns-clause-own : goal.returns-clause-own
+returns-clause-own c =
+    let two = c.add_each_state.new.nodes.items in
+    let arms = arms_listed (types_in two) c.in_ok-states.states.items in
+    both_ok c.add-2.result _ _ _ c.add-2.ensures.ok c.add-2.ensures.count
+    (λ i put count. own_put c.args.nodes.now.items two c.add-2.new.nodes.items i _ put (omega (arith, c.in_ok-tag.ensures.count, c.in_ok-states.ensures.count, count, arms)))

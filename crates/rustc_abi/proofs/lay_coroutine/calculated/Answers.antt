@@ -2,9 +2,9 @@
 use Rattle.std.proofs.Common.{◌≡◌, length, rules, subst, Ok, Err}
 use Rattle.abi_scalar.specs.Simple.{scalar_layout}
 use Rattle.abi_calc.specs.Coroutine.Answer.{IsCoroutineAnswer}
-use Rattle.abi_calc.proofs.OneCoroutine.{one_tag}
-use Rattle.rustc_abi.proofs.CoroutinedLemmas.{coroutined_err, coroutined_ok, plain_lists}
-use Rattle.rustc_abi.proofs.ListLemmas.{passed_on}
+use Rattle.abi_calc.proofs.CoroutineLemmas.OneCoroutine.{one_tag}
+use Rattle.rustc_abi.proofs.Coroutines.CoroutinedLemmas.{coroutined_err, coroutined_ok, plain_lists}
+use Rattle.rustc_abi.proofs.Trees.ListLemmas.{passed_on}
 use Rattle.rustc_abi.proofs.lay_coroutine.calculated.Goals as goal
 
 pub layout_of_coroutine-answer-requires-clause-locals : goal.layout_of_coroutine-answer-requires-clause-locals

@@ -6,9 +6,9 @@ use Rattle.abi_scalar.specs.Lawful.{IsLawfulLayout}
 use Rattle.abi_laid.specs.Well.{all_at}
 use Rattle.rustc_abi.specs.Laying.{most_fields}
 use Rattle.abi_laid.specs.Placed.{layout_of}
-use Rattle.rustc_abi.proofs.AddedCoroutineLemmas.{lent_count}
-use Rattle.rustc_abi.proofs.CoroutineFaultLemmas.{few_each_state, few_items, states_once, states_within}
-use Rattle.rustc_abi.proofs.ListLemmas.{All-from_map}
+use Rattle.rustc_abi.proofs.Coroutines.AddedCoroutineLemmas.{lent_count}
+use Rattle.rustc_abi.proofs.Faults.CoroutineFaultLemmas.{few_each_state, few_items, states_once, states_within}
+use Rattle.rustc_abi.proofs.Trees.ListLemmas.{All-from_map}
 use Rattle.rustc_abi.proofs.lay_coroutine.coroutine_layout.Goals as goal
 
 pub named_each-requires-clause-few : goal.named_each-requires-clause-few

@@ -1,5 +1,5 @@
 use Rattle.std.proofs.Common.{◌≡◌, take}
-use Rattle.rustc_abi.proofs.StateNodesLemmas.{nodes_of}
+use Rattle.rustc_abi.proofs.Coroutines.StateNodesLemmas.{nodes_of}
 use Rattle.rustc_abi.proofs.lay_coroutine.picked.Given as goal
 
 abbrev pub invariant-loop-index : goal.invariant-loop-index

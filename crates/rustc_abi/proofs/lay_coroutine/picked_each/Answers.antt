@@ -1,5 +1,5 @@
 use Rattle.std.proofs.Common.{◌∙◌, ap, map}
-use Rattle.rustc_abi.proofs.StateNodesLemmas.{each_more, nodes_of}
+use Rattle.rustc_abi.proofs.Coroutines.StateNodesLemmas.{each_more, nodes_of}
 use Rattle.rustc_abi.proofs.lay_coroutine.picked_each.Goals as goal
 
 pub loop-indices-preserved : goal.loop-indices-preserved

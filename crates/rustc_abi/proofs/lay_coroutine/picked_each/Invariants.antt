@@ -1,5 +1,5 @@
 use Rattle.std.proofs.Common.{◌≡◌, map, take}
-use Rattle.rustc_abi.proofs.StateNodesLemmas.{nodes_of_each}
+use Rattle.rustc_abi.proofs.Coroutines.StateNodesLemmas.{nodes_of_each}
 use Rattle.rustc_abi.proofs.lay_coroutine.picked_each.Given as goal
 
 abbrev pub invariant-loop-indices : goal.invariant-loop-indices

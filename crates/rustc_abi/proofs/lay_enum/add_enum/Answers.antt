@@ -1,6 +1,6 @@
 use Rattle.std.proofs.Common.{sym, ◌∙◌}
 use Rattle.rustc_abi.specs.Adding.{variants_in}
-use Rattle.rustc_abi.proofs.AddedEnumLemmas.{lengths_in, own_fault}
+use Rattle.rustc_abi.proofs.Enums.AddedEnumLemmas.{lengths_in, own_fault}
 use Rattle.rustc_abi.proofs.lay_enum.add_enum.Goals as goal
 
 pub add_faultless_enum-requires-clause-faultless : goal.add_faultless_enum-requires-clause-faultless

@@ -4,10 +4,10 @@ use Rattle.std.proofs.lemmas.Result.{IfOk-weaker}
 use Rattle.abi_laid.specs.Placed.{Placed}
 use Rattle.abi_laid.specs.Well.{all_at}
 use Rattle.rustc_abi.specs.Adding.{HasVariants, variants_in}
-use Rattle.rustc_abi.proofs.AddedEnumLemmas.{IsAdded-enum-as, enum_refused, enumed_nodes}
-use Rattle.rustc_abi.proofs.EnumPlacesLemmas.{enum_places, few_nodes}
-use Rattle.rustc_abi.proofs.FaultlessLemmas.{few_fields, few_variants}
-use Rattle.rustc_abi.proofs.ListLemmas.{passed_on}
+use Rattle.rustc_abi.proofs.Enums.AddedEnumLemmas.{IsAdded-enum-as, enum_refused, enumed_nodes}
+use Rattle.rustc_abi.proofs.Enums.EnumPlacesLemmas.{enum_places, few_nodes}
+use Rattle.rustc_abi.proofs.Faults.FaultlessLemmas.{few_fields, few_variants}
+use Rattle.rustc_abi.proofs.Trees.ListLemmas.{passed_on}
 use Rattle.rustc_abi.proofs.lay_enum.add_faultless_enum.Goals as goal
 
 pub add_placed-requires-clause-tag : goal.add_placed-requires-clause-tag

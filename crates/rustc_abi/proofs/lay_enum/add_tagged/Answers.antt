@@ -6,8 +6,10 @@ use Rattle.rustc_abi.specs.Enums.{arms_at}
 use Rattle.abi_laid.specs.Well.{IsPut}
 use Rattle.rustc_abi.specs.Adding.{AreArms}
 use Rattle.abi_laid.proofs.NodesLemmas.{length-types_in}
-use Rattle.rustc_abi.proofs.ArmNodesLemmas.{IsPut-tagged, tagged_before, tagged_keeps, there_within, variants_in-kept}
-use Rattle.rustc_abi.proofs.NarrowLemmas.{scalar_width, tag_width}
+use Rattle.rustc_abi.proofs.Enums.ArmNodesLemmas.{IsPut-tagged, tagged_before, tagged_keeps, there_within, variants_in-kept}
+use Rattle.rustc_abi.proofs.Values.NarrowLemmas.{scalar_width, tag_width}
+use Rattle.rustc_abi.proofs.Sizes.CountLemmas.{arms_listed, both_ok, own_put}
+use Rattle.abi_laid.specs.Nodes.{types_in}
 use Rattle.rustc_abi.proofs.lay_enum.add_tagged.Goals as goal
 
 pub add-requires-clause-widths : goal.add-requires-clause-widths
@@ -55,3 +57,10 @@ returns-clause-ok c =
     IfOk-weaker c.add-2.result _ _
     (λ i last. IsPut-tagged old one two _ c.in_ok-tag.tag i (one_scalar c.args.dl.now c.args.tag) c.in_ok-variants.variants _ _ c.args.layout c.args.mark tag arms last)
     c.add-2.ensures.ok
+
+pub returns-clause-own : goal.returns-clause-own
+returns-clause-own c =
+    let two = c.add_variants.new.nodes.items in
+    let arms = arms_listed (types_in two) c.in_ok-variants.variants.items in
+    both_ok c.add-2.result _ _ _ c.add-2.ensures.ok c.add-2.ensures.count
+    (λ i put count. own_put c.args.nodes.now.items two c.add-2.new.nodes.items i _ put (omega (arith, c.in_ok-tag.ensures.count, c.in_ok-variants.ensures.count, count, arms)))

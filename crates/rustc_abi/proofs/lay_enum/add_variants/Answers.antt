@@ -1,6 +1,7 @@
-use Rattle.std.proofs.Common.{length, refl, arith, ◌∙◌}
+use Rattle.std.proofs.Common.{[], ◌∷◌, ap, length, refl, arith, ◌∙◌}
+use Rattle.std.proofs.lemmas.List.{length-append}
 use Rattle.abi_scalar.specs.Variant.{variants_of}
-use Rattle.rustc_abi.proofs.ArmNodesLemmas.{AreArms-more, fields_before, own_keeps, there_within}
+use Rattle.rustc_abi.proofs.Enums.ArmNodesLemmas.{AreArms-more, fields_before, own_keeps, there_within}
 use Rattle.rustc_abi.proofs.lay_enum.add_variants.Goals as goal
 
 pub add-requires-clause-earlier : goal.add-requires-clause-earlier
@@ -9,7 +10,7 @@ add-requires-clause-earlier c =
     let there = there_within first.len (length first.items) (omega arith) c.args.children.now c.requires.there in
     rw c.in_ok-own.ensures.shape
     (fields_before first.items c.loop-at.nodes.items _ c.loop-at.variants.items _ _ c.args.children.now c.loop-at.at
-    c.index-children-at.result c.in_ok-fields.fields.items c.loop-at.invariant (omega arith) c.loop-at-test.true
+    c.index-children-at.result c.in_ok-fields.fields.items c.loop-at.invariant.0 (omega arith) c.loop-at-test.true
     c.index-children-at.is (c.in_ok-fields.ensures.items ∙ c.deref.ensures.value) there)
 
 pub add-requires-clause-laws : goal.add-requires-clause-laws
@@ -21,7 +22,7 @@ add-requires-clause-laws c =
     rw c.in_ok-own.ensures.shape
     (own_keeps first.items c.loop-at.nodes.items _ c.loop-at.variants.items _ parent c.in_ok-own.own.layout c.args.mark
     (variants_of parent.variants) c.args.children.now c.loop-at.at _ c.index-children-at.result c.in_ok-fields.fields
-    c.loop-at.invariant c.loop-at-test.true c.requires.inside made c.index-children-at.is
+    c.loop-at.invariant.0 c.loop-at-test.true c.requires.inside made c.index-children-at.is
     (c.in_ok-fields.ensures.items ∙ c.deref.ensures.value) there c.requires.few_each)
 
 pub loop-at-preserved : goal.loop-at-preserved
@@ -36,5 +37,7 @@ loop-at-preserved c =
     c.args.numbers.now c.args.children.now c.loop-at.variants.items c.loop-at.at _ c.in_ok-node.node
     c.in_ok-own.own.layout c.args.mark c.in_ok-fields.fields c.loop-at-test.true c.requires.variants c.requires.each there
     made refl c.index-children-at.result c.index-children-at.is
-    (c.in_ok-fields.ensures.items ∙ c.deref.ensures.value) c.loop-at.invariant put in
-    rw c.in_ok-push.ensures.items more
+    (c.in_ok-fields.ensures.items ∙ c.deref.ensures.value) c.loop-at.invariant.0 put in (
+      rw c.in_ok-push.ensures.items more,
+      omega (arith, c.loop-at.invariant.1, c.in_ok-node.ensures.count, ap length c.in_ok-push.ensures.items ∙ length-append c.loop-at.variants.items (_ ∷ [])),
+    )

@@ -1,8 +1,8 @@
--- The variants before have their nodes.
-use Rattle.std.specs.Prelude.{map, take}
+-- The variants before have their nodes, one each.
+use Rattle.std.specs.Prelude.{◌≡◌, ◌+◌, length, map, take}
 use Rattle.abi_scalar.specs.Variant.{variants_of}
 use Rattle.rustc_abi.specs.Adding.{AreArms, variants_in}
-use Rattle.rustc_abi.proofs.ArmNodesLemmas.{arms_up_to}
+use Rattle.rustc_abi.proofs.Enums.ArmNodesLemmas.{arms_up_to}
 use Rattle.rustc_abi.proofs.lay_enum.add_variants.Given as goal
 
 abbrev pub invariant-loop-at : goal.invariant-loop-at
@@ -10,3 +10,4 @@ invariant-loop-at l =
     AreArms l.fn.nodes.items l.nodes.items (map (λ v. v.size) (take l.at (variants_of l.layout.variants))) l.variants.items
     (arms_up_to l.layout l.mark l.at (variants_of l.layout.variants) l.numbers
     (variants_in l.fn.nodes.items l.children))
+    × (length l.nodes.items ≡ length l.fn.nodes.items + length l.variants.items)

@@ -13,9 +13,9 @@ use Rattle.abi_calc.specs.Enums.Path.{path_of}
 use Rattle.abi_calc.specs.Enums.Several.{AreLawfulTags, IsAskedFor, IsLawfulTag}
 use Rattle.abi_laid.specs.Placed.{Layout}
 use Rattle.rustc_abi.specs.Enums.{IsTagInteger, numbered_from}
-use Rattle.rustc_abi.proofs.AddedEnumLemmas.{asked_otherwise, enumed_err, enumed_ok}
-use Rattle.rustc_abi.proofs.ListLemmas.{passed_on}
-use Rattle.rustc_abi.proofs.TagIntegerLemmas.{lawful_tags, one_each}
+use Rattle.rustc_abi.proofs.Enums.AddedEnumLemmas.{asked_otherwise, enumed_err, enumed_ok}
+use Rattle.rustc_abi.proofs.Trees.ListLemmas.{passed_on}
+use Rattle.rustc_abi.proofs.Enums.TagIntegerLemmas.{lawful_tags, one_each}
 use Rattle.rustc_abi.proofs.lay_enum.calculated.Goals as goal
 
 pub layout_of_struct_or_enum-answer-requires-clause-fields : goal.layout_of_struct_or_enum-answer-requires-clause-fields

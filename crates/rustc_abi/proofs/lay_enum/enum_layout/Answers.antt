@@ -7,9 +7,9 @@ use Rattle.rustc_abi.specs.Adding.{variants_in}
 use Rattle.abi_laid.specs.Placed.{layout_of}
 use Rattle.abi_laid.specs.Nodes.{placed_in, types_in}
 use Rattle.rustc_abi.specs.Laying.{most_fields}
-use Rattle.rustc_abi.proofs.AddedEnumLemmas.{lent_lawful}
-use Rattle.rustc_abi.proofs.FaultlessLemmas.{all_discriminants, few_fields, few_variants, lawful_aligns, none_equal}
-use Rattle.rustc_abi.proofs.ListLemmas.{All-from_map}
+use Rattle.rustc_abi.proofs.Enums.AddedEnumLemmas.{lent_lawful}
+use Rattle.rustc_abi.proofs.Faults.FaultlessLemmas.{all_discriminants, few_fields, few_variants, lawful_aligns, none_equal}
+use Rattle.rustc_abi.proofs.Trees.ListLemmas.{All-from_map}
 use Rattle.rustc_abi.proofs.lay_enum.enum_layout.Goals as goal
 
 pub variant_layouts-requires-clause-count : goal.variant_layouts-requires-clause-count

@@ -6,9 +6,10 @@ use Rattle.abi_laid.specs.Nodes.{placed_in, types_in}
 use Rattle.rustc_abi.specs.Laying.{IsListed}
 use Rattle.rustc_abi.specs.Error.{IsRefused}
 use Rattle.abi_laid.specs.Well.{all_at}
-use Rattle.rustc_abi.proofs.LayLemmas.{IsAdded-fields, faultless_few, faultless_aligns, kind_cases, fields_refused}
-use Rattle.rustc_abi.proofs.LawsLemmas.{list_places}
-use Rattle.rustc_abi.proofs.ListLemmas.{all_below, passed_on}
+use Rattle.rustc_abi.proofs.Trees.LayLemmas.{IsAdded-fields, faultless_few, faultless_aligns, kind_cases, fields_refused}
+use Rattle.rustc_abi.proofs.Places.LawsLemmas.{list_places}
+use Rattle.rustc_abi.proofs.Trees.ListLemmas.{all_below, passed_on}
+use Rattle.rustc_abi.proofs.Sizes.CountLemmas.{both_ok, own_put}
 use Rattle.rustc_abi.proofs.lay_fields.add_faultless_fields.Goals as goal
 
 pub fields_layout-requires-clause-kind : goal.fields_layout-requires-clause-kind
@@ -66,3 +67,8 @@ returns-in_err-layout-clause-err c =
     let told = rw (c.deref-2.ensures.value, c.deref-3.ensures.value) at c.in_err-layout.ensures.err in
     let refused = subst (λ k. IsRefused (IsListed dl c.args.repr.now k (map layout_of ps)) c.in_err-layout.field-0.0) kind told in
     passed_on _ _ _ c.from_residual.ensures.1 (fields_refused dl c.args.repr.now c.args.always_sized ps _ c.requires.faultless refused)
+
+pub returns-clause-own : goal.returns-clause-own
+returns-clause-own c =
+    both_ok c.add.result _ _ _ c.add.ensures.ok c.add.ensures.count
+    (λ i put count. own_put c.args.nodes.now.items c.args.nodes.now.items c.add.new.nodes.items i _ put count)

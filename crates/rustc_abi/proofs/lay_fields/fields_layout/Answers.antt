@@ -8,7 +8,7 @@ use Rattle.abi_scalar.specs.Lawful.{IsLawfulLayout}
 use Rattle.abi_scalar.specs.Shape.{listed_offsets}
 use Rattle.abi_laid.specs.Placed.{layout_of}
 use Rattle.abi_laid.specs.Well.{all_at}
-use Rattle.rustc_abi.proofs.ListLemmas.{listed_ok, listed_err, All-from_map, passed_on, sizes_by}
+use Rattle.rustc_abi.proofs.Trees.ListLemmas.{listed_ok, listed_err, All-from_map, passed_on, sizes_by}
 use Rattle.rustc_abi.proofs.lay_fields.fields_layout.Goals as goal
 
 pub layout_of_univariant-answer-requires-clause-fields : goal.layout_of_univariant-answer-requires-clause-fields

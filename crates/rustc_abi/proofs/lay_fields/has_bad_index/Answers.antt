@@ -1,5 +1,5 @@
 use Rattle.std.proofs.Common.{arith, ◌∙◌}
-use Rattle.rustc_abi.proofs.LongLemmas.{has_long, has_no_long, told_by_counts}
+use Rattle.rustc_abi.proofs.Faults.LongLemmas.{has_long, has_no_long, told_by_counts}
 use Rattle.rustc_abi.proofs.lay_fields.has_bad_index.Goals as goal
 
 pub returns-then-len-gt-MOST_FIELDS : goal.returns-then-len-gt-MOST_FIELDS

@@ -1,8 +1,8 @@
 use Rattle.std.proofs.Common.{subst}
 use Rattle.abi_scalar.specs.Lawful.{IsLawfulLayout}
 use Rattle.abi_scalar.proofs.ReadableLemmas.{lawful_readable}
-use Rattle.rustc_abi.proofs.FaultLemmas.{faultless}
-use Rattle.rustc_abi.proofs.NarrowLemmas.{scalar_width}
+use Rattle.rustc_abi.proofs.Faults.FaultLemmas.{faultless}
+use Rattle.rustc_abi.proofs.Values.NarrowLemmas.{scalar_width}
 use Rattle.rustc_abi.proofs.lay_scalar.add_lawful.Goals as goal
 
 pub scalar-requires : goal.scalar-requires

@@ -4,8 +4,9 @@ use Rattle.abi_scalar.specs.Lawful.{IsLawfulLayout}
 use Rattle.abi_laid.specs.declared.mark.Mark.TheVariants.{Never}
 use Rattle.abi_laid.specs.Placed.{never as placed_never}
 use Rattle.abi_laid.specs.Well.{IsPut}
-use Rattle.rustc_abi.proofs.EmptyLemmas.{Fits-never}
-use Rattle.rustc_abi.proofs.LayLemmas.{IsAdded-put}
+use Rattle.rustc_abi.proofs.Values.EmptyLemmas.{Fits-never}
+use Rattle.rustc_abi.proofs.Trees.LayLemmas.{IsAdded-put}
+use Rattle.rustc_abi.proofs.Sizes.CountLemmas.{both_ok, own_put}
 use Rattle.rustc_abi.proofs.lay_scalar.add_never.Goals as goal
 
 pub returns-clause-ok : goal.returns-clause-ok
@@ -15,3 +16,8 @@ returns-clause-ok c =
     IfOk-weaker c.add.result _ _
     (λ i put. IsAdded-put dl _ _ i _ _ (subst (λ l. IsPut c.args.nodes.now.items c.add.new.nodes.items i (placed_never l Never)) c.never_type.ensures.exact put) refl (Fits-never dl lawful))
     c.add.ensures.ok
+
+pub returns-clause-own : goal.returns-clause-own
+returns-clause-own c =
+    both_ok c.add.result _ _ _ c.add.ensures.ok c.add.ensures.count
+    (λ i put count. own_put c.args.nodes.now.items c.args.nodes.now.items c.add.new.nodes.items i _ put count)

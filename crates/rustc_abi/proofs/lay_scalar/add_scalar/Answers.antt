@@ -1,9 +1,10 @@
 use Rattle.std.proofs.Common.{Ok, ap, sym, ◌∙◌}
 use Rattle.std.proofs.lemmas.Result.{IfOk-weaker}
 use Rattle.rustc_abi.specs.Laying.{one_scalar, unless}
-use Rattle.rustc_abi.proofs.FaultLemmas.{faultless}
-use Rattle.rustc_abi.proofs.ScalarLemmas.{Fits-scalar}
-use Rattle.rustc_abi.proofs.LayLemmas.{IsAdded-put}
+use Rattle.rustc_abi.proofs.Faults.FaultLemmas.{faultless}
+use Rattle.rustc_abi.proofs.Values.ScalarLemmas.{Fits-scalar}
+use Rattle.rustc_abi.proofs.Trees.LayLemmas.{IsAdded-put}
+use Rattle.rustc_abi.proofs.Sizes.CountLemmas.{both_ok, own_put}
 use Rattle.rustc_abi.proofs.lay_scalar.add_scalar.Goals as goal
 
 pub returns-in-None-clause-ok : goal.returns-in-None-clause-ok
@@ -14,3 +15,8 @@ returns-in-None-clause-ok c =
     (λ i put. IsAdded-put dl _ _ i _ _ put (sym (ap (λ fault. unless fault (Ok (one_scalar dl c.args.value))) none))
     (Fits-scalar dl c.args.value (faultless dl c.args.value none) c.add_lawful.ensures.lawful))
     c.add_lawful.ensures.ok
+
+pub returns-in-None-clause-own : goal.returns-in-None-clause-own
+returns-in-None-clause-own c =
+    both_ok c.add_lawful.result _ _ _ c.add_lawful.ensures.ok c.add_lawful.ensures.count
+    (λ i put count. own_put c.args.nodes.now.items c.args.nodes.now.items c.add_lawful.new.nodes.items i _ put count)

@@ -10,9 +10,10 @@ use Rattle.abi_laid.specs.declared.node.Shape.TheVariants.{Pair}
 use Rattle.abi_laid.specs.Nodes.{meaning, types_in}
 use Rattle.abi_laid.specs.Well.{IsPut}
 use Rattle.abi_laid.proofs.NodesLemmas.{length-types_in}
-use Rattle.rustc_abi.proofs.FaultLemmas.{faultless}
-use Rattle.rustc_abi.proofs.LawsLemmas.{pair_laws}
-use Rattle.rustc_abi.proofs.LayLemmas.{IsAdded-pair}
+use Rattle.rustc_abi.proofs.Faults.FaultLemmas.{faultless}
+use Rattle.rustc_abi.proofs.Places.LawsLemmas.{pair_laws}
+use Rattle.rustc_abi.proofs.Trees.LayLemmas.{IsAdded-pair}
+use Rattle.rustc_abi.proofs.Sizes.CountLemmas.{both_ok, own_put}
 use Rattle.rustc_abi.proofs.lay_scalar.add_two.Goals as goal
 
 pub scalar_pair-requires-clause-first : goal.scalar_pair-requires-clause-first
@@ -56,3 +57,8 @@ returns-clause-ok c =
     c.in_ok-first.ensures.ok c.in_ok-second.ensures.ok
     (subst (λ l. IsPut c.add_lawful-2.new.nodes.items c.add.new.nodes.items i (meaning (types_in c.add_lawful-2.new.nodes.items) l (Pair c.in_ok-first.first c.in_ok-second.second))) made put))
     c.add.ensures.ok
+
+pub returns-clause-own : goal.returns-clause-own
+returns-clause-own c =
+    both_ok c.add.result _ _ _ c.add.ensures.ok c.add.ensures.count
+    (λ i put count. own_put c.args.nodes.now.items c.add_lawful-2.new.nodes.items c.add.new.nodes.items i _ put (omega (arith, c.in_ok-first.ensures.count, c.in_ok-second.ensures.count, count)))

@@ -6,8 +6,9 @@ use Rattle.abi_laid.specs.declared.mark.Mark.TheVariants.{Unit}
 use Rattle.abi_laid.specs.Placed.{fields}
 use Rattle.abi_laid.specs.Nodes.{parts_at}
 use Rattle.abi_laid.specs.Well.{IsPut, all_at}
-use Rattle.rustc_abi.proofs.EmptyLemmas.{Fits-unit}
-use Rattle.rustc_abi.proofs.LayLemmas.{IsAdded-put}
+use Rattle.rustc_abi.proofs.Values.EmptyLemmas.{Fits-unit}
+use Rattle.rustc_abi.proofs.Trees.LayLemmas.{IsAdded-put}
+use Rattle.rustc_abi.proofs.Sizes.CountLemmas.{both_ok, own_put}
 use Rattle.rustc_abi.proofs.lay_scalar.add_unit.Goals as goal
 
 pub returns-clause-ok : goal.returns-clause-ok
@@ -18,3 +19,8 @@ returns-clause-ok c =
     (λ i put. IsAdded-put dl _ _ i _ _
     (subst (λ l. IsPut c.args.nodes.now.items c.add.new.nodes.items i (fields l Unit (parts_at (listed_offsets l.fields) (all_at c.args.nodes.now.items c.new.result.items)))) c.unit.ensures.exact put) refl (Fits-unit dl lawful))
     c.add.ensures.ok
+
+pub returns-clause-own : goal.returns-clause-own
+returns-clause-own c =
+    both_ok c.add.result _ _ _ c.add.ensures.ok c.add.ensures.count
+    (λ i put count. own_put c.args.nodes.now.items c.args.nodes.now.items c.add.new.nodes.items i _ put count)

@@ -1,5 +1,5 @@
 use Rattle.std.proofs.Common.{true, false}
-use Rattle.rustc_abi.proofs.FaultLemmas.{range_fault}
+use Rattle.rustc_abi.proofs.Faults.FaultLemmas.{range_fault}
 use Rattle.rustc_abi.proofs.lay_scalar.range_fault.Goals as goal
 
 pub returns-then-has_range_within : goal.returns-then-has_range_within

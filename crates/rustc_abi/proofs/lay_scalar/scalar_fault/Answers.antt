@@ -1,7 +1,7 @@
 use Rattle.std.proofs.Common.{true, sym, ap, ◌∙◌}
 use Rattle.abi_scalar.specs.Scalar.{primitive_of}
 use Rattle.rustc_abi.specs.ScalarFault.{is_lawful_primitive}
-use Rattle.rustc_abi.proofs.FaultLemmas.{pointer_test, no_pointer}
+use Rattle.rustc_abi.proofs.Faults.FaultLemmas.{pointer_test, no_pointer}
 use Rattle.rustc_abi.proofs.lay_scalar.scalar_fault.Goals.{in-Pointer+else-not-has_lawful_pointer, in_default}
 use Rattle.rustc_abi.proofs.lay_scalar.scalar_fault.Goals as goal
 

@@ -6,15 +6,16 @@ use Rattle.abi_laid.specs.Tree.{tree_of, trees, trees_of_variants}
 use Rattle.rustc_abi.specs.Enums.{discriminants_of}
 use Rattle.rustc_abi.specs.Laying.{AreLaying}
 use Rattle.rustc_abi.specs.Adding.{tree_size, trees_size}
-use Rattle.rustc_abi.proofs.TreeLemmas.{tree_of-Array, tree_of-Enum, tree_of-Vector, tree_of-Struct, tree_of-Union, tree_of-Coroutine, trees_size-at, variants_size-at, falls-Enum}
-use Rattle.rustc_abi.proofs.LayLemmas.{EachFits-lawful, VariantsFit-lawful, AreAdded-more, IsAdded-after, AreAdded-after, struct_refused}
-use Rattle.rustc_abi.proofs.RefusalLemmas.{each_refused, variants_refused, enum_refused}
-use Rattle.rustc_abi.proofs.VariantsLemmas.{AreVariantsAdded-after, AreVariantsAdded-more, numbers_of_nodes}
-use Rattle.rustc_abi.proofs.AddedEnumLemmas.{enum_tree_refused}
+use Rattle.rustc_abi.proofs.Trees.TreeLemmas.{tree_of-Array, tree_of-Enum, tree_of-Never, tree_of-Pair, tree_of-Scalar, tree_of-Unit, tree_of-Vector, tree_of-Struct, tree_of-Union, tree_of-Coroutine, trees_size-at, variants_size-at, falls-Enum}
+use Rattle.rustc_abi.proofs.Trees.LayLemmas.{EachFits-lawful, VariantsFit-lawful, AreAdded-more, IsAdded-after, AreAdded-after, struct_refused}
+use Rattle.rustc_abi.proofs.Faults.RefusalLemmas.{each_refused, variants_refused, enum_refused}
+use Rattle.rustc_abi.proofs.Enums.VariantsLemmas.{AreVariantsAdded-after, AreVariantsAdded-more, numbers_of_nodes}
+use Rattle.rustc_abi.proofs.Enums.AddedEnumLemmas.{enum_tree_refused}
 use Rattle.rustc_abi.specs.Error.{IsRefused}
-use Rattle.rustc_abi.proofs.AddedCoroutineLemmas.{AreAdded-later, coroutine_tree_refused}
-use Rattle.rustc_abi.proofs.TogetherLemmas.{union_tree_refused}
-use Rattle.rustc_abi.proofs.ListLemmas.{passed_on}
+use Rattle.rustc_abi.proofs.Coroutines.AddedCoroutineLemmas.{AreAdded-later, coroutine_tree_refused}
+use Rattle.rustc_abi.proofs.Unions.TogetherLemmas.{union_tree_refused}
+use Rattle.rustc_abi.proofs.Trees.ListLemmas.{passed_on}
+use Rattle.rustc_abi.proofs.Sizes.CountLemmas.{alone_counted, array_counted, both_ok, coroutine_counted, counted_more, enum_counted, struct_counted, union_counted, variants_counted_more, vector_counted}
 use Rattle.rustc_abi.proofs.lay_tree.+lay.Goals as goal
 
 pub lay_each-lay_tree-requires : goal.lay_each-lay_tree-requires
@@ -27,7 +28,7 @@ pub lay_each-returns-in_err-child-clause-err : goal.lay_each-returns-in_err-chil
 lay_each-returns-in_err-child-clause-err t c =
     let item : c.field-item.result ≡ get_or c.args.fields.now c.loop-field.field-index c.field-item.result = c.field-item.is in
     passed_on _ _ _ c.from_residual.ensures.1
-    (each_refused c.args.dl.now c.args.fields.now c.loop-field.field-index c.field-item.result _ _ (omega arith) item c.loop-field.invariant.exact c.in_err-child.ensures.err)
+    (each_refused c.args.dl.now c.args.fields.now c.loop-field.field-index c.field-item.result _ _ (omega arith) item c.loop-field.invariant.0.exact c.in_err-child.ensures.err)
 
 pub lay_each-loop-field-preserved : goal.lay_each-loop-field-preserved
 lay_each-loop-field-preserved t c =
@@ -35,8 +36,10 @@ lay_each-loop-field-preserved t c =
     take_more c.args.fields.now c.loop-field.field-index c.field-item.result (omega arith)
     ∙ ap (λ x. take c.loop-field.field-index c.args.fields.now ++ x ∷ []) (sym c.field-item.is) in
     let mapped : map tree_of (take (c.loop-field.field-index + 1) c.args.fields.now) ≡ map tree_of (take c.loop-field.field-index c.args.fields.now) ++ tree_of c.field-item.result ∷ [] =
-    ap (map tree_of) more ∙ map-append tree_of (take c.loop-field.field-index c.args.fields.now) (c.field-item.result ∷ []) in
-    rw (mapped, c.in_ok-push.ensures.items) (AreAdded-more _ _ _ _ _ _ _ _ c.loop-field.invariant c.in_ok-child.ensures.ok)
+    ap (map tree_of) more ∙ map-append tree_of (take c.loop-field.field-index c.args.fields.now) (c.field-item.result ∷ []) in (
+      rw (mapped, c.in_ok-push.ensures.items) (AreAdded-more _ _ _ _ _ _ _ _ c.loop-field.invariant.0 c.in_ok-child.ensures.ok),
+      rw mapped (counted_more c.args.dl.now _ _ _ (map tree_of (take c.loop-field.field-index c.args.fields.now)) _ c.loop-field.invariant.1 c.in_ok-child.ensures.counted),
+    )
 
 pub lay_tree-add_fields-requires-clause-lawful : goal.lay_tree-add_fields-requires-clause-lawful
 lay_tree-add_fields-requires-clause-lawful t c = EachFits-lawful _ _ _ c.in_ok-children-in-Struct.ensures.ok.fits
@@ -99,14 +102,21 @@ lay_variants-returns-in_err-fields-clause-err t c =
     let lent : c.deref.result.now ≡ c.variant-item.result.1.items = c.deref.ensures.value in
     let refused = subst (λ ts. IsRefused (AreLaying c.args.dl.now (trees (map tree_of ts))) c.in_err-fields.field-0.0) lent c.in_err-fields.ensures.err in
     passed_on _ _ _ c.from_residual-in_err-fields.ensures.1
-    (variants_refused c.args.dl.now c.args.all.now c.loop-variant.variant-index c.variant-item.result _ _ (omega arith) item c.loop-variant.invariant.exact refused)
+    (variants_refused c.args.dl.now c.args.all.now c.loop-variant.variant-index c.variant-item.result _ _ (omega arith) item c.loop-variant.invariant.0.exact refused)
 
 pub lay_variants-loop-variant-preserved : goal.lay_variants-loop-variant-preserved
 lay_variants-loop-variant-preserved t c =
     let item : c.variant-item.result ≡ get_or c.args.all.now c.loop-variant.variant-index c.variant-item.result = c.variant-item.is in
     let lent : c.deref.result.now ≡ c.variant-item.result.1.items = c.deref.ensures.value in
-    rw c.in_ok-push.ensures.items
-    (AreVariantsAdded-more c.args.dl.now _ _ _ _ _ c.args.all.now c.loop-variant.variant-index c.variant-item.result _ (omega arith) item lent c.loop-variant.invariant c.in_ok-fields.ensures.ok)
+    let more : take (c.loop-variant.variant-index + 1) c.args.all.now ≡ take c.loop-variant.variant-index c.args.all.now ++ c.variant-item.result ∷ [] =
+    take_more c.args.all.now c.loop-variant.variant-index c.variant-item.result (omega arith)
+    ∙ ap (λ x. take c.loop-variant.variant-index c.args.all.now ++ x ∷ []) (sym c.variant-item.is) in (
+      rw c.in_ok-push.ensures.items
+          (AreVariantsAdded-more c.args.dl.now _ _ _ _ _ c.args.all.now c.loop-variant.variant-index c.variant-item.result _ (omega arith) item lent c.loop-variant.invariant.0 c.in_ok-fields.ensures.ok),
+      rw more
+          (variants_counted_more c.args.dl.now _ _ _ (take c.loop-variant.variant-index c.args.all.now) c.variant-item.result c.loop-variant.invariant.1
+          (rw lent at c.in_ok-fields.ensures.counted)),
+    )
 
 pub lay_tree-returns-in_ok-element-in-Array-clause-ok : goal.lay_tree-returns-in_ok-element-in-Array-clause-ok
 lay_tree-returns-in_ok-element-in-Array-clause-ok t c =
@@ -194,3 +204,82 @@ lay_tree-returns-in_ok-children-in-Enum-clause-err t c =
     let exact = rw c.deref-in-Enum-2.ensures.value at before.exact in
     let told = rw (c.deref-in-Enum-4.ensures.value, numbers) at c.add_enum.ensures.err in
     rw same (IfErr-weaker c.add_enum.result _ _ (λ e refused. enum_tree_refused c.args.dl.now c.in-Enum.repr _ _ e exact refused) told)
+
+pub lay_tree-returns-in-Scalar-clause-counted : goal.lay_tree-returns-in-Scalar-clause-counted
+lay_tree-returns-in-Scalar-clause-counted t c =
+    rw (ap tree_of c.in-Scalar.is ∙ tree_of-Scalar c.in-Scalar.value)
+    (both_ok c.add_scalar.result _ _ _ c.add_scalar.ensures.ok c.add_scalar.ensures.own
+    (λ i added own. alone_counted c.args.dl.now _ _ i _ added own))
+
+pub lay_tree-returns-in-Pair-clause-counted : goal.lay_tree-returns-in-Pair-clause-counted
+lay_tree-returns-in-Pair-clause-counted t c =
+    rw (ap tree_of c.in-Pair.is ∙ tree_of-Pair c.in-Pair.a c.in-Pair.b)
+    (both_ok c.add_pair.result _ _ _ c.add_pair.ensures.ok c.add_pair.ensures.own
+    (λ i added own. alone_counted c.args.dl.now _ _ i _ added own))
+
+pub lay_tree-returns-in-Never-clause-counted : goal.lay_tree-returns-in-Never-clause-counted
+lay_tree-returns-in-Never-clause-counted t c =
+    rw (ap tree_of c.in-Never.is ∙ tree_of-Never)
+    (both_ok c.add_never.result _ _ _ c.add_never.ensures.ok c.add_never.ensures.own
+    (λ i added own. alone_counted c.args.dl.now _ _ i _ added own))
+
+pub lay_tree-returns-in-Unit-clause-counted : goal.lay_tree-returns-in-Unit-clause-counted
+lay_tree-returns-in-Unit-clause-counted t c =
+    rw (ap tree_of c.in-Unit.is ∙ tree_of-Unit)
+    (both_ok c.add_unit.result _ _ _ c.add_unit.ensures.ok c.add_unit.ensures.own
+    (λ i added own. alone_counted c.args.dl.now _ _ i _ added own))
+
+pub lay_tree-returns-in_ok-element-in-Array-clause-counted : goal.lay_tree-returns-in_ok-element-in-Array-clause-counted
+lay_tree-returns-in_ok-element-in-Array-clause-counted t c =
+    let before = c.in_ok-element-in-Array.ensures.ok in
+    let same = ap tree_of c.in-Array.is ∙ tree_of-Array c.in-Array.count c.in-Array.element in
+    rw same
+    (both_ok c.add_elements.result _ _ _ c.add_elements.ensures.ok c.add_elements.ensures.own
+    (λ i h own. rw c.deref.ensures at (array_counted c.args.dl.now _ _ _ i _ _ c.in_ok-element-in-Array.ensures.counted (h _ before.exact before.fits) own)))
+
+pub lay_tree-returns-in_ok-element-in-Vector-clause-counted : goal.lay_tree-returns-in_ok-element-in-Vector-clause-counted
+lay_tree-returns-in_ok-element-in-Vector-clause-counted t c =
+    let before = c.in_ok-element-in-Vector.ensures.ok in
+    let same = ap tree_of c.in-Vector.is ∙ tree_of-Vector c.in-Vector.lanes c.in-Vector.packed c.in-Vector.element in
+    rw same
+    (both_ok c.add_vector.result _ _ _ c.add_vector.ensures.ok c.add_vector.ensures.own
+    (λ i h own. rw c.deref-in-Vector.ensures at (vector_counted c.args.dl.now _ _ _ i _ _ _ c.in_ok-element-in-Vector.ensures.counted (h _ before.exact before.fits) own)))
+
+pub lay_tree-returns-in_ok-children-in-Struct-clause-counted : goal.lay_tree-returns-in_ok-children-in-Struct-clause-counted
+lay_tree-returns-in_ok-children-in-Struct-clause-counted t c =
+    let before = c.in_ok-children-in-Struct.ensures.ok in
+    let same = ap tree_of c.in-Struct.is ∙ tree_of-Struct c.in-Struct.repr c.in-Struct.always_sized c.in-Struct.fields in
+    rw same
+    (both_ok c.add_fields.result _ _ _ c.add_fields.ensures.ok c.add_fields.ensures.own
+    (λ i h own. rw c.deref-in-Struct.ensures.value at (struct_counted c.args.dl.now _ _ _ i _ _ _ c.in_ok-children-in-Struct.ensures.counted (h _ before.exact before.fits) own)))
+
+pub lay_tree-returns-in_ok-children-in-Union-clause-counted : goal.lay_tree-returns-in_ok-children-in-Union-clause-counted
+lay_tree-returns-in_ok-children-in-Union-clause-counted t c =
+    let before = c.in_ok-children-in-Union.ensures.ok in
+    let same = ap tree_of c.in-Union.is ∙ tree_of-Union c.in-Union.repr c.in-Union.fields in
+    rw same
+    (both_ok c.add_union.result _ _ _ c.add_union.ensures.ok c.add_union.ensures.own
+    (λ i h own. rw c.deref-in-Union.ensures.value at (union_counted c.args.dl.now _ _ _ i _ _ c.in_ok-children-in-Union.ensures.counted (h _ before.exact before.fits) own)))
+
+pub lay_tree-returns-in_ok-children-in-Enum-clause-counted : goal.lay_tree-returns-in_ok-children-in-Enum-clause-counted
+lay_tree-returns-in_ok-children-in-Enum-clause-counted t c =
+    let before = c.in_ok-children-in-Enum.ensures.ok in
+    let same = ap tree_of c.in-Enum.is ∙ tree_of-Enum c.in-Enum.repr c.in-Enum.variants in
+    let numbers : c.deref-in-Enum-3.result.now ≡ discriminants_of (trees_of_variants c.deref-in-Enum-2.result.now) =
+    c.deref-in-Enum-3.ensures.value ∙ c.in_ok-numbers-in-Enum.ensures ∙ ap (λ vs. discriminants_of (trees_of_variants vs)) (c.deref-in-Enum.ensures.value ∙ sym c.deref-in-Enum-2.ensures.value) in
+    let told = rw c.deref-in-Enum-4.ensures.value at c.add_enum.ensures.ok in
+    rw same
+    (both_ok c.add_enum.result _ _ _ told c.add_enum.ensures.own
+    (λ i h own. rw c.deref-in-Enum-2.ensures.value at (enum_counted c.args.dl.now _ _ _ i _ _ c.in_ok-children-in-Enum.ensures.counted
+    (h (trees_of_variants c.deref-in-Enum-2.result.now) numbers before.exact before.fits) own)))
+
+pub lay_tree-returns-in_ok-locals-in-Coroutine-clause-counted : goal.lay_tree-returns-in_ok-locals-in-Coroutine-clause-counted
+lay_tree-returns-in_ok-locals-in-Coroutine-clause-counted t c =
+    let first = AreAdded-later c.args.dl.now _ _ _ _ _ _ _ c.in_ok-prefix-in-Coroutine.ensures.ok c.in_ok-locals-in-Coroutine.ensures.ok in
+    let own = c.in_ok-locals-in-Coroutine.ensures.ok in
+    let same = ap tree_of c.in-Coroutine.is ∙ tree_of-Coroutine c.in-Coroutine.prefix c.in-Coroutine.locals c.in-Coroutine.states c.in-Coroutine.conflicts in
+    let told = rw (c.deref-in-Coroutine-3.ensures.value, c.deref-in-Coroutine-4.ensures.value, c.deref-in-Coroutine-5.ensures.value) at c.add_coroutine.ensures.ok in
+    rw same
+    (both_ok c.add_coroutine.result _ _ _ told c.add_coroutine.ensures.own
+    (λ i h put. rw (c.deref-in-Coroutine.ensures.value, c.deref-in-Coroutine-2.ensures.value) at
+    (coroutine_counted c.args.dl.now _ _ _ _ i _ _ _ _ c.in_ok-prefix-in-Coroutine.ensures.counted c.in_ok-locals-in-Coroutine.ensures.counted (h _ _ first.exact own.exact first.fits own.fits) put)))

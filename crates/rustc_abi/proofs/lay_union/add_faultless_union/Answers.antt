@@ -3,10 +3,11 @@ use Rattle.std.proofs.lemmas.List.{length-map}
 use Rattle.std.proofs.lemmas.Result.{IfOk-weaker}
 use Rattle.abi_laid.specs.Nodes.{placed_in, types_in}
 use Rattle.abi_laid.specs.Well.{all_at}
-use Rattle.rustc_abi.proofs.LayLemmas.{faultless_few, faultless_aligns}
-use Rattle.rustc_abi.proofs.TogetherLemmas.{IsAdded-union, union_refused}
-use Rattle.rustc_abi.proofs.LawsLemmas.{union_places}
-use Rattle.rustc_abi.proofs.ListLemmas.{all_below, passed_on}
+use Rattle.rustc_abi.proofs.Trees.LayLemmas.{faultless_few, faultless_aligns}
+use Rattle.rustc_abi.proofs.Unions.TogetherLemmas.{IsAdded-union, union_refused}
+use Rattle.rustc_abi.proofs.Places.LawsLemmas.{union_places}
+use Rattle.rustc_abi.proofs.Trees.ListLemmas.{all_below, passed_on}
+use Rattle.rustc_abi.proofs.Sizes.CountLemmas.{both_ok, own_put}
 use Rattle.rustc_abi.proofs.lay_union.add_faultless_union.Goals as goal
 
 pub union_layout-requires-clause-aligns : goal.union_layout-requires-clause-aligns
@@ -43,3 +44,8 @@ pub returns-in_err-layout-clause-err : goal.returns-in_err-layout-clause-err
 returns-in_err-layout-clause-err c =
     let refused = rw (c.deref.ensures.value, c.deref-2.ensures.value) at c.in_err-layout.ensures.err in
     passed_on _ _ _ c.from_residual.ensures.1 (union_refused c.args.dl.now c.args.repr.now _ _ c.requires.faultless refused)
+
+pub returns-clause-own : goal.returns-clause-own
+returns-clause-own c =
+    both_ok c.add.result _ _ _ c.add.ensures.ok c.add.ensures.count
+    (λ i put count. own_put c.args.nodes.now.items c.args.nodes.now.items c.add.new.nodes.items i _ put count)

@@ -5,8 +5,8 @@ use Rattle.abi_lists.specs.Union.{only_of}
 use Rattle.abi_scalar.specs.Lawful.{IsLawfulLayout}
 use Rattle.abi_laid.specs.Placed.{layout_of}
 use Rattle.abi_laid.specs.Well.{all_at}
-use Rattle.rustc_abi.proofs.ListLemmas.{All-from_map, passed_on}
-use Rattle.rustc_abi.proofs.CalcLemmas.{united_ok, united_err}
+use Rattle.rustc_abi.proofs.Trees.ListLemmas.{All-from_map, passed_on}
+use Rattle.rustc_abi.proofs.Unions.CalcLemmas.{united_ok, united_err}
 use Rattle.rustc_abi.proofs.lay_union.union_layout.Goals as goal
 
 pub layout_of_union-answer-requires-clause-fields : goal.layout_of_union-answer-requires-clause-fields

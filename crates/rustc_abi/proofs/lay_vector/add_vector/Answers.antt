@@ -1,12 +1,13 @@
-use Rattle.std.proofs.Common.{◌≡◌, Some, Ok, ℕ, ap, sym, subst}
+use Rattle.std.proofs.Common.{◌≡◌, Some, Ok, ℕ, ap, sym, subst, arith}
 use Rattle.std.proofs.lemmas.Result.{IfOk-weaker}
 use Rattle.abi_lists.specs.Array.{array_answer}
 use Rattle.abi_lists.specs.Simd.{simd_answer}
 use Rattle.abi_laid.specs.Placed.{layout_of}
 use Rattle.rustc_abi.specs.Error.{named}
 use Rattle.abi_laid.specs.Nodes.{placed_at, types_in}
-use Rattle.rustc_abi.proofs.LawsLemmas.{elements_laws, vector_laws}
-use Rattle.rustc_abi.proofs.TogetherLemmas.{IsAdded-vector}
+use Rattle.rustc_abi.proofs.Places.LawsLemmas.{elements_laws, vector_laws}
+use Rattle.rustc_abi.proofs.Unions.TogetherLemmas.{IsAdded-vector}
+use Rattle.rustc_abi.proofs.Sizes.CountLemmas.{both_ok, own_put}
 use Rattle.rustc_abi.proofs.lay_vector.add_vector.Goals as goal
 
 pub vector_layout-requires-clause-lawful : goal.vector_layout-requires-clause-lawful
@@ -42,3 +43,8 @@ returns-clause-ok c =
     IfOk-weaker c.add-2.result _ _
     (λ j put t laid fits. IsAdded-vector dl _ _ _ _ j element c.args.lanes c.args.packed c.in_ok-array.array c.in_ok-layout.layout t answer c.in_ok-layout.ensures.lawful (sym listed) c.in_ok-array.ensures.lawful c.in_ok-node.ensures.ok put laid fits)
     c.add-2.ensures.ok
+
+pub returns-clause-own : goal.returns-clause-own
+returns-clause-own c =
+    both_ok c.add-2.result _ _ _ c.add-2.ensures.ok c.add-2.ensures.count
+    (λ i put count. own_put c.args.nodes.now.items c.add.new.nodes.items c.add-2.new.nodes.items i _ put (omega (arith, c.in_ok-node.ensures.count, count)))

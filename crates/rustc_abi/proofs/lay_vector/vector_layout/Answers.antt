@@ -1,7 +1,7 @@
 use Rattle.std.proofs.Common.{sym, subst}
 use Rattle.abi_scalar.specs.Lawful.{IsLawfulLayout}
-use Rattle.rustc_abi.proofs.ListLemmas.{passed_on}
-use Rattle.rustc_abi.proofs.CalcLemmas.{simd_ok, simd_err}
+use Rattle.rustc_abi.proofs.Trees.ListLemmas.{passed_on}
+use Rattle.rustc_abi.proofs.Unions.CalcLemmas.{simd_ok, simd_err}
 use Rattle.rustc_abi.proofs.lay_vector.vector_layout.Goals as goal
 
 pub layout_of_simd_type-answer-requires-clause-element : goal.layout_of_simd_type-answer-requires-clause-element

@@ -9,9 +9,9 @@ use Rattle.abi_index.specs.Slice.{items_of}
 use Rattle.abi_scalar.specs.Lawful.{IsLawfulLayout}
 use Rattle.abi_scalar.specs.Simple.{scalar_layout}
 use Rattle.abi_calc.specs.Coroutine.Layout.{IsStateTag}
-use Rattle.abi_calc.proofs.CoroutineAnswers.{IsAsked}
-use Rattle.abi_calc.proofs.CoroutineOrdered.{coroutine_ordered}
-use Rattle.abi_calc.proofs.CoroutineSeen.{coroutine_align, coroutine_made, coroutine_marks, coroutine_niche, coroutine_view}
+use Rattle.abi_calc.proofs.CoroutineLemmas.Promised.{IsAsked}
+use Rattle.abi_calc.proofs.CoroutineLemmas.Ordered.{coroutine_ordered}
+use Rattle.abi_calc.proofs.CoroutineLemmas.Seen.{coroutine_align, coroutine_made, coroutine_marks, coroutine_niche, coroutine_view}
 use Rattle.abi_calc.proofs.calculator.LayoutCalculator.layout_of_coroutine.Goals as goal
 
 pub layout_of_states-requires-clause-locals : goal.layout_of_states-requires-clause-locals

@@ -5,7 +5,7 @@ use Rattle.abi_base.specs.declared.integer.Integer.{Integer}
 use Rattle.abi_scalar.specs.declared.variants.RangeFrom.{RangeFrom}
 use Rattle.abi_scalar.specs.declared.variants.RangeToInclusive.{RangeToInclusive}
 use Rattle.abi_calc.specs.Enums.Discriminants.{counting_of}
-use Rattle.abi_calc.proofs.EnumSeveral.{better_lawful, better_size, better_told, enum_answer, found_niche, no_refusal}
+use Rattle.abi_calc.proofs.EnumLemmas.Several.{better_lawful, better_size, better_told, enum_answer, found_niche, no_refusal}
 use Rattle.abi_calc.proofs.calculator.LayoutCalculator.layout_of_enum.Goals as goal
 
 pub better-requires-clause-niche : goal.better-requires-clause-niche

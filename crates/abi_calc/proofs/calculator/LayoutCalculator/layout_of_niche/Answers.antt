@@ -1,8 +1,8 @@
 -- The lists are those of the variants, and lists that are good can be moved; where no field has a niche, no list has one.
 use Rattle.std.proofs.Common.{inr, sym, ◌∙◌}
-use Rattle.abi_calc.proofs.EnumGrowth.{lists_count}
-use Rattle.abi_calc.proofs.EnumInNiche.{small_lists}
-use Rattle.abi_calc.proofs.NoNiche.{no_layout}
+use Rattle.abi_calc.proofs.EnumLemmas.Growth.{lists_count}
+use Rattle.abi_calc.proofs.EnumLemmas.InNiche.{small_lists}
+use Rattle.abi_calc.proofs.EnumLemmas.NoNiche.{no_layout}
 use Rattle.abi_calc.proofs.calculator.LayoutCalculator.layout_of_niche.Goals as goal
 
 pub niche_of_lists-requires-clause-lawful : goal.niche_of_lists-requires-clause-lawful

@@ -2,7 +2,7 @@
 use Rattle.std.proofs.Common.{map}
 use Rattle.abi_scalar.specs.Lawful.{IsLawfulLayout}
 use Rattle.abi_calc.specs.Coroutine.Lists.{default_repr, own_list, own_of}
-use Rattle.abi_calc.proofs.CoroutineLists.{all_picked, same_error}
+use Rattle.abi_calc.proofs.CoroutineLemmas.Lists.{all_picked, same_error}
 use Rattle.abi_calc.proofs.calculator.LayoutCalculator.layout_of_own.Goals as goal
 
 pub layout_of_variant-requires-clause-fields : goal.layout_of_variant-requires-clause-fields

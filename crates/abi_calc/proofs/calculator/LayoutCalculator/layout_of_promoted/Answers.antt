@@ -13,11 +13,11 @@ use Rattle.abi_calc.specs.Coroutine.Layout.{IsStateTag, coroutine_layout, whole_
 use Rattle.abi_calc.specs.Coroutine.Lists.{behind, default_repr, first_list}
 use Rattle.abi_calc.specs.Coroutine.Sizes.{own_lists}
 use Rattle.abi_calc.specs.Enums.Lists.{AreGoodLists, IsFirstListError, IsGoodList}
-use Rattle.abi_calc.proofs.CoroutineAnswers.{IsAsked, first_count, first_lawful, first_promised, good_fields, good_own_fields, own_promised, whole_promised}
-use Rattle.abi_calc.proofs.CoroutineStates.{members_few}
-use Rattle.abi_calc.proofs.EnumLists.{good_lawful}
-use Rattle.abi_calc.proofs.CoroutineApart.{told_promised}
-use Rattle.abi_calc.proofs.CoroutineShared.{clash_promised, offset_promised}
+use Rattle.abi_calc.proofs.CoroutineLemmas.Promised.{IsAsked, first_count, first_lawful, first_promised, good_fields, good_own_fields, own_promised, whole_promised}
+use Rattle.abi_calc.proofs.CoroutineLemmas.States.{members_few}
+use Rattle.abi_calc.proofs.EnumLemmas.Lists.{good_lawful}
+use Rattle.abi_calc.proofs.CoroutineLemmas.Apart.{told_promised}
+use Rattle.abi_calc.proofs.CoroutineLemmas.Shared.{clash_promised, offset_promised}
 use Rattle.abi_calc.proofs.calculator.LayoutCalculator.layout_of_promoted.Goals as goal
 
 pub layout_of_variant-requires-clause-fields : goal.layout_of_variant-requires-clause-fields

@@ -9,7 +9,7 @@ use Rattle.abi_calc.specs.Enums.Answer.{HasOneEach}
 use Rattle.abi_calc.specs.Enums.Beside.{AreToldApart}
 use Rattle.abi_calc.specs.Enums.Discriminants.{counting_of}
 use Rattle.abi_calc.specs.Enums.Several.{AreLawfulTags, HasEnumSize, IsAlwaysTooLarge, IsAskedTooLarge}
-use Rattle.abi_calc.proofs.EnumType.{each_named, list_given, list_of_each, none_there, whole_if_ok, whole_of_list}
+use Rattle.abi_calc.proofs.EnumLemmas.Whole.{each_named, list_given, list_of_each, none_there, whole_if_ok, whole_of_list}
 use Rattle.abi_calc.proofs.calculator.LayoutCalculator.layout_of_several.Goals as goal
 
 pub layout_of_enum-requires-clause-named : goal.layout_of_enum-requires-clause-named

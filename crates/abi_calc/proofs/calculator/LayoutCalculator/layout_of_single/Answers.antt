@@ -1,4 +1,4 @@
-use Rattle.abi_calc.proofs.EnumSingle.{scalars_lawful, single_lawful}
+use Rattle.abi_calc.proofs.EnumLemmas.Single.{scalars_lawful, single_lawful}
 use Rattle.abi_calc.proofs.calculator.LayoutCalculator.layout_of_single.Goals as goal
 
 pub allowed_view-layout-requires-clause-view : goal.allowed_view-layout-requires-clause-view

@@ -5,9 +5,9 @@ use Rattle.abi_scalar.specs.Simple.{scalar_layout}
 use Rattle.abi_calc.specs.Coroutine.Answer.{IsPromotedAnswer}
 use Rattle.abi_calc.specs.Coroutine.Promotion.{promoted_of}
 use Rattle.abi_calc.specs.Coroutine.Sizes.{IsSizeWith, IsTooLargeWith}
-use Rattle.abi_calc.proofs.OneCoroutine.{one_tag}
-use Rattle.abi_calc.proofs.CoroutinePromotion.{promoted_count}
-use Rattle.abi_calc.proofs.CoroutineShared.{overlap_promised}
+use Rattle.abi_calc.proofs.CoroutineLemmas.OneCoroutine.{one_tag}
+use Rattle.abi_calc.proofs.CoroutineLemmas.Promotion.{promoted_count}
+use Rattle.abi_calc.proofs.CoroutineLemmas.Shared.{overlap_promised}
 use Rattle.abi_calc.specs.Coroutine.Layout.{IsStateTag}
 use Rattle.abi_scalar.specs.declared.scalar.Scalar.{Scalar}
 use Rattle.abi_calc.proofs.calculator.LayoutCalculator.layout_of_states.Goals as goal

@@ -23,9 +23,9 @@ use Rattle.abi_calc.specs.Enums.Made.{AreVariantsAligned, HasLeastTag, IsMadeOfL
 use Rattle.abi_calc.specs.Enums.Path.{has_no_value, path_of}
 use Rattle.abi_calc.specs.Ordered.{IsTagField}
 use Rattle.abi_calc.specs.Enums.Several.{AreLawfulTags, HasEnumSize, IsAlwaysTooLarge, IsAskedTooLarge, IsSeveralAnswer}
-use Rattle.abi_calc.proofs.EnumMade.{niche_aligned, niche_field, niche_flag, niche_least, niche_made, niche_sized, several_ok, several_ordered, several_run, tagged_aligned, tagged_field, tagged_flag, tagged_least, tagged_made, tagged_sized}
-use Rattle.abi_calc.proofs.EnumSeen.{seen_at}
-use Rattle.abi_calc.proofs.EnumType.{IsReadAt, at_listed, fields_hold, good_single, index_within, read_at, several_exact, several_some, single_exact}
+use Rattle.abi_calc.proofs.EnumLemmas.Made.{niche_aligned, niche_field, niche_flag, niche_least, niche_made, niche_sized, several_ok, several_ordered, several_run, tagged_aligned, tagged_field, tagged_flag, tagged_least, tagged_made, tagged_sized}
+use Rattle.abi_calc.proofs.EnumLemmas.Seen.{seen_at}
+use Rattle.abi_calc.proofs.EnumLemmas.Whole.{IsReadAt, at_listed, fields_hold, good_single, index_within, read_at, several_exact, several_some, single_exact}
 use Rattle.abi_calc.proofs.calculator.LayoutCalculator.layout_of_struct_or_enum.Given as given
 use Rattle.abi_calc.proofs.calculator.LayoutCalculator.layout_of_struct_or_enum.Goals as goal
 

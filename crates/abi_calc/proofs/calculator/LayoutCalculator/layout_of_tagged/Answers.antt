@@ -5,9 +5,9 @@ use Rattle.abi_base.specs.declared.data_layout.TargetDataLayout.{TargetDataLayou
 use Rattle.abi_base.specs.declared.struct_kind.StructKind.{StructKind}
 use Rattle.abi_scalar.specs.declared.error.LayoutCalculatorError.TheVariants.{OutOfMemory}
 use Rattle.abi_calc.specs.Enums.Lists.{AreGoodLists, IsFirstListError, behind_tag}
-use Rattle.abi_calc.proofs.EnumAnswers.{HasGoodLists, IsBy, IsWholeFault, by_apart, by_differ, by_good, by_lawful, by_no_other, by_numbers, by_refused, by_size, by_too_large, by_view, list_no_other, list_refused, list_too_large}
-use Rattle.abi_calc.proofs.EnumOrdered.{if_any}
-use Rattle.abi_calc.proofs.EnumTagged.{tagged_answer}
+use Rattle.abi_calc.proofs.EnumLemmas.Promised.{HasGoodLists, IsBy, IsWholeFault, by_apart, by_differ, by_good, by_lawful, by_no_other, by_numbers, by_refused, by_size, by_too_large, by_view, list_no_other, list_refused, list_too_large}
+use Rattle.abi_calc.proofs.EnumLemmas.Ordered.{if_any}
+use Rattle.abi_calc.proofs.EnumLemmas.Tagged.{tagged_answer}
 use Rattle.abi_calc.proofs.calculator.LayoutCalculator.layout_of_tagged.Goals as goal
 
 pub layout_of_lists-requires-clause-fields : goal.layout_of_lists-requires-clause-fields

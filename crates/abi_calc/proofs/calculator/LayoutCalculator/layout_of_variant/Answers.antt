@@ -1,6 +1,6 @@
 -- What a list's layout is told to be.
 use Rattle.std.proofs.Common.{sym}
-use Rattle.abi_calc.proofs.EnumLists.{fault_of, good_of}
+use Rattle.abi_calc.proofs.EnumLemmas.Lists.{fault_of, good_of}
 use Rattle.abi_calc.proofs.calculator.LayoutCalculator.layout_of_variant.Goals as goal
 
 -- the slice has the list's items

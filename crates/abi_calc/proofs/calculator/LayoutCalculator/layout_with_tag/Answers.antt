@@ -11,7 +11,7 @@ use Rattle.abi_calc.specs.Enums.Discriminants.{IsAskedWith, counting_of}
 use Rattle.abi_calc.specs.Enums.Places.{AreNumbersAmong}
 use Rattle.abi_calc.specs.Enums.Several.{IsAskedFor}
 use Rattle.abi_calc.specs.Enums.Tagged.{IsTaggedAnswer}
-use Rattle.abi_calc.proofs.EnumTold.{asked_sized, told_by_tag}
+use Rattle.abi_calc.proofs.EnumLemmas.Told.{asked_sized, told_by_tag}
 use Rattle.abi_calc.proofs.calculator.LayoutCalculator.layout_with_tag.Goals as goal
 
 pub returns : goal.returns

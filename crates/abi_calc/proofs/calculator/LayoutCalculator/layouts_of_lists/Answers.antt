@@ -5,7 +5,7 @@ use Rattle.std.specs.Result.{is_ok}
 use Rattle.std.specs.Prelude.{All}
 use Rattle.abi_scalar.specs.Lawful.{IsLawfulLayout}
 use Rattle.abi_calc.specs.Enums.Lists.{AreGoodLists}
-use Rattle.abi_calc.proofs.EnumLists.{all_next, error_next, good_exact, good_lawful, good_listed, good_next}
+use Rattle.abi_calc.proofs.EnumLemmas.Lists.{all_next, error_next, good_exact, good_lawful, good_listed, good_next}
 use Rattle.abi_calc.proofs.calculator.LayoutCalculator.layouts_of_lists.Goals as goal
 
 pub layout_of_variant-requires-clause-fields : goal.layout_of_variant-requires-clause-fields

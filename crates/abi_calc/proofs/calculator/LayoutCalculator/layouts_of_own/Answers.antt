@@ -6,7 +6,7 @@ use Rattle.std.specs.Prelude.{All}
 use Rattle.abi_calc.specs.Coroutine.Lists.{default_repr}
 use Rattle.abi_calc.specs.Coroutine.Sizes.{own_lists}
 use Rattle.abi_calc.specs.Enums.Lists.{AreGoodLists}
-use Rattle.abi_calc.proofs.CoroutineLists.{own_all_next, own_error_next, own_good_next}
+use Rattle.abi_calc.proofs.CoroutineLemmas.Lists.{own_all_next, own_error_next, own_good_next}
 use Rattle.abi_calc.proofs.calculator.LayoutCalculator.layouts_of_own.Goals as goal
 
 pub layout_of_own-requires-clause-within : goal.layout_of_own-requires-clause-within

@@ -9,8 +9,8 @@ use Rattle.abi_scalar.specs.declared.variants.TagEncoding.TheVariants.{Direct}
 use Rattle.abi_scalar.specs.declared.variants.Variants.TheVariants.{Multiple}
 use Rattle.abi_scalar.specs.Shape.{listed_order}
 use Rattle.abi_calc.specs.Coroutine.Layout.{coroutine_layout}
-use Rattle.abi_calc.proofs.CoroutineStates.{order_count}
-use Rattle.abi_calc.proofs.EnumTagged.{same_parts}
+use Rattle.abi_calc.proofs.CoroutineLemmas.States.{order_count}
+use Rattle.abi_calc.proofs.EnumLemmas.Tagged.{same_parts}
 use Rattle.abi_calc.proofs.coroutine.layout.layout_of_size.Goals as goal
 
 pub slice_bounds-field_offsets-end : goal.slice_bounds-field_offsets-end

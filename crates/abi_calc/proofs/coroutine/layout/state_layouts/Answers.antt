@@ -6,8 +6,8 @@ use Rattle.std.proofs.lemmas.List.{append-nil, length_push, nil_from_length, tak
 use Rattle.abi_index.specs.BitSet.{members_of}
 use Rattle.abi_calc.specs.Coroutine.Lists.{own_of}
 use Rattle.abi_calc.specs.Coroutine.States.{HasFields, ranks_of, state_layout, state_layouts, stitched_layout}
-use Rattle.abi_calc.proofs.CoroutineLayout.{layouts_next, layouts_none, list_at, list_short, ranks_count, ranks_within}
-use Rattle.abi_calc.proofs.CoroutineStates.{item_in}
+use Rattle.abi_calc.proofs.CoroutineLemmas.Layout.{layouts_next, layouts_none, list_at, list_short, ranks_count, ranks_within}
+use Rattle.abi_calc.proofs.CoroutineLemmas.States.{item_in}
 use Rattle.abi_calc.proofs.coroutine.layout.state_layouts.Goals as goal
 
 pub loop-list-init : goal.loop-list-init

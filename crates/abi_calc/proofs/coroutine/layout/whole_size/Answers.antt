@@ -3,7 +3,7 @@ use Rattle.std.proofs.Common.{◌≡◌, ◌∙◌, ◌^◌, ap, ap₂, arith, m
 use Rattle.std.specs.Int.{next_multiple_of}
 use Rattle.std.proofs.lemmas.List.{map-id}
 use Rattle.abi_lists.specs.Fields.{greatest_size}
-use Rattle.abi_calc.proofs.CoroutineLayout.{whole_align_small, whole_small}
+use Rattle.abi_calc.proofs.CoroutineLemmas.Layout.{whole_align_small, whole_small}
 use Rattle.abi_calc.proofs.coroutine.layout.whole_size.Goals as goal
 
 pub rounded-requires-clause-offset : goal.rounded-requires-clause-offset

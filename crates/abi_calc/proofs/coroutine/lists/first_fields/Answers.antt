@@ -5,7 +5,7 @@ use Rattle.std.specs.List.{range_with_len}
 use Rattle.std.proofs.lemmas.List.{append_assoc, length-append}
 use Rattle.abi_index.specs.BitSet.{is_member}
 use Rattle.abi_calc.specs.Coroutine.Lists.{picked}
-use Rattle.abi_calc.proofs.CoroutineLists.{picked_kept, picked_left}
+use Rattle.abi_calc.proofs.CoroutineLemmas.Lists.{picked_kept, picked_left}
 use Rattle.abi_calc.proofs.coroutine.lists.first_fields.Goals as goal
 use Rattle.abi_calc.proofs.coroutine.lists.first_fields.Goals.{then-contains+in_ok-_index-2, else-contains}
 

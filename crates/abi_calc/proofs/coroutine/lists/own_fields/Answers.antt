@@ -2,7 +2,7 @@
 use Rattle.std.proofs.Common.{◌≡◌, ◌<◌, ◌∷◌, ◌++◌, ◌∙◌, [], ap, arith, get_or, length, subst, sym}
 use Rattle.std.proofs.lemmas.List.{length-append}
 use Rattle.std.specs.Prelude.{All, not}
-use Rattle.abi_calc.proofs.CoroutineLists.{own_kept, own_left}
+use Rattle.abi_calc.proofs.CoroutineLemmas.Lists.{own_kept, own_left}
 use Rattle.abi_calc.proofs.coroutine.lists.own_fields.Goals as goal
 use Rattle.abi_calc.proofs.coroutine.lists.own_fields.Goals.{then-not-contains+in_ok-_index, else-not-contains}
 

@@ -2,7 +2,7 @@ use Rattle.std.proofs.Common.{◌<◌, ap, arith, get_or, length, map, ◌∙◌
 use Rattle.std.proofs.lemmas.List.{length-map}
 use Rattle.std.proofs.lemmas.List.FromFn.{get_or-map-range_with_len}
 use Rattle.abi_calc.specs.Coroutine.Promotion.{holder_of}
-use Rattle.abi_calc.proofs.CoroutineHolders.{numbers_there, several_all, several_step}
+use Rattle.abi_calc.proofs.CoroutineLemmas.Holders.{numbers_there, several_all, several_step}
 use Rattle.abi_calc.proofs.coroutine.promotion.held_by_several.Goals as goal
 
 pub loop-place-preserved : goal.loop-place-preserved

@@ -1,5 +1,5 @@
 use Rattle.std.proofs.Common.{sym, ◌∙◌}
-use Rattle.abi_calc.proofs.CoroutineSteps.{used_here}
+use Rattle.abi_calc.proofs.CoroutineLemmas.Steps.{used_here}
 use Rattle.abi_calc.proofs.coroutine.promotion.is_used.Goals as goal
 
 pub returns-then-not-contains : goal.returns-then-not-contains

@@ -3,7 +3,7 @@ use Rattle.std.specs.Prelude.{if◌then◌else◌}
 use Rattle.abi_index.specs.Relation.{row_count}
 use Rattle.abi_lists.specs.Placement.{source_order}
 use Rattle.abi_calc.specs.Coroutine.Promotion.{after_row, after_rows, held_by_several, holders_of, used_count}
-use Rattle.abi_calc.proofs.CoroutineHolders.{holders_size, several_size}
+use Rattle.abi_calc.proofs.CoroutineLemmas.Holders.{holders_size, several_size}
 use Rattle.abi_calc.proofs.coroutine.promotion.promoted_locals.Goals as goal
 
 pub held_by_several-requires-clause-count : goal.held_by_several-requires-clause-count

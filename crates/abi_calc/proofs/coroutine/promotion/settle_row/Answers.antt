@@ -3,7 +3,7 @@ use Rattle.std.proofs.lemmas.List.Elements.{All-head, All-rest, All-same}
 use Rattle.abi_index.specs.BitRow.{columns_left}
 use Rattle.abi_index.specs.Relation.{columns_of, row_count}
 use Rattle.abi_calc.specs.Coroutine.Promotion.{after_conflict}
-use Rattle.abi_calc.proofs.CoroutineSteps.{columns_within, left_end, left_start, left_step, left_within}
+use Rattle.abi_calc.proofs.CoroutineLemmas.Steps.{columns_within, left_end, left_start, left_step, left_within}
 use Rattle.abi_calc.proofs.coroutine.promotion.settle_row.Goals as goal
 
 pub loop-column-init : goal.loop-column-init

@@ -4,7 +4,7 @@ use Rattle.abi_index.specs.Indices.{indices_left}
 use Rattle.abi_index.specs.Relation.{row_count}
 use Rattle.abi_lists.specs.Placement.{source_order}
 use Rattle.abi_calc.specs.Coroutine.Promotion.{after_row}
-use Rattle.abi_calc.proofs.CoroutineSteps.{left_end, left_start, left_step, left_within, rows_within}
+use Rattle.abi_calc.proofs.CoroutineLemmas.Steps.{left_end, left_start, left_step, left_within, rows_within}
 use Rattle.abi_calc.proofs.coroutine.promotion.settle_rows.Goals as goal
 
 pub loop-row-init : goal.loop-row-init

@@ -1,5 +1,5 @@
 use Rattle.std.proofs.Common.{arith, ◌∙◌}
-use Rattle.abi_calc.proofs.CoroutineSteps.{used_more}
+use Rattle.abi_calc.proofs.CoroutineLemmas.Steps.{used_more}
 use Rattle.abi_calc.proofs.coroutine.promotion.used_count.Goals as goal
 use Rattle.abi_calc.proofs.coroutine.promotion.used_count.Goals.{then-is_used, else-is_used}
 

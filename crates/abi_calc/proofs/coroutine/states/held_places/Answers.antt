@@ -6,7 +6,7 @@ use Rattle.std.proofs.lemmas.List.Elements.{All-set}
 use Rattle.std.proofs.lemmas.List.{length-map}
 use Rattle.abi_index.specs.BitSet.{is_member}
 use Rattle.abi_calc.specs.Coroutine.States.{rank_of}
-use Rattle.abi_calc.proofs.CoroutineStates.{IsHeldBefore, held_same, held_set, name_at, places_before}
+use Rattle.abi_calc.proofs.CoroutineLemmas.States.{IsHeldBefore, held_same, held_set, name_at, places_before}
 use Rattle.abi_calc.proofs.coroutine.states.held_places.Goals as goal
 use Rattle.abi_calc.proofs.coroutine.states.held_places.Goals.{then-contains, else-contains}
 

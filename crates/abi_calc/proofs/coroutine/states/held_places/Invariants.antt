@@ -1,7 +1,7 @@
 -- The table tells the places before this one.
 use Rattle.std.proofs.Common.{◌≡◌, ◌<◌, length, map}
 use Rattle.std.specs.Prelude.{All, IfSome}
-use Rattle.abi_calc.proofs.CoroutineStates.{IsHeldBefore}
+use Rattle.abi_calc.proofs.CoroutineLemmas.States.{IsHeldBefore}
 use Rattle.abi_calc.proofs.coroutine.states.held_places.Given as goal
 
 abbrev pub invariant-loop-place : goal.invariant-loop-place

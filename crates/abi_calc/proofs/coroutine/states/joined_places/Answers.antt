@@ -3,7 +3,7 @@ use Rattle.std.proofs.Common.{◌≤◌, ◌++◌, ◌∷◌, ◌∙◌, [], Non
 use Rattle.std.specs.Prelude.{IfSome, flat_map, slice_index, slice_index_or}
 use Rattle.std.specs.Option.{option_to_list}
 use Rattle.std.proofs.lemmas.List.{length-append}
-use Rattle.abi_calc.proofs.CoroutineStates.{joined_kept, joined_left, joined_more, none_found}
+use Rattle.abi_calc.proofs.CoroutineLemmas.States.{joined_kept, joined_left, joined_more, none_found}
 use Rattle.abi_calc.proofs.coroutine.states.joined_places.Goals as goal
 use Rattle.abi_calc.proofs.coroutine.states.joined_places.Goals.{in-Some+in_ok-_place, in_default}
 

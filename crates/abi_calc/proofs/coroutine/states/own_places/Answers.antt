@@ -5,8 +5,8 @@ use Rattle.std.specs.List.{range_with_len}
 use Rattle.std.proofs.lemmas.List.{append-nil}
 use Rattle.std.proofs.lemmas.List.Elements.{All-push}
 use Rattle.abi_index.specs.BitSet.{is_member}
-use Rattle.abi_calc.proofs.CoroutineLists.{kept_more}
-use Rattle.abi_calc.proofs.CoroutineStates.{name_at}
+use Rattle.abi_calc.proofs.CoroutineLemmas.Lists.{kept_more}
+use Rattle.abi_calc.proofs.CoroutineLemmas.States.{name_at}
 use Rattle.abi_calc.proofs.coroutine.states.own_places.Goals as goal
 use Rattle.abi_calc.proofs.coroutine.states.own_places.Goals.{then-not-contains+in_ok-push, else-not-contains}
 

@@ -1,6 +1,6 @@
 -- The table tells the rank, which is one of the members'.
 use Rattle.std.proofs.Common.{◌<◌, ◌∙◌, ap, length, slice_index_or, subst, sym}
-use Rattle.abi_calc.proofs.CoroutineStates.{member_below, rank_member, rank_read}
+use Rattle.abi_calc.proofs.CoroutineLemmas.States.{member_below, rank_member, rank_read}
 use Rattle.abi_calc.proofs.coroutine.states.rank_in.Goals as goal
 
 pub bounds-below-index : goal.bounds-below-index

@@ -2,7 +2,7 @@
 use Rattle.std.proofs.Common.{◌+◌, ◌++◌, ◌∷◌, ◌∙◌, [], ap, arith, length, map, sym, take, true, false}
 use Rattle.std.specs.Prelude.{not, slice_index}
 use Rattle.std.proofs.lemmas.List.{get_or_read, length-append}
-use Rattle.abi_calc.proofs.CoroutineStates.{offset_own, offset_shared, offsets_more, own_count, own_count_most}
+use Rattle.abi_calc.proofs.CoroutineLemmas.States.{offset_own, offset_shared, offsets_more, own_count, own_count_most}
 use Rattle.abi_calc.proofs.coroutine.states.state_offsets.Goals as goal
 use Rattle.abi_calc.proofs.coroutine.states.state_offsets.Goals.{then-contains, else-contains}
 

@@ -6,7 +6,7 @@ use Rattle.std.proofs.lemmas.List.{get_or-map, length-map}
 use Rattle.std.proofs.lemmas.List.Elements.{All-map, All-weaker}
 use Rattle.abi_lists.proofs.Sorting.{within_order}
 use Rattle.abi_calc.specs.Coroutine.Lists.{own_of}
-use Rattle.abi_calc.proofs.CoroutineStates.{count_own_places, held_small, joined_is, members_and_own, order_count}
+use Rattle.abi_calc.proofs.CoroutineLemmas.States.{count_own_places, held_small, joined_is, members_and_own, order_count}
 use Rattle.abi_calc.proofs.coroutine.states.state_order.Goals as goal
 
 pub joined_places-requires-clause-ranks : goal.joined_places-requires-clause-ranks

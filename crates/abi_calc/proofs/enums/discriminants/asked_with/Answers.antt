@@ -1,7 +1,7 @@
 use Rattle.std.proofs.Common.{sym, ap, ◌∙◌, ◌*◌}
 use Rattle.abi_base.specs.Integer.{integer_size}
 use Rattle.abi_base.specs.IntegerType.{integer_of_type, is_signed_type}
-use Rattle.abi_calc.proofs.EnumDiscriminants.{asked_plain, asked_signed}
+use Rattle.abi_calc.proofs.EnumLemmas.Discriminants.{asked_plain, asked_signed}
 use Rattle.abi_calc.proofs.enums.discriminants.asked_with.Goals as goal
 
 pub returns-else-is_signed : goal.returns-else-is_signed

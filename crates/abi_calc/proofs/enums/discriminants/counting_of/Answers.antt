@@ -1,6 +1,6 @@
 use Rattle.std.proofs.Common.{ap, map}
 use Rattle.abi_calc.specs.Enums.Discriminants.{counts}
-use Rattle.abi_calc.proofs.EnumDiscriminants.{kept, left_out}
+use Rattle.abi_calc.proofs.EnumLemmas.Discriminants.{kept, left_out}
 use Rattle.abi_calc.proofs.enums.discriminants.counting_of.Goals as goal
 use Rattle.abi_calc.proofs.enums.discriminants.counting_of.Goals.{then-counts+in_ok-push, else-counts}
 

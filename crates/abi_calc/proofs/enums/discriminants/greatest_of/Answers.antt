@@ -1,6 +1,6 @@
 use Rattle.std.proofs.Common.{pos}
 use Rattle.std.specs.Int.{int_max}
-use Rattle.abi_calc.proofs.EnumDiscriminants.{fold_map_all, greatest_reached}
+use Rattle.abi_calc.proofs.EnumLemmas.Discriminants.{fold_map_all, greatest_reached}
 use Rattle.abi_calc.proofs.enums.discriminants.greatest_of.Goals as goal
 
 pub returns : goal.returns

@@ -2,7 +2,7 @@ use Rattle.std.proofs.Common.{◌≡◌, ◌∙◌, ap, rules, ℤ, ℕ, ◌*◌
 use Rattle.std.proofs.lemmas.Int.{to_z-of_z}
 use Rattle.std.specs.Int.{int_max, int_min, w128}
 use Rattle.abi_base.specs.Size.{signed_value}
-use Rattle.abi_calc.proofs.EnumDiscriminants.{greatest_reached, least_reached, fold_map_all, fold_map_more, not_negative}
+use Rattle.abi_calc.proofs.EnumLemmas.Discriminants.{greatest_reached, least_reached, fold_map_all, fold_map_more, not_negative}
 use Rattle.abi_calc.proofs.enums.discriminants.signed_ends.Goals as goal
 
 pub loop-value-preserved : goal.loop-value-preserved

@@ -1,7 +1,7 @@
 use Rattle.std.proofs.Common.{ℕ, ◌<◌, List, sym, ap, subst, ◌∙◌, All}
 use Rattle.std.specs.Iterator.Runs.{ItemsAre}
 use Rattle.abi_scalar.specs.Range.{numbers_of}
-use Rattle.abi_calc.proofs.EnumDiscriminants.{cut_within, run_within}
+use Rattle.abi_calc.proofs.EnumLemmas.Discriminants.{cut_within, run_within}
 use Rattle.abi_calc.proofs.enums.discriminants.tag_range.Goals as goal
 
 pub smallest_range_containing-requires-clause-within : goal.smallest_range_containing-requires-clause-within

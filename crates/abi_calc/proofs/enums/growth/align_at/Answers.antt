@@ -1,7 +1,7 @@
 use Rattle.std.proofs.Common.{ap, ◌∙◌}
 use Rattle.std.specs.Prelude.{None, Some}
 use Rattle.abi_calc.specs.Enums.Growth.{align_or}
-use Rattle.abi_calc.proofs.EnumGrowth.{field_past, field_there}
+use Rattle.abi_calc.proofs.EnumLemmas.Growth.{field_past, field_there}
 use Rattle.abi_calc.proofs.enums.growth.align_at.Goals as goal
 
 pub returns-in-None : goal.returns-in-None

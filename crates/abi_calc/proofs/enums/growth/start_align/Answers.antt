@@ -1,5 +1,5 @@
 use Rattle.std.proofs.Common.{◌≡◌, ◌<◌, length, arith, map, sym, rules, ◌∙◌}
-use Rattle.abi_calc.proofs.EnumGrowth.{list_at, lists_count, start_end, start_most, start_step}
+use Rattle.abi_calc.proofs.EnumLemmas.Growth.{list_at, lists_count, start_end, start_most, start_step}
 use Rattle.abi_calc.proofs.enums.growth.start_align.Goals as goal
 
 pub loop-index-init : goal.loop-index-init

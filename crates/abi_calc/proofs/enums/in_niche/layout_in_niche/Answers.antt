@@ -10,7 +10,7 @@ use Rattle.abi_lists.specs.Fields.{greatest_align, greatest_repr_align, greatest
 use Rattle.abi_calc.specs.Enums.Niche.{if_placed, layout_in_niche, others_empty, room_beside, span_count, variants_from, view_with}
 use Rattle.abi_calc.specs.Enums.Tagged.{lists_align, lists_size}
 use Rattle.abi_scalar.specs.Reserve.{reserved}
-use Rattle.abi_calc.proofs.EnumTagged.{same_parts}
+use Rattle.abi_calc.proofs.EnumLemmas.Tagged.{same_parts}
 use Rattle.abi_calc.proofs.enums.in_niche.layout_in_niche.Goals as goal
 
 pub lists_size-size-requires-clause-align : goal.lists_size-size-requires-clause-align

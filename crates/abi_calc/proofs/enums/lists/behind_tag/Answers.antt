@@ -1,7 +1,7 @@
 -- The tag is smaller than the bound, and what the fields lie behind has an alignment within the limit.
 use Rattle.std.proofs.Common.{◌≤◌}
 use Rattle.abi_base.specs.Integer.{integer_align}
-use Rattle.abi_calc.proofs.EnumLists.{align_small_all, integer_below, integer_small}
+use Rattle.abi_calc.proofs.EnumLemmas.Lists.{align_small_all, integer_below, integer_small}
 use Rattle.abi_calc.proofs.enums.lists.behind_tag.Goals as goal
 use Rattle.abi_calc.proofs.enums.lists.behind_tag.Goals.{then-c, else-c}
 

@@ -1,5 +1,5 @@
 use Rattle.std.proofs.Common.{sym, ◌∙◌}
-use Rattle.abi_calc.proofs.EnumNiche.{others_next, others_stop}
+use Rattle.abi_calc.proofs.EnumLemmas.Niche.{others_next, others_stop}
 use Rattle.abi_calc.proofs.enums.niche.others_empty.Goals as goal
 
 pub returns-then-not-stays_empty : goal.returns-then-not-stays_empty

@@ -4,7 +4,7 @@ use Rattle.std.specs.Prelude.{All, option_map}
 use Rattle.std.proofs.lemmas.Iterator.Adapters.{option_map_id}
 use Rattle.std.proofs.lemmas.List.Elements.{All-head, All-tail}
 use Rattle.abi_calc.specs.Enums.Niche.{IsSmallList, variants_from}
-use Rattle.abi_calc.proofs.EnumNiche.{placed_count, placed_left, placed_step}
+use Rattle.abi_calc.proofs.EnumLemmas.Niche.{placed_count, placed_left, placed_step}
 use Rattle.abi_calc.proofs.enums.niche.placed_variants.Goals as goal
 
 pub loop-list-init : goal.loop-list-init

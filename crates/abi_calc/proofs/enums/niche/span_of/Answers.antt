@@ -1,6 +1,6 @@
 use Rattle.std.proofs.Common.{◌≡◌, ap, arith, map, sym, ◌∙◌}
 use Rattle.abi_calc.specs.Enums.Niche.{span_of}
-use Rattle.abi_calc.proofs.EnumNiche.{needs_number, needs_read, span_else, span_end, span_then}
+use Rattle.abi_calc.proofs.EnumLemmas.Niche.{needs_number, needs_read, span_else, span_end, span_then}
 use Rattle.abi_calc.proofs.enums.niche.span_of.Goals as goal
 use Rattle.abi_calc.proofs.enums.niche.span_of.Goals.{then-needs_number, else-needs_number}
 

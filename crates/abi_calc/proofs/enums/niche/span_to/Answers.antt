@@ -1,5 +1,5 @@
 use Rattle.std.proofs.Common.{sym, ◌∙◌}
-use Rattle.abi_calc.proofs.EnumNiche.{span_first, span_more}
+use Rattle.abi_calc.proofs.EnumLemmas.Niche.{span_first, span_more}
 use Rattle.abi_calc.proofs.enums.niche.span_to.Goals as goal
 
 pub returns-in-None : goal.returns-in-None

@@ -1,5 +1,5 @@
 use Rattle.std.proofs.Common.{true, false, arith, sym, ◌∙◌}
-use Rattle.abi_calc.proofs.EnumNiche.{untagged_end, untagged_start, untagged_step}
+use Rattle.abi_calc.proofs.EnumLemmas.Niche.{untagged_end, untagged_start, untagged_step}
 use Rattle.abi_calc.proofs.enums.niche.untagged_of.Goals as goal
 use Rattle.abi_calc.proofs.enums.niche.untagged_of.Goals.{then-reaches, else-reaches}
 

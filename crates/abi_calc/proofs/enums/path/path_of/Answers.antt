@@ -1,5 +1,5 @@
 use Rattle.std.proofs.Common.{◌∙◌, sym, arith}
-use Rattle.abi_calc.proofs.EnumPath.{path_nowhere, path_one, path_several, first_within}
+use Rattle.abi_calc.proofs.EnumLemmas.Path.{path_nowhere, path_one, path_several, first_within}
 use Rattle.abi_calc.proofs.enums.path.path_of.Goals as goal
 
 pub returns-in_default : goal.returns-in_default

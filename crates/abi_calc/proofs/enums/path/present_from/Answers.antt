@@ -1,5 +1,5 @@
 use Rattle.std.proofs.Common.{sym, ◌∙◌}
-use Rattle.abi_calc.proofs.EnumPath.{absent_here, present_here}
+use Rattle.abi_calc.proofs.EnumLemmas.Path.{absent_here, present_here}
 use Rattle.abi_calc.proofs.enums.path.present_from.Goals as goal
 
 pub returns-then-is_present : goal.returns-then-is_present

@@ -1,6 +1,6 @@
 -- None of the variants before is present.
 use Rattle.std.proofs.Common.{◌≡◌}
-use Rattle.abi_calc.proofs.EnumPath.{found_from}
+use Rattle.abi_calc.proofs.EnumLemmas.Path.{found_from}
 use Rattle.abi_calc.proofs.enums.path.present_from.Given as goal
 
 abbrev pub invariant-loop-index : goal.invariant-loop-index

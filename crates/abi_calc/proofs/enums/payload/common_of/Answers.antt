@@ -1,5 +1,5 @@
 use Rattle.std.proofs.Common.{◌∙◌, sym}
-use Rattle.abi_calc.proofs.EnumPayload.{common_begin, common_end, common_none, common_step}
+use Rattle.abi_calc.proofs.EnumLemmas.Payload.{common_begin, common_end, common_none, common_step}
 use Rattle.abi_calc.proofs.enums.payload.common_of.Goals as goal
 
 pub returns-then-is_empty-clause-value : goal.returns-then-is_empty-clause-value

@@ -1,7 +1,7 @@
 use Rattle.std.proofs.Common.{subst, sym, ap, ◌∙◌}
 use Rattle.abi_scalar.specs.Lawful.{IsLawfulLayout}
 use Rattle.abi_calc.specs.Enums.Growth.{moved}
-use Rattle.abi_calc.proofs.EnumPayload.{beside_lawful, payload_step}
+use Rattle.abi_calc.proofs.EnumLemmas.Payload.{beside_lawful, payload_step}
 use Rattle.abi_calc.proofs.enums.payload.payload_of.Goals as goal
 
 pub payload_of_field-requires-clause-field : goal.payload_of_field-requires-clause-field

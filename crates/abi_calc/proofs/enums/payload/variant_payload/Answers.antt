@@ -1,7 +1,7 @@
 use Rattle.std.proofs.Common.{◌≡◌, ◌<◌, ◌∙◌, All, ap, arith, length, rules, subst, sym}
 use Rattle.abi_scalar.specs.Lawful.{IsLawfulLayout}
-use Rattle.abi_calc.proofs.EnumGrowth.{list_at, lists_count}
-use Rattle.abi_calc.proofs.EnumPayload.{payload_there}
+use Rattle.abi_calc.proofs.EnumLemmas.Growth.{list_at, lists_count}
+use Rattle.abi_calc.proofs.EnumLemmas.Payload.{payload_there}
 use Rattle.abi_calc.proofs.enums.payload.variant_payload.Goals as goal
 
 pub bounds-variants-index : goal.bounds-variants-index

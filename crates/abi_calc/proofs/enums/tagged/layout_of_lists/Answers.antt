@@ -10,8 +10,8 @@ use Rattle.abi_calc.specs.Enums.Discriminants.{IsTagRange}
 use Rattle.abi_calc.specs.Enums.Growth.{grown_tag, start_align}
 use Rattle.abi_calc.specs.Enums.Payload.{tagged_view}
 use Rattle.abi_calc.specs.Enums.Tagged.{lists_align, lists_size, payloads_of}
-use Rattle.abi_calc.proofs.EnumGrowth.{lists_count}
-use Rattle.abi_calc.proofs.EnumTagged.{all_listed, integer_most, integer_some, tag_lawful, tagged_exact}
+use Rattle.abi_calc.proofs.EnumLemmas.Growth.{lists_count}
+use Rattle.abi_calc.proofs.EnumLemmas.Tagged.{all_listed, integer_most, integer_some, tag_lawful, tagged_exact}
 use Rattle.abi_calc.proofs.enums.tagged.layout_of_lists.Goals as goal
 
 pub lists_size-size-requires-clause-align : goal.lists_size-size-requires-clause-align

@@ -7,7 +7,7 @@ use Rattle.abi_scalar.proofs.ReadableLemmas.{lawful_readable}
 use Rattle.abi_lists.specs.Fields.{greatest_repr_align, greatest_unadjusted, seed_with}
 use Rattle.abi_lists.proofs.NicheLemmas.{readable_size}
 use Rattle.abi_calc.specs.Enums.Tagged.{layout_seen_as}
-use Rattle.abi_calc.proofs.EnumTagged.{same_parts}
+use Rattle.abi_calc.proofs.EnumLemmas.Tagged.{same_parts}
 use Rattle.abi_calc.proofs.enums.tagged.layout_seen_as.Goals as goal
 
 pub size-requires : goal.size-requires

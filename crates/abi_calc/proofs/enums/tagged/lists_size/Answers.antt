@@ -1,7 +1,7 @@
 -- Sizes and alignments of lawful lists are small.
 use Rattle.std.proofs.Common.{arith, refl, ◌^◌, ◌<◌}
 use Rattle.std.proofs.lemmas.List.{map-id}
-use Rattle.abi_calc.proofs.EnumTagged.{align_of_lists_small, size_of_lists_small}
+use Rattle.abi_calc.proofs.EnumLemmas.Tagged.{align_of_lists_small, size_of_lists_small}
 use Rattle.abi_calc.proofs.enums.tagged.lists_size.Goals as goal
 
 pub rounded-requires-clause-offset : goal.rounded-requires-clause-offset

@@ -7,7 +7,7 @@ use Rattle.abi_scalar.specs.Shape.{IsListed}
 use Rattle.abi_scalar.specs.Variant.{variant_of}
 use Rattle.abi_calc.specs.Enums.Growth.{grown_variant}
 use Rattle.abi_calc.specs.Enums.Payload.{seen_as}
-use Rattle.abi_calc.proofs.EnumTagged.{one_more, room_for}
+use Rattle.abi_calc.proofs.EnumLemmas.Tagged.{one_more, room_for}
 use Rattle.abi_calc.proofs.enums.tagged.variants_of.Goals as goal
 
 pub loop-list-init : goal.loop-list-init

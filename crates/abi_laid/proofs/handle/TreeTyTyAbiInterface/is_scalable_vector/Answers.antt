@@ -5,4 +5,4 @@ use Rattle.abi_laid.proofs.handle.TreeTyTyAbiInterface.is_scalable_vector.Goals 
 pub returns : goal.returns
 returns g c =
     let this = c.args.this.ty in
-    sym ((tells_no_more this.laid.now.nodes.items this.laid.now.earlier this.laid.now.laws this.node c.requires.there).scalable)
+    sym ((tells_no_more this.laid.now.nodes this.laid.now.earlier this.laid.now.laws this.node c.requires.there).scalable)

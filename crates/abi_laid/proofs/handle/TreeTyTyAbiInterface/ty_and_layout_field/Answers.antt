@@ -7,35 +7,35 @@ use Rattle.abi_laid.proofs.handle.TreeTyTyAbiInterface.ty_and_layout_field.Goals
 pub field_node-requires : goal.field_node-requires
 field_node-requires g c =
     let this = c.args.this.ty in
-    let ns : List Node = this.laid.now.nodes.items in
+    let ns : List Node = this.laid.now.nodes in
     let facts =
-    field_here ns this.laid.now.earlier this.laid.now.laws c.nodes.result.now c.nodes.ensures.same this.node c.index-nodes-this.result c.requires.valid.there c.index-nodes-this.is c.args.i c.requires.within
+    field_here ns this.laid.now.earlier this.laid.now.laws c.nodes.result.now c.nodes.ensures.same this.node c.read_one.result.now c.requires.valid.there c.read_one.ensures c.args.i c.requires.within
     in
     facts.has
 
 pub handle_at-requires : goal.handle_at-requires
 handle_at-requires g c =
     let this = c.args.this.ty in
-    let ns : List Node = this.laid.now.nodes.items in
+    let ns : List Node = this.laid.now.nodes in
     let facts =
-    field_here ns this.laid.now.earlier this.laid.now.laws c.nodes.result.now c.nodes.ensures.same this.node c.index-nodes-this.result c.requires.valid.there c.index-nodes-this.is c.args.i c.requires.within
+    field_here ns this.laid.now.earlier this.laid.now.laws c.nodes.result.now c.nodes.ensures.same this.node c.read_one.result.now c.requires.valid.there c.read_one.ensures c.args.i c.requires.within
     in
     omega (arith, facts.before, c.field_node.ensures, c.requires.valid.there)
 
 pub returns-clause-field : goal.returns-clause-field
 returns-clause-field g c =
     let this = c.args.this.ty in
-    let ns : List Node = this.laid.now.nodes.items in
+    let ns : List Node = this.laid.now.nodes in
     let facts =
-    field_here ns this.laid.now.earlier this.laid.now.laws c.nodes.result.now c.nodes.ensures.same this.node c.index-nodes-this.result c.requires.valid.there c.index-nodes-this.is c.args.i c.requires.within
+    field_here ns this.laid.now.earlier this.laid.now.laws c.nodes.result.now c.nodes.ensures.same this.node c.read_one.result.now c.requires.valid.there c.read_one.ensures c.args.i c.requires.within
     in
     c.handle_at.ensures.told ∙ ap (typed_at ns) c.field_node.ensures ∙ facts.same
 
 pub returns-clause-falls : goal.returns-clause-falls
 returns-clause-falls g c =
     let this = c.args.this.ty in
-    let ns : List Node = this.laid.now.nodes.items in
+    let ns : List Node = this.laid.now.nodes in
     let facts =
-    field_here ns this.laid.now.earlier this.laid.now.laws c.nodes.result.now c.nodes.ensures.same this.node c.index-nodes-this.result c.requires.valid.there c.index-nodes-this.is c.args.i c.requires.within
+    field_here ns this.laid.now.earlier this.laid.now.laws c.nodes.result.now c.nodes.ensures.same this.node c.read_one.result.now c.requires.valid.there c.read_one.ensures c.args.i c.requires.within
     in
     omega (arith, facts.before, c.field_node.ensures, c.handle_at.ensures.depth)

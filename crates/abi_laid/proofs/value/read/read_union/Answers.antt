@@ -1,20 +1,22 @@
-use Rattle.std.proofs.Common.{◌≤◌, All, arith, ap, ◌∙◌}
+use Rattle.std.proofs.Common.{◌≡◌, ℕ, ◌+◌, ◌≤◌, All, arith, ap, ◌∙◌}
 use Rattle.std.proofs.lemmas.Result.{IfOk-weaker}
+use Rattle.abi_index.specs.RangeSet.{is_in_ranges}
 use Rattle.abi_laid.specs.Bytes.{picked}
 use Rattle.abi_laid.specs.Placed.{Placed, size_of}
+use Rattle.abi_laid.specs.Places.{is_data_place}
 use Rattle.abi_laid.specs.Nodes.{placed_at}
-use Rattle.abi_laid.specs.Runs.{covers}
 use Rattle.abi_laid.proofs.DataPlacesLemmas.{runs_inside}
 use Rattle.abi_laid.proofs.value.read.read_union.Goals as goal
 
 pub read_places-requires-clause-inside : goal.read_places-requires-clause-inside
 read_places-requires-clause-inside c =
     let p : Placed = placed_at c.args.walk.nodes.now c.args.node in
-    let inside : All (λ run. run.end ≤ size_of p) c.in_ok-runs.runs.items = runs_inside p c.in_ok-runs.runs.items c.requires.room c.in_ok-runs.ensures.ascend c.in_ok-runs.ensures.covers in
-    rw c.deref.ensures.value (λ k d lt. omega (arith, inside k d lt, c.requires.size))
+    let same : (k : ℕ) → is_in_ranges c.as_slice.result.now k ≡ is_data_place p k = λ k. ap (λ rs. is_in_ranges rs k) c.as_slice.ensures.runs ∙ c.in_ok-places.ensures k in
+    let inside : All (λ run. run.0 + run.1 ≤ size_of p) c.as_slice.result.now = runs_inside p c.as_slice.result.now c.requires.room c.as_slice.ensures.maximal same in
+    λ k d lt. omega (arith, inside k d lt, c.requires.size)
 
 pub returns : goal.returns
 returns c =
     IfOk-weaker c.read_places.result _ _
-    (λ content is. is ∙ ap (λ rs. picked (covers rs) 0 c.args.bytes.now) c.deref.ensures.value ∙ ap (λ p. picked p 0 c.args.bytes.now) (λ i k. c.in_ok-runs.ensures.covers k i))
+    (λ content is. is ∙ ap (λ rs. picked (is_in_ranges rs) 0 c.args.bytes.now) c.as_slice.ensures.runs ∙ ap (λ p. picked p 0 c.args.bytes.now) (λ i k. c.in_ok-places.ensures k i))
     c.read_places.ensures

@@ -15,16 +15,17 @@ use Rattle.abi_laid.proofs.value.write.write_value.Goals as goal
 pub returns-then-branch-clause-holds : goal.returns-then-branch-clause-holds
 returns-then-branch-clause-holds c =
     let v : Value = value_of c.args.value.now in
-    let held : Holds c.endian-order.result (placed_at c.nodes-nodes.result.now (length c.nodes-nodes.result.now - 1)) c.deref.result.now v = rw c.if-branch.true at c.in_ok-holds.ensures.held in
+    let held : Holds c.endian-order.result (placed_at c.nodes-nodes.result.now (c.len-root.result - 1)) c.deref.result.now v = rw c.if-branch.true at c.in_ok-holds.ensures.held in
     subst (λ b. Holds (endian_of c.args.laid.now) (placed_of c.args.laid.now) b v) c.deref.ensures.value
     (subst (λ o. Holds o (placed_of c.args.laid.now) c.deref.result.now v) c.endian-order.ensures
-    (subst (λ ns. Holds c.endian-order.result (placed_at ns (length ns - 1)) c.deref.result.now v) c.nodes-nodes.ensures.same held))
+    (subst (λ p. Holds c.endian-order.result p c.deref.result.now v)
+    (ap (λ n. placed_at c.nodes-nodes.result.now (n - 1)) c.len-root.ensures ∙ ap (λ ns. placed_at ns (length ns - 1)) c.nodes-nodes.ensures.same) held))
 
 pub returns-then-branch-clause-zero : goal.returns-then-branch-clause-zero
 returns-then-branch-clause-zero c = λ k none.
     let v : Value = value_of c.args.value.now in
-    let p : Placed = placed_at c.nodes-nodes.result.now (length c.nodes-nodes.result.now - 1) in
-    let root : placed_of c.args.laid.now ≡ p = sym (ap (λ ns. placed_at ns (length ns - 1)) c.nodes-nodes.ensures.same) in
+    let p : Placed = placed_at c.nodes-nodes.result.now (c.len-root.result - 1) in
+    let root : placed_of c.args.laid.now ≡ p = sym (ap (λ n. placed_at c.nodes-nodes.result.now (n - 1)) c.len-root.ensures ∙ ap (λ ns. placed_at ns (length ns - 1)) c.nodes-nodes.ensures.same) in
     let new : List ℕ = c.write_node.new.bytes in
     let long : length new ≡ c.in_ok-bytes.bytes.len = c.in_ok-write_node.ensures.long ∙ c.deref_mut.ensures.len in
     let final = take_at new (drop (length new) c.in_ok-bytes.bytes.items) c.in_ok-bytes.bytes.len long in
@@ -36,23 +37,24 @@ returns-then-branch-clause-zero c = λ k none.
 pub returns-then-branch-clause-value : goal.returns-then-branch-clause-value
 returns-then-branch-clause-value c = λ dl tree keeps.
     let v : Value = value_of c.args.value.now in
-    let held : Holds c.endian-order.result (placed_at c.nodes-nodes.result.now (length c.nodes-nodes.result.now - 1)) c.deref.result.now v = rw c.if-branch.true at c.in_ok-holds.ensures.held in
+    let held : Holds c.endian-order.result (placed_at c.nodes-nodes.result.now (c.len-root.result - 1)) c.deref.result.now v = rw c.if-branch.true at c.in_ok-holds.ensures.held in
     held_value dl tree c.args.laid.now keeps v c.deref.result.now c.in_ok-holds.ensures.bytes
     (subst (λ o. Holds o (placed_of c.args.laid.now) c.deref.result.now v) c.endian-order.ensures
-    (subst (λ ns. Holds c.endian-order.result (placed_at ns (length ns - 1)) c.deref.result.now v) c.nodes-nodes.ensures.same held))
+    (subst (λ p. Holds c.endian-order.result p c.deref.result.now v)
+    (ap (λ n. placed_at c.nodes-nodes.result.now (n - 1)) c.len-root.ensures ∙ ap (λ ns. placed_at ns (length ns - 1)) c.nodes-nodes.ensures.same) held))
 
 pub returns-else-branch-clause-not_a_value : goal.returns-else-branch-clause-not_a_value
 returns-else-branch-clause-not_a_value c = λ is dl tree keeps value.
     let v : Value = value_of c.args.value.now in
     let laid : Laid = c.args.laid.now in
     let o : Endian = c.endian-order.result in
-    let p : Placed = placed_at c.nodes-nodes.result.now (length c.nodes-nodes.result.now - 1) in
-    let root : p ≡ placed_of laid = ap (λ ns. placed_at ns (length ns - 1)) c.nodes-nodes.ensures.same in
+    let p : Placed = placed_at c.nodes-nodes.result.now (c.len-root.result - 1) in
+    let root : p ≡ placed_of laid = ap (λ n. placed_at c.nodes-nodes.result.now (n - 1)) c.len-root.ensures ∙ ap (λ ns. placed_at ns (length ns - 1)) c.nodes-nodes.ensures.same in
     let old : List ℕ = c.deref_mut.result.now in
     let new : List ℕ = c.write_node.new.bytes in
     let long : length new ≡ c.in_ok-bytes.bytes.len = c.in_ok-write_node.ensures.long ∙ c.deref_mut.ensures.len in
     let final : c.deref.result.now ≡ new = c.deref.ensures.value ∙ take_at new (drop (length new) c.in_ok-bytes.bytes.items) c.in_ok-bytes.bytes.len long in
-    let size : c.bytes-size.result ≡ size_of p = rw c.bytes-size.ensures (ap (λ l. l.size) c.layout_at.ensures) in
+    let size : c.bytes-size.result ≡ size_of p = rw c.bytes-size.ensures (ap (λ l. l.size) c.read_layout.ensures) in
     let whole : length new ≡ size_of (placed_of laid) = long ∙ c.in_ok-bytes.ensures.len ∙ size ∙ ap size_of root in
     let refused : ((u w : Value) → Holds o p c.deref.result.now u → Holds o p c.deref.result.now w → u ≡ w) → Holds o p c.deref.result.now v → ⊥ =
     rw c.if-branch.false at c.in_ok-holds.ensures.held in

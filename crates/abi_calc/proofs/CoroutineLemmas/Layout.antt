@@ -1,0 +1,145 @@
+-- The layout of a coroutine, from the layouts of its lists.
+use Rattle.std.proofs.Common.{◌≡◌, ℕ, ◌+◌, ◌-◌, ◌^◌, ◌<◌, ◌≤◌, Bool, true, false, cond, List, [], ◌∷◌, ◌++◌, ◌∙◌, ap, arith, drop, get_or, length, map, refl, subst, suc, sym, zero}
+use Rattle.std.specs.Prelude.{All, IsPermutation, filter, nat_lt, not, sum_by}
+use Rattle.std.specs.List.{AllZip, range_with_len}
+use Rattle.std.proofs.lemmas.Bool.{ltb-false, lt-ltb, le-ltb}
+use Rattle.std.proofs.lemmas.List.{append_assoc, drop_more, get_or-map, length-map, map-id}
+use Rattle.std.proofs.lemmas.List.Elements.{All-cons, All-filter, All-map, filter-append, filter_passes}
+use Rattle.std.proofs.lemmas.List.FromFn.{length-range_with_len}
+use Rattle.std.proofs.lemmas.List.Sorted.{sum_by-IsPermutation}
+use Rattle.std.proofs.lemmas.List.Sums.{sum_by-cons}
+use Rattle.abi_base.specs.declared.data_layout.TargetDataLayout.{TargetDataLayout}
+use Rattle.abi_base.specs.DataLayout.{IsLawfulDataLayout}
+use Rattle.abi_scalar.specs.declared.layout_data.LayoutData.{LayoutData}
+use Rattle.abi_scalar.specs.declared.variants.VariantLayout.{VariantLayout}
+use Rattle.abi_scalar.specs.Lawful.{IsLawfulLayout}
+use Rattle.abi_scalar.specs.Shape.{listed_order}
+use Rattle.abi_lists.specs.Fields.{greatest_align, greatest_size}
+use Rattle.abi_lists.specs.Placement.{source_order}
+use Rattle.abi_lists.proofs.Sorting.{within_order}
+use Rattle.abi_calc.specs.Coroutine.Layout.{whole_align}
+use Rattle.abi_calc.specs.Coroutine.States.{HasFields, ranks_of, state_layout, state_layouts}
+use Rattle.abi_calc.proofs.CoroutineLemmas.States.{kept_map, none_kept, range_split}
+use Rattle.abi_calc.proofs.EnumLemmas.Lists.{align_small}
+use Rattle.abi_calc.proofs.EnumLemmas.Tagged.{size_of_lists_small}
+
+-- ---- size and alignment
+
+-- the greatest list is small
+pub whole_small : {F V : Type 0} (dl : TargetDataLayout) (first : LayoutData F V) (lists : List (LayoutData F V)) → IsLawfulDataLayout dl → IsLawfulLayout dl first → All (IsLawfulLayout dl) lists
+    → greatest_size (first ∷ lists) < 2 ^ 62
+whole_small dl first lists law one all = size_of_lists_small dl (first ∷ lists) law (All-cons (IsLawfulLayout dl) first lists one all)
+
+-- and the greatest alignment has its limit
+pub whole_align_small : {F V : Type 0} (dl : TargetDataLayout) (first : LayoutData F V) (lists : List (LayoutData F V)) → IsLawfulLayout dl first → All (IsLawfulLayout dl) lists → whole_align first lists ≤ 29
+whole_align_small dl first lists one all =
+    subst (λ ls. greatest_align first.align.abi ls ≤ 29) (map-id lists) (align_small (λ l. l) dl first.align.abi lists one.limit all)
+
+-- ---- the ranks that an order names
+
+-- one for each that passes
+abbrev pub weight : (p : ℕ → Bool) → ℕ → ℕ
+weight p x = cond (p x) 1 0
+
+kept_weight : (p : ℕ → Bool) (xs : List ℕ) → length (filter p xs) ≡ sum_by (weight p) xs
+kept_weight p [] = refl
+kept_weight p (x ∷ xs) = by (p x) (kept_weight p xs) ∙ sym (sum_by-cons (weight p) x xs)
+  where
+    by : (b : Bool) → length (filter p xs) ≡ sum_by (weight p) xs → length (cond b (x ∷ filter p xs) (filter p xs)) ≡ cond b 1 0 + sum_by (weight p) xs
+    by true e = omega (arith, e)
+    by false e = omega (arith, e)
+
+-- an order keeps as many
+kept_count : (p : ℕ → Bool) (xs ys : List ℕ) → IsPermutation xs ys → length (filter p ys) ≡ length (filter p xs)
+kept_count p xs ys same = kept_weight p ys ∙ sum_by-IsPermutation (weight p) xs ys same ∙ sym (kept_weight p xs)
+
+-- of the numbers from one on each is kept that isn't below it
+all_kept : (low a n : ℕ) → low ≤ a → filter (λ k. not (nat_lt k low)) (range_with_len a n) ≡ range_with_len a n
+all_kept low a zero h = refl
+all_kept low a (suc n) h =
+    ap (λ b. cond (not b) (a ∷ filter (λ k. not (nat_lt k low)) (range_with_len (a + 1) n)) (filter (λ k. not (nat_lt k low)) (range_with_len (a + 1) n))) (le-ltb a low h)
+    ∙ ap (λ xs. a ∷ xs) (all_kept low (a + 1) n (omega (arith, h)))
+
+-- so many numbers aren't below one
+kept_range : (low n : ℕ) → length (filter (λ k. not (nat_lt k low)) (source_order (low + n))) ≡ n
+kept_range low n =
+    let none : filter (λ k. not (nat_lt k low)) (range_with_len 0 low) ≡ [] = none_kept (λ k. not (nat_lt k low)) low (λ k short. ap not (lt-ltb k low short)) in
+    let start : 0 + low ≡ low = omega arith in
+    ap (λ xs. length (filter (λ k. not (nat_lt k low)) xs)) (range_split 0 low n)
+    ∙ ap length (filter-append (λ k. not (nat_lt k low)) (range_with_len 0 low) (range_with_len (0 + low) n)
+    ∙ ap (λ xs. xs ++ filter (λ k. not (nat_lt k low)) (range_with_len (0 + low) n)) none
+    ∙ ap (λ a. filter (λ k. not (nat_lt k low)) (range_with_len a n)) start ∙ all_kept low low n (omega arith))
+    ∙ length-range_with_len low n
+
+not_below : (k low : ℕ) → not (nat_lt k low) ≡ true → low ≤ k
+not_below k low e = ltb-false k low (by (nat_lt k low) e)
+  where
+    by : (b : Bool) → not b ≡ true → b ≡ false
+    by true e = absurd (cc)
+    by false e = refl
+
+module _ {F V : Type 0} (number : F → ℕ) (before count : ℕ) (first : LayoutData F V) (fits : HasFields number (before + count) first) where
+  order_within : All (λ i. number i < before + count) (listed_order first.fields)
+  order_within k d short =
+      let low = within_order (before + count) (map number (listed_order first.fields)) fits.order k (number d) (omega (arith, short, length-map (listed_order first.fields) number)) in
+      let read = get_or-map number (listed_order first.fields) k d (number d) short in
+      omega (arith, low, read)
+
+  -- the promoted locals have as many ranks in memory order as there are of them
+  pub ranks_count : length (ranks_of number before (listed_order first.fields)) ≡ count
+  ranks_count =
+      length-map (filter (λ i. not (nat_lt (number i) before)) (listed_order first.fields)) (λ i. number i - before)
+      ∙ sym (kept_map (λ k. not (nat_lt k before)) number (listed_order first.fields))
+      ∙ kept_count (λ k. not (nat_lt k before)) (source_order (before + count)) (map number (listed_order first.fields)) fits.order
+      ∙ kept_range before count
+
+  -- and each is below that
+  pub ranks_within : All (λ rank. rank < count) (ranks_of number before (listed_order first.fields))
+  ranks_within =
+      All-map (λ rank. rank < count) (λ i. number i - before) (filter (λ i. not (nat_lt (number i) before)) (listed_order first.fields))
+      (λ k d short.
+      (let low = All-filter (λ i. not (nat_lt (number i) before)) (λ i. number i < before + count) (listed_order first.fields) order_within k d short in
+      let high = not_below (number (get_or (filter (λ i. not (nat_lt (number i) before)) (listed_order first.fields)) k d)) before (filter_passes (λ i. not (nat_lt (number i) before)) (listed_order first.fields) k d short) in
+      omega (arith, low, high)))
+
+-- ---- lists beside their states
+
+-- a list has its state
+pub zip_more : {A B : Type 0} (R : A → B → Type 0) (n : ℕ) (xs : List A) (y : B) (ys : List B) → AllZip R (drop n xs) (y ∷ ys) → n < length xs
+zip_more R zero [] y ys h = elim h [ ]
+zip_more R (suc n) [] y ys h = elim h [ ]
+zip_more R zero (x ∷ xs) y ys h = omega arith
+zip_more R (suc n) (x ∷ xs) y ys h = omega (arith, zip_more R n xs y ys h)
+
+pub zip_at : {A B : Type 0} (R : A → B → Type 0) (n : ℕ) (xs : List A) (x : A) (y : B) (ys : List B) → n < length xs → x ≡ get_or xs n x → AllZip R (drop n xs) (y ∷ ys) → R x y × AllZip R (drop (n + 1) xs) ys
+zip_at R n xs x y ys short is h =
+    subst (λ zs. AllZip R zs (y ∷ ys)) (drop_more xs n x short ∙ ap (λ z. z ∷ drop (n + 1) xs) (sym is)) h
+
+module _ {F V L : Type 0} (at : ℕ → F) (number : F → ℕ) (before : ℕ) (promoted : List Bool) (first : LayoutData F V) (name : L → ℕ) where
+  -- no list, no state
+  pub layouts_none : (states : List (List ℕ)) → state_layouts at number before promoted first states [] ≡ []
+  layouts_none [] = refl
+  layouts_none (s ∷ ss) = refl
+
+  -- one state more
+  pub layouts_next : (done : List (VariantLayout F)) (n : ℕ) (states : List (List L)) (state : List L) (list : LayoutData F V) (rest : List (LayoutData F V)) (layout : VariantLayout F) (all : List (VariantLayout F))
+      → n < length states → state ≡ get_or states n state → layout ≡ state_layout at number before promoted first (map name state) list
+      → done ++ state_layouts at number before promoted first (map (map name) (drop n states)) (list ∷ rest) ≡ all
+      → (done ++ layout ∷ []) ++ state_layouts at number before promoted first (map (map name) (drop (n + 1) states)) rest ≡ all
+  layouts_next done n states state list rest layout all short is laid so =
+      let split : drop n states ≡ state ∷ drop (n + 1) states = drop_more states n state short ∙ ap (λ z. z ∷ drop (n + 1) states) (sym is) in
+      append_assoc done (layout ∷ []) (state_layouts at number before promoted first (map (map name) (drop (n + 1) states)) rest)
+      ∙ ap (λ v. done ++ v ∷ state_layouts at number before promoted first (map (map name) (drop (n + 1) states)) rest) laid
+      ∙ sym (ap (λ ss. done ++ state_layouts at number before promoted first (map (map name) ss) (list ∷ rest)) split) ∙ so
+
+-- ---- going over lists beside their states
+
+module _ {A B : Type 0} (R : A → B → Type 0) (n m : ℕ) (xs : List A) (y : B) (rest ys : List B) (same : m ≡ n) (split : rest ≡ y ∷ ys) (zipped : AllZip R (drop n xs) rest) where
+  -- the place of the next list is that of a state
+  pub list_short : m < length xs
+  list_short = subst (λ k. k < length xs) (sym same) (zip_more R n xs y ys (subst (AllZip R (drop n xs)) split zipped))
+
+  -- whose list it is
+  pub list_at : (x : A) → x ≡ get_or xs m x → R x y × AllZip R (drop (n + 1) xs) ys
+  list_at x is =
+      zip_at R n xs x y ys (zip_more R n xs y ys (subst (AllZip R (drop n xs)) split zipped)) (subst (λ k. x ≡ get_or xs k x) same is) (subst (AllZip R (drop n xs)) split zipped)

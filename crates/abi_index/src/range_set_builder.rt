@@ -1,0 +1,106 @@
+//! Runs of bytes that are collected, of which a set is made at once.
+
+ghost use Rattle.std.specs.Prelude.{◌≡◌, ℕ, ◌+◌, ◌*◌, ◌-◌, ◌<◌, ◌≤◌, ◌^◌, [], All, IfOk, OnErr, OnOk, nat_lt};
+ghost use Rattle.abi_index.specs.RangeSet.{is_in_ranges};
+ghost use Rattle.abi_index.specs.Runs.{Adds, Extends, moved, repeated};
+
+use crate::range_set::RangeSet;
+use std::alloc::{AllocError, Global};
+use std::marker::Model;
+
+/// Runs of bytes in the order in which they were put in, of which `build` makes a set. They may meet, and are sorted but once.
+#[derive(Drop)]
+pub struct RangeSetBuilder {
+    runs: Vec<(u64, u64)>,
+}
+
+impl Model for RangeSetBuilder {
+    ghost use Rattle.std.specs.Prelude.{List, ℕ};
+    ghost use Rattle.abi_index.specs.Runs.{HaveEnds};
+
+    ghost Value = { List (ℕ × ℕ) };
+
+    ghost view = { λ a. a.runs.items };
+
+    ghost invariant = { λ a. HaveEnds a.runs.items };
+}
+
+impl RangeSetBuilder {
+    /// No runs.
+    pub fn new(alloc: Global) -> Self
+        ensures { result ≡ [] }
+    {
+        RangeSetBuilder {
+            runs: Vec::new(alloc),
+        }
+    }
+
+    /// Puts in the `size` bytes from byte `offset` on. `AllocError` where memory is refused: then all is as it was.
+    #[tactic(auto, using(crate::proofs::RunsLemmas::adds_run, crate::proofs::RunsLemmas::extends_by))]
+    pub fn add_range(&mut self, offset: u64, size: u64) -> Result<(), AllocError>
+        requires { offset + size < 2 ^ 64 }
+        ensures bytes { OnOk result (Adds self.old self.new (moved offset (λ k. nat_lt k size))) }
+        ensures kept { Extends self.old self.new }
+        ensures err { OnErr result (self.new ≡ self.old) }
+    {
+        self.runs.push((offset, size))?;
+        Ok(())
+    }
+
+    /// Puts in the bytes of a set, each `offset` bytes further on. `AllocError` where memory is refused: then what was there before is
+    /// still there, in its order, and some of the set may be.
+    #[tactic(auto, using(crate::proofs::RunsLemmas::adds_none, crate::proofs::RunsLemmas::adds_next, crate::proofs::RunsLemmas::extends_twice))]
+    pub fn add_set(&mut self, set: &RangeSet, offset: u64) -> Result<(), AllocError>
+        requires { All (λ run. offset + (run.0 + run.1) < 2 ^ 64) set.now }
+        ensures bytes { OnOk result (Adds self.old self.new (moved offset (is_in_ranges set.now))) }
+        ensures kept { Extends self.old self.new }
+    {
+        for run in set.as_slice() {
+            self.add_range(offset + run.0, run.1)?;
+        }
+        Ok(())
+    }
+
+    /// Puts in the bytes of so many elements, each with those of the set and `stride` bytes after the one before; the first lies at
+    /// `offset`. Where the set covers an element whole, all of them are one run. `AllocError` where memory is refused: then what was
+    /// there before is still there, in its order, and some of the elements may be.
+    pub fn add_repeated(
+        &mut self,
+        set: &RangeSet,
+        stride: u64,
+        count: u64,
+        offset: u64,
+    ) -> Result<(), AllocError>
+        requires some { 0 < stride }
+        requires inside { All (λ run. run.0 + run.1 ≤ stride) set.now }
+        requires fits { All (λ run. offset + stride * (count - 1) + (run.0 + run.1) < 2 ^ 64) set.now }
+        ensures bytes { OnOk result (Adds self.old self.new (moved offset (repeated stride count (is_in_ranges set.now)))) }
+        ensures kept { Extends self.old self.new }
+    {
+        let runs = set.as_slice();
+        if runs.is_empty() || count == 0 {
+            return Ok(());
+        }
+        if runs[0].0 == 0 && runs[0].1 == stride {
+            return self.add_range(offset, stride * count);
+        }
+        for i in 0..count {
+            self.add_set(set, offset + stride * i)?;
+        }
+        Ok(())
+    }
+
+    /// The set of the bytes that were put in. The runs are sorted once, so that each is put into the set behind the others. `AllocError`
+    /// where memory is refused.
+    pub fn build(self, alloc: Global) -> Result<RangeSet, AllocError>
+        ensures bytes { IfOk result (λ set. (k : ℕ) → is_in_ranges set k ≡ is_in_ranges self k) }
+    {
+        let mut runs = self.runs;
+        runs.sort_unstable_by_key(|run| run.0);
+        let mut set = RangeSet::new(alloc);
+        for run in &runs {
+            set.add_range(run.0, run.1)?;
+        }
+        Ok(set)
+    }
+}

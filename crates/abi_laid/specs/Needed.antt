@@ -1,0 +1,84 @@
+-- The nodes that a node's data places rest on, and the runs that are made of those of the nodes that it names.
+use Rattle.std.specs.Prelude.{◌≡◌, ℕ, ◌-◌, ◌==◌, ◌<◌, ◌≤◌, ◌||◌, Bool, true, false, List, [], ◌∷◌, ◌++◌, None, Option, Some, get_or, length, map, take}
+use Rattle.std.specs.Borrow.{Bor}
+use Rattle.std.specs.List.{list_any}
+use Rattle.abi_index.specs.RangeSet.{AreMaximalRuns, is_in_ranges}
+use Rattle.abi_index.specs.Runs.{moved}
+use Rattle.abi_scalar.specs.Shape.{listed_offsets}
+use Rattle.abi_laid.specs.declared.node.Shape.{Shape}
+use Rattle.abi_laid.specs.declared.node.Shape.TheVariants.{Scalar, Pair, Never, Elements, Fields, Union, Vector, Single, Tagged, States}
+use Rattle.abi_laid.specs.declared.node.Node.{Node}
+use Rattle.abi_laid.specs.Placed.{Placed, Layout}
+use Rattle.abi_laid.specs.Places.{is_data_place, is_place_of_part}
+use Rattle.abi_laid.specs.Nodes.{meaning, own_fields, placed_at, placed_in}
+use Rattle.abi_laid.specs.Typed.{variant_nodes}
+use Rattle.abi_laid.specs.Laws.{keep_laws}
+use Rattle.abi_laid.specs.Room.{has_room}
+use Rattle.abi_laid.specs.Well.{are_nodes}
+
+-- those of these nodes that have an offset in the layout
+abbrev pub placed_nodes : Layout → (children : List ℕ) → List ℕ
+placed_nodes layout children = take (length (listed_offsets layout.fields)) children
+
+-- the nodes whose data places are those of a node: its parts, its tag and its variants
+abbrev pub named_by : Layout → Shape → List ℕ
+named_by layout (Scalar s) = []
+named_by layout (Pair first second) = placed_nodes layout (first ∷ second ∷ [])
+named_by layout (Never mark) = []
+named_by layout (Elements count element) = element ∷ []
+named_by layout (Fields mark children) = placed_nodes layout children.items
+named_by layout (Union mark children) = children.items
+named_by layout (Vector lanes) = lanes ∷ []
+named_by layout (Single mark children) = placed_nodes layout children.items
+named_by layout (Tagged mark tag variants) = tag ∷ map (λ v. v.1) variants.items
+named_by layout (States prefix tag all) = placed_nodes layout prefix.items ++ tag ∷ map (λ v. v.1) all.items
+
+-- this place is one of these
+abbrev pub is_among : List ℕ → (place : ℕ) → Bool
+is_among places i = list_any (λ j. j == i) places
+
+-- these places are marked, beside those that were
+abbrev pub Marks : (old new : List Bool) → (places : List ℕ) → Type 0
+Marks old new places = (length new ≡ length old) × ((i : ℕ) → get_or new i false ≡ (get_or old i false || is_among places i))
+
+-- the node at this place is kept
+abbrev pub IsKept : List (Option (Bor Node)) → (place : ℕ) → Type 0
+IsKept kept i = (n : Bor Node) × (get_or kept i None ≡ Some n)
+
+-- Nodes are kept at their own places: the last one, and with each that has bytes all whose data places are its own. Each has room.
+pub record AreNeeded (ns : List Node) (kept : List (Option (Bor Node))) : Type 0 where
+  pub well : are_nodes 0 ns ≡ true
+  pub laws : keep_laws [] ns ≡ true
+  pub some : 0 < length kept
+  pub long : length kept ≤ length ns
+  pub last : IsKept kept (length kept - 1)
+  pub own : (i : ℕ) (n : Bor Node) → get_or kept i None ≡ Some n → (n.now ≡ get_or ns i n.now) × (has_room (placed_at ns i) ≡ true)
+  pub named : (i : ℕ) (n : Bor Node) → get_or kept i None ≡ Some n → 0 < n.now.layout.size → (j : ℕ) → is_among (named_by n.now.layout n.now.shape) j ≡ true → IsKept kept j
+
+-- a set was made for this place
+abbrev pub IsSet : (done : List (List (ℕ × ℕ))) → (place : ℕ) → Type 0
+IsSet done i = (i < length done) × AreMaximalRuns 0 (get_or done i [])
+
+-- it has this type's data places
+abbrev pub IsMade : Placed → (done : List (List (ℕ × ℕ))) → (place : ℕ) → Type 0
+IsMade placed done i = IsSet done i × ((k : ℕ) → is_in_ranges (get_or done i []) k ≡ is_data_place placed k)
+
+-- A node has room after these types. If it has bytes, the sets of all nodes whose data places are its own are made, and its variants
+-- have no data places but those of their fields.
+pub record IsMadeOf (types : List Placed) (node : Node) (done : List (List (ℕ × ℕ))) : Type 0 where
+  pub room : has_room (meaning types node.layout node.shape) ≡ true
+  pub named : 0 < node.layout.size → (j : ℕ) → is_among (named_by node.layout node.shape) j ≡ true → IsMade (placed_in types j) done j
+  pub own : (j : ℕ) → is_among (variant_nodes node.shape) j ≡ true → (k : ℕ) → is_data_place (placed_in types j) k ≡ is_place_of_part (own_fields (placed_in types j)) k
+
+-- the sets that were made for these places
+abbrev pub sets_at : (done : List (List (ℕ × ℕ))) → (places : List ℕ) → List (List (ℕ × ℕ))
+sets_at done places = map (λ i. get_or done i []) places
+
+-- one of these sets, each at its offset, has the byte
+abbrev pub parts_cover : (offsets : List ℕ) → List (List (ℕ × ℕ)) → (k : ℕ) → Bool
+parts_cover (o ∷ offsets) (set ∷ sets) k = moved o (is_in_ranges set) k || parts_cover offsets sets k
+parts_cover _ _ k = false
+
+-- one of these sets has the byte
+abbrev pub some_covers : List (List (ℕ × ℕ)) → (k : ℕ) → Bool
+some_covers sets k = list_any (λ set. is_in_ranges set k) sets

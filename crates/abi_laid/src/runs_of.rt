@@ -1,0 +1,243 @@
+//! The runs of a node's data places: the bytes that decide which value is held.
+
+ghost use Rattle.std.specs.Prelude.{◌≡◌, ℕ, ◌+◌, ◌*◌, ◌-◌, ◌^◌, ◌<◌, ◌≤◌, ◌||◌, [], All, IfOk, IfSome, List, None, OnOk, get_or, length, map, true};
+ghost use Rattle.abi_index.specs.RangeSet.{is_in_ranges};
+ghost use Rattle.abi_index.specs.Runs.{Adds, moved, repeated};
+ghost use Rattle.abi_laid.specs.declared.node.Node.{Node as OneNode};
+ghost use Rattle.abi_laid.specs.Laws.{keep_laws};
+ghost use Rattle.abi_laid.specs.Needed.{AreNeeded, IsMadeOf, IsSet, parts_cover, sets_at, some_covers};
+ghost use Rattle.abi_laid.specs.Nodes.{meaning, placed_at};
+ghost use Rattle.abi_laid.specs.Placed.{Placed};
+ghost use Rattle.abi_laid.specs.Places.{is_data_place};
+ghost use Rattle.abi_laid.specs.Room.{has_room};
+ghost use Rattle.abi_laid.specs.Runs.{is_padding_of};
+ghost use Rattle.abi_laid.specs.Well.{are_nodes};
+
+use crate::needed::{needed_nodes, placed};
+use crate::node::{Node, Shape, offsets, state_tag_offset, tag_offset};
+use crate::nodes::Nodes;
+use abi_base::Size;
+use abi_index::{RangeSet, RangeSetBuilder};
+use std::alloc::{AllocError, Global};
+
+/// The set that was made for a place.
+fn set_at(done: &[RangeSet], place: usize) -> &RangeSet
+    requires { place < length done.now }
+    ensures { result.now ≡ get_or done.now place [] }
+{
+    &done[place]
+}
+
+/// Puts in the sets of fields, each at its offset.
+fn put_parts(
+    runs: &mut RangeSetBuilder,
+    offsets: &[Size],
+    children: &[usize],
+    done: &[RangeSet],
+) -> Result<(), AllocError>
+    requires made { All (IsSet done.now) children.now }
+    requires fits { (i : ℕ) → i < length offsets.now → i < length children.now →
+        All (λ run. get_or offsets.now i 0 + (run.0 + run.1) < 2 ^ 64) (get_or done.now (get_or children.now i 0) []) }
+    ensures { OnOk result (Adds runs.old runs.new (parts_cover offsets.now (sets_at done.now children.now))) }
+{
+    for i in 0..offsets.len().min(children.len()) {
+        runs.add_set(set_at(done, children[i]), offsets[i].bytes())?;
+    }
+    Ok(())
+}
+
+/// Puts in the sets of a union's fields, all at one place.
+fn put_fields(
+    runs: &mut RangeSetBuilder,
+    children: &[usize],
+    done: &[RangeSet],
+) -> Result<(), AllocError>
+    requires made { All (IsSet done.now) children.now }
+    ensures { OnOk result (Adds runs.old runs.new (some_covers (sets_at done.now children.now))) }
+{
+    for child in children {
+        runs.add_set(set_at(done, *child), 0)?;
+    }
+    Ok(())
+}
+
+/// Puts in the sets of variants, all at one place.
+fn put_variants(
+    runs: &mut RangeSetBuilder,
+    variants: &[(u128, usize)],
+    done: &[RangeSet],
+) -> Result<(), AllocError>
+    requires made { All (IsSet done.now) (map (λ v. v.1) variants.now) }
+    ensures { OnOk result (Adds runs.old runs.new (some_covers (sets_at done.now (map (λ v. v.1) variants.now)))) }
+{
+    for variant in variants {
+        runs.add_set(set_at(done, variant.1), 0)?;
+    }
+    Ok(())
+}
+
+/// Puts in the set of a tag at its offset, and those of variants.
+fn put_tagged(
+    runs: &mut RangeSetBuilder,
+    offset: u64,
+    tag: usize,
+    variants: &[(u128, usize)],
+    done: &[RangeSet],
+) -> Result<(), AllocError>
+    requires tag { IsSet done.now tag }
+    requires fits { All (λ run. offset + (run.0 + run.1) < 2 ^ 64) (get_or done.now tag []) }
+    requires made { All (IsSet done.now) (map (λ v. v.1) variants.now) }
+    ensures { OnOk result (Adds runs.old runs.new
+        (λ k. moved offset (is_in_ranges (get_or done.now tag [])) k || some_covers (sets_at done.now (map (λ v. v.1) variants.now)) k)) }
+{
+    runs.add_set(set_at(done, tag), offset)?;
+    put_variants(runs, variants, done)
+}
+
+/// Puts in the set of so many elements, which together have this size and are not without bytes.
+fn put_elements(
+    runs: &mut RangeSetBuilder,
+    size: u64,
+    count: u64,
+    element: &RangeSet,
+) -> Result<(), AllocError>
+    requires some { 0 < size }
+    requires inside { (stride : ℕ) × (size ≡ stride * count) × All (λ run. run.0 + run.1 ≤ stride) element.now }
+    ensures { OnOk result ((stride : ℕ) → size ≡ stride * count → Adds runs.old runs.new (repeated stride count (is_in_ranges element.now))) }
+{
+    runs.add_repeated(element, size / count, count, 0)
+}
+
+/// Puts in the runs of a node's data places, of which it has some.
+fn put_places(runs: &mut RangeSetBuilder, node: &Node, done: &[RangeSet]) -> Result<(), AllocError>
+    requires some { 0 < node.now.layout.size }
+    requires made { (types : List Placed) × IsMadeOf types node.now done.now }
+    ensures { OnOk result ((types : List Placed) → IsMadeOf types node.now done.now →
+        Adds runs.old runs.new (is_data_place (meaning types node.now.layout node.now.shape))) }
+{
+    let layout = &node.layout;
+    let size = layout.size.bytes();
+    match &node.shape {
+        Shape::Scalar(_) => runs.add_range(0, size),
+        Shape::Never(_) => runs.add_range(0, size),
+        Shape::Pair { first, second } => put_parts(
+            runs,
+            offsets(layout),
+            placed(layout, &[*first, *second]),
+            done,
+        ),
+        Shape::Elements { count, element } => {
+            put_elements(runs, size, *count, set_at(done, *element))
+        }
+        Shape::Fields(_, children) => {
+            put_parts(runs, offsets(layout), placed(layout, children), done)
+        }
+        Shape::Union(_, children) => put_fields(runs, children, done),
+        Shape::Vector(lanes) => runs.add_set(set_at(done, *lanes), 0),
+        Shape::Single(_, children) => {
+            put_parts(runs, offsets(layout), placed(layout, children), done)
+        }
+        Shape::Tagged {
+            mark: _,
+            tag,
+            variants,
+        } => put_tagged(runs, tag_offset(layout), *tag, variants, done),
+        Shape::States {
+            prefix,
+            tag,
+            states,
+        } => {
+            put_parts(runs, offsets(layout), placed(layout, prefix), done)?;
+            let offset = state_tag_offset(layout, prefix.len());
+            put_tagged(runs, offset, *tag, states, done)
+        }
+    }
+}
+
+/// The runs of a node's data places, made from those of the nodes before it whose data places are its own.
+fn runs_of(alloc: Global, node: &Node, done: &[RangeSet]) -> Result<RangeSet, AllocError>
+    requires { (types : List Placed) × IsMadeOf types node.now done.now }
+    ensures { IfOk result (λ set. (types : List Placed) → IsMadeOf types node.now done.now →
+        (k : ℕ) → is_in_ranges set k ≡ is_data_place (meaning types node.now.layout node.now.shape) k) }
+{
+    if node.layout.size == Size::ZERO {
+        return Ok(RangeSet::new(alloc));
+    }
+    let mut runs = RangeSetBuilder::new(alloc);
+    put_places(&mut runs, node, done)?;
+    runs.build(alloc)
+}
+
+/// The runs of a node's data places, where it is kept.
+fn next_set(alloc: Global, kept: Option<&Node>, done: &[RangeSet]) -> Result<RangeSet, AllocError>
+    requires { IfSome kept (λ node. (types : List Placed) × IsMadeOf types node.now done.now) }
+    ensures { IfOk result (λ set. IfSome kept.entry (λ node. (types : List Placed) → IsMadeOf types node.now done.now →
+        (k : ℕ) → is_in_ranges set k ≡ is_data_place (meaning types node.now.layout node.now.shape) k)) }
+{
+    match kept {
+        Some(node) => runs_of(alloc, node, done),
+        None => Ok(RangeSet::new(alloc)),
+    }
+}
+
+/// The data places of the last node that is kept, from those of the first on.
+fn joined_runs(alloc: Global, kept: &[Option<&Node>]) -> Result<RangeSet, AllocError>
+    requires { (ns : List OneNode) × AreNeeded ns kept.now }
+    ensures { IfOk result (λ set. (ns : List OneNode) → AreNeeded ns kept.now →
+        (k : ℕ) → is_in_ranges set k ≡ is_data_place (placed_at ns (length kept.now - 1)) k) }
+{
+    let mut done = Vec::with_capacity(alloc, kept.len())?;
+    for at in 0..kept.len() {
+        let set = next_set(alloc, kept[at], &done)?;
+        // Its runs are maximal, which those that are made of it ask for.
+        let _runs = set.as_slice();
+        done.push(set)?;
+    }
+    match done.pop() {
+        Some(set) => Ok(set),
+        None => Ok(RangeSet::new(alloc)),
+    }
+}
+
+/// The size of a node that is kept.
+fn kept_size(kept: &[Option<&Node>], node: usize) -> u64
+    requires { node < length kept.now }
+    ensures { IfSome (get_or kept.now node None) (λ root. result ≡ root.now.layout.size) }
+{
+    match kept[node] {
+        Some(root) => root.layout.size.bytes(),
+        None => 0,
+    }
+}
+
+/// The data places of a node.
+pub(crate) fn data_places(alloc: Global, nodes: &Nodes, node: usize) -> Result<RangeSet, AllocError>
+    requires there { node < length nodes.now }
+    requires well { are_nodes 0 nodes.now ≡ true }
+    requires laws { keep_laws [] nodes.now ≡ true }
+    requires room { has_room (placed_at nodes.now node) ≡ true }
+    ensures { IfOk result (λ set. (k : ℕ) → is_in_ranges set k ≡ is_data_place (placed_at nodes.now node) k) }
+{
+    let (kept, _visits) = needed_nodes(alloc, nodes, node)?;
+    joined_runs(alloc, &kept)
+}
+
+/// The padding of a node: the bytes below its size that are no data places; and how many nodes were read.
+pub(crate) fn padding(
+    alloc: Global,
+    nodes: &Nodes,
+    node: usize,
+) -> Result<(RangeSet, usize), AllocError>
+    requires there { node < length nodes.now }
+    requires well { are_nodes 0 nodes.now ≡ true }
+    requires laws { keep_laws [] nodes.now ≡ true }
+    requires room { has_room (placed_at nodes.now node) ≡ true }
+    ensures ranges { IfOk result (λ r. (k : ℕ) → is_in_ranges r.0 k ≡ is_padding_of (placed_at nodes.now node) k) }
+    ensures visits { IfOk result (λ r. r.1 ≤ node + 1) }
+{
+    let (kept, visits) = needed_nodes(alloc, nodes, node)?;
+    let places = joined_runs(alloc, &kept)?;
+    let mut whole = RangeSet::new(alloc);
+    whole.add_range(0, kept_size(&kept, node))?;
+    Ok((whole.difference(alloc, &places)?, visits))
+}

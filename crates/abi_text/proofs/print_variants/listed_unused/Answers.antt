@@ -1,0 +1,40 @@
+use Rattle.std.proofs.Common.{◌≡◌, [], ◌≤◌, ◌<◌, ap, ◌∙◌, arith, get_or, sym}
+use Rattle.std.specs.Prelude.{codes, if◌then◌else◌}
+use Rattle.std.proofs.lemmas.Bool.{le-ltb, lt-ltb}
+use Rattle.std.proofs.lemmas.Result.{IfOk-weaker}
+use Rattle.abi_index.specs.RangeSet.{is_in_ranges}
+use Rattle.abi_types.specs.Ty.Places.{is_unused}
+use Rattle.abi_types.specs.Ty.Typed.{Typed, layout_in}
+use Rattle.abi_laid.specs.Handles.{tree_type}
+use Rattle.abi_laid.specs.Laid.{placed_of}
+use Rattle.abi_laid.specs.Placed.{Placed, layout_of, size_of}
+use Rattle.abi_laid.specs.Runs.{unused_of}
+use Rattle.abi_laid.proofs.MaximalLemmas.{unused_listed}
+use Rattle.abi_types.proofs.PlacesLemmas.{beside_counted, beside_index}
+use Rattle.abi_text.specs.Printing.{range_lines}
+use Rattle.abi_text.proofs.print_variants.listed_unused.Goals as goal
+
+-- nothing is listed of a type with more bytes
+pub returns-then-bytes-gt-MOST_LISTED : goal.returns-then-bytes-gt-MOST_LISTED
+returns-then-bytes-gt-MOST_LISTED c = λ i runs several same maximal.
+    let placed : Placed = placed_of c.args.laid.now in
+    let many : 65536 < size_of placed = omega (arith, c.if-bytes-gt-MOST_LISTED.true, c.bytes.ensures, ap (λ l. l.size) c.layout.ensures) in
+    let empty : get_or c.new.result i [] ≡ [] = ap (λ sets. get_or sets i []) c.new.ensures in
+    ap (range_lines (codes "unused")) (same ∙ empty)
+    ∙ ap (λ b. if b then [] else range_lines (codes "unused") (unused_of placed i)) (sym (lt-ltb 65536 (size_of placed) many))
+
+pub returns : goal.returns
+returns c =
+    let placed : Placed = placed_of c.args.laid.now in
+    let t : Typed = tree_type c.root.result in
+    let own : layout_in t ≡ layout_of placed = c.root.ensures.valid.layout ∙ c.root.ensures.layout in
+    let few : size_of placed ≤ 65536 = omega (arith, c.if-bytes-gt-MOST_LISTED.false, c.bytes.ensures, ap (λ l. l.size) c.layout.ensures) in
+    IfOk-weaker c.each_variant_dependent_padding_ranges.result _ _
+    (λ sets told i runs several same maximal.
+    let listed : runs ≡ unused_of placed i =
+    unused_listed t placed i runs c.root.ensures.within
+    (λ k. ap (λ s. is_unused s i k) c.root.ensures.told ∙ c.requires.unused i k (beside_index (layout_of placed).variants i several)) maximal
+    (λ k. ap (λ rs. is_in_ranges rs k) same ∙ told.1 i k (beside_counted (layout_in t) (layout_of placed) i own several)) in
+    ap (range_lines (codes "unused")) listed
+    ∙ ap (λ b. if b then [] else range_lines (codes "unused") (unused_of placed i)) (sym (le-ltb 65536 (size_of placed) few)))
+    c.each_variant_dependent_padding_ranges.ensures

@@ -1,0 +1,193 @@
+-- What the layout of an enum that a niche tells apart keeps of its variants' values.
+use Rattle.std.proofs.Common.{All, ◌≡◌, ◌≢◌, ℕ, zero, suc, ◌+◌, ◌<◌, ◌≤◌, List, [], ◌∷◌, map, length, Option, Some, None, Bool, true, false, arith, refl, sym, ap, subst, ◌∙◌, inl, inr}
+use Rattle.std.specs.Prelude.{slice_get, IfSome, get_or, ◌==◌, ◌&&◌}
+use Rattle.std.specs.List.{list_all}
+use Rattle.std.specs.Cmp.Derive.{both_true}
+use Rattle.std.proofs.lemmas.Bool.{le-leb, eqb-true, lt-ltb}
+use Rattle.std.proofs.lemmas.List.{length-map}
+use Rattle.std.proofs.lemmas.List.Elements.{All-head, All-tail}
+use Rattle.abi_base.specs.Primitive.{primitive_size}
+use Rattle.abi_base.specs.declared.data_layout.TargetDataLayout.{TargetDataLayout}
+use Rattle.abi_scalar.specs.declared.repr.ReprOptions.{ReprOptions}
+use Rattle.abi_scalar.specs.declared.scalar.Scalar.{Scalar}
+use Rattle.abi_scalar.specs.declared.scalar.Scalar.TheVariants.{Initialized, Union}
+use Rattle.abi_scalar.specs.declared.variants.VariantLayout.{VariantLayout}
+use Rattle.abi_scalar.specs.declared.variants.TagEncoding.TheVariants.{Niche as InNiche}
+use Rattle.abi_scalar.specs.declared.niche.Niche.{Niche}
+use Rattle.abi_scalar.specs.Niche.{niche_size}
+use Rattle.abi_scalar.specs.Lawful.{IsLawfulNiche, IsLawfulLayout}
+use Rattle.abi_scalar.specs.Range.{IsIn, full_range}
+use Rattle.abi_scalar.specs.Scalar.{scalar_size, range_of, IsNumberOf}
+use Rattle.abi_scalar.specs.Shape.{listed_offsets}
+use Rattle.abi_lists.specs.ListNiche.{IsNicheAt, IsNicheOfPart}
+use Rattle.abi_lists.specs.Apart.{AreApart}
+use Rattle.abi_calc.specs.Enums.Path.{variant_at, has_no_value, takes_no_room}
+use Rattle.abi_calc.specs.Enums.Beside.{IsToldByNiche}
+use Rattle.rustc_abi.specs.Enums.{layouts_of, arms_at, discriminants_of}
+use Rattle.abi_laid.specs.Mark.{mark_of}
+use Rattle.abi_laid.specs.declared.mark.Mark.{Mark}
+use Rattle.abi_laid.specs.Placed.{parts_of_arm, Placed, layout_of, is_flagged, size_of, Layout, Arms, tagged}
+use Rattle.abi_laid.specs.Tree.{Variants, enum}
+use Rattle.rustc_abi.specs.Adding.{VariantsFit}
+use Rattle.abi_laid.specs.Fits.{Fits}
+use Rattle.rustc_abi.specs.Laying.{one_scalar, placed_enum, placed_variants}
+use Rattle.abi_laid.specs.Room.{has_room}
+use Rattle.abi_laid.specs.Values.{LocalsOfVariants}
+use Rattle.abi_laid.specs.Value.{Value}
+use Rattle.abi_laid.specs.Holding.{Holds}
+use Rattle.abi_laid.specs.Bytes.{number_of, bytes_at}
+use Rattle.abi_laid.specs.Faithful.{IsFaithful}
+use Rattle.abi_laid.specs.Untagged.{UntaggedNamed}
+use Rattle.rustc_abi.proofs.Enums.ArmsLemmas.{EachApart, flagged_as, apart_beside, arms_room, arms_beside, flag_arms, arms_flag, arms_common, arms_untagged}
+use Rattle.rustc_abi.proofs.Values.FieldsLemmas.{IsPartNiche, part_of_list}
+use Rattle.rustc_abi.proofs.Enums.InNicheLemmas.{IsThere, AreSpanned, ArmsBeside, in_niche_number, names_itself, in_niche_exists, in_niche_only, in_niche_unique, in_niche_padding}
+use Rattle.rustc_abi.proofs.Enums.EnumLemmas.{in_below, numbers_long, some_niche}
+use Rattle.rustc_abi.proofs.Trees.LayLemmas.{VariantsFit-lawful}
+use Rattle.abi_laid.proofs.RoomLemmas.{within_room}
+use Rattle.rustc_abi.proofs.Enums.TagViewLemmas.{tag_niche_true, tag_niche_inside, tag_view_niche}
+
+-- an arm has the fields of its variant at the offsets of its layout: a niche of these is the arm's
+pub arm_niche_of : (whole : Layout) (mark : Mark) (first : ℕ) (size : ℕ) (layouts : List (VariantLayout ℕ)) (numbers : List ℕ) (variants : List (List Placed)) (i : ℕ) (variant : VariantLayout ℕ) (n : Niche) → EachApart size variants layouts →
+    length numbers ≡ length variants → slice_get layouts i ≡ Some variant → IsNicheOfPart variant.field_offsets (variant_at (layouts_of variants) i) n →
+    IsPartNiche (parts_of_arm (arms_at whole mark first layouts numbers variants) i) n
+arm_niche_of whole mark first size [] numbers variants i variant n apart long there has = absurd (cc)
+arm_niche_of whole mark first size (l ∷ layouts) numbers [] i variant n apart long there has = absurd apart
+arm_niche_of whole mark first size (l ∷ layouts) [] (ps ∷ variants) i variant n apart long there has = absurd (omega (arith, long))
+arm_niche_of whole mark first size (l ∷ layouts) (k ∷ numbers) (ps ∷ variants) zero variant n apart long there has =
+    let same : variant ≡ l = cc in
+    part_of_list l.field_offsets ps n (subst (λ v. IsNicheOfPart v.field_offsets (map layout_of ps) n) same has)
+arm_niche_of whole mark first size (l ∷ layouts) (k ∷ numbers) (ps ∷ variants) (suc i) variant n apart long there has =
+    arm_niche_of whole mark (first + 1) size layouts numbers variants i variant n apart.1 (omega (arith, long)) there has
+
+-- an arm is flagged where its variant has a field without values; there are as many as there are variants
+pub arm_flagged : (whole : Layout) (mark : Mark) (first : ℕ) (size : ℕ) (layouts : List (VariantLayout ℕ)) (numbers : List ℕ) (variants : List (List Placed)) (i : ℕ) → EachApart size variants layouts → length numbers ≡ length variants →
+    IsThere (arms_at whole mark first layouts numbers variants) i → (i < length variants) × (is_flagged (parts_of_arm (arms_at whole mark first layouts numbers variants) i) ≡ has_no_value (variant_at (layouts_of variants) i))
+arm_flagged whole mark first size [] numbers variants i apart long there = absurd there
+arm_flagged whole mark first size (l ∷ layouts) numbers [] i apart long there = absurd apart
+arm_flagged whole mark first size (l ∷ layouts) [] (ps ∷ variants) i apart long there = absurd there
+arm_flagged whole mark first size (l ∷ layouts) (k ∷ numbers) (ps ∷ variants) zero apart long there = (omega arith, flagged_as size l.field_offsets ps apart.0)
+arm_flagged whole mark first size (l ∷ layouts) (k ∷ numbers) (ps ∷ variants) (suc i) apart long there =
+    let rest = arm_flagged whole mark (first + 1) size layouts numbers variants i apart.1 (omega (arith, long)) there in (omega (arith, rest.0), rest.1)
+
+-- the niche of a field lies inside the whole
+niche_of_fields : (dl : TargetDataLayout) (size : ℕ) (offsets : List ℕ) (ps : List Placed) (n : Niche) → IsNicheOfPart offsets (map layout_of ps) n → AreApart size offsets (map size_of ps) →
+    All (λ p. IsLawfulLayout dl (layout_of p)) ps → n.offset + niche_size dl n ≤ size
+niche_of_fields dl size [] ps n has apart lawful = absurd has
+niche_of_fields dl size (o ∷ offsets) [] n has apart lawful = absurd has
+niche_of_fields dl size (o ∷ offsets) (p ∷ ps) n (inl here) apart lawful =
+    niche_of_field (layout_of p).largest_niche refl here
+  where
+    niche_of_field : (own : Option Niche) → (layout_of p).largest_niche ≡ own → IsNicheAt o own n → n.offset + niche_size dl n ≤ size
+    niche_of_field None e is = absurd is
+    niche_of_field (Some own) e is =
+        let law : IsLawfulNiche dl (size_of p) own = subst (λ q. IfSome q (IsLawfulNiche dl (size_of p))) e (All-head (λ p. IsLawfulLayout dl (layout_of p)) p ps lawful).niche in
+        omega (arith, is.0, ap (primitive_size dl) is.1, law.inside, apart.0)
+niche_of_fields dl size (o ∷ offsets) (p ∷ ps) n (inr later) apart lawful = niche_of_fields dl size offsets ps n later apart.2 (All-tail (λ p. IsLawfulLayout dl (layout_of p)) p ps lawful)
+
+pub niche_of_arm : (dl : TargetDataLayout) (size : ℕ) (layouts : List (VariantLayout ℕ)) (variants : List (List Placed)) (i : ℕ) (variant : VariantLayout ℕ) (n : Niche) →
+    EachApart size variants layouts → All (All (λ p. IsLawfulLayout dl (layout_of p))) variants → slice_get layouts i ≡ Some variant → IsNicheOfPart variant.field_offsets (variant_at (layouts_of variants) i) n →
+    n.offset + niche_size dl n ≤ size
+niche_of_arm dl size [] variants i variant n apart lawful there has = absurd (cc)
+niche_of_arm dl size (l ∷ layouts) [] i variant n apart lawful there has = absurd apart
+niche_of_arm dl size (l ∷ layouts) (ps ∷ variants) zero variant n apart lawful there has =
+    let same : variant ≡ l = cc in
+    niche_of_fields dl size l.field_offsets ps n (subst (λ v. IsNicheOfPart v.field_offsets (map layout_of ps) n) same has) apart.0 (All-head (All (λ p. IsLawfulLayout dl (layout_of p))) ps variants lawful)
+niche_of_arm dl size (l ∷ layouts) (ps ∷ variants) (suc i) variant n apart lawful there has =
+    niche_of_arm dl size layouts variants i variant n apart.1 (All-tail (All (λ p. IsLawfulLayout dl (layout_of p))) ps variants lawful) there has
+
+unequal : (a b : ℕ) (same : Bool) → (a == b) ≡ same → a ≢ b → same ≡ false
+unequal a b true e other = absurd (other (eqb-true a b e))
+unequal a b false e other = refl
+
+-- a number of the scalar's range is one of the scalar's
+number_of_range : (dl : TargetDataLayout) (s : Scalar) (k : ℕ) → IsIn (scalar_size dl s) (range_of dl s) k → IsNumberOf (scalar_size dl s) s k
+number_of_range dl (Initialized value range) k h = h
+number_of_range dl (Union value) k h = in_below (primitive_size dl value) (full_range (primitive_size dl value)) k h
+
+module _ (dl : TargetDataLayout) (repr : ReprOptions) (all : Variants) (variants : List (List Placed)) (layout : Layout)
+    (fits : VariantsFit dl all variants) (lawful : IsLawfulLayout dl layout) (flag : layout.uninhabited ≡ list_all has_no_value (layouts_of variants))
+    (told : IsToldByNiche dl (λ v. v) (layouts_of variants) layout) where
+  abbrev w : ℕ
+  w = niche_size dl told.niche
+
+  abbrev arms : Arms
+  arms = arms_at layout (mark_of true repr) 0 told.layouts (discriminants_of all) variants
+
+  abbrev tag : Placed
+  tag = one_scalar dl told.tag
+
+  abbrev placed : Placed
+  placed = tagged layout (mark_of true repr) told.niche.offset tag (InNiche told.untagged (record { start = told.span.start; last = told.span.last }) told.start) arms
+
+  -- the enum is put together so
+  pub placed_by_niche : placed_enum dl repr (discriminants_of all) variants layout ≡ placed
+  placed_by_niche =
+      ap (placed_variants dl repr (discriminants_of all) variants layout) told.told
+      ∙ ap (λ o. tagged layout (mark_of true repr) o tag (InNiche told.untagged told.span told.start) arms) (ap (λ fields. get_or (listed_offsets fields) 0 0) told.place)
+
+  wide : size_of tag ≡ w
+  wide = ap (primitive_size dl) told.numbers.value
+
+  each : EachApart layout.size variants told.layouts
+  each = apart_beside layout.size told.niche.offset (scalar_size dl told.tag) told.untagged 0 variants told.layouts told.apart
+
+  long : length (discriminants_of all) ≡ length variants
+  long = numbers_long dl all variants fits
+
+  inside : told.niche.offset + w ≤ layout.size
+  inside = niche_of_arm dl layout.size told.layouts variants told.untagged told.variant told.niche each (VariantsFit-lawful dl all variants fits) told.own told.niche_of
+
+  room : has_room placed ≡ true
+  room = both_true (both_true (le-leb (told.niche.offset + size_of tag) layout.size (omega (arith, wide, inside))) refl) (arms_room dl layout (mark_of true repr) 0 layout.size all variants told.layouts (discriminants_of all) each fits)
+
+  spanned : AreSpanned told.untagged told.span.start told.span.last arms
+  spanned i there other clear =
+      let at = arm_flagged layout (mark_of true repr) 0 layout.size told.layouts (discriminants_of all) variants i each long there in
+      let short : i < length (layouts_of variants) = omega (arith, at.0, length-map variants (map layout_of)) in
+      let none : has_no_value (variant_at (layouts_of variants) i) ≡ false = sym at.1 ∙ clear in
+      told.numbers.span i short (unequal i told.untagged (i == told.untagged) refl other) (ap (λ b. b && list_all takes_no_room (variant_at (layouts_of variants) i)) none)
+
+  own : IsPartNiche (parts_of_arm arms told.untagged) told.niche
+  own = arm_niche_of layout (mark_of true repr) 0 layout.size told.layouts (discriminants_of all) variants told.untagged told.variant told.niche each long told.own told.niche_of
+
+  module _ (locals : LocalsOfVariants dl all) where
+    fit : ArmsBeside dl layout.size told.niche.offset w told.untagged 0 all arms
+    fit = subst (λ k. ArmsBeside dl layout.size told.niche.offset k told.untagged 0 all arms) wide
+        (arms_beside dl layout (mark_of true repr) 0 layout.size told.niche.offset (scalar_size dl told.tag) told.untagged 0 all variants told.layouts told.apart fits locals)
+
+    number_there : (b : List ℕ) (v : Value) → Holds dl.endian placed b v → IsNumberOf (scalar_size dl told.tag) told.tag (number_of dl.endian (bytes_at b told.niche.offset (scalar_size dl told.tag)))
+    number_there b v h =
+        let in_new : IsIn w (range_of dl told.tag) (number_of dl.endian (bytes_at b told.niche.offset w)) =
+        in_niche_number dl repr layout told.niche tag told.untagged told.span.start told.span.last told.start all arms wide fit (range_of dl told.tag) own told.numbers.handed b v h in
+        number_of_range dl told.tag _ (subst (λ k. IsIn k (range_of dl told.tag) (number_of dl.endian (bytes_at b told.niche.offset k))) (sym wide) in_new)
+
+    faithful : IsFaithful dl (enum repr all) placed
+    faithful = record {
+      exists = in_niche_exists dl repr layout told.niche tag told.untagged told.span.start told.span.last told.start all arms wide fit (range_of dl told.tag) own told.numbers.handed inside spanned;
+      only = in_niche_only dl repr layout told.niche tag told.untagged told.span.start told.span.last told.start all arms wide fit;
+      unique = in_niche_unique dl repr layout told.niche tag told.untagged told.span.start told.span.last told.start all arms wide fit told.numbers.differ;
+      niche = some_niche layout.largest_niche _ (λ n e b v h. tag_niche_true dl told.tag told.niche.offset b (number_there b v h) n (sym told.left ∙ e));
+      inside = some_niche layout.largest_niche _ (λ n e. tag_niche_inside dl told.tag told.niche.offset n layout.size (omega (arith, wide, inside)) (sym told.left ∙ e));
+      padding = in_niche_padding dl repr layout told.niche tag told.untagged told.span.start told.span.last told.start all arms wide fit (λ j below. lt-ltb j (size_of tag) below);
+      view = λ b v h. tag_view_niche dl told.tag told.niche.offset b (number_there b v h) layout.backend_repr told.view;
+      flag = flag_arms dl repr all layout told.niche.offset tag (InNiche told.untagged (record { start = told.span.start; last = told.span.last }) told.start) arms
+          (list_all has_no_value (layouts_of variants)) flag (arms_flag dl layout (mark_of true repr) 0 layout.size all variants told.layouts each fits locals);
+    }
+
+    -- its untagged variant names itself, and so do those in its fields
+    untagged_named : UntaggedNamed dl.endian placed
+    untagged_named = (
+      names_itself dl repr layout told.niche tag told.untagged told.span.start told.span.last told.start all arms wide fit (range_of dl told.tag) own told.numbers.handed,
+      arms_untagged dl layout (mark_of true repr) 0 all variants told.layouts (discriminants_of all) fits locals,
+    )
+
+  -- an enum that a niche tells apart keeps its values
+  pub Fits-by-niche : Fits dl (enum repr all) (placed_enum dl repr (discriminants_of all) variants layout)
+  Fits-by-niche = subst (Fits dl (enum repr all)) (sym placed_by_niche) (record {
+    faithful = λ locals. faithful locals;
+    lawful = lawful;
+    room = room;
+    within = λ k place. within_room placed k room place;
+    common = λ locals. (tt, arms_common dl layout (mark_of true repr) 0 all variants told.layouts (discriminants_of all) fits locals);
+    untagged = untagged_named;
+  })

@@ -1,0 +1,18 @@
+-- Trees, node after node.
+
+-- the program's trees as the definitions see them
+pub mod TreeLemmas
+-- the calculator's answer to a list of fields, whatever lends their layouts
+pub mod ListLemmas
+-- how types are laid out, one after another
+pub mod LayLemmas
+-- each type that is laid out is sized, and its layout is lawful
+pub mod LaidLemmas
+-- a tree has one answer
+pub mod OneAnswer
+-- a tree has an answer
+pub mod SomeAnswer
+-- what holds of each type that is laid out holds everywhere in it
+pub mod EverywhereLemmas
+-- what each kind of type has where its parts have it, each type that is laid out has
+pub mod KindsLemmas
