@@ -133,7 +133,8 @@ impl Align {
     pub fn from_bytes(bytes: u64) -> Result<Align, AlignFromBytesError>
         ensures value { result ≡ align_of_bytes bytes }
         ensures zero { bytes ≡ 0 → result ≡ Ok 0 }
-        ensures power { (k : ℕ) → bytes ≡ 2 ^ k → result ≡ (if nat_lt max_exponent k then Err (TooLarge bytes) else Ok k) }
+        ensures power { (k : ℕ) → bytes ≡ 2 ^ k →
+            result ≡ (if nat_lt max_exponent k then Err (TooLarge bytes) else Ok k) }
         ensures not_power { 0 < bytes → ((k : ℕ) → bytes ≢ 2 ^ k) → result ≡ Err (NotPowerOfTwo bytes) }
     {
         if bytes == 0 {

@@ -32,7 +32,9 @@ pub(crate) struct Reading {
 impl Reading {
     /// The alignment of lists of fields, or of a float.
     fn set_aligned(&mut self, named: AlignedWord, align: Align)
-        ensures one_more { (ss : List Setting) → with_settings self.new.dl self.new.widest ss ≡ with_settings self.old.dl self.old.widest (Aligned named align ∷ ss) }
+        ensures one_more { (ss : List Setting) →
+            with_settings self.new.dl self.new.widest ss ≡ with_settings self.old.dl self.old.widest
+            (Aligned named align ∷ ss) }
         ensures widest { self.new.widest ≡ self.old.widest }
     {
         match named {
@@ -62,7 +64,9 @@ impl Reading {
     /// The alignment of integers of so many bits.
     fn set_integer(&mut self, bits: u64, align: Align)
         requires { IsWide self.old.widest }
-        ensures one_more { (ss : List Setting) → with_settings self.new.dl self.new.widest ss ≡ with_settings self.old.dl self.old.widest (Integer bits align ∷ ss) }
+        ensures one_more { (ss : List Setting) →
+            with_settings self.new.dl self.new.widest ss ≡ with_settings self.old.dl self.old.widest
+            (Integer bits align ∷ ss) }
         ensures wide { IsWide self.new.widest }
     {
         self.set_width(bits, align);
@@ -74,7 +78,9 @@ impl Reading {
 
     /// The pointers of a space.
     fn set_pointers(&mut self, space: AddressSpace, spec: PointerSpec) -> Result<(), AllocError>
-        ensures one_more { OnOk result ((ss : List Setting) → with_settings self.new.dl self.new.widest ss ≡ with_settings self.old.dl self.old.widest (Pointer space spec ∷ ss)) }
+        ensures one_more { OnOk result ((ss : List Setting) →
+            with_settings self.new.dl self.new.widest ss ≡ with_settings self.old.dl self.old.widest
+            (Pointer space spec ∷ ss)) }
         ensures widest { self.new.widest ≡ self.old.widest }
         ensures err { OnErr result (self.new ≡ self.old) }
     {
@@ -89,7 +95,8 @@ impl Reading {
     /// One spec more.
     fn set(&mut self, setting: Setting) -> Result<(), AllocError>
         requires { IsWide self.old.widest }
-        ensures one_more { OnOk result ((ss : List Setting) → with_settings self.new.dl self.new.widest ss ≡ with_settings self.old.dl self.old.widest (setting ∷ ss)) }
+        ensures one_more { OnOk result ((ss : List Setting) →
+            with_settings self.new.dl self.new.widest ss ≡ with_settings self.old.dl self.old.widest (setting ∷ ss)) }
         ensures wide { OnOk result (IsWide self.new.widest) }
         ensures err { OnErr result (self.new ≡ self.old) }
     {

@@ -70,29 +70,45 @@ impl<Cx: HasDataLayout> LayoutCalculator<Cx> {
         requires once { All (λ state. AllPairs (λ a b. a ≢ b) (map LocalIdx.number state)) states.now }
         requires same { domain_size promoted.now ≡ length locals.now }
         requires count { length prefix + length locals.now ≤ FieldIdx.MAX_INDEX }
-        ensures exact { IsPromotedAnswer F.layout_of FieldIdx.at FieldIdx.number (VariantIdx.at 0) (Cx.target self.now.cx) prefix tag field locals.now (map (map LocalIdx.number) states.now) promoted.now result }
+        ensures exact { IsPromotedAnswer F.layout_of FieldIdx.at FieldIdx.number (VariantIdx.at 0)
+            (Cx.target self.now.cx) prefix tag field locals.now
+            (map (map LocalIdx.number) states.now) promoted.now result }
         ensures lawful { IfOk result (IsLawfulLayout (Cx.target self.now.cx)) }
 
         // The tag and the prefix fields, and the locals of each state, share no byte; the states' numbers are the tag's.
-        ensures told { IfOk result (IsToldByState (Cx.target self.now.cx) FieldIdx.at (map F.layout_of prefix) (map F.layout_of locals.now) (map (map LocalIdx.number) states.now)) }
+        ensures told { IfOk result (IsToldByState (Cx.target self.now.cx) FieldIdx.at (map F.layout_of prefix)
+            (map F.layout_of locals.now) (map (map LocalIdx.number) states.now)) }
 
         // Where the states and some conflicts tell which locals are promoted, those that clash share no byte, and each has one
         // offset.
-        ensures clash { (conflicts : Relation) → promoted.now ≡ promoted_of (map (map LocalIdx.number) states.now) conflicts → column_count conflicts ≡ row_count conflicts → row_count conflicts ≡ length locals.now
-            → IfOk result (λ l. AreClashingApart (map (map LocalIdx.number) states.now) conflicts (map F.layout_of locals.now) (variants_of l.variants)) }
-        ensures one_offset { (conflicts : Relation) → promoted.now ≡ promoted_of (map (map LocalIdx.number) states.now) conflicts → row_count conflicts ≡ length locals.now
+        ensures clash { (conflicts : Relation) →
+            promoted.now ≡ promoted_of (map (map LocalIdx.number) states.now) conflicts →
+            column_count conflicts ≡ row_count conflicts → row_count conflicts ≡ length locals.now
+            → IfOk result (λ l. AreClashingApart (map (map LocalIdx.number) states.now) conflicts
+            (map F.layout_of locals.now) (variants_of l.variants)) }
+        ensures one_offset { (conflicts : Relation) →
+            promoted.now ≡ promoted_of (map (map LocalIdx.number) states.now) conflicts →
+            row_count conflicts ≡ length locals.now
             → IfOk result (λ l. HaveOneOffset (map (map LocalIdx.number) states.now) (variants_of l.variants)) }
 
         // The size is that of the first list and those behind it, each of its least size.
-        ensures size { IfOk result (λ l. IsSizeWith (Cx.target self.now.cx) (map F.layout_of prefix) (scalar_layout (VariantIdx.at 0) (Cx.target self.now.cx) tag) (map F.layout_of locals.now) (map (map LocalIdx.number) states.now) promoted.now l.size) }
+        ensures size { IfOk result (λ l. IsSizeWith (Cx.target self.now.cx) (map F.layout_of prefix)
+            (scalar_layout (VariantIdx.at 0) (Cx.target self.now.cx) tag) (map F.layout_of locals.now)
+            (map (map LocalIdx.number) states.now) promoted.now l.size) }
 
         // It is refused for its size only where a list is too large in each allowed order, or that size is, and sized fields
         // always then; sized fields are refused by no other name.
-        ensures too_large { result ≡ Err LayoutCalculatorError.SizeOverflow → IsTooLargeWith (Cx.target self.now.cx) (map F.layout_of prefix) (scalar_layout (VariantIdx.at 0) (Cx.target self.now.cx) tag) (map F.layout_of locals.now) (map (map LocalIdx.number) states.now) promoted.now }
+        ensures too_large { result ≡ Err LayoutCalculatorError.SizeOverflow →
+            IsTooLargeWith (Cx.target self.now.cx) (map F.layout_of prefix)
+            (scalar_layout (VariantIdx.at 0) (Cx.target self.now.cx) tag) (map F.layout_of locals.now)
+            (map (map LocalIdx.number) states.now) promoted.now }
         ensures refused { AreSized (map F.layout_of prefix) → AreSized (map F.layout_of locals.now)
-            → IsTooLargeWith (Cx.target self.now.cx) (map F.layout_of prefix) (scalar_layout (VariantIdx.at 0) (Cx.target self.now.cx) tag) (map F.layout_of locals.now) (map (map LocalIdx.number) states.now) promoted.now
+            → IsTooLargeWith (Cx.target self.now.cx) (map F.layout_of prefix)
+            (scalar_layout (VariantIdx.at 0) (Cx.target self.now.cx) tag) (map F.layout_of locals.now)
+            (map (map LocalIdx.number) states.now) promoted.now
             → IsAnswer (Err LayoutCalculatorError.SizeOverflow) result }
-        ensures no_other { AreSized (map F.layout_of prefix) → AreSized (map F.layout_of locals.now) → IfErr result (λ e. (e ≡ LayoutCalculatorError.SizeOverflow) ⊎ (e ≡ LayoutCalculatorError.OutOfMemory)) }
+        ensures no_other { AreSized (map F.layout_of prefix) → AreSized (map F.layout_of locals.now) →
+            IfErr result (λ e. (e ≡ LayoutCalculatorError.SizeOverflow) ⊎ (e ≡ LayoutCalculatorError.OutOfMemory)) }
     {
         let count = prefix.len();
         let fields = first_fields(prefix, field, locals, promoted)?;
@@ -152,35 +168,59 @@ impl<Cx: HasDataLayout> LayoutCalculator<Cx> {
         requires columns { column_count conflicts.now ≡ length locals.now }
         requires count { length prefix + length locals.now ≤ FieldIdx.MAX_INDEX }
         requires callable { T.IsAlwaysCallable tag_to_layout }
-        requires tag { (tag : Scalar) (field : _) → IsStateTag (length states.now) tag → T.post tag_to_layout tag field → F.layout_of field ≡ scalar_layout (VariantIdx.at 0) (Cx.target self.now.cx) tag }
+        requires tag { (tag : Scalar) (field : _) → IsStateTag (length states.now) tag →
+            T.post tag_to_layout tag field →
+            F.layout_of field ≡ scalar_layout (VariantIdx.at 0) (Cx.target self.now.cx) tag }
         requires few { length states.now ≤ VariantIdx.MAX_INDEX + 1 }
         requires named { length locals.now ≤ LocalIdx.MAX_INDEX + 1 }
-        ensures exact { (tag : Scalar) × IsStateTag (length states.now) tag × (field : _) × T.post tag_to_layout tag field
-            × IsCoroutineAnswer F.layout_of FieldIdx.at FieldIdx.number (VariantIdx.at 0) (Cx.target self.now.cx) prefix tag field locals.now (map (map LocalIdx.number) states.now) conflicts.now result }
+        ensures exact { (tag : Scalar) × IsStateTag (length states.now) tag × (field : _) ×
+            T.post tag_to_layout tag field
+            × IsCoroutineAnswer F.layout_of FieldIdx.at FieldIdx.number (VariantIdx.at 0)
+            (Cx.target self.now.cx) prefix tag field locals.now
+            (map (map LocalIdx.number) states.now) conflicts.now result }
         ensures lawful { IfOk result (IsLawfulLayout (Cx.target self.now.cx)) }
 
         // The prefix fields, the tag and the locals of each state share no byte, and the tag may hold each state's index.
-        ensures told { IfOk result (IsToldByState (Cx.target self.now.cx) FieldIdx.at (map F.layout_of prefix) (map F.layout_of locals.now) (map (map LocalIdx.number) states.now)) }
+        ensures told { IfOk result (IsToldByState (Cx.target self.now.cx) FieldIdx.at (map F.layout_of prefix)
+            (map F.layout_of locals.now) (map (map LocalIdx.number) states.now)) }
 
         // Different locals that one state holds, or that conflict in either direction, share no byte, and a local has one offset.
-        ensures clash { IfOk result (λ l. AreClashingApart (map (map LocalIdx.number) states.now) conflicts.now (map F.layout_of locals.now) (variants_of l.variants)) }
-        ensures one_offset { IfOk result (λ l. HaveOneOffset (map (map LocalIdx.number) states.now) (variants_of l.variants)) }
+        ensures clash { IfOk result (λ l.
+            AreClashingApart (map (map LocalIdx.number) states.now) conflicts.now (map F.layout_of locals.now)
+            (variants_of l.variants)) }
+        ensures one_offset { IfOk result (λ l.
+            HaveOneOffset (map (map LocalIdx.number) states.now) (variants_of l.variants)) }
 
         // The size is that of the first list and those behind it, each of its least size.
-        ensures size { (tag : Scalar) → IsStateTag (length states.now) tag → IfOk result (λ l. IsSizeWith (Cx.target self.now.cx) (map F.layout_of prefix) (scalar_layout (VariantIdx.at 0) (Cx.target self.now.cx) tag) (map F.layout_of locals.now) (map (map LocalIdx.number) states.now) (promoted_of (map (map LocalIdx.number) states.now) conflicts.now) l.size) }
+        ensures size { (tag : Scalar) → IsStateTag (length states.now) tag →
+            IfOk result (λ l. IsSizeWith (Cx.target self.now.cx) (map F.layout_of prefix)
+            (scalar_layout (VariantIdx.at 0) (Cx.target self.now.cx) tag) (map F.layout_of locals.now)
+            (map (map LocalIdx.number) states.now)
+            (promoted_of (map (map LocalIdx.number) states.now) conflicts.now) l.size) }
 
         // Where each local stands in one state, several states hold locals and no conflict joins two of them, the states share all
         // their bytes: no local is promoted.
-        ensures overlap { MayOverlap (row_count conflicts.now) (map (map LocalIdx.number) states.now) conflicts.now → (tag : Scalar) → IsStateTag (length states.now) tag
-            → IfOk result (λ l. IsOverlapSize (Cx.target self.now.cx) (map F.layout_of prefix) (scalar_layout (VariantIdx.at 0) (Cx.target self.now.cx) tag) (map F.layout_of locals.now) (map (map LocalIdx.number) states.now) l.size) }
+        ensures overlap { MayOverlap (row_count conflicts.now) (map (map LocalIdx.number) states.now) conflicts.now →
+            (tag : Scalar) → IsStateTag (length states.now) tag
+            → IfOk result (λ l. IsOverlapSize (Cx.target self.now.cx) (map F.layout_of prefix)
+            (scalar_layout (VariantIdx.at 0) (Cx.target self.now.cx) tag) (map F.layout_of locals.now)
+            (map (map LocalIdx.number) states.now) l.size) }
 
         // It is refused for its size only where a list is too large in each allowed order, or that size is, and sized fields
         // always then; sized fields are refused by no other name.
-        ensures too_large { (tag : Scalar) → IsStateTag (length states.now) tag → result ≡ Err LayoutCalculatorError.SizeOverflow
-            → IsTooLargeWith (Cx.target self.now.cx) (map F.layout_of prefix) (scalar_layout (VariantIdx.at 0) (Cx.target self.now.cx) tag) (map F.layout_of locals.now) (map (map LocalIdx.number) states.now) (promoted_of (map (map LocalIdx.number) states.now) conflicts.now) }
-        ensures refused { AreSized (map F.layout_of prefix) → AreSized (map F.layout_of locals.now) → (tag : Scalar) → IsStateTag (length states.now) tag
-            → IsTooLargeWith (Cx.target self.now.cx) (map F.layout_of prefix) (scalar_layout (VariantIdx.at 0) (Cx.target self.now.cx) tag) (map F.layout_of locals.now) (map (map LocalIdx.number) states.now) (promoted_of (map (map LocalIdx.number) states.now) conflicts.now) → IsAnswer (Err LayoutCalculatorError.SizeOverflow) result }
-        ensures no_other { AreSized (map F.layout_of prefix) → AreSized (map F.layout_of locals.now) → IfErr result (λ e. (e ≡ LayoutCalculatorError.SizeOverflow) ⊎ (e ≡ LayoutCalculatorError.OutOfMemory)) }
+        ensures too_large { (tag : Scalar) → IsStateTag (length states.now) tag →
+            result ≡ Err LayoutCalculatorError.SizeOverflow
+            → IsTooLargeWith (Cx.target self.now.cx) (map F.layout_of prefix)
+            (scalar_layout (VariantIdx.at 0) (Cx.target self.now.cx) tag) (map F.layout_of locals.now)
+            (map (map LocalIdx.number) states.now) (promoted_of (map (map LocalIdx.number) states.now) conflicts.now) }
+        ensures refused { AreSized (map F.layout_of prefix) → AreSized (map F.layout_of locals.now) → (tag : Scalar) →
+            IsStateTag (length states.now) tag
+            → IsTooLargeWith (Cx.target self.now.cx) (map F.layout_of prefix)
+            (scalar_layout (VariantIdx.at 0) (Cx.target self.now.cx) tag) (map F.layout_of locals.now)
+            (map (map LocalIdx.number) states.now) (promoted_of (map (map LocalIdx.number) states.now) conflicts.now) →
+            IsAnswer (Err LayoutCalculatorError.SizeOverflow) result }
+        ensures no_other { AreSized (map F.layout_of prefix) → AreSized (map F.layout_of locals.now) →
+            IfErr result (λ e. (e ≡ LayoutCalculatorError.SizeOverflow) ⊎ (e ≡ LayoutCalculatorError.OutOfMemory)) }
     {
         let tag = state_tag(states.len());
         let field = tag_to_layout(tag);
@@ -229,15 +269,21 @@ impl<Cx: HasDataLayout> LayoutCalculator<Cx> {
         requires locals { All (λ f. IsLawfulLayout (Cx.target self.now.cx) (F.layout_of f)) (items_of local_layouts) }
         requires prefix { All (λ f. IsLawfulLayout (Cx.target self.now.cx) (F.layout_of f)) prefix_layouts }
         requires some { 0 < length (items_of variant_fields) }
-        requires within { All (All (λ l. LocalIdx.number l < length (items_of local_layouts))) (items_of variant_fields) }
+        requires within { All (All (λ l. LocalIdx.number l < length (items_of local_layouts)))
+            (items_of variant_fields) }
         requires once { All (λ state. AllPairs (λ a b. a ≢ b) (map LocalIdx.number state)) (items_of variant_fields) }
         requires rows { row_count storage_conflicts.now ≡ length (items_of local_layouts) }
         requires columns { column_count storage_conflicts.now ≡ length (items_of local_layouts) }
         requires count { length prefix_layouts + length (items_of local_layouts) ≤ FieldIdx.MAX_INDEX }
         requires callable { T.IsAlwaysCallable tag_to_layout }
-        requires tag { (tag : Scalar) (field : _) → IsStateTag (length (items_of variant_fields)) tag → T.post tag_to_layout tag field → F.layout_of field ≡ scalar_layout (VariantIdx.at 0) (Cx.target self.now.cx) tag }
-        ensures exact { (tag : Scalar) × IsStateTag (length (items_of variant_fields.entry)) tag × (field : _) × T.post tag_to_layout tag field
-            × IsCoroutineAnswer F.layout_of FieldIdx.at FieldIdx.number (VariantIdx.at 0) (Cx.target self.now.cx) prefix_layouts tag field (items_of local_layouts.entry) (map (map LocalIdx.number) (items_of variant_fields.entry)) storage_conflicts.now result }
+        requires tag { (tag : Scalar) (field : _) → IsStateTag (length (items_of variant_fields)) tag →
+            T.post tag_to_layout tag field →
+            F.layout_of field ≡ scalar_layout (VariantIdx.at 0) (Cx.target self.now.cx) tag }
+        ensures exact { (tag : Scalar) × IsStateTag (length (items_of variant_fields.entry)) tag × (field : _) ×
+            T.post tag_to_layout tag field
+            × IsCoroutineAnswer F.layout_of FieldIdx.at FieldIdx.number (VariantIdx.at 0)
+            (Cx.target self.now.cx) prefix_layouts tag field (items_of local_layouts.entry)
+            (map (map LocalIdx.number) (items_of variant_fields.entry)) storage_conflicts.now result }
         ensures lawful { IfOk result (IsLawfulLayout (Cx.target self.now.cx)) }
 
         // It has no niche, is seen as bytes in memory, is aligned as the greatest of its lists is, and has no values
@@ -261,27 +307,56 @@ impl<Cx: HasDataLayout> LayoutCalculator<Cx> {
             (map (map LocalIdx.number) (items_of variant_fields.entry)) storage_conflicts.now) }
 
         // The prefix fields, the tag and the locals of each state share no byte, and the tag may hold each state's index.
-        ensures told { IfOk result (IsToldByState (Cx.target self.now.cx) FieldIdx.at (map F.layout_of prefix_layouts) (map F.layout_of (items_of local_layouts.entry)) (map (map LocalIdx.number) (items_of variant_fields.entry))) }
+        ensures told { IfOk result (IsToldByState (Cx.target self.now.cx) FieldIdx.at (map F.layout_of prefix_layouts)
+            (map F.layout_of (items_of local_layouts.entry))
+            (map (map LocalIdx.number) (items_of variant_fields.entry))) }
 
         // Different locals that one state holds, or that conflict in either direction, share no byte, and a local has one offset.
-        ensures clash { IfOk result (λ l. AreClashingApart (map (map LocalIdx.number) (items_of variant_fields.entry)) storage_conflicts.now (map F.layout_of (items_of local_layouts.entry)) (variants_of l.variants)) }
-        ensures one_offset { IfOk result (λ l. HaveOneOffset (map (map LocalIdx.number) (items_of variant_fields.entry)) (variants_of l.variants)) }
+        ensures clash { IfOk result (λ l.
+            AreClashingApart (map (map LocalIdx.number) (items_of variant_fields.entry)) storage_conflicts.now
+            (map F.layout_of (items_of local_layouts.entry)) (variants_of l.variants)) }
+        ensures one_offset { IfOk result (λ l.
+            HaveOneOffset (map (map LocalIdx.number) (items_of variant_fields.entry)) (variants_of l.variants)) }
 
         // The size is that of the first list and those behind it, each of its least size.
-        ensures size { (tag : Scalar) → IsStateTag (length (items_of variant_fields.entry)) tag → IfOk result (λ l. IsSizeWith (Cx.target self.now.cx) (map F.layout_of prefix_layouts) (scalar_layout (VariantIdx.at 0) (Cx.target self.now.cx) tag) (map F.layout_of (items_of local_layouts.entry)) (map (map LocalIdx.number) (items_of variant_fields.entry)) (promoted_of (map (map LocalIdx.number) (items_of variant_fields.entry)) storage_conflicts.now) l.size) }
+        ensures size { (tag : Scalar) → IsStateTag (length (items_of variant_fields.entry)) tag →
+            IfOk result (λ l. IsSizeWith (Cx.target self.now.cx) (map F.layout_of prefix_layouts)
+            (scalar_layout (VariantIdx.at 0) (Cx.target self.now.cx) tag)
+            (map F.layout_of (items_of local_layouts.entry))
+            (map (map LocalIdx.number) (items_of variant_fields.entry))
+            (promoted_of (map (map LocalIdx.number) (items_of variant_fields.entry)) storage_conflicts.now) l.size) }
 
         // Where each local stands in one state, several states hold locals and no conflict joins two of them, the states share all
         // their bytes: no local is promoted.
-        ensures overlap { MayOverlap (row_count storage_conflicts.now) (map (map LocalIdx.number) (items_of variant_fields.entry)) storage_conflicts.now → (tag : Scalar) → IsStateTag (length (items_of variant_fields.entry)) tag
-            → IfOk result (λ l. IsOverlapSize (Cx.target self.now.cx) (map F.layout_of prefix_layouts) (scalar_layout (VariantIdx.at 0) (Cx.target self.now.cx) tag) (map F.layout_of (items_of local_layouts.entry)) (map (map LocalIdx.number) (items_of variant_fields.entry)) l.size) }
+        ensures overlap { MayOverlap (row_count storage_conflicts.now)
+            (map (map LocalIdx.number) (items_of variant_fields.entry)) storage_conflicts.now → (tag : Scalar) →
+            IsStateTag (length (items_of variant_fields.entry)) tag
+            → IfOk result (λ l. IsOverlapSize (Cx.target self.now.cx) (map F.layout_of prefix_layouts)
+            (scalar_layout (VariantIdx.at 0) (Cx.target self.now.cx) tag)
+            (map F.layout_of (items_of local_layouts.entry))
+            (map (map LocalIdx.number) (items_of variant_fields.entry)) l.size) }
 
         // It is refused for its size only where a list is too large in each allowed order, or that size is, and sized fields
         // always then; sized fields are refused by no other name.
-        ensures too_large { (tag : Scalar) → IsStateTag (length (items_of variant_fields.entry)) tag → result ≡ Err LayoutCalculatorError.SizeOverflow
-            → IsTooLargeWith (Cx.target self.now.cx) (map F.layout_of prefix_layouts) (scalar_layout (VariantIdx.at 0) (Cx.target self.now.cx) tag) (map F.layout_of (items_of local_layouts.entry)) (map (map LocalIdx.number) (items_of variant_fields.entry)) (promoted_of (map (map LocalIdx.number) (items_of variant_fields.entry)) storage_conflicts.now) }
-        ensures refused { AreSized (map F.layout_of prefix_layouts) → AreSized (map F.layout_of (items_of local_layouts.entry)) → (tag : Scalar) → IsStateTag (length (items_of variant_fields.entry)) tag
-            → IsTooLargeWith (Cx.target self.now.cx) (map F.layout_of prefix_layouts) (scalar_layout (VariantIdx.at 0) (Cx.target self.now.cx) tag) (map F.layout_of (items_of local_layouts.entry)) (map (map LocalIdx.number) (items_of variant_fields.entry)) (promoted_of (map (map LocalIdx.number) (items_of variant_fields.entry)) storage_conflicts.now) → IsAnswer (Err LayoutCalculatorError.SizeOverflow) result }
-        ensures no_other { AreSized (map F.layout_of prefix_layouts) → AreSized (map F.layout_of (items_of local_layouts.entry)) → IfErr result (λ e. (e ≡ LayoutCalculatorError.SizeOverflow) ⊎ (e ≡ LayoutCalculatorError.OutOfMemory)) }
+        ensures too_large { (tag : Scalar) → IsStateTag (length (items_of variant_fields.entry)) tag →
+            result ≡ Err LayoutCalculatorError.SizeOverflow
+            → IsTooLargeWith (Cx.target self.now.cx) (map F.layout_of prefix_layouts)
+            (scalar_layout (VariantIdx.at 0) (Cx.target self.now.cx) tag)
+            (map F.layout_of (items_of local_layouts.entry))
+            (map (map LocalIdx.number) (items_of variant_fields.entry))
+            (promoted_of (map (map LocalIdx.number) (items_of variant_fields.entry)) storage_conflicts.now) }
+        ensures refused { AreSized (map F.layout_of prefix_layouts) →
+            AreSized (map F.layout_of (items_of local_layouts.entry)) → (tag : Scalar) →
+            IsStateTag (length (items_of variant_fields.entry)) tag
+            → IsTooLargeWith (Cx.target self.now.cx) (map F.layout_of prefix_layouts)
+            (scalar_layout (VariantIdx.at 0) (Cx.target self.now.cx) tag)
+            (map F.layout_of (items_of local_layouts.entry))
+            (map (map LocalIdx.number) (items_of variant_fields.entry))
+            (promoted_of (map (map LocalIdx.number) (items_of variant_fields.entry)) storage_conflicts.now) →
+            IsAnswer (Err LayoutCalculatorError.SizeOverflow) result }
+        ensures no_other { AreSized (map F.layout_of prefix_layouts) →
+            AreSized (map F.layout_of (items_of local_layouts.entry)) →
+            IfErr result (λ e. (e ≡ LayoutCalculatorError.SizeOverflow) ⊎ (e ≡ LayoutCalculatorError.OutOfMemory)) }
     {
         let locals = local_layouts.as_raw();
         let states = variant_fields.as_raw();

@@ -94,20 +94,37 @@ impl<Cx: HasDataLayout> LayoutCalculator<Cx> {
         requires callable { D.IsAlwaysCallable discr_range_of_repr }
         requires can { I.can_next discriminants }
         requires ends { IsFinite (I.remaining discriminants) }
-        requires each { EachRunFrom I.next_gives discriminants (λ run. IsTrue run.whole → HasOneEach VariantIdx.number (length (items_of variants)) run.items
-            × AreLawfulTags VariantIdx.number (Cx.target self.now.cx) repr.now (D.post discr_range_of_repr) (map (map F.layout_of) (items_of variants)) run.items) }
-        ensures exact { IsTypeAnswer F.layout_of FieldIdx.at FieldIdx.number VariantIdx.at VariantIdx.number (Cx.target self.now.cx) repr.now (items_of variants.entry) is_enum always_sized niche_optimizations
-            (D.post discr_range_of_repr) (λ items. WholeRun I.next_gives discriminants (λ run. items ≡ run.items)) (path_of is_enum repr.now (map (map F.layout_of) (items_of variants.entry))) result }
+        requires each { EachRunFrom I.next_gives discriminants (λ run. IsTrue run.whole →
+            HasOneEach VariantIdx.number (length (items_of variants)) run.items
+            × AreLawfulTags VariantIdx.number (Cx.target self.now.cx) repr.now (D.post discr_range_of_repr)
+            (map (map F.layout_of) (items_of variants)) run.items) }
+        ensures exact { IsTypeAnswer F.layout_of FieldIdx.at FieldIdx.number VariantIdx.at VariantIdx.number
+            (Cx.target self.now.cx) repr.now (items_of variants.entry) is_enum always_sized niche_optimizations
+            (D.post discr_range_of_repr) (λ items. WholeRun I.next_gives discriminants (λ run. items ≡ run.items))
+            (path_of is_enum repr.now (map (map F.layout_of) (items_of variants.entry))) result }
         ensures lawful { IfOk result (IsLawfulLayout (Cx.target self.now.cx)) }
 
         // One list is laid out and refused as `layout_of_univariant` does it.
-        ensures listed { (i : _) → path_of is_enum repr.now (map (map F.layout_of) (items_of variants.entry)) ≡ IsOneList i → IfOk result (IsGoodSingle F.layout_of FieldIdx.at FieldIdx.number (Cx.target self.now.cx) repr.now
+        ensures listed { (i : _) → path_of is_enum repr.now
+            (map (map F.layout_of) (items_of variants.entry)) ≡ IsOneList i →
+            IfOk result (IsGoodSingle F.layout_of FieldIdx.at FieldIdx.number (Cx.target self.now.cx) repr.now
             (kind_at is_enum always_sized (items_of variants.entry) i) (variant_at (items_of variants.entry) i)) }
-        ensures list_too_large { (i : _) → path_of is_enum repr.now (map (map F.layout_of) (items_of variants.entry)) ≡ IsOneList i → result ≡ Err LayoutCalculatorError.SizeOverflow
-            → IsEachOrderTooLarge (Cx.target self.now.cx) repr.now (kind_at is_enum always_sized (items_of variants.entry) i) (map F.layout_of (variant_at (items_of variants.entry) i)) }
-        ensures list_refused { (i : _) → path_of is_enum repr.now (map (map F.layout_of) (items_of variants.entry)) ≡ IsOneList i → AreSized (map F.layout_of (variant_at (items_of variants.entry) i))
-            → IsEachOrderTooLarge (Cx.target self.now.cx) repr.now (kind_at is_enum always_sized (items_of variants.entry) i) (map F.layout_of (variant_at (items_of variants.entry) i)) → IsAnswer (Err LayoutCalculatorError.SizeOverflow) result }
-        ensures list_no_other { (i : _) → path_of is_enum repr.now (map (map F.layout_of) (items_of variants.entry)) ≡ IsOneList i → AreSized (map F.layout_of (variant_at (items_of variants.entry) i))
+        ensures list_too_large { (i : _) →
+            path_of is_enum repr.now (map (map F.layout_of) (items_of variants.entry)) ≡ IsOneList i →
+            result ≡ Err LayoutCalculatorError.SizeOverflow
+            → IsEachOrderTooLarge (Cx.target self.now.cx) repr.now
+            (kind_at is_enum always_sized (items_of variants.entry) i)
+            (map F.layout_of (variant_at (items_of variants.entry) i)) }
+        ensures list_refused { (i : _) → path_of is_enum repr.now
+            (map (map F.layout_of) (items_of variants.entry)) ≡ IsOneList i →
+            AreSized (map F.layout_of (variant_at (items_of variants.entry) i))
+            → IsEachOrderTooLarge (Cx.target self.now.cx) repr.now
+            (kind_at is_enum always_sized (items_of variants.entry) i)
+            (map F.layout_of (variant_at (items_of variants.entry) i)) →
+            IsAnswer (Err LayoutCalculatorError.SizeOverflow) result }
+        ensures list_no_other { (i : _) →
+            path_of is_enum repr.now (map (map F.layout_of) (items_of variants.entry)) ≡ IsOneList i →
+            AreSized (map F.layout_of (variant_at (items_of variants.entry) i))
             → IfErr result (λ e. (e ≡ LayoutCalculatorError.SizeOverflow) ⊎ (e ≡ LayoutCalculatorError.OutOfMemory)) }
 
         // It has one variant, and the niche, the view and the marks of the list, where niches may be used.
@@ -123,7 +140,9 @@ impl<Cx: HasDataLayout> LayoutCalculator<Cx> {
 
         // Several variants are told apart by a tag of its own, behind which their fields lie, or by a niche of the untagged one.
         ensures told { path_of is_enum repr.now (map (map F.layout_of) (items_of variants.entry)) ≡ AreSeveral
-            → IfOk result (λ l. WholeRun I.next_gives discriminants (λ run. AreToldApart (Cx.target self.now.cx) VariantIdx.number (map (map F.layout_of) (items_of variants.entry)) run.items l)) }
+            → IfOk result (λ l. WholeRun I.next_gives discriminants (λ run.
+            AreToldApart (Cx.target self.now.cx) VariantIdx.number
+            (map (map F.layout_of) (items_of variants.entry)) run.items l)) }
 
         // Each of their variants is laid out as a list, in an allowed order of the least size; the alignment is the
         // greatest of these lists', and the marks are theirs. They have no values where none of the variants may have
@@ -154,20 +173,31 @@ impl<Cx: HasDataLayout> LayoutCalculator<Cx> {
 
         // Their size is that of the variants' always sized lists where these leave room for a niche, else the tagged size.
         ensures size { path_of is_enum repr.now (map (map F.layout_of) (items_of variants.entry)) ≡ AreSeveral
-            → IfOk result (λ l. WholeRun I.next_gives discriminants (λ run. HasEnumSize F.layout_of FieldIdx.at (VariantIdx.at 0) (Cx.target self.now.cx) repr.now (D.post discr_range_of_repr)
-            (counting_of VariantIdx.number repr.now (map (map F.layout_of) (items_of variants.entry)) run.items) (items_of variants.entry) l.size)) }
+            → IfOk result (λ l. WholeRun I.next_gives discriminants (λ run.
+            HasEnumSize F.layout_of FieldIdx.at (VariantIdx.at 0) (Cx.target self.now.cx) repr.now
+            (D.post discr_range_of_repr)
+            (counting_of VariantIdx.number repr.now (map (map F.layout_of) (items_of variants.entry)) run.items)
+            (items_of variants.entry) l.size)) }
 
         // They are refused where they are packed, and for their size only where a list behind the tag, or the tagged size, is
         // too large, and sized fields always then; sized fields are refused by no other name.
-        ensures packed { path_of is_enum repr.now (map (map F.layout_of) (items_of variants.entry)) ≡ AreSeveral → IsSome repr.now.pack → result ≡ Err LayoutCalculatorError.ReprConflict }
-        ensures too_large { path_of is_enum repr.now (map (map F.layout_of) (items_of variants.entry)) ≡ AreSeveral → result ≡ Err LayoutCalculatorError.SizeOverflow
-            → WholeRun I.next_gives discriminants (λ run. IsAskedTooLarge (Cx.target self.now.cx) repr.now (D.post discr_range_of_repr)
-            (counting_of VariantIdx.number repr.now (map (map F.layout_of) (items_of variants.entry)) run.items) (map (map F.layout_of) (items_of variants.entry))) }
-        ensures refused { path_of is_enum repr.now (map (map F.layout_of) (items_of variants.entry)) ≡ AreSeveral → (repr.now.pack ≡ None) → All AreSized (map (map F.layout_of) (items_of variants.entry))
-            → EachRunFrom I.next_gives discriminants (λ run. IsTrue run.whole → IsAlwaysTooLarge (Cx.target self.now.cx) repr.now (D.post discr_range_of_repr)
-            (counting_of VariantIdx.number repr.now (map (map F.layout_of) (items_of variants.entry)) run.items) (map (map F.layout_of) (items_of variants.entry)))
+        ensures packed { path_of is_enum repr.now (map (map F.layout_of) (items_of variants.entry)) ≡ AreSeveral →
+            IsSome repr.now.pack → result ≡ Err LayoutCalculatorError.ReprConflict }
+        ensures too_large { path_of is_enum repr.now (map (map F.layout_of) (items_of variants.entry)) ≡ AreSeveral →
+            result ≡ Err LayoutCalculatorError.SizeOverflow
+            → WholeRun I.next_gives discriminants (λ run.
+            IsAskedTooLarge (Cx.target self.now.cx) repr.now (D.post discr_range_of_repr)
+            (counting_of VariantIdx.number repr.now (map (map F.layout_of) (items_of variants.entry)) run.items)
+            (map (map F.layout_of) (items_of variants.entry))) }
+        ensures refused { path_of is_enum repr.now (map (map F.layout_of) (items_of variants.entry)) ≡ AreSeveral →
+            (repr.now.pack ≡ None) → All AreSized (map (map F.layout_of) (items_of variants.entry))
+            → EachRunFrom I.next_gives discriminants (λ run. IsTrue run.whole →
+            IsAlwaysTooLarge (Cx.target self.now.cx) repr.now (D.post discr_range_of_repr)
+            (counting_of VariantIdx.number repr.now (map (map F.layout_of) (items_of variants.entry)) run.items)
+            (map (map F.layout_of) (items_of variants.entry)))
             → IsAnswer (Err LayoutCalculatorError.SizeOverflow) result }
-        ensures no_other { path_of is_enum repr.now (map (map F.layout_of) (items_of variants.entry)) ≡ AreSeveral → (repr.now.pack ≡ None) → All AreSized (map (map F.layout_of) (items_of variants.entry))
+        ensures no_other { path_of is_enum repr.now (map (map F.layout_of) (items_of variants.entry)) ≡ AreSeveral →
+            (repr.now.pack ≡ None) → All AreSized (map (map F.layout_of) (items_of variants.entry))
             → IfErr result (λ e. (e ≡ LayoutCalculatorError.SizeOverflow) ⊎ (e ≡ LayoutCalculatorError.OutOfMemory)) }
     {
         let all = variants.as_raw();

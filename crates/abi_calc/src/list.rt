@@ -54,32 +54,48 @@ impl<Cx: HasDataLayout> LayoutCalculator<Cx> {
         requires repr { HasLawfulAligns repr.now }
         requires prefix { IsLawfulPrefix kind (size_bound (Cx.target self.now.cx)) }
         requires tail { IsNonEmptyIfUnsized kind (length (items_of fields)) }
-        ensures exact { IsListAnswer F.layout_of FieldIdx.at (VariantIdx.at 0) (Cx.target self.now.cx) repr.now kind (items_of fields.entry) result }
+        ensures exact { IsListAnswer F.layout_of FieldIdx.at (VariantIdx.at 0) (Cx.target self.now.cx) repr.now kind
+            (items_of fields.entry) result }
         ensures lawful { IfOk result (IsLawfulLayout (Cx.target self.now.cx)) }
-        ensures apart { IfOk result (λ l. AreApart l.size (listed_offsets l.fields) (map (λ f. (F.layout_of f).size) (items_of fields.entry))) }
+        ensures apart { IfOk result (λ l.
+            AreApart l.size (listed_offsets l.fields) (map (λ f. (F.layout_of f).size) (items_of fields.entry))) }
         ensures after { IfOk result (λ l. All (λ o. start_of repr.now.pack kind ≤ o) (listed_offsets l.fields)) }
-        ensures aligned { IfOk result (λ l. AreAligned (listed_offsets l.fields) (map (λ f. cut repr.now.pack (F.layout_of f).align.abi) (items_of fields.entry))) }
-        ensures niche { IfOk result (λ l. IfSome l.largest_niche (IsNicheOfPart (listed_offsets l.fields) (map F.layout_of (items_of fields.entry)))) }
-        ensures largest { IfOk result (λ l. HasLargestNiche (Cx.target self.now.cx) l.largest_niche (map F.layout_of (items_of fields.entry))) }
+        ensures aligned { IfOk result (λ l.
+            AreAligned (listed_offsets l.fields)
+            (map (λ f. cut repr.now.pack (F.layout_of f).align.abi) (items_of fields.entry))) }
+        ensures niche { IfOk result (λ l.
+            IfSome l.largest_niche (IsNicheOfPart (listed_offsets l.fields)
+            (map F.layout_of (items_of fields.entry)))) }
+        ensures largest { IfOk result (λ l.
+            HasLargestNiche (Cx.target self.now.cx) l.largest_niche (map F.layout_of (items_of fields.entry))) }
 
         // The fields lie one after another in an order that the repr and the kind allow, which is the memory order, and the
         // alignment is the list's.
-        ensures placed { IfOk result (LiesInSomeOrder FieldIdx.at (Cx.target self.now.cx) repr.now kind (map F.layout_of (items_of fields.entry))) }
+        ensures placed { IfOk result (LiesInSomeOrder FieldIdx.at (Cx.target self.now.cx) repr.now kind
+            (map F.layout_of (items_of fields.entry))) }
 
         // Some order that is allowed has the size, and none a smaller one.
-        ensures least { IfOk result (λ l. IsLeastSize (Cx.target self.now.cx) repr.now kind (map F.layout_of (items_of fields.entry)) l.size) }
+        ensures least { IfOk result (λ l.
+            IsLeastSize (Cx.target self.now.cx) repr.now kind (map F.layout_of (items_of fields.entry)) l.size) }
 
         // It is refused for its size only where every such order is too large, and a list of sized fields always then; sized
         // fields are refused by no other name.
-        ensures too_large { result ≡ Err LayoutCalculatorError.SizeOverflow → IsEachOrderTooLarge (Cx.target self.now.cx) repr.now kind (map F.layout_of (items_of fields.entry)) }
-        ensures refused { AreSized (map F.layout_of (items_of fields.entry)) → IsEachOrderTooLarge (Cx.target self.now.cx) repr.now kind (map F.layout_of (items_of fields.entry)) → IsAnswer (Err LayoutCalculatorError.SizeOverflow) result }
-        ensures no_other { AreSized (map F.layout_of (items_of fields.entry)) → IfErr result (λ e. (e ≡ LayoutCalculatorError.SizeOverflow) ⊎ (e ≡ LayoutCalculatorError.OutOfMemory)) }
+        ensures too_large { result ≡ Err LayoutCalculatorError.SizeOverflow →
+            IsEachOrderTooLarge (Cx.target self.now.cx) repr.now kind (map F.layout_of (items_of fields.entry)) }
+        ensures refused { AreSized (map F.layout_of (items_of fields.entry)) →
+            IsEachOrderTooLarge (Cx.target self.now.cx) repr.now kind (map F.layout_of (items_of fields.entry)) →
+            IsAnswer (Err LayoutCalculatorError.SizeOverflow) result }
+        ensures no_other { AreSized (map F.layout_of (items_of fields.entry)) →
+            IfErr result (λ e. (e ≡ LayoutCalculatorError.SizeOverflow) ⊎ (e ≡ LayoutCalculatorError.OutOfMemory)) }
 
         // The second order, of a bias to the end, never fails where the first one has no fault.
-        ensures second { IsFirstFaultless (Cx.target self.now.cx) repr.now kind (map F.layout_of (items_of fields.entry)) → IfErr result (λ e. e ≡ LayoutCalculatorError.OutOfMemory) }
+        ensures second { IsFirstFaultless (Cx.target self.now.cx) repr.now kind
+            (map F.layout_of (items_of fields.entry)) → IfErr result (λ e. e ≡ LayoutCalculatorError.OutOfMemory) }
 
         // Where the order is free, sized fields leave no padding but at the end.
-        ensures sum { IsTrue (list_repr (Cx.target self.now.cx) repr.now kind).reorderable → IsSized kind → IfOk result (λ l. l.size ≡ sum_rounded (list_repr (Cx.target self.now.cx) repr.now kind) (parts_of (Cx.target self.now.cx) (map F.layout_of (items_of fields.entry)))) }
+        ensures sum { IsTrue (list_repr (Cx.target self.now.cx) repr.now kind).reorderable → IsSized kind →
+            IfOk result (λ l. l.size ≡ sum_rounded (list_repr (Cx.target self.now.cx) repr.now kind)
+            (parts_of (Cx.target self.now.cx) (map F.layout_of (items_of fields.entry)))) }
 
         // It has one variant, is seen as its fields tell, and has their marks.
         ensures single { IfOk result (λ l. l.variants ≡ Single (VariantIdx.at 0)) }

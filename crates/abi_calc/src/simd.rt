@@ -36,14 +36,19 @@ impl<Cx: HasDataLayout> LayoutCalculator<Cx> {
     ) -> Result<LayoutData<FieldIdx, VariantIdx>, LayoutCalculatorError<F>>
         requires data_layout { IsLawfulDataLayout (Cx.target self.now.cx) }
         requires element { IsLawfulLayout (Cx.target self.now.cx) (F.layout_of element) }
-        ensures exact { IsAnswer (simd_answer F.layout_of (VariantIdx.at 0) (FieldIdx.at 0) (Cx.target self.now.cx) element count repr_packed) result }
-        ensures size { IfOk result (λ l. l.size ≡ next_multiple_of ((F.layout_of element).size * count) (2 ^ l.align.abi)) }
-        ensures tight { IsTrue (is_tight repr_packed count) → IfOk result (λ l. l.size ≡ (F.layout_of element).size * count) }
+        ensures exact { IsAnswer (simd_answer F.layout_of (VariantIdx.at 0) (FieldIdx.at 0)
+            (Cx.target self.now.cx) element count repr_packed) result }
+        ensures size { IfOk result (λ l. l.size ≡ next_multiple_of ((F.layout_of element).size * count)
+            (2 ^ l.align.abi)) }
+        ensures tight { IsTrue (is_tight repr_packed count) →
+            IfOk result (λ l. l.size ≡ (F.layout_of element).size * count) }
         ensures lawful { IfOk result (IsLawfulLayout (Cx.target self.now.cx)) }
 
         // It is refused for its size exactly where so many of the elements make a vector and it is too large, memory aside.
-        ensures too_large { result ≡ Err LayoutCalculatorError.SizeOverflow → IsVectorTooLarge (Cx.target self.now.cx) (F.layout_of element) count repr_packed }
-        ensures refused { IsVectorTooLarge (Cx.target self.now.cx) (F.layout_of element) count repr_packed → IsAnswer (Err LayoutCalculatorError.SizeOverflow) result }
+        ensures too_large { result ≡ Err LayoutCalculatorError.SizeOverflow →
+            IsVectorTooLarge (Cx.target self.now.cx) (F.layout_of element) count repr_packed }
+        ensures refused { IsVectorTooLarge (Cx.target self.now.cx) (F.layout_of element) count repr_packed →
+            IsAnswer (Err LayoutCalculatorError.SizeOverflow) result }
         ensures places { IfOk result (λ l. HasPlaceForEach l.fields) }
         ensures ascending { IfOk result (λ l. IsAscending FieldIdx.number l.fields) }
     {
@@ -69,8 +74,10 @@ impl<Cx: HasDataLayout> LayoutCalculator<Cx> {
     ) -> Result<LayoutData<FieldIdx, VariantIdx>, LayoutCalculatorError<F>>
         requires data_layout { IsLawfulDataLayout (Cx.target self.now.cx) }
         requires element { IsLawfulLayout (Cx.target self.now.cx) (F.layout_of element) }
-        ensures exact { IsAnswer (scalable_answer F.layout_of (VariantIdx.at 0) (FieldIdx.at 0) (Cx.target self.now.cx) element count number_of_vectors) result }
-        ensures size { IfOk result (λ l. l.size ≡ next_multiple_of ((F.layout_of element).size * count * number_of_vectors.0) (2 ^ l.align.abi)) }
+        ensures exact { IsAnswer (scalable_answer F.layout_of (VariantIdx.at 0) (FieldIdx.at 0)
+            (Cx.target self.now.cx) element count number_of_vectors) result }
+        ensures size { IfOk result (λ l. l.size ≡ next_multiple_of
+            ((F.layout_of element).size * count * number_of_vectors.0) (2 ^ l.align.abi)) }
         ensures lawful { number_of_vectors.0 ≢ 0 → IfOk result (IsLawfulLayout (Cx.target self.now.cx)) }
         ensures places { IfOk result (λ l. HasPlaceForEach l.fields) }
         ensures ascending { IfOk result (λ l. IsAscending FieldIdx.number l.fields) }

@@ -52,10 +52,13 @@ impl<Cx: HasDataLayout> LayoutCalculator<Cx> {
     ) -> Result<LayoutData<FieldIdx, VariantIdx>, LayoutCalculatorError<F>>
         requires data_layout { IsLawfulDataLayout (Cx.target self.now.cx) }
         requires one { length (items_of variants) ≡ 1 }
-        requires fields { All (λ f. IsLawfulLayout (Cx.target self.now.cx) (F.layout_of f)) (only_of (items_of variants)) }
+        requires fields { All (λ f. IsLawfulLayout (Cx.target self.now.cx) (F.layout_of f))
+            (only_of (items_of variants)) }
         requires align { IfSome repr.now.align (λ align. align ≤ 29) }
-        ensures exact { IsUnionAnswer F.layout_of (VariantIdx.at 0) (Cx.target self.now.cx) repr.now (only_of (items_of variants.entry)) result }
-        ensures size { IfOk result (λ l. l.size ≡ next_multiple_of (greatest_size (map F.layout_of (only_of (items_of variants.entry)))) (2 ^ l.align.abi)) }
+        ensures exact { IsUnionAnswer F.layout_of (VariantIdx.at 0) (Cx.target self.now.cx) repr.now
+            (only_of (items_of variants.entry)) result }
+        ensures size { IfOk result (λ l. l.size ≡ next_multiple_of
+            (greatest_size (map F.layout_of (only_of (items_of variants.entry)))) (2 ^ l.align.abi)) }
         ensures lawful { IfOk result (IsLawfulLayout (Cx.target self.now.cx)) }
         ensures niche { IfOk result (λ l. l.largest_niche ≡ None) }
         ensures inhabited { IfOk result (λ l. l.uninhabited ≡ false) }
@@ -68,8 +71,10 @@ impl<Cx: HasDataLayout> LayoutCalculator<Cx> {
             (map F.layout_of (only_of (items_of variants.entry)))) }
 
         // It is refused for its size exactly where its fields are sized and it is too large.
-        ensures too_large { result ≡ Err LayoutCalculatorError.SizeOverflow → IsUnionTooLarge (Cx.target self.now.cx) repr.now (map F.layout_of (only_of (items_of variants.entry))) }
-        ensures refused { IsUnionTooLarge (Cx.target self.now.cx) repr.now (map F.layout_of (only_of (items_of variants.entry))) → result ≡ Err LayoutCalculatorError.SizeOverflow }
+        ensures too_large { result ≡ Err LayoutCalculatorError.SizeOverflow →
+            IsUnionTooLarge (Cx.target self.now.cx) repr.now (map F.layout_of (only_of (items_of variants.entry))) }
+        ensures refused { IsUnionTooLarge (Cx.target self.now.cx) repr.now
+            (map F.layout_of (only_of (items_of variants.entry))) → result ≡ Err LayoutCalculatorError.SizeOverflow }
         ensures places { IfOk result (λ l. HasPlaceForEach l.fields) }
         ensures ascending { IfOk result (λ l. IsAscending FieldIdx.number l.fields) }
     {

@@ -16,7 +16,8 @@ pub(crate) fn add_run(
 ) -> Result<(), AllocError>
     requires some { from < to }
     requires maximal { AreMaximalRuns 0 runs.old.items }
-    ensures bytes { OnOk result ((k : ℕ) → is_in_ranges runs.new.items k ≡ (is_in_run k (from, to - from) || is_in_ranges runs.old.items k)) }
+    ensures bytes { OnOk result ((k : ℕ) →
+        is_in_ranges runs.new.items k ≡ (is_in_run k (from, to - from) || is_in_ranges runs.old.items k)) }
     ensures maximal { AreMaximalRuns 0 runs.new.items }
     ensures err { OnErr result (runs.new.items ≡ runs.old.items) }
 {
@@ -40,7 +41,8 @@ fn push_run(runs: &mut Vec<(u64, u64)>, from: u64, to: u64) -> Result<(), AllocE
     requires some { from < to }
     requires maximal { AreMaximalRuns 0 runs.old.items }
     requires behind { IfSome (slice_get runs.old.items (length runs.old.items - 1)) (λ last. last.0 + last.1 < from) }
-    ensures bytes { OnOk result ((k : ℕ) → is_in_ranges runs.new.items k ≡ (is_in_run k (from, to - from) || is_in_ranges runs.old.items k)) }
+    ensures bytes { OnOk result ((k : ℕ) →
+        is_in_ranges runs.new.items k ≡ (is_in_run k (from, to - from) || is_in_ranges runs.old.items k)) }
     ensures maximal { AreMaximalRuns 0 runs.new.items }
     ensures err { OnErr result (runs.new.items ≡ runs.old.items) }
 {
@@ -52,8 +54,10 @@ fn push_run(runs: &mut Vec<(u64, u64)>, from: u64, to: u64) -> Result<(), AllocE
 fn lengthen_last(runs: &mut Vec<(u64, u64)>, from: u64, to: u64)
     requires some { from < to }
     requires maximal { AreMaximalRuns 0 runs.old.items }
-    requires meets { IsSomeAnd (slice_get runs.old.items (length runs.old.items - 1)) (λ last. (last.0 ≤ from) × (from ≤ last.0 + last.1)) }
-    ensures bytes { (k : ℕ) → is_in_ranges runs.new.items k ≡ (is_in_run k (from, to - from) || is_in_ranges runs.old.items k) }
+    requires meets { IsSomeAnd (slice_get runs.old.items (length runs.old.items - 1)) (λ last. (last.0 ≤ from) ×
+        (from ≤ last.0 + last.1)) }
+    ensures bytes { (k : ℕ) → is_in_ranges runs.new.items k ≡
+        (is_in_run k (from, to - from) || is_in_ranges runs.old.items k) }
     ensures maximal { AreMaximalRuns 0 runs.new.items }
 {
     let last = runs.len() - 1;
@@ -71,7 +75,8 @@ fn with_run(
 ) -> Result<Vec<(u64, u64)>, AllocError>
     requires some { from < to }
     requires maximal { AreMaximalRuns 0 runs.now }
-    ensures bytes { IfOk result (λ made. (k : ℕ) → is_in_ranges made.items k ≡ (is_in_run k (from, to - from) || is_in_ranges runs.now k)) }
+    ensures bytes { IfOk result (λ made. (k : ℕ) →
+        is_in_ranges made.items k ≡ (is_in_run k (from, to - from) || is_in_ranges runs.now k)) }
     ensures maximal { IfOk result (λ made. AreMaximalRuns 0 made.items) }
 {
     let mut start = from;

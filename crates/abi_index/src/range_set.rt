@@ -78,7 +78,8 @@ impl RangeSet {
     /// no earlier than the last run are put in without going over the others.
     pub fn add_range(&mut self, offset: u64, size: u64) -> Result<(), AllocError>
         requires { offset + size < 2 ^ 64 }
-        ensures bytes { OnOk result ((k : ℕ) → is_in_ranges self.new k ≡ (is_in_run k (offset, size) || is_in_ranges self.old k)) }
+        ensures bytes { OnOk result ((k : ℕ) →
+            is_in_ranges self.new k ≡ (is_in_run k (offset, size) || is_in_ranges self.old k)) }
         ensures err { OnErr result (self.new ≡ self.old) }
     {
         if size > 0 {
@@ -90,7 +91,8 @@ impl RangeSet {
     /// The bytes of this set that aren't in the other, in no more steps than the two have runs together. `AllocError` where memory is
     /// refused.
     pub fn difference(&self, alloc: Global, other: &RangeSet) -> Result<RangeSet, AllocError>
-        ensures bytes { IfOk result (λ set. (k : ℕ) → is_in_ranges set k ≡ (is_in_ranges self.now k && not (is_in_ranges other.now k))) }
+        ensures bytes { IfOk result (λ set. (k : ℕ) →
+            is_in_ranges set k ≡ (is_in_ranges self.now k && not (is_in_ranges other.now k))) }
     {
         let mut rest = RangeSet::new(alloc);
         let mut next = 0;

@@ -74,7 +74,8 @@ impl RangeSetBuilder {
         requires some { 0 < stride }
         requires inside { All (λ run. run.0 + run.1 ≤ stride) set.now }
         requires fits { All (λ run. offset + stride * (count - 1) + (run.0 + run.1) < 2 ^ 64) set.now }
-        ensures bytes { OnOk result (Adds self.old self.new (moved offset (repeated stride count (is_in_ranges set.now)))) }
+        ensures bytes { OnOk result (Adds self.old self.new
+            (moved offset (repeated stride count (is_in_ranges set.now)))) }
         ensures kept { Extends self.old self.new }
     {
         let runs = set.as_slice();

@@ -155,7 +155,8 @@ impl<'a, C> TyAbiInterface<'a, C> for TreeTy<'a> {
         requires named { NamesVariant (layout_in (tree_type this)).variants variant_index }
         ensures valid { IsHandle result }
         ensures variant { tree_type result ≡ at_variant (tree_type this.entry) variant_index }
-        ensures falls { DepthFalls (layout_in (tree_type this.entry)).variants (tree_depth result) (tree_depth this.entry) }
+        ensures falls { DepthFalls (layout_in (tree_type this.entry)).variants (tree_depth result)
+            (tree_depth this.entry) }
     {
         match &this.layout.0.variants {
             Variants::Multiple {

@@ -88,7 +88,8 @@ fn put_tagged(
     requires fits { All (λ run. offset + (run.0 + run.1) < 2 ^ 64) (get_or done.now tag []) }
     requires made { All (IsSet done.now) (map (λ v. v.1) variants.now) }
     ensures { OnOk result (Adds runs.old runs.new
-        (λ k. moved offset (is_in_ranges (get_or done.now tag [])) k || some_covers (sets_at done.now (map (λ v. v.1) variants.now)) k)) }
+        (λ k. moved offset (is_in_ranges (get_or done.now tag [])) k || some_covers
+        (sets_at done.now (map (λ v. v.1) variants.now)) k)) }
 {
     runs.add_set(set_at(done, tag), offset)?;
     put_variants(runs, variants, done)
@@ -103,7 +104,8 @@ fn put_elements(
 ) -> Result<(), AllocError>
     requires some { 0 < size }
     requires inside { (stride : ℕ) × (size ≡ stride * count) × All (λ run. run.0 + run.1 ≤ stride) element.now }
-    ensures { OnOk result ((stride : ℕ) → size ≡ stride * count → Adds runs.old runs.new (repeated stride count (is_in_ranges element.now))) }
+    ensures { OnOk result ((stride : ℕ) → size ≡ stride * count →
+        Adds runs.old runs.new (repeated stride count (is_in_ranges element.now))) }
 {
     runs.add_repeated(element, size / count, count, 0)
 }

@@ -69,7 +69,8 @@ impl Value {
 
     /// A variant's index and the values of its fields, or 0 and none where it is of another kind.
     pub(crate) fn variant(&self) -> (usize, &[Value])
-        ensures { (i : ℕ) (vs : Values) → value_of self.now ≡ variant i vs → (result.0 ≡ i) × (values_of result.1.now ≡ vs) }
+        ensures { (i : ℕ) (vs : Values) → value_of self.now ≡ variant i vs → (result.0 ≡ i) ×
+            (values_of result.1.now ≡ vs) }
     {
         match self {
             Value::Variant(index, values) => (*index, values),

@@ -117,7 +117,8 @@ fn layout_of_list<FieldIdx: Idx, VariantIdx: Idx, F: LayoutHandle<FieldIdx, Vari
     requires prefix { IsLawfulPrefix list.now.kind (size_bound dl.now) }
     requires tail { IsNonEmptyIfUnsized list.now.kind (length fields.now) }
     requires count { length fields.now ≤ FieldIdx.MAX_INDEX + 1 }
-    ensures exact { IsListAnswer F.layout_of FieldIdx.at (VariantIdx.at 0) dl.now repr.now list.now.kind fields.now result }
+    ensures exact { IsListAnswer F.layout_of FieldIdx.at
+        (VariantIdx.at 0) dl.now repr.now list.now.kind fields.now result }
     ensures lawful { IfOk result (IsLawfulLayout dl.now) }
 {
     let parts: Parts<'_, FieldIdx, VariantIdx, F> = Parts::new(dl, fields);

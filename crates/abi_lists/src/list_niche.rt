@@ -43,8 +43,10 @@ impl GreatestNiche {
     /// The greatest niche with one more field, which begins at this offset.
     pub(crate) fn with(self, offset: Size, part: &Part) -> Self
         requires { IfSome part.now.largest_niche (λ niche. offset + niche.offset < 2 ^ 64) }
-        ensures first { result.first ≡ (if nat_lt self.free part.now.free then niche_of_part offset part.now.largest_niche else self.first) }
-        ensures last { result.last ≡ (if nat_lt part.now.free self.free then self.last else niche_of_part offset part.now.largest_niche) }
+        ensures first { result.first ≡ (if nat_lt self.free part.now.free then niche_of_part offset
+            part.now.largest_niche else self.first) }
+        ensures last { result.last ≡ (if nat_lt part.now.free self.free then self.last else niche_of_part offset
+            part.now.largest_niche) }
         ensures free { result.free ≡ max self.free part.now.free }
     {
         if part.free < self.free {

@@ -47,8 +47,11 @@ fn run<FieldIdx: Idx, VariantIdx: Idx, F: LayoutHandle<FieldIdx, VariantIdx>>(
     requires lawful { All (IsLawfulPart dl.now) parts.now }
     requires repr { IsLawfulRepr repr.now (length parts.now) (size_bound dl.now) }
     ensures named { IfOk result (λ list. IsNamedOrder repr.now bias parts.now list.order.items) }
-    ensures placed { IfOk result (λ list. IsPlacedIn dl.now repr.now bias parts.now list.order.items list.offsets.items list.size list.align list.largest_niche) }
-    ensures last { IfOk result (λ list. list.last_niche ≡ niche_in dl.now repr.now NicheBias.End parts.now list.order.items) }
+    ensures placed { IfOk result (λ list.
+        IsPlacedIn dl.now repr.now bias parts.now list.order.items list.offsets.items list.size list.align
+        list.largest_niche) }
+    ensures last { IfOk result (λ list.
+        list.last_niche ≡ niche_in dl.now repr.now NicheBias.End parts.now list.order.items) }
     ensures readable { IfOk result (λ list. IfSome list.largest_niche (IsReadableNiche dl.now)) }
     ensures inside { IfOk result (λ list. IfSome list.largest_niche (IsLawfulNiche dl.now list.size)) }
     ensures fits { IfOk result (λ list. list.size < size_bound dl.now) }
@@ -96,7 +99,8 @@ fn space_wanted(
 ) -> Option<Size>
     requires readable { IfSome first.now.largest_niche (IsReadableNiche dl.now) }
     requires inside { IfSome first.now.largest_niche (IsLawfulNiche dl.now first.now.size) }
-    ensures { result ≡ (if may_move repr.now.kind count then space_beside dl.now first.now.size first.now.largest_niche else None) }
+    ensures { result ≡ (if may_move repr.now.kind count then space_beside dl.now first.now.size first.now.largest_niche
+        else None) }
 {
     if !may_move(repr.kind, count) {
         return None;
@@ -116,8 +120,10 @@ fn begins_after(niche: &Option<Niche>, space: Size) -> bool
 
 /// The list with the last of its greatest niches, where that begins after so many bytes, else as it is.
 fn with_last_niche(list: PlacedList, space: Size) -> PlacedList
-    ensures same { (result.offsets ≡ list.offsets) × (result.order ≡ list.order) × (result.size ≡ list.size) × (result.align ≡ list.align) }
-    ensures niche { result.largest_niche ≡ (if begins_after space list.last_niche then list.last_niche else list.largest_niche) }
+    ensures same { (result.offsets ≡ list.offsets) × (result.order ≡ list.order) × (result.size ≡ list.size) ×
+        (result.align ≡ list.align) }
+    ensures niche { result.largest_niche ≡
+        (if begins_after space list.last_niche then list.last_niche else list.largest_niche) }
 {
     if begins_after(&list.last_niche, space) {
         PlacedList {
@@ -143,7 +149,9 @@ pub(crate) fn layout_of_parts<
     requires data_layout { IsLawfulDataLayout dl.now }
     requires lawful { All (IsLawfulPart dl.now) parts.now }
     requires repr { IsLawfulRepr repr.now (length parts.now) (size_bound dl.now) }
-    ensures named { IfOk result (λ list. IsNamedLayout dl.now repr.now parts.now list.order.items list.offsets.items list.size list.align list.largest_niche) }
+    ensures named { IfOk result (λ list.
+        IsNamedLayout dl.now repr.now parts.now list.order.items list.offsets.items list.size list.align
+        list.largest_niche) }
     ensures fits { IfOk result (λ list. list.size < size_bound dl.now) }
     ensures fault { IfErr result (IsFaultOf dl.now repr.now NicheBias.Start parts.now) }
 {

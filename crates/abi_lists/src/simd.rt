@@ -157,7 +157,8 @@ pub fn layout_of_simd<FieldIdx: Idx, VariantIdx: Idx, F: LayoutHandle<FieldIdx, 
 ) -> Result<LayoutData<FieldIdx, VariantIdx>, LayoutCalculatorError<F>>
     requires data_layout { IsLawfulDataLayout dl.now }
     requires element { IsLawfulLayout dl.now (F.layout_of element) }
-    ensures exact { IsAnswer (simd_answer F.layout_of (VariantIdx.at 0) (FieldIdx.at 0) dl.now element count repr_packed)
+    ensures exact { IsAnswer (simd_answer F.layout_of (VariantIdx.at 0)
+        (FieldIdx.at 0) dl.now element count repr_packed)
         result }
     ensures tight { IsTrue (is_tight repr_packed count)
         → IfOk result (λ l. l.size ≡ (F.layout_of element).size * count) }

@@ -44,7 +44,8 @@ fn agrees<FieldIdx: Idx, VariantIdx: Idx>(
     field: &LayoutData<FieldIdx, VariantIdx>,
     first: &LayoutData<FieldIdx, VariantIdx>,
 ) -> bool
-    ensures { IsTrue result ↔ (CountsForView field.now → HasView (union_view first.now.backend_repr) first.now.align.abi field.now) }
+    ensures { IsTrue result ↔ (CountsForView field.now →
+        HasView (union_view first.now.backend_repr) first.now.align.abi field.now) }
 {
     field.is_zst()
         || (is_same_view(&field.backend_repr, &first.backend_repr)
@@ -88,7 +89,8 @@ fn common_view<FieldIdx: Idx, VariantIdx: Idx, F: LayoutHandle<FieldIdx, Variant
     fields: &[F],
 ) -> Option<BackendRepr>
     ensures some { IfSome result (λ view. (align : ℕ) × IsCommonView (map F.layout_of fields.now) view align) }
-    ensures none { result ≡ None → (view : BackendRepr) (align : ℕ) → IsCommonView (map F.layout_of fields.now) view align → ⊥ }
+    ensures none { result ≡ None → (view : BackendRepr) (align : ℕ) →
+        IsCommonView (map F.layout_of fields.now) view align → ⊥ }
 {
     let first = first_counted(fields)?;
     if all_agree(fields, first.layout()) {

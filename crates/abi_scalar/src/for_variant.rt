@@ -19,9 +19,11 @@ impl<FieldIdx: Idx, VariantIdx: Idx> LayoutData<FieldIdx, VariantIdx> {
     pub fn for_variant(alloc: Global, parent: &Self, index: VariantIdx) -> Result<Self, AllocError>
         requires { VariantIdx.number index < length (variants_of parent.now.variants) }
         ensures exact { IfOk result (λ layout.
-            Some layout ≡ option_map (variant_layout parent.now index) (slice_get (variants_of parent.now.variants) (VariantIdx.number index))) }
+            Some layout ≡ option_map (variant_layout parent.now index)
+            (slice_get (variants_of parent.now.variants) (VariantIdx.number index))) }
         ensures order { IfOk result (λ layout.
-            IfSome (slice_get (variants_of parent.now.variants) (VariantIdx.number index)) (IsOrderedVariant FieldIdx.number)
+            IfSome (slice_get (variants_of parent.now.variants) (VariantIdx.number index))
+            (IsOrderedVariant FieldIdx.number)
             → HasOrder FieldIdx.number layout.fields) }
     {
         let Variants::Multiple { variants, .. } = &parent.variants else {

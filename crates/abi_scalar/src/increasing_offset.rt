@@ -56,7 +56,8 @@ impl<FieldIdx: Idx> FieldsShape<FieldIdx> {
         requires { HasPlaceForEach self.now }
         ensures items { places_left FieldIdx.number result ≡ indices_by_offset FieldIdx.number self.now }
         ensures count { length (places_left FieldIdx.number result) ≡ place_count self.now }
-        ensures ascending { IsAscending FieldIdx.number self.now → NeverStepsBack self.now (places_left FieldIdx.number result) }
+        ensures ascending { IsAscending FieldIdx.number self.now →
+            NeverStepsBack self.now (places_left FieldIdx.number result) }
     {
         IncreasingOffset {
             order: self.memory_order(),

@@ -90,7 +90,8 @@ fn is_lawful_view(dl: &TargetDataLayout, size: Size, view: &BackendRepr) -> bool
 
 /// Whether the niche is this scalar at this offset.
 fn is_niche_at(niche: &Niche, offset: Size, scalar: Scalar) -> bool
-    ensures { IsTrue result ↔ ((niche.now.offset ≡ offset) × (scalar ≡ Initialized niche.now.value niche.now.valid_range)) }
+    ensures { IsTrue result ↔ ((niche.now.offset ≡ offset) ×
+        (scalar ≡ Initialized niche.now.value niche.now.valid_range)) }
 {
     let of_niche = Scalar::Initialized {
         value: niche.value,

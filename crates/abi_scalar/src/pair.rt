@@ -23,7 +23,8 @@ use std::alloc::{AllocError, Global};
 fn pair_niche<C: HasDataLayout>(cx: &C, a: Scalar, b: Scalar, b_offset: Size) -> Option<Niche>
     requires first { IsReadable (C.target cx.now) a }
     requires second { IsReadable (C.target cx.now) b }
-    ensures { result ≡ larger_niche (C.target cx.now) (niche_at (C.target cx.now) 0 a) (niche_at (C.target cx.now) b_offset b) }
+    ensures { result ≡ larger_niche (C.target cx.now) (niche_at (C.target cx.now) 0 a)
+        (niche_at (C.target cx.now) b_offset b) }
 {
     let first = Niche::from_scalar(cx, Size::ZERO, a);
     let second = Niche::from_scalar(cx, b_offset, b);

@@ -92,7 +92,8 @@ pub fn part_of(nodes: &[Node], depth: u64, at: usize) -> TyAndLayout<'_, Part<'_
 
 /// Whether fields can be named by their index: at most 1024, and elements reach no further than to the next.
 fn can_be_named(nodes: &[Node], depth: u64, node: &Node) -> bool
-    ensures { IsTrue result → CanBeNamed node.now.layout.fields (λ i. typed_in nodes.now depth (place_by node.now.layout.fields node.now.fields.items i)) }
+    ensures { IsTrue result → CanBeNamed node.now.layout.fields (λ i.
+        typed_in nodes.now depth (place_by node.now.layout.fields node.now.fields.items i)) }
 {
     match &node.layout.fields {
         FieldsShape::Array { stride, count } => {
@@ -125,9 +126,11 @@ fn offset_of(node: &Node, i: usize) -> Option<u64>
 /// Whether a field lies inside, and keeps the laws.
 #[cycle(laws)]
 fn field_keeps_laws(nodes: &[Node], depth: u64, node: &Node, i: usize) -> bool
-    ensures kept { IsTrue result → IsLawfulType (typed_in nodes.now depth (place_by node.now.layout.fields node.now.fields.items i)) }
+    ensures kept { IsTrue result → IsLawfulType
+        (typed_in nodes.now depth (place_by node.now.layout.fields node.now.fields.items i)) }
     ensures inside { IsTrue result → field_offset node.now.layout.fields i
-        + (layout_in (typed_in nodes.now depth (place_by node.now.layout.fields node.now.fields.items i))).size ≤ node.now.layout.size }
+        + (layout_in (typed_in nodes.now depth (place_by node.now.layout.fields node.now.fields.items i))).size ≤
+        node.now.layout.size }
 {
     let place = field_place(node, i);
     match offset_of(node, i) {
@@ -145,7 +148,8 @@ fn field_keeps_laws(nodes: &[Node], depth: u64, node: &Node, i: usize) -> bool
 #[cycle(laws)]
 fn variant_keeps_laws(nodes: &[Node], depth: u64, node: &Node, i: usize) -> bool
     ensures kept { IsTrue result → IsLawfulType (typed_in nodes.now depth (place_at node.now.variants.items i)) }
-    ensures inside { IsTrue result → (layout_in (typed_in nodes.now depth (place_at node.now.variants.items i))).size ≤ node.now.layout.size }
+    ensures inside { IsTrue result → (layout_in (typed_in nodes.now depth (place_at node.now.variants.items i))).size ≤
+        node.now.layout.size }
 {
     let place = place_at(node.variants.as_slice(), i);
     size_in(nodes, depth, place) <= node.layout.size.bytes() && keeps_laws(nodes, depth, place)
@@ -210,7 +214,8 @@ impl<'a, C> TyAbiInterface<'a, C> for Part<'a> {
         requires named { NamesVariant (layout_in (part_type this)).variants variant_index }
         ensures valid { IsPart result }
         ensures variant { part_type result ≡ at_variant (part_type this.entry) variant_index }
-        ensures falls { DepthFalls (layout_in (part_type this.entry)).variants (part_depth result) (part_depth this.entry) }
+        ensures falls { DepthFalls (layout_in (part_type this.entry)).variants (part_depth result)
+            (part_depth this.entry) }
     {
         let node = &this.ty.nodes[this.ty.at];
         match &node.layout.variants {

@@ -20,7 +20,8 @@ use std::alloc::{AllocError, Global};
 /// are listed.
 fn listed_unused(alloc: Global, laid: &Laid) -> Result<IndexVec<VariantIdx, RangeSet>, AllocError>
     requires { TellsBytes laid.now }
-    ensures { IfOk result (λ sets. (i : ℕ) (runs : List (ℕ × ℕ)) → IsBeside (layout_of (placed_of laid.now)).variants i →
+    ensures { IfOk result (λ sets. (i : ℕ) (runs : List (ℕ × ℕ)) →
+        IsBeside (layout_of (placed_of laid.now)).variants i →
         runs ≡ get_or sets i [] → AreMaximalRuns 0 runs →
         range_lines (codes "unused") runs ≡ unused_lines (placed_of laid.now) i) }
 {
@@ -50,7 +51,8 @@ fn write_variant(
     unused: &[(u64, u64)],
 ) -> Result<(), AllocError>
     requires { AreMaximalRuns 0 unused.now }
-    ensures { OnOk result (string_bytes out.new ≡ string_bytes out.old ++ variant_lines variant offsets.now (range_lines (codes "unused") unused.now)) }
+    ensures { OnOk result (string_bytes out.new ≡ string_bytes out.old ++ variant_lines variant offsets.now
+        (range_lines (codes "unused") unused.now)) }
 {
     let index = variant.as_u32();
     write!(out, "variant {index}\n")?;
@@ -68,7 +70,8 @@ fn write_each_variant(
     requires told { TellsBytes laid.now }
     requires most { length variants.now ≤ greatest_place + 1 }
     requires variants { (i : ℕ) → i < length variants.now → IsBeside (layout_of (placed_of laid.now)).variants i }
-    ensures { OnOk result (string_bytes out.new ≡ string_bytes out.old ++ each_variant (placed_of laid.now) 0 variants.now) }
+    ensures { OnOk result (string_bytes out.new ≡ string_bytes out.old ++ each_variant
+        (placed_of laid.now) 0 variants.now) }
 {
     let unused = listed_unused(alloc, laid)?;
     for (index, variant) in variants.iter().enumerate() {

@@ -159,7 +159,8 @@ fn read_union_opening(
     begun: Vec<Open>,
     word: &[u8],
 ) -> Result<Reader, Fault>
-    ensures { Agrees state_of (at_union_opening number repr (begun_in begun.items) (bytes_eq word.now (codes "("))) result }
+    ensures { Agrees state_of (at_union_opening number repr (begun_in begun.items)
+        (bytes_eq word.now (codes "("))) result }
 {
     let mut begun = begun;
     if word == b"(".as_slice() {
@@ -178,7 +179,8 @@ fn read_enum_opening(
     begun: Vec<Open>,
     word: &[u8],
 ) -> Result<Reader, Fault>
-    ensures { Agrees state_of (at_enum_opening number repr (begun_in begun.items) (bytes_eq word.now (codes "("))) result }
+    ensures { Agrees state_of (at_enum_opening number repr (begun_in begun.items)
+        (bytes_eq word.now (codes "("))) result }
 {
     let mut begun = begun;
     if word == b"(".as_slice() {
@@ -196,7 +198,8 @@ fn read_discriminant(
     begun: Vec<Open>,
     word: &[u8],
 ) -> Result<Reader, Fault>
-    ensures { Agrees state_of (at_discriminant number (bytes_eq word.now (codes ")")) (begun_in begun.items) (discriminant_in word.now)) result }
+    ensures { Agrees state_of (at_discriminant number (bytes_eq word.now (codes ")")) (begun_in begun.items)
+        (discriminant_in word.now)) result }
 {
     if word == b")".as_slice() {
         return close(alloc, number, begun);
@@ -215,7 +218,8 @@ fn read_variant_opening(
     begun: Vec<Open>,
     word: &[u8],
 ) -> Result<Reader, Fault>
-    ensures { Agrees state_of (at_variant_opening number discriminant (begun_in begun.items) (bytes_eq word.now (codes "("))) result }
+    ensures { Agrees state_of (at_variant_opening number discriminant (begun_in begun.items)
+        (bytes_eq word.now (codes "("))) result }
 {
     let mut begun = begun;
     match (begun.pop(), word == b"(".as_slice()) {
@@ -304,7 +308,8 @@ fn read_words(alloc: Global, dl: &TargetDataLayout, line: &[u8]) -> Result<TypeT
 /// follows isn't read. `OutOfMemory` comes where a growth of memory was refused.
 pub fn read_type(alloc: Global, dl: &TargetDataLayout, line: &[u8]) -> Result<TypeTree, Fault>
     ensures exact { Agrees tree_of (read dl.now (words_of line.now)) result }
-    ensures written { (t : Tree) → (words : List (List ℕ)) → IsWrittenAs dl.now t words → nesting t ≤ 200 → IsLineOf words line.now →
+    ensures written { (t : Tree) → (words : List (List ℕ)) → IsWrittenAs dl.now t words → nesting t ≤ 200 →
+        IsLineOf words line.now →
         MatchResult result (λ tree. tree_of tree ≡ t) (λ fault. fault ≡ Fault.OutOfMemory) }
 {
     read_words(alloc, dl, line)

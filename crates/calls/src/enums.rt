@@ -95,7 +95,8 @@ fn inhabited(
     items: &[(VariantIdx, u128)],
 ) -> Result<Vec<u128>, AllocError>
     requires { All (λ item. item.0 < length variants.now) items.now }
-    ensures { IfOk result (λ values. values.items ≡ inhabited_of (λ v. v) (map (map (λ f. f.now)) variants.now) items.now) }
+    ensures { IfOk result (λ values. values.items ≡ inhabited_of (λ v. v)
+        (map (map (λ f. f.now)) variants.now) items.now) }
 {
     let mut values = Vec::with_capacity(alloc, items.len())?;
     for item in items {

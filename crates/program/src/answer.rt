@@ -102,7 +102,8 @@ fn answer_text(alloc: Global, first: &str, second: &[u8]) -> Result<Answer, Allo
 
 /// A line as text, where it is UTF-8.
 fn text_of(line: &[u8]) -> Option<&str>
-    ensures { MatchOption result (is_utf8 line.now ≡ false) (λ text. (is_utf8 line.now ≡ true) × (text.now ≡ line.now)) }
+    ensures { MatchOption result (is_utf8 line.now ≡ false) (λ text. (is_utf8 line.now ≡ true) ×
+        (text.now ≡ line.now)) }
 {
     match std::str::from_utf8(line) {
         Ok(text) => Some(text),

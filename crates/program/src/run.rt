@@ -11,7 +11,8 @@ use std::io::{ErrorKind, Read, Write};
 /// Writes a beginning of a text, and answers its length: 0 where the writer was interrupted. None where writing fails.
 fn write_some<W: Write>(output: &mut W, text: &[u8]) -> Option<usize>
     ensures { MatchOption result (Keeps (W.contents output.old) (W.contents output.new))
-        (λ count. (count ≤ length text.now) × Appends (W.contents output.old) (W.contents output.new) (take count text.now)) }
+        (λ count. (count ≤ length text.now) ×
+        Appends (W.contents output.old) (W.contents output.new) (take count text.now)) }
 {
     match output.write(text) {
         Ok(0) => None,
@@ -48,7 +49,8 @@ fn send<W: Write>(output: &mut W, text: &[u8], status: u8) -> u8
 /// written. Where reading fails it is `refused Input`, where memory is wanting `refused OutOfMemory`; where writing fails
 /// the status is 1, and nothing more is written.
 pub fn run<R: Read, W: Write>(alloc: Global, input: &mut R, output: &mut W) -> u8
-    ensures answered { IfSome (R.remaining input.old) (λ all. Answered (W.contents output.old) (W.contents output.new) (IsOutputOf all) result) }
+    ensures answered { IfSome (R.remaining input.old) (λ all.
+        Answered (W.contents output.old) (W.contents output.new) (IsOutputOf all) result) }
     ensures some { (all : List ℕ) → (output : Output) × IsOutputOf all output }
     ensures one { (all : List ℕ) (a b : Output) → IsOutputOf all a → IsOutputOf all b → a ≡ b }
 {

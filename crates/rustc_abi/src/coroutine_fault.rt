@@ -12,7 +12,8 @@ use std::alloc::{AllocError, Global};
 
 /// Whether a list is longer than its indices can name: that of prefix fields, tag and locals, that of states, or one state's.
 fn has_long_list(prefix: usize, locals: usize, states: &[Vec<u64>]) -> bool
-    ensures { result ≡ (nat_lt most_fields (prefix + 1 + locals) || has_bad_index (map (λ state. state.items) states.now)) }
+    ensures { result ≡ (nat_lt most_fields (prefix + 1 + locals) || has_bad_index
+        (map (λ state. state.items) states.now)) }
 {
     prefix >= MOST_FIELDS || locals >= MOST_FIELDS - prefix || has_bad_index(states)
 }
@@ -95,7 +96,8 @@ pub(crate) fn coroutine_fault(
     states: &[Vec<u64>],
     conflicts: &[(u64, u64)],
 ) -> Result<Option<LayError>, AllocError>
-    ensures { IfOk result (λ fault. fault ≡ coroutine_fault prefix locals (map (λ state. state.items) states.now) conflicts.now) }
+    ensures { IfOk result (λ fault. fault ≡ coroutine_fault prefix locals
+        (map (λ state. state.items) states.now) conflicts.now) }
 {
     if has_long_list(prefix, locals, states) {
         return Ok(Some(LayError::BadIndex));

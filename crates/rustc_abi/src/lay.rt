@@ -52,7 +52,8 @@ pub fn lay_out(alloc: Global, dl: &TargetDataLayout, tree: &TypeTree) -> Result<
 
     // Which layout each part has: there is one answer, and no other.
     ensures some { IsLawfulDataLayout dl.now → (r : Result Placed LayError) × IsLaying dl.now (tree_of tree.now) r }
-    ensures one { (a b : Result Placed LayError) → IsLaying dl.now (tree_of tree.now) a → IsLaying dl.now (tree_of tree.now) b → a ≡ b }
+    ensures one { (a b : Result Placed LayError) → IsLaying dl.now (tree_of tree.now) a →
+        IsLaying dl.now (tree_of tree.now) b → a ≡ b }
     ensures laid { IfOk result (λ laid. IsLaying dl.now (tree_of tree.now) (Ok (placed_of laid))) }
     ensures layout { IfOk result (λ laid. IsLawfulLayout dl.now (layout_of (placed_of laid))) }
     ensures order { IfOk result (λ laid. endian_of laid ≡ dl.now.endian) }
@@ -92,26 +93,34 @@ pub fn lay_out(alloc: Global, dl: &TargetDataLayout, tree: &TypeTree) -> Result<
     // Which bytes are data places: those that its handle tells, and of each variant those that the variant's handle tells.
     ensures places { IfOk result (λ laid. (k : ℕ) → is_place (typed_of laid) k ≡ is_data_place (placed_of laid) k) }
     ensures unused { IfOk result (λ laid. (i k : ℕ) → IsVariantIndex (layout_of (placed_of laid)).variants i →
-        is_unused (typed_of laid) i k ≡ (is_data_place (placed_of laid) k && not (is_place_of_variant (placed_of laid) i k))) }
+        is_unused (typed_of laid) i k ≡
+        (is_data_place (placed_of laid) k && not (is_place_of_variant (placed_of laid) i k))) }
 
     // What the layout keeps of the values, where each local of a coroutine has one.
     ensures exists { IfOk result (λ laid. LocalsHaveValues dl.now (tree_of tree.now) →
         EachValueIsHeld dl.now (tree_of tree.now) (placed_of laid)) }
     ensures only { IfOk result (λ laid. LocalsHaveValues dl.now (tree_of tree.now) →
         OnlyValuesAreHeld dl.now (tree_of tree.now) (placed_of laid)) }
-    ensures unique { IfOk result (λ laid. LocalsHaveValues dl.now (tree_of tree.now) → NoBytesHoldTwo dl.now (placed_of laid)) }
-    ensures niche { IfOk result (λ laid. LocalsHaveValues dl.now (tree_of tree.now) → IsNicheTrue dl.now (placed_of laid)) }
-    ensures inside { IfOk result (λ laid. LocalsHaveValues dl.now (tree_of tree.now) → IsNicheInside dl.now (placed_of laid)) }
+    ensures unique { IfOk result (λ laid. LocalsHaveValues dl.now (tree_of tree.now) →
+        NoBytesHoldTwo dl.now (placed_of laid)) }
+    ensures niche { IfOk result (λ laid. LocalsHaveValues dl.now (tree_of tree.now) →
+        IsNicheTrue dl.now (placed_of laid)) }
+    ensures inside { IfOk result (λ laid. LocalsHaveValues dl.now (tree_of tree.now) →
+        IsNicheInside dl.now (placed_of laid)) }
     ensures padding { IfOk result (λ laid. LocalsHaveValues dl.now (tree_of tree.now) →
         PaddingDecidesNothing dl.now (placed_of laid)) }
-    ensures view { IfOk result (λ laid. LocalsHaveValues dl.now (tree_of tree.now) → IsViewTrue dl.now (placed_of laid)) }
-    ensures uninhabited { IfOk result (λ laid. LocalsHaveValues dl.now (tree_of tree.now) → IsFlagTrue dl.now (tree_of tree.now) (placed_of laid)) }
+    ensures view { IfOk result (λ laid. LocalsHaveValues dl.now (tree_of tree.now) →
+        IsViewTrue dl.now (placed_of laid)) }
+    ensures uninhabited { IfOk result (λ laid. LocalsHaveValues dl.now (tree_of tree.now) →
+        IsFlagTrue dl.now (tree_of tree.now) (placed_of laid)) }
 
     // Where an enum is told apart by a niche, the fields of the untagged variant hold a number that names it, in it and in each part.
-    ensures untagged { IfOk result (λ laid. LocalsHaveValues dl.now (tree_of tree.now) → UntaggedNamed dl.now.endian (placed_of laid)) }
+    ensures untagged { IfOk result (λ laid. LocalsHaveValues dl.now (tree_of tree.now) →
+        UntaggedNamed dl.now.endian (placed_of laid)) }
 
     // So its values are those that `write_value` writes and `read_value` reads.
-    ensures keeps { IfOk result (λ laid. LocalsHaveValues dl.now (tree_of tree.now) → KeepsValues dl.now (tree_of tree.now) laid) }
+    ensures keeps { IfOk result (λ laid. LocalsHaveValues dl.now (tree_of tree.now) →
+        KeepsValues dl.now (tree_of tree.now) laid) }
 
     // What each union in it keeps of its fields' bytes.
     ensures begins { IfOk result (λ laid. InUnions (Begins dl.now.endian) (placed_of laid)) }

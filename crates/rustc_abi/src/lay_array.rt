@@ -31,7 +31,8 @@ pub(crate) fn elements_layout(
     requires data_layout { IsLawfulDataLayout dl.now }
     requires there { element < length nodes.now }
     requires lawful { IsLawfulLayout dl.now (layout_of (placed_at nodes.now element)) }
-    ensures exact { result ≡ named {H = ℕ} (array_answer 0 dl.now (layout_of (placed_at nodes.now element)) (Some count)) }
+    ensures exact { result ≡ named {H = ℕ}
+        (array_answer 0 dl.now (layout_of (placed_at nodes.now element)) (Some count)) }
     ensures lawful { IfOk result (IsLawfulLayout dl.now) }
 {
     let answer: Result<_, LayoutCalculatorError<u32>> = LayoutCalculator::new(

@@ -66,7 +66,8 @@ fn picked_each(
     states: &[Vec<u64>],
 ) -> Result<Vec<Vec<usize>>, AllocError>
     requires { All (λ ks. All (λ k. k < length locals.now) ks.items) states.now }
-    ensures { IfOk result (λ children. map (λ c. c.items) children.items ≡ map (λ ks. map (λ k. get_or locals.now k 0) ks.items) states.now) }
+    ensures { IfOk result (λ children.
+        map (λ c. c.items) children.items ≡ map (λ ks. map (λ k. get_or locals.now k 0) ks.items) states.now) }
 {
     let mut children = Vec::with_capacity(alloc, states.len())?;
     for indices in states {
@@ -87,7 +88,8 @@ fn add_each_state(
     requires few { length children.now ≤ most_fields }
     requires few_each { All (λ fields. length fields.items ≤ most_fields) children.now }
     requires there { All (λ fields. All (λ child. child < vec_len nodes.old) fields.items) children.now }
-    requires inside { VariantsInside layout.now.size (variants_of layout.now.variants) (variants_in nodes.old.items children.now) }
+    requires inside { VariantsInside layout.now.size (variants_of layout.now.variants)
+        (variants_in nodes.old.items children.now) }
     ensures ok { IfOk result (λ states.
         AreArms nodes.old.items nodes.new.items (map (λ l. l.size) (variants_of layout.now.variants)) states.items
         (arms_at layout.now Mark.Plain 0 (variants_of layout.now.variants) (source_order (length children.now))
@@ -118,10 +120,13 @@ fn add_states(
     requires prefix { All (λ child. child < vec_len nodes.old) prefix.items }
     requires there { All (λ child. child < vec_len nodes.old) locals.now }
     requires known { All (λ ks. All (λ k. k < length locals.now) ks.items) states.now }
-    requires places { have_places layout.size layout.fields (map size_of (all_at nodes.old.items prefix.items) ++ size_of (one_scalar dl.now tag) ∷ []) ≡ true }
-    requires inside { VariantsInside layout.size (variants_of layout.variants) (map (λ ks. map (placed_in (all_at nodes.old.items locals.now)) ks.items) states.now) }
+    requires places { have_places layout.size layout.fields
+        (map size_of (all_at nodes.old.items prefix.items) ++ size_of (one_scalar dl.now tag) ∷ []) ≡ true }
+    requires inside { VariantsInside layout.size (variants_of layout.variants)
+        (map (λ ks. map (placed_in (all_at nodes.old.items locals.now)) ks.items) states.now) }
     ensures ok { IfOk result (λ i. IsPut nodes.old.items nodes.new.items i
-        (placed_coroutine dl.now (all_at nodes.old.items prefix.items) tag (all_at nodes.old.items locals.now) (map (λ state. state.items) states.now) layout)) }
+        (placed_coroutine dl.now (all_at nodes.old.items prefix.items) tag (all_at nodes.old.items locals.now)
+        (map (λ state. state.items) states.now) layout)) }
     ensures own { IfOk result (IsOwnPut nodes.old.items nodes.new.items) }
     ensures err { IfErr result (λ e. e ≡ LayError.OutOfMemory) }
 {
@@ -160,11 +165,15 @@ fn calculated(
     requires once { All (AllPairs (λ a b. a ≢ b)) states.now }
     requires rows { row_count conflicts.now ≡ length locals.now }
     requires columns { column_count conflicts.now ≡ length locals.now }
-    ensures ok { IfOk result (λ l. (pres ps : List Placed) (pairs : List (ℕ × ℕ)) → map (λ lent. lent.now) prefix.entry ≡ map layout_of pres → map (λ lent. lent.now) locals.now ≡ map layout_of ps
-        → ((row column : ℕ) → is_entry conflicts.now row column ≡ list_any (λ pair. (row == pair.0) && (column == pair.1)) pairs)
+    ensures ok { IfOk result (λ l. (pres ps : List Placed) (pairs : List (ℕ × ℕ)) →
+        map (λ lent. lent.now) prefix.entry ≡ map layout_of pres → map (λ lent. lent.now) locals.now ≡ map layout_of ps
+        → ((row column : ℕ) → is_entry conflicts.now row column ≡ list_any (λ pair.
+        (row == pair.0) && (column == pair.1)) pairs)
         → IsCoroutined dl.now pres tag (one_scalar dl.now tag) ps states.now pairs (Ok l)) }
-    ensures err { IfErr result (λ e. (pres ps : List Placed) (pairs : List (ℕ × ℕ)) → map (λ lent. lent.now) prefix.entry ≡ map layout_of pres → map (λ lent. lent.now) locals.now ≡ map layout_of ps
-        → ((row column : ℕ) → is_entry conflicts.now row column ≡ list_any (λ pair. (row == pair.0) && (column == pair.1)) pairs)
+    ensures err { IfErr result (λ e. (pres ps : List Placed) (pairs : List (ℕ × ℕ)) →
+        map (λ lent. lent.now) prefix.entry ≡ map layout_of pres → map (λ lent. lent.now) locals.now ≡ map layout_of ps
+        → ((row column : ℕ) → is_entry conflicts.now row column ≡ list_any (λ pair.
+        (row == pair.0) && (column == pair.1)) pairs)
         → IsRefused (IsCoroutined dl.now pres tag (one_scalar dl.now tag) ps states.now pairs) e) }
 {
     let field = LayoutData::scalar(&dl, tag);
@@ -191,14 +200,18 @@ fn coroutine_layout(
     pairs: &[(u64, u64)],
 ) -> Result<LayoutData<FieldIdx, VariantIdx>, LayError>
     requires data_layout { IsLawfulDataLayout dl.now }
-    requires faultless { coroutine_fault (length prefix.now) (length locals.now) (map (λ state. state.items) states.now) pairs.now ≡ None }
+    requires faultless { coroutine_fault (length prefix.now) (length locals.now)
+        (map (λ state. state.items) states.now) pairs.now ≡ None }
     requires tag { IsStateTag (length states.now) tag }
     requires before { All (λ child. child < length nodes.now) prefix.now }
     requires there { All (λ child. child < length nodes.now) locals.now }
     requires prefix { All (λ p. IsLawfulLayout dl.now (layout_of p)) (all_at nodes.now prefix.now) }
     requires locals { All (λ p. IsLawfulLayout dl.now (layout_of p)) (all_at nodes.now locals.now) }
-    ensures ok { IfOk result (λ l. IsCoroutined dl.now (all_at nodes.now prefix.now) tag (one_scalar dl.now tag) (all_at nodes.now locals.now) (map (λ state. state.items) states.now) pairs.now (Ok l)) }
-    ensures err { IfErr result (IsRefused (IsCoroutined dl.now (all_at nodes.now prefix.now) tag (one_scalar dl.now tag) (all_at nodes.now locals.now) (map (λ state. state.items) states.now) pairs.now)) }
+    ensures ok { IfOk result (λ l. IsCoroutined dl.now (all_at nodes.now prefix.now) tag (one_scalar dl.now tag)
+        (all_at nodes.now locals.now) (map (λ state. state.items) states.now) pairs.now (Ok l)) }
+    ensures err { IfErr result (IsRefused
+        (IsCoroutined dl.now (all_at nodes.now prefix.now) tag (one_scalar dl.now tag) (all_at nodes.now locals.now)
+        (map (λ state. state.items) states.now) pairs.now)) }
 {
     let relation = conflicts(alloc, locals.len(), pairs)?;
     let states = named_each(alloc, states)?;
@@ -226,17 +239,23 @@ fn add_faultless_coroutine(
     pairs: &[(u64, u64)],
 ) -> Result<usize, LayError>
     requires data_layout { IsLawfulDataLayout dl.now }
-    requires faultless { coroutine_fault (length prefix.items) (length locals.now) (map (λ state. state.items) states.now) pairs.now ≡ None }
+    requires faultless { coroutine_fault (length prefix.items) (length locals.now)
+        (map (λ state. state.items) states.now) pairs.now ≡ None }
     requires before { All (λ child. child < vec_len nodes.old) prefix.items }
     requires there { All (λ child. child < vec_len nodes.old) locals.now }
     requires prefix { All (λ p. IsLawfulLayout dl.now (layout_of p)) (all_at nodes.old.items prefix.items) }
     requires locals { All (λ p. IsLawfulLayout dl.now (layout_of p)) (all_at nodes.old.items locals.now) }
     ensures ok { IfOk result
-        (λ i. (pres ts : Trees) → AreLaying dl.now pres (Ok (all_at nodes.old.items prefix.items)) → AreLaying dl.now ts (Ok (all_at nodes.old.items locals.now)) →
-        EachFits dl.now pres (all_at nodes.old.items prefix.items) → EachFits dl.now ts (all_at nodes.old.items locals.now) →
-        IsAdded dl.now nodes.old.items nodes.new.items i (coroutine pres ts (map (λ state. state.items) states.now) pairs.now)) }
+        (λ i. (pres ts : Trees) → AreLaying dl.now pres (Ok (all_at nodes.old.items prefix.items)) →
+        AreLaying dl.now ts (Ok (all_at nodes.old.items locals.now)) →
+        EachFits dl.now pres (all_at nodes.old.items prefix.items) →
+        EachFits dl.now ts (all_at nodes.old.items locals.now) →
+        IsAdded dl.now nodes.old.items nodes.new.items i
+        (coroutine pres ts (map (λ state. state.items) states.now) pairs.now)) }
     ensures own { IfOk result (IsOwnPut nodes.old.items nodes.new.items) }
-    ensures err { IfErr result (IsRefused (IsCoroutineOf dl.now (all_at nodes.old.items prefix.items) (all_at nodes.old.items locals.now) (map (λ state. state.items) states.now) pairs.now)) }
+    ensures err { IfErr result (IsRefused
+        (IsCoroutineOf dl.now (all_at nodes.old.items prefix.items) (all_at nodes.old.items locals.now)
+        (map (λ state. state.items) states.now) pairs.now)) }
 {
     let tag = state_tag(states.len());
     let layout = coroutine_layout(alloc, dl, nodes, &prefix, tag, locals, states, pairs)?;
@@ -259,11 +278,16 @@ pub(crate) fn add_coroutine(
     requires prefix { All (λ p. IsLawfulLayout dl.now (layout_of p)) (all_at nodes.old.items prefix.items) }
     requires locals { All (λ p. IsLawfulLayout dl.now (layout_of p)) (all_at nodes.old.items locals.now) }
     ensures ok { IfOk result
-        (λ i. (pres ts : Trees) → AreLaying dl.now pres (Ok (all_at nodes.old.items prefix.items)) → AreLaying dl.now ts (Ok (all_at nodes.old.items locals.now)) →
-        EachFits dl.now pres (all_at nodes.old.items prefix.items) → EachFits dl.now ts (all_at nodes.old.items locals.now) →
-        IsAdded dl.now nodes.old.items nodes.new.items i (coroutine pres ts (map (λ state. state.items) states.now) pairs.now)) }
+        (λ i. (pres ts : Trees) → AreLaying dl.now pres (Ok (all_at nodes.old.items prefix.items)) →
+        AreLaying dl.now ts (Ok (all_at nodes.old.items locals.now)) →
+        EachFits dl.now pres (all_at nodes.old.items prefix.items) →
+        EachFits dl.now ts (all_at nodes.old.items locals.now) →
+        IsAdded dl.now nodes.old.items nodes.new.items i
+        (coroutine pres ts (map (λ state. state.items) states.now) pairs.now)) }
     ensures own { IfOk result (IsOwnPut nodes.old.items nodes.new.items) }
-    ensures err { IfErr result (IsRefused (IsCoroutineOf dl.now (all_at nodes.old.items prefix.items) (all_at nodes.old.items locals.now) (map (λ state. state.items) states.now) pairs.now)) }
+    ensures err { IfErr result (IsRefused
+        (IsCoroutineOf dl.now (all_at nodes.old.items prefix.items) (all_at nodes.old.items locals.now)
+        (map (λ state. state.items) states.now) pairs.now)) }
 {
     match coroutine_fault(alloc, prefix.len(), locals.len(), states, pairs)? {
         Some(fault) => Err(fault),

@@ -54,7 +54,9 @@ fn enum_fault(
     children: &[Vec<usize>],
 ) -> Result<Option<LayError>, AllocError>
     requires { IsLawfulDataLayout dl.now }
-    ensures { IfOk result (λ fault. (variants : List (List Placed)) → map length variants ≡ map (λ c. length c.items) children.now → fault ≡ enum_fault dl.now repr.now numbers.now variants) }
+    ensures { IfOk result (λ fault. (variants : List (List Placed)) →
+        map length variants ≡ map (λ c. length c.items) children.now →
+        fault ≡ enum_fault dl.now repr.now numbers.now variants) }
 {
     if has_bad_index(children) {
         return Ok(Some(LayError::BadIndex));
@@ -79,7 +81,8 @@ fn variant_layouts<'a>(
 ) -> Result<Vec<IndexVec<FieldIdx, &'a LayoutData<FieldIdx, VariantIdx>>>, AllocError>
     requires count { All (λ fields. length fields.items ≤ most_fields) children.now }
     requires there { All (λ fields. All (λ child. child < length nodes.now) fields.items) children.now }
-    ensures { IfOk result (λ layouts. map (map (λ lent. lent.now)) layouts.items ≡ layouts_of (variants_in nodes.now children.now)) }
+    ensures { IfOk result (λ layouts.
+        map (map (λ lent. lent.now)) layouts.items ≡ layouts_of (variants_in nodes.now children.now)) }
 {
     let mut layouts = Vec::with_capacity(alloc, children.len())?;
     for fields in children {
@@ -107,9 +110,13 @@ where
     requires differ { has_equal numbers.now ≡ false }
     requires narrow { list_all (is_discriminant dl.now repr.now) numbers.now ≡ true }
     requires callable { D.IsAlwaysCallable discr_range_of_repr }
-    requires asked { (from : _) (to : _) (answer : _) → D.post discr_range_of_repr from to answer → IsTagInteger dl.now repr.now from to answer }
-    ensures ok { IfOk result (λ l. (all : List (List Placed)) → map (map (λ lent. lent.now)) variants.now ≡ layouts_of all → IsEnumed dl.now repr.now numbers.now all (Ok l)) }
-    ensures err { IfErr result (λ e. (all : List (List Placed)) → map (map (λ lent. lent.now)) variants.now ≡ layouts_of all → IsRefused (IsEnumed dl.now repr.now numbers.now all) e) }
+    requires asked { (from : _) (to : _) (answer : _) → D.post discr_range_of_repr from to answer →
+        IsTagInteger dl.now repr.now from to answer }
+    ensures ok { IfOk result (λ l. (all : List (List Placed)) →
+        map (map (λ lent. lent.now)) variants.now ≡ layouts_of all → IsEnumed dl.now repr.now numbers.now all (Ok l)) }
+    ensures err { IfErr result (λ e. (all : List (List Placed)) →
+        map (map (λ lent. lent.now)) variants.now ≡ layouts_of all →
+        IsRefused (IsEnumed dl.now repr.now numbers.now all) e) }
 {
     let items = numbered(alloc, numbers)?;
     let answer = LayoutCalculator::new(dl).layout_of_struct_or_enum(
@@ -189,8 +196,10 @@ pub(crate) fn add_variants(
     requires few { length children.now ≤ most_fields }
     requires few_each { All (λ fields. length fields.items ≤ most_fields) children.now }
     requires there { All (λ fields. All (λ child. child < vec_len nodes.old) fields.items) children.now }
-    requires inside { VariantsInside layout.now.size (variants_of layout.now.variants) (variants_in nodes.old.items children.now) }
-    ensures ok { IfOk result (λ variants. AreArms nodes.old.items nodes.new.items (map (λ l. l.size) (variants_of layout.now.variants)) variants.items
+    requires inside { VariantsInside layout.now.size (variants_of layout.now.variants)
+        (variants_in nodes.old.items children.now) }
+    ensures ok { IfOk result (λ variants.
+        AreArms nodes.old.items nodes.new.items (map (λ l. l.size) (variants_of layout.now.variants)) variants.items
         (arms_at layout.now mark 0 (variants_of layout.now.variants) numbers.now
         (variants_in nodes.old.items children.now))) }
     ensures count { IfOk result (λ variants. length nodes.new.items ≡ length nodes.old.items + length variants.items) }
@@ -224,8 +233,10 @@ fn add_tagged(
     requires few_each { All (λ fields. length fields.items ≤ most_fields) children.now }
     requires there { All (λ fields. All (λ child. child < vec_len nodes.old) fields.items) children.now }
     requires places { have_places layout.size layout.fields (size_of (one_scalar dl.now tag) ∷ []) ≡ true }
-    requires inside { VariantsInside layout.size (variants_of layout.variants) (variants_in nodes.old.items children.now) }
-    ensures ok { IfOk result (λ i. IsPut nodes.old.items nodes.new.items i (tagged layout mark (tag_offset layout) (one_scalar dl.now tag) (encoding_of layout.variants)
+    requires inside { VariantsInside layout.size (variants_of layout.variants)
+        (variants_in nodes.old.items children.now) }
+    ensures ok { IfOk result (λ i. IsPut nodes.old.items nodes.new.items i
+        (tagged layout mark (tag_offset layout) (one_scalar dl.now tag) (encoding_of layout.variants)
         (arms_at layout mark 0 (variants_of layout.variants) numbers.now (variants_in nodes.old.items children.now)))) }
     ensures own { IfOk result (IsOwnPut nodes.old.items nodes.new.items) }
     ensures err { IfErr result (λ e. e ≡ LayError.OutOfMemory) }
@@ -293,11 +304,13 @@ fn add_faultless_enum(
     requires there { All (λ fields. All (λ child. child < vec_len nodes.old) fields.items) children.now }
     requires lawful { All (All (λ p. IsLawfulLayout dl.now (layout_of p))) (variants_in nodes.old.items children.now) }
     ensures ok { IfOk result
-        (λ i. (all : VariantTrees) → numbers.now ≡ discriminants_of all → VariantsLaying dl.now all (Ok (variants_in nodes.old.items children.now)) →
+        (λ i. (all : VariantTrees) → numbers.now ≡ discriminants_of all →
+        VariantsLaying dl.now all (Ok (variants_in nodes.old.items children.now)) →
         VariantsFit dl.now all (variants_in nodes.old.items children.now) →
         IsAdded dl.now nodes.old.items nodes.new.items i (enum repr.now all)) }
     ensures own { IfOk result (IsOwnPut nodes.old.items nodes.new.items) }
-    ensures err { IfErr result (IsRefused (IsEnumOf dl.now repr.now numbers.now (variants_in nodes.old.items children.now))) }
+    ensures err { IfErr result (IsRefused
+        (IsEnumOf dl.now repr.now numbers.now (variants_in nodes.old.items children.now))) }
 {
     let layout = enum_layout(alloc, dl, nodes, repr, numbers, children)?;
     add_placed(alloc, dl, nodes, layout, repr, numbers, children)
@@ -317,11 +330,13 @@ pub(crate) fn add_enum(
     requires there { All (λ fields. All (λ child. child < vec_len nodes.old) fields.items) children.now }
     requires lawful { All (All (λ p. IsLawfulLayout dl.now (layout_of p))) (variants_in nodes.old.items children.now) }
     ensures ok { IfOk result
-        (λ i. (all : VariantTrees) → numbers.now ≡ discriminants_of all → VariantsLaying dl.now all (Ok (variants_in nodes.old.items children.now)) →
+        (λ i. (all : VariantTrees) → numbers.now ≡ discriminants_of all →
+        VariantsLaying dl.now all (Ok (variants_in nodes.old.items children.now)) →
         VariantsFit dl.now all (variants_in nodes.old.items children.now) →
         IsAdded dl.now nodes.old.items nodes.new.items i (enum repr.now all)) }
     ensures own { IfOk result (IsOwnPut nodes.old.items nodes.new.items) }
-    ensures err { IfErr result (IsRefused (IsEnumOf dl.now repr.now numbers.now (variants_in nodes.old.items children.now))) }
+    ensures err { IfErr result (IsRefused
+        (IsEnumOf dl.now repr.now numbers.now (variants_in nodes.old.items children.now))) }
 {
     match enum_fault(alloc, dl, repr, numbers, children)? {
         Some(fault) => Err(fault),

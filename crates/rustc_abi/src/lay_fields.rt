@@ -47,7 +47,8 @@ pub(crate) fn has_bad_align(repr: &ReprOptions) -> bool
 /// Whether there are more lists, or more items in one, than an index can name.
 pub(crate) fn has_bad_index<T>(lists: &[Vec<T>]) -> bool
     ensures items { result ≡ has_bad_index (map (λ list. list.items) lists.now) }
-    ensures types { (all : List (List Placed)) → map length all ≡ map (λ list. length list.items) lists.now → result ≡ has_bad_index all }
+    ensures types { (all : List (List Placed)) → map length all ≡ map (λ list. length list.items) lists.now →
+        result ≡ has_bad_index all }
 {
     if lists.len() > MOST_FIELDS {
         return true;
@@ -99,11 +100,16 @@ fn fields_layout(
     requires data_layout { IsLawfulDataLayout dl.now }
     requires there { All (λ child. child < length nodes.now) children.now }
     requires lawful { All (λ p. IsLawfulLayout dl.now (layout_of p)) (all_at nodes.now children.now) }
-    ensures ok { IfOk result (λ l. IsListed dl.now repr.now kind (map layout_of (all_at nodes.now children.now)) (Ok l)) }
-    ensures err { IfErr result (IsRefused (IsListed dl.now repr.now kind (map layout_of (all_at nodes.now children.now)))) }
+    ensures ok { IfOk result (λ l. IsListed dl.now repr.now kind
+        (map layout_of (all_at nodes.now children.now)) (Ok l)) }
+    ensures err { IfErr result (IsRefused
+        (IsListed dl.now repr.now kind (map layout_of (all_at nodes.now children.now)))) }
     ensures lawful { IfOk result (IsLawfulLayout dl.now) }
-    ensures apart { IfOk result (λ l. AreApart l.size (listed_offsets l.fields) (map size_of (all_at nodes.now children.now))) }
-    ensures niche { IfOk result (λ l. IfSome l.largest_niche (IsNicheOfPart (listed_offsets l.fields) (map layout_of (all_at nodes.now children.now)))) }
+    ensures apart { IfOk result (λ l.
+        AreApart l.size (listed_offsets l.fields) (map size_of (all_at nodes.now children.now))) }
+    ensures niche { IfOk result (λ l.
+        IfSome l.largest_niche (IsNicheOfPart (listed_offsets l.fields)
+        (map layout_of (all_at nodes.now children.now)))) }
 {
     let layouts = layouts_at(alloc, nodes, children)?;
     let answer = LayoutCalculator::new(dl).layout_of_univariant(
@@ -133,7 +139,8 @@ fn add_faultless_fields(
         EachFits dl.now ts (all_at nodes.old.items children.items) →
         IsAdded dl.now nodes.old.items nodes.new.items i (struct repr.now always_sized ts)) }
     ensures own { IfOk result (IsOwnPut nodes.old.items nodes.new.items) }
-    ensures err { IfErr result (IsRefused (IsFieldsAnswer dl.now repr.now always_sized (all_at nodes.old.items children.items))) }
+    ensures err { IfErr result (IsRefused
+        (IsFieldsAnswer dl.now repr.now always_sized (all_at nodes.old.items children.items))) }
     ensures kept { OnErr result (nodes.new.items ≡ nodes.old.items) }
 {
     let kind = kind_of(always_sized, &children);
@@ -162,7 +169,8 @@ pub(crate) fn add_fields(
         EachFits dl.now ts (all_at nodes.old.items children.items) →
         IsAdded dl.now nodes.old.items nodes.new.items i (struct repr.now always_sized ts)) }
     ensures own { IfOk result (IsOwnPut nodes.old.items nodes.new.items) }
-    ensures err { IfErr result (IsRefused (IsFieldsAnswer dl.now repr.now always_sized (all_at nodes.old.items children.items))) }
+    ensures err { IfErr result (IsRefused
+        (IsFieldsAnswer dl.now repr.now always_sized (all_at nodes.old.items children.items))) }
     ensures kept { OnErr result (nodes.new.items ≡ nodes.old.items) }
 {
     match fields_fault(repr, &children) {

@@ -90,8 +90,10 @@ fn lay_each(
     fields: &[TypeTree],
 ) -> Result<Vec<usize>, LayError>
     requires { IsLawfulDataLayout dl.now }
-    ensures ok { IfOk result (λ children. AreAdded dl.now nodes.old.items nodes.new.items children.items (map tree_of fields.now)) }
-    ensures counted { IfOk result (λ children. AreCounted dl.now nodes.old.items nodes.new.items (trees (map tree_of fields.now))) }
+    ensures ok { IfOk result (λ children.
+        AreAdded dl.now nodes.old.items nodes.new.items children.items (map tree_of fields.now)) }
+    ensures counted { IfOk result (λ children.
+        AreCounted dl.now nodes.old.items nodes.new.items (trees (map tree_of fields.now))) }
     ensures err { IfErr result (IsRefused (AreLaying dl.now (trees (map tree_of fields.now)))) }
 {
     let mut children = Vec::new(alloc);
@@ -111,8 +113,10 @@ fn lay_variants(
     all: &[(u128, Vec<TypeTree>)],
 ) -> Result<Vec<Vec<usize>>, LayError>
     requires { IsLawfulDataLayout dl.now }
-    ensures ok { IfOk result (λ children. AreVariantsAdded dl.now nodes.old.items nodes.new.items children.items (trees_of_variants all.now)) }
-    ensures counted { IfOk result (λ children. AreVariantsCounted dl.now nodes.old.items nodes.new.items (trees_of_variants all.now)) }
+    ensures ok { IfOk result (λ children.
+        AreVariantsAdded dl.now nodes.old.items nodes.new.items children.items (trees_of_variants all.now)) }
+    ensures counted { IfOk result (λ children.
+        AreVariantsCounted dl.now nodes.old.items nodes.new.items (trees_of_variants all.now)) }
     ensures err { IfErr result (IsRefused (VariantsLaying dl.now (trees_of_variants all.now))) }
 {
     let mut children = Vec::with_capacity(alloc, all.len())?;

@@ -35,8 +35,10 @@ fn vector_layout(
     requires data_layout { IsLawfulDataLayout dl.now }
     requires there { element < length nodes.now }
     requires lawful { IsLawfulLayout dl.now (layout_of (placed_at nodes.now element)) }
-    ensures ok { IfOk result (λ l. named (simd_answer (λ h. h) 0 0 dl.now (layout_of (placed_at nodes.now element)) lanes packed) ≡ Ok l) }
-    ensures err { IfErr result (IsRefusal (named (simd_answer (λ h. h) 0 0 dl.now (layout_of (placed_at nodes.now element)) lanes packed))) }
+    ensures ok { IfOk result (λ l. named
+        (simd_answer (λ h. h) 0 0 dl.now (layout_of (placed_at nodes.now element)) lanes packed) ≡ Ok l) }
+    ensures err { IfErr result (IsRefusal
+        (named (simd_answer (λ h. h) 0 0 dl.now (layout_of (placed_at nodes.now element)) lanes packed))) }
     ensures lawful { IfOk result (IsLawfulLayout dl.now) }
 {
     let answer = LayoutCalculator::new(dl).layout_of_simd_type(

@@ -23,7 +23,8 @@ pub(crate) fn add(
     requires earlier { is_node (vec_len nodes.old) shape ≡ true }
     requires laws { keeps_laws (types_in nodes.old.items) layout shape ≡ true }
     requires widths { has_width (types_in nodes.old.items) layout shape ≡ true }
-    ensures ok { IfOk result (λ i. IsPut nodes.old.items nodes.new.items i (meaning (types_in nodes.old.items) layout shape)) }
+    ensures ok { IfOk result (λ i. IsPut nodes.old.items nodes.new.items i
+        (meaning (types_in nodes.old.items) layout shape)) }
     ensures count { IfOk result (λ i. length nodes.new.items ≡ length nodes.old.items + 1) }
     ensures err { IfErr result (λ e. e ≡ LayError.OutOfMemory) }
     ensures kept { OnErr result (nodes.new.items ≡ nodes.old.items) }

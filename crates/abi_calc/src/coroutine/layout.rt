@@ -132,8 +132,12 @@ fn state_layouts<FieldIdx: Idx, VariantIdx: Idx, LocalIdx: Idx>(
     requires within { All (All (λ l. LocalIdx.number l < count)) states.now }
     requires once { All (λ state. AllPairs (λ a b. a ≢ b) (map LocalIdx.number state)) states.now }
     requires first { HasFields FieldIdx.number (before + length (members_of promoted.now)) first.now }
-    requires lists { AllZip (λ state list. HasFields FieldIdx.number (length (own_of promoted.now (map LocalIdx.number state))) list) states.now lists.items }
-    ensures { IfOk result (λ layouts. layouts ≡ state_layouts FieldIdx.at FieldIdx.number before promoted.now first.now (map (map LocalIdx.number) states.now) lists.items) }
+    requires lists { AllZip (λ state list.
+        HasFields FieldIdx.number (length (own_of promoted.now (map LocalIdx.number state))) list) states.now
+        lists.items }
+    ensures { IfOk result (λ layouts.
+        layouts ≡ state_layouts FieldIdx.at FieldIdx.number before promoted.now first.now
+        (map (map LocalIdx.number) states.now) lists.items) }
 {
     let below = ranks_below(alloc, promoted, count)?;
     let shared = &listed_offsets(&first.fields)[before..];
@@ -167,10 +171,13 @@ fn layout_of_size<FieldIdx: Idx, VariantIdx: Idx, LocalIdx: Idx>(
     requires within { All (All (λ l. LocalIdx.number l < count)) states.now }
     requires once { All (λ state. AllPairs (λ a b. a ≢ b) (map LocalIdx.number state)) states.now }
     requires first { HasFields FieldIdx.number (prefix + 1 + length (members_of promoted.now)) first }
-    requires lists { AllZip (λ state list. HasFields FieldIdx.number (length (own_of promoted.now (map LocalIdx.number state))) list) states.now lists.items }
+    requires lists { AllZip (λ state list.
+        HasFields FieldIdx.number (length (own_of promoted.now (map LocalIdx.number state))) list) states.now
+        lists.items }
     requires align { align ≡ whole_align first lists.items }
     requires size { size ≡ whole_size first lists.items }
-    ensures { IfOk result (λ layout. layout ≡ coroutine_layout FieldIdx.at FieldIdx.number prefix tag promoted.now (map (map LocalIdx.number) states.now) first lists.items) }
+    ensures { IfOk result (λ layout. layout ≡ coroutine_layout FieldIdx.at FieldIdx.number prefix tag promoted.now
+        (map (map LocalIdx.number) states.now) first lists.items) }
 {
     let before = prefix + 1;
     let uninhabited = is_uninhabited(&first, &lists);
@@ -221,12 +228,17 @@ pub(crate) fn layout_of_lists<FieldIdx: Idx, VariantIdx: Idx, LocalIdx: Idx, F>(
     requires within { All (All (λ l. LocalIdx.number l < count)) states.now }
     requires once { All (λ state. AllPairs (λ a b. a ≢ b) (map LocalIdx.number state)) states.now }
     requires first { HasFields FieldIdx.number (prefix + 1 + length (members_of promoted.now)) first }
-    requires lists { AllZip (λ state list. HasFields FieldIdx.number (length (own_of promoted.now (map LocalIdx.number state))) list) states.now lists.items }
+    requires lists { AllZip (λ state list.
+        HasFields FieldIdx.number (length (own_of promoted.now (map LocalIdx.number state))) list) states.now
+        lists.items }
     requires lawful_first { IsLawfulLayout dl.now first }
     requires lawful { All (IsLawfulLayout dl.now) lists.items }
     ensures exact { IfOk result (λ layout. (whole_size first lists.items < size_bound dl.now)
-        × (layout ≡ coroutine_layout FieldIdx.at FieldIdx.number prefix tag promoted.now (map (map LocalIdx.number) states.now) first lists.items)) }
-    ensures fault { IfErr result (λ e. ((size_bound dl.now ≤ whole_size first lists.items) × (e ≡ LayoutCalculatorError.SizeOverflow)) ⊎ (e ≡ LayoutCalculatorError.OutOfMemory)) }
+        × (layout ≡ coroutine_layout FieldIdx.at FieldIdx.number prefix tag promoted.now
+        (map (map LocalIdx.number) states.now) first lists.items)) }
+    ensures fault { IfErr result (λ e.
+        ((size_bound dl.now ≤ whole_size first lists.items) × (e ≡ LayoutCalculatorError.SizeOverflow)) ⊎
+        (e ≡ LayoutCalculatorError.OutOfMemory)) }
 {
     let align = whole_align(&first, &lists);
     let size = whole_size(dl, &first, &lists, align);

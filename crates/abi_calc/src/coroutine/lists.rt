@@ -95,9 +95,15 @@ impl<Cx: HasDataLayout> LayoutCalculator<Cx> {
         requires same { domain_size promoted.now ≡ length locals.now }
         requires prefix { IsLawfulPrefix kind.now (size_bound (Cx.target self.now.cx)) }
         requires sized { IsSized kind.now }
-        ensures within { IfOk result (λ list. length (own_list locals.now promoted.now (map LocalIdx.number state.now)) ≤ FieldIdx.MAX_INDEX + 1) }
-        ensures good { IfOk result (IsGoodList F.layout_of FieldIdx.at (VariantIdx.at 0) (Cx.target self.now.cx) default_repr kind.now (own_list locals.now promoted.now (map LocalIdx.number state.now))) }
-        ensures fault { IfErr result (λ e. IsListError F.layout_of (Cx.target self.now.cx) default_repr kind.now (own_list locals.now promoted.now (map LocalIdx.number state.now)) e ⊎ (e ≡ LayoutCalculatorError.OutOfMemory)) }
+        ensures within { IfOk result (λ list.
+            length (own_list locals.now promoted.now (map LocalIdx.number state.now)) ≤ FieldIdx.MAX_INDEX + 1) }
+        ensures good { IfOk result (IsGoodList F.layout_of FieldIdx.at (VariantIdx.at 0)
+            (Cx.target self.now.cx) default_repr kind.now
+            (own_list locals.now promoted.now (map LocalIdx.number state.now))) }
+        ensures fault { IfErr result (λ e.
+            IsListError F.layout_of (Cx.target self.now.cx) default_repr kind.now
+            (own_list locals.now promoted.now (map LocalIdx.number state.now)) e ⊎
+            (e ≡ LayoutCalculatorError.OutOfMemory)) }
     {
         let fields = own_fields(alloc, locals, promoted, state)?;
         self.layout_of_variant(alloc, &fields, &default_repr(), kind)
@@ -123,9 +129,16 @@ impl<Cx: HasDataLayout> LayoutCalculator<Cx> {
         requires same { domain_size promoted.now ≡ length locals.now }
         requires prefix { IsLawfulPrefix kind.now (size_bound (Cx.target self.now.cx)) }
         requires sized { IsSized kind.now }
-        ensures good { IfOk result (λ lists. AreGoodLists F.layout_of FieldIdx.at (VariantIdx.at 0) (Cx.target self.now.cx) default_repr kind.now (own_lists locals.now promoted.now (map (map LocalIdx.number) states.now)) lists.items) }
-        ensures within { IfOk result (λ lists. All (λ own. length own ≤ FieldIdx.MAX_INDEX + 1) (own_lists locals.now promoted.now (map (map LocalIdx.number) states.now))) }
-        ensures fault { IfErr result (λ e. IsFirstListError F.layout_of FieldIdx.at (VariantIdx.at 0) (Cx.target self.now.cx) default_repr kind.now (own_lists locals.now promoted.now (map (map LocalIdx.number) states.now)) e ⊎ (e ≡ LayoutCalculatorError.OutOfMemory)) }
+        ensures good { IfOk result (λ lists.
+            AreGoodLists F.layout_of FieldIdx.at (VariantIdx.at 0) (Cx.target self.now.cx) default_repr kind.now
+            (own_lists locals.now promoted.now (map (map LocalIdx.number) states.now)) lists.items) }
+        ensures within { IfOk result (λ lists.
+            All (λ own. length own ≤ FieldIdx.MAX_INDEX + 1)
+            (own_lists locals.now promoted.now (map (map LocalIdx.number) states.now))) }
+        ensures fault { IfErr result (λ e.
+            IsFirstListError F.layout_of FieldIdx.at (VariantIdx.at 0) (Cx.target self.now.cx) default_repr kind.now
+            (own_lists locals.now promoted.now (map (map LocalIdx.number) states.now)) e ⊎
+            (e ≡ LayoutCalculatorError.OutOfMemory)) }
     {
         let mut lists = Vec::with_capacity(alloc, states.len())?;
         for state in states {

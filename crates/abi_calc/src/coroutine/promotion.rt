@@ -49,7 +49,8 @@ fn insert_later<LocalIdx: Idx>(
     requires within { All (λ l. LocalIdx.number l < length holders.now) state.now }
     requires size { domain_size several.old ≡ length holders.now }
     ensures members { (k : ℕ) → is_member several.new k
-        ≡ (is_member several.old k || (has_number (map LocalIdx.number state.now) k && not (slice_index holders.now k == place))) }
+        ≡ (is_member several.old k ||
+        (has_number (map LocalIdx.number state.now) k && not (slice_index holders.now k == place))) }
     ensures size { domain_size several.new ≡ domain_size several.old }
 {
     for local in state {
@@ -151,7 +152,8 @@ fn settle<LocalIdx: Idx>(
     requires column { LocalIdx.number column < row_count conflicts.now }
     ensures size { domain_size promoted.new ≡ row_count conflicts.now }
     ensures settled { (states : List (List ℕ)) → holders.now ≡ holders_of states (row_count conflicts.now)
-        → promoted.new ≡ after_conflict states conflicts.now (LocalIdx.number row) promoted.old (LocalIdx.number column) }
+        → promoted.new ≡ after_conflict states conflicts.now (LocalIdx.number row) promoted.old
+        (LocalIdx.number column) }
 {
     if !are_settled(holders, row, column, promoted) {
         promote(given_up(conflicts, row, column), promoted);

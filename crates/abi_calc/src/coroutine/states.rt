@@ -79,7 +79,8 @@ fn state_offsets<FieldIdx: Idx, LocalIdx: Idx>(
     requires below { below.now ≡ map (rank_of promoted.now) (source_order (domain_size promoted.now)) }
     requires shared { length shared.now ≡ length (members_of promoted.now) }
     requires own { length own.now ≡ length (own_of promoted.now (map LocalIdx.number state.now)) }
-    ensures { IfOk result (λ offsets. offsets ≡ state_offsets promoted.now shared.now own.now (map LocalIdx.number state.now)) }
+    ensures { IfOk result (λ offsets.
+        offsets ≡ state_offsets promoted.now shared.now own.now (map LocalIdx.number state.now)) }
 {
     let mut offsets = IndexVec::new(alloc);
     let mut next = 0;
@@ -110,7 +111,9 @@ fn held_places<LocalIdx: Idx>(
     requires count { count ≡ length (members_of promoted.now) }
     ensures count { IfOk result (λ held. length held.items ≡ count) }
     ensures within { IfOk result (λ held. All (λ found. IfSome found (λ place. place < length state.now)) held.items) }
-    ensures held { IfOk result (λ held. (rank : ℕ) → rank < count → option_to_list (slice_index_or held.items rank None) ≡ places_with (map LocalIdx.number state.now) (slice_index (members_of promoted.now) rank)) }
+    ensures held { IfOk result (λ held. (rank : ℕ) → rank < count →
+        option_to_list (slice_index_or held.items rank None) ≡ places_with (map LocalIdx.number state.now)
+        (slice_index (members_of promoted.now) rank)) }
 {
     let mut held = Vec::with_capacity(alloc, count)?;
     held.resize(count, None)?;
@@ -154,7 +157,8 @@ fn joined_places<FieldIdx: Idx>(
     requires held { All (λ found. IfSome found (λ place. place ≤ FieldIdx.MAX_INDEX)) held.now }
     requires places { All (λ place. place ≤ FieldIdx.MAX_INDEX) places.now }
     requires room { length ranks.now + length own.now ≤ 0xFFFF_FFFF + 1 }
-    ensures { IfOk result (λ list. list ≡ map FieldIdx.at (joined_places held.now ranks.now places.now (map FieldIdx.number own.now))) }
+    ensures { IfOk result (λ list. list ≡ map FieldIdx.at
+        (joined_places held.now ranks.now places.now (map FieldIdx.number own.now))) }
 {
     let mut list = IndexVec::new(alloc);
     for rank in ranks {
@@ -185,8 +189,10 @@ fn state_order<FieldIdx: Idx, LocalIdx: Idx>(
     requires below { below.now ≡ map (rank_of promoted.now) (source_order (domain_size promoted.now)) }
     requires ranks { length ranks.now ≡ length (members_of promoted.now) }
     requires each { All (λ rank. rank < length (members_of promoted.now)) ranks.now }
-    requires own { IsPermutation (source_order (length (own_of promoted.now (map LocalIdx.number state.now)))) (map FieldIdx.number own.now) }
-    ensures { IfOk result (λ list. list ≡ map FieldIdx.at (state_order promoted.now ranks.now (map FieldIdx.number own.now) (map LocalIdx.number state.now))) }
+    requires own { IsPermutation (source_order (length (own_of promoted.now (map LocalIdx.number state.now))))
+        (map FieldIdx.number own.now) }
+    ensures { IfOk result (λ list. list ≡ map FieldIdx.at
+        (state_order promoted.now ranks.now (map FieldIdx.number own.now) (map LocalIdx.number state.now))) }
 {
     let held = held_places(alloc, promoted, below, ranks.len(), state)?;
     let places = own_places(alloc, promoted, state)?;
@@ -212,7 +218,9 @@ pub(crate) fn state_layout<FieldIdx: Idx, VariantIdx: Idx, LocalIdx: Idx>(
     requires ranks { length ranks.now ≡ length (members_of promoted.now) }
     requires each { All (λ rank. rank < length (members_of promoted.now)) ranks.now }
     requires list { HasFields FieldIdx.number (length (own_of promoted.now (map LocalIdx.number state.now))) list }
-    ensures { IfOk result (λ variant. variant ≡ stitched_layout FieldIdx.at FieldIdx.number promoted.now shared.now ranks.now (map LocalIdx.number state.now) list) }
+    ensures { IfOk result (λ variant.
+        variant ≡ stitched_layout FieldIdx.at FieldIdx.number promoted.now shared.now ranks.now
+        (map LocalIdx.number state.now) list) }
 {
     let state = state.as_slice().as_raw();
     let own = listed_offsets(&list.fields);

@@ -61,7 +61,8 @@ pub(crate) fn counting_of<FieldIdx: Idx, VariantIdx: Idx, F: LayoutHandle<FieldI
     items: &[(VariantIdx, u128)],
 ) -> Result<Vec<u128>, AllocError>
     requires { All (λ item. VariantIdx.number item.0 < length variants.now) items.now }
-    ensures { IfOk result (λ values. values.items ≡ counting_of VariantIdx.number repr.now (map (map F.layout_of) variants.now) items.now) }
+    ensures { IfOk result (λ values. values.items ≡ counting_of VariantIdx.number repr.now
+        (map (map F.layout_of) variants.now) items.now) }
 {
     let mut values = Vec::with_capacity(alloc, items.len())?;
     for &item in items {
@@ -86,8 +87,10 @@ fn greatest_of(values: &[u128]) -> u128
 /// The least and the greatest of 0 and what the discriminants stand for as signed integers of so many bytes.
 fn signed_ends(size: Size, values: &[u128]) -> Asked
     requires { size ≤ 16 }
-    ensures least { IsLeastOf (pos 0 ∷ map (λ v. signed_value (size * 8) (v % 2 ^ (size * 8))) values.now) result.least }
-    ensures greatest { IsGreatestOf (pos 0 ∷ map (λ v. signed_value (size * 8) (v % 2 ^ (size * 8))) values.now) (pos result.greatest) }
+    ensures least { IsLeastOf (pos 0 ∷ map (λ v. signed_value (size * 8) (v % 2 ^ (size * 8))) values.now)
+        result.least }
+    ensures greatest { IsGreatestOf (pos 0 ∷ map (λ v. signed_value (size * 8) (v % 2 ^ (size * 8))) values.now)
+        (pos result.greatest) }
 {
     let mut least: i128 = 0;
     let mut greatest: i128 = 0;

@@ -51,7 +51,8 @@ fn niche_encoding<VariantIdx: Idx>(
     requires untagged { untagged ≤ VariantIdx.MAX_INDEX }
     requires first { span.0 ≤ VariantIdx.MAX_INDEX }
     requires last { span.1 ≤ VariantIdx.MAX_INDEX }
-    ensures { result ≡ InNiche (VariantIdx.at untagged) (record { start = VariantIdx.at span.0; last = VariantIdx.at span.1 }) start }
+    ensures { result ≡ InNiche (VariantIdx.at untagged)
+        (record { start = VariantIdx.at span.0; last = VariantIdx.at span.1 }) start }
 {
     TagEncoding::Niche {
         untagged_variant: VariantIdx::new(untagged),
@@ -72,7 +73,8 @@ fn niche_view<FieldIdx: Idx, VariantIdx: Idx>(
     tag: Scalar,
     variants: &IndexVec<VariantIdx, VariantLayout<FieldIdx>>,
 ) -> BackendRepr
-    ensures { result ≡ (if fills && others_empty untagged 0 variants.now then view_with offset tag own_view else Memory true) }
+    ensures { result ≡ (if fills && others_empty untagged 0 variants.now then view_with offset tag own_view else
+        Memory true) }
 {
     if fills && others_empty(untagged, variants.as_slice().as_raw()) {
         view_with(offset, tag, own_view)
@@ -100,8 +102,10 @@ fn untagged_view<FieldIdx: Idx, VariantIdx: Idx>(
     align: Align,
 ) -> (bool, BackendRepr)
     requires { untagged < length lists.now }
-    ensures fills { (list : LayoutData FieldIdx VariantIdx) → slice_get lists.now untagged ≡ Some list → result.0 ≡ ((size == list.size) && (align == list.align.abi)) }
-    ensures view { (list : LayoutData FieldIdx VariantIdx) → slice_get lists.now untagged ≡ Some list → result.1 ≡ list.backend_repr }
+    ensures fills { (list : LayoutData FieldIdx VariantIdx) → slice_get lists.now untagged ≡ Some list →
+        result.0 ≡ ((size == list.size) && (align == list.align.abi)) }
+    ensures view { (list : LayoutData FieldIdx VariantIdx) → slice_get lists.now untagged ≡ Some list →
+        result.1 ≡ list.backend_repr }
 {
     let list = &lists[untagged];
     (fills(list, size, align), list.backend_repr)
@@ -131,7 +135,8 @@ fn layout_in_niche<FieldIdx: Idx, VariantIdx: Idx>(
     requires handed { handed ≡ reserved dl.now niche (span_count span) }
     requires tag { IsLawfulScalar dl.now handed.1 }
     ensures { IfOk result (λ found. (list : LayoutData FieldIdx VariantIdx) → slice_get lists.items untagged ≡ Some list
-        → found ≡ if_placed (FieldIdx.at 0) VariantIdx.at dl.now repr.now untagged span lists.items list niche (variants_from (room_beside dl.now niche lists.items) untagged 0 lists.items)) }
+        → found ≡ if_placed (FieldIdx.at 0) VariantIdx.at dl.now repr.now untagged span lists.items list niche
+        (variants_from (room_beside dl.now niche lists.items) untagged 0 lists.items)) }
 {
     let align = greatest_align(dl.aggregate_align, lists.as_slice());
     let size = lists_size(dl, &lists, align);
@@ -193,7 +198,8 @@ pub(crate) fn niche_of_lists<FieldIdx: Idx, VariantIdx: Idx, F: LayoutHandle<Fie
     requires small { All IsSmallList lists.items }
     requires count { length lists.items ≤ VariantIdx.MAX_INDEX + 1 }
     requires each { length lists.items ≡ length variants.now }
-    ensures { IfOk result (λ found. found ≡ niche_layout (FieldIdx.at 0) VariantIdx.at dl.now repr.now (map (map F.layout_of) variants.now) lists.items) }
+    ensures { IfOk result (λ found. found ≡ niche_layout (FieldIdx.at 0) VariantIdx.at dl.now repr.now
+        (map (map F.layout_of) variants.now) lists.items) }
 {
     let untagged = untagged_of(&lists);
     let Some(span) = span_of(untagged, variants) else {
@@ -254,8 +260,10 @@ impl<Cx: HasDataLayout> LayoutCalculator<Cx> {
         requires fields { All (All (λ f. IsLawfulLayout (Cx.target self.now.cx) (F.layout_of f))) variants.now }
         requires count { length variants.now ≤ VariantIdx.MAX_INDEX + 1 }
         requires repr { HasLawfulAligns repr.now }
-        ensures exact { IfOk result (IsNicheAnswer AreListLayouts F.layout_of FieldIdx.at VariantIdx.at (Cx.target self.now.cx) repr.now variants.now) }
-        ensures good { IfOk result (IsNicheAnswer AreGoodLists F.layout_of FieldIdx.at VariantIdx.at (Cx.target self.now.cx) repr.now variants.now) }
+        ensures exact { IfOk result (IsNicheAnswer AreListLayouts F.layout_of FieldIdx.at VariantIdx.at
+            (Cx.target self.now.cx) repr.now variants.now) }
+        ensures good { IfOk result (IsNicheAnswer AreGoodLists F.layout_of FieldIdx.at VariantIdx.at
+            (Cx.target self.now.cx) repr.now variants.now) }
         ensures memory { IfErr result (λ e. e ≡ LayoutCalculatorError.OutOfMemory) }
     {
         if !is_free(repr) {

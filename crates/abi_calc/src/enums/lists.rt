@@ -80,8 +80,11 @@ impl<Cx: HasDataLayout> LayoutCalculator<Cx> {
         requires prefix { IsLawfulPrefix kind.now (size_bound (Cx.target self.now.cx)) }
         requires sized { IsSized kind.now }
         ensures within { length fields.now ≤ FieldIdx.MAX_INDEX + 1 }
-        ensures good { IfOk result (IsGoodList F.layout_of FieldIdx.at (VariantIdx.at 0) (Cx.target self.now.cx) repr.now kind.now fields.now) }
-        ensures fault { IfErr result (λ e. IsListError F.layout_of (Cx.target self.now.cx) repr.now kind.now fields.now e ⊎ (e ≡ LayoutCalculatorError.OutOfMemory)) }
+        ensures good { IfOk result (IsGoodList F.layout_of FieldIdx.at (VariantIdx.at 0)
+            (Cx.target self.now.cx) repr.now kind.now fields.now) }
+        ensures fault { IfErr result (λ e.
+            IsListError F.layout_of (Cx.target self.now.cx) repr.now kind.now fields.now e ⊎
+            (e ≡ LayoutCalculatorError.OutOfMemory)) }
     {
         self.layout_of_univariant(alloc, fields.as_slice(), repr, *kind)
     }
@@ -104,12 +107,18 @@ impl<Cx: HasDataLayout> LayoutCalculator<Cx> {
         requires repr { HasLawfulAligns repr.now }
         requires prefix { IsLawfulPrefix kind.now (size_bound (Cx.target self.now.cx)) }
         requires sized { IsSized kind.now }
-        ensures exact { IfOk result (λ lists. AreListLayouts F.layout_of FieldIdx.at (VariantIdx.at 0) (Cx.target self.now.cx) repr.now kind.now variants.now lists.items) }
-        ensures good { IfOk result (λ lists. AreGoodLists F.layout_of FieldIdx.at (VariantIdx.at 0) (Cx.target self.now.cx) repr.now kind.now variants.now lists.items) }
+        ensures exact { IfOk result (λ lists.
+            AreListLayouts F.layout_of FieldIdx.at (VariantIdx.at 0)
+            (Cx.target self.now.cx) repr.now kind.now variants.now lists.items) }
+        ensures good { IfOk result (λ lists.
+            AreGoodLists F.layout_of FieldIdx.at (VariantIdx.at 0)
+            (Cx.target self.now.cx) repr.now kind.now variants.now lists.items) }
         ensures within { IfOk result (λ lists. All (λ fields. length fields ≤ FieldIdx.MAX_INDEX + 1) variants.now) }
         ensures lists { IfOk result (λ lists. AreListsOf variants.now lists.items) }
         ensures lawful { IfOk result (λ lists. All (IsLawfulLayout (Cx.target self.now.cx)) lists.items) }
-        ensures fault { IfErr result (λ e. IsFirstListError F.layout_of FieldIdx.at (VariantIdx.at 0) (Cx.target self.now.cx) repr.now kind.now variants.now e ⊎ (e ≡ LayoutCalculatorError.OutOfMemory)) }
+        ensures fault { IfErr result (λ e.
+            IsFirstListError F.layout_of FieldIdx.at (VariantIdx.at 0)
+            (Cx.target self.now.cx) repr.now kind.now variants.now e ⊎ (e ≡ LayoutCalculatorError.OutOfMemory)) }
     {
         let mut lists = Vec::with_capacity(alloc, variants.len())?;
         for fields in variants {

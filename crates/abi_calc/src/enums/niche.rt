@@ -200,7 +200,8 @@ fn placed<FieldIdx: Idx, VariantIdx: Idx>(
 ) -> Result<Option<VariantLayout<FieldIdx>>, AllocError>
     requires roomy { IsRoomy room.now }
     requires small { IsSmallList list }
-    ensures { IfOk result (λ variant. variant ≡ (if at == untagged then Some (variant_of list) else beside_niche room.now list)) }
+    ensures { IfOk result (λ variant.
+        variant ≡ (if at == untagged then Some (variant_of list) else beside_niche room.now list)) }
 {
     if at == untagged {
         return Ok(Some(VariantLayout::from_layout(list)));

@@ -146,7 +146,8 @@ fn common_scalar(dl: &TargetDataLayout, a: Scalar, b: Scalar, offset: Size) -> P
     requires data_layout { IsLawfulDataLayout dl.now }
     requires first { IsLawfulScalar dl.now a }
     requires second { IsLawfulScalar dl.now b }
-    ensures value { result ≡ payload_at dl.now (is_initialized a && is_initialized b) offset (shared_primitive dl.now (primitive_of a) (primitive_of b)) }
+    ensures value { result ≡ payload_at dl.now (is_initialized a && is_initialized b) offset
+        (shared_primitive dl.now (primitive_of a) (primitive_of b)) }
     ensures lawful { IsLawfulPayload dl.now result }
 {
     match shared_primitive(dl, a.primitive(), b.primitive()) {
@@ -231,7 +232,8 @@ fn variant_payload<FieldIdx: Idx, VariantIdx: Idx, F: LayoutHandle<FieldIdx, Var
     requires fields { All (All (λ f. IsLawfulLayout dl.now (F.layout_of f))) variants.now }
     requires lists { AreListsOf variants.now lists.now }
     requires within { index < length lists.now }
-    ensures value { slice_get (payloads_of dl.now old new (map (map F.layout_of) variants.now) lists.now) index ≡ Some result }
+    ensures value { slice_get (payloads_of dl.now old new (map (map F.layout_of) variants.now) lists.now) index ≡
+        Some result }
     ensures lawful { IsLawfulPayload dl.now result }
 {
     let fields = variants[index].as_slice().as_raw();
@@ -249,7 +251,8 @@ fn common_of<FieldIdx: Idx, VariantIdx: Idx, F: LayoutHandle<FieldIdx, VariantId
     requires data_layout { IsLawfulDataLayout dl.now }
     requires fields { All (All (λ f. IsLawfulLayout dl.now (F.layout_of f))) variants.now }
     requires lists { AreListsOf variants.now lists.now }
-    ensures value { result ≡ common_of dl.now (payloads_of dl.now old new (map (map F.layout_of) variants.now) lists.now) }
+    ensures value { result ≡ common_of dl.now
+        (payloads_of dl.now old new (map (map F.layout_of) variants.now) lists.now) }
     ensures lawful { IsLawfulPayload dl.now result }
 {
     if lists.is_empty() {
@@ -302,7 +305,8 @@ pub(crate) fn tagged_view<FieldIdx: Idx, VariantIdx: Idx, F: LayoutHandle<FieldI
     requires tag { IsLawfulScalar dl.now tag }
     requires fields { All (All (λ f. IsLawfulLayout dl.now (F.layout_of f))) variants.now }
     requires lists { AreListsOf variants.now lists.now }
-    ensures { result ≡ tagged_view dl.now tag size align (payloads_of dl.now old (scalar_size dl.now tag) (map (map F.layout_of) variants.now) lists.now) }
+    ensures { result ≡ tagged_view dl.now tag size align
+        (payloads_of dl.now old (scalar_size dl.now tag) (map (map F.layout_of) variants.now) lists.now) }
 {
     let new = tag.size(dl);
     if new == size {
@@ -339,7 +343,8 @@ fn is_memory(view: BackendRepr) -> bool
 
 /// Whether the variant takes the view of its enum over: it has fields and is bytes in memory, and the view is of scalars.
 fn takes_view<FieldIdx: Idx>(view: &BackendRepr, variant: &VariantLayout<FieldIdx>) -> bool
-    ensures { result ≡ (is_of_scalars view.now && is_memory variant.now.backend_repr && nat_lt 0 (length variant.now.field_offsets)) }
+    ensures { result ≡ (is_of_scalars view.now && is_memory variant.now.backend_repr && nat_lt 0
+        (length variant.now.field_offsets)) }
 {
     is_of_scalars(*view) && is_memory(variant.backend_repr) && variant.has_fields()
 }

@@ -48,15 +48,30 @@ impl<Cx: HasDataLayout> LayoutCalculator<Cx> {
         requires some { 0 < length variants.now }
         requires named { All (λ item. VariantIdx.number item.0 < length variants.now) discriminants.now }
         requires callable { D.IsAlwaysCallable discr_range_of_repr }
-        requires tags { AreLawfulTags VariantIdx.number (Cx.target self.now.cx) repr.now (D.post discr_range_of_repr) (map (map F.layout_of) variants.now) discriminants.now }
-        ensures exact { (result ≡ Err LayoutCalculatorError.OutOfMemory) ⊎ IsAskedAnswer F.layout_of FieldIdx.at FieldIdx.number (VariantIdx.at 0) (Cx.target self.now.cx) repr.now (D.post discr_range_of_repr) (counting_of VariantIdx.number repr.now (map (map F.layout_of) variants.now) discriminants.now) variants.now result }
+        requires tags { AreLawfulTags VariantIdx.number (Cx.target self.now.cx) repr.now (D.post discr_range_of_repr)
+            (map (map F.layout_of) variants.now) discriminants.now }
+        ensures exact { (result ≡ Err LayoutCalculatorError.OutOfMemory) ⊎
+            IsAskedAnswer F.layout_of FieldIdx.at FieldIdx.number (VariantIdx.at 0) (Cx.target self.now.cx) repr.now
+            (D.post discr_range_of_repr) (counting_of VariantIdx.number repr.now
+            (map (map F.layout_of) variants.now) discriminants.now) variants.now result }
         ensures lawful { IfOk result (IsLawfulLayout (Cx.target self.now.cx)) }
         ensures within { IfOk result (λ l. All (λ fields. length fields ≤ FieldIdx.MAX_INDEX + 1) variants.now) }
-        ensures told { IfOk result (IsToldByTag (Cx.target self.now.cx) VariantIdx.number (map (map F.layout_of) variants.now) discriminants.now) }
-        ensures size { IfOk result (λ l. HasTaggedSize F.layout_of FieldIdx.at (VariantIdx.at 0) (Cx.target self.now.cx) repr.now (D.post discr_range_of_repr) (counting_of VariantIdx.number repr.now (map (map F.layout_of) variants.now) discriminants.now) variants.now l.size) }
-        ensures too_large { result ≡ Err LayoutCalculatorError.SizeOverflow → IsAskedTooLarge (Cx.target self.now.cx) repr.now (D.post discr_range_of_repr) (counting_of VariantIdx.number repr.now (map (map F.layout_of) variants.now) discriminants.now) (map (map F.layout_of) variants.now) }
-        ensures refused { All AreSized (map (map F.layout_of) variants.now) → IsAlwaysTooLarge (Cx.target self.now.cx) repr.now (D.post discr_range_of_repr) (counting_of VariantIdx.number repr.now (map (map F.layout_of) variants.now) discriminants.now) (map (map F.layout_of) variants.now) → IsAnswer (Err LayoutCalculatorError.SizeOverflow) result }
-        ensures no_other { All AreSized (map (map F.layout_of) variants.now) → IfErr result (λ e. (e ≡ LayoutCalculatorError.SizeOverflow) ⊎ (e ≡ LayoutCalculatorError.OutOfMemory)) }
+        ensures told { IfOk result (IsToldByTag (Cx.target self.now.cx) VariantIdx.number
+            (map (map F.layout_of) variants.now) discriminants.now) }
+        ensures size { IfOk result (λ l. HasTaggedSize F.layout_of FieldIdx.at (VariantIdx.at 0)
+            (Cx.target self.now.cx) repr.now (D.post discr_range_of_repr)
+            (counting_of VariantIdx.number repr.now (map (map F.layout_of) variants.now) discriminants.now)
+            variants.now l.size) }
+        ensures too_large { result ≡ Err LayoutCalculatorError.SizeOverflow →
+            IsAskedTooLarge (Cx.target self.now.cx) repr.now (D.post discr_range_of_repr)
+            (counting_of VariantIdx.number repr.now (map (map F.layout_of) variants.now) discriminants.now)
+            (map (map F.layout_of) variants.now) }
+        ensures refused { All AreSized (map (map F.layout_of) variants.now) →
+            IsAlwaysTooLarge (Cx.target self.now.cx) repr.now (D.post discr_range_of_repr)
+            (counting_of VariantIdx.number repr.now (map (map F.layout_of) variants.now) discriminants.now)
+            (map (map F.layout_of) variants.now) → IsAnswer (Err LayoutCalculatorError.SizeOverflow) result }
+        ensures no_other { All AreSized (map (map F.layout_of) variants.now) →
+            IfErr result (λ e. (e ≡ LayoutCalculatorError.SizeOverflow) ⊎ (e ≡ LayoutCalculatorError.OutOfMemory)) }
     {
         let values = counting_of(alloc, repr, variants, discriminants)?;
         let asked = asked_with(self.cx.data_layout(), repr, &values);
@@ -95,15 +110,28 @@ impl<Cx: HasDataLayout> LayoutCalculator<Cx> {
         requires some { 0 < length variants.now }
         requires named { All (λ item. VariantIdx.number item.0 < length variants.now) discriminants.now }
         requires callable { D.IsAlwaysCallable discr_range_of_repr }
-        requires tags { AreLawfulTags VariantIdx.number (Cx.target self.now.cx) repr.now (D.post discr_range_of_repr) (map (map F.layout_of) variants.now) discriminants.now }
-        ensures exact { IsEnumAnswer F.layout_of FieldIdx.at FieldIdx.number VariantIdx.at VariantIdx.number (Cx.target self.now.cx) repr.now (D.post discr_range_of_repr) variants.now discriminants.now result }
+        requires tags { AreLawfulTags VariantIdx.number (Cx.target self.now.cx) repr.now (D.post discr_range_of_repr)
+            (map (map F.layout_of) variants.now) discriminants.now }
+        ensures exact { IsEnumAnswer F.layout_of FieldIdx.at FieldIdx.number VariantIdx.at VariantIdx.number
+            (Cx.target self.now.cx) repr.now (D.post discr_range_of_repr) variants.now discriminants.now result }
         ensures lawful { IfOk result (IsLawfulLayout (Cx.target self.now.cx)) }
         ensures within { IfOk result (λ l. All (λ fields. length fields ≤ FieldIdx.MAX_INDEX + 1) variants.now) }
-        ensures told { IfOk result (AreToldApart (Cx.target self.now.cx) VariantIdx.number (map (map F.layout_of) variants.now) discriminants.now) }
-        ensures size { IfOk result (λ l. HasEnumSize F.layout_of FieldIdx.at (VariantIdx.at 0) (Cx.target self.now.cx) repr.now (D.post discr_range_of_repr) (counting_of VariantIdx.number repr.now (map (map F.layout_of) variants.now) discriminants.now) variants.now l.size) }
-        ensures too_large { result ≡ Err LayoutCalculatorError.SizeOverflow → IsAskedTooLarge (Cx.target self.now.cx) repr.now (D.post discr_range_of_repr) (counting_of VariantIdx.number repr.now (map (map F.layout_of) variants.now) discriminants.now) (map (map F.layout_of) variants.now) }
-        ensures refused { All AreSized (map (map F.layout_of) variants.now) → IsAlwaysTooLarge (Cx.target self.now.cx) repr.now (D.post discr_range_of_repr) (counting_of VariantIdx.number repr.now (map (map F.layout_of) variants.now) discriminants.now) (map (map F.layout_of) variants.now) → IsAnswer (Err LayoutCalculatorError.SizeOverflow) result }
-        ensures no_other { All AreSized (map (map F.layout_of) variants.now) → IfErr result (λ e. (e ≡ LayoutCalculatorError.SizeOverflow) ⊎ (e ≡ LayoutCalculatorError.OutOfMemory)) }
+        ensures told { IfOk result (AreToldApart (Cx.target self.now.cx) VariantIdx.number
+            (map (map F.layout_of) variants.now) discriminants.now) }
+        ensures size { IfOk result (λ l. HasEnumSize F.layout_of FieldIdx.at (VariantIdx.at 0)
+            (Cx.target self.now.cx) repr.now (D.post discr_range_of_repr)
+            (counting_of VariantIdx.number repr.now (map (map F.layout_of) variants.now) discriminants.now)
+            variants.now l.size) }
+        ensures too_large { result ≡ Err LayoutCalculatorError.SizeOverflow →
+            IsAskedTooLarge (Cx.target self.now.cx) repr.now (D.post discr_range_of_repr)
+            (counting_of VariantIdx.number repr.now (map (map F.layout_of) variants.now) discriminants.now)
+            (map (map F.layout_of) variants.now) }
+        ensures refused { All AreSized (map (map F.layout_of) variants.now) →
+            IsAlwaysTooLarge (Cx.target self.now.cx) repr.now (D.post discr_range_of_repr)
+            (counting_of VariantIdx.number repr.now (map (map F.layout_of) variants.now) discriminants.now)
+            (map (map F.layout_of) variants.now) → IsAnswer (Err LayoutCalculatorError.SizeOverflow) result }
+        ensures no_other { All AreSized (map (map F.layout_of) variants.now) →
+            IfErr result (λ e. (e ≡ LayoutCalculatorError.SizeOverflow) ⊎ (e ≡ LayoutCalculatorError.OutOfMemory)) }
     {
         let niche = match self.layout_of_niche(alloc, variants, repr) {
             Ok(found) => found,
@@ -142,19 +170,35 @@ impl<Cx: HasDataLayout> LayoutCalculator<Cx> {
         requires callable { D.IsAlwaysCallable discr_range_of_repr }
         requires can { I.can_next discriminants }
         requires ends { IsFinite (I.remaining discriminants) }
-        requires each { EachRunFrom I.next_gives discriminants (λ run. IsTrue run.whole → HasOneEach VariantIdx.number (length variants.now) run.items
-            × AreLawfulTags VariantIdx.number (Cx.target self.now.cx) repr.now (D.post discr_range_of_repr) (map (map F.layout_of) variants.now) run.items) }
-        ensures exact { IsSeveralAnswer F.layout_of FieldIdx.at FieldIdx.number VariantIdx.at VariantIdx.number (Cx.target self.now.cx) repr.now (D.post discr_range_of_repr) variants.now (λ items. WholeRun I.next_gives discriminants (λ run. items ≡ run.items)) result }
+        requires each { EachRunFrom I.next_gives discriminants (λ run. IsTrue run.whole →
+            HasOneEach VariantIdx.number (length variants.now) run.items
+            × AreLawfulTags VariantIdx.number (Cx.target self.now.cx) repr.now (D.post discr_range_of_repr)
+            (map (map F.layout_of) variants.now) run.items) }
+        ensures exact { IsSeveralAnswer F.layout_of FieldIdx.at FieldIdx.number VariantIdx.at VariantIdx.number
+            (Cx.target self.now.cx) repr.now (D.post discr_range_of_repr) variants.now (λ items.
+            WholeRun I.next_gives discriminants (λ run. items ≡ run.items)) result }
         ensures lawful { IfOk result (IsLawfulLayout (Cx.target self.now.cx)) }
         ensures within { IfOk result (λ l. All (λ fields. length fields ≤ FieldIdx.MAX_INDEX + 1) variants.now) }
-        ensures told { IfOk result (λ l. WholeRun I.next_gives discriminants (λ run. AreToldApart (Cx.target self.now.cx) VariantIdx.number (map (map F.layout_of) variants.now) run.items l)) }
-        ensures size { IfOk result (λ l. WholeRun I.next_gives discriminants (λ run. HasEnumSize F.layout_of FieldIdx.at (VariantIdx.at 0) (Cx.target self.now.cx) repr.now (D.post discr_range_of_repr) (counting_of VariantIdx.number repr.now (map (map F.layout_of) variants.now) run.items) variants.now l.size)) }
+        ensures told { IfOk result (λ l. WholeRun I.next_gives discriminants (λ run.
+            AreToldApart (Cx.target self.now.cx) VariantIdx.number (map (map F.layout_of) variants.now) run.items l)) }
+        ensures size { IfOk result (λ l. WholeRun I.next_gives discriminants (λ run.
+            HasEnumSize F.layout_of FieldIdx.at (VariantIdx.at 0) (Cx.target self.now.cx) repr.now
+            (D.post discr_range_of_repr) (counting_of VariantIdx.number repr.now
+            (map (map F.layout_of) variants.now) run.items) variants.now l.size)) }
         ensures packed { IsSome repr.now.pack → result ≡ Err LayoutCalculatorError.ReprConflict }
-        ensures too_large { result ≡ Err LayoutCalculatorError.SizeOverflow → WholeRun I.next_gives discriminants (λ run. IsAskedTooLarge (Cx.target self.now.cx) repr.now (D.post discr_range_of_repr) (counting_of VariantIdx.number repr.now (map (map F.layout_of) variants.now) run.items) (map (map F.layout_of) variants.now)) }
+        ensures too_large { result ≡ Err LayoutCalculatorError.SizeOverflow →
+            WholeRun I.next_gives discriminants (λ run.
+            IsAskedTooLarge (Cx.target self.now.cx) repr.now (D.post discr_range_of_repr)
+            (counting_of VariantIdx.number repr.now (map (map F.layout_of) variants.now) run.items)
+            (map (map F.layout_of) variants.now)) }
         ensures refused { (repr.now.pack ≡ None) → All AreSized (map (map F.layout_of) variants.now)
-            → EachRunFrom I.next_gives discriminants (λ run. IsTrue run.whole → IsAlwaysTooLarge (Cx.target self.now.cx) repr.now (D.post discr_range_of_repr) (counting_of VariantIdx.number repr.now (map (map F.layout_of) variants.now) run.items) (map (map F.layout_of) variants.now))
+            → EachRunFrom I.next_gives discriminants (λ run. IsTrue run.whole →
+            IsAlwaysTooLarge (Cx.target self.now.cx) repr.now (D.post discr_range_of_repr)
+            (counting_of VariantIdx.number repr.now (map (map F.layout_of) variants.now) run.items)
+            (map (map F.layout_of) variants.now))
             → IsAnswer (Err LayoutCalculatorError.SizeOverflow) result }
-        ensures no_other { (repr.now.pack ≡ None) → All AreSized (map (map F.layout_of) variants.now) → IfErr result (λ e. (e ≡ LayoutCalculatorError.SizeOverflow) ⊎ (e ≡ LayoutCalculatorError.OutOfMemory)) }
+        ensures no_other { (repr.now.pack ≡ None) → All AreSized (map (map F.layout_of) variants.now) →
+            IfErr result (λ e. (e ≡ LayoutCalculatorError.SizeOverflow) ⊎ (e ≡ LayoutCalculatorError.OutOfMemory)) }
     {
         if repr.packed() {
             return Err(LayoutCalculatorError::ReprConflict);

@@ -73,7 +73,8 @@ fn variants_of<FieldIdx: Idx, VariantIdx: Idx>(
 ) -> Result<IndexVec<VariantIdx, VariantLayout<FieldIdx>>, AllocError>
     requires count { length lists.items ≤ VariantIdx.MAX_INDEX + 1 }
     requires listed { All (λ l. IsListed l.fields) lists.items }
-    ensures { IfOk result (λ variants. variants ≡ map (λ l. seen_as view.now size (grown_variant old new (variant_of l))) lists.items) }
+    ensures { IfOk result (λ variants.
+        variants ≡ map (λ l. seen_as view.now size (grown_variant old new (variant_of l))) lists.items) }
 {
     let mut variants = IndexVec::with_capacity(alloc, lists.len())?;
     for list in lists {
@@ -102,7 +103,8 @@ fn layout_seen_as<FieldIdx: Idx, VariantIdx: Idx>(
     requires size { size ≡ lists_size dl.now lists.items }
     requires count { length lists.items ≤ VariantIdx.MAX_INDEX + 1 }
     requires listed { All (λ l. IsListed l.fields) lists.items }
-    ensures { IfOk result (λ l. l ≡ layout_seen_as (FieldIdx.at 0) dl.now repr.now old tag (scalar_size dl.now tag) lists.items view) }
+    ensures { IfOk result (λ l. l ≡ layout_seen_as (FieldIdx.at 0) dl.now repr.now old tag
+        (scalar_size dl.now tag) lists.items view) }
 {
     let uninhabited = all_uninhabited(&lists);
     let max_repr_align = greatest_repr_align(repr.align, lists.as_slice());
@@ -150,8 +152,11 @@ fn layout_of_lists<FieldIdx: Idx, VariantIdx: Idx, F: LayoutHandle<FieldIdx, Var
     requires lists { AreListsOf variants.now lists.items }
     requires lawful { All (IsLawfulLayout dl.now) lists.items }
     requires count { length variants.now ≤ VariantIdx.MAX_INDEX + 1 }
-    ensures exact { IfOk result (IsTaggedBy FieldIdx.number (FieldIdx.at 0) dl.now repr.now asked signed values.now (map (map F.layout_of) variants.now) lists.items) }
-    ensures fault { IfErr result (λ e. ((size_bound dl.now ≤ lists_size dl.now lists.items) × (e ≡ LayoutCalculatorError.SizeOverflow)) ⊎ (e ≡ LayoutCalculatorError.OutOfMemory)) }
+    ensures exact { IfOk result (IsTaggedBy FieldIdx.number (FieldIdx.at 0) dl.now repr.now asked signed values.now
+        (map (map F.layout_of) variants.now) lists.items) }
+    ensures fault { IfErr result (λ e.
+        ((size_bound dl.now ≤ lists_size dl.now lists.items) × (e ≡ LayoutCalculatorError.SizeOverflow)) ⊎
+        (e ≡ LayoutCalculatorError.OutOfMemory)) }
 {
     let align = greatest_align(dl.aggregate_align, lists.as_slice());
     let size = lists_size(dl, &lists, align);
@@ -197,11 +202,16 @@ impl<Cx: HasDataLayout> LayoutCalculator<Cx> {
         requires repr { HasLawfulAligns repr.now }
         requires unpacked { repr.now.pack ≡ None }
         requires some { 0 < length variants.now }
-        ensures exact { IsTaggedAnswer F.layout_of FieldIdx.at FieldIdx.number (VariantIdx.at 0) (Cx.target self.now.cx) repr.now asked signed values.now variants.now result }
-        ensures good { IfOk result (λ l. HaveGoodLists F.layout_of FieldIdx.at (VariantIdx.at 0) (Cx.target self.now.cx) repr.now (behind_tag (Cx.target self.now.cx) repr.now asked (map (map F.layout_of) variants.now)) variants.now) }
+        ensures exact { IsTaggedAnswer F.layout_of FieldIdx.at FieldIdx.number (VariantIdx.at 0)
+            (Cx.target self.now.cx) repr.now asked signed values.now variants.now result }
+        ensures good { IfOk result (λ l. HaveGoodLists F.layout_of FieldIdx.at (VariantIdx.at 0)
+            (Cx.target self.now.cx) repr.now
+            (behind_tag (Cx.target self.now.cx) repr.now asked (map (map F.layout_of) variants.now)) variants.now) }
 
         // The size is the greatest least size of the variants' lists, rounded up to the greatest of their alignments.
-        ensures size { IfOk result (λ l. IsTaggedSize (Cx.target self.now.cx) repr.now (behind_tag (Cx.target self.now.cx) repr.now asked (map (map F.layout_of) variants.now)) (map (map F.layout_of) variants.now) l.size) }
+        ensures size { IfOk result (λ l. IsTaggedSize (Cx.target self.now.cx) repr.now
+            (behind_tag (Cx.target self.now.cx) repr.now asked (map (map F.layout_of) variants.now))
+            (map (map F.layout_of) variants.now) l.size) }
 
         ensures lawful { IfOk result (IsLawfulLayout (Cx.target self.now.cx)) }
 
@@ -212,18 +222,27 @@ impl<Cx: HasDataLayout> LayoutCalculator<Cx> {
         ensures view { IfOk result (λ l. HasViewOfTag (Cx.target self.now.cx) l) }
 
         // The tag and the fields of each variant share no byte, and end inside.
-        ensures apart { IfOk result (λ l. AreApartAmong (Cx.target self.now.cx) l.size (map (map F.layout_of) variants.now) l.variants) }
+        ensures apart { IfOk result (λ l.
+            AreApartAmong (Cx.target self.now.cx) l.size (map (map F.layout_of) variants.now) l.variants) }
 
         // Each discriminant that counts is a number of the tag, cut to its width, and those that differ by the integer that was
         // asked for differ there too.
         ensures numbers { IfOk result (λ l. AreNumbersAmong (Cx.target self.now.cx) values.now l.variants) }
-        ensures differ { IfOk result (λ l. DifferAmong (Cx.target self.now.cx) (integer_size asked) values.now l.variants) }
+        ensures differ { IfOk result (λ l.
+            DifferAmong (Cx.target self.now.cx) (integer_size asked) values.now l.variants) }
 
         // It is refused for its size only where every allowed order of some list is too large, or that size is, and sized fields
         // always then; sized fields are refused by no other name.
-        ensures too_large { result ≡ Err LayoutCalculatorError.SizeOverflow → IsTaggedTooLarge (Cx.target self.now.cx) repr.now (behind_tag (Cx.target self.now.cx) repr.now asked (map (map F.layout_of) variants.now)) (map (map F.layout_of) variants.now) }
-        ensures refused { All AreSized (map (map F.layout_of) variants.now) → IsTaggedTooLarge (Cx.target self.now.cx) repr.now (behind_tag (Cx.target self.now.cx) repr.now asked (map (map F.layout_of) variants.now)) (map (map F.layout_of) variants.now) → IsAnswer (Err LayoutCalculatorError.SizeOverflow) result }
-        ensures no_other { All AreSized (map (map F.layout_of) variants.now) → IfErr result (λ e. (e ≡ LayoutCalculatorError.SizeOverflow) ⊎ (e ≡ LayoutCalculatorError.OutOfMemory)) }
+        ensures too_large { result ≡ Err LayoutCalculatorError.SizeOverflow →
+            IsTaggedTooLarge (Cx.target self.now.cx) repr.now
+            (behind_tag (Cx.target self.now.cx) repr.now asked (map (map F.layout_of) variants.now))
+            (map (map F.layout_of) variants.now) }
+        ensures refused { All AreSized (map (map F.layout_of) variants.now) →
+            IsTaggedTooLarge (Cx.target self.now.cx) repr.now
+            (behind_tag (Cx.target self.now.cx) repr.now asked (map (map F.layout_of) variants.now))
+            (map (map F.layout_of) variants.now) → IsAnswer (Err LayoutCalculatorError.SizeOverflow) result }
+        ensures no_other { All AreSized (map (map F.layout_of) variants.now) →
+            IfErr result (λ e. (e ≡ LayoutCalculatorError.SizeOverflow) ⊎ (e ≡ LayoutCalculatorError.OutOfMemory)) }
     {
         let dl = self.cx.data_layout();
         let kind = behind_tag(dl, repr, asked, variants);

@@ -61,7 +61,8 @@ fn scalar_number(scalar: &Scalar, order: Endian, bytes: &[u8]) -> Option<u128>
 /// The number that these bytes hold as those of a node, where it is a scalar.
 fn read_number(walk: Walk<'_>, node: usize, bytes: &[u8]) -> Option<u128>
     requires there { node < length walk.nodes.now }
-    ensures { FindsNumber (λ n. Holds walk.entry.order (placed_at walk.entry.nodes.now node) bytes.now (number n)) result }
+    ensures { FindsNumber (λ n. Holds walk.entry.order (placed_at walk.entry.nodes.now node) bytes.now
+        (number n)) result }
 {
     let nodes = walk.nodes;
     let here = read_one(nodes, node);
@@ -94,7 +95,8 @@ fn read_pair(
 ) -> Option<Value>
     requires first { first < length walk.nodes.now }
     requires second { second < length walk.nodes.now }
-    ensures { Finds (HoldsTwo walk.entry.order (parts_at offsets.now (all_at walk.entry.nodes.now (first ∷ second ∷ []))) bytes.now) result }
+    ensures { Finds (HoldsTwo walk.entry.order
+        (parts_at offsets.now (all_at walk.entry.nodes.now (first ∷ second ∷ []))) bytes.now) result }
 {
     match offsets {
         [a, b, ..] => {
@@ -127,7 +129,8 @@ fn read_union(walk: Walk<'_>, node: usize, bytes: &[u8]) -> Result<Vec<u8>, Allo
     requires there { node < length walk.nodes.now }
     requires room { has_room (placed_at walk.nodes.now node) ≡ true }
     requires size { length bytes.now ≡ size_of (placed_at walk.nodes.now node) }
-    ensures { IfOk result (λ content. content.items ≡ picked (is_data_place (placed_at walk.entry.nodes.now node)) 0 bytes.now) }
+    ensures { IfOk result (λ content.
+        content.items ≡ picked (is_data_place (placed_at walk.entry.nodes.now node)) 0 bytes.now) }
 {
     let places = data_places(walk.alloc, walk.nodes, node)?;
     read_places(walk.alloc, places.as_slice(), bytes)
@@ -275,7 +278,8 @@ fn read_elements(
     requires room { has_room (placed_at walk.nodes.now element) ≡ true }
     requires size { length bytes.now ≡ size_of (placed_at walk.nodes.now element) * count }
     ensures { IfOk result (FindsEach (λ vs. (value_count vs ≡ count) ×
-        HoldEach (Holds walk.entry.order (placed_at walk.entry.nodes.now element)) (size_of (placed_at walk.entry.nodes.now element)) 0 bytes.now vs)) }
+        HoldEach (Holds walk.entry.order (placed_at walk.entry.nodes.now element))
+        (size_of (placed_at walk.entry.nodes.now element)) 0 bytes.now vs)) }
 {
     let size = read_layout(walk.nodes, element).size.bytes();
     let mut values = Vec::with_capacity(walk.alloc, count as usize)?;
@@ -300,7 +304,8 @@ fn read_parts(
     requires there { node < length walk.nodes.now }
     requires before { All (λ child. child < node) children.now }
     requires room { have_room (length bytes.now) (parts_at offsets.now (all_at walk.nodes.now children.now)) ≡ true }
-    ensures { IfOk result (FindsEach (HoldParts walk.entry.order (parts_at offsets.now (all_at walk.entry.nodes.now children.now)) bytes.now)) }
+    ensures { IfOk result (FindsEach (HoldParts walk.entry.order
+        (parts_at offsets.now (all_at walk.entry.nodes.now children.now)) bytes.now)) }
 {
     let count = offsets.len().min(children.len());
     let mut values = Vec::with_capacity(walk.alloc, count)?;
@@ -330,7 +335,8 @@ fn read_named(
     requires width { size_of (placed_at walk.nodes.now tag) ≤ 16 }
     requires room { arms_have_room (length bytes.now) (arms_in (types_in walk.nodes.now) variants.now) ≡ true }
     ensures { IfOk result (FindsNamed
-        (IsNamedIn walk.entry.order bytes.now encoding.now offset (placed_at walk.entry.nodes.now tag) (arms_in (types_in walk.entry.nodes.now) variants.now))) }
+        (IsNamedIn walk.entry.order bytes.now encoding.now offset (placed_at walk.entry.nodes.now tag)
+        (arms_in (types_in walk.entry.nodes.now) variants.now))) }
 {
     let width = read_layout(walk.nodes, tag).size;
     match part_of(bytes, offset, width.bytes()) {
@@ -357,7 +363,8 @@ fn read_arm(
     requires before { All (λ v. v.1 < node) variants.now }
     requires width { width ≤ 16 }
     requires room { arms_have_room (length bytes.now) (arms_in (types_in walk.nodes.now) variants.now) ≡ true }
-    ensures { IfOk result (FindsNamed (λ i vs. Names encoding.now width (arms_in (types_in walk.entry.nodes.now) variants.now) tag i
+    ensures { IfOk result (FindsNamed (λ i vs.
+        Names encoding.now width (arms_in (types_in walk.entry.nodes.now) variants.now) tag i
         × HoldArm walk.entry.order (arms_in (types_in walk.entry.nodes.now) variants.now) i bytes.now vs)) }
 {
     for i in 0..variants.len() {
@@ -375,7 +382,8 @@ fn read_arm(
 fn read_own(walk: Walk<'_>, variant: usize, bytes: &[u8]) -> Result<Option<Vec<Value>>, AllocError>
     requires there { variant < length walk.nodes.now }
     requires room { have_room (length bytes.now) (own_fields (placed_at walk.nodes.now variant)) ≡ true }
-    ensures { IfOk result (FindsEach (HoldParts walk.entry.order (own_fields (placed_at walk.entry.nodes.now variant)) bytes.now)) }
+    ensures { IfOk result (FindsEach (HoldParts walk.entry.order
+        (own_fields (placed_at walk.entry.nodes.now variant)) bytes.now)) }
 {
     let (offsets, children) = own_parts(walk.nodes, variant);
     read_parts(walk, variant, offsets, children, bytes)
@@ -397,8 +405,10 @@ fn read_variant(
     requires width { size_of (placed_at walk.nodes.now tag) ≤ 16 }
     requires size { length bytes.now ≡ layout.now.size }
     requires room { arms_have_room layout.now.size (arms_in (types_in walk.nodes.now) variants.now) ≡ true }
-    ensures { IfOk result (λ found. (mark : Mark) → Finds (Holds walk.entry.order (tagged layout.now mark (tag_offset layout.now)
-        (placed_at walk.entry.nodes.now tag) (encoding_of layout.now.variants) (arms_in (types_in walk.entry.nodes.now) variants.now)) bytes.now) found) }
+    ensures { IfOk result (λ found. (mark : Mark) →
+        Finds (Holds walk.entry.order (tagged layout.now mark (tag_offset layout.now)
+        (placed_at walk.entry.nodes.now tag) (encoding_of layout.now.variants)
+        (arms_in (types_in walk.entry.nodes.now) variants.now)) bytes.now) found) }
 {
     let encoding = encoding_of(layout);
     let offset = tag_offset(layout);
@@ -424,7 +434,8 @@ fn read_state(
     requires width { size_of (placed_at walk.nodes.now tag) ≤ 16 }
     requires size { length bytes.now ≡ layout.now.size }
     requires room { has_room (states_in (types_in walk.nodes.now) layout.now prefix.now tag states.now) ≡ true }
-    ensures { IfOk result (Finds (Holds walk.entry.order (states_in (types_in walk.entry.nodes.now) layout.now prefix.now tag states.now) bytes.now)) }
+    ensures { IfOk result (Finds (Holds walk.entry.order
+        (states_in (types_in walk.entry.nodes.now) layout.now prefix.now tag states.now) bytes.now)) }
 {
     let offset = state_tag_offset(layout, prefix.len());
     let shared = match read_parts(walk, node, offsets(layout), prefix, bytes)? {
@@ -449,9 +460,11 @@ pub fn read_value(alloc: Global, laid: &Laid, bytes: &[u8]) -> Result<Option<Val
     ensures finds { IfOk result (Finds (Holds (endian_of laid.now) (placed_of laid.now) bytes.now)) }
 
     // For each tree whose values the layout keeps, it is one of them, and the only one that they hold.
-    ensures value { IfOk result (λ found. IfSome found (λ v. (dl : TargetDataLayout) (tree : Tree) → KeepsValues dl tree laid.now →
+    ensures value { IfOk result (λ found.
+        IfSome found (λ v. (dl : TargetDataLayout) (tree : Tree) → KeepsValues dl tree laid.now →
         IsValueOf dl tree (placed_of laid.now) (value_of v))) }
-    ensures one { IfOk result (λ found. IfSome found (λ v. (dl : TargetDataLayout) (tree : Tree) → KeepsValues dl tree laid.now →
+    ensures one { IfOk result (λ found.
+        IfSome found (λ v. (dl : TargetDataLayout) (tree : Tree) → KeepsValues dl tree laid.now →
         (other : Meant) → Holds (endian_of laid.now) (placed_of laid.now) bytes.now other → other ≡ value_of v)) }
 {
     let nodes = laid.nodes();

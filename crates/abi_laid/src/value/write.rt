@@ -92,7 +92,8 @@ fn tag_number(
 ) -> u128
     requires width { width ≤ 16 }
     requires index { i < length variants.now }
-    ensures { (done : List Placed) (tag : ℕ) → Names encoding.now width (arms_in done variants.now) tag i → is_told encoding.now i ≡ true → result ≡ tag }
+    ensures { (done : List Placed) (tag : ℕ) → Names encoding.now width (arms_in done variants.now) tag i →
+        is_told encoding.now i ≡ true → result ≡ tag }
 {
     match encoding {
         TagEncoding::Direct => width.truncate(variants[i].0),
@@ -190,7 +191,8 @@ pub(crate) fn write_node(
     requires room { has_room (placed_at walk.nodes.now node) ≡ true }
     requires fits { at + size_of (placed_at walk.nodes.now node) ≤ length bytes.old }
     ensures long { length bytes.new ≡ length bytes.old }
-    ensures put { OnOk result ((b : List ℕ) → AreBytes b → Holds walk.entry.order (placed_at walk.entry.nodes.now node) b (value_of value.now) →
+    ensures put { OnOk result ((b : List ℕ) → AreBytes b →
+        Holds walk.entry.order (placed_at walk.entry.nodes.now node) b (value_of value.now) →
         IsPutOver (is_covered (placed_at walk.entry.nodes.now node) (value_of value.now)) at b bytes.old bytes.new) }
 {
     let nodes = walk.nodes;
@@ -248,8 +250,10 @@ fn write_elements(
     requires fits { at + size_of (placed_at walk.nodes.now element) * count ≤ length bytes.old }
     ensures long { length bytes.new ≡ length bytes.old }
     ensures put { OnOk result ((b : List ℕ) → AreBytes b → value_count (values_of values.now) ≡ count →
-        HoldEach (Holds walk.entry.order (placed_at walk.entry.nodes.now element)) (size_of (placed_at walk.entry.nodes.now element)) 0 b (values_of values.now) →
-        IsPutOver (each_covered (is_covered (placed_at walk.entry.nodes.now element)) (size_of (placed_at walk.entry.nodes.now element)) 0 (values_of values.now)) at b
+        HoldEach (Holds walk.entry.order (placed_at walk.entry.nodes.now element))
+        (size_of (placed_at walk.entry.nodes.now element)) 0 b (values_of values.now) →
+        IsPutOver (each_covered (is_covered (placed_at walk.entry.nodes.now element))
+        (size_of (placed_at walk.entry.nodes.now element)) 0 (values_of values.now)) at b
         bytes.old bytes.new) }
 {
     let size = read_layout(walk.nodes, element).size.bytes() as usize;
@@ -276,8 +280,11 @@ fn write_parts(
     requires room { have_room size (parts_at offsets.now (all_at walk.nodes.now children.now)) ≡ true }
     requires fits { at + size ≤ length bytes.old }
     ensures long { length bytes.new ≡ length bytes.old }
-    ensures put { OnOk result ((b : List ℕ) → AreBytes b → HoldParts walk.entry.order (parts_at offsets.now (all_at walk.entry.nodes.now children.now)) b (values_of values.now) →
-        IsPutOver (are_covered (parts_at offsets.now (all_at walk.entry.nodes.now children.now)) (values_of values.now)) at b bytes.old bytes.new) }
+    ensures put { OnOk result ((b : List ℕ) → AreBytes b →
+        HoldParts walk.entry.order (parts_at offsets.now (all_at walk.entry.nodes.now children.now)) b
+        (values_of values.now) →
+        IsPutOver (are_covered (parts_at offsets.now (all_at walk.entry.nodes.now children.now))
+        (values_of values.now)) at b bytes.old bytes.new) }
 {
     for i in 0..offsets.len().min(children.len()).min(values.len()) {
         let place = at + offsets[i].bytes() as usize;
@@ -299,12 +306,14 @@ fn write_fields(
 ) -> Result<(), AllocError>
     requires there { node < length walk.nodes.now }
     requires before { All (λ child. child < node) children.now }
-    requires room { have_room layout.now.size (parts_at (listed_offsets layout.now.fields) (all_at walk.nodes.now children.now)) ≡ true }
+    requires room { have_room layout.now.size
+        (parts_at (listed_offsets layout.now.fields) (all_at walk.nodes.now children.now)) ≡ true }
     requires fits { at + layout.now.size ≤ length bytes.old }
     ensures long { length bytes.new ≡ length bytes.old }
     ensures put { OnOk result ((b : List ℕ) → AreBytes b →
         let parts = parts_at (listed_offsets layout.now.fields) (all_at walk.entry.nodes.now children.now) in
-        HoldParts walk.entry.order parts b (values_of values.now) → IsPutOver (are_covered parts (values_of values.now)) at b bytes.old bytes.new) }
+        HoldParts walk.entry.order parts b (values_of values.now) →
+        IsPutOver (are_covered parts (values_of values.now)) at b bytes.old bytes.new) }
 {
     let size = layout.size.bytes() as usize;
     let places = offsets(layout);
@@ -333,8 +342,10 @@ fn write_variant(
     ensures long { length bytes.new ≡ length bytes.old }
     ensures put { OnOk result ((b : List ℕ) → AreBytes b → (mark : Mark) →
         let arms = arms_in (types_in walk.entry.nodes.now) variants.now in
-        let p = tagged layout.now mark (tag_offset layout.now) (placed_at walk.entry.nodes.now tag) (encoding_of layout.now.variants) arms in
-        Holds walk.entry.order p b (value_of value.now) → IsPutOver (is_covered p (value_of value.now)) at b bytes.old bytes.new) }
+        let p = tagged layout.now mark (tag_offset layout.now) (placed_at walk.entry.nodes.now tag)
+        (encoding_of layout.now.variants) arms in
+        Holds walk.entry.order p b (value_of value.now) →
+        IsPutOver (is_covered p (value_of value.now)) at b bytes.old bytes.new) }
 {
     let size = layout.size.bytes() as usize;
     let encoding = encoding_of(layout);
@@ -368,7 +379,8 @@ fn write_state(
     ensures long { length bytes.new ≡ length bytes.old }
     ensures put { OnOk result ((b : List ℕ) → AreBytes b →
         let p = states_in (types_in walk.entry.nodes.now) layout.now prefix.now tag states.now in
-        Holds walk.entry.order p b (value_of value.now) → IsPutOver (is_covered p (value_of value.now)) at b bytes.old bytes.new) }
+        Holds walk.entry.order p b (value_of value.now) →
+        IsPutOver (is_covered p (value_of value.now)) at b bytes.old bytes.new) }
 {
     let size = layout.size.bytes() as usize;
     let direct = TagEncoding::Direct;
@@ -404,9 +416,12 @@ fn write_arm(
     requires fits { at + size ≤ length bytes.old }
     ensures long { length bytes.new ≡ length bytes.old }
     ensures put { OnOk result ((b : List ℕ) → AreBytes b →
-        IsNamedIn walk.entry.order b encoding.now offset (placed_at walk.entry.nodes.now tag) (arms_in (types_in walk.entry.nodes.now) variants.now) index (values_of values.now) →
-        IsPutOver (λ k. (is_told encoding.now index && is_byte_at offset (size_of (placed_at walk.entry.nodes.now tag)) k)
-        || is_arm_covered (arms_in (types_in walk.entry.nodes.now) variants.now) index (values_of values.now) k) at b bytes.old bytes.new) }
+        IsNamedIn walk.entry.order b encoding.now offset (placed_at walk.entry.nodes.now tag)
+        (arms_in (types_in walk.entry.nodes.now) variants.now) index (values_of values.now) →
+        IsPutOver (λ k. (is_told encoding.now index && is_byte_at offset
+        (size_of (placed_at walk.entry.nodes.now tag)) k)
+        || is_arm_covered (arms_in (types_in walk.entry.nodes.now) variants.now) index (values_of values.now) k) at b
+        bytes.old bytes.new) }
 {
     if index >= variants.len() {
         return Ok(());
@@ -431,8 +446,10 @@ fn write_own(
     requires room { have_room size (own_fields (placed_at walk.nodes.now variant)) ≡ true }
     requires fits { at + size ≤ length bytes.old }
     ensures long { length bytes.new ≡ length bytes.old }
-    ensures put { OnOk result ((b : List ℕ) → AreBytes b → HoldParts walk.entry.order (own_fields (placed_at walk.entry.nodes.now variant)) b (values_of values.now) →
-        IsPutOver (are_covered (own_fields (placed_at walk.entry.nodes.now variant)) (values_of values.now)) at b bytes.old bytes.new) }
+    ensures put { OnOk result ((b : List ℕ) → AreBytes b →
+        HoldParts walk.entry.order (own_fields (placed_at walk.entry.nodes.now variant)) b (values_of values.now) →
+        IsPutOver (are_covered (own_fields (placed_at walk.entry.nodes.now variant)) (values_of values.now)) at b
+        bytes.old bytes.new) }
 {
     let (offsets, children) = own_parts(walk.nodes, variant);
     write_parts(walk, variant, offsets, children, values, at, size, bytes)
@@ -445,7 +462,8 @@ fn holds(walk: Walk<'_>, node: usize, value: &Value, bytes: &[u8]) -> Result<boo
     ensures bytes { AreBytes bytes.now }
     ensures held { IfOk result (λ yes. MatchBool yes
         (Holds walk.entry.order (placed_at walk.entry.nodes.now node) bytes.now (value_of value.now))
-        (((u w : Meant) → Holds walk.entry.order (placed_at walk.entry.nodes.now node) bytes.now u → Holds walk.entry.order (placed_at walk.entry.nodes.now node) bytes.now w → u ≡ w) →
+        (((u w : Meant) → Holds walk.entry.order (placed_at walk.entry.nodes.now node) bytes.now u →
+        Holds walk.entry.order (placed_at walk.entry.nodes.now node) bytes.now w → u ≡ w) →
         Holds walk.entry.order (placed_at walk.entry.nodes.now node) bytes.now (value_of value.now) → ⊥)) }
 {
     match read_node(walk, node, bytes)? {
@@ -461,13 +479,16 @@ fn holds(walk: Walk<'_>, node: usize, value: &Value, bytes: &[u8]) -> Result<boo
 /// where a growth of memory was refused; as many bytes as the type is large are asked for before the value is looked at.
 pub fn write_value(alloc: Global, laid: &Laid, value: &Value) -> Result<Vec<u8>, ValueError>
     // What is answered.
-    ensures holds { IfOk result (λ bytes. Holds (endian_of laid.now) (placed_of laid.now) bytes.items (value_of value.now)) }
-    ensures zero { IfOk result (λ bytes. (k : ℕ) → is_covered (placed_of laid.now) (value_of value.now) k ≡ false → get_or bytes.items k 0 ≡ 0) }
+    ensures holds { IfOk result (λ bytes.
+        Holds (endian_of laid.now) (placed_of laid.now) bytes.items (value_of value.now)) }
+    ensures zero { IfOk result (λ bytes. (k : ℕ) → is_covered (placed_of laid.now) (value_of value.now) k ≡ false →
+        get_or bytes.items k 0 ≡ 0) }
 
     // When, for each tree whose values the layout keeps.
     ensures value { IfOk result (λ _. (dl : TargetDataLayout) (tree : Tree) → KeepsValues dl tree laid.now →
         IsValueOf dl tree (placed_of laid.now) (value_of value.now)) }
-    ensures not_a_value { IfErr result (λ e. e ≡ ValueError.NotAValue → (dl : TargetDataLayout) (tree : Tree) → KeepsValues dl tree laid.now →
+    ensures not_a_value { IfErr result (λ e. e ≡ ValueError.NotAValue → (dl : TargetDataLayout) (tree : Tree) →
+        KeepsValues dl tree laid.now →
         IsValueOf dl tree (placed_of laid.now) (value_of value.now) → ⊥) }
 {
     let nodes = laid.nodes();

@@ -160,7 +160,8 @@ pub(crate) fn waiting_for(
     parts: CoroutineParts,
     begun: Vec<Open>,
 ) -> Result<Reader, Fault>
-    ensures ok { IfOk result (λ reader. state_of reader ≡ waiting (Want.Coroutine part) (coroutine_with (parts_by parts) ∷ begun_in begun.items)) }
+    ensures ok { IfOk result (λ reader.
+        state_of reader ≡ waiting (Want.Coroutine part) (coroutine_with (parts_by parts) ∷ begun_in begun.items)) }
     ensures err { IfErr result (λ fault. fault ≡ Fault.OutOfMemory) }
 {
     waiting_in(Want::Coroutine(part), Open::Coroutine(parts), begun)
@@ -270,7 +271,8 @@ pub(crate) fn put_primitive(
     place: ScalarPlace,
     begun: Vec<Open>,
 ) -> Result<Reader, Fault>
-    ensures ok { IfOk result (λ reader. state_of reader ≡ put_primitive dl.now value form place (begun_in begun.items)) }
+    ensures ok { IfOk result (λ reader.
+        state_of reader ≡ put_primitive dl.now value form place (begun_in begun.items)) }
     ensures err { IfErr result (λ fault. fault ≡ Fault.OutOfMemory) }
 {
     match form {

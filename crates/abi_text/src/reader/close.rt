@@ -26,7 +26,8 @@ fn whole_coroutine(
     states: Vec<Vec<u64>>,
     conflicts: Vec<(u64, u64)>,
 ) -> TypeTree
-    ensures { tree_of result ≡ coroutine (trees (map tree_of prefix.items)) (trees (map tree_of locals.items)) (map indices_by states.items) conflicts.items }
+    ensures { tree_of result ≡ coroutine (trees (map tree_of prefix.items)) (trees (map tree_of locals.items))
+        (map indices_by states.items) conflicts.items }
 {
     TypeTree::Coroutine {
         prefix,

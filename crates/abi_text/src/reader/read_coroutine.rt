@@ -15,7 +15,9 @@ use std::alloc::Global;
 
 /// Waits for the prefix fields of a coroutine.
 pub(crate) fn open_coroutine(alloc: Global, begun: Vec<Open>) -> Result<Reader, Fault>
-    ensures ok { IfOk result (λ reader. state_of reader ≡ waiting (Want.Coroutine CoroutineWant.TypesOpening) (coroutine_with (in_prefix []) ∷ begun_in begun.items)) }
+    ensures ok { IfOk result (λ reader.
+        state_of reader ≡ waiting (Want.Coroutine CoroutineWant.TypesOpening)
+        (coroutine_with (in_prefix []) ∷ begun_in begun.items)) }
     ensures err { IfErr result (λ fault. fault ≡ Fault.OutOfMemory) }
 {
     let parts = CoroutineParts::Prefix(Vec::new(alloc));
@@ -29,7 +31,8 @@ fn read_part_opening(
     begun: Vec<Open>,
     word: &[u8],
 ) -> Result<Reader, Fault>
-    ensures { Agrees state_of (at_part_opening number want (begun_in begun.items) (bytes_eq word.now (codes "("))) result }
+    ensures { Agrees state_of (at_part_opening number want (begun_in begun.items)
+        (bytes_eq word.now (codes "("))) result }
 {
     if word == b"(".as_slice() {
         Ok(waiting(want, begun))
@@ -54,7 +57,8 @@ fn open_state(alloc: Global, number: u64, begun: Vec<Open>) -> Result<Reader, Fa
 
 /// Reads the parenthesis that opens a state, or the one that ends the states.
 fn read_state(alloc: Global, number: u64, begun: Vec<Open>, word: &[u8]) -> Result<Reader, Fault>
-    ensures { Agrees state_of (at_state number (bytes_eq word.now (codes ")")) (bytes_eq word.now (codes "(")) (begun_in begun.items)) result }
+    ensures { Agrees state_of (at_state number (bytes_eq word.now (codes ")"))
+        (bytes_eq word.now (codes "(")) (begun_in begun.items)) result }
 {
     if word == b")".as_slice() {
         return close(alloc, number, begun);
@@ -68,7 +72,8 @@ fn read_state(alloc: Global, number: u64, begun: Vec<Open>, word: &[u8]) -> Resu
 
 /// Reads the index of a state's next local, or the parenthesis that ends the state.
 fn read_local(alloc: Global, number: u64, begun: Vec<Open>, word: &[u8]) -> Result<Reader, Fault>
-    ensures { Agrees state_of (at_local number (bytes_eq word.now (codes ")")) (begun_in begun.items) (number_in 64 word.now)) result }
+    ensures { Agrees state_of (at_local number (bytes_eq word.now (codes ")")) (begun_in begun.items)
+        (number_in 64 word.now)) result }
 {
     if word == b")".as_slice() {
         return close(alloc, number, begun);
@@ -89,7 +94,8 @@ fn read_local(alloc: Global, number: u64, begun: Vec<Open>, word: &[u8]) -> Resu
 
 /// Reads the row of the next conflict, or the parenthesis that ends the coroutine.
 fn read_row(alloc: Global, number: u64, begun: Vec<Open>, word: &[u8]) -> Result<Reader, Fault>
-    ensures { Agrees state_of (at_row number (bytes_eq word.now (codes ")")) (begun_in begun.items) (number_in 64 word.now)) result }
+    ensures { Agrees state_of (at_row number (bytes_eq word.now (codes ")")) (begun_in begun.items)
+        (number_in 64 word.now)) result }
 {
     if word == b")".as_slice() {
         return close(alloc, number, begun);

@@ -96,7 +96,8 @@ pub(crate) fn read_primitive(
     begun: Vec<Open>,
     word: &[u8],
 ) -> Result<Reader, Fault>
-    ensures { Agrees state_of (at_primitive dl.now number form place (begun_in begun.items) (scalar_word word.now)) result }
+    ensures { Agrees state_of (at_primitive dl.now number form place (begun_in begun.items)
+        (scalar_word word.now)) result }
 {
     let Some(scalar) = scalar_word(word) else {
         return Err(Fault::Unreadable(number));
@@ -118,7 +119,8 @@ pub(crate) fn read_space(
     begun: Vec<Open>,
     word: &[u8],
 ) -> Result<Reader, Fault>
-    ensures { Agrees state_of (at_space dl.now number form place (begun_in begun.items) (number_in 32 word.now)) result }
+    ensures { Agrees state_of (at_space dl.now number form place (begun_in begun.items)
+        (number_in 32 word.now)) result }
 {
     match short(word) {
         Some(space) => {

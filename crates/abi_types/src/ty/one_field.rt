@@ -64,7 +64,8 @@ pub(crate) fn only_field<W: Walk>(this: W, kind: NoBytes) -> Option<usize>
 #[tactic(auto, using(crate::proofs::OneFieldLemmas::can_be_named))]
 fn only_field_of<W: Walk>(this: W, kind: NoBytes) -> Option<(FieldIdx, W)>
     requires { W.is_valid this }
-    ensures index { option_map (λ found. found.0) result ≡ only_field (has_no_bytes kind) (layout_in (W.typed_of this)) (field_in (W.typed_of this)) }
+    ensures index { option_map (λ found. found.0) result ≡ only_field (has_no_bytes kind) (layout_in (W.typed_of this))
+        (field_in (W.typed_of this)) }
     ensures field { IfSome result (λ found. W.typed_of found.1 ≡ field_in (W.typed_of this) found.0) }
     ensures valid { IfSome result (λ found. W.is_valid found.1) }
 {

@@ -29,7 +29,8 @@ fn padding<W: Walk>(alloc: Global, this: W) -> Result<RangeSet, AllocError>
 /// The bytes that some part covers, and no field that all variants have.
 fn beside_shared<W: Walk>(alloc: Global, this: W) -> Result<RangeSet, AllocError>
     requires { W.is_valid this }
-    ensures { IfOk result (λ set. (k : ℕ) → is_in_ranges set k ≡ (is_place (W.typed_of this) k && not (is_shared_place (W.typed_of this) k))) }
+    ensures { IfOk result (λ set. (k : ℕ) →
+        is_in_ranges set k ≡ (is_place (W.typed_of this) k && not (is_shared_place (W.typed_of this) k))) }
 {
     // It is a number of 64 bits, which the walks ask for.
     let _size = this.layout().size.bytes();
@@ -49,7 +50,8 @@ fn unused_of<W: Walk>(
 ) -> Result<RangeSet, AllocError>
     requires valid { W.is_valid this }
     requires variant { IsBeside (layout_in (W.typed_of this)).variants variant }
-    requires beside { (k : ℕ) → is_in_ranges beside.now k ≡ (is_place (W.typed_of this) k && not (is_shared_place (W.typed_of this) k)) }
+    requires beside { (k : ℕ) → is_in_ranges beside.now k ≡
+        (is_place (W.typed_of this) k && not (is_shared_place (W.typed_of this) k)) }
     ensures { IfOk result (λ set. (k : ℕ) → is_in_ranges set k ≡ is_unused (W.typed_of this) variant k) }
 {
     let _size = this.layout().size.bytes();

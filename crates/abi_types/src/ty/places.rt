@@ -112,7 +112,8 @@ fn put_elements<W: Walk>(
 fn element_places<W: Walk>(alloc: Global, element: W) -> Result<RangeSet, AllocError>
     requires valid { W.is_valid element }
     requires fits { (layout_in (W.typed_of element)).size < 2 ^ 64 }
-    ensures { IfOk result (λ set. (k : ℕ) → is_in_ranges set k ≡ covers_element (layout_in (W.typed_of element)) (is_place (W.typed_of element)) k) }
+    ensures { IfOk result (λ set. (k : ℕ) →
+        is_in_ranges set k ≡ covers_element (layout_in (W.typed_of element)) (is_place (W.typed_of element)) k) }
 {
     if element.layout().backend_repr.is_scalar() {
         let mut set = RangeSet::new(alloc);
@@ -146,7 +147,8 @@ fn put_variants<W: Walk>(
     requires valid { W.is_valid this }
     requires fits { offset + (layout_in (W.typed_of this)).size < 2 ^ 64 }
     ensures { OnOk result (Adds all.old all.new
-        (moved offset (variants_cover (layout_in (W.typed_of this)).variants (λ v. is_place (variant_in (W.typed_of this) v))))) }
+        (moved offset (variants_cover (layout_in (W.typed_of this)).variants (λ v.
+        is_place (variant_in (W.typed_of this) v))))) }
 {
     match &this.layout().variants {
         Variants::Multiple {
