@@ -1,4 +1,5 @@
 pub mod EnumLemmas
 pub mod CoroutineLemmas
 pub mod Seen
+pub mod Handed
 pub mod Made

@@ -38,12 +38,12 @@ use abi_scalar::{LayoutCalculatorError, LayoutData, LayoutHandle, Scalar};
 use std::alloc::Global;
 
 impl<Cx: HasDataLayout> LayoutCalculator<Cx> {
-    /// The layout of a coroutine of which these locals are promoted, and whose tag this field holds: the prefix fields, the
-    /// tag and the promoted locals are one list, and each state's other locals are a list behind it.
+    /// The layout of a coroutine of which these locals are promoted, and whose tag this field holds: the prefix fields,
+    /// the tag and the promoted locals are one list, and each state's other locals are a list behind it.
     ///
-    /// Refused as the first list is, then as the first state is whose list has no layout, and as `SizeOverflow` where the
-    /// greatest of the lists, rounded up to the greatest alignment, isn't below the data layout's bound. `OutOfMemory` may
-    /// come at any time.
+    /// Refused as the first list is, then as the first state is whose list has no layout, and as `SizeOverflow` where
+    /// the greatest of the lists, rounded up to the greatest alignment, isn't below the data layout's bound.
+    /// `OutOfMemory` may come at any time.
     fn layout_of_promoted<
         FieldIdx: Idx,
         VariantIdx: Idx,
@@ -75,12 +75,13 @@ impl<Cx: HasDataLayout> LayoutCalculator<Cx> {
             (map (map LocalIdx.number) states.now) promoted.now result }
         ensures lawful { IfOk result (IsLawfulLayout (Cx.target self.now.cx)) }
 
-        // The tag and the prefix fields, and the locals of each state, share no byte; the states' numbers are the tag's.
+        // The tag and the prefix fields, and the locals of each state, share no byte; the states' numbers are the
+        // tag's.
         ensures told { IfOk result (IsToldByState (Cx.target self.now.cx) FieldIdx.at (map F.layout_of prefix)
             (map F.layout_of locals.now) (map (map LocalIdx.number) states.now)) }
 
-        // Where the states and some conflicts tell which locals are promoted, those that clash share no byte, and each has one
-        // offset.
+        // Where the states and some conflicts tell which locals are promoted, those that clash share no byte, and each
+        // has one offset.
         ensures clash { (conflicts : Relation) →
             promoted.now ≡ promoted_of (map (map LocalIdx.number) states.now) conflicts →
             column_count conflicts ≡ row_count conflicts → row_count conflicts ≡ length locals.now
@@ -96,8 +97,8 @@ impl<Cx: HasDataLayout> LayoutCalculator<Cx> {
             (scalar_layout (VariantIdx.at 0) (Cx.target self.now.cx) tag) (map F.layout_of locals.now)
             (map (map LocalIdx.number) states.now) promoted.now l.size) }
 
-        // It is refused for its size only where a list is too large in each allowed order, or that size is, and sized fields
-        // always then; sized fields are refused by no other name.
+        // It is refused for its size only where a list is too large in each allowed order, or that size is, and sized
+        // fields always then; sized fields are refused by no other name.
         ensures too_large { result ≡ Err LayoutCalculatorError.SizeOverflow →
             IsTooLargeWith (Cx.target self.now.cx) (map F.layout_of prefix)
             (scalar_layout (VariantIdx.at 0) (Cx.target self.now.cx) tag) (map F.layout_of locals.now)
@@ -180,11 +181,13 @@ impl<Cx: HasDataLayout> LayoutCalculator<Cx> {
             (map (map LocalIdx.number) states.now) conflicts.now result }
         ensures lawful { IfOk result (IsLawfulLayout (Cx.target self.now.cx)) }
 
-        // The prefix fields, the tag and the locals of each state share no byte, and the tag may hold each state's index.
+        // The prefix fields, the tag and the locals of each state share no byte, and the tag may hold each state's
+        // index.
         ensures told { IfOk result (IsToldByState (Cx.target self.now.cx) FieldIdx.at (map F.layout_of prefix)
             (map F.layout_of locals.now) (map (map LocalIdx.number) states.now)) }
 
-        // Different locals that one state holds, or that conflict in either direction, share no byte, and a local has one offset.
+        // Different locals that one state holds, or that conflict in either direction, share no byte, and a local has
+        // one offset.
         ensures clash { IfOk result (λ l.
             AreClashingApart (map (map LocalIdx.number) states.now) conflicts.now (map F.layout_of locals.now)
             (variants_of l.variants)) }
@@ -198,16 +201,16 @@ impl<Cx: HasDataLayout> LayoutCalculator<Cx> {
             (map (map LocalIdx.number) states.now)
             (promoted_of (map (map LocalIdx.number) states.now) conflicts.now) l.size) }
 
-        // Where each local stands in one state, several states hold locals and no conflict joins two of them, the states share all
-        // their bytes: no local is promoted.
+        // Where each local stands in one state, several states hold locals and no conflict joins two of them, the
+        // states share all their bytes: no local is promoted.
         ensures overlap { MayOverlap (row_count conflicts.now) (map (map LocalIdx.number) states.now) conflicts.now →
             (tag : Scalar) → IsStateTag (length states.now) tag
             → IfOk result (λ l. IsOverlapSize (Cx.target self.now.cx) (map F.layout_of prefix)
             (scalar_layout (VariantIdx.at 0) (Cx.target self.now.cx) tag) (map F.layout_of locals.now)
             (map (map LocalIdx.number) states.now) l.size) }
 
-        // It is refused for its size only where a list is too large in each allowed order, or that size is, and sized fields
-        // always then; sized fields are refused by no other name.
+        // It is refused for its size only where a list is too large in each allowed order, or that size is, and sized
+        // fields always then; sized fields are refused by no other name.
         ensures too_large { (tag : Scalar) → IsStateTag (length states.now) tag →
             result ≡ Err LayoutCalculatorError.SizeOverflow
             → IsTooLargeWith (Cx.target self.now.cx) (map F.layout_of prefix)
@@ -228,26 +231,27 @@ impl<Cx: HasDataLayout> LayoutCalculator<Cx> {
         self.layout_of_promoted(alloc, locals, prefix, states, &promoted, tag, field)
     }
 
-    /// The layout of a coroutine, from those of its locals and of its prefix fields, and from the locals that live in each
-    /// state.
+    /// The layout of a coroutine, from those of its locals and of its prefix fields, and from the locals that live in
+    /// each state.
     ///
-    /// Some locals are promoted: they lie beside the prefix fields and the tag, where they share no byte with any other. A
-    /// local that several states hold is promoted. Then the conflicts are gone through, by rows and in them by columns, both
-    /// ascending: of two locals that conflict, neither of them promoted and not of one state, the row's is promoted where its
-    /// row has more conflicts than the column's, else the column's. All are promoted where fewer than two states hold
-    /// another local.
+    /// Some locals are promoted: they lie beside the prefix fields and the tag, where they share no byte with any
+    /// other. A local that several states hold is promoted. Then the conflicts are gone through, by rows and in them by
+    /// columns, both ascending: of two locals that conflict, neither of them promoted and not of one state, the row's
+    /// is promoted where its row has more conflicts than the column's, else the column's. All are promoted where fewer
+    /// than two states hold another local.
     ///
-    /// The tag is the least unsigned integer that has the number of each state, and `tag_to_layout` gives a handle of its
-    /// layout. Prefix fields, tag and promoted locals are one list, whose fields may be moved, and each state's other locals
-    /// are such a list behind it; the size in bytes is that of the greatest list, rounded up to the greatest alignment. The
-    /// layout's own fields are the prefix fields and the tag, and a state's are its locals. It has no niche.
+    /// The tag is the least unsigned integer that has the number of each state, and `tag_to_layout` gives a handle of
+    /// its layout. Prefix fields, tag and promoted locals are one list, whose fields may be moved, and each state's
+    /// other locals are such a list behind it; the size in bytes is that of the greatest list, rounded up to the
+    /// greatest alignment. The layout's own fields are the prefix fields and the tag, and a state's are its locals. It
+    /// has no niche.
     ///
     /// Refused as the first list is by `layout_of_univariant`, then as the first state is whose list is refused, and as
     /// `SizeOverflow` where the size isn't below the data layout's bound. `OutOfMemory` may come at any time.
     ///
     /// The data layout and the fields' layouts have to be lawful. There is a state, none lists a local twice, and the
-    /// conflicts are between the locals. The prefix fields, the tag and the locals together can be named by the index type of
-    /// fields.
+    /// conflicts are between the locals. The prefix fields, the tag and the locals together can be named by the index
+    /// type of fields.
     pub fn layout_of_coroutine<
         FieldIdx: Idx,
         VariantIdx: Idx,
@@ -306,12 +310,14 @@ impl<Cx: HasDataLayout> LayoutCalculator<Cx> {
             (Cx.target self.now.cx) (map F.layout_of prefix_layouts) (map F.layout_of (items_of local_layouts.entry))
             (map (map LocalIdx.number) (items_of variant_fields.entry)) storage_conflicts.now) }
 
-        // The prefix fields, the tag and the locals of each state share no byte, and the tag may hold each state's index.
+        // The prefix fields, the tag and the locals of each state share no byte, and the tag may hold each state's
+        // index.
         ensures told { IfOk result (IsToldByState (Cx.target self.now.cx) FieldIdx.at (map F.layout_of prefix_layouts)
             (map F.layout_of (items_of local_layouts.entry))
             (map (map LocalIdx.number) (items_of variant_fields.entry))) }
 
-        // Different locals that one state holds, or that conflict in either direction, share no byte, and a local has one offset.
+        // Different locals that one state holds, or that conflict in either direction, share no byte, and a local has
+        // one offset.
         ensures clash { IfOk result (λ l.
             AreClashingApart (map (map LocalIdx.number) (items_of variant_fields.entry)) storage_conflicts.now
             (map F.layout_of (items_of local_layouts.entry)) (variants_of l.variants)) }
@@ -326,8 +332,8 @@ impl<Cx: HasDataLayout> LayoutCalculator<Cx> {
             (map (map LocalIdx.number) (items_of variant_fields.entry))
             (promoted_of (map (map LocalIdx.number) (items_of variant_fields.entry)) storage_conflicts.now) l.size) }
 
-        // Where each local stands in one state, several states hold locals and no conflict joins two of them, the states share all
-        // their bytes: no local is promoted.
+        // Where each local stands in one state, several states hold locals and no conflict joins two of them, the
+        // states share all their bytes: no local is promoted.
         ensures overlap { MayOverlap (row_count storage_conflicts.now)
             (map (map LocalIdx.number) (items_of variant_fields.entry)) storage_conflicts.now → (tag : Scalar) →
             IsStateTag (length (items_of variant_fields.entry)) tag
@@ -336,8 +342,8 @@ impl<Cx: HasDataLayout> LayoutCalculator<Cx> {
             (map F.layout_of (items_of local_layouts.entry))
             (map (map LocalIdx.number) (items_of variant_fields.entry)) l.size) }
 
-        // It is refused for its size only where a list is too large in each allowed order, or that size is, and sized fields
-        // always then; sized fields are refused by no other name.
+        // It is refused for its size only where a list is too large in each allowed order, or that size is, and sized
+        // fields always then; sized fields are refused by no other name.
         ensures too_large { (tag : Scalar) → IsStateTag (length (items_of variant_fields.entry)) tag →
             result ≡ Err LayoutCalculatorError.SizeOverflow
             → IsTooLargeWith (Cx.target self.now.cx) (map F.layout_of prefix_layouts)

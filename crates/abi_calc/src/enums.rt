@@ -49,9 +49,10 @@ impl<Cx: HasDataLayout> LayoutCalculator<Cx> {
     /// The layout of a struct, from the fields of its one variant, or of an enum, from those of each.
     ///
     /// A variant is absent where some of its fields has no values and none takes room, unless C or an integer is asked
-    /// for. An enum without a present variant is `never_type`. A struct, and an enum with one present variant that asks for
-    /// neither C nor an integer, is the list of that variant's fields; a struct's is maybe unsized where it has fields and
-    /// `always_sized` is false. There alone `niche_optimizations` counts: where niches are disabled, the type has none.
+    /// for. An enum without a present variant is `never_type`. A struct, and an enum with one present variant that asks
+    /// for neither C nor an integer, is the list of that variant's fields; a struct's is maybe unsized where it has
+    /// fields and `always_sized` is false. There alone `niche_optimizations` counts: where niches are disabled, the
+    /// type has none.
     ///
     /// Every other enum has a tag before the fields of its variants, or one that lies in a niche of the variant that is
     /// greatest, the last of equals. The layout with a niche is taken where it is smaller, or as large with more free
@@ -61,12 +62,12 @@ impl<Cx: HasDataLayout> LayoutCalculator<Cx> {
     ///
     /// A list is refused as by `layout_of_univariant`. Another enum is refused as `ReprConflict` where it is packed,
     /// else as the first of its variants is, laid out behind the tag, and as `SizeOverflow` where the greatest of them,
-    /// rounded up to the greatest alignment, isn't below the data layout's bound, though there be a layout with a niche.
-    /// `OutOfMemory` may come at any time.
+    /// rounded up to the greatest alignment, isn't below the data layout's bound, though there be a layout with a
+    /// niche. `OutOfMemory` may come at any time.
     ///
-    /// The data layout, the fields' layouts and the alignments of `repr` have to be lawful, and a struct has one variant.
-    /// Each variant has one discriminant; the integer is no wider than the type that `repr` names for discriminants, and by
-    /// it those of the variants that may have values differ.
+    /// The data layout, the fields' layouts and the alignments of `repr` have to be lawful, and a struct has one
+    /// variant. Each variant has one discriminant; the integer is no wider than the type that `repr` names for
+    /// discriminants, and by it those of the variants that may have values differ.
     pub fn layout_of_struct_or_enum<
         FieldIdx: Idx,
         VariantIdx: Idx,
@@ -138,7 +139,8 @@ impl<Cx: HasDataLayout> LayoutCalculator<Cx> {
         ensures never { path_of is_enum repr.now (map (map F.layout_of) (items_of variants.entry)) ≡ HasNoValue
             → result ≡ Ok (never_layout (Cx.target self.now.cx)) }
 
-        // Several variants are told apart by a tag of its own, behind which their fields lie, or by a niche of the untagged one.
+        // Several variants are told apart by a tag of its own, behind which their fields lie, or by a niche of the
+        // untagged one.
         ensures told { path_of is_enum repr.now (map (map F.layout_of) (items_of variants.entry)) ≡ AreSeveral
             → IfOk result (λ l. WholeRun I.next_gives discriminants (λ run.
             AreToldApart (Cx.target self.now.cx) VariantIdx.number
@@ -171,7 +173,8 @@ impl<Cx: HasDataLayout> LayoutCalculator<Cx> {
         ensures ordered { path_of is_enum repr.now (map (map F.layout_of) (items_of variants.entry)) ≡ AreSeveral
             → IfOk result (IsOrderedWhole FieldIdx.number) }
 
-        // Their size is that of the variants' always sized lists where these leave room for a niche, else the tagged size.
+        // Their size is that of the variants' always sized lists where these leave room for a niche, else the tagged
+        // size.
         ensures size { path_of is_enum repr.now (map (map F.layout_of) (items_of variants.entry)) ≡ AreSeveral
             → IfOk result (λ l. WholeRun I.next_gives discriminants (λ run.
             HasEnumSize F.layout_of FieldIdx.at (VariantIdx.at 0) (Cx.target self.now.cx) repr.now
@@ -179,8 +182,8 @@ impl<Cx: HasDataLayout> LayoutCalculator<Cx> {
             (counting_of VariantIdx.number repr.now (map (map F.layout_of) (items_of variants.entry)) run.items)
             (items_of variants.entry) l.size)) }
 
-        // They are refused where they are packed, and for their size only where a list behind the tag, or the tagged size, is
-        // too large, and sized fields always then; sized fields are refused by no other name.
+        // They are refused where they are packed, and for their size only where a list behind the tag, or the tagged
+        // size, is too large, and sized fields always then; sized fields are refused by no other name.
         ensures packed { path_of is_enum repr.now (map (map F.layout_of) (items_of variants.entry)) ≡ AreSeveral →
             IsSome repr.now.pack → result ≡ Err LayoutCalculatorError.ReprConflict }
         ensures too_large { path_of is_enum repr.now (map (map F.layout_of) (items_of variants.entry)) ≡ AreSeveral →

@@ -5,6 +5,7 @@ mod array;
 mod calculator;
 mod coroutine;
 mod enums;
+mod in_order;
 mod list;
 mod simd;
 mod unions;

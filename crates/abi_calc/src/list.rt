@@ -69,8 +69,8 @@ impl<Cx: HasDataLayout> LayoutCalculator<Cx> {
         ensures largest { IfOk result (λ l.
             HasLargestNiche (Cx.target self.now.cx) l.largest_niche (map F.layout_of (items_of fields.entry))) }
 
-        // The fields lie one after another in an order that the repr and the kind allow, which is the memory order, and the
-        // alignment is the list's.
+        // The fields lie one after another in an order that the repr and the kind allow, which is the memory order, and
+        // the alignment is the list's.
         ensures placed { IfOk result (LiesInSomeOrder FieldIdx.at (Cx.target self.now.cx) repr.now kind
             (map F.layout_of (items_of fields.entry))) }
 
@@ -78,8 +78,8 @@ impl<Cx: HasDataLayout> LayoutCalculator<Cx> {
         ensures least { IfOk result (λ l.
             IsLeastSize (Cx.target self.now.cx) repr.now kind (map F.layout_of (items_of fields.entry)) l.size) }
 
-        // It is refused for its size only where every such order is too large, and a list of sized fields always then; sized
-        // fields are refused by no other name.
+        // It is refused for its size only where every such order is too large, and a list of sized fields always then;
+        // sized fields are refused by no other name.
         ensures too_large { result ≡ Err LayoutCalculatorError.SizeOverflow →
             IsEachOrderTooLarge (Cx.target self.now.cx) repr.now kind (map F.layout_of (items_of fields.entry)) }
         ensures refused { AreSized (map F.layout_of (items_of fields.entry)) →

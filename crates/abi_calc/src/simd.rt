@@ -17,8 +17,8 @@ use std::alloc::Global;
 
 impl<Cx: HasDataLayout> LayoutCalculator<Cx> {
     /// The layout of a vector of so many lanes: one field at offset 0, the array of its lanes, rounded up to the
-    /// alignment of vectors of that size. A packed vector whose lanes are no power of two has no padding: it is bytes in
-    /// memory, aligned to the greatest power of two in its size.
+    /// alignment of vectors of that size. A packed vector whose lanes are no power of two has no padding: it is bytes
+    /// in memory, aligned to the greatest power of two in its size.
     ///
     /// Refused as `OversizedSimdType` for more than 32768 lanes and as `ZeroLengthSimdType` for none, else as
     /// `NonPrimitiveSimdType` with an element that is no scalar, else as `SizeOverflow` where the size is not below the
@@ -44,7 +44,8 @@ impl<Cx: HasDataLayout> LayoutCalculator<Cx> {
             IfOk result (λ l. l.size ≡ (F.layout_of element).size * count) }
         ensures lawful { IfOk result (IsLawfulLayout (Cx.target self.now.cx)) }
 
-        // It is refused for its size exactly where so many of the elements make a vector and it is too large, memory aside.
+        // It is refused for its size exactly where so many of the elements make a vector and it is too large, memory
+        // aside.
         ensures too_large { result ≡ Err LayoutCalculatorError.SizeOverflow →
             IsVectorTooLarge (Cx.target self.now.cx) (F.layout_of element) count repr_packed }
         ensures refused { IsVectorTooLarge (Cx.target self.now.cx) (F.layout_of element) count repr_packed →

@@ -5,9 +5,9 @@ ghost use Rattle.abi_index.specs.RangeSet.{is_in_run, is_in_ranges, AreMaximalRu
 
 use std::alloc::{AllocError, Global};
 
-/// Adds the bytes from one on up to another, and without that one, to these runs, each its first byte and how many bytes it has. Where
-/// they begin no earlier than the last run, only that one changes or one more comes behind it; else the list is made anew. `AllocError`
-/// where memory is refused: then the runs are as they were.
+/// Adds the bytes from one on up to another, and without that one, to these runs, each its first byte and how many
+/// bytes it has. Where they begin no earlier than the last run, only that one changes or one more comes behind it; else
+/// the list is made anew. `AllocError` where memory is refused: then the runs are as they were.
 pub(crate) fn add_run(
     alloc: Global,
     runs: &mut Vec<(u64, u64)>,
@@ -35,8 +35,8 @@ pub(crate) fn add_run(
     }
 }
 
-/// Puts the run from a byte on up to another and without it behind these, of which none meets it. `AllocError` where memory is refused:
-/// then the runs are as they were.
+/// Puts the run from a byte on up to another and without it behind these, of which none meets it. `AllocError` where
+/// memory is refused: then the runs are as they were.
 fn push_run(runs: &mut Vec<(u64, u64)>, from: u64, to: u64) -> Result<(), AllocError>
     requires some { from < to }
     requires maximal { AreMaximalRuns 0 runs.old.items }
@@ -65,8 +65,8 @@ fn lengthen_last(runs: &mut Vec<(u64, u64)>, from: u64, to: u64)
     runs[last] = (first, size.max(to - first));
 }
 
-/// These runs and the one from a byte on up to another and without it, joined to those that it meets. `AllocError` where memory is
-/// refused.
+/// These runs and the one from a byte on up to another and without it, joined to those that it meets. `AllocError`
+/// where memory is refused.
 fn with_run(
     alloc: Global,
     runs: &[(u64, u64)],

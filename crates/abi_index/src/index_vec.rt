@@ -84,8 +84,8 @@ impl<I: Idx, T> IndexVec<I, T> {
         }
     }
 
-    /// An empty list with room for so many items, which are then put into it without a growth. `AllocError` where the room is
-    /// refused.
+    /// An empty list with room for so many items, which are then put into it without a growth. `AllocError` where the
+    /// room is refused.
     pub fn with_capacity(alloc: Global, capacity: usize) -> Result<Self, AllocError>
         ensures { IfOk result (λ list. list ≡ []) }
     {

@@ -74,8 +74,8 @@ impl RangeSet {
         }
     }
 
-    /// Puts in the `size` bytes from byte `offset` on. `AllocError` where memory is refused: then the set is as it was. Bytes that begin
-    /// no earlier than the last run are put in without going over the others.
+    /// Puts in the `size` bytes from byte `offset` on. `AllocError` where memory is refused: then the set is as it was.
+    /// Bytes that begin no earlier than the last run are put in without going over the others.
     pub fn add_range(&mut self, offset: u64, size: u64) -> Result<(), AllocError>
         requires { offset + size < 2 ^ 64 }
         ensures bytes { OnOk result ((k : ℕ) →
@@ -88,8 +88,8 @@ impl RangeSet {
         Ok(())
     }
 
-    /// The bytes of this set that aren't in the other, in no more steps than the two have runs together. `AllocError` where memory is
-    /// refused.
+    /// The bytes of this set that aren't in the other, in no more steps than the two have runs together. `AllocError`
+    /// where memory is refused.
     pub fn difference(&self, alloc: Global, other: &RangeSet) -> Result<RangeSet, AllocError>
         ensures bytes { IfOk result (λ set. (k : ℕ) →
             is_in_ranges set k ≡ (is_in_ranges self.now k && not (is_in_ranges other.now k))) }

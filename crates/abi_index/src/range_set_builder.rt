@@ -8,7 +8,8 @@ use crate::range_set::RangeSet;
 use std::alloc::{AllocError, Global};
 use std::marker::Model;
 
-/// Runs of bytes in the order in which they were put in, of which `build` makes a set. They may meet, and are sorted but once.
+/// Runs of bytes in the order in which they were put in, of which `build` makes a set. They may meet, and are sorted
+/// but once.
 #[derive(Drop)]
 pub struct RangeSetBuilder {
     runs: Vec<(u64, u64)>,
@@ -47,8 +48,8 @@ impl RangeSetBuilder {
         Ok(())
     }
 
-    /// Puts in the bytes of a set, each `offset` bytes further on. `AllocError` where memory is refused: then what was there before is
-    /// still there, in its order, and some of the set may be.
+    /// Puts in the bytes of a set, each `offset` bytes further on. `AllocError` where memory is refused: then what was
+    /// there before is still there, in its order, and some of the set may be.
     #[tactic(auto, using(crate::proofs::RunsLemmas::adds_none, crate::proofs::RunsLemmas::adds_next, crate::proofs::RunsLemmas::extends_twice))]
     pub fn add_set(&mut self, set: &RangeSet, offset: u64) -> Result<(), AllocError>
         requires { All (λ run. offset + (run.0 + run.1) < 2 ^ 64) set.now }
@@ -61,9 +62,9 @@ impl RangeSetBuilder {
         Ok(())
     }
 
-    /// Puts in the bytes of so many elements, each with those of the set and `stride` bytes after the one before; the first lies at
-    /// `offset`. Where the set covers an element whole, all of them are one run. `AllocError` where memory is refused: then what was
-    /// there before is still there, in its order, and some of the elements may be.
+    /// Puts in the bytes of so many elements, each with those of the set and `stride` bytes after the one before; the
+    /// first lies at `offset`. Where the set covers an element whole, all of them are one run. `AllocError` where
+    /// memory is refused: then what was there before is still there, in its order, and some of the elements may be.
     pub fn add_repeated(
         &mut self,
         set: &RangeSet,
@@ -91,8 +92,8 @@ impl RangeSetBuilder {
         Ok(())
     }
 
-    /// The set of the bytes that were put in. The runs are sorted once, so that each is put into the set behind the others. `AllocError`
-    /// where memory is refused.
+    /// The set of the bytes that were put in. The runs are sorted once, so that each is put into the set behind the
+    /// others. `AllocError` where memory is refused.
     pub fn build(self, alloc: Global) -> Result<RangeSet, AllocError>
         ensures bytes { IfOk result (λ set. (k : ℕ) → is_in_ranges set k ≡ is_in_ranges self k) }
     {

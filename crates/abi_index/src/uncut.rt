@@ -6,9 +6,10 @@ ghost use Rattle.abi_index.specs.RangeSet.{is_in_run, is_in_ranges, AreMaximalRu
 use crate::range_set::RangeSet;
 use std::alloc::AllocError;
 
-/// Adds to a set the bytes from `from` on and before `to` that are in no cut. A cut is a run of bytes, its first byte and how many bytes
-/// it has; the cuts before the index `first` have to end by `from`. Answers the index of the first cut that ends behind `to`, or how
-/// many cuts there are where none does: what comes later can begin with that one. `AllocError` where memory is refused.
+/// Adds to a set the bytes from `from` on and before `to` that are in no cut. A cut is a run of bytes, its first byte
+/// and how many bytes it has; the cuts before the index `first` have to end by `from`. Answers the index of the first
+/// cut that ends behind `to`, or how many cuts there are where none does: what comes later can begin with that one.
+/// `AllocError` where memory is refused.
 pub(crate) fn add_uncut(
     made: &mut RangeSet,
     from: u64,

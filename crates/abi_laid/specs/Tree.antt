@@ -1,5 +1,5 @@
 -- A type as a tree, as the definitions see it.
-use Rattle.std.specs.Prelude.{ℕ, Bool, List, [], ◌∷◌, map, Vec}
+use Rattle.std.specs.Prelude.{ℕ, Bool, List, [], ◌∷◌, Option, None, Some, map, Vec}
 use Rattle.std.specs.declared.alloc.Global.{Global}
 use Rattle.abi_scalar.specs.declared.scalar.Scalar.{Scalar}
 use Rattle.abi_scalar.specs.declared.repr.ReprOptions.{ReprOptions}
@@ -22,8 +22,8 @@ mutual
     array : (count : ℕ) → Tree → Tree
     -- a vector of so many lanes
     vector : (lanes : ℕ) → (packed : Bool) → Tree → Tree
-    -- fields in source order
-    struct : ReprOptions → (always_sized : Bool) → Trees → Tree
+    -- fields, in the order that is handed in, if one is: the indices of the fields as they are to lie in memory
+    struct : ReprOptions → (always_sized : Bool) → (order : Option (List ℕ)) → Trees → Tree
     -- fields that share their bytes
     union : ReprOptions → Trees → Tree
     enum : ReprOptions → Variants → Tree
@@ -62,7 +62,8 @@ layer_tree layer.Never = never
 layer_tree layer.Unit = unit
 layer_tree (layer.Array count element) = array count element.value
 layer_tree (layer.Vector lanes packed element) = vector lanes packed element.value
-layer_tree (layer.Struct repr always_sized fields) = struct repr always_sized (trees fields.items)
+layer_tree (layer.Struct repr always_sized fields) = struct repr always_sized None (trees fields.items)
+layer_tree (layer.Ordered repr always_sized order fields) = struct repr always_sized (Some order.items) (trees fields.items)
 layer_tree (layer.Union repr fields) = union repr (trees fields.items)
 layer_tree (layer.Enum repr all) = enum repr (variants all.items)
 layer_tree (layer.Coroutine prefix locals states conflicts) =

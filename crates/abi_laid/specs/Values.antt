@@ -24,7 +24,7 @@ module _ (dl : TargetDataLayout) where
         (value_count vs ≡ count) × Each (IsValueOf element (element_of placed)) vs
     IsValueOf (vector lanes packed element) placed (list vs) =
         (value_count vs ≡ lanes) × Each (IsValueOf element (element_of (element_of placed))) vs
-    IsValueOf (struct repr always_sized fields) placed (list vs) = AreValuesOf fields (parts_of placed) vs
+    IsValueOf (struct repr always_sized order fields) placed (list vs) = AreValuesOf fields (parts_of placed) vs
     IsValueOf (union repr fields) placed (bytes content) =
         AreBytes content × (length content ≡ place_count (is_data_place placed) 0 (size_of placed))
     IsValueOf (enum repr all) placed (variant i vs) = AreValuesOfVariant all i (own_parts placed i) vs
@@ -64,7 +64,7 @@ module _ (dl : TargetDataLayout) where
     pub LocalsHaveValues : Tree → Type 0
     LocalsHaveValues (array count element) = LocalsHaveValues element
     LocalsHaveValues (vector lanes packed element) = LocalsHaveValues element
-    LocalsHaveValues (struct repr always_sized fields) = LocalsOfEach fields
+    LocalsHaveValues (struct repr always_sized order fields) = LocalsOfEach fields
     LocalsHaveValues (union repr fields) = LocalsOfEach fields
     LocalsHaveValues (enum repr all) = LocalsOfVariants all
     LocalsHaveValues (coroutine prefix locals states conflicts) = LocalsOfEach prefix × LocalsOfEach locals × HaveValues locals
@@ -83,7 +83,7 @@ module _ (dl : TargetDataLayout) where
     pub VectorsHaveValues : Tree → Type 0
     VectorsHaveValues (array count element) = VectorsHaveValues element
     VectorsHaveValues (vector lanes packed element) = VectorsHaveValues element × HasValue element
-    VectorsHaveValues (struct repr always_sized fields) = VectorsOfEach fields
+    VectorsHaveValues (struct repr always_sized order fields) = VectorsOfEach fields
     VectorsHaveValues (union repr fields) = VectorsOfEach fields
     VectorsHaveValues (enum repr all) = VectorsOfVariants all
     VectorsHaveValues (coroutine prefix locals states conflicts) = VectorsOfEach prefix × VectorsOfEach locals

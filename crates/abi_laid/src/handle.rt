@@ -17,9 +17,9 @@ use abi_types::{Layout, TyAbiInterface, TyAndLayout};
 use std::fmt;
 use std::fmt::{Debug, Display};
 
-/// A type that was laid out, or a part of one. Beside its layout it is a handle: it tells of each field and each variant
-/// its handle, and what the type is. `Laid::root` gives the handle of the whole, and `TyAndLayout` has the questions. How
-/// it prints isn't promised.
+/// A type that was laid out, or a part of one. Beside its layout it is a handle: it tells of each field and each
+/// variant its handle, and what the type is. `Laid::root` gives the handle of the whole, and `TyAndLayout` has the
+/// questions. How it prints isn't promised.
 #[derive(Clone, Copy)]
 pub struct TreeTy<'a> {
     laid: &'a Laid,
@@ -144,8 +144,9 @@ impl<'a, C> TyAbiInterface<'a, C> for TreeTy<'a> {
 
     ghost lawful_law = { λ this h. h.lawful };
 
-    /// One of several variants or states, as a type of its own without the tag: its fields are the variant's, or the locals
-    /// that are saved in the state. Where there is one variant it is the type itself, whose fields are the variant's.
+    /// One of several variants or states, as a type of its own without the tag: its fields are the variant's, or the
+    /// locals that are saved in the state. Where there is one variant it is the type itself, whose fields are the
+    /// variant's.
     fn ty_and_layout_for_variant(
         this: TyAndLayout<'a, TreeTy<'a>>,
         _cx: &C,
@@ -174,8 +175,9 @@ impl<'a, C> TyAbiInterface<'a, C> for TreeTy<'a> {
         }
     }
 
-    /// A field. The fields of an array are its elements, and the one of a vector is the array of its lanes. The one of an
-    /// enum with several variants is its tag, and a coroutine has its prefix and behind that its tag. A number has none.
+    /// A field. The fields of an array are its elements, and the one of a vector is the array of its lanes. The one of
+    /// an enum with several variants is its tag, and a coroutine has its prefix and behind that its tag. A number has
+    /// none.
     fn ty_and_layout_field(
         this: TyAndLayout<'a, TreeTy<'a>>,
         _cx: &C,

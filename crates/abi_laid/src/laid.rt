@@ -72,8 +72,8 @@ impl Laid {
         read_layout(&self.nodes, self.nodes.len() - 1)
     }
 
-    /// The type as a handle, beside its layout: what asks types for their fields and variants takes it. All data places of the type lie
-    /// below its size.
+    /// The type as a handle, beside its layout: what asks types for their fields and variants takes it. All data places
+    /// of the type lie below its size.
     pub fn root(&self) -> TyAndLayout<'_, TreeTy<'_>>
         ensures valid { IsHandle result }
         ensures told { tree_type result ≡ typed_of self.now }
@@ -84,15 +84,16 @@ impl Laid {
         handle_at(self, self.nodes().len() - 1)
     }
 
-    /// How many nodes the type is laid out as: one for each type in it, and more where it has a pair, a vector, or variants beside a tag.
+    /// How many nodes the type is laid out as: one for each type in it, and more where it has a pair, a vector, or
+    /// variants beside a tag.
     pub fn node_count(&self) -> usize
         ensures { result ≡ node_count_of self.now }
     {
         self.nodes.len()
     }
 
-    /// The bytes of the type that decide nothing, whatever the value: those below its size that are no data places; and how many nodes
-    /// were read to tell, each of those once. `AllocError` where memory is refused.
+    /// The bytes of the type that decide nothing, whatever the value: those below its size that are no data places; and
+    /// how many nodes were read to tell, each of those once. `AllocError` where memory is refused.
     pub fn padding(&self, alloc: Global) -> Result<(RangeSet, usize), AllocError>
         ensures ranges { IfOk result (λ r. (k : ℕ) → is_in_ranges r.0 k ≡ is_padding_of (placed_of self.now) k) }
         ensures visits { IfOk result (λ r. r.1 ≤ node_count_of self.now) }

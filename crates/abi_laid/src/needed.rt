@@ -90,8 +90,9 @@ fn unread<'a>(alloc: Global, count: usize) -> Result<Vec<Option<&'a Node>>, Allo
     Ok(kept)
 }
 
-/// The nodes that the data places of the node at `root` rest on, each at its place, and how many were read: each of those once, from the
-/// last to the first. Nothing below a node without bytes is needed, and an array of no elements has none.
+/// The nodes that the data places of the node at `root` rest on, each at its place, and how many were read: each of
+/// those once, from the last to the first. Nothing below a node without bytes is needed, and an array of no elements
+/// has none.
 pub(crate) fn needed_nodes(
     alloc: Global,
     nodes: &Nodes,

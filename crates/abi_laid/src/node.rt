@@ -39,8 +39,8 @@ pub enum Shape {
     Vector(usize),
     /// A child for each field of the one variant that is left; the layout says which that is, and where they lie.
     Single(Mark, Vec<usize>),
-    /// A tag, and variants beside it, each a child of fields with its discriminant; the layout says where the tag lies, and
-    /// how it tells them apart.
+    /// A tag, and variants beside it, each a child of fields with its discriminant; the layout says where the tag lies,
+    /// and how it tells them apart.
     Tagged {
         /// What it tells of itself.
         mark: Mark,
@@ -49,8 +49,8 @@ pub enum Shape {
         /// Each variant's discriminant and child, in source order.
         variants: Vec<(u128, usize)>,
     },
-    /// A child for each prefix field, a tag, and states beside it, each a child of fields with its index; the layout says
-    /// where the prefix fields lie and, behind them in its list of offsets, the tag.
+    /// A child for each prefix field, a tag, and states beside it, each a child of fields with its index; the layout
+    /// says where the prefix fields lie and, behind them in its list of offsets, the tag.
     States {
         /// The prefix fields, in source order.
         prefix: Vec<usize>,

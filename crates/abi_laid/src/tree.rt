@@ -33,6 +33,18 @@ pub enum TypeTree {
         /// The fields, in source order.
         fields: Vec<TypeTree>,
     },
+    /// Fields in an order that is handed in. Where it isn't always sized, the last field may lose its size by coercion,
+    /// and the order keeps it last.
+    Ordered {
+        /// What its `repr` asks for, beside that the order may be any (`ReprFlags::RANDOMIZE_LAYOUT`).
+        repr: ReprOptions,
+        /// Whether it is always sized: no coercion takes the size of its last field.
+        always_sized: bool,
+        /// The indices of the fields, as they are to lie in memory.
+        order: Vec<u64>,
+        /// The fields, in source order.
+        fields: Vec<TypeTree>,
+    },
     /// Fields that share their bytes.
     Union {
         /// What its `repr` asks for.

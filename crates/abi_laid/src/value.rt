@@ -11,8 +11,9 @@ pub(crate) mod write;
 ghost use Rattle.std.specs.Prelude.{◌≡◌, ℕ, List};
 ghost use Rattle.abi_laid.specs.Value.{Values, number, two, list, variant, state, bytes, value_of, values_of};
 
-/// A value, whatever its type. Numbers are whole numbers of at most 128 bits, as the bytes of their scalars make them: a signed
-/// integer's or a float's bits, and an address. Which values a type has depends on its tree, and for a union on its layout, too.
+/// A value, whatever its type. Numbers are whole numbers of at most 128 bits, as the bytes of their scalars make them:
+/// a signed integer's or a float's bits, and an address. Which values a type has depends on its tree, and for a union
+/// on its layout, too.
 #[derive(Drop, Debug, PartialEq, Eq)]
 pub enum Value {
     /// A number.
@@ -78,7 +79,8 @@ impl Value {
         }
     }
 
-    /// A state's index, the values of the prefix fields and those of its locals, or 0 and none where it is of another kind.
+    /// A state's index, the values of the prefix fields and those of its locals, or 0 and none where it is of another
+    /// kind.
     pub(crate) fn state(&self) -> (usize, &[Value], &[Value])
         ensures { (i : ℕ) (ps vs : Values) → value_of self.now ≡ state i ps vs →
             (result.0 ≡ i) × (values_of result.1.now ≡ ps) × (values_of result.2.now ≡ vs) }

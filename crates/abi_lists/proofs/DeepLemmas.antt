@@ -19,56 +19,22 @@ use Rattle.abi_lists.specs.List.{AreSized, parts_of}
 use Rattle.abi_lists.specs.ListNiche.{HasLargestNiche, IsNicheOfPart, niche_in}
 use Rattle.abi_lists.specs.Part.{IsLawfulPart, is_unsized}
 use Rattle.abi_lists.specs.Placement.{IsAllowed, IsNonEmptyIfUnsized, IsSized, align_of, cut, end_from, in_order, no_part, offsets_from, size_in, source_order, start_of, sum_rounded}
-use Rattle.abi_lists.specs.Run.{IsFaultOf}
+use Rattle.abi_lists.specs.Run.{IsFaultOf, IsInOrder}
 use Rattle.abi_lists.proofs.FaultLemmas.{clear_of, large_in, memory_in, unsized_in}
 use Rattle.abi_lists.proofs.Least.{all_too_large, allowed_permutes, named_allowed, named_least, named_tight}
 use Rattle.abi_lists.proofs.ListLemmas.{length-parts}
 use Rattle.abi_lists.proofs.NicheLemmas.{IsBelow, IsNicheOfIndex, greatest_below, greatest_of_index, largest_of_parts, of_part, weaken_niche}
+use Rattle.abi_lists.proofs.OrderedLemmas.{ordered_index, ordered_inside}
 use Rattle.abi_lists.proofs.PlacingLemmas.{length-offsets}
 use Rattle.abi_lists.proofs.Rounding.{rounded_to}
 use Rattle.abi_lists.proofs.RunLemmas.{IsBiased, aligned_parts, niche_inside}
 use Rattle.abi_lists.proofs.Sorting.{in_order-permutation, within_order}
 use Rattle.abi_lists.proofs.SourceLemmas.{Lies, length-in, offset_at, part_in, parts_after, parts_aligned, parts_apart}
 
-pub biased_permutes : (dl : TargetDataLayout) (repr : ListRepr) (parts : List Part) (order offsets : List ℕ) (size align : ℕ) (niche : Option Niche) → IsNonEmptyIfUnsized repr.kind (length parts)
-    → IsBiased dl repr parts order offsets size align niche → IsPermutation (source_order (length parts)) order
-biased_permutes dl repr parts order offsets size align niche tail b = allowed_permutes repr (length parts) order (named_allowed repr b.bias parts order tail b.named)
-
-pub biased_lies : (dl : TargetDataLayout) (repr : ListRepr) (parts : List Part) (order offsets : List ℕ) (size align : ℕ) (niche : Option Niche) → IsNonEmptyIfUnsized repr.kind (length parts)
-    → IsBiased dl repr parts order offsets size align niche → Lies repr.pack (start_of repr.pack repr.kind) parts order offsets
-biased_lies dl repr parts order offsets size align niche tail b = record { permutes = biased_permutes dl repr parts order offsets size align niche tail b; count = b.placed.count; places = b.placed.places }
-
-biased_up : (dl : TargetDataLayout) (repr : ListRepr) (parts : List Part) (order offsets : List ℕ) (size align : ℕ) (niche : Option Niche)
-    → IsBiased dl repr parts order offsets size align niche → end_from repr.pack (start_of repr.pack repr.kind) (in_order parts order) ≤ size
-biased_up dl repr parts order offsets size align niche b = rw b.placed.extent (rounded_to (end_from repr.pack (start_of repr.pack repr.kind) (in_order parts order)) (align_of repr parts)).above
-
-sizes_of : {F V H : Type 0} (layout_of : H → LayoutData F V) (dl : TargetDataLayout) (hs : List H) → map (λ (p : Part). p.size) (parts_of dl (map layout_of hs)) ≡ map (λ h. (layout_of h).size) hs
-sizes_of layout_of dl [] = refl
-sizes_of layout_of dl (h ∷ hs) = ap (λ xs. (layout_of h).size ∷ xs) (sizes_of layout_of dl hs)
-
-aligns_of : {F V H : Type 0} (layout_of : H → LayoutData F V) (dl : TargetDataLayout) (pack : Option ℕ) (hs : List H) → map (λ (p : Part). cut pack p.align) (parts_of dl (map layout_of hs)) ≡ map (λ h. cut pack (layout_of h).align.abi) hs
-aligns_of layout_of dl pack [] = refl
-aligns_of layout_of dl pack (h ∷ hs) = ap (λ xs. cut pack (layout_of h).align.abi ∷ xs) (aligns_of layout_of dl pack hs)
-
-pub biased_apart : {F V H : Type 0} (layout_of : H → LayoutData F V) (dl : TargetDataLayout) (repr : ListRepr) (hs : List H) (order offsets : List ℕ) (size align : ℕ) (niche : Option Niche)
-    → IsNonEmptyIfUnsized repr.kind (length (parts_of dl (map layout_of hs))) → IsBiased dl repr (parts_of dl (map layout_of hs)) order offsets size align niche
-    → AreApart size offsets (map (λ h. (layout_of h).size) hs)
-biased_apart layout_of dl repr hs order offsets size align niche tail b =
-    subst (AreApart size offsets) (sizes_of layout_of dl hs)
-    (parts_apart repr.pack (start_of repr.pack repr.kind) size (parts_of dl (map layout_of hs)) order offsets
-    (biased_lies dl repr (parts_of dl (map layout_of hs)) order offsets size align niche tail b) (biased_up dl repr (parts_of dl (map layout_of hs)) order offsets size align niche b))
-
-pub biased_aligned : {F V H : Type 0} (layout_of : H → LayoutData F V) (dl : TargetDataLayout) (repr : ListRepr) (hs : List H) (order offsets : List ℕ) (size align : ℕ) (niche : Option Niche)
-    → IsNonEmptyIfUnsized repr.kind (length (parts_of dl (map layout_of hs))) → IsBiased dl repr (parts_of dl (map layout_of hs)) order offsets size align niche
-    → AreAligned offsets (map (λ h. cut repr.pack (layout_of h).align.abi) hs)
-biased_aligned layout_of dl repr hs order offsets size align niche tail b =
-    subst (AreAligned offsets) (aligns_of layout_of dl repr.pack hs)
-    (parts_aligned repr.pack (start_of repr.pack repr.kind) (parts_of dl (map layout_of hs)) order offsets (biased_lies dl repr (parts_of dl (map layout_of hs)) order offsets size align niche tail b))
-
-pub biased_after : (dl : TargetDataLayout) (repr : ListRepr) (parts : List Part) (order offsets : List ℕ) (size align : ℕ) (niche : Option Niche)
-    → IsNonEmptyIfUnsized repr.kind (length parts) → IsBiased dl repr parts order offsets size align niche → All (λ o. start_of repr.pack repr.kind ≤ o) offsets
-biased_after dl repr parts order offsets size align niche tail b =
-    parts_after repr.pack (start_of repr.pack repr.kind) parts order offsets (biased_lies dl repr parts order offsets size align niche tail b)
+-- an order that is named for a bias is allowed
+pub in_order_of : (dl : TargetDataLayout) (repr : ListRepr) (parts : List Part) (order offsets : List ℕ) (size align : ℕ) (niche : Option Niche) → IsNonEmptyIfUnsized repr.kind (length parts)
+    → IsBiased dl repr parts order offsets size align niche → IsInOrder dl repr parts order offsets size align niche
+in_order_of dl repr parts order offsets size align niche tail b = record { allowed = named_allowed repr b.bias parts order tail b.named; bias = b.bias; placed = b.placed }
 
 pub biased_least : (dl : TargetDataLayout) (repr : ListRepr) (parts : List Part) (order offsets : List ℕ) (size align : ℕ) (niche : Option Niche) (other : List ℕ) → All (IsLawfulPart dl) parts
     → IsNonEmptyIfUnsized repr.kind (length parts) → IsBiased dl repr parts order offsets size align niche → IsAllowed repr (length parts) other → size ≤ size_in repr parts other
@@ -84,46 +50,12 @@ biased_sum dl repr parts order offsets size align niche law free sized b = b.pla
 pub biased_inside : (dl : TargetDataLayout) (repr : ListRepr) (parts : List Part) (order offsets : List ℕ) (size align : ℕ) (niche : Option Niche) → All (IsLawfulPart dl) parts
     → IsNonEmptyIfUnsized repr.kind (length parts) → IsBiased dl repr parts order offsets size align niche → IfSome niche (IsLawfulNiche dl size)
 biased_inside dl repr parts order offsets size align niche law tail b =
-    rw (b.placed.largest, b.placed.extent) (niche_inside b.bias dl repr parts order law (biased_permutes dl repr parts order offsets size align niche tail b))
-
-from_memory : (pack : Option ℕ) (from : ℕ) (parts : List Part) (order offsets : List ℕ) (n : Niche) → Lies pack from parts order offsets → IsNicheOfIndex (offsets_from pack from (in_order parts order)) (in_order parts order) n
-    → IsNicheOfIndex offsets parts n
-from_memory pack from parts order offsets n l h =
-    let short : h.index < length order = omega (arith, length-in parts order, h.within) in
-    record {
-      index = get_or order h.index 0;
-      within = within_order (length parts) order l.permutes h.index 0 short;
-      own = rw (← offset_at pack from parts order offsets h.index (get_or order h.index 0) l short refl, ← part_in parts order h.index (get_or order h.index 0) short refl) h.own;
-    }
+    ordered_inside dl repr parts order offsets size align niche law (in_order_of dl repr parts order offsets size align niche tail b)
 
 pub biased_index : (dl : TargetDataLayout) (repr : ListRepr) (parts : List Part) (order offsets : List ℕ) (size align : ℕ) (niche : Option Niche)
     → IsNonEmptyIfUnsized repr.kind (length parts) → IsBiased dl repr parts order offsets size align niche → IfSome niche (IsNicheOfIndex offsets parts)
 biased_index dl repr parts order offsets size align niche tail b =
-    rw b.placed.largest (weaken_niche (IsNicheOfIndex (offsets_from repr.pack (start_of repr.pack repr.kind) (in_order parts order)) (in_order parts order)) (IsNicheOfIndex offsets parts) (niche_in dl repr b.bias parts order)
-    (λ n h. from_memory repr.pack (start_of repr.pack repr.kind) parts order offsets n (biased_lies dl repr parts order offsets size align niche tail b) h)
-    (greatest_of_index b.bias dl (offsets_from repr.pack (start_of repr.pack repr.kind) (in_order parts order)) (in_order parts order)))
-
-pub biased_of_part : {F V H : Type 0} (layout_of : H → LayoutData F V) (dl : TargetDataLayout) (repr : ListRepr) (hs : List H) (order offsets : List ℕ) (size align : ℕ) (niche : Option Niche)
-    → IsNonEmptyIfUnsized repr.kind (length (parts_of dl (map layout_of hs))) → IsBiased dl repr (parts_of dl (map layout_of hs)) order offsets size align niche
-    → IfSome niche (IsNicheOfPart offsets (map layout_of hs))
-biased_of_part layout_of dl repr hs order offsets size align niche tail b =
-    weaken_niche (IsNicheOfIndex offsets (parts_of dl (map layout_of hs))) (IsNicheOfPart offsets (map layout_of hs)) niche
-    (λ n h. of_part layout_of dl offsets hs n h.index (b.placed.count ∙ length-parts layout_of dl hs) (omega (arith, h.within, length-parts layout_of dl hs)) h.own)
-    (biased_index dl repr (parts_of dl (map layout_of hs)) order offsets size align niche tail b)
-
-pub biased_largest : {F V H : Type 0} (layout_of : H → LayoutData F V) (dl : TargetDataLayout) (repr : ListRepr) (hs : List H) (order offsets : List ℕ) (size align : ℕ) (niche : Option Niche)
-    → IsNonEmptyIfUnsized repr.kind (length (parts_of dl (map layout_of hs))) → IsBiased dl repr (parts_of dl (map layout_of hs)) order offsets size align niche
-    → HasLargestNiche dl niche (map layout_of hs)
-biased_largest layout_of dl repr hs order offsets size align niche tail b =
-    let parts = parts_of dl (map layout_of hs) in
-    let from = start_of repr.pack repr.kind in
-    let p = biased_permutes dl repr (parts_of dl (map layout_of hs)) order offsets size align niche tail b in
-    let many : length (offsets_from repr.pack (start_of repr.pack repr.kind) (in_order (parts_of dl (map layout_of hs)) order)) ≡ length (in_order (parts_of dl (map layout_of hs)) order)
-    = length-offsets repr.pack (start_of repr.pack repr.kind) (in_order (parts_of dl (map layout_of hs)) order) in
-    rw b.placed.largest (largest_of_parts layout_of dl (niche_in dl repr b.bias (parts_of dl (map layout_of hs)) order) hs
-    (All-permutation (λ p. IsBelow dl p.largest_niche (niche_in dl repr b.bias (parts_of dl (map layout_of hs)) order)) (in_order (parts_of dl (map layout_of hs)) order) (parts_of dl (map layout_of hs))
-    (IsPermutation-sym (parts_of dl (map layout_of hs)) (in_order (parts_of dl (map layout_of hs)) order) (in_order-permutation (parts_of dl (map layout_of hs)) order p))
-    (greatest_below b.bias dl (offsets_from repr.pack (start_of repr.pack repr.kind) (in_order (parts_of dl (map layout_of hs)) order)) (in_order (parts_of dl (map layout_of hs)) order) many)))
+    ordered_index dl repr parts order offsets size align niche (in_order_of dl repr parts order offsets size align niche tail b)
 
 -- ---- the refusal
 
@@ -140,7 +72,8 @@ sized_at layout_of dl [] i sized short = absurd (omega arith)
 sized_at layout_of dl (h ∷ hs) zero sized short = All-head (λ f. is_unsized f.backend_repr ≡ false) (layout_of h) (map layout_of hs) sized
 sized_at layout_of dl (h ∷ hs) (suc i) sized short = sized_at layout_of dl hs i (All-tail (λ f. is_unsized f.backend_repr ≡ false) (layout_of h) (map layout_of hs) sized) (omega arith)
 
-sized_cases : {F V H : Type 0} (layout_of : H → LayoutData F V) (dl : TargetDataLayout) (repr : ListRepr) (hs : List H) (order : List ℕ) (fault : ListFault) → AreSized (map layout_of hs)
+-- fields that are sized have no fault but their size
+pub sized_cases : {F V H : Type 0} (layout_of : H → LayoutData F V) (dl : TargetDataLayout) (repr : ListRepr) (hs : List H) (order : List ℕ) (fault : ListFault) → AreSized (map layout_of hs)
     → All (λ i. i < length (parts_of dl (map layout_of hs))) order → fault_in repr (size_bound dl) (parts_of dl (map layout_of hs)) order ≡ Some fault → fault ≡ TooLarge
 sized_cases layout_of dl repr hs order (Unsized i) sized within e =
     let u = unsized_in repr (size_bound dl) (parts_of dl (map layout_of hs)) order (λ i. i < length (parts_of dl (map layout_of hs))) i e within in
@@ -150,12 +83,18 @@ sized_cases layout_of dl repr hs order (Unsized i) sized within e =
 sized_cases layout_of dl repr hs order TooLarge sized within e = refl
 sized_cases layout_of dl repr hs order OutOfMemory sized within e = absurd (memory_in repr (size_bound dl) (parts_of dl (map layout_of hs)) order e)
 
+-- in an allowed order sized fields have no other fault than the size
+pub sized_in_order : {F V H : Type 0} (layout_of : H → LayoutData F V) (dl : TargetDataLayout) (repr : ListRepr) (hs : List H) (order : List ℕ) (fault : ListFault) → AreSized (map layout_of hs)
+    → IsAllowed repr (length (parts_of dl (map layout_of hs))) order → fault_in repr (size_bound dl) (parts_of dl (map layout_of hs)) order ≡ Some fault → fault ≡ TooLarge
+sized_in_order layout_of dl repr hs order fault sized allowed e =
+    let count = length (parts_of dl (map layout_of hs)) in
+    sized_cases layout_of dl repr hs order fault sized (within_order count order (allowed_permutes repr count order allowed)) e
+
 -- a list of sized fields is refused for its size, or for want of memory
 pub sized_fault : {F V H : Type 0} (layout_of : H → LayoutData F V) (dl : TargetDataLayout) (repr : ListRepr) (hs : List H) (fault : ListFault) → AreSized (map layout_of hs)
     → IsNonEmptyIfUnsized repr.kind (length (parts_of dl (map layout_of hs))) → IsFaultOf dl repr Start (parts_of dl (map layout_of hs)) fault → (fault ≡ TooLarge) ⊎ (fault ≡ OutOfMemory)
 sized_fault layout_of dl repr hs fault sized tail (inl f) =
-    inl (sized_cases layout_of dl repr hs f.0 fault sized
-    (within_order (length (parts_of dl (map layout_of hs))) f.0 (allowed_permutes repr (length (parts_of dl (map layout_of hs))) f.0 (named_allowed repr Start (parts_of dl (map layout_of hs)) f.0 tail f.1))) f.2)
+    inl (sized_in_order layout_of dl repr hs f.0 fault sized (named_allowed repr Start (parts_of dl (map layout_of hs)) f.0 tail f.1) f.2)
 sized_fault layout_of dl repr hs fault sized tail (inr e) = inr e
 
 -- what is laid out has an order that is not too large

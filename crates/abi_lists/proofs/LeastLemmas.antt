@@ -22,12 +22,12 @@ use Rattle.abi_lists.specs.List.{AreSized, IsFirstFaultless, IsListAnswer, IsLis
 use Rattle.abi_lists.specs.ListNiche.{HasLargestNiche, IsNicheOfPart}
 use Rattle.abi_lists.specs.Part.{part_of}
 use Rattle.abi_lists.specs.Placement.{IsAllowed, IsNonEmptyIfUnsized, IsSized, cut, list_repr, start_of, sum_rounded}
-use Rattle.abi_lists.specs.Run.{IsFaultOf}
-use Rattle.abi_lists.proofs.DeepLemmas.{biased_after, biased_aligned, biased_apart, biased_fits, biased_largest, biased_least, biased_lies, biased_of_part, biased_permutes, biased_sum, fault_large_all, sized_fault}
-use Rattle.abi_lists.proofs.Least.{named_allowed}
+use Rattle.abi_lists.specs.Run.{IsFaultOf, IsInOrder}
+use Rattle.abi_lists.proofs.DeepLemmas.{biased_fits, biased_least, biased_sum, fault_large_all, in_order_of, sized_fault}
 use Rattle.abi_lists.proofs.ListLemmas.{error_answer, error_large, parts_lawful}
 use Rattle.abi_lists.proofs.MemoryOrder.{ascending_listed, places_listed}
 use Rattle.abi_lists.proofs.OneOrder.{one_named}
+use Rattle.abi_lists.proofs.OrderedLemmas.{ordered_after, ordered_aligned, ordered_apart, ordered_largest, ordered_lies, ordered_of_part, ordered_permutes}
 use Rattle.abi_lists.proofs.RunLemmas.{IsBiased, biased_of}
 
 module _ {F V H : Type 0} (layout_of : H → LayoutData F V) (at : ℕ → F) (first : V) (dl : TargetDataLayout) (repr : ReprOptions) (kind : StructKind) (hs : List H) where
@@ -55,12 +55,15 @@ module _ {F V H : Type 0} (layout_of : H → LayoutData F V) (at : ℕ → F) (f
       → IsBiased dl (list_repr dl repr kind) (parts_of dl (map layout_of hs)) order offsets l.size l.align.abi l.largest_niche
   biased order offsets l r = biased_of dl (list_repr dl repr kind) (parts_of dl (map layout_of hs)) order offsets l.size l.align.abi l.largest_niche r.named
 
-  -- an order that is named for a bias is allowed
+  -- its order is allowed
+  pub laid : (order offsets : List ℕ) (l : LayoutData F V) → IsNonEmptyIfUnsized kind (length hs) → IsListLayout at first dl repr kind (map layout_of hs) order offsets l
+      → IsInOrder dl (list_repr dl repr kind) (parts_of dl (map layout_of hs)) order offsets l.size l.align.abi l.largest_niche
+  laid order offsets l tail r =
+      in_order_of dl (list_repr dl repr kind) (parts_of dl (map layout_of hs)) order offsets l.size l.align.abi l.largest_niche (tailed tail) (biased order offsets l r)
+
   order_of : (order offsets : List ℕ) (l : LayoutData F V) → IsNonEmptyIfUnsized kind (length hs) → IsListLayout at first dl repr kind (map layout_of hs) order offsets l
       → IsOrderOf dl repr kind (length (map layout_of hs)) order
-  order_of order offsets l tail r =
-      let b = biased order offsets l r in
-      subst (λ n. IsAllowed (list_repr dl repr kind) n order) many (named_allowed (list_repr dl repr kind) b.bias (parts_of dl (map layout_of hs)) order (tailed tail) b.named)
+  order_of order offsets l tail r = let b = laid order offsets l tail r in subst (λ n. IsAllowed (list_repr dl repr kind) n order) many b.allowed
 
   placed_by : (order offsets : List ℕ) (l : LayoutData F V) → IsNonEmptyIfUnsized kind (length hs) → IsListLayout at first dl repr kind (map layout_of hs) order offsets l
       → IsPlacedBy dl repr kind (map layout_of hs) order offsets l.size l.align.abi
@@ -94,31 +97,31 @@ module _ {F V H : Type 0} (layout_of : H → LayoutData F V) (at : ℕ → F) (f
   pub keeps_apart : (order offsets : List ℕ) (l : LayoutData F V) → IsNonEmptyIfUnsized kind (length hs) → IsListLayout at first dl repr kind (map layout_of hs) order offsets l
       → AreApart l.size (listed_offsets l.fields) (map (λ h. (layout_of h).size) hs)
   keeps_apart order offsets l tail r =
-      rw r.shape (biased_apart layout_of dl (list_repr dl repr kind) hs order offsets l.size l.align.abi l.largest_niche (tailed tail) (biased order offsets l r))
+      rw r.shape (ordered_apart layout_of dl (list_repr dl repr kind) hs order offsets l.size l.align.abi l.largest_niche (laid order offsets l tail r))
 
   -- behind the prefix
   pub lies_after : (order offsets : List ℕ) (l : LayoutData F V) → IsNonEmptyIfUnsized kind (length hs) → IsListLayout at first dl repr kind (map layout_of hs) order offsets l
       → All (λ o. start_of repr.pack kind ≤ o) (listed_offsets l.fields)
   lies_after order offsets l tail r =
-      rw r.shape (biased_after dl (list_repr dl repr kind) (parts_of dl (map layout_of hs)) order offsets l.size l.align.abi l.largest_niche (tailed tail) (biased order offsets l r))
+      rw r.shape (ordered_after dl (list_repr dl repr kind) (parts_of dl (map layout_of hs)) order offsets l.size l.align.abi l.largest_niche (laid order offsets l tail r))
 
   -- each at a multiple of its alignment
   pub lies_aligned : (order offsets : List ℕ) (l : LayoutData F V) → IsNonEmptyIfUnsized kind (length hs) → IsListLayout at first dl repr kind (map layout_of hs) order offsets l
       → AreAligned (listed_offsets l.fields) (map (λ h. cut repr.pack (layout_of h).align.abi) hs)
   lies_aligned order offsets l tail r =
-      rw r.shape (biased_aligned layout_of dl (list_repr dl repr kind) hs order offsets l.size l.align.abi l.largest_niche (tailed tail) (biased order offsets l r))
+      rw r.shape (ordered_aligned layout_of dl (list_repr dl repr kind) hs order offsets l.size l.align.abi l.largest_niche (laid order offsets l tail r))
 
   -- its niche is that of a field
   pub has_own_niche : (order offsets : List ℕ) (l : LayoutData F V) → IsNonEmptyIfUnsized kind (length hs) → IsListLayout at first dl repr kind (map layout_of hs) order offsets l
       → IfSome l.largest_niche (IsNicheOfPart (listed_offsets l.fields) (map layout_of hs))
   has_own_niche order offsets l tail r =
-      rw r.shape (biased_of_part layout_of dl (list_repr dl repr kind) hs order offsets l.size l.align.abi l.largest_niche (tailed tail) (biased order offsets l r))
+      rw r.shape (ordered_of_part layout_of dl (list_repr dl repr kind) hs order offsets l.size l.align.abi l.largest_niche (laid order offsets l tail r))
 
   -- and no field's is greater
   pub has_greatest_niche : (order offsets : List ℕ) (l : LayoutData F V) → IsNonEmptyIfUnsized kind (length hs) → IsListLayout at first dl repr kind (map layout_of hs) order offsets l
       → HasLargestNiche dl l.largest_niche (map layout_of hs)
   has_greatest_niche order offsets l tail r =
-      biased_largest layout_of dl (list_repr dl repr kind) hs order offsets l.size l.align.abi l.largest_niche (tailed tail) (biased order offsets l r)
+      ordered_largest layout_of dl (list_repr dl repr kind) hs order offsets l.size l.align.abi l.largest_niche (laid order offsets l tail r)
 
   -- in free order its size is the sum of the fields', rounded up once
   pub sums_up : (order offsets : List ℕ) (l : LayoutData F V) → All (λ h. IsLawfulLayout dl (layout_of h)) hs → IsTrue (list_repr dl repr kind).reorderable → IsSized kind
@@ -129,9 +132,9 @@ module _ {F V H : Type 0} (layout_of : H → LayoutData F V) (at : ℕ → F) (f
   -- its memory order has a place for each field
   pub has_places : (order offsets : List ℕ) (l : LayoutData F V) → IsNonEmptyIfUnsized kind (length hs) → IsListLayout at first dl repr kind (map layout_of hs) order offsets l → HasPlaceForEach l.fields
   has_places order offsets l tail r =
-      let b = biased order offsets l r in
+      let b = laid order offsets l tail r in
       rw r.shape (places_listed at (length (parts_of dl (map layout_of hs))) order offsets b.placed.count
-      (biased_permutes dl (list_repr dl repr kind) (parts_of dl (map layout_of hs)) order offsets l.size l.align.abi l.largest_niche (tailed tail) b))
+      (ordered_permutes dl (list_repr dl repr kind) (parts_of dl (map layout_of hs)) order offsets l.size l.align.abi l.largest_niche b))
 
   -- and never steps back
   pub ascends : (number : F → ℕ) (most : ℕ) → ((i : ℕ) → i ≤ most → number (at i) ≡ i) → length hs ≤ most + 1 → (order offsets : List ℕ) (l : LayoutData F V) → IsNonEmptyIfUnsized kind (length hs)
@@ -139,7 +142,7 @@ module _ {F V H : Type 0} (layout_of : H → LayoutData F V) (at : ℕ → F) (f
   ascends number most law small order offsets l tail r =
       let all : length (parts_of dl (map layout_of hs)) ≡ length hs = many ∙ length-map hs layout_of in
       rw r.shape (ascending_listed at number most law (start_of repr.pack kind) repr.pack (parts_of dl (map layout_of hs)) order offsets (omega (arith, all, small))
-      (biased_lies dl (list_repr dl repr kind) (parts_of dl (map layout_of hs)) order offsets l.size l.align.abi l.largest_niche (tailed tail) (biased order offsets l r)))
+      (ordered_lies dl (list_repr dl repr kind) (parts_of dl (map layout_of hs)) order offsets l.size l.align.abi l.largest_niche (laid order offsets l tail r)))
 
   -- it is never laid out where each order is too large
   pub never_large : (order offsets : List ℕ) (l : LayoutData F V) → IsNonEmptyIfUnsized kind (length hs) → IsListLayout at first dl repr kind (map layout_of hs) order offsets l

@@ -16,11 +16,15 @@ pub mod SourceLemmas
 pub mod ListLemmas
 pub mod PartsLemmas
 pub mod OneOrder
+pub mod NamesEach
 pub mod SomeOrder
+pub mod Allowed
 pub mod SomeView
+pub mod OrderedLemmas
 pub mod DeepLemmas
 pub mod MemoryOrder
 pub mod LeastLemmas
+pub mod InOrderLemmas
 pub mod Prefixes
 pub mod LawfulList
 pub mod Facts

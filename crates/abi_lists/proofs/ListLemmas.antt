@@ -61,13 +61,13 @@ repr_lawful dl repr kind count law aligns prefix tail =
     record { aligned = omega arith; kind = tail; starts = prefix }
 
 -- the field that a fault names is there
-fault_index : (repr : ListRepr) (dl : TargetDataLayout) (parts : List Part) (order : List ℕ) (fault : ListFault) → fault_in repr (size_bound dl) parts order ≡ Some fault → All (λ i. i < length parts) order
+pub fault_index : (repr : ListRepr) (dl : TargetDataLayout) (parts : List Part) (order : List ℕ) (fault : ListFault) → fault_in repr (size_bound dl) parts order ≡ Some fault → All (λ i. i < length parts) order
     → IsFaultIndex (length parts) fault
 fault_index repr dl parts order (Unsized i) e within = (unsized_in repr (size_bound dl) parts order (λ i. i < length parts) i e within).0
 fault_index repr dl parts order TooLarge e within = tt
 fault_index repr dl parts order OutOfMemory e within = tt
 
-memory_index : (count : ℕ) (fault : ListFault) → fault ≡ OutOfMemory → IsFaultIndex count fault
+pub memory_index : (count : ℕ) (fault : ListFault) → fault ≡ OutOfMemory → IsFaultIndex count fault
 memory_index count (Unsized i) e = cc
 memory_index count TooLarge e = tt
 memory_index count OutOfMemory e = tt
@@ -93,7 +93,7 @@ error_answer fields (Unsized i) error (inr e) h = cc
 error_answer fields TooLarge error (inr e) h = cc
 error_answer fields OutOfMemory error (inr e) h = inr (ap (λ x. Err x) h)
 
-memory_error : {H : Type 0} (fields : List H) (fault : ListFault) (error : LayoutCalculatorError H) → IsErrorOf fields fault error → fault ≡ OutOfMemory → error ≡ NoMemory
+pub memory_error : {H : Type 0} (fields : List H) (fault : ListFault) (error : LayoutCalculatorError H) → IsErrorOf fields fault error → fault ≡ OutOfMemory → error ≡ NoMemory
 memory_error fields (Unsized i) error h e = cc
 memory_error fields TooLarge error h e = cc
 memory_error fields OutOfMemory error h e = h

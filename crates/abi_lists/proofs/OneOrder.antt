@@ -3,6 +3,7 @@ use Rattle.std.proofs.Common.{◌≡◌, ℕ, zero, suc, ◌<◌, ◌≤◌, Boo
 use Rattle.std.specs.Prelude.{cond, filter, All, IsPermutation, MatchBool, MatchOption, slice_index}
 use Rattle.std.specs.List.Sorted.{ties}
 use Rattle.std.specs.Cmp.{IsStrictWeakOrder, IsTotalOrder, nat_cmp_total, on_total, then_total}
+use Rattle.std.proofs.lemmas.List.{length-map}
 use Rattle.std.proofs.lemmas.List.Elements.{All-nil, All-cons}
 use Rattle.std.proofs.lemmas.List.FromFn.{length-range_with_len, get_or-range_with_len}
 use Rattle.std.proofs.lemmas.List.Sorted.{All-permutation, IsPermutation-sym, ranks_by, sorted_far}
@@ -21,11 +22,13 @@ use Rattle.abi_lists.specs.declared.order.SortKey.{SortKey}
 use Rattle.abi_lists.specs.declared.part.Part.{Part}
 use Rattle.abi_lists.specs.declared.placing.ListFault.{ListFault}
 use Rattle.abi_lists.specs.Fault.{fault_in}
-use Rattle.abi_lists.specs.List.{IsListLayout, parts_of, unadjusted_of}
+use Rattle.abi_lists.specs.InOrder.{IsLaidInOrder, IsOrderedLayout}
+use Rattle.abi_lists.specs.List.{IsListBy, IsListLayout, parts_of, unadjusted_of}
 use Rattle.abi_lists.specs.ListNiche.{begins_after, niche_in}
 use Rattle.abi_lists.specs.ListView.{list_view}
 use Rattle.abi_lists.specs.Order.{IsNamedOrder, IsSortedBefore, IsSortedOrder, compare_keys, key_at, movable, rule_of, sort_key, tail}
-use Rattle.abi_lists.specs.Placement.{IsNonEmptyIfUnsized, list_repr, source_order}
+use Rattle.abi_lists.specs.Part.{part_of}
+use Rattle.abi_lists.specs.Placement.{IsAllowed, IsNonEmptyIfUnsized, list_repr, source_order}
 use Rattle.abi_lists.specs.Run.{IsNamedLayout, IsPlacedIn, IsRun, space_wanted}
 use Rattle.abi_lists.proofs.Least.{allowed_permutes, named_allowed}
 
@@ -131,7 +134,7 @@ one_place n xs ys order l m p e =
     subst (Agree xs ys) (get_or-range_with_len 0 n k 0 (omega arith) ∙ omega arith) (all k 0 (omega (arith, length-range_with_len 0 n))))
 
 -- Two layouts of a list's fields are one.
-record IsSame (order order2 offsets offsets2 : List ℕ) (size size2 align align2 : ℕ) (niche niche2 : Option Niche) : Type 0 where
+pub record IsSame (order order2 offsets offsets2 : List ℕ) (size size2 align align2 : ℕ) (niche niche2 : Option Niche) : Type 0 where
   orders : order ≡ order2
   places : offsets ≡ offsets2
   sizes : size ≡ size2
@@ -139,11 +142,11 @@ record IsSame (order order2 offsets offsets2 : List ℕ) (size size2 align align
   niches : niche ≡ niche2
 
 module _ (dl : TargetDataLayout) (repr : ListRepr) (parts : List Part) (some : IsNonEmptyIfUnsized repr.kind (length parts)) where
-  one_placed : (bias : NicheBias) (one order order2 offsets offsets2 : List ℕ) (size size2 align align2 : ℕ) (niche niche2 : Option Niche) → IsNamedOrder repr bias parts one
+  pub one_placed : (bias : NicheBias) (one order order2 offsets offsets2 : List ℕ) (size size2 align align2 : ℕ) (niche niche2 : Option Niche) → IsAllowed repr (length parts) one
       → order ≡ one → order2 ≡ one → IsPlacedIn dl repr bias parts order offsets size align niche → IsPlacedIn dl repr bias parts order2 offsets2 size2 align2 niche2
       → IsSame order order2 offsets offsets2 size size2 align align2 niche niche2
-  one_placed bias one order order2 offsets offsets2 size size2 align align2 niche niche2 named s t a b =
-      let p = allowed_permutes repr (length parts) one (named_allowed repr bias parts one some named) in
+  one_placed bias one order order2 offsets offsets2 size size2 align align2 niche niche2 allowed s t a b =
+      let p = allowed_permutes repr (length parts) one allowed in
       let c : IsPlacedIn dl repr bias parts one offsets size align niche = subst (λ o. IsPlacedIn dl repr bias parts o offsets size align niche) s a in
       let d : IsPlacedIn dl repr bias parts one offsets2 size2 align2 niche2 = subst (λ o. IsPlacedIn dl repr bias parts o offsets2 size2 align2 niche2) t b in
       record {
@@ -160,9 +163,9 @@ module _ (dl : TargetDataLayout) (repr : ListRepr) (parts : List Part) (some : I
         → MatchBool b ((order2 ≡ second) × IsPlacedIn dl repr End parts order2 offsets2 size2 align2 niche2) ((order2 ≡ first) × IsPlacedIn dl repr Start parts order2 offsets2 size2 align2 niche2)
         → IsSame order order2 offsets offsets2 size size2 align align2 niche niche2
     one_choice true second order order2 offsets offsets2 size size2 align align2 niche niche2 ends a b =
-        one_placed End second order order2 offsets offsets2 size size2 align align2 niche niche2 ends a.0 b.0 a.1 b.1
+        one_placed End second order order2 offsets offsets2 size size2 align align2 niche niche2 (named_allowed repr End parts second some ends) a.0 b.0 a.1 b.1
     one_choice false second order order2 offsets offsets2 size size2 align align2 niche niche2 ends a b =
-        one_placed Start first order order2 offsets offsets2 size size2 align align2 niche niche2 named a.0 b.0 a.1 b.1
+        one_placed Start first order order2 offsets offsets2 size size2 align align2 niche niche2 (named_allowed repr Start parts first some named) a.0 b.0 a.1 b.1
 
     -- the second run's layout, or the first's
     abbrev IsLater : (space : ℕ) (order offsets : List ℕ) (size align : ℕ) → Option Niche → Type 0
@@ -177,7 +180,7 @@ module _ (dl : TargetDataLayout) (repr : ListRepr) (parts : List Part) (some : I
         → MatchOption wanted ((order2 ≡ first) × IsPlacedIn dl repr Start parts order2 offsets2 size2 align2 niche2) (λ space. IsLater space order2 offsets2 size2 align2 niche2)
         → IsSame order order2 offsets offsets2 size size2 align align2 niche niche2
     one_run None order order2 offsets offsets2 size size2 align align2 niche niche2 a b =
-        one_placed Start first order order2 offsets offsets2 size size2 align align2 niche niche2 named a.0 b.0 a.1 b.1
+        one_placed Start first order order2 offsets offsets2 size size2 align align2 niche niche2 (named_allowed repr Start parts first some named) a.0 b.0 a.1 b.1
     one_run (Some space) order order2 offsets offsets2 size size2 align align2 niche niche2 a b =
         let same : b.0 ≡ a.0 = one_named repr End parts b.0 a.0 b.1 a.1 in
         one_choice (begins_after space (niche_in dl repr End parts a.0)) a.0 order order2 offsets offsets2 size size2 align align2 niche niche2 a.1 a.2
@@ -204,10 +207,11 @@ module _ (dl : TargetDataLayout) (repr : ListRepr) (parts : List Part) (some : I
 -- ---- a list of fields has one layout
 
 module _ {F V : Type 0} (at : ℕ → F) (first : V) (dl : TargetDataLayout) (repr : ReprOptions) (kind : StructKind) (fields : List (LayoutData F V)) where
-  pub one_layout : (order order2 offsets offsets2 : List ℕ) (a b : LayoutData F V) → IsNonEmptyIfUnsized kind (length (parts_of dl fields))
-      → IsListLayout at first dl repr kind fields order offsets a → IsListLayout at first dl repr kind fields order2 offsets2 b → a ≡ b
-  one_layout order order2 offsets offsets2 a b some s t =
-      let same = one_named_layout dl (list_repr dl repr kind) (parts_of dl fields) some order order2 offsets offsets2 a.size b.size a.align.abi b.align.abi a.largest_niche b.largest_niche s.named t.named in
+  -- layouts whose fields lie the same are one
+  same_layout : (Rule : (order offsets : List ℕ) → (size align : ℕ) → Option Niche → Type 0) (order order2 offsets offsets2 : List ℕ) (a b : LayoutData F V)
+      → IsSame order order2 offsets offsets2 a.size b.size a.align.abi b.align.abi a.largest_niche b.largest_niche
+      → IsListBy Rule at first dl repr kind fields order offsets a → IsListBy Rule at first dl repr kind fields order2 offsets2 b → a ≡ b
+  same_layout Rule order order2 offsets offsets2 a b same s t =
       let shape : a.fields ≡ b.fields = s.shape ∙ (λ i. Arbitrary (same.places i) (map at (same.orders i))) ∙ sym t.shape in
       let view : a.backend_repr ≡ b.backend_repr = s.view ∙ (λ i. list_view dl (is_abi_fixed repr) (same.sizes i) (same.aligns i) (parts_of dl fields) (same.places i)) ∙ sym t.view in
       let variants : a.variants ≡ b.variants = s.variants ∙ sym t.variants in
@@ -229,3 +233,18 @@ module _ {F V : Type 0} (at : ℕ → F) (first : V) (dl : TargetDataLayout) (re
         repr_c = c i;
         randomization_seed = seed i;
       }
+
+  pub one_layout : (order order2 offsets offsets2 : List ℕ) (a b : LayoutData F V) → IsNonEmptyIfUnsized kind (length (parts_of dl fields))
+      → IsListLayout at first dl repr kind fields order offsets a → IsListLayout at first dl repr kind fields order2 offsets2 b → a ≡ b
+  one_layout order order2 offsets offsets2 a b some s t =
+      same_layout (IsNamedLayout dl (list_repr dl repr kind) (parts_of dl fields)) order order2 offsets offsets2 a b
+      (one_named_layout dl (list_repr dl repr kind) (parts_of dl fields) some order order2 offsets offsets2 a.size b.size a.align.abi b.align.abi a.largest_niche b.largest_niche s.named t.named) s t
+
+  -- and in an order that is handed in
+  pub one_in_order : (order offsets offsets2 : List ℕ) (a b : LayoutData F V) → IsNonEmptyIfUnsized kind (length (parts_of dl fields))
+      → IsOrderedLayout at first dl repr kind fields order offsets a → IsOrderedLayout at first dl repr kind fields order offsets2 b → a ≡ b
+  one_in_order order offsets offsets2 a b some s t =
+      let allowed = subst (λ n. IsAllowed (list_repr dl repr kind) n order) (sym (length-map fields (λ f. part_of dl f))) s.named.0 in
+      same_layout (IsLaidInOrder dl repr kind fields) order order offsets offsets2 a b
+      (one_placed dl (list_repr dl repr kind) (parts_of dl fields) some Start order order order offsets offsets2 a.size b.size a.align.abi b.align.abi a.largest_niche b.largest_niche
+      allowed refl refl s.named.1 t.named.1) s t

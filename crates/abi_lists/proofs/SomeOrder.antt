@@ -23,7 +23,7 @@ use Rattle.abi_lists.specs.declared.placing.ListFault.{ListFault}
 use Rattle.abi_lists.specs.Fault.{fault_in}
 use Rattle.abi_lists.specs.ListNiche.{begins_after, niche_in}
 use Rattle.abi_lists.specs.Part.{IsLawfulPart}
-use Rattle.abi_lists.specs.Placement.{IsNonEmptyIfUnsized, align_of, in_order, offsets_from, size_in, source_order, start_of}
+use Rattle.abi_lists.specs.Placement.{IsAllowed, IsNonEmptyIfUnsized, align_of, in_order, offsets_from, size_in, source_order, start_of}
 use Rattle.abi_lists.specs.Run.{IsNamedLayout, IsPlacedIn, space_wanted}
 use Rattle.abi_lists.proofs.Least.{allowed_permutes, named_allowed}
 use Rattle.abi_lists.proofs.PlacingLemmas.{length-offsets}
@@ -229,10 +229,10 @@ some_places n order places p long =
 -- ---- a list has an answer
 
 module _ (dl : TargetDataLayout) (repr : ListRepr) (parts : List Part) (law : All (IsLawfulPart dl) parts) (some : IsNonEmptyIfUnsized repr.kind (length parts)) where
-  some_placed : (bias : NicheBias) (order : List ℕ) → IsNamedOrder repr bias parts order → fault_in repr (size_bound dl) parts order ≡ None
+  pub some_placed : (bias : NicheBias) (order : List ℕ) → IsAllowed repr (length parts) order → fault_in repr (size_bound dl) parts order ≡ None
       → (offsets : List ℕ) × IsPlacedIn dl repr bias parts order offsets (size_in repr parts order) (align_of repr parts) (niche_in dl repr bias parts order)
-  some_placed bias order named clear =
-      let p = allowed_permutes repr (length parts) order (named_allowed repr bias parts order some named) in
+  some_placed bias order allowed clear =
+      let p = allowed_permutes repr (length parts) order allowed in
       let places = offsets_from repr.pack (start_of repr.pack repr.kind) (in_order parts order) in
       let many : length places ≡ length parts =
       length-offsets repr.pack (start_of repr.pack repr.kind) (in_order parts order) ∙ length-in parts order
@@ -245,9 +245,9 @@ module _ (dl : TargetDataLayout) (repr : ListRepr) (parts : List Part) (law : Al
         → (order : List ℕ) × (offsets : List ℕ) × (size : ℕ) × (align : ℕ) × (niche : Option Niche)
         × MatchBool b ((order ≡ second) × IsPlacedIn dl repr End parts order offsets size align niche) ((order ≡ first) × IsPlacedIn dl repr Start parts order offsets size align niche)
     second_if true second ends free =
-        let found = some_placed End second ends free in (second, found.0, size_in repr parts second, align_of repr parts, niche_in dl repr End parts second, (refl, found.1))
+        let found = some_placed End second (named_allowed repr End parts second some ends) free in (second, found.0, size_in repr parts second, align_of repr parts, niche_in dl repr End parts second, (refl, found.1))
     second_if false second ends free =
-        let found = some_placed Start first named clear in (first, found.0, size_in repr parts first, align_of repr parts, niche_in dl repr Start parts first, (refl, found.1))
+        let found = some_placed Start first (named_allowed repr Start parts first some named) clear in (first, found.0, size_in repr parts first, align_of repr parts, niche_in dl repr Start parts first, (refl, found.1))
 
     run_if : (o : Option ℕ) → space_wanted dl repr parts first ≡ o
         → (order : List ℕ) × (offsets : List ℕ) × (size : ℕ) × (align : ℕ) × (niche : Option Niche)
@@ -257,7 +257,7 @@ module _ (dl : TargetDataLayout) (repr : ListRepr) (parts : List Part) (law : Al
         ((order ≡ second) × IsPlacedIn dl repr End parts order offsets size align niche)
         ((order ≡ first) × IsPlacedIn dl repr Start parts order offsets size align niche))
     run_if None e =
-        let found = some_placed Start first named clear in (first, found.0, size_in repr parts first, align_of repr parts, niche_in dl repr Start parts first, (refl, found.1))
+        let found = some_placed Start first (named_allowed repr Start parts first some named) clear in (first, found.0, size_in repr parts first, align_of repr parts, niche_in dl repr Start parts first, (refl, found.1))
     run_if (Some space) e =
         let ends = some_named repr End parts in
         let free = second_clear dl repr parts first ends.0 _ space law some named clear e ends.1 in

@@ -50,3 +50,10 @@ abbrev pub LiesInSomeOrder : {F V : Type 0} → (at : ℕ → F) → TargetDataL
 LiesInSomeOrder at dl repr kind fields layout =
     (order : List ℕ) × (layout.fields ≡ Arbitrary (listed_offsets layout.fields) (map at order))
     × IsPlacedBy dl repr kind fields order (listed_offsets layout.fields) layout.size layout.align.abi
+
+-- the layout's fields lie one after another in this order, which is allowed and is its memory order; `number` tells the number
+-- of a field's index
+abbrev pub LiesInOrder : {F V : Type 0} → (number : F → ℕ) → TargetDataLayout → ReprOptions → StructKind → List (LayoutData F V) → (order : List F) → LayoutData F V → Type 0
+LiesInOrder number dl repr kind fields order layout =
+    (layout.fields ≡ Arbitrary (listed_offsets layout.fields) order)
+    × IsPlacedBy dl repr kind fields (map number order) (listed_offsets layout.fields) layout.size layout.align.abi

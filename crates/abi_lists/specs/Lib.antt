@@ -11,5 +11,6 @@ pub mod ListView
 pub mod Fields
 pub mod List
 pub mod Least
+pub mod InOrder
 pub mod Union
 pub mod Simd

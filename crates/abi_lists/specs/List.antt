@@ -1,10 +1,11 @@
 -- The layout of a list of fields.
-use Rattle.std.specs.Prelude.{◌≡◌, ◌⊎◌, ℕ, ◌≤◌, false, List, map, All, IfSome, Some, None, Result, Ok, Err, if◌then◌else◌}
+use Rattle.std.specs.Prelude.{◌≡◌, ◌⊎◌, ℕ, ◌≤◌, false, List, map, All, IfSome, Option, Some, None, Result, Ok, Err, if◌then◌else◌}
 use Rattle.std.specs.List.{list_any}
 use Rattle.abi_base.specs.declared.data_layout.TargetDataLayout.{TargetDataLayout}
 use Rattle.abi_base.specs.declared.struct_kind.StructKind.{StructKind}
 use Rattle.abi_base.specs.DataLayout.{size_bound}
 use Rattle.abi_scalar.specs.declared.fields_shape.FieldsShape.TheVariants.{Arbitrary}
+use Rattle.abi_scalar.specs.declared.niche.Niche.{Niche}
 use Rattle.abi_scalar.specs.declared.variants.Variants.TheVariants.{Single}
 use Rattle.abi_scalar.specs.declared.layout_data.LayoutData.{LayoutData}
 use Rattle.abi_scalar.specs.declared.error.LayoutCalculatorError.{LayoutCalculatorError}
@@ -40,9 +41,11 @@ unadjusted_of dl repr kind size align parts =
 abbrev pub list_seed : {F V : Type 0} → ReprOptions → StructKind → List (LayoutData F V) → ℕ
 list_seed repr kind fields = seed_with repr.field_shuffle_seed (movable kind fields)
 
--- The layout of these fields as one list, which lie in memory in this order, at these offsets; `at` makes the index of a field.
-pub record IsListLayout {F V : Type 0} (at : ℕ → F) (first : V) (dl : TargetDataLayout) (repr : ReprOptions) (kind : StructKind) (fields : List (LayoutData F V)) (order offsets : List ℕ) (layout : LayoutData F V) : Type 0 where
-  pub named : IsNamedLayout dl (list_repr dl repr kind) (parts_of dl fields) order offsets layout.size layout.align.abi layout.largest_niche
+-- The layout of these fields as one list, which lie in memory in this order, at these offsets, with the size, alignment and
+-- niche that a rule says; `at` makes the index of a field.
+pub record IsListBy {F V : Type 0} (Rule : (order offsets : List ℕ) → (size align : ℕ) → Option Niche → Type 0) (at : ℕ → F) (first : V)
+    (dl : TargetDataLayout) (repr : ReprOptions) (kind : StructKind) (fields : List (LayoutData F V)) (order offsets : List ℕ) (layout : LayoutData F V) : Type 0 where
+  pub named : Rule order offsets layout.size layout.align.abi layout.largest_niche
   pub shape : layout.fields ≡ Arbitrary offsets (map at order)
   pub variants : layout.variants ≡ Single first
   pub view : layout.backend_repr ≡ list_view dl (is_abi_fixed repr) layout.size layout.align.abi (parts_of dl fields) offsets
@@ -51,6 +54,12 @@ pub record IsListLayout {F V : Type 0} (at : ℕ → F) (first : V) (dl : Target
   pub unadjusted_abi_align : layout.unadjusted_abi_align ≡ unadjusted_of dl repr kind layout.size layout.align.abi (parts_of dl fields)
   pub repr_c : layout.repr_c ≡ lies_as_in_c repr fields
   pub seed : layout.randomization_seed ≡ list_seed repr kind fields
+
+-- the layout of these fields as one list, in the order that is named for them
+abbrev pub IsListLayout : {F V : Type 0} → (at : ℕ → F) → (first : V) → TargetDataLayout → ReprOptions → StructKind → List (LayoutData F V)
+    → (order offsets : List ℕ) → LayoutData F V → Type 0
+IsListLayout at first dl repr kind fields =
+    IsListBy (IsNamedLayout dl (list_repr dl repr kind) (parts_of dl fields)) at first dl repr kind fields
 
 -- the error tells the first fault of the fields in the order that is named for a bias to the start
 abbrev pub IsListError : {F V H : Type 0} → (layout_of : H → LayoutData F V) → TargetDataLayout → ReprOptions → StructKind → List H → LayoutCalculatorError H → Type 0

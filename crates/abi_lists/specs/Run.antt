@@ -15,7 +15,7 @@ use Rattle.abi_lists.specs.declared.placing.ListFault.TheVariants.{OutOfMemory}
 use Rattle.abi_lists.specs.Fault.{fault_in}
 use Rattle.abi_lists.specs.ListNiche.{begins_after, niche_in, space_beside}
 use Rattle.abi_lists.specs.Order.{IsNamedOrder}
-use Rattle.abi_lists.specs.Placement.{align_of, in_order, offsets_from, size_in, start_of}
+use Rattle.abi_lists.specs.Placement.{IsAllowed, align_of, in_order, offsets_from, size_in, start_of}
 
 -- The list laid out in an order, with the niche that the bias takes: these are the offsets in source order.
 pub record IsPlacedIn (dl : TargetDataLayout) (repr : ListRepr) (bias : NicheBias) (parts : List Part) (order offsets : List ℕ) (size align : ℕ) (niche : Option Niche) : Type 0 where
@@ -25,6 +25,12 @@ pub record IsPlacedIn (dl : TargetDataLayout) (repr : ListRepr) (bias : NicheBia
   pub alignment : align ≡ align_of repr parts
   pub largest : niche ≡ niche_in dl repr bias parts order
   pub faultless : fault_in repr (size_bound dl) parts order ≡ None
+
+-- The list laid out in an order that is allowed, with the niche that one of the biases takes.
+pub record IsInOrder (dl : TargetDataLayout) (repr : ListRepr) (parts : List Part) (order offsets : List ℕ) (size align : ℕ) (niche : Option Niche) : Type 0 where
+  pub allowed : IsAllowed repr (length parts) order
+  pub bias : NicheBias
+  pub placed : IsPlacedIn dl repr bias parts order offsets size align niche
 
 -- a list whose last field may be unsized keeps its first layout, as does one of a single field
 abbrev pub may_move : StructKind → (count : ℕ) → Bool

@@ -1,13 +1,18 @@
 //! Lists of fields, one after another in memory.
 
-ghost use Rattle.std.specs.Prelude.{◌≡◌, ◌+◌, ◌≤◌, All, IfOk, length, map};
+ghost use Rattle.std.specs.Prelude.{◌≡◌, ◌+◌, ◌<◌, ◌≤◌, All, IfOk, length, map};
 ghost use Rattle.std.specs.List.{list_any};
 ghost use Rattle.abi_index.specs.Slice.{items_of};
 ghost use Rattle.abi_base.specs.DataLayout.{IsLawfulDataLayout, size_bound};
+ghost use Rattle.abi_scalar.specs.declared.fields_shape.FieldsShape.TheVariants.{Arbitrary};
+ghost use Rattle.abi_scalar.specs.declared.variants.Variants.TheVariants.{Single};
 ghost use Rattle.abi_scalar.specs.Lawful.{IsLawfulLayout};
+ghost use Rattle.abi_scalar.specs.Repr.{is_abi_fixed};
 ghost use Rattle.abi_lists.specs.Fault.{IsErrorOf, IsFaultIndex};
-ghost use Rattle.abi_lists.specs.List.{HasLawfulAligns, IsListAnswer, unadjusted_of};
-ghost use Rattle.abi_lists.specs.ListView.{bulk_of, bulky_parts};
+ghost use Rattle.abi_lists.specs.Fields.{greatest_repr_align, lies_as_in_c};
+ghost use Rattle.abi_lists.specs.List.{HasLawfulAligns, IsListAnswer, list_seed, parts_of, unadjusted_of};
+ghost use Rattle.abi_lists.specs.ListView.{bulk_of, bulky_parts, list_view};
+ghost use Rattle.abi_lists.specs.Run.{IsInOrder};
 ghost use Rattle.abi_lists.specs.Placement.{IsLawfulPrefix, IsNonEmptyIfUnsized, list_repr};
 
 use crate::fields::{greatest_repr_align, lies_as_in_c, seed_with};
@@ -70,7 +75,7 @@ fn fields_named<FieldIdx: Idx>(
 }
 
 /// The error that tells a fault.
-fn error_of<F: Copy>(fields: &[F], fault: ListFault) -> LayoutCalculatorError<F>
+pub(crate) fn error_of<F: Copy>(fields: &[F], fault: ListFault) -> LayoutCalculatorError<F>
     requires { IsFaultIndex (length fields.now) fault }
     ensures { IsErrorOf fields.now fault result }
 {
@@ -101,6 +106,86 @@ fn unadjusted_align<FieldIdx: Idx, VariantIdx: Idx, F: LayoutHandle<FieldIdx, Va
     }
 }
 
+/// The layout of a list that is placed.
+#[inline(never)]
+pub(crate) fn layout_of_placed<
+    FieldIdx: Idx,
+    VariantIdx: Idx,
+    F: LayoutHandle<FieldIdx, VariantIdx>,
+>(
+    alloc: Global,
+    dl: &TargetDataLayout,
+    fields: &[F],
+    repr: &ReprOptions,
+    list: &ListRepr,
+    placed: PlacedList,
+) -> Result<LayoutData<FieldIdx, VariantIdx>, AllocError>
+    requires data_layout { IsLawfulDataLayout dl.now }
+    requires fields { All (λ f. IsLawfulLayout dl.now (F.layout_of f)) fields.now }
+    requires repr { HasLawfulAligns repr.now }
+    requires list { list.now ≡ list_repr dl.now repr.now list.now.kind }
+    requires prefix { IsLawfulPrefix list.now.kind (size_bound dl.now) }
+    requires tail { IsNonEmptyIfUnsized list.now.kind (length fields.now) }
+    requires count { length fields.now ≤ FieldIdx.MAX_INDEX + 1 }
+    requires placed { IsInOrder dl.now list.now (parts_of dl.now (map F.layout_of fields.now)) placed.order.items
+        placed.offsets.items placed.size placed.align placed.largest_niche }
+    requires fits { placed.size < size_bound dl.now }
+    ensures size { IfOk result (λ l. l.size ≡ placed.size) }
+    ensures align { IfOk result (λ l. l.align.abi ≡ placed.align) }
+    ensures niche { IfOk result (λ l. l.largest_niche ≡ placed.largest_niche) }
+    ensures shape { IfOk result (λ l.
+        l.fields ≡ Arbitrary placed.offsets.items (map FieldIdx.at placed.order.items)) }
+    ensures variants { IfOk result (λ l. l.variants ≡ Single (VariantIdx.at 0)) }
+    ensures view { IfOk result (λ l.
+        l.backend_repr ≡ list_view dl.now (is_abi_fixed repr.now) l.size l.align.abi
+        (parts_of dl.now (map F.layout_of fields.now)) placed.offsets.items) }
+    ensures uninhabited { IfOk result (λ l.
+        l.uninhabited ≡ list_any (λ f. f.uninhabited) (map F.layout_of fields.now)) }
+    ensures max_repr_align { IfOk result (λ l.
+        l.max_repr_align ≡ greatest_repr_align repr.now.align (map F.layout_of fields.now)) }
+    ensures unadjusted { IfOk result (λ l.
+        l.unadjusted_abi_align ≡ unadjusted_of dl.now repr.now list.now.kind l.size l.align.abi
+        (parts_of dl.now (map F.layout_of fields.now))) }
+    ensures repr_c { IfOk result (λ l. l.repr_c ≡ lies_as_in_c repr.now (map F.layout_of fields.now)) }
+    ensures seed { IfOk result (λ l.
+        l.randomization_seed ≡ list_seed repr.now list.now.kind (map F.layout_of fields.now)) }
+    ensures lawful { IfOk result (IsLawfulLayout dl.now) }
+{
+    let PlacedList {
+        offsets,
+        order,
+        size,
+        align,
+        largest_niche,
+        last_niche: _,
+    } = placed;
+    let parts: Parts<'_, FieldIdx, VariantIdx, F> = Parts::new(dl, fields);
+    let bulk = bulk_of(&parts);
+    let fixed = repr.inhibit_newtype_abi_optimization();
+    let view = list_view(dl, fixed, size, align, &parts, &offsets, bulk);
+    let unadjusted_abi_align = unadjusted_align(dl, repr, list, size, align, &parts, bulk);
+    let offsets = IndexVec::from_raw(offsets);
+    let in_memory_order = fields_named(alloc, &order)?;
+    Ok(LayoutData {
+        fields: FieldsShape::Arbitrary {
+            offsets,
+            in_memory_order,
+        },
+        variants: Variants::Single {
+            index: VariantIdx::new(0),
+        },
+        backend_repr: view,
+        largest_niche,
+        uninhabited: any_uninhabited(fields),
+        align: AbiAlign::new(align),
+        size,
+        max_repr_align: greatest_repr_align(repr.align, fields),
+        unadjusted_abi_align,
+        repr_c: lies_as_in_c(repr, fields),
+        randomization_seed: seed_with(repr.field_shuffle_seed, movable(list.kind, fields)),
+    })
+}
+
 /// The layout of these fields as one list.
 #[inline(never)]
 fn layout_of_list<FieldIdx: Idx, VariantIdx: Idx, F: LayoutHandle<FieldIdx, VariantIdx> + Copy>(
@@ -126,38 +211,7 @@ fn layout_of_list<FieldIdx: Idx, VariantIdx: Idx, F: LayoutHandle<FieldIdx, Vari
         Ok(placed) => placed,
         Err(fault) => return Err(error_of(fields, fault)),
     };
-    let PlacedList {
-        offsets,
-        order,
-        size,
-        align,
-        largest_niche,
-        last_niche: _,
-    } = placed;
-    let bulk = bulk_of(&parts);
-    let fixed = repr.inhibit_newtype_abi_optimization();
-    let view = list_view(dl, fixed, size, align, &parts, &offsets, bulk);
-    let unadjusted_abi_align = unadjusted_align(dl, repr, list, size, align, &parts, bulk);
-    let offsets = IndexVec::from_raw(offsets);
-    let in_memory_order = fields_named(alloc, &order)?;
-    Ok(LayoutData {
-        fields: FieldsShape::Arbitrary {
-            offsets,
-            in_memory_order,
-        },
-        variants: Variants::Single {
-            index: VariantIdx::new(0),
-        },
-        backend_repr: view,
-        largest_niche,
-        uninhabited: any_uninhabited(fields),
-        align: AbiAlign::new(align),
-        size,
-        max_repr_align: greatest_repr_align(repr.align, fields),
-        unadjusted_abi_align,
-        repr_c: lies_as_in_c(repr, fields),
-        randomization_seed: seed_with(repr.field_shuffle_seed, movable(list.kind, fields)),
-    })
+    Ok(layout_of_placed(alloc, dl, fields, repr, list, placed)?)
 }
 
 /// The layout of these fields as one list of this kind, one after another in memory, in an order that the `repr`

@@ -21,7 +21,8 @@ fn is_bulky(part: &Part) -> bool
     }
 }
 
-/// The fields that have bytes, or are seen as more than bytes in memory, by their indices: as far as the list's view asks.
+/// The fields that have bytes, or are seen as more than bytes in memory, by their indices: as far as the list's view
+/// asks.
 #[derive(Clone, Copy)]
 pub enum Bulk {
     Nothing,

@@ -1,13 +1,15 @@
 //! The layout of a list's fields, its niche as near an edge as the named orders bring it.
 
-ghost use Rattle.std.specs.Prelude.{◌≡◌, ℕ, ◌+◌, ◌^◌, ◌<◌, ◌≤◌, ◌⊎◌, All, Err, IfOk, IfErr, IfSome, IsTrue, List, Some, None, length, map, slice_index, if◌then◌else◌};
+ghost use Rattle.std.specs.Prelude.{◌≡◌, ℕ, ◌+◌, ◌^◌, ◌<◌, ◌≤◌, ◌⊎◌, All, Err, IfOk, IfErr, IfSome, IsPermutation, IsTrue, List, Some, None, length, map, slice_index, if◌then◌else◌};
 ghost use Rattle.abi_base.specs.DataLayout.{IsLawfulDataLayout, size_bound};
 ghost use Rattle.abi_scalar.specs.Lawful.{IsLawfulNiche};
 ghost use Rattle.abi_scalar.specs.Niche.{IsReadableNiche};
 ghost use Rattle.abi_lists.specs.Part.{IsLawfulPart};
-ghost use Rattle.abi_lists.specs.Placement.{IsLawfulRepr};
+ghost use Rattle.abi_lists.specs.Fault.{fault_in};
+ghost use Rattle.abi_lists.specs.Placement.{IsLawfulRepr, source_order};
 ghost use Rattle.abi_lists.specs.ListNiche.{begins_after, niche_in, space_beside};
 ghost use Rattle.abi_lists.specs.Order.{IsNamedOrder};
+ghost use Rattle.abi_lists.specs.declared.placing.ListFault.TheVariants.{OutOfMemory};
 ghost use Rattle.abi_lists.specs.Run.{IsFaultOf, IsNamedLayout, IsPlacedIn, may_move};
 
 use crate::list_niche::space_beside;
@@ -35,6 +37,53 @@ pub struct PlacedList {
     pub last_niche: Option<Niche>,
 }
 
+/// The list in this order, with the niche that the bias takes.
+pub(crate) fn placed_in<FieldIdx: Idx, VariantIdx: Idx, F: LayoutHandle<FieldIdx, VariantIdx>>(
+    alloc: Global,
+    dl: &TargetDataLayout,
+    parts: &Parts<'_, FieldIdx, VariantIdx, F>,
+    repr: &ListRepr,
+    bias: NicheBias,
+    order: Vec<usize>,
+) -> Result<PlacedList, ListFault>
+    requires data_layout { IsLawfulDataLayout dl.now }
+    requires lawful { All (IsLawfulPart dl.now) parts.now }
+    requires repr { IsLawfulRepr repr.now (length parts.now) (size_bound dl.now) }
+    requires order { IsPermutation (source_order (length parts.now)) order.items }
+    ensures same { IfOk result (λ list. list.order ≡ order) }
+    ensures placed { IfOk result (λ list.
+        IsPlacedIn dl.now repr.now bias parts.now order.items list.offsets.items list.size list.align
+        list.largest_niche) }
+    ensures last { IfOk result (λ list.
+        list.last_niche ≡ niche_in dl.now repr.now NicheBias.End parts.now order.items) }
+    ensures readable { IfOk result (λ list. IfSome list.largest_niche (IsReadableNiche dl.now)) }
+    ensures inside { IfOk result (λ list. IfSome list.largest_niche (IsLawfulNiche dl.now list.size)) }
+    ensures fits { IfOk result (λ list. list.size < size_bound dl.now) }
+    ensures fault { IfErr result (λ fault.
+        (fault_in repr.now (size_bound dl.now) parts.now order.items ≡ Some fault) ⊎ (fault ≡ OutOfMemory)) }
+{
+    let Placement {
+        offsets,
+        end,
+        niche,
+    } = place(alloc, dl, parts, &order, repr)?;
+    let largest_niche = niche.biased(bias);
+    let last_niche = niche.biased(NicheBias::End);
+    let align = list_align(parts, repr);
+    let size = rounded(end, align);
+    if size.bytes() >= dl.obj_size_bound() {
+        return Err(ListFault::TooLarge);
+    }
+    Ok(PlacedList {
+        offsets,
+        order,
+        size,
+        align,
+        largest_niche,
+        last_niche,
+    })
+}
+
 /// The list in the order that is named for the bias.
 fn run<FieldIdx: Idx, VariantIdx: Idx, F: LayoutHandle<FieldIdx, VariantIdx>>(
     alloc: Global,
@@ -58,26 +107,7 @@ fn run<FieldIdx: Idx, VariantIdx: Idx, F: LayoutHandle<FieldIdx, VariantIdx>>(
     ensures fault { IfErr result (IsFaultOf dl.now repr.now bias parts.now) }
 {
     let order = memory_order(alloc, parts, repr, bias)?;
-    let Placement {
-        offsets,
-        end,
-        niche,
-    } = place(alloc, dl, parts, &order, repr)?;
-    let largest_niche = niche.biased(bias);
-    let last_niche = niche.biased(NicheBias::End);
-    let align = list_align(parts, repr);
-    let size = rounded(end, align);
-    if size.bytes() >= dl.obj_size_bound() {
-        return Err(ListFault::TooLarge);
-    }
-    Ok(PlacedList {
-        offsets,
-        order,
-        size,
-        align,
-        largest_niche,
-        last_niche,
-    })
+    placed_in(alloc, dl, parts, repr, bias, order)
 }
 
 /// Whether a second order is tried.

@@ -1,7 +1,7 @@
 -- Why a type has no layout.
 use Rattle.std.specs.Prelude.{ℕ, List, codes}
 use Rattle.abi_scalar.specs.declared.error.LayoutCalculatorError.{LayoutCalculatorError}
-use Rattle.abi_scalar.specs.declared.error.LayoutCalculatorError.TheVariants.{UnexpectedUnsized, SizeOverflow, EmptyUnion, ReprConflict, ZeroLengthSimdType, OversizedSimdType, NonPrimitiveSimdType, OutOfMemory}
+use Rattle.abi_scalar.specs.declared.error.LayoutCalculatorError.TheVariants.{UnexpectedUnsized, SizeOverflow, EmptyUnion, ReprConflict, ZeroLengthSimdType, OversizedSimdType, NonPrimitiveSimdType, BadOrder, OutOfMemory}
 
 -- the same without the field
 abbrev pub bare_error : {F : Type 0} → LayoutCalculatorError F → LayoutCalculatorError (Unit {0})
@@ -12,6 +12,7 @@ bare_error ReprConflict = ReprConflict
 bare_error ZeroLengthSimdType = ZeroLengthSimdType
 bare_error (OversizedSimdType max_lanes) = OversizedSimdType max_lanes
 bare_error (NonPrimitiveSimdType field) = NonPrimitiveSimdType tt
+bare_error BadOrder = BadOrder
 bare_error OutOfMemory = OutOfMemory
 
 -- what is wrong, in plain words
@@ -23,4 +24,5 @@ fallback_text ReprConflict = codes "type has an invalid repr"
 fallback_text ZeroLengthSimdType = codes "invalid simd type definition"
 fallback_text (OversizedSimdType max_lanes) = codes "invalid simd type definition"
 fallback_text (NonPrimitiveSimdType field) = codes "invalid simd type definition"
+fallback_text BadOrder = codes "field order is not allowed"
 fallback_text OutOfMemory = codes "out of memory"

@@ -29,6 +29,8 @@ pub enum LayoutCalculatorError<F> {
     },
     /// A vector's element is no scalar: this one.
     NonPrimitiveSimdType(F),
+    /// An order that is handed in names a field twice or not at all, or moves a last field that may be unsized.
+    BadOrder,
     /// A growth of memory was refused.
     OutOfMemory,
 }
@@ -54,6 +56,7 @@ impl<F> LayoutCalculatorError<F> {
             LayoutCalculatorError::NonPrimitiveSimdType(_) => {
                 LayoutCalculatorError::NonPrimitiveSimdType(())
             }
+            LayoutCalculatorError::BadOrder => LayoutCalculatorError::BadOrder,
             LayoutCalculatorError::OutOfMemory => LayoutCalculatorError::OutOfMemory,
         }
     }
@@ -72,6 +75,7 @@ impl<F> LayoutCalculatorError<F> {
             LayoutCalculatorError::ZeroLengthSimdType
             | LayoutCalculatorError::OversizedSimdType { .. }
             | LayoutCalculatorError::NonPrimitiveSimdType(_) => "invalid simd type definition",
+            LayoutCalculatorError::BadOrder => "field order is not allowed",
             LayoutCalculatorError::OutOfMemory => "out of memory",
         })
     }

@@ -1,5 +1,5 @@
-//! Walks over types of each kind of layout: scalars, pairs, structs, arrays, unions, enums by tag and by niche, vectors, and types
-//! of no value.
+//! Walks over types of each kind of layout: scalars, pairs, structs, arrays, unions, enums by tag and by niche,
+//! vectors, and types of no value.
 
 ghost use Rattle.std.specs.Prelude.{IsTrue};
 ghost use Rattle.abi_types.specs.Ty.Runs.{IsVariantIndex};
@@ -36,7 +36,8 @@ fn push_leaves(alloc: Global, nodes: &mut Vec<Node>) -> Result<(), AllocError> {
     push(alloc, nodes, listed(alloc, &[], 0, Align::FOUR)?, &[], &[])
 }
 
-/// Structs: with gaps, of one field that takes bytes, of one that is more than a place, of two numbers that are seen as a pair.
+/// Structs: with gaps, of one field that takes bytes, of one that is more than a place, of two numbers that are seen as
+/// a pair.
 fn push_structs(alloc: Global, nodes: &mut Vec<Node>) -> Result<(), AllocError> {
     let c = Align::FOUR;
     push(
@@ -72,7 +73,8 @@ fn union(count: usize, bytes: u64) -> Data {
     shaped(fields, only(), MEMORY, bytes, Align::FOUR)
 }
 
-/// Arrays: of bytes with gaps, of one number, of no number; and unions: of a byte and a number, of a byte alone in more bytes.
+/// Arrays: of bytes with gaps, of one number, of no number; and unions: of a byte and a number, of a byte alone in more
+/// bytes.
 fn push_arrays_and_unions(alloc: Global, nodes: &mut Vec<Node>) -> Result<(), AllocError> {
     push(alloc, nodes, array(2, 3, 6), &[0], &[])?;
     push(alloc, nodes, array(4, 1, 4), &[1], &[])?;
@@ -107,8 +109,8 @@ fn tagged(
     ))
 }
 
-/// Enums of two variants, a byte and a number or a byte: told apart by a tag at the first byte, or by the number; their variants
-/// stand before them.
+/// Enums of two variants, a byte and a number or a byte: told apart by a tag at the first byte, or by the number; their
+/// variants stand before them.
 fn push_enums(alloc: Global, nodes: &mut Vec<Node>) -> Result<(), AllocError> {
     let variants = [13, 14];
     push(
@@ -137,7 +139,8 @@ fn push_enums(alloc: Global, nodes: &mut Vec<Node>) -> Result<(), AllocError> {
     push(alloc, nodes, tagged(alloc, 4, U32, niche)?, &[1], &variants)
 }
 
-/// A vector of four floats, and types that hold it: a struct, a union, an array, and a struct in which it lies behind a gap.
+/// A vector of four floats, and types that hold it: a struct, a union, an array, and a struct in which it lies behind a
+/// gap.
 fn push_vectors(alloc: Global, nodes: &mut Vec<Node>) -> Result<(), AllocError> {
     push(alloc, nodes, scalar(F32, 4, Align::FOUR), &[], &[])?;
     push(alloc, nodes, array(4, 4, 16), &[17], &[])?;
@@ -197,8 +200,8 @@ fn kinds(alloc: Global) -> Result<Vec<Node>, AllocError> {
     Ok(nodes)
 }
 
-/// The one field that is more than a place, the one that takes bytes, whether the type is passed as one vector of 16 bytes, and whether
-/// some bytes are padding of some variants alone.
+/// The one field that is more than a place, the one that takes bytes, whether the type is passed as one vector of 16
+/// bytes, and whether some bytes are padding of some variants alone.
 type Walked = (Option<usize>, Option<usize>, bool, bool);
 
 /// Each type by its place, and what the walks over it answer.
@@ -261,8 +264,8 @@ fn walks_over_each_kind_are_told(rt: HostRuntime) -> Result<(), Fail> {
     Ok(())
 }
 
-/// Whether a type that no mark is set of is passed and seen as itself: peeling leaves it, it isn't passed by a pointer, no vector of
-/// another size and no complex number.
+/// Whether a type that no mark is set of is passed and seen as itself: peeling leaves it, it isn't passed by a pointer,
+/// no vector of another size and no complex number.
 fn is_plain(nodes: &[Node], at: usize) -> bool {
     if !keeps_laws(nodes, 4, at) {
         return false;
@@ -335,7 +338,8 @@ fn padding_of_each_kind_is_told(rt: HostRuntime) -> Result<(), Fail> {
     Ok(())
 }
 
-/// Each type by its place, a variant, and the runs that other variants cover alone; of types whose variants no tag tells apart, none.
+/// Each type by its place, a variant, and the runs that other variants cover alone; of types whose variants no tag
+/// tells apart, none.
 const UNUSED: [(usize, usize, &[(u64, u64)]); 9] = [
     (15, 0, &[(1, 1)]),
     (15, 1, &[(2, 1), (4, 4)]),

@@ -1,5 +1,6 @@
-//! What no line of text can ask of the libraries: index types and handles of a caller's own, a caller's own types with their walks, and
-//! what only a text, a hash or a refusal of a tree that no line writes shows. It has tests, and types for them.
+//! What no line of text can ask of the libraries: index types and handles of a caller's own, a caller's own types with
+//! their walks, and what only a text, a hash or a refusal of a tree that no line writes shows. It has tests, and types
+//! for them.
 #![tactic(auto)]
 
 #[cfg(test)]

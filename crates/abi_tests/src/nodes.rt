@@ -1,4 +1,5 @@
-//! Types that stand in one list, each made of others by their places, and told by handles. Whether one keeps the laws is tested.
+//! Types that stand in one list, each made of others by their places, and told by handles. Whether one keeps the laws
+//! is tested.
 
 ghost use Rattle.std.specs.Prelude.{◌≡◌, ℕ, ◌+◌, ◌<◌, ◌≤◌, IfSome, IsTrue};
 ghost use Rattle.abi_scalar.specs.Shape.{field_count, field_offset};
@@ -13,7 +14,8 @@ use abi_types::{Layout, TyAbiInterface, TyAndLayout};
 use std::fmt;
 use std::fmt::{Debug, Display};
 
-/// A type: its layout, and where the types of its fields and its variants stand. Elements have one type, which stands first.
+/// A type: its layout, and where the types of its fields and its variants stand. Elements have one type, which stands
+/// first.
 #[derive(Drop)]
 pub struct Node {
     pub layout: LayoutData<FieldIdx, VariantIdx>,

@@ -1,4 +1,5 @@
-//! What numbers tell beside their calls: their order, sums in place, constants, names, and what a data layout says of itself.
+//! What numbers tell beside their calls: their order, sums in place, constants, names, and what a data layout says of
+//! itself.
 
 use abi_base::{
     AddressSpace, Align, Endian, Float, Integer, Primitive, Size, TargetDataLayout, UnknownEndian,

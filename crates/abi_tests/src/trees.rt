@@ -1,4 +1,5 @@
-//! Trees that no line writes: alignments beyond the limit, seeds of a type's own, and types that are passed by a pointer.
+//! Trees that no line writes: alignments beyond the limit, seeds of a type's own, and types that are passed by a
+//! pointer.
 
 ghost use Rattle.std.specs.Prelude.{IsTrue};
 ghost use Rattle.abi_types.specs.Ty.Lawful.{NamesVariant};
@@ -63,7 +64,8 @@ fn is_refused(alloc: Global, tree: &TypeTree, wanted: Option<LayError>) -> Resul
     }
 }
 
-/// Alignments in bytes, whether they are those of a packed type, and why a struct and a union with no fields are refused.
+/// Alignments in bytes, whether they are those of a packed type, and why a struct and a union with no fields are
+/// refused.
 const ALIGNED: [(u64, bool, Option<LayError>, LayError); 4] = [
     (1 << 29, false, None, LayError::EmptyUnion),
     (1 << 29, true, None, LayError::EmptyUnion),

@@ -224,8 +224,8 @@ const ROWS: [(usize, Want); 34] = [
     (3, Want::Integer(1)),
     (4, Want::Refused),
     (5, Want::NoData),
-    // Structs: of `f64` and itself a struct, of equal and of unequal numbers, with gaps, on one another, out of order, and with
-    // types of no bytes between.
+    // Structs: of `f64` and itself a struct, of equal and of unequal numbers, with gaps, on one another, out of order,
+    // and with types of no bytes between.
     (6, Want::Float(8)),
     (7, Want::Float(8)),
     (8, Want::Float(4)),

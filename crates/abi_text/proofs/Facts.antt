@@ -58,7 +58,7 @@ module _ (dl : TargetDataLayout) where
       (one_more (pair (full dl (Int I8 false)) a_bool) no_trees pair_words [] pair_written no_more)
 
   -- a struct whose last field stays last
-  pub struct_written : IsWrittenAs dl (struct asked.repr false two_fields) struct_words
+  pub struct_written : IsWrittenAs dl (struct asked.repr false None two_fields) struct_words
   struct_written = a_struct asked (codes "C,tail") two_fields (pointer_words ++ pair_words) refl fields_written
 
   -- `enum C ( -1 ( bool ) 3 ( ) )`: two variants, the second of which has no field

@@ -19,7 +19,7 @@ use Rattle.abi_base.specs.Float.{float_text}
 use Rattle.abi_text.specs.Printing.{integer_text}
 use Rattle.abi_text.specs.Reading.{Agrees, read}
 use Rattle.abi_text.specs.Words.{begins_plain, grown, is_plain, words_of}
-use Rattle.abi_text.specs.Written.{IsNumeral, IsPrimitiveWrittenAs, IsScalarWrittenAs, IsWrittenAs, AreWrittenAs, an_integer, an_index, a_float, a_pointer, a_pointer_in, every_number, the_bool, the_char, the_ref, a_range, of_a_union, a_scalar, a_pair, no_value, one_value, an_array, a_vector, a_struct, a_union, an_enum, a_coroutine, no_more, one_more, AreVariantsWrittenAs, no_variant_more, one_variant_more, IsDiscriminant, not_negative, negative, in_parentheses, AreNumerals, no_number_more, one_number_more, AreStatesWrittenAs, no_state_more, one_state_more, AreConflictsWrittenAs, no_conflict_more, one_conflict_more, index_text, IsLineOf, no_words, a_space, an_opening, a_closing, a_word, nesting, vector_word}
+use Rattle.abi_text.specs.Written.{IsNumeral, IsPrimitiveWrittenAs, IsScalarWrittenAs, IsWrittenAs, AreWrittenAs, an_integer, an_index, a_float, a_pointer, a_pointer_in, every_number, the_bool, the_char, the_ref, a_range, of_a_union, a_scalar, a_pair, no_value, one_value, an_array, a_vector, a_struct, an_ordered, a_union, an_enum, a_coroutine, no_more, one_more, AreVariantsWrittenAs, no_variant_more, one_variant_more, IsDiscriminant, not_negative, negative, in_parentheses, AreNumerals, no_number_more, one_number_more, AreStatesWrittenAs, no_state_more, one_state_more, AreConflictsWrittenAs, no_conflict_more, one_conflict_more, index_text, IsLineOf, no_words, a_space, an_opening, a_closing, a_word, nesting, vector_word}
 use Rattle.abi_text.proofs.Numerals.{numeral_digits}
 use Rattle.abi_text.proofs.ReprWords.{IsPlain, both, digit_plain, struct_repr_plain, union_repr_plain}
 use Rattle.abi_text.proofs.Text.{words_alone, words_grow}
@@ -153,6 +153,8 @@ module _ (dl : TargetDataLayout) where
     tree_words t words (a_vector count packed text e more said is) = (vector_word_word packed, (numeral_word 64 count text (omega arith) said, tree_words e more is))
     tree_words t words (a_struct asked text ts more said are) =
         (inl refl, (plain_word text (struct_repr_plain text asked said), (inr (inl refl), words_append more (codes ")" ∷ []) (each_words ts more are) (inr (inr refl), tt))))
+    tree_words t words (an_ordered asked text is ts indices more said numbers are) =
+        (inl refl, (plain_word text (struct_repr_plain text asked said), words_append (in_parentheses indices) (in_parentheses more) (parenthesis_words indices (numerals_words is indices numbers)) (parenthesis_words more (each_words ts more are))))
     tree_words t words (a_union repr text ts more said are) =
         (inl refl, (plain_word text (union_repr_plain text repr said), (inr (inl refl), words_append more (codes ")" ∷ []) (each_words ts more are) (inr (inr refl), tt))))
     tree_words t words (an_enum repr text vs more said are) =

@@ -1,5 +1,5 @@
 -- A written type reads back as itself.
-use Rattle.std.proofs.Common.{◌≡◌, ℕ, ◌+◌, ◌^◌, ◌≤◌, ◌<◌, Bool, true, false, List, [], ◌∷◌, ◌++◌, length, Ok, refl, sym, ap, ap₂, ◌∙◌, arith, append_assoc, append-nil, length-append}
+use Rattle.std.proofs.Common.{◌≡◌, ℕ, ◌+◌, ◌^◌, ◌≤◌, ◌<◌, Bool, true, false, List, [], ◌∷◌, ◌++◌, None, Some, length, Ok, refl, sym, ap, ap₂, ◌∙◌, arith, append_assoc, append-nil, length-append}
 use Rattle.std.specs.Prelude.{◌==◌, codes}
 use Rattle.std.specs.Char.{is_ascii_digit}
 use Rattle.std.specs.Str.{all_ascii_digits, bytes_eq}
@@ -11,9 +11,10 @@ use Rattle.abi_text.specs.declared.reader.begun.Want.{Want}
 use Rattle.abi_text.specs.declared.reader.begun.Want.TheVariants as want
 use Rattle.abi_text.specs.declared.reader.begun.ScalarPlace.TheVariants as scalar_place
 use Rattle.abi_text.specs.declared.reader.begun.CoroutineWant.TheVariants as part
+use Rattle.abi_text.specs.declared.reader.begun.OrderWant.TheVariants as order
 use Rattle.abi_text.specs.declared.reader.repr_text.StructRepr.{StructRepr}
-use Rattle.abi_text.specs.Reading.{Begun, State, elements, lanes, fields, members, variants_so_far, variant, variants_in, coroutine_with, in_prefix, in_locals, between_states, in_state, in_conflicts, at_count, at_lanes, at_repr, at_union_repr, at_enum_repr, at_discriminant, at_local, at_row, at_column, next, put, read, read_from, waiting}
-use Rattle.abi_text.specs.Written.{IsWrittenAs, AreWrittenAs, a_scalar, a_pair, no_value, one_value, an_array, a_vector, a_struct, a_union, an_enum, a_coroutine, no_more, one_more, AreVariantsWrittenAs, no_variant_more, one_variant_more, IsNumeral, IsDiscriminant, not_negative, negative, in_parentheses, AreNumerals, no_number_more, one_number_more, AreStatesWrittenAs, no_state_more, one_state_more, AreConflictsWrittenAs, no_conflict_more, one_conflict_more, nesting, nesting_of_fields, nesting_of_variants, vector_word}
+use Rattle.abi_text.specs.Reading.{Begun, State, elements, lanes, fields, ordering, ordered, members, at_index, at_order_repr, variants_so_far, variant, variants_in, coroutine_with, in_prefix, in_locals, between_states, in_state, in_conflicts, at_count, at_lanes, at_repr, at_union_repr, at_enum_repr, at_discriminant, at_local, at_row, at_column, next, put, read, read_from, waiting}
+use Rattle.abi_text.specs.Written.{IsWrittenAs, AreWrittenAs, a_scalar, a_pair, no_value, one_value, an_array, a_vector, a_struct, an_ordered, a_union, an_enum, a_coroutine, no_more, one_more, AreVariantsWrittenAs, no_variant_more, one_variant_more, IsNumeral, IsDiscriminant, not_negative, negative, in_parentheses, AreNumerals, no_number_more, one_number_more, AreStatesWrittenAs, no_state_more, one_state_more, AreConflictsWrittenAs, no_conflict_more, one_conflict_more, nesting, nesting_of_fields, nesting_of_variants, vector_word}
 use Rattle.abi_text.proofs.Numerals.{both, numeral_read, numeral_digits, discriminant_read}
 use Rattle.abi_text.proofs.ScalarsRead.{not_deep, one_word, pair_takes, read_scalar, type_takes}
 
@@ -39,6 +40,9 @@ TakesMore top = (t : Tree) (ts : List Tree) (begun : List Begun) → put t (top 
 
 takes_fields : (asked : StructRepr) → TakesMore (fields asked)
 takes_fields asked t ts begun = refl
+
+takes_ordered : (asked : StructRepr) (is : List ℕ) → TakesMore (ordered asked is)
+takes_ordered asked is t ts begun = refl
 
 takes_members : (repr : ReprOptions) → TakesMore (members repr)
 takes_members repr t ts begun = refl
@@ -90,19 +94,29 @@ module _ (dl : TargetDataLayout) where
       ∙ one_word dl inner after (number + 1 + length words) (codes ")") rest state (closes (number + 1 + length words))
       ∙ ap (λ n. read_from dl n state rest) there
 
-  read_numerals : (ns : List ℕ) (words : List (List ℕ)) → AreNumerals ns words → (ps ls : List Tree) (ss : List (List ℕ)) (done : List ℕ) (begun : List Begun) (number : ℕ) (rest : List (List ℕ))
-      → read_from dl number (waiting (want.Coroutine part.Local) (coroutine_with (in_state ps ls ss done) ∷ begun)) (words ++ rest)
-      ≡ read_from dl (number + length words) (waiting (want.Coroutine part.Local) (coroutine_with (in_state ps ls ss (done ++ ns)) ∷ begun)) rest
-  read_numerals ns words no_number_more ps ls ss done begun number rest =
+  -- a list of indices takes a numeral as its next one
+  abbrev TakesNumbers : Want → (List ℕ → Begun) → Type 0
+  TakesNumbers w top =
+      (k : ℕ) (text : List ℕ) → IsNumeral 64 k text → (done : List ℕ) (begun : List Begun) (number : ℕ) → next dl number (top done ∷ begun) text w ≡ Ok (waiting w (top (done ++ k ∷ []) ∷ begun))
+
+  takes_local : (ps ls : List Tree) (ss : List (List ℕ)) → TakesNumbers (want.Coroutine part.Local) (λ ks. coroutine_with (in_state ps ls ss ks))
+  takes_local ps ls ss k text said done begun number =
+      ap₂ (λ closes o. at_local number closes (coroutine_with (in_state ps ls ss done) ∷ begun) o) (numeral_no_end 64 k text (omega arith) said) (numeral_read 64 k text (omega arith) said)
+
+  takes_index : (asked : StructRepr) → TakesNumbers (want.Order order.Index) (ordering asked)
+  takes_index asked k text said done begun number =
+      ap₂ (λ closes o. at_index number closes (ordering asked done ∷ begun) o) (numeral_no_end 64 k text (omega arith) said) (numeral_read 64 k text (omega arith) said)
+
+  read_numerals : (w : Want) (top : List ℕ → Begun) → TakesNumbers w top → (ns : List ℕ) (words : List (List ℕ)) → AreNumerals ns words → (done : List ℕ) (begun : List Begun) (number : ℕ) (rest : List (List ℕ))
+      → read_from dl number (waiting w (top done ∷ begun)) (words ++ rest) ≡ read_from dl (number + length words) (waiting w (top (done ++ ns) ∷ begun)) rest
+  read_numerals w top takes ns words no_number_more done begun number rest =
       let there : number ≡ number + 0 = omega arith in
-      ap₂ (λ n ks. read_from dl n (waiting (want.Coroutine part.Local) (coroutine_with (in_state ps ls ss ks) ∷ begun)) rest) there (sym (append-nil done))
-  read_numerals ns words (one_number_more k others text more said are) ps ls ss done begun number rest =
+      ap₂ (λ n ks. read_from dl n (waiting w (top ks ∷ begun)) rest) there (sym (append-nil done))
+  read_numerals w top takes ns words (one_number_more k others text more said are) done begun number rest =
       let there : number + 1 + length more ≡ number + length (text ∷ more) = omega arith in
-      one_word dl (want.Coroutine part.Local) (coroutine_with (in_state ps ls ss done) ∷ begun) number text (more ++ rest)
-      (waiting (want.Coroutine part.Local) (coroutine_with (in_state ps ls ss (done ++ k ∷ [])) ∷ begun))
-      (ap₂ (λ closes o. at_local number closes (coroutine_with (in_state ps ls ss done) ∷ begun) o) (numeral_no_end 64 k text (omega arith) said) (numeral_read 64 k text (omega arith) said))
-      ∙ read_numerals others more are ps ls ss (done ++ k ∷ []) begun (number + 1) rest
-      ∙ ap₂ (λ n ks. read_from dl n (waiting (want.Coroutine part.Local) (coroutine_with (in_state ps ls ss ks) ∷ begun)) rest) there (append_assoc done (k ∷ []) others)
+      one_word dl w (top done ∷ begun) number text (more ++ rest) (waiting w (top (done ++ k ∷ []) ∷ begun)) (takes k text said done begun number)
+      ∙ read_numerals w top takes others more are (done ++ k ∷ []) begun (number + 1) rest
+      ∙ ap₂ (λ n ks. read_from dl n (waiting w (top ks ∷ begun)) rest) there (append_assoc done (k ∷ []) others)
 
   read_states : (ss : List (List ℕ)) (words : List (List ℕ)) → AreStatesWrittenAs ss words → (ps ls : List Tree) (done : List (List ℕ)) (begun : List Begun) (number : ℕ) (rest : List (List ℕ))
       → read_from dl number (waiting (want.Coroutine part.State) (coroutine_with (between_states ps ls done) ∷ begun)) (words ++ rest)
@@ -115,7 +129,7 @@ module _ (dl : TargetDataLayout) where
       ap (read_from dl number (waiting (want.Coroutine part.State) (coroutine_with (between_states ps ls done) ∷ begun))) (append_assoc (in_parentheses text) more rest)
       ∙ read_between (want.Coroutine part.State) (want.Coroutine part.Local) (coroutine_with (between_states ps ls done) ∷ begun) (coroutine_with (in_state ps ls done []) ∷ begun)
       (coroutine_with (in_state ps ls done s) ∷ begun) text (waiting (want.Coroutine part.State) (coroutine_with (between_states ps ls (done ++ s ∷ [])) ∷ begun))
-      (λ n. refl) (read_numerals s text are ps ls done [] begun) (λ n. refl) number (more ++ rest)
+      (λ n. refl) (read_numerals (want.Coroutine part.Local) (λ ks. coroutine_with (in_state ps ls done ks)) (takes_local ps ls done) s text are [] begun) (λ n. refl) number (more ++ rest)
       ∙ read_states others more follow ps ls (done ++ s ∷ []) begun (number + length (in_parentheses text)) rest
       ∙ ap₂ (λ n us. read_from dl n (waiting (want.Coroutine part.State) (coroutine_with (between_states ps ls us) ∷ begun)) rest) there (append_assoc done (s ∷ []) others)
 
@@ -176,8 +190,21 @@ module _ (dl : TargetDataLayout) where
         ∙ one_word dl (want.Opening asked) begun (number + 1 + 1) (codes "(") ((more ++ codes ")" ∷ []) ++ rest) (waiting want.Tree (fields asked [] ∷ begun)) refl
         ∙ ap (read_from dl (number + 1 + 1 + 1) (waiting want.Tree (fields asked [] ∷ begun))) (append_assoc more (codes ")" ∷ []) rest)
         ∙ read_trees ts more are (fields asked) (takes_fields asked) begun [] (number + 1 + 1 + 1) (codes ")" ∷ rest) deep
-        ∙ one_word dl want.Tree (fields asked (list_in ts) ∷ begun) (number + 1 + 1 + 1 + length more) (codes ")") rest (put (struct asked.repr asked.always_sized (trees (list_in ts))) begun) refl
-        ∙ ap₂ (λ n ts. read_from dl n (put (struct asked.repr asked.always_sized ts) begun) rest) there (trees_in ts)
+        ∙ one_word dl want.Tree (fields asked (list_in ts) ∷ begun) (number + 1 + 1 + 1 + length more) (codes ")") rest (put (struct asked.repr asked.always_sized None (trees (list_in ts))) begun) refl
+        ∙ ap₂ (λ n ts. read_from dl n (put (struct asked.repr asked.always_sized None ts) begun) rest) there (trees_in ts)
+    read_tree t words (an_ordered asked text is ts indices more said numbers are) begun number rest deep =
+        let there : number + 1 + 1 + length (in_parentheses indices) + length (in_parentheses more) ≡ number + length (codes "ordered" ∷ text ∷ (in_parentheses indices ++ in_parentheses more))
+        = omega (arith, length-append (in_parentheses indices) (in_parentheses more)) in
+        one_word dl want.Tree begun number (codes "ordered") (text ∷ ((in_parentheses indices ++ in_parentheses more) ++ rest)) (waiting (want.Order order.Repr) begun) (rw (not_deep begun (omega arith)) refl)
+        ∙ one_word dl (want.Order order.Repr) begun (number + 1) text ((in_parentheses indices ++ in_parentheses more) ++ rest) (waiting (want.Order (order.Opening asked)) begun) (ap (at_order_repr (number + 1) begun) said)
+        ∙ ap (read_from dl (number + 1 + 1) (waiting (want.Order (order.Opening asked)) begun)) (append_assoc (in_parentheses indices) (in_parentheses more) rest)
+        ∙ read_between (want.Order (order.Opening asked)) (want.Order order.Index) begun (ordering asked [] ∷ begun) (ordering asked is ∷ begun) indices
+        (waiting (want.Order order.FieldsOpening) (ordering asked is ∷ begun)) (λ n. refl)
+        (read_numerals (want.Order order.Index) (ordering asked) (takes_index asked) is indices numbers [] begun) (λ n. refl) (number + 1 + 1) (in_parentheses more ++ rest)
+        ∙ read_between (want.Order order.FieldsOpening) want.Tree (ordering asked is ∷ begun) (ordered asked is [] ∷ begun) (ordered asked is (list_in ts) ∷ begun) more
+        (put (struct asked.repr asked.always_sized (Some is) (trees (list_in ts))) begun) (λ n. refl)
+        (λ n after. read_trees ts more are (ordered asked is) (takes_ordered asked is) begun [] n after deep) (λ n. refl) (number + 1 + 1 + length (in_parentheses indices)) rest
+        ∙ ap₂ (λ n ts. read_from dl n (put (struct asked.repr asked.always_sized (Some is) ts) begun) rest) there (trees_in ts)
     read_tree t words (a_union repr text ts more said are) begun number rest deep =
         let there : number + 1 + 1 + 1 + length more + 1 ≡ number + length (codes "union" ∷ text ∷ codes "(" ∷ (more ++ codes ")" ∷ [])) = omega (arith, length-append more (codes ")" ∷ [])) in
         one_word dl want.Tree begun number (codes "union") (text ∷ codes "(" ∷ ((more ++ codes ")" ∷ []) ++ rest)) (waiting want.UnionRepr begun) (rw (not_deep begun (omega arith)) refl)

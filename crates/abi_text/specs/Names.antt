@@ -24,6 +24,7 @@ error_name lay.ReprConflict = codes "ReprConflict"
 error_name lay.ZeroLengthSimdType = codes "ZeroLengthSimdType"
 error_name lay.OversizedSimdType = codes "OversizedSimdType"
 error_name lay.NonPrimitiveSimdType = codes "NonPrimitiveSimdType"
+error_name lay.BadOrder = codes "BadOrder"
 error_name lay.OutOfMemory = codes "OutOfMemory"
 
 -- the name of what is wrong with a data layout string

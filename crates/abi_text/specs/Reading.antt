@@ -25,6 +25,8 @@ use Rattle.abi_text.specs.declared.reader.begun.ScalarForm.{ScalarForm}
 use Rattle.abi_text.specs.declared.reader.begun.ScalarForm.TheVariants as form
 use Rattle.abi_text.specs.declared.reader.begun.CoroutineWant.{CoroutineWant}
 use Rattle.abi_text.specs.declared.reader.begun.CoroutineWant.TheVariants as part
+use Rattle.abi_text.specs.declared.reader.begun.OrderWant.{OrderWant}
+use Rattle.abi_text.specs.declared.reader.begun.OrderWant.TheVariants as order
 use Rattle.abi_text.specs.declared.reader.begun.Open.{Open}
 use Rattle.abi_text.specs.declared.reader.begun.Open.TheVariants as open_type
 use Rattle.abi_text.specs.declared.reader.begun.CoroutineParts.{CoroutineParts}
@@ -58,6 +60,10 @@ pub data Begun : Type 0 where
   lanes : (count : ℕ) → (packed : Bool) → Begun
   -- a struct, with the fields so far
   fields : StructRepr → List Tree → Begun
+  -- a struct whose order is handed in, with the indices so far
+  ordering : StructRepr → (indices : List ℕ) → Begun
+  -- a struct with this order, with the fields so far
+  ordered : StructRepr → (indices : List ℕ) → List Tree → Begun
   -- a union, with the fields so far
   members : ReprOptions → List Tree → Begun
   -- an enum between its variants, with those so far
@@ -88,6 +94,7 @@ with_type t parts = parts
 -- a type more in the list of types of what is begun
 abbrev pub with_member : Tree → Begun → Begun
 with_member t (fields asked ts) = fields asked (ts ++ t ∷ [])
+with_member t (ordered asked is ts) = ordered asked is (ts ++ t ∷ [])
 with_member t (members repr ts) = members repr (ts ++ t ∷ [])
 with_member t (variant repr vs d ts) = variant repr vs d (ts ++ t ∷ [])
 with_member t (coroutine_with parts) = coroutine_with (with_type t parts)
@@ -119,9 +126,11 @@ part_closed (between_states ps ls ss) begun = waiting (want.Coroutine part.Confl
 part_closed (in_state ps ls ss s) begun = waiting (want.Coroutine part.State) (coroutine_with (between_states ps ls (ss ++ s ∷ [])) ∷ begun)
 part_closed (in_conflicts ps ls ss cs) begun = put (coroutine (trees ps) (trees ls) ss cs) begun
 
--- a closing parenthesis completes a struct, a union, an enum or a variant of one, or ends a part of a coroutine
+-- a closing parenthesis completes a struct, a union, an enum or a variant of one, or ends an order or a part of a coroutine
 abbrev pub closed : (number : ℕ) → List Begun → Result State Fault
-closed number (fields asked ts ∷ begun) = Ok (put (struct asked.repr asked.always_sized (trees ts)) begun)
+closed number (fields asked ts ∷ begun) = Ok (put (struct asked.repr asked.always_sized None (trees ts)) begun)
+closed number (ordering asked is ∷ begun) = Ok (waiting (want.Order order.FieldsOpening) (ordering asked is ∷ begun))
+closed number (ordered asked is ts ∷ begun) = Ok (put (struct asked.repr asked.always_sized (Some is) (trees ts)) begun)
 closed number (members repr ts ∷ begun) = Ok (put (union repr (trees ts)) begun)
 closed number (variant repr vs d ts ∷ begun) = Ok (waiting want.Discriminant (variants_so_far repr (vs ++ (d, ts) ∷ []) ∷ begun))
 closed number (variants_so_far repr vs ∷ begun) = Ok (put (enum repr (variants_in vs)) begun)
@@ -207,6 +216,32 @@ next_in_coroutine number begun w part.ConflictsOpening = at_part_opening number 
 next_in_coroutine number begun w part.Row = at_row number (bytes_eq w (codes ")")) begun (number_in 64 w)
 next_in_coroutine number begun w (part.Column row) = at_column number row begun (number_in 64 w)
 
+-- the repr of a struct whose order is handed in, and the parenthesis that opens the order
+abbrev pub at_order_repr : (number : ℕ) → List Begun → Option StructRepr → Result State Fault
+at_order_repr number begun None = Err (Unreadable number)
+at_order_repr number begun (Some asked) = Ok (waiting (want.Order (order.Opening asked)) begun)
+
+abbrev pub at_order_opening : (number : ℕ) → StructRepr → List Begun → (opens : Bool) → Result State Fault
+at_order_opening number asked begun opens = if opens then Ok (waiting (want.Order order.Index) (ordering asked [] ∷ begun)) else Err (Unreadable number)
+
+-- where an index may come, a closing parenthesis ends the order
+abbrev pub at_index : (number : ℕ) → (closes : Bool) → List Begun → Option ℕ → Result State Fault
+at_index number true begun _ = closed number begun
+at_index number false (ordering asked is ∷ begun) (Some i) = Ok (waiting (want.Order order.Index) (ordering asked (is ++ i ∷ []) ∷ begun))
+at_index number false _ _ = Err (Unreadable number)
+
+-- the fields follow the order
+abbrev pub at_fields_opening : (number : ℕ) → List Begun → (opens : Bool) → Result State Fault
+at_fields_opening number (ordering asked is ∷ begun) true = Ok (waiting want.Tree (ordered asked is [] ∷ begun))
+at_fields_opening number _ _ = Err (Unreadable number)
+
+-- what has been read with the next word of a struct whose order is handed in, where no type may come
+abbrev pub next_in_order : (number : ℕ) → List Begun → (word : List ℕ) → OrderWant → Result State Fault
+next_in_order number begun w order.Repr = at_order_repr number begun (struct_repr w)
+next_in_order number begun w (order.Opening asked) = at_order_opening number asked begun (bytes_eq w (codes "("))
+next_in_order number begun w order.Index = at_index number (bytes_eq w (codes ")")) begun (number_in 64 w)
+next_in_order number begun w order.FieldsOpening = at_fields_opening number begun (bytes_eq w (codes "("))
+
 abbrev pub at_start : (number : ℕ) → Primitive → ScalarPlace → List Begun → Option ℕ → Result State Fault
 at_start number p place begun None = Err (Unreadable number)
 at_start number p place begun (Some n) = Ok (waiting (want.RangeEnd p n place) begun)
@@ -265,6 +300,7 @@ module _ (dl : TargetDataLayout) where
   begin begun type.Array = waiting want.Count begun
   begin begun (type.Vector packed) = waiting (want.Lanes packed) begun
   begin begun type.Struct = waiting want.Repr begun
+  begin begun type.Ordered = waiting (want.Order order.Repr) begun
   begin begun type.Union = waiting want.UnionRepr begun
   begin begun type.Enum = waiting want.EnumRepr begun
   begin begun type.Coroutine = waiting (want.Coroutine part.TypesOpening) (coroutine_with (in_prefix []) ∷ begun)
@@ -293,6 +329,7 @@ module _ (dl : TargetDataLayout) where
   next number begun w want.Discriminant = at_discriminant number (bytes_eq w (codes ")")) begun (discriminant_in w)
   next number begun w (want.VariantOpening d) = at_variant_opening number d begun (bytes_eq w (codes "("))
   next number begun w (want.Coroutine next_part) = next_in_coroutine number begun w next_part
+  next number begun w (want.Order next_part) = next_in_order number begun w next_part
   next number begun w want.End = Err (Unreadable number)
 
   abbrev pub step : (number : ℕ) → State → (word : List ℕ) → Result State Fault
@@ -337,6 +374,8 @@ abbrev pub begun_by : Open → Begun
 begun_by (open_type.Elements count) = elements count
 begun_by (open_type.Lanes count packed) = lanes count packed
 begun_by (open_type.Fields asked ts) = fields asked (map tree_of ts.items)
+begun_by (open_type.Ordering asked is) = ordering asked is.items
+begun_by (open_type.Ordered asked is ts) = ordered asked is.items (map tree_of ts.items)
 begun_by (open_type.Members repr ts) = members repr (map tree_of ts.items)
 begun_by (open_type.Variants repr vs) = variants_so_far repr (map variant_by vs.items)
 begun_by (open_type.Variant repr vs d ts) = variant repr (map variant_by vs.items) d (map tree_of ts.items)

@@ -3,7 +3,7 @@ use Rattle.std.specs.Prelude.{ℕ, true, false, List, codes, Option, None, Some,
 use Rattle.std.specs.Str.{bytes_eq}
 use Rattle.abi_text.specs.declared.reader.scalar_word.ScalarWord.{ScalarWord}
 use Rattle.abi_text.specs.declared.reader.type_word.TypeWord.{TypeWord}
-use Rattle.abi_text.specs.declared.reader.type_word.TypeWord.TheVariants.{Scalar, Pair, Never, Unit as AUnit, Array, Vector, Struct, Union, Enum, Coroutine}
+use Rattle.abi_text.specs.declared.reader.type_word.TypeWord.TheVariants.{Scalar, Pair, Never, Unit as AUnit, Array, Vector, Struct, Ordered, Union, Enum, Coroutine}
 use Rattle.abi_text.specs.ScalarWords.{scalar_word}
 
 -- a word that begins no scalar
@@ -16,9 +16,10 @@ other_word w =
     else (if bytes_eq w (codes "simd") then Some (Vector false)
     else (if bytes_eq w (codes "psimd") then Some (Vector true)
     else (if bytes_eq w (codes "struct") then Some Struct
+    else (if bytes_eq w (codes "ordered") then Some Ordered
     else (if bytes_eq w (codes "union") then Some Union
     else (if bytes_eq w (codes "enum") then Some Enum
-    else (if bytes_eq w (codes "coroutine") then Some Coroutine else None)))))))))
+    else (if bytes_eq w (codes "coroutine") then Some Coroutine else None))))))))))
 
 abbrev pub word_with : Option ScalarWord → Option TypeWord → Option TypeWord
 word_with None word = word

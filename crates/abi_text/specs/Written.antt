@@ -1,5 +1,5 @@
 -- How a type is written: which words write which type.
-use Rattle.std.specs.Prelude.{◌≡◌, ℕ, ◌+◌, ◌^◌, ◌-◌, ◌<◌, ◌≤◌, Bool, false, List, [], ◌∷◌, ◌++◌, codes, max, replicate, Some, if◌then◌else◌}
+use Rattle.std.specs.Prelude.{◌≡◌, ℕ, ◌+◌, ◌^◌, ◌-◌, ◌<◌, ◌≤◌, Bool, false, List, [], ◌∷◌, ◌++◌, codes, max, replicate, None, Some, if◌then◌else◌}
 use Rattle.std.specs.Fmt.{decimal}
 use Rattle.abi_base.specs.declared.data_layout.TargetDataLayout.{TargetDataLayout}
 use Rattle.abi_base.specs.declared.float.Float.{Float as Format}
@@ -94,7 +94,11 @@ mutual
         → IsWrittenAs dl (vector lanes packed t) (vector_word packed ∷ word ∷ words)
     -- a struct, and a union, with the options that the word of its repr asks for
     a_struct : (asked : StructRepr) (word : List ℕ) (ts : Trees) (words : List (List ℕ)) → struct_repr word ≡ Some asked → AreWrittenAs dl ts words
-        → IsWrittenAs dl (struct asked.repr asked.always_sized ts) (codes "struct" ∷ word ∷ codes "(" ∷ (words ++ codes ")" ∷ []))
+        → IsWrittenAs dl (struct asked.repr asked.always_sized None ts) (codes "struct" ∷ word ∷ codes "(" ∷ (words ++ codes ")" ∷ []))
+    -- a struct in an order that is handed in: the indices of the fields as they lie in memory, and the fields
+    an_ordered : (asked : StructRepr) (word : List ℕ) (is : List ℕ) (ts : Trees) (indices words : List (List ℕ)) → struct_repr word ≡ Some asked
+        → AreNumerals is indices → AreWrittenAs dl ts words
+        → IsWrittenAs dl (struct asked.repr asked.always_sized (Some is) ts) (codes "ordered" ∷ word ∷ (in_parentheses indices ++ in_parentheses words))
     a_union : (repr : ReprOptions) (word : List ℕ) (ts : Trees) (words : List (List ℕ)) → union_repr word ≡ Some repr → AreWrittenAs dl ts words
         → IsWrittenAs dl (union repr ts) (codes "union" ∷ word ∷ codes "(" ∷ (words ++ codes ")" ∷ []))
     -- an enum, with the options that the word of its repr asks for
@@ -124,7 +128,7 @@ abbrev mutual
   pub nesting : Tree → ℕ
   nesting (array count t) = nesting t + 1
   nesting (vector lanes packed t) = nesting t + 1
-  nesting (struct repr sized ts) = nesting_of_fields ts
+  nesting (struct repr sized order ts) = nesting_of_fields ts
   nesting (union repr ts) = nesting_of_fields ts
   nesting (enum repr vs) = nesting_of_variants vs
   nesting (coroutine prefix locals states conflicts) = max (nesting_of_fields prefix) (nesting_of_fields locals)

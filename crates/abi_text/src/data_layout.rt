@@ -7,8 +7,8 @@ ghost use Rattle.abi_text.specs.DataLayoutLine.{data_layout_of};
 use abi_base::{AddressSpace, TargetDataLayout, TargetDataLayoutError};
 use std::alloc::Global;
 
-/// The data layout that a data layout string says, in LLVM's form, cut to what rustc reads; the empty text is the default
-/// data layout. Its default address space is 0. Whether it is lawful is told when a type is laid out under it.
+/// The data layout that a data layout string says, in LLVM's form, cut to what rustc reads; the empty text is the
+/// default data layout. Its default address space is 0. Whether it is lawful is told when a type is laid out under it.
 ///
 /// The error is the first fault, by the text's order: `InvalidAddressSpace`, `InvalidBits`, `MissingAlignment`,
 /// `InvalidAlignment` or `UnknownPointerSpecification`; or `OutOfMemory`.

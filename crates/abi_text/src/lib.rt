@@ -1,5 +1,5 @@
-//! Data layouts and types read from text, and laid-out types printed: what programs over text share. `docs/FORMATS.md` has
-//! the format.
+//! Data layouts and types read from text, and laid-out types printed: what programs over text share. `docs/FORMATS.md`
+//! has the format.
 #![tactic(auto)]
 
 mod data_layout;

@@ -27,6 +27,7 @@ pub fn error_name(error: LayError) -> &'static str
         LayError::ZeroLengthSimdType => "ZeroLengthSimdType",
         LayError::OversizedSimdType => "OversizedSimdType",
         LayError::NonPrimitiveSimdType => "NonPrimitiveSimdType",
+        LayError::BadOrder => "BadOrder",
         LayError::OutOfMemory => "OutOfMemory",
     }
 }

@@ -46,8 +46,8 @@ fn negated(number: u128) -> Option<u128>
     Some(u128::MAX - (number - 1))
 }
 
-/// The discriminant that a word is: a number of 128 bits, or `-` and a number from 1 to 2^127, as two's complement. None
-/// where it is something else.
+/// The discriminant that a word is: a number of 128 bits, or `-` and a number from 1 to 2^127, as two's complement.
+/// None where it is something else.
 pub fn discriminant(word: &[u8]) -> Option<u128>
     ensures { result ≡ discriminant_in word.now }
 {

@@ -90,8 +90,8 @@ fn integer_text(integer: Integer, signed: bool) -> &'static str
     }
 }
 
-/// Writes a primitive's name: `i8` to `u128` with the sign, `f32` and its like, `pointer` in the default address space and
-/// `pointer(AddressSpace(N))` in another. An error comes where a growth of memory was refused.
+/// Writes a primitive's name: `i8` to `u128` with the sign, `f32` and its like, `pointer` in the default address space
+/// and `pointer(AddressSpace(N))` in another. An error comes where a growth of memory was refused.
 pub fn write_primitive(out: &mut String, primitive: Primitive) -> Result<(), AllocError>
     ensures { OnOk result (string_bytes out.new ≡ string_bytes out.old ++ primitive_text primitive) }
 {
@@ -167,12 +167,12 @@ fn write_padding(alloc: Global, out: &mut String, laid: &Laid) -> Result<(), All
 }
 
 /// Writes all there is to say of a laid-out type behind what stands in the text, a line for each fact: the size and the
-/// alignment, whether it has no values, its fields, its variants with the bytes that each doesn't use, the tag, the largest
-/// niche, and the runs of padding, all in bytes. The lines are in `docs/FORMATS.md`. Of a type of more than 65,536 bytes
-/// neither padding nor what variants don't use is listed.
+/// alignment, whether it has no values, its fields, its variants with the bytes that each doesn't use, the tag, the
+/// largest niche, and the runs of padding, all in bytes. The lines are in `docs/FORMATS.md`. Of a type of more than
+/// 65,536 bytes neither padding nor what variants don't use is listed.
 ///
-/// What it asks holds of each type that `lay_out` answers. An error comes where a growth of memory was refused; a beginning
-/// of the lines may then stand in the text.
+/// What it asks holds of each type that `lay_out` answers. An error comes where a growth of memory was refused; a
+/// beginning of the lines may then stand in the text.
 pub fn write_type(alloc: Global, out: &mut String, laid: &Laid) -> Result<(), AllocError>
     requires align { (layout_of (placed_of laid.now)).align.abi < 64 }
     requires told { TellsBytes laid.now }

@@ -16,8 +16,8 @@ use abi_laid::Laid;
 use abi_scalar::{RangeInclusive, Scalar, TagEncoding, VariantLayout, Variants};
 use std::alloc::{AllocError, Global};
 
-/// Of each variant that a tag tells apart the bytes that it doesn't use though another one may; none where the type has more bytes than
-/// are listed.
+/// Of each variant that a tag tells apart the bytes that it doesn't use though another one may; none where the type has
+/// more bytes than are listed.
 fn listed_unused(alloc: Global, laid: &Laid) -> Result<IndexVec<VariantIdx, RangeSet>, AllocError>
     requires { TellsBytes laid.now }
     ensures { IfOk result (λ sets. (i : ℕ) (runs : List (ℕ × ℕ)) →

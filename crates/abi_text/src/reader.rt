@@ -3,6 +3,7 @@
 mod begun;
 mod close;
 mod read_coroutine;
+mod read_order;
 mod read_scalar;
 pub(crate) mod repr_text;
 mod scalar_word;
@@ -20,9 +21,10 @@ ghost use Rattle.abi_text.specs.Written.{IsLineOf, IsWrittenAs, nesting};
 
 use crate::fault::Fault;
 use crate::number::{decimal, discriminant};
-use crate::reader::begun::{Open, Reader, ScalarForm, ScalarPlace, Want, put, waiting};
+use crate::reader::begun::{Open, OrderWant, Reader, ScalarForm, ScalarPlace, Want, put, waiting};
 use crate::reader::close::close;
 use crate::reader::read_coroutine::{open_coroutine, read_coroutine_word};
+use crate::reader::read_order::read_order_word;
 use crate::reader::read_scalar::{
     begin_scalar, read_end, read_primitive, read_scalar, read_space, read_start,
 };
@@ -68,6 +70,7 @@ fn read_type_word(
         TypeWord::Array => Ok(waiting(Want::Count, begun)),
         TypeWord::Vector(packed) => Ok(waiting(Want::Lanes(packed), begun)),
         TypeWord::Struct => Ok(waiting(Want::Repr, begun)),
+        TypeWord::Ordered => Ok(waiting(Want::Order(OrderWant::Repr), begun)),
         TypeWord::Union => Ok(waiting(Want::UnionRepr, begun)),
         TypeWord::Enum => Ok(waiting(Want::EnumRepr, begun)),
         TypeWord::Coroutine => open_coroutine(alloc, begun),
@@ -267,6 +270,7 @@ fn read_next(
         Want::Discriminant => read_discriminant(alloc, number, begun, word),
         Want::VariantOpening(value) => read_variant_opening(alloc, number, value, begun, word),
         Want::Coroutine(part) => read_coroutine_word(alloc, number, part, begun, word),
+        Want::Order(part) => read_order_word(alloc, number, part, begun, word),
         Want::End => Err(Fault::Unreadable(number)),
     }
 }
@@ -299,8 +303,8 @@ fn read_words(alloc: Global, dl: &TargetDataLayout, line: &[u8]) -> Result<TypeT
     }
 }
 
-/// The type that a line writes, whole, under a data layout, which tells how wide pointers and `usize` are. The words of each
-/// kind of type are in `docs/FORMATS.md`; spaces may stand anywhere but within a word, and none is needed beside a
+/// The type that a line writes, whole, under a data layout, which tells how wide pointers and `usize` are. The words of
+/// each kind of type are in `docs/FORMATS.md`; spaces may stand anywhere but within a word, and none is needed beside a
 /// parenthesis.
 ///
 /// `Unreadable` has the number of the first word that doesn't fit, counted from 1, one past the last where words are

@@ -8,8 +8,8 @@ use std::error::Error;
 use std::fmt;
 use std::fmt::Display;
 
-/// What a type holds whose bytes are those of registers of one kind and size, one after another, or which has none. Calling conventions
-/// ask for it that pass such a type in registers of that kind.
+/// What a type holds whose bytes are those of registers of one kind and size, one after another, or which has none.
+/// Calling conventions ask for it that pass such a type in registers of that kind.
 #[derive(Clone, Copy, PartialEq, Eq, Debug)]
 pub enum HomogeneousAggregate {
     /// Registers of this kind and size, one at least.

@@ -1,5 +1,6 @@
-//! Times calls of the libraries: `CALL SIZE MICROSECONDS`, the fastest of nine runs, a line each. Standard input has the names of
-//! the calls that are asked for, or `all`, and sizes, if not each is wanted; for nothing asked nothing is printed.
+//! Times calls of the libraries: `CALL SIZE MICROSECONDS`, the fastest of nine runs, a line each. Standard input has
+//! the names of the calls that are asked for, or `all`, and sizes, if not each is wanted; for nothing asked nothing is
+//! printed.
 #![tactic(auto)]
 
 mod coroutines;

@@ -2,8 +2,8 @@
 
 ghost use Rattle.std.specs.Prelude.{◌<◌};
 
-/// Numbers that look like chance. The state becomes its product with 6364136223846793005, plus 1442695040888963407, modulo 2 to the
-/// 64, before each; a number is what its upper 31 bits leave.
+/// Numbers that look like chance. The state becomes its product with 6364136223846793005, plus 1442695040888963407,
+/// modulo 2 to the 64, before each; a number is what its upper 31 bits leave.
 #[derive(Clone, Copy)]
 pub(crate) struct Numbers {
     state: u64,

@@ -1,10 +1,12 @@
 //! Calls of the calculator for arrays, lists of fields, unions and vectors.
 
-ghost use Rattle.std.specs.Prelude.{IsTrue};
+ghost use Rattle.std.specs.Prelude.{◌≤◌, All, IfOk, IsTrue, length};
 ghost use Rattle.abi_base.specs.DataLayout.{IsLawfulDataLayout, size_bound};
+ghost use Rattle.abi_scalar.specs.Lawful.{IsLawfulLayout};
 ghost use Rattle.abi_lists.specs.List.{HasLawfulAligns};
 ghost use Rattle.abi_lists.specs.Placement.{IsLawfulPrefix, IsNonEmptyIfUnsized};
 
+use crate::in_order::univariant_in_order;
 use crate::layouts::{
     Layout, MOST_ITEMS, are_lawful, is_lawful_align, layout, layouts, lent, slice_of,
 };
@@ -32,7 +34,7 @@ const KIND_WORDS: [(&[u8], KindWord); 3] = [
 ];
 
 /// What is known of a list beside its fields.
-fn kind(line: &mut Line<'_>) -> Result<StructKind, Stop> {
+pub(crate) fn kind(line: &mut Line<'_>) -> Result<StructKind, Stop> {
     match named(&KIND_WORDS, line.word()?) {
         Some(KindWord::AlwaysSized) => Ok(StructKind::AlwaysSized),
         Some(KindWord::MaybeUnsized) => Ok(StructKind::MaybeUnsized),
@@ -74,15 +76,19 @@ pub(crate) fn has_lawful_aligns(repr: &ReprOptions) -> bool
     is_lawful_align(repr.align) && is_lawful_align(repr.pack)
 }
 
-/// The list of these fields, as the calculator has it.
-pub(crate) fn list_of(
-    alloc: Global,
+/// Whether these fields may be handed in as a list, or which clause says that they may not.
+pub(crate) fn check_list(
     dl: &TargetDataLayout,
     fields: &[&Layout],
     repr: &ReprOptions,
     kind: &StructKind,
-) -> Result<Layout, Stop>
+) -> Result<(), Stop>
     requires { IsLawfulDataLayout dl.now }
+    ensures count { IfOk result (λ _. length fields.now ≤ 1_000_000) }
+    ensures fields { IfOk result (λ _. All (λ f. IsLawfulLayout dl.now f.now) fields.now) }
+    ensures repr { IfOk result (λ _. HasLawfulAligns repr.now) }
+    ensures prefix { IfOk result (λ _. IsLawfulPrefix kind.now (size_bound dl.now)) }
+    ensures tail { IfOk result (λ _. IsNonEmptyIfUnsized kind.now (length fields.now)) }
 {
     if fields.len() > MOST_ITEMS {
         return Err(Stop::Asks(Clause::Count));
@@ -99,6 +105,20 @@ pub(crate) fn list_of(
     if !has_tail(kind, fields.len()) {
         return Err(Stop::Asks(Clause::Tail));
     }
+    Ok(())
+}
+
+/// The list of these fields, as the calculator has it.
+pub(crate) fn list_of(
+    alloc: Global,
+    dl: &TargetDataLayout,
+    fields: &[&Layout],
+    repr: &ReprOptions,
+    kind: &StructKind,
+) -> Result<Layout, Stop>
+    requires { IsLawfulDataLayout dl.now }
+{
+    check_list(dl, fields, repr, kind)?;
     LayoutCalculator::new(dl)
         .layout_of_univariant(alloc, IndexSlice::new(fields), repr, *kind)
         .map_err(calculator)
@@ -193,6 +213,7 @@ fn scalable(alloc: Global, dl: &TargetDataLayout, line: &mut Line<'_>) -> Result
 #[derive(Clone, Copy)]
 enum ListCall {
     Univariant,
+    UnivariantInOrder,
     Union,
     Array,
     Slice,
@@ -201,8 +222,9 @@ enum ListCall {
     Scalable,
 }
 
-const LIST_CALLS: [(&[u8], ListCall); 7] = [
+const LIST_CALLS: [(&[u8], ListCall); 8] = [
     (b"univariant", ListCall::Univariant),
+    (b"univariant-in-order", ListCall::UnivariantInOrder),
     (b"union", ListCall::Union),
     (b"array", ListCall::Array),
     (b"slice", ListCall::Slice),
@@ -222,6 +244,7 @@ fn answer(
 {
     let answer = match named(&LIST_CALLS, name) {
         Some(ListCall::Univariant) => univariant(alloc, dl, line)?,
+        Some(ListCall::UnivariantInOrder) => univariant_in_order(alloc, dl, line)?,
         Some(ListCall::Union) => union_of(alloc, dl, line)?,
         Some(ListCall::Array) => array(alloc, dl, line)?,
         Some(ListCall::Slice) => slice(alloc, dl, line)?,

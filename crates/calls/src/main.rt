@@ -1,11 +1,12 @@
-//! Makes any call of the libraries: each line of standard input names a call and what it is given, and standard output gets
-//! a line with its answer.
+//! Makes any call of the libraries: each line of standard input names a call and what it is given, and standard output
+//! gets a line with its answer.
 #![tactic(auto)]
 
 mod answer;
 mod coroutines;
 mod data_layouts;
 mod enums;
+mod in_order;
 mod layouts;
 mod line;
 mod lists;

@@ -1,5 +1,5 @@
-//! Calls that compare what the calculator answers with a plain reading of its rules, for types at random: the same types for the
-//! same seed. The answer is how many types were found to be what.
+//! Calls that compare what the calculator answers with a plain reading of its rules, for types at random: the same
+//! types for the same seed. The answer is how many types were found to be what.
 
 pub(crate) mod coroutines;
 pub(crate) mod dice;
@@ -53,7 +53,8 @@ const RANDOM_CALLS: [(&[u8], RandomCall); 3] = [
     (b"random-coroutines", RandomCall::RandomCoroutines),
 ];
 
-/// `random-lists SEED COUNT ( LAYOUT.. )`, and so for `random-enums` and `random-coroutines`: the types are made of these layouts.
+/// `random-lists SEED COUNT ( LAYOUT.. )`, and so for `random-enums` and `random-coroutines`: the types are made of
+/// these layouts.
 pub(crate) fn call(
     alloc: Global,
     dl: &TargetDataLayout,

@@ -1,5 +1,5 @@
-//! Calls of sets of bytes, of sets of indices, of relations between them, and of lists that indices name. Where a growth
-//! is refused, what should have grown is compared with a copy made before.
+//! Calls of sets of bytes, of sets of indices, of relations between them, and of lists that indices name. Where a
+//! growth is refused, what should have grown is compared with a copy made before.
 
 ghost use Rattle.std.specs.Prelude.{◌≡◌, ◌≤◌, ◌<◌, IfOk};
 ghost use Rattle.abi_index.specs.Relation.{row_count};

@@ -63,6 +63,7 @@ pub(crate) enum Clause {
     Number,
     One,
     Prefix,
+    Random,
     Readable,
     Repr,
     Rows,
@@ -93,6 +94,7 @@ impl Clause {
             Clause::Number => "number",
             Clause::One => "one",
             Clause::Prefix => "prefix",
+            Clause::Random => "random",
             Clause::Readable => "readable",
             Clause::Repr => "repr",
             Clause::Rows => "rows",
@@ -165,6 +167,7 @@ pub(crate) fn calculator<F: Drop>(error: LayoutCalculatorError<F>) -> Stop {
         LayoutCalculatorError::NonPrimitiveSimdType(_) => {
             Stop::from(LayError::NonPrimitiveSimdType)
         }
+        LayoutCalculatorError::BadOrder => Stop::from(LayError::BadOrder),
         LayoutCalculatorError::OutOfMemory => Stop::OutOfMemory,
     }
 }

@@ -1,4 +1,5 @@
-//! Lays out a type: standard input has a data layout string and a type, a line each, and standard output gets the layout.
+//! Lays out a type: standard input has a data layout string and a type, a line each, and standard output gets the
+//! layout.
 #![tactic(auto)]
 
 mod answer;

@@ -46,8 +46,8 @@ fn send<W: Write>(output: &mut W, text: &[u8], status: u8) -> u8
 /// refused, 2 for a text that can't be read.
 ///
 /// The input's first line is a data layout string, its second a type. All of the answer is made before any of it is
-/// written. Where reading fails it is `refused Input`, where memory is wanting `refused OutOfMemory`; where writing fails
-/// the status is 1, and nothing more is written.
+/// written. Where reading fails it is `refused Input`, where memory is wanting `refused OutOfMemory`; where writing
+/// fails the status is 1, and nothing more is written.
 pub fn run<R: Read, W: Write>(alloc: Global, input: &mut R, output: &mut W) -> u8
     ensures answered { IfSome (R.remaining input.old) (λ all.
         Answered (W.contents output.old) (W.contents output.new) (IsOutputOf all) result) }

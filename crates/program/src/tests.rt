@@ -1,4 +1,5 @@
-//! Runs of `run` with readers and writers that fail, at each of their steps: what a text gives is told by the case files.
+//! Runs of `run` with readers and writers that fail, at each of their steps: what a text gives is told by the case
+//! files.
 
 use crate::run;
 use std::io;
@@ -128,8 +129,8 @@ fn each_failed_read_is_refused(rt: HostRuntime) {
     assert!(rt; answered);
 }
 
-/// A writer that is interrupted first, then takes a byte a write, and fails at one of its writes; what it is asked for afterwards it
-/// notes.
+/// A writer that is interrupted first, then takes a byte a write, and fails at one of its writes; what it is asked for
+/// afterwards it notes.
 #[derive(Drop)]
 struct Drip {
     taken: Vec<u8>,

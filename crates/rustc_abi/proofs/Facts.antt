@@ -85,7 +85,7 @@ padding_listed = refl
 -- ---- fields at one offset: of two numbers that differ, no bytes hold both, so that not every value is held
 
 abbrev of_two : Tree
-of_two = struct plain_c true (more_trees (number_type (unsigned I8)) (more_trees (number_type (unsigned I8)) no_trees))
+of_two = struct plain_c true None (more_trees (number_type (unsigned I8)) (more_trees (number_type (unsigned I8)) no_trees))
 
 abbrev at_one_offset : Placed
 at_one_offset = fields (sized 2) Plain (part 0 u8_placed (part 0 u8_placed no_parts))

@@ -10,5 +10,7 @@ pub mod SizeLemmas
 pub mod LeastLemmas
 -- each list that a type is made of has its least size, and its fields lie in such an order
 pub mod EachListLemmas
+-- the fields of a struct lie in an allowed order, and in the one that is handed in
+pub mod PlacedLemmas
 -- worked facts: what the clauses on sizes and lists refuse of small types
 pub mod SizeFacts

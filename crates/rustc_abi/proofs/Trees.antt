@@ -4,6 +4,8 @@
 pub mod TreeLemmas
 -- the calculator's answer to a list of fields, whatever lends their layouts
 pub mod ListLemmas
+-- structs whose order is handed in: what their repr asks then, and where their fields lie
+pub mod OrderLemmas
 -- how types are laid out, one after another
 pub mod LayLemmas
 -- each type that is laid out is sized, and its layout is lawful

@@ -95,7 +95,7 @@ abbrev mutual
   pub tree_size : Tree → ℕ
   tree_size (array count element) = tree_size element + 1
   tree_size (vector lanes packed element) = tree_size element + 1
-  tree_size (struct repr always_sized all) = trees_size all + 1
+  tree_size (struct repr always_sized order all) = trees_size all + 1
   tree_size (union repr all) = trees_size all + 1
   tree_size (enum repr all) = variants_size all + 1
   tree_size (coroutine prefix locals states conflicts) = trees_size prefix + trees_size locals + 1

@@ -35,7 +35,7 @@ module _ (dl : TargetDataLayout) where
     pub HasNodes : Tree → (n : ℕ) → Type 0
     HasNodes (array count element) n = (m : ℕ) × HasNodes element m × AddsOwn (array count element) m n
     HasNodes (vector lanes packed element) n = (m : ℕ) × HasNodes element m × AddsOwn (vector lanes packed element) m n
-    HasNodes (struct repr always_sized all) n = (m : ℕ) × HaveNodes all m × AddsOwn (struct repr always_sized all) m n
+    HasNodes (struct repr always_sized order all) n = (m : ℕ) × HaveNodes all m × AddsOwn (struct repr always_sized order all) m n
     HasNodes (union repr all) n = (m : ℕ) × HaveNodes all m × AddsOwn (union repr all) m n
     HasNodes (enum repr all) n = (m : ℕ) × VariantsHaveNodes all m × AddsOwn (enum repr all) m n
     HasNodes (coroutine prefix locals states conflicts) n =

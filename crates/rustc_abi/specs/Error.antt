@@ -3,7 +3,7 @@ use Rattle.std.specs.Prelude.{◌≡◌, ◌⊎◌, Result, Ok, Err}
 use Rattle.abi_scalar.specs.declared.error.LayoutCalculatorError.{LayoutCalculatorError}
 use Rattle.abi_scalar.specs.declared.error.LayoutCalculatorError.TheVariants as calculator
 use Rattle.rustc_abi.specs.declared.error.LayError.{LayError}
-use Rattle.rustc_abi.specs.declared.error.LayError.TheVariants.{UnexpectedUnsized, SizeOverflow, EmptyUnion, ReprConflict, ZeroLengthSimdType, OversizedSimdType, NonPrimitiveSimdType, OutOfMemory}
+use Rattle.rustc_abi.specs.declared.error.LayError.TheVariants.{UnexpectedUnsized, SizeOverflow, EmptyUnion, ReprConflict, ZeroLengthSimdType, OversizedSimdType, NonPrimitiveSimdType, BadOrder, OutOfMemory}
 
 abbrev pub lay_error : {H : Type 0} → LayoutCalculatorError H → LayError
 lay_error (calculator.UnexpectedUnsized field) = UnexpectedUnsized
@@ -13,6 +13,7 @@ lay_error calculator.ReprConflict = ReprConflict
 lay_error calculator.ZeroLengthSimdType = ZeroLengthSimdType
 lay_error (calculator.OversizedSimdType max_lanes) = OversizedSimdType
 lay_error (calculator.NonPrimitiveSimdType field) = NonPrimitiveSimdType
+lay_error calculator.BadOrder = BadOrder
 lay_error calculator.OutOfMemory = OutOfMemory
 
 -- the calculator's answer, with its refusal by that name

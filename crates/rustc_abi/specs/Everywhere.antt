@@ -32,7 +32,7 @@ module _ (dl : TargetDataLayout) (P : Tree → Placed → Type 0) where
     Within unit placed = ⊤
     Within (array count element) placed = P element (element_of placed) × Within element (element_of placed)
     Within (vector lanes packed element) placed = P element (element_of (element_of placed)) × Within element (element_of (element_of placed))
-    Within (struct repr always_sized all) placed = OfEach all (parts_of placed)
+    Within (struct repr always_sized order all) placed = OfEach all (parts_of placed)
     Within (union repr all) placed = OfEach all (parts_of placed)
     Within (enum repr all) (nowhere layout mark) = OfAbsent all
     Within (enum repr all) (single layout mark index parts) = OfVariant all index parts

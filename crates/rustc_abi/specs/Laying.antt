@@ -1,5 +1,6 @@
 -- Which layout each type has, or why it has none: children first, left to right.
 use Rattle.std.specs.Prelude.{◌≡◌, ℕ, ◌+◌, ◌||◌, not, MatchOption, Bool, true, false, List, [], ◌∷◌, length, map, nat_lt, Option, None, Some, Result, Ok, Err, if◌then◌else◌}
+use Rattle.std.specs.Int.RustNames.{bit_or}
 use Rattle.std.specs.List.{list_all, list_any}
 use Rattle.abi_base.specs.declared.data_layout.TargetDataLayout.{TargetDataLayout}
 use Rattle.abi_base.specs.DataLayout.{size_bound}
@@ -12,9 +13,11 @@ use Rattle.abi_scalar.specs.declared.variants.Variants.{Variants as LayoutVarian
 use Rattle.abi_scalar.specs.declared.variants.Variants.TheVariants.{Empty, Single, Multiple}
 use Rattle.abi_scalar.specs.Simple.{scalar_layout, never_layout, unit_layout}
 use Rattle.abi_scalar.specs.Pair.{pair_layout, pair_size, second_offset}
+use Rattle.abi_scalar.specs.Repr.{has_fixed_order}
 use Rattle.abi_scalar.specs.Shape.{listed_offsets}
 use Rattle.abi_scalar.specs.Variant.{variants_of}
 use Rattle.abi_lists.specs.Array.{array_answer, elements_layout}
+use Rattle.abi_lists.specs.InOrder.{IsOrderedError, IsOrderedLayout}
 use Rattle.abi_lists.specs.List.{IsListError, IsListLayout}
 use Rattle.abi_lists.specs.Placement.{source_order}
 use Rattle.abi_lists.specs.Simd.{simd_answer}
@@ -22,7 +25,7 @@ use Rattle.abi_lists.specs.Union.{IsUnionAnswer}
 use Rattle.abi_calc.specs.Coroutine.Layout.{IsStateTag}
 use Rattle.abi_calc.specs.Enums.Path.{variant_at}
 use Rattle.rustc_abi.specs.declared.error.LayError.{LayError}
-use Rattle.rustc_abi.specs.declared.error.LayError.TheVariants.{BadIndex, BadAlign, DuplicateDiscriminant, DiscriminantTooWide, NoState, LocalTwice, SizeOverflow}
+use Rattle.rustc_abi.specs.declared.error.LayError.TheVariants.{BadIndex, BadAlign, BadOrder, DuplicateDiscriminant, DiscriminantTooWide, NoState, LocalTwice, SizeOverflow}
 use Rattle.abi_laid.specs.Tree.{Tree, scalar, pair, never, unit, array, vector, struct, union, enum, coroutine, Trees, no_trees, more_trees, Variants, no_variants, more_variants}
 use Rattle.abi_laid.specs.Placed.{Placed, Layout, layout_of, scalar as placed_scalar, pair as placed_pair, never as placed_never, elements, vector as placed_vector, fields, union as placed_union, single as placed_single, tagged as placed_tagged, states as placed_states, no_parts, part}
 use Rattle.abi_laid.specs.declared.mark.Mark.TheVariants.{Never, Plain, Unit}
@@ -105,6 +108,43 @@ IsFieldsAnswer dl repr always_sized ps r =
     MatchOption (fields_fault repr ps)
     (Follows (IsListed dl repr (kind_of always_sized ps) (map layout_of ps)) (λ layout r. r ≡ Ok (placed_fields repr ps layout)) r)
     (λ e. r ≡ Err e)
+
+-- the same repr, under which fields may lie in any order
+abbrev pub randomized : ReprOptions → ReprOptions
+randomized repr = record {
+  int = repr.int;
+  align = repr.align;
+  pack = repr.pack;
+  flags = record { 0 = bit_or repr.flags.0 16 };
+  scalable = repr.scalable;
+  field_shuffle_seed = repr.field_shuffle_seed;
+}
+
+-- the calculator's answer to a list of layouts in this order, with its refusal by that name
+abbrev pub IsListedInOrder : TargetDataLayout → ReprOptions → StructKind → (order : List ℕ) → List Layout → Result Layout LayError → Type 0
+IsListedInOrder dl repr kind order layouts (Ok layout) =
+    (offsets : List ℕ) × IsOrderedLayout (λ i. i) 0 dl repr kind layouts order offsets layout
+IsListedInOrder dl repr kind order layouts (Err e) =
+    (error : LayoutCalculatorError Layout) × IsOrderedError (λ l. l) dl repr kind order layouts error × (e ≡ lay_error error)
+
+-- the own faults of a struct whose order is handed in, in their order: the last is that its repr fixes the order
+abbrev pub ordered_fault : ReprOptions → List Placed → Option LayError
+ordered_fault repr ps =
+    if nat_lt most_fields (length ps) then Some BadIndex
+    else (if has_bad_align repr then Some BadAlign
+    else (if has_fixed_order repr then Some BadOrder else None))
+
+-- the answer to a struct whose order is handed in: its own fault, else the calculator's answer to its fields in it
+abbrev pub IsOrderedFieldsAnswer : TargetDataLayout → ReprOptions → (always_sized : Bool) → (order : List ℕ) → List Placed → Result Placed LayError → Type 0
+IsOrderedFieldsAnswer dl repr always_sized order ps r =
+    MatchOption (ordered_fault repr ps)
+    (Follows (IsListedInOrder dl (randomized repr) (kind_of always_sized ps) order (map layout_of ps)) (λ layout r. r ≡ Ok (placed_fields repr ps layout)) r)
+    (λ e. r ≡ Err e)
+
+-- the answer to a struct, in the order that is handed in, if one is
+abbrev pub IsStructAnswer : TargetDataLayout → ReprOptions → (always_sized : Bool) → (order : Option (List ℕ)) → List Placed → Result Placed LayError → Type 0
+IsStructAnswer dl repr always_sized None = IsFieldsAnswer dl repr always_sized
+IsStructAnswer dl repr always_sized (Some order) = IsOrderedFieldsAnswer dl repr always_sized order
 
 -- the calculator's answer to a union of fields with these layouts, with its refusal by that name
 abbrev pub IsUnited : TargetDataLayout → ReprOptions → List Layout → Result Layout LayError → Type 0
@@ -196,7 +236,7 @@ abbrev mutual
   IsLaying dl never r = r ≡ Ok (placed_never (never_layout dl) Never)
   IsLaying dl unit r = r ≡ Ok (fields (unit_layout 0 dl true) Unit no_parts)
   IsLaying dl (array count element) r = Follows (IsLaying dl element) (λ p r. r ≡ elements_answer dl count p) r
-  IsLaying dl (struct repr always_sized all) r = Follows (AreLaying dl all) (IsFieldsAnswer dl repr always_sized) r
+  IsLaying dl (struct repr always_sized order all) r = Follows (AreLaying dl all) (IsStructAnswer dl repr always_sized order) r
   IsLaying dl (vector lanes packed element) r = Follows (IsLaying dl element) (λ p r. r ≡ vector_answer dl lanes packed p) r
   IsLaying dl (union repr all) r = Follows (AreLaying dl all) (IsUnionOf dl repr) r
   IsLaying dl (enum repr all) r = Follows (VariantsLaying dl all) (IsEnumOf dl repr (discriminants_of all)) r

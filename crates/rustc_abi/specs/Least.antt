@@ -1,6 +1,6 @@
 -- How large types are: structs as small as an order of their fields allows, enums and coroutines as their lists allow,
 -- others by their rule; and which sizes are refused.
-use Rattle.std.specs.Prelude.{◌≡◌, ℕ, true, ◌*◌, ◌≤◌, ◌⊎◌, Bool, List, [], ◌∷◌, length, map, None, Ok, ⊤}
+use Rattle.std.specs.Prelude.{◌≡◌, ℕ, true, ◌*◌, ◌≤◌, ◌⊎◌, Bool, List, [], ◌∷◌, length, map, None, Some, Ok, ⊤}
 use Rattle.abi_base.specs.declared.data_layout.TargetDataLayout.{TargetDataLayout}
 use Rattle.abi_base.specs.DataLayout.{size_bound}
 use Rattle.abi_scalar.specs.declared.repr.ReprOptions.{ReprOptions}
@@ -15,7 +15,7 @@ use Rattle.abi_calc.specs.declared.enums.path.Path.{Path}
 use Rattle.abi_calc.specs.declared.enums.path.Path.TheVariants.{NoValue, OneList, Several}
 use Rattle.abi_calc.specs.Enums.Path.{path_of, variant_at}
 use Rattle.abi_calc.specs.Enums.Several.{HasEnumSize, IsAskedTooLarge}
-use Rattle.abi_lists.specs.Least.{IsEachOrderTooLarge, IsLeastSize}
+use Rattle.abi_lists.specs.Least.{IsEachOrderTooLarge, IsLeastSize, IsOrderOf, size_by}
 use Rattle.abi_lists.specs.Simd.{IsVectorTooLarge, vector_size}
 use Rattle.abi_lists.specs.Union.{IsUnionTooLarge, union_size}
 use Rattle.abi_laid.specs.Tree.{Tree, scalar, pair, never, unit, array, vector, struct, union, enum, coroutine, Trees}
@@ -28,6 +28,7 @@ use Rattle.rustc_abi.specs.ScalarFault.{scalar_fault}
 use Rattle.rustc_abi.specs.Coroutines.{conflicts_of}
 use Rattle.rustc_abi.specs.Enums.{IsTagInteger, counted, discriminants_of, layouts_of}
 use Rattle.rustc_abi.specs.Laying.{IsLaying, AreLaying, VariantsLaying, coroutine_fault, enum_fault, fields_fault, kind_of, one_scalar}
+use Rattle.rustc_abi.specs.Laying.{ordered_fault, randomized}
 
 -- the laid-out fields, as a list
 abbrev pub fields_of : Parts → List Placed
@@ -63,6 +64,14 @@ IsLeastStruct dl repr always_sized ps size = IsLeastSize dl repr (kind_of always
 -- it is too large in each order of its list
 abbrev pub IsStructTooLarge : TargetDataLayout → ReprOptions → (always_sized : Bool) → List Placed → Type 0
 IsStructTooLarge dl repr always_sized ps = IsEachOrderTooLarge dl repr (kind_of always_sized ps) (map layout_of ps)
+
+-- the size of a struct of these fields in an order that is handed in
+abbrev pub ordered_size : TargetDataLayout → ReprOptions → (always_sized : Bool) → (order : List ℕ) → List Placed → ℕ
+ordered_size dl repr always_sized order ps = size_by dl (randomized repr) (kind_of always_sized ps) (map layout_of ps) order
+
+-- the order may be handed in for these fields
+abbrev pub IsOrderOfFields : TargetDataLayout → ReprOptions → (always_sized : Bool) → (order : List ℕ) → List Placed → Type 0
+IsOrderOfFields dl repr always_sized order ps = IsOrderOf dl (randomized repr) (kind_of always_sized ps) (length ps) order
 
 -- a coroutine of these prefix fields, locals, states and conflicts has the size that its lists allow, with those of its
 -- locals promoted that its states and conflicts tell: the list of prefix fields, tag and these has its least size, and
@@ -105,8 +114,8 @@ IsLeastEnum dl repr numbers variants _ _ = ⊥
 
 module _ (dl : TargetDataLayout) where
   -- Each type has its size: scalars, pairs, elements, vectors and unions the one that their rule tells, a struct the
-  -- least of its list; an enum and a coroutine the one that their lists allow. A type laid out as one of another kind
-  -- has none.
+  -- least of its list, or that of the order that is handed in; an enum and a coroutine the one that their lists allow.
+  -- A type laid out as one of another kind has none.
   abbrev pub IsLeast : Tree → Placed → Type 0
   IsLeast (scalar s) (one_number layout value) = layout.size ≡ scalar_size dl s
   IsLeast (pair a b) (two layout parts) = layout.size ≡ pair_size dl a b
@@ -115,8 +124,10 @@ module _ (dl : TargetDataLayout) where
   IsLeast (array count element) (elements layout n placed) = layout.size ≡ size_of placed * count
   IsLeast (vector lanes packed element) (lanes_of_vector layout all) =
       layout.size ≡ vector_size dl (layout_of (element_of all)) lanes packed
-  IsLeast (struct repr always_sized all) (fields layout mark parts) =
+  IsLeast (struct repr always_sized None all) (fields layout mark parts) =
       IsLeastStruct dl repr always_sized (fields_of parts) layout.size
+  IsLeast (struct repr always_sized (Some order) all) (fields layout mark parts) =
+      layout.size ≡ ordered_size dl repr always_sized order (fields_of parts)
   IsLeast (union repr all) (together layout mark parts) =
       layout.size ≡ union_size dl repr (map layout_of (fields_of parts))
   IsLeast (enum repr all) placed =
@@ -134,14 +145,17 @@ module _ (dl : TargetDataLayout) where
   HasOverlapSize _ placed = ⊤
 
   abbrev mutual
-    -- The first fault is a size: of two scalars, of so many elements, of a struct that is too large in every order, of a vector, of a
-    -- union, of an enum, or of a coroutine.
+    -- The first fault is a size: of two scalars, of so many elements, of a struct that is too large in every order, or
+    -- in the one that is handed in, of a vector, of a union, of an enum, or of a coroutine.
     pub IsTooLarge : Tree → Type 0
     IsTooLarge (pair a b) = (scalar_fault dl a ≡ None) × (scalar_fault dl b ≡ None) × (size_bound dl ≤ pair_size dl a b)
     IsTooLarge (array count element) =
         IsTooLarge element ⊎ ((p : Placed) × IsLaying dl element (Ok p) × (size_bound dl ≤ size_of p * count))
-    IsTooLarge (struct repr always_sized all) =
+    IsTooLarge (struct repr always_sized None all) =
         AreTooLarge all ⊎ ((ps : List Placed) × AreLaying dl all (Ok ps) × (fields_fault repr ps ≡ None) × IsStructTooLarge dl repr always_sized ps)
+    IsTooLarge (struct repr always_sized (Some order) all) =
+        AreTooLarge all ⊎ ((ps : List Placed) × AreLaying dl all (Ok ps) × (ordered_fault repr ps ≡ None)
+        × IsOrderOfFields dl repr always_sized order ps × (size_bound dl ≤ ordered_size dl repr always_sized order ps))
     IsTooLarge (vector lanes packed element) =
         IsTooLarge element ⊎ ((p : Placed) × IsLaying dl element (Ok p) × IsVectorTooLarge dl (layout_of p) lanes packed)
     IsTooLarge (union repr all) =

@@ -7,6 +7,7 @@ pub mod Laying
 pub mod Everywhere
 pub mod Least
 pub mod Lists
+pub mod Orders
 pub mod Clash
 pub mod Adding
 pub mod Count

@@ -1,5 +1,5 @@
 -- The lists that types are made of: each lies in an allowed order of the least size, but for moves that the rules name.
-use Rattle.std.specs.Prelude.{◌≡◌, ℕ, ◌+◌, ◌^◌, ◌==◌, ◌≤◌, ◌⊎◌, ⊤, Bool, List, [], ◌∷◌, ◌++◌, MatchBool, Ok, length}
+use Rattle.std.specs.Prelude.{◌≡◌, ℕ, ◌+◌, ◌^◌, ◌==◌, ◌≤◌, ◌⊎◌, ⊤, Bool, List, [], ◌∷◌, ◌++◌, MatchBool, None, Ok, length}
 use Rattle.std.specs.Prelude.{map}
 use Rattle.std.specs.Int.{next_multiple_of}
 use Rattle.abi_base.specs.declared.data_layout.TargetDataLayout.{TargetDataLayout}
@@ -113,9 +113,10 @@ AreLeastStates dl prefix place tag locals promoted states arms =
 module _ (dl : TargetDataLayout) where
   -- Each list that the type is made of is such a list: a struct's, that of the one variant that is left, those of the
   -- variants beside a tag before it grew or they were moved beside a niche, and those of a coroutine, with the locals
-  -- promoted that its states and conflicts tell. Of other types nothing is said.
+  -- promoted that its states and conflicts tell. Of other types nothing is said, and of a struct whose order is handed
+  -- in: `LiesAsAsked` does.
   abbrev pub HasLeastLists : Tree → Placed → Type 0
-  HasLeastLists (struct repr always_sized all) (fields layout mark parts) =
+  HasLeastLists (struct repr always_sized None all) (fields layout mark parts) =
       IsLeastList dl repr (kind_of always_sized (fields_of parts)) (types_of parts) (offsets_of parts) layout.size
   HasLeastLists (enum repr all) (single layout mark index parts) =
       IsLeastList dl repr AlwaysSized (types_of parts) (offsets_of parts) layout.size

@@ -10,7 +10,8 @@ use crate::error::LayError;
 use crate::lay_fields::{MOST_FIELDS, has_bad_index};
 use std::alloc::{AllocError, Global};
 
-/// Whether a list is longer than its indices can name: that of prefix fields, tag and locals, that of states, or one state's.
+/// Whether a list is longer than its indices can name: that of prefix fields, tag and locals, that of states, or one
+/// state's.
 fn has_long_list(prefix: usize, locals: usize, states: &[Vec<u64>]) -> bool
     ensures { result ≡ (nat_lt most_fields (prefix + 1 + locals) || has_bad_index
         (map (λ state. state.items) states.now)) }
@@ -54,8 +55,8 @@ fn has_unknown_local(locals: u64, states: &[Vec<u64>]) -> bool
     false
 }
 
-/// Puts these indices behind the others, as numbers of 128 bits. `AllocError` where memory is refused: then some of them stand
-/// behind the others.
+/// Puts these indices behind the others, as numbers of 128 bits. `AllocError` where memory is refused: then some of
+/// them stand behind the others.
 fn put_numbers(numbers: &mut Vec<u128>, indices: &[u64]) -> Result<(), AllocError>
     ensures ok { OnOk result (numbers.new.items ≡ numbers.old.items ++ indices.now) }
     ensures err { OnErr result ((count : ℕ) × (numbers.new.items ≡ numbers.old.items ++ take count indices.now)) }

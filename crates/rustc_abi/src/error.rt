@@ -42,6 +42,9 @@ pub enum LayError {
     OversizedSimdType,
     /// A vector's element is no scalar.
     NonPrimitiveSimdType,
+    /// An order that is handed in isn't one of the struct's fields, moves a last one that may lose its size, or stands
+    /// beside a repr that fixes the order.
+    BadOrder,
     /// A growth of memory was refused.
     OutOfMemory,
 }
@@ -67,6 +70,7 @@ impl Display for LayError {
       | refusal.ZeroLengthSimdType ↦ codes "invalid simd type definition"
       | refusal.OversizedSimdType ↦ codes "invalid simd type definition"
       | refusal.NonPrimitiveSimdType ↦ codes "invalid simd type definition"
+      | refusal.BadOrder ↦ codes "field order is not allowed"
       | refusal.OutOfMemory ↦ codes "out of memory"
     ]) };
 
@@ -90,6 +94,7 @@ impl Display for LayError {
             LayError::ZeroLengthSimdType => "invalid simd type definition",
             LayError::OversizedSimdType => "invalid simd type definition",
             LayError::NonPrimitiveSimdType => "invalid simd type definition",
+            LayError::BadOrder => "field order is not allowed",
             LayError::OutOfMemory => "out of memory",
         })
     }
@@ -134,6 +139,7 @@ impl<F: Drop> From<LayoutCalculatorError<F>> for LayError {
             LayoutCalculatorError::ZeroLengthSimdType => LayError::ZeroLengthSimdType,
             LayoutCalculatorError::OversizedSimdType { .. } => LayError::OversizedSimdType,
             LayoutCalculatorError::NonPrimitiveSimdType(_) => LayError::NonPrimitiveSimdType,
+            LayoutCalculatorError::BadOrder => LayError::BadOrder,
             LayoutCalculatorError::OutOfMemory => LayError::OutOfMemory,
         }
     }

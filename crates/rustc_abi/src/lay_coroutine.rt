@@ -101,8 +101,8 @@ fn add_each_state(
     add_variants(alloc, nodes, layout, Mark::Plain, &numbers, children)
 }
 
-/// A node for a coroutine with this layout and this tag, behind one for the tag and one for each state: each state has the
-/// locals that its indices name, and its own index as number.
+/// A node for a coroutine with this layout and this tag, behind one for the tag and one for each state: each state has
+/// the locals that its indices name, and its own index as number.
 fn add_states(
     alloc: Global,
     dl: &TargetDataLayout,
@@ -188,7 +188,8 @@ fn calculated(
     Ok(answer?)
 }
 
-/// The layout of a coroutine without a fault of its own, from its prefix fields and its locals, each as one of the nodes.
+/// The layout of a coroutine without a fault of its own, from its prefix fields and its locals, each as one of the
+/// nodes.
 fn coroutine_layout(
     alloc: Global,
     dl: &TargetDataLayout,

@@ -91,7 +91,8 @@ fn variant_layouts<'a>(
     Ok(layouts)
 }
 
-/// The calculator's answer to variants with these discriminants, where the tag's integer that is asked for is the enum's.
+/// The calculator's answer to variants with these discriminants, where the tag's integer that is asked for is the
+/// enum's.
 fn calculated<D: Fn(RangeFrom<i128>, RangeToInclusive<u128>) -> (Integer, bool)>(
     alloc: Global,
     dl: &TargetDataLayout,
@@ -132,8 +133,8 @@ where
     Ok(answer?)
 }
 
-/// The layout of an enum without a fault of its own, from its discriminants and from the fields of its variants, each as
-/// one of the nodes.
+/// The layout of an enum without a fault of its own, from its discriminants and from the fields of its variants, each
+/// as one of the nodes.
 fn enum_layout(
     alloc: Global,
     dl: &TargetDataLayout,
@@ -215,7 +216,8 @@ pub(crate) fn add_variants(
     Ok(variants)
 }
 
-/// A node for an enum of several variants with this layout and this tag, behind one for the tag and one for each variant.
+/// A node for an enum of several variants with this layout and this tag, behind one for the tag and one for each
+/// variant.
 fn add_tagged(
     alloc: Global,
     dl: &TargetDataLayout,

@@ -75,7 +75,7 @@ pub(crate) fn fields_fault(repr: &ReprOptions, children: &[usize]) -> Option<Lay
 }
 
 /// Whether the list is always sized: where the struct says so, and where it has no fields.
-fn kind_of(always_sized: bool, children: &[usize]) -> StructKind
+pub(crate) fn kind_of(always_sized: bool, children: &[usize]) -> StructKind
     ensures { (ps : List Placed) → length ps ≡ length children.now → result ≡ kind_of always_sized ps }
 {
     if always_sized || children.is_empty() {
@@ -137,7 +137,7 @@ fn add_faultless_fields(
     ensures ok { IfOk result
         (λ i. (ts : Trees) → AreLaying dl.now ts (Ok (all_at nodes.old.items children.items)) →
         EachFits dl.now ts (all_at nodes.old.items children.items) →
-        IsAdded dl.now nodes.old.items nodes.new.items i (struct repr.now always_sized ts)) }
+        IsAdded dl.now nodes.old.items nodes.new.items i (struct repr.now always_sized None ts)) }
     ensures own { IfOk result (IsOwnPut nodes.old.items nodes.new.items) }
     ensures err { IfErr result (IsRefused
         (IsFieldsAnswer dl.now repr.now always_sized (all_at nodes.old.items children.items))) }
@@ -167,7 +167,7 @@ pub(crate) fn add_fields(
     ensures ok { IfOk result
         (λ i. (ts : Trees) → AreLaying dl.now ts (Ok (all_at nodes.old.items children.items)) →
         EachFits dl.now ts (all_at nodes.old.items children.items) →
-        IsAdded dl.now nodes.old.items nodes.new.items i (struct repr.now always_sized ts)) }
+        IsAdded dl.now nodes.old.items nodes.new.items i (struct repr.now always_sized None ts)) }
     ensures own { IfOk result (IsOwnPut nodes.old.items nodes.new.items) }
     ensures err { IfErr result (IsRefused
         (IsFieldsAnswer dl.now repr.now always_sized (all_at nodes.old.items children.items))) }

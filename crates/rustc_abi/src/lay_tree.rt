@@ -14,6 +14,7 @@ use crate::lay_array::add_elements;
 use crate::lay_coroutine::add_coroutine;
 use crate::lay_enum::add_enum;
 use crate::lay_fields::add_fields;
+use crate::lay_ordered::add_ordered;
 use crate::lay_scalar::{add_never, add_pair, add_scalar, add_unit};
 use crate::lay_union::add_union;
 use crate::lay_vector::add_vector;
@@ -50,6 +51,15 @@ pub(crate) fn lay_tree(
         } => {
             let children = lay_each(alloc, dl, nodes, fields)?;
             add_fields(alloc, dl, nodes, repr, *always_sized, children)
+        }
+        TypeTree::Ordered {
+            repr,
+            always_sized,
+            order,
+            fields,
+        } => {
+            let children = lay_each(alloc, dl, nodes, fields)?;
+            add_ordered(alloc, dl, nodes, repr, *always_sized, order, children)
         }
         TypeTree::Vector {
             lanes,

@@ -10,6 +10,7 @@ mod lay_array;
 mod lay_coroutine;
 mod lay_enum;
 mod lay_fields;
+mod lay_ordered;
 mod lay_scalar;
 mod lay_tree;
 mod lay_union;

@@ -9,7 +9,7 @@ use Rattle.abi_base.specs.declared.struct_kind.StructKind.{StructKind}
 use Rattle.abi_base.specs.declared.struct_kind.StructKind.TheVariants.{AlwaysSized}
 use Rattle.abi_base.specs.DataLayout.{size_bound}
 use Rattle.abi_scalar.specs.declared.error.LayoutCalculatorError.{LayoutCalculatorError}
-use Rattle.abi_scalar.specs.declared.error.LayoutCalculatorError.TheVariants.{UnexpectedUnsized, SizeOverflow, EmptyUnion, ReprConflict, ZeroLengthSimdType, OversizedSimdType, NonPrimitiveSimdType, OutOfMemory}
+use Rattle.abi_scalar.specs.declared.error.LayoutCalculatorError.TheVariants.{UnexpectedUnsized, SizeOverflow, EmptyUnion, ReprConflict, ZeroLengthSimdType, OversizedSimdType, NonPrimitiveSimdType, BadOrder, OutOfMemory}
 use Rattle.abi_scalar.specs.declared.layout_data.LayoutData.{LayoutData}
 use Rattle.abi_scalar.specs.declared.repr.ReprOptions.{ReprOptions}
 use Rattle.abi_scalar.specs.declared.variants.RangeFrom.{RangeFrom}
@@ -43,6 +43,7 @@ IsSameError ReprConflict ReprConflict = ⊤
 IsSameError ZeroLengthSimdType ZeroLengthSimdType = ⊤
 IsSameError (OversizedSimdType m) (OversizedSimdType n) = m ≡ n
 IsSameError (NonPrimitiveSimdType h) (NonPrimitiveSimdType k) = ⊤
+IsSameError BadOrder BadOrder = ⊤
 IsSameError OutOfMemory OutOfMemory = ⊤
 IsSameError _ _ = ⊥
 

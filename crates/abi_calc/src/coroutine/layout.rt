@@ -207,8 +207,8 @@ fn layout_of_size<FieldIdx: Idx, VariantIdx: Idx, LocalIdx: Idx>(
     })
 }
 
-/// The layout of a coroutine with so many prefix fields, from the layouts of its lists. Refused as `SizeOverflow` where the
-/// size isn't below the data layout's bound.
+/// The layout of a coroutine with so many prefix fields, from the layouts of its lists. Refused as `SizeOverflow` where
+/// the size isn't below the data layout's bound.
 pub(crate) fn layout_of_lists<FieldIdx: Idx, VariantIdx: Idx, LocalIdx: Idx, F>(
     alloc: Global,
     dl: &TargetDataLayout,

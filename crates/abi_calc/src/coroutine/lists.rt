@@ -109,7 +109,8 @@ impl<Cx: HasDataLayout> LayoutCalculator<Cx> {
         self.layout_of_variant(alloc, &fields, &default_repr(), kind)
     }
 
-    /// The layout of each state's own list, of this kind, which is sized. Refused as the first of them is that has none.
+    /// The layout of each state's own list, of this kind, which is sized. Refused as the first of them is that has
+    /// none.
     pub(crate) fn layouts_of_own<
         FieldIdx: Idx,
         VariantIdx: Idx,

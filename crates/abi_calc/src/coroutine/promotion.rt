@@ -94,8 +94,8 @@ fn have_same_holder<LocalIdx: Idx>(holders: &[usize], a: LocalIdx, b: LocalIdx) 
     holders[a.index()] == holders[b.index()]
 }
 
-/// Whether a row's local and a column's need no promotion: the column's is promoted already, or one state is the first that
-/// holds both, or none is, while the row's isn't promoted.
+/// Whether a row's local and a column's need no promotion: the column's is promoted already, or one state is the first
+/// that holds both, or none is, while the row's isn't promoted.
 fn are_settled<LocalIdx: Idx>(
     holders: &[usize],
     row: LocalIdx,
@@ -260,10 +260,10 @@ fn local_count<LocalIdx: Idx>(conflicts: &BitMatrix<LocalIdx, LocalIdx>) -> usiz
     count
 }
 
-/// The locals that lie beside the prefix fields and the tag, where they share no byte with any other: those that several states
-/// hold. Then the rows of the conflicts ascend, without those of promoted locals, and the columns of each: of two locals that
-/// aren't settled the one whose row has more conflicts is promoted, the column's where both have as many. Where fewer than two
-/// states hold another, all are. A refused request for memory is the one error.
+/// The locals that lie beside the prefix fields and the tag, where they share no byte with any other: those that
+/// several states hold. Then the rows of the conflicts ascend, without those of promoted locals, and the columns of
+/// each: of two locals that aren't settled the one whose row has more conflicts is promoted, the column's where both
+/// have as many. Where fewer than two states hold another, all are. A refused request for memory is the one error.
 pub(crate) fn promoted_locals<FieldIdx: Idx, LocalIdx: Idx>(
     alloc: Global,
     states: &[IndexVec<FieldIdx, LocalIdx>],

@@ -64,8 +64,8 @@ fn rank_in<LocalIdx: Idx>(
     below[local.index()]
 }
 
-/// The offsets of a state's locals, in bytes and as it lists them: of the promoted ones by rank, of the others one after
-/// another.
+/// The offsets of a state's locals, in bytes and as it lists them: of the promoted ones by rank, of the others one
+/// after another.
 fn state_offsets<FieldIdx: Idx, LocalIdx: Idx>(
     alloc: Global,
     promoted: &DenseBitSet<LocalIdx>,
@@ -172,8 +172,8 @@ fn joined_places<FieldIdx: Idx>(
     Ok(list)
 }
 
-/// A state's locals as they follow one another in memory: the promoted ones as their ranks do, then the others as in the
-/// state's own list.
+/// A state's locals as they follow one another in memory: the promoted ones as their ranks do, then the others as in
+/// the state's own list.
 fn state_order<FieldIdx: Idx, LocalIdx: Idx>(
     alloc: Global,
     promoted: &DenseBitSet<LocalIdx>,
@@ -199,8 +199,8 @@ fn state_order<FieldIdx: Idx, LocalIdx: Idx>(
     joined_places(alloc, &held, ranks, &places, own)
 }
 
-/// A state in the whole: its own list, with the promoted locals that it holds. The promoted ones lie at these offsets, by
-/// rank, and follow one another in memory as these ranks do; so many of them are `below` each local.
+/// A state in the whole: its own list, with the promoted locals that it holds. The promoted ones lie at these offsets,
+/// by rank, and follow one another in memory as these ranks do; so many of them are `below` each local.
 pub(crate) fn state_layout<FieldIdx: Idx, VariantIdx: Idx, LocalIdx: Idx>(
     alloc: Global,
     promoted: &DenseBitSet<LocalIdx>,

@@ -42,7 +42,8 @@ fn room_beside(dl: &TargetDataLayout, niche: Niche, whole: Size) -> Room
     }
 }
 
-/// How a variant is named: by the numbers from the first that is handed out on, in the span; else it is the untagged one.
+/// How a variant is named: by the numbers from the first that is handed out on, in the span; else it is the untagged
+/// one.
 fn niche_encoding<VariantIdx: Idx>(
     untagged: usize,
     span: (usize, usize),
@@ -111,8 +112,8 @@ fn untagged_view<FieldIdx: Idx, VariantIdx: Idx>(
     (fills(list, size, align), list.backend_repr)
 }
 
-/// The layout with this niche of the untagged variant, from which these numbers are handed out, if there is room for each
-/// other variant.
+/// The layout with this niche of the untagged variant, from which these numbers are handed out, if there is room for
+/// each other variant.
 fn layout_in_niche<FieldIdx: Idx, VariantIdx: Idx>(
     alloc: Global,
     dl: &TargetDataLayout,
@@ -244,8 +245,9 @@ fn any_niche<FieldIdx: Idx, VariantIdx: Idx, F: LayoutHandle<FieldIdx, VariantId
 }
 
 impl<Cx: HasDataLayout> LayoutCalculator<Cx> {
-    /// The layout of an enum with a niche, where there is one: none where C or an integer is asked for, where no field has a
-    /// niche, or where some variant's fields have no layout as an always sized list. Only want of memory is an error.
+    /// The layout of an enum with a niche, where there is one: none where C or an integer is asked for, where no field
+    /// has a niche, or where some variant's fields have no layout as an always sized list. Only want of memory is an
+    /// error.
     pub(crate) fn layout_of_niche<
         FieldIdx: Idx,
         VariantIdx: Idx,

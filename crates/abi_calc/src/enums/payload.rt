@@ -341,7 +341,8 @@ fn is_memory(view: BackendRepr) -> bool
     }
 }
 
-/// Whether the variant takes the view of its enum over: it has fields and is bytes in memory, and the view is of scalars.
+/// Whether the variant takes the view of its enum over: it has fields and is bytes in memory, and the view is of
+/// scalars.
 fn takes_view<FieldIdx: Idx>(view: &BackendRepr, variant: &VariantLayout<FieldIdx>) -> bool
     ensures { result ≡ (is_of_scalars view.now && is_memory variant.now.backend_repr && nat_lt 0
         (length variant.now.field_offsets)) }

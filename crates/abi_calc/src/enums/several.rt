@@ -23,8 +23,8 @@ use abi_scalar::{
 use std::alloc::Global;
 
 impl<Cx: HasDataLayout> LayoutCalculator<Cx> {
-    /// The layout of an enum of several variants with a tag, from the discriminants of all. The tag's integer, and whether
-    /// it is signed, is asked for with the least and the greatest number that it has to hold.
+    /// The layout of an enum of several variants with a tag, from the discriminants of all. The tag's integer, and
+    /// whether it is signed, is asked for with the least and the greatest number that it has to hold.
     fn layout_with_tag<
         FieldIdx: Idx,
         VariantIdx: Idx,
@@ -84,9 +84,9 @@ impl<Cx: HasDataLayout> LayoutCalculator<Cx> {
         self.layout_of_tagged(alloc, variants, repr, integer, signed, &values)
     }
 
-    /// The layout of an enum of several variants that isn't packed, from the discriminants of all: the better of the one
-    /// with a tag and, if there is one, that with a niche. Refused as the layout with a tag is, though there be one with a
-    /// niche.
+    /// The layout of an enum of several variants that isn't packed, from the discriminants of all: the better of the
+    /// one with a tag and, if there is one, that with a niche. Refused as the layout with a tag is, though there be one
+    /// with a niche.
     fn layout_of_enum<
         FieldIdx: Idx,
         VariantIdx: Idx,

@@ -84,8 +84,8 @@ fn variants_of<FieldIdx: Idx, VariantIdx: Idx>(
     Ok(variants)
 }
 
-/// The layout of an enum of this view, alignment and size, whose tag grew from the old size, and whose variants have these
-/// lists.
+/// The layout of an enum of this view, alignment and size, whose tag grew from the old size, and whose variants have
+/// these lists.
 fn layout_seen_as<FieldIdx: Idx, VariantIdx: Idx>(
     alloc: Global,
     dl: &TargetDataLayout,
@@ -135,8 +135,8 @@ fn layout_seen_as<FieldIdx: Idx, VariantIdx: Idx>(
     })
 }
 
-/// The layout of an enum whose variants have these lists behind a tag, which is asked for as this integer and holds these
-/// discriminants.
+/// The layout of an enum whose variants have these lists behind a tag, which is asked for as this integer and holds
+/// these discriminants.
 fn layout_of_lists<FieldIdx: Idx, VariantIdx: Idx, F: LayoutHandle<FieldIdx, VariantIdx> + Copy>(
     alloc: Global,
     dl: &TargetDataLayout,
@@ -225,14 +225,14 @@ impl<Cx: HasDataLayout> LayoutCalculator<Cx> {
         ensures apart { IfOk result (λ l.
             AreApartAmong (Cx.target self.now.cx) l.size (map (map F.layout_of) variants.now) l.variants) }
 
-        // Each discriminant that counts is a number of the tag, cut to its width, and those that differ by the integer that was
-        // asked for differ there too.
+        // Each discriminant that counts is a number of the tag, cut to its width, and those that differ by the integer
+        // that was asked for differ there too.
         ensures numbers { IfOk result (λ l. AreNumbersAmong (Cx.target self.now.cx) values.now l.variants) }
         ensures differ { IfOk result (λ l.
             DifferAmong (Cx.target self.now.cx) (integer_size asked) values.now l.variants) }
 
-        // It is refused for its size only where every allowed order of some list is too large, or that size is, and sized fields
-        // always then; sized fields are refused by no other name.
+        // It is refused for its size only where every allowed order of some list is too large, or that size is, and
+        // sized fields always then; sized fields are refused by no other name.
         ensures too_large { result ≡ Err LayoutCalculatorError.SizeOverflow →
             IsTaggedTooLarge (Cx.target self.now.cx) repr.now
             (behind_tag (Cx.target self.now.cx) repr.now asked (map (map F.layout_of) variants.now))

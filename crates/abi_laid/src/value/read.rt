@@ -453,8 +453,8 @@ fn read_state(
     }
 }
 
-/// The value of the type that these bytes hold, where they hold one; they hold at most one, and none where they aren't as many as
-/// the type is large. `AllocError` where a growth of memory was refused.
+/// The value of the type that these bytes hold, where they hold one; they hold at most one, and none where they aren't
+/// as many as the type is large. `AllocError` where a growth of memory was refused.
 pub fn read_value(alloc: Global, laid: &Laid, bytes: &[u8]) -> Result<Option<Value>, AllocError>
     // What is answered: the value that they hold, and None where they hold none.
     ensures finds { IfOk result (Finds (Holds (endian_of laid.now) (placed_of laid.now) bytes.now)) }

@@ -9,7 +9,8 @@ use crate::nodes::Nodes;
 use abi_base::Endian;
 use std::alloc::Global;
 
-/// What a walk over nodes hands on from node to node: where memory comes from, the order of a number's bytes, and the nodes.
+/// What a walk over nodes hands on from node to node: where memory comes from, the order of a number's bytes, and the
+/// nodes.
 #[derive(Clone, Copy)]
 pub(crate) struct Walk<'a> {
     pub(crate) alloc: Global,

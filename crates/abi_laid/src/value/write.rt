@@ -178,7 +178,8 @@ fn write_union(
     Ok(())
 }
 
-/// Puts a value over the bytes of a node, wherever its parts cover one. Of a value that no bytes of the node hold nothing is said.
+/// Puts a value over the bytes of a node, wherever its parts cover one. Of a value that no bytes of the node hold
+/// nothing is said.
 #[cycle(write)]
 pub(crate) fn write_node(
     walk: Walk<'_>,
@@ -472,11 +473,13 @@ fn holds(walk: Walk<'_>, node: usize, value: &Value, bytes: &[u8]) -> Result<boo
     }
 }
 
-/// The bytes that hold a value of the type: as many as the type is large, with 0 wherever no part of the value covers one.
+/// The bytes that hold a value of the type: as many as the type is large, with 0 wherever no part of the value covers
+/// one.
 ///
-/// `NotAValue` where the value is none of the type's: a number that its scalar doesn't have, a list of another length, a variant
-/// or a state that isn't there, or one without values, a union's bytes of another count, a value of another kind. `OutOfMemory`
-/// where a growth of memory was refused; as many bytes as the type is large are asked for before the value is looked at.
+/// `NotAValue` where the value is none of the type's: a number that its scalar doesn't have, a list of another length,
+/// a variant or a state that isn't there, or one without values, a union's bytes of another count, a value of another
+/// kind. `OutOfMemory` where a growth of memory was refused; as many bytes as the type is large are asked for before
+/// the value is looked at.
 pub fn write_value(alloc: Global, laid: &Laid, value: &Value) -> Result<Vec<u8>, ValueError>
     // What is answered.
     ensures holds { IfOk result (λ bytes.

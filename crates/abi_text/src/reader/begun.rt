@@ -31,6 +31,19 @@ pub(crate) enum CoroutineWant {
     Column(u64),
 }
 
+/// What comes next in the text of a struct whose order is handed in, where no type may come.
+#[derive(Clone, Copy)]
+pub(crate) enum OrderWant {
+    /// Its repr.
+    Repr,
+    /// The order, of a struct with this repr.
+    Opening(StructRepr),
+    /// The order's next index.
+    Index,
+    /// The fields.
+    FieldsOpening,
+}
+
 /// Where a scalar belongs.
 #[derive(Clone, Copy)]
 pub(crate) enum ScalarPlace {
@@ -86,6 +99,7 @@ pub(crate) enum Want {
     /// The fields of a variant with this discriminant.
     VariantOpening(u128),
     Coroutine(CoroutineWant),
+    Order(OrderWant),
     /// Nothing: the type is complete.
     End,
 }
@@ -114,6 +128,10 @@ pub(crate) enum Open {
     Lanes(u64, bool),
     /// A struct, with the fields so far.
     Fields(StructRepr, Vec<TypeTree>),
+    /// A struct whose order is handed in, with the indices so far.
+    Ordering(StructRepr, Vec<u64>),
+    /// A struct with this order, with the fields so far.
+    Ordered(StructRepr, Vec<u64>, Vec<TypeTree>),
     /// A union, with the fields so far.
     Members(ReprOptions, Vec<TypeTree>),
     /// An enum between its variants, with those so far.
@@ -210,6 +228,10 @@ fn with_member(tree: TypeTree, top: Open) -> Result<Open, Fault>
         Open::Fields(repr, mut fields) => {
             fields.push(tree)?;
             Ok(Open::Fields(repr, fields))
+        }
+        Open::Ordered(repr, order, mut fields) => {
+            fields.push(tree)?;
+            Ok(Open::Ordered(repr, order, fields))
         }
         Open::Members(repr, mut fields) => {
             fields.push(tree)?;

@@ -1,16 +1,31 @@
 //! Reads closing parentheses.
 
-ghost use Rattle.std.specs.Prelude.{◌≡◌, IfOk, IfErr, map};
-ghost use Rattle.abi_laid.specs.Tree.{coroutine, enum, tree_of, trees};
+ghost use Rattle.std.specs.Prelude.{◌≡◌, IfOk, IfErr, Some, map};
+ghost use Rattle.abi_laid.specs.Tree.{coroutine, enum, struct, tree_of, trees};
 ghost use Rattle.abi_text.specs.Reading.{Agrees, begun_in, closed, indices_by, part_closed, parts_by, state_of, variant_by, variants_in};
 
 use crate::fault::Fault;
 use crate::reader::begun::{
-    CoroutineParts, CoroutineWant, Open, Reader, Want, put, waiting, waiting_for,
+    CoroutineParts, CoroutineWant, Open, OrderWant, Reader, Want, put, waiting, waiting_for,
+    waiting_in,
 };
+use crate::reader::repr_text::StructRepr;
 use abi_laid::TypeTree;
 use abi_scalar::ReprOptions;
 use std::alloc::Global;
+
+/// A struct with this order.
+fn ordered(asked: &StructRepr, order: Vec<u64>, fields: Vec<TypeTree>) -> TypeTree
+    ensures { tree_of result ≡ struct asked.now.repr asked.now.always_sized (Some order.items)
+        (trees (map tree_of fields.items)) }
+{
+    TypeTree::Ordered {
+        repr: asked.repr,
+        always_sized: asked.always_sized,
+        order,
+        fields,
+    }
+}
 
 /// An enum of these variants.
 fn whole_enum(repr: ReprOptions, variants: Vec<(u128, Vec<TypeTree>)>) -> TypeTree
@@ -83,6 +98,13 @@ pub(crate) fn close(alloc: Global, number: u64, begun: Vec<Open>) -> Result<Read
                 fields,
             };
             put(alloc, tree, begun)
+        }
+        Some(Open::Ordering(asked, order)) => {
+            let want = Want::Order(OrderWant::FieldsOpening);
+            waiting_in(want, Open::Ordering(asked, order), begun)
+        }
+        Some(Open::Ordered(asked, order, fields)) => {
+            put(alloc, ordered(&asked, order, fields), begun)
         }
         Some(Open::Members(repr, fields)) => put(alloc, TypeTree::Union { repr, fields }, begun),
         Some(Open::Variant(repr, mut variants, discriminant, fields)) => {

@@ -19,6 +19,8 @@ pub(crate) enum TypeWord {
     Vector(bool),
     /// A struct: a repr and fields follow.
     Struct,
+    /// A struct whose order is handed in: a repr, the order and fields follow.
+    Ordered,
     /// A union: a repr and fields follow.
     Union,
     /// An enum: a repr and variants follow.
@@ -45,6 +47,8 @@ fn other_word(word: &[u8]) -> Option<TypeWord>
         Some(TypeWord::Vector(true))
     } else if word == b"struct".as_slice() {
         Some(TypeWord::Struct)
+    } else if word == b"ordered".as_slice() {
+        Some(TypeWord::Ordered)
     } else if word == b"union".as_slice() {
         Some(TypeWord::Union)
     } else if word == b"enum".as_slice() {

@@ -32,7 +32,8 @@ fn number_in(view: BackendRepr) -> Option<Numeric>
     }
 }
 
-/// The number that its parts are, where it is a complex number, through transparent types around it and around its parts.
+/// The number that its parts are, where it is a complex number, through transparent types around it and around its
+/// parts.
 #[tactic(auto, using(crate::proofs::ComplexLemmas::has_parts, crate::proofs::ComplexLemmas::no_complex, crate::proofs::ComplexLemmas::of_parts))]
 fn walk_complex<W: Walk>(this: W) -> Option<Numeric>
     requires { W.is_valid this }
@@ -47,8 +48,9 @@ fn walk_complex<W: Walk>(this: W) -> Option<Numeric>
 }
 
 impl<'a, Ty> TyAndLayout<'a, Ty> {
-    /// The number that its parts are, where it is passed as a complex number of C is: it is the language's own type of complex
-    /// numbers, or transparent around it, and its parts are integers or floats other than `bfloat16`, or transparent around such.
+    /// The number that its parts are, where it is passed as a complex number of C is: it is the language's own type of
+    /// complex numbers, or transparent around it, and its parts are integers or floats other than `bfloat16`, or
+    /// transparent around such.
     pub fn complex_number<C>(&self, cx: &C) -> Option<Numeric>
     where
         Ty: TyAbiInterface<'a, C> + Copy,

@@ -64,8 +64,8 @@ pub trait TyAbiInterface<'a, C>: Sized + Debug + Display {
     /// All that it tells.
     ghost typed_of: { TyAndLayout Self → Typed };
 
-    /// The type at one of its variants: the variant alone, without the tag, where a tag tells variants apart; and the type itself
-    /// where there is one variant.
+    /// The type at one of its variants: the variant alone, without the tag, where a tag tells variants apart; and the
+    /// type itself where there is one variant.
     fn ty_and_layout_for_variant(
         this: TyAndLayout<'a, Self>,
         cx: &C,
@@ -154,8 +154,8 @@ pub trait TyAbiInterface<'a, C>: Sized + Debug + Display {
 }
 
 impl<'a, Ty> TyAndLayout<'a, Ty> {
-    /// The type at one of its variants: the variant alone, without the tag, where a tag tells variants apart; and the type itself
-    /// where there is one variant.
+    /// The type at one of its variants: the variant alone, without the tag, where a tag tells variants apart; and the
+    /// type itself where there is one variant.
     pub fn for_variant<C>(self, cx: &C, variant_index: VariantIdx) -> TyAndLayout<'a, Ty>
     where
         Ty: TyAbiInterface<'a, C>,

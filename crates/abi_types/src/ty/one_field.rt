@@ -34,8 +34,8 @@ impl NoBytes {
     }
 }
 
-/// The index of the one field that isn't such; None where there is no such field, or several. Elements of an array are all one
-/// type: of two or more none is the only one.
+/// The index of the one field that isn't such; None where there is no such field, or several. Elements of an array are
+/// all one type: of two or more none is the only one.
 #[tactic(auto, using(crate::proofs::OneFieldLemmas::none_found, crate::proofs::OneFieldLemmas::first_found, crate::proofs::OneFieldLemmas::passed_over, crate::proofs::OneFieldLemmas::second_found, crate::proofs::OneFieldLemmas::all_found, crate::proofs::OneFieldLemmas::of_elements, crate::proofs::OneFieldLemmas::found_below, crate::proofs::OneFieldLemmas::still_below))]
 pub(crate) fn only_field<W: Walk>(this: W, kind: NoBytes) -> Option<usize>
     requires { W.is_valid this }
@@ -74,7 +74,8 @@ fn only_field_of<W: Walk>(this: W, kind: NoBytes) -> Option<(FieldIdx, W)>
 }
 
 impl<'a, Ty> TyAndLayout<'a, Ty> {
-    /// The one field that has bytes or is aligned to more than one, and its index; None where there is no such field, or several.
+    /// The one field that has bytes or is aligned to more than one, and its index; None where there is no such field,
+    /// or several.
     pub fn non_1zst_field<C>(&self, cx: &C) -> Option<(FieldIdx, TyAndLayout<'a, Ty>)>
     where
         Ty: TyAbiInterface<'a, C> + Copy,

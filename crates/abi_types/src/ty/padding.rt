@@ -79,7 +79,8 @@ fn unused<W: Walk>(alloc: Global, this: W, variant: VariantIdx) -> Result<RangeS
     }
 }
 
-/// Of each of the first variants, so many, the bytes that some variant covers, and neither this one nor a field that all of them have.
+/// Of each of the first variants, so many, the bytes that some variant covers, and neither this one nor a field that
+/// all of them have.
 fn unused_of_each<W: Walk>(
     alloc: Global,
     this: W,
@@ -118,8 +119,8 @@ fn each_unused<W: Walk>(
 }
 
 impl<'a, Ty> TyAndLayout<'a, Ty> {
-    /// The bytes that decide nothing, whatever the value: those below the size that no part covers, in any variant. `AllocError` where
-    /// memory is refused.
+    /// The bytes that decide nothing, whatever the value: those below the size that no part covers, in any variant.
+    /// `AllocError` where memory is refused.
     pub fn variant_independent_padding_ranges<C>(
         &self,
         alloc: Global,
@@ -141,9 +142,9 @@ impl<'a, Ty> TyAndLayout<'a, Ty> {
         )
     }
 
-    /// The bytes that decide nothing in a variant and do in another: those that some variant covers, and neither this one nor a field
-    /// that all of them have, as the tag. None where no tag tells variants apart; where one does, the index has to be that of a variant.
-    /// `AllocError` where memory is refused.
+    /// The bytes that decide nothing in a variant and do in another: those that some variant covers, and neither this
+    /// one nor a field that all of them have, as the tag. None where no tag tells variants apart; where one does, the
+    /// index has to be that of a variant. `AllocError` where memory is refused.
     pub fn variant_dependent_padding_ranges<C>(
         &self,
         alloc: Global,
@@ -167,8 +168,8 @@ impl<'a, Ty> TyAndLayout<'a, Ty> {
         )
     }
 
-    /// What `variant_dependent_padding_ranges` answers, of each variant that a tag tells apart, in one walk over the type; none where no
-    /// tag does. `AllocError` where memory is refused.
+    /// What `variant_dependent_padding_ranges` answers, of each variant that a tag tells apart, in one walk over the
+    /// type; none where no tag does. `AllocError` where memory is refused.
     pub fn each_variant_dependent_padding_ranges<C>(
         &self,
         alloc: Global,

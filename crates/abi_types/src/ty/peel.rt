@@ -7,7 +7,8 @@ use crate::ty::interface::{TyAbiInterface, TyAndLayout};
 use crate::ty::one_field::{NoBytes, only_field};
 use crate::ty::walk::{At, Walk};
 
-/// What transparent types are wrapped around: the one field that isn't of no bytes and no alignment, as long as there is one.
+/// What transparent types are wrapped around: the one field that isn't of no bytes and no alignment, as long as there
+/// is one.
 #[tactic(auto, using(crate::proofs::PeelLemmas::peel_opaque, crate::proofs::PeelLemmas::peel_alone, crate::proofs::PeelLemmas::peel_field))]
 pub(crate) fn walk_peel<W: Walk>(this: W) -> W
     requires { W.is_valid this }
@@ -34,8 +35,8 @@ fn walk_indirect<W: Walk>(this: W) -> bool
 }
 
 impl<'a, Ty> TyAndLayout<'a, Ty> {
-    /// What it is wrapped around, where it is transparent: its one field that has bytes or is aligned to more than one, and so on. Where
-    /// there is no such field, or several, nothing is peeled away.
+    /// What it is wrapped around, where it is transparent: its one field that has bytes or is aligned to more than one,
+    /// and so on. Where there is no such field, or several, nothing is peeled away.
     pub fn peel_transparent_wrappers_from_non_1zst<C>(self, cx: &C) -> TyAndLayout<'a, Ty>
     where
         Ty: TyAbiInterface<'a, C> + Copy,
@@ -51,8 +52,8 @@ impl<'a, Ty> TyAndLayout<'a, Ty> {
         .alone()
     }
 
-    /// Whether it is passed by a pointer where the calling convention isn't Rust's: what it is wrapped around is marked so. What has no
-    /// bytes and is aligned to one byte never is.
+    /// Whether it is passed by a pointer where the calling convention isn't Rust's: what it is wrapped around is marked
+    /// so. What has no bytes and is aligned to one byte never is.
     pub fn pass_indirectly_in_non_rustic_abis<C>(self, cx: &C) -> bool
     where
         Ty: TyAbiInterface<'a, C> + Copy,

@@ -34,7 +34,8 @@ pub(crate) fn put_places<W: Walk>(
     put_variants(alloc, this, offset, all)
 }
 
-/// Puts the runs of what a type's fields cover behind the others, moved on by an offset; a type without fields is covered whole.
+/// Puts the runs of what a type's fields cover behind the others, moved on by an offset; a type without fields is
+/// covered whole.
 #[cycle(places)]
 pub(crate) fn put_fields<W: Walk>(
     alloc: Global,
@@ -83,8 +84,8 @@ fn put_listed<W: Walk>(
     Ok(())
 }
 
-/// Puts the runs of what so many elements of one type cover behind the others, moved on by an offset. The runs of one of them are found
-/// once.
+/// Puts the runs of what so many elements of one type cover behind the others, moved on by an offset. The runs of one
+/// of them are found once.
 #[cycle(places)]
 fn put_elements<W: Walk>(
     alloc: Global,

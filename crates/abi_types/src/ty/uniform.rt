@@ -1,4 +1,5 @@
-//! Types that are uniform: their bytes are those of registers of one kind and size, one after another, or they have none.
+//! Types that are uniform: their bytes are those of registers of one kind and size, one after another, or they have
+//! none.
 
 ghost use Rattle.std.specs.Prelude.{◌≡◌, ℕ, Option, IfErr, IfOk, IsOk};
 ghost use Rattle.abi_scalar.specs.Shape.{IsListed};
@@ -67,8 +68,8 @@ fn uniform_parts<W: Walk>(this: W) -> Result<HomogeneousAggregate, Heterogeneous
     }
 }
 
-/// The register of a type's fields, and of its variants where a tag tells several apart, and where they end: each variant begins where
-/// the fields end that all have.
+/// The register of a type's fields, and of its variants where a tag tells several apart, and where they end: each
+/// variant begins where the fields end that all have.
 #[cycle(uniform)]
 fn run_all<W: Walk>(this: W) -> Result<(HomogeneousAggregate, u64), Heterogeneous>
     requires { W.is_valid this }
@@ -120,8 +121,8 @@ fn run_fields<W: Walk>(this: W, start: u64) -> Result<(HomogeneousAggregate, u64
     }
 }
 
-/// The register of fields that are listed one by one, the first at the start, each where the last one ended, and where they end. What
-/// has no bytes and is aligned to one byte is passed over.
+/// The register of fields that are listed one by one, the first at the start, each where the last one ended, and where
+/// they end. What has no bytes and is aligned to one byte is passed over.
 #[cycle(uniform)]
 fn run_listed<W: Walk>(this: W, start: u64) -> Result<(HomogeneousAggregate, u64), Heterogeneous>
     requires valid { W.is_valid this }
@@ -147,8 +148,8 @@ fn run_listed<W: Walk>(this: W, start: u64) -> Result<(HomogeneousAggregate, u64
     Ok((found, end))
 }
 
-/// The register of a union's fields, and the greatest of their ends and of the start. What has no bytes and is aligned to one byte is
-/// passed over.
+/// The register of a union's fields, and the greatest of their ends and of the start. What has no bytes and is aligned
+/// to one byte is passed over.
 #[cycle(uniform)]
 fn run_union<W: Walk>(this: W, start: u64) -> Result<(HomogeneousAggregate, u64), Heterogeneous>
     requires valid { W.is_valid this }
@@ -169,10 +170,10 @@ fn run_union<W: Walk>(this: W, start: u64) -> Result<(HomogeneousAggregate, u64)
 }
 
 impl<'a, Ty> TyAndLayout<'a, Ty> {
-    /// The register that all bytes of the type are passed in, one after another, where they are all passed in registers of one kind and
-    /// size; `NoData` where it has no bytes. `Heterogeneous` where parts differ, where bytes of it belong to no part, and where it has no
-    /// value, no known size, or is a vector whose length the machine decides. The fields of a union, and variants that a tag tells apart,
-    /// lie side by side, and each variant behind the tag.
+    /// The register that all bytes of the type are passed in, one after another, where they are all passed in registers
+    /// of one kind and size; `NoData` where it has no bytes. `Heterogeneous` where parts differ, where bytes of it
+    /// belong to no part, and where it has no value, no known size, or is a vector whose length the machine decides.
+    /// The fields of a union, and variants that a tag tells apart, lie side by side, and each variant behind the tag.
     pub fn homogeneous_aggregate<C>(&self, cx: &C) -> Result<HomogeneousAggregate, Heterogeneous>
     where
         Ty: TyAbiInterface<'a, C> + Copy,

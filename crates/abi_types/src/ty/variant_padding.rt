@@ -44,7 +44,8 @@ fn walk_variant_padding<W: Walk>(this: W) -> bool
 }
 
 impl<'a, Ty> TyAndLayout<'a, Ty> {
-    /// Whether it has a tag that tells variants apart, or a field, also in fields, that has one. What a union holds doesn't count.
+    /// Whether it has a tag that tells variants apart, or a field, also in fields, that has one. What a union holds
+    /// doesn't count.
     pub fn has_variant_dependent_padding<C>(&self, cx: &C) -> bool
     where
         Ty: TyAbiInterface<'a, C> + Copy,

@@ -35,8 +35,8 @@ fn walk_vector<W: Walk>(this: W, expected_size: Size) -> bool
 }
 
 impl<'a, Ty> TyAndLayout<'a, Ty> {
-    /// Whether it is a vector of this size and of a known number of lanes, or bytes in memory whose one field, at 0, is one or is such
-    /// a type.
+    /// Whether it is a vector of this size and of a known number of lanes, or bytes in memory whose one field, at 0, is
+    /// one or is such a type.
     pub fn is_single_vector_element<C>(self, cx: &C, expected_size: Size) -> bool
     where
         Ty: TyAbiInterface<'a, C> + Copy,

@@ -10,7 +10,8 @@ use crate::ty::layout::Layout;
 use abi_index::{FieldIdx, VariantIdx};
 use abi_scalar::LayoutData;
 
-/// A place in a type, with all that a walk asks of it. No lifetime is named in it, so that a recursion may have it as its bound.
+/// A place in a type, with all that a walk asks of it. No lifetime is named in it, so that a recursion may have it as
+/// its bound.
 pub(crate) trait Walk: Copy {
     ghost use Rattle.abi_types.specs.Ty.Typed.{Layout};
 

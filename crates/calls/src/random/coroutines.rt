@@ -1,5 +1,5 @@
-//! Coroutines at random: locals share no byte that they may not share, and where the states may share all their bytes, the size is
-//! the one that follows.
+//! Coroutines at random: locals share no byte that they may not share, and where the states may share all their bytes,
+//! the size is the one that follows.
 
 mod places;
 mod sharing;
@@ -60,8 +60,8 @@ fn conflicts_of(
     Ok(pairs)
 }
 
-/// What a coroutine is found to be: with states that may share all their bytes, and of the size that follows; else with a local
-/// that several states hold; else right all the same; or wrong.
+/// What a coroutine is found to be: with states that may share all their bytes, and of the size that follows; else with
+/// a local that several states hold; else right all the same; or wrong.
 fn judged(
     alloc: Global,
     dl: &TargetDataLayout,

@@ -96,8 +96,8 @@ fn judged_layout(layout: &Layout, expected: Expected) -> &'static str {
     }
 }
 
-/// What an enum is found to be: told apart by a niche or a tag, and as large as it has to be; refused, since it is packed or too
-/// large; without several variants; or wrong.
+/// What an enum is found to be: told apart by a niche or a tag, and as large as it has to be; refused, since it is
+/// packed or too large; without several variants; or wrong.
 fn judged(
     alloc: Global,
     dl: &TargetDataLayout,

@@ -40,8 +40,8 @@ fn kind(dice: &mut Dice, count: usize) -> StructKind {
     }
 }
 
-/// What a list is found to be: of the least size, which source order has too, or `less` than source order has; refused, and too
-/// large in each order; refused for an unsized field that it has; or wrong.
+/// What a list is found to be: of the least size, which source order has too, or `less` than source order has; refused,
+/// and too large in each order; refused for an unsized field that it has; or wrong.
 fn judged(
     alloc: Global,
     dl: &TargetDataLayout,

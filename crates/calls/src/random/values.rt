@@ -1,5 +1,5 @@
-//! Values at random: they are written and read back the same; bytes at random hold a value that is written and read back the same,
-//! or none; and values that are spoiled are refused.
+//! Values at random: they are written and read back the same; bytes at random hold a value that is written and read
+//! back the same, or none; and values that are spoiled are refused.
 
 mod made;
 

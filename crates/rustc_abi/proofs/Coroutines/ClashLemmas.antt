@@ -103,7 +103,7 @@ module _ (dl : TargetDataLayout) (law : IsLawfulDataLayout dl) where
   laid_clash unit p h = tt
   laid_clash (array count element) p h = tt
   laid_clash (vector lanes packed element) p h = tt
-  laid_clash (struct repr always_sized all) p h = tt
+  laid_clash (struct repr always_sized order all) p h = tt
   laid_clash (union repr all) p h = tt
   laid_clash (enum repr all) p h = tt
   laid_clash (coroutine prefix locals states conflicts) p (inl f) = absurd (cc f.2)
@@ -118,7 +118,7 @@ module _ (dl : TargetDataLayout) (law : IsLawfulDataLayout dl) where
   laid_one_offset unit p h = tt
   laid_one_offset (array count element) p h = tt
   laid_one_offset (vector lanes packed element) p h = tt
-  laid_one_offset (struct repr always_sized all) p h = tt
+  laid_one_offset (struct repr always_sized order all) p h = tt
   laid_one_offset (union repr all) p h = tt
   laid_one_offset (enum repr all) p h = tt
   laid_one_offset (coroutine prefix locals states conflicts) p (inl f) = absurd (cc f.2)

@@ -79,6 +79,7 @@ same_name calculator.ReprConflict calculator.ReprConflict h = refl
 same_name calculator.ZeroLengthSimdType calculator.ZeroLengthSimdType h = refl
 same_name (calculator.OversizedSimdType a) (calculator.OversizedSimdType b) h = refl
 same_name (calculator.NonPrimitiveSimdType a) (calculator.NonPrimitiveSimdType b) h = refl
+same_name calculator.BadOrder calculator.BadOrder h = refl
 same_name calculator.OutOfMemory calculator.OutOfMemory h = refl
 same_name _ _ h = absurd h
 
@@ -91,6 +92,7 @@ memory_or calculator.ReprConflict = inr (λ e. cc)
 memory_or calculator.ZeroLengthSimdType = inr (λ e. cc)
 memory_or (calculator.OversizedSimdType a) = inr (λ e. cc)
 memory_or (calculator.NonPrimitiveSimdType a) = inr (λ e. cc)
+memory_or calculator.BadOrder = inr (λ e. cc)
 memory_or calculator.OutOfMemory = inl refl
 
 -- the calculator's answer to layouts that are lent

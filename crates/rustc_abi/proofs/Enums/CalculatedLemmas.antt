@@ -1,5 +1,5 @@
 -- What the calculator's answer to the variants of an enum keeps, whichever way the enum is laid out.
-use Rattle.std.proofs.Common.{false, ◌≡◌, ℕ, zero, suc, ◌<◌, List, [], ◌∷◌, map, length, true, arith, refl, sym, ap, subst, ◌∙◌, ⊎_elim, All, Ok}
+use Rattle.std.proofs.Common.{false, None, ◌≡◌, ℕ, zero, suc, ◌<◌, List, [], ◌∷◌, map, length, true, arith, refl, sym, ap, subst, ◌∙◌, ⊎_elim, All, Ok}
 use Rattle.std.proofs.lemmas.List.{length-map}
 use Rattle.std.proofs.lemmas.List.Elements.{All-head, All-nil, All-tail}
 use Rattle.std.proofs.lemmas.Option.{IfSome_then}
@@ -128,8 +128,8 @@ module _ (dl : TargetDataLayout) (law : IsLawfulDataLayout dl) (repr : ReprOptio
         made.view ∙ ap (list_view dl (is_abi_fixed repr) list.size list.align.abi (parts_of dl (map layout_of ps))) (sym offsets) in
         let own = fits_at dl all variants i fits in
         let one : Layout = single_layout i dl Enabled list in
-        let as_struct : Fits dl (struct repr true (fields_at all i)) (fields one (mark_of false repr) (parts_at (listed_offsets list.fields) ps)) =
-        Fits-fields dl repr true (is_abi_fixed repr) (fields_at all i) one (listed_offsets list.fields) ps own good.apart
+        let as_struct : Fits dl (struct repr true None (fields_at all i)) (fields one (mark_of false repr) (parts_at (listed_offsets list.fields) ps)) =
+        Fits-fields dl repr true (is_abi_fixed repr) None (fields_at all i) one (listed_offsets list.fields) ps own good.apart
         (IfSome_then list.largest_niche good.niche (part_of_list (listed_offsets list.fields) ps)) view made.uninhabited (EachFits-lawful dl (fields_at all i) ps own) (single_lawful i dl Enabled list good.lawful) in
         let short : i < length variants = index_within layout_of repr variants true i (λ e. absurd (cc)) path in
         subst (λ m. Fits dl (enum repr all) (placed_enum dl repr numbers variants m)) (sym h.2)

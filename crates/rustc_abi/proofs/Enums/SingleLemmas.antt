@@ -111,7 +111,7 @@ module _ (dl : TargetDataLayout) where
     abbrev whole : Placed
     whole = single layout (mark_of true repr) index parts
 
-    module _ (locals : LocalsOfVariants dl all) (one : IsFaithful dl (struct repr true (fields_at all index)) (fields layout (mark_of false repr) parts)) where
+    module _ (locals : LocalsOfVariants dl all) (one : IsFaithful dl (struct repr true None (fields_at all index)) (fields layout (mark_of false repr) parts)) where
       -- a value is one of the variant that is left
       left : (i : ℕ) (vs : Values) → AreValuesOfVariant dl all i parts vs → i ≡ index
       left i vs h = by_test (i == index) refl
@@ -197,8 +197,8 @@ module _ (dl : TargetDataLayout) where
       single_flag : IsFlagTrue dl (enum repr all) whole
       single_flag = by_flag layout.uninhabited one.flag
         where
-          by_flag : (flag : Bool) → MatchBool flag ((v : Value) → IsValueOf dl (struct repr true (fields_at all index)) (fields layout (mark_of false repr) parts) v → ⊥)
-              (VectorsOfEach dl (fields_at all index) → (v : Value) × IsValueOf dl (struct repr true (fields_at all index)) (fields layout (mark_of false repr) parts) v)
+          by_flag : (flag : Bool) → MatchBool flag ((v : Value) → IsValueOf dl (struct repr true None (fields_at all index)) (fields layout (mark_of false repr) parts) v → ⊥)
+              (VectorsOfEach dl (fields_at all index) → (v : Value) × IsValueOf dl (struct repr true None (fields_at all index)) (fields layout (mark_of false repr) parts) v)
               → MatchBool flag ((v : Value) → IsValueOf dl (enum repr all) whole v → ⊥) (VectorsOfVariants dl all → (v : Value) × IsValueOf dl (enum repr all) whole v)
           by_flag true h = none
             where
@@ -211,7 +211,7 @@ module _ (dl : TargetDataLayout) where
               none (bytes content) k = k
           by_flag false h = λ vectors. from_value (h (vectors_at all index vectors)).0 (h (vectors_at all index vectors)).1
             where
-              from_value : (v : Value) → IsValueOf dl (struct repr true (fields_at all index)) (fields layout (mark_of false repr) parts) v → (v : Value) × IsValueOf dl (enum repr all) whole v
+              from_value : (v : Value) → IsValueOf dl (struct repr true None (fields_at all index)) (fields layout (mark_of false repr) parts) v → (v : Value) × IsValueOf dl (enum repr all) whole v
               from_value (list vs) k = (variant index vs, values_from all variants index short fits parts vs k)
               from_value (number n) k = absurd k
               from_value (two n m) k = absurd k
@@ -232,7 +232,7 @@ module _ (dl : TargetDataLayout) where
       }
 
     -- an enum with one variant left is laid out as that variant's fields are
-    pub Fits-single : Fits dl (struct repr true (fields_at all index)) (fields layout (mark_of false repr) parts) → Fits dl (enum repr all) whole
+    pub Fits-single : Fits dl (struct repr true None (fields_at all index)) (fields layout (mark_of false repr) parts) → Fits dl (enum repr all) whole
     Fits-single one = record {
       faithful = λ locals. single_faithful locals (one.faithful (locals_at all index locals));
       lawful = one.lawful;

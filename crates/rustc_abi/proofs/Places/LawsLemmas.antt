@@ -1,5 +1,5 @@
 -- The laws that nodes keep, as the calculator's layouts give them.
-use Rattle.std.proofs.Common.{◌≡◌, ℕ, suc, ◌+◌, ◌*◌, ◌≤◌, List, [], ◌∷◌, true, All, Ok, Some, length, map, arith, refl, sym, ap, ◌∙◌, subst}
+use Rattle.std.proofs.Common.{◌≡◌, ℕ, suc, ◌+◌, ◌*◌, ◌≤◌, List, [], ◌∷◌, true, All, Ok, Option, Some, length, map, arith, refl, sym, ap, ◌∙◌, subst}
 use Rattle.std.specs.Prelude.{Bool, ◌&&◌, ◌==◌, nat_le, replicate}
 use Rattle.std.specs.List.{list_all}
 use Rattle.std.specs.Cmp.Derive.{both_true}
@@ -20,12 +20,14 @@ use Rattle.abi_scalar.specs.Shape.{listed_offsets}
 use Rattle.abi_scalar.specs.Variant.{variant_layout, variants_of}
 use Rattle.abi_lists.specs.Apart.{AreApart}
 use Rattle.abi_lists.specs.Array.{array_answer, elements_layout}
+use Rattle.abi_lists.specs.List.{IsListBy}
 use Rattle.abi_lists.specs.Simd.{simd_answer}
+use Rattle.abi_scalar.specs.declared.niche.Niche.{Niche}
 use Rattle.abi_laid.specs.declared.node.Shape.TheVariants.{Elements, Pair, Vector}
 use Rattle.rustc_abi.specs.Error.{named}
 use Rattle.rustc_abi.specs.Inside.{EndInside, VariantsInside}
 use Rattle.abi_laid.specs.Laws.{end_inside, has_elements, have_lists, have_places, keeps_laws, sizes_at}
-use Rattle.rustc_abi.specs.Laying.{IsListed, IsUnited, one_scalar}
+use Rattle.rustc_abi.specs.Laying.{IsUnited, one_scalar}
 use Rattle.abi_laid.specs.Nodes.{placed_in}
 use Rattle.abi_laid.specs.Placed.{Placed, Layout, layout_of, size_of}
 use Rattle.rustc_abi.proofs.Unions.CalcLemmas.{united_layout, vector_made}
@@ -80,17 +82,17 @@ pub plain_laws : (layout : Layout) (places : Bool) → places ≡ true → varia
 plain_laws layout places there none = both_true there (ap (λ vs. (length vs == 0) && true) none)
 
 -- a list's fields, as nodes
-pub list_places : (dl : TargetDataLayout) (repr : ReprOptions) (kind : StructKind) (done : List Placed) (layout : Layout) (children : List ℕ) →
-    IsListed dl repr kind (map layout_of (map (placed_in done) children)) (Ok layout) → AreApart layout.size (listed_offsets layout.fields) (map size_of (map (placed_in done) children)) →
+pub list_places : {Rule : (order offsets : List ℕ) → (size align : ℕ) → Option Niche → Type 0} (dl : TargetDataLayout) (repr : ReprOptions) (kind : StructKind) (done : List Placed)
+    (order offsets : List ℕ) (layout : Layout) (children : List ℕ) →
+    IsListBy Rule (λ i. i) 0 dl repr kind (map layout_of (map (placed_in done) children)) order offsets layout → AreApart layout.size (listed_offsets layout.fields) (map size_of (map (placed_in done) children)) →
     length children ≤ 0xFFFF_FF01 → (have_places layout.size layout.fields (sizes_at done children) && ((length (variants_of layout.variants) == 0) && true)) ≡ true
-list_places dl repr kind done layout children listed apart few =
-    let made = listed.2 in
-    let offsets : listed_offsets layout.fields ≡ listed.1 = ap listed_offsets made.shape in
+list_places dl repr kind done order offsets layout children made apart few =
+    let same : listed_offsets layout.fields ≡ offsets = ap listed_offsets made.shape in
     let sizes : map size_of (map (placed_in done) children) ≡ sizes_at done children = map-map size_of (placed_in done) children in
-    let own : AreApart layout.size listed.1 (sizes_at done children) =
-    subst (AreApart layout.size listed.1) sizes (subst (λ os. AreApart layout.size os (map size_of (map (placed_in done) children))) offsets apart) in
+    let own : AreApart layout.size offsets (sizes_at done children) =
+    subst (AreApart layout.size offsets) sizes (subst (λ os. AreApart layout.size os (map size_of (map (placed_in done) children))) same apart) in
     plain_laws layout (have_places layout.size layout.fields (sizes_at done children))
-    (places_listed layout listed.1 (map (λ i. i) listed.0) (sizes_at done children) made.shape own (omega (arith, few, length-map children (λ i. size_of (placed_in done i)))))
+    (places_listed layout offsets (map (λ i. i) order) (sizes_at done children) made.shape own (omega (arith, few, length-map children (λ i. size_of (placed_in done i)))))
     (ap variants_of made.variants)
 
 -- a union's fields, as nodes

@@ -1,5 +1,5 @@
 -- How many nodes a tree is laid out with, node after node.
-use Rattle.std.proofs.Common.{◌≡◌, ℕ, Bool, ◌+◌, ◌++◌, [], ◌∷◌, List, arith, length, map, Ok, Err, Result, refl, sym, subst}
+use Rattle.std.proofs.Common.{◌≡◌, ℕ, Bool, Option, ◌+◌, ◌++◌, [], ◌∷◌, List, arith, length, map, Ok, Err, Result, refl, sym, subst}
 use Rattle.std.specs.Prelude.{IfOk, Vec}
 use Rattle.std.specs.declared.alloc.Global.{Global}
 use Rattle.abi_base.specs.declared.data_layout.TargetDataLayout.{TargetDataLayout}
@@ -50,10 +50,10 @@ vector_counted dl first old new i lanes packed t parts added own =
     let whole = own_counted dl first old new i (vector lanes packed t) parts.0 added own parts.2 in
     (whole.0, (parts.0, parts.1, whole.1), whole.2)
 
-pub struct_counted : (dl : TargetDataLayout) (first old new : List Node) (i : ℕ) (repr : ReprOptions) (always_sized : Bool) (ts : Trees) → AreCounted dl first old ts → IsAdded dl old new i (struct repr always_sized ts) → IsOwnPut old new i →
-    IsCounted dl first new (struct repr always_sized ts)
-struct_counted dl first old new i repr always_sized ts parts added own =
-    let whole = own_counted dl first old new i (struct repr always_sized ts) parts.0 added own parts.2 in
+pub struct_counted : (dl : TargetDataLayout) (first old new : List Node) (i : ℕ) (repr : ReprOptions) (always_sized : Bool) (order : Option (List ℕ)) (ts : Trees) → AreCounted dl first old ts → IsAdded dl old new i (struct repr always_sized order ts) → IsOwnPut old new i →
+    IsCounted dl first new (struct repr always_sized order ts)
+struct_counted dl first old new i repr always_sized order ts parts added own =
+    let whole = own_counted dl first old new i (struct repr always_sized order ts) parts.0 added own parts.2 in
     (whole.0, (parts.0, parts.1, whole.1), whole.2)
 
 pub union_counted : (dl : TargetDataLayout) (first old new : List Node) (i : ℕ) (repr : ReprOptions) (ts : Trees) → AreCounted dl first old ts → IsAdded dl old new i (union repr ts) → IsOwnPut old new i → IsCounted dl first new (union repr ts)

@@ -93,7 +93,7 @@ least_list dl repr kind fields list h =
     }
 
 -- parts lie where they were put
-offsets_back : (offsets : List ℕ) (ps : List Placed) → length offsets ≡ length ps
+pub offsets_back : (offsets : List ℕ) (ps : List Placed) → length offsets ≡ length ps
     → offsets_of (parts_at offsets ps) ≡ offsets
 offsets_back [] [] e = refl
 offsets_back [] (p ∷ ps) e = absurd (omega (arith, e))
@@ -483,7 +483,7 @@ module _ (dl : TargetDataLayout) (law : IsLawfulDataLayout dl) where
 
   listed_struct : (repr : ReprOptions) (always_sized : Bool) (all : Trees) (ps : List Placed) (layout : Layout)
       → AreLaying dl all (Ok ps) → IsListed dl repr (kind_of always_sized ps) (map layout_of ps) (Ok layout)
-      → HasLeastLists dl (struct repr always_sized all) (placed_fields repr ps layout)
+      → HasLeastLists dl (struct repr always_sized None all) (placed_fields repr ps layout)
   listed_struct repr always_sized all ps layout there listed =
       let own = all_whole dl law all ps there in
       let os : List ℕ = listed_offsets layout.fields in
@@ -500,11 +500,11 @@ module _ (dl : TargetDataLayout) (law : IsLawfulDataLayout dl) where
 
   -- each list of a type that is laid out is such a list
   pub laid_lists : (t : Tree) (p : Placed) → IsLaying dl t (Ok p) → HasLeastLists dl t p
-  laid_lists (struct repr always_sized all) p (inl f) = absurd (cc f.2)
-  laid_lists (struct repr always_sized all) p (inr (ps, there, answer)) =
+  laid_lists (struct repr always_sized None all) p (inl f) = absurd (cc f.2)
+  laid_lists (struct repr always_sized None all) p (inr (ps, there, answer)) =
       let found = laid_by (fields_fault repr ps) (IsListed dl repr (kind_of always_sized ps) (map layout_of ps))
       (placed_fields repr ps) p answer in
-      subst (HasLeastLists dl (struct repr always_sized all)) found.2
+      subst (HasLeastLists dl (struct repr always_sized None all)) found.2
       (listed_struct repr always_sized all ps found.0 there found.1)
   laid_lists (enum repr all) p (inl f) = absurd (cc f.2)
   laid_lists (enum repr all) p (inr (variants, there, answer)) =

@@ -85,6 +85,7 @@ size_error calculator.ReprConflict e = absurd (cc)
 size_error calculator.ZeroLengthSimdType e = absurd (cc)
 size_error (calculator.OversizedSimdType n) e = absurd (cc)
 size_error (calculator.NonPrimitiveSimdType f) e = absurd (cc)
+size_error calculator.BadOrder e = absurd (cc)
 size_error calculator.OutOfMemory e = absurd (cc)
 
 each_sized : (dl : TargetDataLayout) (variants : List (List Placed)) → All (All (IsWhole dl)) variants → All AreSized (layouts_of variants)

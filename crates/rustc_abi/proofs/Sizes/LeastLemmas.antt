@@ -9,6 +9,7 @@ use Rattle.abi_base.specs.declared.data_layout.TargetDataLayout.{TargetDataLayou
 use Rattle.abi_base.specs.DataLayout.{IsLawfulDataLayout, size_bound}
 use Rattle.abi_scalar.specs.declared.error.LayoutCalculatorError.{LayoutCalculatorError}
 use Rattle.abi_scalar.specs.declared.repr.ReprOptions.{ReprOptions}
+use Rattle.abi_base.specs.declared.struct_kind.StructKind.{StructKind}
 use Rattle.abi_scalar.specs.declared.scalar.Scalar.{Scalar}
 use Rattle.abi_scalar.specs.Pair.{pair_size}
 use Rattle.abi_scalar.specs.Scalar.{primitive_of}
@@ -22,10 +23,10 @@ use Rattle.abi_lists.specs.List.{AreSized, parts_of as asked_of}
 use Rattle.abi_lists.specs.Order.{IsNamedOrder}
 use Rattle.abi_lists.specs.Simd.{simd_answer, IsVectorTooLarge}
 use Rattle.abi_lists.specs.Placement.{IsAllowed, IsNonEmptyIfUnsized, list_repr, size_in}
-use Rattle.abi_lists.proofs.DeepLemmas.{sized_fault}
-use Rattle.abi_lists.proofs.FaultLemmas.{large_in, memory_in}
+use Rattle.abi_lists.proofs.DeepLemmas.{sized_fault, sized_in_order}
+use Rattle.abi_lists.proofs.FaultLemmas.{clear_of, large_in, memory_in}
 use Rattle.abi_lists.proofs.Least.{all_too_large}
-use Rattle.abi_lists.specs.Least.{IsOrderOf}
+use Rattle.abi_lists.specs.Least.{IsOrderOf, size_by}
 use Rattle.abi_lists.specs.Union.{IsUnionTooLarge}
 use Rattle.abi_lists.proofs.LeastLemmas.{has_least, never_large as listed_never_large}
 use Rattle.abi_lists.proofs.RunLemmas.{biased_of}
@@ -44,14 +45,16 @@ use Rattle.abi_laid.specs.Placed.{Placed, Layout, layout_of, size_of, elements, 
 use Rattle.abi_laid.specs.Placed.{states as placed_states}
 use Rattle.rustc_abi.specs.Error.{Follows, IsRefused, named, lay_error}
 use Rattle.rustc_abi.specs.ScalarFault.{is_lawful_primitive, has_range_within, scalar_fault}
+use Rattle.rustc_abi.specs.Laying.{IsListedInOrder, IsOrderedFieldsAnswer, ordered_fault, randomized}
 use Rattle.rustc_abi.specs.Laying.{AreLaying, IsFieldsAnswer, IsLaying, IsListed, IsCoroutineOf, IsUnionOf, IsUnited, VariantsLaying, elements_answer, fields_fault, kind_of, lanes_of, one_scalar, pair_answer, placed_by, placed_fields, placed_together, scalar_answer, two_scalars, unless, vector_answer, placed_enum, enum_fault, has_bad_index, has_bad_align, IsEnumOf, coroutine_fault, most_fields, placed_coroutine}
 use Rattle.rustc_abi.specs.Coroutines.{IsCoroutined, IsStated, conflicts_of, names_unknown}
 use Rattle.rustc_abi.specs.Least.{HasOverlapSize, IsCoroutineSized, IsCoroutineTooLarge, IsLeast, IsOverlapSized}
 use Rattle.rustc_abi.specs.Least.{fields_of, IsLeastStruct, IsStructTooLarge, IsTooLarge, AreTooLarge}
-use Rattle.rustc_abi.specs.Least.{AreVariantsTooLarge, IsEnumTooLarge}
+use Rattle.rustc_abi.specs.Least.{AreVariantsTooLarge, IsEnumTooLarge, IsOrderOfFields, ordered_size}
 use Rattle.rustc_abi.specs.Enums.{IsEnumed, discriminants_of, has_equal, is_discriminant}
 use Rattle.rustc_abi.proofs.Trees.LaidLemmas.{IsWhole, all_whole, whole_lawful, asked_aligned, asked_sized, length-asked, some_field, numbers_for, variants_whole, CoroutineAnswersBy, coroutine_laid, laid_by, stated_offsets, stated_promised}
 use Rattle.rustc_abi.proofs.Faults.CoroutineFaultLemmas.{conflict_rows}
+use Rattle.rustc_abi.proofs.Trees.OrderLemmas.{allowed_parts, ordered_count, ordered_placed}
 use Rattle.rustc_abi.proofs.Trees.LayLemmas.{pair_overflows}
 use Rattle.rustc_abi.proofs.Trees.OneAnswer.{one_answer, one_list, one_list_each}
 use Rattle.rustc_abi.proofs.Sizes.SizeLemmas.{sized_elements, sized_never, sized_pair, sized_scalar, sized_union, sized_unit}
@@ -66,6 +69,15 @@ not_size e = absurd (cc)
 
 not_size_either : SizeOverflow ≡ LayError.OutOfMemory → ⊥
 not_size_either e = absurd (cc)
+
+not_order : SizeOverflow ≡ LayError.BadOrder → ⊥
+not_order e = absurd (cc)
+
+-- an error is of the size
+large_of : (ps : List Placed) (fault : ListFault) (error : LayoutCalculatorError Layout) → IsErrorOf (map layout_of ps) fault error → SizeOverflow ≡ lay_error error → fault ≡ TooLarge
+large_of ps (Unsized i) error h e = let other : lay_error error ≡ lay_error {H = Layout} (calculator.UnexpectedUnsized h.0) = ap lay_error h.2 in absurd (not_size (e ∙ other))
+large_of ps TooLarge error h e = refl
+large_of ps OutOfMemory error h e = let other : lay_error error ≡ lay_error {H = Layout} calculator.OutOfMemory = ap lay_error h in absurd (not_size_either (e ∙ other))
 
 -- no own fault of an enum is a size
 no_size : (a b c d : Bool) → (if a then Some BadIndex else (if b then Some BadAlign else (if c then Some DuplicateDiscriminant else (if not d then Some DiscriminantTooWide else None)))) ≡ Some SizeOverflow → ⊥
@@ -109,18 +121,12 @@ module _ (dl : TargetDataLayout) (repr : ReprOptions) (always_sized : Bool) (ps 
   plain : map (λ (l : Layout). l) (map layout_of ps) ≡ map layout_of ps
   plain = map-id (map layout_of ps)
 
-  -- an error is of the size
-  large_of : (fault : ListFault) (error : LayoutCalculatorError Layout) → IsErrorOf (map layout_of ps) fault error → SizeOverflow ≡ lay_error error → fault ≡ TooLarge
-  large_of (Unsized i) error h e = let other : lay_error error ≡ lay_error {H = Layout} (calculator.UnexpectedUnsized h.0) = ap lay_error h.2 in absurd (not_size (e ∙ other))
-  large_of TooLarge error h e = refl
-  large_of OutOfMemory error h e = let other : lay_error error ≡ lay_error {H = Layout} calculator.OutOfMemory = ap lay_error h in absurd (not_size_either (e ∙ other))
-
   -- a list that is refused for its size is too large in each order
   refused_large : IsListed dl repr (kind_of always_sized ps) (map layout_of ps) (Err SizeOverflow) → IsStructTooLarge dl repr always_sized ps
   refused_large (error, (first, named, fault, there, of), e) other q =
       let list = list_repr dl repr (kind_of always_sized ps) in
       let ls = map (λ (l : Layout). l) (map layout_of ps) in
-      let large : fault ≡ TooLarge = large_of fault error of e in
+      let large : fault ≡ TooLarge = large_of ps fault error of e in
       let over : size_bound dl ≤ size_in list (asked_of dl ls) first = large_in list (size_bound dl) (asked_of dl ls) first (there ∙ ap (λ f. Some f) large) in
       let bound : size_bound dl ≤ size_in list (asked_of dl (map layout_of ps)) first = subst (λ layouts. size_bound dl ≤ size_in list (asked_of dl layouts) first) plain over in
       let order = subst (λ layouts. IsNamedOrder list Start (asked_of dl layouts) first) plain named in
@@ -143,6 +149,44 @@ module _ (dl : TargetDataLayout) (repr : ReprOptions) (always_sized : Bool) (ps 
       let full = subst (λ layouts. IsNonEmptyIfUnsized (kind_of always_sized ps) (length (asked_of dl layouts))) (sym plain) some in
       is ∙ name_of first fault error of there (sized_fault (λ (l : Layout). l) dl list (map layout_of ps) fault sized full (inl (first, named, there)))
 
+-- ---- one list in an order that is handed in
+
+module _ (dl : TargetDataLayout) (repr : ReprOptions) (kind : StructKind) (order : List ℕ) (ps : List Placed) where
+  -- what is laid out is not too large
+  ordered_small : (layout : Layout) → IsListedInOrder dl repr kind order (map layout_of ps) (Ok layout) → size_bound dl ≤ size_by dl repr kind (map layout_of ps) order → ⊥
+  ordered_small layout listed large =
+      let below = (clear_of (list_repr dl repr kind) (size_bound dl) (asked_of dl (map layout_of ps)) order listed.1.named.1.faultless).1 in
+      omega (arith, below, large)
+
+  ordered_plain : map (λ (l : Layout). l) (map layout_of ps) ≡ map layout_of ps
+  ordered_plain = map-id (map layout_of ps)
+
+  -- a list that is refused for its size is too large in the order
+  ordered_large : IsListedInOrder dl repr kind order (map layout_of ps) (Err SizeOverflow) →
+      IsOrderOf dl repr kind (length (map layout_of ps)) order × (size_bound dl ≤ size_by dl repr kind (map layout_of ps) order)
+  ordered_large (error, inl (bad, is), e) = let other : lay_error error ≡ lay_error {H = Layout} calculator.BadOrder = ap lay_error is in absurd (not_order (e ∙ other))
+  ordered_large (error, inr (allowed, fault, there, of), e) =
+      let list = list_repr dl repr kind in
+      let ls = map (λ (l : Layout). l) (map layout_of ps) in
+      let large : fault ≡ TooLarge = large_of ps fault error of e in
+      let over : size_bound dl ≤ size_in list (asked_of dl ls) order = large_in list (size_bound dl) (asked_of dl ls) order (there ∙ ap (λ f. Some f) large) in
+      (allowed, subst (λ layouts. size_bound dl ≤ size_in list (asked_of dl layouts) order) ordered_plain over)
+
+  ordered_name : (fault : ListFault) (error : LayoutCalculatorError Layout) → IsErrorOf (map layout_of ps) fault error
+      → fault ≡ TooLarge → lay_error error ≡ SizeOverflow
+  ordered_name (Unsized i) error h e = absurd (cc)
+  ordered_name TooLarge error h e = ap lay_error h
+  ordered_name OutOfMemory error h e = absurd (cc)
+
+  -- a refusal of sized fields in an allowed order is one for their size
+  ordered_for_size : All (IsWhole dl) ps → IsOrderOf dl repr kind (length (map layout_of ps)) order → (e : LayError) → IsListedInOrder dl repr kind order (map layout_of ps) (Err e) → e ≡ SizeOverflow
+  ordered_for_size whole allowed e (error, inl (bad, is), named) = absurd (bad allowed)
+  ordered_for_size whole allowed e (error, inr (same, fault, there, of), named) =
+      let list = list_repr dl repr kind in
+      let sized = subst AreSized (sym ordered_plain) (asked_sized dl ps whole) in
+      let found = subst (λ layouts. fault_in list (size_bound dl) (asked_of dl layouts) order ≡ Some fault) ordered_plain there in
+      named ∙ ordered_name fault error of (sized_in_order layout_of dl list ps order fault (asked_sized dl ps whole) (allowed_parts dl repr kind order ps allowed) found)
+
 -- ---- whole types
 
 -- what can't be: a refusal for the size, where there is another one or none
@@ -155,6 +199,12 @@ not_fields : (b c : Bool) → (if b then Some BadIndex else (if c then Some BadA
 not_fields true c e = absurd (cc)
 not_fields false true e = absurd (cc)
 not_fields false false e = absurd (cc)
+
+not_ordered : (b c d : Bool) → (if b then Some BadIndex else (if c then Some BadAlign else (if d then Some LayError.BadOrder else None))) ≡ Some SizeOverflow → ⊥
+not_ordered true c d e = absurd (cc)
+not_ordered false true d e = absurd (cc)
+not_ordered false false true e = absurd (cc)
+not_ordered false false false e = absurd (cc)
 
 -- a refusal is the fault, or comes later
 refused_by : (fault : Option LayError) (r : Result Placed LayError) → Err SizeOverflow ≡ unless fault r → (fault ≡ Some SizeOverflow) ⊎ ((fault ≡ None) × (Err SizeOverflow ≡ r))
@@ -215,7 +265,7 @@ module _ (dl : TargetDataLayout) (law : IsLawfulDataLayout dl) where
 
   overflow_fields : (fault : Option LayError) (repr : ReprOptions) (always_sized : Bool) (all : Trees) (ps : List Placed) → fields_fault repr ps ≡ fault → AreLaying dl all (Ok ps)
       → AnswersBy fault repr always_sized ps (Err SizeOverflow)
-      → IsTooLarge dl (struct repr always_sized all)
+      → IsTooLarge dl (struct repr always_sized None all)
   overflow_fields None repr always_sized all ps none there (inl (e, listed, is)) =
       let same : e ≡ SizeOverflow = cc in
       inr (ps, there, none, refused_large dl repr always_sized ps (all_whole dl law all ps there) (subst (λ x. IsListed dl repr (kind_of always_sized ps) (map layout_of ps) (Err x)) same listed))
@@ -225,14 +275,51 @@ module _ (dl : TargetDataLayout) (law : IsLawfulDataLayout dl) where
       absurd (not_fields _ _ (fault ∙ same))
 
   least_fields : (fault : Option LayError) (repr : ReprOptions) (always_sized : Bool) (all : Trees) (ps : List Placed) (p : Placed) → AreLaying dl all (Ok ps)
-      → AnswersBy fault repr always_sized ps (Ok p) → IsLeast dl (struct repr always_sized all) p
+      → AnswersBy fault repr always_sized ps (Ok p) → IsLeast dl (struct repr always_sized None all) p
   least_fields fault repr always_sized all ps p there answer =
       let found = laid_by fault (IsListed dl repr (kind_of always_sized ps) (map layout_of ps)) (placed_fields repr ps) p answer in
       let layout : Layout = found.0 in
       let whole = all_whole dl law all ps there in
       let count = listed_count dl repr always_sized ps whole layout found.1 in
-      subst (IsLeast dl (struct repr always_sized all)) found.2
+      subst (IsLeast dl (struct repr always_sized None all)) found.2
       (subst (λ qs. IsLeastStruct dl repr always_sized qs layout.size) (sym (fields_back (listed_offsets layout.fields) ps (omega (arith, count)))) (listed_least dl repr always_sized ps whole layout found.1))
+
+  -- the same where the order is handed in
+  abbrev OrderedBy : Option LayError → ReprOptions → (always_sized : Bool) → (order : List ℕ) → List Placed → Result Placed LayError → Type 0
+  OrderedBy fault repr always_sized order ps r =
+      MatchOption fault (Follows (IsListedInOrder dl (randomized repr) (kind_of always_sized ps) order (map layout_of ps)) (λ layout z. z ≡ Ok (placed_fields repr ps layout)) r) (λ e. r ≡ Err e)
+
+  overflow_ordered : (fault : Option LayError) (repr : ReprOptions) (always_sized : Bool) (order : List ℕ) (all : Trees) (ps : List Placed) → ordered_fault repr ps ≡ fault → AreLaying dl all (Ok ps)
+      → OrderedBy fault repr always_sized order ps (Err SizeOverflow)
+      → IsTooLarge dl (struct repr always_sized (Some order) all)
+  overflow_ordered None repr always_sized order all ps none there (inl (e, listed, is)) =
+      let same : e ≡ SizeOverflow = cc in
+      let large = ordered_large dl (randomized repr) (kind_of always_sized ps) order ps (subst (λ x. IsListedInOrder dl (randomized repr) (kind_of always_sized ps) order (map layout_of ps) (Err x)) same listed) in
+      inr (ps, there, none, subst (λ n. IsOrderOf dl (randomized repr) (kind_of always_sized ps) n order) (length-map ps layout_of) large.0, large.1)
+  overflow_ordered None repr always_sized order all ps none there (inr (layout, listed, is)) = absurd (cc)
+  overflow_ordered (Some f) repr always_sized order all ps fault there e =
+      let same : Some f ≡ Some SizeOverflow = cc in
+      absurd (not_ordered _ _ _ (fault ∙ same))
+
+  least_ordered : (fault : Option LayError) (repr : ReprOptions) (always_sized : Bool) (order : List ℕ) (all : Trees) (ps : List Placed) (p : Placed)
+      → OrderedBy fault repr always_sized order ps (Ok p) → IsLeast dl (struct repr always_sized (Some order) all) p
+  least_ordered fault repr always_sized order all ps p answer =
+      let kind = kind_of always_sized ps in
+      let found = laid_by fault (IsListedInOrder dl (randomized repr) kind order (map layout_of ps)) (placed_fields repr ps) p answer in
+      let layout : Layout = found.0 in
+      let count = ordered_count dl (randomized repr) kind order ps layout found.1 in
+      subst (IsLeast dl (struct repr always_sized (Some order) all)) found.2
+      (subst (λ qs. layout.size ≡ ordered_size dl repr always_sized order qs) (sym (fields_back (listed_offsets layout.fields) ps (omega (arith, count)))) (ordered_placed dl (randomized repr) kind order ps layout found.1).extent)
+
+  refused_ordered : (fault : Option LayError) (repr : ReprOptions) (always_sized : Bool) (order : List ℕ) (all : Trees) (ps : List Placed) (r : Result Placed LayError) → fault ≡ None → AreLaying dl all (Ok ps)
+      → IsOrderOfFields dl repr always_sized order ps → size_bound dl ≤ ordered_size dl repr always_sized order ps
+      → OrderedBy fault repr always_sized order ps r → r ≡ Err SizeOverflow
+  refused_ordered None repr always_sized order all ps r none there allowed large (inl (e, listed, is)) =
+      let own = subst (λ n. IsOrderOf dl (randomized repr) (kind_of always_sized ps) n order) (sym (length-map ps layout_of)) allowed in
+      is ∙ ap (λ x. Err x) (ordered_for_size dl (randomized repr) (kind_of always_sized ps) order ps (all_whole dl law all ps there) own e listed)
+  refused_ordered None repr always_sized order all ps r none there allowed large (inr (layout, listed, is)) =
+      absurd (ordered_small dl (randomized repr) (kind_of always_sized ps) order ps layout listed large)
+  refused_ordered (Some f) repr always_sized order all ps r none there allowed large e = absurd (cc)
 
   refused_fields : (fault : Option LayError) (repr : ReprOptions) (always_sized : Bool) (all : Trees) (ps : List Placed) (r : Result Placed LayError) → fault ≡ None → AreLaying dl all (Ok ps)
       → IsStructTooLarge dl repr always_sized ps
@@ -258,6 +345,7 @@ module _ (dl : TargetDataLayout) (law : IsLawfulDataLayout dl) where
   named_large (Err calculator.ZeroLengthSimdType) make e = absurd (cc)
   named_large (Err (calculator.OversizedSimdType n)) make e = absurd (cc)
   named_large (Err (calculator.NonPrimitiveSimdType f)) make e = absurd (cc)
+  named_large (Err calculator.BadOrder) make e = absurd (cc)
   named_large (Err calculator.OutOfMemory) make e = absurd (cc)
 
   large_vector : (lanes : ℕ) (packed : Bool) (p : Placed) → vector_answer dl lanes packed p ≡ Err SizeOverflow → IsVectorTooLarge dl (layout_of p) lanes packed
@@ -421,8 +509,9 @@ module _ (dl : TargetDataLayout) (law : IsLawfulDataLayout dl) where
   laid_least (array count element) p (inr (q, there, e)) = sized_elements dl law count element q p e
   laid_least (vector lanes packed element) p (inl f) = absurd (cc f.2)
   laid_least (vector lanes packed element) p (inr (q, there, e)) = sized_vector dl law lanes packed element q p e
-  laid_least (struct repr always_sized all) p (inl f) = absurd (cc f.2)
-  laid_least (struct repr always_sized all) p (inr (ps, there, answer)) = least_fields (fields_fault repr ps) repr always_sized all ps p there answer
+  laid_least (struct repr always_sized order all) p (inl f) = absurd (cc f.2)
+  laid_least (struct repr always_sized None all) p (inr (ps, there, answer)) = least_fields (fields_fault repr ps) repr always_sized all ps p there answer
+  laid_least (struct repr always_sized (Some order) all) p (inr (ps, there, answer)) = least_ordered (ordered_fault repr ps) repr always_sized order all ps p answer
   laid_least (union repr all) p (inl f) = absurd (cc f.2)
   laid_least (union repr all) p (inr (ps, there, answer)) =
       let found = laid_by (fields_fault repr ps) (IsUnited dl repr (map layout_of ps))
@@ -464,8 +553,10 @@ module _ (dl : TargetDataLayout) (law : IsLawfulDataLayout dl) where
     refused_overflow (array count element) (inl (e, there, is)) = let same : e ≡ SizeOverflow = cc in inl (refused_overflow element (subst (λ x. IsLaying dl element (Err x)) same there))
     refused_overflow (array count element) (inr (q, there, e)) =
         inr (q, there, ltb-false (size_of q * count) (size_bound dl) (elements_large (nat_lt (size_of q * count) (size_bound dl)) count (elements_layout 0 true count (layout_of q)) q e))
-    refused_overflow (struct repr always_sized all) (inl (e, there, is)) = let same : e ≡ SizeOverflow = cc in inl (list_overflow all (subst (λ x. AreLaying dl all (Err x)) same there))
-    refused_overflow (struct repr always_sized all) (inr (ps, there, answer)) = overflow_fields (fields_fault repr ps) repr always_sized all ps refl there answer
+    refused_overflow (struct repr always_sized None all) (inl (e, there, is)) = let same : e ≡ SizeOverflow = cc in inl (list_overflow all (subst (λ x. AreLaying dl all (Err x)) same there))
+    refused_overflow (struct repr always_sized None all) (inr (ps, there, answer)) = overflow_fields (fields_fault repr ps) repr always_sized all ps refl there answer
+    refused_overflow (struct repr always_sized (Some order) all) (inl (e, there, is)) = let same : e ≡ SizeOverflow = cc in inl (list_overflow all (subst (λ x. AreLaying dl all (Err x)) same there))
+    refused_overflow (struct repr always_sized (Some order) all) (inr (ps, there, answer)) = overflow_ordered (ordered_fault repr ps) repr always_sized order all ps refl there answer
     refused_overflow (vector lanes packed element) (inl (e, there, is)) = let same : e ≡ SizeOverflow = cc in inl (refused_overflow element (subst (λ x. IsLaying dl element (Err x)) same there))
     refused_overflow (vector lanes packed element) (inr (q, there, e)) = inr (q, there, large_vector lanes packed q (sym e))
     refused_overflow (union repr all) (inl (e, there, is)) = let same : e ≡ SizeOverflow = cc in inl (list_overflow all (subst (λ x. AreLaying dl all (Err x)) same there))
@@ -504,10 +595,15 @@ module _ (dl : TargetDataLayout) (law : IsLawfulDataLayout dl) where
     large_refused (array count element) r (inl large) h = follows_refused (IsLaying dl element) (λ p r. r ≡ elements_answer dl count p) r (λ x there. large_refused element x large there) h
     large_refused (array count element) r (inr (p, there, large)) h =
         refused_elements count p r large (follows_on (IsLaying dl element) (λ p r. r ≡ elements_answer dl count p) r p there (λ x y a b. one_answer dl element x y a b) h)
-    large_refused (struct repr always_sized all) r (inl large) h = follows_refused (AreLaying dl all) (IsFieldsAnswer dl repr always_sized) r (λ x there. list_refused all x large there) h
-    large_refused (struct repr always_sized all) r (inr (ps, there, none, large)) h =
+    large_refused (struct repr always_sized None all) r (inl large) h = follows_refused (AreLaying dl all) (IsFieldsAnswer dl repr always_sized) r (λ x there. list_refused all x large there) h
+    large_refused (struct repr always_sized None all) r (inr (ps, there, none, large)) h =
         refused_fields (fields_fault repr ps) repr always_sized all ps r none there large
         (follows_on (AreLaying dl all) (IsFieldsAnswer dl repr always_sized) r ps there (λ x y a b. one_list dl all x y a b) h)
+    large_refused (struct repr always_sized (Some order) all) r (inl large) h =
+        follows_refused (AreLaying dl all) (IsOrderedFieldsAnswer dl repr always_sized order) r (λ x there. list_refused all x large there) h
+    large_refused (struct repr always_sized (Some order) all) r (inr (ps, there, none, allowed, large)) h =
+        refused_ordered (ordered_fault repr ps) repr always_sized order all ps r none there allowed large
+        (follows_on (AreLaying dl all) (IsOrderedFieldsAnswer dl repr always_sized order) r ps there (λ x y a b. one_list dl all x y a b) h)
     large_refused (vector lanes packed element) r (inl large) h =
         follows_refused (IsLaying dl element) (λ p z. z ≡ vector_answer dl lanes packed p) r (λ x there. large_refused element x large there) h
     large_refused (vector lanes packed element) r (inr (p, there, e)) h =

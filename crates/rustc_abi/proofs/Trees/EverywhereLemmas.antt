@@ -1,6 +1,6 @@
 -- What holds of each type that is laid out holds of each type in one.
 use Rattle.std.proofs.Common.{◌≡◌, ℕ, ◌+◌, ◌*◌, ◌<◌, ◌≤◌, true, List, [], ◌∷◌, length, map, inl, inr, sym, ap, ◌∙◌}
-use Rattle.std.proofs.Common.{subst, arith, refl, All, Bool, Ok, zero, suc}
+use Rattle.std.proofs.Common.{subst, arith, refl, All, Bool, None, Some, Ok, zero, suc}
 use Rattle.std.specs.Prelude.{nat_lt}
 use Rattle.std.proofs.lemmas.List.{length-map}
 use Rattle.abi_base.specs.declared.data_layout.TargetDataLayout.{TargetDataLayout}
@@ -32,7 +32,9 @@ use Rattle.rustc_abi.specs.Coroutines.{IsStated, conflicts_of}
 use Rattle.rustc_abi.proofs.Sizes.EachListLemmas.{state_count}
 use Rattle.rustc_abi.specs.Error.{named}
 use Rattle.rustc_abi.specs.Enums.{IsEnumed, arms_at, discriminants_of}
-use Rattle.rustc_abi.specs.Laying.{AreLaying, IsLaying, IsListed, IsUnited, VariantsLaying, coroutine_fault, enum_fault}
+use Rattle.rustc_abi.specs.Laying.{AreLaying, IsLaying, IsListed, IsListedInOrder, IsUnited, VariantsLaying, coroutine_fault, enum_fault}
+use Rattle.rustc_abi.specs.Laying.{ordered_fault, randomized}
+use Rattle.rustc_abi.proofs.Trees.OrderLemmas.{ordered_count}
 use Rattle.rustc_abi.specs.Laying.{one_scalar}
 use Rattle.rustc_abi.specs.Laying.{fields_fault, kind_of, lanes_of, placed_enum, placed_fields, placed_together}
 use Rattle.rustc_abi.specs.Laying.{placed_variants}
@@ -108,11 +110,16 @@ module _ (dl : TargetDataLayout) (law : IsLawfulDataLayout dl) (P : Tree → Pla
     within (vector lanes packed element) p (inr (q, there, e)) =
         let found = placed_back dl law (λ layout. placed_vector layout (lanes_of lanes q)) (named (simd_answer {H = Layout} (λ l. l) 0 0 dl (layout_of q) lanes packed)) p e in
         subst (Within dl P (vector lanes packed element)) found.2 (each element q there, within element q there)
-    within (struct repr always_sized all) p (inl f) = absurd (cc f.2)
-    within (struct repr always_sized all) p (inr (ps, there, answer)) =
+    within (struct repr always_sized order all) p (inl f) = absurd (cc f.2)
+    within (struct repr always_sized None all) p (inr (ps, there, answer)) =
         let found = laid_by (fields_fault repr ps) (IsListed dl repr (kind_of always_sized ps) (map layout_of ps)) (placed_fields repr ps) p answer in
         let count = listed_count dl repr always_sized ps (all_whole dl law all ps there) found.0 found.1 in
-        subst (Within dl P (struct repr always_sized all)) found.2 (of_each all ps (listed_offsets found.0.fields) (omega (arith, count)) there)
+        subst (Within dl P (struct repr always_sized None all)) found.2 (of_each all ps (listed_offsets found.0.fields) (omega (arith, count)) there)
+    within (struct repr always_sized (Some order) all) p (inr (ps, there, answer)) =
+        let kind = kind_of always_sized ps in
+        let found = laid_by (ordered_fault repr ps) (IsListedInOrder dl (randomized repr) kind order (map layout_of ps)) (placed_fields repr ps) p answer in
+        let count = ordered_count dl (randomized repr) kind order ps found.0 found.1 in
+        subst (Within dl P (struct repr always_sized (Some order) all)) found.2 (of_each all ps (listed_offsets found.0.fields) (omega (arith, count)) there)
     within (union repr all) p (inl f) = absurd (cc f.2)
     within (union repr all) p (inr (ps, there, answer)) =
         let found = laid_by (fields_fault repr ps) (IsUnited dl repr (map layout_of ps)) (placed_together repr ps) p answer in

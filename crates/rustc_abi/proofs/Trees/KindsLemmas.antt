@@ -1,5 +1,5 @@
 -- What each kind of type has where its parts have it, each type that is laid out has.
-use Rattle.std.proofs.Common.{◌≡◌, ℕ, ◌+◌, ◌*◌, ◌<◌, ⊎_elim, Bool, true, false, List, [], ◌∷◌, Ok, Err, None, length, map, get_or, inl, inr, refl, sym, ap, ◌∙◌, subst, All}
+use Rattle.std.proofs.Common.{◌≡◌, ℕ, ◌+◌, ◌*◌, ◌<◌, ⊎_elim, Bool, true, false, List, [], ◌∷◌, Ok, Err, Option, Some, None, length, map, get_or, inl, inr, refl, sym, ap, ◌∙◌, subst, All}
 use Rattle.std.specs.Prelude.{nat_lt, if◌then◌else◌}
 use Rattle.std.proofs.lemmas.List.{length-map}
 use Rattle.std.proofs.lemmas.List.Elements.{All-cons, All-map, All-nil, All-weaker}
@@ -25,7 +25,7 @@ use Rattle.abi_scalar.specs.Shape.{listed_offsets, listed_order}
 use Rattle.abi_scalar.specs.Simple.{never_layout, unit_layout}
 use Rattle.abi_scalar.specs.Variant.{variants_of}
 use Rattle.abi_lists.specs.Array.{elements_layout}
-use Rattle.abi_lists.specs.List.{IsListLayout, parts_of}
+use Rattle.abi_lists.specs.List.{IsListBy, parts_of}
 use Rattle.abi_lists.specs.ListView.{list_view}
 use Rattle.abi_lists.specs.Placement.{source_order}
 use Rattle.abi_lists.specs.Simd.{is_tight, lanes_answer, simd_align, simd_answer, simd_view, vector_layout}
@@ -50,6 +50,7 @@ use Rattle.rustc_abi.specs.Error.{named}
 use Rattle.rustc_abi.specs.ScalarFault.{scalar_fault}
 use Rattle.rustc_abi.specs.Coroutines.{IsStated}
 use Rattle.rustc_abi.specs.Enums.{IsEnumed, IsTagInteger, arms_at, discriminants_of, layouts_of, numbered_from}
+use Rattle.rustc_abi.specs.Laying.{IsListedInOrder, ordered_fault, randomized}
 use Rattle.rustc_abi.specs.Laying.{AreLaying, IsLaying, IsListed, IsUnited, VariantsLaying, coroutine_fault, enum_fault, fields_fault, kind_of, lanes_of, one_scalar, pair_answer, placed_by, placed_coroutine, placed_enum, placed_fields, placed_together, placed_variants, scalar_answer, two_scalars, unless, vector_answer}
 use Rattle.rustc_abi.proofs.Unions.CalcLemmas.{after_ok, chosen_ok, named-ok, united_layout, vector_made}
 use Rattle.rustc_abi.proofs.Enums.CalculatedLemmas.{calculated_lawful, lawful_at, told}
@@ -59,6 +60,8 @@ use Rattle.rustc_abi.proofs.Sizes.EnumSizeLemmas.{apart_long, fact_at}
 use Rattle.rustc_abi.proofs.Places.InsideLemmas.{coroutine_places, inside_coroutine, inside_enum}
 use Rattle.rustc_abi.proofs.Trees.LaidLemmas.{IsWhole, aligns_of, all_whole, coroutine_laid, each_lawful, each_of, fitted, laid_by, laid_whole, no_fault, numbers_for, placed_back, stated_offsets, tags_of, variants_whole, whole_lawful}
 use Rattle.rustc_abi.proofs.Sizes.LeastLemmas.{listed_count}
+use Rattle.rustc_abi.proofs.Trees.OrderLemmas.{ordered_count}
+use Rattle.abi_scalar.specs.declared.niche.Niche.{Niche}
 use Rattle.abi_scalar.specs.declared.error.LayoutCalculatorError.TheVariants as calculator
 
 -- Types at these offsets are the fields, listed one by one, of a type of this layout, and no tag tells variants of it apart.
@@ -106,8 +109,8 @@ pub record IsKept (dl : TargetDataLayout) (P : Placed → Type 0) : Type 0 where
 -- ---- lists
 
 -- a list's layout has its fields
-fields_of : (dl : TargetDataLayout) (repr : ReprOptions) (kind : StructKind) (ps : List Placed) (order offsets : List ℕ) (layout : Layout) →
-    IsListLayout (λ i. i) 0 dl repr kind (map layout_of ps) order offsets layout → length (listed_offsets layout.fields) ≡ length ps → AreFields layout (listed_offsets layout.fields) ps
+fields_of : {Rule : (order offsets : List ℕ) → (size align : ℕ) → Option Niche → Type 0} (dl : TargetDataLayout) (repr : ReprOptions) (kind : StructKind) (ps : List Placed)
+    (order offsets : List ℕ) (layout : Layout) → IsListBy Rule (λ i. i) 0 dl repr kind (map layout_of ps) order offsets layout → length (listed_offsets layout.fields) ≡ length ps → AreFields layout (listed_offsets layout.fields) ps
 fields_of dl repr kind ps order offsets layout made count =
     let same : offsets ≡ listed_offsets layout.fields = sym (ap listed_offsets made.shape) in
     record {
@@ -277,12 +280,18 @@ module _ (dl : TargetDataLayout) (law : IsLawfulDataLayout dl) (P : Placed → T
         kept_elements (nat_lt (size_of q * count) (size_bound dl)) count q p (laid_whole dl law element q there).0 (laid_kept element q there) e
     laid_kept (vector lanes packed element) p (inl f) = absurd (cc f.2)
     laid_kept (vector lanes packed element) p (inr (q, there, e)) = kept_vector lanes packed q p (laid_whole dl law element q there).0 (laid_kept element q there) e
-    laid_kept (struct repr always_sized all) p (inl f) = absurd (cc f.2)
-    laid_kept (struct repr always_sized all) p (inr (ps, there, answer)) =
+    laid_kept (struct repr always_sized order all) p (inl f) = absurd (cc f.2)
+    laid_kept (struct repr always_sized None all) p (inr (ps, there, answer)) =
         let found = laid_by (fields_fault repr ps) (IsListed dl repr (kind_of always_sized ps) (map layout_of ps)) (placed_fields repr ps) p answer in
         let count = listed_count dl repr always_sized ps (all_whole dl law all ps there) found.0 found.1 in
         subst P found.2
         (kept.of_fields found.0 (mark_of false repr) (listed_offsets found.0.fields) ps (fields_of dl repr (kind_of always_sized ps) ps found.1.0 found.1.1 found.0 found.1.2 count) (all_kept all ps there))
+    laid_kept (struct repr always_sized (Some order) all) p (inr (ps, there, answer)) =
+        let kind = kind_of always_sized ps in
+        let found = laid_by (ordered_fault repr ps) (IsListedInOrder dl (randomized repr) kind order (map layout_of ps)) (placed_fields repr ps) p answer in
+        let count = ordered_count dl (randomized repr) kind order ps found.0 found.1 in
+        subst P found.2
+        (kept.of_fields found.0 (mark_of false repr) (listed_offsets found.0.fields) ps (fields_of dl (randomized repr) kind ps order found.1.0 found.0 found.1.1 count) (all_kept all ps there))
     laid_kept (union repr all) p (inl f) = absurd (cc f.2)
     laid_kept (union repr all) p (inr (ps, there, answer)) =
         let found = laid_by (fields_fault repr ps) (IsUnited dl repr (map layout_of ps)) (placed_together repr ps) p answer in

@@ -35,13 +35,15 @@ use Rattle.abi_lists.specs.Part.{IsAlignedPart, IsLawfulPart, is_unsized, part_o
 use Rattle.abi_lists.specs.Placement.{IsLawfulPrefix, IsNonEmptyIfUnsized, align_of, end_from, in_order, list_repr, size_in, start_of}
 use Rattle.abi_lists.specs.Simd.{if_below, is_tight, lanes_answer, simd_align, simd_answer, simd_view, vector_layout}
 use Rattle.abi_lists.specs.Union.{CountsForView, HasView, IsUnionView, fault_before, first_unsized, sized_fault, union_size}
-use Rattle.abi_lists.proofs.DeepLemmas.{biased_index, biased_inside}
+use Rattle.abi_lists.proofs.DeepLemmas.{in_order_of}
+use Rattle.abi_lists.proofs.OrderedLemmas.{ordered_index, ordered_inside}
 use Rattle.abi_lists.proofs.FaultLemmas.{clear_of}
 use Rattle.abi_lists.proofs.LawfulList.{made_lawful}
 use Rattle.abi_lists.proofs.Lawful.{array_lawful}
 use Rattle.abi_lists.proofs.Least.{align_small}
 use Rattle.abi_lists.proofs.ListLemmas.{parts_lawful, repr_lawful}
 use Rattle.abi_lists.proofs.RunLemmas.{aligned_parts, biased_of}
+use Rattle.abi_lists.specs.Run.{IsInOrder}
 use Rattle.abi_lists.proofs.UnionLawful.{union_is_lawful}
 use Rattle.abi_lists.proofs.VectorLemmas.{factor_small, lanes_are, lanes_bounded, simd_of_view, simd_viewed, vector_small, vectors_lawful}
 use Rattle.abi_calc.specs.declared.enums.path.Path.{Path}
@@ -63,12 +65,14 @@ use Rattle.abi_laid.specs.declared.mark.Mark.TheVariants.{Never, Unit}
 use Rattle.abi_laid.specs.Placed.{Placed, Layout, layout_of, size_of, elements, fields, vector as placed_vector, no_parts, never as placed_never}
 use Rattle.rustc_abi.specs.ScalarFault.{scalar_fault}
 use Rattle.rustc_abi.specs.Error.{named, Follows}
+use Rattle.rustc_abi.specs.Laying.{IsListedInOrder, ordered_fault, randomized}
 use Rattle.rustc_abi.specs.Laying.{IsLaying, AreLaying, IsListed, IsUnited, fields_fault, kind_of, lanes_of, one_scalar, pair_answer, placed_by, placed_fields, placed_together, scalar_answer, two_scalars, unless, vector_answer, placed_variants, placed_enum, enum_fault, VariantsLaying, coroutine_fault, placed_coroutine}
 use Rattle.rustc_abi.specs.Coroutines.{IsCoroutined, IsStated, conflicts_of}
 use Rattle.rustc_abi.specs.Enums.{layouts_of, IsTagInteger, numbered_from, IsEnumed, discriminants_of}
 use Rattle.rustc_abi.proofs.Unions.CalcLemmas.{after_ok, chosen_ok, named-ok, united_layout}
 use Rattle.rustc_abi.proofs.Faults.FaultLemmas.{faultless}
 use Rattle.rustc_abi.proofs.Trees.LayLemmas.{faultless_aligns}
+use Rattle.rustc_abi.proofs.Trees.OrderLemmas.{in_this_order, ordered_faultless, randomized_aligns}
 use Rattle.rustc_abi.proofs.Enums.TagIntegerLemmas.{lawful_tags, one_each}
 use Rattle.rustc_abi.proofs.Faults.FaultlessLemmas.{none_equal, all_discriminants, lawful_aligns}
 use Rattle.rustc_abi.proofs.Faults.CoroutineFaultLemmas.{conflict_rows, states_once, states_within}
@@ -334,6 +338,28 @@ module _ (dl : TargetDataLayout) (law : IsLawfulDataLayout dl) where
       subst (IsWhole dl) same (array_whole count (layout_of element) h.0 (ltb-true (size_of element * count) (size_bound dl) (sym below)), refl)
   whole_elements false count element p h below e = absurd (cc)
 
+  -- a list in an allowed order, with the view of its fields
+  in_order_whole : (repr : ReprOptions) (always_sized : Bool) (ps : List Placed) (order offsets : List ℕ) (layout : Layout) → HasLawfulAligns repr → All (IsWhole dl) ps →
+      IsInOrder dl (list_repr dl repr (kind_of always_sized ps)) (parts_of dl (map layout_of ps)) order offsets layout.size layout.align.abi layout.largest_niche →
+      layout.backend_repr ≡ list_view dl (is_abi_fixed repr) layout.size layout.align.abi (parts_of dl (map layout_of ps)) offsets → layout.variants ≡ Single 0 →
+      IsLawfulLayout dl layout × (is_unsized layout.backend_repr ≡ false)
+  in_order_whole repr always_sized ps order offsets layout aligns h made view alone =
+      let kind = kind_of always_sized ps in
+      let list = list_repr dl repr kind in
+      let parts = parts_of dl (map layout_of ps) in
+      let some = subst (IsNonEmptyIfUnsized kind) (sym (length-asked dl ps)) (some_field always_sized ps) in
+      let lawful = repr_lawful dl repr kind (length parts) law aligns (no_prefix always_sized ps (size_bound dl)) some in
+      let small : align_of list parts ≤ 29 = align_small list parts (length parts) (size_bound dl) (asked_aligned dl ps h) lawful in
+      let last : ℕ = end_from list.pack (start_of list.pack list.kind) (in_order parts order) in
+      let size : layout.size ≡ next_multiple_of last (2 ^ layout.align.abi) = made.placed.extent ∙ ap (λ a. next_multiple_of last (2 ^ a)) (sym made.placed.alignment) in
+      let below : size_in list parts order < size_bound dl = (clear_of list (size_bound dl) parts order made.placed.faultless).1 in (
+        made_lawful dl layout 0 last layout.align.abi (is_abi_fixed repr) parts offsets (asked_lawful dl ps h) refl (omega (arith, made.placed.alignment, small)) size
+            (omega (arith, below, made.placed.extent))
+            (ordered_inside dl list parts order offsets layout.size layout.align.abi layout.largest_niche (asked_lawful dl ps h) made)
+            (ordered_index dl list parts order offsets layout.size layout.align.abi layout.largest_niche made) view alone,
+        rw view (view_sized dl (is_abi_fixed repr) layout.size layout.align.abi (map layout_of ps) offsets (asked_sized dl ps h)),
+      )
+
   listed_whole : (repr : ReprOptions) (always_sized : Bool) (ps : List Placed) (layout : Layout) → fields_fault repr ps ≡ None → All (IsWhole dl) ps →
       IsListed dl repr (kind_of always_sized ps) (map layout_of ps) (Ok layout) → IsWhole dl (placed_fields repr ps layout)
   listed_whole repr always_sized ps layout none h listed =
@@ -342,17 +368,14 @@ module _ (dl : TargetDataLayout) (law : IsLawfulDataLayout dl) where
       let parts = parts_of dl (map layout_of ps) in
       let made = biased_of dl list parts listed.0 listed.1 layout.size layout.align.abi layout.largest_niche listed.2.named in
       let some = subst (IsNonEmptyIfUnsized kind) (sym (length-asked dl ps)) (some_field always_sized ps) in
-      let lawful = repr_lawful dl repr kind (length parts) law (faultless_aligns repr ps none) (no_prefix always_sized ps (size_bound dl)) some in
-      let small : align_of list parts ≤ 29 = align_small list parts (length parts) (size_bound dl) (asked_aligned dl ps h) lawful in
-      let last : ℕ = end_from list.pack (start_of list.pack list.kind) (in_order parts listed.0) in
-      let size : layout.size ≡ next_multiple_of last (2 ^ layout.align.abi) = made.placed.extent ∙ ap (λ a. next_multiple_of last (2 ^ a)) (sym made.placed.alignment) in
-      let below : size_in list parts listed.0 < size_bound dl = (clear_of list (size_bound dl) parts listed.0 made.placed.faultless).1 in (
-        made_lawful dl layout 0 last layout.align.abi (is_abi_fixed repr) parts listed.1 (asked_lawful dl ps h) refl (omega (arith, made.placed.alignment, small)) size
-            (omega (arith, below, made.placed.extent))
-            (biased_inside dl list parts listed.0 listed.1 layout.size layout.align.abi layout.largest_niche (asked_lawful dl ps h) some made)
-            (biased_index dl list parts listed.0 listed.1 layout.size layout.align.abi layout.largest_niche some made) listed.2.view listed.2.variants,
-        rw listed.2.view (view_sized dl (is_abi_fixed repr) layout.size layout.align.abi (map layout_of ps) listed.1 (asked_sized dl ps h)),
-      )
+      in_order_whole repr always_sized ps listed.0 listed.1 layout (faultless_aligns repr ps none) h
+      (in_order_of dl list parts listed.0 listed.1 layout.size layout.align.abi layout.largest_niche some made) listed.2.view listed.2.variants
+
+  ordered_whole : (repr : ReprOptions) (always_sized : Bool) (order : List ℕ) (ps : List Placed) (layout : Layout) → ordered_fault repr ps ≡ None → All (IsWhole dl) ps →
+      IsListedInOrder dl (randomized repr) (kind_of always_sized ps) order (map layout_of ps) (Ok layout) → IsWhole dl (placed_fields repr ps layout)
+  ordered_whole repr always_sized order ps layout none h listed =
+      in_order_whole (randomized repr) always_sized ps order listed.0 layout (randomized_aligns repr (faultless_aligns repr ps (ordered_faultless repr ps none).0)) h
+      (in_this_order dl (randomized repr) (kind_of always_sized ps) order ps layout listed) listed.1.view listed.1.variants
 
   answer_whole : (fault : Option LayError) (P : Result Layout LayError → Type 0) (make : Layout → Placed) (p : Placed)
       → (fault ≡ None → (layout : Layout) → P (Ok layout) → IsWhole dl (make layout)) → AnswersBy fault P make (Ok p) → IsWhole dl p
@@ -442,10 +465,13 @@ module _ (dl : TargetDataLayout) (law : IsLawfulDataLayout dl) where
     laid_whole (array count element) p (inl f) = absurd (cc f.2)
     laid_whole (array count element) p (inr (q, there, e)) =
         whole_elements (nat_lt (size_of q * count) (size_bound dl)) count q p (laid_whole element q there) refl e
-    laid_whole (struct repr always_sized all) p (inl f) = absurd (cc f.2)
-    laid_whole (struct repr always_sized all) p (inr (ps, there, answer)) =
+    laid_whole (struct repr always_sized order all) p (inl f) = absurd (cc f.2)
+    laid_whole (struct repr always_sized None all) p (inr (ps, there, answer)) =
         answer_whole (fields_fault repr ps) (IsListed dl repr (kind_of always_sized ps) (map layout_of ps)) (placed_fields repr ps) p
         (λ none layout listed. listed_whole repr always_sized ps layout none (all_whole all ps there) listed) answer
+    laid_whole (struct repr always_sized (Some order) all) p (inr (ps, there, answer)) =
+        answer_whole (ordered_fault repr ps) (IsListedInOrder dl (randomized repr) (kind_of always_sized ps) order (map layout_of ps)) (placed_fields repr ps) p
+        (λ none layout listed. ordered_whole repr always_sized order ps layout none (all_whole all ps there) listed) answer
     laid_whole (vector lanes packed element) p (inl f) = absurd (cc f.2)
     laid_whole (vector lanes packed element) p (inr (q, there, e)) = whole_vector lanes packed q p (laid_whole element q there) e
     laid_whole (union repr all) p (inl f) = absurd (cc f.2)

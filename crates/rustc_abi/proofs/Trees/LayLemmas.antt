@@ -32,6 +32,7 @@ use Rattle.abi_laid.specs.Fits.{Fits}
 use Rattle.abi_laid.specs.Nodes.{placed_in, meaning, types_in, placed_at, root_of, Keeps}
 use Rattle.abi_laid.specs.Values.{LocalsHaveValues}
 use Rattle.abi_laid.specs.Faithful.{IsFaithful}
+use Rattle.rustc_abi.specs.Laying.{IsListedInOrder, IsOrderedFieldsAnswer, ordered_fault, randomized}
 use Rattle.rustc_abi.specs.Laying.{IsLaying, AreLaying, IsFieldsAnswer, IsListed, fields_fault, has_bad_align, is_above_limit, most_fields, kind_of, placed_fields, placed_by, unless, one_scalar, two_scalars, pair_answer}
 use Rattle.abi_laid.specs.Unions.{Begins, IsCommon, InUnions}
 use Rattle.abi_laid.specs.Untagged.{UntaggedNamed}
@@ -139,22 +140,48 @@ fields_refused dl repr always_sized ps e faultless (inr f) = inr (rw faultless (
 
 -- a struct's refusal is the tree's
 pub struct_refused : (dl : TargetDataLayout) (repr : ReprOptions) (always_sized : Bool) (ts : Trees) (ps : List Placed) (e : LayError) → AreLaying dl ts (Ok ps) →
-    IsRefused (IsFieldsAnswer dl repr always_sized ps) e → IsRefused (IsLaying dl (struct repr always_sized ts)) e
+    IsRefused (IsFieldsAnswer dl repr always_sized ps) e → IsRefused (IsLaying dl (struct repr always_sized None ts)) e
 struct_refused dl repr always_sized ts ps e exact (inl memory) = inl memory
 struct_refused dl repr always_sized ts ps e exact (inr f) = inr (inr (ps, exact, f))
+
+-- where the order is handed in, the calculator's refusal is the struct's, and the struct's the tree's
+pub ordered_refused : (dl : TargetDataLayout) (repr : ReprOptions) (always_sized : Bool) (order : List ℕ) (ps : List Placed) (e : LayError) → ordered_fault repr ps ≡ None →
+    IsRefused (IsListedInOrder dl (randomized repr) (kind_of always_sized ps) order (map layout_of ps)) e → IsRefused (IsOrderedFieldsAnswer dl repr always_sized order ps) e
+ordered_refused dl repr always_sized order ps e faultless (inl memory) = inl memory
+ordered_refused dl repr always_sized order ps e faultless (inr f) = inr (rw faultless (inl (e, f, refl)))
+
+pub ordered_tree_refused : (dl : TargetDataLayout) (repr : ReprOptions) (always_sized : Bool) (order : List ℕ) (ts : Trees) (ps : List Placed) (e : LayError) → AreLaying dl ts (Ok ps) →
+    IsRefused (IsOrderedFieldsAnswer dl repr always_sized order ps) e → IsRefused (IsLaying dl (struct repr always_sized (Some order) ts)) e
+ordered_tree_refused dl repr always_sized order ts ps e exact (inl memory) = inl memory
+ordered_tree_refused dl repr always_sized order ts ps e exact (inr f) = inr (inr (ps, exact, f))
 
 -- a struct's layout
 pub IsAdded-fields : (dl : TargetDataLayout) (old new : List Node) (i : ℕ) (repr : ReprOptions) (always_sized : Bool) (ps : List Placed) (layout : Layout) (ts : Trees) →
     fields_fault repr ps ≡ None → IsListed dl repr (kind_of always_sized ps) (map layout_of ps) (Ok layout) → IsLawfulLayout dl layout →
     IfSome layout.largest_niche (IsNicheOfPart (listed_offsets layout.fields) (map layout_of ps)) → AreApart layout.size (listed_offsets layout.fields) (map size_of ps) →
-    IsPut old new i (placed_fields repr ps layout) → AreLaying dl ts (Ok ps) → EachFits dl ts ps → IsAdded dl old new i (struct repr always_sized ts)
+    IsPut old new i (placed_fields repr ps layout) → AreLaying dl ts (Ok ps) → EachFits dl ts ps → IsAdded dl old new i (struct repr always_sized None ts)
 IsAdded-fields dl old new i repr always_sized ps layout ts faultless listed lawful niche apart put exact fits =
     let made = listed.2 in
     let offsets : listed_offsets layout.fields ≡ listed.1 = ap listed_offsets made.shape in
     let view = made.view ∙ ap (list_view dl (is_abi_fixed repr) layout.size layout.align.abi (parts_of dl (map layout_of ps))) (sym offsets) in
     let answer : IsFieldsAnswer dl repr always_sized ps (Ok (placed_fields repr ps layout)) = rw faultless (inr (layout, listed, refl)) in
-    IsAdded-put dl old new i (placed_fields repr ps layout) (struct repr always_sized ts) put (inr (ps, exact, answer))
-    (Fits-fields dl repr always_sized (is_abi_fixed repr) ts layout (listed_offsets layout.fields) ps fits apart
+    IsAdded-put dl old new i (placed_fields repr ps layout) (struct repr always_sized None ts) put (inr (ps, exact, answer))
+    (Fits-fields dl repr always_sized (is_abi_fixed repr) None ts layout (listed_offsets layout.fields) ps fits apart
+    (IfSome_then layout.largest_niche niche (part_of_list (listed_offsets layout.fields) ps)) view made.uninhabited (EachFits-lawful dl ts ps fits) lawful)
+
+-- and that of a struct whose order is handed in
+pub IsAdded-ordered : (dl : TargetDataLayout) (old new : List Node) (i : ℕ) (repr : ReprOptions) (always_sized : Bool) (order : List ℕ) (ps : List Placed) (layout : Layout) (ts : Trees) →
+    ordered_fault repr ps ≡ None → IsListedInOrder dl (randomized repr) (kind_of always_sized ps) order (map layout_of ps) (Ok layout) → IsLawfulLayout dl layout →
+    IfSome layout.largest_niche (IsNicheOfPart (listed_offsets layout.fields) (map layout_of ps)) → AreApart layout.size (listed_offsets layout.fields) (map size_of ps) →
+    IsPut old new i (placed_fields repr ps layout) → AreLaying dl ts (Ok ps) → EachFits dl ts ps → IsAdded dl old new i (struct repr always_sized (Some order) ts)
+IsAdded-ordered dl old new i repr always_sized order ps layout ts faultless listed lawful niche apart put exact fits =
+    let made = listed.1 in
+    let fixed = is_abi_fixed (randomized repr) in
+    let offsets : listed_offsets layout.fields ≡ listed.0 = ap listed_offsets made.shape in
+    let view = made.view ∙ ap (list_view dl fixed layout.size layout.align.abi (parts_of dl (map layout_of ps))) (sym offsets) in
+    let answer : IsOrderedFieldsAnswer dl repr always_sized order ps (Ok (placed_fields repr ps layout)) = rw faultless (inr (layout, listed, refl)) in
+    IsAdded-put dl old new i (placed_fields repr ps layout) (struct repr always_sized (Some order) ts) put (inr (ps, exact, answer))
+    (Fits-fields dl repr always_sized fixed (Some order) ts layout (listed_offsets layout.fields) ps fits apart
     (IfSome_then layout.largest_niche niche (part_of_list (listed_offsets layout.fields) ps)) view made.uninhabited (EachFits-lawful dl ts ps fits) lawful)
 
 -- a list is laid out where its first type and the others are

@@ -4,7 +4,7 @@ use Rattle.std.specs.Prelude.{nat_lt, slice_get, if◌then◌else◌}
 use Rattle.std.specs.List.{list_all}
 use Rattle.std.specs.Result.{IsErrAnd, IfErr}
 use Rattle.std.proofs.lemmas.Bool.{lt-ltb}
-use Rattle.std.proofs.lemmas.List.{map-id}
+use Rattle.std.proofs.lemmas.List.{length-map, map-id}
 use Rattle.std.specs.Cmp.Derive.{both_true}
 use Rattle.std.proofs.lemmas.List.Elements.{All-nil, All-cons, All-head, All-tail}
 use Rattle.abi_base.specs.declared.data_layout.TargetDataLayout.{TargetDataLayout}
@@ -18,13 +18,15 @@ use Rattle.abi_lists.specs.declared.order.NicheBias.TheVariants.{Start}
 use Rattle.abi_lists.specs.declared.placing.ListFault.{ListFault}
 use Rattle.abi_lists.specs.declared.placing.ListFault.TheVariants as fault
 use Rattle.abi_lists.specs.Fault.{IsErrorOf, fault_in}
+use Rattle.abi_lists.specs.InOrder.{IsOrderedAnswer, IsOrderedError}
+use Rattle.abi_lists.specs.Least.{IsOrderOf}
 use Rattle.abi_lists.specs.List.{IsListAnswer, parts_of}
 use Rattle.abi_lists.specs.Order.{IsNamedOrder}
 use Rattle.abi_lists.specs.Placement.{list_repr}
 use Rattle.rustc_abi.specs.declared.error.LayError.{LayError}
 use Rattle.abi_laid.specs.Placed.{Placed, Layout, layout_of, size_of}
 use Rattle.rustc_abi.specs.Error.{lay_error, named, IsRefused}
-use Rattle.rustc_abi.specs.Laying.{IsListed}
+use Rattle.rustc_abi.specs.Laying.{IsListed, IsListedInOrder}
 
 -- what a choice made
 pub chosen : (H : Type 0) (b : Bool) (layout made : Layout) → named {H = H} (if b then Ok layout else Err SizeOverflow) ≡ Ok made → made ≡ layout
@@ -57,6 +59,26 @@ module _ {H : Type 0} (f : H → Layout) (dl : TargetDataLayout) (repr : ReprOpt
       let fault_of = subst (λ ls. fault_in (list_repr dl repr kind) (size_bound dl) (parts_of dl ls) order ≡ Some which) (sym whole) there in
       subst (λ ls. IsRefused (IsListed dl repr kind ls) (lay_error e)) same (inr (error.0, (order, order_of, which, fault_of, error.1), error.2))
   listed_err hs layouts e same (inr memory) = inl (ap lay_error memory)
+
+  -- and in an order that is handed in
+  pub ordered_ok : (order : List ℕ) (hs : List H) (layouts : List Layout) (made : Layout) → map f hs ≡ layouts → IsOrderedAnswer f (λ i. i) 0 dl repr kind order hs (Ok made) →
+      IsListedInOrder dl repr kind order layouts (Ok made)
+  ordered_ok order hs layouts made same h = subst (λ ls. IsListedInOrder dl repr kind order ls (Ok made)) same h
+
+  ordered_error : (order : List ℕ) (hs : List H) (e : LayoutCalculatorError H) → IsOrderedError f dl repr kind order hs e →
+      IsRefused (IsListedInOrder dl repr kind order (map f hs)) (lay_error e)
+  ordered_error order hs e (inl (bad, is)) =
+      inr (calculator.BadOrder, inl ((λ allowed. bad (subst (λ n. IsOrderOf dl repr kind n order) (length-map hs f) allowed)), refl), ap lay_error is)
+  ordered_error order hs e (inr (allowed, which, there, of)) =
+      let error = named_error hs which e of in
+      let as_many = subst (λ n. IsOrderOf dl repr kind n order) (sym (length-map hs f)) allowed in
+      let fault_of = subst (λ ls. fault_in (list_repr dl repr kind) (size_bound dl) (parts_of dl ls) order ≡ Some which) (sym (map-id (map f hs))) there in
+      inr (error.0, inr (as_many, which, fault_of, error.1), error.2)
+
+  pub ordered_err : (order : List ℕ) (hs : List H) (layouts : List Layout) (e : LayoutCalculatorError H) → map f hs ≡ layouts → IsOrderedAnswer f (λ i. i) 0 dl repr kind order hs (Err e) →
+      IsRefused (IsListedInOrder dl repr kind order layouts) (lay_error e)
+  ordered_err order hs layouts e same (inl refused) = subst (λ ls. IsRefused (IsListedInOrder dl repr kind order ls) (lay_error e)) same (ordered_error order hs e refused)
+  ordered_err order hs layouts e same (inr memory) = inl (ap lay_error memory)
 
 -- each of these numbers is below n
 pub all_below : (n : ℕ) (children : List ℕ) → All (λ child. child < n) children → list_all (λ child. nat_lt child n) children ≡ true

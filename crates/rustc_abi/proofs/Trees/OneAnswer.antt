@@ -13,12 +13,13 @@ use Rattle.abi_lists.specs.declared.order.NicheBias.TheVariants.{Start}
 use Rattle.abi_lists.specs.declared.placing.ListFault.{ListFault}
 use Rattle.abi_lists.specs.declared.placing.ListFault.TheVariants.{Unsized, TooLarge, OutOfMemory}
 use Rattle.abi_lists.specs.Fault.{IsErrorOf, fault_in}
+use Rattle.abi_lists.specs.InOrder.{IsOrderedError}
 use Rattle.abi_lists.specs.List.{IsListError, parts_of}
 use Rattle.abi_lists.specs.Order.{IsNamedOrder}
 use Rattle.abi_lists.specs.Placement.{IsNonEmptyIfUnsized, list_repr}
 use Rattle.abi_lists.specs.Union.{union_fault, union_layout}
 use Rattle.abi_lists.proofs.UnionLemmas.{one_union_view}
-use Rattle.abi_lists.proofs.OneOrder.{one_layout, one_named, never_refused}
+use Rattle.abi_lists.proofs.OneOrder.{one_in_order, one_layout, one_named, never_refused}
 use Rattle.abi_calc.proofs.EnumLemmas.OneEnum.{one_type, IsMade}
 use Rattle.abi_calc.proofs.CoroutineLemmas.OneCoroutine.{one_coroutine, one_tag}
 use Rattle.abi_calc.specs.Enums.Path.{path_of}
@@ -26,6 +27,7 @@ use Rattle.rustc_abi.specs.declared.error.LayError.{LayError}
 use Rattle.abi_laid.specs.Tree.{Tree, scalar, pair, never, unit, array, vector, struct, union, enum, coroutine, Trees, no_trees, more_trees, Variants, no_variants, more_variants}
 use Rattle.abi_laid.specs.Placed.{Placed, Layout, layout_of}
 use Rattle.rustc_abi.specs.Error.{Follows, lay_error}
+use Rattle.rustc_abi.specs.Laying.{IsListedInOrder, IsOrderedFieldsAnswer, ordered_fault, randomized}
 use Rattle.rustc_abi.specs.Laying.{IsLaying, AreLaying, VariantsLaying, IsFieldsAnswer, IsListed, IsCoroutineOf, IsUnionOf, IsUnited, elements_answer, fields_fault, kind_of, placed_fields, placed_together, vector_answer, IsEnumOf, enum_fault, placed_enum, coroutine_fault, one_scalar, placed_coroutine}
 use Rattle.rustc_abi.specs.Coroutines.{IsCoroutined, IsStated, conflicts_of}
 use Rattle.rustc_abi.specs.Enums.{IsCalculated, IsEnumed, IsTagInteger, numbered_from, layouts_of, discriminants_of}
@@ -84,6 +86,28 @@ module _ (dl : TargetDataLayout) (repr : ReprOptions) (kind : StructKind) (layou
   one_listed (Ok a) (Err f) h k = absurd (never_both a f h k)
   one_listed (Err e) (Ok b) h k = absurd (never_both b e k h)
   one_listed (Err e) (Err f) (error, refused, named) (error2, refused2, named2) = ap (λ x. Err x) (named ∙ one_error error error2 refused refused2 ∙ sym named2)
+
+  -- and in an order that is handed in
+  ordered_error : (order : List ℕ) (e f : LayoutCalculatorError Layout) → IsOrderedError (λ l. l) dl repr kind order layouts e → IsOrderedError (λ l. l) dl repr kind order layouts f → lay_error e ≡ lay_error f
+  ordered_error order e f (inl (bad, is)) (inl (worse, that)) = ap lay_error (is ∙ sym that)
+  ordered_error order e f (inl (bad, is)) (inr (allowed, fault, there, of)) = absurd (bad allowed)
+  ordered_error order e f (inr (allowed, fault, there, of)) (inl (bad, is)) = absurd (bad allowed)
+  ordered_error order e f (inr (allowed, fault, there, of)) (inr (same, fault2, there2, of2)) =
+      let one : fault2 ≡ fault = cc in
+      one_name fault e f of (subst (λ x. IsErrorOf layouts x f) one of2)
+
+  never_ordered : (order : List ℕ) (a : Layout) (f : LayError) → IsListedInOrder dl repr kind order layouts (Ok a) → IsListedInOrder dl repr kind order layouts (Err f) → ⊥
+  never_ordered order a f (offsets, made) (error, inl (bad, is), e) = bad made.named.0
+  never_ordered order a f (offsets, made) (error, inr (allowed, fault, there, of), e) =
+      let found = subst (λ ls. fault_in (list_repr dl repr kind) (size_bound dl) (parts_of dl ls) order ≡ Some fault) whole there in
+      let none = made.named.1.faultless in
+      absurd (cc)
+
+  one_ordered : (order : List ℕ) (r s : Result Layout LayError) → IsListedInOrder dl repr kind order layouts r → IsListedInOrder dl repr kind order layouts s → r ≡ s
+  one_ordered order (Ok a) (Ok b) (offsets, made) (offsets2, made2) = ap (λ l. Ok l) (one_in_order (λ i. i) 0 dl repr kind layouts order offsets offsets2 a b some made made2)
+  one_ordered order (Ok a) (Err f) h k = absurd (never_ordered order a f h k)
+  one_ordered order (Err e) (Ok b) h k = absurd (never_ordered order b e k h)
+  one_ordered order (Err e) (Err f) (error, refused, named) (error2, refused2, named2) = ap (λ x. Err x) (named ∙ ordered_error order error error2 refused refused2 ∙ sym named2)
 
 module _ (dl : TargetDataLayout) where
   -- fields whose own fault is this have one answer
@@ -205,10 +229,14 @@ module _ (dl : TargetDataLayout) where
     one_answer unit r s h k = h ∙ sym k
     one_answer (array count element) r s h k =
         follows_one (IsLaying dl element) (λ p z. z ≡ elements_answer dl count p) r s (λ x y p q. one_answer element x y p q) (λ p (a : r ≡ elements_answer dl count p) b. a ∙ sym b) h k
-    one_answer (struct repr always_sized all) r s h k =
+    one_answer (struct repr always_sized None all) r s h k =
         follows_one (AreLaying dl all) (IsFieldsAnswer dl repr always_sized) r s (λ x y p q. one_list all x y p q)
         (λ ps a b. one_by (fields_fault repr ps) (IsListed dl repr (kind_of always_sized ps) (map layout_of ps)) (placed_fields repr ps) r s
         (λ x y p q. one_listed dl repr (kind_of always_sized ps) (map layout_of ps) (full always_sized ps) x y p q) a b) h k
+    one_answer (struct repr always_sized (Some order) all) r s h k =
+        follows_one (AreLaying dl all) (IsOrderedFieldsAnswer dl repr always_sized order) r s (λ x y p q. one_list all x y p q)
+        (λ ps a b. one_by (ordered_fault repr ps) (IsListedInOrder dl (randomized repr) (kind_of always_sized ps) order (map layout_of ps)) (placed_fields repr ps) r s
+        (λ x y p q. one_ordered dl (randomized repr) (kind_of always_sized ps) (map layout_of ps) (full always_sized ps) order x y p q) a b) h k
     one_answer (vector lanes packed element) r s h k =
         follows_one (IsLaying dl element) (λ p z. z ≡ vector_answer dl lanes packed p) r s (λ x y p q. one_answer element x y p q)
         (λ p (a : r ≡ vector_answer dl lanes packed p) b. a ∙ sym b) h k

@@ -1,6 +1,6 @@
 -- A tree has an answer: its layout, or its first fault.
 use Rattle.std.proofs.Common.{◌≡◌, ℕ, List, [], ◌∷◌, Option, Some, None, length, map, inl, inr, refl, sym, ap, ◌∙◌, subst, All, Result, Ok, Err, true, false, ◌-◌, ◌^◌, ◌<◌, ◌≤◌, arith}
-use Rattle.std.specs.Prelude.{◌⊎◌, MatchOption, Bool}
+use Rattle.std.specs.Prelude.{◌⊎◌, IsPermutation, MatchBool, MatchOption, Bool}
 use Rattle.std.specs.List.{list_any}
 use Rattle.std.proofs.lemmas.Bool.{cases_lt}
 use Rattle.std.proofs.lemmas.List.{map-id}
@@ -25,25 +25,31 @@ use Rattle.abi_lists.specs.declared.placing.ListFault.{ListFault}
 use Rattle.abi_lists.specs.declared.placing.ListFault.TheVariants.{Unsized, TooLarge, OutOfMemory}
 use Rattle.abi_lists.specs.Fault.{IsErrorOf, fault_in}
 use Rattle.abi_lists.specs.Fields.{greatest_repr_align, lies_as_in_c}
-use Rattle.abi_lists.specs.List.{AreSized, IsListLayout, list_seed, parts_of as asked_of, unadjusted_of}
+use Rattle.abi_lists.specs.InOrder.{IsLaidInOrder}
+use Rattle.abi_lists.specs.Least.{IsOrderOf}
+use Rattle.abi_lists.specs.List.{AreSized, IsListBy, list_seed, parts_of as asked_of, unadjusted_of}
 use Rattle.abi_lists.specs.ListView.{list_view}
 use Rattle.abi_lists.specs.Order.{IsNamedOrder}
-use Rattle.abi_lists.specs.Placement.{IsNonEmptyIfUnsized, list_repr}
+use Rattle.abi_base.specs.declared.struct_kind.StructKind.{StructKind}
+use Rattle.abi_lists.specs.Placement.{IsNonEmptyIfUnsized, KeepsTail, list_repr, source_order}
 use Rattle.abi_lists.specs.Run.{IsNamedLayout}
 use Rattle.abi_lists.specs.Union.{union_fault, union_layout}
-use Rattle.abi_lists.proofs.DeepLemmas.{sized_fault}
+use Rattle.abi_lists.proofs.DeepLemmas.{sized_fault, sized_in_order}
 use Rattle.abi_lists.proofs.FaultLemmas.{memory_in}
-use Rattle.abi_lists.proofs.SomeOrder.{some_layout}
+use Rattle.abi_lists.proofs.SomeOrder.{some_layout, some_placed}
 use Rattle.abi_lists.proofs.SomeView.{some_union_view}
 use Rattle.abi_calc.specs.Coroutine.Layout.{IsStateTag}
 use Rattle.abi_calc.proofs.CoroutineLemmas.SomeCoroutine.{some_coroutine}
 use Rattle.abi_calc.proofs.EnumLemmas.SomeEnum.{some_type}
 use Rattle.abi_calc.specs.Enums.Path.{path_of}
 use Rattle.rustc_abi.specs.declared.error.LayError.{LayError}
-use Rattle.rustc_abi.specs.declared.error.LayError.TheVariants.{SizeOverflow}
+use Rattle.rustc_abi.specs.declared.error.LayError.TheVariants.{BadOrder, SizeOverflow}
 use Rattle.abi_laid.specs.Tree.{Tree, scalar, pair, never, unit, array, vector, struct, union, enum, coroutine, Trees, no_trees, more_trees, Variants, no_variants, more_variants}
 use Rattle.abi_laid.specs.Placed.{Placed, Layout, layout_of}
 use Rattle.rustc_abi.specs.Error.{Follows, lay_error}
+use Rattle.rustc_abi.specs.Laying.{IsListedInOrder, IsOrderedFieldsAnswer, ordered_fault, randomized}
+use Rattle.rustc_abi.proofs.Trees.OrderLemmas.{allowed_parts, ordered_faultless, reorderable}
+use Rattle.abi_lists.proofs.Allowed.{keeps_or_not, permutes_or_not}
 use Rattle.rustc_abi.specs.Laying.{AreLaying, IsFieldsAnswer, IsLaying, IsListed, IsCoroutineOf, IsUnionOf, IsUnited, VariantsLaying, elements_answer, fields_fault, kind_of, placed_fields, placed_together, vector_answer, IsEnumOf, enum_fault, placed_enum, coroutine_fault, most_fields, one_scalar, placed_coroutine}
 use Rattle.rustc_abi.specs.Coroutines.{IsCoroutined, IsStated, conflicts_of}
 use Rattle.rustc_abi.specs.Enums.{IsCalculated, IsEnumed, IsTagInteger, numbered_from, layouts_of, discriminants_of}
@@ -138,9 +144,10 @@ module _ (dl : TargetDataLayout) (law : IsLawfulDataLayout dl) where
         let other : fault ≡ OutOfMemory → ⊥ = λ e. memory_in list (size_bound dl) (asked_of dl layouts) first (there ∙ ap (λ f. Some f) e) in
         (Err SizeOverflow, (calculator.SizeOverflow, (first, same_named, fault, same_there, told_as fault known other), refl))
 
-    laid : (order offsets : List ℕ) (size align : ℕ) (niche : Option Niche) → IsNamedLayout dl (list_repr dl repr (kind_of always_sized ps)) (asked_of dl layouts) order offsets size align niche
-        → HasAnswer (IsListed dl repr (kind_of always_sized ps) layouts)
-    laid order offsets size align niche named =
+    -- with the marks and the view of its fields, wherever a rule places them
+    made_by : (Rule : (order offsets : List ℕ) → (size align : ℕ) → Option Niche → Type 0) (order offsets : List ℕ) (size align : ℕ) (niche : Option Niche) → Rule order offsets size align niche
+        → (made : Layout) × IsListBy Rule (λ i. i) 0 dl repr (kind_of always_sized ps) layouts order offsets made
+    made_by Rule order offsets size align niche named =
         let made : Layout = record {
           fields = Arbitrary offsets (map (λ i. i) order);
           variants = Single 0;
@@ -154,7 +161,7 @@ module _ (dl : TargetDataLayout) (law : IsLawfulDataLayout dl) where
           repr_c = lies_as_in_c repr layouts;
           randomization_seed = list_seed repr (kind_of always_sized ps) layouts;
         } in
-        let is : IsListLayout (λ i. i) 0 dl repr (kind_of always_sized ps) layouts order offsets made = record {
+        let is : IsListBy Rule (λ i. i) 0 dl repr (kind_of always_sized ps) layouts order offsets made = record {
           named = named;
           shape = refl;
           variants = refl;
@@ -165,7 +172,13 @@ module _ (dl : TargetDataLayout) (law : IsLawfulDataLayout dl) where
           repr_c = refl;
           seed = refl;
         } in
-        (Ok made, (order, offsets, is))
+        (made, is)
+
+    laid : (order offsets : List ℕ) (size align : ℕ) (niche : Option Niche) → IsNamedLayout dl (list_repr dl repr (kind_of always_sized ps)) (asked_of dl layouts) order offsets size align niche
+        → HasAnswer (IsListed dl repr (kind_of always_sized ps) layouts)
+    laid order offsets size align niche named =
+        let made = made_by (IsNamedLayout dl (list_repr dl repr (kind_of always_sized ps)) (asked_of dl layouts)) order offsets size align niche named in
+        (Ok made.0, (order, offsets, made.1))
 
     some_listed : HasAnswer (IsListed dl repr (kind_of always_sized ps) layouts)
     some_listed = either (some_layout dl (list_repr dl repr (kind_of always_sized ps)) (asked_of dl layouts) (asked_lawful dl ps whole) full)
@@ -177,6 +190,38 @@ module _ (dl : TargetDataLayout) (law : IsLawfulDataLayout dl) where
             → HasAnswer (IsListed dl repr (kind_of always_sized ps) layouts)
         either (inl (first, named, (fault, there))) = refused first fault named there
         either (inr (order, offsets, size, align, niche, named)) = laid order offsets size align niche named
+
+    -- ---- and in an order that is handed in
+
+    abbrev kind : StructKind
+    kind = kind_of always_sized ps
+
+    faulty : (order : List ℕ) → IsOrderOf dl repr kind (length layouts) order → (fault : Option ListFault) → fault_in (list_repr dl repr kind) (size_bound dl) (asked_of dl layouts) order ≡ fault
+        → HasAnswer (IsListedInOrder dl repr kind order layouts)
+    faulty order allowed None clear =
+        let found = some_placed dl (list_repr dl repr kind) (asked_of dl layouts) (asked_lawful dl ps whole) full Start order (allowed_parts dl repr kind order ps allowed) clear in
+        let made = made_by (IsLaidInOrder dl repr kind layouts) order found.0 _ _ _ (allowed, found.1) in
+        (Ok made.0, (found.0, made.1))
+    faulty order allowed (Some fault) there =
+        let list = list_repr dl repr kind in
+        let same = subst (λ ls. fault_in list (size_bound dl) (asked_of dl ls) order ≡ Some fault) (sym plain) there in
+        let large = sized_in_order layout_of dl list ps order fault (asked_sized dl ps whole) (allowed_parts dl repr kind order ps allowed) there in
+        (Err SizeOverflow, (calculator.SizeOverflow, inr (allowed, fault, same, told_as fault (inl large) (λ e. absurd (cc))), refl))
+
+    some_ordered : (order : List ℕ) → (list_repr dl repr kind).reorderable ≡ true → HasAnswer (IsListedInOrder dl repr kind order layouts)
+    some_ordered order free = by (permutes_or_not (length layouts) order) (keeps_or_not kind (length layouts) order)
+      where
+        IsEither : Bool → Type 0
+        IsEither b = MatchBool b (IsPermutation (source_order (length layouts)) order × KeepsTail kind (length layouts) order) (order ≡ source_order (length layouts))
+
+        bad : (IsOrderOf dl repr kind (length layouts) order → ⊥) → HasAnswer (IsListedInOrder dl repr kind order layouts)
+        bad isnt = (Err BadOrder, (calculator.BadOrder, inl (isnt, refl), refl))
+
+        by : IsPermutation (source_order (length layouts)) order ⊎ (IsPermutation (source_order (length layouts)) order → ⊥)
+            → KeepsTail kind (length layouts) order ⊎ (KeepsTail kind (length layouts) order → ⊥) → HasAnswer (IsListedInOrder dl repr kind order layouts)
+        by (inr isnt) keeps = bad (λ (allowed : IsEither (list_repr dl repr kind).reorderable). isnt (subst IsEither free allowed).0)
+        by (inl permutes) (inr isnt) = bad (λ (allowed : IsEither (list_repr dl repr kind).reorderable). isnt (subst IsEither free allowed).1)
+        by (inl permutes) (inl keeps) = faulty order (subst IsEither (sym free) (permutes, keeps)) (fault_in (list_repr dl repr kind) (size_bound dl) (asked_of dl layouts) order) refl
 
   -- ---- the fields of a union
 
@@ -229,6 +274,16 @@ module _ (dl : TargetDataLayout) (law : IsLawfulDataLayout dl) where
 
   -- ---- trees
 
+  -- where there is no own fault, the order is free
+  ordered_by : (repr : ReprOptions) (always_sized : Bool) (order : List ℕ) (ps : List Placed) (fault : Option LayError) → ordered_fault repr ps ≡ fault
+      → ((list_repr dl (randomized repr) (kind_of always_sized ps)).reorderable ≡ true → HasAnswer (IsListedInOrder dl (randomized repr) (kind_of always_sized ps) order (map layout_of ps)))
+      → HasAnswer (IsOrderedFieldsAnswer dl repr always_sized order ps)
+  ordered_by repr always_sized order ps None none answer =
+      let listed = answer (reorderable dl repr (kind_of always_sized ps) (ordered_faultless repr ps none).1) in
+      let found = some_by None (IsListedInOrder dl (randomized repr) (kind_of always_sized ps) order (map layout_of ps)) (placed_fields repr ps) listed in
+      (found.0, rw none found.1)
+  ordered_by repr always_sized order ps (Some f) is answer = (Err f, rw is refl)
+
   mutual
     pub some_answer : (t : Tree) → HasAnswer (IsLaying dl t)
     some_answer (scalar s) = (_, refl)
@@ -236,9 +291,12 @@ module _ (dl : TargetDataLayout) (law : IsLawfulDataLayout dl) where
     some_answer never = (_, refl)
     some_answer unit = (_, refl)
     some_answer (array count element) = some_follows (IsLaying dl element) (λ p r. r ≡ elements_answer dl count p) (some_answer element) (λ p h. (elements_answer dl count p, refl))
-    some_answer (struct repr always_sized all) =
+    some_answer (struct repr always_sized None all) =
         some_follows (AreLaying dl all) (IsFieldsAnswer dl repr always_sized) (some_list all)
         (λ ps h. some_by (fields_fault repr ps) (IsListed dl repr (kind_of always_sized ps) (map layout_of ps)) (placed_fields repr ps) (some_listed repr always_sized ps (all_whole dl law all ps h)))
+    some_answer (struct repr always_sized (Some order) all) =
+        some_follows (AreLaying dl all) (IsOrderedFieldsAnswer dl repr always_sized order) (some_list all)
+        (λ ps h. ordered_by repr always_sized order ps (ordered_fault repr ps) refl (some_ordered (randomized repr) always_sized ps (all_whole dl law all ps h) order))
     some_answer (vector lanes packed element) =
         some_follows (IsLaying dl element) (λ p r. r ≡ vector_answer dl lanes packed p) (some_answer element) (λ p h. (vector_answer dl lanes packed p, refl))
     some_answer (union repr all) =

@@ -1,10 +1,10 @@
 -- The program's trees as the definitions see them.
-use Rattle.std.proofs.Common.{Bool, Box, ◌≡◌, ℕ, zero, suc, ◌+◌, ◌*◌, ◌<◌, ◌≤◌, List, [], ◌∷◌, map, get_or, length, Vec, refl, ap, sym, ◌∙◌, arith}
+use Rattle.std.proofs.Common.{Bool, Box, None, Some, ◌≡◌, ℕ, zero, suc, ◌+◌, ◌*◌, ◌<◌, ◌≤◌, List, [], ◌∷◌, map, get_or, length, Vec, refl, ap, sym, ◌∙◌, arith}
 use Rattle.std.specs.declared.alloc.Global.{Global}
 use Rattle.abi_scalar.specs.declared.repr.ReprOptions.{ReprOptions}
 use Rattle.abi_scalar.specs.declared.scalar.Scalar.{Scalar}
-use Rattle.abi_laid.specs.declared.tree.TypeTree.{TypeTree, Scalar as OneScalar, Pair, Never, Unit, Array, Vector, Struct, Union, Enum, Coroutine, fold-roll-TypeTree}
-use Rattle.abi_laid.specs.declared.tree.TypeTree.TheVariants.{rolls-Scalar, rolls-Pair, rolls-Never, rolls-Unit, rolls-Array, rolls-Vector, rolls-Struct, rolls-Union, rolls-Enum, rolls-Coroutine}
+use Rattle.abi_laid.specs.declared.tree.TypeTree.{TypeTree, Scalar as OneScalar, Pair, Never, Unit, Array, Vector, Struct, Ordered, Union, Enum, Coroutine, fold-roll-TypeTree}
+use Rattle.abi_laid.specs.declared.tree.TypeTree.TheVariants.{rolls-Scalar, rolls-Pair, rolls-Never, rolls-Unit, rolls-Array, rolls-Vector, rolls-Struct, rolls-Ordered, rolls-Union, rolls-Enum, rolls-Coroutine}
 use Rattle.abi_laid.specs.declared.tree.TypeTree.TheShapes.{former-TypeTree-Enum-1-at-3}
 use Rattle.abi_laid.specs.declared.tree.TypeTree.TheOpen as layer
 use Rattle.abi_laid.specs.Tree.{Tree, tree_of, layer_tree, trees, scalar, pair, never, unit, array, vector, struct, union, enum, coroutine, variants, more_variants, trees_of_variants}
@@ -32,8 +32,13 @@ tree_of-Unit = ap tree_of (sym rolls-Unit) ∙ fold-roll-TypeTree Tree layer_tre
 pub tree_of-Array : (count : ℕ) (element : Box TypeTree Global) → tree_of (Array count element) ≡ array count (tree_of element.value)
 tree_of-Array count element = ap tree_of (sym (rolls-Array count element)) ∙ fold-roll-TypeTree Tree layer_tree (layer.Array count element)
 
-pub tree_of-Struct : (repr : ReprOptions) (always_sized : Bool) (fields : Vec TypeTree Global) → tree_of (Struct repr always_sized fields) ≡ struct repr always_sized (trees (map tree_of fields.items))
+pub tree_of-Struct : (repr : ReprOptions) (always_sized : Bool) (fields : Vec TypeTree Global) → tree_of (Struct repr always_sized fields) ≡ struct repr always_sized None (trees (map tree_of fields.items))
 tree_of-Struct repr always_sized fields = ap tree_of (sym (rolls-Struct repr always_sized fields)) ∙ fold-roll-TypeTree Tree layer_tree (layer.Struct repr always_sized fields)
+
+pub tree_of-Ordered : (repr : ReprOptions) (always_sized : Bool) (order : Vec ℕ Global) (fields : Vec TypeTree Global) →
+    tree_of (Ordered repr always_sized order fields) ≡ struct repr always_sized (Some order.items) (trees (map tree_of fields.items))
+tree_of-Ordered repr always_sized order fields =
+    ap tree_of (sym (rolls-Ordered repr always_sized order fields)) ∙ fold-roll-TypeTree Tree layer_tree (layer.Ordered repr always_sized order fields)
 
 pub tree_of-Vector : (lanes : ℕ) (packed : Bool) (element : Box TypeTree Global) → tree_of (Vector lanes packed element) ≡ vector lanes packed (tree_of element.value)
 tree_of-Vector lanes packed element = ap tree_of (sym (rolls-Vector lanes packed element)) ∙ fold-roll-TypeTree Tree layer_tree (layer.Vector lanes packed element)

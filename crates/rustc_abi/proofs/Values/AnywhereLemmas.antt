@@ -40,7 +40,7 @@ module _ (dl : TargetDataLayout) where
     value_anywhere (vector lanes packed element) p q (list vs) h =
         let found = each_anywhere (IsValueOf dl element (element_of (element_of p))) (IsValueOf dl element (element_of (element_of q))) (λ v. value_anywhere element (element_of (element_of p)) (element_of (element_of q)) v) vs h.1 in
         (list found.0, (found.1 ∙ h.0, found.2))
-    value_anywhere (struct repr always_sized fields) p q (list vs) h =
+    value_anywhere (struct repr always_sized order fields) p q (list vs) h =
         let found = values_anywhere fields (parts_of p) (parts_of q) vs h in
         (list found.0, found.1)
     value_anywhere (union repr fields) p q v h =

@@ -71,12 +71,12 @@ part_niche_inside dl size (more_trees t ts) (part o placed parts) fit n has =
     (part_niche_inside dl size ts parts fit.3 n)
     has
 
-module _ (dl : TargetDataLayout) (repr : ReprOptions) (always_sized : Bool) (ts : Trees) (layout : Layout) (parts : Parts)
+module _ (dl : TargetDataLayout) (repr : ReprOptions) (always_sized : Bool) (order : Option (List ℕ)) (ts : Trees) (layout : Layout) (parts : Parts)
     (fit : FitTogether dl layout.size ts parts) (niche : IfSome layout.largest_niche (IsPartNiche parts))
     (view : (b : List ℕ) (vs : Values) → HoldParts dl.endian parts b vs → IsTrueOf dl layout.backend_repr b)
-    (flag : IsFlagTrue dl (struct repr always_sized ts) (fields layout (mark_of false repr) parts)) where
+    (flag : IsFlagTrue dl (struct repr always_sized order ts) (fields layout (mark_of false repr) parts)) where
   abbrev tree : Tree
-  tree = struct repr always_sized ts
+  tree = struct repr always_sized order ts
 
   abbrev placed : Placed
   placed = fields layout (mark_of false repr) parts
@@ -206,17 +206,17 @@ untagged_each dl no_trees (o ∷ offsets) (p ∷ ps) fits locals = absurd fits
 untagged_each dl (more_trees t ts) (o ∷ offsets) (p ∷ ps) fits locals = (Fits.untagged fits.0 locals.0, untagged_each dl ts offsets ps fits.1 locals.1)
 
 -- a layout of fields, wherever they lie
-pub Fits-fields : (dl : TargetDataLayout) (repr : ReprOptions) (always_sized fixed : Bool) (ts : Trees) (layout : Layout) (offsets : List ℕ) (ps : List Placed) →
+pub Fits-fields : (dl : TargetDataLayout) (repr : ReprOptions) (always_sized fixed : Bool) (order : Option (List ℕ)) (ts : Trees) (layout : Layout) (offsets : List ℕ) (ps : List Placed) →
     EachFits dl ts ps → AreApart layout.size offsets (map size_of ps) → IfSome layout.largest_niche (IsPartNiche (parts_at offsets ps)) →
     layout.backend_repr ≡ list_view dl fixed layout.size layout.align.abi (parts_of dl (map layout_of ps)) offsets →
     layout.uninhabited ≡ list_any (λ f. f.uninhabited) (map layout_of ps) → All (λ p. IsLawfulLayout dl (layout_of p)) ps → IsLawfulLayout dl layout →
-    Fits dl (struct repr always_sized ts) (fields layout (mark_of false repr) (parts_at offsets ps))
-Fits-fields dl repr always_sized fixed ts layout offsets ps fits apart niche view flag each lawful = record {
+    Fits dl (struct repr always_sized order ts) (fields layout (mark_of false repr) (parts_at offsets ps))
+Fits-fields dl repr always_sized fixed order ts layout offsets ps fits apart niche view flag each lawful = record {
   faithful = λ locals.
       let fit = together dl layout.size ts offsets ps apart fits locals in
-      struct_faithful dl repr always_sized ts layout (parts_at offsets ps) fit niche
+      struct_faithful dl repr always_sized order ts layout (parts_at offsets ps) fit niche
       (λ b vs h. rw view (list_view_true dl b offsets ps each (part_true dl layout.size ts offsets ps fit (lengths_together layout.size offsets ps apart) b vs h) fixed layout.size layout.align.abi))
-      (flag-fields dl repr always_sized ts layout offsets ps flag apart fits locals);
+      (flag-fields dl repr always_sized order ts layout offsets ps flag apart fits locals);
   lawful = lawful;
   room = room_of dl layout.size ts offsets ps apart fits;
   within = within_parts layout.size (parts_at offsets ps) (inside dl layout.size ts offsets ps apart fits);

@@ -1,5 +1,5 @@
 -- A type without values is flagged, and no other.
-use Rattle.std.proofs.Common.{◌≡◌, ◌≢◌, ℕ, zero, suc, List, [], ◌∷◌, map, Bool, true, false, arith, refl, sym}
+use Rattle.std.proofs.Common.{◌≡◌, ◌≢◌, ℕ, zero, suc, Option, List, [], ◌∷◌, map, Bool, true, false, arith, refl, sym}
 use Rattle.std.specs.Prelude.{◌==◌, ◌&&◌, ◌||◌, not, MatchBool}
 use Rattle.std.specs.List.{list_any}
 use Rattle.std.proofs.lemmas.Bool.{eqb-true, eqb-false}
@@ -102,13 +102,13 @@ module _ (dl : TargetDataLayout) where
   each_flag size (more_trees t ts) (o ∷ offsets) (p ∷ ps) apart fits flags =
       some_more t ts o offsets p ps (layout_of p).uninhabited (list_any (λ f. f.uninhabited) (map layout_of ps)) flags.0 (each_flag size ts offsets ps apart.2 fits.1 flags.1)
 
-  module _ (repr : ReprOptions) (always_sized : Bool) (ts : Trees) (layout : Layout) (offsets : List ℕ) (ps : List Placed) where
+  module _ (repr : ReprOptions) (always_sized : Bool) (order : Option (List ℕ)) (ts : Trees) (layout : Layout) (offsets : List ℕ) (ps : List Placed) where
     of_struct : (flag : Bool) → HaveSome ts offsets ps flag →
-        MatchBool flag ((v : Value) → IsValueOf dl (struct repr always_sized ts) (fields layout (mark_of false repr) (parts_at offsets ps)) v → ⊥)
-        (VectorsOfEach dl ts → (v : Value) × IsValueOf dl (struct repr always_sized ts) (fields layout (mark_of false repr) (parts_at offsets ps)) v)
+        MatchBool flag ((v : Value) → IsValueOf dl (struct repr always_sized order ts) (fields layout (mark_of false repr) (parts_at offsets ps)) v → ⊥)
+        (VectorsOfEach dl ts → (v : Value) × IsValueOf dl (struct repr always_sized order ts) (fields layout (mark_of false repr) (parts_at offsets ps)) v)
     of_struct true h = none_of
       where
-        none_of : (v : Value) → IsValueOf dl (struct repr always_sized ts) (fields layout (mark_of false repr) (parts_at offsets ps)) v → ⊥
+        none_of : (v : Value) → IsValueOf dl (struct repr always_sized order ts) (fields layout (mark_of false repr) (parts_at offsets ps)) v → ⊥
         none_of (list vs) k = h vs k
         none_of (number n) k = k
         none_of (two n m) k = k
@@ -119,6 +119,6 @@ module _ (dl : TargetDataLayout) where
 
     -- a struct has no value where some field has none
     pub flag-fields : layout.uninhabited ≡ list_any (λ f. f.uninhabited) (map layout_of ps) → AreApart layout.size offsets (map size_of ps) → EachFits dl ts ps →
-        LocalsOfEach dl ts → IsFlagTrue dl (struct repr always_sized ts) (fields layout (mark_of false repr) (parts_at offsets ps))
+        LocalsOfEach dl ts → IsFlagTrue dl (struct repr always_sized order ts) (fields layout (mark_of false repr) (parts_at offsets ps))
     flag-fields e apart fits locals =
         rw e (of_struct (list_any (λ f. f.uninhabited) (map layout_of ps)) (each_flag layout.size ts offsets ps apart fits (flags_true dl ts ps fits locals)))

@@ -65,7 +65,8 @@ fn do_clash(parts: Parts<'_>, a: u32, b: u32) -> bool {
         || stand_together(parts, a, b)
 }
 
-/// Whether two places are as they have to be: those of one local the same, and those that clash, or stand in one state, apart.
+/// Whether two places are as they have to be: those of one local the same, and those that clash, or stand in one state,
+/// apart.
 fn agree(parts: Parts<'_>, a: Place, b: Place) -> bool {
     let apart = a.to <= b.from || b.to <= a.from;
     match (a.local, b.local) {
@@ -75,7 +76,8 @@ fn agree(parts: Parts<'_>, a: Place, b: Place) -> bool {
     }
 }
 
-/// Whether each part of the coroutine has a place that ends inside, and each two are as they have to be; the tag has so many bytes.
+/// Whether each part of the coroutine has a place that ends inside, and each two are as they have to be; the tag has so
+/// many bytes.
 pub(crate) fn lie_well(
     alloc: Global,
     prefix: &[&Layout],

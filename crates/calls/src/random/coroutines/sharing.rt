@@ -41,8 +41,8 @@ pub(crate) fn has_shared(parts: Parts<'_>) -> bool {
     false
 }
 
-/// Whether the states may share all their bytes: each local stands in one state, two states hold locals, and no conflict names
-/// locals of different states.
+/// Whether the states may share all their bytes: each local stands in one state, two states hold locals, and no
+/// conflict names locals of different states.
 pub(crate) fn may_overlap(parts: Parts<'_>) -> bool {
     let mut held = 0usize;
     let mut used = 0usize;

@@ -10,8 +10,8 @@ use std::alloc::{AllocError, Global};
 /// No text of a type is longer.
 const MOST_BYTES: usize = 4096;
 
-/// A type: its text, for each list of its fields the places of their types among the others, and the type laid out. A type that
-/// isn't made of others has no list.
+/// A type: its text, for each list of its fields the places of their types among the others, and the type laid out. A
+/// type that isn't made of others has no list.
 #[derive(Drop)]
 pub(crate) struct Grown {
     pub(crate) text: String,

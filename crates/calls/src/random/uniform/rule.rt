@@ -1,6 +1,6 @@
-//! A plain reading of what a uniform type is: each register that its parts have, and none, is tried. A type is uniform with a register
-//! where its parts fill it, each of them is uniform with that register or with none, and one of them with it; with none where each
-//! part is.
+//! A plain reading of what a uniform type is: each register that its parts have, and none, is tried. A type is uniform
+//! with a register where its parts fill it, each of them is uniform with that register or with none, and one of them
+//! with it; with none where each part is.
 
 use crate::layouts::Layout;
 use crate::random::uniform::grown::Grown;
@@ -217,8 +217,8 @@ fn end_of(parts: &Parts, start: u64) -> Option<u64> {
     }
 }
 
-/// Whether a type is filled: its own fields begin at the first byte, those of each variant where they end, and the last end is its
-/// size.
+/// Whether a type is filled: its own fields begin at the first byte, those of each variant where they end, and the last
+/// end is its size.
 fn is_filled(size: u64, own: &Parts, variants: &[Parts]) -> bool {
     let Some(start) = end_of(own, 0) else {
         return false;

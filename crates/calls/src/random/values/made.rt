@@ -133,7 +133,9 @@ pub(crate) fn made_value(
         TypeTree::Vector { lanes, element, .. } => {
             Ok(as_list(made_elements(alloc, dl, source, element, *lanes)?))
         }
-        TypeTree::Struct { fields, .. } => Ok(as_list(made_fields(alloc, dl, source, fields)?)),
+        TypeTree::Struct { fields, .. } | TypeTree::Ordered { fields, .. } => {
+            Ok(as_list(made_fields(alloc, dl, source, fields)?))
+        }
         TypeTree::Union { .. } => made_union(alloc, dl, source, tree),
         TypeTree::Enum { variants, .. } => {
             if variants.is_empty() {

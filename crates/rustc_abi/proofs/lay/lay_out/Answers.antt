@@ -5,8 +5,10 @@ use Rattle.rustc_abi.specs.Count.{HasNodes}
 use Rattle.abi_laid.specs.Laid.{node_count_of, typed_of}
 use Rattle.rustc_abi.specs.Least.{HasOverlapSize, IsLeast}
 use Rattle.rustc_abi.specs.Lists.{HasLeastLists}
+use Rattle.rustc_abi.specs.Orders.{LiesAsAsked}
 use Rattle.rustc_abi.proofs.Coroutines.ClashLemmas.{laid_clash, laid_one_offset}
 use Rattle.rustc_abi.proofs.Sizes.EachListLemmas.{laid_lists}
+use Rattle.rustc_abi.proofs.Sizes.PlacedLemmas.{laid_as_asked}
 use Rattle.rustc_abi.proofs.Trees.EverywhereLemmas.{everywhere}
 use Rattle.rustc_abi.proofs.Trees.LaidLemmas.{laid_sized}
 use Rattle.rustc_abi.proofs.Trees.LayLemmas.{begins_root, common_root, faithful_root, laid_root, lawful_root, untagged_root}
@@ -76,6 +78,12 @@ pub returns-clause-each_list : goal.returns-clause-each_list
 returns-clause-each_list c =
     let law = c.is_lawful.ensures.0 c.if-not-is_lawful.false in
     everywhere c.args.dl.now law (HasLeastLists c.args.dl.now) (laid_lists c.args.dl.now law)
+    (tree_of c.args.tree.now) _ (laid_root _ _ _ _ _ _ c.in_ok-_root.ensures.ok c.new.ensures.placed)
+
+pub returns-clause-placed : goal.returns-clause-placed
+returns-clause-placed c =
+    let law = c.is_lawful.ensures.0 c.if-not-is_lawful.false in
+    everywhere c.args.dl.now law (LiesAsAsked c.args.dl.now) (laid_as_asked c.args.dl.now law)
     (tree_of c.args.tree.now) _ (laid_root _ _ _ _ _ _ c.in_ok-_root.ensures.ok c.new.ensures.placed)
 
 pub returns-clause-clash : goal.returns-clause-clash

@@ -39,7 +39,7 @@ add-requires-clause-laws c =
     let as_many : length ps ≡ length c.args.children.items = length-map c.args.children.items (placed_in (types_in ns)) in
     let told = rw (c.deref-2.ensures.value, c.deref-3.ensures.value) at c.in_ok-layout.ensures.ok in
     let apart = rw (c.deref-2.ensures.value, c.deref-3.ensures.value) at c.in_ok-layout.ensures.apart in
-    list_places dl c.args.repr.now _ (types_in ns) c.in_ok-layout.layout c.args.children.items told apart (omega (arith, faultless_few c.args.repr.now ps c.requires.faultless, as_many))
+    list_places dl c.args.repr.now _ (types_in ns) _ _ c.in_ok-layout.layout c.args.children.items told.2 apart (omega (arith, faultless_few c.args.repr.now ps c.requires.faultless, as_many))
 
 pub add-requires-clause-earlier : goal.add-requires-clause-earlier
 add-requires-clause-earlier c = all_below _ c.args.children.items c.requires.there

@@ -6,8 +6,8 @@ use Rattle.abi_laid.specs.Tree.{tree_of, trees, trees_of_variants}
 use Rattle.rustc_abi.specs.Enums.{discriminants_of}
 use Rattle.rustc_abi.specs.Laying.{AreLaying}
 use Rattle.rustc_abi.specs.Adding.{tree_size, trees_size}
-use Rattle.rustc_abi.proofs.Trees.TreeLemmas.{tree_of-Array, tree_of-Enum, tree_of-Never, tree_of-Pair, tree_of-Scalar, tree_of-Unit, tree_of-Vector, tree_of-Struct, tree_of-Union, tree_of-Coroutine, trees_size-at, variants_size-at, falls-Enum}
-use Rattle.rustc_abi.proofs.Trees.LayLemmas.{EachFits-lawful, VariantsFit-lawful, AreAdded-more, IsAdded-after, AreAdded-after, struct_refused}
+use Rattle.rustc_abi.proofs.Trees.TreeLemmas.{tree_of-Array, tree_of-Enum, tree_of-Never, tree_of-Pair, tree_of-Scalar, tree_of-Unit, tree_of-Vector, tree_of-Struct, tree_of-Ordered, tree_of-Union, tree_of-Coroutine, trees_size-at, variants_size-at, falls-Enum}
+use Rattle.rustc_abi.proofs.Trees.LayLemmas.{EachFits-lawful, VariantsFit-lawful, AreAdded-more, IsAdded-after, AreAdded-after, struct_refused, ordered_tree_refused}
 use Rattle.rustc_abi.proofs.Faults.RefusalLemmas.{each_refused, variants_refused, enum_refused}
 use Rattle.rustc_abi.proofs.Enums.VariantsLemmas.{AreVariantsAdded-after, AreVariantsAdded-more, numbers_of_nodes}
 use Rattle.rustc_abi.proofs.Enums.AddedEnumLemmas.{enum_tree_refused}
@@ -251,7 +251,7 @@ lay_tree-returns-in_ok-children-in-Struct-clause-counted t c =
     let same = ap tree_of c.in-Struct.is ∙ tree_of-Struct c.in-Struct.repr c.in-Struct.always_sized c.in-Struct.fields in
     rw same
     (both_ok c.add_fields.result _ _ _ c.add_fields.ensures.ok c.add_fields.ensures.own
-    (λ i h own. rw c.deref-in-Struct.ensures.value at (struct_counted c.args.dl.now _ _ _ i _ _ _ c.in_ok-children-in-Struct.ensures.counted (h _ before.exact before.fits) own)))
+    (λ i h own. rw c.deref-in-Struct.ensures.value at (struct_counted c.args.dl.now _ _ _ i _ _ _ _ c.in_ok-children-in-Struct.ensures.counted (h _ before.exact before.fits) own)))
 
 pub lay_tree-returns-in_ok-children-in-Union-clause-counted : goal.lay_tree-returns-in_ok-children-in-Union-clause-counted
 lay_tree-returns-in_ok-children-in-Union-clause-counted t c =
@@ -283,3 +283,32 @@ lay_tree-returns-in_ok-locals-in-Coroutine-clause-counted t c =
     (both_ok c.add_coroutine.result _ _ _ told c.add_coroutine.ensures.own
     (λ i h put. rw (c.deref-in-Coroutine.ensures.value, c.deref-in-Coroutine-2.ensures.value) at
     (coroutine_counted c.args.dl.now _ _ _ _ i _ _ _ _ c.in_ok-prefix-in-Coroutine.ensures.counted c.in_ok-locals-in-Coroutine.ensures.counted (h _ _ first.exact own.exact first.fits own.fits) put)))
+
+pub lay_tree-add_ordered-requires-clause-lawful : goal.lay_tree-add_ordered-requires-clause-lawful
+lay_tree-add_ordered-requires-clause-lawful t c = EachFits-lawful _ _ _ c.in_ok-children-in-Ordered.ensures.ok.fits
+
+pub lay_tree-returns-in_ok-children-in-Ordered-clause-ok : goal.lay_tree-returns-in_ok-children-in-Ordered-clause-ok
+lay_tree-returns-in_ok-children-in-Ordered-clause-ok t c =
+    let before = c.in_ok-children-in-Ordered.ensures.ok in
+    let same = ap tree_of c.in-Ordered.is ∙ tree_of-Ordered c.in-Ordered.repr c.in-Ordered.always_sized c.in-Ordered.order c.in-Ordered.fields in
+    let told = rw c.deref-in-Ordered-2.ensures.value at c.add_ordered.ensures.ok in
+    rw same
+    (IfOk-weaker c.add_ordered.result _ _
+    (λ i h. rw c.deref-in-Ordered.ensures.value at (AreAdded-after _ _ _ _ _ _ i _ before (h _ before.exact before.fits))) told)
+
+pub lay_tree-returns-in_ok-children-in-Ordered-clause-counted : goal.lay_tree-returns-in_ok-children-in-Ordered-clause-counted
+lay_tree-returns-in_ok-children-in-Ordered-clause-counted t c =
+    let before = c.in_ok-children-in-Ordered.ensures.ok in
+    let same = ap tree_of c.in-Ordered.is ∙ tree_of-Ordered c.in-Ordered.repr c.in-Ordered.always_sized c.in-Ordered.order c.in-Ordered.fields in
+    let told = rw c.deref-in-Ordered-2.ensures.value at c.add_ordered.ensures.ok in
+    rw same
+    (both_ok c.add_ordered.result _ _ _ told c.add_ordered.ensures.own
+    (λ i h own. rw c.deref-in-Ordered.ensures.value at (struct_counted c.args.dl.now _ _ _ i _ _ _ _ c.in_ok-children-in-Ordered.ensures.counted (h _ before.exact before.fits) own)))
+
+pub lay_tree-returns-in_ok-children-in-Ordered-clause-err : goal.lay_tree-returns-in_ok-children-in-Ordered-clause-err
+lay_tree-returns-in_ok-children-in-Ordered-clause-err t c =
+    let before = c.in_ok-children-in-Ordered.ensures.ok in
+    let same = ap tree_of c.in-Ordered.is ∙ tree_of-Ordered c.in-Ordered.repr c.in-Ordered.always_sized c.in-Ordered.order c.in-Ordered.fields in
+    let exact = rw c.deref-in-Ordered.ensures.value at before.exact in
+    let told = rw c.deref-in-Ordered-2.ensures.value at c.add_ordered.ensures.err in
+    rw same (IfErr-weaker c.add_ordered.result _ _ (λ e refused. ordered_tree_refused c.args.dl.now c.in-Ordered.repr c.in-Ordered.always_sized _ _ _ e exact refused) told)

@@ -4,7 +4,7 @@ use Rattle.std.proofs.lemmas.List.{map-append, reverse-append}
 use Rattle.std.proofs.lemmas.Result.{IfOk-weaker}
 use Rattle.abi_laid.specs.Tree.{Tree, tree_of}
 use Rattle.abi_text.specs.declared.reader.begun.Open.{Open}
-use Rattle.abi_text.specs.declared.reader.begun.Open.TheVariants.{Elements, Lanes, Fields, Members, Variants, Variant, Coroutine}
+use Rattle.abi_text.specs.declared.reader.begun.Open.TheVariants.{Elements, Lanes, Fields, Ordering, Ordered, Members, Variants, Variant, Coroutine}
 use Rattle.abi_text.specs.declared.reader.begun.Want.TheVariants as want
 use Rattle.abi_text.specs.Reading.{Begun, begun_by, begun_in, put, waiting, with_member}
 use Rattle.abi_text.proofs.reader.begun.put.Goals as goal
@@ -15,6 +15,8 @@ takes_more : (t : Tree) (top : Open) (begun : List Begun) → ((n : ℕ) → top
 takes_more t (Elements n) begun no_array no_vector = absurd (no_array n refl)
 takes_more t (Lanes n packed) begun no_array no_vector = absurd (no_vector n packed refl)
 takes_more t (Fields asked ts) begun no_array no_vector = refl
+takes_more t (Ordering asked is) begun no_array no_vector = refl
+takes_more t (Ordered asked is ts) begun no_array no_vector = refl
 takes_more t (Members repr ts) begun no_array no_vector = refl
 takes_more t (Variants repr vs) begun no_array no_vector = refl
 takes_more t (Variant repr vs d ts) begun no_array no_vector = refl

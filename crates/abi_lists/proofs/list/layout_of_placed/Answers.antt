@@ -1,0 +1,80 @@
+use Rattle.std.proofs.Common.{arith, ◌≡◌, ℕ, ◌^◌, ◌<◌, ◌≤◌, List, length, map, sym, ap, ap₂, subst, ◌∙◌, refl}
+use Rattle.std.specs.Prelude.{All}
+use Rattle.std.specs.Int.{next_multiple_of}
+use Rattle.std.proofs.lemmas.List.FromFn.{length-range_with_len}
+use Rattle.std.proofs.lemmas.List.Sorted.{length_permutation}
+use Rattle.abi_base.specs.DataLayout.{size_bound}
+use Rattle.abi_scalar.specs.declared.fields_shape.FieldsShape.TheVariants.{Arbitrary}
+use Rattle.abi_scalar.specs.declared.variants.Variants.TheVariants.{Single}
+use Rattle.abi_lists.specs.declared.list_repr.ListRepr.{ListRepr}
+use Rattle.abi_lists.specs.List.{parts_of, unadjusted_of}
+use Rattle.abi_lists.specs.Placement.{IsLawfulRepr, IsNonEmptyIfUnsized, align_of, end_from, in_order, source_order, start_of}
+use Rattle.abi_lists.proofs.LawfulList.{made_lawful}
+use Rattle.abi_lists.proofs.Least.{align_small}
+use Rattle.abi_lists.proofs.ListLemmas.{seed_same, view_same, length-parts, parts_lawful, repr_lawful}
+use Rattle.abi_lists.proofs.OrderedLemmas.{ordered_index, ordered_inside, ordered_permutes}
+use Rattle.abi_lists.proofs.RunLemmas.{aligned_parts}
+use Rattle.abi_lists.proofs.Sorting.{within_order}
+use Rattle.abi_lists.proofs.list.layout_of_placed.Goals as goal
+
+pub list_view-view-requires-clause-parts : goal.list_view-view-requires-clause-parts
+list_view-view-requires-clause-parts g c = rw c.new-parts.ensures (parts_lawful g.F.LayoutHandle.layout_of c.args.dl.now c.args.fields.now c.requires.fields)
+
+pub list_view-view-requires-clause-count : goal.list_view-view-requires-clause-count
+list_view-view-requires-clause-count g c = ap length c.deref.ensures.value ∙ c.requires.placed.placed.count ∙ sym (ap length c.new-parts.ensures)
+
+pub from_raw-offsets-requires : goal.from_raw-offsets-requires
+from_raw-offsets-requires g c =
+    let many : length (parts_of c.args.dl.now (map g.F.LayoutHandle.layout_of c.args.fields.now)) ≡ length c.args.fields.now = length-parts g.F.LayoutHandle.layout_of c.args.dl.now c.args.fields.now in
+    let long : length c.args.placed.offsets.items ≡ length c.args.fields.now = c.requires.placed.placed.count ∙ many in
+    omega (arith, long, c.requires.count)
+
+pub fields_named-requires-clause-count : goal.fields_named-requires-clause-count
+fields_named-requires-clause-count g c =
+    let many : length (parts_of c.args.dl.now (map g.F.LayoutHandle.layout_of c.args.fields.now)) ≡ length c.args.fields.now = length-parts g.F.LayoutHandle.layout_of c.args.dl.now c.args.fields.now in
+    let p = ordered_permutes c.args.dl.now c.args.list.now (parts_of c.args.dl.now (map g.F.LayoutHandle.layout_of c.args.fields.now)) c.args.placed.order.items c.args.placed.offsets.items c.args.placed.size c.args.placed.align c.args.placed.largest_niche c.requires.placed in
+    let long : length c.deref-2.result.now ≡ length c.args.fields.now = ap length c.deref-2.ensures.value ∙ length_permutation (source_order (length (parts_of c.args.dl.now (map g.F.LayoutHandle.layout_of c.args.fields.now)))) c.args.placed.order.items p ∙ length-range_with_len 0 (length (parts_of c.args.dl.now (map g.F.LayoutHandle.layout_of c.args.fields.now))) ∙ many in
+    omega (arith, long, c.requires.count)
+
+pub fields_named-requires-clause-within : goal.fields_named-requires-clause-within
+fields_named-requires-clause-within g c k d h =
+    let many : length (parts_of c.args.dl.now (map g.F.LayoutHandle.layout_of c.args.fields.now)) ≡ length c.args.fields.now = length-parts g.F.LayoutHandle.layout_of c.args.dl.now c.args.fields.now in
+    let p = ordered_permutes c.args.dl.now c.args.list.now (parts_of c.args.dl.now (map g.F.LayoutHandle.layout_of c.args.fields.now)) c.args.placed.order.items c.args.placed.offsets.items c.args.placed.size c.args.placed.align c.args.placed.largest_niche c.requires.placed in
+    let there = subst (λ (xs : List ℕ). All (λ i. i < length (parts_of c.args.dl.now (map g.F.LayoutHandle.layout_of c.args.fields.now))) xs) (sym c.deref-2.ensures.value) (within_order (length (parts_of c.args.dl.now (map g.F.LayoutHandle.layout_of c.args.fields.now))) c.args.placed.order.items p) in
+    omega (arith, there k d h, many, c.requires.count)
+
+pub returns-clause-shape : goal.returns-clause-shape
+returns-clause-shape g c = ap₂ Arbitrary c.from_raw-offsets.ensures (c.in_ok-in_memory_order.ensures ∙ ap (map g.FieldIdx.Idx.at) c.deref-2.ensures.value)
+
+pub returns-clause-view : goal.returns-clause-view
+returns-clause-view g c =
+    c.list_view-view.ensures
+    ∙ view_same c.args.dl.now c.inhibit_newtype_abi_optimization-fixed.result _ c.args.placed.size c.args.placed.align c.new-2.result.abi c.new-parts.result (parts_of c.args.dl.now (map g.F.LayoutHandle.layout_of c.args.fields.now)) c.deref.result.now c.args.placed.offsets.items
+    c.inhibit_newtype_abi_optimization-fixed.ensures (sym c.new-2.ensures) (c.new-parts.ensures) c.deref.ensures.value
+
+pub returns-clause-unadjusted : goal.returns-clause-unadjusted
+returns-clause-unadjusted g c =
+    c.unadjusted_align-unadjusted_abi_align.ensures
+    ∙ (λ i. unadjusted_of c.args.dl.now c.args.repr.now c.args.list.now.kind c.args.placed.size (sym c.new-2.ensures i) ((c.new-parts.ensures) i))
+
+pub returns-clause-seed : goal.returns-clause-seed
+returns-clause-seed g c = c.seed_with.ensures ∙ seed_same g.F.LayoutHandle.layout_of c.args.repr.now c.args.list.now.kind c.args.fields.now c.movable.result.now c.movable.ensures
+
+pub returns-clause-lawful : goal.returns-clause-lawful
+returns-clause-lawful g c =
+    let many : length (parts_of c.args.dl.now (map g.F.LayoutHandle.layout_of c.args.fields.now)) ≡ length c.args.fields.now = length-parts g.F.LayoutHandle.layout_of c.args.dl.now c.args.fields.now in
+    let tail : IsNonEmptyIfUnsized c.args.list.now.kind (length (parts_of c.args.dl.now (map g.F.LayoutHandle.layout_of c.args.fields.now))) = subst (IsNonEmptyIfUnsized c.args.list.now.kind) (sym many) c.requires.tail in
+    let b = c.requires.placed in
+    let law = parts_lawful g.F.LayoutHandle.layout_of c.args.dl.now c.args.fields.now c.requires.fields in
+    let all = repr_lawful c.args.dl.now c.args.repr.now c.args.list.now.kind (length (parts_of c.args.dl.now (map g.F.LayoutHandle.layout_of c.args.fields.now))) c.requires.data_layout c.requires.repr c.requires.prefix tail in
+    let listed = subst (λ (r : ListRepr). IsLawfulRepr r (length (parts_of c.args.dl.now (map g.F.LayoutHandle.layout_of c.args.fields.now))) (size_bound c.args.dl.now)) (sym c.requires.list) all in
+    let small : align_of c.args.list.now (parts_of c.args.dl.now (map g.F.LayoutHandle.layout_of c.args.fields.now)) ≤ 29 = align_small c.args.list.now (parts_of c.args.dl.now (map g.F.LayoutHandle.layout_of c.args.fields.now)) (length (parts_of c.args.dl.now (map g.F.LayoutHandle.layout_of c.args.fields.now))) (size_bound c.args.dl.now) (aligned_parts c.args.dl.now (parts_of c.args.dl.now (map g.F.LayoutHandle.layout_of c.args.fields.now)) law) listed in
+    let least : c.args.placed.align ≤ 29 = omega (arith, b.placed.alignment, small) in
+    let size : c.args.placed.size ≡ next_multiple_of (end_from c.args.list.now.pack (start_of c.args.list.now.pack c.args.list.now.kind) (in_order (parts_of c.args.dl.now (map g.F.LayoutHandle.layout_of c.args.fields.now)) c.args.placed.order.items)) (2 ^ c.args.placed.align)
+    = b.placed.extent ∙ ap (λ a. next_multiple_of (end_from c.args.list.now.pack (start_of c.args.list.now.pack c.args.list.now.kind) (in_order (parts_of c.args.dl.now (map g.F.LayoutHandle.layout_of c.args.fields.now)) c.args.placed.order.items)) (2 ^ a)) (sym b.placed.alignment) in
+    let view = c.list_view-view.ensures ∙ view_same c.args.dl.now c.inhibit_newtype_abi_optimization-fixed.result c.inhibit_newtype_abi_optimization-fixed.result c.args.placed.size c.args.placed.align c.args.placed.align c.new-parts.result (parts_of c.args.dl.now (map g.F.LayoutHandle.layout_of c.args.fields.now)) c.deref.result.now c.args.placed.offsets.items
+    refl refl (c.new-parts.ensures) c.deref.ensures.value in
+    made_lawful c.args.dl.now _ c.new.result _ c.args.placed.align c.inhibit_newtype_abi_optimization-fixed.result (parts_of c.args.dl.now (map g.F.LayoutHandle.layout_of c.args.fields.now)) c.args.placed.offsets.items
+    law c.new-2.ensures least size c.requires.fits
+    (ordered_inside c.args.dl.now c.args.list.now (parts_of c.args.dl.now (map g.F.LayoutHandle.layout_of c.args.fields.now)) c.args.placed.order.items c.args.placed.offsets.items c.args.placed.size c.args.placed.align c.args.placed.largest_niche law b)
+    (ordered_index c.args.dl.now c.args.list.now (parts_of c.args.dl.now (map g.F.LayoutHandle.layout_of c.args.fields.now)) c.args.placed.order.items c.args.placed.offsets.items c.args.placed.size c.args.placed.align c.args.placed.largest_niche b) view refl

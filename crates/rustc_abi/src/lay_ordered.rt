@@ -1,0 +1,164 @@
+//! How structs are laid out in an order that is handed in, once their fields are.
+
+ghost use Rattle.std.specs.Prelude.{◌≡◌, ◌<◌, ◌≤◌, ◌⊎◌, List, IfOk, IfErr, IfSome, IsTrue, Ok, None, Some, length, vec_len, All, OnErr, map};
+ghost use Rattle.abi_base.specs.DataLayout.{IsLawfulDataLayout};
+ghost use Rattle.abi_scalar.specs.Lawful.{IsLawfulLayout};
+ghost use Rattle.abi_scalar.specs.Repr.{may_randomize};
+ghost use Rattle.abi_scalar.specs.Shape.{listed_offsets};
+ghost use Rattle.abi_lists.specs.Apart.{AreApart};
+ghost use Rattle.abi_lists.specs.List.{HasLawfulAligns};
+ghost use Rattle.abi_lists.specs.ListNiche.{IsNicheOfPart};
+ghost use Rattle.abi_laid.specs.Tree.{Trees, struct};
+ghost use Rattle.abi_laid.specs.Placed.{Placed, layout_of, size_of};
+ghost use Rattle.abi_laid.specs.Well.{all_at};
+ghost use Rattle.rustc_abi.specs.Adding.{IsAdded, EachFits};
+ghost use Rattle.rustc_abi.specs.Count.{IsOwnPut};
+ghost use Rattle.rustc_abi.specs.Error.{IsRefused};
+ghost use Rattle.rustc_abi.specs.Laying.{AreLaying, IsListedInOrder, IsOrderedFieldsAnswer, most_fields, ordered_fault, randomized};
+ghost use Rattle.rustc_abi.specs.declared.error.LayError.TheVariants.{BadOrder, OutOfMemory};
+
+use crate::error::LayError;
+use crate::lay_fields::{fields_fault, kind_of};
+use crate::node::{add, layouts_at};
+use abi_base::{StructKind, TargetDataLayout};
+use abi_calc::LayoutCalculator;
+use abi_index::{FieldIdx, VariantIdx};
+use abi_laid::{Mark, Node, Shape};
+use abi_scalar::{LayoutData, ReprFlags, ReprOptions};
+use bitflags::Flags;
+use std::alloc::Global;
+
+/// The same repr, under which fields may lie in any order.
+fn randomized(repr: &ReprOptions) -> ReprOptions
+    ensures { result ≡ randomized repr.now }
+{
+    let mut flags = repr.flags;
+    flags.insert(ReprFlags::RANDOMIZE_LAYOUT);
+    ReprOptions { flags, ..*repr }
+}
+
+/// The own fault of a struct whose order is handed in, if it has one.
+fn ordered_fault(repr: &ReprOptions, children: &[usize]) -> Option<LayError>
+    ensures { (ps : List Placed) → length ps ≡ length children.now → result ≡ ordered_fault repr.now ps }
+{
+    match fields_fault(repr, children) {
+        Some(fault) => Some(fault),
+        None if repr.inhibit_struct_field_reordering() => Some(LayError::BadOrder),
+        None => None,
+    }
+}
+
+/// The fields that these numbers name, of so many; `BadOrder` where one names none.
+fn fields_named(alloc: Global, order: &[u64], count: usize) -> Result<Vec<FieldIdx>, LayError>
+    requires { count ≤ most_fields }
+    ensures ok { IfOk result (λ fields. fields.items ≡ order.now) }
+    ensures err { IfErr result (λ e. (e ≡ OutOfMemory) ⊎ ((e ≡ BadOrder) × (All (λ i. i < count) order.now → ⊥))) }
+{
+    let mut fields = Vec::with_capacity(alloc, order.len())?;
+    for &index in order {
+        if index >= count as u64 {
+            return Err(LayError::BadOrder);
+        }
+        fields.push(FieldIdx::from_usize(index as usize))?;
+    }
+    Ok(fields)
+}
+
+/// The layout of fields, each as one of the nodes, in the order that is handed in.
+fn ordered_layout(
+    alloc: Global,
+    dl: &TargetDataLayout,
+    nodes: &[Node],
+    repr: &ReprOptions,
+    kind: StructKind,
+    order: &[u64],
+    children: &[usize],
+) -> Result<LayoutData<FieldIdx, VariantIdx>, LayError>
+    requires kind { (kind ≡ StructKind.AlwaysSized) ⊎ ((kind ≡ StructKind.MaybeUnsized) × (0 < length children.now)) }
+    requires aligns { HasLawfulAligns repr.now }
+    requires free { IsTrue (may_randomize repr.now) }
+    requires count { length children.now ≤ most_fields }
+    requires data_layout { IsLawfulDataLayout dl.now }
+    requires there { All (λ child. child < length nodes.now) children.now }
+    requires lawful { All (λ p. IsLawfulLayout dl.now (layout_of p)) (all_at nodes.now children.now) }
+    ensures ok { IfOk result (λ l.
+        IsListedInOrder dl.now repr.now kind order.now (map layout_of (all_at nodes.now children.now)) (Ok l)) }
+    ensures err { IfErr result (IsRefused
+        (IsListedInOrder dl.now repr.now kind order.now (map layout_of (all_at nodes.now children.now)))) }
+    ensures lawful { IfOk result (IsLawfulLayout dl.now) }
+    ensures apart { IfOk result (λ l.
+        AreApart l.size (listed_offsets l.fields) (map size_of (all_at nodes.now children.now))) }
+    ensures niche { IfOk result (λ l. IfSome l.largest_niche
+        (IsNicheOfPart (listed_offsets l.fields) (map layout_of (all_at nodes.now children.now)))) }
+{
+    let order = fields_named(alloc, order, children.len())?;
+    let layouts = layouts_at(alloc, nodes, children)?;
+    let answer = LayoutCalculator::new(dl).layout_of_univariant_in_order(
+        alloc,
+        layouts.as_slice(),
+        repr,
+        kind,
+        &order,
+    );
+    Ok(answer?)
+}
+
+/// A node for the fields of a struct without a fault of its own, in the order that is handed in.
+fn add_faultless_ordered(
+    alloc: Global,
+    dl: &TargetDataLayout,
+    nodes: &mut Vec<Node>,
+    repr: &ReprOptions,
+    always_sized: bool,
+    order: &[u64],
+    children: Vec<usize>,
+) -> Result<usize, LayError>
+    requires data_layout { IsLawfulDataLayout dl.now }
+    requires there { All (λ child. child < vec_len nodes.old) children.items }
+    requires lawful { All (λ p. IsLawfulLayout dl.now (layout_of p)) (all_at nodes.old.items children.items) }
+    requires faultless { ordered_fault repr.now (all_at nodes.old.items children.items) ≡ None }
+    ensures ok { IfOk result
+        (λ i. (ts : Trees) → AreLaying dl.now ts (Ok (all_at nodes.old.items children.items)) →
+        EachFits dl.now ts (all_at nodes.old.items children.items) →
+        IsAdded dl.now nodes.old.items nodes.new.items i (struct repr.now always_sized (Some order.now) ts)) }
+    ensures own { IfOk result (IsOwnPut nodes.old.items nodes.new.items) }
+    ensures err { IfErr result (IsRefused
+        (IsOrderedFieldsAnswer dl.now repr.now always_sized order.now (all_at nodes.old.items children.items))) }
+    ensures kept { OnErr result (nodes.new.items ≡ nodes.old.items) }
+{
+    let kind = kind_of(always_sized, &children);
+    let layout = ordered_layout(alloc, dl, nodes, &randomized(repr), kind, order, &children)?;
+    add(
+        nodes,
+        layout,
+        Shape::Fields(Mark::of(false, repr), children),
+    )
+}
+
+/// A node for fields, each as one of the nodes, in the order that is handed in.
+pub(crate) fn add_ordered(
+    alloc: Global,
+    dl: &TargetDataLayout,
+    nodes: &mut Vec<Node>,
+    repr: &ReprOptions,
+    always_sized: bool,
+    order: &[u64],
+    children: Vec<usize>,
+) -> Result<usize, LayError>
+    requires data_layout { IsLawfulDataLayout dl.now }
+    requires there { All (λ child. child < vec_len nodes.old) children.items }
+    requires lawful { All (λ p. IsLawfulLayout dl.now (layout_of p)) (all_at nodes.old.items children.items) }
+    ensures ok { IfOk result
+        (λ i. (ts : Trees) → AreLaying dl.now ts (Ok (all_at nodes.old.items children.items)) →
+        EachFits dl.now ts (all_at nodes.old.items children.items) →
+        IsAdded dl.now nodes.old.items nodes.new.items i (struct repr.now always_sized (Some order.now) ts)) }
+    ensures own { IfOk result (IsOwnPut nodes.old.items nodes.new.items) }
+    ensures err { IfErr result (IsRefused
+        (IsOrderedFieldsAnswer dl.now repr.now always_sized order.now (all_at nodes.old.items children.items))) }
+    ensures kept { OnErr result (nodes.new.items ≡ nodes.old.items) }
+{
+    match ordered_fault(repr, &children) {
+        Some(fault) => Err(fault),
+        None => add_faultless_ordered(alloc, dl, nodes, repr, always_sized, order, children),
+    }
+}
