@@ -25,3 +25,4 @@ mod PutPlacesLemmas
 mod TagNumberLemmas
 mod WrittenLemmas
 mod KeptLemmas
+pub mod AgreeLemmas

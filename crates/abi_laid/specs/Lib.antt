@@ -26,3 +26,4 @@ pub mod Seen
 pub mod Runs
 pub mod Needed
 pub mod ErrorText
+pub mod Deciding

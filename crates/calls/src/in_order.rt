@@ -33,7 +33,7 @@ pub(crate) fn list_in_order(
 }
 
 /// The index of a field that has this number, where a field can have it.
-fn field_index(number: u32) -> Option<FieldIdx> {
+pub(crate) fn field_index(number: u32) -> Option<FieldIdx> {
     if number > 0xFFFF_FF00 {
         return None;
     }

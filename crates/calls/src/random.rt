@@ -4,6 +4,7 @@
 pub(crate) mod coroutines;
 pub(crate) mod dice;
 pub(crate) mod enums;
+pub(crate) mod in_order;
 pub(crate) mod lists;
 pub(crate) mod orders;
 pub(crate) mod tally;
@@ -43,17 +44,19 @@ pub(crate) fn read_trials(line: &mut Line<'_>) -> Result<Trials, Stop> {
 #[derive(Clone, Copy)]
 enum RandomCall {
     RandomLists,
+    RandomOrders,
     RandomEnums,
     RandomCoroutines,
 }
 
-const RANDOM_CALLS: [(&[u8], RandomCall); 3] = [
+const RANDOM_CALLS: [(&[u8], RandomCall); 4] = [
     (b"random-lists", RandomCall::RandomLists),
+    (b"random-orders", RandomCall::RandomOrders),
     (b"random-enums", RandomCall::RandomEnums),
     (b"random-coroutines", RandomCall::RandomCoroutines),
 ];
 
-/// `random-lists SEED COUNT ( LAYOUT.. )`, and so for `random-enums` and `random-coroutines`: the types are made of
+/// `random-lists SEED COUNT ( LAYOUT.. )`, and so for `random-orders`, `random-enums` and `random-coroutines`: the types are made of
 /// these layouts.
 pub(crate) fn call(
     alloc: Global,
@@ -84,6 +87,7 @@ pub(crate) fn call(
     }
     let tally = match named(&RANDOM_CALLS, name) {
         Some(RandomCall::RandomLists) => lists::tried(alloc, dl, trials, &kinds)?,
+        Some(RandomCall::RandomOrders) => in_order::tried(alloc, dl, trials, &kinds)?,
         Some(RandomCall::RandomEnums) => enums::tried(alloc, dl, trials, &kinds)?,
         Some(RandomCall::RandomCoroutines) => coroutines::tried(alloc, dl, trials, &kinds)?,
         None => return Ok(false),

@@ -5,6 +5,7 @@ ghost use Rattle.std.specs.Result.{IsErrAnd};
 ghost use Rattle.abi_base.specs.DataLayout.{IsLawfulDataLayout};
 ghost use Rattle.abi_laid.specs.Tree.{tree_of};
 ghost use Rattle.abi_laid.specs.Values.{LocalsHaveValues};
+ghost use Rattle.abi_laid.specs.Deciding.{CoveredBytesDecide};
 ghost use Rattle.abi_laid.specs.Faithful.{EachValueIsHeld, OnlyValuesAreHeld, NoBytesHoldTwo, IsNicheTrue, IsNicheInside, PaddingDecidesNothing, IsViewTrue, IsFlagTrue};
 ghost use Rattle.abi_scalar.specs.Lawful.{IsLawfulLayout};
 ghost use Rattle.rustc_abi.specs.declared.error.LayError.{LayError};
@@ -119,6 +120,7 @@ pub fn lay_out(alloc: Global, dl: &TargetDataLayout, tree: &TypeTree) -> Result<
         IsNicheInside dl.now (placed_of laid)) }
     ensures padding { IfOk result (λ laid. LocalsHaveValues dl.now (tree_of tree.now) →
         PaddingDecidesNothing dl.now (placed_of laid)) }
+    ensures covered { IfOk result (λ laid. CoveredBytesDecide dl.now.endian (placed_of laid)) }
     ensures view { IfOk result (λ laid. LocalsHaveValues dl.now (tree_of tree.now) →
         IsViewTrue dl.now (placed_of laid)) }
     ensures uninhabited { IfOk result (λ laid. LocalsHaveValues dl.now (tree_of tree.now) →

@@ -17,7 +17,8 @@ use std::alloc::Global;
 /// No list has more fields.
 const MOST_FIELDS: u64 = 6;
 
-fn repr(dice: &mut Dice) -> ReprOptions {
+/// What a list may ask for.
+pub(crate) fn repr(dice: &mut Dice) -> ReprOptions {
     let mut repr = ReprOptions::default();
     if dice.is_one_of(4) {
         repr.flags = ReprFlags::IS_C;
@@ -32,7 +33,7 @@ fn repr(dice: &mut Dice) -> ReprOptions {
 }
 
 /// What a list of so many fields may be.
-fn kind(dice: &mut Dice, count: usize) -> StructKind {
+pub(crate) fn kind(dice: &mut Dice, count: usize) -> StructKind {
     match dice.roll(3) {
         0 => StructKind::AlwaysSized,
         1 if count > 0 => StructKind::MaybeUnsized,

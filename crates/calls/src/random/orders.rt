@@ -43,14 +43,19 @@ pub(crate) fn list_align(
     greatest
 }
 
-/// The list's size with its fields in this order, before it is rounded up.
-fn end_by(fields: &[&Layout], repr: &ReprOptions, kind: &StructKind, order: &[usize]) -> u128 {
-    let mut end = match kind {
+/// Where the first field may begin.
+fn start(repr: &ReprOptions, kind: &StructKind) -> u128 {
+    match kind {
         StructKind::Prefixed(size, align) => {
             rounded_up(u128::from(size.bytes()), cut_to(*align, repr.pack))
         }
         _ => 0,
-    };
+    }
+}
+
+/// The list's size with its fields in this order, before it is rounded up.
+fn end_by(fields: &[&Layout], repr: &ReprOptions, kind: &StructKind, order: &[usize]) -> u128 {
+    let mut end = start(repr, kind);
     for index in order {
         if let Some(field) = fields.get(*index) {
             let size = u128::from(field.size.bytes());
@@ -60,8 +65,40 @@ fn end_by(fields: &[&Layout], repr: &ReprOptions, kind: &StructKind, order: &[us
     end
 }
 
+/// Where the fields lie in this order, as they follow one another in memory.
+pub(crate) fn places_by(
+    alloc: Global,
+    fields: &[&Layout],
+    repr: &ReprOptions,
+    kind: &StructKind,
+    order: &[usize],
+) -> Result<Vec<u128>, AllocError> {
+    let mut places = Vec::new(alloc);
+    let mut end = start(repr, kind);
+    for index in order {
+        if let Some(field) = fields.get(*index) {
+            let place = rounded_up(end, cut_to(field.align.abi, repr.pack));
+            places.push(place)?;
+            end = place.saturating_add(u128::from(field.size.bytes()));
+        }
+    }
+    Ok(places)
+}
+
+/// The size of a list in this order.
+pub(crate) fn size_by(
+    dl: &TargetDataLayout,
+    fields: &[&Layout],
+    repr: &ReprOptions,
+    kind: &StructKind,
+    order: &[usize],
+) -> u128 {
+    let end = end_by(fields, repr, kind, order);
+    rounded_up(end, list_align(dl, fields, repr, kind))
+}
+
 /// The order of so many fields that has this number: each takes one of the fields that are left.
-fn order_of(alloc: Global, number: u64, count: usize) -> Result<Vec<usize>, AllocError> {
+pub(crate) fn order_of(alloc: Global, number: u64, count: usize) -> Result<Vec<usize>, AllocError> {
     let mut left = Vec::new(alloc);
     for index in 0..count {
         left.push(index)?;
@@ -80,7 +117,7 @@ fn order_of(alloc: Global, number: u64, count: usize) -> Result<Vec<usize>, Allo
 }
 
 /// How many orders so many fields have; 720 for six and more.
-fn order_count(count: usize) -> u64 {
+pub(crate) fn order_count(count: usize) -> u64 {
     match count {
         0 | 1 => 1,
         2 => 2,
@@ -103,12 +140,11 @@ pub(crate) fn source_size(
     for index in 0..fields.len() {
         order.push(index)?;
     }
-    let end = end_by(fields, repr, kind, &order);
-    Ok(rounded_up(end, list_align(dl, fields, repr, kind)))
+    Ok(size_by(dl, fields, repr, kind, &order))
 }
 
 /// Whether a list of this kind may have the order: one whose last field may be unsized keeps it last.
-fn is_allowed(kind: &StructKind, order: &[usize]) -> bool {
+pub(crate) fn is_allowed(kind: &StructKind, order: &[usize]) -> bool {
     match kind {
         StructKind::MaybeUnsized => order.last() == Some(&order.len().saturating_sub(1)),
         _ => true,

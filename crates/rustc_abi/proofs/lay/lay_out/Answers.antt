@@ -2,13 +2,14 @@ use Rattle.std.proofs.Common.{◌≡◌, ap, arith, length, subst}
 use Rattle.abi_laid.specs.Tree.{tree_of}
 use Rattle.rustc_abi.specs.Clash.{AreClashingApart, HaveOneOffset}
 use Rattle.rustc_abi.specs.Count.{HasNodes}
-use Rattle.abi_laid.specs.Laid.{node_count_of, typed_of}
+use Rattle.abi_laid.specs.Laid.{node_count_of, placed_of, typed_of}
 use Rattle.rustc_abi.specs.Least.{HasOverlapSize, IsLeast}
 use Rattle.rustc_abi.specs.Lists.{HasLeastLists}
 use Rattle.rustc_abi.specs.Orders.{LiesAsAsked}
 use Rattle.rustc_abi.proofs.Coroutines.ClashLemmas.{laid_clash, laid_one_offset}
 use Rattle.rustc_abi.proofs.Sizes.EachListLemmas.{laid_lists}
 use Rattle.rustc_abi.proofs.Sizes.PlacedLemmas.{laid_as_asked}
+use Rattle.abi_laid.proofs.AgreeLemmas.{covered_decides}
 use Rattle.rustc_abi.proofs.Trees.EverywhereLemmas.{everywhere}
 use Rattle.rustc_abi.proofs.Trees.LaidLemmas.{laid_sized}
 use Rattle.rustc_abi.proofs.Trees.LayLemmas.{begins_root, common_root, faithful_root, laid_root, lawful_root, untagged_root}
@@ -100,6 +101,9 @@ pub returns-clause-sized : goal.returns-clause-sized
 returns-clause-sized c =
     let law = c.is_lawful.ensures.0 c.if-not-is_lawful.false in
     laid_sized c.args.dl.now law (tree_of c.args.tree.now) _ (laid_root _ _ _ _ _ _ c.in_ok-_root.ensures.ok c.new.ensures.placed)
+
+pub returns-clause-covered : goal.returns-clause-covered
+returns-clause-covered c = covered_decides c.args.dl.now.endian (placed_of c.new.result)
 
 pub returns-clause-places : goal.returns-clause-places
 returns-clause-places c k =
