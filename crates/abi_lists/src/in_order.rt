@@ -9,7 +9,7 @@ ghost use Rattle.abi_lists.specs.InOrder.{IsOrderedAnswer};
 ghost use Rattle.abi_lists.specs.List.{HasLawfulAligns};
 ghost use Rattle.abi_lists.specs.Placement.{IsAllowed, IsLawfulPrefix, IsNonEmptyIfUnsized, KeepsTail, list_repr, source_order};
 
-use crate::list::{error_of, layout_of_placed};
+use crate::list::{error_of, fields_named, layout_of_placed};
 use crate::list_repr::{ListRepr, list_repr};
 use crate::order::NicheBias;
 use crate::part::Parts;
@@ -108,7 +108,8 @@ fn layout_in_order<FieldIdx: Idx, VariantIdx: Idx, F: LayoutHandle<FieldIdx, Var
         Ok(placed) => placed,
         Err(fault) => return Err(error_of(fields, fault)),
     };
-    Ok(layout_of_placed(alloc, dl, fields, repr, list, placed)?)
+    let in_memory_order = fields_named(alloc, &placed.order)?;
+    Ok(layout_of_placed(dl, fields, repr, list, placed, in_memory_order))
 }
 
 /// The layout of these fields as one list of this kind, one after another in memory in this order. The niche is the

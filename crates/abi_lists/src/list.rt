@@ -59,7 +59,7 @@ pub fn field_offsets<FieldIdx: Idx>(
 }
 
 /// The fields of these indices.
-fn fields_named<FieldIdx: Idx>(
+pub(crate) fn fields_named<FieldIdx: Idx>(
     alloc: Global,
     order: &[usize],
 ) -> Result<IndexVec<u32, FieldIdx>, AllocError>
@@ -106,20 +106,20 @@ fn unadjusted_align<FieldIdx: Idx, VariantIdx: Idx, F: LayoutHandle<FieldIdx, Va
     }
 }
 
-/// The layout of a list that is placed.
-#[inline(never)]
+/// The layout of a list that is placed, with its memory order.
+#[inline(always)]
 pub(crate) fn layout_of_placed<
     FieldIdx: Idx,
     VariantIdx: Idx,
     F: LayoutHandle<FieldIdx, VariantIdx>,
 >(
-    alloc: Global,
     dl: &TargetDataLayout,
     fields: &[F],
     repr: &ReprOptions,
     list: &ListRepr,
     placed: PlacedList,
-) -> Result<LayoutData<FieldIdx, VariantIdx>, AllocError>
+    in_memory_order: IndexVec<u32, FieldIdx>,
+) -> LayoutData<FieldIdx, VariantIdx>
     requires data_layout { IsLawfulDataLayout dl.now }
     requires fields { All (λ f. IsLawfulLayout dl.now (F.layout_of f)) fields.now }
     requires repr { HasLawfulAligns repr.now }
@@ -130,30 +130,24 @@ pub(crate) fn layout_of_placed<
     requires placed { IsInOrder dl.now list.now (parts_of dl.now (map F.layout_of fields.now)) placed.order.items
         placed.offsets.items placed.size placed.align placed.largest_niche }
     requires fits { placed.size < size_bound dl.now }
-    ensures size { IfOk result (λ l. l.size ≡ placed.size) }
-    ensures align { IfOk result (λ l. l.align.abi ≡ placed.align) }
-    ensures niche { IfOk result (λ l. l.largest_niche ≡ placed.largest_niche) }
-    ensures shape { IfOk result (λ l.
-        l.fields ≡ Arbitrary placed.offsets.items (map FieldIdx.at placed.order.items)) }
-    ensures variants { IfOk result (λ l. l.variants ≡ Single (VariantIdx.at 0)) }
-    ensures view { IfOk result (λ l.
-        l.backend_repr ≡ list_view dl.now (is_abi_fixed repr.now) l.size l.align.abi
-        (parts_of dl.now (map F.layout_of fields.now)) placed.offsets.items) }
-    ensures uninhabited { IfOk result (λ l.
-        l.uninhabited ≡ list_any (λ f. f.uninhabited) (map F.layout_of fields.now)) }
-    ensures max_repr_align { IfOk result (λ l.
-        l.max_repr_align ≡ greatest_repr_align repr.now.align (map F.layout_of fields.now)) }
-    ensures unadjusted { IfOk result (λ l.
-        l.unadjusted_abi_align ≡ unadjusted_of dl.now repr.now list.now.kind l.size l.align.abi
-        (parts_of dl.now (map F.layout_of fields.now))) }
-    ensures repr_c { IfOk result (λ l. l.repr_c ≡ lies_as_in_c repr.now (map F.layout_of fields.now)) }
-    ensures seed { IfOk result (λ l.
-        l.randomization_seed ≡ list_seed repr.now list.now.kind (map F.layout_of fields.now)) }
-    ensures lawful { IfOk result (IsLawfulLayout dl.now) }
+    ensures size { result.size ≡ placed.size }
+    ensures align { result.align.abi ≡ placed.align }
+    ensures niche { result.largest_niche ≡ placed.largest_niche }
+    ensures shape { result.fields ≡ Arbitrary placed.offsets.items in_memory_order }
+    ensures variants { result.variants ≡ Single (VariantIdx.at 0) }
+    ensures view { result.backend_repr ≡ list_view dl.now (is_abi_fixed repr.now) result.size result.align.abi
+        (parts_of dl.now (map F.layout_of fields.now)) placed.offsets.items }
+    ensures uninhabited { result.uninhabited ≡ list_any (λ f. f.uninhabited) (map F.layout_of fields.now) }
+    ensures max_repr_align { result.max_repr_align ≡ greatest_repr_align repr.now.align (map F.layout_of fields.now) }
+    ensures unadjusted { result.unadjusted_abi_align ≡ unadjusted_of dl.now repr.now list.now.kind result.size
+        result.align.abi (parts_of dl.now (map F.layout_of fields.now)) }
+    ensures repr_c { result.repr_c ≡ lies_as_in_c repr.now (map F.layout_of fields.now) }
+    ensures seed { result.randomization_seed ≡ list_seed repr.now list.now.kind (map F.layout_of fields.now) }
+    ensures lawful { IsLawfulLayout dl.now result }
 {
     let PlacedList {
         offsets,
-        order,
+        order: _,
         size,
         align,
         largest_niche,
@@ -165,8 +159,7 @@ pub(crate) fn layout_of_placed<
     let view = list_view(dl, fixed, size, align, &parts, &offsets, bulk);
     let unadjusted_abi_align = unadjusted_align(dl, repr, list, size, align, &parts, bulk);
     let offsets = IndexVec::from_raw(offsets);
-    let in_memory_order = fields_named(alloc, &order)?;
-    Ok(LayoutData {
+    LayoutData {
         fields: FieldsShape::Arbitrary {
             offsets,
             in_memory_order,
@@ -183,7 +176,7 @@ pub(crate) fn layout_of_placed<
         unadjusted_abi_align,
         repr_c: lies_as_in_c(repr, fields),
         randomization_seed: seed_with(repr.field_shuffle_seed, movable(list.kind, fields)),
-    })
+    }
 }
 
 /// The layout of these fields as one list.
@@ -211,7 +204,8 @@ fn layout_of_list<FieldIdx: Idx, VariantIdx: Idx, F: LayoutHandle<FieldIdx, Vari
         Ok(placed) => placed,
         Err(fault) => return Err(error_of(fields, fault)),
     };
-    Ok(layout_of_placed(alloc, dl, fields, repr, list, placed)?)
+    let in_memory_order = fields_named(alloc, &placed.order)?;
+    Ok(layout_of_placed(dl, fields, repr, list, placed, in_memory_order))
 }
 
 /// The layout of these fields as one list of this kind, one after another in memory, in an order that the `repr`

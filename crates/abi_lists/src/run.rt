@@ -38,6 +38,7 @@ pub struct PlacedList {
 }
 
 /// The list in this order, with the niche that the bias takes.
+#[inline(always)]
 pub(crate) fn placed_in<FieldIdx: Idx, VariantIdx: Idx, F: LayoutHandle<FieldIdx, VariantIdx>>(
     alloc: Global,
     dl: &TargetDataLayout,

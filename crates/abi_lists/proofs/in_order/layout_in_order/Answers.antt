@@ -1,4 +1,4 @@
-use Rattle.std.proofs.Common.{◌≡◌, ℕ, List, length, map, sym, ap, subst, ◌∙◌}
+use Rattle.std.proofs.Common.{◌≡◌, ℕ, List, Option, length, map, sym, ap, subst, ◌∙◌}
 use Rattle.std.specs.Prelude.{IsPermutation}
 use Rattle.std.proofs.lemmas.List.{length-map}
 use Rattle.abi_base.specs.DataLayout.{size_bound}
@@ -6,13 +6,28 @@ use Rattle.abi_scalar.specs.declared.fields_shape.FieldsShape.TheVariants.{Arbit
 use Rattle.abi_lists.specs.declared.list_repr.ListRepr.{ListRepr}
 use Rattle.abi_lists.specs.declared.order.NicheBias.TheVariants.{Start}
 use Rattle.abi_lists.specs.declared.part.Part.{Part}
+use Rattle.abi_base.specs.declared.data_layout.TargetDataLayout.{TargetDataLayout}
+use Rattle.abi_scalar.specs.declared.layout_data.LayoutData.{LayoutData}
+use Rattle.abi_scalar.specs.declared.niche.Niche.{Niche}
 use Rattle.abi_lists.specs.List.{parts_of}
 use Rattle.abi_lists.specs.Placement.{IsAllowed, IsLawfulRepr, source_order}
 use Rattle.abi_lists.specs.Run.{IsInOrder, IsPlacedIn}
 use Rattle.abi_lists.proofs.InOrderLemmas.{error_in_order, fault_placed}
 use Rattle.abi_lists.proofs.Least.{allowed_permutes}
 use Rattle.abi_lists.proofs.ListLemmas.{length-parts, parts_lawful, repr_lawful}
+use Rattle.abi_lists.proofs.OrderedLemmas.{ordered_few, ordered_within}
 use Rattle.abi_lists.proofs.in_order.layout_in_order.Goals as goal
+
+-- a list that was laid out in an allowed order lies in it
+laid_in_order : {F V H : Type 0} (layout_of : H → LayoutData F V) (dl : TargetDataLayout) (list : ListRepr) (hs : List H) (parts : List Part) (asked order offsets : List ℕ) (size align : ℕ) (niche : Option Niche)
+    → parts ≡ parts_of dl (map layout_of hs) → IsAllowed list (length hs) asked → order ≡ asked → IsPlacedIn dl list Start parts asked offsets size align niche
+    → IsInOrder dl list (parts_of dl (map layout_of hs)) order offsets size align niche
+laid_in_order layout_of dl list hs parts asked order offsets size align niche read allowed same placed =
+    rw same (record {
+      allowed = subst (λ (n : ℕ). IsAllowed list n asked) (sym (length-parts layout_of dl hs)) allowed;
+      bias = Start;
+      placed = subst (λ (ps : List Part). IsPlacedIn dl list Start ps asked offsets size align niche) read placed;
+    })
 
 pub placed_in-requires-clause-lawful : goal.placed_in-requires-clause-lawful
 placed_in-requires-clause-lawful g c =
@@ -42,19 +57,21 @@ returns-in-Err-clause-exact g c =
     c.new-parts.ensures c.requires.order c.in-Err.ensures.fault c.error_of.ensures c.requires.list
 
 pub layout_of_placed-requires-clause-placed : goal.layout_of_placed-requires-clause-placed
-layout_of_placed-requires-clause-placed g c =
-    let items = ap (λ o. o.items) c.in-Ok.ensures.same in
-    let allowed : IsAllowed c.args.list.now (length (parts_of c.args.dl.now (map g.F.LayoutHandle.layout_of c.args.fields.now))) c.args.order.items
-    = subst (λ (n : ℕ). IsAllowed c.args.list.now n c.args.order.items) (sym (length-parts g.F.LayoutHandle.layout_of c.args.dl.now c.args.fields.now)) c.requires.order in
-    rw items (record {
-      allowed = allowed;
-      bias = Start;
-      placed = subst (λ (ps : List Part). IsPlacedIn c.args.dl.now c.args.list.now Start ps c.args.order.items c.in-Ok.placed.offsets.items c.in-Ok.placed.size c.in-Ok.placed.align c.in-Ok.placed.largest_niche) c.new-parts.ensures c.in-Ok.ensures.placed;
-    })
+layout_of_placed-requires-clause-placed g c = laid_in_order g.F.LayoutHandle.layout_of c.args.dl.now c.args.list.now c.args.fields.now c.new-parts.result c.args.order.items c.in-Ok.placed.order.items c.in-Ok.placed.offsets.items c.in-Ok.placed.size c.in-Ok.placed.align c.in-Ok.placed.largest_niche c.new-parts.ensures c.requires.order (ap (λ o. o.items) c.in-Ok.ensures.same) c.in-Ok.ensures.placed
+
+pub fields_named-requires-clause-count : goal.fields_named-requires-clause-count
+fields_named-requires-clause-count g c =
+    rw c.deref.ensures.value (ordered_few g.F.LayoutHandle.layout_of c.args.dl.now c.args.list.now c.args.fields.now c.in-Ok.placed.order.items c.in-Ok.placed.offsets.items c.in-Ok.placed.size c.in-Ok.placed.align c.in-Ok.placed.largest_niche _ c.requires.count
+    (laid_in_order g.F.LayoutHandle.layout_of c.args.dl.now c.args.list.now c.args.fields.now c.new-parts.result c.args.order.items c.in-Ok.placed.order.items c.in-Ok.placed.offsets.items c.in-Ok.placed.size c.in-Ok.placed.align c.in-Ok.placed.largest_niche c.new-parts.ensures c.requires.order (ap (λ o. o.items) c.in-Ok.ensures.same) c.in-Ok.ensures.placed))
+
+pub fields_named-requires-clause-within : goal.fields_named-requires-clause-within
+fields_named-requires-clause-within g c =
+    rw c.deref.ensures.value (ordered_within g.F.LayoutHandle.layout_of c.args.dl.now c.args.list.now c.args.fields.now c.in-Ok.placed.order.items c.in-Ok.placed.offsets.items c.in-Ok.placed.size c.in-Ok.placed.align c.in-Ok.placed.largest_niche _ c.requires.count
+    (laid_in_order g.F.LayoutHandle.layout_of c.args.dl.now c.args.list.now c.args.fields.now c.new-parts.result c.args.order.items c.in-Ok.placed.order.items c.in-Ok.placed.offsets.items c.in-Ok.placed.size c.in-Ok.placed.align c.in-Ok.placed.largest_niche c.new-parts.ensures c.requires.order (ap (λ o. o.items) c.in-Ok.ensures.same) c.in-Ok.ensures.placed))
 
 pub returns-clause-exact : goal.returns-clause-exact
 returns-clause-exact g c =
-    let made = c.in_ok-layout_of_placed.ensures in
+    let made = c.layout_of_placed.ensures in
     let items = ap (λ o. o.items) c.in-Ok.ensures.same in
     let placed = subst (λ (r : ListRepr). IsPlacedIn c.args.dl.now r Start (parts_of c.args.dl.now (map g.F.LayoutHandle.layout_of c.args.fields.now)) c.args.order.items c.in-Ok.placed.offsets.items c.in-Ok.placed.size c.in-Ok.placed.align c.in-Ok.placed.largest_niche) c.requires.list
     (subst (λ (ps : List Part). IsPlacedIn c.args.dl.now c.args.list.now Start ps c.args.order.items c.in-Ok.placed.offsets.items c.in-Ok.placed.size c.in-Ok.placed.align c.in-Ok.placed.largest_niche) c.new-parts.ensures c.in-Ok.ensures.placed) in
@@ -62,7 +79,7 @@ returns-clause-exact g c =
       c.in-Ok.placed.offsets.items,
       record {
         named = (rw (length-map c.args.fields.now g.F.LayoutHandle.layout_of) allowed, rw (made.size, made.align, made.niche) placed);
-        shape = made.shape ∙ ap (λ os. Arbitrary c.in-Ok.placed.offsets.items (map g.FieldIdx.Idx.at os)) items;
+        shape = made.shape ∙ ap (Arbitrary c.in-Ok.placed.offsets.items) (c.in_ok-in_memory_order.ensures ∙ ap (map g.FieldIdx.Idx.at) c.deref.ensures.value) ∙ ap (λ os. Arbitrary c.in-Ok.placed.offsets.items (map g.FieldIdx.Idx.at os)) items;
         variants = made.variants;
         view = made.view;
         uninhabited = made.uninhabited;

@@ -1,15 +1,30 @@
-use Rattle.std.proofs.Common.{◌≡◌, ℕ, List, length, map, sym, ap, subst, ◌∙◌}
+use Rattle.std.proofs.Common.{◌≡◌, ℕ, List, Option, length, map, sym, ap, subst, ◌∙◌}
 use Rattle.abi_base.specs.DataLayout.{size_bound}
 use Rattle.abi_lists.specs.declared.list_repr.ListRepr.{ListRepr}
 use Rattle.abi_lists.specs.declared.order.NicheBias.TheVariants.{Start}
 use Rattle.abi_lists.specs.declared.part.Part.{Part}
+use Rattle.abi_base.specs.declared.data_layout.TargetDataLayout.{TargetDataLayout}
+use Rattle.abi_scalar.specs.declared.fields_shape.FieldsShape.TheVariants.{Arbitrary}
+use Rattle.abi_scalar.specs.declared.layout_data.LayoutData.{LayoutData}
+use Rattle.abi_scalar.specs.declared.niche.Niche.{Niche}
 use Rattle.abi_lists.specs.List.{parts_of}
 use Rattle.abi_lists.specs.Placement.{IsLawfulRepr, IsNonEmptyIfUnsized, list_repr}
 use Rattle.abi_lists.specs.Run.{IsFaultOf, IsInOrder, IsNamedLayout}
 use Rattle.abi_lists.proofs.DeepLemmas.{in_order_of}
 use Rattle.abi_lists.proofs.ListLemmas.{error_exact, fault_named, length-parts, parts_lawful, repr_lawful}
+use Rattle.abi_lists.proofs.OrderedLemmas.{ordered_few, ordered_within}
 use Rattle.abi_lists.proofs.RunLemmas.{biased_of}
 use Rattle.abi_lists.proofs.list.layout_of_list.Goals as goal
+
+-- a list that was laid out in a named order lies in an allowed one
+laid_in_order : {F V H : Type 0} (layout_of : H → LayoutData F V) (dl : TargetDataLayout) (list : ListRepr) (hs : List H) (parts : List Part) (order offsets : List ℕ) (size align : ℕ) (niche : Option Niche)
+    → parts ≡ parts_of dl (map layout_of hs) → IsNonEmptyIfUnsized list.kind (length hs) → IsNamedLayout dl list parts order offsets size align niche
+    → IsInOrder dl list (parts_of dl (map layout_of hs)) order offsets size align niche
+laid_in_order layout_of dl list hs parts order offsets size align niche read some named =
+    let all = parts_of dl (map layout_of hs) in
+    let tail = subst (IsNonEmptyIfUnsized list.kind) (sym (length-parts layout_of dl hs)) some in
+    in_order_of dl list all order offsets size align niche tail (biased_of dl list all order offsets size align niche
+    (subst (λ (ps : List Part). IsNamedLayout dl list ps order offsets size align niche) read named))
 
 pub layout_of_parts-requires-clause-lawful : goal.layout_of_parts-requires-clause-lawful
 layout_of_parts-requires-clause-lawful g c =
@@ -37,24 +52,28 @@ returns-in-Err-clause-exact g c =
     error_exact g.F.LayoutHandle.layout_of c.args.dl.now c.args.repr.now c.args.list.now.kind c.args.list.now c.args.fields.now c.in-Err.fault c.error_of.result fault c.error_of.ensures c.requires.list
 
 pub layout_of_placed-requires-clause-placed : goal.layout_of_placed-requires-clause-placed
-layout_of_placed-requires-clause-placed g c =
-    let many : length (parts_of c.args.dl.now (map g.F.LayoutHandle.layout_of c.args.fields.now)) ≡ length c.args.fields.now = length-parts g.F.LayoutHandle.layout_of c.args.dl.now c.args.fields.now in
-    let tail : IsNonEmptyIfUnsized c.args.list.now.kind (length (parts_of c.args.dl.now (map g.F.LayoutHandle.layout_of c.args.fields.now))) = subst (IsNonEmptyIfUnsized c.args.list.now.kind) (sym many) c.requires.tail in
-    let named : IsNamedLayout c.args.dl.now c.args.list.now (parts_of c.args.dl.now (map g.F.LayoutHandle.layout_of c.args.fields.now)) c.in-Ok.placed.order.items c.in-Ok.placed.offsets.items c.in-Ok.placed.size c.in-Ok.placed.align c.in-Ok.placed.largest_niche
-    = subst (λ (ps : List Part). IsNamedLayout c.args.dl.now c.args.list.now ps c.in-Ok.placed.order.items c.in-Ok.placed.offsets.items c.in-Ok.placed.size c.in-Ok.placed.align c.in-Ok.placed.largest_niche) c.new-parts.ensures c.in-Ok.ensures.named in
-    in_order_of c.args.dl.now c.args.list.now (parts_of c.args.dl.now (map g.F.LayoutHandle.layout_of c.args.fields.now)) c.in-Ok.placed.order.items c.in-Ok.placed.offsets.items c.in-Ok.placed.size c.in-Ok.placed.align c.in-Ok.placed.largest_niche tail
-    (biased_of c.args.dl.now c.args.list.now (parts_of c.args.dl.now (map g.F.LayoutHandle.layout_of c.args.fields.now)) c.in-Ok.placed.order.items c.in-Ok.placed.offsets.items c.in-Ok.placed.size c.in-Ok.placed.align c.in-Ok.placed.largest_niche named)
+layout_of_placed-requires-clause-placed g c = laid_in_order g.F.LayoutHandle.layout_of c.args.dl.now c.args.list.now c.args.fields.now c.new-parts.result c.in-Ok.placed.order.items c.in-Ok.placed.offsets.items c.in-Ok.placed.size c.in-Ok.placed.align c.in-Ok.placed.largest_niche c.new-parts.ensures c.requires.tail c.in-Ok.ensures.named
+
+pub fields_named-requires-clause-count : goal.fields_named-requires-clause-count
+fields_named-requires-clause-count g c =
+    rw c.deref.ensures.value (ordered_few g.F.LayoutHandle.layout_of c.args.dl.now c.args.list.now c.args.fields.now c.in-Ok.placed.order.items c.in-Ok.placed.offsets.items c.in-Ok.placed.size c.in-Ok.placed.align c.in-Ok.placed.largest_niche _ c.requires.count
+    (laid_in_order g.F.LayoutHandle.layout_of c.args.dl.now c.args.list.now c.args.fields.now c.new-parts.result c.in-Ok.placed.order.items c.in-Ok.placed.offsets.items c.in-Ok.placed.size c.in-Ok.placed.align c.in-Ok.placed.largest_niche c.new-parts.ensures c.requires.tail c.in-Ok.ensures.named))
+
+pub fields_named-requires-clause-within : goal.fields_named-requires-clause-within
+fields_named-requires-clause-within g c =
+    rw c.deref.ensures.value (ordered_within g.F.LayoutHandle.layout_of c.args.dl.now c.args.list.now c.args.fields.now c.in-Ok.placed.order.items c.in-Ok.placed.offsets.items c.in-Ok.placed.size c.in-Ok.placed.align c.in-Ok.placed.largest_niche _ c.requires.count
+    (laid_in_order g.F.LayoutHandle.layout_of c.args.dl.now c.args.list.now c.args.fields.now c.new-parts.result c.in-Ok.placed.order.items c.in-Ok.placed.offsets.items c.in-Ok.placed.size c.in-Ok.placed.align c.in-Ok.placed.largest_niche c.new-parts.ensures c.requires.tail c.in-Ok.ensures.named))
 
 pub returns-clause-exact : goal.returns-clause-exact
 returns-clause-exact g c =
     let named = subst (λ (r : ListRepr). IsNamedLayout c.args.dl.now r (parts_of c.args.dl.now (map g.F.LayoutHandle.layout_of c.args.fields.now)) c.in-Ok.placed.order.items c.in-Ok.placed.offsets.items c.in-Ok.placed.size c.in-Ok.placed.align c.in-Ok.placed.largest_niche) c.requires.list
     (subst (λ (ps : List Part). IsNamedLayout c.args.dl.now c.args.list.now ps c.in-Ok.placed.order.items c.in-Ok.placed.offsets.items c.in-Ok.placed.size c.in-Ok.placed.align c.in-Ok.placed.largest_niche) c.new-parts.ensures c.in-Ok.ensures.named) in
-    let made = c.in_ok-layout_of_placed.ensures in (
+    let made = c.layout_of_placed.ensures in (
       c.in-Ok.placed.order.items,
       c.in-Ok.placed.offsets.items,
       record {
         named = rw (made.size, made.align, made.niche) named;
-        shape = made.shape;
+        shape = made.shape ∙ ap (Arbitrary c.in-Ok.placed.offsets.items) (c.in_ok-in_memory_order.ensures ∙ ap (map g.FieldIdx.Idx.at) c.deref.ensures.value);
         variants = made.variants;
         view = made.view;
         uninhabited = made.uninhabited;

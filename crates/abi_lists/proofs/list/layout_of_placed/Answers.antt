@@ -29,22 +29,8 @@ from_raw-offsets-requires g c =
     let long : length c.args.placed.offsets.items ≡ length c.args.fields.now = c.requires.placed.placed.count ∙ many in
     omega (arith, long, c.requires.count)
 
-pub fields_named-requires-clause-count : goal.fields_named-requires-clause-count
-fields_named-requires-clause-count g c =
-    let many : length (parts_of c.args.dl.now (map g.F.LayoutHandle.layout_of c.args.fields.now)) ≡ length c.args.fields.now = length-parts g.F.LayoutHandle.layout_of c.args.dl.now c.args.fields.now in
-    let p = ordered_permutes c.args.dl.now c.args.list.now (parts_of c.args.dl.now (map g.F.LayoutHandle.layout_of c.args.fields.now)) c.args.placed.order.items c.args.placed.offsets.items c.args.placed.size c.args.placed.align c.args.placed.largest_niche c.requires.placed in
-    let long : length c.deref-2.result.now ≡ length c.args.fields.now = ap length c.deref-2.ensures.value ∙ length_permutation (source_order (length (parts_of c.args.dl.now (map g.F.LayoutHandle.layout_of c.args.fields.now)))) c.args.placed.order.items p ∙ length-range_with_len 0 (length (parts_of c.args.dl.now (map g.F.LayoutHandle.layout_of c.args.fields.now))) ∙ many in
-    omega (arith, long, c.requires.count)
-
-pub fields_named-requires-clause-within : goal.fields_named-requires-clause-within
-fields_named-requires-clause-within g c k d h =
-    let many : length (parts_of c.args.dl.now (map g.F.LayoutHandle.layout_of c.args.fields.now)) ≡ length c.args.fields.now = length-parts g.F.LayoutHandle.layout_of c.args.dl.now c.args.fields.now in
-    let p = ordered_permutes c.args.dl.now c.args.list.now (parts_of c.args.dl.now (map g.F.LayoutHandle.layout_of c.args.fields.now)) c.args.placed.order.items c.args.placed.offsets.items c.args.placed.size c.args.placed.align c.args.placed.largest_niche c.requires.placed in
-    let there = subst (λ (xs : List ℕ). All (λ i. i < length (parts_of c.args.dl.now (map g.F.LayoutHandle.layout_of c.args.fields.now))) xs) (sym c.deref-2.ensures.value) (within_order (length (parts_of c.args.dl.now (map g.F.LayoutHandle.layout_of c.args.fields.now))) c.args.placed.order.items p) in
-    omega (arith, there k d h, many, c.requires.count)
-
 pub returns-clause-shape : goal.returns-clause-shape
-returns-clause-shape g c = ap₂ Arbitrary c.from_raw-offsets.ensures (c.in_ok-in_memory_order.ensures ∙ ap (map g.FieldIdx.Idx.at) c.deref-2.ensures.value)
+returns-clause-shape g c = ap (λ os. Arbitrary os c.args.in_memory_order) c.from_raw-offsets.ensures
 
 pub returns-clause-view : goal.returns-clause-view
 returns-clause-view g c =
