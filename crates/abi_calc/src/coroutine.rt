@@ -28,8 +28,8 @@ ghost use Rattle.abi_calc.specs.Marks.{HasCoroutineMarks};
 ghost use Rattle.abi_calc.specs.Ordered.{IsOrderedWhole};
 
 use crate::calculator::LayoutCalculator;
-use crate::coroutine::layout::layout_of_lists;
 pub use crate::coroutine::layout::state_tag;
+use crate::coroutine::layout::{Saved, layout_of_lists};
 use crate::coroutine::lists::{behind, default_repr, first_fields};
 use crate::coroutine::promotion::promoted_locals;
 use abi_base::{HasDataLayout, StructKind};
@@ -128,17 +128,12 @@ impl<Cx: HasDataLayout> LayoutCalculator<Cx> {
             Err(error) => return Err(error),
         };
         let dl = self.cx.data_layout();
-        layout_of_lists(
-            alloc,
-            dl,
-            count,
-            tag,
+        let saved = Saved {
             promoted,
-            locals.len(),
+            count: locals.len(),
             states,
-            first,
-            lists,
-        )
+        };
+        layout_of_lists(alloc, dl, count, tag, saved, first, lists)
     }
 
     /// The layout of a coroutine of these states, whose promoted locals the states and the conflicts tell.

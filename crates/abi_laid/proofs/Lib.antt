@@ -25,4 +25,9 @@ mod PutPlacesLemmas
 mod TagNumberLemmas
 mod WrittenLemmas
 mod KeptLemmas
+mod InhabitedLemmas
+mod CoverLemmas
+mod ChosenLemmas
+pub mod CoverableLemmas
 pub mod AgreeLemmas
+pub mod DecideLemmas

@@ -25,7 +25,7 @@ use Rattle.abi_laid.specs.Laws.{has_list, have_lists}
 use Rattle.abi_laid.specs.Room.{arms_have_room, has_room, have_room}
 use Rattle.abi_laid.specs.Runs.{is_padding_of}
 use Rattle.abi_laid.specs.Typed.{variant_nodes}
-use Rattle.abi_laid.specs.Needed.{AreNeeded, IsKept, IsMade, IsMadeOf, IsSet, is_among, named_by, parts_cover, placed_nodes, sets_at, some_covers}
+use Rattle.abi_laid.specs.Needed.{AreMade, AreNeeded, IsKept, IsMade, IsMadeOf, IsSet, is_among, named_by, parts_cover, placed_nodes, sets_at, some_covers}
 use Rattle.abi_laid.proofs.NodesLemmas.{layout_of-meaning, layout_of-placed_at, placed_at-node}
 use Rattle.abi_laid.proofs.RoomLemmas.{room_at, within_room}
 use Rattle.abi_laid.proofs.DataPlacesLemmas.{runs_inside}
@@ -327,7 +327,7 @@ nothing_made types n done made bare k =
 -- ---- from the first node on up
 
 -- a type with fields that are listed one by one has their data places
-listed_own : (p : Placed) → has_list p ≡ true → (k : ℕ) → is_data_place p k ≡ is_place_of_part (own_fields p) k
+pub listed_own : (p : Placed) → has_list p ≡ true → (k : ℕ) → is_data_place p k ≡ is_place_of_part (own_fields p) k
 listed_own (scalar layout s) listed k = absurd (cc)
 listed_own (pair layout parts) listed k = absurd (cc)
 listed_own (never layout mark) listed k = absurd (cc)
@@ -339,16 +339,11 @@ listed_own (single layout mark index parts) listed k = absurd (cc)
 listed_own (tagged layout mark offset tag encoding arms) listed k = absurd (cc)
 listed_own (states layout prefix offset tag arms) listed k = absurd (cc)
 
-each_list : (types : List Placed) (cs : List ℕ) → have_lists types cs ≡ true → All (λ j. has_list (placed_in types j) ≡ true) cs
+pub each_list : (types : List Placed) (cs : List ℕ) → have_lists types cs ≡ true → All (λ j. has_list (placed_in types j) ≡ true) cs
 each_list types [] listed = All-nil (λ j. has_list (placed_in types j) ≡ true)
 each_list types (c ∷ cs) listed =
     let both = and_parts (has_list (placed_in types c)) (have_lists types cs) listed in
     All-cons (λ j. has_list (placed_in types j) ≡ true) c cs both.0 (each_list types cs both.1)
-
--- The kept nodes before a place have their sets.
-pub record AreMade (ns : List Node) (kept : List (Option (Bor Node))) (at : ℕ) (done : List (List (ℕ × ℕ))) : Type 0 where
-  pub long : length done ≡ at
-  pub made : (j : ℕ) → j < at → IsKept kept j → IsMade (placed_at ns j) done j
 
 module _ (ns : List Node) (kept : List (Option (Bor Node))) (needed : AreNeeded ns kept) (at : ℕ) (done : List (List (ℕ × ℕ))) (made : AreMade ns kept at done) (lt : at < length kept) where
   made_before : (set : List (ℕ × ℕ)) (j : ℕ) → j < at → IsKept kept j → IsMade (placed_at ns j) (done ++ set ∷ []) j

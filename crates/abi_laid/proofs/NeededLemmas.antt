@@ -184,7 +184,7 @@ module _ (ns : List Node) (well : are_nodes 0 ns ≡ true) (laws : keep_laws [] 
       (variants_room d whole vs (All-tail (λ j. j < length ns) v.1 (map (λ v. v.1) vs) there) lists.1 both.1)
 
   module _ (i : ℕ) (n : Node) (lt : i < length ns) (at : n ≡ get_or ns i n) where
-    laws_here : keeps_laws (types_in ns) n.layout n.shape ≡ true
+    pub laws_here : keeps_laws (types_in ns) n.layout n.shape ≡ true
     laws_here = subst (λ (m : Node). keeps_laws (types_in ns) m.layout m.shape ≡ true) (sym at) (laws_at ns well laws i n lt)
 
     -- each variant's node is one of fields that are listed one by one

@@ -48,7 +48,7 @@ put_if-below true x rest n lt = omega arith
 put_if-below false x rest n lt = omega arith
 
 -- the byte of a picked place is among those picked, behind as many as the test picks before it
-picked-at : (p : ℕ → Bool) (k m : ℕ) (b : List ℕ) → p (k + m) ≡ true → m < length b → get_or (picked p k b) (place_count p k m) 0 ≡ get_or b m 0
+pub picked-at : (p : ℕ → Bool) (k m : ℕ) (b : List ℕ) → p (k + m) ≡ true → m < length b → get_or (picked p k b) (place_count p k m) 0 ≡ get_or b m 0
 picked-at p k m [] place lt = absurd (omega arith)
 picked-at p k zero (x ∷ b) place lt =
     let here : k + 0 ≡ k = omega arith in
@@ -70,7 +70,7 @@ picked-below p k (suc m) (x ∷ b) place lt =
 -- ---- places before one place
 
 -- no other places where none is picked between
-before_skip : (p : ℕ → Bool) (from start : ℕ) → from ≤ start → ((i : ℕ) → from ≤ i → i < start → p i ≡ false) → (j : ℕ) → (p j && nat_lt j from) ≡ (p j && nat_lt j start)
+pub before_skip : (p : ℕ → Bool) (from start : ℕ) → from ≤ start → ((i : ℕ) → from ≤ i → i < start → p i ≡ false) → (j : ℕ) → (p j && nat_lt j from) ≡ (p j && nat_lt j start)
 before_skip p from start le none j =
     ⊎_elim
     (λ lt. ap (λ t. p j && t) (lt-ltb j from lt ∙ sym (lt-ltb j start (omega arith))))
@@ -82,7 +82,7 @@ before_skip p from start le none j =
     (cases_lt j from)
 
 -- one more
-before_more : (p : ℕ → Bool) (k : ℕ) → p k ≡ true → (j : ℕ) → ((p j && nat_lt j k) || (j == k)) ≡ (p j && nat_lt j (k + 1))
+pub before_more : (p : ℕ → Bool) (k : ℕ) → p k ≡ true → (j : ℕ) → ((p j && nat_lt j k) || (j == k)) ≡ (p j && nat_lt j (k + 1))
 before_more p k place j =
     ⊎_elim
     (λ same. or_right (p j && nat_lt j k) (j == k) (eq-eqb j k same) ∙ sym (both_true (ap p same ∙ place) (lt-ltb j (k + 1) (omega arith))))
@@ -93,7 +93,7 @@ before_more p k place j =
     (cases_eq j k)
 
 -- all, where none is picked from there on
-before_all_left : (p : ℕ → Bool) (from : ℕ) → ((i : ℕ) → from ≤ i → p i ≡ false) → (j : ℕ) → (p j && nat_lt j from) ≡ p j
+pub before_all_left : (p : ℕ → Bool) (from : ℕ) → ((i : ℕ) → from ≤ i → p i ≡ false) → (j : ℕ) → (p j && nat_lt j from) ≡ p j
 before_all_left p from none j =
     ⊎_elim
     (λ lt. ⊎_elim (λ e. both_true e (lt-ltb j from lt) ∙ sym e) (λ e. and_left (p j) (nat_lt j from) e ∙ sym e) (cases_Bool (p j)))

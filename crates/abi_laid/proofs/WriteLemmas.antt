@@ -42,12 +42,12 @@ pub written_none : (all : ℕ → Bool) (Held : Type 0) (at : ℕ) (b old : List
 written_none all Held at b old h = record { picks = λ k. false; whole = λ k. refl; put = put_none at b old; held = h }
 
 -- nothing is left
-written_all : (all rest : ℕ → Bool) (Held : Type 0) (at : ℕ) (b old now : List ℕ) → IsWritten all rest Held at b old now → ((k : ℕ) → rest k ≡ false) → IsPutOver all at b old now
+pub written_all : (all rest : ℕ → Bool) (Held : Type 0) (at : ℕ) (b old now : List ℕ) → IsWritten all rest Held at b old now → ((k : ℕ) → rest k ≡ false) → IsPutOver all at b old now
 written_all all rest Held at b old now h none =
     put_like h.picks all at b old now (λ k. sym (or-false (h.picks k)) ∙ ap (λ t. h.picks k || t) (sym (none k)) ∙ h.whole k) h.put
 
 -- one more
-written_more : (all here rest : ℕ → Bool) (Held Later : Type 0) (at : ℕ) (b old now new : List ℕ) → IsWritten all (λ k. here k || rest k) Held at b old now →
+pub written_more : (all here rest : ℕ → Bool) (Held Later : Type 0) (at : ℕ) (b old now new : List ℕ) → IsWritten all (λ k. here k || rest k) Held at b old now →
     IsPutOver here at b now new → Later → IsWritten all rest Later at b old new
 written_more all here rest Held Later at b old now new h put later = record {
   picks = λ k. h.picks k || here k;

@@ -1,5 +1,5 @@
 -- The nodes that a node's data places rest on, and the runs that are made of those of the nodes that it names.
-use Rattle.std.specs.Prelude.{◌≡◌, ℕ, ◌-◌, ◌==◌, ◌<◌, ◌≤◌, ◌||◌, Bool, true, false, List, [], ◌∷◌, ◌++◌, None, Option, Some, get_or, length, map, take}
+use Rattle.std.specs.Prelude.{◌≡◌, ℕ, ◌+◌, ◌-◌, ◌==◌, ◌<◌, ◌≤◌, ◌||◌, Bool, true, false, List, [], ◌∷◌, ◌++◌, None, Option, Some, get_or, length, map, take}
 use Rattle.std.specs.Borrow.{Bor}
 use Rattle.std.specs.List.{list_any}
 use Rattle.abi_index.specs.RangeSet.{AreMaximalRuns, is_in_ranges}
@@ -8,7 +8,7 @@ use Rattle.abi_scalar.specs.Shape.{listed_offsets}
 use Rattle.abi_laid.specs.declared.node.Shape.{Shape}
 use Rattle.abi_laid.specs.declared.node.Shape.TheVariants.{Scalar, Pair, Never, Elements, Fields, Union, Vector, Single, Tagged, States}
 use Rattle.abi_laid.specs.declared.node.Node.{Node}
-use Rattle.abi_laid.specs.Placed.{Placed, Layout}
+use Rattle.abi_laid.specs.Placed.{Placed, Layout, size_of}
 use Rattle.abi_laid.specs.Places.{is_data_place, is_place_of_part}
 use Rattle.abi_laid.specs.Nodes.{meaning, own_fields, placed_at, placed_in}
 use Rattle.abi_laid.specs.Typed.{variant_nodes}
@@ -62,6 +62,20 @@ IsSet done i = (i < length done) × AreMaximalRuns 0 (get_or done i [])
 -- it has this type's data places
 abbrev pub IsMade : Placed → (done : List (List (ℕ × ℕ))) → (place : ℕ) → Type 0
 IsMade placed done i = IsSet done i × ((k : ℕ) → is_in_ranges (get_or done i []) k ≡ is_data_place placed k)
+
+-- The kept nodes before a place have their sets.
+pub record AreMade (ns : List Node) (kept : List (Option (Bor Node))) (at : ℕ) (done : List (List (ℕ × ℕ))) : Type 0 where
+  pub long : length done ≡ at
+  pub made : (j : ℕ) → j < at → IsKept kept j → IsMade (placed_at ns j) done j
+
+-- The data places of each kept node are at hand.
+pub record HaveSets (ns : List Node) (kept : List (Option (Bor Node))) (sets : List (List (ℕ × ℕ))) : Type 0 where
+  pub needed : AreNeeded ns kept
+  pub made : AreMade ns kept (length kept) sets
+
+-- this node, put at a place, is a part of another that stands later: it is kept, and ends inside so many bytes
+abbrev pub IsPartAt : List Node → List (Option (Bor Node)) → (node whole place child : ℕ) → Type 0
+IsPartAt ns kept node whole place child = (child < node) × IsKept kept child × (place + size_of (placed_at ns child) ≤ whole)
 
 -- A node has room after these types. If it has bytes, the sets of all nodes whose data places are its own are made, and its variants
 -- have no data places but those of their fields.

@@ -12,6 +12,7 @@ use crate::node::Node;
 use crate::nodes::Nodes;
 use crate::read_one::read_layout;
 use crate::runs_of::padding;
+use crate::value::decide::decider;
 use abi_base::Endian;
 use abi_index::{FieldIdx, RangeSet, VariantIdx};
 use abi_scalar::LayoutData;
@@ -36,6 +37,10 @@ impl Laid {
     ghost use Rattle.abi_laid.specs.Seen.{Sees};
     ghost use Rattle.abi_laid.specs.Placed.{layout_of, size_of};
     ghost use Rattle.abi_laid.specs.Places.{is_data_place};
+    ghost use Rattle.std.specs.Prelude.{◌&&◌, IfSome, None, false};
+    ghost use Rattle.abi_base.specs.declared.data_layout.TargetDataLayout.{TargetDataLayout};
+    ghost use Rattle.abi_laid.specs.Tree.{Tree};
+    ghost use Rattle.abi_laid.specs.Deciding.{all_inhabited_of, are_inhabited, Decide, KeepsPlaces};
     ghost use Rattle.abi_laid.specs.Runs.{is_padding_of};
     ghost use Rattle.abi_index.specs.RangeSet.{is_in_ranges};
 
@@ -47,6 +52,7 @@ impl Laid {
         ensures placed { placed_of result ≡ root_of nodes.items }
         ensures endian { endian_of result ≡ endian }
         ensures count { node_count_of result ≡ length nodes.items }
+        ensures flags { all_inhabited_of result ≡ are_inhabited nodes.items }
     {
         Laid {
             nodes: Nodes::new(nodes),
@@ -99,6 +105,45 @@ impl Laid {
         ensures visits { IfOk result (λ r. r.1 ≤ node_count_of self.now) }
     {
         padding(alloc, &self.nodes, self.nodes.len() - 1)
+    }
+
+    /// Whether each type in the type has a value: no layout in it is flagged as having none, be it that of a variant that
+    /// is left out, of a local that no state holds, or of an element of which there is none.
+    pub fn all_inhabited(&self) -> bool
+        ensures { result ≡ all_inhabited_of self.now }
+    {
+        for i in 0..self.nodes.len() {
+            if read_layout(&self.nodes, i).uninhabited {
+                return false;
+            }
+        }
+        true
+    }
+
+    /// That the byte at a place decides: bytes that hold a value, and the same with another byte there, which don't hold
+    /// it. `None` where the place is none that decides a value, since it is padding or lies behind the type, or where
+    /// some type in the type has no value. `AllocError` where memory is refused.
+    pub fn decider(
+        &self,
+        alloc: Global,
+        place: u64,
+    ) -> Result<Option<(Vec<u8>, Vec<u8>)>, AllocError>
+        // Where there is an answer.
+        ensures only { IfOk result (λ found. IfSome found (λ pair.
+            (all_inhabited_of self.now ≡ true) × (is_data_place (placed_of self.now) place ≡ true))) }
+        ensures none { IfOk result (λ found. found ≡ None →
+            (all_inhabited_of self.now && is_data_place (placed_of self.now) place) ≡ false) }
+
+        // What it is, for each tree whose places the layout keeps.
+        ensures decides { IfOk result (λ found. IfSome found (λ pair. (dl : TargetDataLayout) (tree : Tree) →
+            KeepsPlaces dl tree self.now →
+            Decide (endian_of self.now) (placed_of self.now) place pair.0.items pair.1.items)) }
+    {
+        if self.all_inhabited() {
+            decider(alloc, self, place)
+        } else {
+            Ok(None)
+        }
     }
 
     /// The order of the bytes of a number in the type.

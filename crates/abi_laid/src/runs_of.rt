@@ -5,7 +5,7 @@ ghost use Rattle.abi_index.specs.RangeSet.{is_in_ranges};
 ghost use Rattle.abi_index.specs.Runs.{Adds, moved, repeated};
 ghost use Rattle.abi_laid.specs.declared.node.Node.{Node as OneNode};
 ghost use Rattle.abi_laid.specs.Laws.{keep_laws};
-ghost use Rattle.abi_laid.specs.Needed.{AreNeeded, IsMadeOf, IsSet, parts_cover, sets_at, some_covers};
+ghost use Rattle.abi_laid.specs.Needed.{AreMade, AreNeeded, IsMadeOf, IsSet, parts_cover, sets_at, some_covers};
 ghost use Rattle.abi_laid.specs.Nodes.{meaning, placed_at};
 ghost use Rattle.abi_laid.specs.Placed.{Placed};
 ghost use Rattle.abi_laid.specs.Places.{is_data_place};
@@ -21,7 +21,7 @@ use abi_index::{RangeSet, RangeSetBuilder};
 use std::alloc::{AllocError, Global};
 
 /// The set that was made for a place.
-fn set_at(done: &[RangeSet], place: usize) -> &RangeSet
+pub(crate) fn set_at(done: &[RangeSet], place: usize) -> &RangeSet
     requires { place < length done.now }
     ensures { result.now ≡ get_or done.now place [] }
 {
@@ -182,11 +182,11 @@ fn next_set(alloc: Global, kept: Option<&Node>, done: &[RangeSet]) -> Result<Ran
     }
 }
 
-/// The data places of the last node that is kept, from those of the first on.
-fn joined_runs(alloc: Global, kept: &[Option<&Node>]) -> Result<RangeSet, AllocError>
+/// The data places of each node that is kept, at its place.
+pub(crate) fn sets_of(alloc: Global, kept: &[Option<&Node>]) -> Result<Vec<RangeSet>, AllocError>
     requires { (ns : List OneNode) × AreNeeded ns kept.now }
-    ensures { IfOk result (λ set. (ns : List OneNode) → AreNeeded ns kept.now →
-        (k : ℕ) → is_in_ranges set k ≡ is_data_place (placed_at ns (length kept.now - 1)) k) }
+    ensures { IfOk result (λ sets. (ns : List OneNode) → AreNeeded ns kept.now →
+        AreMade ns kept.now (length kept.now) sets.items) }
 {
     let mut done = Vec::with_capacity(alloc, kept.len())?;
     for at in 0..kept.len() {
@@ -195,6 +195,16 @@ fn joined_runs(alloc: Global, kept: &[Option<&Node>]) -> Result<RangeSet, AllocE
         let _runs = set.as_slice();
         done.push(set)?;
     }
+    Ok(done)
+}
+
+/// The data places of the last node that is kept, from those of the first on.
+fn joined_runs(alloc: Global, kept: &[Option<&Node>]) -> Result<RangeSet, AllocError>
+    requires { (ns : List OneNode) × AreNeeded ns kept.now }
+    ensures { IfOk result (λ set. (ns : List OneNode) → AreNeeded ns kept.now →
+        (k : ℕ) → is_in_ranges set k ≡ is_data_place (placed_at ns (length kept.now - 1)) k) }
+{
+    let mut done = sets_of(alloc, kept)?;
     match done.pop() {
         Some(set) => Ok(set),
         None => Ok(RangeSet::new(alloc)),

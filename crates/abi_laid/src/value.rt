@@ -1,5 +1,6 @@
 //! Values, whatever their type.
 
+pub(crate) mod decide;
 pub(crate) mod error;
 pub(crate) mod named;
 pub(crate) mod number;

@@ -8,3 +8,7 @@ pub mod Written
 pub mod ReprWords
 pub mod ReadBack
 mod Facts
+pub mod Utf8
+pub mod Sending
+pub mod OneOutput
+pub mod SomeOutput

@@ -11,3 +11,6 @@ pub mod Printing
 pub mod Told
 pub mod Names
 pub mod Written
+pub mod Lines
+pub mod Output
+pub mod LaidOut

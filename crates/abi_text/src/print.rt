@@ -17,8 +17,12 @@ use std::alloc::{AllocError, Global};
 /// The bytes of a larger type aren't listed. In bytes.
 pub(crate) const MOST_LISTED: u64 = 65_536;
 
-/// Writes the size and the alignment, in bytes.
-fn write_size(out: &mut String, layout: &LayoutData<FieldIdx, VariantIdx>) -> Result<(), AllocError>
+/// Writes the size and the alignment, in bytes. What it asks holds of each type that `lay_out` answers. An error comes
+/// where a growth of memory was refused.
+pub fn write_size(
+    out: &mut String,
+    layout: &LayoutData<FieldIdx, VariantIdx>,
+) -> Result<(), AllocError>
     requires { layout.now.align.abi < 64 }
     ensures { OnOk result (string_bytes out.new ≡ string_bytes out.old ++ size_line layout.now) }
 {

@@ -2,8 +2,10 @@
 //! types for the same seed. The answer is how many types were found to be what.
 
 pub(crate) mod coroutines;
+pub(crate) mod deciders;
 pub(crate) mod dice;
 pub(crate) mod enums;
+pub(crate) mod grown;
 pub(crate) mod in_order;
 pub(crate) mod lists;
 pub(crate) mod orders;
@@ -72,6 +74,10 @@ pub(crate) fn call(
     }
     if name == b"random-values".as_slice() {
         values::tried(alloc, dl, line)?.write(out)?;
+        return Ok(true);
+    }
+    if name == b"random-deciders".as_slice() {
+        deciders::tried(alloc, dl, line)?.write(out)?;
         return Ok(true);
     }
     if name == b"random-uniform".as_slice() {

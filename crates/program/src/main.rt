@@ -2,8 +2,7 @@
 //! layout.
 #![tactic(auto)]
 
-mod answer;
-mod lines;
+mod layout_text;
 mod run;
 #[cfg(test)]
 mod tests;

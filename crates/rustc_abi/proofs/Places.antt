@@ -8,3 +8,5 @@ pub mod InsideLemmas
 pub mod CoveredLemmas
 -- what handles call a data place is one of the laid-out tree
 pub mod SeenPlacesLemmas
+-- each data place is covered by a value of the tree, where each type in it has values
+pub mod DecidingLemmas

@@ -1,5 +1,5 @@
 -- What the functions that lay out a tree keep, node by node.
-use Rattle.std.specs.Prelude.{◌≡◌, ℕ, ◌+◌, ◌<◌, ◌⊎◌, true, All, List, [], ◌∷◌, length, map, Result, Ok, Err, ⊤, Vec}
+use Rattle.std.specs.Prelude.{◌≡◌, ℕ, ◌+◌, ◌<◌, ◌⊎◌, true, All, List, [], ◌∷◌, length, map, take, Result, Ok, Err, ⊤, Vec}
 use Rattle.std.specs.declared.alloc.Global.{Global}
 use Rattle.abi_base.specs.declared.data_layout.TargetDataLayout.{TargetDataLayout}
 use Rattle.abi_scalar.specs.declared.variants.Variants.{Variants as LayoutVariants}
@@ -21,6 +21,10 @@ use Rattle.rustc_abi.specs.Laying.{one_scalar, IsLaying, AreLaying, VariantsLayi
 -- memory aside, this is the refusal
 abbrev pub IsRefusal : {A : Type 0} → Result A LayError → LayError → Type 0
 IsRefusal answer e = (e ≡ OutOfMemory) ⊎ (answer ≡ Err e)
+
+-- The nodes that were there are there, unchanged and in their places, before whatever was put behind them.
+abbrev pub AreStillThere : (old new : List Node) → Type 0
+AreStillThere old new = take (length old) new ≡ old
 
 -- A node for the tree was put last, and each node that was there kept.
 pub record IsAdded (dl : TargetDataLayout) (old new : List Node) (i : ℕ) (tree : Tree) : Type 0 where

@@ -1,14 +1,16 @@
 -- How many nodes a tree is laid out with: one for each type in it, absent variants' fields and locals of no state among
 -- them, and besides one for each scalar of a pair, for each vector's array of lanes, for each tag, and for each variant or
 -- state beside a tag.
-use Rattle.std.specs.Prelude.{◌≡◌, ℕ, ◌+◌, List, length, Ok}
+use Rattle.std.specs.Prelude.{◌≡◌, ◌↔◌, ℕ, ◌+◌, ◌&&◌, Bool, List, length, not, true, Ok}
 use Rattle.abi_base.specs.declared.data_layout.TargetDataLayout.{TargetDataLayout}
 use Rattle.abi_laid.specs.declared.node.Node.{Node}
 use Rattle.abi_laid.specs.Tree.{Tree, array, vector, struct, union, enum, coroutine}
 use Rattle.abi_laid.specs.Tree.{Trees, no_trees, more_trees, Variants, no_variants, more_variants}
 use Rattle.abi_laid.specs.Placed.{Placed, pair as two, vector as lanes_of_vector, tagged, states as placed_states}
-use Rattle.abi_laid.specs.Placed.{Arms, no_arms, arm}
+use Rattle.abi_laid.specs.Placed.{Arms, no_arms, arm, layout_of}
+use Rattle.abi_laid.specs.Deciding.{are_inhabited}
 use Rattle.abi_laid.specs.Nodes.{placed_at}
+use Rattle.rustc_abi.specs.Inhabited.{AreInhabited, EachInhabited, VariantsInhabited}
 use Rattle.rustc_abi.specs.Laying.{IsLaying}
 
 -- how many variants or states stand beside a tag
@@ -54,16 +56,31 @@ module _ (dl : TargetDataLayout) where
     VariantsHaveNodes (more_variants discriminant ts others) n =
         (m : ℕ) × HaveNodes ts m × (k : ℕ) × VariantsHaveNodes others k × (n ≡ m + k)
 
-  -- the nodes of the tree were put behind those that were there
+  -- The nodes of the tree were put behind those that were there; none of all is flagged as having no value exactly where none was, and
+  -- each type in the tree has values.
   abbrev pub IsCounted : (old new : List Node) → Tree → Type 0
-  IsCounted old new t = (n : ℕ) × HasNodes t n × (length new ≡ length old + n)
+  IsCounted old new t =
+      (n : ℕ) × HasNodes t n × (length new ≡ length old + n)
+      × ((are_inhabited new ≡ true) ↔ ((are_inhabited old ≡ true) × EachInhabited dl t))
 
   abbrev pub AreCounted : (old new : List Node) → Trees → Type 0
-  AreCounted old new ts = (n : ℕ) × HaveNodes ts n × (length new ≡ length old + n)
+  AreCounted old new ts =
+      (n : ℕ) × HaveNodes ts n × (length new ≡ length old + n)
+      × ((are_inhabited new ≡ true) ↔ ((are_inhabited old ≡ true) × AreInhabited dl ts))
 
   abbrev pub AreVariantsCounted : (old new : List Node) → Variants → Type 0
-  AreVariantsCounted old new all = (n : ℕ) × VariantsHaveNodes all n × (length new ≡ length old + n)
+  AreVariantsCounted old new all =
+      (n : ℕ) × VariantsHaveNodes all n × (length new ≡ length old + n)
+      × ((are_inhabited new ≡ true) ↔ ((are_inhabited old ≡ true) × VariantsInhabited dl all))
 
--- behind those of the types in it, the own nodes of the type at this place were put
+-- so many nodes were put behind those that were there, and one of them is flagged or not; none of all is, where none was and none is
+-- of these
+abbrev pub HasMore : (n : ℕ) → (flagged : Bool) → (old new : List Node) → Type 0
+HasMore n flagged old new = (length new ≡ length old + n) × (are_inhabited new ≡ (are_inhabited old && not flagged))
+
+-- behind those of the types in it, the own nodes of the type at this place were put; no node is flagged, where none was and the type
+-- isn't
 abbrev pub IsOwnPut : (old new : List Node) → (i : ℕ) → Type 0
-IsOwnPut old new i = length new ≡ length old + own_nodes (placed_at new i)
+IsOwnPut old new i =
+    (length new ≡ length old + own_nodes (placed_at new i))
+    × (are_inhabited new ≡ (are_inhabited old && not (layout_of (placed_at new i)).uninhabited))

@@ -10,5 +10,6 @@ pub mod Lists
 pub mod Orders
 pub mod Clash
 pub mod Adding
+pub mod Inhabited
 pub mod Count
 pub mod Fault

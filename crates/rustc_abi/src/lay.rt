@@ -1,11 +1,11 @@
 //! The layout of a tree.
 
-ghost use Rattle.std.specs.Prelude.{◌≡◌, ◌⊎◌, ◌&&◌, IfOk, IfErr, Err, Ok, Result, not, true, ℕ};
+ghost use Rattle.std.specs.Prelude.{◌≡◌, ◌↔◌, ◌⊎◌, ◌&&◌, IfOk, IfErr, Err, Ok, Result, not, true, ℕ};
 ghost use Rattle.std.specs.Result.{IsErrAnd};
 ghost use Rattle.abi_base.specs.DataLayout.{IsLawfulDataLayout};
 ghost use Rattle.abi_laid.specs.Tree.{tree_of};
 ghost use Rattle.abi_laid.specs.Values.{LocalsHaveValues};
-ghost use Rattle.abi_laid.specs.Deciding.{CoveredBytesDecide};
+ghost use Rattle.abi_laid.specs.Deciding.{CoveredBytesDecide, EachPlaceDecides, KeepsPlaces, all_inhabited_of};
 ghost use Rattle.abi_laid.specs.Faithful.{EachValueIsHeld, OnlyValuesAreHeld, NoBytesHoldTwo, IsNicheTrue, IsNicheInside, PaddingDecidesNothing, IsViewTrue, IsFlagTrue};
 ghost use Rattle.abi_scalar.specs.Lawful.{IsLawfulLayout};
 ghost use Rattle.rustc_abi.specs.declared.error.LayError.{LayError};
@@ -20,6 +20,7 @@ ghost use Rattle.abi_types.specs.Ty.Walks.{is_sized};
 ghost use Rattle.rustc_abi.specs.Clash.{AreClashingApart, HaveOneOffset};
 ghost use Rattle.rustc_abi.specs.Count.{HasNodes};
 ghost use Rattle.rustc_abi.specs.Everywhere.{Everywhere};
+ghost use Rattle.rustc_abi.specs.Inhabited.{EachInhabited};
 ghost use Rattle.rustc_abi.specs.Least.{HasOverlapSize, IsLeast, IsTooLarge};
 ghost use Rattle.rustc_abi.specs.Lists.{HasLeastLists};
 ghost use Rattle.rustc_abi.specs.Orders.{LiesAsAsked};
@@ -97,6 +98,10 @@ pub fn lay_out(alloc: Global, dl: &TargetDataLayout, tree: &TypeTree) -> Result<
     // With how many nodes it is laid out.
     ensures counted { IfOk result (λ laid. HasNodes dl.now (tree_of tree.now) (node_count_of laid)) }
 
+    // Whether each type in it has values: absent variants' fields and locals of no state are types in it, too.
+    ensures inhabited { IfOk result (λ laid.
+        (all_inhabited_of laid ≡ true) ↔ EachInhabited dl.now (tree_of tree.now)) }
+
     // It is sized.
     ensures sized { IfOk result (λ laid. is_sized (layout_of (placed_of laid)).backend_repr ≡ true) }
 
@@ -121,6 +126,15 @@ pub fn lay_out(alloc: Global, dl: &TargetDataLayout, tree: &TypeTree) -> Result<
     ensures padding { IfOk result (λ laid. LocalsHaveValues dl.now (tree_of tree.now) →
         PaddingDecidesNothing dl.now (placed_of laid)) }
     ensures covered { IfOk result (λ laid. CoveredBytesDecide dl.now.endian (placed_of laid)) }
+
+    // Where each type in it has values, each data place is covered by a value, so that the byte there decides: some
+    // bytes hold a value, and the same with another byte there don't hold it. All that can be ignored is padding.
+    ensures covers { IfOk result (λ laid. all_inhabited_of laid ≡ true →
+        KeepsPlaces dl.now (tree_of tree.now) laid) }
+    ensures decides { IfOk result (λ laid. all_inhabited_of laid ≡ true →
+        EachPlaceDecides dl.now.endian (placed_of laid)) }
+
+    // What it keeps of its view, and of its flag.
     ensures view { IfOk result (λ laid. LocalsHaveValues dl.now (tree_of tree.now) →
         IsViewTrue dl.now (placed_of laid)) }
     ensures uninhabited { IfOk result (λ laid. LocalsHaveValues dl.now (tree_of tree.now) →

@@ -10,7 +10,7 @@ ghost use Rattle.abi_laid.specs.Nodes.{placed_at};
 ghost use Rattle.rustc_abi.specs.Laying.{IsLaying, elements_answer};
 ghost use Rattle.rustc_abi.specs.Error.{named};
 ghost use Rattle.abi_laid.specs.Fits.{Fits};
-ghost use Rattle.rustc_abi.specs.Adding.{IsAdded, IsRefusal};
+ghost use Rattle.rustc_abi.specs.Adding.{AreStillThere, IsAdded, IsRefusal};
 ghost use Rattle.rustc_abi.specs.Count.{IsOwnPut};
 
 use crate::error::LayError;
@@ -58,6 +58,7 @@ pub(crate) fn add_elements(
     ensures own { IfOk result (IsOwnPut nodes.old.items nodes.new.items) }
     ensures err { IfErr result (IsRefusal (elements_answer dl.now count (placed_at nodes.old.items element))) }
     ensures kept { OnErr result (nodes.new.items ≡ nodes.old.items) }
+    ensures behind { AreStillThere nodes.old.items nodes.new.items }
 {
     let layout = elements_layout(dl, nodes, count, element)?;
     add(nodes, layout, Shape::Elements { count, element })

@@ -1,6 +1,6 @@
 //! How coroutines are laid out, once their prefix fields and their locals are.
 
-ghost use Rattle.std.specs.Prelude.{◌≡◌, ◌≢◌, ℕ, ◌+◌, ◌++◌, ◌∷◌, [], true, ◌<◌, ◌≤◌, ◌==◌, ◌&&◌, All, Err, IfErr, IfOk, List, None, Ok, get_or, length, map, vec_len};
+ghost use Rattle.std.specs.Prelude.{◌≡◌, ◌≢◌, ℕ, ◌+◌, ◌++◌, ◌∷◌, [], true, ◌<◌, ◌≤◌, ◌==◌, ◌&&◌, All, Err, IfErr, IfOk, List, None, Ok, false, get_or, length, map, vec_len};
 ghost use Rattle.std.specs.List.{AllPairs, list_any};
 ghost use Rattle.abi_base.specs.DataLayout.{IsLawfulDataLayout};
 ghost use Rattle.abi_index.specs.Relation.{column_count, is_entry, row_count};
@@ -19,9 +19,9 @@ ghost use Rattle.rustc_abi.specs.Coroutines.{IsCoroutined};
 ghost use Rattle.rustc_abi.specs.Laying.{AreLaying, IsCoroutineOf, coroutine_fault, most_fields, one_scalar, placed_coroutine};
 ghost use Rattle.rustc_abi.specs.Error.{IsRefused};
 ghost use Rattle.abi_laid.specs.Well.{IsPut, all_at};
-ghost use Rattle.rustc_abi.specs.Adding.{AreArms, EachFits, IsAdded, variants_in};
+ghost use Rattle.rustc_abi.specs.Adding.{AreArms, AreStillThere, EachFits, IsAdded, variants_in};
 ghost use Rattle.rustc_abi.specs.Enums.{arms_at};
-ghost use Rattle.rustc_abi.specs.Count.{IsOwnPut};
+ghost use Rattle.rustc_abi.specs.Count.{HasMore, IsOwnPut};
 
 use crate::conflicts::{conflicts, named_each};
 use crate::coroutine_fault::coroutine_fault;
@@ -45,6 +45,13 @@ fn indices(alloc: Global, count: usize) -> Result<Vec<u128>, AllocError>
         indices.push(index as u128)?;
     }
     Ok(indices)
+}
+
+/// The nodes of a coroutine's locals, and the indices of those that each state has.
+#[derive(Clone, Copy)]
+struct Saved<'a> {
+    locals: &'a [usize],
+    states: &'a [Vec<u64>],
 }
 
 /// The nodes of the locals with these indices.
@@ -94,8 +101,9 @@ fn add_each_state(
         AreArms nodes.old.items nodes.new.items (map (λ l. l.size) (variants_of layout.now.variants)) states.items
         (arms_at layout.now Mark.Plain 0 (variants_of layout.now.variants) (source_order (length children.now))
         (variants_in nodes.old.items children.now))) }
-    ensures count { IfOk result (λ states. length nodes.new.items ≡ length nodes.old.items + length states.items) }
+    ensures count { IfOk result (λ states. HasMore (length states.items) false nodes.old.items nodes.new.items) }
     ensures err { IfErr result (λ e. e ≡ LayError.OutOfMemory) }
+    ensures behind { AreStillThere nodes.old.items nodes.new.items }
 {
     let numbers = indices(alloc, children.len())?;
     add_variants(alloc, nodes, layout, Mark::Plain, &numbers, children)
@@ -110,27 +118,27 @@ fn add_states(
     layout: LayoutData<FieldIdx, VariantIdx>,
     tag: Scalar,
     prefix: Vec<usize>,
-    locals: &[usize],
-    states: &[Vec<u64>],
+    saved: Saved<'_>,
 ) -> Result<usize, LayError>
     requires tag { IsReadable dl.now tag }
-    requires each { length (variants_of layout.variants) ≡ length states.now }
-    requires few { length states.now ≤ most_fields }
-    requires few_each { All (λ ks. length ks.items ≤ most_fields) states.now }
+    requires each { length (variants_of layout.variants) ≡ length saved.states.now }
+    requires few { length saved.states.now ≤ most_fields }
+    requires few_each { All (λ ks. length ks.items ≤ most_fields) saved.states.now }
     requires prefix { All (λ child. child < vec_len nodes.old) prefix.items }
-    requires there { All (λ child. child < vec_len nodes.old) locals.now }
-    requires known { All (λ ks. All (λ k. k < length locals.now) ks.items) states.now }
+    requires there { All (λ child. child < vec_len nodes.old) saved.locals.now }
+    requires known { All (λ ks. All (λ k. k < length saved.locals.now) ks.items) saved.states.now }
     requires places { have_places layout.size layout.fields
         (map size_of (all_at nodes.old.items prefix.items) ++ size_of (one_scalar dl.now tag) ∷ []) ≡ true }
     requires inside { VariantsInside layout.size (variants_of layout.variants)
-        (map (λ ks. map (placed_in (all_at nodes.old.items locals.now)) ks.items) states.now) }
+        (map (λ ks. map (placed_in (all_at nodes.old.items saved.locals.now)) ks.items) saved.states.now) }
     ensures ok { IfOk result (λ i. IsPut nodes.old.items nodes.new.items i
-        (placed_coroutine dl.now (all_at nodes.old.items prefix.items) tag (all_at nodes.old.items locals.now)
-        (map (λ state. state.items) states.now) layout)) }
+        (placed_coroutine dl.now (all_at nodes.old.items prefix.items) tag
+        (all_at nodes.old.items saved.entry.locals.now) (map (λ state. state.items) saved.entry.states.now) layout)) }
     ensures own { IfOk result (IsOwnPut nodes.old.items nodes.new.items) }
     ensures err { IfErr result (λ e. e ≡ LayError.OutOfMemory) }
+    ensures behind { AreStillThere nodes.old.items nodes.new.items }
 {
-    let children = picked_each(alloc, locals, states)?;
+    let children = picked_each(alloc, saved.locals, saved.states)?;
     let tag = add(nodes, LayoutData::scalar(&dl, tag), Shape::Scalar(tag))?;
     let states = add_each_state(alloc, nodes, &layout, &children)?;
     add(
@@ -196,28 +204,28 @@ fn coroutine_layout(
     nodes: &[Node],
     prefix: &[usize],
     tag: Scalar,
-    locals: &[usize],
-    states: &[Vec<u64>],
+    saved: Saved<'_>,
     pairs: &[(u64, u64)],
 ) -> Result<LayoutData<FieldIdx, VariantIdx>, LayError>
     requires data_layout { IsLawfulDataLayout dl.now }
-    requires faultless { coroutine_fault (length prefix.now) (length locals.now)
-        (map (λ state. state.items) states.now) pairs.now ≡ None }
-    requires tag { IsStateTag (length states.now) tag }
+    requires faultless { coroutine_fault (length prefix.now) (length saved.locals.now)
+        (map (λ state. state.items) saved.states.now) pairs.now ≡ None }
+    requires tag { IsStateTag (length saved.states.now) tag }
     requires before { All (λ child. child < length nodes.now) prefix.now }
-    requires there { All (λ child. child < length nodes.now) locals.now }
+    requires there { All (λ child. child < length nodes.now) saved.locals.now }
     requires prefix { All (λ p. IsLawfulLayout dl.now (layout_of p)) (all_at nodes.now prefix.now) }
-    requires locals { All (λ p. IsLawfulLayout dl.now (layout_of p)) (all_at nodes.now locals.now) }
+    requires locals { All (λ p. IsLawfulLayout dl.now (layout_of p)) (all_at nodes.now saved.locals.now) }
     ensures ok { IfOk result (λ l. IsCoroutined dl.now (all_at nodes.now prefix.now) tag (one_scalar dl.now tag)
-        (all_at nodes.now locals.now) (map (λ state. state.items) states.now) pairs.now (Ok l)) }
+        (all_at nodes.now saved.entry.locals.now) (map (λ state. state.items) saved.entry.states.now) pairs.now
+        (Ok l)) }
     ensures err { IfErr result (IsRefused
-        (IsCoroutined dl.now (all_at nodes.now prefix.now) tag (one_scalar dl.now tag) (all_at nodes.now locals.now)
-        (map (λ state. state.items) states.now) pairs.now)) }
+        (IsCoroutined dl.now (all_at nodes.now prefix.now) tag (one_scalar dl.now tag)
+        (all_at nodes.now saved.entry.locals.now) (map (λ state. state.items) saved.entry.states.now) pairs.now)) }
 {
-    let relation = conflicts(alloc, locals.len(), pairs)?;
-    let states = named_each(alloc, states)?;
+    let relation = conflicts(alloc, saved.locals.len(), pairs)?;
+    let states = named_each(alloc, saved.states)?;
     let prefix = layouts_at(alloc, nodes, prefix)?;
-    let locals = layouts_at(alloc, nodes, locals)?;
+    let locals = layouts_at(alloc, nodes, saved.locals)?;
     calculated(
         alloc,
         dl,
@@ -257,10 +265,12 @@ fn add_faultless_coroutine(
     ensures err { IfErr result (IsRefused
         (IsCoroutineOf dl.now (all_at nodes.old.items prefix.items) (all_at nodes.old.items locals.now)
         (map (λ state. state.items) states.now) pairs.now)) }
+    ensures behind { AreStillThere nodes.old.items nodes.new.items }
 {
     let tag = state_tag(states.len());
-    let layout = coroutine_layout(alloc, dl, nodes, &prefix, tag, locals, states, pairs)?;
-    add_states(alloc, dl, nodes, layout, tag, prefix, locals, states)
+    let saved = Saved { locals, states };
+    let layout = coroutine_layout(alloc, dl, nodes, &prefix, tag, saved, pairs)?;
+    add_states(alloc, dl, nodes, layout, tag, prefix, saved)
 }
 
 /// A node for a coroutine of these prefix fields and locals, each as one of the nodes.
@@ -289,6 +299,7 @@ pub(crate) fn add_coroutine(
     ensures err { IfErr result (IsRefused
         (IsCoroutineOf dl.now (all_at nodes.old.items prefix.items) (all_at nodes.old.items locals.now)
         (map (λ state. state.items) states.now) pairs.now)) }
+    ensures behind { AreStillThere nodes.old.items nodes.new.items }
 {
     match coroutine_fault(alloc, prefix.len(), locals.len(), states, pairs)? {
         Some(fault) => Err(fault),

@@ -17,8 +17,8 @@ ghost use Rattle.abi_laid.specs.Laws.{have_places};
 ghost use Rattle.rustc_abi.specs.Adding.{HavePlaces};
 ghost use Rattle.rustc_abi.specs.Error.{IsRefused};
 ghost use Rattle.abi_laid.specs.Well.{IsPut};
-ghost use Rattle.rustc_abi.specs.Adding.{AreArms, HasReadableTag, HasVariants, IsAdded, VariantsFit, variants_in};
-ghost use Rattle.rustc_abi.specs.Count.{IsOwnPut};
+ghost use Rattle.rustc_abi.specs.Adding.{AreArms, AreStillThere, HasReadableTag, HasVariants, IsAdded, VariantsFit, variants_in};
+ghost use Rattle.rustc_abi.specs.Count.{HasMore, IsOwnPut};
 
 use crate::discriminants::{has_equal, is_discriminant, numbered};
 use crate::error::LayError;
@@ -203,8 +203,9 @@ pub(crate) fn add_variants(
         AreArms nodes.old.items nodes.new.items (map (λ l. l.size) (variants_of layout.now.variants)) variants.items
         (arms_at layout.now mark 0 (variants_of layout.now.variants) numbers.now
         (variants_in nodes.old.items children.now))) }
-    ensures count { IfOk result (λ variants. length nodes.new.items ≡ length nodes.old.items + length variants.items) }
+    ensures count { IfOk result (λ variants. HasMore (length variants.items) false nodes.old.items nodes.new.items) }
     ensures err { IfErr result (λ e. e ≡ LayError.OutOfMemory) }
+    ensures behind { AreStillThere nodes.old.items nodes.new.items }
 {
     let mut variants = Vec::with_capacity(alloc, children.len())?;
     for at in 0..children.len() {
@@ -216,6 +217,13 @@ pub(crate) fn add_variants(
     Ok(variants)
 }
 
+/// Variants that a tag tells apart: the discriminant of each, and its fields as nodes.
+#[derive(Clone, Copy)]
+struct Told<'a> {
+    numbers: &'a [u128],
+    children: &'a [Vec<usize>],
+}
+
 /// A node for an enum of several variants with this layout and this tag, behind one for the tag and one for each
 /// variant.
 fn add_tagged(
@@ -225,26 +233,27 @@ fn add_tagged(
     layout: LayoutData<FieldIdx, VariantIdx>,
     mark: Mark,
     tag: Scalar,
-    numbers: &[u128],
-    children: &[Vec<usize>],
+    told: Told<'_>,
 ) -> Result<usize, LayError>
     requires tag { IsReadable dl.now tag }
-    requires variants { length (variants_of layout.variants) ≡ length children.now }
-    requires each { length numbers.now ≡ length children.now }
-    requires few { length children.now ≤ most_fields }
-    requires few_each { All (λ fields. length fields.items ≤ most_fields) children.now }
-    requires there { All (λ fields. All (λ child. child < vec_len nodes.old) fields.items) children.now }
+    requires variants { length (variants_of layout.variants) ≡ length told.children.now }
+    requires each { length told.numbers.now ≡ length told.children.now }
+    requires few { length told.children.now ≤ most_fields }
+    requires few_each { All (λ fields. length fields.items ≤ most_fields) told.children.now }
+    requires there { All (λ fields. All (λ child. child < vec_len nodes.old) fields.items) told.children.now }
     requires places { have_places layout.size layout.fields (size_of (one_scalar dl.now tag) ∷ []) ≡ true }
     requires inside { VariantsInside layout.size (variants_of layout.variants)
-        (variants_in nodes.old.items children.now) }
+        (variants_in nodes.old.items told.children.now) }
     ensures ok { IfOk result (λ i. IsPut nodes.old.items nodes.new.items i
         (tagged layout mark (tag_offset layout) (one_scalar dl.now tag) (encoding_of layout.variants)
-        (arms_at layout mark 0 (variants_of layout.variants) numbers.now (variants_in nodes.old.items children.now)))) }
+        (arms_at layout mark 0 (variants_of layout.variants) told.entry.numbers.now
+        (variants_in nodes.old.items told.entry.children.now)))) }
     ensures own { IfOk result (IsOwnPut nodes.old.items nodes.new.items) }
     ensures err { IfErr result (λ e. e ≡ LayError.OutOfMemory) }
+    ensures behind { AreStillThere nodes.old.items nodes.new.items }
 {
     let tag = add(nodes, LayoutData::scalar(&dl, tag), Shape::Scalar(tag))?;
-    let variants = add_variants(alloc, nodes, &layout, mark, numbers, children)?;
+    let variants = add_variants(alloc, nodes, &layout, mark, told.numbers, told.children)?;
     add(
         nodes,
         layout,
@@ -277,6 +286,7 @@ fn add_placed(
         (placed_enum dl.now repr.now numbers.now (variants_in nodes.old.items children.now) layout)) }
     ensures own { IfOk result (IsOwnPut nodes.old.items nodes.new.items) }
     ensures err { IfErr result (λ e. e ≡ LayError.OutOfMemory) }
+    ensures behind { AreStillThere nodes.old.items nodes.new.items }
 {
     let mark = Mark::of(true, repr);
     match layout.variants {
@@ -286,7 +296,8 @@ fn add_placed(
             add(nodes, layout, Shape::Single(mark, fields))
         }
         Variants::Multiple { tag, .. } => {
-            add_tagged(alloc, dl, nodes, layout, mark, tag, numbers, children)
+            let told = Told { numbers, children };
+            add_tagged(alloc, dl, nodes, layout, mark, tag, told)
         }
     }
 }
@@ -313,6 +324,7 @@ fn add_faultless_enum(
     ensures own { IfOk result (IsOwnPut nodes.old.items nodes.new.items) }
     ensures err { IfErr result (IsRefused
         (IsEnumOf dl.now repr.now numbers.now (variants_in nodes.old.items children.now))) }
+    ensures behind { AreStillThere nodes.old.items nodes.new.items }
 {
     let layout = enum_layout(alloc, dl, nodes, repr, numbers, children)?;
     add_placed(alloc, dl, nodes, layout, repr, numbers, children)
@@ -339,6 +351,7 @@ pub(crate) fn add_enum(
     ensures own { IfOk result (IsOwnPut nodes.old.items nodes.new.items) }
     ensures err { IfErr result (IsRefused
         (IsEnumOf dl.now repr.now numbers.now (variants_in nodes.old.items children.now))) }
+    ensures behind { AreStillThere nodes.old.items nodes.new.items }
 {
     match enum_fault(alloc, dl, repr, numbers, children)? {
         Some(fault) => Err(fault),

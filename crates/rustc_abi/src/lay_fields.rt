@@ -12,7 +12,7 @@ ghost use Rattle.abi_laid.specs.Placed.{Placed, layout_of, size_of};
 ghost use Rattle.rustc_abi.specs.Laying.{AreLaying, IsFieldsAnswer, IsListed, fields_fault, has_bad_align, has_bad_index, is_above_limit, kind_of, most_fields};
 ghost use Rattle.rustc_abi.specs.Error.{IsRefused};
 ghost use Rattle.abi_laid.specs.Well.{all_at};
-ghost use Rattle.rustc_abi.specs.Adding.{IsAdded, EachFits};
+ghost use Rattle.rustc_abi.specs.Adding.{AreStillThere, EachFits, IsAdded};
 ghost use Rattle.rustc_abi.specs.Count.{IsOwnPut};
 
 use crate::error::LayError;
@@ -142,6 +142,7 @@ fn add_faultless_fields(
     ensures err { IfErr result (IsRefused
         (IsFieldsAnswer dl.now repr.now always_sized (all_at nodes.old.items children.items))) }
     ensures kept { OnErr result (nodes.new.items ≡ nodes.old.items) }
+    ensures behind { AreStillThere nodes.old.items nodes.new.items }
 {
     let kind = kind_of(always_sized, &children);
     let layout = fields_layout(alloc, dl, nodes, repr, kind, &children)?;
@@ -172,6 +173,7 @@ pub(crate) fn add_fields(
     ensures err { IfErr result (IsRefused
         (IsFieldsAnswer dl.now repr.now always_sized (all_at nodes.old.items children.items))) }
     ensures kept { OnErr result (nodes.new.items ≡ nodes.old.items) }
+    ensures behind { AreStillThere nodes.old.items nodes.new.items }
 {
     match fields_fault(repr, &children) {
         Some(fault) => Err(fault),

@@ -11,7 +11,7 @@ ghost use Rattle.abi_lists.specs.ListNiche.{IsNicheOfPart};
 ghost use Rattle.abi_laid.specs.Tree.{Trees, struct};
 ghost use Rattle.abi_laid.specs.Placed.{Placed, layout_of, size_of};
 ghost use Rattle.abi_laid.specs.Well.{all_at};
-ghost use Rattle.rustc_abi.specs.Adding.{IsAdded, EachFits};
+ghost use Rattle.rustc_abi.specs.Adding.{AreStillThere, EachFits, IsAdded};
 ghost use Rattle.rustc_abi.specs.Count.{IsOwnPut};
 ghost use Rattle.rustc_abi.specs.Error.{IsRefused};
 ghost use Rattle.rustc_abi.specs.Laying.{AreLaying, IsListedInOrder, IsOrderedFieldsAnswer, most_fields, ordered_fault, randomized};
@@ -125,6 +125,7 @@ fn add_faultless_ordered(
     ensures err { IfErr result (IsRefused
         (IsOrderedFieldsAnswer dl.now repr.now always_sized order.now (all_at nodes.old.items children.items))) }
     ensures kept { OnErr result (nodes.new.items ≡ nodes.old.items) }
+    ensures behind { AreStillThere nodes.old.items nodes.new.items }
 {
     let kind = kind_of(always_sized, &children);
     let layout = ordered_layout(alloc, dl, nodes, &randomized(repr), kind, order, &children)?;
@@ -156,6 +157,7 @@ pub(crate) fn add_ordered(
     ensures err { IfErr result (IsRefused
         (IsOrderedFieldsAnswer dl.now repr.now always_sized order.now (all_at nodes.old.items children.items))) }
     ensures kept { OnErr result (nodes.new.items ≡ nodes.old.items) }
+    ensures behind { AreStillThere nodes.old.items nodes.new.items }
 {
     match ordered_fault(repr, &children) {
         Some(fault) => Err(fault),

@@ -1,6 +1,6 @@
 //! How types without parts, and pairs of scalars, are laid out.
 
-ghost use Rattle.std.specs.Prelude.{◌≡◌, ◌+◌, IfOk, IfErr, None, OnErr, length, true};
+ghost use Rattle.std.specs.Prelude.{◌≡◌, ◌+◌, IfOk, IfErr, None, OnErr, false, length, true};
 ghost use Rattle.abi_base.specs.DataLayout.{IsLawfulDataLayout};
 ghost use Rattle.abi_scalar.specs.Scalar.{primitive_of};
 ghost use Rattle.abi_laid.specs.Tree.{scalar, pair, never, unit};
@@ -9,8 +9,8 @@ ghost use Rattle.abi_laid.specs.Placed.{layout_of};
 ghost use Rattle.rustc_abi.specs.Laying.{one_scalar, scalar_answer, pair_answer};
 ghost use Rattle.rustc_abi.specs.ScalarFault.{is_lawful_primitive, has_range_within, scalar_fault};
 ghost use Rattle.abi_laid.specs.Well.{IsPut};
-ghost use Rattle.rustc_abi.specs.Adding.{IsAdded, IsRefusal};
-ghost use Rattle.rustc_abi.specs.Count.{IsOwnPut};
+ghost use Rattle.rustc_abi.specs.Adding.{AreStillThere, IsAdded, IsRefusal};
+ghost use Rattle.rustc_abi.specs.Count.{HasMore, IsOwnPut};
 
 use crate::error::LayError;
 use crate::node::add;
@@ -67,9 +67,10 @@ fn add_lawful(
     requires faultless { scalar_fault dl.now value ≡ None }
     ensures ok { IfOk result (λ i. IsPut nodes.old.items nodes.new.items i (one_scalar dl.now value)) }
     ensures lawful { IsLawfulLayout dl.now (layout_of (one_scalar dl.now value)) }
-    ensures count { IfOk result (λ i. length nodes.new.items ≡ length nodes.old.items + 1) }
+    ensures count { IfOk result (λ i. HasMore 1 false nodes.old.items nodes.new.items) }
     ensures err { IfErr result (λ e. e ≡ LayError.OutOfMemory) }
     ensures kept { OnErr result (nodes.new.items ≡ nodes.old.items) }
+    ensures behind { AreStillThere nodes.old.items nodes.new.items }
 {
     add(nodes, LayoutData::scalar(&dl, value), Shape::Scalar(value))
 }
@@ -85,6 +86,7 @@ pub(crate) fn add_scalar(
     ensures own { IfOk result (IsOwnPut nodes.old.items nodes.new.items) }
     ensures err { IfErr result (IsRefusal (scalar_answer dl.now value)) }
     ensures kept { OnErr result (nodes.new.items ≡ nodes.old.items) }
+    ensures behind { AreStillThere nodes.old.items nodes.new.items }
 {
     match scalar_fault(dl, value) {
         Some(fault) => Err(fault),
@@ -106,6 +108,7 @@ fn add_two(
     ensures ok { IfOk result (λ i. IsAdded dl.now nodes.old.items nodes.new.items i (pair a b)) }
     ensures own { IfOk result (IsOwnPut nodes.old.items nodes.new.items) }
     ensures err { IfErr result (IsRefusal (pair_answer dl.now a b)) }
+    ensures behind { AreStillThere nodes.old.items nodes.new.items }
 {
     let layout = LayoutData::scalar_pair(alloc, &dl, a, b)?;
     if layout.size.bytes() >= dl.obj_size_bound() {
@@ -128,6 +131,7 @@ pub(crate) fn add_pair(
     ensures ok { IfOk result (λ i. IsAdded dl.now nodes.old.items nodes.new.items i (pair a b)) }
     ensures own { IfOk result (IsOwnPut nodes.old.items nodes.new.items) }
     ensures err { IfErr result (IsRefusal (pair_answer dl.now a b)) }
+    ensures behind { AreStillThere nodes.old.items nodes.new.items }
 {
     if let Some(fault) = scalar_fault(dl, a) {
         return Err(fault);
@@ -145,6 +149,7 @@ pub(crate) fn add_never(dl: &TargetDataLayout, nodes: &mut Vec<Node>) -> Result<
     ensures own { IfOk result (IsOwnPut nodes.old.items nodes.new.items) }
     ensures err { IfErr result (λ e. e ≡ LayError.OutOfMemory) }
     ensures kept { OnErr result (nodes.new.items ≡ nodes.old.items) }
+    ensures behind { AreStillThere nodes.old.items nodes.new.items }
 {
     add(
         nodes,
@@ -164,6 +169,7 @@ pub(crate) fn add_unit(
     ensures own { IfOk result (IsOwnPut nodes.old.items nodes.new.items) }
     ensures err { IfErr result (λ e. e ≡ LayError.OutOfMemory) }
     ensures kept { OnErr result (nodes.new.items ≡ nodes.old.items) }
+    ensures behind { AreStillThere nodes.old.items nodes.new.items }
 {
     add(
         nodes,

@@ -1,11 +1,11 @@
 //! How trees are laid out: children before parents, left to right.
 
-ghost use Rattle.std.specs.Prelude.{IfOk, IfErr, map};
+ghost use Rattle.std.specs.Prelude.{IfOk, IfErr, map, option_map};
 ghost use Rattle.abi_base.specs.DataLayout.{IsLawfulDataLayout};
-ghost use Rattle.abi_laid.specs.Tree.{tree_of, trees, trees_of_variants};
+ghost use Rattle.abi_laid.specs.Tree.{coroutine, enum, struct, tree_of, trees, trees_of_variants};
 ghost use Rattle.rustc_abi.specs.Laying.{IsLaying, AreLaying, VariantsLaying};
 ghost use Rattle.rustc_abi.specs.Error.{IsRefused};
-ghost use Rattle.rustc_abi.specs.Adding.{IsAdded, AreAdded, AreVariantsAdded};
+ghost use Rattle.rustc_abi.specs.Adding.{AreAdded, AreStillThere, AreVariantsAdded, IsAdded};
 ghost use Rattle.rustc_abi.specs.Count.{AreCounted, AreVariantsCounted, IsCounted};
 
 use crate::discriminants::discriminants;
@@ -20,6 +20,7 @@ use crate::lay_union::add_union;
 use crate::lay_vector::add_vector;
 use abi_base::TargetDataLayout;
 use abi_laid::{Node, TypeTree};
+use abi_scalar::ReprOptions;
 use std::alloc::Global;
 
 /// Lays out a type behind the nodes that are there.
@@ -34,6 +35,7 @@ pub(crate) fn lay_tree(
     ensures ok { IfOk result (λ i. IsAdded dl.now nodes.old.items nodes.new.items i (tree_of tree.now)) }
     ensures counted { IfOk result (λ i. IsCounted dl.now nodes.old.items nodes.new.items (tree_of tree.now)) }
     ensures err { IfErr result (IsRefused (IsLaying dl.now (tree_of tree.now))) }
+    ensures behind { AreStillThere nodes.old.items nodes.new.items }
 {
     match tree {
         TypeTree::Scalar(value) => add_scalar(dl, nodes, *value),
@@ -48,19 +50,13 @@ pub(crate) fn lay_tree(
             repr,
             always_sized,
             fields,
-        } => {
-            let children = lay_each(alloc, dl, nodes, fields)?;
-            add_fields(alloc, dl, nodes, repr, *always_sized, children)
-        }
+        } => lay_struct(alloc, dl, nodes, repr, *always_sized, None, fields),
         TypeTree::Ordered {
             repr,
             always_sized,
             order,
             fields,
-        } => {
-            let children = lay_each(alloc, dl, nodes, fields)?;
-            add_ordered(alloc, dl, nodes, repr, *always_sized, order, children)
-        }
+        } => lay_struct(alloc, dl, nodes, repr, *always_sized, Some(order), fields),
         TypeTree::Vector {
             lanes,
             packed,
@@ -73,22 +69,91 @@ pub(crate) fn lay_tree(
             let children = lay_each(alloc, dl, nodes, fields)?;
             add_union(alloc, dl, nodes, repr, children)
         }
-        TypeTree::Enum { repr, variants } => {
-            let numbers = discriminants(alloc, variants)?;
-            let children = lay_variants(alloc, dl, nodes, variants)?;
-            add_enum(alloc, dl, nodes, repr, &numbers, &children)
-        }
+        TypeTree::Enum { repr, variants } => lay_enum(alloc, dl, nodes, repr, variants),
         TypeTree::Coroutine {
             prefix,
             locals,
             states,
             conflicts,
-        } => {
-            let prefix = lay_each(alloc, dl, nodes, prefix)?;
-            let locals = lay_each(alloc, dl, nodes, locals)?;
-            add_coroutine(alloc, dl, nodes, prefix, &locals, states, conflicts)
-        }
+        } => lay_coroutine(alloc, dl, nodes, prefix, locals, states, conflicts),
     }
+}
+
+/// Lays out a struct behind its fields, in the order that is handed in, if one is.
+#[cycle(lay)]
+fn lay_struct(
+    alloc: Global,
+    dl: &TargetDataLayout,
+    nodes: &mut Vec<Node>,
+    repr: &ReprOptions,
+    always_sized: bool,
+    order: Option<&Vec<u64>>,
+    fields: &[TypeTree],
+) -> Result<usize, LayError>
+    requires { IsLawfulDataLayout dl.now }
+    ensures ok { IfOk result (λ i. IsAdded dl.now nodes.old.items nodes.new.items i
+        (struct repr.now always_sized (option_map (λ o. o.now.items) order.entry) (trees (map tree_of fields.now)))) }
+    ensures counted { IfOk result (λ i. IsCounted dl.now nodes.old.items nodes.new.items
+        (struct repr.now always_sized (option_map (λ o. o.now.items) order.entry) (trees (map tree_of fields.now)))) }
+    ensures err { IfErr result (IsRefused (IsLaying dl.now
+        (struct repr.now always_sized (option_map (λ o. o.now.items) order.entry) (trees (map tree_of fields.now))))) }
+    ensures behind { AreStillThere nodes.old.items nodes.new.items }
+{
+    let children = lay_each(alloc, dl, nodes, fields)?;
+    match order {
+        None => add_fields(alloc, dl, nodes, repr, always_sized, children),
+        Some(order) => add_ordered(alloc, dl, nodes, repr, always_sized, order, children),
+    }
+}
+
+/// Lays out an enum behind the fields of its variants.
+#[cycle(lay)]
+fn lay_enum(
+    alloc: Global,
+    dl: &TargetDataLayout,
+    nodes: &mut Vec<Node>,
+    repr: &ReprOptions,
+    variants: &[(u128, Vec<TypeTree>)],
+) -> Result<usize, LayError>
+    requires { IsLawfulDataLayout dl.now }
+    ensures ok { IfOk result (λ i.
+        IsAdded dl.now nodes.old.items nodes.new.items i (enum repr.now (trees_of_variants variants.now))) }
+    ensures counted { IfOk result (λ i.
+        IsCounted dl.now nodes.old.items nodes.new.items (enum repr.now (trees_of_variants variants.now))) }
+    ensures err { IfErr result (IsRefused (IsLaying dl.now (enum repr.now (trees_of_variants variants.now)))) }
+    ensures behind { AreStillThere nodes.old.items nodes.new.items }
+{
+    let numbers = discriminants(alloc, variants)?;
+    let children = lay_variants(alloc, dl, nodes, variants)?;
+    add_enum(alloc, dl, nodes, repr, &numbers, &children)
+}
+
+/// Lays out a coroutine behind its prefix fields and its locals.
+#[cycle(lay)]
+fn lay_coroutine(
+    alloc: Global,
+    dl: &TargetDataLayout,
+    nodes: &mut Vec<Node>,
+    prefix: &[TypeTree],
+    locals: &[TypeTree],
+    states: &[Vec<u64>],
+    conflicts: &[(u64, u64)],
+) -> Result<usize, LayError>
+    requires { IsLawfulDataLayout dl.now }
+    ensures ok { IfOk result (λ i. IsAdded dl.now nodes.old.items nodes.new.items i
+        (coroutine (trees (map tree_of prefix.now)) (trees (map tree_of locals.now))
+        (map (λ state. state.items) states.now) conflicts.now)) }
+    ensures counted { IfOk result (λ i. IsCounted dl.now nodes.old.items nodes.new.items
+        (coroutine (trees (map tree_of prefix.now)) (trees (map tree_of locals.now))
+        (map (λ state. state.items) states.now) conflicts.now)) }
+    ensures err { IfErr result (IsRefused (IsLaying dl.now
+        (coroutine (trees (map tree_of prefix.now)) (trees (map tree_of locals.now))
+        (map (λ state. state.items) states.now) conflicts.now))) }
+    ensures behind { AreStillThere nodes.old.items nodes.new.items }
+{
+    let prefix = lay_each(alloc, dl, nodes, prefix)?;
+    let locals = lay_each(alloc, dl, nodes, locals)?;
+    add_coroutine(alloc, dl, nodes, prefix, &locals, states, conflicts)
 }
 
 /// Lays out types, one after another, and answers their nodes.
@@ -105,6 +170,7 @@ fn lay_each(
     ensures counted { IfOk result (λ children.
         AreCounted dl.now nodes.old.items nodes.new.items (trees (map tree_of fields.now))) }
     ensures err { IfErr result (IsRefused (AreLaying dl.now (trees (map tree_of fields.now)))) }
+    ensures behind { AreStillThere nodes.old.items nodes.new.items }
 {
     let mut children = Vec::new(alloc);
     for field in fields {
@@ -128,6 +194,7 @@ fn lay_variants(
     ensures counted { IfOk result (λ children.
         AreVariantsCounted dl.now nodes.old.items nodes.new.items (trees_of_variants all.now)) }
     ensures err { IfErr result (IsRefused (VariantsLaying dl.now (trees_of_variants all.now))) }
+    ensures behind { AreStillThere nodes.old.items nodes.new.items }
 {
     let mut children = Vec::with_capacity(alloc, all.len())?;
     for variant in all {

@@ -9,7 +9,7 @@ ghost use Rattle.abi_laid.specs.Placed.{layout_of};
 ghost use Rattle.rustc_abi.specs.Laying.{AreLaying, IsUnionOf, IsUnited, fields_fault, most_fields};
 ghost use Rattle.rustc_abi.specs.Error.{IsRefused};
 ghost use Rattle.abi_laid.specs.Well.{all_at};
-ghost use Rattle.rustc_abi.specs.Adding.{IsAdded, EachFits};
+ghost use Rattle.rustc_abi.specs.Adding.{AreStillThere, EachFits, IsAdded};
 ghost use Rattle.rustc_abi.specs.Count.{IsOwnPut};
 
 use crate::error::LayError;
@@ -63,6 +63,7 @@ fn add_faultless_union(
     ensures own { IfOk result (IsOwnPut nodes.old.items nodes.new.items) }
     ensures err { IfErr result (IsRefused (IsUnionOf dl.now repr.now (all_at nodes.old.items children.items))) }
     ensures kept { OnErr result (nodes.new.items ≡ nodes.old.items) }
+    ensures behind { AreStillThere nodes.old.items nodes.new.items }
 {
     let layout = union_layout(alloc, dl, nodes, repr, &children)?;
     add(nodes, layout, Shape::Union(Mark::of(false, repr), children))
@@ -86,6 +87,7 @@ pub(crate) fn add_union(
     ensures own { IfOk result (IsOwnPut nodes.old.items nodes.new.items) }
     ensures err { IfErr result (IsRefused (IsUnionOf dl.now repr.now (all_at nodes.old.items children.items))) }
     ensures kept { OnErr result (nodes.new.items ≡ nodes.old.items) }
+    ensures behind { AreStillThere nodes.old.items nodes.new.items }
 {
     match fields_fault(repr, &children) {
         Some(fault) => Err(fault),

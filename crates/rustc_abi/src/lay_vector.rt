@@ -10,7 +10,7 @@ ghost use Rattle.abi_laid.specs.Nodes.{placed_at};
 ghost use Rattle.rustc_abi.specs.Laying.{IsLaying, vector_answer};
 ghost use Rattle.rustc_abi.specs.Error.{named};
 ghost use Rattle.abi_laid.specs.Fits.{Fits};
-ghost use Rattle.rustc_abi.specs.Adding.{IsAdded, IsRefusal};
+ghost use Rattle.rustc_abi.specs.Adding.{AreStillThere, IsAdded, IsRefusal};
 ghost use Rattle.rustc_abi.specs.Count.{IsOwnPut};
 
 use crate::error::LayError;
@@ -68,6 +68,7 @@ pub(crate) fn add_vector(
         IsAdded dl.now nodes.old.items nodes.new.items i (vector lanes packed t)) }
     ensures own { IfOk result (IsOwnPut nodes.old.items nodes.new.items) }
     ensures err { IfErr result (IsRefusal (vector_answer dl.now lanes packed (placed_at nodes.old.items element))) }
+    ensures behind { AreStillThere nodes.old.items nodes.new.items }
 {
     let layout = vector_layout(alloc, dl, nodes, lanes, packed, element)?;
     let array = elements_layout(dl, nodes, lanes, element)?;

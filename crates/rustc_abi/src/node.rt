@@ -6,6 +6,8 @@ ghost use Rattle.abi_laid.specs.Nodes.{types_in, meaning};
 ghost use Rattle.abi_laid.specs.Laws.{keeps_laws};
 ghost use Rattle.abi_laid.specs.Widths.{has_width};
 ghost use Rattle.abi_laid.specs.Well.{all_at, is_node, IsPut};
+ghost use Rattle.rustc_abi.specs.Count.{HasMore};
+ghost use Rattle.rustc_abi.specs.Adding.{AreStillThere};
 ghost use Rattle.rustc_abi.specs.Laying.{most_fields};
 
 use crate::error::LayError;
@@ -25,9 +27,10 @@ pub(crate) fn add(
     requires widths { has_width (types_in nodes.old.items) layout shape ≡ true }
     ensures ok { IfOk result (λ i. IsPut nodes.old.items nodes.new.items i
         (meaning (types_in nodes.old.items) layout shape)) }
-    ensures count { IfOk result (λ i. length nodes.new.items ≡ length nodes.old.items + 1) }
+    ensures count { IfOk result (λ i. HasMore 1 layout.uninhabited nodes.old.items nodes.new.items) }
     ensures err { IfErr result (λ e. e ≡ LayError.OutOfMemory) }
     ensures kept { OnErr result (nodes.new.items ≡ nodes.old.items) }
+    ensures behind { AreStillThere nodes.old.items nodes.new.items }
 {
     let node = nodes.len();
     nodes.push(Node { layout, shape })?;

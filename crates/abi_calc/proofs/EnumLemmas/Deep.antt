@@ -1,7 +1,8 @@
 -- What is promised of an enum of several variants, from the answer that the rules give it.
-use Rattle.std.proofs.Common.{◌≡◌, ℕ, ◌+◌, ◌==◌, ◌<◌, ◌≤◌, ◌∙◌, Bool, true, false, List, [], ◌∷◌, ap, ap₂, arith, inl, inr, length, map, refl, subst}
-use Rattle.std.specs.Prelude.{◌&&◌, ◌⊎◌, All, IsSome, ℤ, max, Option, None, Some, Result, Ok, Err, if◌then◌else◌}
+use Rattle.std.proofs.Common.{◌≡◌, ℕ, ◌+◌, ◌==◌, ◌<◌, ◌≤◌, ◌∙◌, Bool, true, false, List, [], ◌∷◌, ap, ap₂, arith, inl, inr, length, map, refl, subst, sym}
+use Rattle.std.specs.Prelude.{◌&&◌, ◌⊎◌, ◌≢◌, ⊤, All, IsSome, ℤ, max, Option, None, Some, Result, Ok, Err, if◌then◌else◌}
 use Rattle.std.specs.List.{list_all}
+use Rattle.std.proofs.lemmas.List.{length-map}
 use Rattle.std.proofs.lemmas.List.Elements.{All-cons, All-nil}
 use Rattle.abi_base.specs.declared.data_layout.TargetDataLayout.{TargetDataLayout}
 use Rattle.abi_base.specs.declared.integer.Integer.{Integer}
@@ -20,7 +21,10 @@ use Rattle.abi_scalar.specs.declared.scalar.Scalar.{Scalar}
 use Rattle.abi_scalar.specs.declared.scalar.Scalar.TheVariants.{Initialized, Union}
 use Rattle.abi_scalar.specs.declared.variants.RangeFrom.{RangeFrom}
 use Rattle.abi_scalar.specs.declared.variants.RangeToInclusive.{RangeToInclusive}
+use Rattle.abi_scalar.specs.declared.variants.TagEncoding.TheVariants.{Niche as InNiche}
 use Rattle.abi_scalar.specs.declared.variants.VariantLayout.{VariantLayout}
+use Rattle.abi_scalar.specs.declared.variants.Variants.{Variants}
+use Rattle.abi_scalar.specs.declared.variants.Variants.TheVariants.{Multiple}
 use Rattle.abi_scalar.specs.Lawful.{IsLawfulLayout}
 use Rattle.abi_scalar.specs.Pair.{second_offset}
 use Rattle.abi_scalar.specs.Reserve.{reserved}
@@ -36,7 +40,7 @@ use Rattle.abi_calc.specs.Enums.Choice.{IsNicheAnswer, better, takes_niche}
 use Rattle.abi_calc.specs.Enums.Discriminants.{counting_of}
 use Rattle.abi_calc.specs.Enums.Growth.{grown_tag, start_align}
 use Rattle.abi_calc.specs.Enums.Lists.{AreGoodLists, AreListLayouts, behind_tag}
-use Rattle.abi_calc.specs.Enums.Niche.{niche_layout, niche_view, others_empty, span_count, untagged_of, view_with}
+use Rattle.abi_calc.specs.Enums.Niche.{needing_numbers, niche_layout, niche_view, others_empty, span_count, untagged_of, view_with}
 use Rattle.abi_calc.specs.Enums.Path.{has_no_value}
 use Rattle.abi_calc.specs.Enums.Payload.{beside_tag, common_of, tagged_view}
 use Rattle.abi_calc.specs.Enums.Several.{AreLawfulTags, HasEnumSize, HasTaggedSize, IsAlwaysTooLarge, IsAskedAnswer, IsAskedFor, IsAskedTooLarge, IsEnumAnswer, IsSeveralAnswer, better_of}
@@ -44,6 +48,7 @@ use Rattle.abi_calc.specs.Enums.Sizes.{IsTaggedTooLarge}
 use Rattle.abi_calc.specs.Enums.Tagged.{IsTaggedAnswer, IsTaggedBy, lists_align, lists_size, payloads_of}
 use Rattle.abi_calc.proofs.EnumLemmas.Promised.{HasGoodLists, by_apart, by_good, by_lawful, by_numbers, by_size, by_view}
 use Rattle.abi_calc.proofs.EnumLemmas.Lists.{good_exact, good_lawful}
+use Rattle.abi_calc.proofs.EnumLemmas.InNiche.{needing_others, needing_within, span_holds}
 use Rattle.abi_calc.proofs.EnumLemmas.NicheLawful.{niche_parts}
 use Rattle.abi_calc.proofs.EnumLemmas.Several.{IsFound, better_lawful, better_size, better_told, by_both, found_of}
 use Rattle.abi_calc.proofs.EnumLemmas.Sizes.{error_large, error_sized, not_too_large, too_large_whole}
@@ -102,6 +107,11 @@ no_values layout_of at first dl repr kind [] [] h = refl
 no_values layout_of at first dl repr kind [] (l ∷ ls) h = elim h [ ]
 no_values layout_of at first dl repr kind (v ∷ vs) [] h = elim h [ ]
 no_values layout_of at first dl repr kind (v ∷ vs) (l ∷ ls) h = ap₂ (λ b c. b && c) h.0.2.uninhabited (no_values layout_of at first dl repr kind vs ls h.1)
+
+-- by a niche, the first variant of the span is one of so many, and not the untagged one
+abbrev pub HasOwnNumber : (count : ℕ) → Variants ℕ ℕ → Type 0
+HasOwnNumber count (Multiple tag (InNiche untagged span start) field layouts) = (span.start < count) × (span.start ≢ untagged)
+HasOwnNumber count _ = ⊤
 
 -- ---- how long lists are
 
@@ -251,6 +261,20 @@ module _ {H : Type 0} (layout_of : H → LayoutData ℕ ℕ) (dl : TargetDataLay
       subst (λ (m : LayoutData ℕ ℕ). HasEnumSize layout_of (λ i. i) 0 dl repr asks values variants m.size) b.same
       (better_size layout_of (λ i. i) (λ i. i) (λ v. v) dl repr variants asks values b.tagged b.found fields some b.unpacked (good_niche b.found b.niche)
       (tagged_sized b.asked b.signed b.tagged b.unpacked b.is b.with_tag))
+
+  -- by a niche, the first variant of the span is one of those that a number names
+  pub enum_span : (l : LayoutData ℕ ℕ) → Answers (Ok l) → HasOwnNumber (length variants) l.variants
+  enum_span l h =
+      let b = from_answer l h in
+      subst (λ (m : LayoutData ℕ ℕ). HasOwnNumber (length variants) m.variants) b.same
+      (better_holds (λ m. HasOwnNumber (length variants) m.variants) b.tagged b.found b.niche
+      (subst (λ (m : LayoutData ℕ ℕ). HasOwnNumber (length variants) m.variants) (sym b.with_tag.2.ranged.2) tt)
+      (λ lists m are is.
+      let p = niche_parts 0 (λ i. i) dl repr vs lists m is in
+      let untagged : ℕ = untagged_of lists in
+      let first : p.span.0 < length vs = (span_holds (λ i. i < length vs) (needing_numbers untagged vs) p.span p.ends (needing_within untagged vs)).0 in
+      let other : p.span.0 ≢ untagged = (span_holds (λ i. i ≢ untagged) (needing_numbers untagged vs) p.span p.ends (needing_others untagged vs)).0 in
+      subst (λ (m : LayoutData ℕ ℕ). HasOwnNumber (length variants) m.variants) (sym p.is) (omega (arith, first, length-map variants (map layout_of)), other)))
 
   -- it is sized
   pub enum_sized : (l : LayoutData ℕ ℕ) → Answers (Ok l) → is_unsized l.backend_repr ≡ false

@@ -1,13 +1,13 @@
 -- What the layout with a niche rests on: the untagged variant, the span, and the numbers that are handed out.
 use Rattle.std.proofs.Common.{◌≡◌, ℕ, suc, ◌+◌, ◌==◌, ◌&&◌, not, ◌<◌, ◌≤◌, ◌∙◌, Bool, true, false, List, [], ◌∷◌, ap, arith, cond, get_or, inl, inr, length, map, refl, subst, sym, ⊎_elim}
-use Rattle.std.specs.Prelude.{◌⊎◌, ◌↔◌, All, IfOk, IfSome, IsSome, Option, None, Some, Result, Ok, Err, if◌then◌else◌, nat_le, slice_get}
-use Rattle.std.proofs.lemmas.Bool.{cases_lt, leb-true}
+use Rattle.std.specs.Prelude.{◌⊎◌, ◌↔◌, ◌≢◌, All, IfOk, IfSome, IsSome, Option, None, Some, Result, Ok, Err, if◌then◌else◌, nat_le, slice_get}
+use Rattle.std.proofs.lemmas.Bool.{and_parts, cases_lt, eq-eqb, leb-true}
 use Rattle.std.proofs.lemmas.Option.{get_or_from_slice_get, slice_get_cases}
 use Rattle.std.specs.List.{AllPairs, list_any}
 use Rattle.std.proofs.lemmas.List.FromFn.{get_or-range_with_len, length-range_with_len}
 use Rattle.std.proofs.lemmas.List.Kept.{AllPairs-filter}
 use Rattle.std.proofs.lemmas.List.Sorted.{IsPermutation-refl}
-use Rattle.std.proofs.lemmas.List.Elements.{All-cons, All-filter, All-head, All-nil, All-tail}
+use Rattle.std.proofs.lemmas.List.Elements.{All-cons, All-filter, All-head, All-nil, All-tail, All-weaker, filter_passes}
 use Rattle.abi_base.specs.declared.data_layout.TargetDataLayout.{TargetDataLayout}
 use Rattle.abi_base.specs.declared.struct_kind.StructKind.{StructKind}
 use Rattle.abi_base.specs.DataLayout.{IsLawfulDataLayout, size_bound}
@@ -66,6 +66,19 @@ span_holds P (i ∷ is) span found all =
 pub needing_within : {F V : Type 0} (untagged : ℕ) (variants : List (List (LayoutData F V))) → All (λ i. i < length variants) (needing_numbers untagged variants)
 needing_within untagged variants =
     All-filter (λ i. not (i == untagged) && not (is_absent (variant_at variants i))) (λ i. i < length variants) (source_order (length variants)) (within_order (length variants) (source_order (length variants)) (IsPermutation-refl (source_order (length variants))))
+
+-- and none of them is the untagged one
+pub needing_others : {F V : Type 0} (untagged : ℕ) (variants : List (List (LayoutData F V))) → All (λ i. i ≢ untagged) (needing_numbers untagged variants)
+needing_others untagged variants =
+    let needs : ℕ → Bool = λ i. not (i == untagged) && not (is_absent (variant_at variants i)) in
+    All-weaker (λ i. needs i ≡ true) (λ i. i ≢ untagged)
+    (λ i h same. not-true (i == untagged) (and_parts (not (i == untagged)) (not (is_absent (variant_at variants i))) h).0 (eq-eqb i untagged same))
+    (needing_numbers untagged variants)
+    (filter_passes needs (source_order (length variants)))
+  where
+    not-true : (b : Bool) → not b ≡ true → b ≡ true → ⊥
+    not-true true h e = absurd (cc)
+    not-true false h e = absurd (cc)
 
 ascending_source : (n : ℕ) → AllPairs (λ a b. a < b) (source_order n)
 ascending_source n = λ i j d before short.

@@ -21,6 +21,21 @@ use abi_scalar::{
 };
 use std::alloc::{AllocError, Global};
 
+/// The states of a coroutine, and which of its locals, of so many, are promoted.
+#[derive_where(Clone, Copy)]
+pub(crate) struct Saved<'a, FieldIdx: Idx, LocalIdx: Idx> {
+    pub(crate) promoted: &'a DenseBitSet<LocalIdx>,
+    pub(crate) count: usize,
+    pub(crate) states: &'a [IndexVec<FieldIdx, LocalIdx>],
+}
+
+/// How large a coroutine is: its alignment, and its size in bytes.
+#[derive(Clone, Copy)]
+struct Extent {
+    align: Align,
+    size: Size,
+}
+
 /// The tag of so many states of a coroutine: the least unsigned integer that has the number of each. A caller of
 /// `layout_of_coroutine` that lends the layout of the tag makes it of this scalar.
 pub fn state_tag(count: usize) -> Scalar
@@ -156,34 +171,39 @@ fn layout_of_size<FieldIdx: Idx, VariantIdx: Idx, LocalIdx: Idx>(
     alloc: Global,
     prefix: usize,
     tag: Scalar,
-    promoted: &DenseBitSet<LocalIdx>,
-    count: usize,
-    states: &[IndexVec<FieldIdx, LocalIdx>],
+    saved: Saved<'_, FieldIdx, LocalIdx>,
     first: LayoutData<FieldIdx, VariantIdx>,
     lists: Vec<LayoutData<FieldIdx, VariantIdx>>,
-    align: Align,
-    size: Size,
+    extent: Extent,
 ) -> Result<LayoutData<FieldIdx, VariantIdx>, AllocError>
-    requires prefix { prefix + length (members_of promoted.now) ≤ FieldIdx.MAX_INDEX }
-    requires count { count ≡ domain_size promoted.now }
-    requires named { count ≤ LocalIdx.MAX_INDEX + 1 }
-    requires few { length states.now ≤ VariantIdx.MAX_INDEX + 1 }
-    requires within { All (All (λ l. LocalIdx.number l < count)) states.now }
-    requires once { All (λ state. AllPairs (λ a b. a ≢ b) (map LocalIdx.number state)) states.now }
-    requires first { HasFields FieldIdx.number (prefix + 1 + length (members_of promoted.now)) first }
+    requires prefix { prefix + length (members_of saved.promoted.now) ≤ FieldIdx.MAX_INDEX }
+    requires count { saved.count ≡ domain_size saved.promoted.now }
+    requires named { saved.count ≤ LocalIdx.MAX_INDEX + 1 }
+    requires few { length saved.states.now ≤ VariantIdx.MAX_INDEX + 1 }
+    requires within { All (All (λ l. LocalIdx.number l < saved.count)) saved.states.now }
+    requires once { All (λ state. AllPairs (λ a b. a ≢ b) (map LocalIdx.number state)) saved.states.now }
+    requires first { HasFields FieldIdx.number (prefix + 1 + length (members_of saved.promoted.now)) first }
     requires lists { AllZip (λ state list.
-        HasFields FieldIdx.number (length (own_of promoted.now (map LocalIdx.number state))) list) states.now
-        lists.items }
-    requires align { align ≡ whole_align first lists.items }
-    requires size { size ≡ whole_size first lists.items }
-    ensures { IfOk result (λ layout. layout ≡ coroutine_layout FieldIdx.at FieldIdx.number prefix tag promoted.now
-        (map (map LocalIdx.number) states.now) first lists.items) }
+        HasFields FieldIdx.number (length (own_of saved.promoted.now (map LocalIdx.number state))) list)
+        saved.states.now lists.items }
+    requires align { extent.align ≡ whole_align first lists.items }
+    requires size { extent.size ≡ whole_size first lists.items }
+    ensures { IfOk result (λ layout. layout ≡ coroutine_layout FieldIdx.at FieldIdx.number prefix tag
+        saved.entry.promoted.now (map (map LocalIdx.number) saved.entry.states.now) first lists.items) }
 {
     let before = prefix + 1;
     let uninhabited = is_uninhabited(&first, &lists);
     let offsets = field_offsets(alloc, &listed_offsets(&first.fields)[..before])?;
     let in_memory_order = shared_order(alloc, before, listed_order(&first.fields))?;
-    let variants = state_layouts(alloc, before, promoted, count, &first, states, lists)?;
+    let variants = state_layouts(
+        alloc,
+        before,
+        saved.promoted,
+        saved.count,
+        &first,
+        saved.states,
+        lists,
+    )?;
     Ok(LayoutData {
         fields: FieldsShape::Arbitrary {
             offsets,
@@ -198,10 +218,10 @@ fn layout_of_size<FieldIdx: Idx, VariantIdx: Idx, LocalIdx: Idx>(
         backend_repr: BackendRepr::Memory { sized: true },
         largest_niche: None,
         uninhabited,
-        align: AbiAlign::new(align),
-        size,
+        align: AbiAlign::new(extent.align),
+        size: extent.size,
         max_repr_align: None,
-        unadjusted_abi_align: align,
+        unadjusted_abi_align: extent.align,
         repr_c: false,
         randomization_seed: Hash64::ZERO,
     })
@@ -214,28 +234,26 @@ pub(crate) fn layout_of_lists<FieldIdx: Idx, VariantIdx: Idx, LocalIdx: Idx, F>(
     dl: &TargetDataLayout,
     prefix: usize,
     tag: Scalar,
-    promoted: &DenseBitSet<LocalIdx>,
-    count: usize,
-    states: &[IndexVec<FieldIdx, LocalIdx>],
+    saved: Saved<'_, FieldIdx, LocalIdx>,
     first: LayoutData<FieldIdx, VariantIdx>,
     lists: Vec<LayoutData<FieldIdx, VariantIdx>>,
 ) -> Result<LayoutData<FieldIdx, VariantIdx>, LayoutCalculatorError<F>>
     requires data_layout { IsLawfulDataLayout dl.now }
-    requires prefix { prefix + length (members_of promoted.now) ≤ FieldIdx.MAX_INDEX }
-    requires count { count ≡ domain_size promoted.now }
-    requires named { count ≤ LocalIdx.MAX_INDEX + 1 }
-    requires few { length states.now ≤ VariantIdx.MAX_INDEX + 1 }
-    requires within { All (All (λ l. LocalIdx.number l < count)) states.now }
-    requires once { All (λ state. AllPairs (λ a b. a ≢ b) (map LocalIdx.number state)) states.now }
-    requires first { HasFields FieldIdx.number (prefix + 1 + length (members_of promoted.now)) first }
+    requires prefix { prefix + length (members_of saved.promoted.now) ≤ FieldIdx.MAX_INDEX }
+    requires count { saved.count ≡ domain_size saved.promoted.now }
+    requires named { saved.count ≤ LocalIdx.MAX_INDEX + 1 }
+    requires few { length saved.states.now ≤ VariantIdx.MAX_INDEX + 1 }
+    requires within { All (All (λ l. LocalIdx.number l < saved.count)) saved.states.now }
+    requires once { All (λ state. AllPairs (λ a b. a ≢ b) (map LocalIdx.number state)) saved.states.now }
+    requires first { HasFields FieldIdx.number (prefix + 1 + length (members_of saved.promoted.now)) first }
     requires lists { AllZip (λ state list.
-        HasFields FieldIdx.number (length (own_of promoted.now (map LocalIdx.number state))) list) states.now
-        lists.items }
+        HasFields FieldIdx.number (length (own_of saved.promoted.now (map LocalIdx.number state))) list)
+        saved.states.now lists.items }
     requires lawful_first { IsLawfulLayout dl.now first }
     requires lawful { All (IsLawfulLayout dl.now) lists.items }
     ensures exact { IfOk result (λ layout. (whole_size first lists.items < size_bound dl.now)
-        × (layout ≡ coroutine_layout FieldIdx.at FieldIdx.number prefix tag promoted.now
-        (map (map LocalIdx.number) states.now) first lists.items)) }
+        × (layout ≡ coroutine_layout FieldIdx.at FieldIdx.number prefix tag saved.entry.promoted.now
+        (map (map LocalIdx.number) saved.entry.states.now) first lists.items)) }
     ensures fault { IfErr result (λ e.
         ((size_bound dl.now ≤ whole_size first lists.items) × (e ≡ LayoutCalculatorError.SizeOverflow)) ⊎
         (e ≡ LayoutCalculatorError.OutOfMemory)) }
@@ -245,9 +263,8 @@ pub(crate) fn layout_of_lists<FieldIdx: Idx, VariantIdx: Idx, LocalIdx: Idx, F>(
     if size.bytes() >= dl.obj_size_bound() {
         return Err(LayoutCalculatorError::SizeOverflow);
     }
-    match layout_of_size(
-        alloc, prefix, tag, promoted, count, states, first, lists, align, size,
-    ) {
+    let extent = Extent { align, size };
+    match layout_of_size(alloc, prefix, tag, saved, first, lists, extent) {
         Ok(layout) => Ok(layout),
         Err(error) => Err(error.into()),
     }

@@ -112,14 +112,20 @@ fn untagged_view<FieldIdx: Idx, VariantIdx: Idx>(
     (fills(list, size, align), list.backend_repr)
 }
 
+/// The variants that a niche tells apart: the one that has the niche, and the first and the last of the others.
+#[derive(Clone, Copy)]
+struct Among {
+    untagged: usize,
+    span: (usize, usize),
+}
+
 /// The layout with this niche of the untagged variant, from which these numbers are handed out, if there is room for
 /// each other variant.
 fn layout_in_niche<FieldIdx: Idx, VariantIdx: Idx>(
     alloc: Global,
     dl: &TargetDataLayout,
     repr: &ReprOptions,
-    untagged: usize,
-    span: (usize, usize),
+    among: Among,
     niche: Niche,
     handed: (u128, Scalar),
     lists: Vec<LayoutData<FieldIdx, VariantIdx>>,
@@ -128,17 +134,19 @@ fn layout_in_niche<FieldIdx: Idx, VariantIdx: Idx>(
     requires lawful { All (IsLawfulLayout dl.now) lists.items }
     requires small { All IsSmallList lists.items }
     requires count { length lists.items ≤ VariantIdx.MAX_INDEX + 1 }
-    requires untagged { untagged < length lists.items }
-    requires first { span.0 ≤ VariantIdx.MAX_INDEX }
-    requires last { span.1 ≤ VariantIdx.MAX_INDEX }
+    requires untagged { among.untagged < length lists.items }
+    requires first { among.span.0 ≤ VariantIdx.MAX_INDEX }
+    requires last { among.span.1 ≤ VariantIdx.MAX_INDEX }
     requires readable { IsReadableNiche dl.now niche }
     requires offset { niche.offset < 2 ^ 61 }
-    requires handed { handed ≡ reserved dl.now niche (span_count span) }
+    requires handed { handed ≡ reserved dl.now niche (span_count among.span) }
     requires tag { IsLawfulScalar dl.now handed.1 }
-    ensures { IfOk result (λ found. (list : LayoutData FieldIdx VariantIdx) → slice_get lists.items untagged ≡ Some list
-        → found ≡ if_placed (FieldIdx.at 0) VariantIdx.at dl.now repr.now untagged span lists.items list niche
-        (variants_from (room_beside dl.now niche lists.items) untagged 0 lists.items)) }
+    ensures { IfOk result (λ found. (list : LayoutData FieldIdx VariantIdx) →
+        slice_get lists.items among.untagged ≡ Some list →
+        found ≡ if_placed (FieldIdx.at 0) VariantIdx.at dl.now repr.now among.untagged among.span lists.items list niche
+        (variants_from (room_beside dl.now niche lists.items) among.untagged 0 lists.items)) }
 {
+    let untagged = among.untagged;
     let align = greatest_align(dl.aggregate_align, lists.as_slice());
     let size = lists_size(dl, &lists, align);
     let (fills, own_view) = untagged_view(&lists, untagged, size, align);
@@ -160,7 +168,7 @@ fn layout_in_niche<FieldIdx: Idx, VariantIdx: Idx>(
         },
         variants: Variants::Multiple {
             tag,
-            tag_encoding: niche_encoding(untagged, span, start),
+            tag_encoding: niche_encoding(untagged, among.span, start),
             tag_field: first,
             variants,
         },
@@ -213,7 +221,8 @@ pub(crate) fn niche_of_lists<FieldIdx: Idx, VariantIdx: Idx, F: LayoutHandle<Fie
     let Some(handed) = niche.reserve(dl, count) else {
         return Ok(None);
     };
-    layout_in_niche(alloc, dl, repr, untagged, span, niche, handed, lists)
+    let among = Among { untagged, span };
+    layout_in_niche(alloc, dl, repr, among, niche, handed, lists)
 }
 
 /// Whether some of these fields has a niche.

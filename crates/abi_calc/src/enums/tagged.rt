@@ -84,33 +84,39 @@ fn variants_of<FieldIdx: Idx, VariantIdx: Idx>(
     Ok(variants)
 }
 
-/// The layout of an enum of this view, alignment and size, whose tag grew from the old size, and whose variants have
-/// these lists.
+/// How an enum is seen and how large it is: its view, its alignment, and its size in bytes.
+#[derive(Clone, Copy)]
+struct Whole {
+    view: BackendRepr,
+    align: Align,
+    size: Size,
+}
+
+/// The layout of an enum as a whole that is seen so and so large, whose tag grew from the old size, and whose variants
+/// have these lists.
 fn layout_seen_as<FieldIdx: Idx, VariantIdx: Idx>(
     alloc: Global,
     dl: &TargetDataLayout,
     repr: &ReprOptions,
     old: Size,
     tag: Scalar,
-    view: BackendRepr,
-    align: Align,
-    size: Size,
+    whole: Whole,
     lists: Vec<LayoutData<FieldIdx, VariantIdx>>,
 ) -> Result<LayoutData<FieldIdx, VariantIdx>, AllocError>
     requires data_layout { IsLawfulDataLayout dl.now }
     requires tag { IsLawfulScalar dl.now tag }
-    requires align { align ≡ lists_align dl.now lists.items }
-    requires size { size ≡ lists_size dl.now lists.items }
+    requires align { whole.align ≡ lists_align dl.now lists.items }
+    requires size { whole.size ≡ lists_size dl.now lists.items }
     requires count { length lists.items ≤ VariantIdx.MAX_INDEX + 1 }
     requires listed { All (λ l. IsListed l.fields) lists.items }
     ensures { IfOk result (λ l. l ≡ layout_seen_as (FieldIdx.at 0) dl.now repr.now old tag
-        (scalar_size dl.now tag) lists.items view) }
+        (scalar_size dl.now tag) lists.items whole.view) }
 {
     let uninhabited = all_uninhabited(&lists);
     let max_repr_align = greatest_repr_align(repr.align, lists.as_slice());
     let unadjusted_abi_align = greatest_unadjusted(dl.aggregate_align, lists.as_slice());
     let randomization_seed = seed_with(repr.field_shuffle_seed, lists.as_slice());
-    let variants = variants_of(alloc, old, tag.size(dl), &view, size, lists)?;
+    let variants = variants_of(alloc, old, tag.size(dl), &whole.view, whole.size, lists)?;
     let first = FieldIdx::new(0);
     Ok(LayoutData {
         fields: FieldsShape::Arbitrary {
@@ -123,11 +129,11 @@ fn layout_seen_as<FieldIdx: Idx, VariantIdx: Idx>(
             tag_field: first,
             variants,
         },
-        backend_repr: view,
+        backend_repr: whole.view,
         largest_niche: Niche::from_scalar(dl, Size::ZERO, tag),
         uninhabited,
-        align: AbiAlign::new(align),
-        size,
+        align: AbiAlign::new(whole.align),
+        size: whole.size,
         max_repr_align,
         unadjusted_abi_align,
         repr_c: repr.c(),
@@ -135,15 +141,14 @@ fn layout_seen_as<FieldIdx: Idx, VariantIdx: Idx>(
     })
 }
 
-/// The layout of an enum whose variants have these lists behind a tag, which is asked for as this integer and holds
-/// these discriminants.
+/// The layout of an enum whose variants have these lists behind a tag, which is asked for as this integer, signed or not,
+/// and holds these discriminants.
 fn layout_of_lists<FieldIdx: Idx, VariantIdx: Idx, F: LayoutHandle<FieldIdx, VariantIdx> + Copy>(
     alloc: Global,
     dl: &TargetDataLayout,
     variants: &[IndexVec<FieldIdx, F>],
     repr: &ReprOptions,
-    asked: Integer,
-    signed: bool,
+    asked: (Integer, bool),
     values: &[u128],
     lists: Vec<LayoutData<FieldIdx, VariantIdx>>,
 ) -> Result<LayoutData<FieldIdx, VariantIdx>, LayoutCalculatorError<F>>
@@ -152,12 +157,13 @@ fn layout_of_lists<FieldIdx: Idx, VariantIdx: Idx, F: LayoutHandle<FieldIdx, Var
     requires lists { AreListsOf variants.now lists.items }
     requires lawful { All (IsLawfulLayout dl.now) lists.items }
     requires count { length variants.now ≤ VariantIdx.MAX_INDEX + 1 }
-    ensures exact { IfOk result (IsTaggedBy FieldIdx.number (FieldIdx.at 0) dl.now repr.now asked signed values.now
+    ensures exact { IfOk result (IsTaggedBy FieldIdx.number (FieldIdx.at 0) dl.now repr.now asked.0 asked.1 values.now
         (map (map F.layout_of) variants.now) lists.items) }
     ensures fault { IfErr result (λ e.
         ((size_bound dl.now ≤ lists_size dl.now lists.items) × (e ≡ LayoutCalculatorError.SizeOverflow)) ⊎
         (e ≡ LayoutCalculatorError.OutOfMemory)) }
 {
+    let (asked, signed) = asked;
     let align = greatest_align(dl.aggregate_align, lists.as_slice());
     let size = lists_size(dl, &lists, align);
     if size.bytes() >= dl.obj_size_bound() {
@@ -170,7 +176,8 @@ fn layout_of_lists<FieldIdx: Idx, VariantIdx: Idx, F: LayoutHandle<FieldIdx, Var
         valid_range: range,
     };
     let view = tagged_view(dl, tag, size, align, asked.size(), variants, &lists);
-    match layout_seen_as(alloc, dl, repr, asked.size(), tag, view, align, size, lists) {
+    let whole = Whole { view, align, size };
+    match layout_seen_as(alloc, dl, repr, asked.size(), tag, whole, lists) {
         Ok(layout) => Ok(layout),
         Err(error) => Err(error.into()),
     }
@@ -247,7 +254,9 @@ impl<Cx: HasDataLayout> LayoutCalculator<Cx> {
         let dl = self.cx.data_layout();
         let kind = behind_tag(dl, repr, asked, variants);
         match self.layouts_of_lists(alloc, variants, repr, &kind) {
-            Ok(lists) => layout_of_lists(alloc, dl, variants, repr, asked, signed, values, lists),
+            Ok(lists) => {
+                layout_of_lists(alloc, dl, variants, repr, (asked, signed), values, lists)
+            }
             Err(error) => Err(error),
         }
     }

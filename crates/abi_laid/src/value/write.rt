@@ -51,7 +51,7 @@ fn byte_at(order: Endian, number: u128, width: usize, i: usize) -> u8
 }
 
 /// Puts a number of so many bytes over those from a place on.
-fn put_number(order: Endian, number: u128, width: usize, at: usize, bytes: &mut [u8])
+pub(crate) fn put_number(order: Endian, number: u128, width: usize, at: usize, bytes: &mut [u8])
     requires width { width ≤ 16 }
     requires fits { at + width ≤ length bytes.old }
     ensures long { length bytes.new ≡ length bytes.old }
@@ -81,6 +81,60 @@ fn put_places(runs: &[(u64, u64)], content: &[u8], at: usize, size: usize, bytes
             }
         }
     }
+}
+
+/// What a node names beside its layout where a tag tells its variants or states apart: the prefix fields, which an enum
+/// has none of, the tag, and the variants or states, each with its number.
+#[derive(Clone, Copy)]
+struct Beside<'a> {
+    prefix: &'a [usize],
+    tag: usize,
+    arms: &'a [(u128, usize)],
+}
+
+/// What a node of this shape names beside its layout; nothing where there is no tag.
+fn arms_of(shape: &Shape) -> Beside<'_>
+    ensures tagged { (mark : Mark) (tag : ℕ) (all : _) → shape.now ≡ Shape.Tagged mark tag all →
+        (result.tag ≡ tag) × (result.arms.now ≡ all.items) }
+    ensures states { (prefix : _) (tag : ℕ) (all : _) → shape.now ≡ Shape.States prefix tag all →
+        (result.prefix.now ≡ prefix.items) × (result.tag ≡ tag) × (result.arms.now ≡ all.items) }
+{
+    match shape {
+        Shape::Tagged {
+            mark: _,
+            tag,
+            variants,
+        } => Beside {
+            prefix: &[],
+            tag: *tag,
+            arms: variants,
+        },
+        Shape::States {
+            prefix,
+            tag,
+            states,
+        } => Beside {
+            prefix,
+            tag: *tag,
+            arms: states,
+        },
+        _ => Beside {
+            prefix: &[],
+            tag: 0,
+            arms: &[],
+        },
+    }
+}
+
+/// What a tag and the variants or states beside it are written by: how it tells them apart, its node, its offset in
+/// bytes, the variants or states, each with its number, and how many bytes all of them lie in.
+#[derive(Clone, Copy)]
+pub(crate) struct Told<'a> {
+    pub(crate) encoding: &'a TagEncoding<VariantIdx>,
+    pub(crate) tag: usize,
+    pub(crate) offset: u64,
+    pub(crate) arms: &'a [(u128, usize)],
+    pub(crate) size: usize,
 }
 
 /// The number that a tag of this width has for a variant, where the variant has one of its own.
@@ -126,31 +180,31 @@ fn is_told(encoding: &TagEncoding<VariantIdx>, i: usize) -> bool
 }
 
 /// Puts the tag of a variant over the bytes at its offset, where the variant has a number of its own.
-fn write_tag(
+pub(crate) fn write_tag(
     order: Endian,
-    encoding: &TagEncoding<VariantIdx>,
+    told: Told<'_>,
     width: Size,
-    variants: &[(u128, usize)],
     i: usize,
-    offset: u64,
     at: usize,
     bytes: &mut [u8],
 )
     requires width { width ≤ 16 }
-    requires index { i < length variants.now }
-    requires fits { at + (offset + width) ≤ length bytes.old }
+    requires index { i < length told.arms.now }
+    requires fits { at + (told.offset + width) ≤ length bytes.old }
     ensures long { length bytes.new ≡ length bytes.old }
-    ensures put { (b : List ℕ) (done : List Placed) → AreBytes b → offset + width ≤ length b →
-        Names encoding.now width (arms_in done variants.now) (tag_at order b offset width) i →
-        IsPutOver (λ k. is_told encoding.now i && is_byte_at offset width k) at b bytes.old bytes.new }
+    ensures put { (b : List ℕ) (done : List Placed) → AreBytes b → told.entry.offset + width ≤ length b →
+        Names told.entry.encoding.now width (arms_in done told.entry.arms.now)
+        (tag_at order b told.entry.offset width) i →
+        IsPutOver (λ k. is_told told.entry.encoding.now i && is_byte_at told.entry.offset width k) at b
+        bytes.old bytes.new }
 {
-    if is_told(encoding, i) {
-        let number = tag_number(encoding, width, variants, i);
+    if is_told(told.encoding, i) {
+        let number = tag_number(told.encoding, width, told.arms, i);
         put_number(
             order,
             number,
             width.bytes() as usize,
-            at + offset as usize,
+            at + told.offset as usize,
             bytes,
         );
     }
@@ -223,16 +277,12 @@ pub(crate) fn write_node(
             let (_index, values) = value.variant();
             write_fields(walk, node, layout, children, values, at, bytes)
         }
-        Shape::Tagged {
-            mark: _,
-            tag,
-            variants,
-        } => write_variant(walk, node, layout, *tag, variants, value, at, bytes),
-        Shape::States {
-            prefix,
-            tag,
-            states,
-        } => write_state(walk, node, layout, prefix, *tag, states, value, at, bytes),
+        Shape::Tagged { .. } => {
+            write_variant(walk, node, layout, arms_of(&here.shape), value, at, bytes)
+        }
+        Shape::States { .. } => {
+            write_state(walk, node, layout, arms_of(&here.shape), value, at, bytes)
+        }
     }
 }
 
@@ -264,29 +314,29 @@ fn write_elements(
     Ok(())
 }
 
-/// Puts the values of fields over the bytes at these offsets, each as those of a node before this one.
+/// Puts the values of fields over the bytes at these offsets, as those of these nodes. The node whose fields they are,
+/// which stands behind theirs, and how many bytes they lie in serve the contract alone.
 #[cycle(write)]
 fn write_parts(
     walk: Walk<'_>,
     node: usize,
-    offsets: &[Size],
-    children: &[usize],
+    parts: (&[Size], &[usize]),
     values: &[Value],
     at: usize,
     size: usize,
     bytes: &mut [u8],
 ) -> Result<(), AllocError>
     requires there { node < length walk.nodes.now }
-    requires before { All (λ child. child < node) children.now }
-    requires room { have_room size (parts_at offsets.now (all_at walk.nodes.now children.now)) ≡ true }
+    requires before { All (λ child. child < node) parts.1.now }
+    requires room { have_room size (parts_at parts.0.now (all_at walk.nodes.now parts.1.now)) ≡ true }
     requires fits { at + size ≤ length bytes.old }
     ensures long { length bytes.new ≡ length bytes.old }
     ensures put { OnOk result ((b : List ℕ) → AreBytes b →
-        HoldParts walk.entry.order (parts_at offsets.now (all_at walk.entry.nodes.now children.now)) b
-        (values_of values.now) →
-        IsPutOver (are_covered (parts_at offsets.now (all_at walk.entry.nodes.now children.now))
-        (values_of values.now)) at b bytes.old bytes.new) }
+        let all = parts_at parts.entry.0.now (all_at walk.entry.nodes.now parts.entry.1.now) in
+        HoldParts walk.entry.order all b (values_of values.now) →
+        IsPutOver (are_covered all (values_of values.now)) at b bytes.old bytes.new) }
 {
+    let (offsets, children) = parts;
     for i in 0..offsets.len().min(children.len()).min(values.len()) {
         let place = at + offsets[i].bytes() as usize;
         write_node(walk, children[i], &values[i], place, bytes)?;
@@ -317,80 +367,85 @@ fn write_fields(
         IsPutOver (are_covered parts (values_of values.now)) at b bytes.old bytes.new) }
 {
     let size = layout.size.bytes() as usize;
-    let places = offsets(layout);
-    write_parts(walk, node, places, children, values, at, size, bytes)
+    let parts = (offsets(layout), children);
+    write_parts(walk, node, parts, values, at, size, bytes)
 }
 
-/// Puts a variant over the bytes of a node that has this layout, a tag and these variants beside it.
+/// Puts a variant over the bytes of a node that has this layout, a tag and variants beside it.
 #[cycle(write)]
 fn write_variant(
     walk: Walk<'_>,
     node: usize,
     layout: &LayoutData<FieldIdx, VariantIdx>,
-    tag: usize,
-    variants: &[(u128, usize)],
+    beside: Beside<'_>,
     value: &Value,
     at: usize,
     bytes: &mut [u8],
 ) -> Result<(), AllocError>
     requires there { node < length walk.nodes.now }
-    requires first { tag < node }
-    requires before { All (λ v. v.1 < node) variants.now }
-    requires width { size_of (placed_at walk.nodes.now tag) ≤ 16 }
-    requires inside { tag_offset layout.now + size_of (placed_at walk.nodes.now tag) ≤ layout.now.size }
-    requires room { arms_have_room layout.now.size (arms_in (types_in walk.nodes.now) variants.now) ≡ true }
+    requires first { beside.tag < node }
+    requires before { All (λ v. v.1 < node) beside.arms.now }
+    requires width { size_of (placed_at walk.nodes.now beside.tag) ≤ 16 }
+    requires inside { tag_offset layout.now + size_of (placed_at walk.nodes.now beside.tag) ≤ layout.now.size }
+    requires room { arms_have_room layout.now.size (arms_in (types_in walk.nodes.now) beside.arms.now) ≡ true }
     requires fits { at + layout.now.size ≤ length bytes.old }
     ensures long { length bytes.new ≡ length bytes.old }
     ensures put { OnOk result ((b : List ℕ) → AreBytes b → (mark : Mark) →
-        let arms = arms_in (types_in walk.entry.nodes.now) variants.now in
-        let p = tagged layout.now mark (tag_offset layout.now) (placed_at walk.entry.nodes.now tag)
+        let arms = arms_in (types_in walk.entry.nodes.now) beside.entry.arms.now in
+        let p = tagged layout.now mark (tag_offset layout.now) (placed_at walk.entry.nodes.now beside.entry.tag)
         (encoding_of layout.now.variants) arms in
         Holds walk.entry.order p b (value_of value.now) →
         IsPutOver (is_covered p (value_of value.now)) at b bytes.old bytes.new) }
 {
-    let size = layout.size.bytes() as usize;
     let encoding = encoding_of(layout);
-    let offset = tag_offset(layout);
+    let told = Told {
+        encoding: &encoding,
+        tag: beside.tag,
+        offset: tag_offset(layout),
+        arms: beside.arms,
+        size: layout.size.bytes() as usize,
+    };
     let (index, values) = value.variant();
-    write_arm(
-        walk, node, &encoding, tag, offset, variants, index, values, at, size, bytes,
-    )
+    write_arm(walk, node, told, index, values, at, bytes)
 }
 
-/// Puts a state over the bytes of a node that has this layout, these prefix fields, a tag and these states beside it.
+/// Puts a state over the bytes of a node that has this layout, prefix fields, a tag and states beside it.
 #[cycle(write)]
 fn write_state(
     walk: Walk<'_>,
     node: usize,
     layout: &LayoutData<FieldIdx, VariantIdx>,
-    prefix: &[usize],
-    tag: usize,
-    states: &[(u128, usize)],
+    beside: Beside<'_>,
     value: &Value,
     at: usize,
     bytes: &mut [u8],
 ) -> Result<(), AllocError>
     requires there { node < length walk.nodes.now }
-    requires fields { All (λ child. child < node) prefix.now }
-    requires first { tag < node }
-    requires before { All (λ v. v.1 < node) states.now }
-    requires width { size_of (placed_at walk.nodes.now tag) ≤ 16 }
-    requires room { has_room (states_in (types_in walk.nodes.now) layout.now prefix.now tag states.now) ≡ true }
+    requires fields { All (λ child. child < node) beside.prefix.now }
+    requires first { beside.tag < node }
+    requires before { All (λ v. v.1 < node) beside.arms.now }
+    requires width { size_of (placed_at walk.nodes.now beside.tag) ≤ 16 }
+    requires room { has_room
+        (states_in (types_in walk.nodes.now) layout.now beside.prefix.now beside.tag beside.arms.now) ≡ true }
     requires fits { at + layout.now.size ≤ length bytes.old }
     ensures long { length bytes.new ≡ length bytes.old }
     ensures put { OnOk result ((b : List ℕ) → AreBytes b →
-        let p = states_in (types_in walk.entry.nodes.now) layout.now prefix.now tag states.now in
+        let p = states_in (types_in walk.entry.nodes.now) layout.now beside.entry.prefix.now beside.entry.tag
+        beside.entry.arms.now in
         Holds walk.entry.order p b (value_of value.now) →
         IsPutOver (is_covered p (value_of value.now)) at b bytes.old bytes.new) }
 {
-    let size = layout.size.bytes() as usize;
     let direct = TagEncoding::Direct;
-    let offset = state_tag_offset(layout, prefix.len());
+    let told = Told {
+        encoding: &direct,
+        tag: beside.tag,
+        offset: state_tag_offset(layout, beside.prefix.len()),
+        arms: beside.arms,
+        size: layout.size.bytes() as usize,
+    };
     let (state, shared, locals) = value.state();
-    write_fields(walk, node, layout, prefix, shared, at, bytes)?;
-    write_arm(
-        walk, node, &direct, tag, offset, states, state, locals, at, size, bytes,
-    )
+    write_fields(walk, node, layout, beside.prefix, shared, at, bytes)?;
+    write_arm(walk, node, told, state, locals, at, bytes)
 }
 
 /// Puts the tag of a variant, and the values of its fields, over their bytes.
@@ -398,39 +453,33 @@ fn write_state(
 fn write_arm(
     walk: Walk<'_>,
     node: usize,
-    encoding: &TagEncoding<VariantIdx>,
-    tag: usize,
-    offset: u64,
-    variants: &[(u128, usize)],
+    told: Told<'_>,
     index: usize,
     values: &[Value],
     at: usize,
-    size: usize,
     bytes: &mut [u8],
 ) -> Result<(), AllocError>
     requires there { node < length walk.nodes.now }
-    requires first { tag < node }
-    requires before { All (λ v. v.1 < node) variants.now }
-    requires width { size_of (placed_at walk.nodes.now tag) ≤ 16 }
-    requires inside { offset + size_of (placed_at walk.nodes.now tag) ≤ size }
-    requires room { arms_have_room size (arms_in (types_in walk.nodes.now) variants.now) ≡ true }
-    requires fits { at + size ≤ length bytes.old }
+    requires first { told.tag < node }
+    requires before { All (λ v. v.1 < node) told.arms.now }
+    requires width { size_of (placed_at walk.nodes.now told.tag) ≤ 16 }
+    requires inside { told.offset + size_of (placed_at walk.nodes.now told.tag) ≤ told.size }
+    requires room { arms_have_room told.size (arms_in (types_in walk.nodes.now) told.arms.now) ≡ true }
+    requires fits { at + told.size ≤ length bytes.old }
     ensures long { length bytes.new ≡ length bytes.old }
     ensures put { OnOk result ((b : List ℕ) → AreBytes b →
-        IsNamedIn walk.entry.order b encoding.now offset (placed_at walk.entry.nodes.now tag)
-        (arms_in (types_in walk.entry.nodes.now) variants.now) index (values_of values.now) →
-        IsPutOver (λ k. (is_told encoding.now index && is_byte_at offset
-        (size_of (placed_at walk.entry.nodes.now tag)) k)
-        || is_arm_covered (arms_in (types_in walk.entry.nodes.now) variants.now) index (values_of values.now) k) at b
-        bytes.old bytes.new) }
+        let arms = arms_in (types_in walk.entry.nodes.now) told.entry.arms.now in
+        let tag = placed_at walk.entry.nodes.now told.entry.tag in
+        IsNamedIn walk.entry.order b told.entry.encoding.now told.entry.offset tag arms index (values_of values.now) →
+        IsPutOver (λ k. (is_told told.entry.encoding.now index && is_byte_at told.entry.offset (size_of tag) k)
+        || is_arm_covered arms index (values_of values.now) k) at b bytes.old bytes.new) }
 {
-    if index >= variants.len() {
+    if index >= told.arms.len() {
         return Ok(());
     }
-    let order = walk.order;
-    let width = read_layout(walk.nodes, tag).size;
-    write_tag(order, encoding, width, variants, index, offset, at, bytes);
-    write_own(walk, variants[index].1, values, at, size, bytes)
+    let width = read_layout(walk.nodes, told.tag).size;
+    write_tag(walk.order, told, width, index, at, bytes);
+    write_own(walk, told.arms[index].1, values, at, told.size, bytes)
 }
 
 /// Puts the values of the fields of a variant, which has a node of its own, over their bytes.
@@ -452,8 +501,8 @@ fn write_own(
         IsPutOver (are_covered (own_fields (placed_at walk.entry.nodes.now variant)) (values_of values.now)) at b
         bytes.old bytes.new) }
 {
-    let (offsets, children) = own_parts(walk.nodes, variant);
-    write_parts(walk, variant, offsets, children, values, at, size, bytes)
+    let parts = own_parts(walk.nodes, variant);
+    write_parts(walk, variant, parts, values, at, size, bytes)
 }
 
 /// Whether these bytes hold the value as those of a node, where they hold no more than one.

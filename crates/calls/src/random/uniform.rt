@@ -1,37 +1,16 @@
 //! Types at random: they are uniform with a register exactly where a plain reading finds it.
 
-mod grown;
 mod rule;
 
 use crate::line::Line;
+use crate::random::grown::{Grown, LEAVES, MOST_TYPES, leaf, next};
 use crate::random::tally::Tally;
-use crate::random::uniform::grown::{Grown, leaf, next};
 use crate::random::uniform::rule::{Types, uniform_with};
 use crate::random::{Trials, read_trials};
 use crate::stop::Stop;
 use abi_base::TargetDataLayout;
 use abi_types::{Heterogeneous, HomogeneousAggregate, Reg};
 use std::alloc::{AllocError, Global};
-
-/// The types that others are made of at first.
-const LEAVES: [&str; 13] = [
-    "u8",
-    "u16",
-    "u32",
-    "i32",
-    "f32",
-    "f64",
-    "ppcf128",
-    "ptr",
-    "simd 4 f32",
-    "unit",
-    "never",
-    "array 0 u32",
-    "pair u8 u8",
-];
-
-/// So many types stand beside one another, before others are begun.
-const MOST_TYPES: usize = 60;
 
 /// What a type is found to be: uniform with a register, or without bytes, or neither, as it is read; or wrong.
 fn judged(it: &Grown, found: &[Option<Reg>]) -> &'static str {

@@ -1,7 +1,7 @@
 -- Layouts that indices name: their sizes, and whether one of them is flagged as one without values.
-use Rattle.std.proofs.Common.{◌≡◌, ℕ, zero, suc, ◌<◌, List, [], ◌∷◌, ◌++◌, map, length, Option, Some, None, All, arith, refl, sym, ap, ◌∙◌}
-use Rattle.std.specs.Prelude.{Bool, true, false, ◌||◌, filter_map, slice_get, ⊤}
-use Rattle.std.specs.List.{cons_option, list_all, list_any}
+use Rattle.std.proofs.Common.{◌≡◌, ℕ, zero, suc, ◌<◌, List, [], ◌∷◌, ◌++◌, map, length, Option, Some, None, All, arith, refl, subst, sym, ap, ◌∙◌}
+use Rattle.std.specs.Prelude.{Bool, true, false, ◌||◌, cond, filter_map, slice_get, ⊤}
+use Rattle.std.specs.List.{cons_option, filter, list_all, list_any}
 use Rattle.std.proofs.lemmas.Bool.{and_parts}
 use Rattle.std.proofs.lemmas.List.Elements.{All-head, All-tail}
 use Rattle.std.proofs.Math.Bool.{or-true}
@@ -54,6 +54,32 @@ flag_by ls rest k (Some l) e set later = one_of (has_flag ls ≡ true) l.uninhab
 pub flag_picked : (ls : List Layout) (ks : List ℕ) → has_flag (picked_layouts ls ks) ≡ true → has_flag ls ≡ true
 flag_picked ls [] set = absurd (cc)
 flag_picked ls (k ∷ ks) set = flag_by ls (picked_layouts ls ks) k (slice_get ls k) refl set (λ later. flag_picked ls ks later)
+
+placed_there : (ps : List Placed) (k : ℕ) → k < length ps → slice_get ps k ≡ Some (placed_in ps k)
+placed_there [] k below = absurd (omega (arith, below))
+placed_there (p ∷ ps) zero below = refl
+placed_there (p ∷ ps) (suc k) below = placed_there ps k (omega (arith, below))
+
+-- where one of some of the types that these indices name is flagged, one of all of them is
+pub own_flagged : (ps : List Placed) (own : ℕ → Bool) (state : List ℕ) → All (λ l. l < length ps) state → has_flag (map layout_of (filter_map (slice_get ps) (filter own state))) ≡ true
+    → has_flag (map layout_of (map (placed_in ps) state)) ≡ true
+own_flagged ps own [] known set = absurd (cc)
+own_flagged ps own (k ∷ state) known set = by (own k) (own_flagged ps own state (All-tail (λ l. l < length ps) k state known)) set
+  where
+    rest : List ℕ
+    rest = filter own state
+
+    here : Bool
+    here = (layout_of (placed_in ps k)).uninhabited
+
+    all : Bool
+    all = has_flag (map layout_of (map (placed_in ps) state))
+
+    by : (b : Bool) → (has_flag (map layout_of (filter_map (slice_get ps) rest)) ≡ true → all ≡ true) → has_flag (map layout_of (filter_map (slice_get ps) (cond b (k ∷ rest) rest))) ≡ true → (here || all) ≡ true
+    by true later set =
+        let first = subst (λ o. has_flag (map layout_of (cons_option o (filter_map (slice_get ps) rest))) ≡ true) (placed_there ps k (All-head (λ l. l < length ps) k state known)) set in
+        one_of ((here || all) ≡ true) here (has_flag (map layout_of (filter_map (slice_get ps) rest))) first (λ flag. ap (λ b. b || all) flag) (λ others. ap (λ b. here || b) (later others) ∙ or-true here)
+    by false later set = ap (λ b. here || b) (later set) ∙ or-true here
 
 -- each list is flagged where a layout is that its indices name
 abbrev pub HaveOwnFlags : List Layout → (indices : List (List ℕ)) → (lists : List Layout) → Type 0

@@ -1,7 +1,7 @@
 -- Nodes for the variants of an enum.
-use Rattle.std.proofs.Common.{◌≡◌, ℕ, zero, suc, ◌+◌, ◌<◌, ◌≤◌, List, [], ◌∷◌, ◌++◌, Some, true, length, map, take, get_or, arith, refl, sym, ap, ◌∙◌, subst}
-use Rattle.std.specs.Prelude.{◌&&◌, Vec, All, nat_lt, slice_get, option_map}
-use Rattle.std.specs.List.{list_all}
+use Rattle.std.proofs.Common.{◌≡◌, ℕ, zero, suc, ◌+◌, ◌<◌, ◌≤◌, List, [], ◌∷◌, ◌++◌, Bool, Some, true, false, length, map, take, get_or, arith, refl, sym, ap, ◌∙◌, subst}
+use Rattle.std.specs.Prelude.{◌&&◌, ◌||◌, Vec, All, nat_lt, slice_get, option_map}
+use Rattle.std.specs.List.{list_all, list_any}
 use Rattle.std.specs.Cmp.Derive.{both_true}
 use Rattle.std.specs.declared.alloc.Global.{Global}
 use Rattle.std.proofs.lemmas.Bool.{lt-ltb}
@@ -19,7 +19,8 @@ use Rattle.abi_laid.specs.declared.mark.Mark.{Mark}
 use Rattle.abi_laid.specs.Placed.{Placed, Layout, layout_of, size_of, tagged, Parts, Arms, no_arms, arm}
 use Rattle.abi_laid.specs.Nodes.{placed_in, parts_at, arms_in, own_arm, own_fields, own_mark, encoding_of, tag_offset, meaning, types_in, placed_at, Keeps}
 use Rattle.rustc_abi.specs.Enums.{arms_at}
-use Rattle.rustc_abi.specs.Inside.{EndInside, VariantsInside}
+use Rattle.rustc_abi.specs.Inside.{EndInside, IsFlaggedByField, VariantsInside}
+use Rattle.abi_laid.specs.Deciding.{are_inhabited}
 use Rattle.abi_laid.specs.Laws.{has_list, have_lists, have_places, is_listed, keeps_laws, sizes_at}
 use Rattle.abi_laid.specs.Well.{IsPut, all_at, is_node}
 use Rattle.rustc_abi.specs.Adding.{AreArms, variants_in}
@@ -27,6 +28,7 @@ use Rattle.abi_laid.proofs.NodesLemmas.{length-types_in, Keeps-trans}
 use Rattle.rustc_abi.proofs.Trees.ListLemmas.{all_below}
 use Rattle.rustc_abi.proofs.Trees.LayLemmas.{all_at-kept}
 use Rattle.rustc_abi.proofs.Places.LawsLemmas.{own_laws, several_laws}
+use Rattle.rustc_abi.proofs.Sizes.CountLemmas.{flagged_there}
 
 -- ---- arms
 
@@ -202,11 +204,11 @@ module _ (first old new : List Node) (parent : Layout) (layouts : List (VariantL
       (subst (AreArms first new (map (λ l. l.size) (take at layouts) ++ own.size ∷ []) (vs ++ (n, i) ∷ [])) arms pushed)
 
 inside_at : (whole : ℕ) (layouts : List (VariantLayout ℕ)) (variants : List (List Placed)) (at : ℕ) → VariantsInside whole layouts variants → at < length variants →
-    (l : VariantLayout ℕ) × (slice_get layouts at ≡ Some l) × EndInside l.size l.field_offsets (map size_of (get_or variants at []))
+    (l : VariantLayout ℕ) × (slice_get layouts at ≡ Some l) × EndInside l.size l.field_offsets (map size_of (get_or variants at [])) × IsFlaggedByField l (get_or variants at [])
 inside_at whole [] [] at h lt = absurd (omega arith)
 inside_at whole [] (ps ∷ variants) at h lt = absurd h
 inside_at whole (l ∷ layouts) [] at h lt = absurd h
-inside_at whole (l ∷ layouts) (ps ∷ variants) zero h lt = (l, refl, h.1)
+inside_at whole (l ∷ layouts) (ps ∷ variants) zero h lt = (l, refl, h.1, h.3)
 inside_at whole (l ∷ layouts) (ps ∷ variants) (suc at) h lt = inside_at whole layouts variants at h.2 (omega arith)
 
 -- a variant's node keeps the laws
@@ -228,6 +230,33 @@ own_keeps first old sizes vs arms parent own mark layouts children at index c fi
     let known : sizes_at (types_in old) fields.items ≡ map size_of (all_at first c.items) =
     sym (map-map size_of (placed_in (types_in old)) fields.items) ∙ ap (map size_of) (all_at-kept first old h.kept fields.items below ∙ ap (all_at first) same) in
     own_laws (types_in old) parent own index found.0 fields.items (all_at first c.items) is known (subst (λ ps. EndInside found.0.size found.0.field_offsets (map size_of ps)) here found.2) count
+
+-- where one of the types at these places is flagged, some node is
+any_flagged : (ns : List Node) (places : List ℕ) → All (λ i. i < length ns) places → list_any (λ (l : Layout). l.uninhabited) (map layout_of (all_at ns places)) ≡ true → are_inhabited ns ≡ false
+any_flagged ns [] there set = absurd (cc)
+any_flagged ns (i ∷ places) there set =
+    by (layout_of (placed_at ns i)).uninhabited refl (any_flagged ns places (All-tail (λ i. i < length ns) i places there)) set
+  where
+    by : (b : Bool) → (layout_of (placed_at ns i)).uninhabited ≡ b → (list_any (λ (l : Layout). l.uninhabited) (map layout_of (all_at ns places)) ≡ true → are_inhabited ns ≡ false)
+        → (b || list_any (λ (l : Layout). l.uninhabited) (map layout_of (all_at ns places))) ≡ true → are_inhabited ns ≡ false
+    by true flag later e = flagged_there ns i (All-head (λ i. i < length ns) i places there) flag
+    by false flag later e = later e
+
+-- a variant's node is flagged only where some node was
+pub own_flag : (first : List Node) (parent own : Layout) (layouts : List (VariantLayout ℕ)) (children : List (Vec ℕ Global)) (at index : ℕ) (c : Vec ℕ Global) → at < length children →
+    VariantsInside parent.size layouts (variants_in first children) → Some own ≡ option_map (variant_layout parent index) (slice_get layouts at) → c ≡ get_or children at c →
+    All (λ fields. All (λ child. child < length first) fields.items) children → own.uninhabited ≡ true → are_inhabited first ≡ false
+own_flag first parent own layouts children at index c lt inside made c_is there flag =
+    let long : length (variants_in first children) ≡ length children = length-map children (λ fields. all_at first fields.items) in
+    let found = inside_at parent.size layouts (variants_in first children) at inside (omega arith) in
+    let some : Some own ≡ Some (variant_layout parent index found.0) = made ∙ ap (option_map (variant_layout parent index)) found.1 in
+    let is : own ≡ variant_layout parent index found.0 = cc in
+    let here : get_or (variants_in first children) at [] ≡ all_at first c.items =
+    get_or-map (λ fields. all_at first fields.items) children at c [] lt ∙ ap (λ k. all_at first k.items) (sym c_is) in
+    let below : All (λ child. child < length first) c.items =
+    subst (λ (v : Vec ℕ Global). All (λ child. child < length first) v.items) (sym c_is) (All-get_or (λ fields. All (λ child. child < length first) fields.items) children at c lt there) in
+    any_flagged first c.items below
+    (subst (λ ps. list_any (λ (l : Layout). l.uninhabited) (map layout_of ps) ≡ true) here (found.3 (sym (ap (λ (l : Layout). l.uninhabited) is) ∙ flag)))
 
 -- the node of several variants keeps the laws
 pub tagged_keeps : (one two : List Node) (t : ℕ) (tag : Placed) (variants : Vec (ℕ × ℕ) Global) (arms : Arms) (layout : Layout) (mark : Mark) (all : List (List Placed)) → t < length one →

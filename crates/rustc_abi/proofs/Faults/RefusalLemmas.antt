@@ -1,16 +1,15 @@
 -- Which refusal is a tree's: that of the first type without a layout.
-use Rattle.std.proofs.Common.{◌≡◌, ℕ, ◌+◌, ◌<◌, List, [], ◌∷◌, ◌++◌, length, map, get_or, take, drop, Vec, Result, Ok, Err, refl, sym, ap, ◌∙◌, subst, inl, inr, append_assoc}
+use Rattle.std.proofs.Common.{◌≡◌, ℕ, ◌+◌, ◌<◌, List, [], ◌∷◌, ◌++◌, length, map, get_or, take, drop, Vec, Result, Ok, refl, sym, ap, ◌∙◌, subst, inl, inr, append_assoc}
 use Rattle.std.specs.declared.alloc.Global.{Global}
 use Rattle.std.proofs.lemmas.List.{map-append, take_more, take-append-drop}
 use Rattle.abi_base.specs.declared.data_layout.TargetDataLayout.{TargetDataLayout}
 use Rattle.abi_scalar.specs.declared.repr.ReprOptions.{ReprOptions}
 use Rattle.rustc_abi.specs.declared.error.LayError.{LayError}
-use Rattle.abi_laid.specs.declared.tree.TypeTree.{TypeTree, Enum}
-use Rattle.abi_laid.specs.Tree.{enum, tree_of, trees, trees_of_variants}
+use Rattle.abi_laid.specs.declared.tree.TypeTree.{TypeTree}
+use Rattle.abi_laid.specs.Tree.{Variants, enum, tree_of, trees, trees_of_variants}
 use Rattle.abi_laid.specs.Placed.{Placed}
 use Rattle.rustc_abi.specs.Error.{IsRefused}
 use Rattle.rustc_abi.specs.Laying.{IsLaying, AreLaying, VariantsLaying}
-use Rattle.rustc_abi.proofs.Trees.TreeLemmas.{tree_of-Enum}
 use Rattle.rustc_abi.proofs.Trees.LayLemmas.{laying-refused}
 
 -- a list as what comes before a place, the item there, and the rest
@@ -81,11 +80,6 @@ variants_more dl all i v out ps lt at before here =
     let same : take i all ++ v ∷ [] ≡ take (i + 1) all = sym (take_more all i v lt ∙ ap (λ x. take i all ++ x ∷ []) (sym at)) in
     (pushed.0, subst (λ vs. VariantsLaying dl (trees_of_variants vs) (Ok pushed.0)) same pushed.1)
 
-enum_is : (dl : TargetDataLayout) (tree : TypeTree) (repr : ReprOptions) (all : Vec Fields Global) (r : Result Placed LayError) → tree ≡ Enum repr all →
-    IsLaying dl (enum repr (trees_of_variants all.items)) r → IsLaying dl (tree_of tree) r
-enum_is dl tree repr all r e h = subst (λ t. IsLaying dl t r) (sym (ap tree_of e ∙ tree_of-Enum repr all)) h
-
-pub enum_refused : (dl : TargetDataLayout) (tree : TypeTree) (repr : ReprOptions) (all : Vec Fields Global) (e : LayError) → tree ≡ Enum repr all →
-    IsRefused (VariantsLaying dl (trees_of_variants all.items)) e → IsRefused (IsLaying dl (tree_of tree)) e
-enum_refused dl tree repr all e is (inl memory) = inl memory
-enum_refused dl tree repr all e is (inr f) = inr (enum_is dl tree repr all (Err e) is (inl (e, f, refl)))
+pub enum_refused : (dl : TargetDataLayout) (repr : ReprOptions) (all : Variants) (e : LayError) → IsRefused (VariantsLaying dl all) e → IsRefused (IsLaying dl (enum repr all)) e
+enum_refused dl repr all e (inl memory) = inl memory
+enum_refused dl repr all e (inr f) = inr (inl (e, f, refl))

@@ -1,7 +1,7 @@
 -- The fields of each variant end inside the variant, and the variant inside the whole.
 use Rattle.std.proofs.Common.{◌≡◌, ◌≢◌, ℕ, ◌+◌, ◌==◌, ◌<◌, ◌≤◌, ◌∙◌, Bool, true, false, List, [], ◌∷◌, ◌++◌, Option, Some, None, All, Result, Ok, Err, ap, arith, inl, inr, length, map, max, refl, subst, sym, take}
-use Rattle.std.specs.Prelude.{◌&&◌, drop, if◌then◌else◌, nat_le, nat_lt}
-use Rattle.std.specs.List.{AllPairs}
+use Rattle.std.specs.Prelude.{◌&&◌, drop, if◌then◌else◌, nat_le, nat_lt, not}
+use Rattle.std.specs.List.{AllPairs, list_any}
 use Rattle.std.proofs.lemmas.Bool.{leb-true, ltb-true}
 use Rattle.std.proofs.lemmas.List.{append_assoc, length-append, length-map, map-append}
 use Rattle.std.proofs.lemmas.List.Elements.{All-cons, All-head, All-nil, All-tail, All-weaker}
@@ -36,7 +36,7 @@ use Rattle.abi_calc.specs.declared.enums.niche.Room.{Room}
 use Rattle.abi_calc.specs.declared.enums.path.Path.{Path}
 use Rattle.abi_calc.specs.declared.enums.path.Path.TheVariants.{NoValue, OneList, Several}
 use Rattle.abi_calc.specs.Coroutine.Layout.{IsStateTag, whole_size}
-use Rattle.abi_index.specs.BitSet.{members_of}
+use Rattle.abi_index.specs.BitSet.{is_member, members_of}
 use Rattle.abi_calc.specs.Coroutine.Lists.{AreOwnLists, behind, default_repr, first_list, own_list, picked}
 use Rattle.abi_calc.specs.Coroutine.Promotion.{promoted_of}
 use Rattle.abi_calc.specs.Coroutine.Sizes.{own_lists}
@@ -64,12 +64,12 @@ use Rattle.abi_laid.specs.Placed.{Placed, Layout, layout_of, size_of}
 use Rattle.abi_laid.specs.Nodes.{placed_in}
 use Rattle.rustc_abi.specs.Enums.{IsEnumed, IsTagInteger, layouts_of, numbered_from}
 use Rattle.rustc_abi.specs.Coroutines.{IsCoroutined, conflicts_of}
-use Rattle.rustc_abi.specs.Inside.{EndInside, VariantsInside}
+use Rattle.rustc_abi.specs.Inside.{EndInside, IsFlaggedByField, VariantsInside}
 use Rattle.rustc_abi.specs.Laying.{coroutine_fault, enum_fault, most_fields, one_scalar}
 use Rattle.rustc_abi.proofs.Faults.CoroutineFaultLemmas.{conflict_rows, states_once, states_within}
 use Rattle.rustc_abi.proofs.Faults.FaultlessLemmas.{few_fields}
 use Rattle.rustc_abi.proofs.Trees.LaidLemmas.{aligns_of, coroutine_asked, stated_offsets}
-use Rattle.rustc_abi.proofs.Coroutines.StateFlagLemmas.{sizes_picked}
+use Rattle.rustc_abi.proofs.Coroutines.StateFlagLemmas.{own_flagged, sizes_picked}
 
 -- ---- parts that end inside
 
@@ -123,46 +123,50 @@ ends_moved old new small (o ∷ offsets) (m ∷ sizes) clear h = (end_moved old 
 
 -- ---- one variant
 
--- a variant ends inside the whole, and has its fields inside itself
+-- a variant ends inside the whole, and has its fields inside itself; it is flagged only where one of them is
 abbrev IsInside : (whole : ℕ) → (fields : List Placed) → VariantLayout ℕ → Type 0
-IsInside whole fields layout = (layout.size ≤ whole) × EndInside layout.size layout.field_offsets (map size_of fields)
+IsInside whole fields layout = (layout.size ≤ whole) × EndInside layout.size layout.field_offsets (map size_of fields) × IsFlaggedByField layout fields
+
+-- where its list is, one of them is
+abbrev ByField : Layout → List Placed → Type 0
+ByField list fields = list.uninhabited ≡ true → list_any (λ l. l.uninhabited) (map layout_of fields) ≡ true
 
 -- however the variant is seen
 seen_inside : (view : BackendRepr) (whole : ℕ) (fields : List Placed) (layout : VariantLayout ℕ) → IsInside whole fields layout → IsInside whole fields (seen_as view whole layout)
 seen_inside view whole fields layout h = by (is_of_scalars view && is_memory layout.backend_repr && nat_lt 0 (length layout.field_offsets))
   where
     by : (b : Bool) → IsInside whole fields (if b then (record layout { backend_repr = view; size = max layout.size whole }) else layout)
-    by true = (omega (arith, h.0), ends_wider layout.size (max layout.size whole) layout.field_offsets (map size_of fields) (omega arith) h.1)
+    by true = (omega (arith, h.0), ends_wider layout.size (max layout.size whole) layout.field_offsets (map size_of fields) (omega arith) h.1, h.2)
     by false = h
 
 -- beside a tag that may have grown
 grown_inside : (old new whole : ℕ) (fields : List Placed) (list : Layout) → list.size ≤ whole → new ≤ whole → EndInside list.size (listed_offsets list.fields) (map size_of fields)
-    → (old < new → AreClear old new (listed_offsets list.fields) (map size_of fields)) → IsInside whole fields (grown_variant old new (variant_of list))
-grown_inside old new whole fields list less fits ends clear = by (nat_lt old new) refl
+    → (old < new → AreClear old new (listed_offsets list.fields) (map size_of fields)) → ByField list fields → IsInside whole fields (grown_variant old new (variant_of list))
+grown_inside old new whole fields list less fits ends clear flag = by (nat_lt old new) refl
   where
     by : (b : Bool) → nat_lt old new ≡ b → IsInside whole fields (if b then (record (variant_of list) { size = max list.size new; field_offsets = map (moved old new) (listed_offsets list.fields) }) else variant_of list)
-    by true grows = (omega (arith, less, fits), ends_moved old new list.size (listed_offsets list.fields) (map size_of fields) (clear (ltb-true old new grows)) ends)
-    by false stays = (less, ends)
+    by true grows = (omega (arith, less, fits), ends_moved old new list.size (listed_offsets list.fields) (map size_of fields) (clear (ltb-true old new grows)) ends, flag)
+    by false stays = (less, ends, flag)
 
 -- beside a niche, before it or behind it
 beside_inside : (room : Room) (fields : List Placed) (list : Layout) (layout : VariantLayout ℕ) → list.size ≤ room.whole → EndInside list.size (listed_offsets list.fields) (map size_of fields)
-    → beside_niche room list ≡ Some layout → IsInside room.whole fields layout
-beside_inside room fields list layout less ends is = by (nat_le list.size room.before) (nat_le (place_after room list.align.abi + list.size) room.whole) refl is
+    → ByField list fields → beside_niche room list ≡ Some layout → IsInside room.whole fields layout
+beside_inside room fields list layout less ends flag is = by (nat_le list.size room.before) (nat_le (place_after room list.align.abi + list.size) room.whole) refl is
   where
     by : (b c : Bool) → nat_le (place_after room list.align.abi + list.size) room.whole ≡ c
         → (if b then Some (without_niche list) else (if c then Some (moved_on (place_after room list.align.abi) list) else None)) ≡ Some layout → IsInside room.whole fields layout
-    by true c late e = let same : without_niche list ≡ layout = cc in subst (IsInside room.whole fields) same (less, ends)
+    by true c late e = let same : without_niche list ≡ layout = cc in subst (IsInside room.whole fields) same (less, ends, flag)
     by false true late e =
         let on : ℕ = place_after room list.align.abi in
         let same : moved_on on list ≡ layout = cc in
-        subst (IsInside room.whole fields) same (leb-true (on + list.size) room.whole late, ends_on on list.size (listed_offsets list.fields) (map size_of fields) ends)
+        subst (IsInside room.whole fields) same (leb-true (on + list.size) room.whole late, ends_on on list.size (listed_offsets list.fields) (map size_of fields) ends, flag)
     by false false late e = absurd (cc)
 
 -- be it the one that has the niche or not
 placed_inside : (own : Bool) (room : Room) (fields : List Placed) (list : Layout) (layout : VariantLayout ℕ) → list.size ≤ room.whole → EndInside list.size (listed_offsets list.fields) (map size_of fields)
-    → (if own then Some (variant_of list) else beside_niche room list) ≡ Some layout → IsInside room.whole fields layout
-placed_inside true room fields list layout less ends is = let same : variant_of list ≡ layout = cc in subst (IsInside room.whole fields) same (less, ends)
-placed_inside false room fields list layout less ends is = beside_inside room fields list layout less ends is
+    → ByField list fields → (if own then Some (variant_of list) else beside_niche room list) ≡ Some layout → IsInside room.whole fields layout
+placed_inside true room fields list layout less ends flag is = let same : variant_of list ≡ layout = cc in subst (IsInside room.whole fields) same (less, ends, flag)
+placed_inside false room fields list layout less ends flag is = beside_inside room fields list layout less ends flag is
 
 -- ---- all variants
 
@@ -181,6 +185,10 @@ module _ (dl : TargetDataLayout) (repr : ReprOptions) (kind : StructKind) where
   good_ends : (fields : List Placed) (list : Layout) → IsGoodList layout_of (λ i. i) 0 dl repr kind fields list → EndInside list.size (listed_offsets list.fields) (map size_of fields)
   good_ends fields list good = apart_ends list.size (listed_offsets list.fields) (map size_of fields) good.apart
 
+  -- and it is flagged where one of them is
+  good_flag : (fields : List Placed) (list : Layout) → IsGoodList layout_of (λ i. i) 0 dl repr kind fields list → ByField list fields
+  good_flag fields list good flag = sym good.exact.2.uninhabited ∙ flag
+
   -- variants beside a tag, which leaves their fields clear where it has grown
   grown_variants : (view : BackendRepr) (old new whole : ℕ) (variants : List (List Placed)) (lists : List Layout) → Good variants lists → (old < new → AreClearAmong layout_of old new variants lists)
       → new ≤ whole → greatest_size lists ≤ whole → VariantsInside whole (map (λ list. seen_as view whole (grown_variant old new (variant_of list))) lists) variants
@@ -188,9 +196,9 @@ module _ (dl : TargetDataLayout) (repr : ReprOptions) (kind : StructKind) where
   grown_variants view old new whole [] (list ∷ lists) good clear fits more = absurd good
   grown_variants view old new whole (fields ∷ variants) [] good clear fits more = absurd good
   grown_variants view old new whole (fields ∷ variants) (list ∷ lists) good clear fits more =
-      let one = grown_inside old new whole fields list (omega (arith, more)) fits (good_ends fields list good.0) (λ grows. (clear grows).0) in
+      let one = grown_inside old new whole fields list (omega (arith, more)) fits (good_ends fields list good.0) (λ grows. (clear grows).0) (good_flag fields list good.0) in
       let seen = seen_inside view whole fields (grown_variant old new (variant_of list)) one in
-      (seen.0, seen.1, grown_variants view old new whole variants lists good.1 (λ grows. (clear grows).1) fits (omega (arith, more)))
+      (seen.0, seen.1, grown_variants view old new whole variants lists good.1 (λ grows. (clear grows).1) fits (omega (arith, more)), seen.2)
 
   -- variants beside a niche
   placed_variants : (room : Room) (untagged from : ℕ) (variants : List (List Placed)) (lists : List Layout) (placed : List (VariantLayout ℕ)) → Good variants lists → greatest_size lists ≤ room.whole
@@ -200,9 +208,9 @@ module _ (dl : TargetDataLayout) (repr : ReprOptions) (kind : StructKind) where
   placed_variants room untagged from (fields ∷ variants) [] placed good more is = absurd good
   placed_variants room untagged from (fields ∷ variants) (list ∷ lists) placed good more is =
       let there = both_there (if from == untagged then Some (variant_of list) else beside_niche room list) (variants_from room untagged (from + 1) lists) placed is in
-      let one = placed_inside (from == untagged) room fields list there.0 (omega (arith, more)) (good_ends fields list good.0) there.2 in
+      let one = placed_inside (from == untagged) room fields list there.0 (omega (arith, more)) (good_ends fields list good.0) (good_flag fields list good.0) there.2 in
       subst (λ ls. VariantsInside room.whole ls (fields ∷ variants)) there.4
-      (one.0, one.1, placed_variants room untagged (from + 1) variants lists there.1 good.1 (omega (arith, more)) there.3)
+      (one.0, one.1, placed_variants room untagged (from + 1) variants lists there.1 good.1 (omega (arith, more)) there.3, one.2)
 
 -- ---- an enum
 
@@ -359,7 +367,8 @@ module _ (dl : TargetDataLayout) (law : IsLawfulDataLayout dl) (pres ps : List P
       let ends = back_ends list.size (shared_offsets layout_of (λ i. i) (λ i. i) 0 dl pres tag (one_scalar dl tag) ps promoted refl many first good) offsets
       (shared_sizes layout_of (λ i. i) (λ i. i) 0 dl pres tag (one_scalar dl tag) ps promoted refl many first good) (map (λ (l : Layout). l.size) (picked (map layout_of ps) state))
       (shared_count layout_of (λ i. i) (λ i. i) 0 dl pres tag (one_scalar dl tag) ps promoted refl many first good) apart.0 in
-      (less, subst (EndInside list.size offsets) (sizes_picked ps state within) ends)
+      let flag = own_flagged ps (λ l. not (is_member promoted l)) state within in
+      (less, subst (EndInside list.size offsets) (sizes_picked ps state within) ends, λ set. flag (sym own.exact.2.uninhabited ∙ set))
 
   -- all states
   states_inside : (first : Layout) → IsGoodFirst first → (whole : ℕ) (held : List (List ℕ)) (lists : List Layout) → All (λ l. l.size ≤ whole) lists → All (All (λ l. l < length ps)) held
@@ -375,6 +384,7 @@ module _ (dl : TargetDataLayout) (law : IsLawfulDataLayout dl) (pres ps : List P
         one.1,
         states_inside first good whole held lists (All-tail (λ l. l.size ≤ whole) list lists less) (All-tail (All (λ l. l < length ps)) state held within)
             (All-tail (AllPairs (λ a b. a ≢ b)) state held once) own.1,
+        one.2,
       )
 
   -- each state ends inside the coroutine, and has its locals inside itself

@@ -1,5 +1,5 @@
 -- The fields of structs, and of enums of which one variant is left, lie in an allowed order: in the one that is handed in.
-use Rattle.std.proofs.Common.{◌≡◌, ℕ, Bool, true, List, Option, None, Some, length, map, sym, ap, ◌∙◌, subst, arith, refl, All, Ok, inl, inr}
+use Rattle.std.proofs.Common.{◌≡◌, ℕ, Bool, true, List, None, Some, length, map, sym, ◌∙◌, subst, arith, refl, All, Ok, inl, inr}
 use Rattle.std.proofs.lemmas.List.{length-map}
 use Rattle.abi_base.specs.declared.data_layout.TargetDataLayout.{TargetDataLayout}
 use Rattle.abi_base.specs.declared.niche_optimizations.NicheOptimizations.TheVariants.{Enabled}
@@ -23,7 +23,7 @@ use Rattle.rustc_abi.specs.Enums.{IsEnumed, discriminants_of, layouts_of}
 use Rattle.rustc_abi.specs.Laying.{AreLaying, IsLaying, IsListed, IsListedInOrder, VariantsLaying, enum_fault, fields_fault, kind_of, ordered_fault}
 use Rattle.rustc_abi.specs.Laying.{placed_enum, placed_fields, placed_variants, randomized}
 use Rattle.rustc_abi.specs.Least.{fields_of}
-use Rattle.rustc_abi.specs.Lists.{offsets_of, types_of}
+use Rattle.rustc_abi.specs.Lists.{types_of}
 use Rattle.rustc_abi.specs.Orders.{LieIn, LiesAsAsked}
 use Rattle.rustc_abi.proofs.Sizes.EachListLemmas.{offsets_back}
 use Rattle.rustc_abi.proofs.Sizes.EnumSizeLemmas.{Answers, by_arms, fields_back, lawful_at}

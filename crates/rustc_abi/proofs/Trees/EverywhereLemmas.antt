@@ -79,7 +79,7 @@ module _ (ps : List Placed) (promoted : List Bool) (shared ranks : List ℕ) (wh
       )
 
 module _ (dl : TargetDataLayout) (law : IsLawfulDataLayout dl) where
-  coroutine_has : (pres ps : List Placed) (states : List (List ℕ)) (conflicts : List (ℕ × ℕ))
+  pub coroutine_has : (pres ps : List Placed) (states : List (List ℕ)) (conflicts : List (ℕ × ℕ))
       → All (λ p. IsLawfulLayout dl (layout_of p)) pres → All (λ p. IsLawfulLayout dl (layout_of p)) ps
       → (tag : Scalar) → IsStateTag (length states) tag → (layout : Layout)
       → IsStated dl pres tag (one_scalar dl tag) ps states conflicts (Ok layout)

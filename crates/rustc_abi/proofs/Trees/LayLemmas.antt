@@ -34,6 +34,7 @@ use Rattle.abi_laid.specs.Values.{LocalsHaveValues}
 use Rattle.abi_laid.specs.Faithful.{IsFaithful}
 use Rattle.rustc_abi.specs.Laying.{IsListedInOrder, IsOrderedFieldsAnswer, ordered_fault, randomized}
 use Rattle.rustc_abi.specs.Laying.{IsLaying, AreLaying, IsFieldsAnswer, IsListed, fields_fault, has_bad_align, is_above_limit, most_fields, kind_of, placed_fields, placed_by, unless, one_scalar, two_scalars, pair_answer}
+use Rattle.abi_laid.specs.Room.{has_room}
 use Rattle.abi_laid.specs.Unions.{Begins, IsCommon, InUnions}
 use Rattle.abi_laid.specs.Untagged.{UntaggedNamed}
 use Rattle.rustc_abi.proofs.Unions.CommonLemmas.{begins_room}
@@ -271,6 +272,12 @@ pub laid_root : (dl : TargetDataLayout) (old new : List Node) (i : ℕ) (t : Tre
 laid_root dl old new i t placed added is =
     let root : i ≡ length new - 1 = omega (arith, added.last) in
     subst (λ p. IsLaying dl t (Ok p)) (ap (placed_at new) root ∙ sym is) added.exact
+
+-- the last node's parts end inside
+pub room_root : (dl : TargetDataLayout) (old new : List Node) (i : ℕ) (t : Tree) (placed : Placed) → IsAdded dl old new i t → placed ≡ root_of new → has_room placed ≡ true
+room_root dl old new i t placed added is =
+    let root : i ≡ length new - 1 = omega (arith, added.last) in
+    subst (λ p. has_room p ≡ true) (ap (placed_at new) root ∙ sym is) added.fits.room
 
 -- the last node's type, with what each union in it keeps
 pub begins_root : (dl : TargetDataLayout) (old new : List Node) (i : ℕ) (t : Tree) (placed : Placed) → IsAdded dl old new i t → placed ≡ root_of new →

@@ -18,10 +18,9 @@ use Rattle.abi_scalar.specs.declared.error.LayoutCalculatorError.TheVariants as 
 use Rattle.abi_lists.proofs.Least.{allowed_permutes}
 use Rattle.abi_lists.specs.Run.{IsInOrder}
 use Rattle.abi_lists.proofs.Sorting.{within_order}
-use Rattle.rustc_abi.specs.declared.error.LayError.{LayError}
 use Rattle.rustc_abi.specs.declared.error.LayError.TheVariants.{BadAlign, BadIndex, BadOrder}
 use Rattle.abi_laid.specs.Placed.{Placed, Layout, layout_of}
-use Rattle.rustc_abi.specs.Laying.{IsListedInOrder, fields_fault, has_bad_align, most_fields, ordered_fault, randomized}
+use Rattle.rustc_abi.specs.Laying.{IsListedInOrder, fields_fault, has_bad_align, ordered_fault, randomized}
 
 -- ---- the repr
 

@@ -65,5 +65,5 @@ variants_size-at (v ∷ all) (suc i) d lt = omega (arith, variants_size-at all i
 
 -- an enum is larger than its variants
 pub falls-Enum : (tree : TypeTree) (repr : ReprOptions) (all : Vec (ℕ × Vec TypeTree Global) Global) → tree ≡ Enum repr all →
-    3 * variants_size (trees_of_variants all.items) + 2 < 3 * tree_size (tree_of tree)
+    4 * variants_size (trees_of_variants all.items) + 3 < 4 * tree_size (tree_of tree)
 falls-Enum tree repr all e = omega (arith, ap tree_size (ap tree_of e ∙ tree_of-Enum repr all))

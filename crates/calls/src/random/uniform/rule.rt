@@ -3,7 +3,7 @@
 //! with it; with none where each part is.
 
 use crate::layouts::Layout;
-use crate::random::uniform::grown::Grown;
+use crate::random::grown::Grown;
 use abi_base::{Align, Primitive, RegKind, Size};
 use abi_scalar::{BackendRepr, FieldsShape, Scalar, Variants};
 use abi_types::Reg;

@@ -1,8 +1,14 @@
-use Rattle.std.proofs.Common.{◌≡◌, ap, arith, length, subst}
+use Rattle.std.proofs.Common.{◌≡◌, Some, ap, arith, length, subst, sym, true, ◌∙◌}
 use Rattle.abi_laid.specs.Tree.{tree_of}
 use Rattle.rustc_abi.specs.Clash.{AreClashingApart, HaveOneOffset}
 use Rattle.rustc_abi.specs.Count.{HasNodes}
 use Rattle.abi_laid.specs.Laid.{node_count_of, placed_of, typed_of}
+use Rattle.abi_laid.specs.Placed.{Placed}
+use Rattle.abi_laid.specs.Deciding.{are_inhabited, covering_value}
+use Rattle.abi_laid.specs.Room.{has_room}
+use Rattle.abi_laid.proofs.DecideLemmas.{each_decides}
+use Rattle.abi_laid.proofs.RoomLemmas.{within_room}
+use Rattle.rustc_abi.proofs.Places.DecidingLemmas.{coverable}
 use Rattle.rustc_abi.specs.Least.{HasOverlapSize, IsLeast}
 use Rattle.rustc_abi.specs.Lists.{HasLeastLists}
 use Rattle.rustc_abi.specs.Orders.{LiesAsAsked}
@@ -12,7 +18,7 @@ use Rattle.rustc_abi.proofs.Sizes.PlacedLemmas.{laid_as_asked}
 use Rattle.abi_laid.proofs.AgreeLemmas.{covered_decides}
 use Rattle.rustc_abi.proofs.Trees.EverywhereLemmas.{everywhere}
 use Rattle.rustc_abi.proofs.Trees.LaidLemmas.{laid_sized}
-use Rattle.rustc_abi.proofs.Trees.LayLemmas.{begins_root, common_root, faithful_root, laid_root, lawful_root, untagged_root}
+use Rattle.rustc_abi.proofs.Trees.LayLemmas.{begins_root, common_root, faithful_root, laid_root, lawful_root, room_root, untagged_root}
 use Rattle.rustc_abi.proofs.Sizes.LeastLemmas.{laid_least, laid_overlap, never_large, passed_as, told_large, told_overflow}
 use Rattle.rustc_abi.proofs.Trees.ListLemmas.{passed_on}
 use Rattle.rustc_abi.proofs.Trees.OneAnswer.{one_answer}
@@ -104,6 +110,41 @@ returns-clause-sized c =
 
 pub returns-clause-covered : goal.returns-clause-covered
 returns-clause-covered c = covered_decides c.args.dl.now.endian (placed_of c.new.result)
+
+pub returns-clause-inhabited : goal.returns-clause-inhabited
+returns-clause-inhabited c = (
+  λ all. (c.in_ok-_root.ensures.counted.3.0 (sym c.new.ensures.flags ∙ all)).1,
+  λ each. c.new.ensures.flags ∙ c.in_ok-_root.ensures.counted.3.1 (ap are_inhabited c.new-nodes.ensures.items, each),
+)
+
+pub returns-clause-covers : goal.returns-clause-covers
+returns-clause-covers c = λ all.
+    let law = c.is_lawful.ensures.0 c.if-not-is_lawful.false in
+    let some = (c.in_ok-_root.ensures.counted.3.0 (sym c.new.ensures.flags ∙ all)).1 in
+    let own = coverable c.args.dl.now law (tree_of c.args.tree.now) _ (laid_root _ _ _ _ _ _ c.in_ok-_root.ensures.ok c.new.ensures.placed) some in
+    let faithful = faithful_root _ _ _ _ _ _ c.in_ok-_root.ensures.ok c.new.ensures.placed own.locals in
+    record {
+      values = record {
+        order = c.new.ensures.endian;
+        exists = faithful.exists;
+        only = faithful.only;
+        unique = faithful.unique;
+        untagged = untagged_root _ _ _ _ _ _ c.in_ok-_root.ensures.ok c.new.ensures.placed own.locals;
+      };
+      value = λ k place. own.value (Some k);
+      covers = λ k place. own.covers (room_root _ _ _ _ _ _ c.in_ok-_root.ensures.ok c.new.ensures.placed) k place;
+    }
+
+pub returns-clause-decides : goal.returns-clause-decides
+returns-clause-decides c = λ all k place.
+    let law = c.is_lawful.ensures.0 c.if-not-is_lawful.false in
+    let some = (c.in_ok-_root.ensures.counted.3.0 (sym c.new.ensures.flags ∙ all)).1 in
+    let p : Placed = placed_of c.new.result in
+    let own = coverable c.args.dl.now law (tree_of c.args.tree.now) _ (laid_root _ _ _ _ _ _ c.in_ok-_root.ensures.ok c.new.ensures.placed) some in
+    let room : has_room p ≡ true = room_root _ _ _ _ _ _ c.in_ok-_root.ensures.ok c.new.ensures.placed in
+    let faithful = faithful_root _ _ _ _ _ _ c.in_ok-_root.ensures.ok c.new.ensures.placed own.locals in
+    let held = faithful.exists (covering_value p (Some k)) (own.value (Some k)) in
+    each_decides c.args.dl.now.endian p k (covering_value p (Some k)) held.0 held.1 held.2 (own.covers room k place) (within_room p k room place)
 
 pub returns-clause-places : goal.returns-clause-places
 returns-clause-places c k =

@@ -1,4 +1,4 @@
-use Rattle.std.proofs.Common.{◌≡◌, ℕ, ◌<◌, ◌∙◌, All, List, ap, arith, length, map, subst, sym}
+use Rattle.std.proofs.Common.{◌≡◌, ℕ, ◌<◌, ◌∙◌, false, All, List, ap, arith, length, map, subst, sym}
 use Rattle.std.specs.Prelude.{Vec}
 use Rattle.std.specs.declared.alloc.Global.{Global}
 use Rattle.std.proofs.lemmas.List.{length-map}
@@ -12,11 +12,13 @@ use Rattle.rustc_abi.specs.Enums.{arms_at}
 use Rattle.rustc_abi.specs.Laying.{most_fields, one_scalar}
 use Rattle.abi_laid.specs.Well.{IsPut, all_at}
 use Rattle.rustc_abi.specs.Adding.{AreArms, variants_in}
+use Rattle.rustc_abi.specs.Count.{HasMore}
 use Rattle.abi_laid.proofs.NodesLemmas.{length-types_in}
 use Rattle.rustc_abi.proofs.Enums.ArmNodesLemmas.{variants_in-kept}
 use Rattle.rustc_abi.proofs.Coroutines.StateNodesLemmas.{IsPut-states, as_many_each, each_few, each_means, each_there, states_keep, states_before, states_told}
 use Rattle.rustc_abi.proofs.Values.NarrowLemmas.{scalar_width, tag_width}
-use Rattle.rustc_abi.proofs.Sizes.CountLemmas.{arms_listed, both_ok, own_put}
+use Rattle.rustc_abi.proofs.Sizes.CountLemmas.{arms_listed, both_ok, more_arms, own_put}
+use Rattle.rustc_abi.proofs.Trees.StillLemmas.{still_after}
 use Rattle.rustc_abi.proofs.lay_coroutine.add_states.Goals as goal
 
 pub add-requires-clause-widths : goal.add-requires-clause-widths
@@ -24,12 +26,12 @@ add-requires-clause-widths c = scalar_width c.args.dl.now c.args.tag c.scalar.re
 
 pub add_each_state-requires-clause-each : goal.add_each_state-requires-clause-each
 add_each_state-requires-clause-each c =
-    let many = as_many_each c.args.locals.now c.args.states.now c.in_ok-children.children.items c.in_ok-children.ensures in
+    let many = as_many_each c.args.saved.locals.now c.args.saved.states.now c.in_ok-children.children.items c.in_ok-children.ensures in
     rw c.deref.ensures.value (c.requires.each ∙ sym many)
 
 pub add_each_state-requires-clause-few : goal.add_each_state-requires-clause-few
 add_each_state-requires-clause-few c =
-    let many = as_many_each c.args.locals.now c.args.states.now c.in_ok-children.children.items c.in_ok-children.ensures in
+    let many = as_many_each c.args.saved.locals.now c.args.saved.states.now c.in_ok-children.children.items c.in_ok-children.ensures in
     rw (c.deref.ensures.value, many) c.requires.few
 
 pub add_each_state-requires-clause-there : goal.add_each_state-requires-clause-there
@@ -38,24 +40,24 @@ add_each_state-requires-clause-there c =
     let one = c.add.new.nodes in
     let put = c.in_ok-tag.ensures.ok in
     let longer = put.kept.longer in
-    let there : All (λ child. child < one.len) c.args.locals.now =
-    All-weaker (λ child. child < old.len) (λ child. child < one.len) (λ child lt. omega (arith, lt, longer, length-types_in old.items, length-types_in one.items)) c.args.locals.now c.requires.there in
-    rw c.deref.ensures.value (each_there one.len c.args.locals.now c.args.states.now c.in_ok-children.children.items there c.requires.known c.in_ok-children.ensures)
+    let there : All (λ child. child < one.len) c.args.saved.locals.now =
+    All-weaker (λ child. child < old.len) (λ child. child < one.len) (λ child lt. omega (arith, lt, longer, length-types_in old.items, length-types_in one.items)) c.args.saved.locals.now c.requires.there in
+    rw c.deref.ensures.value (each_there one.len c.args.saved.locals.now c.args.saved.states.now c.in_ok-children.children.items there c.requires.known c.in_ok-children.ensures)
 
 pub add_each_state-requires-clause-few_each : goal.add_each_state-requires-clause-few_each
 add_each_state-requires-clause-few_each c =
-    rw c.deref.ensures.value (each_few most_fields c.args.locals.now c.args.states.now c.in_ok-children.children.items c.requires.few_each c.in_ok-children.ensures)
+    rw c.deref.ensures.value (each_few most_fields c.args.saved.locals.now c.args.saved.states.now c.in_ok-children.children.items c.requires.few_each c.in_ok-children.ensures)
 
 pub add_each_state-requires-clause-inside : goal.add_each_state-requires-clause-inside
 add_each_state-requires-clause-inside c =
     let old = c.args.nodes.now.items in
     let one = c.add.new.nodes.items in
     let children : List (Vec ℕ Global) = c.in_ok-children.children.items in
-    let there : All (λ child. child < length old) c.args.locals.now =
-    All-weaker (λ child. child < c.args.nodes.now.len) (λ child. child < length old) (λ child lt. omega arith) c.args.locals.now c.requires.there in
+    let there : All (λ child. child < length old) c.args.saved.locals.now =
+    All-weaker (λ child. child < c.args.nodes.now.len) (λ child. child < length old) (λ child lt. omega arith) c.args.saved.locals.now c.requires.there in
     let same =
-    ap (variants_in one) c.deref.ensures.value ∙ variants_in-kept old one c.in_ok-tag.ensures.ok.kept children (each_there (length old) c.args.locals.now c.args.states.now children there c.requires.known c.in_ok-children.ensures)
-    ∙ each_means old c.args.locals.now c.args.states.now children c.requires.known c.in_ok-children.ensures in
+    ap (variants_in one) c.deref.ensures.value ∙ variants_in-kept old one c.in_ok-tag.ensures.ok.kept children (each_there (length old) c.args.saved.locals.now c.args.saved.states.now children there c.requires.known c.in_ok-children.ensures)
+    ∙ each_means old c.args.saved.locals.now c.args.saved.states.now children c.requires.known c.in_ok-children.ensures in
     rw same c.requires.inside
 
 pub add-requires-2-clause-laws : goal.add-requires-2-clause-laws
@@ -85,8 +87,8 @@ returns-clause-ok c =
     let old = c.args.nodes.now.items in
     let one = c.add.new.nodes.items in
     let two = c.add_each_state.new.nodes.items in
-    let locals : List ℕ = c.args.locals.now in
-    let all : List (Vec ℕ Global) = c.args.states.now in
+    let locals : List ℕ = c.args.saved.locals.now in
+    let all : List (Vec ℕ Global) = c.args.saved.states.now in
     let children : List (Vec ℕ Global) = c.in_ok-children.children.items in
     let put = c.in_ok-tag.ensures.ok in
     let prefix : All (λ child. child < length old) c.args.prefix.items =
@@ -121,5 +123,12 @@ pub returns-clause-own : goal.returns-clause-own
 returns-clause-own c =
     let two = c.add_each_state.new.nodes.items in
     let arms = arms_listed (types_in two) c.in_ok-states.states.items in
+    let tag : HasMore 1 false c.args.nodes.now.items c.add.new.nodes.items = rw c.scalar.ensures.exact at c.in_ok-tag.ensures.count in
     both_ok c.add-2.result _ _ _ c.add-2.ensures.ok c.add-2.ensures.count
-    (λ i put count. own_put c.args.nodes.now.items two c.add-2.new.nodes.items i _ put (omega (arith, c.in_ok-tag.ensures.count, c.in_ok-states.ensures.count, count, arms)))
+    (λ i put count. own_put c.args.nodes.now.items two c.add-2.new.nodes.items i _ put (more_arms _ _ _ _ _ _ _ tag c.in_ok-states.ensures.count count arms))
+
+pub returns-in_err-states-clause-behind : goal.returns-in_err-states-clause-behind
+returns-in_err-states-clause-behind c = still_after _ _ _ c.in_ok-tag.ensures.behind c.in_err-states.ensures.behind
+
+pub returns-clause-behind : goal.returns-clause-behind
+returns-clause-behind c = still_after _ _ _ c.in_ok-tag.ensures.behind (still_after _ _ _ c.in_ok-states.ensures.behind c.add-2.ensures.behind)

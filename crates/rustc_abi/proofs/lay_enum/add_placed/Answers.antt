@@ -2,6 +2,7 @@ use Rattle.std.proofs.Common.{ap, arith, sym, ◌∙◌}
 use Rattle.abi_scalar.specs.declared.variants.Variants.TheVariants.{Single as OneVariant}
 use Rattle.rustc_abi.proofs.Enums.EnumPlacesLemmas.{single_keeps}
 use Rattle.rustc_abi.proofs.Enums.ArmNodesLemmas.{one_before}
+use Rattle.rustc_abi.proofs.Sizes.CountLemmas.{both_ok, own_put}
 use Rattle.rustc_abi.proofs.lay_enum.add_placed.Goals as goal
 
 pub add-requires-in-Single-clause-laws : goal.add-requires-in-Single-clause-laws
@@ -16,3 +17,12 @@ add-requires-in-Single-clause-earlier c =
     let there = rw c.in-Single.is at c.requires.variants in
     one_before c.args.nodes.now.len _ c.args.children.now c.as_usize.result c.index-children-as_usize.result c.in_ok-fields-in-Single.fields.items
     (omega arith) (omega arith) c.index-children-as_usize.is (c.in_ok-fields-in-Single.ensures.items ∙ c.deref.ensures.value) c.requires.there
+
+pub returns-in-Empty-clause-own : goal.returns-in-Empty-clause-own
+returns-in-Empty-clause-own c =
+    both_ok c.add.result _ _ _ c.add.ensures.ok c.add.ensures.count (λ i put count. own_put c.args.nodes.now.items c.args.nodes.now.items c.add.new.nodes.items i _ put count)
+
+pub returns-in_ok-fields-in-Single-clause-own : goal.returns-in_ok-fields-in-Single-clause-own
+returns-in_ok-fields-in-Single-clause-own c =
+    both_ok c.add-in-Single.result _ _ _ c.add-in-Single.ensures.ok c.add-in-Single.ensures.count
+    (λ i put count. own_put c.args.nodes.now.items c.args.nodes.now.items c.add-in-Single.new.nodes.items i _ put count)

@@ -1,11 +1,8 @@
-use Rattle.std.proofs.Common.{◌≡◌, ◌<◌, map, length, All, sym, ap, ◌∙◌, subst, inl, inr, ⊎_elim}
-use Rattle.std.specs.Prelude.{IfSome}
+use Rattle.std.proofs.Common.{◌≡◌, map, length, All, sym, ap, ◌∙◌, subst, inl, inr, ⊎_elim}
 use Rattle.std.proofs.lemmas.List.{length-map, map-id}
 use Rattle.std.proofs.lemmas.List.Elements.{All-map}
 use Rattle.abi_index.specs.Slice.{items_of}
 use Rattle.abi_lists.specs.Apart.{AreApart}
-use Rattle.abi_lists.specs.InOrder.{IsOrderedAnswer}
-use Rattle.abi_lists.specs.ListNiche.{IsNicheOfPart}
 use Rattle.abi_lists.specs.Placement.{IsNonEmptyIfUnsized}
 use Rattle.abi_scalar.specs.Lawful.{IsLawfulLayout}
 use Rattle.abi_scalar.specs.Shape.{listed_offsets}

@@ -13,6 +13,9 @@ add-requires-clause-widths c =
     let dl = c.args.dl.now in
     scalar_width dl c.args.value c.scalar.result c.scalar.ensures.exact (lawful_readable dl c.args.value (faultless dl c.args.value c.requires.faultless))
 
+pub returns-clause-count : goal.returns-clause-count
+returns-clause-count c = rw c.scalar.ensures.exact at c.add.ensures.count
+
 pub returns-clause-lawful : goal.returns-clause-lawful
 returns-clause-lawful c =
     subst (IsLawfulLayout c.args.dl.now) c.scalar.ensures.exact

@@ -1,4 +1,4 @@
-use Rattle.std.proofs.Common.{◌≡◌, ◌<◌, ◌∙◌, arith, ap, subst}
+use Rattle.std.proofs.Common.{false, ◌≡◌, ◌<◌, ◌∙◌, arith, ap, subst}
 use Rattle.std.specs.Cmp.Derive.{both_true}
 use Rattle.std.proofs.lemmas.Bool.{lt-ltb}
 use Rattle.std.proofs.lemmas.Result.{IfOk-weaker}
@@ -13,7 +13,8 @@ use Rattle.abi_laid.proofs.NodesLemmas.{length-types_in}
 use Rattle.rustc_abi.proofs.Faults.FaultLemmas.{faultless}
 use Rattle.rustc_abi.proofs.Places.LawsLemmas.{pair_laws}
 use Rattle.rustc_abi.proofs.Trees.LayLemmas.{IsAdded-pair}
-use Rattle.rustc_abi.proofs.Sizes.CountLemmas.{both_ok, own_put}
+use Rattle.rustc_abi.proofs.Sizes.CountLemmas.{both_ok, more_both, own_put}
+use Rattle.rustc_abi.proofs.Trees.StillLemmas.{still_after}
 use Rattle.rustc_abi.proofs.lay_scalar.add_two.Goals as goal
 
 pub scalar_pair-requires-clause-first : goal.scalar_pair-requires-clause-first
@@ -61,4 +62,10 @@ returns-clause-ok c =
 pub returns-clause-own : goal.returns-clause-own
 returns-clause-own c =
     both_ok c.add.result _ _ _ c.add.ensures.ok c.add.ensures.count
-    (λ i put count. own_put c.args.nodes.now.items c.add_lawful-2.new.nodes.items c.add.new.nodes.items i _ put (omega (arith, c.in_ok-first.ensures.count, c.in_ok-second.ensures.count, count)))
+    (λ i put count. own_put c.args.nodes.now.items c.add_lawful-2.new.nodes.items c.add.new.nodes.items i _ put (more_both 2 1 false _ _ _ _ (more_both 1 1 false false _ _ _ c.in_ok-first.ensures.count c.in_ok-second.ensures.count) count))
+
+pub returns-in_err-second-clause-behind : goal.returns-in_err-second-clause-behind
+returns-in_err-second-clause-behind c = still_after _ _ _ c.in_ok-first.ensures.behind c.in_err-second.ensures.behind
+
+pub returns-clause-behind : goal.returns-clause-behind
+returns-clause-behind c = still_after _ _ _ c.in_ok-first.ensures.behind (still_after _ _ _ c.in_ok-second.ensures.behind c.add.ensures.behind)

@@ -1,4 +1,4 @@
-use Rattle.std.proofs.Common.{◌≡◌, Some, Ok, ℕ, ap, sym, subst, arith}
+use Rattle.std.proofs.Common.{◌≡◌, ◌<◌, false, length, Some, Ok, ℕ, ap, sym, subst, arith}
 use Rattle.std.proofs.lemmas.Result.{IfOk-weaker}
 use Rattle.abi_lists.specs.Array.{array_answer}
 use Rattle.abi_lists.specs.Simd.{simd_answer}
@@ -7,7 +7,8 @@ use Rattle.rustc_abi.specs.Error.{named}
 use Rattle.abi_laid.specs.Nodes.{placed_at, types_in}
 use Rattle.rustc_abi.proofs.Places.LawsLemmas.{elements_laws, vector_laws}
 use Rattle.rustc_abi.proofs.Unions.TogetherLemmas.{IsAdded-vector}
-use Rattle.rustc_abi.proofs.Sizes.CountLemmas.{both_ok, own_put}
+use Rattle.rustc_abi.proofs.Sizes.CountLemmas.{array_flagged, both_ok, flagged_there, more_absorbed, more_both, own_put}
+use Rattle.rustc_abi.proofs.Trees.StillLemmas.{still_after}
 use Rattle.rustc_abi.proofs.lay_vector.add_vector.Goals as goal
 
 pub vector_layout-requires-clause-lawful : goal.vector_layout-requires-clause-lawful
@@ -46,5 +47,14 @@ returns-clause-ok c =
 
 pub returns-clause-own : goal.returns-clause-own
 returns-clause-own c =
+    let old = c.args.nodes.now.items in
+    let listed =
+    subst (λ ns. Ok c.in_ok-array.array ≡ named {H = ℕ} (array_answer 0 c.args.dl.now (layout_of (placed_at ns c.args.element)) (Some c.args.lanes))) c.deref-2.ensures.value c.in_ok-array.ensures.exact in
+    let here : c.args.element < length old = omega arith in
+    let array = more_absorbed 1 c.in_ok-array.array.uninhabited old c.add.new.nodes.items
+    (λ flag. flagged_there old c.args.element here (array_flagged c.args.dl.now (layout_of (placed_at old c.args.element)) c.in_ok-array.array c.args.lanes listed flag)) c.in_ok-node.ensures.count in
     both_ok c.add-2.result _ _ _ c.add-2.ensures.ok c.add-2.ensures.count
-    (λ i put count. own_put c.args.nodes.now.items c.add.new.nodes.items c.add-2.new.nodes.items i _ put (omega (arith, c.in_ok-node.ensures.count, count)))
+    (λ i put count. own_put old c.add.new.nodes.items c.add-2.new.nodes.items i _ put (more_both 1 1 false _ _ _ _ array count))
+
+pub returns-clause-behind : goal.returns-clause-behind
+returns-clause-behind c = still_after _ _ _ c.in_ok-node.ensures.behind c.add-2.ensures.behind

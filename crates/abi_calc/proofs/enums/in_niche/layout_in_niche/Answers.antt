@@ -26,9 +26,9 @@ returns-in_default g c = λ list is.
     let size : c.lists_size-size.result ≡ lists_size c.args.dl.now c.args.lists.items = c.lists_size-size.ensures ∙ ap (lists_size c.args.dl.now) c.deref.ensures.value in
     let room : c.room_beside-room.result ≡ room_beside c.args.dl.now c.args.niche c.args.lists.items
     = λ i. record { before = c.room_beside-room.ensures.before i; after = c.room_beside-room.ensures.after i; whole = (c.room_beside-room.ensures.whole ∙ size) i } in
-    let none : variants_from (room_beside c.args.dl.now c.args.niche c.args.lists.items) c.args.untagged 0 c.args.lists.items ≡ None
-    = ap (λ r. variants_from r c.args.untagged 0 c.args.lists.items) (sym room) ∙ sym c.in_ok-variants.ensures ∙ c.in_default.is in
-    sym (ap (if_placed (g.FieldIdx.Idx.at 0) g.VariantIdx.Idx.at c.args.dl.now c.args.repr.now c.args.untagged c.args.span c.args.lists.items list c.args.niche) none)
+    let none : variants_from (room_beside c.args.dl.now c.args.niche c.args.lists.items) c.args.among.untagged 0 c.args.lists.items ≡ None
+    = ap (λ r. variants_from r c.args.among.untagged 0 c.args.lists.items) (sym room) ∙ sym c.in_ok-variants.ensures ∙ c.in_default.is in
+    sym (ap (if_placed (g.FieldIdx.Idx.at 0) g.VariantIdx.Idx.at c.args.dl.now c.args.repr.now c.args.among.untagged c.args.among.span c.args.lists.items list c.args.niche) none)
 
 pub returns : goal.returns
 returns g c = λ list is.
@@ -39,17 +39,17 @@ returns g c = λ list is.
     let size : c.lists_size-size.result ≡ lists_size dl lists = c.lists_size-size.ensures ∙ ap (lists_size dl) c.deref.ensures.value in
     let room : c.room_beside-room.result ≡ room_beside dl c.args.niche lists
     = λ i. record { before = c.room_beside-room.ensures.before i; after = c.room_beside-room.ensures.after i; whole = (c.room_beside-room.ensures.whole ∙ size) i } in
-    let some : variants_from (room_beside dl c.args.niche lists) c.args.untagged 0 lists ≡ Some c.in-Some.variants
-    = ap (λ r. variants_from r c.args.untagged 0 lists) (sym room) ∙ sym c.in_ok-variants.ensures ∙ c.in-Some.is in
-    let there = ap (λ ls. slice_get ls c.args.untagged) c.deref-2.ensures.value ∙ is in
+    let some : variants_from (room_beside dl c.args.niche lists) c.args.among.untagged 0 lists ≡ Some c.in-Some.variants
+    = ap (λ r. variants_from r c.args.among.untagged 0 lists) (sym room) ∙ sym c.in_ok-variants.ensures ∙ c.in-Some.is in
+    let there = ap (λ ls. slice_get ls c.args.among.untagged) c.deref-2.ensures.value ∙ is in
     let fills : c.untagged_view-fills.result.0 ≡ ((lists_size dl lists == list.size) && (lists_align dl lists == list.align.abi))
     = c.untagged_view-fills.ensures.fills list there ∙ (λ i. (size i == list.size) && (align i == list.align.abi)) in
     let view = c.untagged_view-fills.ensures.view list there in
-    let made = layout_in_niche (g.FieldIdx.Idx.at 0) g.VariantIdx.Idx.at dl c.args.repr.now c.args.untagged c.args.span lists list c.args.niche (reserved dl c.args.niche (span_count c.args.span)) c.in-Some.variants in
+    let made = layout_in_niche (g.FieldIdx.Idx.at 0) g.VariantIdx.Idx.at dl c.args.repr.now c.args.among.untagged c.args.among.span lists list c.args.niche (reserved dl c.args.niche (span_count c.args.among.span)) c.in-Some.variants in
     ap (λ l. Some l) (same_parts _ made
     (rw (c.in_ok-one.ensures, c.in_ok-one-2.ensures, c.new-first.ensures) refl)
     (rw (c.niche_encoding.ensures, c.new-first.ensures, c.requires.handed) refl)
-    (c.niche_view-backend_repr.ensures ∙ (λ i. if◌then◌else◌ (fills i && others_empty c.args.untagged 0 c.in-Some.variants) (view_with c.args.niche.offset (c.requires.handed i).1 (view i)) (Memory true)))
+    (c.niche_view-backend_repr.ensures ∙ (λ i. if◌then◌else◌ (fills i && others_empty c.args.among.untagged 0 c.in-Some.variants) (view_with c.args.niche.offset (c.requires.handed i).1 (view i)) (Memory true)))
     (c.from_scalar.ensures.exact ∙ ap (λ h. niche_at dl c.args.niche.offset h.1) c.requires.handed)
     (c.all_uninhabited-uninhabited.ensures ∙ ap (list_all (λ l. l.uninhabited)) c.deref-3.ensures.value)
     (ap (λ a. record { abi = a }) (c.new.ensures ∙ align))
@@ -58,4 +58,4 @@ returns g c = λ list is.
     (c.greatest_unadjusted-unadjusted_abi_align.ensures ∙ ap (λ ls. greatest_unadjusted dl.aggregate_align ls) (ap (map (λ l. l)) c.as_slice-3.ensures.value ∙ map-id lists))
     c.c.ensures
     (c.seed_with-randomization_seed.ensures ∙ ap (λ ls. seed_with c.args.repr.now.field_shuffle_seed ls) (ap (map (λ l. l)) c.as_slice-4.ensures.value ∙ map-id lists)))
-    ∙ sym (ap (if_placed (g.FieldIdx.Idx.at 0) g.VariantIdx.Idx.at dl c.args.repr.now c.args.untagged c.args.span lists list c.args.niche) some)
+    ∙ sym (ap (if_placed (g.FieldIdx.Idx.at 0) g.VariantIdx.Idx.at dl c.args.repr.now c.args.among.untagged c.args.among.span lists list c.args.niche) some)

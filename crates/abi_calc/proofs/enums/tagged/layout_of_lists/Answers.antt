@@ -26,12 +26,12 @@ tag_range-requires-clause-most g c = rw c.size.ensures (integer_most c.grown_tag
 
 pub tagged_view-view-requires-clause-tag : goal.tagged_view-view-requires-clause-tag
 tagged_view-view-requires-clause-tag g c =
-    tag_lawful c.args.dl.now c.grown_tag-integer.result c.args.signed c.args.values.now c.in_ok-range.range
+    tag_lawful c.args.dl.now c.grown_tag-integer.result c.args.asked.1 c.args.values.now c.in_ok-range.range
     (subst (λ n. IsTagRange n c.args.values.now c.in_ok-range.range) c.size.ensures c.in_ok-range.ensures)
 
 pub layout_seen_as-requires-clause-tag : goal.layout_seen_as-requires-clause-tag
 layout_seen_as-requires-clause-tag g c =
-    tag_lawful c.args.dl.now c.grown_tag-integer.result c.args.signed c.args.values.now c.in_ok-range.range
+    tag_lawful c.args.dl.now c.grown_tag-integer.result c.args.asked.1 c.args.values.now c.in_ok-range.range
     (subst (λ n. IsTagRange n c.args.values.now c.in_ok-range.range) c.size.ensures c.in_ok-range.ensures)
 
 pub layout_seen_as-requires-clause-align : goal.layout_seen_as-requires-clause-align
@@ -53,15 +53,15 @@ returns-in-Ok-clause-exact g c =
     let align : c.greatest_align-align.result ≡ lists_align c.args.dl.now c.args.lists.items
     = c.greatest_align-align.ensures ∙ ap (greatest_align c.args.dl.now.aggregate_align) (map-id c.as_slice.result.now ∙ c.as_slice.ensures.value) in
     let size : c.lists_size-size.result ≡ lists_size c.args.dl.now c.args.lists.items = c.lists_size-size.ensures ∙ ap (lists_size c.args.dl.now) c.deref.ensures.value in
-    let grown : c.grown_tag-integer.result ≡ grown_tag c.args.dl.now c.args.repr.now c.args.asked (start_align g.FieldIdx.Idx.number vs c.args.lists.items)
-    = c.grown_tag-integer.ensures ∙ ap (grown_tag c.args.dl.now c.args.repr.now c.args.asked) (c.start_align.ensures ∙ ap (start_align g.FieldIdx.Idx.number vs) c.deref-2.ensures.value) in
-    let tag : Scalar = Initialized (Int c.grown_tag-integer.result c.args.signed) c.in_ok-range.range in
+    let grown : c.grown_tag-integer.result ≡ grown_tag c.args.dl.now c.args.repr.now c.args.asked.0 (start_align g.FieldIdx.Idx.number vs c.args.lists.items)
+    = c.grown_tag-integer.ensures ∙ ap (grown_tag c.args.dl.now c.args.repr.now c.args.asked.0) (c.start_align.ensures ∙ ap (start_align g.FieldIdx.Idx.number vs) c.deref-2.ensures.value) in
+    let tag : Scalar = Initialized (Int c.grown_tag-integer.result c.args.asked.1) c.in_ok-range.range in
     record {
       small = omega (arith, size, c.bytes.ensures, c.obj_size_bound.ensures, c.if-bytes-obj_size_bound.false);
       ranged = (
         c.in_ok-range.range,
         subst (λ n. IsTagRange n c.args.values.now c.in_ok-range.range) (c.size.ensures ∙ ap integer_size grown) c.in_ok-range.ensures,
-        tagged_exact g.FieldIdx.Idx.number (g.FieldIdx.Idx.at 0) c.args.dl.now c.args.repr.now c.args.asked c.grown_tag-integer.result c.args.signed c.in_ok-range.range vs c.args.lists.items
+        tagged_exact g.FieldIdx.Idx.number (g.FieldIdx.Idx.at 0) c.args.dl.now c.args.repr.now c.args.asked.0 c.grown_tag-integer.result c.args.asked.1 c.in_ok-range.range vs c.args.lists.items
             c.size-3.result c.lists_size-size.result c.greatest_align-align.result c.tagged_view-view.result c.in-Ok.layout grown c.size-3.ensures size align
             (c.tagged_view-view.ensures
             ∙ ap (λ o. tagged_view c.args.dl.now tag c.lists_size-size.result c.greatest_align-align.result (payloads_of c.args.dl.now o (integer_size c.grown_tag-integer.result) vs c.deref-3.result.now)) (c.size-2.ensures ∙ sym c.size-3.ensures)

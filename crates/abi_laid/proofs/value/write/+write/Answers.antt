@@ -11,7 +11,7 @@ use Rattle.abi_laid.specs.Placed.{Placed, Layout, Parts, Arms, nothing, size_of,
 use Rattle.abi_laid.specs.Places.{is_data_place}
 use Rattle.abi_laid.specs.Nodes.{arms_in, encoding_of, index_of, own_fields, parts_at, parts_at_0, placed_at, placed_in, state_tag_offset, states_in, tag_offset, types_in}
 use Rattle.abi_laid.specs.Well.{all_at}
-use Rattle.abi_laid.specs.Room.{arms_have_room, has_room, have_room}
+use Rattle.abi_laid.specs.Room.{arms_have_room, have_room}
 use Rattle.abi_laid.specs.Holding.{HoldParts, Holds}
 use Rattle.abi_laid.specs.Covering.{are_covered, is_arm_covered, is_byte_at, is_covered, is_told}
 use Rattle.abi_laid.specs.Writing.{IsPutOver}
@@ -192,15 +192,16 @@ write_node-write_variant-requires t c =
     let ns = c.args.walk.nodes.now in
     let size = node_size ns c.args.node _ c.requires.there c.read_one-here.ensures in
     let facts = tagged_node ns c.args.walk.well c.args.node _ c.requires.there c.read_one-here.ensures c.requires.room c.in-Tagged.mark c.in-Tagged.tag c.in-Tagged.variants c.in-Tagged.is in
-    let width = tag_width_at ns c.args.walk.well c.args.walk.widths c.args.node _ c.requires.there c.read_one-here.ensures c.in-Tagged.mark c.in-Tagged.tag c.in-Tagged.variants c.in-Tagged.is in (
+    let width = tag_width_at ns c.args.walk.well c.args.walk.widths c.args.node _ c.requires.there c.read_one-here.ensures c.in-Tagged.mark c.in-Tagged.tag c.in-Tagged.variants c.in-Tagged.is in
+    let named = c.arms_of.ensures.tagged c.in-Tagged.mark c.in-Tagged.tag c.in-Tagged.variants c.in-Tagged.is in (
       omega (arith, c.decreases),
       (
         c.requires.there,
         (
-          facts.0,
+          rw named.0 facts.0,
           (
-            rw c.deref-in-Tagged.ensures.value facts.1,
-            (width, (facts.3, (rw c.deref-in-Tagged.ensures.value facts.5, omega (arith, size, c.requires.fits)))),
+            rw named.1 facts.1,
+            (rw named.0 width, (rw named.0 facts.3, (rw named.1 facts.5, omega (arith, size, c.requires.fits)))),
           ),
         ),
       ),
@@ -213,10 +214,13 @@ write_node-returns-in-Tagged-clause-put t c =
     let v : Value = value_of c.args.value.now in
     let new : List ℕ = c.write_variant.new.bytes in
     let facts = tagged_node ns c.args.walk.well c.args.node _ c.requires.there c.read_one-here.ensures c.requires.room c.in-Tagged.mark c.in-Tagged.tag c.in-Tagged.variants c.in-Tagged.is in
-    let whole : List (ℕ × ℕ) → Placed = λ vs. tagged layout c.in-Tagged.mark (tag_offset layout) (placed_at ns c.in-Tagged.tag) (encoding_of layout.variants) (arms_in (types_in ns) vs) in
+    let named = c.arms_of.ensures.tagged c.in-Tagged.mark c.in-Tagged.tag c.in-Tagged.variants c.in-Tagged.is in
+    let whole : ℕ → List (ℕ × ℕ) → Placed = λ tag vs. tagged layout c.in-Tagged.mark (tag_offset layout) (placed_at ns tag) (encoding_of layout.variants) (arms_in (types_in ns) vs) in
+    let is : whole c.arms_of.result.tag c.arms_of.result.arms.now ≡ placed_at ns c.args.node =
+    ap (λ tag. whole tag c.arms_of.result.arms.now) named.0 ∙ ap (whole c.in-Tagged.tag) named.1 ∙ sym facts.2 in
     on_ok_weaker c.write_variant.result
     (λ put b all.
-    subst (λ p. Holds c.args.walk.order p b v → IsPutOver (is_covered p v) c.args.at b c.args.bytes.now new) (ap whole c.deref-in-Tagged.ensures.value ∙ sym facts.2) (put b all c.in-Tagged.mark))
+    subst (λ p. Holds c.args.walk.order p b v → IsPutOver (is_covered p v) c.args.at b c.args.bytes.now new) is (put b all c.in-Tagged.mark))
     c.write_variant.ensures.put
 
 pub write_node-write_state-requires : goal.write_node-write_state-requires
@@ -226,15 +230,13 @@ write_node-write_state-requires t c =
     let size = node_size ns c.args.node _ c.requires.there c.read_one-here.ensures in
     let facts = states_node ns c.args.walk.well c.args.node _ c.requires.there c.read_one-here.ensures c.requires.room c.in-States.prefix c.in-States.tag c.in-States.states c.in-States.is in
     let width = state_tag_width_at ns c.args.walk.well c.args.walk.widths c.args.node _ c.requires.there c.read_one-here.ensures c.in-States.prefix c.in-States.tag c.in-States.states c.in-States.is in
-    let room : has_room (states_in (types_in ns) layout c.deref-in-States.result.now c.in-States.tag c.deref-in-States-2.result.now) ≡ true =
-    subst (λ vs. has_room (states_in (types_in ns) layout c.deref-in-States.result.now c.in-States.tag vs) ≡ true) (sym c.deref-in-States-2.ensures.value)
-    (subst (λ ps. has_room (states_in (types_in ns) layout ps c.in-States.tag c.in-States.states.items) ≡ true) (sym c.deref-in-States.ensures.value) facts.4) in (
+    let named = c.arms_of-in-States.ensures.states c.in-States.prefix c.in-States.tag c.in-States.states c.in-States.is in (
       omega (arith, c.decreases),
       (
         c.requires.there,
         (
-          rw c.deref-in-States.ensures.value facts.0,
-          (facts.1, (rw c.deref-in-States-2.ensures.value facts.2, (width, (room, omega (arith, size, c.requires.fits))))),
+          rw named.0 facts.0,
+          (rw named.1 facts.1, (rw named.2 facts.2, (rw named.1 width, (rw (named.0, named.1, named.2) facts.4, omega (arith, size, c.requires.fits))))),
         ),
       ),
     )
@@ -246,9 +248,12 @@ write_node-returns-in-States-clause-put t c =
     let v : Value = value_of c.args.value.now in
     let new : List ℕ = c.write_state.new.bytes in
     let facts = states_node ns c.args.walk.well c.args.node _ c.requires.there c.read_one-here.ensures c.requires.room c.in-States.prefix c.in-States.tag c.in-States.states c.in-States.is in
-    let whole : List ℕ → List (ℕ × ℕ) → Placed = λ ps vs. states_in (types_in ns) layout ps c.in-States.tag vs in
-    let is : whole c.deref-in-States.result.now c.deref-in-States-2.result.now ≡ placed_at ns c.args.node =
-    ap (λ ps. whole ps c.deref-in-States-2.result.now) c.deref-in-States.ensures.value ∙ ap (whole c.in-States.prefix.items) c.deref-in-States-2.ensures.value ∙ sym facts.3 in
+    let named = c.arms_of-in-States.ensures.states c.in-States.prefix c.in-States.tag c.in-States.states c.in-States.is in
+    let beside = c.arms_of-in-States.result in
+    let whole : List ℕ → ℕ → List (ℕ × ℕ) → Placed = λ ps tag vs. states_in (types_in ns) layout ps tag vs in
+    let is : whole beside.prefix.now beside.tag beside.arms.now ≡ placed_at ns c.args.node =
+    ap (λ ps. whole ps beside.tag beside.arms.now) named.0 ∙ ap (λ tag. whole c.in-States.prefix.items tag beside.arms.now) named.1 ∙ ap (whole c.in-States.prefix.items c.in-States.tag) named.2
+    ∙ sym facts.3 in
     on_ok_weaker c.write_state.result
     (λ put b all. subst (λ p. Holds c.args.walk.order p b v → IsPutOver (is_covered p v) c.args.at b c.args.bytes.now new) is (put b all))
     c.write_state.ensures.put
@@ -287,7 +292,7 @@ write_elements-returns-clause-put t c = λ b all many held.
 
 pub write_parts-loop-i-init : goal.write_parts-loop-i-init
 write_parts-loop-i-init t c =
-    let parts : Parts = parts_at c.args.offsets.now (all_at c.args.walk.nodes.now c.args.children.now) in
+    let parts : Parts = parts_at c.args.parts.0.now (all_at c.args.walk.nodes.now c.args.parts.1.now) in
     record {
       long = refl;
       put = λ b all held. written_none (are_covered parts (values_of c.args.values.now)) (HoldParts c.args.walk.order parts b (values_of c.args.values.now)) c.args.at b c.args.bytes.now held;
@@ -296,20 +301,20 @@ write_parts-loop-i-init t c =
 pub write_parts-overflow_add-place : goal.write_parts-overflow_add-place
 write_parts-overflow_add-place t c =
     let i : ℕ = c.loop-i.i in
-    let os : List ℕ = c.args.offsets.now in
+    let os : List ℕ = c.args.parts.0.now in
     let lt : i < length os = omega (arith, c.loop-i-test.true, c.min-i-end.ensures, c.min.ensures) in
-    let below : i < length c.args.children.now = omega (arith, c.loop-i-test.true, c.min-i-end.ensures, c.min.ensures) in
-    let at = field_at c.args.walk.nodes.now os c.args.children.now i lt below c.args.size c.args.node c.requires.before c.requires.room in
+    let below : i < length c.args.parts.1.now = omega (arith, c.loop-i-test.true, c.min-i-end.ensures, c.min.ensures) in
+    let at = field_at c.args.walk.nodes.now os c.args.parts.1.now i lt below c.args.size c.args.node c.requires.before c.requires.room in
     let offset : c.bytes.result ≡ get_or os i 0 = c.bytes.ensures ∙ c.index-offsets-i.is ∙ get_or_default os i c.index-offsets-i.result 0 lt in
     omega (arith, at.1, offset, c.requires.fits, c.ranges.at.fits)
 
 pub write_parts-write_node-requires : goal.write_parts-write_node-requires
 write_parts-write_node-requires t c =
     let i : ℕ = c.loop-i.i in
-    let os : List ℕ = c.args.offsets.now in
+    let os : List ℕ = c.args.parts.0.now in
     let lt : i < length os = omega (arith, c.loop-i-test.true, c.min-i-end.ensures, c.min.ensures) in
-    let below : i < length c.args.children.now = omega (arith, c.loop-i-test.true, c.min-i-end.ensures, c.min.ensures) in
-    let at = field_at c.args.walk.nodes.now os c.args.children.now i lt below c.args.size c.args.node c.requires.before c.requires.room in
+    let below : i < length c.args.parts.1.now = omega (arith, c.loop-i-test.true, c.min-i-end.ensures, c.min.ensures) in
+    let at = field_at c.args.walk.nodes.now os c.args.parts.1.now i lt below c.args.size c.args.node c.requires.before c.requires.room in
     let offset : c.bytes.result ≡ get_or os i 0 = c.bytes.ensures ∙ c.index-offsets-i.is ∙ get_or_default os i c.index-offsets-i.result 0 lt in (
       omega (arith, at.0, c.decreases),
       (
@@ -322,58 +327,58 @@ pub write_parts-loop-i-preserved : goal.write_parts-loop-i-preserved
 write_parts-loop-i-preserved t c =
     let ns = c.args.walk.nodes.now in
     let i : ℕ = c.loop-i.i in
-    let os : List ℕ = c.args.offsets.now in
-    let ps : List Placed = all_at ns c.args.children.now in
+    let os : List ℕ = c.args.parts.0.now in
+    let ps : List Placed = all_at ns c.args.parts.1.now in
     let vs : List Kept = c.args.values.now in
     let d : Kept = c.index-values-i.result in
     let new : List ℕ = c.write_node.new.bytes in
     let lt : i < length os = omega (arith, c.loop-i-test.true, c.min-i-end.ensures, c.min.ensures) in
-    let below : i < length c.args.children.now = omega (arith, c.loop-i-test.true, c.min-i-end.ensures, c.min.ensures) in
+    let below : i < length c.args.parts.1.now = omega (arith, c.loop-i-test.true, c.min-i-end.ensures, c.min.ensures) in
     let there : i < length vs = omega (arith, c.loop-i-test.true, c.min-i-end.ensures) in
     let offset : c.bytes.result ≡ get_or os i 0 = c.bytes.ensures ∙ c.index-offsets-i.is ∙ get_or_default os i c.index-offsets-i.result 0 lt in
-    let child : placed_at ns (get_or c.args.children.now i 0) ≡ get_or ps i nothing = sym (child_is ns c.args.children.now i below) in
+    let child : placed_at ns (get_or c.args.parts.1.now i 0) ≡ get_or ps i nothing = sym (child_is ns c.args.parts.1.now i below) in
     let put : (s : List ℕ) → AreBytes s → Holds c.args.walk.order (get_or ps i nothing) s (value_of (get_or vs i d)) →
     IsPutOver (is_covered (get_or ps i nothing) (value_of (get_or vs i d))) (c.args.at + get_or os i 0) s c.loop-i.bytes new =
     subst (λ k. NodePut c.args.walk.order (c.args.at + get_or os i 0) c.loop-i.bytes new (get_or ps i nothing) (value_of k)) c.index-values-i.is
     (subst (λ p. NodePut c.args.walk.order (c.args.at + get_or os i 0) c.loop-i.bytes new p (value_of d)) child
-    (subst (λ o. NodePut c.args.walk.order (c.args.at + o) c.loop-i.bytes new (placed_at ns (get_or c.args.children.now i 0)) (value_of d)) offset c.in_ok-write_node.ensures.put)) in
+    (subst (λ o. NodePut c.args.walk.order (c.args.at + o) c.loop-i.bytes new (placed_at ns (get_or c.args.parts.1.now i 0)) (value_of d)) offset c.in_ok-write_node.ensures.put)) in
     record {
       long = c.in_ok-write_node.ensures.long ∙ c.loop-i.invariant.long;
       put = λ b all held.
-          parts_more c.args.walk.order os ps vs c.args.at b c.args.bytes.now i d c.loop-i.bytes new lt (omega (arith, below, count_children ns c.args.children.now)) there all
+          parts_more c.args.walk.order os ps vs c.args.at b c.args.bytes.now i d c.loop-i.bytes new lt (omega (arith, below, count_children ns c.args.parts.1.now)) there all
           (c.loop-i.invariant.put b all held) put;
     }
 
 pub write_parts-returns-clause-put : goal.write_parts-returns-clause-put
 write_parts-returns-clause-put t c = λ b all held.
-    let ps : List Placed = all_at c.args.walk.nodes.now c.args.children.now in
-    parts_all c.args.walk.order c.args.offsets.now ps c.args.values.now c.args.at b c.args.bytes.now c.loop-i.i c.loop-i.bytes
-    (omega (arith, count_children c.args.walk.nodes.now c.args.children.now, c.loop-i-test.false, c.min-i-end.ensures, c.min.ensures)) (c.loop-i.invariant.put b all held)
+    let ps : List Placed = all_at c.args.walk.nodes.now c.args.parts.1.now in
+    parts_all c.args.walk.order c.args.parts.0.now ps c.args.values.now c.args.at b c.args.bytes.now c.loop-i.i c.loop-i.bytes
+    (omega (arith, count_children c.args.walk.nodes.now c.args.parts.1.now, c.loop-i-test.false, c.min-i-end.ensures, c.min.ensures)) (c.loop-i.invariant.put b all held)
 
 -- ---- the fields of a node
 
 pub write_fields-write_parts-requires : goal.write_fields-write_parts-requires
 write_fields-write_parts-requires t c =
-    let room : have_room c.bytes-size.result (parts_at c.offsets-places.result.now (all_at c.args.walk.nodes.now c.args.children.now)) ≡ true =
-    rw (c.bytes-size.ensures, c.offsets-places.ensures) c.requires.room in
+    let room : have_room c.bytes-size.result (parts_at c.offsets.result.now (all_at c.args.walk.nodes.now c.args.children.now)) ≡ true =
+    rw (c.bytes-size.ensures, c.offsets.ensures) c.requires.room in
     (omega (arith, c.decreases), (c.requires.there, (c.requires.before, (room, omega (arith, c.bytes-size.ensures, c.requires.fits)))))
 
 pub write_fields-returns-clause-put : goal.write_fields-returns-clause-put
 write_fields-returns-clause-put t c =
     subst (λ os. PartsPut c.args.walk.order c.args.at c.args.bytes.now c.write_parts.new.bytes (parts_at os (all_at c.args.walk.nodes.now c.args.children.now)) (values_of c.args.values.now) c.write_parts.result)
-    c.offsets-places.ensures c.write_parts.ensures.put
+    c.offsets.ensures c.write_parts.ensures.put
 
 -- ---- a variant
 
 pub write_variant-write_arm-requires : goal.write_variant-write_arm-requires
 write_variant-write_arm-requires t c =
     let ns = c.args.walk.nodes.now in
-    let inside : c.tag_offset-offset.result + size_of (placed_at ns c.args.tag) ≤ c.bytes-size.result = rw (c.tag_offset-offset.ensures, c.bytes-size.ensures) c.requires.inside in
-    let room : arms_have_room c.bytes-size.result (arms_in (types_in ns) c.args.variants.now) ≡ true = rw c.bytes-size.ensures c.requires.room in (
+    let inside : c.tag_offset.result + size_of (placed_at ns c.args.beside.tag) ≤ c.bytes.result = rw (c.tag_offset.ensures, c.bytes.ensures) c.requires.inside in
+    let room : arms_have_room c.bytes.result (arms_in (types_in ns) c.args.beside.arms.now) ≡ true = rw c.bytes.ensures c.requires.room in (
       omega (arith, c.decreases),
       (
         c.requires.there,
-        (c.requires.first, (c.requires.before, (c.requires.width, (inside, (room, omega (arith, c.bytes-size.ensures, c.requires.fits)))))),
+        (c.requires.first, (c.requires.before, (c.requires.width, (inside, (room, omega (arith, c.bytes.ensures, c.requires.fits)))))),
       ),
     )
 
@@ -384,34 +389,34 @@ write_variant-returns-clause-put t c =
     let i : ℕ = c.variant-index.result.0 in
     let us : Values = values_of c.variant-index.result.1.now in
     let new : List ℕ = c.write_arm.new.bytes in
-    let tag : Placed = placed_at ns c.args.tag in
-    let arms : Arms = arms_in (types_in ns) c.args.variants.now in
+    let tag : Placed = placed_at ns c.args.beside.tag in
+    let arms : Arms = arms_in (types_in ns) c.args.beside.arms.now in
     on_ok_weaker c.write_arm.result
     (λ put b all mark.
     put_tagged c.args.walk.order layout c.args.at b c.args.bytes.now new mark (tag_offset layout) tag (encoding_of layout.variants) arms (value_of c.args.value.now) i us c.variant-index.ensures (put b all))
-    (subst (λ o. ArmPut c.args.walk.order c.args.at c.args.bytes.now new (encoding_of layout.variants) o tag arms i us c.write_arm.result) c.tag_offset-offset.ensures
-    (subst (λ e. ArmPut c.args.walk.order c.args.at c.args.bytes.now new e c.tag_offset-offset.result tag arms i us c.write_arm.result) c.encoding_of-encoding.ensures
+    (subst (λ o. ArmPut c.args.walk.order c.args.at c.args.bytes.now new (encoding_of layout.variants) o tag arms i us c.write_arm.result) c.tag_offset.ensures
+    (subst (λ e. ArmPut c.args.walk.order c.args.at c.args.bytes.now new e c.tag_offset.result tag arms i us c.write_arm.result) c.encoding_of-encoding.ensures
     c.write_arm.ensures.put))
 
 -- ---- a state
 
 pub write_state-write_fields-requires : goal.write_state-write_fields-requires
 write_state-write_fields-requires t c =
-    let rooms = states_rooms c.args.walk.nodes.now c.args.layout.now c.args.prefix.now c.args.tag c.args.states.now c.requires.room in
+    let rooms = states_rooms c.args.walk.nodes.now c.args.layout.now c.args.beside.prefix.now c.args.beside.tag c.args.beside.arms.now c.requires.room in
     (omega (arith, c.decreases), (c.requires.there, (c.requires.fields, (rooms.0, c.requires.fits))))
 
 pub write_state-write_arm-requires : goal.write_state-write_arm-requires
 write_state-write_arm-requires t c =
     let ns = c.args.walk.nodes.now in
-    let rooms = states_rooms ns c.args.layout.now c.args.prefix.now c.args.tag c.args.states.now c.requires.room in
-    let inside : c.state_tag_offset-offset.result + size_of (placed_at ns c.args.tag) ≤ c.bytes-size.result = rw (c.state_tag_offset-offset.ensures, c.bytes-size.ensures) rooms.2 in
-    let room : arms_have_room c.bytes-size.result (arms_in (types_in ns) c.args.states.now) ≡ true = rw c.bytes-size.ensures rooms.1 in (
+    let rooms = states_rooms ns c.args.layout.now c.args.beside.prefix.now c.args.beside.tag c.args.beside.arms.now c.requires.room in
+    let inside : c.state_tag_offset.result + size_of (placed_at ns c.args.beside.tag) ≤ c.bytes.result = rw (c.state_tag_offset.ensures, c.bytes.ensures) rooms.2 in
+    let room : arms_have_room c.bytes.result (arms_in (types_in ns) c.args.beside.arms.now) ≡ true = rw c.bytes.ensures rooms.1 in (
       omega (arith, c.decreases),
       (
         c.requires.there,
         (
           c.requires.first,
-          (c.requires.before, (c.requires.width, (inside, (room, omega (arith, c.bytes-size.ensures, c.requires.fits, c.write_fields.ensures.long))))),
+          (c.requires.before, (c.requires.width, (inside, (room, omega (arith, c.bytes.ensures, c.requires.fits, c.write_fields.ensures.long))))),
         ),
       ),
     )
@@ -426,31 +431,31 @@ write_state-returns-clause-put t c =
     let old : List ℕ = c.args.bytes.now in
     let mid : List ℕ = c.write_fields.new.bytes in
     let new : List ℕ = c.write_arm.new.bytes in
-    let prefix : Parts = parts_at (listed_offsets layout.fields) (all_at ns c.args.prefix.now) in
-    let offset : ℕ = state_tag_offset layout (length c.args.prefix.now) in
-    let tag : Placed = placed_at ns c.args.tag in
-    let arms : Arms = arms_in (types_in ns) c.args.states.now in
+    let prefix : Parts = parts_at (listed_offsets layout.fields) (all_at ns c.args.beside.prefix.now) in
+    let offset : ℕ = state_tag_offset layout (length c.args.beside.prefix.now) in
+    let tag : Placed = placed_at ns c.args.beside.tag in
+    let arms : Arms = arms_in (types_in ns) c.args.beside.arms.now in
     on_ok_weaker c.write_arm.result
     (λ put b all.
     put_states c.args.walk.order layout c.args.at b old mid new prefix offset tag arms (value_of c.args.value.now) i qs us c.state-state.ensures (c.in_ok-write_fields.ensures.put b all) (put b all))
-    (subst (λ o. ArmPut c.args.walk.order c.args.at mid new Direct o tag arms i us c.write_arm.result) c.state_tag_offset-offset.ensures c.write_arm.ensures.put)
+    (subst (λ o. ArmPut c.args.walk.order c.args.at mid new Direct o tag arms i us c.write_arm.result) c.state_tag_offset.ensures c.write_arm.ensures.put)
 
 -- ---- a tag and an arm
 
-pub write_arm-returns-then-index-variants-clause-put :
-    goal.write_arm-returns-then-index-variants-clause-put
-write_arm-returns-then-index-variants-clause-put t c = λ b all held.
-    let at = from_arm c.args.walk.order (types_in c.args.walk.nodes.now) b c.args.variants.now c.args.index (0, 0) (values_of c.args.values.now) held.2 in
-    absurd (omega (arith, at.0, c.if-index-variants.true))
+pub write_arm-returns-then-index-told-clause-put :
+    goal.write_arm-returns-then-index-told-clause-put
+write_arm-returns-then-index-told-clause-put t c = λ b all held.
+    let at = from_arm c.args.walk.order (types_in c.args.walk.nodes.now) b c.args.told.arms.now c.args.index (0, 0) (values_of c.args.values.now) held.2 in
+    absurd (omega (arith, at.0, c.if-index-told.true))
 
 pub write_arm-write_own-requires : goal.write_arm-write_own-requires
 write_arm-write_own-requires t c =
-    let before = c.requires.before c.args.index (0, 0) c.if-index-variants.false in (
+    let before = c.requires.before c.args.index (0, 0) c.if-index-told.false in (
       omega (arith, before, c.decreases),
       (
         omega (arith, before, c.requires.there),
         (
-          arm_room c.args.size (types_in c.args.walk.nodes.now) c.args.variants.now c.args.index (0, 0) c.requires.room c.if-index-variants.false,
+          arm_room c.args.told.size (types_in c.args.walk.nodes.now) c.args.told.arms.now c.args.index (0, 0) c.requires.room c.if-index-told.false,
           omega (arith, c.requires.fits, c.write_tag.ensures.long),
         ),
       ),
@@ -461,9 +466,9 @@ write_arm-returns-clause-put t c =
     let ns = c.args.walk.nodes.now in
     let done : List Placed = types_in ns in
     let i : ℕ = c.args.index in
-    let tag : Placed = placed_at ns c.args.tag in
+    let tag : Placed = placed_at ns c.args.told.tag in
     let us : Values = values_of c.args.values.now in
-    let vs : List (ℕ × ℕ) = c.args.variants.now in
+    let vs : List (ℕ × ℕ) = c.args.told.arms.now in
     let old : List ℕ = c.args.bytes.now in
     let mid : List ℕ = c.write_tag.new.bytes in
     let new : List ℕ = c.write_own.new.bytes in
@@ -471,8 +476,8 @@ write_arm-returns-clause-put t c =
     on_ok_weaker c.write_own.result
     (λ put b all held.
     let at = from_arm c.args.walk.order done b vs i (0, 0) us held.2 in
-    let front = subst (λ w. TagPut c.args.walk.order c.args.at old mid c.args.encoding.now c.args.offset w vs i) width c.write_tag.ensures.put b done all held.0 held.1 in
-    put_both (λ k. is_told c.args.encoding.now i && is_byte_at c.args.offset (size_of tag) k) (λ k. is_arm_covered (arms_in done vs) i us k) c.args.at b old mid new front
+    let front = subst (λ w. TagPut c.args.walk.order c.args.at old mid c.args.told.encoding.now c.args.told.offset w vs i) width c.write_tag.ensures.put b done all held.0 held.1 in
+    put_both (λ k. is_told c.args.told.encoding.now i && is_byte_at c.args.told.offset (size_of tag) k) (λ k. is_arm_covered (arms_in done vs) i us k) c.args.at b old mid new front
     (put_like (are_covered (own_fields (placed_in done (get_or vs i (0, 0)).1)) us) (λ k. is_arm_covered (arms_in done vs) i us k) c.args.at b mid new
     (λ k. arm_covers done vs i (0, 0) us k at.0) (put b all at.1)))
     c.write_own.ensures.put

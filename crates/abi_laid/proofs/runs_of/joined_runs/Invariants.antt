@@ -1,8 +1,0 @@
-use Rattle.std.proofs.Common.{List}
-use Rattle.abi_laid.specs.declared.node.Node.{Node}
-use Rattle.abi_laid.specs.Needed.{AreNeeded}
-use Rattle.abi_laid.proofs.MadeLemmas.{AreMade}
-use Rattle.abi_laid.proofs.runs_of.joined_runs.Given as goal
-
-abbrev pub invariant-loop-at : goal.invariant-loop-at
-invariant-loop-at l = (ns : List Node) → AreNeeded ns l.kept → AreMade ns l.kept l.at l.done.items

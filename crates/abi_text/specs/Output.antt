@@ -1,0 +1,99 @@
+-- What a program writes for an input of two lines, a data layout and a type, and the status that it ends with. `tells` says which texts
+-- tell of a type that was laid out.
+use Rattle.std.specs.Prelude.{◌≡◌, ℕ, ◌&&◌, ◌++◌, ◌⊎◌, MatchBool, List, take, codes, string_bytes, Option, Result, Ok, Err}
+use Rattle.std.specs.Fmt.{decimal}
+use Rattle.std.specs.Io.KnownBytes.{Appends}
+use Rattle.std.specs.Str.{is_utf8}
+use Rattle.abi_base.specs.declared.data_layout.TargetDataLayout.{TargetDataLayout}
+use Rattle.abi_base.specs.DataLayout.{IsLawfulDataLayout}
+use Rattle.abi_base.specs.DataLayoutFault.{Fault as Flaw}
+use Rattle.rustc_abi.specs.declared.error.LayError.{LayError}
+use Rattle.abi_laid.specs.Tree.{Tree}
+use Rattle.abi_laid.specs.Placed.{Placed}
+use Rattle.rustc_abi.specs.Laying.{IsLaying}
+use Rattle.abi_text.specs.declared.answer.Answer.{Answer}
+use Rattle.abi_text.specs.declared.fault.Fault.{Fault}
+use Rattle.abi_text.specs.declared.fault.Fault.TheVariants.{Unreadable, TooDeep, OutOfMemory}
+use Rattle.abi_text.specs.DataLayoutLine.{data_layout_of}
+use Rattle.abi_text.specs.Lines.{first_line, second_line}
+use Rattle.abi_text.specs.Names.{error_name, flaw_name}
+use Rattle.abi_text.specs.Reading.{read}
+use Rattle.abi_text.specs.Words.{words_of}
+
+-- What is written, and the status.
+pub record Output : Type 0 where
+  pub text : List ℕ
+  pub status : ℕ
+
+-- a type that has no layout, or an input that can't be read
+abbrev pub refused : (name : List ℕ) → Output
+refused name = record { text = codes "refused " ++ name ++ codes "\n"; status = 1 }
+
+-- a text whose word of this number doesn't fit
+abbrev pub unreadable : (number : ℕ) → Output
+unreadable number = record { text = codes "unreadable word " ++ decimal number ++ codes "\n"; status = 2 }
+
+abbrev pub out_of_memory : Output
+out_of_memory = refused (codes "OutOfMemory")
+
+abbrev pub output_of_fault : Fault → Output
+output_of_fault (Unreadable number) = unreadable number
+output_of_fault TooDeep = refused (codes "TooDeep")
+output_of_fault OutOfMemory = out_of_memory
+
+-- a text that tells of a type
+abbrev pub told : (text : List ℕ) → Output
+told text = record { text = text; status = 0 }
+
+-- the output for a type's layout, or for its first fault
+abbrev pub IsOutputOfLayout : (tells : TargetDataLayout → Placed → List ℕ → Type 0) → TargetDataLayout → Result Placed LayError → Output → Type 0
+IsOutputOfLayout tells dl (Ok placed) output = (text : List ℕ) × tells dl placed text × (output ≡ told text)
+IsOutputOfLayout tells dl (Err error) output = output ≡ refused (error_name error)
+
+-- the output for a type under a data layout: where the data layout is lawful, that for its layout or its first fault
+pub record IsOutputOfTree (tells : TargetDataLayout → Placed → List ℕ → Type 0) (dl : TargetDataLayout) (tree : Tree) (output : Output) : Type 0 where
+  pub lawful : IsLawfulDataLayout dl → (r : Result Placed LayError) × IsLaying dl tree r × IsOutputOfLayout tells dl r output
+  pub unlawful : (IsLawfulDataLayout dl → ⊥) → output ≡ refused (codes "UnlawfulDataLayout")
+
+abbrev pub IsOutputOfType : (tells : TargetDataLayout → Placed → List ℕ → Type 0) → TargetDataLayout → Result Tree Fault → Output → Type 0
+IsOutputOfType tells dl (Ok tree) output = IsOutputOfTree tells dl tree output
+IsOutputOfType tells dl (Err fault) output = output ≡ output_of_fault fault
+
+-- the output for the line of a type, under a data layout or its fault
+abbrev pub IsOutputUnder : (tells : TargetDataLayout → Placed → List ℕ → Type 0) → Result TargetDataLayout Flaw → (second : List ℕ) → Output → Type 0
+IsOutputUnder tells (Ok dl) second output = IsOutputOfType tells dl (read dl (words_of second)) output
+IsOutputUnder tells (Err flaw) second output = output ≡ refused (flaw_name flaw)
+
+-- the output for the first two lines, a data layout and a type
+abbrev pub IsOutputOfLines : (tells : TargetDataLayout → Placed → List ℕ → Type 0) → (first second : List ℕ) → Output → Type 0
+IsOutputOfLines tells first second output =
+    MatchBool (is_utf8 first && is_utf8 second)
+    (IsOutputUnder tells (data_layout_of first) second output)
+    (output ≡ unreadable 0)
+
+-- the output for an input
+abbrev pub IsOutputOf : (tells : TargetDataLayout → Placed → List ℕ → Type 0) → List ℕ → Output → Type 0
+IsOutputOf tells input output = IsOutputOfLines tells (first_line input) (second_line input) output
+
+-- the text was written whole behind what was there, and the status is the one given; or writing failed: only a beginning
+-- of the text was written, and the status is 1
+abbrev pub Sent : (old new : Option (List ℕ)) → (text : List ℕ) → (given status : ℕ) → Type 0
+Sent old new text given status =
+    (Appends old new text × (status ≡ given)) ⊎ ((count : ℕ) × Appends old new (take count text) × (status ≡ 1))
+
+abbrev pub SentOutput : (old new : Option (List ℕ)) → Output → (status : ℕ) → Type 0
+SentOutput old new output status = Sent old new output.text output.status status
+
+-- the run answered such an output; or that memory was wanting, or that reading failed
+abbrev pub Answered : (old new : Option (List ℕ)) → (Output → Type 0) → (status : ℕ) → Type 0
+Answered old new P status =
+    ((output : Output) × P output × SentOutput old new output status)
+    ⊎ (SentOutput old new out_of_memory status ⊎ SentOutput old new (refused (codes "Input")) status)
+
+-- an answer, as the definitions see it
+abbrev pub answered_by : Answer → Output
+answered_by answer = record { text = string_bytes answer.text; status = answer.status }
+
+-- the answer is such an output, or that memory was wanting
+abbrev pub IsAnswer : (Output → Type 0) → Answer → Type 0
+IsAnswer P answer = P (answered_by answer) ⊎ (answered_by answer ≡ out_of_memory)

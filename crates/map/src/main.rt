@@ -1,0 +1,19 @@
+//! Tells what each byte of a type holds: standard input has a data layout string and a type, a line each, and standard
+//! output gets the runs of bytes that the same parts have.
+#![tactic(auto)]
+
+mod covering;
+mod map_text;
+mod part;
+mod parts;
+mod print;
+mod run;
+mod starts;
+
+pub use run::run;
+use std::io;
+use std::process::ExitCode;
+
+fn main(rt: HostRuntime) -> ExitCode {
+    ExitCode::from(run(rt.alloc(), &mut rt.reader(), &mut io::writer(&rt)))
+}

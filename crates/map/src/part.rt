@@ -1,0 +1,27 @@
+//! Parts of a type.
+
+use abi_index::RangeSet;
+
+/// What a part is called.
+#[derive(Clone, Copy)]
+pub(crate) enum Name {
+    /// The one number that the type is.
+    Number,
+    /// All elements of an array.
+    Elements,
+    /// All lanes of a vector.
+    Lanes,
+    /// The field with this index.
+    Field(usize),
+    /// The tag, which tells variants apart.
+    Tag,
+    /// Of the variant with the first index the field with the second.
+    VariantField(usize, usize),
+}
+
+/// A part, and its bytes, which are counted from the type's start.
+#[derive(Drop)]
+pub(crate) struct PartBytes {
+    pub(crate) name: Name,
+    pub(crate) bytes: RangeSet,
+}

@@ -1,0 +1,31 @@
+-- The tree that was made is a struct under `repr(C)`.
+use Rattle.std.proofs.Common.{true, List, Ok, Err, Result, map}
+use Rattle.std.specs.Prelude.{IfOk}
+use Rattle.abi_laid.specs.declared.tree.TypeTree.{Struct}
+use Rattle.abi_laid.specs.Placed.{Placed}
+use Rattle.abi_laid.specs.Tree.{Trees, tree_of, trees}
+use Rattle.rustc_abi.specs.declared.error.LayError.{LayError}
+use Rattle.rustc_abi.specs.Laying.{AreLaying}
+use Rattle.uses.specs.declared.binding_generator.CStruct.{CStruct}
+use Rattle.uses.specs.InC.{IsInC, LieAsInC}
+use Rattle.uses.proofs.Trees.{tree_of-Struct}
+use Rattle.uses.proofs.binding_generator.c_offsets.Goals as goal
+
+-- what holds of the fields of each such struct holds of these
+at_fields : (r : Result CStruct LayError) (P : Trees → Type 0) (Q : Trees → CStruct → Type 0) (ts : Trees) → P ts →
+    IfOk r (λ c. (fields : Trees) → P fields → Q fields c) → IfOk r (Q ts)
+at_fields (Ok c) P Q ts p h = h ts p
+at_fields (Err e) P Q ts p h = h
+
+pub struct_of-requires : goal.struct_of-requires
+struct_of-requires c = (
+  trees (map tree_of c.args.fields.items),
+  (c.c_repr.result, tree_of-Struct c.c_repr.result true c.args.fields, c.c_repr.ensures.fixed, c.c_repr.ensures.unpacked, c.c_repr.ensures.unraised),
+)
+
+pub returns : goal.returns
+returns c =
+    at_fields c.struct_of.result (IsInC (tree_of (Struct c.c_repr.result true c.args.fields)))
+    (λ fields c'. (placed : List Placed) × AreLaying c.args.dl.now fields (Ok placed) × LieAsInC c.args.dl.now.aggregate_align placed c'.offsets c'.size c'.align)
+    (trees (map tree_of c.args.fields.items))
+    (c.c_repr.result, tree_of-Struct c.c_repr.result true c.args.fields, c.c_repr.ensures.fixed, c.c_repr.ensures.unpacked, c.c_repr.ensures.unraised) c.struct_of.ensures

@@ -1,0 +1,18 @@
+-- The bytes hold the value that was written, so one is found, and it is the only one.
+use Rattle.std.proofs.Common.{List, ℕ, sym, subst}
+use Rattle.abi_laid.specs.Holding.{Holds}
+use Rattle.abi_laid.specs.Laid.{endian_of, placed_of}
+use Rattle.abi_laid.specs.Value.{value_of}
+use Rattle.uses.proofs.debugger.read_back.Goals as goal
+
+pub unreachable-requires : goal.unreachable-requires
+unreachable-requires c =
+    let held = subst (λ (b : List ℕ). Holds (endian_of c.args.laid.now) (placed_of c.args.laid.now) b (value_of c.args.value.now)) (sym c.deref.ensures.value) c.in_ok-bytes.ensures.holds in
+    let none = rw c.in-None.is at c.in_ok-read.ensures.finds in
+    none (value_of c.args.value.now) held
+
+pub returns : goal.returns
+returns c =
+    let held = subst (λ (b : List ℕ). Holds (endian_of c.args.laid.now) (placed_of c.args.laid.now) b (value_of c.args.value.now)) (sym c.deref.ensures.value) c.in_ok-bytes.ensures.holds in
+    let one = rw c.in-Some.is at c.in_ok-read.ensures.one in
+    record { same = sym (one c.requires.kept.0 c.requires.kept.1 c.requires.kept.2 (value_of c.args.value.now) held) }

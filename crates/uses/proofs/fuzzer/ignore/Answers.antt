@@ -1,0 +1,16 @@
+-- The bytes are those with a byte of padding changed, which hold the same values.
+use Rattle.std.proofs.Common.{◌≡◌, rules}
+use Rattle.abi_laid.specs.Laid.{placed_of}
+use Rattle.uses.specs.Ignored.{with_padding}
+use Rattle.uses.proofs.Padded.{same_read, same_values}
+use Rattle.uses.proofs.fuzzer.ignore.Goals as goal
+
+pub returns-clause-reads : goal.returns-clause-reads
+returns-clause-reads c =
+    let changed : c.put_in.new.bytes ≡ with_padding (placed_of c.args.laid.now) c.args.bytes.now c.args.place c.args.byte = search rules in
+    same_read c.args.laid.now c.requires.padding c.args.bytes.now c.args.place c.args.byte c.read_value.result (rw changed at c.read_value.ensures.finds)
+
+pub returns-clause-holds : goal.returns-clause-holds
+returns-clause-holds c =
+    let changed : c.put_in.new.bytes ≡ with_padding (placed_of c.args.laid.now) c.args.bytes.now c.args.place c.args.byte = search rules in
+    rw changed (same_values c.args.laid.now c.requires.padding c.args.bytes.now c.args.place c.args.byte)

@@ -1,0 +1,45 @@
+-- Fields that lie as C has them.
+use Rattle.std.specs.Prelude.{◌≡◌, ℕ, ◌+◌, ◌^◌, ◌≤◌, All, List, [], ◌∷◌, None, true}
+use Rattle.std.specs.Int.{◌∣◌}
+use Rattle.abi_scalar.specs.declared.repr.ReprOptions.{ReprOptions}
+use Rattle.abi_scalar.specs.Repr.{has_fixed_order}
+use Rattle.abi_laid.specs.Placed.{Placed, layout_of, size_of}
+use Rattle.abi_laid.specs.Tree.{Tree, Trees, struct}
+
+-- the tree is a struct of these fields, under a repr that fixes their order and names no alignment, as `repr(C)` does
+abbrev pub IsInC : Tree → Trees → Type 0
+IsInC tree fields =
+    (repr : ReprOptions) × (tree ≡ struct repr true None fields) × (has_fixed_order repr ≡ true)
+    × (repr.pack ≡ None) × (repr.align ≡ None)
+
+-- The place is the least multiple of the alignment, an exponent of two, that isn't before `from`.
+pub record IsLeastMultiple (align from place : ℕ) : Type 0 where
+  pub multiple : 2 ^ align ∣ place
+  pub after : from ≤ place
+  pub least : (other : ℕ) → 2 ^ align ∣ other → from ≤ other → place ≤ other
+
+-- how a type that was laid out is aligned, as an exponent of two
+abbrev pub align_of : Placed → ℕ
+align_of placed = (layout_of placed).align.abi
+
+-- each field lies at the least multiple of its alignment that isn't before the end of the one before it, the first from
+-- `from` on, and the last one ends at `end`
+abbrev pub FollowEachOther : (from : ℕ) → List Placed → (offsets : List ℕ) → (end : ℕ) → Type 0
+FollowEachOther from [] [] end = end ≡ from
+FollowEachOther from (field ∷ fields) (offset ∷ offsets) end =
+    IsLeastMultiple (align_of field) from offset × FollowEachOther (offset + size_of field) fields offsets end
+FollowEachOther from _ _ end = ⊥
+
+-- The alignment is the greatest one: of `least`, and of those of the fields.
+pub record IsGreatestAlign (least : ℕ) (fields : List Placed) (align : ℕ) : Type 0 where
+  pub above : least ≤ align
+  pub each : All (λ field. align_of field ≤ align) fields
+  pub no_greater : (other : ℕ) → least ≤ other → All (λ field. align_of field ≤ other) fields → align ≤ other
+
+-- Fields lie so at these offsets, from 0 on. The alignment of the whole is the greatest one, and the size is the end of
+-- the fields, rounded up to it.
+pub record LieAsInC (least : ℕ) (fields : List Placed) (offsets : List ℕ) (size align : ℕ) : Type 0 where
+  pub end : ℕ
+  pub follow : FollowEachOther 0 fields offsets end
+  pub aligned : IsGreatestAlign least fields align
+  pub rounded : IsLeastMultiple align end size
