@@ -1,9 +1,10 @@
 //! A binding generator: where a C compiler has the fields of a struct.
 
-ghost use Rattle.std.specs.Prelude.{◌≡◌, IfOk, List, None, Ok, map, true};
+ghost use Rattle.std.specs.Prelude.{◌≡◌, IfErr, IfOk, List, None, Ok, map, true};
 ghost use Rattle.abi_scalar.specs.Repr.{has_fixed_order};
 ghost use Rattle.abi_laid.specs.Placed.{Placed};
-ghost use Rattle.abi_laid.specs.Tree.{Trees, tree_of, trees};
+ghost use Rattle.abi_laid.specs.Tree.{Tree, Trees, tree_of, trees};
+ghost use Rattle.rustc_abi.specs.Fault.{IsRefusedFor};
 ghost use Rattle.rustc_abi.specs.Laying.{AreLaying};
 ghost use Rattle.uses.specs.InC.{IsInC, LieAsInC};
 
@@ -39,9 +40,10 @@ fn c_repr() -> ReprOptions
 /// Where the fields of a laid-out struct lie, in C's order.
 fn struct_of(alloc: Global, dl: &TargetDataLayout, tree: &TypeTree) -> Result<CStruct, LayError>
     requires { (fields : Trees) × IsInC (tree_of tree.now) fields }
-    ensures { IfOk result (λ c. (fields : Trees) → IsInC (tree_of tree.now) fields →
+    ensures placed { IfOk result (λ c. (fields : Trees) → IsInC (tree_of tree.now) fields →
         (placed : List Placed) × AreLaying dl.now fields (Ok placed) ×
         LieAsInC dl.now.aggregate_align placed c.offsets c.size c.align) }
+    ensures refused { IfErr result (IsRefusedFor dl.now (tree_of tree.now)) }
 {
     let laid = lay_out(alloc, dl, tree)?;
     let layout = laid.layout();
@@ -67,9 +69,13 @@ pub fn c_offsets(
     fields: Vec<TypeTree>,
 ) -> Result<CStruct, LayError>
     // Of the fields as they are laid out by themselves.
-    ensures { IfOk result (λ c. (placed : List Placed) ×
+    ensures placed { IfOk result (λ c. (placed : List Placed) ×
         AreLaying dl.now (trees (map tree_of fields.items)) (Ok placed) ×
         LieAsInC dl.now.aggregate_align placed c.offsets c.size c.align) }
+
+    // It is refused where the struct is, or memory.
+    ensures refused { IfErr result (λ e. (tree : Tree) ×
+        IsInC tree (trees (map tree_of fields.items)) × IsRefusedFor dl.now tree e) }
 {
     let tree = TypeTree::Struct {
         repr: c_repr(),

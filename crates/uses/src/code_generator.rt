@@ -1,6 +1,6 @@
 //! A code generator: numbers loaded from memory.
 
-ghost use Rattle.std.specs.Prelude.{◌≡◌, ◌⊎◌, ◌<◌, ◌≤◌, IfOk, IfSome, MatchBool, None, Ok, length};
+ghost use Rattle.std.specs.Prelude.{◌≡◌, ◌⊎◌, ◌<◌, ◌≤◌, IfErr, IfOk, IfSome, MatchBool, None, Ok, length};
 ghost use Rattle.abi_laid.specs.Bytes.{number_of};
 ghost use Rattle.abi_laid.specs.Holding.{Holds};
 ghost use Rattle.abi_laid.specs.Laid.{endian_of, placed_of};
@@ -11,6 +11,7 @@ ghost use Rattle.abi_laid.specs.Values.{LocalsHaveValues};
 ghost use Rattle.abi_scalar.specs.Range.{numbers_of};
 ghost use Rattle.abi_scalar.specs.Scalar.{IsBool, IsNumberOf, scalar_size};
 ghost use Rattle.abi_scalar.specs.declared.scalar.Scalar.{Scalar as Seen};
+ghost use Rattle.rustc_abi.specs.Fault.{IsRefusedFor};
 ghost use Rattle.rustc_abi.specs.Laying.{IsLaying};
 ghost use Rattle.uses.specs.Loaded.{IsSeenAs};
 
@@ -86,6 +87,9 @@ pub fn load(
         IsNumberOf (scalar_size dl.now loaded.scalar) loaded.scalar loaded.number)) }
     ensures bool { IfOk result (λ found. IfSome found (λ loaded. IsBool loaded.scalar →
         (loaded.number ≡ 0) ⊎ (loaded.number ≡ 1))) }
+
+    // It is refused where the type is, or memory.
+    ensures refused { IfErr result (IsRefusedFor dl.now (tree_of tree.now)) }
 {
     let laid = lay_out(alloc, dl, tree)?;
     let scalar = match laid.layout().backend_repr {

@@ -1,9 +1,13 @@
 //! A debugger: values in the bytes of a program that it looks at.
 
-ghost use Rattle.std.specs.Prelude.{◌≡◌, IfOk, None, slice_get};
+ghost use Rattle.std.specs.Prelude.{◌≡◌, IfErr, IfOk, None, slice_get};
+ghost use Rattle.abi_base.specs.declared.data_layout.TargetDataLayout.{TargetDataLayout as Target};
 ghost use Rattle.abi_laid.specs.Holding.{Holds};
 ghost use Rattle.abi_laid.specs.Laid.{endian_of, placed_of};
+ghost use Rattle.abi_laid.specs.Reading.{KeepsValues};
+ghost use Rattle.abi_laid.specs.Tree.{Tree};
 ghost use Rattle.abi_laid.specs.Value.{Values, list, value_of};
+ghost use Rattle.abi_laid.specs.Values.{IsValueOf};
 ghost use Rattle.uses.specs.Kept.{IsKept};
 ghost use Rattle.uses.specs.Field.{IsAnswer, value_at};
 
@@ -16,6 +20,9 @@ use std::alloc::{AllocError, Global};
 pub fn read_back(alloc: Global, laid: &Laid, value: &Value) -> Result<Value, ValueError>
     requires kept { IsKept laid.now }
     ensures same { IfOk result (λ read. value_of read ≡ value_of value.now) }
+    ensures not_a_value { IfErr result (λ e. e ≡ ValueError.NotAValue →
+        (dl : Target) (tree : Tree) → KeepsValues dl tree laid.now →
+        IsValueOf dl tree (placed_of laid.now) (value_of value.now) → ⊥) }
 {
     let bytes = write_value(alloc, laid, value)?;
     match read_value(alloc, laid, &bytes)? {

@@ -121,12 +121,10 @@ fn loads_flag(alloc: Global, dl: &TargetDataLayout, bytes: &[u8]) -> Result<bool
     Ok(load(alloc, dl, &flag, bytes)?.is_some())
 }
 
-/// Calls each of the functions. A struct of a flag and an enum is laid out and handed, with this value and these bytes,
-/// to `read_back`, `field_of` and `ignore`, which may change a byte of padding: whether the value came back, the bytes
-/// hold a first field, and they still hold a value. Before that a flag is loaded, and a struct laid out as in C.
-///
-/// The errors are those of `lay_out`.
-pub fn try_all(
+/// Calls each of the functions: a flag is loaded and a struct laid out as in C; then a struct of a flag and an enum is
+/// laid out and handed, with this value and these bytes, to `read_back`, `field_of`, `ignore` and `flip`. Nothing calls
+/// it: that it is proved shows that what they ask can be met.
+fn try_all(
     alloc: Global,
     dl: &TargetDataLayout,
     value: &Value,

@@ -11,5 +11,4 @@ mod fuzzer;
 pub use binding_generator::{CStruct, c_offsets};
 pub use code_generator::{Loaded, load};
 pub use debugger::{field_of, read_back};
-pub use each_call::try_all;
 pub use fuzzer::{Flipped, flip, ignore};

@@ -1,10 +1,11 @@
 -- The tree that was made is a struct under `repr(C)`.
 use Rattle.std.proofs.Common.{true, List, Ok, Err, Result, map}
-use Rattle.std.specs.Prelude.{IfOk}
+use Rattle.std.specs.Prelude.{IfErr, IfOk}
 use Rattle.abi_laid.specs.declared.tree.TypeTree.{Struct}
 use Rattle.abi_laid.specs.Placed.{Placed}
-use Rattle.abi_laid.specs.Tree.{Trees, tree_of, trees}
+use Rattle.abi_laid.specs.Tree.{Tree, Trees, tree_of, trees}
 use Rattle.rustc_abi.specs.declared.error.LayError.{LayError}
+use Rattle.rustc_abi.specs.Fault.{IsRefusedFor}
 use Rattle.rustc_abi.specs.Laying.{AreLaying}
 use Rattle.uses.specs.declared.binding_generator.CStruct.{CStruct}
 use Rattle.uses.specs.InC.{IsInC, LieAsInC}
@@ -23,9 +24,23 @@ struct_of-requires c = (
   (c.c_repr.result, tree_of-Struct c.c_repr.result true c.args.fields, c.c_repr.ensures.fixed, c.c_repr.ensures.unpacked, c.c_repr.ensures.unraised),
 )
 
-pub returns : goal.returns
-returns c =
+-- what is said of the tree's refusal is said of such a struct's
+refused_so : (r : Result CStruct LayError) (P Q : LayError → Type 0) → ((e : LayError) → P e → Q e) → IfErr r P → IfErr r Q
+refused_so (Ok c) P Q f h = h
+refused_so (Err e) P Q f h = f e h
+
+pub returns-clause-placed : goal.returns-clause-placed
+returns-clause-placed c =
     at_fields c.struct_of.result (IsInC (tree_of (Struct c.c_repr.result true c.args.fields)))
     (λ fields c'. (placed : List Placed) × AreLaying c.args.dl.now fields (Ok placed) × LieAsInC c.args.dl.now.aggregate_align placed c'.offsets c'.size c'.align)
     (trees (map tree_of c.args.fields.items))
-    (c.c_repr.result, tree_of-Struct c.c_repr.result true c.args.fields, c.c_repr.ensures.fixed, c.c_repr.ensures.unpacked, c.c_repr.ensures.unraised) c.struct_of.ensures
+    (c.c_repr.result, tree_of-Struct c.c_repr.result true c.args.fields, c.c_repr.ensures.fixed, c.c_repr.ensures.unpacked, c.c_repr.ensures.unraised) c.struct_of.ensures.placed
+
+pub returns-clause-refused : goal.returns-clause-refused
+returns-clause-refused c =
+    let tree = tree_of (Struct c.c_repr.result true c.args.fields) in
+    let fields = trees (map tree_of c.args.fields.items) in
+    let in_c : IsInC tree fields = (c.c_repr.result, tree_of-Struct c.c_repr.result true c.args.fields, c.c_repr.ensures.fixed, c.c_repr.ensures.unpacked, c.c_repr.ensures.unraised) in
+    refused_so c.struct_of.result (IsRefusedFor c.args.dl.now tree)
+    (λ e. (tree : Tree) × IsInC tree fields × IsRefusedFor c.args.dl.now tree e)
+    (λ e refused. (tree, in_c, refused)) c.struct_of.ensures.refused

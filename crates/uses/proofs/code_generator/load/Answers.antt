@@ -18,6 +18,7 @@ returns-in_default c = record {
       (ap (λ (l : Layout). l.backend_repr) c.layout.ensures ∙ seen_here c.args.dl.now (tree_of c.args.tree.now) c.in_ok-laid.ensures.one (placed_of c.in_ok-laid.laid) c.in_ok-laid.ensures.laid scalar seen);
   range = tt;
   bool = tt;
+  refused = tt;
 }
 
 pub returns-then-not-branch-clause-none : goal.returns-then-not-branch-clause-none

@@ -15,4 +15,7 @@ pub returns : goal.returns
 returns c =
     let held = subst (λ (b : List ℕ). Holds (endian_of c.args.laid.now) (placed_of c.args.laid.now) b (value_of c.args.value.now)) (sym c.deref.ensures.value) c.in_ok-bytes.ensures.holds in
     let one = rw c.in-Some.is at c.in_ok-read.ensures.one in
-    record { same = sym (one c.requires.kept.0 c.requires.kept.1 c.requires.kept.2 (value_of c.args.value.now) held) }
+    record {
+      same = sym (one c.requires.kept.0 c.requires.kept.1 c.requires.kept.2 (value_of c.args.value.now) held);
+      not_a_value = tt;
+    }
