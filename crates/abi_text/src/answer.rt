@@ -7,7 +7,8 @@ ghost use Rattle.abi_laid.specs.Tree.{tree_of};
 ghost use Rattle.rustc_abi.specs.Laying.{IsLaying};
 ghost use Rattle.abi_text.specs.DataLayoutLine.{data_layout_of};
 ghost use Rattle.abi_text.specs.LaidOut.{IsLaidOut};
-ghost use Rattle.abi_text.specs.Output.{answered_by, IsAnswer, IsOutputOf, IsOutputOfTree, IsOutputOfType, IsOutputUnder, output_of_fault, refused, told, unreadable};
+ghost use Rattle.abi_text.specs.Output.{answered_by, IsAnswer, IsOutputOf, IsOutputOfTree, IsOutputOfType};
+ghost use Rattle.abi_text.specs.Output.{IsOutputUnder, output_of_fault, refused, told, unreadable};
 ghost use Rattle.abi_text.specs.Reading.{read};
 ghost use Rattle.abi_text.specs.Words.{words_of};
 

@@ -10,7 +10,8 @@ ghost use Rattle.abi_types.specs.Ty.Typed.{field_in, layout_in, variant_in};
 ghost use Rattle.std.specs.List.{range_with_len};
 ghost use Rattle.map.specs.declared.part.Name.TheVariants.{VariantField};
 ghost use Rattle.map.specs.Sized.{AreFieldsSized, ArePartsSized, IsSized};
-ghost use Rattle.map.specs.Parts.{each_variant, field_name, field_part, field_parts, is_alone, is_vector, own_parts, part_told, parts_of, variant_parts, variants_parts, whole_part};
+ghost use Rattle.map.specs.Parts.{each_variant, field_name, field_part, field_parts, is_alone, is_vector};
+ghost use Rattle.map.specs.Parts.{own_parts, part_told, parts_of, variant_parts, variants_parts, whole_part};
 
 use crate::part::{Name, PartBytes};
 use abi_index::{FieldIdx, RangeSet, RangeSetBuilder, VariantIdx};

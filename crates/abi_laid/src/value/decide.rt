@@ -6,7 +6,8 @@ ghost use Rattle.abi_index.specs.RangeSet.{AreMaximalRuns, is_in_ranges, is_in_r
 ghost use Rattle.abi_scalar.specs.Shape.{listed_offsets};
 ghost use Rattle.abi_laid.specs.Bytes.{AreBytes};
 ghost use Rattle.abi_laid.specs.Covering.{are_covered, each_covered, is_arm_covered, is_byte_at, is_covered, is_told};
-ghost use Rattle.abi_laid.specs.Deciding.{Decide, DifferAt, KeepsPlaces, arm_for, arm_values, covering_value, covering_values, each_value, first_told, first_with, place_in, some_number};
+ghost use Rattle.abi_laid.specs.Deciding.{Decide, DifferAt, KeepsPlaces, arm_for, arm_values, covering_value};
+ghost use Rattle.abi_laid.specs.Deciding.{covering_values, each_value, first_told, first_with, place_in, some_number};
 ghost use Rattle.abi_laid.specs.Holding.{HoldEach, HoldParts, Holds};
 ghost use Rattle.abi_laid.specs.Laid.{endian_of, placed_of};
 ghost use Rattle.abi_laid.specs.Laws.{have_lists};
