@@ -1,3 +1,4 @@
+pub mod AtIndex
 pub mod EnumLemmas
 pub mod CoroutineLemmas
 pub mod Seen

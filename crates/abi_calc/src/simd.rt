@@ -5,7 +5,6 @@ ghost use Rattle.std.specs.Int.{next_multiple_of};
 ghost use Rattle.abi_base.specs.DataLayout.{IsLawfulDataLayout};
 ghost use Rattle.abi_scalar.specs.Lawful.{IsLawfulLayout};
 ghost use Rattle.abi_scalar.specs.Order.{HasPlaceForEach, IsAscending};
-ghost use Rattle.abi_lists.specs.Answer.{IsAnswer};
 ghost use Rattle.abi_lists.specs.Simd.{IsVectorTooLarge, is_tight, scalable_answer, simd_answer};
 
 use crate::calculator::LayoutCalculator;
@@ -22,7 +21,7 @@ impl<Cx: HasDataLayout> LayoutCalculator<Cx> {
     ///
     /// Refused as `OversizedSimdType` for more than 32768 lanes and as `ZeroLengthSimdType` for none, else as
     /// `NonPrimitiveSimdType` with an element that is no scalar, else as `SizeOverflow` where the size is not below the
-    /// data layout's bound. `OutOfMemory` where memory for the field's offset is refused.
+    /// data layout's bound. It asks for no memory.
     pub fn layout_of_simd_type<
         FieldIdx: Idx,
         VariantIdx: Idx,
@@ -36,20 +35,19 @@ impl<Cx: HasDataLayout> LayoutCalculator<Cx> {
     ) -> Result<LayoutData<FieldIdx, VariantIdx>, LayoutCalculatorError<F>>
         requires data_layout { IsLawfulDataLayout (Cx.target self.now.cx) }
         requires element { IsLawfulLayout (Cx.target self.now.cx) (F.layout_of element) }
-        ensures exact { IsAnswer (simd_answer F.layout_of (VariantIdx.at 0) (FieldIdx.at 0)
-            (Cx.target self.now.cx) element count repr_packed) result }
+        ensures exact { result ≡ simd_answer F.layout_of (VariantIdx.at 0) (FieldIdx.at 0) (Cx.target self.now.cx)
+            element count repr_packed }
         ensures size { IfOk result (λ l. l.size ≡ next_multiple_of ((F.layout_of element).size * count)
             (2 ^ l.align.abi)) }
         ensures tight { IsTrue (is_tight repr_packed count) →
             IfOk result (λ l. l.size ≡ (F.layout_of element).size * count) }
         ensures lawful { IfOk result (IsLawfulLayout (Cx.target self.now.cx)) }
 
-        // It is refused for its size exactly where so many of the elements make a vector and it is too large, memory
-        // aside.
+        // It is refused for its size exactly where so many of the elements make a vector and it is too large.
         ensures too_large { result ≡ Err LayoutCalculatorError.SizeOverflow →
             IsVectorTooLarge (Cx.target self.now.cx) (F.layout_of element) count repr_packed }
         ensures refused { IsVectorTooLarge (Cx.target self.now.cx) (F.layout_of element) count repr_packed →
-            IsAnswer (Err LayoutCalculatorError.SizeOverflow) result }
+            result ≡ Err LayoutCalculatorError.SizeOverflow }
         ensures places { IfOk result (λ l. HasPlaceForEach l.fields) }
         ensures ascending { IfOk result (λ l. IsAscending FieldIdx.number l.fields) }
     {
@@ -61,7 +59,7 @@ impl<Cx: HasDataLayout> LayoutCalculator<Cx> {
     ///
     /// Refused as `OversizedSimdType` for more than 32768 lanes and as `ZeroLengthSimdType` for none, else as
     /// `NonPrimitiveSimdType` with an element that is no scalar, else as `SizeOverflow` where the size of one vector or
-    /// that of all is not below the data layout's bound. `OutOfMemory` where memory for the field's offset is refused.
+    /// that of all is not below the data layout's bound. It asks for no memory.
     pub fn layout_of_scalable_vector_type<
         FieldIdx: Idx,
         VariantIdx: Idx,
@@ -75,8 +73,8 @@ impl<Cx: HasDataLayout> LayoutCalculator<Cx> {
     ) -> Result<LayoutData<FieldIdx, VariantIdx>, LayoutCalculatorError<F>>
         requires data_layout { IsLawfulDataLayout (Cx.target self.now.cx) }
         requires element { IsLawfulLayout (Cx.target self.now.cx) (F.layout_of element) }
-        ensures exact { IsAnswer (scalable_answer F.layout_of (VariantIdx.at 0) (FieldIdx.at 0)
-            (Cx.target self.now.cx) element count number_of_vectors) result }
+        ensures exact { result ≡ scalable_answer F.layout_of (VariantIdx.at 0) (FieldIdx.at 0)
+            (Cx.target self.now.cx) element count number_of_vectors }
         ensures size { IfOk result (λ l. l.size ≡ next_multiple_of
             ((F.layout_of element).size * count * number_of_vectors.0) (2 ^ l.align.abi)) }
         ensures lawful { number_of_vectors.0 ≢ 0 → IfOk result (IsLawfulLayout (Cx.target self.now.cx)) }

@@ -7,3 +7,4 @@ pub mod LastRunLemmas
 pub mod UncutLemmas
 pub mod RunsLemmas
 pub mod RepeatedLemmas
+pub mod PairMemory

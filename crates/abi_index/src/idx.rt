@@ -2,6 +2,7 @@
 
 ghost use Rattle.std.specs.Prelude.{◌≡◌, ℕ, ◌+◌, ◌≤◌};
 ghost use Rattle.abi_index.specs.Idx.{greatest_place};
+ghost use Rattle.abi_index.specs.Few.{TwoFit};
 
 use std::fmt::Debug;
 use std::hash::Hash;
@@ -43,6 +44,8 @@ pub trait Idx: Copy + Eq + Hash + Debug {
     ghost positive: { 1 ≤ MAX_INDEX };
 
     ghost small: { MAX_INDEX ≤ 0xFFFF_FFFF };
+
+    ghost in_memory: { TwoFit Self.row };
 }
 
 impl Idx for u32 {
@@ -64,6 +67,8 @@ impl Idx for u32 {
     ghost positive = { Prim.search rules };
 
     ghost small = { Prim.search rules };
+
+    ghost in_memory = { Prim.search rules };
 
     fn new(index: usize) -> u32 {
         index as u32
@@ -154,6 +159,8 @@ impl Idx for FieldIdx {
     ghost positive = { Prim.search rules };
 
     ghost small = { Prim.search rules };
+
+    ghost in_memory = { Prim.search rules };
 
     fn new(index: usize) -> FieldIdx {
         FieldIdx { raw: index as u32 }
@@ -246,6 +253,8 @@ impl Idx for VariantIdx {
     ghost positive = { Prim.search rules };
 
     ghost small = { Prim.search rules };
+
+    ghost in_memory = { Prim.search rules };
 
     fn new(index: usize) -> VariantIdx {
         VariantIdx { raw: index as u32 }

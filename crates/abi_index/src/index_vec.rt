@@ -1,6 +1,7 @@
 //! Lists whose places are named by an index type.
 
-ghost use Rattle.std.specs.Prelude.{◌≡◌, ℕ, ◌≤◌, ◌<◌, ◌+◌, List, [], ◌∷◌, ◌++◌, length, OnOk, OnErr, IfOk, IfSome, slice_get, Some, map};
+ghost use Rattle.std.specs.Prelude.{◌≡◌, ℕ, ◌≤◌, ◌<◌, ◌+◌, List, [], ◌∷◌, ◌++◌, length, OnOk, OnErr, IfOk, IfSome, slice_get, Some, map, IsOk};
+ghost use Rattle.abi_index.specs.Few.{TwoFit};
 ghost use Rattle.std.specs.List.{range_with_len};
 ghost use Rattle.std.specs.Slice.Iter.{iter_rest};
 ghost use Rattle.std.specs.Iterator.Adapters.{IterYieldsInOrder};
@@ -8,6 +9,7 @@ ghost use Rattle.abi_index.specs.Indices.{indices_left};
 ghost use Rattle.std.specs.Option.{option_copied};
 ghost use Rattle.abi_index.specs.Slice.{items_of};
 
+use crate::few::Few;
 use crate::idx::Idx;
 use crate::index_slice::IndexSlice;
 use crate::indices::Indices;
@@ -22,7 +24,7 @@ use std::slice::Iter;
 /// A list whose places are named by an index type: it has at most as many items as the type has indices.
 #[derive(Drop)]
 pub struct IndexVec<I: Idx, T> {
-    raw: Vec<T>,
+    raw: Few<T>,
     of: PhantomData<I>,
 }
 
@@ -31,9 +33,9 @@ impl<I: Idx, T> Model for IndexVec<I, T> {
 
     ghost Value = { List T };
 
-    ghost view = { λ a. a.raw.items };
+    ghost view = { λ a. a.raw };
 
-    ghost invariant = { λ a. length a.raw.items ≤ I.MAX_INDEX + 1 };
+    ghost invariant = { λ a. length a.raw ≤ I.MAX_INDEX + 1 };
 }
 
 impl<I: Idx, T: PartialEq> PartialEq for IndexVec<I, T> {
@@ -44,7 +46,7 @@ impl<I: Idx, T: PartialEq> PartialEq for IndexVec<I, T> {
     ghost laws = { lists_per T.laws };
 
     fn eq(&self, other: &Self) -> bool {
-        self.raw == other.raw
+        self.raw.as_slice() == other.raw.as_slice()
     }
 }
 
@@ -63,13 +65,13 @@ impl<I: Idx, T: Hash> Hash for IndexVec<I, T> {
     ghost respects_eq = { (items_Alike (record { fed = T.respects_eq })).fed };
 
     fn hash<H: Hasher>(&self, state: &mut H) {
-        self.raw.hash(state);
+        self.raw.as_slice().hash(state);
     }
 }
 
 impl<I: Idx, T: Debug> Debug for IndexVec<I, T> {
     fn fmt<W: fmt::Write>(&self, f: &mut fmt::Formatter<W>) -> fmt::Result {
-        self.raw.fmt(f)
+        self.raw.as_slice().fmt(f)
     }
 }
 
@@ -79,7 +81,7 @@ impl<I: Idx, T> IndexVec<I, T> {
         ensures { result ≡ [] }
     {
         IndexVec {
-            raw: Vec::new(alloc),
+            raw: Few::new(alloc),
             of: PhantomData,
         }
     }
@@ -90,7 +92,7 @@ impl<I: Idx, T> IndexVec<I, T> {
         ensures { IfOk result (λ list. list ≡ []) }
     {
         Ok(IndexVec {
-            raw: Vec::with_capacity(alloc, capacity)?,
+            raw: Few::with_capacity(alloc, capacity)?,
             of: PhantomData,
         })
     }
@@ -101,7 +103,7 @@ impl<I: Idx, T> IndexVec<I, T> {
         ensures { result ≡ raw.items }
     {
         IndexVec {
-            raw,
+            raw: Few::from_vec(raw),
             of: PhantomData,
         }
     }
@@ -122,6 +124,8 @@ impl<I: Idx, T> IndexVec<I, T> {
         ensures ok { OnOk result (self.new ≡ self.old ++ item ∷ []) }
         ensures index { IfOk result (λ i. i ≡ I.at (length self.old)) }
         ensures err { OnErr result (self.new ≡ self.old) }
+        // A list that has at most two items then asks for no memory.
+        ensures inline { TwoFit T.row → length self.old < 2 → IsOk result }
     {
         let index = self.raw.len();
         self.raw.push(item)?;
@@ -132,7 +136,7 @@ impl<I: Idx, T> IndexVec<I, T> {
     pub fn get(&self, index: I) -> Option<&T>
         ensures { option_copied result ≡ slice_get self.now (I.number index) }
     {
-        self.raw.get(index.index())
+        self.raw.as_slice().get(index.index())
     }
 
     /// A view of the list.
@@ -162,17 +166,19 @@ impl<I: Idx, T> IndexVec<I, T> {
         ensures rest { iter_rest result ≡ self.now }
         ensures runs { IterYieldsInOrder T }
     {
-        self.raw.iter()
+        self.raw.as_slice().iter()
     }
 }
 
 impl<I: Idx, T: Copy> IndexVec<I, T> {
     /// A copy of its own, for items that are plain data.
     pub fn try_clone(&self, alloc: Global) -> Result<Self, AllocError>
-        ensures { IfOk result (λ copy. copy ≡ self.now) }
+        ensures ok { IfOk result (λ copy. copy ≡ self.now) }
+        // A copy of at most two items asks for no memory.
+        ensures inline { TwoFit T.row → length self.now ≤ 2 → IsOk result }
     {
-        let mut raw = Vec::with_capacity(alloc, self.raw.len())?;
-        for item in &self.raw {
+        let mut raw = Few::with_capacity(alloc, self.raw.len())?;
+        for item in self.raw.as_slice() {
             raw.push(*item)?;
         }
         Ok(IndexVec {
@@ -187,8 +193,8 @@ impl<I: Idx, T: TryClone> IndexVec<I, T> {
     pub fn try_clone_each(&self, alloc: Global) -> Result<Self, AllocError>
         ensures { IfOk result (λ made. made ≡ self.now) }
     {
-        let mut raw = Vec::with_capacity(alloc, self.raw.len())?;
-        for item in &self.raw {
+        let mut raw = Few::with_capacity(alloc, self.raw.len())?;
+        for item in self.raw.as_slice() {
             raw.push(item.try_clone(alloc)?)?;
         }
         Ok(IndexVec {

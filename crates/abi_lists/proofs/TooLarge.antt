@@ -1,5 +1,5 @@
 -- Unions and vectors that are refused for their size, by their sizes.
-use Rattle.std.proofs.Common.{◌≡◌, ℕ, ◌*◌, ◌^◌, ◌<◌, ◌≤◌, List, [], ◌∷◌, Bool, true, false, Option, None, Some, Ok, Err, length, map, refl, sym, ap, ◌∙◌, arith, inl, inr}
+use Rattle.std.proofs.Common.{◌≡◌, ℕ, ◌*◌, ◌^◌, ◌<◌, ◌≤◌, List, [], ◌∷◌, Bool, true, false, Option, None, Some, Ok, Err, length, map, refl, sym, ap, ◌∙◌, arith}
 use Rattle.std.specs.Prelude.{◌==◌, Result, cond, nat_lt, if◌then◌else◌}
 use Rattle.std.proofs.Math.Nat.{dvd-zero}
 use Rattle.std.proofs.lemmas.Bool.Decides.{nat_tests}
@@ -9,12 +9,11 @@ use Rattle.abi_base.specs.DataLayout.{IsLawfulDataLayout, size_bound}
 use Rattle.abi_scalar.specs.declared.backend_repr.BackendRepr.{BackendRepr}
 use Rattle.abi_scalar.specs.declared.backend_repr.BackendRepr.TheVariants.{Scalar as OneScalar, ScalarPair, SimdScalableVector, SimdVector, Memory}
 use Rattle.abi_scalar.specs.declared.error.LayoutCalculatorError.{LayoutCalculatorError}
-use Rattle.abi_scalar.specs.declared.error.LayoutCalculatorError.TheVariants.{EmptyUnion, OversizedSimdType, SizeOverflow, ZeroLengthSimdType, OutOfMemory}
+use Rattle.abi_scalar.specs.declared.error.LayoutCalculatorError.TheVariants.{EmptyUnion, OversizedSimdType, SizeOverflow, ZeroLengthSimdType}
 use Rattle.abi_scalar.specs.declared.layout_data.LayoutData.{LayoutData}
 use Rattle.abi_scalar.specs.declared.repr.ReprOptions.{ReprOptions}
 use Rattle.abi_scalar.specs.declared.scalar.Scalar.{Scalar}
 use Rattle.abi_lists.specs.declared.simd.Lanes.{Lanes}
-use Rattle.abi_lists.specs.Answer.{IsAnswer}
 use Rattle.abi_lists.specs.List.{AreSized}
 use Rattle.abi_lists.specs.Part.{is_unsized}
 use Rattle.abi_lists.specs.Simd.{IsVectorTooLarge, MakesVector, after, element_scalar, if_below, lanes_align, simd_align, simd_answer, simd_view, vector_layout, vector_size}
@@ -148,13 +147,11 @@ module _ {F V H : Type 0} (layout_of : H → LayoutData F V) (first : V) (field 
   pub tells_size : TellsSize (simd_answer layout_of first field dl h count packed)
   tells_size = by_count (nat_lt 32768 count) (count == 0) refl refl
 
-  pub vector_large : (result : Result (LayoutData F V) (LayoutCalculatorError H)) → IsAnswer (simd_answer layout_of first field dl h count packed) result → result ≡ Err SizeOverflow
+  pub vector_large : (result : Result (LayoutData F V) (LayoutCalculatorError H)) → result ≡ simd_answer layout_of first field dl h count packed → result ≡ Err SizeOverflow
       → IsVectorTooLarge dl (layout_of h) count packed
-  vector_large result (inl e) is = tells_size.0 (sym e ∙ is)
-  vector_large result (inr e) is = let bad : Err OutOfMemory ≡ Err SizeOverflow = sym e ∙ is in absurd (cc)
+  vector_large result e is = tells_size.0 (sym e ∙ is)
 
   pub vector_refused : (result : Result (LayoutData F V) (LayoutCalculatorError H))
-      → IsAnswer (simd_answer layout_of first field dl h count packed) result
-      → IsVectorTooLarge dl (layout_of h) count packed → IsAnswer (Err SizeOverflow) result
-  vector_refused result (inl e) large = inl (e ∙ tells_size.1 large)
-  vector_refused result (inr e) large = inr e
+      → result ≡ simd_answer layout_of first field dl h count packed
+      → IsVectorTooLarge dl (layout_of h) count packed → result ≡ Err SizeOverflow
+  vector_refused result e large = e ∙ tells_size.1 large

@@ -1,5 +1,5 @@
 -- Vectors: how large and how aligned they are, and that their layouts are lawful.
-use Rattle.std.proofs.Common.{◌≡◌, ℕ, ◌*◌, ◌^◌, ◌<◌, ◌≤◌, List, [], ◌∷◌, ◌++◌, Option, None, Some, Ok, Err, Bool, true, false, map, refl, sym, subst, ap, ◌∙◌, arith, inl, inr, ⊎_elim}
+use Rattle.std.proofs.Common.{◌≡◌, ℕ, ◌*◌, ◌^◌, ◌<◌, ◌≤◌, List, [], ◌∷◌, ◌++◌, Option, None, Some, Ok, Err, Bool, true, false, map, refl, sym, subst, ap, ◌∙◌, arith, ⊎_elim}
 use Rattle.std.specs.Prelude.{◌==◌, All, IfOk, IfSome, Result, nat_lt, if◌then◌else◌}
 use Rattle.std.specs.Int.{◌∣◌, next_multiple_of}
 use Rattle.std.proofs.lemmas.Bool.{cases_lt}
@@ -30,7 +30,6 @@ use Rattle.abi_scalar.specs.declared.error.LayoutCalculatorError.TheVariants.{Ov
 use Rattle.abi_scalar.specs.Lawful.{IsLawfulLayout, IsLawfulView, IsNicheOfView}
 use Rattle.abi_scalar.specs.Scalar.{IsLawfulScalar, primitive_of}
 use Rattle.abi_lists.specs.declared.simd.Lanes.{Lanes}
-use Rattle.abi_lists.specs.Answer.{IsAnswer}
 use Rattle.abi_lists.specs.Simd.{after, element_scalar, if_below, is_tight, lanes_answer, scalable_answer, simd_align, simd_answer, simd_view, vector_layout}
 use Rattle.abi_lists.proofs.Lawful.{niche_within}
 use Rattle.abi_lists.proofs.Rounding.{rounded_to}
@@ -178,14 +177,13 @@ below_ok_at P layout error false h = tt
 
 -- what holds of a layout below the bound holds of the answer
 pub below_ok : {F V H : Type 0} (P : LayoutData F V → Type 0) (bound : ℕ) (layout : LayoutData F V) (result : Result (LayoutData F V) (LayoutCalculatorError H))
-    → IsAnswer (if_below bound layout) result → (layout.size < bound → P layout) → IfOk result P
-below_ok P bound layout result (inl e) h = rw e (below_ok_at P layout SizeOverflow (nat_lt layout.size bound) (λ t. h (grind (arith, nat_tests))))
-below_ok P bound layout result (inr e) h = rw e tt
+    → result ≡ if_below bound layout → (layout.size < bound → P layout) → IfOk result P
+below_ok P bound layout result e h = rw e (below_ok_at P layout SizeOverflow (nat_lt layout.size bound) (λ t. h (grind (arith, nat_tests))))
 
 pub vectors_lawful : {F V H : Type 0} (dl : TargetDataLayout) (element : LayoutData F V) (count : ℕ) (lanes : Lanes) (first : V) (field : F) (view : BackendRepr) (bytes align : ℕ)
     (result : Result (LayoutData F V) (LayoutCalculatorError H)) → IsLawfulLayout dl element → AreLanes element count lanes → lanes.size ≤ bytes → align ≤ 29
     → ((n : ℕ) → IsLawfulScalar dl lanes.scalar → IsLawfulView dl n view) → ((n : Niche) → IsNicheOfView view n)
-    → IsAnswer (if_below (size_bound dl) (vector_layout first field element view bytes align lanes.count)) result → IfOk result (IsLawfulLayout dl)
+    → result ≡ if_below (size_bound dl) (vector_layout first field element view bytes align lanes.count) → IfOk result (IsLawfulLayout dl)
 vectors_lawful dl element count lanes first field view bytes align result lawful are large small viewed of_view answer =
     let r = rounded_to bytes align in
     let up : bytes ≤ next_multiple_of bytes (2 ^ align) = r.above in
@@ -219,12 +217,11 @@ simd_of_view packed lanes n = simd_of_view_at (is_tight packed lanes.count) lane
 after_ok : {F V H : Type 0} (P : LayoutData F V → Type 0) (bound : ℕ) (layout : Lanes → LayoutData F V)
     (found : Result Lanes (LayoutCalculatorError H))
     (result : Result (LayoutData F V) (LayoutCalculatorError H))
-    → IsAnswer (after found (λ lanes. if_below bound (layout lanes))) result
+    → result ≡ after found (λ lanes. if_below bound (layout lanes))
     → ((lanes : Lanes) → Ok lanes ≡ found → P (layout lanes)) → IfOk result P
 after_ok P bound layout (Ok lanes) result answer each =
     below_ok P bound (layout lanes) result answer (λ small. each lanes refl)
-after_ok P bound layout (Err e) result (inl is) each = rw is tt
-after_ok P bound layout (Err e) result (inr is) each = rw is tt
+after_ok P bound layout (Err e) result is each = rw is tt
 
 module _
     {F V H : Type 0} (layout_of : H → LayoutData F V) (first : V) (field : F)
@@ -233,7 +230,7 @@ module _
     -- what holds of each vector of so many lanes holds of the answer
     pub simd_ok : (P : LayoutData F V → Type 0) (packed : Bool)
         (result : Result (LayoutData F V) (LayoutCalculatorError H))
-        → IsAnswer (simd_answer layout_of first field dl h count packed) result
+        → result ≡ simd_answer layout_of first field dl h count packed
         → ((lanes : Lanes) → AreLanes (layout_of h) count lanes
         → P (vector_layout first field (layout_of h) (simd_view packed lanes) lanes.size
         (simd_align dl packed lanes) lanes.count)) → IfOk result P
@@ -246,7 +243,7 @@ module _
 
     pub scalable_ok : (P : LayoutData F V → Type 0) (vectors : NumScalableVectors)
         (result : Result (LayoutData F V) (LayoutCalculatorError H))
-        → IsAnswer (scalable_answer layout_of first field dl h count vectors) result
+        → result ≡ scalable_answer layout_of first field dl h count vectors
         → ((lanes : Lanes) → AreLanes (layout_of h) count lanes
         → P (vector_layout first field (layout_of h) (SimdScalableVector lanes.scalar lanes.count vectors)
         (lanes.size * vectors.0) (vector_align_of dl lanes.size) lanes.count))
@@ -263,14 +260,14 @@ module _
     whole_of lanes are = are.size ∙ ap (λ n. (layout_of h).size * n) are.count_is
 
     pub simd_size : (packed : Bool) (result : Result (LayoutData F V) (LayoutCalculatorError H))
-        → IsAnswer (simd_answer layout_of first field dl h count packed) result
+        → result ≡ simd_answer layout_of first field dl h count packed
         → IfOk result (λ l. l.size ≡ next_multiple_of ((layout_of h).size * count) (2 ^ l.align.abi))
     simd_size packed result answer =
         simd_ok (λ l. l.size ≡ next_multiple_of ((layout_of h).size * count) (2 ^ l.align.abi)) packed result answer
         (λ lanes are. ap (λ n. next_multiple_of n (2 ^ simd_align dl packed lanes)) (whole_of lanes are))
 
     pub scalable_size : (vectors : NumScalableVectors) (result : Result (LayoutData F V) (LayoutCalculatorError H))
-        → IsAnswer (scalable_answer layout_of first field dl h count vectors) result
+        → result ≡ scalable_answer layout_of first field dl h count vectors
         → IfOk result (λ l. l.size ≡ next_multiple_of ((layout_of h).size * count * vectors.0) (2 ^ l.align.abi))
     scalable_size vectors result answer =
         scalable_ok (λ l. l.size ≡ next_multiple_of ((layout_of h).size * count * vectors.0) (2 ^ l.align.abi))

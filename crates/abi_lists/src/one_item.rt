@@ -1,15 +1,18 @@
 //! A list with one item: the one field that a vector's lanes are kept in, or the one that a tag is.
 
-ghost use Rattle.std.specs.Prelude.{◌≡◌, ◌∷◌, [], IfOk};
+ghost use Rattle.std.specs.Prelude.{◌≡◌, ◌∷◌, []};
+ghost use Rattle.abi_index.specs.Few.{TwoFit};
 
 use abi_index::{Idx, IndexVec};
 use std::alloc::{AllocError, Global};
 
-/// A list with one item.
-pub fn one<I: Idx, T: Copy>(alloc: Global, item: T) -> Result<IndexVec<I, T>, AllocError>
-    ensures { IfOk result (λ list. list ≡ item ∷ []) }
+/// A list with one item. It asks for no memory.
+pub fn one<I: Idx, T: Copy>(alloc: Global, item: T) -> IndexVec<I, T>
+    requires { TwoFit T.row }
+    ensures { result ≡ item ∷ [] }
 {
     let mut list = IndexVec::new(alloc);
-    let _index = list.push(item)?;
-    Ok(list)
+    let index: Result<I, AllocError> = list.push(item);
+    prove!(index.is_ok());
+    list
 }

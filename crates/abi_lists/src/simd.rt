@@ -4,7 +4,6 @@ ghost use Rattle.std.specs.Prelude.{◌≡◌, ◌≢◌, ℕ, ◌*◌, ◌^◌,
 ghost use Rattle.std.specs.Int.{◌∣◌};
 ghost use Rattle.abi_base.specs.DataLayout.{IsLawfulDataLayout, size_bound, vector_align_of};
 ghost use Rattle.abi_scalar.specs.Lawful.{IsLawfulLayout};
-ghost use Rattle.abi_lists.specs.Answer.{IsAnswer};
 ghost use Rattle.abi_lists.specs.Simd.{if_below, is_tight, lanes_answer, scalable_answer, simd_align, simd_answer, simd_view, vector_layout};
 
 use crate::one_item::one;
@@ -87,8 +86,8 @@ fn layout_of_vectors<FieldIdx: Idx, VariantIdx: Idx, F>(
     requires data_layout { IsLawfulDataLayout dl.now }
     requires small { bytes < 2 ^ 62 }
     requires limit { align ≤ 29 }
-    ensures { IsAnswer (if_below (size_bound dl.now)
-        (vector_layout (VariantIdx.at 0) (FieldIdx.at 0) element.now backend_repr bytes align count)) result }
+    ensures { result ≡ if_below (size_bound dl.now)
+        (vector_layout (VariantIdx.at 0) (FieldIdx.at 0) element.now backend_repr bytes align count) }
 {
     let size = bytes.align_to(align);
     if size.bytes() >= dl.obj_size_bound() {
@@ -96,8 +95,8 @@ fn layout_of_vectors<FieldIdx: Idx, VariantIdx: Idx, F>(
     }
     Ok(LayoutData {
         fields: FieldsShape::Arbitrary {
-            offsets: one(alloc, Size::ZERO)?,
-            in_memory_order: one(alloc, FieldIdx::new(0))?,
+            offsets: one(alloc, Size::ZERO),
+            in_memory_order: one(alloc, FieldIdx::new(0)),
         },
         variants: Variants::Single {
             index: VariantIdx::new(0),
@@ -147,7 +146,7 @@ fn simd_align(dl: &TargetDataLayout, lanes: &Lanes, repr_packed: bool) -> Align
 ///
 /// Refused as `OversizedSimdType` for more than 32768 lanes and as `ZeroLengthSimdType` for none, else as
 /// `NonPrimitiveSimdType` with an element that is no scalar, else as `SizeOverflow` where the size is not below the
-/// data layout's bound. `OutOfMemory` where memory for the field's offset is refused.
+/// data layout's bound. It asks for no memory.
 pub fn layout_of_simd<FieldIdx: Idx, VariantIdx: Idx, F: LayoutHandle<FieldIdx, VariantIdx> + Copy>(
     alloc: Global,
     dl: &TargetDataLayout,
@@ -157,9 +156,8 @@ pub fn layout_of_simd<FieldIdx: Idx, VariantIdx: Idx, F: LayoutHandle<FieldIdx, 
 ) -> Result<LayoutData<FieldIdx, VariantIdx>, LayoutCalculatorError<F>>
     requires data_layout { IsLawfulDataLayout dl.now }
     requires element { IsLawfulLayout dl.now (F.layout_of element) }
-    ensures exact { IsAnswer (simd_answer F.layout_of (VariantIdx.at 0)
-        (FieldIdx.at 0) dl.now element count repr_packed)
-        result }
+    ensures exact { result ≡ simd_answer F.layout_of (VariantIdx.at 0) (FieldIdx.at 0) dl.now element count
+        repr_packed }
     ensures tight { IsTrue (is_tight repr_packed count)
         → IfOk result (λ l. l.size ≡ (F.layout_of element).size * count) }
     ensures lawful { IfOk result (IsLawfulLayout dl.now) }
@@ -184,7 +182,7 @@ pub fn layout_of_simd<FieldIdx: Idx, VariantIdx: Idx, F: LayoutHandle<FieldIdx, 
 ///
 /// Refused as `OversizedSimdType` for more than 32768 lanes and as `ZeroLengthSimdType` for none, else as
 /// `NonPrimitiveSimdType` with an element that is no scalar, else as `SizeOverflow` where the size of one vector or
-/// that of all is not below the data layout's bound. `OutOfMemory` where memory for the field's offset is refused.
+/// that of all is not below the data layout's bound. It asks for no memory.
 pub fn layout_of_scalable<
     FieldIdx: Idx,
     VariantIdx: Idx,
@@ -198,8 +196,8 @@ pub fn layout_of_scalable<
 ) -> Result<LayoutData<FieldIdx, VariantIdx>, LayoutCalculatorError<F>>
     requires data_layout { IsLawfulDataLayout dl.now }
     requires element { IsLawfulLayout dl.now (F.layout_of element) }
-    ensures exact { IsAnswer (scalable_answer F.layout_of (VariantIdx.at 0) (FieldIdx.at 0) dl.now element count
-        number_of_vectors) result }
+    ensures exact { result ≡ scalable_answer F.layout_of (VariantIdx.at 0) (FieldIdx.at 0) dl.now element count
+        number_of_vectors }
     ensures lawful { number_of_vectors.0 ≢ 0 → IfOk result (IsLawfulLayout dl.now) }
 {
     let lanes = lanes_of(dl, element, count)?;

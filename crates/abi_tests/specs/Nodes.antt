@@ -1,9 +1,10 @@
 -- Types that stand in one list, each made of others by their places.
-use Rattle.std.specs.Prelude.{◌≡◌, ℕ, zero, suc, List, slice_get, Option, None, Some, unwrap_or}
+use Rattle.std.specs.Prelude.{◌≡◌, ℕ, zero, suc, ◌<◌, true, List, slice_get, Option, None, Some, unwrap_or}
 use Rattle.abi_scalar.specs.declared.fields_shape.FieldsShape.{FieldsShape}
 use Rattle.abi_scalar.specs.declared.fields_shape.FieldsShape.TheVariants.{Array}
+use Rattle.abi_scalar.specs.Shape.{field_count}
 use Rattle.abi_types.specs.declared.ty.interface.TyAndLayout.{TyAndLayout}
-use Rattle.abi_types.specs.Ty.Typed.{Typed, typed, no_type, no_marks, layout_in}
+use Rattle.abi_types.specs.Ty.Typed.{Marks, Typed, typed, no_type, no_marks, layout_in}
 use Rattle.abi_types.specs.Ty.Lawful.{IsLawfulType}
 use Rattle.abi_tests.specs.declared.nodes.Node.{Node}
 use Rattle.abi_tests.specs.declared.nodes.Part.{Part}
@@ -17,11 +18,20 @@ abbrev pub place_by : FieldsShape ℕ → List ℕ → (index : ℕ) → ℕ
 place_by (Array stride count) places i = place_at places 0
 place_by shape places i = place_at places i
 
+-- what a type says of itself
+abbrev pub marks_in : Node → Marks
+marks_in node =
+    record no_marks { is_transparent = node.marked.transparent; is_complex = node.marked.complex; is_passed_indirectly = node.marked.indirect }
+
+-- A complex number has a field.
+pub record HasParts (node : Node) : Type 0 where
+  pub counted : node.marked.complex ≡ true → 0 < field_count node.layout.fields
+
 -- a type, of what stands at the places
 abbrev pub made : Option Node → (inner : ℕ → Typed) → Typed
 made None inner = no_type
 made (Some node) inner =
-    typed node.layout no_marks (λ i. inner (place_by node.layout.fields node.fields.items i)) (λ v. inner (place_at node.variants.items v))
+    typed node.layout (marks_in node) (λ i. inner (place_by node.layout.fields node.fields i)) (λ v. inner (place_at node.variants v))
 
 -- the type at a place, of at most so many that lie one in another
 abbrev pub typed_in : List Node → (depth place : ℕ) → Typed

@@ -7,7 +7,7 @@ use std::hash::{DefaultHasher, Hash, Hasher};
 use std::test::Fail;
 
 /// Each convention's number, name and variant.
-const CONVENTIONS: [(u8, &str, ExternAbi); 40] = [
+static CONVENTIONS: [(u8, &str, ExternAbi); 40] = [
     (0, "C", ExternAbi::C { unwind: false }),
     (1, "C-unwind", ExternAbi::C { unwind: true }),
     (2, "Rust", ExternAbi::Rust),
@@ -58,23 +58,27 @@ const CONVENTIONS: [(u8, &str, ExternAbi); 40] = [
     (39, "x86-interrupt", ExternAbi::X86Interrupt),
 ];
 
-/// The number is that of the convention, and the name is its name, both ways.
-fn is_row(number: u8, name: &str, abi: ExternAbi) -> bool {
-    number < 40
-        && abi.as_packed() == number
-        && ExternAbi::from_packed(number) == abi
-        && abi.as_str() == name
-        && abi.name() == name
-        && name.parse::<ExternAbi>() == Ok(abi)
+/// Whether the number is that of the convention, both ways.
+fn is_numbered(number: u8, abi: ExternAbi) -> bool {
+    number < 40 && abi.as_packed() == number && ExternAbi::from_packed(number) == abi
+}
+
+/// Whether the name is that of the convention, both ways.
+fn is_named(name: &str, abi: ExternAbi) -> bool {
+    let read = match name.parse::<ExternAbi>() {
+        Ok(read) => read == abi,
+        Err(_) => false,
+    };
+    read && abi.as_str() == name && abi.name() == name
 }
 
 /// Texts that are no convention's name, and no words.
-const OTHER_TEXTS: [&str; 3] = ["", "C-unwind ", " C"];
+static OTHER_TEXTS: [&str; 3] = ["", "C-unwind ", " C"];
 
 #[test]
 fn conventions_have_numbers_and_names(rt: HostRuntime) {
     for &(number, name, abi) in &CONVENTIONS {
-        assert!(rt; is_row(number, name, abi), "{name}");
+        assert!(rt; is_numbered(number, abi) && is_named(name, abi), "{name}");
     }
     assert!(rt; ExternAbi::FALLBACK.as_packed() == 0);
     for &text in &OTHER_TEXTS {
@@ -85,21 +89,22 @@ fn conventions_have_numbers_and_names(rt: HostRuntime) {
     }
 }
 
-/// Whether the list of all conventions is sorted as it stands.
-fn all_are_sorted(alloc: Global) -> Result<bool, AllocError> {
-    let mut sorted = Vec::with_capacity(alloc, ExternAbi::ALL_VARIANTS.len())?;
-    for abi in ExternAbi::ALL_VARIANTS {
-        sorted.push(*abi)?;
+/// Whether each convention is above the one before it.
+fn all_ascend() -> bool {
+    let all = ExternAbi::ALL_VARIANTS;
+    for i in 1..all.len() {
+        if all[i - 1] >= all[i] {
+            return false;
+        }
     }
-    sorted.sort()?;
-    Ok(sorted.as_slice() == ExternAbi::ALL_VARIANTS)
+    all.len() == 40
 }
 
 /// Whether there are forty names, each above the one before it by its bytes.
 fn names_ascend(alloc: Global) -> Result<bool, AllocError> {
     let names = all_names(alloc)?;
-    for (a, b) in names.iter().zip(names.iter().skip(1)) {
-        if *a >= *b {
+    for i in 1..names.len() {
+        if names[i - 1] >= names[i] {
             return Ok(false);
         }
     }
@@ -121,12 +126,17 @@ fn hash_of_name(name: &str) -> u64 {
     state.finish()
 }
 
+/// Whether the convention's hash is that of the name.
+fn is_hashed(abi: ExternAbi, name: &str) -> bool {
+    hash_of(&abi) == hash_of_name(name)
+}
+
 #[test]
 fn conventions_go_by_their_names(rt: HostRuntime) -> Result<(), Fail> {
+    assert!(rt; all_ascend());
+    assert!(rt; names_ascend(rt.alloc())?);
     let c = ExternAbi::C { unwind: false };
-    let unwinding = ExternAbi::C { unwind: true };
-    assert!(rt; all_are_sorted(rt.alloc())? && names_ascend(rt.alloc())?);
-    assert!(rt; hash_of(&c) == hash_of_name("C") && hash_of(&c) != hash_of(&unwinding));
-    assert!(rt; hash_of(&unwinding) == hash_of_name("C-unwind"));
+    assert!(rt; is_hashed(c, "C") && !is_hashed(c, "C-unwind"));
+    assert!(rt; is_hashed(ExternAbi::C { unwind: true }, "C-unwind"));
     Ok(())
 }

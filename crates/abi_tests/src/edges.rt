@@ -58,9 +58,12 @@ fn greatest_for(alloc: Global, text: &str) -> Option<Align> {
     Some(Align::max_for_target(&dl))
 }
 
+/// Data layout strings, and the greatest alignments, in bytes.
+static GREATEST: [(&str, u64); 3] = [("p:8:8", 1 << 7), ("p:24:8", 1 << 23), ("p:248:8", 1 << 29)];
+
 #[test]
 fn pointers_of_any_width_bound_alignments(rt: HostRuntime) {
-    for &(text, bytes) in &[("p:8:8", 1 << 7), ("p:24:8", 1 << 23), ("p:248:8", 1 << 29)] {
+    for &(text, bytes) in &GREATEST {
         let wanted = Align::max_aligned_factor(Size::from_bytes(bytes));
         assert!(rt; greatest_for(rt.alloc(), text) == Some(wanted), "{text}");
     }

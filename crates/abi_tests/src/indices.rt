@@ -1,12 +1,13 @@
 //! Index types, a caller's own among them; lists named by them; layouts that a caller's handle lends; hashes.
 
 ghost use Rattle.std.specs.Prelude.{◌≡◌, ◌∷◌, [], IfOk};
+ghost use Rattle.abi_scalar.specs.Order.{HasPlaceForEach};
 
 use abi_base::{Integer, Primitive, Size, TargetDataLayout};
 use abi_index::{
     BitMatrix, DenseBitSet, FIRST_VARIANT, FieldIdx, Hash64, Idx, IndexSlice, IndexVec, VariantIdx,
 };
-use abi_scalar::{LayoutData, LayoutHandle, Scalar};
+use abi_scalar::{FieldsShape, LayoutData, LayoutHandle, Scalar};
 use std::alloc::{AllocError, Global};
 use std::test::Fail;
 
@@ -35,6 +36,8 @@ impl Idx for Place {
     ghost positive = { Prim.search rules };
 
     ghost small = { Prim.search rules };
+
+    ghost in_memory = { Prim.search rules };
 
     fn new(index: usize) -> Place {
         Place {
@@ -85,40 +88,66 @@ const BYTE: Scalar = Scalar::Union {
     value: Primitive::Int(Integer::I8, false),
 };
 
-/// Whether a pair's fields and variants are named by the caller's type.
-fn pair_is_named(alloc: Global) -> Result<bool, AllocError> {
+/// The layout of a byte and a word, whose fields and variants are named by the caller's type.
+fn byte_and_word(alloc: Global) -> Result<LayoutData<Place, Place>, AllocError>
+    ensures places { IfOk result (λ pair. HasPlaceForEach pair.fields) }
+{
     let dl = TargetDataLayout::default_in(alloc)?;
-    let pair: LayoutData<Place, Place> = LayoutData::scalar_pair(alloc, &dl, BYTE, WORD)?;
+    Ok(LayoutData::scalar_pair(alloc, &dl, BYTE, WORD))
+}
+
+/// Whether these are the places of the layout's fields, in memory order.
+fn has_places(
+    alloc: Global,
+    pair: &LayoutData<Place, Place>,
+    wanted: &[usize],
+) -> Result<bool, AllocError>
+    requires { HasPlaceForEach pair.now.fields }
+{
     let places: Vec<usize> = pair.fields.index_by_increasing_offset().collect(alloc)?;
-    Ok(
-        pair.fields.count() == 2
-            && pair.fields.offset(1) == Size::from_bytes(4)
-            && places.as_slice() == [0, 1].as_slice()
-            && pair.is_variant_uninhabited(Place { number: 1 }),
-    )
+    Ok(places.as_slice() == wanted)
+}
+
+/// Where the layout's second field lies.
+fn second_offset(pair: &LayoutData<Place, Place>) -> Option<Size> {
+    match &pair.fields {
+        FieldsShape::Arbitrary {
+            offsets,
+            in_memory_order: _,
+        } => offsets.get(Place { number: 1 }).copied(),
+        _ => None,
+    }
+}
+
+/// Whether a pair's fields and variants are named by the caller's type.
+fn is_pair_named(alloc: Global) -> Result<bool, AllocError> {
+    let pair = byte_and_word(alloc)?;
+    let named = pair.fields.count() == 2
+        && second_offset(&pair) == Some(Size::from_bytes(4))
+        && pair.is_variant_uninhabited(Place { number: 1 });
+    Ok(named && has_places(alloc, &pair, &[0, 1])?)
+}
+
+/// Whether the size is read through a caller's handle, and through a reference.
+fn is_lent(pair: &LayoutData<Place, Place>) -> bool {
+    let named = Named {
+        layout: pair,
+        name: "pair",
+    };
+    let size = Size::from_bytes(8);
+    named.name == "pair" && size_of(&named) == size && size_of(&pair) == size
+}
+
+/// Whether a pair's size is.
+fn is_pair_lent(alloc: Global) -> Result<bool, AllocError> {
+    let pair = byte_and_word(alloc)?;
+    Ok(is_lent(&pair))
 }
 
 #[test]
 fn types_of_a_caller_are_taken(rt: HostRuntime) -> Result<(), Fail> {
-    assert!(rt; pair_is_named(rt.alloc())?);
-    Ok(())
-}
-
-/// Whether the size is read through a caller's handle, and through a reference.
-fn pair_is_lent(alloc: Global) -> Result<bool, AllocError> {
-    let dl = TargetDataLayout::default_in(alloc)?;
-    let pair: LayoutData<Place, Place> = LayoutData::scalar_pair(alloc, &dl, BYTE, WORD)?;
-    let named = Named {
-        layout: &pair,
-        name: "pair",
-    };
-    let size = Size::from_bytes(8);
-    Ok(named.name == "pair" && size_of(&named) == size && size_of(&&pair) == size)
-}
-
-#[test]
-fn handles_of_a_caller_are_taken(rt: HostRuntime) -> Result<(), Fail> {
-    assert!(rt; pair_is_lent(rt.alloc())?);
+    assert!(rt; is_pair_named(rt.alloc())?);
+    assert!(rt; is_pair_lent(rt.alloc())?);
     Ok(())
 }
 
@@ -140,23 +169,28 @@ fn is_copied(alloc: Global) -> Result<bool, AllocError> {
     Ok(copy == list)
 }
 
+/// Whether the list's items are named by their indices.
+fn are_items_named(list: &IndexVec<FieldIdx, u8>) -> bool {
+    list.len() == 3
+        && list.next_index() == FieldIdx::from_u32(3)
+        && list.iter().count() == 3
+        && list.get(FieldIdx::ONE) == Some(&6)
+        && list.get(FieldIdx::from_u32(3)).is_none()
+}
+
+/// Whether a view's items are.
+fn are_viewed_items_named(view: IndexSlice<'_, FieldIdx, u8>) -> bool {
+    view.len() == 3
+        && view.next_index() == FieldIdx::from_u32(3)
+        && view.get(FieldIdx::ZERO) == Some(&5)
+        && view.indices().size_hint() == (3, Some(3))
+}
+
 #[test]
 fn lists_are_named_by_indices(rt: HostRuntime) -> Result<(), Fail> {
     assert!(rt; is_copied(rt.alloc())?);
     let list = three(rt.alloc())?;
-    assert!(rt; list.next_index() == FieldIdx::from_u32(3) && list.iter().count() == 3);
-    assert!(rt; list.get(FieldIdx::ONE).copied() == Some(6));
-    assert!(rt; list.get(FieldIdx::from_u32(3)).copied() == None);
-    Ok(())
-}
-
-#[test]
-fn slices_are_named_by_indices(rt: HostRuntime) -> Result<(), Fail> {
-    let list = three(rt.alloc())?;
-    let view = list.as_slice();
-    assert!(rt; view.len() == 3 && view.next_index() == FieldIdx::from_u32(3));
-    assert!(rt; view.get(FieldIdx::ZERO).copied() == Some(5));
-    assert!(rt; view.indices().size_hint() == (3, Some(3)));
+    assert!(rt; are_items_named(&list) && are_viewed_items_named(list.as_slice()));
     Ok(())
 }
 

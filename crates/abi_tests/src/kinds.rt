@@ -5,199 +5,60 @@ ghost use Rattle.std.specs.Prelude.{IsTrue};
 ghost use Rattle.abi_types.specs.Ty.Runs.{IsVariantIndex};
 
 use crate::nodes::{Node, keeps_laws, part_of};
-use crate::samples::{fields_at, listed, only, scalar, shaped};
-use crate::uniform::{array, push};
-use abi_base::{Align, Float, Integer, Primitive, Size};
-use abi_index::{FieldIdx, IndexVec, VariantIdx};
-use abi_scalar::{
-    BackendLaneCount, BackendRepr, FieldCount, FieldsShape, LayoutData, RangeInclusive, Scalar,
-    TagEncoding, VariantLayout, Variants,
-};
+use crate::shapes::{Data, F32, Row, Shape, U8, U32, types};
+use abi_base::Size;
+use abi_index::VariantIdx;
+use abi_scalar::Variants;
 use std::alloc::{AllocError, Global};
 use std::test::Fail;
 
-/// Layouts with numbered fields and variants.
-type Data = LayoutData<FieldIdx, VariantIdx>;
+/// The types.
+static KINDS: [Row; 30] = [
+    // Scalars of one byte and of four, and types of no bytes, aligned to one and to four.
+    (Shape::Scalar(U8), 1, 1),
+    (Shape::Scalar(U32), 4, 4),
+    (Shape::Fields(&[], &[]), 0, 1),
+    (Shape::Fields(&[], &[]), 0, 4),
+    // Structs: with gaps, of one field that takes bytes, of one that is more than a place, of two numbers that are seen
+    // as a pair.
+    (Shape::Fields(&[0, 4, 8], &[0, 1, 0]), 12, 4),
+    (Shape::Fields(&[0, 0, 0], &[2, 3, 1]), 4, 4),
+    (Shape::Fields(&[4, 4], &[2, 1]), 8, 4),
+    (Shape::Pair(U8, U32, &[0, 4], &[0, 1]), 8, 4),
+    // Arrays: of bytes with gaps, of one number, of no number; and unions: of a byte and a number, of a byte alone in
+    // more bytes.
+    (Shape::Elements(2, 3, &[0]), 6, 1),
+    (Shape::Elements(4, 1, &[1]), 4, 1),
+    (Shape::Elements(4, 0, &[1]), 0, 1),
+    (Shape::Union(&[0, 1]), 4, 4),
+    (Shape::Union(&[2, 0]), 4, 4),
+    // Enums of two variants, a byte and a number or a byte: told apart by a tag at the first byte, or by the number;
+    // their variants stand before them.
+    (Shape::Fields(&[2, 4], &[0, 1]), 8, 4),
+    (Shape::Fields(&[1], &[0]), 2, 1),
+    (Shape::Tagged(U8, &[0], &[0], &[13, 14]), 8, 4),
+    (Shape::InNiche(U32, &[4], &[1], &[13, 14]), 8, 4),
+    // A vector of four floats, and types that hold it: a struct, a union, an array, and a struct in which it lies behind
+    // a gap.
+    (Shape::Scalar(F32), 4, 4),
+    (Shape::Elements(4, 4, &[17]), 16, 1),
+    (Shape::Lanes(false, &[0], &[18]), 16, 8),
+    (Shape::Fields(&[0], &[19]), 16, 8),
+    (Shape::Union(&[19]), 16, 4),
+    (Shape::Elements(16, 1, &[19]), 16, 1),
+    (Shape::Fields(&[16], &[19]), 32, 8),
+    // A type of no value; and types that hold an enum: a struct, arrays, a union, and a struct of no value.
+    (Shape::Never, 0, 1),
+    (Shape::Fields(&[0, 4], &[0, 15]), 12, 4),
+    (Shape::Elements(8, 2, &[15]), 16, 1),
+    (Shape::Elements(8, 0, &[15]), 0, 1),
+    (Shape::Union(&[16]), 8, 4),
+    (Shape::Valueless(&[0], &[16]), 8, 4),
+];
 
-const U8: Primitive = Primitive::Int(Integer::I8, false);
-
-const U32: Primitive = Primitive::Int(Integer::I32, false);
-
-const F32: Primitive = Primitive::Float(Float::F32);
-
-/// Bytes in memory.
-const MEMORY: BackendRepr = BackendRepr::Memory { sized: true };
-
-/// Scalars of one byte and of four, and types of no bytes, aligned to one and to four.
-fn push_leaves(alloc: Global, nodes: &mut Vec<Node>) -> Result<(), AllocError> {
-    push(alloc, nodes, scalar(U8, 1, Align::ONE), &[], &[])?;
-    push(alloc, nodes, scalar(U32, 4, Align::FOUR), &[], &[])?;
-    push(alloc, nodes, listed(alloc, &[], 0, Align::ONE)?, &[], &[])?;
-    push(alloc, nodes, listed(alloc, &[], 0, Align::FOUR)?, &[], &[])
-}
-
-/// Structs: with gaps, of one field that takes bytes, of one that is more than a place, of two numbers that are seen as
-/// a pair.
-fn push_structs(alloc: Global, nodes: &mut Vec<Node>) -> Result<(), AllocError> {
-    let c = Align::FOUR;
-    push(
-        alloc,
-        nodes,
-        listed(alloc, &[0, 4, 8], 12, c)?,
-        &[0, 1, 0],
-        &[],
-    )?;
-    push(
-        alloc,
-        nodes,
-        listed(alloc, &[0, 0, 0], 4, c)?,
-        &[2, 3, 1],
-        &[],
-    )?;
-    push(alloc, nodes, listed(alloc, &[4, 4], 8, c)?, &[2, 1], &[])?;
-    let mut pair = listed(alloc, &[0, 4], 8, c)?;
-    pair.backend_repr = BackendRepr::ScalarPair {
-        a: Scalar::Union { value: U8 },
-        b: Scalar::Union { value: U32 },
-        b_offset: Size::from_bytes(4),
-    };
-    push(alloc, nodes, pair, &[0, 1], &[])
-}
-
-/// So many fields side by side.
-fn union(count: usize, bytes: u64) -> Data {
-    let fields = match FieldCount::new(count) {
-        Some(count) => FieldsShape::Union(count),
-        None => FieldsShape::Primitive,
-    };
-    shaped(fields, only(), MEMORY, bytes, Align::FOUR)
-}
-
-/// Arrays: of bytes with gaps, of one number, of no number; and unions: of a byte and a number, of a byte alone in more
-/// bytes.
-fn push_arrays_and_unions(alloc: Global, nodes: &mut Vec<Node>) -> Result<(), AllocError> {
-    push(alloc, nodes, array(2, 3, 6), &[0], &[])?;
-    push(alloc, nodes, array(4, 1, 4), &[1], &[])?;
-    push(alloc, nodes, array(4, 0, 0), &[1], &[])?;
-    push(alloc, nodes, union(2, 4), &[0, 1], &[])?;
-    push(alloc, nodes, union(2, 4), &[2, 0], &[])
-}
-
-/// A tag at a place, and two variants: of a byte at 2 and a number at 4, and of a byte at 1.
-fn tagged(
-    alloc: Global,
-    tag_at: u64,
-    tag: Primitive,
-    tag_encoding: TagEncoding<VariantIdx>,
-) -> Result<Data, AllocError> {
-    let mut variants = IndexVec::new(alloc);
-    variants.push(VariantLayout::from_layout(listed(alloc, &[2, 4], 8, Align::FOUR)?))?;
-    variants.push(VariantLayout::from_layout(listed(alloc, &[1], 2, Align::ONE)?))?;
-    let tag = Scalar::Union { value: tag };
-    let variants = Variants::Multiple {
-        tag,
-        tag_encoding,
-        tag_field: FieldIdx::ZERO,
-        variants,
-    };
-    Ok(shaped(
-        fields_at(alloc, &[tag_at])?,
-        variants,
-        MEMORY,
-        8,
-        Align::FOUR,
-    ))
-}
-
-/// Enums of two variants, a byte and a number or a byte: told apart by a tag at the first byte, or by the number; their
-/// variants stand before them.
-fn push_enums(alloc: Global, nodes: &mut Vec<Node>) -> Result<(), AllocError> {
-    let variants = [13, 14];
-    push(
-        alloc,
-        nodes,
-        listed(alloc, &[2, 4], 8, Align::FOUR)?,
-        &[0, 1],
-        &[],
-    )?;
-    push(alloc, nodes, listed(alloc, &[1], 2, Align::ONE)?, &[0], &[])?;
-    push(
-        alloc,
-        nodes,
-        tagged(alloc, 0, U8, TagEncoding::Direct)?,
-        &[0],
-        &variants,
-    )?;
-    let niche = TagEncoding::Niche {
-        untagged_variant: VariantIdx::ZERO,
-        niche_variants: RangeInclusive {
-            start: VariantIdx::from_usize(1),
-            last: VariantIdx::from_usize(1),
-        },
-        niche_start: 0,
-    };
-    push(alloc, nodes, tagged(alloc, 4, U32, niche)?, &[1], &variants)
-}
-
-/// A vector of four floats, and types that hold it: a struct, a union, an array, and a struct in which it lies behind a
-/// gap.
-fn push_vectors(alloc: Global, nodes: &mut Vec<Node>) -> Result<(), AllocError> {
-    push(alloc, nodes, scalar(F32, 4, Align::FOUR), &[], &[])?;
-    push(alloc, nodes, array(4, 4, 16), &[17], &[])?;
-    let mut vector = listed(alloc, &[0], 16, Align::EIGHT)?;
-    if let Ok(count) = BackendLaneCount::new::<()>(4) {
-        let element = Scalar::Union { value: F32 };
-        vector.backend_repr = BackendRepr::SimdVector { element, count };
-    }
-    push(alloc, nodes, vector, &[18], &[])?;
-    push(
-        alloc,
-        nodes,
-        listed(alloc, &[0], 16, Align::EIGHT)?,
-        &[19],
-        &[],
-    )?;
-    push(alloc, nodes, union(1, 16), &[19], &[])?;
-    push(alloc, nodes, array(16, 1, 16), &[19], &[])?;
-    push(
-        alloc,
-        nodes,
-        listed(alloc, &[16], 32, Align::EIGHT)?,
-        &[19],
-        &[],
-    )
-}
-
-/// A type of no value; and types that hold an enum: a struct, arrays, a union, and a struct of no value.
-fn push_holders(alloc: Global, nodes: &mut Vec<Node>) -> Result<(), AllocError> {
-    let none = FieldsShape::Primitive;
-    let never = shaped(none, Variants::Empty, MEMORY, 0, Align::ONE);
-    push(alloc, nodes, never, &[], &[])?;
-    push(
-        alloc,
-        nodes,
-        listed(alloc, &[0, 4], 12, Align::FOUR)?,
-        &[0, 15],
-        &[],
-    )?;
-    push(alloc, nodes, array(8, 2, 16), &[15], &[])?;
-    push(alloc, nodes, array(8, 0, 0), &[15], &[])?;
-    push(alloc, nodes, union(1, 8), &[16], &[])?;
-    let mut valueless = listed(alloc, &[0], 8, Align::FOUR)?;
-    valueless.variants = Variants::Empty;
-    push(alloc, nodes, valueless, &[16], &[])
-}
-
-/// All of them.
+/// The list of them.
 fn kinds(alloc: Global) -> Result<Vec<Node>, AllocError> {
-    let mut nodes = Vec::new(alloc);
-    push_leaves(alloc, &mut nodes)?;
-    push_structs(alloc, &mut nodes)?;
-    push_arrays_and_unions(alloc, &mut nodes)?;
-    push_enums(alloc, &mut nodes)?;
-    push_vectors(alloc, &mut nodes)?;
-    push_holders(alloc, &mut nodes)?;
-    Ok(nodes)
+    types(alloc, &KINDS)
 }
 
 /// The one field that is more than a place, the one that takes bytes, whether the type is passed as one vector of 16
@@ -205,7 +66,7 @@ fn kinds(alloc: Global) -> Result<Vec<Node>, AllocError> {
 type Walked = (Option<usize>, Option<usize>, bool, bool);
 
 /// Each type by its place, and what the walks over it answer.
-const WALKED: [(usize, Walked); 24] = [
+static WALKED: [(usize, Walked); 24] = [
     (0, (None, None, false, false)),
     (2, (None, None, false, false)),
     (4, (None, None, false, false)),
@@ -254,13 +115,26 @@ fn walked(nodes: &[Node], at: usize) -> Option<Walked> {
     ))
 }
 
+/// The first type of which the walks answer something else.
+fn unlike_walked(alloc: Global) -> Result<Option<usize>, AllocError> {
+    let nodes = kinds(alloc)?;
+    Ok(first_unlike_walked(&nodes))
+}
+
+/// The first one of these.
+fn first_unlike_walked(nodes: &[Node]) -> Option<usize> {
+    for &(at, wanted) in &WALKED {
+        if walked(nodes, at) != Some(wanted) {
+            return Some(at);
+        }
+    }
+    None
+}
+
 #[test]
 fn walks_over_each_kind_are_told(rt: HostRuntime) -> Result<(), Fail> {
-    let nodes = kinds(rt.alloc())?;
-    for &(at, wanted) in &WALKED {
-        let found = walked(&nodes, at);
-        assert!(rt; found == Some(wanted), "type {at}: {found:?}");
-    }
+    let wrong = unlike_walked(rt.alloc())?;
+    assert!(rt; wrong.is_none(), "type {wrong:?}");
     Ok(())
 }
 
@@ -280,17 +154,31 @@ fn is_plain(nodes: &[Node], at: usize) -> bool {
         && it.complex_float(&()).is_none()
 }
 
+/// The first type that isn't.
+fn first_unlike_itself(nodes: &[Node]) -> Option<usize> {
+    for at in 0..nodes.len() {
+        if !is_plain(nodes, at) {
+            return Some(at);
+        }
+    }
+    None
+}
+
+/// The first one of all.
+fn unlike_itself(alloc: Global) -> Result<Option<usize>, AllocError> {
+    let nodes = kinds(alloc)?;
+    Ok(first_unlike_itself(&nodes))
+}
+
 #[test]
 fn types_without_marks_are_as_they_are(rt: HostRuntime) -> Result<(), Fail> {
-    let nodes = kinds(rt.alloc())?;
-    for at in 0..nodes.len() {
-        assert!(rt; is_plain(&nodes, at), "type {at}");
-    }
+    let wrong = unlike_itself(rt.alloc())?;
+    assert!(rt; wrong.is_none(), "type {wrong:?}");
     Ok(())
 }
 
 /// Each type by its place, and the runs of its padding.
-const PADDING: [(usize, &[(u64, u64)]); 18] = [
+static PADDING: [(usize, &[(u64, u64)]); 18] = [
     (0, &[]),
     (2, &[]),
     (4, &[(1, 3), (9, 3)]),
@@ -329,18 +217,32 @@ fn has_padding(
     Ok(padding.as_slice() == wanted)
 }
 
+/// The first type with other padding.
+fn first_padded_otherwise(alloc: Global, nodes: &[Node]) -> Result<Option<usize>, AllocError> {
+    for &(at, wanted) in &PADDING {
+        if !has_padding(alloc, nodes, at, wanted)? {
+            return Ok(Some(at));
+        }
+    }
+    Ok(None)
+}
+
+/// The first one of all.
+fn padded_otherwise(alloc: Global) -> Result<Option<usize>, AllocError> {
+    let nodes = kinds(alloc)?;
+    first_padded_otherwise(alloc, &nodes)
+}
+
 #[test]
 fn padding_of_each_kind_is_told(rt: HostRuntime) -> Result<(), Fail> {
-    let nodes = kinds(rt.alloc())?;
-    for &(at, wanted) in &PADDING {
-        assert!(rt; has_padding(rt.alloc(), &nodes, at, wanted)?, "type {at}");
-    }
+    let wrong = padded_otherwise(rt.alloc())?;
+    assert!(rt; wrong.is_none(), "type {wrong:?}");
     Ok(())
 }
 
 /// Each type by its place, a variant, and the runs that other variants cover alone; of types whose variants no tag
 /// tells apart, none.
-const UNUSED: [(usize, usize, &[(u64, u64)]); 9] = [
+static UNUSED: [(usize, usize, &[(u64, u64)]); 9] = [
     (15, 0, &[(1, 1)]),
     (15, 1, &[(2, 1), (4, 4)]),
     (16, 0, &[(1, 1)]),
@@ -387,12 +289,25 @@ fn leaves_unused(
     Ok(unused.as_slice() == wanted)
 }
 
+/// The first type of which a variant leaves something else.
+fn first_used_otherwise(alloc: Global, nodes: &[Node]) -> Result<Option<usize>, AllocError> {
+    for &(at, variant, wanted) in &UNUSED {
+        if !leaves_unused(alloc, nodes, at, variant, wanted)? {
+            return Ok(Some(at));
+        }
+    }
+    Ok(None)
+}
+
+/// The first one of all.
+fn used_otherwise(alloc: Global) -> Result<Option<usize>, AllocError> {
+    let nodes = kinds(alloc)?;
+    first_used_otherwise(alloc, &nodes)
+}
+
 #[test]
 fn what_each_kind_leaves_unused_is_told(rt: HostRuntime) -> Result<(), Fail> {
-    let nodes = kinds(rt.alloc())?;
-    for &(at, variant, wanted) in &UNUSED {
-        let holds = leaves_unused(rt.alloc(), &nodes, at, variant, wanted)?;
-        assert!(rt; holds, "type {at}, variant {variant}");
-    }
+    let wrong = used_otherwise(rt.alloc())?;
+    assert!(rt; wrong.is_none(), "type {wrong:?}");
     Ok(())
 }

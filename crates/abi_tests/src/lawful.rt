@@ -1,6 +1,8 @@
 //! Which layouts are lawful: wherever a scalar stands in one, its pointer is lawful and the ends of its range fit its
 //! width.
 
+ghost use Rattle.abi_base.specs.DataLayout.{IsLawfulDataLayout};
+
 use abi_base::{
     AbiAlign, AddressSpace, Align, Integer, NumScalableVectors, Primitive, Size, TargetDataLayout,
 };
@@ -122,7 +124,49 @@ fn layout_with(
     }
 }
 
-/// Whether, under the data layout of the text, a layout with this scalar is lawful, wherever it stands, or unlawful.
+/// Each place that a scalar may have.
+static PLACES: [Place; 7] = [
+    Place::Niche,
+    Place::Whole,
+    Place::First,
+    Place::Second,
+    Place::Lanes,
+    Place::ScalableLanes,
+    Place::Tag,
+];
+
+/// Whether a layout in which this scalar stands there is lawful.
+fn is_lawful_at(
+    alloc: Global,
+    dl: &TargetDataLayout,
+    place: Place,
+    value: Primitive,
+    valid_range: WrappingRange,
+) -> bool
+    requires { IsLawfulDataLayout dl.now }
+{
+    layout_with(alloc, place, value, valid_range).is_lawful(dl)
+}
+
+/// Whether a layout with this scalar is lawful, wherever it stands, or unlawful.
+fn are_all_under(
+    alloc: Global,
+    dl: &TargetDataLayout,
+    value: Primitive,
+    valid_range: WrappingRange,
+    lawful: bool,
+) -> bool
+    requires { IsLawfulDataLayout dl.now }
+{
+    for place in &PLACES {
+        if is_lawful_at(alloc, dl, *place, value, valid_range) != lawful {
+            return false;
+        }
+    }
+    true
+}
+
+/// Whether it is so under the data layout of the text.
 fn are_all(
     alloc: Global,
     text: &str,
@@ -134,30 +178,16 @@ fn are_all(
     let Ok(dl) = read else {
         return false;
     };
-    if !dl.is_lawful() {
-        return false;
-    }
-    let places = [
-        Place::Niche,
-        Place::Whole,
-        Place::First,
-        Place::Second,
-        Place::Lanes,
-        Place::ScalableLanes,
-        Place::Tag,
-    ];
-    for place in &places {
-        let layout = layout_with(alloc, *place, value, WrappingRange { start, end });
-        if layout.is_lawful(&dl) != lawful {
-            return false;
-        }
-    }
-    true
+    let valid_range = WrappingRange { start, end };
+    dl.is_lawful() && are_all_under(alloc, &dl, value, valid_range, lawful)
 }
+
+/// Data layout strings, and whether a pointer into space 7 is lawful under them.
+static POINTERS: [(&str, bool); 3] = [("p7:32:32", true), ("p7:32:64", false), ("p8:32:32", false)];
 
 #[test]
 fn pointers_of_lawful_layouts_are_lawful(rt: HostRuntime) {
-    for &(text, lawful) in &[("p7:32:32", true), ("p7:32:64", false), ("p8:32:32", false)] {
+    for &(text, lawful) in &POINTERS {
         assert!(rt;
             are_all(rt.alloc(), text, POINTER, (1, 2), lawful),
             "{text}"
@@ -165,14 +195,17 @@ fn pointers_of_lawful_layouts_are_lawful(rt: HostRuntime) {
     }
 }
 
+/// Ends of ranges, and whether a number of 32 bits may have them.
+static ENDS: [(u128, u128, bool); 4] = [
+    (0xFFFF_FFFF, 1, true),
+    (0x1_0000_0000, 1, false),
+    (1, 0xFFFF_FFFF, true),
+    (1, 0x1_0000_0000, false),
+];
+
 #[test]
 fn ends_of_lawful_layouts_fit_their_width(rt: HostRuntime) {
-    for &(start, end, lawful) in &[
-        (0xFFFF_FFFF, 1, true),
-        (0x1_0000_0000, 1, false),
-        (1, 0xFFFF_FFFF, true),
-        (1, 0x1_0000_0000, false),
-    ] {
+    for &(start, end, lawful) in &ENDS {
         assert!(rt;
             are_all(rt.alloc(), "", NUMBER, (start, end), lawful),
             "{start} to {end}"

@@ -1,16 +1,15 @@
 //! Layouts: those of types without parts and of two scalars, what they tell, and which ones are lawful.
 
 ghost use Rattle.std.specs.Prelude.{◌≡◌, IfOk, length};
-ghost use Rattle.abi_base.specs.DataLayout.{IsLawfulDataLayout, default_data_layout};
+ghost use Rattle.abi_base.specs.DataLayout.{IsLawfulDataLayout};
 ghost use Rattle.abi_scalar.specs.Order.{HasPlaceForEach};
-ghost use Rattle.abi_scalar.specs.Scalar.{IsReadable};
 ghost use Rattle.abi_scalar.specs.Variant.{variants_of};
 
 use abi_base::{AbiAlign, AddressSpace, Align, Integer, Primitive, Size, TargetDataLayout};
 use abi_index::{FieldIdx, Hash64, IndexVec, TryClone, VariantIdx};
 use abi_scalar::{
-    BackendRepr, FieldCount, FieldsShape, LayoutData, Niche, Scalar, TagEncoding, VariantLayout,
-    Variants, WrappingRange,
+    BackendRepr, FieldCount, FieldsShape, IncreasingOffset, LayoutData, Niche, Scalar, TagEncoding,
+    VariantLayout, Variants, WrappingRange,
 };
 use std::alloc::{AllocError, Global};
 use std::test::Fail;
@@ -25,47 +24,61 @@ const TRUTH: Scalar = Scalar::Initialized {
     valid_range: WrappingRange { start: 0, end: 1 },
 };
 
-/// A union's byte.
-const SHARED: Scalar = Scalar::Union { value: BYTE };
+const POINTER: Primitive = Primitive::Pointer(AddressSpace::ZERO);
+
+/// A pointer into a space that the default data layout doesn't know.
+const FAR: Primitive = Primitive::Pointer(AddressSpace(7));
 
 /// A union's word of 32 bits.
 const WORD: Scalar = Scalar::Union {
     value: Primitive::Int(Integer::I32, false),
 };
 
-/// Bytes in memory.
-const MEMORY: BackendRepr = BackendRepr::Memory { sized: true };
+/// How a layout without fields is seen.
+#[derive(Clone, Copy)]
+enum Seen {
+    /// Bytes in memory.
+    Memory,
+    /// Bytes in memory whose size isn't known.
+    Tail,
+    /// One scalar that is 0 or 1.
+    Truth,
+    /// A pointer into a space that the default data layout doesn't know.
+    Far,
+    /// A byte with a range that doesn't fit it.
+    Wide,
+    /// Two scalars that are 0 or 1, the second at this offset.
+    Pair(u64),
+}
 
-/// One scalar that is 0 or 1.
-const ONE_TRUTH: BackendRepr = BackendRepr::Scalar(TRUTH);
-
-/// A pointer into a space that the default data layout doesn't know.
-const FAR: BackendRepr = BackendRepr::Scalar(Scalar::Union {
-    value: Primitive::Pointer(AddressSpace(7)),
-});
-
-/// A byte with a range that doesn't fit it.
-const WIDE: BackendRepr = BackendRepr::Scalar(Scalar::Initialized {
-    value: BYTE,
-    valid_range: WrappingRange { start: 0, end: 256 },
-});
-
-/// Two scalars that are 0 or 1, the second at this offset.
-fn pair_at(offset: u64) -> BackendRepr {
-    BackendRepr::ScalarPair {
-        a: TRUTH,
-        b: TRUTH,
-        b_offset: Size::from_bytes(offset),
+/// The view.
+fn view_of(seen: Seen) -> BackendRepr {
+    match seen {
+        Seen::Memory => BackendRepr::Memory { sized: true },
+        Seen::Tail => BackendRepr::Memory { sized: false },
+        Seen::Truth => BackendRepr::Scalar(TRUTH),
+        Seen::Far => BackendRepr::Scalar(Scalar::Union { value: FAR }),
+        Seen::Wide => BackendRepr::Scalar(Scalar::Initialized {
+            value: BYTE,
+            valid_range: WrappingRange { start: 0, end: 256 },
+        }),
+        Seen::Pair(offset) => BackendRepr::ScalarPair {
+            a: TRUTH,
+            b: TRUTH,
+            b_offset: Size::from_bytes(offset),
+        },
     }
 }
 
-/// The niche of a scalar that is 0 or 1, at this offset.
-fn bool_at(offset: u64) -> Option<Niche> {
-    niche_of(offset, BYTE, 0, 1)
-}
+/// A niche: its offset, its primitive, and its range.
+type Free = (u64, Primitive, u128, u128);
 
-/// A niche that is the scalar's, at this offset.
-fn niche_of(offset: u64, value: Primitive, start: u128, end: u128) -> Option<Niche> {
+/// The niche of a scalar that is 0 or 1, at the first byte.
+const BOOL: Option<Free> = Some((0, BYTE, 0, 1));
+
+/// The niche.
+fn niche_of(free: Option<Free>) -> Option<Niche> {
+    let (offset, value, start, end) = free?;
     Some(Niche {
         offset: Size::from_bytes(offset),
         value,
@@ -75,35 +88,12 @@ fn niche_of(offset: u64, value: Primitive, start: u128, end: u128) -> Option<Nic
 
 /// Two fields in source order, the second at this offset.
 fn two_fields(alloc: Global, second: u64) -> Result<FieldsShape<FieldIdx>, AllocError> {
-    let mut offsets = IndexVec::new(alloc);
-    let _first: FieldIdx = offsets.push(Size::ZERO)?;
-    let _second = offsets.push(Size::from_bytes(second))?;
-    let mut in_memory_order = IndexVec::new(alloc);
-    let _first: u32 = in_memory_order.push(FieldIdx::ZERO)?;
-    let _second = in_memory_order.push(FieldIdx::ONE)?;
+    let offsets = vec![in alloc; Size::ZERO, Size::from_bytes(second)]?;
+    let in_memory_order = vec![in alloc; FieldIdx::ZERO, FieldIdx::ONE]?;
     Ok(FieldsShape::Arbitrary {
-        offsets,
-        in_memory_order,
+        offsets: IndexVec::from_raw(offsets),
+        in_memory_order: IndexVec::from_raw(in_memory_order),
     })
-}
-
-/// A layout without fields that has these.
-fn laid(align: Align, size: u64, view: BackendRepr, niche: Option<Niche>) -> Layout {
-    LayoutData {
-        fields: FieldsShape::Primitive,
-        variants: Variants::Single {
-            index: VariantIdx::ZERO,
-        },
-        backend_repr: view,
-        largest_niche: niche,
-        uninhabited: false,
-        align: AbiAlign::new(align),
-        size: Size::from_bytes(size),
-        max_repr_align: None,
-        unadjusted_abi_align: align,
-        repr_c: false,
-        randomization_seed: Hash64::ZERO,
-    }
 }
 
 /// Whether the two are one layout.
@@ -123,58 +113,6 @@ fn has_places(
     let count = order.len();
     let list: Vec<usize> = order.collect(alloc)?;
     Ok(count == places.len() && list.as_slice() == places)
-}
-
-/// The layout of two scalars, the second at this offset.
-fn pair_laid(
-    alloc: Global,
-    (a, b): (Scalar, Scalar),
-    align: Align,
-    (offset, size): (u64, u64),
-    niche: Option<Niche>,
-    seed: u64,
-) -> Result<Layout, AllocError> {
-    let view = BackendRepr::ScalarPair {
-        a,
-        b,
-        b_offset: Size::from_bytes(offset),
-    };
-    Ok(LayoutData {
-        fields: two_fields(alloc, offset)?,
-        randomization_seed: Hash64::new(seed),
-        ..laid(align, size, view, niche)
-    })
-}
-
-/// Whether two scalars have the wanted layout, with the fields in source order.
-fn pair_is(alloc: Global, a: Scalar, b: Scalar, wanted: &Layout) -> Result<bool, AllocError>
-    requires first { IsReadable default_data_layout a }
-    requires second { IsReadable default_data_layout b }
-{
-    let dl = TargetDataLayout::default_in(alloc)?;
-    let found: Layout = LayoutData::scalar_pair(alloc, &dl, a, b)?;
-    Ok(same(&found, wanted) && has_places(alloc, &found.fields, &[0, 1])?)
-}
-
-/// Whether a truth and a word, and a shared byte and a truth, have their layouts.
-fn pairs_with_a_truth(alloc: Global) -> Result<bool, AllocError> {
-    let first = pair_laid(alloc, (TRUTH, WORD), Align::FOUR, (4, 8), bool_at(0), 5)?;
-    let second = pair_laid(alloc, (SHARED, TRUTH), Align::ONE, (1, 2), bool_at(1), 2)?;
-    Ok(pair_is(alloc, TRUTH, WORD, &first)? && pair_is(alloc, SHARED, TRUTH, &second)?)
-}
-
-/// Whether two truths, and a word and a shared byte, have their layouts.
-fn pairs_alike(alloc: Global) -> Result<bool, AllocError> {
-    let first = pair_laid(alloc, (TRUTH, TRUTH), Align::ONE, (1, 2), bool_at(0), 2)?;
-    let second = pair_laid(alloc, (WORD, SHARED), Align::FOUR, (4, 8), None, 5)?;
-    Ok(pair_is(alloc, TRUTH, TRUTH, &first)? && pair_is(alloc, WORD, SHARED, &second)?)
-}
-
-#[test]
-fn pairs_have_layouts(rt: HostRuntime) -> Result<(), Fail> {
-    assert!(rt; pairs_with_a_truth(rt.alloc())?);
-    assert!(rt; pairs_alike(rt.alloc())?);
-    Ok(())
 }
 
 /// Whether the layout is sized or not, and of no bytes or not: without bytes it stands alone.
@@ -201,168 +139,169 @@ fn is_plain(layout: &Layout) -> bool {
         && layout.scalable_vector_element_count().is_none()
 }
 
-/// Whether the layout is lawful, equal to its copy, and passed as the unit's is where it is sized, and there alone.
-fn is_kept(
-    alloc: Global,
-    dl: &TargetDataLayout,
-    layout: &Layout,
-    sized: bool,
-) -> Result<bool, AllocError>
+/// Whether the layout is passed as the unit's is.
+fn is_passed_as_unit(alloc: Global, dl: &TargetDataLayout, layout: &Layout) -> bool
     requires { IsLawfulDataLayout dl.now }
 {
     let unit: Layout = LayoutData::unit(alloc, &dl, true);
-    let copy = layout.try_clone(alloc)?;
-    Ok(layout.eq_abi(&unit) == sized && layout.is_lawful(dl) && same(&copy, layout))
+    layout.eq_abi(&unit)
 }
 
-/// Whether the layout tells all this.
+/// Whether the layout is equal to its copy.
+fn is_copied(alloc: Global, layout: &Layout) -> Result<bool, AllocError> {
+    let copy = layout.try_clone(alloc)?;
+    Ok(same(&copy, layout))
+}
+
+/// A layout without parts.
+#[derive(Clone, Copy)]
+enum Bare {
+    /// Of a unit, sized or not.
+    Unit(bool),
+    Never,
+    /// Of a variant without values that has so many fields.
+    Uninhabited(usize),
+}
+
+/// The layout.
+fn layout_of(alloc: Global, dl: &TargetDataLayout, bare: Bare) -> Layout
+    requires { IsLawfulDataLayout dl.now }
+{
+    match bare {
+        Bare::Unit(sized) => LayoutData::unit(alloc, &dl, sized),
+        Bare::Never => LayoutData::never_type(&dl),
+        Bare::Uninhabited(fields) => {
+            LayoutData::uninhabited_variant(alloc, &dl, VariantIdx::from_u32(2), fields)
+        }
+    }
+}
+
+/// Whether the layout tells all this; it is passed as the unit's is where it is sized, and there alone.
 fn tells(
     alloc: Global,
-    dl: &TargetDataLayout,
-    layout: Layout,
+    bare: Bare,
     sized: bool,
     zst: bool,
     uninhabited: [bool; 3],
-) -> Result<bool, AllocError>
-    requires { IsLawfulDataLayout dl.now }
-{
-    let told = is_sized_as(&layout, sized, zst) && is_uninhabited_as(&layout, uninhabited);
-    Ok(told && is_plain(&layout) && is_kept(alloc, dl, &layout, sized)?)
+) -> Result<bool, AllocError> {
+    let dl = TargetDataLayout::default_in(alloc)?;
+    let layout = layout_of(alloc, &dl, bare);
+    let told = is_sized_as(&layout, sized, zst)
+        && is_uninhabited_as(&layout, uninhabited)
+        && is_plain(&layout)
+        && layout.is_lawful(&dl)
+        && is_passed_as_unit(alloc, &dl, &layout) == sized;
+    Ok(told && is_copied(alloc, &layout)?)
 }
+
+/// Each layout, and what it tells.
+static TOLD: [(Bare, bool, bool, [bool; 3]); 5] = [
+    (Bare::Unit(true), true, true, [false, false, true]),
+    (Bare::Unit(false), false, false, [false, false, true]),
+    (Bare::Never, true, true, [true, true, true]),
+    (Bare::Uninhabited(3), true, true, [true, true, true]),
+    (Bare::Uninhabited(0), true, true, [true, true, true]),
+];
 
 #[test]
 fn layouts_without_parts_tell_what_they_are(rt: HostRuntime) -> Result<(), Fail> {
-    let dl = TargetDataLayout::default_in(rt.alloc())?;
-    let inhabited = [false, false, true];
-    let layout = LayoutData::unit(rt.alloc(), &dl, true);
-    assert!(rt; tells(rt.alloc(), &dl, layout, true, true, inhabited)?);
-    let layout = LayoutData::unit(rt.alloc(), &dl, false);
-    assert!(rt; tells(rt.alloc(), &dl, layout, false, false, inhabited)?);
+    for &(bare, sized, zst, uninhabited) in &TOLD {
+        assert!(rt; tells(rt.alloc(), bare, sized, zst, uninhabited)?);
+    }
     Ok(())
 }
 
-#[test]
-fn layouts_without_values_tell_what_they_are(rt: HostRuntime) -> Result<(), Fail> {
-    let dl = TargetDataLayout::default_in(rt.alloc())?;
-    let two = VariantIdx::from_u32(2);
-    let uninhabited = [true, true, true];
-    let layout = LayoutData::never_type(&dl);
-    assert!(rt; tells(rt.alloc(), &dl, layout, true, true, uninhabited)?);
-    let layout = LayoutData::uninhabited_variant(rt.alloc(), &dl, two, 3);
-    assert!(rt; tells(rt.alloc(), &dl, layout, true, true, uninhabited)?);
-    let layout = LayoutData::uninhabited_variant(rt.alloc(), &dl, two, 0);
-    assert!(rt; tells(rt.alloc(), &dl, layout, true, true, uninhabited)?);
-    Ok(())
-}
-
-/// The fields of an uninhabited variant with so many.
-fn uninhabited_fields(alloc: Global, count: usize) -> Result<FieldsShape<FieldIdx>, AllocError>
-    ensures { IfOk result HasPlaceForEach }
-{
+/// Whether an uninhabited variant with so many fields has these places, in memory order.
+fn has_fields(alloc: Global, count: usize, places: &[usize]) -> Result<bool, AllocError> {
     let dl = TargetDataLayout::default_in(alloc)?;
     let two = VariantIdx::from_u32(2);
     let layout: Layout = LayoutData::uninhabited_variant(alloc, &dl, two, count);
-    Ok(layout.fields)
+    Ok(layout.fields.count() == count && has_places(alloc, &layout.fields, places)?)
 }
 
 #[test]
 fn uninhabited_variants_have_fields(rt: HostRuntime) -> Result<(), Fail> {
-    assert!(rt; uninhabited_fields(rt.alloc(), 0)?.count() == 0);
-    let three = uninhabited_fields(rt.alloc(), 3)?;
-    assert!(rt; three.count() == 3 && has_places(rt.alloc(), &three, &[0, 1, 2])?);
+    assert!(rt; has_fields(rt.alloc(), 0, &[])?);
+    assert!(rt; has_fields(rt.alloc(), 3, &[0, 1, 2])?);
     Ok(())
 }
 
+/// A layout without fields that has these.
+fn laid(align: u64, size: u64, seen: Seen, free: Option<Free>) -> Layout {
+    let align = Align::max_aligned_factor(Size::from_bytes(align));
+    LayoutData {
+        fields: FieldsShape::Primitive,
+        variants: Variants::Single {
+            index: VariantIdx::ZERO,
+        },
+        backend_repr: view_of(seen),
+        largest_niche: niche_of(free),
+        uninhabited: false,
+        align: AbiAlign::new(align),
+        size: Size::from_bytes(size),
+        max_repr_align: None,
+        unadjusted_abi_align: align,
+        repr_c: false,
+        randomization_seed: Hash64::ZERO,
+    }
+}
+
 /// Whether the layout without fields that has these is lawful.
-fn is_lawful(
-    dl: &TargetDataLayout,
-    align: Align,
-    size: u64,
-    view: BackendRepr,
-    niche: Option<Niche>,
-) -> bool
+fn is_lawful(dl: &TargetDataLayout, align: u64, size: u64, seen: Seen, free: Option<Free>) -> bool
     requires { IsLawfulDataLayout dl.now }
 {
-    laid(align, size, view, niche).is_lawful(dl)
+    laid(align, size, seen, free).is_lawful(dl)
+}
+
+/// Alignments and sizes in bytes, views, niches, and whether the layout is lawful.
+static LAWS: [(u64, u64, Seen, Option<Free>, bool); 23] = [
+    (4, 8, Seen::Memory, None, true),
+    (4, 6, Seen::Memory, None, false),
+    (1, (1 << 61) - 1, Seen::Memory, None, true),
+    (1, 1 << 61, Seen::Memory, None, false),
+    (1 << 29, 0, Seen::Memory, None, true),
+    (1 << 30, 0, Seen::Memory, None, false),
+    (1, 4, Seen::Memory, Some((3, BYTE, 0, 1)), true),
+    (1, 4, Seen::Memory, Some((4, BYTE, 0, 1)), false),
+    (1, 4, Seen::Memory, Some((0, BYTE, 0, 256)), false),
+    (1, 4, Seen::Memory, Some((0, BYTE, 5, 4)), false),
+    (1, 8, Seen::Memory, Some((0, FAR, 1, 2)), false),
+    (1, 8, Seen::Memory, Some((0, POINTER, 1, 2)), true),
+    (1, 1, Seen::Truth, BOOL, true),
+    (1, 2, Seen::Truth, BOOL, false),
+    (1, 1, Seen::Truth, Some((0, BYTE, 0, 2)), false),
+    (1, 8, Seen::Far, None, false),
+    (1, 1, Seen::Wide, None, false),
+    (1, 2, Seen::Pair(1), BOOL, true),
+    (1, 2, Seen::Pair(1), Some((1, BYTE, 0, 1)), true),
+    (1, 2, Seen::Pair(0), BOOL, false),
+    (1, 2, Seen::Pair(2), BOOL, false),
+    (1, 3, Seen::Pair(2), Some((1, BYTE, 0, 1)), false),
+    (1, 4, Seen::Tail, None, true),
+];
+
+/// The first of them of which it isn't so, by its place.
+fn first_broken(alloc: Global) -> Result<Option<usize>, AllocError> {
+    let dl = TargetDataLayout::default_in(alloc)?;
+    Ok(first_broken_under(&dl))
+}
+
+/// The first one under this data layout.
+fn first_broken_under(dl: &TargetDataLayout) -> Option<usize>
+    requires { IsLawfulDataLayout dl.now }
+{
+    for (i, &(align, size, seen, free, lawful)) in LAWS.iter().enumerate() {
+        if is_lawful(dl, align, size, seen, free) != lawful {
+            return Some(i);
+        }
+    }
+    None
 }
 
 #[test]
 fn each_law_of_layouts_is_asked(rt: HostRuntime) -> Result<(), Fail> {
-    let dl = TargetDataLayout::default_in(rt.alloc())?;
-    for &(align, size, view, niche, lawful) in &[
-        (Align::FOUR, 8, MEMORY, None, true),
-        (Align::FOUR, 6, MEMORY, None, false),
-        (Align::ONE, (1 << 61) - 1, MEMORY, None, true),
-        (Align::ONE, 1 << 61, MEMORY, None, false),
-        (Align::MAX, 0, MEMORY, None, true),
-        (Align::ONE, 4, MEMORY, bool_at(3), true),
-        (Align::ONE, 4, MEMORY, bool_at(4), false),
-        (Align::ONE, 4, MEMORY, niche_of(0, BYTE, 0, 256), false),
-        (Align::ONE, 4, MEMORY, niche_of(0, BYTE, 5, 4), false),
-        (
-            Align::ONE,
-            8,
-            MEMORY,
-            niche_of(0, Primitive::Pointer(AddressSpace(7)), 1, 2),
-            false,
-        ),
-        (
-            Align::ONE,
-            8,
-            MEMORY,
-            niche_of(0, Primitive::Pointer(AddressSpace::ZERO), 1, 2),
-            true,
-        ),
-        (Align::ONE, 1, ONE_TRUTH, bool_at(0), true),
-        (Align::ONE, 2, ONE_TRUTH, bool_at(0), false),
-        (Align::ONE, 1, ONE_TRUTH, niche_of(0, BYTE, 0, 2), false),
-        (Align::ONE, 8, FAR, None, false),
-        (Align::ONE, 1, WIDE, None, false),
-        (Align::ONE, 2, pair_at(1), bool_at(0), true),
-        (Align::ONE, 2, pair_at(1), bool_at(1), true),
-        (Align::ONE, 2, pair_at(0), bool_at(0), false),
-        (Align::ONE, 2, pair_at(2), bool_at(0), false),
-        (Align::ONE, 3, pair_at(2), bool_at(1), false),
-        (
-            Align::ONE,
-            4,
-            BackendRepr::Memory { sized: false },
-            None,
-            true,
-        ),
-    ] {
-        assert!(rt;
-            is_lawful(&dl, align, size, view, niche) == lawful,
-            "{size} bytes"
-        );
-    }
-    let above = Align::max_aligned_factor(Size::from_bytes(1 << 30));
-    assert!(rt; !is_lawful(&dl, above, 0, MEMORY, None));
-    Ok(())
-}
-
-/// A byte that is the tag of these variants.
-fn tagged(tag: Scalar, variants: IndexVec<VariantIdx, VariantLayout<FieldIdx>>) -> Layout {
-    LayoutData {
-        variants: Variants::Multiple {
-            tag,
-            tag_encoding: TagEncoding::Direct,
-            tag_field: FieldIdx::ZERO,
-            variants,
-        },
-        ..laid(Align::ONE, 1, MEMORY, None)
-    }
-}
-
-#[test]
-fn tags_of_lawful_layouts_are_lawful(rt: HostRuntime) -> Result<(), Fail> {
-    let dl = TargetDataLayout::default_in(rt.alloc())?;
-    assert!(rt; tagged(TRUTH, IndexVec::new(rt.alloc())).is_lawful(&dl));
-    let wide = Scalar::Initialized {
-        value: BYTE,
-        valid_range: WrappingRange { start: 0, end: 256 },
-    };
-    assert!(rt; !tagged(wide, IndexVec::new(rt.alloc())).is_lawful(&dl));
+    let broken = first_broken(rt.alloc())?;
+    assert!(rt; broken.is_none(), "row {broken:?}");
     Ok(())
 }
 
@@ -373,66 +312,111 @@ fn second_variant(
 ) -> Result<VariantLayout<FieldIdx>, AllocError>
     requires { IsLawfulDataLayout dl.now }
 {
-    let pair: Layout = LayoutData::scalar_pair(alloc, &dl, TRUTH, WORD)?;
+    let pair: Layout = LayoutData::scalar_pair(alloc, &dl, TRUTH, WORD);
     Ok(VariantLayout::from_layout(pair))
+}
+
+/// Whether a unit has nothing as a variant.
+fn is_unit_empty(alloc: Global) -> Result<bool, AllocError> {
+    let dl = TargetDataLayout::default_in(alloc)?;
+    let unit: Layout = LayoutData::unit(alloc, &dl, true);
+    let first = VariantLayout::from_layout(unit);
+    Ok(!first.is_uninhabited() && !first.has_fields() && first.size == Size::ZERO)
+}
+
+/// Whether the variant has two fields in eight bytes.
+fn has_two_fields(variant: &VariantLayout<FieldIdx>) -> bool {
+    !variant.is_uninhabited()
+        && variant.has_fields()
+        && variant.size == Size::from_bytes(8)
+        && variant.field_offsets.len() == 2
+}
+
+/// Whether the variant is equal to its copy.
+fn is_variant_copied(alloc: Global, variant: &VariantLayout<FieldIdx>) -> Result<bool, AllocError> {
+    let copy = variant.try_clone(alloc)?;
+    Ok(copy == *variant)
+}
+
+/// Whether a variant with two fields has them, and is equal to its copy.
+fn is_pair_filled(alloc: Global) -> Result<bool, AllocError> {
+    let dl = TargetDataLayout::default_in(alloc)?;
+    let second = second_variant(alloc, &dl)?;
+    Ok(has_two_fields(&second) && is_variant_copied(alloc, &second)?)
 }
 
 #[test]
 fn variants_have_what_their_layouts_have(rt: HostRuntime) -> Result<(), Fail> {
-    let dl = TargetDataLayout::default_in(rt.alloc())?;
-    let unit: Layout = LayoutData::unit(rt.alloc(), &dl, true);
-    let first = VariantLayout::from_layout(unit);
-    assert!(rt; !first.is_uninhabited() && !first.has_fields() && first.size == Size::ZERO);
+    assert!(rt; is_unit_empty(rt.alloc())?);
+    assert!(rt; is_pair_filled(rt.alloc())?);
     Ok(())
 }
 
-#[test]
-fn variants_have_the_fields_of_their_layouts(rt: HostRuntime) -> Result<(), Fail> {
-    let dl = TargetDataLayout::default_in(rt.alloc())?;
-    let second = second_variant(rt.alloc(), &dl)?;
-    assert!(rt; !second.is_uninhabited() && second.has_fields());
-    assert!(rt; second.size == Size::from_bytes(8) && second.field_offsets.len() == 2);
-    assert!(rt; second.try_clone(rt.alloc())? == second);
-    Ok(())
-}
-
-/// A type of two variants, a unit and a variant with two fields.
-fn two_variants(alloc: Global) -> Result<Layout, AllocError>
-    ensures { IfOk result (λ parent. length (variants_of parent.variants) ≡ 2) }
+/// What a unit and a variant with two fields have of their own.
+fn unit_and_pair(alloc: Global) -> Result<IndexVec<VariantIdx, VariantLayout<FieldIdx>>, AllocError>
+    ensures { IfOk result (λ variants. length variants ≡ 2) }
 {
     let dl = TargetDataLayout::default_in(alloc)?;
     let mut variants: IndexVec<VariantIdx, VariantLayout<FieldIdx>> = IndexVec::new(alloc);
     let unit: Layout = LayoutData::unit(alloc, &dl, true);
     let _first = variants.push(VariantLayout::from_layout(unit))?;
     let _second = variants.push(second_variant(alloc, &dl)?)?;
+    Ok(variants)
+}
+
+/// A type of two variants, a unit and a variant with two fields.
+fn two_variants(alloc: Global) -> Result<Layout, AllocError>
+    ensures { IfOk result (λ parent. length (variants_of parent.variants) ≡ 2) }
+{
+    let variants = unit_and_pair(alloc)?;
     Ok(LayoutData {
+        fields: FieldsShape::Primitive,
         variants: Variants::Multiple {
             tag: TRUTH,
             tag_encoding: TagEncoding::Direct,
             tag_field: FieldIdx::ZERO,
             variants,
         },
+        backend_repr: BackendRepr::Memory { sized: false },
+        largest_niche: None,
         uninhabited: true,
+        align: AbiAlign::new(Align::EIGHT),
+        size: Size::from_bytes(16),
         max_repr_align: Some(Align::EIGHT),
         unadjusted_abi_align: Align::FOUR,
         repr_c: true,
         randomization_seed: Hash64::new(5),
-        ..laid(Align::EIGHT, 16, BackendRepr::Memory { sized: false }, None)
     })
 }
 
 /// The layout of the second of them.
 fn taken_out(alloc: Global) -> Result<Layout, AllocError> {
-    let pair = pair_laid(alloc, (TRUTH, WORD), Align::EIGHT, (4, 8), bool_at(0), 0)?;
+    let fields = two_fields(alloc, 4)?;
     Ok(LayoutData {
+        fields,
         variants: Variants::Single {
             index: VariantIdx::from_u32(1),
         },
+        backend_repr: BackendRepr::ScalarPair {
+            a: TRUTH,
+            b: WORD,
+            b_offset: Size::from_bytes(4),
+        },
+        largest_niche: niche_of(BOOL),
+        uninhabited: false,
+        align: AbiAlign::new(Align::EIGHT),
+        size: Size::from_bytes(8),
         max_repr_align: Some(Align::EIGHT),
         unadjusted_abi_align: Align::FOUR,
         repr_c: true,
-        ..pair
+        randomization_seed: Hash64::ZERO,
     })
+}
+
+/// Whether the layout is that of the second of them.
+fn is_second(alloc: Global, found: &Layout) -> Result<bool, AllocError> {
+    let wanted = taken_out(alloc)?;
+    Ok(same(found, &wanted))
 }
 
 /// Whether the second variant of such a type is taken out as wanted.
@@ -440,8 +424,7 @@ fn is_taken_out(alloc: Global, parent: &Layout) -> Result<bool, AllocError>
     requires { length (variants_of parent.now.variants) ≡ 2 }
 {
     let found = LayoutData::for_variant(alloc, parent, VariantIdx::from_u32(1))?;
-    let wanted = taken_out(alloc)?;
-    Ok(same(&found, &wanted))
+    is_second(alloc, &found)
 }
 
 /// Whether the variants are equal to their copy.
@@ -450,78 +433,76 @@ fn are_copied(alloc: Global, parent: &Layout) -> Result<bool, AllocError> {
     Ok(copy == parent.variants)
 }
 
-#[test]
-fn variants_are_taken_out(rt: HostRuntime) -> Result<(), Fail> {
-    let parent = two_variants(rt.alloc())?;
-    assert!(rt; are_copied(rt.alloc(), &parent)?);
-    assert!(rt; is_taken_out(rt.alloc(), &parent)?);
-    Ok(())
+/// Whether such a type's variants are copied, and the second is taken out.
+fn are_handed_on(alloc: Global) -> Result<bool, AllocError> {
+    let parent = two_variants(alloc)?;
+    Ok(are_copied(alloc, &parent)? && is_taken_out(alloc, &parent)?)
 }
 
-/// Whether the fields of the shape have these places, in memory order.
-fn follow(alloc: Global, shape: FieldsShape<FieldIdx>, places: &[usize]) -> Result<bool, AllocError>
-    requires { HasPlaceForEach shape }
-{
-    has_places(alloc, &shape, places)
+#[test]
+fn variants_are_taken_out(rt: HostRuntime) -> Result<(), Fail> {
+    assert!(rt; are_handed_on(rt.alloc())?);
+    Ok(())
 }
 
 #[test]
 fn fields_follow_one_another_in_memory(rt: HostRuntime) -> Result<(), Fail> {
-    let stride = Size::from_bytes(4);
-    assert!(rt; follow(rt.alloc(), FieldsShape::Primitive, &[0])?);
-    let two = FieldsShape::Array { stride, count: 2 };
-    assert!(rt; follow(rt.alloc(), two, &[0, 1])?);
-    let none = FieldsShape::Array { stride, count: 0 };
-    assert!(rt; follow(rt.alloc(), none, &[])?);
-    Ok(())
-}
-
-#[test]
-fn fields_of_unions_follow_one_another(rt: HostRuntime) -> Result<(), Fail> {
     let three = FieldCount::new(3).ok_or("three fields")?;
     assert!(rt; three.get() == 3);
-    assert!(rt; follow(rt.alloc(), FieldsShape::Union(three), &[0, 1, 2])?);
+    assert!(rt; has_places(rt.alloc(), &FieldsShape::Union(three), &[0, 1, 2])?);
+    assert!(rt; has_places(rt.alloc(), &FieldsShape::Primitive, &[0])?);
     Ok(())
 }
 
+/// Whether so many elements follow one another in memory.
+fn follow(alloc: Global, count: u64, places: &[usize]) -> Result<bool, AllocError> {
+    let stride = Size::from_bytes(4);
+    let row = FieldsShape::Array { stride, count };
+    has_places(alloc, &row, places)
+}
+
 #[test]
-fn elements_follow_one_another(rt: HostRuntime) {
+fn elements_follow_one_another(rt: HostRuntime) -> Result<(), Fail> {
+    assert!(rt; follow(rt.alloc(), 2, &[0, 1])?);
+    assert!(rt; follow(rt.alloc(), 0, &[])?);
     let stride = Size::from_bytes(4);
     let row: FieldsShape<FieldIdx> = FieldsShape::Array { stride, count: 7 };
     assert!(rt; row.count() == 7 && row.offset(6) == Size::from_bytes(24));
+    Ok(())
 }
 
 /// Three fields: the second comes first in memory, and the first one last.
 fn turned(alloc: Global) -> Result<FieldsShape<FieldIdx>, AllocError>
     ensures { IfOk result HasPlaceForEach }
 {
-    let mut offsets: IndexVec<FieldIdx, Size> = IndexVec::new(alloc);
-    let _first = offsets.push(Size::from_bytes(6))?;
-    let _second = offsets.push(Size::from_bytes(0))?;
-    let _third = offsets.push(Size::from_bytes(4))?;
-    let mut in_memory_order: IndexVec<u32, FieldIdx> = IndexVec::new(alloc);
-    let _first = in_memory_order.push(FieldIdx::from_u32(1))?;
-    let _second = in_memory_order.push(FieldIdx::from_u32(2))?;
-    let _third = in_memory_order.push(FieldIdx::from_u32(0))?;
+    let offsets = vec![in alloc; Size::from_bytes(6), Size::ZERO, Size::from_bytes(4)]?;
+    let order = vec![in alloc; FieldIdx::ONE, FieldIdx::from_u32(2), FieldIdx::ZERO]?;
     Ok(FieldsShape::Arbitrary {
-        offsets,
-        in_memory_order,
+        offsets: IndexVec::from_raw(offsets),
+        in_memory_order: IndexVec::from_raw(order),
     })
+}
+
+/// Whether an order has these places left, and then none.
+fn leaves(mut order: IncreasingOffset<'_, FieldIdx>, places: &[usize]) -> bool {
+    for (i, place) in places.iter().enumerate() {
+        let left = places.len() - 1 - i;
+        if order.next() != Some(*place) || order.size_hint() != (left, Some(left)) {
+            return false;
+        }
+    }
+    order.next().is_none() && order.next().is_none() && order.size_hint() == (0, Some(0))
+}
+
+/// Whether these fields are gone through as they lie in memory.
+fn is_turned(alloc: Global) -> Result<bool, AllocError> {
+    let shape = turned(alloc)?;
+    let order = shape.index_by_increasing_offset();
+    Ok(order == shape.index_by_increasing_offset() && leaves(order, &[1, 2, 0]))
 }
 
 #[test]
 fn listed_fields_follow_their_memory_order(rt: HostRuntime) -> Result<(), Fail> {
-    let shape = turned(rt.alloc())?;
-    let mut order = shape.index_by_increasing_offset();
-    assert!(rt; order == shape.index_by_increasing_offset());
-    for &(place, left) in &[
-        (Some(1), 2),
-        (Some(2), 1),
-        (Some(0), 0),
-        (None, 0),
-        (None, 0),
-    ] {
-        assert!(rt; order.next() == place && order.size_hint() == (left, Some(left)));
-    }
+    assert!(rt; is_turned(rt.alloc())?);
     Ok(())
 }

@@ -20,7 +20,10 @@ mod layouts;
 mod nodes;
 #[cfg(test)]
 mod reprs;
-mod samples;
+#[cfg(test)]
+mod shapes;
+#[cfg(test)]
+mod short_lists;
 #[cfg(test)]
 mod small;
 #[cfg(test)]

@@ -1,11 +1,12 @@
 //! Types that stand in one list, each made of others by their places, and told by handles. Whether one keeps the laws
 //! is tested.
 
-ghost use Rattle.std.specs.Prelude.{◌≡◌, ℕ, ◌+◌, ◌<◌, ◌≤◌, IfSome, IsTrue};
+ghost use Rattle.std.specs.Prelude.{◌≡◌, ℕ, ◌+◌, ◌<◌, ◌≤◌, IfSome, IsTrue, length};
 ghost use Rattle.abi_scalar.specs.Shape.{field_count, field_offset};
+ghost use Rattle.abi_scalar.specs.Variant.{variants_of};
 ghost use Rattle.abi_types.specs.Ty.Typed.{at_variant, field_in, layout_in, marks_of};
 ghost use Rattle.abi_types.specs.Ty.Lawful.{CanBeNamed, DepthFalls, IsLawfulType, NamesVariant};
-ghost use Rattle.abi_tests.specs.Nodes.{IsPart, part_depth, part_type, place_at, place_by, typed_in};
+ghost use Rattle.abi_tests.specs.Nodes.{HasParts, IsPart, part_depth, part_type, place_at, place_by, typed_in};
 
 use abi_base::{PointeeInfo, Size};
 use abi_index::{FieldIdx, VariantIdx};
@@ -14,13 +15,22 @@ use abi_types::{Layout, TyAbiInterface, TyAndLayout};
 use std::fmt;
 use std::fmt::{Debug, Display};
 
-/// A type: its layout, and where the types of its fields and its variants stand. Elements have one type, which stands
-/// first.
+/// What a type says of itself: whether it is transparent, the language's own complex number, and passed by a pointer.
+#[derive(Clone, Copy)]
+pub struct Marked {
+    pub transparent: bool,
+    pub complex: bool,
+    pub indirect: bool,
+}
+
+/// A type: its layout, what it says of itself, and where the types of its at most four fields and two variants stand.
+/// Elements have one type, which stands first.
 #[derive(Drop)]
 pub struct Node {
     pub layout: LayoutData<FieldIdx, VariantIdx>,
-    pub fields: Vec<usize>,
-    pub variants: Vec<usize>,
+    pub marked: Marked,
+    pub fields: [usize; 4],
+    pub variants: [usize; 2],
 }
 
 /// The type at a place, of at most so many that lie one in another.
@@ -44,7 +54,7 @@ impl Display for Part<'_> {
 }
 
 /// The place at an index, and the first one where there is none.
-fn place_at(places: &[usize], i: usize) -> usize
+pub(crate) fn place_at(places: &[usize], i: usize) -> usize
     ensures { result ≡ place_at places.now i }
 {
     match places.get(i) {
@@ -55,14 +65,14 @@ fn place_at(places: &[usize], i: usize) -> usize
 
 /// Where the type of a field stands.
 fn field_place(node: &Node, i: usize) -> usize
-    ensures { result ≡ place_by node.now.layout.fields node.now.fields.items i }
+    ensures { result ≡ place_by node.now.layout.fields node.now.fields i }
 {
     match &node.layout.fields {
         FieldsShape::Array {
             stride: _,
             count: _,
-        } => place_at(node.fields.as_slice(), 0),
-        _ => place_at(node.fields.as_slice(), i),
+        } => place_at(&node.fields, 0),
+        _ => place_at(&node.fields, i),
     }
 }
 
@@ -95,15 +105,37 @@ pub fn part_of(nodes: &[Node], depth: u64, at: usize) -> TyAndLayout<'_, Part<'_
 /// Whether fields can be named by their index: at most 1024, and elements reach no further than to the next.
 fn can_be_named(nodes: &[Node], depth: u64, node: &Node) -> bool
     ensures { IsTrue result → CanBeNamed node.now.layout.fields (λ i.
-        typed_in nodes.now depth (place_by node.now.layout.fields node.now.fields.items i)) }
+        typed_in nodes.now depth (place_by node.now.layout.fields node.now.fields i)) }
 {
     match &node.layout.fields {
         FieldsShape::Array { stride, count } => {
-            let element = place_at(node.fields.as_slice(), 0);
+            let element = place_at(&node.fields, 0);
             *count <= 1024 && size_in(nodes, depth, element) <= stride.bytes()
         }
         fields => fields.count() <= 1024,
     }
+}
+
+/// How many variants a tag tells apart.
+fn variant_count(node: &Node) -> usize
+    ensures { result ≡ length (variants_of node.now.layout.variants) }
+{
+    match &node.layout.variants {
+        Variants::Multiple {
+            tag: _,
+            tag_encoding: _,
+            tag_field: _,
+            variants,
+        } => variants.len(),
+        _ => 0,
+    }
+}
+
+/// Whether a complex number has a field.
+fn has_parts(node: &Node) -> bool
+    ensures { IsTrue result → HasParts node.now }
+{
+    !node.marked.complex || node.layout.fields.count() > 0
 }
 
 /// Where a field begins; None where that is no number of 64 bits.
@@ -129,9 +161,9 @@ fn offset_of(node: &Node, i: usize) -> Option<u64>
 #[cycle(laws)]
 fn field_keeps_laws(nodes: &[Node], depth: u64, node: &Node, i: usize) -> bool
     ensures kept { IsTrue result → IsLawfulType
-        (typed_in nodes.now depth (place_by node.now.layout.fields node.now.fields.items i)) }
+        (typed_in nodes.now depth (place_by node.now.layout.fields node.now.fields i)) }
     ensures inside { IsTrue result → field_offset node.now.layout.fields i
-        + (layout_in (typed_in nodes.now depth (place_by node.now.layout.fields node.now.fields.items i))).size ≤
+        + (layout_in (typed_in nodes.now depth (place_by node.now.layout.fields node.now.fields i))).size ≤
         node.now.layout.size }
 {
     let place = field_place(node, i);
@@ -149,11 +181,11 @@ fn field_keeps_laws(nodes: &[Node], depth: u64, node: &Node, i: usize) -> bool
 /// Whether a variant lies inside, and keeps the laws.
 #[cycle(laws)]
 fn variant_keeps_laws(nodes: &[Node], depth: u64, node: &Node, i: usize) -> bool
-    ensures kept { IsTrue result → IsLawfulType (typed_in nodes.now depth (place_at node.now.variants.items i)) }
-    ensures inside { IsTrue result → (layout_in (typed_in nodes.now depth (place_at node.now.variants.items i))).size ≤
+    ensures kept { IsTrue result → IsLawfulType (typed_in nodes.now depth (place_at node.now.variants i)) }
+    ensures inside { IsTrue result → (layout_in (typed_in nodes.now depth (place_at node.now.variants i))).size ≤
         node.now.layout.size }
 {
-    let place = place_at(node.variants.as_slice(), i);
+    let place = place_at(&node.variants, i);
     size_in(nodes, depth, place) <= node.layout.size.bytes() && keeps_laws(nodes, depth, place)
 }
 
@@ -166,7 +198,7 @@ pub fn keeps_laws(nodes: &[Node], depth: u64, at: usize) -> bool
         return false;
     }
     let node = &nodes[at];
-    if !can_be_named(nodes, depth - 1, node) {
+    if !can_be_named(nodes, depth - 1, node) || !has_parts(node) {
         return false;
     }
     for i in 0..node.layout.fields.count() {
@@ -174,17 +206,9 @@ pub fn keeps_laws(nodes: &[Node], depth: u64, at: usize) -> bool
             return false;
         }
     }
-    if let Variants::Multiple {
-        tag: _,
-        tag_encoding: _,
-        tag_field: _,
-        variants,
-    } = &node.layout.variants
-    {
-        for v in 0..variants.len() {
-            if !variant_keeps_laws(nodes, depth - 1, node, v) {
-                return false;
-            }
+    for v in 0..variant_count(node) {
+        if !variant_keeps_laws(nodes, depth - 1, node, v) {
+            return false;
         }
     }
     true
@@ -227,7 +251,7 @@ impl<'a, C> TyAbiInterface<'a, C> for Part<'a> {
                 tag_field: _,
                 variants: _,
             } => {
-                let place = place_at(node.variants.as_slice(), variant_index.as_usize());
+                let place = place_at(&node.variants, variant_index.as_usize());
                 part_of(this.ty.nodes, this.ty.depth - 1, place)
             }
             Variants::Single { index: _ } => this,
@@ -301,14 +325,14 @@ impl<'a, C> TyAbiInterface<'a, C> for Part<'a> {
         requires { IsPart this }
         ensures { result ≡ (marks_of (part_type this.entry)).is_transparent }
     {
-        false
+        this.ty.nodes[this.ty.at].marked.transparent
     }
 
     fn is_complex_number_lang_item(this: TyAndLayout<'a, Part<'a>>, _cx: &C) -> bool
         requires { IsPart this }
         ensures { result ≡ (marks_of (part_type this.entry)).is_complex }
     {
-        false
+        this.ty.nodes[this.ty.at].marked.complex
     }
 
     fn is_scalable_vector(this: TyAndLayout<'a, Part<'a>>) -> bool
@@ -322,7 +346,7 @@ impl<'a, C> TyAbiInterface<'a, C> for Part<'a> {
         requires { IsPart this }
         ensures { result ≡ (marks_of (part_type this.entry)).is_passed_indirectly }
     {
-        false
+        this.ty.nodes[this.ty.at].marked.indirect
     }
 
     fn depth(this: TyAndLayout<'a, Part<'a>>) -> u64

@@ -26,16 +26,19 @@ fn say(bits: u8, [c, simd, transparent, linear, scalable, rust]: [bool; 6]) -> b
         && repr.inhibits_union_abi_opt() == c
 }
 
+/// Flags, and what they say.
+static SAID: [(u8, [bool; 6]); 6] = [
+    (0, [false, false, false, false, false, true]),
+    (1, [true, false, false, false, false, false]),
+    (2, [false, true, false, false, false, false]),
+    (4, [false, false, true, false, false, false]),
+    (8, [false, false, false, true, false, true]),
+    (64, [false, false, false, false, true, false]),
+];
+
 #[test]
 fn flags_are_read(rt: HostRuntime) {
-    for &(bits, said) in &[
-        (0, [false, false, false, false, false, true]),
-        (1, [true, false, false, false, false, false]),
-        (2, [false, true, false, false, false, false]),
-        (4, [false, false, true, false, false, false]),
-        (8, [false, false, false, true, false, true]),
-        (64, [false, false, false, false, true, false]),
-    ] {
+    for &(bits, said) in &SAID {
         assert!(rt; say(bits, said), "{bits}");
     }
 }
@@ -46,19 +49,22 @@ fn are_written(alloc: Global, bits: u8, text: &str) -> Result<bool, AllocError> 
     Ok(written.as_str() == text)
 }
 
+/// Flags, and how they are written.
+static WRITTEN: [(u8, &str); 6] = [
+    (0, ""),
+    (1, "IS_C"),
+    (3, "IS_C | IS_SIMD"),
+    (75, "IS_C | IS_SIMD | IS_LINEAR | IS_SCALABLE"),
+    (
+        52,
+        "IS_TRANSPARENT | RANDOMIZE_LAYOUT | PASS_INDIRECTLY_IN_NON_RUSTIC_ABIS",
+    ),
+    (128, "0x80"),
+];
+
 #[test]
 fn flags_are_written(rt: HostRuntime) -> Result<(), Fail> {
-    for &(bits, text) in &[
-        (0, ""),
-        (1, "IS_C"),
-        (3, "IS_C | IS_SIMD"),
-        (75, "IS_C | IS_SIMD | IS_LINEAR | IS_SCALABLE"),
-        (
-            52,
-            "IS_TRANSPARENT | RANDOMIZE_LAYOUT | PASS_INDIRECTLY_IN_NON_RUSTIC_ABIS",
-        ),
-        (128, "0x80"),
-    ] {
+    for &(bits, text) in &WRITTEN {
         assert!(rt; are_written(rt.alloc(), bits, text)?, "{text}");
     }
     Ok(())
@@ -89,21 +95,25 @@ fn are_told_apart(bits: u8, int: Option<IntegerType>) -> bool {
     !repr.equal_up_to_seed(&other)
 }
 
+const BYTE: IntegerType = IntegerType::Fixed(Integer::I8, false);
+
+/// Flags and an integer, and what they fix and allow.
+static FIXED: [(u8, Option<IntegerType>, [bool; 3]); 10] = [
+    (0, None, [false, false, false]),
+    (1, None, [true, true, false]),
+    (2, None, [true, true, false]),
+    (4, None, [false, false, false]),
+    (8, None, [true, false, false]),
+    (16, None, [false, false, true]),
+    (32, None, [false, false, false]),
+    (64, None, [true, false, false]),
+    (16, Some(BYTE), [true, false, false]),
+    (24, None, [true, false, false]),
+];
+
 #[test]
 fn flags_and_integers_fix_the_order(rt: HostRuntime) {
-    let byte = IntegerType::Fixed(Integer::I8, false);
-    for &(bits, int, fixed) in &[
-        (0, None, [false, false, false]),
-        (1, None, [true, true, false]),
-        (2, None, [true, true, false]),
-        (4, None, [false, false, false]),
-        (8, None, [true, false, false]),
-        (16, None, [false, false, true]),
-        (32, None, [false, false, false]),
-        (64, None, [true, false, false]),
-        (16, Some(byte), [true, false, false]),
-        (24, None, [true, false, false]),
-    ] {
+    for &(bits, int, fixed) in &FIXED {
         assert!(rt;
             fix(bits, int, fixed) && are_told_apart(bits, int),
             "{bits}"

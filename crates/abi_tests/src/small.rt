@@ -121,9 +121,16 @@ fn has_data_in_five(alloc: Global, text: &str, data: u64, functions: u64) -> boo
         && dl.pointer_size_in(zero) == Size::from_bytes(functions)
 }
 
+/// Data layout strings, and the bytes of both.
+static POINTERS: [(&str, u64, u64); 3] = [
+    ("", 8, 8),
+    ("p5:32:32", 4, 4),
+    ("p5:32:32-p:16:16", 4, 2),
+];
+
 #[test]
 fn spaces_of_data_are_named(rt: HostRuntime) {
-    for &(text, data, functions) in &[("", 8, 8), ("p5:32:32", 4, 4), ("p5:32:32-p:16:16", 4, 2)] {
+    for &(text, data, functions) in &POINTERS {
         assert!(rt;
             has_data_in_five(rt.alloc(), text, data, functions),
             "{text}"

@@ -20,51 +20,55 @@ fn is_told(
     Ok(written.as_str() == text && refusal.without_payload() == bare)
 }
 
+const SIMD: &str = "invalid simd type definition";
+
+/// Each refusal, the same without what it tells, and its text.
+static REFUSALS: [(LayoutCalculatorError<u8>, LayoutCalculatorError<()>, &str); 8] = [
+    (
+        LayoutCalculatorError::UnexpectedUnsized(1),
+        LayoutCalculatorError::UnexpectedUnsized(()),
+        "an unsized type was found where a sized type was expected",
+    ),
+    (
+        LayoutCalculatorError::SizeOverflow,
+        LayoutCalculatorError::SizeOverflow,
+        "size overflow",
+    ),
+    (
+        LayoutCalculatorError::EmptyUnion,
+        LayoutCalculatorError::EmptyUnion,
+        "type is a union with no fields",
+    ),
+    (
+        LayoutCalculatorError::ReprConflict,
+        LayoutCalculatorError::ReprConflict,
+        "type has an invalid repr",
+    ),
+    (
+        LayoutCalculatorError::ZeroLengthSimdType,
+        LayoutCalculatorError::ZeroLengthSimdType,
+        SIMD,
+    ),
+    (
+        LayoutCalculatorError::OversizedSimdType { max_lanes: 32_768 },
+        LayoutCalculatorError::OversizedSimdType { max_lanes: 32_768 },
+        SIMD,
+    ),
+    (
+        LayoutCalculatorError::NonPrimitiveSimdType(1),
+        LayoutCalculatorError::NonPrimitiveSimdType(()),
+        SIMD,
+    ),
+    (
+        LayoutCalculatorError::OutOfMemory,
+        LayoutCalculatorError::OutOfMemory,
+        "out of memory",
+    ),
+];
+
 #[test]
 fn refusals_have_texts(rt: HostRuntime) -> Result<(), Fail> {
-    let simd = "invalid simd type definition";
-    for &(refusal, bare, wanted) in &[
-        (
-            LayoutCalculatorError::UnexpectedUnsized(1),
-            LayoutCalculatorError::UnexpectedUnsized(()),
-            "an unsized type was found where a sized type was expected",
-        ),
-        (
-            LayoutCalculatorError::SizeOverflow,
-            LayoutCalculatorError::SizeOverflow,
-            "size overflow",
-        ),
-        (
-            LayoutCalculatorError::EmptyUnion,
-            LayoutCalculatorError::EmptyUnion,
-            "type is a union with no fields",
-        ),
-        (
-            LayoutCalculatorError::ReprConflict,
-            LayoutCalculatorError::ReprConflict,
-            "type has an invalid repr",
-        ),
-        (
-            LayoutCalculatorError::ZeroLengthSimdType,
-            LayoutCalculatorError::ZeroLengthSimdType,
-            simd,
-        ),
-        (
-            LayoutCalculatorError::OversizedSimdType { max_lanes: 32_768 },
-            LayoutCalculatorError::OversizedSimdType { max_lanes: 32_768 },
-            simd,
-        ),
-        (
-            LayoutCalculatorError::NonPrimitiveSimdType(1),
-            LayoutCalculatorError::NonPrimitiveSimdType(()),
-            simd,
-        ),
-        (
-            LayoutCalculatorError::OutOfMemory,
-            LayoutCalculatorError::OutOfMemory,
-            "out of memory",
-        ),
-    ] {
+    for &(refusal, bare, wanted) in &REFUSALS {
         assert!(rt; is_told(rt.alloc(), refusal, bare, wanted)?, "{wanted}");
     }
     Ok(())
@@ -76,23 +80,30 @@ fn is_written(alloc: Global, scalar: Scalar, text: &str) -> Result<bool, AllocEr
     Ok(written.as_str() == text)
 }
 
+const UNSIGNED: Primitive = Primitive::Int(Integer::I8, false);
+
+const SIGNED: Primitive = Primitive::Int(Integer::I8, true);
+
+const POINTER: Primitive = Primitive::Pointer(AddressSpace::ZERO);
+
+const FLOAT: Primitive = Primitive::Float(Float::F32);
+
+/// Each primitive, the ends of a range, and how the scalar is written.
+static SCALARS: [(Primitive, u128, u128, &str); 9] = [
+    (UNSIGNED, 0, 1, "u8 is 0..=1"),
+    (UNSIGNED, 0, 255, "u8 is .."),
+    (UNSIGNED, 1, 0, "u8 is (..=0) | (1..)"),
+    (SIGNED, 0, 255, "i8 is .."),
+    (SIGNED, 255, 1, "i8 is -1..=1"),
+    (SIGNED, 100, 200, "i8 is (..=-56) | (100..)"),
+    (POINTER, 0, u128::MAX, "pointer is .."),
+    (POINTER, 0, 65_535, "pointer is 0..=65535"),
+    (FLOAT, 0, 0xFFFF_FFFF, "f32 is .."),
+];
+
 #[test]
 fn scalars_have_texts(rt: HostRuntime) -> Result<(), Fail> {
-    let unsigned = Primitive::Int(Integer::I8, false);
-    let signed = Primitive::Int(Integer::I8, true);
-    let pointer = Primitive::Pointer(AddressSpace::ZERO);
-    let float = Primitive::Float(Float::F32);
-    for &(value, start, end, text) in &[
-        (unsigned, 0, 1, "u8 is 0..=1"),
-        (unsigned, 0, 255, "u8 is .."),
-        (unsigned, 1, 0, "u8 is (..=0) | (1..)"),
-        (signed, 0, 255, "i8 is .."),
-        (signed, 255, 1, "i8 is -1..=1"),
-        (signed, 100, 200, "i8 is (..=-56) | (100..)"),
-        (pointer, 0, u128::MAX, "pointer is .."),
-        (pointer, 0, 65_535, "pointer is 0..=65535"),
-        (float, 0, 0xFFFF_FFFF, "f32 is .."),
-    ] {
+    for &(value, start, end, text) in &SCALARS {
         let valid_range = WrappingRange { start, end };
         let scalar = Scalar::Initialized { value, valid_range };
         assert!(rt; is_written(rt.alloc(), scalar, text)?, "{text}");
@@ -106,19 +117,22 @@ fn is_written_in_union(alloc: Global, value: Primitive, text: &str) -> Result<bo
     Ok(alone.as_str() == text && is_written(alloc, Scalar::Union { value }, text)?)
 }
 
+/// Each primitive, and how it is written in a union.
+static PRIMITIVES: [(Primitive, &str); 6] = [
+    (UNSIGNED, "union u8"),
+    (Primitive::Int(Integer::I64, true), "union i64"),
+    (FLOAT, "union f32"),
+    (Primitive::Float(Float::PpcF128), "union ppcf128"),
+    (POINTER, "union pointer"),
+    (
+        Primitive::Pointer(AddressSpace(5)),
+        "union pointer(AddressSpace(5))",
+    ),
+];
+
 #[test]
 fn primitives_have_texts(rt: HostRuntime) -> Result<(), Fail> {
-    for &(value, text) in &[
-        (Primitive::Int(Integer::I8, false), "union u8"),
-        (Primitive::Int(Integer::I64, true), "union i64"),
-        (Primitive::Float(Float::F32), "union f32"),
-        (Primitive::Float(Float::PpcF128), "union ppcf128"),
-        (Primitive::Pointer(AddressSpace::ZERO), "union pointer"),
-        (
-            Primitive::Pointer(AddressSpace(5)),
-            "union pointer(AddressSpace(5))",
-        ),
-    ] {
+    for &(value, text) in &PRIMITIVES {
         assert!(rt; is_written_in_union(rt.alloc(), value, text)?, "{text}");
     }
     Ok(())
@@ -168,18 +182,26 @@ fn text_of_refusal(alloc: Global, text: &str) -> Result<String, AllocError> {
     }
 }
 
+/// Each text, and what is said of it.
+static DATA_LAYOUTS: [(&str, &str); 6] = [
+    ("P", "address space \"\" of \"P\": no number"),
+    ("ix:32", "size \"x\" of \"i\": not a decimal number"),
+    ("i64", "no alignment of \"i64\""),
+    ("a:24", "alignment of \"a\": 3 is not a power of 2"),
+    ("px:64:64", "unknown kind of pointers \"x\""),
+    ("e", ""),
+];
+
+/// Whether this is said of the text.
+fn is_refused_so(alloc: Global, text: &str, wanted: &str) -> Result<bool, AllocError> {
+    let written = text_of_refusal(alloc, text)?;
+    Ok(written.as_str() == wanted)
+}
+
 #[test]
 fn refused_data_layouts_have_texts(rt: HostRuntime) -> Result<(), Fail> {
-    for &(text, wanted) in &[
-        ("P", "address space \"\" of \"P\": no number"),
-        ("ix:32", "size \"x\" of \"i\": not a decimal number"),
-        ("i64", "no alignment of \"i64\""),
-        ("a:24", "alignment of \"a\": 3 is not a power of 2"),
-        ("px:64:64", "unknown kind of pointers \"x\""),
-        ("e", ""),
-    ] {
-        let written = text_of_refusal(rt.alloc(), text)?;
-        assert!(rt; written.as_str() == wanted, "{text}: {written}");
+    for &(text, wanted) in &DATA_LAYOUTS {
+        assert!(rt; is_refused_so(rt.alloc(), text, wanted)?, "{text}");
     }
     Ok(())
 }

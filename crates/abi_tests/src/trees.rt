@@ -56,7 +56,11 @@ fn aligned(bytes: u64, packed: bool) -> ReprOptions {
 }
 
 /// Whether the tree is refused for this, or laid out.
-fn is_refused(alloc: Global, tree: &TypeTree, wanted: Option<LayError>) -> Result<bool, Fail> {
+fn is_refused(
+    alloc: Global,
+    tree: &TypeTree,
+    wanted: Option<LayError>,
+) -> Result<bool, AllocError> {
     let dl = TargetDataLayout::default_in(alloc)?;
     match lay_out(alloc, &dl, tree) {
         Ok(_laid) => Ok(wanted.is_none()),
@@ -64,9 +68,30 @@ fn is_refused(alloc: Global, tree: &TypeTree, wanted: Option<LayError>) -> Resul
     }
 }
 
+/// Whether a struct with no fields is refused for this, or laid out.
+fn is_struct_refused(
+    alloc: Global,
+    repr: ReprOptions,
+    wanted: Option<LayError>,
+) -> Result<bool, AllocError> {
+    let tree = structure(repr, Vec::new(alloc));
+    is_refused(alloc, &tree, wanted)
+}
+
+/// Whether a union with no fields is refused for this.
+fn is_union_refused(
+    alloc: Global,
+    repr: ReprOptions,
+    wanted: LayError,
+) -> Result<bool, AllocError> {
+    let fields = Vec::new(alloc);
+    let tree = TypeTree::Union { repr, fields };
+    is_refused(alloc, &tree, Some(wanted))
+}
+
 /// Alignments in bytes, whether they are those of a packed type, and why a struct and a union with no fields are
 /// refused.
-const ALIGNED: [(u64, bool, Option<LayError>, LayError); 4] = [
+static ALIGNED: [(u64, bool, Option<LayError>, LayError); 4] = [
     (1 << 29, false, None, LayError::EmptyUnion),
     (1 << 29, true, None, LayError::EmptyUnion),
     (1 << 30, false, Some(LayError::BadAlign), LayError::BadAlign),
@@ -77,11 +102,8 @@ const ALIGNED: [(u64, bool, Option<LayError>, LayError); 4] = [
 fn alignments_above_the_limit_are_refused(rt: HostRuntime) -> Result<(), Fail> {
     for &(bytes, packed, in_struct, in_union) in &ALIGNED {
         let repr = aligned(bytes, packed);
-        let list = structure(repr, Vec::new(rt.alloc()));
-        assert!(rt; is_refused(rt.alloc(), &list, in_struct)?, "{bytes}");
-        let fields = Vec::new(rt.alloc());
-        let union = TypeTree::Union { repr, fields };
-        assert!(rt; is_refused(rt.alloc(), &union, Some(in_union))?, "{bytes}");
+        assert!(rt; is_struct_refused(rt.alloc(), repr, in_struct)?, "{bytes}");
+        assert!(rt; is_union_refused(rt.alloc(), repr, in_union)?, "{bytes}");
     }
     Ok(())
 }
@@ -91,15 +113,6 @@ fn seeded(seed: u64) -> ReprOptions {
     ReprOptions {
         field_shuffle_seed: Hash64::new(seed),
         ..flagged(ReprFlags::IS_C)
-    }
-}
-
-/// Whether the type has this hash.
-fn has_hash(alloc: Global, tree: &TypeTree, wanted: u64) -> Result<bool, Fail> {
-    let dl = TargetDataLayout::default_in(alloc)?;
-    match lay_out(alloc, &dl, tree) {
-        Ok(laid) => Ok(laid.layout().randomization_seed.as_u64() == wanted),
-        Err(_) => Ok(false),
     }
 }
 
@@ -126,20 +139,54 @@ fn seeds_within(alloc: Global) -> Result<TypeTree, AllocError> {
     Ok(structure(seeded(3), vec![in alloc; inner, signed]?))
 }
 
-#[test]
-fn seeds_are_summed(rt: HostRuntime) -> Result<(), Fail> {
-    let alloc = rt.alloc();
-    assert!(rt; has_hash(alloc, &alone(alloc, 0), 0)?);
-    assert!(rt; has_hash(alloc, &alone(alloc, 7), 7)?);
-    assert!(rt; has_hash(alloc, &most(alloc)?, u64::MAX)?);
-    Ok(())
+/// Trees with seeds of their own.
+#[derive(Clone, Copy)]
+enum WithSeed {
+    Alone(u64),
+    Most,
+    Round,
+    Within,
 }
 
+/// The tree.
+fn tree_of(alloc: Global, seeded: WithSeed) -> Result<TypeTree, AllocError> {
+    match seeded {
+        WithSeed::Alone(seed) => Ok(alone(alloc, seed)),
+        WithSeed::Most => most(alloc),
+        WithSeed::Round => round(alloc),
+        WithSeed::Within => seeds_within(alloc),
+    }
+}
+
+/// The hash of the type, where it has a layout.
+fn hash_of(alloc: Global, tree: &TypeTree) -> Result<Option<u64>, AllocError> {
+    let dl = TargetDataLayout::default_in(alloc)?;
+    match lay_out(alloc, &dl, tree) {
+        Ok(laid) => Ok(Some(laid.layout().randomization_seed.as_u64())),
+        Err(_) => Ok(None),
+    }
+}
+
+/// Whether the type has this hash.
+fn has_hash(alloc: Global, seeded: WithSeed, wanted: u64) -> Result<bool, AllocError> {
+    let tree = tree_of(alloc, seeded)?;
+    Ok(hash_of(alloc, &tree)? == Some(wanted))
+}
+
+/// Each of them, and the hash of its type.
+static HASHES: [(WithSeed, u64); 5] = [
+    (WithSeed::Alone(0), 0),
+    (WithSeed::Alone(7), 7),
+    (WithSeed::Most, u64::MAX),
+    (WithSeed::Round, 0x00FF_0002_0000_0000),
+    (WithSeed::Within, 0x01FD_0005_0000_000C),
+];
+
 #[test]
-fn seeds_of_fields_are_summed(rt: HostRuntime) -> Result<(), Fail> {
-    let alloc = rt.alloc();
-    assert!(rt; has_hash(alloc, &round(alloc)?, 0x00FF_0002_0000_0000)?);
-    assert!(rt; has_hash(alloc, &seeds_within(alloc)?, 0x01FD_0005_0000_000C)?);
+fn seeds_are_summed(rt: HostRuntime) -> Result<(), Fail> {
+    for &(seeded, hash) in &HASHES {
+        assert!(rt; has_hash(rt.alloc(), seeded, hash)?, "{hash:x}");
+    }
     Ok(())
 }
 
@@ -150,8 +197,14 @@ fn indirect(alloc: Global) -> Result<TypeTree, AllocError> {
     Ok(structure(repr, vec![in alloc; long]?))
 }
 
+/// A type that is transparent around it.
+fn wrapped(alloc: Global) -> Result<TypeTree, AllocError> {
+    let repr = flagged(ReprFlags::IS_TRANSPARENT);
+    Ok(structure(repr, vec![in alloc; indirect(alloc)?]?))
+}
+
 /// Whether a type is passed by a pointer, and its only field is the first.
-fn is_indirect(alloc: Global, tree: &TypeTree) -> Result<bool, Fail> {
+fn is_indirect(alloc: Global, tree: &TypeTree) -> Result<bool, AllocError> {
     let dl = TargetDataLayout::default_in(alloc)?;
     let Ok(laid) = lay_out(alloc, &dl, tree) else {
         return Ok(false);
@@ -164,13 +217,22 @@ fn is_indirect(alloc: Global, tree: &TypeTree) -> Result<bool, Fail> {
     Ok(only && it.pass_indirectly_in_non_rustic_abis(&()))
 }
 
+/// Whether such a type is passed by a pointer.
+fn is_marked_indirect(alloc: Global) -> Result<bool, AllocError> {
+    let tree = indirect(alloc)?;
+    is_indirect(alloc, &tree)
+}
+
+/// Whether what is transparent around it is.
+fn is_wrapped_indirect(alloc: Global) -> Result<bool, AllocError> {
+    let tree = wrapped(alloc)?;
+    is_indirect(alloc, &tree)
+}
+
 #[test]
 fn some_types_are_passed_by_a_pointer(rt: HostRuntime) -> Result<(), Fail> {
-    let alloc = rt.alloc();
-    assert!(rt; is_indirect(alloc, &indirect(alloc)?)?);
-    let repr = flagged(ReprFlags::IS_TRANSPARENT);
-    let wrapped = structure(repr, vec![in alloc; indirect(alloc)?]?);
-    assert!(rt; is_indirect(alloc, &wrapped)?);
+    assert!(rt; is_marked_indirect(rt.alloc())?);
+    assert!(rt; is_wrapped_indirect(rt.alloc())?);
     Ok(())
 }
 
@@ -185,7 +247,7 @@ fn is_named(layout: &LayoutData<FieldIdx, VariantIdx>, index: VariantIdx) -> boo
 }
 
 /// Whether a type at its second variant is passed by a pointer.
-fn is_second_indirect(alloc: Global, tree: &TypeTree) -> Result<bool, Fail> {
+fn is_second_indirect(alloc: Global, tree: &TypeTree) -> Result<bool, AllocError> {
     let dl = TargetDataLayout::default_in(alloc)?;
     let Ok(laid) = lay_out(alloc, &dl, tree) else {
         return Ok(false);
@@ -198,14 +260,27 @@ fn is_second_indirect(alloc: Global, tree: &TypeTree) -> Result<bool, Fail> {
     Ok(it.pass_indirectly_in_non_rustic_abis(&()))
 }
 
+/// A variant of this number, with one field.
+fn variant(
+    alloc: Global,
+    number: u128,
+    field: TypeTree,
+) -> Result<(u128, Vec<TypeTree>), AllocError> {
+    Ok((number, vec![in alloc; field]?))
+}
+
+/// Whether an enum of a word and a byte that is passed by a pointer is so at its second variant.
+fn are_variants_indirect(alloc: Global) -> Result<bool, AllocError> {
+    let mut variants = Vec::new(alloc);
+    variants.push(variant(alloc, 0, integer(Integer::I32, false, 0xFFFF_FFFF))?)?;
+    variants.push(variant(alloc, 1, byte())?)?;
+    let repr = flagged(ReprFlags::PASS_INDIRECTLY_IN_NON_RUSTIC_ABIS);
+    let tree = TypeTree::Enum { repr, variants };
+    is_second_indirect(alloc, &tree)
+}
+
 #[test]
 fn variants_are_passed_as_their_enum_is(rt: HostRuntime) -> Result<(), Fail> {
-    let alloc = rt.alloc();
-    let word = integer(Integer::I32, false, 0xFFFF_FFFF);
-    let first = (0, vec![in alloc; word]?);
-    let second = (1, vec![in alloc; byte()]?);
-    let repr = flagged(ReprFlags::PASS_INDIRECTLY_IN_NON_RUSTIC_ABIS);
-    let variants = vec![in alloc; first, second]?;
-    assert!(rt; is_second_indirect(alloc, &TypeTree::Enum { repr, variants })?);
+    assert!(rt; are_variants_indirect(rt.alloc())?);
     Ok(())
 }

@@ -1,118 +1,107 @@
-//! Walks over types, and their padding.
+//! Walks over types by what they say of themselves: complex numbers, transparent types, types that are passed by a
+//! pointer.
 
-ghost use Rattle.abi_tests.specs.Samples.{IsTable};
-
-use crate::samples::{Kind, Table, layouts, sample_of};
-use abi_base::{Float, Numeric, Size};
-use abi_index::VariantIdx;
+use crate::nodes::{Marked, Node, keeps_laws, part_of};
+use crate::shapes::{F32, Row, Shape, types};
+use abi_base::{AddressSpace, Float, Numeric, Primitive};
+use std::alloc::{AllocError, Global};
 use std::test::Fail;
 
-/// Each type, and the float that the parts of a complex number are which it is passed as, or none.
-const FLOATS: [(Kind, Option<Float>); 7] = [
-    (Kind::Complex, Some(Float::F32)),
-    (Kind::Wrapper, Some(Float::F32)),
-    (Kind::ComplexHalf, None),
-    (Kind::ComplexPointer, None),
-    (Kind::Plain, None),
-    (Kind::Float, None),
-    (Kind::Choice, None),
+/// The language's own complex number.
+const COMPLEX: Marked = Marked {
+    transparent: false,
+    complex: true,
+    indirect: false,
+};
+
+/// One that is passed by a pointer.
+const INDIRECT: Marked = Marked {
+    transparent: false,
+    complex: true,
+    indirect: true,
+};
+
+const TRANSPARENT: Marked = Marked {
+    transparent: true,
+    complex: false,
+    indirect: false,
+};
+
+/// The types.
+static TYPES: [Row; 9] = [
+    // `f32`, `bfloat16`, a pointer, and a type of no bytes.
+    (Shape::Scalar(F32), 4, 4),
+    (Shape::Scalar(Primitive::Float(Float::F16B)), 2, 1),
+    (Shape::Scalar(Primitive::Pointer(AddressSpace::ZERO)), 8, 8),
+    (Shape::Fields(&[], &[]), 0, 1),
+    // Complex numbers of two of each.
+    (Shape::Marked(INDIRECT, &[0, 4], &[0, 0]), 8, 4),
+    (Shape::Marked(COMPLEX, &[0, 2], &[1, 1]), 4, 1),
+    (Shape::Marked(COMPLEX, &[0, 8], &[2, 2]), 16, 8),
+    // Two `f32` that are no complex number; and what is transparent around one that is.
+    (Shape::Fields(&[0, 4], &[0, 0]), 8, 4),
+    (Shape::Marked(TRANSPARENT, &[0, 0], &[3, 4]), 8, 4),
 ];
 
-/// Whether the parts of a complex number that the type is passed as are this float, or it is none.
-fn has_parts(table: &Table, kind: Kind, float: Option<Float>) -> bool
-    requires { IsTable table.now }
-{
-    let it = sample_of(table, kind);
-    it.complex_float(&()) == float
-        && it.is_complex_number(&()) == float.is_some()
-        && it.complex_number(&()) == float.map(Numeric::Float)
-}
+/// The float that the parts of a complex number are which it is passed as, the one field that is more than a place, and
+/// whether it is passed by a pointer.
+type Walked = (Option<Float>, Option<usize>, bool);
 
-#[test]
-fn complex_numbers_are_told(rt: HostRuntime) -> Result<(), Fail> {
-    let table = layouts(rt.alloc())?;
-    for &(kind, float) in &FLOATS {
-        assert!(rt; has_parts(&table, kind, float));
-    }
-    Ok(())
-}
-
-/// Each type, a number of bytes, and whether it is a vector of so many.
-const VECTORS: [(Kind, u64, bool); 6] = [
-    (Kind::Vector, 16, true),
-    (Kind::Holder, 16, true),
-    (Kind::Vector, 8, false),
-    (Kind::Holder, 8, false),
-    (Kind::Lanes, 16, false),
-    (Kind::Float, 4, false),
+/// Each type by its place, and what the walks over it answer.
+static WALKED: [(usize, Walked); 6] = [
+    (3, (None, None, false)),
+    (4, (Some(Float::F32), None, true)),
+    (5, (None, None, false)),
+    (6, (None, None, false)),
+    (7, (None, None, false)),
+    (8, (Some(Float::F32), Some(1), true)),
 ];
 
-/// Whether the type is a vector of so many bytes.
-fn is_vector(table: &Table, kind: Kind, bytes: u64) -> bool
-    requires { IsTable table.now }
-{
-    sample_of(table, kind).is_single_vector_element(&(), Size::from_bytes(bytes))
-}
-
-#[test]
-fn single_vectors_are_told(rt: HostRuntime) -> Result<(), Fail> {
-    let table = layouts(rt.alloc())?;
-    for &(kind, bytes, holds) in &VECTORS {
-        assert!(rt; is_vector(&table, kind, bytes) == holds);
-    }
-    Ok(())
-}
-
-/// Each type, which of its fields is the only one that is more than a place, and whether it is passed by a pointer.
-const PEELED: [(Kind, Option<usize>, bool); 5] = [
-    (Kind::Wrapper, Some(1), true),
-    (Kind::Complex, None, true),
-    (Kind::Plain, None, false),
-    (Kind::Holder, Some(0), false),
-    (Kind::Marker, None, false),
-];
-
-/// Whether this field of the type, or none, is the only one that is more than a place.
-fn has_only(table: &Table, kind: Kind, field: Option<usize>) -> bool
-    requires { IsTable table.now }
-{
-    match sample_of(table, kind).non_1zst_field(&()) {
-        Some((index, _field)) => Some(index.as_usize()) == field,
-        None => field.is_none(),
+/// Whether the number is this float, or there is none.
+fn is_float(number: Option<Numeric>, float: Option<Float>) -> bool {
+    match number {
+        Some(Numeric::Float(part)) => float == Some(part),
+        Some(_) => false,
+        None => float.is_none(),
     }
 }
 
-/// Whether the type is passed by a pointer.
-fn is_indirect(table: &Table, kind: Kind) -> bool
-    requires { IsTable table.now }
-{
-    sample_of(table, kind).pass_indirectly_in_non_rustic_abis(&())
-}
-
-#[test]
-fn transparent_types_are_peeled(rt: HostRuntime) -> Result<(), Fail> {
-    let table = layouts(rt.alloc())?;
-    for &(kind, field, by_pointer) in &PEELED {
-        assert!(rt; has_only(&table, kind, field));
-        assert!(rt; is_indirect(&table, kind) == by_pointer);
+/// What the walks over the type at a place answer; None where it breaks a law, or two of them disagree.
+fn walked(nodes: &[Node], at: usize) -> Option<Walked> {
+    if !keeps_laws(nodes, 4, at) {
+        return None;
     }
-    Ok(())
+    let it = part_of(nodes, 4, at);
+    let float = it.complex_float(&());
+    if it.is_complex_number(&()) != float.is_some() || !is_float(it.complex_number(&()), float) {
+        return None;
+    }
+    let only = match it.non_1zst_field(&()) {
+        Some((index, _field)) => Some(index.as_usize()),
+        None => None,
+    };
+    Some((float, only, it.pass_indirectly_in_non_rustic_abis(&())))
+}
+
+/// The first type of which the walks answer something else.
+fn first_unlike(nodes: &[Node]) -> Option<usize> {
+    for &(at, wanted) in &WALKED {
+        if walked(nodes, at) != Some(wanted) {
+            return Some(at);
+        }
+    }
+    None
+}
+
+/// The first one of all.
+fn unlike(alloc: Global) -> Result<Option<usize>, AllocError> {
+    let nodes = types(alloc, &TYPES)?;
+    Ok(first_unlike(&nodes))
 }
 
 #[test]
-fn padding_is_told(rt: HostRuntime) -> Result<(), Fail> {
-    let table = layouts(rt.alloc())?;
-    let it = sample_of(&table, Kind::Choice);
-    assert!(rt; it.has_variant_dependent_padding(&()));
-    let padding = it.variant_independent_padding_ranges(rt.alloc(), &())?;
-    assert!(rt; padding.as_slice() == [(2, 2)].as_slice());
-    let first = it.variant_dependent_padding_ranges(rt.alloc(), &(), VariantIdx::ZERO)?;
-    assert!(rt; first.as_slice() == [(1, 1)].as_slice());
-    let second = it.variant_dependent_padding_ranges(rt.alloc(), &(), VariantIdx::from_usize(1))?;
-    assert!(rt; second.as_slice() == [(4, 4)].as_slice());
-    let plain = sample_of(&table, Kind::Plain);
-    assert!(rt; !plain.has_variant_dependent_padding(&()));
-    let none = plain.variant_independent_padding_ranges(rt.alloc(), &())?;
-    assert!(rt; none.as_slice().is_empty());
+fn walks_over_marked_types_are_told(rt: HostRuntime) -> Result<(), Fail> {
+    let wrong = unlike(rt.alloc())?;
+    assert!(rt; wrong.is_none(), "type {wrong:?}");
     Ok(())
 }

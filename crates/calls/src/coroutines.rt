@@ -3,13 +3,15 @@
 ghost use Rattle.std.specs.Prelude.{◌≡◌, ◌≢◌, ◌<◌, ◌≤◌, All, IfOk, IsTrue, length};
 ghost use Rattle.std.specs.List.{AllPairs};
 ghost use Rattle.abi_base.specs.DataLayout.{IsLawfulDataLayout};
+ghost use Rattle.abi_scalar.specs.Lawful.{IsLawfulLayout};
 ghost use Rattle.abi_index.specs.Relation.{column_count, row_count};
 ghost use Rattle.calls.specs.Asked.{IsHeld};
 
-use crate::layouts::{Layout, MOST_ITEMS, are_lawful, layouts, lent};
+use crate::layouts::{Layout, MOST_ITEMS, are_lawful, calculated, layouts, lent};
 use crate::line::Line;
-use crate::print::{write_answer, write_scalar};
-use crate::stop::{Clause, Stop, calculator};
+use crate::out::Out;
+use crate::print::{write_made, write_scalar};
+use crate::stop::{Clause, Stop};
 use abi_base::TargetDataLayout;
 use abi_calc::{LayoutCalculator, state_tag};
 use abi_index::{BitMatrix, FieldIdx, IndexSlice, IndexVec, VariantIdx};
@@ -102,6 +104,40 @@ fn matrix(alloc: Global, count: usize, pairs: &[(u32, u32)]) -> Result<BitMatrix
     Ok(conflicts)
 }
 
+/// Whether these may be handed in as the parts of a coroutine, or which clause says that they may not.
+fn check_parts(
+    dl: &TargetDataLayout,
+    prefix: &[&Layout],
+    locals: &[&Layout],
+    states: &[State],
+) -> Result<(), Stop>
+    requires { IsLawfulDataLayout dl.now }
+    ensures few_prefix { IfOk result (λ _. length prefix.now ≤ 4096) }
+    ensures few_locals { IfOk result (λ _. length locals.now ≤ 4096) }
+    ensures few_states { IfOk result (λ _. length states.now ≤ 4096) }
+    ensures some { IfOk result (λ _. 0 < length states.now) }
+    ensures locals { IfOk result (λ _. All (λ f. IsLawfulLayout dl.now f.now) locals.now) }
+    ensures prefix { IfOk result (λ _. All (λ f. IsLawfulLayout dl.now f.now) prefix.now) }
+    ensures held { IfOk result (λ _. All (IsHeld (length locals.now)) states.now) }
+{
+    if locals.len() > MOST_LOCALS || prefix.len() > MOST_LOCALS || states.len() > MOST_LOCALS {
+        return Err(Stop::Asks(Clause::Count));
+    }
+    if states.is_empty() {
+        return Err(Stop::Asks(Clause::Any));
+    }
+    if !are_lawful(dl, locals) {
+        return Err(Stop::Asks(Clause::Locals));
+    }
+    if !are_lawful(dl, prefix) {
+        return Err(Stop::Asks(Clause::Prefix));
+    }
+    if !are_held(states, locals.len()) {
+        return Err(Stop::Asks(Clause::Within));
+    }
+    Ok(())
+}
+
 /// The layout of a coroutine of these prefix fields and parts.
 #[tactic(auto, using(abi_calc::proofs::CoroutineLemmas::OneCoroutine::one_tag))]
 pub(crate) fn laid(
@@ -112,109 +148,107 @@ pub(crate) fn laid(
 ) -> Result<Layout, Stop>
     requires { IsLawfulDataLayout dl.now }
 {
-    if parts.locals.len() > MOST_LOCALS
-        || prefix.len() > MOST_LOCALS
-        || parts.states.len() > MOST_LOCALS
-    {
-        return Err(Stop::Asks(Clause::Count));
-    }
-    if parts.states.is_empty() {
-        return Err(Stop::Asks(Clause::Any));
-    }
-    if !are_lawful(dl, parts.locals) {
-        return Err(Stop::Asks(Clause::Locals));
-    }
-    if !are_lawful(dl, &prefix) {
-        return Err(Stop::Asks(Clause::Prefix));
-    }
-    if !are_held(parts.states, parts.locals.len()) {
-        return Err(Stop::Asks(Clause::Within));
-    }
+    check_parts(dl, &prefix, parts.locals, parts.states)?;
     let conflicts = matrix(alloc, parts.locals.len(), parts.conflicts)?;
     let tag: Layout = LayoutData::scalar(dl, state_tag(parts.states.len()));
     let states: IndexSlice<VariantIdx, State> = IndexSlice::new(parts.states);
-    LayoutCalculator::new(dl)
-        .layout_of_coroutine(
-            alloc,
-            IndexSlice::new(parts.locals),
-            IndexVec::from_raw(prefix),
-            states,
-            &conflicts,
-            |_tag| &tag,
-        )
-        .map_err(calculator)
+    calculated(LayoutCalculator::new(dl).layout_of_coroutine(
+        alloc,
+        IndexSlice::new(parts.locals),
+        IndexVec::from_raw(prefix),
+        states,
+        &conflicts,
+        |_tag| &tag,
+    ))
 }
 
 /// The numbers between the parentheses that are next.
-fn numbers(alloc: Global, line: &mut Line<'_>) -> Result<Vec<u32>, Stop>
-    ensures { IfOk result (λ all. length all.items ≤ 1_000_000) }
+fn numbers(alloc: Global, line: &mut Line<'_>) -> Vec<u32>
+    ensures { length result.items ≤ 1_000_000 }
 {
-    line.expect(b"(")?;
+    line.expect(b"(");
     let mut all = Vec::new(alloc);
     for _ in 0..u64::MAX {
-        if line.takes(b")") {
+        if !line.has_more() {
             break;
         }
-        all.push(line.short()?)?;
+        let number = line.short();
+        line.grow(all.push(number));
     }
     if all.len() > MOST_ITEMS {
-        return Err(Stop::Asks(Clause::Count));
+        line.lacks(Clause::Count);
+        return Vec::new(alloc);
     }
-    Ok(all)
+    all
 }
 
 /// The states between the parentheses that are next: for each the locals that it holds.
-fn states(alloc: Global, line: &mut Line<'_>) -> Result<Vec<State>, Stop> {
-    line.expect(b"(")?;
+fn states(alloc: Global, line: &mut Line<'_>) -> Vec<State> {
+    line.expect(b"(");
     let mut all = Vec::new(alloc);
     for _ in 0..u64::MAX {
-        if line.takes(b")") {
+        if !line.has_more() {
             break;
         }
-        all.push(IndexVec::from_raw(numbers(alloc, line)?))?;
+        let item = IndexVec::from_raw(numbers(alloc, line));
+        line.grow(all.push(item));
     }
-    Ok(all)
+    all
 }
 
 /// The pairs of numbers between the parentheses that are next.
-fn pairs(alloc: Global, line: &mut Line<'_>) -> Result<Vec<(u32, u32)>, Stop> {
-    line.expect(b"(")?;
+fn pairs(alloc: Global, line: &mut Line<'_>) -> Vec<(u32, u32)> {
+    line.expect(b"(");
     let mut all = Vec::new(alloc);
     for _ in 0..u64::MAX {
-        if line.takes(b")") {
+        if !line.has_more() {
             break;
         }
-        all.push((line.short()?, line.short()?))?;
+        let item = (line.short(), line.short());
+        line.grow(all.push(item));
     }
-    Ok(all)
+    all
+}
+
+/// The layout of a coroutine of these prefix fields and locals.
+fn laid_made(
+    alloc: Global,
+    dl: &TargetDataLayout,
+    prefix: &[Layout],
+    locals: &[Layout],
+    states: &[State],
+    conflicts: &[(u32, u32)],
+) -> Result<Layout, Stop>
+    requires { IsLawfulDataLayout dl.now }
+{
+    let locals = lent(alloc, locals)?;
+    let parts = Parts {
+        locals: &locals,
+        states,
+        conflicts,
+    };
+    laid(alloc, dl, lent(alloc, prefix)?, parts)
 }
 
 /// `coroutine ( PREFIX.. ) ( LOCAL.. ) ( ( NUMBER.. ) .. ) ( NUMBER NUMBER .. )`
 fn coroutine_of(alloc: Global, dl: &TargetDataLayout, line: &mut Line<'_>) -> Result<Layout, Stop>
     requires { IsLawfulDataLayout dl.now }
 {
-    let prefix = layouts(alloc, dl, line)?;
-    let locals = layouts(alloc, dl, line)?;
-    let states = states(alloc, line)?;
-    let conflicts = pairs(alloc, line)?;
-    let lent_locals = lent(alloc, &locals)?;
-    let parts = Parts {
-        locals: &lent_locals,
-        states: &states,
-        conflicts: &conflicts,
-    };
-    laid(alloc, dl, lent(alloc, &prefix)?, parts)
+    let prefix = layouts(alloc, dl, line);
+    let locals = layouts(alloc, dl, line);
+    let states = states(alloc, line);
+    let conflicts = pairs(alloc, line);
+    laid_made(alloc, dl, &prefix, &locals, &states, &conflicts)
 }
 
 /// `state-tag COUNT`: the tag of so many states
-fn tag(line: &mut Line<'_>, out: &mut String) -> Result<bool, Stop> {
-    let count = line.number()?;
-    line.end()?;
+fn write_tag(line: &mut Line<'_>, out: &mut Out) {
+    let count = line.number();
+    line.end();
     if count == 0 {
-        return Err(Stop::Asks(Clause::Any));
+        return line.lacks(Clause::Any);
     }
-    write_scalar(out, state_tag(count as usize))?;
-    Ok(true)
+    write_scalar(out, state_tag(count as usize));
 }
 
 /// Answers a call of this name; whether there is one.
@@ -223,19 +257,18 @@ pub(crate) fn call(
     dl: &TargetDataLayout,
     name: &[u8],
     line: &mut Line<'_>,
-    out: &mut String,
-) -> Result<bool, Stop>
+    out: &mut Out,
+) -> bool
     requires { IsLawfulDataLayout dl.now }
 {
     if name == b"state-tag".as_slice() {
-        return tag(line, out);
+        write_tag(line, out);
+        return true;
     }
     if name != b"coroutine".as_slice() {
-        return Ok(false);
+        return false;
     }
-    let layout = coroutine_of(alloc, dl, line)?;
-    let with_seed = line.takes(b"seed");
-    line.end()?;
-    write_answer(alloc, out, &layout, with_seed)?;
-    Ok(true)
+    let made = coroutine_of(alloc, dl, line);
+    write_made(alloc, out, line, made);
+    true
 }

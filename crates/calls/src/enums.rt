@@ -1,23 +1,26 @@
 //! Calls of the calculator for structs and enums.
 
-ghost use Rattle.std.specs.Prelude.{◌≡◌, ◌≢◌, ◌%◌, ◌<◌, ◌≤◌, not, All, IfOk, IsTrue, length, map};
+ghost use Rattle.std.specs.Prelude.{◌≡◌, ◌≢◌, ◌%◌, ◌<◌, ◌≤◌, not, false, All, IfOk, IsTrue, length, map};
 ghost use Rattle.std.specs.List.{AllPairs};
 ghost use Rattle.abi_base.specs.DataLayout.{IsLawfulDataLayout};
 ghost use Rattle.abi_scalar.specs.Lawful.{IsLawfulLayout};
 ghost use Rattle.abi_scalar.specs.Range.{numbers_of};
 ghost use Rattle.abi_calc.specs.Enums.Discriminants.{inhabited_of};
 ghost use Rattle.abi_calc.specs.Enums.Path.{has_no_value, variant_at};
+ghost use Rattle.abi_lists.specs.List.{HasLawfulAligns};
 ghost use Rattle.abi_lists.specs.Placement.{source_order};
 
-use crate::layouts::{Layout, are_lawful, layouts, lent};
+use crate::layouts::{Layout, are_lawful, calculated, layouts, lent};
 use crate::line::{Line, named};
 use crate::lists::has_lawful_aligns;
-use crate::print::write_answer;
-use crate::stop::{Clause, Stop, calculator};
+use crate::out::Out;
+use crate::print::write_made;
+use crate::stop::{Clause, Stop};
 use abi_base::{Integer, NicheOptimizations, Primitive, Size, TargetDataLayout};
 use abi_calc::LayoutCalculator;
 use abi_index::{FieldIdx, IndexSlice, IndexVec, VariantIdx};
-use abi_scalar::{ReprOptions, Scalar};
+use abi_scalar::ReprOptions;
+use abi_text::StructRepr;
 use std::alloc::{AllocError, Global};
 
 /// An enum of a line has no more variants.
@@ -146,6 +149,35 @@ fn lists<'a>(
     Ok(lists)
 }
 
+/// Whether these may be handed in as the variants of a type, or which clause says that they may not.
+fn check_variants(
+    dl: &TargetDataLayout,
+    question: &Question,
+    variants: &[IndexVec<FieldIdx, &Layout>],
+    discriminants: &[u128],
+) -> Result<(), Stop>
+    requires { IsLawfulDataLayout dl.now }
+    ensures count { IfOk result (λ _. length variants.now ≡ length discriminants.now) }
+    ensures few { IfOk result (λ _. length variants.now ≤ 4096) }
+    ensures one { IfOk result (λ _. question.now.is_enum ≡ false → length variants.now ≡ 1) }
+    ensures fields { IfOk result (λ _. All (All (λ f. IsLawfulLayout dl.now f.now)) variants.now) }
+    ensures repr { IfOk result (λ _. HasLawfulAligns question.now.repr) }
+{
+    if variants.len() != discriminants.len() || variants.len() > MOST_VARIANTS {
+        return Err(Stop::Asks(Clause::Count));
+    }
+    if !question.is_enum && variants.len() != 1 {
+        return Err(Stop::Asks(Clause::One));
+    }
+    if !are_lawful_lists(dl, variants) {
+        return Err(Stop::Asks(Clause::Fields));
+    }
+    if !has_lawful_aligns(&question.repr) {
+        return Err(Stop::Asks(Clause::Repr));
+    }
+    Ok(())
+}
+
 /// The layout of a type of these variants, with these discriminants.
 pub(crate) fn laid(
     alloc: Global,
@@ -162,18 +194,7 @@ pub(crate) fn laid(
         signed,
         ..
     } = *question;
-    if variants.len() != discriminants.len() || variants.len() > MOST_VARIANTS {
-        return Err(Stop::Asks(Clause::Count));
-    }
-    if !question.is_enum && variants.len() != 1 {
-        return Err(Stop::Asks(Clause::One));
-    }
-    if !are_lawful_lists(dl, variants) {
-        return Err(Stop::Asks(Clause::Fields));
-    }
-    if !has_lawful_aligns(&repr) {
-        return Err(Stop::Asks(Clause::Repr));
-    }
+    check_variants(dl, question, variants, discriminants)?;
     if integer.size() > Integer::from_attr(dl, repr.discr_type()).size() {
         return Err(Stop::Asks(Clause::Each));
     }
@@ -182,18 +203,16 @@ pub(crate) fn laid(
     if !differ(integer.size(), &values) {
         return Err(Stop::Asks(Clause::Each));
     }
-    LayoutCalculator::new(dl)
-        .layout_of_struct_or_enum(
-            alloc,
-            &repr,
-            IndexSlice::new(variants),
-            question.is_enum,
-            question.niches,
-            |_least, _greatest| (integer, signed),
-            items.iter().copied(),
-            question.always_sized,
-        )
-        .map_err(calculator)
+    calculated(LayoutCalculator::new(dl).layout_of_struct_or_enum(
+        alloc,
+        &repr,
+        IndexSlice::new(variants),
+        question.is_enum,
+        question.niches,
+        |_least, _greatest| (integer, signed),
+        items.iter().copied(),
+        question.always_sized,
+    ))
 }
 
 /// Whether niches may be used, which they may not behind `hidden`.
@@ -206,79 +225,97 @@ fn niches(line: &mut Line<'_>) -> NicheOptimizations {
 }
 
 /// Variants between parentheses: for each its discriminant and its fields.
-fn variants(alloc: Global, dl: &TargetDataLayout, line: &mut Line<'_>) -> Result<Written, Stop>
+fn variants(alloc: Global, dl: &TargetDataLayout, line: &mut Line<'_>) -> Written
     requires { IsLawfulDataLayout dl.now }
 {
-    line.expect(b"(")?;
+    line.expect(b"(");
     let mut discriminants = Vec::new(alloc);
     let mut fields = Vec::new(alloc);
     for _ in 0..u64::MAX {
-        if line.takes(b")") {
+        if !line.has_more() {
             break;
         }
-        discriminants.push(line.discriminant()?)?;
-        fields.push(layouts(alloc, dl, line)?)?;
+        let discriminant = line.discriminant();
+        line.grow(discriminants.push(discriminant));
+        let own = layouts(alloc, dl, line);
+        line.grow(fields.push(own));
     }
-    Ok(Written {
+    Written {
         discriminants,
         fields,
-    })
+    }
 }
 
 /// The integer that the next words write, and whether it is signed.
-fn integer(
+fn integer(alloc: Global, dl: &TargetDataLayout, line: &mut Line<'_>) -> (Integer, bool) {
+    match line.primitive(alloc, dl) {
+        Primitive::Int(integer, signed) => (integer, signed),
+        _ => {
+            line.misfit();
+            (Integer::I8, false)
+        }
+    }
+}
+
+/// The layout of an enum of these variants.
+fn laid_written(
     alloc: Global,
     dl: &TargetDataLayout,
-    line: &mut Line<'_>,
-) -> Result<(Integer, bool), Stop> {
-    match line.scalar(alloc, dl)? {
-        Scalar::Initialized {
-            value: Primitive::Int(integer, signed),
-            valid_range: _,
-        } => Ok((integer, signed)),
-        _ => Err(line.misfit()),
-    }
+    question: &Question,
+    written: &Written,
+) -> Result<Layout, Stop>
+    requires { IsLawfulDataLayout dl.now }
+{
+    let lists = lists(alloc, &written.fields)?;
+    laid(alloc, dl, question, &lists, &written.discriminants)
 }
 
 /// `enum INTEGER REPR ( DISCRIMINANT ( LAYOUT.. ) .. )`, and `hidden` where niches may not be used
 fn enum_of(alloc: Global, dl: &TargetDataLayout, line: &mut Line<'_>) -> Result<Layout, Stop>
     requires { IsLawfulDataLayout dl.now }
 {
-    let (integer, signed) = integer(alloc, dl, line)?;
-    let asked = line.repr()?;
-    let Written {
-        discriminants,
-        fields,
-    } = variants(alloc, dl, line)?;
+    let (integer, signed) = integer(alloc, dl, line);
+    let StructRepr { repr, always_sized } = line.repr();
+    let written = variants(alloc, dl, line);
     let question = Question {
-        repr: asked.repr,
+        repr,
         is_enum: true,
-        always_sized: asked.always_sized,
+        always_sized,
         niches: niches(line),
         integer,
         signed,
     };
-    let lists = lists(alloc, &fields)?;
-    laid(alloc, dl, &question, &lists, &discriminants)
+    laid_written(alloc, dl, &question, &written)
+}
+
+/// The layout of a struct of these fields.
+fn laid_made(
+    alloc: Global,
+    dl: &TargetDataLayout,
+    question: &Question,
+    made: &[Layout],
+) -> Result<Layout, Stop>
+    requires { IsLawfulDataLayout dl.now }
+{
+    let lists = [IndexVec::from_raw(lent(alloc, made)?)];
+    laid(alloc, dl, question, &lists, &[0])
 }
 
 /// `struct REPR ( LAYOUT.. )`, and `hidden` where niches may not be used
 fn struct_of(alloc: Global, dl: &TargetDataLayout, line: &mut Line<'_>) -> Result<Layout, Stop>
     requires { IsLawfulDataLayout dl.now }
 {
-    let asked = line.repr()?;
-    let made = layouts(alloc, dl, line)?;
-    let fields = lent(alloc, &made)?;
+    let StructRepr { repr, always_sized } = line.repr();
+    let made = layouts(alloc, dl, line);
     let question = Question {
-        repr: asked.repr,
+        repr,
         is_enum: false,
-        always_sized: asked.always_sized,
+        always_sized,
         niches: niches(line),
         integer: Integer::I8,
         signed: false,
     };
-    let lists = [IndexVec::from_raw(fields)];
-    laid(alloc, dl, &question, &lists, &[0])
+    laid_made(alloc, dl, &question, &made)
 }
 
 /// Calls of the calculator.
@@ -299,17 +336,15 @@ pub(crate) fn call(
     dl: &TargetDataLayout,
     name: &[u8],
     line: &mut Line<'_>,
-    out: &mut String,
-) -> Result<bool, Stop>
+    out: &mut Out,
+) -> bool
     requires { IsLawfulDataLayout dl.now }
 {
-    let layout = match named(&ENUM_CALLS, name) {
-        Some(EnumCall::Enum) => enum_of(alloc, dl, line)?,
-        Some(EnumCall::Struct) => struct_of(alloc, dl, line)?,
-        None => return Ok(false),
+    let made = match named(&ENUM_CALLS, name) {
+        Some(EnumCall::Enum) => enum_of(alloc, dl, line),
+        Some(EnumCall::Struct) => struct_of(alloc, dl, line),
+        None => return false,
     };
-    let with_seed = line.takes(b"seed");
-    line.end()?;
-    write_answer(alloc, out, &layout, with_seed)?;
-    Ok(true)
+    write_made(alloc, out, line, made);
+    true
 }

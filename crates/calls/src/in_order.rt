@@ -2,10 +2,10 @@
 
 ghost use Rattle.abi_base.specs.DataLayout.{IsLawfulDataLayout};
 
-use crate::layouts::{Layout, layouts, lent};
+use crate::layouts::{Layout, calculated, layouts, lent};
 use crate::line::Line;
 use crate::lists::{check_list, kind};
-use crate::stop::{Clause, Stop, calculator};
+use crate::stop::{Clause, Stop};
 use abi_base::{StructKind, TargetDataLayout};
 use abi_calc::LayoutCalculator;
 use abi_index::{FieldIdx, IndexSlice};
@@ -27,9 +27,13 @@ pub(crate) fn list_in_order(
     if !repr.can_randomize_type_layout() {
         return Err(Stop::Asks(Clause::Random));
     }
-    LayoutCalculator::new(dl)
-        .layout_of_univariant_in_order(alloc, IndexSlice::new(fields), repr, *kind, order)
-        .map_err(calculator)
+    calculated(LayoutCalculator::new(dl).layout_of_univariant_in_order(
+        alloc,
+        IndexSlice::new(fields),
+        repr,
+        *kind,
+        order,
+    ))
 }
 
 /// The index of a field that has this number, where a field can have it.
@@ -41,17 +45,33 @@ pub(crate) fn field_index(number: u32) -> Option<FieldIdx> {
 }
 
 /// The indices of fields between the parentheses that are next.
-fn order_of(alloc: Global, line: &mut Line<'_>) -> Result<Vec<FieldIdx>, Stop> {
-    line.expect(b"(")?;
+fn order_of(alloc: Global, line: &mut Line<'_>) -> Vec<FieldIdx> {
+    line.expect(b"(");
     let mut order = Vec::new(alloc);
     for _ in 0..u64::MAX {
-        if line.takes(b")") {
+        if !line.has_more() {
             break;
         }
-        let number = line.short()?;
-        order.push(line.fits(field_index(number))?)?;
+        let number = line.short();
+        let index = line.fits(field_index(number), FieldIdx::from_u32(0));
+        line.grow(order.push(index));
     }
-    Ok(order)
+    order
+}
+
+/// The list of these in this order, as the calculator has it.
+fn list_made(
+    alloc: Global,
+    dl: &TargetDataLayout,
+    made: &[Layout],
+    repr: &ReprOptions,
+    kind: &StructKind,
+    order: &[FieldIdx],
+) -> Result<Layout, Stop>
+    requires { IsLawfulDataLayout dl.now }
+{
+    let fields = lent(alloc, made)?;
+    list_in_order(alloc, dl, &fields, repr, kind, order)
 }
 
 /// `univariant-in-order REPR KIND ( NUMBER.. ) ( LAYOUT.. )`: the repr is flagged as one whose fields may be shuffled.
@@ -62,10 +82,10 @@ pub(crate) fn univariant_in_order(
 ) -> Result<Layout, Stop>
     requires { IsLawfulDataLayout dl.now }
 {
-    let mut repr = line.repr()?.repr;
+    let mut repr = line.repr().repr;
     repr.flags = repr.flags | ReprFlags::RANDOMIZE_LAYOUT;
-    let kind = kind(line)?;
-    let order = order_of(alloc, line)?;
-    let made = layouts(alloc, dl, line)?;
-    list_in_order(alloc, dl, &lent(alloc, &made)?, &repr, &kind, &order)
+    let kind = kind(line);
+    let order = order_of(alloc, line);
+    let made = layouts(alloc, dl, line);
+    list_made(alloc, dl, &made, &repr, &kind, &order)
 }

@@ -8,11 +8,12 @@ ghost use Rattle.abi_lists.specs.Placement.{IsLawfulPrefix, IsNonEmptyIfUnsized}
 
 use crate::in_order::univariant_in_order;
 use crate::layouts::{
-    Layout, MOST_ITEMS, are_lawful, is_lawful_align, layout, layouts, lent, slice_of,
+    Layout, MOST_ITEMS, are_lawful, array_of, calculated, is_lawful_align, layout, layouts, lent,
 };
 use crate::line::{Line, named};
-use crate::print::write_answer;
-use crate::stop::{Clause, Stop, calculator};
+use crate::out::Out;
+use crate::print::write_made;
+use crate::stop::{Clause, Stop};
 use abi_base::{Align, NumScalableVectors, Size, StructKind, TargetDataLayout};
 use abi_calc::LayoutCalculator;
 use abi_index::{IndexSlice, IndexVec};
@@ -34,15 +35,14 @@ const KIND_WORDS: [(&[u8], KindWord); 3] = [
 ];
 
 /// What is known of a list beside its fields.
-pub(crate) fn kind(line: &mut Line<'_>) -> Result<StructKind, Stop> {
-    match named(&KIND_WORDS, line.word()?) {
-        Some(KindWord::AlwaysSized) => Ok(StructKind::AlwaysSized),
-        Some(KindWord::MaybeUnsized) => Ok(StructKind::MaybeUnsized),
-        Some(KindWord::Prefixed) => {
-            let size = Size::from_bytes(line.number()?);
-            Ok(StructKind::Prefixed(size, line.align()?))
+pub(crate) fn kind(line: &mut Line<'_>) -> StructKind {
+    match line.one_of(&KIND_WORDS, KindWord::AlwaysSized) {
+        KindWord::AlwaysSized => StructKind::AlwaysSized,
+        KindWord::MaybeUnsized => StructKind::MaybeUnsized,
+        KindWord::Prefixed => {
+            let size = Size::from_bytes(line.number());
+            StructKind::Prefixed(size, line.align())
         }
-        None => Err(line.misfit()),
     }
 }
 
@@ -119,60 +119,98 @@ pub(crate) fn list_of(
     requires { IsLawfulDataLayout dl.now }
 {
     check_list(dl, fields, repr, kind)?;
-    LayoutCalculator::new(dl)
-        .layout_of_univariant(alloc, IndexSlice::new(fields), repr, *kind)
-        .map_err(calculator)
+    calculated(LayoutCalculator::new(dl).layout_of_univariant(
+        alloc,
+        IndexSlice::new(fields),
+        repr,
+        *kind,
+    ))
+}
+
+/// The list of these, as the calculator has it.
+fn list_made(
+    alloc: Global,
+    dl: &TargetDataLayout,
+    made: &[Layout],
+    repr: &ReprOptions,
+    kind: &StructKind,
+) -> Result<Layout, Stop>
+    requires { IsLawfulDataLayout dl.now }
+{
+    let fields = lent(alloc, made)?;
+    list_of(alloc, dl, &fields, repr, kind)
 }
 
 /// `univariant REPR KIND ( LAYOUT.. )`
 fn univariant(alloc: Global, dl: &TargetDataLayout, line: &mut Line<'_>) -> Result<Layout, Stop>
     requires { IsLawfulDataLayout dl.now }
 {
-    let asked = line.repr()?;
-    let kind = kind(line)?;
-    let made = layouts(alloc, dl, line)?;
-    list_of(alloc, dl, &lent(alloc, &made)?, &asked.repr, &kind)
+    let repr = line.repr().repr;
+    let kind = kind(line);
+    let made = layouts(alloc, dl, line);
+    list_made(alloc, dl, &made, &repr, &kind)
+}
+
+/// The union of these, as the calculator has it.
+fn union_made(
+    alloc: Global,
+    dl: &TargetDataLayout,
+    made: &[Layout],
+    repr: &ReprOptions,
+) -> Result<Layout, Stop>
+    requires { IsLawfulDataLayout dl.now }
+{
+    let fields = lent(alloc, made)?;
+    if !are_lawful(dl, &fields) {
+        return Err(Stop::Asks(Clause::Fields));
+    }
+    if !has_lawful_aligns(repr) {
+        return Err(Stop::Asks(Clause::Repr));
+    }
+    let lists = [IndexVec::from_raw(fields)];
+    calculated(LayoutCalculator::new(dl).layout_of_union(alloc, repr, IndexSlice::new(&lists)))
 }
 
 /// `union REPR ( LAYOUT.. )`
 fn union_of(alloc: Global, dl: &TargetDataLayout, line: &mut Line<'_>) -> Result<Layout, Stop>
     requires { IsLawfulDataLayout dl.now }
 {
-    let asked = line.repr()?;
-    let made = layouts(alloc, dl, line)?;
-    let fields = lent(alloc, &made)?;
-    if !are_lawful(dl, &fields) {
-        return Err(Stop::Asks(Clause::Fields));
-    }
-    if !has_lawful_aligns(&asked.repr) {
-        return Err(Stop::Asks(Clause::Repr));
-    }
-    let lists = [IndexVec::from_raw(fields)];
-    LayoutCalculator::new(dl)
-        .layout_of_union(alloc, &asked.repr, IndexSlice::new(&lists))
-        .map_err(calculator)
+    let repr = line.repr().repr;
+    let made = layouts(alloc, dl, line);
+    union_made(alloc, dl, &made, &repr)
 }
 
 /// `array COUNT LAYOUT`
 fn array(alloc: Global, dl: &TargetDataLayout, line: &mut Line<'_>) -> Result<Layout, Stop>
     requires { IsLawfulDataLayout dl.now }
 {
-    let count = line.number()?;
-    let element = layout(alloc, dl, line)?;
-    if !element.is_lawful(dl) {
-        return Err(Stop::Asks(Clause::Element));
-    }
-    LayoutCalculator::new(dl)
-        .layout_of_array_like(&element, Some(count))
-        .map_err(calculator::<&Layout>)
+    let count = line.number();
+    let element = layout(alloc, dl, line);
+    array_of(dl, &element, Some(count))
 }
 
 /// `slice LAYOUT`
 fn slice(alloc: Global, dl: &TargetDataLayout, line: &mut Line<'_>) -> Result<Layout, Stop>
     requires { IsLawfulDataLayout dl.now }
 {
-    let element = layout(alloc, dl, line)?;
-    slice_of(dl, &element)
+    let element = layout(alloc, dl, line);
+    array_of(dl, &element, None)
+}
+
+/// The vector of so many of these.
+fn vector_of(
+    alloc: Global,
+    dl: &TargetDataLayout,
+    element: &Layout,
+    lanes: u64,
+    is_packed: bool,
+) -> Result<Layout, Stop>
+    requires { IsLawfulDataLayout dl.now }
+{
+    if !element.is_lawful(dl) {
+        return Err(Stop::Asks(Clause::Element));
+    }
+    calculated(LayoutCalculator::new(dl).layout_of_simd_type(alloc, element, lanes, is_packed))
 }
 
 /// `simd LANES LAYOUT`, or of a packed one `psimd LANES LAYOUT`
@@ -184,29 +222,37 @@ fn simd(
 ) -> Result<Layout, Stop>
     requires { IsLawfulDataLayout dl.now }
 {
-    let lanes = line.number()?;
-    let element = layout(alloc, dl, line)?;
+    let lanes = line.number();
+    let element = layout(alloc, dl, line);
+    vector_of(alloc, dl, &element, lanes, is_packed)
+}
+
+/// So many scalable vectors of so many of these.
+fn scalable_of(
+    alloc: Global,
+    dl: &TargetDataLayout,
+    element: &Layout,
+    lanes: u64,
+    vectors: NumScalableVectors,
+) -> Result<Layout, Stop>
+    requires { IsLawfulDataLayout dl.now }
+{
     if !element.is_lawful(dl) {
         return Err(Stop::Asks(Clause::Element));
     }
-    LayoutCalculator::new(dl)
-        .layout_of_simd_type(alloc, &element, lanes, is_packed)
-        .map_err(calculator)
+    calculated(LayoutCalculator::new(dl).layout_of_scalable_vector_type(
+        alloc, element, lanes, vectors,
+    ))
 }
 
 /// `scalable VECTORS LANES LAYOUT`
 fn scalable(alloc: Global, dl: &TargetDataLayout, line: &mut Line<'_>) -> Result<Layout, Stop>
     requires { IsLawfulDataLayout dl.now }
 {
-    let vectors = line.byte()?;
-    let lanes = line.number()?;
-    let element = layout(alloc, dl, line)?;
-    if !element.is_lawful(dl) {
-        return Err(Stop::Asks(Clause::Element));
-    }
-    LayoutCalculator::new(dl)
-        .layout_of_scalable_vector_type(alloc, &element, lanes, NumScalableVectors(vectors))
-        .map_err(calculator)
+    let vectors = NumScalableVectors(line.byte());
+    let lanes = line.number();
+    let element = layout(alloc, dl, line);
+    scalable_of(alloc, dl, &element, lanes, vectors)
 }
 
 /// Calls of the calculator.
@@ -233,27 +279,25 @@ const LIST_CALLS: [(&[u8], ListCall); 8] = [
     (b"scalable", ListCall::Scalable),
 ];
 
-/// The answer to a call of this name. None where none has it.
+/// The answer to a call.
 fn answer(
     alloc: Global,
     dl: &TargetDataLayout,
-    name: &[u8],
+    call: ListCall,
     line: &mut Line<'_>,
-) -> Result<Option<Layout>, Stop>
+) -> Result<Layout, Stop>
     requires { IsLawfulDataLayout dl.now }
 {
-    let answer = match named(&LIST_CALLS, name) {
-        Some(ListCall::Univariant) => univariant(alloc, dl, line)?,
-        Some(ListCall::UnivariantInOrder) => univariant_in_order(alloc, dl, line)?,
-        Some(ListCall::Union) => union_of(alloc, dl, line)?,
-        Some(ListCall::Array) => array(alloc, dl, line)?,
-        Some(ListCall::Slice) => slice(alloc, dl, line)?,
-        Some(ListCall::Simd) => simd(alloc, dl, line, false)?,
-        Some(ListCall::Psimd) => simd(alloc, dl, line, true)?,
-        Some(ListCall::Scalable) => scalable(alloc, dl, line)?,
-        None => return Ok(None),
-    };
-    Ok(Some(answer))
+    match call {
+        ListCall::Univariant => univariant(alloc, dl, line),
+        ListCall::UnivariantInOrder => univariant_in_order(alloc, dl, line),
+        ListCall::Union => union_of(alloc, dl, line),
+        ListCall::Array => array(alloc, dl, line),
+        ListCall::Slice => slice(alloc, dl, line),
+        ListCall::Simd => simd(alloc, dl, line, false),
+        ListCall::Psimd => simd(alloc, dl, line, true),
+        ListCall::Scalable => scalable(alloc, dl, line),
+    }
 }
 
 /// Answers a call of this name; whether there is one.
@@ -262,15 +306,14 @@ pub(crate) fn call(
     dl: &TargetDataLayout,
     name: &[u8],
     line: &mut Line<'_>,
-    out: &mut String,
-) -> Result<bool, Stop>
+    out: &mut Out,
+) -> bool
     requires { IsLawfulDataLayout dl.now }
 {
-    let Some(layout) = answer(alloc, dl, name, line)? else {
-        return Ok(false);
+    let Some(call) = named(&LIST_CALLS, name) else {
+        return false;
     };
-    let with_seed = line.takes(b"seed");
-    line.end()?;
-    write_answer(alloc, out, &layout, with_seed)?;
-    Ok(true)
+    let made = answer(alloc, dl, call, line);
+    write_made(alloc, out, line, made);
+    true
 }

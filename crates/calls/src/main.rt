@@ -11,6 +11,7 @@ mod layouts;
 mod line;
 mod lists;
 mod numbers;
+mod out;
 mod print;
 mod random;
 mod ranges;

@@ -7,7 +7,7 @@ pub(crate) mod sizes;
 ghost use Rattle.abi_base.specs.DataLayout.{IsLawfulDataLayout};
 
 use crate::line::Line;
-use crate::stop::Stop;
+use crate::out::Out;
 use abi_base::TargetDataLayout;
 use std::alloc::Global;
 
@@ -17,15 +17,15 @@ pub(crate) fn call(
     dl: &TargetDataLayout,
     name: &[u8],
     line: &mut Line<'_>,
-    out: &mut String,
-) -> Result<bool, Stop>
+    out: &mut Out,
+) -> bool
     requires { IsLawfulDataLayout dl.now }
 {
-    let is_known = sizes::call(dl, name, line, out)?
-        || aligns::call(dl, name, line, out)?
-        || integers::call(alloc, dl, name, line, out)?;
+    let is_known = sizes::call(dl, name, line, out)
+        || aligns::call(dl, name, line, out)
+        || integers::call(alloc, dl, name, line, out);
     if is_known {
-        line.end()?;
+        line.end();
     }
-    Ok(is_known)
+    is_known
 }

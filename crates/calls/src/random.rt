@@ -17,7 +17,9 @@ ghost use Rattle.abi_base.specs.DataLayout.{IsLawfulDataLayout};
 
 use crate::layouts::{Layout, are_lawful, layouts, lent};
 use crate::line::{Line, named};
+use crate::out::Out;
 use crate::random::dice::Dice;
+use crate::random::tally::Tally;
 use crate::stop::{Clause, Stop};
 use abi_base::TargetDataLayout;
 use std::alloc::Global;
@@ -33,13 +35,11 @@ pub(crate) struct Trials {
 }
 
 /// The seed and the count that are next.
-pub(crate) fn read_trials(line: &mut Line<'_>) -> Result<Trials, Stop> {
-    let dice = Dice::new(line.number()?);
-    let count = line.number()?;
-    if count > MOST_TYPES {
-        return Err(Stop::Asks(Clause::Count));
-    }
-    Ok(Trials { dice, count })
+pub(crate) fn read_trials(line: &mut Line<'_>) -> Trials {
+    let dice = Dice::new(line.number());
+    let count = line.number();
+    line.asks(count <= MOST_TYPES, Clause::Count);
+    Trials { dice, count }
 }
 
 /// Calls that try types of some layouts.
@@ -58,46 +58,115 @@ const RANDOM_CALLS: [(&[u8], RandomCall); 4] = [
     (b"random-coroutines", RandomCall::RandomCoroutines),
 ];
 
+/// What types of these layouts are found to be.
+fn tried_of(
+    alloc: Global,
+    dl: &TargetDataLayout,
+    call: RandomCall,
+    trials: Trials,
+    kinds: &[&Layout],
+) -> Result<Tally, Stop>
+    requires { IsLawfulDataLayout dl.now }
+{
+    if kinds.is_empty() || !are_lawful(dl, kinds) {
+        return Err(Stop::Asks(Clause::Fields));
+    }
+    match call {
+        RandomCall::RandomLists => lists::tried(alloc, dl, trials, kinds),
+        RandomCall::RandomOrders => in_order::tried(alloc, dl, trials, kinds),
+        RandomCall::RandomEnums => enums::tried(alloc, dl, trials, kinds),
+        RandomCall::RandomCoroutines => coroutines::tried(alloc, dl, trials, kinds),
+    }
+}
+
+/// What types of these layouts are found to be.
+fn tried_made(
+    alloc: Global,
+    dl: &TargetDataLayout,
+    call: RandomCall,
+    trials: Trials,
+    made: &[Layout],
+) -> Result<Tally, Stop>
+    requires { IsLawfulDataLayout dl.now }
+{
+    let kinds = lent(alloc, made)?;
+    tried_of(alloc, dl, call, trials, &kinds)
+}
+
 /// `random-lists SEED COUNT ( LAYOUT.. )`, and so for `random-orders`, `random-enums` and `random-coroutines`: the types are made of
 /// these layouts.
+fn tried(
+    alloc: Global,
+    dl: &TargetDataLayout,
+    call: RandomCall,
+    line: &mut Line<'_>,
+) -> Result<Tally, Stop>
+    requires { IsLawfulDataLayout dl.now }
+{
+    let trials = read_trials(line);
+    let made = layouts(alloc, dl, line);
+    line.end();
+    line.go_on()?;
+    tried_made(alloc, dl, call, trials, &made)
+}
+
+/// Calls that grow types, and one that tries values of a type.
+#[derive(Clone, Copy)]
+enum GrownCall {
+    RandomValues,
+    RandomDeciders,
+    RandomUniform,
+}
+
+const GROWN_CALLS: [(&[u8], GrownCall); 3] = [
+    (b"random-values", GrownCall::RandomValues),
+    (b"random-deciders", GrownCall::RandomDeciders),
+    (b"random-uniform", GrownCall::RandomUniform),
+];
+
+/// What types that grow, or values of a type, are found to be.
+fn tried_grown(
+    alloc: Global,
+    dl: &TargetDataLayout,
+    call: GrownCall,
+    line: &mut Line<'_>,
+) -> Result<Tally, Stop> {
+    let trials = read_trials(line);
+    match call {
+        GrownCall::RandomValues => values::tried(alloc, dl, trials, line),
+        GrownCall::RandomDeciders => {
+            line.end();
+            line.go_on()?;
+            deciders::tried(alloc, dl, trials)
+        }
+        GrownCall::RandomUniform => {
+            line.end();
+            line.go_on()?;
+            uniform::tried(alloc, dl, trials)
+        }
+    }
+}
+
+/// Answers a call of this name; whether there is one.
 pub(crate) fn call(
     alloc: Global,
     dl: &TargetDataLayout,
     name: &[u8],
     line: &mut Line<'_>,
-    out: &mut String,
-) -> Result<bool, Stop>
+    out: &mut Out,
+) -> bool
     requires { IsLawfulDataLayout dl.now }
 {
-    if !name.starts_with(b"random-") {
-        return Ok(false);
-    }
-    if name == b"random-values".as_slice() {
-        values::tried(alloc, dl, line)?.write(out)?;
-        return Ok(true);
-    }
-    if name == b"random-deciders".as_slice() {
-        deciders::tried(alloc, dl, line)?.write(out)?;
-        return Ok(true);
-    }
-    if name == b"random-uniform".as_slice() {
-        uniform::tried(alloc, dl, line)?.write(out)?;
-        return Ok(true);
-    }
-    let trials = read_trials(line)?;
-    let made: Vec<Layout> = layouts(alloc, dl, line)?;
-    let kinds = lent(alloc, &made)?;
-    line.end()?;
-    if kinds.is_empty() || !are_lawful(dl, &kinds) {
-        return Err(Stop::Asks(Clause::Fields));
-    }
-    let tally = match named(&RANDOM_CALLS, name) {
-        Some(RandomCall::RandomLists) => lists::tried(alloc, dl, trials, &kinds)?,
-        Some(RandomCall::RandomOrders) => in_order::tried(alloc, dl, trials, &kinds)?,
-        Some(RandomCall::RandomEnums) => enums::tried(alloc, dl, trials, &kinds)?,
-        Some(RandomCall::RandomCoroutines) => coroutines::tried(alloc, dl, trials, &kinds)?,
-        None => return Ok(false),
+    let tally = if let Some(call) = named(&RANDOM_CALLS, name) {
+        tried(alloc, dl, call, line)
+    } else if let Some(call) = named(&GROWN_CALLS, name) {
+        tried_grown(alloc, dl, call, line)
+    } else {
+        return false;
     };
-    tally.write(out)?;
-    Ok(true)
+    match tally {
+        Ok(tally) => tally.write(out),
+        Err(stop) => line.stop(stop),
+    }
+    true
 }

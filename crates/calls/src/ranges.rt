@@ -1,31 +1,33 @@
 //! Calls of ranges, scalars and niches.
 
-ghost use Rattle.std.specs.Prelude.{◌≤◌, ◌<◌, All, IfOk, IsTrue};
+ghost use Rattle.std.specs.Prelude.{◌≤◌, ◌<◌, All, IfSome, IsTrue};
 ghost use Rattle.abi_scalar.specs.Niche.{IsReadableNiche};
 ghost use Rattle.abi_scalar.specs.Range.{AreWithin, numbers_of};
 ghost use Rattle.abi_scalar.specs.Scalar.{IsReadable};
 
 use crate::line::{Line, named};
-use crate::numbers::integers::{knows, primitive};
+use crate::numbers::integers::knows;
 use crate::numbers::sizes::width;
-use crate::print::{write_align, write_niche, write_scalar, write_true};
+use crate::out::Out;
+use crate::print::{write_align, write_niche, write_range, write_scalar, write_true};
 use crate::stop::{Clause, Stop};
 use abi_base::{Size, TargetDataLayout};
 use abi_scalar::{Niche, RangeFull, Scalar, WrappingRange};
 use std::alloc::{AllocError, Global};
 
 /// The range that is next, of numbers of so many bytes.
-fn range(line: &mut Line<'_>, size: Size) -> Result<WrappingRange, Stop>
+fn range(line: &mut Line<'_>, size: Size) -> WrappingRange
     requires some { 1 ≤ size }
     requires most { size ≤ 16 }
-    ensures { IfOk result (AreWithin size) }
+    ensures { AreWithin size result }
 {
-    let (start, end) = (line.wide()?, line.wide()?);
+    let (start, end) = (line.wide(), line.wide());
     let most = size.unsigned_int_max();
-    if start > most || end > most {
-        return Err(Stop::Asks(Clause::Within));
+    line.asks(start <= most && end <= most, Clause::Within);
+    WrappingRange {
+        start: start.min(most),
+        end: end.min(most),
     }
-    Ok(WrappingRange { start, end })
 }
 
 /// Whether it is a number of so many bytes.
@@ -52,37 +54,70 @@ fn are_within(numbers: &[u128], size: Size) -> bool
 }
 
 /// The numbers that are next, up to the end.
-fn numbers(alloc: Global, line: &mut Line<'_>) -> Result<Vec<u128>, Stop> {
+fn numbers(alloc: Global, line: &mut Line<'_>) -> Result<Vec<u128>, AllocError> {
     let mut all = Vec::new(alloc);
     for _ in 0..u64::MAX {
         if line.peek().is_none() {
             break;
         }
-        all.push(line.wide()?)?;
+        all.push(line.wide())?;
     }
     Ok(all)
 }
 
-/// The least range of the numbers of so many bytes that are next.
-fn least_range(alloc: Global, line: &mut Line<'_>) -> Result<Option<WrappingRange>, Stop> {
-    let size = width(line)?;
-    let all = numbers(alloc, line)?;
+/// The least range of these numbers, which have to be of so many bytes.
+fn least_range(alloc: Global, size: Size, all: Vec<u128>) -> Result<Option<WrappingRange>, Stop>
+    requires some { 1 ≤ size }
+    requires most { size ≤ 16 }
+{
     if !are_within(&all, size) {
         return Err(Stop::Asks(Clause::Within));
     }
     Ok(WrappingRange::smallest_range_containing(alloc, all, size)?)
 }
 
-/// Writes an answer that a full range doesn't have.
-fn write_wraps(
-    out: &mut String,
-    name: &str,
-    answer: Result<bool, RangeFull>,
-) -> Result<(), AllocError> {
-    match answer {
-        Ok(holds) => write!(out, "{name} {holds}"),
-        Err(RangeFull) => write!(out, "{name} full"),
+/// Writes the least range of the numbers of so many bytes that are next.
+fn write_least(alloc: Global, line: &mut Line<'_>, out: &mut Out) -> Result<(), Stop> {
+    let size = width(line);
+    let all = numbers(alloc, line)?;
+    match least_range(alloc, size, all)? {
+        Some(range) => write_range(out, range),
+        None => out.text("none"),
     }
+    Ok(())
+}
+
+/// Writes whether the second range that is next lies in the first.
+fn write_contained(line: &mut Line<'_>, out: &mut Out) {
+    let size = width(line);
+    let first = range(line, size);
+    out.truth(first.contains_range(range(line, size), size));
+}
+
+/// Writes whether the number that is next lies in the range before it.
+fn write_contains(line: &mut Line<'_>, out: &mut Out) {
+    let (start, end) = (line.wide(), line.wide());
+    out.truth(WrappingRange { start, end }.contains(line.wide()));
+}
+
+/// Writes an answer that a full range doesn't have.
+fn write_wraps(out: &mut Out, name: &str, answer: Result<bool, RangeFull>) {
+    match answer {
+        Ok(holds) => out.tell(name, holds),
+        Err(RangeFull) => {
+            out.text(name);
+            out.text("full");
+        }
+    }
+}
+
+/// Writes whether the range that is next is full, and how it wraps round.
+fn write_wrapping(line: &mut Line<'_>, out: &mut Out) {
+    let size = width(line);
+    let range = range(line, size);
+    out.tell("full ", range.is_full_for(size));
+    write_wraps(out, " unsigned ", range.no_unsigned_wraparound(size));
+    write_wraps(out, " signed ", range.no_signed_wraparound(size));
 }
 
 /// Calls on ranges.
@@ -104,43 +139,19 @@ const RANGE_CALLS: [(&[u8], RangeCall); 5] = [
 ];
 
 /// Answers a call on ranges of this name; whether there is one.
-fn call_on_ranges(
-    alloc: Global,
-    name: &[u8],
-    line: &mut Line<'_>,
-    out: &mut String,
-) -> Result<bool, Stop> {
+fn call_on_ranges(alloc: Global, name: &[u8], line: &mut Line<'_>, out: &mut Out) -> bool {
     match named(&RANGE_CALLS, name) {
-        Some(RangeCall::Contains) => {
-            let (start, end) = (line.wide()?, line.wide()?);
-            let holds = WrappingRange { start, end }.contains(line.wide()?);
-            write!(out, "{holds}")?
+        Some(RangeCall::Contains) => write_contains(line, out),
+        Some(RangeCall::ContainsRange) => write_contained(line, out),
+        Some(RangeCall::Wraps) => write_wrapping(line, out),
+        Some(RangeCall::FullRange) => write_range(out, WrappingRange::full(width(line))),
+        Some(RangeCall::LeastRange) => {
+            let done = write_least(alloc, line, out);
+            line.keep(done);
         }
-        Some(RangeCall::ContainsRange) => {
-            let size = width(line)?;
-            let first = range(line, size)?;
-            let holds = first.contains_range(range(line, size)?, size);
-            write!(out, "{holds}")?
-        }
-        Some(RangeCall::Wraps) => {
-            let size = width(line)?;
-            let range = range(line, size)?;
-            let full = range.is_full_for(size);
-            write!(out, "full {full} ")?;
-            write_wraps(out, "unsigned", range.no_unsigned_wraparound(size))?;
-            write_wraps(out, " signed", range.no_signed_wraparound(size))?
-        }
-        Some(RangeCall::FullRange) => {
-            let range = WrappingRange::full(width(line)?);
-            write!(out, "{range:?}")?
-        }
-        Some(RangeCall::LeastRange) => match least_range(alloc, line)? {
-            Some(range) => write!(out, "{range:?}")?,
-            None => out.push_str("none")?,
-        },
-        None => return Ok(false),
+        None => return false,
     }
-    Ok(true)
+    true
 }
 
 /// Whether the data layout knows the scalar's primitive, and its ends are numbers of its width.
@@ -167,34 +178,73 @@ fn is_readable(dl: &TargetDataLayout, scalar: Scalar) -> bool
 }
 
 /// The scalar that is next: a primitive, and the ends of its range.
-fn ranged(alloc: Global, dl: &TargetDataLayout, line: &mut Line<'_>) -> Result<Scalar, Stop> {
-    let value = primitive(alloc, dl, line)?;
-    let (start, end) = (line.wide()?, line.wide()?);
+fn ranged(alloc: Global, dl: &TargetDataLayout, line: &mut Line<'_>) -> Scalar {
+    let value = line.primitive(alloc, dl);
+    let (start, end) = (line.wide(), line.wide());
     let valid_range = WrappingRange { start, end };
-    Ok(Scalar::Initialized { value, valid_range })
+    Scalar::Initialized { value, valid_range }
 }
 
-/// The niche of a scalar at the start, whatever it has free.
-fn niche(dl: &TargetDataLayout, scalar: Scalar) -> Result<Niche, Stop>
-    ensures { IfOk result (IsReadableNiche dl.now) }
+/// The niche of a scalar at the start, whatever it has free. None where it can't be read.
+fn niche(dl: &TargetDataLayout, scalar: Scalar) -> Option<Niche>
+    ensures { IfSome result (IsReadableNiche dl.now) }
 {
     match scalar {
-        Scalar::Initialized { value, valid_range } if is_readable(dl, scalar) => Ok(Niche {
+        Scalar::Initialized { value, valid_range } if is_readable(dl, scalar) => Some(Niche {
             offset: Size::ZERO,
             value,
             valid_range,
         }),
-        _ => Err(Stop::Asks(Clause::Readable)),
+        _ => None,
+    }
+}
+
+/// Writes how many numbers the scalar has free.
+fn write_available(line: &mut Line<'_>, out: &mut Out, dl: &TargetDataLayout, scalar: Scalar) {
+    match niche(dl, scalar) {
+        Some(niche) => out.wide(niche.available(dl)),
+        None => line.lacks(Clause::Readable),
     }
 }
 
 /// Writes the first of the numbers that are handed out, and the range then.
-fn write_reserved(out: &mut String, reserved: Option<(u128, Scalar)>) -> Result<(), AllocError> {
+fn write_reserved(out: &mut Out, reserved: Option<(u128, Scalar)>) {
     match reserved {
         Some((start, Scalar::Initialized { valid_range, .. })) => {
-            write!(out, "start {start} range {valid_range:?}")
+            out.text("start ");
+            out.wide(start);
+            out.text(" range ");
+            write_range(out, valid_range);
         }
-        _ => out.push_str("none"),
+        _ => out.text("none"),
+    }
+}
+
+/// Writes what is handed out of the free numbers of the scalar, where so many are asked for.
+fn write_reserve(
+    line: &mut Line<'_>,
+    out: &mut Out,
+    dl: &TargetDataLayout,
+    scalar: Scalar,
+    count: u128,
+) {
+    let Some(niche) = niche(dl, scalar) else {
+        return line.lacks(Clause::Readable);
+    };
+    if count < 1 {
+        return line.lacks(Clause::Any);
+    }
+    write_reserved(out, niche.reserve(dl, count));
+}
+
+/// Writes the niche of the scalar that is next, at the place before it.
+fn write_from_scalar(alloc: Global, dl: &TargetDataLayout, line: &mut Line<'_>, out: &mut Out) {
+    let offset = Size::from_bytes(line.number());
+    let scalar = line.scalar(alloc, dl);
+    if is_readable(dl, scalar) {
+        write_niche(out, Niche::from_scalar(dl, offset, scalar));
+    } else {
+        line.lacks(Clause::Readable);
     }
 }
 
@@ -218,48 +268,37 @@ fn call_on_niches(
     dl: &TargetDataLayout,
     name: &[u8],
     line: &mut Line<'_>,
-    out: &mut String,
-) -> Result<bool, Stop> {
+    out: &mut Out,
+) -> bool {
     match named(&NICHE_CALLS, name) {
         Some(NicheCall::Available) => {
-            let scalar = ranged(alloc, dl, line)?;
-            let free = niche(dl, scalar)?.available(dl);
-            write!(out, "{free}")?
+            let scalar = ranged(alloc, dl, line);
+            write_available(line, out, dl, scalar);
         }
         Some(NicheCall::Reserve) => {
-            let scalar = ranged(alloc, dl, line)?;
-            let count = line.wide()?;
-            let niche = niche(dl, scalar)?;
-            if count < 1 {
-                return Err(Stop::Asks(Clause::Any));
-            }
-            write_reserved(out, niche.reserve(dl, count))?
+            let scalar = ranged(alloc, dl, line);
+            let count = line.wide();
+            write_reserve(line, out, dl, scalar, count);
         }
-        Some(NicheCall::NicheFromScalar) => {
-            let offset = Size::from_bytes(line.number()?);
-            let scalar = line.scalar(alloc, dl)?;
-            if !is_readable(dl, scalar) {
-                return Err(Stop::Asks(Clause::Readable));
-            }
-            write_niche(out, Niche::from_scalar(dl, offset, scalar))?
-        }
-        None => return Ok(false),
+        Some(NicheCall::NicheFromScalar) => write_from_scalar(alloc, dl, line, out),
+        None => return false,
     }
-    Ok(true)
+    true
 }
 
 /// Writes all that a scalar tells.
-fn write_told(out: &mut String, dl: &TargetDataLayout, scalar: Scalar) -> Result<(), Stop> {
+fn write_told(line: &mut Line<'_>, out: &mut Out, dl: &TargetDataLayout, scalar: Scalar) {
     if !is_readable(dl, scalar) {
-        return Err(Stop::Asks(Clause::Readable));
+        return line.lacks(Clause::Readable);
     }
-    let size = scalar.size(dl).bytes();
-    let range = scalar.valid_range(dl);
-    write!(out, "size {size} range {range:?} align ")?;
-    write_align(out, scalar.default_align(dl))?;
-    out.push_str(" union ")?;
-    write_scalar(out, scalar.to_union())?;
-    out.push_str(" is ")?;
+    out.put("size ", scalar.size(dl).bytes());
+    out.text(" range ");
+    write_range(out, scalar.valid_range(dl));
+    out.text(" align ");
+    write_align(out, scalar.default_align(dl));
+    out.text(" union ");
+    write_scalar(out, scalar.to_union());
+    out.text(" is ");
     write_true(
         out,
         &[
@@ -268,8 +307,7 @@ fn write_told(out: &mut String, dl: &TargetDataLayout, scalar: Scalar) -> Result
             ("always-valid", scalar.is_always_valid(dl)),
             ("uninit-valid", scalar.is_uninit_valid()),
         ],
-    )?;
-    Ok(())
+    );
 }
 
 /// Answers a call of this name; whether there is one.
@@ -278,18 +316,18 @@ pub(crate) fn call(
     dl: &TargetDataLayout,
     name: &[u8],
     line: &mut Line<'_>,
-    out: &mut String,
-) -> Result<bool, Stop> {
+    out: &mut Out,
+) -> bool {
     if name == b"scalar".as_slice() {
-        let scalar = line.scalar(alloc, dl)?;
-        line.end()?;
-        write_told(out, dl, scalar)?;
-        return Ok(true);
+        let scalar = line.scalar(alloc, dl);
+        line.end();
+        write_told(line, out, dl, scalar);
+        return true;
     }
-    let is_known = call_on_ranges(alloc, name, line, out)?
-        || call_on_niches(alloc, dl, name, line, out)?;
+    let is_known = call_on_ranges(alloc, name, line, out)
+        || call_on_niches(alloc, dl, name, line, out);
     if is_known {
-        line.end()?;
+        line.end();
     }
-    Ok(is_known)
+    is_known
 }

@@ -1,70 +1,61 @@
 //! Calls of registers and of calling conventions.
 
+ghost use Rattle.std.specs.Prelude.{IsTrue};
+ghost use Rattle.abi_types.specs.Reg.{HasAlign};
+
+use crate::data_layouts::text;
 use crate::line::{Line, named};
+use crate::out::Out;
 use crate::print::{write_align, write_true};
 use crate::stop::{Clause, Name, Stop};
-use abi_base::{Align, Integer, Numeric, Primitive, RegKind, Size, TargetDataLayout};
-use abi_text::write_primitive;
+use abi_base::{Integer, Numeric, Primitive, RegKind, Size, TargetDataLayout};
 use abi_types::{CVariadicStatus, ExternAbi, Reg, all_names};
 use std::alloc::{AllocError, Global};
 
 /// Writes a register: its kind and its size in bytes.
-pub(crate) fn write_reg(out: &mut String, reg: Reg) -> Result<(), AllocError> {
-    let size = reg.size.bytes();
-    match reg.kind {
-        RegKind::Integer => write!(out, "Integer {size}"),
-        RegKind::Float => write!(out, "Float {size}"),
-        RegKind::PpcF128 => write!(out, "PpcF128 {size}"),
-        RegKind::Vector { hint_vector_elem } => {
-            write!(out, "Vector {size} of ")?;
-            write_primitive(out, hint_vector_elem)
-        }
+pub(crate) fn write_reg(out: &mut Out, reg: Reg) {
+    out.text(kind_name(reg.kind));
+    out.put(" ", reg.size.bytes());
+    if let RegKind::Vector { hint_vector_elem } = reg.kind {
+        out.text(" of ");
+        out.primitive(hint_vector_elem);
     }
 }
 
-/// Kinds of registers.
-#[derive(Clone, Copy)]
-enum KindWord {
-    Integer,
-    Float,
-    Ppcf128,
-    Vector,
-}
-
-const KIND_WORDS: [(&[u8], KindWord); 4] = [
-    (b"Integer", KindWord::Integer),
-    (b"Float", KindWord::Float),
-    (b"PpcF128", KindWord::Ppcf128),
-    (b"Vector", KindWord::Vector),
+const KINDS: [(&[u8], RegKind); 4] = [
+    (b"Integer", RegKind::Integer),
+    (b"Float", RegKind::Float),
+    (b"PpcF128", RegKind::PpcF128),
+    (b"Vector", SIGNED_BYTES),
 ];
 
-/// A kind of register; a vector is one of signed bytes.
-fn kind(line: &mut Line<'_>) -> Result<RegKind, Stop> {
-    match named(&KIND_WORDS, line.word()?) {
-        Some(KindWord::Integer) => Ok(RegKind::Integer),
-        Some(KindWord::Float) => Ok(RegKind::Float),
-        Some(KindWord::Ppcf128) => Ok(RegKind::PpcF128),
-        Some(KindWord::Vector) => Ok(RegKind::Vector {
-            hint_vector_elem: Primitive::Int(Integer::I8, true),
-        }),
-        None => Err(line.misfit()),
+/// A vector of signed bytes.
+const SIGNED_BYTES: RegKind = RegKind::Vector {
+    hint_vector_elem: Primitive::Int(Integer::I8, true),
+};
+
+/// Whether a register has an alignment.
+fn has_align(dl: &TargetDataLayout, reg: Reg) -> bool
+    ensures { IsTrue result → HasAlign dl.now reg }
+{
+    let bytes = reg.size.bytes();
+    match reg.kind {
+        RegKind::Integer => bytes >= 1 && bytes <= 16,
+        RegKind::Float => bytes == 2 || bytes == 4 || bytes == 8 || bytes == 16,
+        RegKind::PpcF128 => true,
+        RegKind::Vector { .. } => bytes <= 1 << 29 || dl.vector_align.get(reg.size).is_some(),
     }
 }
 
-/// The alignment of a register of so many bytes.
-fn reg_align(dl: &TargetDataLayout, kind: RegKind, bytes: u64) -> Result<Align, Stop> {
-    let size = Size::from_bytes(bytes);
+/// Writes the alignment of the register of the kind and the size that are next.
+fn write_reg_align(line: &mut Line<'_>, out: &mut Out, dl: &TargetDataLayout) {
+    let kind = line.one_of(&KINDS, RegKind::Integer);
+    let size = Size::from_bytes(line.number());
     let reg = Reg { kind, size };
-    match kind {
-        RegKind::Integer if bytes >= 1 && bytes <= 16 => Ok(reg.align(dl)),
-        RegKind::Float if bytes == 2 || bytes == 4 || bytes == 8 || bytes == 16 => {
-            Ok(reg.align(dl))
-        }
-        RegKind::PpcF128 => Ok(reg.align(dl)),
-        RegKind::Vector { .. } if bytes <= 1 << 29 || dl.vector_align.get(size).is_some() => {
-            Ok(reg.align(dl))
-        }
-        _ => Err(Stop::Asks(Clause::Align)),
+    if has_align(dl, reg) {
+        write_align(out, reg.align(dl));
+    } else {
+        line.lacks(Clause::Align);
     }
 }
 
@@ -96,20 +87,19 @@ const REG_WORDS: [(&[u8], RegWord); 10] = [
     (b"opaque-vector", RegWord::OpaqueVector),
 ];
 
-/// The register of a name.
-fn reg_named(line: &mut Line<'_>) -> Result<Reg, Stop> {
-    match named(&REG_WORDS, line.word()?) {
-        Some(RegWord::I8) => Ok(Reg::i8()),
-        Some(RegWord::I16) => Ok(Reg::i16()),
-        Some(RegWord::I32) => Ok(Reg::i32()),
-        Some(RegWord::I64) => Ok(Reg::i64()),
-        Some(RegWord::I128) => Ok(Reg::i128()),
-        Some(RegWord::F16) => Ok(Reg::f16()),
-        Some(RegWord::F32) => Ok(Reg::f32()),
-        Some(RegWord::F64) => Ok(Reg::f64()),
-        Some(RegWord::F128) => Ok(Reg::f128()),
-        Some(RegWord::OpaqueVector) => Ok(Reg::opaque_vector(Size::from_bytes(line.number()?))),
-        None => Err(line.misfit()),
+/// The register of the name that is next.
+fn reg_named(line: &mut Line<'_>) -> Reg {
+    match line.one_of(&REG_WORDS, RegWord::I8) {
+        RegWord::I8 => Reg::i8(),
+        RegWord::I16 => Reg::i16(),
+        RegWord::I32 => Reg::i32(),
+        RegWord::I64 => Reg::i64(),
+        RegWord::I128 => Reg::i128(),
+        RegWord::F16 => Reg::f16(),
+        RegWord::F32 => Reg::f32(),
+        RegWord::F64 => Reg::f64(),
+        RegWord::F128 => Reg::f128(),
+        RegWord::OpaqueVector => Reg::opaque_vector(Size::from_bytes(line.number())),
     }
 }
 
@@ -123,39 +113,35 @@ fn kind_name(kind: RegKind) -> &'static str {
     }
 }
 
-/// The kind of register that the numeric that is next is passed in.
-fn numeric_kind(line: &mut Line<'_>, primitive: Primitive) -> Result<RegKind, Stop> {
-    match primitive {
-        Primitive::Int(integer, signed) => Ok(Numeric::Int(integer, signed).reg_kind()),
-        Primitive::Float(float) => Ok(Numeric::Float(float).reg_kind()),
-        Primitive::Pointer(_) => Err(line.misfit()),
-    }
+/// Writes the kind of register that the numeric is passed in.
+fn write_numeric_kind(line: &mut Line<'_>, out: &mut Out, primitive: Primitive) {
+    let numeric = match primitive {
+        Primitive::Int(integer, signed) => Numeric::Int(integer, signed),
+        Primitive::Float(float) => Numeric::Float(float),
+        Primitive::Pointer(_) => return line.misfit(),
+    };
+    out.text(kind_name(numeric.reg_kind()));
 }
 
-/// The convention of a name.
-fn convention(line: &mut Line<'_>) -> Result<ExternAbi, Stop> {
-    let word = line.word()?;
-    let text = line.fits(str::from_utf8(word).ok())?;
-    match text.parse::<ExternAbi>() {
-        Ok(abi) => Ok(abi),
-        Err(_) => Err(Stop::Refused(Name::Unknown)),
+/// The convention of the name that is next.
+fn convention(line: &mut Line<'_>) -> ExternAbi {
+    match text(line).parse::<ExternAbi>() {
+        Ok(abi) => abi,
+        Err(_) => {
+            line.stop(Stop::Refused(Name::Unknown));
+            ExternAbi::Rust
+        }
     }
-}
-
-/// The convention of a number.
-fn convention_of_number(line: &mut Line<'_>) -> Result<ExternAbi, Stop> {
-    let number = line.byte()?;
-    if number >= 40 {
-        return Err(Stop::Asks(Clause::Number));
-    }
-    Ok(ExternAbi::from_packed(number))
 }
 
 /// Writes a convention's number and name, and what it is fit for.
-fn write_convention(out: &mut String, abi: ExternAbi) -> Result<(), AllocError> {
-    let number = abi.as_packed();
-    let name = abi.as_str();
-    write!(out, "{number} {name} {abi} ")?;
+fn write_convention(out: &mut Out, abi: ExternAbi) {
+    out.put("", u64::from(abi.as_packed()));
+    out.text(" ");
+    out.text(abi.as_str());
+    out.text(" ");
+    out.shown(&abi);
+    out.text(" ");
     let variadic = abi.supports_c_variadic();
     write_true(
         out,
@@ -165,7 +151,17 @@ fn write_convention(out: &mut String, abi: ExternAbi) -> Result<(), AllocError> 
             ("tail-call", abi.supports_guaranteed_tail_call()),
             ("fn-trait", abi.is_fn_trait_compatible()),
         ],
-    )
+    );
+}
+
+/// Writes the convention of the number that is next.
+fn write_numbered(line: &mut Line<'_>, out: &mut Out) {
+    let number = line.byte();
+    if number < 40 {
+        write_convention(out, ExternAbi::from_packed(number));
+    } else {
+        line.lacks(Clause::Number);
+    }
 }
 
 /// How a convention stands to another.
@@ -201,30 +197,22 @@ fn call_on_registers(
     dl: &TargetDataLayout,
     name: &[u8],
     line: &mut Line<'_>,
-    out: &mut String,
-) -> Result<bool, Stop> {
+    out: &mut Out,
+) -> bool {
     match named(&REG_CALLS, name) {
-        Some(RegCall::RegAlign) => {
-            let kind = kind(line)?;
-            let bytes = line.number()?;
-            let align = reg_align(dl, kind, bytes)?;
-            write_align(out, align)?;
-        }
-        Some(RegCall::Reg) => {
-            let reg = reg_named(line)?;
-            write_reg(out, reg)?;
-        }
+        Some(RegCall::RegAlign) => write_reg_align(line, out, dl),
+        Some(RegCall::Reg) => write_reg(out, reg_named(line)),
         Some(RegCall::RegKind) => {
-            let primitive = line.scalar(alloc, dl)?.primitive();
-            out.push_str(kind_name(RegKind::from_primitive(primitive)))?;
+            let primitive = line.primitive(alloc, dl);
+            out.text(kind_name(RegKind::from_primitive(primitive)));
         }
         Some(RegCall::NumericRegKind) => {
-            let primitive = line.scalar(alloc, dl)?.primitive();
-            out.push_str(kind_name(numeric_kind(line, primitive)?))?;
+            let primitive = line.primitive(alloc, dl);
+            write_numeric_kind(line, out, primitive);
         }
-        None => return Ok(false),
+        None => return false,
     }
-    Ok(true)
+    true
 }
 
 /// Calls on conventions.
@@ -244,38 +232,34 @@ const CONVENTION_CALLS: [(&[u8], ConventionCall); 4] = [
 ];
 
 /// Writes the names of all conventions.
-fn write_names(alloc: Global, out: &mut String) -> Result<(), AllocError> {
+fn write_names(alloc: Global, out: &mut Out) -> Result<(), AllocError> {
     let names = all_names(alloc)?;
     let mut between = "";
     for name in &names {
-        out.push_str(between)?;
-        out.push_str(*name)?;
+        out.text(between);
+        out.text(*name);
         between = " ";
     }
     Ok(())
 }
 
 /// Answers a call on conventions of this name; whether there is one.
-fn call_on_conventions(
-    alloc: Global,
-    name: &[u8],
-    line: &mut Line<'_>,
-    out: &mut String,
-) -> Result<bool, Stop> {
+fn call_on_conventions(alloc: Global, name: &[u8], line: &mut Line<'_>, out: &mut Out) -> bool {
     match named(&CONVENTION_CALLS, name) {
-        Some(ConventionCall::Convention) => write_convention(out, convention(line)?)?,
-        Some(ConventionCall::ConventionNumber) => write_convention(
-            out,
-            convention_of_number(line)?,
-        )?,
+        Some(ConventionCall::Convention) => write_convention(out, convention(line)),
+        Some(ConventionCall::ConventionNumber) => write_numbered(line, out),
         Some(ConventionCall::ConventionOrder) => {
-            let first = convention(line)?;
-            out.push_str(order(first, convention(line)?))?
+            let first = convention(line);
+            out.text(order(first, convention(line)));
         }
-        Some(ConventionCall::ConventionNames) => write_names(alloc, out)?,
-        None => return Ok(false),
+        Some(ConventionCall::ConventionNames) => {
+            if write_names(alloc, out).is_err() {
+                out.cut();
+            }
+        }
+        None => return false,
     }
-    Ok(true)
+    true
 }
 
 /// Answers a call of this name; whether there is one.
@@ -284,12 +268,12 @@ pub(crate) fn call(
     dl: &TargetDataLayout,
     name: &[u8],
     line: &mut Line<'_>,
-    out: &mut String,
-) -> Result<bool, Stop> {
-    let is_known = call_on_registers(alloc, dl, name, line, out)?
-        || call_on_conventions(alloc, name, line, out)?;
+    out: &mut Out,
+) -> bool {
+    let is_known = call_on_registers(alloc, dl, name, line, out)
+        || call_on_conventions(alloc, name, line, out);
     if is_known {
-        line.end()?;
+        line.end();
     }
-    Ok(is_known)
+    is_known
 }

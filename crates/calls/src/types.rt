@@ -6,8 +6,9 @@ ghost use Rattle.std.specs.Prelude.{IsTrue};
 ghost use Rattle.abi_laid.specs.Handles.{IsHandle};
 ghost use Rattle.abi_types.specs.Ty.Runs.{IsVariantIndex};
 
-use crate::layouts::Layout;
+use crate::layouts::{Layout, laid_type};
 use crate::line::{Line, named};
+use crate::out::Out;
 use crate::print::{write_layout, write_runs, write_true};
 use crate::registers::write_reg;
 use crate::stop::{Clause, Stop};
@@ -17,11 +18,10 @@ use abi_index::VariantIdx;
 use abi_laid::Laid;
 use abi_scalar::Variants;
 use abi_types::{Heterogeneous, HomogeneousAggregate};
-use rustc_abi::lay_out;
 use std::alloc::{AllocError, Global};
 
 /// Writes what a type tells that it is.
-fn write_marks(out: &mut String, it: Handle<'_>) -> Result<(), AllocError>
+fn write_marks(out: &mut Out, it: Handle<'_>)
     requires { IsHandle it }
 {
     write_true(
@@ -38,7 +38,7 @@ fn write_marks(out: &mut String, it: Handle<'_>) -> Result<(), AllocError>
             ("indirect", it.pass_indirectly_in_non_rustic_abis(&())),
             ("varies", it.has_variant_dependent_padding(&())),
         ],
-    )
+    );
 }
 
 /// The index of the only field that is more than a place, if there is one.
@@ -62,15 +62,15 @@ fn only_of_bytes(it: Handle<'_>) -> Option<u32>
 }
 
 /// Writes an index, or that there is none.
-fn write_index(out: &mut String, index: Option<u32>) -> Result<(), AllocError> {
+fn write_index(out: &mut Out, index: Option<u32>) {
     match index {
-        Some(index) => write!(out, "{index}"),
-        None => out.push_str("none"),
+        Some(index) => out.number(u64::from(index)),
+        None => out.text("none"),
     }
 }
 
 /// Writes what a layout tells of itself.
-fn write_facts(out: &mut String, layout: &Layout) -> Result<(), AllocError> {
+fn write_facts(out: &mut Out, layout: &Layout) {
     write_true(
         out,
         &[
@@ -84,17 +84,17 @@ fn write_facts(out: &mut String, layout: &Layout) -> Result<(), AllocError> {
             ("unsized", layout.is_unsized()),
             ("scalable-vector", layout.is_scalable_vector()),
         ],
-    )
+    );
 }
 
 /// Writes the register that a type is uniform with.
-fn write_uniform(out: &mut String, it: Handle<'_>) -> Result<(), AllocError>
+fn write_uniform(out: &mut Out, it: Handle<'_>)
     requires { IsHandle it }
 {
     match it.homogeneous_aggregate(&()) {
         Ok(HomogeneousAggregate::Homogeneous(reg)) => write_reg(out, reg),
-        Ok(HomogeneousAggregate::NoData) => out.push_str("NoData"),
-        Err(Heterogeneous) => out.push_str("Heterogeneous"),
+        Ok(HomogeneousAggregate::NoData) => out.text("NoData"),
+        Err(Heterogeneous) => out.text("Heterogeneous"),
     }
 }
 
@@ -114,18 +114,19 @@ fn is_variant(layout: &Layout, index: VariantIdx) -> bool
 }
 
 /// Writes the padding of a type, by any of its variants.
-fn write_padding(alloc: Global, out: &mut String, it: Handle<'_>) -> Result<(), Stop>
+fn write_padding(alloc: Global, out: &mut Out, it: Handle<'_>) -> Result<(), Stop>
     requires { IsHandle it }
 {
     if it.data().is_unsized() {
         return Err(Stop::Asks(Clause::Sized));
     }
     let padding = it.variant_independent_padding_ranges(alloc, &())?;
-    Ok(write_runs(out, &padding)?)
+    write_runs(out, &padding);
+    Ok(())
 }
 
 /// Writes the bytes that other variants of a type use, and this one doesn't.
-fn write_unused(alloc: Global, out: &mut String, it: Handle<'_>, index: u64) -> Result<(), Stop>
+fn write_unused(alloc: Global, out: &mut Out, it: Handle<'_>, index: u64) -> Result<(), Stop>
     requires { IsHandle it }
 {
     let index = variant_of(index)?;
@@ -133,7 +134,23 @@ fn write_unused(alloc: Global, out: &mut String, it: Handle<'_>, index: u64) -> 
         return Err(Stop::Asks(Clause::Variant));
     }
     let unused = it.variant_dependent_padding_ranges(alloc, &(), index)?;
-    Ok(write_runs(out, &unused)?)
+    write_runs(out, &unused);
+    Ok(())
+}
+
+/// Writes whether a type is passed as one vector of so many bytes.
+fn write_single(out: &mut Out, it: Handle<'_>, bytes: u64)
+    requires { IsHandle it }
+{
+    out.truth(it.is_single_vector_element(&(), Size::from_bytes(bytes)));
+}
+
+/// Writes the layout of what a type is within its transparent wrappers.
+fn write_peeled(alloc: Global, out: &mut Out, it: Handle<'_>)
+    requires { IsHandle it }
+{
+    let peeled = it.peel_transparent_wrappers_from_non_1zst(&());
+    write_layout(alloc, out, peeled.data());
 }
 
 /// Calls on types.
@@ -172,33 +189,38 @@ fn answer(
     call: TypeCall,
     number: u64,
     it: Handle<'_>,
-    out: &mut String,
+    out: &mut Out,
 ) -> Result<(), Stop>
     requires { IsHandle it }
 {
     match call {
-        TypeCall::Layout => write_layout(alloc, out, it.data())?,
-        TypeCall::Seed => {
-            let seed = it.data().randomization_seed.as_u64();
-            write!(out, "{seed}")?
-        }
-        TypeCall::Facts => write_facts(out, it.data())?,
-        TypeCall::Marks => write_marks(out, it)?,
-        TypeCall::Non1ZstField => write_index(out, only_field(it))?,
-        TypeCall::NonZstField => write_index(out, only_of_bytes(it))?,
-        TypeCall::Peel => {
-            let peeled = it.peel_transparent_wrappers_from_non_1zst(&());
-            write_layout(alloc, out, peeled.data())?
-        }
-        TypeCall::SingleVector => {
-            let holds = it.is_single_vector_element(&(), Size::from_bytes(number));
-            write!(out, "{holds}")?
-        }
-        TypeCall::Uniform => write_uniform(out, it)?,
-        TypeCall::Padding => write_padding(alloc, out, it)?,
-        TypeCall::Unused => write_unused(alloc, out, it, number)?,
+        TypeCall::Layout => write_layout(alloc, out, it.data()),
+        TypeCall::Seed => out.number(it.data().randomization_seed.as_u64()),
+        TypeCall::Facts => write_facts(out, it.data()),
+        TypeCall::Marks => write_marks(out, it),
+        TypeCall::Non1ZstField => write_index(out, only_field(it)),
+        TypeCall::NonZstField => write_index(out, only_of_bytes(it)),
+        TypeCall::Peel => write_peeled(alloc, out, it),
+        TypeCall::SingleVector => write_single(out, it, number),
+        TypeCall::Uniform => write_uniform(out, it),
+        TypeCall::Padding => return write_padding(alloc, out, it),
+        TypeCall::Unused => return write_unused(alloc, out, it, number),
     }
     Ok(())
+}
+
+/// Answers a call on the handle that the next words lead to, from a laid-out type on.
+fn answer_part(
+    alloc: Global,
+    call: TypeCall,
+    number: u64,
+    laid: &Laid,
+    line: &mut Line<'_>,
+    out: &mut Out,
+) -> Result<(), Stop> {
+    let it = handle(line, laid.root())?;
+    line.end();
+    answer(alloc, call, number, it, out)
 }
 
 /// Calls on a laid-out type as a whole.
@@ -218,22 +240,50 @@ fn answer_laid(
     alloc: Global,
     call: LaidCall,
     laid: &Laid,
-    out: &mut String,
+    out: &mut Out,
 ) -> Result<(), AllocError> {
-    let count = laid.node_count();
+    let count = laid.node_count() as u64;
     match call {
-        LaidCall::NodeCount => write!(out, "{count}"),
+        LaidCall::NodeCount => out.number(count),
         LaidCall::Padding => {
             let (padding, visits) = laid.padding(alloc)?;
-            write_runs(out, &padding)?;
-            write!(out, " reads {visits} of {count}")
+            write_runs(out, &padding);
+            out.put(" reads ", visits as u64);
+            out.put(" of ", count);
         }
     }
+    Ok(())
 }
 
 /// Whether a call has a number before its type.
 fn has_number(call: TypeCall) -> bool {
     matches!(call, TypeCall::SingleVector | TypeCall::Unused)
+}
+
+/// Answers a call on the type that is next, as a whole.
+fn call_on_laid(
+    alloc: Global,
+    dl: &TargetDataLayout,
+    call: LaidCall,
+    line: &mut Line<'_>,
+    out: &mut Out,
+) -> Result<(), Stop> {
+    let laid = laid_type(alloc, dl, line)?;
+    line.end();
+    Ok(answer_laid(alloc, call, &laid, out)?)
+}
+
+/// Answers a call on the type that is next, or on a part of it.
+fn call_on_part(
+    alloc: Global,
+    dl: &TargetDataLayout,
+    call: TypeCall,
+    line: &mut Line<'_>,
+    out: &mut Out,
+) -> Result<(), Stop> {
+    let number = if has_number(call) { line.number() } else { 0 };
+    let laid = laid_type(alloc, dl, line)?;
+    answer_part(alloc, call, number, &laid, line, out)
 }
 
 /// Answers a call of this name; whether there is one.
@@ -242,23 +292,15 @@ pub(crate) fn call(
     dl: &TargetDataLayout,
     name: &[u8],
     line: &mut Line<'_>,
-    out: &mut String,
-) -> Result<bool, Stop> {
-    if let Some(call) = named(&LAID_CALLS, name) {
-        let tree = line.tree(alloc, dl)?;
-        let laid = lay_out(alloc, dl, &tree)?;
-        line.end()?;
-        answer_laid(alloc, call, &laid, out)?;
-        return Ok(true);
-    }
-    let Some(call) = named(&TYPE_CALLS, name) else {
-        return Ok(false);
+    out: &mut Out,
+) -> bool {
+    let done = if let Some(call) = named(&LAID_CALLS, name) {
+        call_on_laid(alloc, dl, call, line, out)
+    } else if let Some(call) = named(&TYPE_CALLS, name) {
+        call_on_part(alloc, dl, call, line, out)
+    } else {
+        return false;
     };
-    let number = if has_number(call) { line.number()? } else { 0 };
-    let tree = line.tree(alloc, dl)?;
-    let laid = lay_out(alloc, dl, &tree)?;
-    let it = handle(line, laid.root())?;
-    line.end()?;
-    answer(alloc, call, number, it, out)?;
-    Ok(true)
+    line.keep(done);
+    true
 }

@@ -32,7 +32,7 @@ use Rattle.map.proofs.PaddingLemmas.{VariantsListed, any_has, no_names, none_has
 abbrev ListsVariants : Placed → Type 0
 ListsVariants p = (t : Typed) → Sees t p → VariantsListed t
 
-none_beside : (vs : Variants ℕ ℕ) (v : ℕ) → variants_of vs ≡ [] → IsBeside vs v → ⊥
+pub none_beside : (vs : Variants ℕ ℕ) (v : ℕ) → variants_of vs ≡ [] → IsBeside vs v → ⊥
 none_beside Empty v e h = h
 none_beside (Single i) v e h = h
 none_beside (Multiple tag encoding at layouts) v e h = omega (arith, h, ap (λ (ls : List (VariantLayout ℕ)). length ls) e)

@@ -5,3 +5,5 @@ pub mod RunLemmas
 pub mod PaddingLemmas
 pub mod LaidLemmas
 pub mod SizedLemmas
+pub mod OneMap
+pub mod SomeMap

@@ -54,14 +54,14 @@ any_flat : (f : ℕ → List Part) (k : ℕ) (vs : List ℕ) → any_has (flat_m
 any_flat f k [] = refl
 any_flat f k (v ∷ vs) = list_any-append (λ (part : Part). part.has k) (f v) (flat_map f vs) ∙ ap (λ b. any_has (f v) k || b) (any_flat f k vs)
 
-any_same : (p q : ℕ → Bool) (n low : ℕ) → ((i : ℕ) → low ≤ i → i < low + n → p i ≡ q i) → list_any p (range_with_len low n) ≡ list_any q (range_with_len low n)
+pub any_same : (p q : ℕ → Bool) (n low : ℕ) → ((i : ℕ) → low ≤ i → i < low + n → p i ≡ q i) → list_any p (range_with_len low n) ≡ list_any q (range_with_len low n)
 any_same p q zero low same = refl
 any_same p q (suc n) low same =
     ap (λ b. b || list_any p (range_with_len (low + 1) n)) (same low (omega arith) (omega arith)) ∙ ap (λ b. q low || b) (any_same p q n (low + 1) (λ i from below. same i (omega arith) (omega arith)))
 
 -- ---- one type
 
-place_by : (t : Typed) (k : ℕ) → is_place t k ≡ (is_shared_place t k || variants_cover (layout_in t).variants (λ v. is_place (variant_in t v)) k)
+pub place_by : (t : Typed) (k : ℕ) → is_place t k ≡ (is_shared_place t k || variants_cover (layout_in t).variants (λ v. is_place (variant_in t v)) k)
 place_by (typed l m f v) k = refl
 place_by no_type k = sym (ap (λ b. b || false) (le-ltb k 0 (omega arith)))
 
@@ -117,7 +117,7 @@ own_have t k covers is = by (layout_in t).fields refl
 abbrev pub VariantsListed : Typed → Type 0
 VariantsListed t = (v : ℕ) → IsBeside (layout_in t).variants v → IsListed (layout_in (variant_in t v)).fields × (variants_of (layout_in (variant_in t v)).variants ≡ [])
 
-alone_cover : (vs : Variants ℕ ℕ) (own : ℕ → ℕ → Bool) (k : ℕ) → variants_of vs ≡ [] → variants_cover vs own k ≡ false
+pub alone_cover : (vs : Variants ℕ ℕ) (own : ℕ → ℕ → Bool) (k : ℕ) → variants_of vs ≡ [] → variants_cover vs own k ≡ false
 alone_cover Empty own k e = refl
 alone_cover (Single i) own k e = refl
 alone_cover (Multiple tag encoding at layouts) own k e = ap (λ (ls : List (VariantLayout ℕ)). list_any (λ v. own v k) (range_with_len 0 (length ls))) e

@@ -193,14 +193,14 @@ IsCounted (single layout mark index parts) = field_count layout.fields ≡ part_
 IsCounted (tagged layout mark offset tag encoding arms) = (field_count layout.fields ≡ 1) × ((v : ℕ) → IsBeside layout.variants v → v < arm_count arms)
 IsCounted (states layout prefix offset tag arms) = (field_count layout.fields ≡ part_count prefix + 1) × ((v : ℕ) → IsBeside layout.variants v → v < arm_count arms)
 
-fields_counted : (layout : Layout) (offsets : List ℕ) (ps : List Placed) → AreFields layout offsets ps → field_count layout.fields ≡ part_count (parts_at offsets ps)
+pub fields_counted : (layout : Layout) (offsets : List ℕ) (ps : List Placed) → AreFields layout offsets ps → field_count layout.fields ≡ part_count (parts_at offsets ps)
 fields_counted layout offsets ps all = ap field_count all.shape ∙ sym (count_at offsets ps all.count)
 
-zeros_counted : (ps : List Placed) → part_count (parts_at_0 ps) ≡ length ps
+pub zeros_counted : (ps : List Placed) → part_count (parts_at_0 ps) ≡ length ps
 zeros_counted ps = count_at (map (λ p. 0) ps) ps (length-map {B = ℕ} ps (λ p. 0)) ∙ length-map {B = ℕ} ps (λ p. 0)
 
 -- prefix fields, behind which one offset more stands
-front_counted : (offsets : List ℕ) (ps : List Placed) → length offsets ≡ length ps + 1 → part_count (parts_at offsets ps) + 1 ≡ length offsets
+pub front_counted : (offsets : List ℕ) (ps : List Placed) → length offsets ≡ length ps + 1 → part_count (parts_at offsets ps) + 1 ≡ length offsets
 front_counted [] ps e = absurd (omega (arith, e))
 front_counted (o ∷ offsets) [] e = omega (arith, e)
 front_counted (o ∷ offsets) (p ∷ ps) e = omega (arith, front_counted offsets ps (omega (arith, e)))

@@ -1,8 +1,8 @@
 //! Which parts have a byte.
 
-ghost use Rattle.std.specs.Prelude.{◌≡◌, ℕ, ◌+◌, ◌<◌, ◌≤◌, ◌^◌, IfOk, OnOk, get_or, length, map};
+ghost use Rattle.std.specs.Prelude.{◌≡◌, ℕ, ◌+◌, ◌<◌, ◌≤◌, ◌^◌, [], IfOk, OnOk, get_or, length, map};
 ghost use Rattle.map.specs.Parts.{part_told};
-ghost use Rattle.map.specs.Covering.{AreAscending, HaveNames, PutsNames, name_in, name_of};
+ghost use Rattle.map.specs.Covering.{AreAscending, HaveNames, PutsNames, name_in, name_of, names_of};
 
 use crate::part::{Name, PartBytes};
 use std::alloc::{AllocError, Global};
@@ -53,6 +53,18 @@ fn put_part(starts: &[u64], names: &mut Vec<Vec<Name>>, part: &PartBytes) -> Res
     Ok(())
 }
 
+/// So many lists, each without a name.
+fn no_names(alloc: Global, count: usize) -> Result<Vec<Vec<Name>>, AllocError>
+    ensures long { IfOk result (λ names. length names.items ≡ count) }
+    ensures none { IfOk result (λ names. (s : ℕ) → names_of names.items s ≡ []) }
+{
+    let mut names = Vec::with_capacity(alloc, count)?;
+    for _ in 0..count {
+        names.push(Vec::new(alloc))?;
+    }
+    Ok(names)
+}
+
 /// The names of the parts that have each of the starts.
 pub(crate) fn names_at(
     alloc: Global,
@@ -62,10 +74,7 @@ pub(crate) fn names_at(
     requires { AreAscending starts.now }
     ensures { IfOk result (λ names. HaveNames (map part_told parts.now) starts.now names.items) }
 {
-    let mut names = Vec::with_capacity(alloc, starts.len())?;
-    for _ in 0..starts.len() {
-        names.push(Vec::new(alloc))?;
-    }
+    let mut names = no_names(alloc, starts.len())?;
     for part in parts {
         put_part(starts, &mut names, part)?;
     }

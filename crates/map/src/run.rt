@@ -1,7 +1,7 @@
 //! The program over any reader and writer.
 
-ghost use Rattle.std.specs.Prelude.{IfSome};
-ghost use Rattle.abi_text.specs.Output.{Answered, IsOutputOf};
+ghost use Rattle.std.specs.Prelude.{◌≡◌, ℕ, IfSome, List};
+ghost use Rattle.abi_text.specs.Output.{Answered, IsOutputOf, Output};
 ghost use Rattle.map.specs.Map.{TellsMap};
 ghost use Rattle.map.specs.Runs.{PaddingHasNoName, RunsFollow};
 
@@ -18,6 +18,8 @@ use std::io::{Read, Write};
 pub fn run<R: Read, W: Write>(alloc: Global, input: &mut R, output: &mut W) -> u8
     ensures answered { IfSome (R.remaining input.old) (λ all.
         Answered (W.contents output.old) (W.contents output.new) (IsOutputOf TellsMap all) result) }
+    ensures some { (all : List ℕ) → (output : Output) × IsOutputOf TellsMap all output }
+    ensures one { (all : List ℕ) (a b : Output) → IsOutputOf TellsMap all a → IsOutputOf TellsMap all b → a ≡ b }
     ensures runs { RunsFollow }
     ensures padding { PaddingHasNoName }
 {

@@ -110,7 +110,7 @@ fn add_two(
     ensures err { IfErr result (IsRefusal (pair_answer dl.now a b)) }
     ensures behind { AreStillThere nodes.old.items nodes.new.items }
 {
-    let layout = LayoutData::scalar_pair(alloc, &dl, a, b)?;
+    let layout = LayoutData::scalar_pair(alloc, &dl, a, b);
     if layout.size.bytes() >= dl.obj_size_bound() {
         return Err(LayError::SizeOverflow);
     }

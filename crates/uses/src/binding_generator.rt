@@ -7,6 +7,7 @@ ghost use Rattle.abi_laid.specs.Tree.{Tree, Trees, tree_of, trees};
 ghost use Rattle.rustc_abi.specs.Fault.{IsRefusedFor};
 ghost use Rattle.rustc_abi.specs.Laying.{AreLaying};
 ghost use Rattle.uses.specs.InC.{IsInC, LieAsInC};
+ghost use Rattle.uses.specs.Loaded.{HasLayout};
 
 use rustc_abi::{
     Align, FieldIdx, FieldsShape, IndexVec, LayError, ReprFlags, ReprOptions, Size,
@@ -43,6 +44,7 @@ fn struct_of(alloc: Global, dl: &TargetDataLayout, tree: &TypeTree) -> Result<CS
     ensures placed { IfOk result (λ c. (fields : Trees) → IsInC (tree_of tree.now) fields →
         (placed : List Placed) × AreLaying dl.now fields (Ok placed) ×
         LieAsInC dl.now.aggregate_align placed c.offsets c.size c.align) }
+    ensures laid { IfOk result (λ _. HasLayout dl.now (tree_of tree.now)) }
     ensures refused { IfErr result (IsRefusedFor dl.now (tree_of tree.now)) }
 {
     let laid = lay_out(alloc, dl, tree)?;
@@ -73,7 +75,9 @@ pub fn c_offsets(
         AreLaying dl.now (trees (map tree_of fields.items)) (Ok placed) ×
         LieAsInC dl.now.aggregate_align placed c.offsets c.size c.align) }
 
-    // It is refused where the struct is, or memory.
+    // It is answered only where the struct has a layout, and refused only where it has none, or memory is wanting.
+    ensures laid { IfOk result (λ _. (tree : Tree) ×
+        IsInC tree (trees (map tree_of fields.items)) × HasLayout dl.now tree) }
     ensures refused { IfErr result (λ e. (tree : Tree) ×
         IsInC tree (trees (map tree_of fields.items)) × IsRefusedFor dl.now tree e) }
 {

@@ -13,7 +13,7 @@ ghost use Rattle.abi_scalar.specs.Scalar.{IsBool, IsNumberOf, scalar_size};
 ghost use Rattle.abi_scalar.specs.declared.scalar.Scalar.{Scalar as Seen};
 ghost use Rattle.rustc_abi.specs.Fault.{IsRefusedFor};
 ghost use Rattle.rustc_abi.specs.Laying.{IsLaying};
-ghost use Rattle.uses.specs.Loaded.{IsSeenAs};
+ghost use Rattle.uses.specs.Loaded.{HasLayout, IsSeenAs};
 
 use rustc_abi::{
     BackendRepr, Endian, Laid, LayError, Scalar, TargetDataLayout, TypeTree, lay_out, read_value,
@@ -88,7 +88,8 @@ pub fn load(
     ensures bool { IfOk result (λ found. IfSome found (λ loaded. IsBool loaded.scalar →
         (loaded.number ≡ 0) ⊎ (loaded.number ≡ 1))) }
 
-    // It is refused where the type is, or memory.
+    // It is answered only where the type has a layout, and refused only where it has none, or memory is wanting.
+    ensures laid { IfOk result (λ _. HasLayout dl.now (tree_of tree.now)) }
     ensures refused { IfErr result (IsRefusedFor dl.now (tree_of tree.now)) }
 {
     let laid = lay_out(alloc, dl, tree)?;

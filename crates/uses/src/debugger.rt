@@ -20,6 +20,8 @@ use std::alloc::{AllocError, Global};
 pub fn read_back(alloc: Global, laid: &Laid, value: &Value) -> Result<Value, ValueError>
     requires kept { IsKept laid.now }
     ensures same { IfOk result (λ read. value_of read ≡ value_of value.now) }
+    ensures value { IfOk result (λ _. (dl : Target) (tree : Tree) → KeepsValues dl tree laid.now →
+        IsValueOf dl tree (placed_of laid.now) (value_of value.now)) }
     ensures not_a_value { IfErr result (λ e. e ≡ ValueError.NotAValue →
         (dl : Target) (tree : Tree) → KeepsValues dl tree laid.now →
         IsValueOf dl tree (placed_of laid.now) (value_of value.now) → ⊥) }

@@ -1,6 +1,6 @@
 //! A fuzzer: bytes of a value, changed at will.
 
-ghost use Rattle.std.specs.Prelude.{◌≡◌, ◌↔◌, ◌&&◌, IfOk, IfSome, None, false, if◌then◌else◌, slice_set};
+ghost use Rattle.std.specs.Prelude.{◌≡◌, ◌↔◌, ◌&&◌, ◌⊎◌, IfErr, IfOk, IfSome, None, false, if◌then◌else◌, slice_set};
 ghost use Rattle.abi_index.specs.RangeSet.{is_in_ranges};
 ghost use Rattle.abi_laid.specs.Deciding.{DifferAt, all_inhabited_of};
 ghost use Rattle.abi_laid.specs.Holding.{Holds};
@@ -53,8 +53,10 @@ pub fn ignore(
     ensures holds { (v : Meant) → Holds (endian_of laid.now) (placed_of laid.now) bytes.old v ↔
         Holds (endian_of laid.now) (placed_of laid.now) bytes.new v }
 
-    // Which byte was changed.
+    // Which byte was changed: where memory is wanting this one, or none.
     ensures changed { IfOk result (λ _. bytes.new ≡ with_padding (placed_of laid.now) bytes.old place byte) }
+    ensures no_other { IfErr result (λ _. (bytes.new ≡ bytes.old) ⊎
+        (bytes.new ≡ with_padding (placed_of laid.now) bytes.old place byte)) }
 {
     let (ranges, _visits) = laid.padding(alloc)?;
     put_in(&ranges, bytes, place, byte);

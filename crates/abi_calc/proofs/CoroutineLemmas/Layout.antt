@@ -3,7 +3,7 @@ use Rattle.std.proofs.Common.{◌≡◌, ℕ, ◌+◌, ◌-◌, ◌^◌, ◌<◌
 use Rattle.std.specs.Prelude.{All, IsPermutation, filter, nat_lt, not, sum_by}
 use Rattle.std.specs.List.{AllZip, range_with_len}
 use Rattle.std.proofs.lemmas.Bool.{ltb-false, lt-ltb, le-ltb}
-use Rattle.std.proofs.lemmas.List.{append_assoc, drop_more, get_or-map, length-map, map-id}
+use Rattle.std.proofs.lemmas.List.{append_assoc, drop_more, get_or-map, length-drop, length-map, map-id}
 use Rattle.std.proofs.lemmas.List.Elements.{All-cons, All-filter, All-map, filter-append, filter_passes}
 use Rattle.std.proofs.lemmas.List.FromFn.{length-range_with_len}
 use Rattle.std.proofs.lemmas.List.Sorted.{sum_by-IsPermutation}
@@ -22,6 +22,10 @@ use Rattle.abi_calc.specs.Coroutine.States.{HasFields, ranks_of, state_layout, s
 use Rattle.abi_calc.proofs.CoroutineLemmas.States.{kept_map, none_kept, range_split}
 use Rattle.abi_calc.proofs.EnumLemmas.Lists.{align_small}
 use Rattle.abi_calc.proofs.EnumLemmas.Tagged.{size_of_lists_small}
+
+-- behind the fields before them, the first list has an offset for each promoted local
+pub shared_count : (before count : ℕ) (offsets : List ℕ) → length offsets ≡ before + count → length (drop before offsets) ≡ count
+shared_count before count offsets are = length-drop before offsets ∙ omega (arith, are)
 
 -- ---- size and alignment
 

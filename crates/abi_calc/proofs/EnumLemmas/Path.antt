@@ -164,3 +164,16 @@ path_several layout_of repr variants true i j enum found more =
     ap (path_among (is_free repr))
     (present_after layout_of repr variants i found ∙ ap (λ rest. i ∷ rest) (filter_some p (i + 1) (length variants - (i + 1)) j more))
     ∙ several_free (is_free repr) i j (filter p (range_with_len (j + 1) (i + 1 + (length variants - (i + 1)) - (j + 1))))
+
+-- a variant is present, and the layout isn't free
+fixed_among : (free : Bool) (i : ℕ) (more : List ℕ) → free ≡ false → path_among free (i ∷ more) ≡ Several
+fixed_among true i more fixed = absurd (cc)
+fixed_among false i [] fixed = refl
+fixed_among false i (j ∷ more) fixed = refl
+
+-- so an enum has a tag
+pub path_fixed : {F V H : Type 0} (layout_of : H → LayoutData F V) (repr : ReprOptions) (variants : List (List H)) (is_enum : Bool) (i : ℕ) → is_enum ≡ true
+    → is_free repr ≡ false → found_from layout_of repr variants 0 ≡ Some i → path_of is_enum repr (map (map layout_of) variants) ≡ Several
+path_fixed layout_of repr variants false i enum fixed found = absurd (cc)
+path_fixed layout_of repr variants true i enum fixed found =
+    ap (path_among (is_free repr)) (present_after layout_of repr variants i found) ∙ fixed_among (is_free repr) i _ fixed

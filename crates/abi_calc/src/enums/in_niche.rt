@@ -1,6 +1,6 @@
 //! Enums whose tag lies in a niche of one variant: whether there is such a layout, and which.
 
-ghost use Rattle.std.specs.Prelude.{◌≡◌, ◌+◌, ◌^◌, ◌<◌, ◌≤◌, ◌==◌, ◌&&◌, All, IfErr, IfOk, Some, true, length, map, slice_get, if◌then◌else◌};
+ghost use Rattle.std.specs.Prelude.{◌≡◌, ◌+◌, ◌^◌, ◌<◌, ◌≤◌, ◌≢◌, ◌==◌, ◌&&◌, All, IfErr, IfOk, MatchBool, Some, true, length, map, slice_get, if◌then◌else◌};
 ghost use Rattle.abi_base.specs.DataLayout.{IsLawfulDataLayout};
 ghost use Rattle.abi_scalar.specs.Lawful.{IsLawfulLayout};
 ghost use Rattle.abi_scalar.specs.declared.backend_repr.BackendRepr.TheVariants.{Memory};
@@ -154,17 +154,18 @@ fn layout_in_niche<FieldIdx: Idx, VariantIdx: Idx>(
     let max_repr_align = greatest_repr_align(repr.align, lists.as_slice());
     let unadjusted_abi_align = greatest_unadjusted(dl.aggregate_align, lists.as_slice());
     let randomization_seed = seed_with(repr.field_shuffle_seed, lists.as_slice());
+    let offset = niche.offset;
     let room = room_beside(dl, niche, size);
     let Some(variants) = placed_variants(alloc, &room, untagged, lists)? else {
         return Ok(None);
     };
     let (start, tag) = handed;
-    let backend_repr = niche_view(fills, untagged, own_view, niche.offset, tag, &variants);
+    let backend_repr = niche_view(fills, untagged, own_view, offset, tag, &variants);
     let first = FieldIdx::new(0);
     Ok(Some(LayoutData {
         fields: FieldsShape::Arbitrary {
-            offsets: one(alloc, niche.offset)?,
-            in_memory_order: one(alloc, first)?,
+            offsets: one(alloc, offset),
+            in_memory_order: one(alloc, first),
         },
         variants: Variants::Multiple {
             tag,
@@ -173,7 +174,7 @@ fn layout_in_niche<FieldIdx: Idx, VariantIdx: Idx>(
             variants,
         },
         backend_repr,
-        largest_niche: Niche::from_scalar(dl, niche.offset, tag),
+        largest_niche: Niche::from_scalar(dl, offset, tag),
         uninhabited,
         align: AbiAlign::new(align),
         size,
@@ -253,6 +254,14 @@ fn any_niche<FieldIdx: Idx, VariantIdx: Idx, F: LayoutHandle<FieldIdx, VariantId
     false
 }
 
+/// Whether memory was refused.
+fn wants_memory<H>(error: &LayoutCalculatorError<H>) -> bool
+    ensures { MatchBool result (error.now ≡ LayoutCalculatorError.OutOfMemory)
+        (error.now ≢ LayoutCalculatorError.OutOfMemory) }
+{
+    matches!(error, LayoutCalculatorError::OutOfMemory)
+}
+
 impl<Cx: HasDataLayout> LayoutCalculator<Cx> {
     /// The layout of an enum with a niche, where there is one: none where C or an integer is asked for, where no field
     /// has a niche, or where some variant's fields have no layout as an always sized list. Only want of memory is an
@@ -291,8 +300,12 @@ impl<Cx: HasDataLayout> LayoutCalculator<Cx> {
                     Err(error) => Err(error.into()),
                 }
             }
-            Err(LayoutCalculatorError::OutOfMemory) => Err(LayoutCalculatorError::OutOfMemory),
-            Err(_) => Ok(None),
+            Err(error) => {
+                if wants_memory(&error) {
+                    return Err(LayoutCalculatorError::OutOfMemory);
+                }
+                Ok(None)
+            }
         }
     }
 }

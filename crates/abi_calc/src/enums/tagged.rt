@@ -120,8 +120,8 @@ fn layout_seen_as<FieldIdx: Idx, VariantIdx: Idx>(
     let first = FieldIdx::new(0);
     Ok(LayoutData {
         fields: FieldsShape::Arbitrary {
-            offsets: one(alloc, Size::ZERO)?,
-            in_memory_order: one(alloc, first)?,
+            offsets: one(alloc, Size::ZERO),
+            in_memory_order: one(alloc, first),
         },
         variants: Variants::Multiple {
             tag,

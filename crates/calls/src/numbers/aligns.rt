@@ -1,50 +1,48 @@
 //! Calls of alignments.
 
-ghost use Rattle.std.specs.Prelude.{◌≤◌, ◌<◌, ◌^◌, IfOk};
+ghost use Rattle.std.specs.Prelude.{◌≤◌};
 ghost use Rattle.abi_base.specs.DataLayout.{IsLawfulDataLayout};
 
 use crate::line::{Line, named};
+use crate::out::Out;
 use crate::print::write_align;
-use crate::stop::{Clause, Stop};
+use crate::stop::Clause;
 use abi_base::{AbiAlign, Align, AlignFromBytesError, Size, TargetDataLayout};
-use std::alloc::AllocError;
 
 /// An alignment within the limit.
-fn within(line: &mut Line<'_>) -> Result<Align, Stop>
-    ensures { IfOk result (λ align. align ≤ 29) }
+fn within(line: &mut Line<'_>) -> Align
+    ensures { result ≤ 29 }
 {
-    let align = line.align()?;
-    if align > Align::MAX {
-        return Err(Stop::Asks(Clause::Limit));
-    }
-    Ok(align)
+    let align = line.align();
+    line.asks(align <= Align::MAX, Clause::Limit);
+    align.min(Align::MAX)
 }
 
 /// Writes an alignment in bytes, or why there is none.
-fn write_made(
-    out: &mut String,
-    made: Result<Align, AlignFromBytesError>,
-) -> Result<(), AllocError> {
+fn write_made(out: &mut Out, made: Result<Align, AlignFromBytesError>) {
     match made {
         Ok(align) => write_align(out, align),
-        Err(error) => write!(out, "refused {error}"),
+        Err(error) => {
+            out.text("refused ");
+            out.shown(&error);
+        }
     }
 }
 
-/// The size, rounded up to the alignment.
+/// Writes the size, rounded up to the alignment.
 #[tactic(auto, using(abi_lists::proofs::Rounding::round_below))]
-fn rounded(size: u32, align: Align) -> Size
+fn write_rounded(out: &mut Out, size: u32, align: Align)
     requires { align ≤ 29 }
 {
-    Size::from_bytes(u64::from(size)).align_to(align)
+    out.number(Size::from_bytes(u64::from(size)).align_to(align).bytes());
 }
 
-/// The alignment of a vector of so many bytes.
-fn vector_align(dl: &TargetDataLayout, size: Size) -> Result<Align, Stop> {
-    match dl.vector_align.get(size) {
-        Some(_) => Ok(dl.rust_vector_align(size)),
-        None if size.bytes() <= 1 << 29 => Ok(dl.rust_vector_align(size)),
-        None => Err(Stop::Asks(Clause::Size)),
+/// Writes the alignment of a vector of so many bytes.
+fn write_vector_align(line: &mut Line<'_>, out: &mut Out, dl: &TargetDataLayout, size: Size) {
+    if dl.vector_align.get(size).is_some() || size.bytes() <= 1 << 29 {
+        write_align(out, dl.rust_vector_align(size));
+    } else {
+        line.lacks(Clause::Size);
     }
 }
 
@@ -67,36 +65,32 @@ const PAIR_CALLS: [(&[u8], PairCall); 5] = [
 ];
 
 /// Answers a call that compares two.
-fn call_on_two(name: &[u8], line: &mut Line<'_>, out: &mut String) -> Result<bool, Stop> {
+fn call_on_two(name: &[u8], line: &mut Line<'_>, out: &mut Out) -> bool {
     match named(&PAIR_CALLS, name) {
         Some(PairCall::AlignMax) => {
-            let first = AbiAlign::new(line.align()?);
-            write_align(out, first.max(AbiAlign::new(line.align()?)).abi)?
+            let first = AbiAlign::new(line.align());
+            write_align(out, first.max(AbiAlign::new(line.align())).abi);
         }
         Some(PairCall::AlignMin) => {
-            let first = AbiAlign::new(line.align()?);
-            write_align(out, first.min(AbiAlign::new(line.align()?)).abi)?
+            let first = AbiAlign::new(line.align());
+            write_align(out, first.min(AbiAlign::new(line.align())).abi);
         }
         Some(PairCall::RestrictForOffset) => {
-            let align = line.align()?;
-            write_align(
-                out,
-                align.restrict_for_offset(Size::from_bytes(line.number()?)),
-            )?
+            let align = line.align();
+            let offset = Size::from_bytes(line.number());
+            write_align(out, align.restrict_for_offset(offset));
         }
         Some(PairCall::AlignTo) => {
-            let size = line.short()?;
-            let bytes = rounded(size, within(line)?).bytes();
-            write!(out, "{bytes}")?
+            let size = line.short();
+            write_rounded(out, size, within(line));
         }
         Some(PairCall::IsAligned) => {
-            let size = Size::from_bytes(line.number()?);
-            let holds = size.is_aligned(within(line)?);
-            write!(out, "{holds}")?
+            let size = Size::from_bytes(line.number());
+            out.truth(size.is_aligned(within(line)));
         }
-        None => return Ok(false),
+        None => return false,
     }
-    Ok(true)
+    true
 }
 
 /// Calls on an alignment.
@@ -120,31 +114,23 @@ const ALIGN_CALLS: [(&[u8], AlignCall); 6] = [
 ];
 
 /// Answers a call of this name; whether there is one.
-pub(crate) fn call(
-    dl: &TargetDataLayout,
-    name: &[u8],
-    line: &mut Line<'_>,
-    out: &mut String,
-) -> Result<bool, Stop>
+pub(crate) fn call(dl: &TargetDataLayout, name: &[u8], line: &mut Line<'_>, out: &mut Out) -> bool
     requires { IsLawfulDataLayout dl.now }
 {
     match named(&ALIGN_CALLS, name) {
-        Some(AlignCall::AlignFromBytes) => write_made(out, Align::from_bytes(line.number()?))?,
-        Some(AlignCall::AlignFromBits) => write_made(out, Align::from_bits(line.number()?))?,
-        Some(AlignCall::AlignBits) => {
-            let bits = within(line)?.bits();
-            write!(out, "{bits}")?
-        }
+        Some(AlignCall::AlignFromBytes) => write_made(out, Align::from_bytes(line.number())),
+        Some(AlignCall::AlignFromBits) => write_made(out, Align::from_bits(line.number())),
+        Some(AlignCall::AlignBits) => out.number(within(line).bits()),
         Some(AlignCall::MaxAlignedFactor) => {
-            let size = Size::from_bytes(line.number()?);
-            write_align(out, Align::max_aligned_factor(size))?
+            let size = Size::from_bytes(line.number());
+            write_align(out, Align::max_aligned_factor(size));
         }
-        Some(AlignCall::MaxForTarget) => write_align(out, Align::max_for_target(dl))?,
+        Some(AlignCall::MaxForTarget) => write_align(out, Align::max_for_target(dl)),
         Some(AlignCall::VectorAlign) => {
-            let size = Size::from_bytes(line.number()?);
-            write_align(out, vector_align(dl, size)?)?
+            let size = Size::from_bytes(line.number());
+            write_vector_align(line, out, dl, size);
         }
         None => return call_on_two(name, line, out),
     }
-    Ok(true)
+    true
 }

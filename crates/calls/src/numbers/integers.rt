@@ -1,25 +1,17 @@
 //! Calls of integers, floats, primitives, lanes and counts of vectors.
 
-ghost use Rattle.std.specs.Prelude.{IsTrue};
+ghost use Rattle.std.specs.Prelude.{◌≤◌, IsTrue};
 ghost use Rattle.abi_base.specs.DataLayout.{IsLawfulDataLayout};
 ghost use Rattle.abi_base.specs.Primitive.{KnowsPrimitive};
 
 use crate::line::{Line, named};
 use crate::numbers::sizes::small;
+use crate::out::Out;
 use crate::print::write_align;
-use crate::stop::{Clause, Stop, calculator};
+use crate::stop::{Clause, calculator};
 use abi_base::{Float, Integer, NumScalableVectors, Numeric, Primitive, Size, TargetDataLayout};
 use abi_scalar::BackendLaneCount;
-use std::alloc::{AllocError, Global};
-
-/// The primitive that is next.
-pub(crate) fn primitive(
-    alloc: Global,
-    dl: &TargetDataLayout,
-    line: &mut Line<'_>,
-) -> Result<Primitive, Stop> {
-    Ok(line.scalar(alloc, dl)?.primitive())
-}
+use std::alloc::Global;
 
 /// Whether the data layout knows the primitive.
 pub(crate) fn knows(dl: &TargetDataLayout, value: Primitive) -> bool
@@ -33,50 +25,67 @@ pub(crate) fn knows(dl: &TargetDataLayout, value: Primitive) -> bool
 }
 
 /// Writes all that an integer tells.
-fn write_integer(
-    out: &mut String,
-    dl: &TargetDataLayout,
-    integer: Integer,
-) -> Result<(), AllocError> {
-    let size = integer.size().bytes();
-    let (signed, unsigned) = (integer.int_ty_str(), integer.uint_ty_str());
-    let (least, greatest) = (integer.signed_min(), integer.signed_max());
-    write!(
-        out,
-        "{signed} {unsigned} size {size} {least}..={greatest} align "
-    )?;
-    write_align(out, integer.align(dl))
+fn write_integer(out: &mut Out, dl: &TargetDataLayout, integer: Integer) {
+    out.text(integer.int_ty_str());
+    out.text(" ");
+    out.text(integer.uint_ty_str());
+    out.put(" size ", integer.size().bytes());
+    out.text(" ");
+    out.signed(integer.signed_min());
+    out.text("..=");
+    out.signed(integer.signed_max());
+    out.text(" align ");
+    write_align(out, integer.align(dl));
 }
 
 /// Writes all that a float tells.
-fn write_float(out: &mut String, dl: &TargetDataLayout, float: Float) -> Result<(), AllocError> {
-    let size = float.size().bytes();
-    let numeric = Numeric::Float(float).size().bytes();
-    let name = float.ty_str();
-    let ieee = float.is_ieee();
-    write!(
-        out,
-        "{name} size {size} numeric {numeric} ieee {ieee} align "
-    )?;
-    write_align(out, float.align(dl))
+fn write_float(out: &mut Out, dl: &TargetDataLayout, float: Float) {
+    out.text(float.ty_str());
+    out.put(" size ", float.size().bytes());
+    out.put(" numeric ", Numeric::Float(float).size().bytes());
+    out.tell(" ieee ", float.is_ieee());
+    out.text(" align ");
+    write_align(out, float.align(dl));
 }
 
 /// Writes all that a primitive tells.
-fn write_told(out: &mut String, dl: &TargetDataLayout, value: Primitive) -> Result<(), Stop> {
+fn write_told(line: &mut Line<'_>, out: &mut Out, dl: &TargetDataLayout, value: Primitive) {
     if !knows(dl, value) {
-        return Err(Stop::Asks(Clause::Known));
+        return line.lacks(Clause::Known);
     }
-    let size = value.size(dl).bytes();
-    write!(out, "size {size} align ")?;
-    Ok(write_align(out, value.default_align(dl))?)
+    out.put("size ", value.size(dl).bytes());
+    out.text(" align ");
+    write_align(out, value.default_align(dl));
 }
 
 /// Writes the name of an integer, or that there is none.
-fn write_name(out: &mut String, integer: Option<Integer>) -> Result<(), AllocError> {
+fn write_name(out: &mut Out, integer: Option<Integer>) {
     match integer {
-        Some(integer) => out.push_str(integer.uint_ty_str()),
-        None => out.push_str("none"),
+        Some(integer) => out.text(integer.uint_ty_str()),
+        None => out.text("none"),
     }
+}
+
+/// Writes the name of the integer of a size, or why there is none.
+fn write_sized(out: &mut Out, bytes: u64)
+    requires { bytes ≤ 2_305_843_009_213_693_951 }
+{
+    match Integer::from_size(Size::from_bytes(bytes)) {
+        Ok(integer) => out.text(integer.uint_ty_str()),
+        Err(error) => {
+            out.text("refused ");
+            out.shown(&error);
+        }
+    }
+}
+
+/// Writes the name of the integer that the words of a repr ask for.
+fn write_attr(line: &mut Line<'_>, out: &mut Out, dl: &TargetDataLayout)
+    requires { IsLawfulDataLayout dl.now }
+{
+    let named = line.repr().repr.discr_type();
+    write_name(out, Some(Integer::from_attr(dl, named)));
+    out.tell(" signed ", named.is_signed());
 }
 
 /// Calls that find an integer.
@@ -100,39 +109,43 @@ const FIND_CALLS: [(&[u8], FindCall); 6] = [
 ];
 
 /// Answers a call that finds an integer.
-fn call_to_find(
-    dl: &TargetDataLayout,
-    name: &[u8],
-    line: &mut Line<'_>,
-    out: &mut String,
-) -> Result<bool, Stop>
+fn call_to_find(dl: &TargetDataLayout, name: &[u8], line: &mut Line<'_>, out: &mut Out) -> bool
     requires { IsLawfulDataLayout dl.now }
 {
     match named(&FIND_CALLS, name) {
         Some(FindCall::FitSigned) => {
-            let number = Size::from_bytes(16).sign_extend(line.discriminant()?);
-            write_name(out, Some(Integer::fit_signed(number)))?
+            let number = Size::from_bytes(16).sign_extend(line.discriminant());
+            write_name(out, Some(Integer::fit_signed(number)));
         }
-        Some(FindCall::FitUnsigned) => write_name(out, Some(Integer::fit_unsigned(line.wide()?)))?,
-        Some(FindCall::ForAlign) => write_name(out, Integer::for_align(dl, line.align()?))?,
+        Some(FindCall::FitUnsigned) => write_name(out, Some(Integer::fit_unsigned(line.wide()))),
+        Some(FindCall::ForAlign) => write_name(out, Integer::for_align(dl, line.align())),
         Some(FindCall::ApproximateAlign) => {
-            write_name(out, Some(Integer::approximate_align(dl, line.align()?)))?
+            write_name(out, Some(Integer::approximate_align(dl, line.align())));
         }
-        Some(FindCall::IntegerFromSize) => match Integer::from_size(Size::from_bytes(small(
-            line,
-        )?)) {
-            Ok(integer) => write_name(out, Some(integer))?,
-            Err(error) => write!(out, "refused {error}")?,
-        },
-        Some(FindCall::FromAttr) => {
-            let named = line.repr()?.repr.discr_type();
-            let signed = named.is_signed();
-            write_name(out, Some(Integer::from_attr(dl, named)))?;
-            write!(out, " signed {signed}")?
-        }
-        None => return Ok(false),
+        Some(FindCall::IntegerFromSize) => write_sized(out, small(line)),
+        Some(FindCall::FromAttr) => write_attr(line, out, dl),
+        None => return false,
     }
-    Ok(true)
+    true
+}
+
+/// Writes a count of lanes, and whether it is a power of two.
+fn write_lanes(line: &mut Line<'_>, out: &mut Out) {
+    match BackendLaneCount::new(line.number()) {
+        Ok(lanes) => {
+            out.number(lanes.as_u64());
+            out.tell(" power-of-two ", lanes.is_power_of_two());
+        }
+        Err(error) => line.stop(calculator::<()>(error)),
+    }
+}
+
+/// Writes how many vectors a number of fields makes, if it makes any.
+fn write_vectors(out: &mut Out, fields: u64) {
+    match NumScalableVectors::from_field_count(fields as usize) {
+        Some(vectors) => out.number(u64::from(vectors.0)),
+        None => out.text("none"),
+    }
 }
 
 /// Calls on counts.
@@ -148,26 +161,13 @@ const COUNT_CALLS: [(&[u8], CountCall); 2] = [
 ];
 
 /// Answers a call on counts.
-fn call_on_counts(name: &[u8], line: &mut Line<'_>, out: &mut String) -> Result<bool, Stop> {
+fn call_on_counts(name: &[u8], line: &mut Line<'_>, out: &mut Out) -> bool {
     match named(&COUNT_CALLS, name) {
-        Some(CountCall::Lanes) => {
-            let lanes = BackendLaneCount::new(line.number()?).map_err(calculator::<()>)?;
-            let count = lanes.as_u64();
-            let power = lanes.is_power_of_two();
-            write!(out, "{count} power-of-two {power}")?
-        }
-        Some(CountCall::ScalableVectors) => {
-            match NumScalableVectors::from_field_count(line.number()? as usize) {
-                Some(vectors) => {
-                    let count = vectors.0;
-                    write!(out, "{count}")?
-                }
-                None => out.push_str("none")?,
-            }
-        }
-        None => return Ok(false),
+        Some(CountCall::Lanes) => write_lanes(line, out),
+        Some(CountCall::ScalableVectors) => write_vectors(out, line.number()),
+        None => return false,
     }
-    Ok(true)
+    true
 }
 
 /// Calls on integers, floats and primitives.
@@ -190,21 +190,18 @@ pub(crate) fn call(
     dl: &TargetDataLayout,
     name: &[u8],
     line: &mut Line<'_>,
-    out: &mut String,
-) -> Result<bool, Stop>
+    out: &mut Out,
+) -> bool
     requires { IsLawfulDataLayout dl.now }
 {
-    match named(&INTEGER_CALLS, name) {
-        Some(IntegerCall::Integer) => match primitive(alloc, dl, line)? {
-            Primitive::Int(integer, _) => write_integer(out, dl, integer)?,
-            _ => return Err(line.misfit()),
-        },
-        Some(IntegerCall::Float) => match primitive(alloc, dl, line)? {
-            Primitive::Float(float) => write_float(out, dl, float)?,
-            _ => return Err(line.misfit()),
-        },
-        Some(IntegerCall::Primitive) => write_told(out, dl, primitive(alloc, dl, line)?)?,
-        None => return Ok(call_to_find(dl, name, line, out)? || call_on_counts(name, line, out)?),
+    let Some(call) = named(&INTEGER_CALLS, name) else {
+        return call_to_find(dl, name, line, out) || call_on_counts(name, line, out);
+    };
+    match (call, line.primitive(alloc, dl)) {
+        (IntegerCall::Integer, Primitive::Int(integer, _)) => write_integer(out, dl, integer),
+        (IntegerCall::Float, Primitive::Float(float)) => write_float(out, dl, float),
+        (IntegerCall::Primitive, value) => write_told(line, out, dl, value),
+        _ => line.misfit(),
     }
-    Ok(true)
+    true
 }

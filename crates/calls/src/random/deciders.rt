@@ -1,9 +1,9 @@
 //! Types at random: a byte decides exactly where it isn't padding and each type in the type has values.
 
-use crate::line::Line;
+use crate::random::Trials;
+use crate::random::dice::Dice;
 use crate::random::grown::{Grown, LEAVES, MOST_TYPES, leaf, next};
 use crate::random::tally::Tally;
-use crate::random::{Trials, read_trials};
 use crate::stop::Stop;
 use crate::values::deciders::decided;
 use abi_base::TargetDataLayout;
@@ -26,17 +26,29 @@ fn is_idle(laid: &Laid, padding: &[(u64, u64)], place: u64) -> bool {
     false
 }
 
+/// What a place is found to be, where each type in the type has values or not.
+fn judged(
+    alloc: Global,
+    laid: &Laid,
+    padding: &[(u64, u64)],
+    all: bool,
+    place: u64,
+) -> Result<&'static str, AllocError> {
+    let idle = !all || is_idle(laid, padding, place);
+    let found = decided(alloc, laid, place)?;
+    Ok(if (found == "none") == idle {
+        found
+    } else {
+        "wrong"
+    })
+}
+
 /// Counts what each place of the type is found to be, the one behind it with them.
 fn count_places(alloc: Global, laid: &Laid, tally: &mut Tally) -> Result<(), AllocError> {
     let (padding, _visits) = laid.padding(alloc)?;
     let all = laid.all_inhabited();
     for place in 0..=laid.layout().size.bytes().min(MOST_PLACES) {
-        let idle = !all || is_idle(laid, padding.as_slice(), place);
-        match (decided(alloc, laid, place)?, idle) {
-            ("pair", false) => tally.count("pair"),
-            ("none", true) => tally.count("none"),
-            _ => tally.count("wrong"),
-        }
+        tally.count(judged(alloc, laid, padding.as_slice(), all, place)?);
     }
     Ok(())
 }
@@ -50,24 +62,31 @@ fn begin(alloc: Global, dl: &TargetDataLayout, types: &mut Vec<Grown>) -> Result
     Ok(())
 }
 
-/// `random-deciders SEED COUNT`
-pub(crate) fn tried(
+/// Counts what the places of the next type are found to be, if one comes up, and keeps it.
+fn count_next(
     alloc: Global,
     dl: &TargetDataLayout,
-    line: &mut Line<'_>,
-) -> Result<Tally, Stop> {
-    let Trials { mut dice, count } = read_trials(line)?;
-    line.end()?;
+    dice: &mut Dice,
+    types: &mut Vec<Grown>,
+    tally: &mut Tally,
+) -> Result<(), Stop> {
+    let Some(it) = next(alloc, dl, dice, types)? else {
+        return Ok(());
+    };
+    count_places(alloc, &it.laid, tally)?;
+    Ok(types.push(it)?)
+}
+
+/// `random-deciders SEED COUNT`
+pub(crate) fn tried(alloc: Global, dl: &TargetDataLayout, trials: Trials) -> Result<Tally, Stop> {
+    let Trials { mut dice, count } = trials;
     let mut tally = Tally::new(alloc, &["pair", "none", "wrong"])?;
     let mut types = Vec::new(alloc);
     for _ in 0..count {
         if types.is_empty() || types.len() >= MOST_TYPES {
             begin(alloc, dl, &mut types)?;
         }
-        if let Some(it) = next(alloc, dl, &mut dice, &types)? {
-            count_places(alloc, &it.laid, &mut tally)?;
-            types.push(it)?;
-        }
+        count_next(alloc, dl, &mut dice, &mut types, &mut tally)?;
     }
     Ok(tally)
 }

@@ -96,8 +96,18 @@ fn judged_layout(layout: &Layout, expected: Expected) -> &'static str {
     }
 }
 
-/// What an enum is found to be: told apart by a niche or a tag, and as large as it has to be; refused, since it is
-/// packed or too large; without several variants; or wrong.
+/// What an enum without a layout is found to be: refused since it is packed or too large, as it has to be, or wrong.
+fn refusal(stop: Stop, expected: Expected) -> Result<&'static str, Stop> {
+    match (stop, expected) {
+        (Stop::Refused(Name::Lay(LayError::ReprConflict)), Expected::Packed) => Ok("packed"),
+        (Stop::Refused(Name::Lay(LayError::SizeOverflow)), Expected::TooLarge) => Ok("too-large"),
+        (Stop::Refused(_), _) => Ok("wrong"),
+        (stop, _) => Err(stop),
+    }
+}
+
+/// What an enum is found to be: told apart by a niche or a tag, and as large as it has to be; refused; without several
+/// variants; or wrong.
 fn judged(
     alloc: Global,
     dl: &TargetDataLayout,
@@ -115,16 +125,7 @@ fn judged(
     };
     match laid(alloc, dl, question, variants, discriminants) {
         Ok(layout) => Ok(judged_layout(&layout, expected)),
-        Err(Stop::Refused(Name::Lay(LayError::ReprConflict))) => Ok(match expected {
-            Expected::Packed => "packed",
-            _ => "wrong",
-        }),
-        Err(Stop::Refused(Name::Lay(LayError::SizeOverflow))) => Ok(match expected {
-            Expected::TooLarge => "too-large",
-            _ => "wrong",
-        }),
-        Err(Stop::Refused(_)) => Ok("wrong"),
-        Err(stop) => Err(stop),
+        Err(stop) => refusal(stop, expected),
     }
 }
 

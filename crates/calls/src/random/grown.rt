@@ -1,5 +1,6 @@
 //! Types that grow from others, as texts.
 
+use crate::out::Out;
 use crate::random::dice::Dice;
 use crate::stop::{Clause, Stop};
 use abi_base::TargetDataLayout;
@@ -34,7 +35,7 @@ const MOST_BYTES: usize = 4096;
 /// type that isn't made of others has no list.
 #[derive(Drop)]
 pub(crate) struct Grown {
-    pub(crate) text: String,
+    pub(crate) text: Out,
     pub(crate) lists: Vec<Vec<usize>>,
     pub(crate) laid: Laid,
 }
@@ -53,13 +54,22 @@ fn laid_out(alloc: Global, dl: &TargetDataLayout, text: &str) -> Result<Option<L
     }
 }
 
+/// The type of what was written, laid out. None where it is refused, or too long.
+fn laid_text(alloc: Global, dl: &TargetDataLayout, text: &Out) -> Result<Option<Laid>, Stop> {
+    match text.whole() {
+        Some(text) if text.len() <= MOST_BYTES => laid_out(alloc, dl, text),
+        Some(_) => Ok(None),
+        None => Err(Stop::OutOfMemory),
+    }
+}
+
 /// A type that isn't made of others.
 pub(crate) fn leaf(alloc: Global, dl: &TargetDataLayout, text: &str) -> Result<Grown, Stop> {
     let Some(laid) = laid_out(alloc, dl, text)? else {
         return Err(Stop::Asks(Clause::Known));
     };
-    let mut own = String::new(alloc);
-    own.push_str(text)?;
+    let mut own = Out::new(alloc);
+    own.text(text);
     Ok(Grown {
         text: own,
         lists: Vec::new(alloc),
@@ -86,40 +96,81 @@ fn some_places(
 }
 
 /// Writes the types of these places between parentheses.
-fn write_list(out: &mut String, types: &[Grown], places: &[usize]) -> Result<(), AllocError> {
-    out.push_str("(")?;
+fn write_list(out: &mut Out, types: &[Grown], places: &[usize]) {
+    out.text("(");
     for place in places {
         if let Some(it) = types.get(*place) {
-            out.push_str(" ")?;
-            out.push_str(&it.text)?;
+            out.text(" ");
+            out.text(it.text.whole().unwrap_or(""));
         }
     }
-    out.push_str(" )")
+    out.text(" )");
 }
 
 /// Writes an enum of at most three variants, and keeps their lists.
 fn write_enum(
     alloc: Global,
-    out: &mut String,
+    out: &mut Out,
     dice: &mut Dice,
     types: &[Grown],
     usual: usize,
     lists: &mut Vec<Vec<usize>>,
 ) -> Result<(), AllocError> {
-    out.push_str(dice.word(&["enum - (", "enum u8 (", "enum C (", "enum u32 ("]))?;
+    out.text(dice.word(&["enum - (", "enum u8 (", "enum C (", "enum u32 ("]));
     for discriminant in 0..dice.roll(4) {
-        let places = some_places(alloc, dice, types.len(), usual)?;
-        write!(out, " {discriminant} ")?;
-        write_list(out, types, &places)?;
-        lists.push(places)?;
+        out.put(" ", discriminant);
+        out.text(" ");
+        write_fields(alloc, out, dice, types, usual, lists)?;
     }
-    out.push_str(" )")
+    out.text(" )");
+    Ok(())
 }
+
+/// Writes a list of fields of at most four types, and keeps it.
+fn write_fields(
+    alloc: Global,
+    out: &mut Out,
+    dice: &mut Dice,
+    types: &[Grown],
+    usual: usize,
+    lists: &mut Vec<Vec<usize>>,
+) -> Result<(), AllocError> {
+    let places = some_places(alloc, dice, types.len(), usual)?;
+    write_list(out, types, &places);
+    Ok(lists.push(places)?)
+}
+
+/// Writes an array of at most three of a type, and keeps its list.
+fn write_array(
+    alloc: Global,
+    out: &mut Out,
+    dice: &mut Dice,
+    types: &[Grown],
+    usual: usize,
+    lists: &mut Vec<Vec<usize>>,
+) -> Result<(), AllocError> {
+    out.put("array ", dice.roll(4));
+    if let Some(it) = types.get(usual) {
+        out.text(" ");
+        out.text(it.text.whole().unwrap_or(""));
+    }
+    Ok(lists.push(vec![in alloc; usual]?)?)
+}
+
+/// What structs and unions begin with.
+const HEADS: [&str; 6] = [
+    "struct -",
+    "struct C",
+    "struct C",
+    "struct packed=1",
+    "union -",
+    "union C",
+];
 
 /// Writes a type that is made of others, and keeps the lists of its fields.
 fn write_next(
     alloc: Global,
-    out: &mut String,
+    out: &mut Out,
     dice: &mut Dice,
     types: &[Grown],
     lists: &mut Vec<Vec<usize>>,
@@ -129,29 +180,14 @@ fn write_next(
     }
     let usual = dice.index(types.len());
     if dice.is_one_of(4) {
-        return write_enum(alloc, out, dice, types, usual, lists);
-    }
-    let places = if dice.is_one_of(5) {
-        let count = dice.roll(4);
-        write!(out, "array {count} {}", types[usual].text)?;
-        vec![in alloc; usual]?
+        write_enum(alloc, out, dice, types, usual, lists)
+    } else if dice.is_one_of(5) {
+        write_array(alloc, out, dice, types, usual, lists)
     } else {
-        let head = [
-            "struct -",
-            "struct C",
-            "struct C",
-            "struct packed=1",
-            "union -",
-            "union C",
-        ];
-        out.push_str(dice.word(&head))?;
-        out.push_str(" ")?;
-        let places = some_places(alloc, dice, types.len(), usual)?;
-        write_list(out, types, &places)?;
-        places
-    };
-    lists.push(places)?;
-    Ok(())
+        out.text(dice.word(&HEADS));
+        out.text(" ");
+        write_fields(alloc, out, dice, types, usual, lists)
+    }
 }
 
 /// A type that is made of these. None where what came up is refused, or is too long.
@@ -161,14 +197,11 @@ pub(crate) fn next(
     dice: &mut Dice,
     types: &[Grown],
 ) -> Result<Option<Grown>, Stop> {
-    let mut text = String::new(alloc);
+    let mut text = Out::new(alloc);
     let mut lists = Vec::new(alloc);
     write_next(alloc, &mut text, dice, types, &mut lists)?;
-    if text.len() > MOST_BYTES {
-        return Ok(None);
+    match laid_text(alloc, dl, &text)? {
+        Some(laid) => Ok(Some(Grown { text, lists, laid })),
+        None => Ok(None),
     }
-    let Some(laid) = laid_out(alloc, dl, &text)? else {
-        return Ok(None);
-    };
-    Ok(Some(Grown { text, lists, laid }))
 }

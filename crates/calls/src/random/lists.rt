@@ -6,7 +6,7 @@ use crate::layouts::Layout;
 use crate::lists::list_of;
 use crate::random::Trials;
 use crate::random::dice::Dice;
-use crate::random::orders::{least_size, source_size};
+use crate::random::orders::{has_unsized, least_size, source_size};
 use crate::random::tally::Tally;
 use crate::stop::{Name, Stop};
 use abi_base::{Size, StructKind, TargetDataLayout};
@@ -41,6 +41,35 @@ pub(crate) fn kind(dice: &mut Dice, count: usize) -> StructKind {
     }
 }
 
+/// The size of a list, or the name of its refusal: too large, or with an unsized field that it has.
+fn sized(
+    alloc: Global,
+    dl: &TargetDataLayout,
+    fields: &[&Layout],
+    repr: &ReprOptions,
+    kind: &StructKind,
+    fits: bool,
+) -> Result<Result<u128, &'static str>, Stop>
+    requires { IsLawfulDataLayout dl.now }
+{
+    match list_of(alloc, dl, fields, repr, kind) {
+        Ok(list) => Ok(Ok(u128::from(list.size.bytes()))),
+        Err(stop) => Ok(Err(refusal(stop, fits, fields)?)),
+    }
+}
+
+/// The name of a list's refusal: since it is too large, which it is, or has an unsized field, which it has; or wrong.
+pub(crate) fn refusal(stop: Stop, fits: bool, fields: &[&Layout]) -> Result<&'static str, Stop> {
+    match stop {
+        Stop::Refused(Name::Lay(LayError::SizeOverflow)) if !fits => Ok("too-large"),
+        Stop::Refused(Name::Lay(LayError::UnexpectedUnsized)) if has_unsized(fields) => {
+            Ok("unsized")
+        }
+        Stop::Refused(_) => Ok("wrong"),
+        stop => Err(stop),
+    }
+}
+
 /// What a list is found to be: of the least size, which source order has too, or `less` than source order has; refused,
 /// and too large in each order; refused for an unsized field that it has; or wrong.
 fn judged(
@@ -54,15 +83,9 @@ fn judged(
 {
     let least = least_size(alloc, dl, fields, repr, kind)?;
     let fits = least < u128::from(dl.obj_size_bound());
-    let size = match list_of(alloc, dl, fields, repr, kind) {
-        Ok(list) => u128::from(list.size.bytes()),
-        Err(Stop::Refused(Name::Lay(LayError::SizeOverflow))) if !fits => return Ok("too-large"),
-        Err(Stop::Refused(Name::Lay(LayError::UnexpectedUnsized)))
-            if fields.iter().any(|it| it.is_unsized()) => {
-            return Ok("unsized");
-        }
-        Err(Stop::Refused(_)) => return Ok("wrong"),
-        Err(stop) => return Err(stop),
+    let size = match sized(alloc, dl, fields, repr, kind, fits)? {
+        Ok(size) => size,
+        Err(name) => return Ok(name),
     };
     if !fits || size != least {
         Ok("wrong")

@@ -97,21 +97,14 @@ pub(crate) fn size_by(
     rounded_up(end, list_align(dl, fields, repr, kind))
 }
 
-/// The order of so many fields that has this number: each takes one of the fields that are left.
+/// The order of so many fields that has this number: each is put somewhere among those before it.
 pub(crate) fn order_of(alloc: Global, number: u64, count: usize) -> Result<Vec<usize>, AllocError> {
-    let mut left = Vec::new(alloc);
-    for index in 0..count {
-        left.push(index)?;
-    }
-    let mut number = number;
+    let mut left = number;
     let mut order = Vec::new(alloc);
-    for _ in 0..count {
-        let many = left.len() as u64;
-        if many == 0 {
-            break;
-        }
-        order.push(left.remove((number % many) as usize))?;
-        number /= many;
+    for index in 0..count {
+        let many = (order.len() as u64).saturating_add(1);
+        order.insert((left % many) as usize, index)?;
+        left /= many;
     }
     Ok(order)
 }
@@ -171,4 +164,14 @@ pub(crate) fn least_size(
         }
     }
     Ok(least)
+}
+
+/// Whether one of the fields is unsized.
+pub(crate) fn has_unsized(fields: &[&Layout]) -> bool {
+    for field in fields {
+        if field.is_unsized() {
+            return true;
+        }
+    }
+    false
 }

@@ -1,5 +1,6 @@
 //! How many types were found to be what.
 
+use crate::out::Out;
 use std::alloc::{AllocError, Global};
 
 /// How many types were found to be what.
@@ -28,12 +29,13 @@ impl Tally {
     }
 
     /// Writes each with its count.
-    pub(crate) fn write(&self, out: &mut String) -> Result<(), AllocError> {
+    pub(crate) fn write(&self, out: &mut Out) {
         let mut between = "";
         for (name, count) in &self.counts {
-            write!(out, "{between}{name} {count}")?;
+            out.text(between);
+            out.text(name);
+            out.put(" ", *count);
             between = " ";
         }
-        Ok(())
     }
 }

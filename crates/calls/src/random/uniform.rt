@@ -2,30 +2,37 @@
 
 mod rule;
 
-use crate::line::Line;
+use crate::random::Trials;
+use crate::random::dice::Dice;
 use crate::random::grown::{Grown, LEAVES, MOST_TYPES, leaf, next};
 use crate::random::tally::Tally;
 use crate::random::uniform::rule::{Types, uniform_with};
-use crate::random::{Trials, read_trials};
 use crate::stop::Stop;
 use abi_base::TargetDataLayout;
 use abi_types::{Heterogeneous, HomogeneousAggregate, Reg};
 use std::alloc::{AllocError, Global};
 
+/// Whether each of these is the register, or none where there is none.
+fn are_all(found: &[Option<Reg>], register: Option<Reg>) -> bool {
+    for it in found {
+        if *it != register {
+            return false;
+        }
+    }
+    true
+}
+
 /// What a type is found to be: uniform with a register, or without bytes, or neither, as it is read; or wrong.
 fn judged(it: &Grown, found: &[Option<Reg>]) -> &'static str {
-    let answer = it.laid.root().homogeneous_aggregate(&());
-    let (wanted, verdict) = match answer {
-        Ok(HomogeneousAggregate::Homogeneous(register)) => (Some(register), "register"),
-        Ok(HomogeneousAggregate::NoData) => (None, "no-data"),
-        Err(Heterogeneous) => {
-            return if found.is_empty() { "refused" } else { "wrong" };
+    match it.laid.root().homogeneous_aggregate(&()) {
+        Err(Heterogeneous) if found.is_empty() => "refused",
+        Err(Heterogeneous) => "wrong",
+        Ok(_) if found.is_empty() => "wrong",
+        Ok(HomogeneousAggregate::Homogeneous(register)) if are_all(found, Some(register)) => {
+            "register"
         }
-    };
-    if !found.is_empty() && found.iter().all(|register| *register == wanted) {
-        verdict
-    } else {
-        "wrong"
+        Ok(HomogeneousAggregate::NoData) if are_all(found, None) => "no-data",
+        Ok(_) => "wrong",
     }
 }
 
@@ -50,14 +57,27 @@ fn begin(
     Ok(())
 }
 
-/// `random-uniform SEED COUNT`
-pub(crate) fn tried(
+/// Counts what the next type is found to be, if one comes up, and keeps it.
+fn count_next(
     alloc: Global,
     dl: &TargetDataLayout,
-    line: &mut Line<'_>,
-) -> Result<Tally, Stop> {
-    let Trials { mut dice, count } = read_trials(line)?;
-    line.end()?;
+    dice: &mut Dice,
+    types: &mut Vec<Grown>,
+    known: &mut Vec<Vec<Option<Reg>>>,
+    tally: &mut Tally,
+) -> Result<(), Stop> {
+    let Some(it) = next(alloc, dl, dice, types)? else {
+        return Ok(());
+    };
+    let found = uniform_with(alloc, Types { types, known }, &it)?;
+    tally.count(judged(&it, &found));
+    known.push(found)?;
+    Ok(types.push(it)?)
+}
+
+/// `random-uniform SEED COUNT`
+pub(crate) fn tried(alloc: Global, dl: &TargetDataLayout, trials: Trials) -> Result<Tally, Stop> {
+    let Trials { mut dice, count } = trials;
     let mut tally = Tally::new(alloc, &["register", "no-data", "refused", "wrong"])?;
     let mut types = Vec::new(alloc);
     let mut known = Vec::new(alloc);
@@ -65,16 +85,7 @@ pub(crate) fn tried(
         if types.is_empty() || types.len() >= MOST_TYPES {
             begin(alloc, dl, &mut types, &mut known)?;
         }
-        if let Some(it) = next(alloc, dl, &mut dice, &types)? {
-            let all = Types {
-                types: &types,
-                known: &known,
-            };
-            let found = uniform_with(alloc, all, &it)?;
-            tally.count(judged(&it, &found));
-            known.push(found)?;
-            types.push(it)?;
-        }
+        count_next(alloc, dl, &mut dice, &mut types, &mut known, &mut tally)?;
     }
     Ok(tally)
 }

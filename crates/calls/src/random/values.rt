@@ -4,10 +4,11 @@
 mod made;
 
 use crate::line::Line;
+use crate::random::Trials;
 use crate::random::tally::Tally;
 use crate::random::values::made::{Source, made_value};
-use crate::random::{Trials, read_trials};
 use crate::stop::{Clause, Stop};
+use crate::values::deciders::hold;
 use abi_base::TargetDataLayout;
 use rustc_abi::{Laid, TypeTree, Value, ValueError, lay_out, read_value, write_value};
 use std::alloc::{AllocError, Global};
@@ -18,113 +19,92 @@ const MOST_BYTES: u64 = 65_536;
 /// Whether the value is written, and read back the same.
 fn is_kept(alloc: Global, laid: &Laid, value: &Value) -> Result<bool, AllocError> {
     match write_value(alloc, laid, value) {
-        Ok(bytes) => match read_value(alloc, laid, &bytes)? {
-            Some(found) => Ok(found == *value),
-            None => Ok(false),
-        },
+        Ok(bytes) => hold(alloc, laid, &bytes, value),
         Err(_) => Ok(false),
     }
 }
 
-/// What a value of the type is found to be.
-fn judged_value(
-    alloc: Global,
-    laid: &Laid,
-    value: Option<Value>,
-) -> Result<&'static str, AllocError> {
-    match value {
-        Some(value) => {
-            if is_kept(alloc, laid, &value)? {
-                Ok("kept")
-            } else {
-                Ok("wrong")
-            }
-        }
-        None => Ok("nothing"),
-    }
+/// What is found where a value is kept, or isn't.
+fn verdict(is_kept: bool, kept: &'static str) -> &'static str {
+    if is_kept { kept } else { "wrong" }
 }
 
 /// What bytes are found to be.
 fn judged_bytes(alloc: Global, laid: &Laid, bytes: &[u8]) -> Result<&'static str, AllocError> {
     match read_value(alloc, laid, bytes)? {
-        Some(value) => {
-            if is_kept(alloc, laid, &value)? {
-                Ok("held")
-            } else {
-                Ok("wrong")
-            }
-        }
+        Some(value) => Ok(verdict(is_kept(alloc, laid, &value)?, "held")),
         None => Ok("unread"),
     }
 }
 
 /// What a value that is none of the type's is found to be.
-fn judged_spoiled(alloc: Global, laid: &Laid, value: Option<Value>) -> &'static str {
-    match value {
-        Some(value) => match write_value(alloc, laid, &value) {
-            Err(ValueError::NotAValue) => "refused",
-            _ => "wrong",
-        },
-        None => "nothing",
+fn judged_spoiled(alloc: Global, laid: &Laid, value: &Value) -> &'static str {
+    match write_value(alloc, laid, value) {
+        Err(ValueError::NotAValue) => "refused",
+        _ => "wrong",
     }
 }
 
-/// A value of the type with a first number that is too wide; None where it has no number.
-fn too_wide(
+/// Gives the value one part more; whether it has parts.
+fn lengthen(value: &mut Value) -> Result<bool, AllocError> {
+    match value {
+        Value::Num(_) | Value::Pair(_, _) => return Ok(false),
+        Value::List(values) => values.push(Value::Num(0))?,
+        Value::Variant(_, values) => values.push(Value::Num(0))?,
+        Value::State { locals, .. } => locals.push(Value::Num(0))?,
+        Value::Union(content) => content.push(0)?,
+    }
+    Ok(true)
+}
+
+/// Which value of a type is tried: a right one, one with a first number that is too wide, or one with a part more.
+#[derive(Clone, Copy)]
+enum Way {
+    Right,
+    Wide,
+    Long,
+}
+
+/// What a value that came up this way is found to be.
+fn judged(
+    alloc: Global,
+    laid: &Laid,
+    way: Way,
+    value: &mut Value,
+) -> Result<&'static str, AllocError> {
+    match way {
+        Way::Right => Ok(verdict(is_kept(alloc, laid, value)?, "kept")),
+        Way::Wide => Ok(judged_spoiled(alloc, laid, value)),
+        Way::Long if lengthen(value)? => Ok(judged_spoiled(alloc, laid, value)),
+        Way::Long => Ok("nothing"),
+    }
+}
+
+/// What a value of the type is found to be, where one comes up.
+fn tried_value(
     alloc: Global,
     dl: &TargetDataLayout,
     source: &mut Source,
     tree: &TypeTree,
-) -> Result<Option<Value>, Stop> {
-    source.spoils = true;
-    let made = made_value(alloc, dl, source, tree)?;
-    let spoiled = !source.spoils;
-    source.spoils = false;
-    if spoiled { Ok(made) } else { Ok(None) }
-}
-
-/// The value with one part more; None where it is numbers alone.
-fn too_long(value: Value) -> Result<Option<Value>, AllocError> {
-    match value {
-        Value::Num(_) | Value::Pair(_, _) => Ok(None),
-        Value::List(mut values) => {
-            values.push(Value::Num(0))?;
-            Ok(Some(Value::List(values)))
-        }
-        Value::Variant(index, mut values) => {
-            values.push(Value::Num(0))?;
-            Ok(Some(Value::Variant(index, values)))
-        }
-        Value::State {
-            state,
-            prefix,
-            mut locals,
-        } => {
-            locals.push(Value::Num(0))?;
-            Ok(Some(Value::State {
-                state,
-                prefix,
-                locals,
-            }))
-        }
-        Value::Union(mut content) => {
-            content.push(0)?;
-            Ok(Some(Value::Union(content)))
-        }
+    laid: &Laid,
+    way: Way,
+) -> Result<&'static str, AllocError> {
+    source.begin(matches!(way, Way::Wide));
+    let mut value = made_value(alloc, dl, source, tree);
+    if source.has_nothing() {
+        return Ok("nothing");
     }
+    judged(alloc, laid, way, &mut value)
 }
 
-/// A value of the type with one part more.
-fn made_too_long(
+/// What bytes of the type's size are found to be.
+fn tried_bytes(
     alloc: Global,
-    dl: &TargetDataLayout,
     source: &mut Source,
-    tree: &TypeTree,
-) -> Result<Option<Value>, Stop> {
-    match made_value(alloc, dl, source, tree)? {
-        Some(value) => Ok(too_long(value)?),
-        None => Ok(None),
-    }
+    laid: &Laid,
+) -> Result<&'static str, AllocError> {
+    let bytes = source.dice.bytes(alloc, laid.layout().size.bytes())?;
+    judged_bytes(alloc, laid, &bytes)
 }
 
 /// Counts a value of the type, bytes of its size, and a value that is spoiled in each way.
@@ -135,38 +115,58 @@ fn count_once(
     tree: &TypeTree,
     laid: &Laid,
     tally: &mut Tally,
-) -> Result<(), Stop> {
-    let value = made_value(alloc, dl, source, tree)?;
-    tally.count(judged_value(alloc, laid, value)?);
-    let bytes = source.dice.bytes(alloc, laid.layout().size.bytes())?;
-    tally.count(judged_bytes(alloc, laid, &bytes)?);
-    let wide = too_wide(alloc, dl, source, tree)?;
-    tally.count(judged_spoiled(alloc, laid, wide));
-    let long = made_too_long(alloc, dl, source, tree)?;
-    tally.count(judged_spoiled(alloc, laid, long));
+) -> Result<(), AllocError> {
+    tally.count(tried_value(alloc, dl, source, tree, laid, Way::Right)?);
+    tally.count(tried_bytes(alloc, source, laid)?);
+    tally.count(tried_value(alloc, dl, source, tree, laid, Way::Wide)?);
+    tally.count(tried_value(alloc, dl, source, tree, laid, Way::Long)?);
     Ok(())
+}
+
+/// Counts so many times.
+fn count_each(
+    alloc: Global,
+    dl: &TargetDataLayout,
+    trials: Trials,
+    tree: &TypeTree,
+    laid: &Laid,
+    tally: &mut Tally,
+) -> Result<(), Stop> {
+    if laid.layout().size.bytes() > MOST_BYTES {
+        return Err(Stop::Asks(Clause::Size));
+    }
+    let mut source = Source::new(trials.dice);
+    for _ in 0..trials.count {
+        count_once(alloc, dl, &mut source, tree, laid, tally)?;
+        if source.is_short {
+            return Err(Stop::OutOfMemory);
+        }
+    }
+    Ok(())
+}
+
+/// What values of a type are found to be.
+fn tried_of(
+    alloc: Global,
+    dl: &TargetDataLayout,
+    trials: Trials,
+    tree: &TypeTree,
+) -> Result<Tally, Stop> {
+    let laid = lay_out(alloc, dl, tree)?;
+    let mut tally = Tally::new(alloc, &["kept", "held", "unread", "refused", "wrong"])?;
+    count_each(alloc, dl, trials, tree, &laid, &mut tally)?;
+    Ok(tally)
 }
 
 /// `random-values SEED COUNT TYPE`
 pub(crate) fn tried(
     alloc: Global,
     dl: &TargetDataLayout,
+    trials: Trials,
     line: &mut Line<'_>,
 ) -> Result<Tally, Stop> {
-    let Trials { dice, count } = read_trials(line)?;
     let tree = line.tree(alloc, dl)?;
-    line.end()?;
-    let laid = lay_out(alloc, dl, &tree)?;
-    if laid.layout().size.bytes() > MOST_BYTES {
-        return Err(Stop::Asks(Clause::Size));
-    }
-    let mut source = Source {
-        dice,
-        spoils: false,
-    };
-    let mut tally = Tally::new(alloc, &["kept", "held", "unread", "refused", "wrong"])?;
-    for _ in 0..count {
-        count_once(alloc, dl, &mut source, &tree, &laid, &mut tally)?;
-    }
-    Ok(tally)
+    line.end();
+    line.go_on()?;
+    tried_of(alloc, dl, trials, &tree)
 }

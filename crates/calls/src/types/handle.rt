@@ -66,9 +66,9 @@ pub(crate) fn handle<'a>(line: &mut Line<'_>, root: Handle<'a>) -> Result<Handle
     let mut it = root;
     for _step in 0..u64::MAX {
         if line.takes(b"variant") {
-            it = at_variant(it, line.number()?)?;
+            it = at_variant(it, line.number())?;
         } else if line.takes(b"field") {
-            it = at_field(it, line.number()?)?;
+            it = at_field(it, line.number())?;
         } else {
             break;
         }

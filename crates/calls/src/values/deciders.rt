@@ -1,6 +1,7 @@
 //! Which bytes of a type decide.
 
-use rustc_abi::{Laid, read_value};
+use crate::out::Out;
+use rustc_abi::{Laid, Value, read_value};
 use std::alloc::{AllocError, Global};
 
 /// No type of which each place is asked for is larger, in bytes.
@@ -19,29 +20,49 @@ fn differ_at(a: &[u8], b: &[u8], place: usize) -> bool {
     true
 }
 
+/// Whether the bytes hold the value.
+pub(crate) fn hold(
+    alloc: Global,
+    laid: &Laid,
+    bytes: &[u8],
+    value: &Value,
+) -> Result<bool, AllocError> {
+    match read_value(alloc, laid, bytes)? {
+        Some(found) => Ok(found == *value),
+        None => Ok(false),
+    }
+}
+
 /// Whether the first bytes hold a value, and the second don't hold it.
-fn tells_apart(alloc: Global, laid: &Laid, a: &[u8], b: &[u8]) -> Result<bool, AllocError> {
-    let Some(value) = read_value(alloc, laid, a)? else {
-        return Ok(false);
-    };
-    match read_value(alloc, laid, b)? {
-        Some(other) => Ok(other != value),
-        None => Ok(true),
+fn tell_apart(alloc: Global, laid: &Laid, a: &[u8], b: &[u8]) -> Result<bool, AllocError> {
+    match read_value(alloc, laid, a)? {
+        Some(value) => Ok(!hold(alloc, laid, b, &value)?),
+        None => Ok(false),
+    }
+}
+
+/// Whether the first bytes hold a value, and the second, which differ at this place alone, don't hold it.
+fn decide(
+    alloc: Global,
+    laid: &Laid,
+    a: &[u8],
+    b: &[u8],
+    place: usize,
+) -> Result<bool, AllocError> {
+    if differ_at(a, b, place) {
+        tell_apart(alloc, laid, a, b)
+    } else {
+        Ok(false)
     }
 }
 
 /// What is found of a place: a pair that decides there, none, or a wrong pair.
 pub(crate) fn decided(alloc: Global, laid: &Laid, place: u64) -> Result<&'static str, AllocError> {
-    match laid.decider(alloc, place)? {
-        Some((a, b)) => {
-            if differ_at(&a, &b, place as usize) && tells_apart(alloc, laid, &a, &b)? {
-                Ok("pair")
-            } else {
-                Ok("wrong")
-            }
-        }
-        None => Ok("none"),
-    }
+    let Some((a, b)) = laid.decider(alloc, place)? else {
+        return Ok("none");
+    };
+    let decides = decide(alloc, laid, &a, &b, place as usize)?;
+    Ok(if decides { "pair" } else { "wrong" })
 }
 
 /// Runs that are being written: what stands before the next one, and where an open one began.
@@ -52,31 +73,28 @@ struct Runs {
 }
 
 /// Goes on to a place: a run begins there, or the open one ends and is written.
-fn go_on(out: &mut String, runs: Runs, decides: bool, place: u64) -> Result<Runs, AllocError> {
+fn go_on(out: &mut Out, runs: Runs, decides: bool, place: u64) -> Runs {
     let between = runs.between;
     match (runs.start, decides) {
-        (None, true) => Ok(Runs {
+        (None, true) => Runs {
             between,
             start: Some(place),
-        }),
+        },
         (Some(first), false) => {
-            write!(out, "{between}{first}..{place}")?;
-            Ok(Runs {
+            out.put(between, first);
+            out.put("..", place);
+            Runs {
                 between: " ",
                 start: None,
-            })
+            }
         }
-        _ => Ok(runs),
+        _ => runs,
     }
 }
 
 /// Writes the runs of places at which a pair decides, of those up to the one behind the type, as far as no pair is
 /// wrong.
-pub(crate) fn write_deciders(
-    alloc: Global,
-    out: &mut String,
-    laid: &Laid,
-) -> Result<(), AllocError> {
+pub(crate) fn write_deciders(alloc: Global, out: &mut Out, laid: &Laid) -> Result<(), AllocError> {
     let mut runs = Runs {
         between: "",
         start: None,
@@ -84,13 +102,14 @@ pub(crate) fn write_deciders(
     for place in 0..=laid.layout().size.bytes() {
         let verdict = decided(alloc, laid, place)?;
         if verdict == "wrong" {
-            let between = runs.between;
-            return write!(out, "{between}wrong {place}");
+            out.text(runs.between);
+            out.put("wrong ", place);
+            return Ok(());
         }
-        runs = go_on(out, runs, verdict == "pair", place)?;
+        runs = go_on(out, runs, verdict == "pair", place);
     }
     if runs.between.is_empty() {
-        out.push_str("none")?;
+        out.text("none");
     }
     Ok(())
 }

@@ -27,37 +27,39 @@ fn byte(word: &[u8]) -> Option<u8> {
 }
 
 /// The bytes that all next words tell, up to the end or a closing parenthesis.
-pub(crate) fn bytes(alloc: Global, line: &mut Line<'_>) -> Result<Vec<u8>, Stop> {
+pub(crate) fn bytes(alloc: Global, line: &mut Line<'_>) -> Vec<u8> {
     let mut all = Vec::new(alloc);
     for _ in 0..u64::MAX {
         match line.peek() {
             Some(word) if word != b")".as_slice() => {
-                let word = line.word()?;
-                all.push(line.fits(byte(word))?)?;
+                let word = line.word();
+                let byte = line.fits(byte(word), 0);
+                line.grow(all.push(byte));
             }
             _ => break,
         }
     }
-    Ok(all)
+    all
 }
 
 /// Values up to a closing parenthesis.
 #[cycle(told)]
-fn told_each(alloc: Global, line: &mut Line<'_>, deep: u64) -> Result<Vec<Value>, Stop> {
+fn told_each(alloc: Global, line: &mut Line<'_>, deep: u64) -> Vec<Value> {
     let mut values = Vec::new(alloc);
     for _ in 0..u64::MAX {
-        if line.takes(b")") {
+        if !line.has_more() {
             break;
         }
-        values.push(told(alloc, line, deep)?)?;
+        let item = told(alloc, line, deep);
+        line.grow(values.push(item));
     }
-    Ok(values)
+    values
 }
 
 /// Values between parentheses.
 #[cycle(told)]
-fn told_list(alloc: Global, line: &mut Line<'_>, deep: u64) -> Result<Vec<Value>, Stop> {
-    line.expect(b"(")?;
+fn told_list(alloc: Global, line: &mut Line<'_>, deep: u64) -> Vec<Value> {
+    line.expect(b"(");
     told_each(alloc, line, deep)
 }
 
@@ -81,34 +83,35 @@ const VALUE_WORDS: [(&[u8], ValueWord); 5] = [
 
 /// The value that is next, in which values lie so deep at most.
 #[cycle(told)]
-fn told(alloc: Global, line: &mut Line<'_>, deep: u64) -> Result<Value, Stop> {
-    let word = line.word()?;
+fn told(alloc: Global, line: &mut Line<'_>, deep: u64) -> Value {
+    let word = line.word();
     if deep == 0 {
-        return Err(Stop::Refused(Name::TooDeep));
+        line.stop(Stop::Refused(Name::TooDeep));
+        return Value::Num(0);
     }
     match named(&VALUE_WORDS, word) {
-        Some(ValueWord::List) => Ok(Value::List(told_each(alloc, line, deep - 1)?)),
-        Some(ValueWord::Pair) => Ok(Value::Pair(line.wide()?, line.wide()?)),
+        Some(ValueWord::List) => Value::List(told_each(alloc, line, deep - 1)),
+        Some(ValueWord::Pair) => Value::Pair(line.wide(), line.wide()),
         Some(ValueWord::Variant) => {
-            let index = line.number()? as usize;
-            Ok(Value::Variant(index, told_list(alloc, line, deep - 1)?))
+            let index = line.number() as usize;
+            Value::Variant(index, told_list(alloc, line, deep - 1))
         }
-        Some(ValueWord::State) => Ok(Value::State {
-            state: line.number()? as usize,
-            prefix: told_list(alloc, line, deep - 1)?,
-            locals: told_list(alloc, line, deep - 1)?,
-        }),
+        Some(ValueWord::State) => Value::State {
+            state: line.number() as usize,
+            prefix: told_list(alloc, line, deep - 1),
+            locals: told_list(alloc, line, deep - 1),
+        },
         Some(ValueWord::Union) => {
-            line.expect(b"(")?;
-            let bytes = bytes(alloc, line)?;
-            line.expect(b")")?;
-            Ok(Value::Union(bytes))
+            line.expect(b"(");
+            let bytes = bytes(alloc, line);
+            line.expect(b")");
+            Value::Union(bytes)
         }
-        None => Ok(Value::Num(line.fits(wide(word))?)),
+        None => Value::Num(line.fits(wide(word), 0)),
     }
 }
 
 /// The value that is next.
-pub(crate) fn value(alloc: Global, line: &mut Line<'_>) -> Result<Value, Stop> {
+pub(crate) fn value(alloc: Global, line: &mut Line<'_>) -> Value {
     told(alloc, line, MOST_DEEP)
 }

@@ -205,7 +205,7 @@ vector_whole dl element layout count packed law lawful e =
     let align : simd_align dl packed lanes ≤ 29 = tight_or_not dl (is_tight packed lanes.count) lanes.size law bounded.some (omega (arith, bounded.most)) in
     let made = vector_layout 0 0 element (simd_view packed lanes) lanes.size (simd_align dl packed lanes) lanes.count in
     let all = vectors_lawful {H = Layout} dl element count lanes 0 0 (simd_view packed lanes) lanes.size (simd_align dl packed lanes) (if_below (size_bound dl) made) lawful are (omega arith) align
-    (λ n h. simd_viewed dl packed lanes n h) (λ n. simd_of_view packed lanes n) (inl refl) in
+    (λ n h. simd_viewed dl packed lanes n h) (λ n. simd_of_view packed lanes n) refl in
     let last = chosen_ok (nat_lt made.size (size_bound dl)) made layout calculator.SizeOverflow whole.2 in (
       subst (λ r. IfOk r (IsLawfulLayout dl)) whole.2 all,
       subst (λ (l : Layout). is_unsized l.backend_repr ≡ false) last.1 (view_of_lanes (is_tight packed lanes.count) lanes.scalar lanes.count),

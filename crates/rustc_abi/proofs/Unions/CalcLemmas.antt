@@ -197,13 +197,11 @@ vector_made dl element count packed layout e =
 
 -- memory aside, it is the answer to the layout
 pub simd_ok : {H : Type 0} (f : H → Layout) (dl : TargetDataLayout) (h : H) (l : Layout) (count : ℕ) (packed : Bool) (made : Layout) → f h ≡ l →
-    IsAnswer (simd_answer f 0 0 dl h count packed) (Ok made) → named (simd_answer (λ l. l) 0 0 dl l count packed) ≡ Ok made
-simd_ok f dl h l count packed made is (inl e) =
+    Ok made ≡ simd_answer f 0 0 dl h count packed → named (simd_answer (λ l. l) 0 0 dl l count packed) ≡ Ok made
+simd_ok f dl h l count packed made is e =
     subst (λ l. named (simd_answer (λ l. l) 0 0 dl l count packed) ≡ Ok made) is (sym (simd_same f dl h count packed) ∙ ap named (sym e))
-simd_ok f dl h l count packed made is (inr e) = absurd (cc)
 
 pub simd_err : {H : Type 0} (f : H → Layout) (dl : TargetDataLayout) (h : H) (l : Layout) (count : ℕ) (packed : Bool) (error : LayoutCalculatorError H) → f h ≡ l →
-    IsAnswer (simd_answer f 0 0 dl h count packed) (Err error) → IsRefusal (named (simd_answer (λ l. l) 0 0 dl l count packed)) (lay_error error)
-simd_err f dl h l count packed error is (inl e) =
+    Err error ≡ simd_answer f 0 0 dl h count packed → IsRefusal (named (simd_answer (λ l. l) 0 0 dl l count packed)) (lay_error error)
+simd_err f dl h l count packed error is e =
     inr (subst (λ l. named (simd_answer (λ l. l) 0 0 dl l count packed) ≡ Err (lay_error error)) is (sym (simd_same f dl h count packed) ∙ ap named (sym e)))
-simd_err f dl h l count packed error is (inr e) = inl (let same : error ≡ calculator.OutOfMemory = cc in ap lay_error same)

@@ -2,7 +2,7 @@
 
 use crate::coroutines::Parts;
 use crate::layouts::Layout;
-use crate::random::coroutines::sharing::stand_together;
+use crate::random::coroutines::sharing::{held_count, stand_together};
 use abi_base::Size;
 use abi_scalar::{FieldsShape, Variants};
 use std::alloc::{AllocError, Global};
@@ -27,6 +27,40 @@ fn bytes_of(local: Option<u32>, state: usize, offset: Size, size: Size) -> Place
     }
 }
 
+/// Adds the places of the prefix fields, and of the tag behind them, as those of a state.
+fn add_shared(
+    places: &mut Vec<Place>,
+    state: usize,
+    prefix: &[&Layout],
+    tag: Size,
+    offsets: &[Size],
+) -> Result<(), AllocError> {
+    for i in 0..offsets.len() {
+        let size = match prefix.get(i) {
+            Some(field) => field.size,
+            None => tag,
+        };
+        places.push(bytes_of(None, state, offsets[i], size))?;
+    }
+    Ok(())
+}
+
+/// Adds the places of the locals that a state holds.
+fn add_held(
+    places: &mut Vec<Place>,
+    state: usize,
+    parts: Parts<'_>,
+    held: &[u32],
+    offsets: &[Size],
+) -> Result<(), AllocError> {
+    for i in 0..held.len() {
+        if let (Some(field), Some(offset)) = (parts.locals.get(held[i] as usize), offsets.get(i)) {
+            places.push(bytes_of(Some(held[i]), state, *offset, field.size))?;
+        }
+    }
+    Ok(())
+}
+
 /// Where the locals of each state lie, and with them the prefix fields and the tag.
 fn places_of(
     alloc: Global,
@@ -42,15 +76,13 @@ fn places_of(
     ) else {
         return Ok(places);
     };
-    for (at, (state, variant)) in parts.states.iter().zip(variants.iter()).enumerate() {
-        for (i, offset) in offsets.iter().enumerate() {
-            let size = prefix.get(i).map_or(tag, |field| field.size);
-            places.push(bytes_of(None, at, *offset, size))?;
-        }
-        for (local, offset) in state.iter().zip(variant.field_offsets.iter()) {
-            if let Some(field) = parts.locals.get(*local as usize) {
-                places.push(bytes_of(Some(*local), at, *offset, field.size))?;
-            }
+    let (offsets, variants) = (offsets.as_slice().as_raw(), variants.as_slice().as_raw());
+    for at in 0..parts.states.len() {
+        if let Some(variant) = variants.get(at) {
+            let held = parts.states[at].as_slice().as_raw();
+            let own = variant.field_offsets.as_slice().as_raw();
+            add_shared(&mut places, at, prefix, tag, offsets)?;
+            add_held(&mut places, at, parts, held, own)?;
         }
     }
     Ok(places)
@@ -58,10 +90,8 @@ fn places_of(
 
 /// Whether two locals clash: the conflicts name them, in either direction, or some state holds both.
 fn do_clash(parts: Parts<'_>, a: u32, b: u32) -> bool {
-    parts
-        .conflicts
-        .iter()
-        .any(|pair| *pair == (a, b) || *pair == (b, a))
+    parts.conflicts.contains(&(a, b))
+        || parts.conflicts.contains(&(b, a))
         || stand_together(parts, a, b)
 }
 
@@ -76,6 +106,26 @@ fn agree(parts: Parts<'_>, a: Place, b: Place) -> bool {
     }
 }
 
+/// Whether a place is as it has to be beside each of these.
+fn agrees_with(parts: Parts<'_>, place: Place, others: &[Place]) -> bool {
+    for other in others {
+        if !agree(parts, place, *other) {
+            return false;
+        }
+    }
+    true
+}
+
+/// Whether each of these places ends inside, and each two are as they have to be.
+fn all_agree(parts: Parts<'_>, places: &[Place], size: Size) -> bool {
+    for at in 0..places.len() {
+        if places[at].to > size.bytes() || !agrees_with(parts, places[at], &places[..at]) {
+            return false;
+        }
+    }
+    true
+}
+
 /// Whether each part of the coroutine has a place that ends inside, and each two are as they have to be; the tag has so
 /// many bytes.
 pub(crate) fn lie_well(
@@ -87,22 +137,8 @@ pub(crate) fn lie_well(
 ) -> Result<bool, AllocError> {
     let places = places_of(alloc, prefix, tag, parts, layout)?;
     let shared = prefix.len().saturating_add(1);
-    let mut count = shared.saturating_mul(parts.states.len());
-    for state in parts.states {
-        count = count.saturating_add(state.len());
-    }
-    if places.len() != count {
-        return Ok(false);
-    }
-    for (at, part) in places.iter().enumerate() {
-        if part.to > layout.size.bytes() {
-            return Ok(false);
-        }
-        for other in places.iter().take(at) {
-            if !agree(parts, *part, *other) {
-                return Ok(false);
-            }
-        }
-    }
-    Ok(true)
+    let count = shared
+        .saturating_mul(parts.states.len())
+        .saturating_add(held_count(parts.states));
+    Ok(places.len() == count && all_agree(parts, &places, layout.size))
 }

@@ -59,25 +59,22 @@ pub(crate) fn has_several(question: &Question, variants: &[IndexVec<FieldIdx, &L
     present > 1 || !is_free(question)
 }
 
-/// The list of each variant, unless one is too large.
+/// The list of each variant.
 fn lists_of(
     alloc: Global,
     dl: &TargetDataLayout,
     question: &Question,
     variants: &[IndexVec<FieldIdx, &Layout>],
     kind: &StructKind,
-) -> Result<Option<Vec<Layout>>, Stop>
+) -> Result<Vec<Layout>, Stop>
     requires { IsLawfulDataLayout dl.now }
 {
     let mut lists = Vec::new(alloc);
     for fields in variants {
-        match list_of(alloc, dl, fields.as_slice().as_raw(), &question.repr, kind) {
-            Ok(list) => lists.push(list)?,
-            Err(Stop::Refused(Name::Lay(LayError::SizeOverflow))) => return Ok(None),
-            Err(stop) => return Err(stop),
-        }
+        let list = list_of(alloc, dl, fields.as_slice().as_raw(), &question.repr, kind)?;
+        lists.push(list)?;
     }
-    Ok(Some(lists))
+    Ok(lists)
 }
 
 /// The greatest size of these lists, rounded up to their greatest alignment.
@@ -197,6 +194,49 @@ fn leave_room(
     most_free(dl, fields) >= span_of(variants, untagged)
 }
 
+/// No size, where the line stops since a list is too large.
+fn too_large(stop: Stop) -> Result<Option<u128>, Stop> {
+    match stop {
+        Stop::Refused(Name::Lay(LayError::SizeOverflow)) => Ok(None),
+        stop => Err(stop),
+    }
+}
+
+/// The size of the enum with a tag. None where a list is too large.
+fn tagged_size(
+    alloc: Global,
+    dl: &TargetDataLayout,
+    question: &Question,
+    variants: &[IndexVec<FieldIdx, &Layout>],
+) -> Result<Option<u128>, Stop>
+    requires { IsLawfulDataLayout dl.now }
+{
+    let kind = behind_tag(dl, question, variants);
+    match lists_of(alloc, dl, question, variants, &kind) {
+        Ok(lists) => Ok(Some(whole(&lists))),
+        Err(stop) => too_large(stop),
+    }
+}
+
+/// The size of the enum with a niche. None where a list is too large, or no niche tells the variants apart.
+fn niche_size(
+    alloc: Global,
+    dl: &TargetDataLayout,
+    question: &Question,
+    variants: &[IndexVec<FieldIdx, &Layout>],
+) -> Result<Option<u128>, Stop>
+    requires { IsLawfulDataLayout dl.now }
+{
+    if !is_free(question) {
+        return Ok(None);
+    }
+    match lists_of(alloc, dl, question, variants, &StructKind::AlwaysSized) {
+        Ok(lists) if leave_room(dl, variants, &lists) => Ok(Some(whole(&lists))),
+        Ok(_) => Ok(None),
+        Err(stop) => too_large(stop),
+    }
+}
+
 /// What has to be answered for an enum of several variants.
 pub(crate) fn expected_of(
     alloc: Global,
@@ -209,21 +249,11 @@ pub(crate) fn expected_of(
     if question.repr.packed() {
         return Ok(Expected::Packed);
     }
-    let kind = behind_tag(dl, question, variants);
-    let Some(lists) = lists_of(alloc, dl, question, variants, &kind)? else {
-        return Ok(Expected::TooLarge);
-    };
-    let tagged = whole(&lists);
-    if tagged >= u128::from(dl.obj_size_bound()) {
-        return Ok(Expected::TooLarge);
-    }
-    if is_free(question) {
-        let own = lists_of(alloc, dl, question, variants, &StructKind::AlwaysSized)?;
-        if let Some(lists) = own {
-            if leave_room(dl, variants, &lists) {
-                return Ok(Expected::Size(whole(&lists)));
-            }
+    match tagged_size(alloc, dl, question, variants)? {
+        Some(tagged) if tagged < u128::from(dl.obj_size_bound()) => {
+            let own = niche_size(alloc, dl, question, variants)?;
+            Ok(Expected::Size(own.unwrap_or(tagged)))
         }
+        _ => Ok(Expected::TooLarge),
     }
-    Ok(Expected::Size(tagged))
 }

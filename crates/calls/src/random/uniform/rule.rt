@@ -5,19 +5,23 @@
 use crate::layouts::Layout;
 use crate::random::grown::Grown;
 use abi_base::{Align, Primitive, RegKind, Size};
-use abi_scalar::{BackendRepr, FieldsShape, Scalar, Variants};
+use abi_index::FieldIdx;
+use abi_scalar::{BackendRepr, FieldsShape, Scalar, VariantLayout, Variants};
 use abi_types::Reg;
 use std::alloc::{AllocError, Global};
 
-/// A part: where it begins, how large it is, and the registers that it is uniform with; None is that of no bytes.
-#[derive(Drop)]
+/// A part: of which variant it is, or of the fields that all share, where it begins, how large it is, and the register
+/// that it is in; else the place of its type, of which is known what it is uniform with.
+#[derive(Clone, Copy)]
 struct Piece {
+    variant: Option<usize>,
     offset: u64,
     size: u64,
-    registers: Vec<Option<Reg>>,
+    register: Option<Reg>,
+    place: usize,
 }
 
-/// How parts lie.
+/// How the parts lie that all variants share.
 #[derive(Clone, Copy)]
 enum Order {
     /// They run nowhere.
@@ -30,11 +34,12 @@ enum Order {
     Elements(u64),
 }
 
-/// The parts of a type that run, and how they lie.
-#[derive(Drop)]
-struct Parts {
+/// How a type's parts lie: those that all variants share, and behind them, one behind the other, those of each of so
+/// many variants.
+#[derive(Clone, Copy)]
+struct Lie {
     order: Order,
-    pieces: Vec<Piece>,
+    variants: usize,
 }
 
 /// The register of a scalar that is so large.
@@ -86,146 +91,136 @@ fn is_place_only(all: Types<'_>, place: usize) -> bool {
     }
 }
 
-/// The part of the type at a place.
-fn piece_at(
-    alloc: Global,
-    all: Types<'_>,
-    place: usize,
-    offset: Size,
-) -> Result<Option<Piece>, AllocError> {
-    let (Some(it), Some(registers)) = (all.types.get(place), all.known.get(place)) else {
-        return Ok(None);
-    };
-    Ok(Some(Piece {
+/// The part of the type at a place, if there is one.
+fn piece_at(all: Types<'_>, variant: Option<usize>, place: usize, offset: Size) -> Option<Piece> {
+    let it = all.types.get(place)?;
+    Some(Piece {
+        variant,
         offset: offset.bytes(),
         size: it.laid.layout().size.bytes(),
-        registers: Vec::from_slice(alloc, registers)?,
-    }))
-}
-
-/// Fields at these offsets, each behind the one before.
-fn chain(
-    alloc: Global,
-    all: Types<'_>,
-    places: &[usize],
-    offsets: &[Size],
-) -> Result<Parts, AllocError> {
-    let mut pieces = Vec::new(alloc);
-    for (place, offset) in places.iter().zip(offsets.iter()) {
-        if is_place_only(all, *place) {
-            continue;
-        }
-        if let Some(piece) = piece_at(alloc, all, *place, *offset)? {
-            pieces.push(piece)?;
-        }
-    }
-    Ok(Parts {
-        order: Order::Chain,
-        pieces,
+        register: None,
+        place,
     })
 }
 
-/// Fields at the start, but for those that are nothing but a place unless they are elements.
-fn together(
-    alloc: Global,
+/// The part that is in one register.
+fn piece_in(offset: Size, register: Reg) -> Piece {
+    Piece {
+        variant: None,
+        offset: offset.bytes(),
+        size: register.size.bytes(),
+        register: Some(register),
+        place: 0,
+    }
+}
+
+/// Adds fields at these offsets, but for those that are nothing but a place.
+fn add_fields(
+    pieces: &mut Vec<Piece>,
+    all: Types<'_>,
+    variant: Option<usize>,
+    places: &[usize],
+    offsets: &[Size],
+) -> Result<(), AllocError> {
+    for at in 0..places.len().min(offsets.len()) {
+        if is_place_only(all, places[at]) {
+            continue;
+        }
+        if let Some(piece) = piece_at(all, variant, places[at], offsets[at]) {
+            pieces.push(piece)?;
+        }
+    }
+    Ok(())
+}
+
+/// Adds fields at the start, but for those that are nothing but a place unless they are elements.
+fn add_together(
+    pieces: &mut Vec<Piece>,
     all: Types<'_>,
     places: &[usize],
     are_elements: bool,
-) -> Result<Vec<Piece>, AllocError> {
-    let mut pieces = Vec::new(alloc);
+) -> Result<(), AllocError> {
     for place in places {
         if !are_elements && is_place_only(all, *place) {
             continue;
         }
-        if let Some(piece) = piece_at(alloc, all, *place, Size::ZERO)? {
+        if let Some(piece) = piece_at(all, None, *place, Size::ZERO) {
             pieces.push(piece)?;
         }
     }
-    Ok(pieces)
+    Ok(())
 }
 
-/// The part that is in one register.
-fn piece_in(alloc: Global, offset: Size, register: Reg) -> Result<Piece, AllocError> {
-    Ok(Piece {
-        offset: offset.bytes(),
-        size: register.size.bytes(),
-        registers: vec![in alloc; Some(register)]?,
-    })
-}
-
-/// What of a type's own fields runs; `places` are those of their types.
-fn parts_of(
-    alloc: Global,
+/// Adds what of a type's own fields runs; `places` are those of their types.
+fn add_own(
+    pieces: &mut Vec<Piece>,
     all: Types<'_>,
     layout: &Layout,
     places: &[usize],
-) -> Result<Parts, AllocError> {
-    let (order, pieces) = match &layout.fields {
-        FieldsShape::Primitive => (Order::Nowhere, Vec::new(alloc)),
-        FieldsShape::Union(_) => (Order::Together, together(alloc, all, places, false)?),
-        FieldsShape::Array { count: 0, .. } => (Order::Chain, Vec::new(alloc)),
+) -> Result<Order, AllocError> {
+    match &layout.fields {
+        FieldsShape::Primitive => Ok(Order::Nowhere),
+        FieldsShape::Union(_) => {
+            add_together(pieces, all, places, false)?;
+            Ok(Order::Together)
+        }
+        FieldsShape::Array { count: 0, .. } => Ok(Order::Chain),
         FieldsShape::Array { .. } => {
-            let order = Order::Elements(layout.size.bytes());
-            (order, together(alloc, all, places, true)?)
+            add_together(pieces, all, places, true)?;
+            Ok(Order::Elements(layout.size.bytes()))
         }
         FieldsShape::Arbitrary { offsets, .. } => {
-            return chain(alloc, all, places, offsets.as_slice().as_raw());
+            add_fields(pieces, all, None, places, offsets.as_slice().as_raw())?;
+            Ok(Order::Chain)
         }
-    };
-    Ok(Parts { order, pieces })
-}
-
-/// How many bytes these have together.
-fn total_size(pieces: &[Piece]) -> u64 {
-    let mut total = 0u64;
-    for piece in pieces {
-        total = total.saturating_add(piece.size);
     }
-    total
 }
 
-/// The size of the largest of these.
+/// The end of the largest of the parts that all variants share.
 fn greatest_size(pieces: &[Piece]) -> u64 {
     let mut greatest = 0;
     for piece in pieces {
-        greatest = greatest.max(piece.size);
+        if piece.variant.is_none() {
+            greatest = greatest.max(piece.size);
+        }
     }
     greatest
 }
 
-/// Whether each begins where those before it end.
-fn is_chain(pieces: &[Piece], start: u64) -> bool {
+/// Where the parts of a variant, or those that all share, end that begin at the start; None where one of them doesn't
+/// begin where those before it end.
+fn chain_end(pieces: &[Piece], variant: Option<usize>, start: u64) -> Option<u64> {
     let mut end = start;
     for piece in pieces {
-        if piece.offset != end {
-            return false;
+        if piece.variant == variant {
+            if piece.offset != end {
+                return None;
+            }
+            end = end.saturating_add(piece.size);
         }
-        end = end.saturating_add(piece.size);
     }
-    true
+    Some(end)
 }
 
-/// Where parts end that begin at the start; None where they don't lie so.
-fn end_of(parts: &Parts, start: u64) -> Option<u64> {
-    let pieces = &parts.pieces;
-    match parts.order {
+/// Where the parts end that all variants share; None where they don't lie so.
+fn own_end(pieces: &[Piece], order: Order) -> Option<u64> {
+    match order {
         Order::Nowhere => None,
-        Order::Chain if is_chain(pieces, start) => Some(start.saturating_add(total_size(pieces))),
-        Order::Chain => None,
-        Order::Together => Some(start.max(greatest_size(pieces))),
+        Order::Chain => chain_end(pieces, None, 0),
+        Order::Together => Some(greatest_size(pieces)),
         Order::Elements(end) => Some(end),
     }
 }
 
 /// Whether a type is filled: its own fields begin at the first byte, those of each variant where they end, and the last
 /// end is its size.
-fn is_filled(size: u64, own: &Parts, variants: &[Parts]) -> bool {
-    let Some(start) = end_of(own, 0) else {
+fn is_filled(size: u64, pieces: &[Piece], lie: Lie) -> bool {
+    let Some(start) = own_end(pieces, lie.order) else {
         return false;
     };
     let mut last = start;
-    for variant in variants {
-        match end_of(variant, start) {
+    for variant in 0..lie.variants {
+        match chain_end(pieces, Some(variant), start) {
             Some(end) => last = last.max(end),
             None => return false,
         }
@@ -233,51 +228,72 @@ fn is_filled(size: u64, own: &Parts, variants: &[Parts]) -> bool {
     last == size
 }
 
-/// Whether each of these is uniform with the register or with none, and whether one of them is with it.
-fn with(pieces: &[Piece], register: &Option<Reg>) -> (bool, bool) {
-    let mut occurs = false;
+/// The registers that each type is uniform with; None is that of no bytes.
+type Known<'a> = &'a [Vec<Option<Reg>>];
+
+/// The registers that the type at a place is uniform with.
+fn known_at(known: Known<'_>, place: usize) -> &[Option<Reg>] {
+    match known.get(place) {
+        Some(registers) => registers,
+        None => &[],
+    }
+}
+
+/// Whether a part is uniform with the register.
+fn is_with(known: Known<'_>, piece: &Piece, register: &Option<Reg>) -> bool {
+    match &piece.register {
+        Some(own) => *register == Some(*own),
+        None => known_at(known, piece.place).contains(register),
+    }
+}
+
+/// Whether these parts are uniform with the register together: each with it or with none, and one of them with it.
+fn are_with(known: Known<'_>, pieces: &[Piece], register: &Option<Reg>) -> bool {
+    let mut occurs = register.is_none();
     for piece in pieces {
-        let has_it = piece.registers.contains(register);
-        if !has_it && !piece.registers.contains(&None) {
-            return (false, false);
+        let has_it = is_with(known, piece, register);
+        if !has_it && !is_with(known, piece, &None) {
+            return false;
         }
         occurs = occurs || has_it;
     }
-    (true, occurs)
+    occurs
 }
 
-/// Whether these parts are uniform with the register together.
-fn are_with(own: &Parts, variants: &[Parts], register: &Option<Reg>) -> bool {
-    let (mut each, mut some) = with(&own.pieces, register);
-    for variant in variants {
-        let (other_each, other_some) = with(&variant.pieces, register);
-        each = each && other_each;
-        some = some || other_some;
+/// Adds the register unless it is there.
+fn add_register(found: &mut Vec<Option<Reg>>, register: Option<Reg>) -> Result<(), AllocError> {
+    if !found.contains(&register) {
+        found.push(register)?;
     }
-    each && (some || register.is_none())
+    Ok(())
 }
 
-/// The registers that these parts have, and none.
-fn candidates(
-    alloc: Global,
-    own: &Parts,
-    variants: &[Parts],
-) -> Result<Vec<Option<Reg>>, AllocError> {
-    let mut registers = vec![in alloc; None]?;
-    add_registers(&own.pieces, &mut registers)?;
-    for variant in variants {
-        add_registers(&variant.pieces, &mut registers)?;
+/// Adds each of the registers that these parts are uniform with together.
+fn add_uniform(
+    found: &mut Vec<Option<Reg>>,
+    known: Known<'_>,
+    pieces: &[Piece],
+    registers: &[Option<Reg>],
+) -> Result<(), AllocError> {
+    for register in registers {
+        if are_with(known, pieces, register) {
+            add_register(found, *register)?;
+        }
     }
-    Ok(registers)
+    Ok(())
 }
 
-/// Adds the registers of these parts that aren't there yet.
-fn add_registers(pieces: &[Piece], registers: &mut Vec<Option<Reg>>) -> Result<(), AllocError> {
+/// Adds each register that these parts are uniform with together, of those that one of them has, and none.
+fn add_each(
+    found: &mut Vec<Option<Reg>>,
+    known: Known<'_>,
+    pieces: &[Piece],
+) -> Result<(), AllocError> {
+    add_uniform(found, known, pieces, &[None])?;
     for piece in pieces {
-        for register in &piece.registers {
-            if !registers.contains(register) {
-                registers.push(*register)?;
-            }
+        match &piece.register {
+            Some(own) => add_uniform(found, known, pieces, &[Some(*own)])?,
+            None => add_uniform(found, known, pieces, known_at(known, piece.place))?,
         }
     }
     Ok(())
@@ -291,56 +307,104 @@ fn list_at(lists: &[Vec<usize>], index: usize) -> &[usize] {
     }
 }
 
-/// The parts that all variants share, and those of each variant that a tag tells apart. None where there is no value.
-fn split(
-    alloc: Global,
+/// Adds the tag, as the part that all variants share.
+fn add_tag(pieces: &mut Vec<Piece>, layout: &Layout, tag: Scalar) -> Result<(), AllocError> {
+    let (FieldsShape::Arbitrary { offsets, .. }, Primitive::Int(integer, _)) = (
+        &layout.fields,
+        tag.primitive(),
+    ) else {
+        return Ok(());
+    };
+    for offset in offsets.as_slice().as_raw() {
+        pieces.push(piece_in(*offset, register_of(tag, integer.size())))?;
+    }
+    Ok(())
+}
+
+/// Adds the tag and the fields of each variant.
+fn add_variants(
+    pieces: &mut Vec<Piece>,
     all: Types<'_>,
     it: &Grown,
-) -> Result<Option<(Parts, Vec<Parts>)>, AllocError> {
+    tag: Scalar,
+    variants: &[VariantLayout<FieldIdx>],
+) -> Result<Lie, AllocError> {
+    add_tag(pieces, it.laid.layout(), tag)?;
+    for index in 0..variants.len() {
+        let offsets = variants[index].field_offsets.as_slice().as_raw();
+        add_fields(pieces, all, Some(index), list_at(&it.lists, index), offsets)?;
+    }
+    Ok(Lie {
+        order: Order::Chain,
+        variants: variants.len(),
+    })
+}
+
+/// The place of the first or the second scalar of a pair, and the register that it is in. None where it is no pair.
+fn half_of(view: &BackendRepr, is_first: bool) -> Option<(Size, Reg)> {
+    let size = Size::from_bytes(1);
+    match view {
+        BackendRepr::ScalarPair { a, .. } if is_first => Some((Size::ZERO, register_of(*a, size))),
+        BackendRepr::ScalarPair { b, b_offset, .. } => Some((*b_offset, register_of(*b, size))),
+        _ => None,
+    }
+}
+
+/// Adds a scalar of a pair.
+fn add_half(pieces: &mut Vec<Piece>, half: Option<(Size, Reg)>) -> Result<(), AllocError> {
+    if let Some((place, register)) = half {
+        pieces.push(piece_in(place, register))?;
+    }
+    Ok(())
+}
+
+/// Adds the two scalars of a pair.
+fn add_pair(pieces: &mut Vec<Piece>, view: &BackendRepr) -> Result<Lie, AllocError> {
+    add_half(pieces, half_of(view, true))?;
+    add_half(pieces, half_of(view, false))?;
+    Ok(Lie {
+        order: Order::Chain,
+        variants: 0,
+    })
+}
+
+/// Adds the parts that all variants share, and those of each variant that a tag tells apart. None where there is no
+/// value.
+fn split(pieces: &mut Vec<Piece>, all: Types<'_>, it: &Grown) -> Result<Option<Lie>, AllocError> {
     let layout = it.laid.layout();
-    let mut each = Vec::new(alloc);
     match (&layout.variants, layout.backend_repr) {
         (Variants::Empty, _) => Ok(None),
         (Variants::Multiple { tag, variants, .. }, _) => {
-            for (index, variant) in variants.iter().enumerate() {
-                let places = list_at(&it.lists, index);
-                each.push(chain(
-                    alloc,
-                    all,
-                    places,
-                    variant.field_offsets.as_slice().as_raw(),
-                )?)?;
-            }
-            Ok(Some((tag_parts(alloc, layout, *tag)?, each)))
+            let variants = variants.as_slice().as_raw();
+            Ok(Some(add_variants(pieces, all, it, *tag, variants)?))
         }
-        (_, BackendRepr::ScalarPair { a, b, b_offset }) if it.lists.is_empty() => {
-            let mut pieces = Vec::new(alloc);
-            for (scalar, offset) in [(a, Size::ZERO), (b, b_offset)] {
-                pieces.push(piece_in(alloc, offset, register_of(scalar, Size::from_bytes(1)))?)?;
-            }
-            let order = Order::Chain;
-            Ok(Some((Parts { order, pieces }, each)))
+        (_, BackendRepr::ScalarPair { .. }) if it.lists.is_empty() => {
+            Ok(Some(add_pair(pieces, &layout.backend_repr)?))
         }
         (Variants::Single { index }, _) => {
             let places = list_at(&it.lists, index.as_usize());
-            Ok(Some((parts_of(alloc, all, layout, places)?, each)))
+            Ok(Some(Lie {
+                order: add_own(pieces, all, layout, places)?,
+                variants: 0,
+            }))
         }
     }
 }
 
-/// The tag, as the part that all variants share.
-fn tag_parts(alloc: Global, layout: &Layout, tag: Scalar) -> Result<Parts, AllocError> {
+/// Adds the registers that a type is uniform with as its parts.
+fn add_found(
+    alloc: Global,
+    found: &mut Vec<Option<Reg>>,
+    all: Types<'_>,
+    it: &Grown,
+) -> Result<(), AllocError> {
     let mut pieces = Vec::new(alloc);
-    if let (FieldsShape::Arbitrary { offsets, .. }, Primitive::Int(integer, _)) = (
-        &layout.fields,
-        tag.primitive(),
-    ) {
-        for offset in offsets.iter() {
-            pieces.push(piece_in(alloc, *offset, register_of(tag, integer.size()))?)?;
+    match split(&mut pieces, all, it)? {
+        Some(lie) if is_filled(it.laid.layout().size.bytes(), &pieces, lie) => {
+            add_each(found, all.known, &pieces)
         }
+        _ => Ok(()),
     }
-    let order = Order::Chain;
-    Ok(Parts { order, pieces })
 }
 
 /// The registers that a type is uniform with; None is that of no bytes.
@@ -354,18 +418,8 @@ pub(crate) fn uniform_with(
     if let Some(register) = whole_register(layout) {
         found.push(Some(register))?;
     }
-    if !is_seen_as_parts(&layout.backend_repr) {
-        return Ok(found);
-    }
-    let Some((own, variants)) = split(alloc, all, it)? else {
-        return Ok(found);
-    };
-    if is_filled(layout.size.bytes(), &own, &variants) {
-        for register in &candidates(alloc, &own, &variants)? {
-            if are_with(&own, &variants, register) {
-                found.push(*register)?;
-            }
-        }
+    if is_seen_as_parts(&layout.backend_repr) {
+        add_found(alloc, &mut found, all, it)?;
     }
     Ok(found)
 }

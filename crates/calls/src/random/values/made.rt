@@ -2,11 +2,10 @@
 
 use crate::random::dice::Dice;
 use crate::random::values::MOST_BYTES;
-use crate::stop::Stop;
 use abi_base::TargetDataLayout;
 use abi_scalar::{Scalar, WrappingRange};
-use rustc_abi::{TypeTree, Value, lay_out};
-use std::alloc::Global;
+use rustc_abi::{LayError, TypeTree, Value, lay_out};
+use std::alloc::{AllocFailed, Global};
 
 /// A number that no scalar of less than 16 bytes has.
 const TOO_WIDE: u128 = 1 << 127;
@@ -16,10 +15,48 @@ const TOO_WIDE: u128 = 1 << 127;
 pub(crate) struct Source {
     pub(crate) dice: Dice,
     /// Whether the next number is one that is too wide.
-    pub(crate) spoils: bool,
+    spoils: bool,
+    /// Whether a type without a value came up, or too many values: what is made isn't a value then.
+    is_none: bool,
+    /// Whether a growth of memory was refused.
+    pub(crate) is_short: bool,
 }
 
 impl Source {
+    /// What chance has.
+    pub(crate) fn new(dice: Dice) -> Self {
+        Source {
+            dice,
+            spoils: false,
+            is_none: false,
+            is_short: false,
+        }
+    }
+
+    /// Begins a value, whose first number is to be too wide or isn't.
+    pub(crate) fn begin(&mut self, spoils: bool) {
+        self.spoils = spoils;
+        self.is_none = false;
+    }
+
+    /// Whether no value came up, or none with a number that is too wide where one was to be.
+    pub(crate) fn has_nothing(&self) -> bool {
+        self.is_none || self.spoils || self.is_short
+    }
+
+    /// Keeps whether what was made could grow.
+    fn keep<T: Drop>(&mut self, grown: Result<(), AllocFailed<T>>) {
+        if grown.is_err() {
+            self.is_short = true;
+        }
+    }
+
+    /// In place of a value, where there is none.
+    fn none(&mut self) -> Value {
+        self.is_none = true;
+        Value::Num(0)
+    }
+
     /// A number of the range: an end of it, or any; of one that wraps round, its start, or any from 0 to its end.
     fn within(&mut self, range: &WrappingRange) -> u128 {
         let low = if range.start <= range.end {
@@ -57,34 +94,6 @@ impl Source {
     }
 }
 
-/// Values as those of a list.
-fn as_list(made: Option<Vec<Value>>) -> Option<Value> {
-    match made {
-        Some(values) => Some(Value::List(values)),
-        None => None,
-    }
-}
-
-/// Values as those of the variant with this index.
-fn as_variant(index: usize, made: Option<Vec<Value>>) -> Option<Value> {
-    match made {
-        Some(values) => Some(Value::Variant(index, values)),
-        None => None,
-    }
-}
-
-/// Values of the prefix fields, and of the locals, as those of a state.
-fn as_state(state: usize, shared: Option<Vec<Value>>, kept: Option<Vec<Value>>) -> Option<Value> {
-    match (shared, kept) {
-        (Some(prefix), Some(locals)) => Some(Value::State {
-            state,
-            prefix,
-            locals,
-        }),
-        _ => None,
-    }
-}
-
 /// One of the states, and the indices of its locals; none where there is no state.
 fn some_state<'a>(source: &mut Source, states: &'a [Vec<u64>]) -> (usize, &'a [u64]) {
     if states.is_empty() {
@@ -94,56 +103,65 @@ fn some_state<'a>(source: &mut Source, states: &'a [Vec<u64>]) -> (usize, &'a [u
     (state, &states[state])
 }
 
-/// A value of a union: as many bytes as it has data bytes.
-fn made_union(
+/// How many data bytes a union has. None where it is unsized.
+fn data_bytes(
     alloc: Global,
     dl: &TargetDataLayout,
-    source: &mut Source,
     tree: &TypeTree,
-) -> Result<Option<Value>, Stop> {
+) -> Result<Option<u64>, LayError> {
     let laid = lay_out(alloc, dl, tree)?;
-    let mut count = laid.layout().size.bytes();
-    let root = laid.root();
-    if root.layout.data().is_unsized() {
+    if laid.layout().is_unsized() {
         return Ok(None);
     }
-    let padding = root.variant_independent_padding_ranges(alloc, &())?;
+    let (padding, _visits) = laid.padding(alloc)?;
+    let mut count = laid.layout().size.bytes();
     for run in padding.as_slice() {
         count = count.saturating_sub(run.1);
     }
-    Ok(Some(Value::Union(source.dice.bytes(alloc, count)?)))
+    Ok(Some(count))
 }
 
-/// A value of the type; None where it has none, or a variant without one came up.
+/// A value of a union: as many bytes as it has data bytes.
+fn made_union(alloc: Global, dl: &TargetDataLayout, source: &mut Source, tree: &TypeTree) -> Value {
+    let Ok(Some(count)) = data_bytes(alloc, dl, tree) else {
+        return source.none();
+    };
+    match source.dice.bytes(alloc, count) {
+        Ok(bytes) => Value::Union(bytes),
+        Err(_) => {
+            source.is_short = true;
+            Value::Num(0)
+        }
+    }
+}
+
+/// A value of the type.
 #[cycle(made)]
 pub(crate) fn made_value(
     alloc: Global,
     dl: &TargetDataLayout,
     source: &mut Source,
     tree: &TypeTree,
-) -> Result<Option<Value>, Stop> {
+) -> Value {
     match tree {
-        TypeTree::Scalar(scalar) => Ok(Some(Value::Num(source.number(scalar)))),
-        TypeTree::Pair(a, b) => Ok(Some(source.pair(a, b))),
-        TypeTree::Never => Ok(None),
-        TypeTree::Unit => Ok(Some(Value::List(Vec::new(alloc)))),
-        TypeTree::Array(count, element) => {
-            Ok(as_list(made_elements(alloc, dl, source, element, *count)?))
-        }
-        TypeTree::Vector { lanes, element, .. } => {
-            Ok(as_list(made_elements(alloc, dl, source, element, *lanes)?))
-        }
+        TypeTree::Scalar(scalar) => Value::Num(source.number(scalar)),
+        TypeTree::Pair(a, b) => source.pair(a, b),
+        TypeTree::Never => source.none(),
+        TypeTree::Unit => Value::List(Vec::new(alloc)),
+        TypeTree::Array(count, element)
+        | TypeTree::Vector {
+            lanes: count,
+            element,
+            ..
+        } => Value::List(made_elements(alloc, dl, source, element, *count)),
         TypeTree::Struct { fields, .. } | TypeTree::Ordered { fields, .. } => {
-            Ok(as_list(made_fields(alloc, dl, source, fields)?))
+            Value::List(made_fields(alloc, dl, source, fields))
         }
         TypeTree::Union { .. } => made_union(alloc, dl, source, tree),
+        TypeTree::Enum { variants, .. } if variants.is_empty() => source.none(),
         TypeTree::Enum { variants, .. } => {
-            if variants.is_empty() {
-                return Ok(None);
-            }
             let index = source.dice.roll(variants.len() as u64) as usize;
-            let made = made_fields(alloc, dl, source, &variants[index].1)?;
-            Ok(as_variant(index, made))
+            Value::Variant(index, made_fields(alloc, dl, source, &variants[index].1))
         }
         TypeTree::Coroutine {
             prefix,
@@ -151,15 +169,18 @@ pub(crate) fn made_value(
             states,
             ..
         } => {
-            let shared = made_fields(alloc, dl, source, prefix)?;
+            let prefix = made_fields(alloc, dl, source, prefix);
             let (state, held) = some_state(source, states);
-            let kept = made_locals(alloc, dl, source, locals, held)?;
-            Ok(as_state(state, shared, kept))
+            Value::State {
+                state,
+                prefix,
+                locals: made_locals(alloc, dl, source, locals, held),
+            }
         }
     }
 }
 
-/// So many values of the type; none where they are too many.
+/// So many values of the type, as long as each is one; none where they are too many.
 #[cycle(made)]
 fn made_elements(
     alloc: Global,
@@ -167,39 +188,39 @@ fn made_elements(
     source: &mut Source,
     element: &TypeTree,
     count: u64,
-) -> Result<Option<Vec<Value>>, Stop> {
+) -> Vec<Value> {
     let mut values = Vec::new(alloc);
-    if count > MOST_BYTES {
-        return Ok(None);
-    }
+    source.is_none = source.is_none || count > MOST_BYTES;
     for _ in 0..count {
-        match made_value(alloc, dl, source, element)? {
-            Some(value) => values.push(value)?,
-            None => return Ok(None),
+        if source.is_none {
+            break;
         }
+        let value = made_value(alloc, dl, source, element);
+        source.keep(values.push(value));
     }
-    Ok(Some(values))
+    values
 }
 
-/// A value of each of the types.
+/// A value of each of the types, as long as each is one.
 #[cycle(made)]
 fn made_fields(
     alloc: Global,
     dl: &TargetDataLayout,
     source: &mut Source,
     fields: &[TypeTree],
-) -> Result<Option<Vec<Value>>, Stop> {
+) -> Vec<Value> {
     let mut values = Vec::new(alloc);
     for field in fields {
-        match made_value(alloc, dl, source, field)? {
-            Some(value) => values.push(value)?,
-            None => return Ok(None),
+        if source.is_none {
+            break;
         }
+        let value = made_value(alloc, dl, source, field);
+        source.keep(values.push(value));
     }
-    Ok(Some(values))
+    values
 }
 
-/// A value of each of the types with these indices.
+/// A value of each of the types with these indices, as long as each is one.
 #[cycle(made)]
 fn made_locals(
     alloc: Global,
@@ -207,16 +228,15 @@ fn made_locals(
     source: &mut Source,
     locals: &[TypeTree],
     indices: &[u64],
-) -> Result<Option<Vec<Value>>, Stop> {
+) -> Vec<Value> {
     let mut values = Vec::new(alloc);
     for &index in indices {
-        if index >= locals.len() as u64 {
-            return Ok(None);
+        if source.is_none || index >= locals.len() as u64 {
+            source.is_none = true;
+            break;
         }
-        match made_value(alloc, dl, source, &locals[index as usize])? {
-            Some(value) => values.push(value)?,
-            None => return Ok(None),
-        }
+        let value = made_value(alloc, dl, source, &locals[index as usize]);
+        source.keep(values.push(value));
     }
-    Ok(Some(values))
+    values
 }

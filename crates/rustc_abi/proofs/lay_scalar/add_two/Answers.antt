@@ -17,25 +17,25 @@ use Rattle.rustc_abi.proofs.Sizes.CountLemmas.{both_ok, more_both, own_put}
 use Rattle.rustc_abi.proofs.Trees.StillLemmas.{still_after}
 use Rattle.rustc_abi.proofs.lay_scalar.add_two.Goals as goal
 
-pub scalar_pair-requires-clause-first : goal.scalar_pair-requires-clause-first
-scalar_pair-requires-clause-first c = lawful_readable c.args.dl.now c.args.a (faultless c.args.dl.now c.args.a c.requires.first)
+pub scalar_pair-layout-requires-clause-first : goal.scalar_pair-layout-requires-clause-first
+scalar_pair-layout-requires-clause-first c = lawful_readable c.args.dl.now c.args.a (faultless c.args.dl.now c.args.a c.requires.first)
 
-pub scalar_pair-requires-clause-second : goal.scalar_pair-requires-clause-second
-scalar_pair-requires-clause-second c = lawful_readable c.args.dl.now c.args.b (faultless c.args.dl.now c.args.b c.requires.second)
+pub scalar_pair-layout-requires-clause-second : goal.scalar_pair-layout-requires-clause-second
+scalar_pair-layout-requires-clause-second c = lawful_readable c.args.dl.now c.args.b (faultless c.args.dl.now c.args.b c.requires.second)
 
 pub add-requires-clause-laws : goal.add-requires-clause-laws
 add-requires-clause-laws c =
     let dl = c.args.dl.now in
     let a = c.args.a in
     let b = c.args.b in
-    let made = c.in_ok-layout.ensures.exact in
-    let size : c.in_ok-layout.layout.size ≡ pair_size dl a b = ap (λ l. l.size) made in
+    let made = c.scalar_pair-layout.ensures.exact in
+    let size : c.scalar_pair-layout.result.size ≡ pair_size dl a b = ap (λ l. l.size) made in
     let below : pair_size dl a b < size_bound dl = omega (arith, size, c.bytes.ensures, c.obj_size_bound.ensures, c.if-bytes-obj_size_bound.false) in
-    let lawful = c.in_ok-layout.ensures.lawful (faultless dl a c.requires.first) (faultless dl b c.requires.second) below in
+    let lawful = c.scalar_pair-layout.ensures.lawful (faultless dl a c.requires.first) (faultless dl b c.requires.second) below in
     let first = c.in_ok-first.ensures.ok in
     let second = c.in_ok-second.ensures.ok in
     let one = second.kept.same c.in_ok-first.first (omega (arith, first.last, length-types_in c.add_lawful.new.nodes.items)) ∙ first.meant in
-    pair_laws dl (types_in c.add_lawful-2.new.nodes.items) c.in_ok-first.first c.in_ok-second.second a b c.in_ok-layout.layout one second.meant made lawful
+    pair_laws dl (types_in c.add_lawful-2.new.nodes.items) c.in_ok-first.first c.in_ok-second.second a b c.scalar_pair-layout.result one second.meant made lawful
 
 pub add-requires-clause-earlier : goal.add-requires-clause-earlier
 add-requires-clause-earlier c =
@@ -49,10 +49,10 @@ returns-clause-ok c =
     let dl = c.args.dl.now in
     let a = c.args.a in
     let b = c.args.b in
-    let made = c.in_ok-layout.ensures.exact in
-    let size : c.in_ok-layout.layout.size ≡ pair_size dl a b = ap (λ l. l.size) made in
+    let made = c.scalar_pair-layout.ensures.exact in
+    let size : c.scalar_pair-layout.result.size ≡ pair_size dl a b = ap (λ l. l.size) made in
     let below : pair_size dl a b < size_bound dl = omega (arith, size, c.bytes.ensures, c.obj_size_bound.ensures, c.if-bytes-obj_size_bound.false) in
-    let lawful = subst (IsLawfulLayout dl) made (c.in_ok-layout.ensures.lawful (faultless dl a c.requires.first) (faultless dl b c.requires.second) below) in
+    let lawful = subst (IsLawfulLayout dl) made (c.scalar_pair-layout.ensures.lawful (faultless dl a c.requires.first) (faultless dl b c.requires.second) below) in
     IfOk-weaker c.add.result _ _
     (λ i put. IsAdded-pair dl _ _ _ _ c.in_ok-first.first c.in_ok-second.second i a b c.requires.first c.requires.second below c.add_lawful.ensures.lawful c.add_lawful-2.ensures.lawful lawful
     c.in_ok-first.ensures.ok c.in_ok-second.ensures.ok

@@ -1,11 +1,17 @@
-use Rattle.std.proofs.Common.{◌≡◌, ◌<◌, false, length, Some, Ok, ℕ, ap, sym, subst, arith}
+use Rattle.std.proofs.Common.{◌≡◌, ◌<◌, ◌*◌, Bool, true, false, length, nat_lt, Some, Ok, Err, ℕ, ap, sym, subst, arith}
+use Rattle.std.specs.Prelude.{if◌then◌else◌}
 use Rattle.std.proofs.lemmas.Result.{IfOk-weaker}
-use Rattle.abi_lists.specs.Array.{array_answer}
+use Rattle.abi_base.specs.declared.data_layout.TargetDataLayout.{TargetDataLayout}
+use Rattle.abi_base.specs.DataLayout.{size_bound}
+use Rattle.abi_scalar.specs.declared.error.LayoutCalculatorError.TheVariants.{SizeOverflow}
+use Rattle.abi_lists.specs.Array.{array_answer, elements_layout}
 use Rattle.abi_lists.specs.Simd.{simd_answer}
-use Rattle.abi_laid.specs.Placed.{layout_of}
+use Rattle.abi_laid.specs.Placed.{Layout, layout_of}
+use Rattle.rustc_abi.specs.declared.error.LayError.{LayError}
 use Rattle.rustc_abi.specs.Error.{named}
 use Rattle.abi_laid.specs.Nodes.{placed_at, types_in}
 use Rattle.rustc_abi.proofs.Places.LawsLemmas.{elements_laws, vector_laws}
+use Rattle.rustc_abi.proofs.Unions.CalcLemmas.{vector_made}
 use Rattle.rustc_abi.proofs.Unions.TogetherLemmas.{IsAdded-vector}
 use Rattle.rustc_abi.proofs.Sizes.CountLemmas.{array_flagged, both_ok, flagged_there, more_absorbed, more_both, own_put}
 use Rattle.rustc_abi.proofs.Trees.StillLemmas.{still_after}
@@ -32,6 +38,21 @@ add-requires-2-clause-laws c =
     subst (λ ns. Ok c.in_ok-array.array ≡ named {H = ℕ} (array_answer 0 dl (layout_of (placed_at ns c.args.element)) (Some c.args.lanes))) c.deref-2.ensures.value c.in_ok-array.ensures.exact in
     vector_laws dl (types_in c.add.new.nodes.items) c.in_ok-node.node (layout_of (placed_at c.args.nodes.now.items c.args.element)) c.args.lanes c.args.packed c.in_ok-array.array c.in_ok-layout.layout
     (ap layout_of c.in_ok-node.ensures.ok.meant) answer (sym listed)
+
+-- where all lanes are below the bound, their array has a layout
+never_refused : (dl : TargetDataLayout) (element : Layout) (lanes : ℕ) (e : LayError) (below : Bool) → below ≡ true → Err e ≡ named {H = ℕ} (if below then Ok (elements_layout 0 true lanes element) else Err SizeOverflow) → ⊥
+never_refused dl element lanes e true is told = cc
+never_refused dl element lanes e false is told = cc
+
+pub returns-in_err-array-clause-err : goal.returns-in_err-array-clause-err
+returns-in_err-array-clause-err c =
+    let dl = c.args.dl.now in
+    let element = layout_of (placed_at c.args.nodes.now.items c.args.element) in
+    let answer =
+    subst (λ ns. named (simd_answer (λ h. h) 0 0 dl (layout_of (placed_at ns c.args.element)) c.args.lanes c.args.packed) ≡ Ok c.in_ok-layout.layout) c.deref.ensures.value c.in_ok-layout.ensures.ok in
+    let below = (vector_made dl element c.args.lanes c.args.packed c.in_ok-layout.layout answer).below in
+    let told = rw c.deref-2.ensures.value at c.in_err-array.ensures.exact in
+    absurd (never_refused dl element c.args.lanes _ (nat_lt (element.size * c.args.lanes) (size_bound dl)) below told)
 
 pub returns-clause-ok : goal.returns-clause-ok
 returns-clause-ok c =

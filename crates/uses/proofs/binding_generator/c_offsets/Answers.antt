@@ -9,6 +9,7 @@ use Rattle.rustc_abi.specs.Fault.{IsRefusedFor}
 use Rattle.rustc_abi.specs.Laying.{AreLaying}
 use Rattle.uses.specs.declared.binding_generator.CStruct.{CStruct}
 use Rattle.uses.specs.InC.{IsInC, LieAsInC}
+use Rattle.uses.specs.Loaded.{HasLayout}
 use Rattle.uses.proofs.Trees.{tree_of-Struct}
 use Rattle.uses.proofs.binding_generator.c_offsets.Goals as goal
 
@@ -23,6 +24,11 @@ struct_of-requires c = (
   trees (map tree_of c.args.fields.items),
   (c.c_repr.result, tree_of-Struct c.c_repr.result true c.args.fields, c.c_repr.ensures.fixed, c.c_repr.ensures.unpacked, c.c_repr.ensures.unraised),
 )
+
+-- what is said of an answer, whichever it is
+answered_so : (r : Result CStruct LayError) (P Q : Type 0) → (P → Q) → IfOk r (λ c. P) → IfOk r (λ c. Q)
+answered_so (Ok c) P Q f h = f h
+answered_so (Err e) P Q f h = h
 
 -- what is said of the tree's refusal is said of such a struct's
 refused_so : (r : Result CStruct LayError) (P Q : LayError → Type 0) → ((e : LayError) → P e → Q e) → IfErr r P → IfErr r Q
@@ -44,3 +50,10 @@ returns-clause-refused c =
     refused_so c.struct_of.result (IsRefusedFor c.args.dl.now tree)
     (λ e. (tree : Tree) × IsInC tree fields × IsRefusedFor c.args.dl.now tree e)
     (λ e refused. (tree, in_c, refused)) c.struct_of.ensures.refused
+
+pub returns-clause-laid : goal.returns-clause-laid
+returns-clause-laid c =
+    let tree = tree_of (Struct c.c_repr.result true c.args.fields) in
+    let fields = trees (map tree_of c.args.fields.items) in
+    let in_c : IsInC tree fields = (c.c_repr.result, tree_of-Struct c.c_repr.result true c.args.fields, c.c_repr.ensures.fixed, c.c_repr.ensures.unpacked, c.c_repr.ensures.unraised) in
+    answered_so c.struct_of.result (HasLayout c.args.dl.now tree) ((tree : Tree) × IsInC tree fields × HasLayout c.args.dl.now tree) (λ laid. (tree, in_c, laid)) c.struct_of.ensures.laid

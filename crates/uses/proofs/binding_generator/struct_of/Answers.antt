@@ -15,4 +15,7 @@ pub returns-clause-placed : goal.returns-clause-placed
 returns-clause-placed c = λ fields is.
     let in_c = struct_in_c c.args.dl.now (tree_of c.args.tree.now) fields (placed_of c.in_ok-laid.laid) is c.in_ok-laid.ensures.laid c.layout-layout.result.now
     c.in-Arbitrary.offsets c.in-Arbitrary.in_memory_order c.in_ok-laid.ensures.placed c.layout-layout.ensures c.in-Arbitrary.is in
-    (in_c.0, in_c.1, subst (λ (os : List ℕ). LieAsInC c.args.dl.now.aggregate_align in_c.0 os c.layout-layout.result.now.size c.layout-layout.result.now.align.abi) (sym c.in_ok-try_clone-in-Arbitrary.ensures) in_c.2)
+    (in_c.0, in_c.1, subst (λ (os : List ℕ). LieAsInC c.args.dl.now.aggregate_align in_c.0 os c.layout-layout.result.now.size c.layout-layout.result.now.align.abi) (sym c.in_ok-try_clone-in-Arbitrary.ensures.ok) in_c.2)
+
+pub returns-clause-laid : goal.returns-clause-laid
+returns-clause-laid c = (c.in_ok-laid.ensures.lawful, placed_of c.in_ok-laid.laid, c.in_ok-laid.ensures.laid)

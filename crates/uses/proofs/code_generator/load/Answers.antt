@@ -9,22 +9,20 @@ use Rattle.abi_laid.specs.Tree.{tree_of}
 use Rattle.uses.proofs.Seen.{held_here, of_bool, seen_here, seen_most, seen_number}
 use Rattle.uses.proofs.code_generator.load.Goals as goal
 
-pub returns-in_default : goal.returns-in_default
-returns-in_default c = record {
-  seen = tt;
-  number = tt;
-  held = tt;
-  none = λ is placed laid scalar seen v held. c.in_default.not-Scalar scalar
-      (ap (λ (l : Layout). l.backend_repr) c.layout.ensures ∙ seen_here c.args.dl.now (tree_of c.args.tree.now) c.in_ok-laid.ensures.one (placed_of c.in_ok-laid.laid) c.in_ok-laid.ensures.laid scalar seen);
-  range = tt;
-  bool = tt;
-  refused = tt;
-}
+pub returns-in_default-clause-none : goal.returns-in_default-clause-none
+returns-in_default-clause-none c = λ is placed laid scalar seen v held. c.in_default.not-Scalar scalar
+    (ap (λ (l : Layout). l.backend_repr) c.layout.ensures ∙ seen_here c.args.dl.now (tree_of c.args.tree.now) c.in_ok-laid.ensures.one (placed_of c.in_ok-laid.laid) c.in_ok-laid.ensures.laid scalar seen)
+
+pub returns-in_default-clause-laid : goal.returns-in_default-clause-laid
+returns-in_default-clause-laid c = (c.in_ok-laid.ensures.lawful, placed_of c.in_ok-laid.laid, c.in_ok-laid.ensures.laid)
 
 pub returns-then-not-branch-clause-none : goal.returns-then-not-branch-clause-none
 returns-then-not-branch-clause-none c = λ is placed laid scalar seen v held.
     let none = rw c.if-not-branch.true at c.in_ok-is_value.ensures in
     none v (held_here c.args.dl.now (tree_of c.args.tree.now) c.in_ok-laid.ensures.one (placed_of c.in_ok-laid.laid) c.in_ok-laid.ensures.laid _ c.in_ok-laid.ensures.order c.args.bytes.now v placed laid held)
+
+pub returns-then-not-branch-clause-laid : goal.returns-then-not-branch-clause-laid
+returns-then-not-branch-clause-laid c = (c.in_ok-laid.ensures.lawful, placed_of c.in_ok-laid.laid, c.in_ok-laid.ensures.laid)
 
 pub number_in-number-requires : goal.number_in-number-requires
 number_in-number-requires c =
@@ -59,3 +57,6 @@ returns-clause-bool c = λ is.
     of_bool c.args.dl.now c.in-Scalar.scalar c.number_in-number.result is
     (seen_number c.args.dl.now c.in_ok-laid.laid c.args.bytes.now c.in-Scalar.scalar held.0 view c.in_ok-laid.ensures.layout held.1
     c.in_ok-laid.ensures.order (c.in_ok-laid.ensures.view c.requires.locals) c.number_in-number.result c.number_in-number.ensures.value c.number_in-number.ensures.bound)
+
+pub returns-clause-laid : goal.returns-clause-laid
+returns-clause-laid c = (c.in_ok-laid.ensures.lawful, placed_of c.in_ok-laid.laid, c.in_ok-laid.ensures.laid)

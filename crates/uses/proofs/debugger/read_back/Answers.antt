@@ -11,11 +11,8 @@ unreachable-requires c =
     let none = rw c.in-None.is at c.in_ok-read.ensures.finds in
     none (value_of c.args.value.now) held
 
-pub returns : goal.returns
-returns c =
+pub returns-clause-same : goal.returns-clause-same
+returns-clause-same c =
     let held = subst (λ (b : List ℕ). Holds (endian_of c.args.laid.now) (placed_of c.args.laid.now) b (value_of c.args.value.now)) (sym c.deref.ensures.value) c.in_ok-bytes.ensures.holds in
     let one = rw c.in-Some.is at c.in_ok-read.ensures.one in
-    record {
-      same = sym (one c.requires.kept.0 c.requires.kept.1 c.requires.kept.2 (value_of c.args.value.now) held);
-      not_a_value = tt;
-    }
+    sym (one c.requires.kept.0 c.requires.kept.1 c.requires.kept.2 (value_of c.args.value.now) held)

@@ -1,5 +1,5 @@
 -- The variants before have their lists; the first error is that of the variant at hand.
-use Rattle.std.proofs.Common.{◌≡◌, ◌+◌, ◌≤◌, length, subst, sym, take, true}
+use Rattle.std.proofs.Common.{◌≡◌, ◌+◌, ◌≤◌, arith, length, subst, sym, take, true}
 use Rattle.std.proofs.lemmas.List.{take_all}
 use Rattle.std.specs.Result.{is_ok}
 use Rattle.std.specs.Prelude.{All}
@@ -7,6 +7,12 @@ use Rattle.abi_scalar.specs.Lawful.{IsLawfulLayout}
 use Rattle.abi_calc.specs.Enums.Lists.{AreGoodLists}
 use Rattle.abi_calc.proofs.EnumLemmas.Lists.{all_next, error_next, good_exact, good_lawful, good_listed, good_next}
 use Rattle.abi_calc.proofs.calculator.LayoutCalculator.layouts_of_lists.Goals as goal
+
+pub loop-fields-init : goal.loop-fields-init
+loop-fields-init g c = record {
+  good = rw c.in_ok-lists.ensures.items tt;
+  within = λ k d short. absurd (omega (arith, short));
+}
 
 pub layout_of_variant-requires-clause-fields : goal.layout_of_variant-requires-clause-fields
 layout_of_variant-requires-clause-fields g c =

@@ -1,5 +1,5 @@
 -- The states before have their lists; the first error is that of the state at hand.
-use Rattle.std.proofs.Common.{◌≡◌, ◌+◌, ◌<◌, ◌≤◌, length, map, subst, sym, take, true}
+use Rattle.std.proofs.Common.{◌≡◌, ◌+◌, ◌<◌, ◌≤◌, arith, length, map, subst, sym, take, true}
 use Rattle.std.proofs.lemmas.List.{take_all}
 use Rattle.std.specs.Result.{is_ok}
 use Rattle.std.specs.Prelude.{All}
@@ -8,6 +8,12 @@ use Rattle.abi_calc.specs.Coroutine.Sizes.{own_lists}
 use Rattle.abi_calc.specs.Enums.Lists.{AreGoodLists}
 use Rattle.abi_calc.proofs.CoroutineLemmas.Lists.{own_all_next, own_error_next, own_good_next}
 use Rattle.abi_calc.proofs.calculator.LayoutCalculator.layouts_of_own.Goals as goal
+
+pub loop-state-init : goal.loop-state-init
+loop-state-init g c = record {
+  good = rw c.in_ok-lists.ensures.items tt;
+  within = λ k d short. absurd (omega (arith, short));
+}
 
 pub layout_of_own-requires-clause-within : goal.layout_of_own-requires-clause-within
 layout_of_own-requires-clause-within g c =

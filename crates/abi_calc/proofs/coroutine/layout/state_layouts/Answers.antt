@@ -4,9 +4,11 @@ use Rattle.std.specs.Prelude.{All}
 use Rattle.std.specs.List.{AllPairs, AllZip}
 use Rattle.std.proofs.lemmas.List.{append-nil, length_push, nil_from_length, take_rest}
 use Rattle.abi_index.specs.BitSet.{members_of}
+use Rattle.abi_scalar.specs.Shape.{listed_offsets}
 use Rattle.abi_calc.specs.Coroutine.Lists.{own_of}
 use Rattle.abi_calc.specs.Coroutine.States.{HasFields, ranks_of, state_layout, state_layouts, stitched_layout}
-use Rattle.abi_calc.proofs.CoroutineLemmas.Layout.{layouts_next, layouts_none, list_at, list_short, ranks_count, ranks_within}
+use Rattle.abi_calc.proofs.AtIndex.{at_most}
+use Rattle.abi_calc.proofs.CoroutineLemmas.Layout.{layouts_next, layouts_none, list_at, list_short, ranks_count, ranks_within, shared_count}
 use Rattle.abi_calc.proofs.CoroutineLemmas.States.{item_in}
 use Rattle.abi_calc.proofs.coroutine.layout.state_layouts.Goals as goal
 
@@ -18,6 +20,15 @@ loop-list-init g c = record {
 
 pub bounds-states-len : goal.bounds-states-len
 bounds-states-len g c = list_short (λ state list. HasFields g.FieldIdx.Idx.number (length (own_of c.args.promoted.now (map g.LocalIdx.Idx.number state))) list) (length c.loop-list.layouts) c.len.result c.args.states.now c.in-Some.list c.loop-list.list-iterator.rest.items c.next.new.self.rest.items c.len.ensures.count c.in-Some.ensures.steps.0 c.loop-list.invariant.listed
+
+pub offset_bounds-states-len : goal.offset_bounds-states-len
+offset_bounds-states-len g c =
+    at_most _ _ (list_short (λ state list. HasFields g.FieldIdx.Idx.number (length (own_of c.args.promoted.now (map g.LocalIdx.Idx.number state))) list) (length c.loop-list.layouts) c.len.result c.args.states.now c.in-Some.list c.loop-list.list-iterator.rest.items c.next.new.self.rest.items c.len.ensures.count c.in-Some.ensures.steps.0 c.loop-list.invariant.listed)
+
+pub state_layout-requires-clause-shared : goal.state_layout-requires-clause-shared
+state_layout-requires-clause-shared g c =
+    ap length (take_rest c.listed_offsets.result.now c.args.before ∙ ap (drop c.args.before) c.listed_offsets.ensures)
+    ∙ shared_count c.args.before (length (members_of c.args.promoted.now)) (listed_offsets c.args.first.now.fields) c.requires.first.offsets
 
 pub state_layout-requires-clause-within : goal.state_layout-requires-clause-within
 state_layout-requires-clause-within g c =

@@ -1,10 +1,21 @@
-use Rattle.std.proofs.Common.{◌≡◌, ◌+◌, ◌-◌, ◌≤◌, ap, arith, get_or, length, map, subst, sym, ◌++◌, drop, take, ◌∙◌}
-use Rattle.std.proofs.lemmas.List.{length-map, take_at}
+use Rattle.std.proofs.Common.{◌≡◌, [], rules, ◌+◌, ◌-◌, ◌≤◌, ap, arith, get_or, length, map, refl, subst, sym, ◌++◌, drop, take, ◌∙◌}
+use Rattle.std.proofs.lemmas.List.{drop_all, length-map, take_at}
 use Rattle.std.specs.Prelude.{if◌then◌else◌}
 use Rattle.abi_index.specs.Ascending.{has_number}
 use Rattle.abi_calc.specs.Coroutine.Promotion.{holder_of}
 use Rattle.abi_calc.proofs.CoroutineLemmas.Holders.{first_all, first_step, numbers_there}
 use Rattle.abi_calc.proofs.coroutine.promotion.holders_of.Goals as goal
+
+pub loop-place-init : goal.loop-place-init
+loop-place-init g c = record {
+  within = omega arith;
+  size = search rules;
+  noted = λ k short.
+      let states = map (map g.LocalIdx.Idx.number) c.args.states.now in
+      let none : drop (length c.args.states.now) states ≡ [] = drop_all (length c.args.states.now) states (omega (arith, length-map c.args.states.now (map g.LocalIdx.Idx.number))) in
+      let noted : get_or c.resize.new.self.items k 0 ≡ length c.args.states.now = c.in_ok-resize.ensures.by_index.1 k 0 refl (omega (arith, c.in_ok-holders.ensures.len)) short in
+      rw none (omega (arith, noted));
+}
 
 pub loop-place-preserved : goal.loop-place-preserved
 loop-place-preserved g c =

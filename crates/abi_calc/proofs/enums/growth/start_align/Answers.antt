@@ -1,4 +1,5 @@
-use Rattle.std.proofs.Common.{◌≡◌, ◌<◌, length, arith, map, sym, rules, ◌∙◌}
+use Rattle.std.proofs.Common.{◌<◌, length, arith, map, rules, subst, sym, ◌∙◌}
+use Rattle.abi_calc.proofs.AtIndex.{least_within}
 use Rattle.abi_calc.proofs.EnumLemmas.Growth.{list_at, lists_count, start_end, start_most, start_step}
 use Rattle.abi_calc.proofs.enums.growth.start_align.Goals as goal
 
@@ -9,12 +10,11 @@ loop-index-init g c = record {
 }
 
 pub bounds-variants-index : goal.bounds-variants-index
-bounds-variants-index g c = omega (arith, lists_count c.args.variants.now c.args.lists.now c.requires)
+bounds-variants-index g c = subst (λ n. c.loop-index.index < n) (lists_count c.args.variants.now c.args.lists.now c.requires) c.loop-index-test.true
 
 pub offset_bounds-variants-index : goal.offset_bounds-variants-index
 offset_bounds-variants-index g c =
-    let count : length c.args.lists.now ≡ length c.args.variants.now = lists_count c.args.variants.now c.args.lists.now c.requires in
-    let fits : c.loop-index.index < length c.args.variants.now = omega arith in
+    let fits : c.loop-index.index < length c.args.variants.now = subst (λ n. c.loop-index.index < n) (lists_count c.args.variants.now c.args.lists.now c.requires) c.loop-index-test.true in
     search rules
 
 pub first_align-first-requires : goal.first_align-first-requires
@@ -25,7 +25,7 @@ loop-index-preserved g c =
     let step = start_step g.FieldIdx.Idx.number g.F.LayoutHandle.layout_of c.args.variants.now c.args.lists.now c.loop-index.index c.index-variants-index.result c.index-lists-index.result c.loop-index.least _ c.requires
     c.loop-index-test.true c.index-variants-index.is c.index-lists-index.is c.loop-index.invariant.least in
     record {
-      within = omega arith;
+      within = least_within c.loop-index.least _ _ _ c.least_with-least.ensures c.loop-index.invariant.within;
       least = rw (c.least_with-least.ensures, c.first_align-first.ensures, c.as_raw.ensures.items, c.as_slice.ensures, ← c.index-lists-index.is) step;
     }
 

@@ -1,5 +1,5 @@
 -- The layout has what its parts are told to be.
-use Rattle.std.proofs.Common.{◌≡◌, ◌∙◌, ◌&&◌, ◌==◌, true, ap, map, refl, sym, if◌then◌else◌}
+use Rattle.std.proofs.Common.{◌≡◌, ◌<◌, ◌∙◌, ◌&&◌, ◌==◌, true, ap, length, map, refl, subst, sym, if◌then◌else◌}
 use Rattle.std.specs.Prelude.{Some, None, slice_get}
 use Rattle.abi_scalar.specs.Niche.{niche_at}
 use Rattle.std.specs.List.{list_all}
@@ -16,6 +16,9 @@ use Rattle.abi_calc.proofs.enums.in_niche.layout_in_niche.Goals as goal
 pub lists_size-size-requires-clause-align : goal.lists_size-size-requires-clause-align
 lists_size-size-requires-clause-align g c =
     c.greatest_align-align.ensures ∙ ap (greatest_align c.args.dl.now.aggregate_align) (map-id c.as_slice.result.now ∙ c.as_slice.ensures.value ∙ sym c.deref.ensures.value)
+
+pub untagged_view-fills-requires : goal.untagged_view-fills-requires
+untagged_view-fills-requires g c = subst (λ ls. c.args.among.untagged < length ls) (sym c.deref-2.ensures.value) c.requires.untagged
 
 pub from_scalar-requires : goal.from_scalar-requires
 from_scalar-requires g c = lawful_readable c.args.dl.now c.args.handed.1 c.requires.tag
@@ -47,7 +50,7 @@ returns g c = λ list is.
     let view = c.untagged_view-fills.ensures.view list there in
     let made = layout_in_niche (g.FieldIdx.Idx.at 0) g.VariantIdx.Idx.at dl c.args.repr.now c.args.among.untagged c.args.among.span lists list c.args.niche (reserved dl c.args.niche (span_count c.args.among.span)) c.in-Some.variants in
     ap (λ l. Some l) (same_parts _ made
-    (rw (c.in_ok-one.ensures, c.in_ok-one-2.ensures, c.new-first.ensures) refl)
+    (rw (c.one.ensures, c.one-2.ensures, c.new-first.ensures) refl)
     (rw (c.niche_encoding.ensures, c.new-first.ensures, c.requires.handed) refl)
     (c.niche_view-backend_repr.ensures ∙ (λ i. if◌then◌else◌ (fills i && others_empty c.args.among.untagged 0 c.in-Some.variants) (view_with c.args.niche.offset (c.requires.handed i).1 (view i)) (Memory true)))
     (c.from_scalar.ensures.exact ∙ ap (λ h. niche_at dl c.args.niche.offset h.1) c.requires.handed)

@@ -1,7 +1,8 @@
 -- The variants so far, and those that the lists left give, are all.
 use Rattle.std.proofs.Common.{◌+◌, ◌++◌, ap, arith, length, refl, subst, sym, ◌∙◌}
-use Rattle.std.specs.Prelude.{All, option_map}
+use Rattle.std.specs.Prelude.{All, Some, option_map}
 use Rattle.std.proofs.lemmas.Iterator.Adapters.{option_map_id}
+use Rattle.std.proofs.lemmas.List.{append-nil, nil_from_length}
 use Rattle.std.proofs.lemmas.List.Elements.{All-head, All-tail}
 use Rattle.abi_calc.specs.Enums.Niche.{IsSmallList, variants_from}
 use Rattle.abi_calc.proofs.EnumLemmas.Niche.{placed_count, placed_left, placed_step}
@@ -30,3 +31,10 @@ loop-list-preserved g c = record {
       (ap (λ rest. length c.loop-list.variants + length rest) (sym c.in-Some.ensures.steps.0) ∙ c.loop-list.invariant.count));
   small = All-tail IsSmallList c.in-Some.list c.next.new.self.rest.items (subst (All IsSmallList) c.in-Some.ensures.steps.0 c.loop-list.invariant.small);
 }
+
+pub returns : goal.returns
+returns g c =
+    let none = nil_from_length c.loop-list.list-iterator.rest.items (sym c.loop-list.list-iterator.rest.ok.0 ∙ c.in-None.ensures.steps.0) in
+    ap (λ vs. Some vs) (sym (append-nil c.loop-list.variants))
+    ∙ sym (ap (λ rest. option_map (λ more. c.loop-list.variants ++ more) (variants_from c.args.room.now c.args.untagged c.loop-list.at rest)) none)
+    ∙ c.loop-list.invariant.all

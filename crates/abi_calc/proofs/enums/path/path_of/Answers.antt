@@ -1,10 +1,14 @@
 use Rattle.std.proofs.Common.{◌∙◌, sym, arith}
-use Rattle.abi_calc.proofs.EnumLemmas.Path.{path_nowhere, path_one, path_several, first_within}
+use Rattle.abi_calc.proofs.EnumLemmas.Path.{first_within, path_fixed, path_nowhere, path_one, path_several}
 use Rattle.abi_calc.proofs.enums.path.path_of.Goals as goal
 
 pub returns-in_default : goal.returns-in_default
 returns-in_default g c =
     sym (path_nowhere g.F.LayoutHandle.layout_of _ c.args.variants.now _ c.if-not-is_enum.false (sym c.present_from.ensures ∙ c.in_default.is))
+
+pub returns-then-not-is_free : goal.returns-then-not-is_free
+returns-then-not-is_free g c =
+    sym (path_fixed g.F.LayoutHandle.layout_of _ c.args.variants.now _ _ c.if-not-is_enum.false (sym c.is_free.ensures ∙ c.if-not-is_free.true) (sym c.present_from.ensures ∙ c.in-Some.is))
 
 pub overflow_add-first : goal.overflow_add-first
 overflow_add-first g c =

@@ -1,10 +1,14 @@
 use Rattle.std.proofs.Common.{◌∙◌, sym}
+use Rattle.abi_calc.proofs.AtIndex.{some_item}
 use Rattle.abi_calc.proofs.EnumLemmas.Payload.{common_begin, common_end, common_none, common_step}
 use Rattle.abi_calc.proofs.enums.payload.common_of.Goals as goal
 
 pub returns-then-is_empty-clause-value : goal.returns-then-is_empty-clause-value
 returns-then-is_empty-clause-value g c =
     common_none c.args.dl.now c.args.old c.args.new g.F.LayoutHandle.layout_of c.args.variants.now c.args.lists.now (sym c.is_empty.ensures ∙ c.if-is_empty.true)
+
+pub variant_payload-shared-requires-clause-within : goal.variant_payload-shared-requires-clause-within
+variant_payload-shared-requires-clause-within g c = some_item _ (sym c.is_empty.ensures ∙ c.if-is_empty.false)
 
 pub loop-index-init : goal.loop-index-init
 loop-index-init g c = record {

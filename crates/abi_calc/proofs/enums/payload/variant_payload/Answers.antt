@@ -1,16 +1,15 @@
-use Rattle.std.proofs.Common.{◌≡◌, ◌<◌, ◌∙◌, All, ap, arith, length, rules, subst, sym}
+use Rattle.std.proofs.Common.{◌<◌, ◌∙◌, All, ap, length, rules, subst, sym}
 use Rattle.abi_scalar.specs.Lawful.{IsLawfulLayout}
 use Rattle.abi_calc.proofs.EnumLemmas.Growth.{list_at, lists_count}
 use Rattle.abi_calc.proofs.EnumLemmas.Payload.{payload_there}
 use Rattle.abi_calc.proofs.enums.payload.variant_payload.Goals as goal
 
 pub bounds-variants-index : goal.bounds-variants-index
-bounds-variants-index g c = omega (arith, lists_count c.args.variants.now c.args.lists.now c.requires.lists)
+bounds-variants-index g c = subst (λ n. c.args.index < n) (lists_count c.args.variants.now c.args.lists.now c.requires.lists) c.requires.within
 
 pub offset_bounds-variants-index : goal.offset_bounds-variants-index
 offset_bounds-variants-index g c =
-    let count : length c.args.lists.now ≡ length c.args.variants.now = lists_count c.args.variants.now c.args.lists.now c.requires.lists in
-    let fits : c.args.index < length c.args.variants.now = omega arith in
+    let fits : c.args.index < length c.args.variants.now = subst (λ n. c.args.index < n) (lists_count c.args.variants.now c.args.lists.now c.requires.lists) c.requires.within in
     search rules
 
 pub listed_offsets-requires : goal.listed_offsets-requires
@@ -19,7 +18,7 @@ listed_offsets-requires g c = (list_at c.args.variants.now c.args.lists.now c.ar
 pub payload_of-requires-clause-fields : goal.payload_of-requires-clause-fields
 payload_of-requires-clause-fields g c =
     let fields = c.as_raw-fields.ensures.items ∙ c.as_slice.ensures ∙ c.index-variants-index.is in
-    let fits : c.args.index < length c.args.variants.now = omega (arith, lists_count c.args.variants.now c.args.lists.now c.requires.lists) in
+    let fits : c.args.index < length c.args.variants.now = subst (λ n. c.args.index < n) (lists_count c.args.variants.now c.args.lists.now c.requires.lists) c.requires.within in
     subst (λ fs. All (λ f. IsLawfulLayout c.args.dl.now (g.F.LayoutHandle.layout_of f)) fs) (sym fields) (c.requires.fields c.args.index c.index-variants-index.result fits)
 
 pub payload_of-requires-clause-count : goal.payload_of-requires-clause-count

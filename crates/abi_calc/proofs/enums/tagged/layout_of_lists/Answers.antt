@@ -1,5 +1,5 @@
 -- The parts of the layout are the ones that are named.
-use Rattle.std.proofs.Common.{◌≡◌, ◌∙◌, ap, arith, map, subst, sym}
+use Rattle.std.proofs.Common.{◌≡◌, ◌∙◌, ap, inl, map, refl, subst, sym}
 use Rattle.std.proofs.lemmas.List.{map-id}
 use Rattle.abi_base.specs.Integer.{integer_size}
 use Rattle.abi_base.specs.declared.primitive.Primitive.TheVariants.{Int}
@@ -8,8 +8,10 @@ use Rattle.abi_scalar.specs.declared.scalar.Scalar.TheVariants.{Initialized}
 use Rattle.abi_lists.specs.Fields.{greatest_align}
 use Rattle.abi_calc.specs.Enums.Discriminants.{IsTagRange}
 use Rattle.abi_calc.specs.Enums.Growth.{grown_tag, start_align}
+use Rattle.abi_calc.specs.Enums.Lists.{AreListsOf}
 use Rattle.abi_calc.specs.Enums.Payload.{tagged_view}
 use Rattle.abi_calc.specs.Enums.Tagged.{lists_align, lists_size, payloads_of}
+use Rattle.abi_calc.proofs.AtIndex.{still_below, still_within}
 use Rattle.abi_calc.proofs.EnumLemmas.Growth.{lists_count}
 use Rattle.abi_calc.proofs.EnumLemmas.Tagged.{all_listed, integer_most, integer_some, tag_lawful, tagged_exact}
 use Rattle.abi_calc.proofs.enums.tagged.layout_of_lists.Goals as goal
@@ -17,6 +19,17 @@ use Rattle.abi_calc.proofs.enums.tagged.layout_of_lists.Goals as goal
 pub lists_size-size-requires-clause-align : goal.lists_size-size-requires-clause-align
 lists_size-size-requires-clause-align g c =
     c.greatest_align-align.ensures ∙ ap (greatest_align c.args.dl.now.aggregate_align) (map-id c.as_slice.result.now ∙ c.as_slice.ensures.value ∙ sym c.deref.ensures.value)
+
+pub returns-then-bytes-obj_size_bound-clause-fault : goal.returns-then-bytes-obj_size_bound-clause-fault
+returns-then-bytes-obj_size_bound-clause-fault g c =
+    let size : c.lists_size-size.result ≡ lists_size c.args.dl.now c.args.lists.items = c.lists_size-size.ensures ∙ ap (lists_size c.args.dl.now) c.deref.ensures.value in
+    inl (still_within _ _ _ _ c.obj_size_bound.ensures (c.bytes.ensures ∙ size) c.if-bytes-obj_size_bound.true, refl)
+
+pub start_align-requires : goal.start_align-requires
+start_align-requires g c = subst (AreListsOf c.args.variants.now) (sym c.deref-2.ensures.value) c.requires.lists
+
+pub tagged_view-view-requires-clause-lists : goal.tagged_view-view-requires-clause-lists
+tagged_view-view-requires-clause-lists g c = subst (AreListsOf c.args.variants.now) (sym c.deref-3.ensures.value) c.requires.lists
 
 pub tag_range-requires-clause-some : goal.tag_range-requires-clause-some
 tag_range-requires-clause-some g c = rw c.size.ensures (integer_some c.grown_tag-integer.result)
@@ -57,7 +70,7 @@ returns-in-Ok-clause-exact g c =
     = c.grown_tag-integer.ensures ∙ ap (grown_tag c.args.dl.now c.args.repr.now c.args.asked.0) (c.start_align.ensures ∙ ap (start_align g.FieldIdx.Idx.number vs) c.deref-2.ensures.value) in
     let tag : Scalar = Initialized (Int c.grown_tag-integer.result c.args.asked.1) c.in_ok-range.range in
     record {
-      small = omega (arith, size, c.bytes.ensures, c.obj_size_bound.ensures, c.if-bytes-obj_size_bound.false);
+      small = still_below _ _ _ _ (c.bytes.ensures ∙ size) c.obj_size_bound.ensures c.if-bytes-obj_size_bound.false;
       ranged = (
         c.in_ok-range.range,
         subst (λ n. IsTagRange n c.args.values.now c.in_ok-range.range) (c.size.ensures ∙ ap integer_size grown) c.in_ok-range.ensures,

@@ -19,7 +19,7 @@ from_scalar-requires g c = lawful_readable c.args.dl.now c.args.tag c.requires.t
 pub returns : goal.returns
 returns g c =
     same_parts _ (layout_seen_as (g.FieldIdx.Idx.at 0) c.args.dl.now c.args.repr.now c.args.old c.args.tag (scalar_size c.args.dl.now c.args.tag) c.args.lists.items c.args.whole.view)
-    (rw (c.in_ok-one.ensures, c.in_ok-one-2.ensures, c.new-first.ensures) refl)
+    (rw (c.one.ensures, c.one-2.ensures, c.new-first.ensures) refl)
     (rw (c.new-first.ensures, c.in_ok-variants.ensures, c.size.ensures, c.requires.size) refl)
     refl
     c.from_scalar.ensures.exact

@@ -1,7 +1,6 @@
 use Rattle.std.proofs.Common.{◌≡◌, ◌+◌, ◌∙◌, ap, arith, rules}
 use Rattle.abi_scalar.specs.Scalar.{scalar_size}
-use Rattle.abi_scalar.specs.Pair.{pair_align, second_offset}
-use Rattle.abi_scalar.proofs.OrderLemmas.{pair_order}
+use Rattle.abi_scalar.specs.Pair.{second_offset}
 use Rattle.abi_scalar.proofs.PairLemmas.{pair_lawful_at}
 use Rattle.abi_scalar.proofs.ReadableLemmas.{readable_room}
 use Rattle.abi_scalar.proofs.layout_data.LayoutData.scalar_pair.Goals as goal
@@ -31,15 +30,7 @@ align_to-requires-clause-fits g c =
     let dl = g.C.HasDataLayout.target c.args.cx.now in
     let room = readable_room dl c.requires.data_layout c.args.a c.args.b c.requires.first c.requires.second in
     let end : c.add-end.result ≡ second_offset dl c.args.a c.args.b + scalar_size dl c.args.b = search rules in
-    let align : c.max-align.result ≡ pair_align dl c.args.a c.args.b = search rules in
-    rw (end, align) room.size
-
-pub returns-clause-order : goal.returns-clause-order
-returns-clause-order g c =
-    let number = g.FieldIdx.Idx.number in
-    let laws = g.met.FieldIdx.Idx in
-    rw (c.in_ok-two.ensures, c.in_ok-two-2.ensures) (pair_order number c.new.result c.new-2.result c.align_to-b_offset.result
-    (ap number c.new.ensures ∙ laws.number_at 0 (omega (arith, laws.positive))) (ap number c.new-2.ensures ∙ laws.number_at 1 laws.positive))
+    rw (end, c.pair_align-align.ensures) room.size
 
 pub returns-clause-lawful : goal.returns-clause-lawful
 returns-clause-lawful g c first second bound =

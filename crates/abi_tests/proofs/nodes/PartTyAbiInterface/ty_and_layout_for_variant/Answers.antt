@@ -4,13 +4,13 @@ use Rattle.abi_tests.proofs.nodes.PartTyAbiInterface.ty_and_layout_for_variant.G
 
 pub part_of-requires : goal.part_of-requires
 part_of-requires g c =
-    variant_lawful c.args.this.ty.nodes.now c.args.this.ty.depth c.args.this.ty.at c.index-this-this.result c.args.variant_index c.as_usize.result c.place_at-place.result c.as_slice.result.now _ _ _ _
-    c.requires.valid.lawful c.index-this-this.is c.requires.named c.in-Multiple.is c.as_slice.ensures.value c.as_usize.ensures c.place_at-place.ensures
+    variant_lawful c.args.this.ty.nodes.now c.args.this.ty.depth c.args.this.ty.at c.index-this-this.result c.args.variant_index c.as_usize.result c.place_at-place.result _ _ _ _
+    c.requires.valid.lawful c.index-this-this.is c.requires.named c.in-Multiple.is c.as_usize.ensures c.place_at-place.ensures
 
 pub returns-in-Multiple-clause-variant : goal.returns-in-Multiple-clause-variant
 returns-in-Multiple-clause-variant g c =
-    variant_type c.args.this.ty.nodes.now c.args.this.ty.depth c.args.this.ty.at c.index-this-this.result c.args.variant_index c.as_usize.result c.place_at-place.result c.as_slice.result.now
-    (part_type c.part_of.result) _ _ _ _ c.requires.valid.lawful c.index-this-this.is c.in-Multiple.is c.as_slice.ensures.value c.as_usize.ensures c.place_at-place.ensures c.part_of.ensures.told
+    variant_type c.args.this.ty.nodes.now c.args.this.ty.depth c.args.this.ty.at c.index-this-this.result c.args.variant_index c.as_usize.result c.place_at-place.result
+    (part_type c.part_of.result) _ _ _ _ c.requires.valid.lawful c.index-this-this.is c.in-Multiple.is c.as_usize.ensures c.place_at-place.ensures c.part_of.ensures.told
 
 pub returns-in-Single-clause-variant : goal.returns-in-Single-clause-variant
 returns-in-Single-clause-variant g c =

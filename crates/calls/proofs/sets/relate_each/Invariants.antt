@@ -1,7 +1,7 @@
 -- There are so many rows and columns, of the relation and of the one that lags behind it.
 use Rattle.std.proofs.Common.{◌≡◌}
 use Rattle.abi_index.specs.Relation.{column_count, row_count}
-use Rattle.calls.proofs.sets.relation.Given as goal
+use Rattle.calls.proofs.sets.relate_each.Given as goal
 
 abbrev pub invariant-loop-step : goal.invariant-loop-step
 invariant-loop-step l =

@@ -1,0 +1,13 @@
+use Rattle.std.proofs.Common.{◌∙◌, ap}
+use Rattle.std.specs.Prelude.{◌==◌, ◌&&◌}
+use Rattle.abi_calc.proofs.AtIndex.{same_item}
+use Rattle.abi_calc.proofs.enums.in_niche.untagged_view.Goals as goal
+
+pub returns-clause-fills : goal.returns-clause-fills
+returns-clause-fills g c = λ list there.
+    c.fills.ensures ∙ ap (λ l. (c.args.size == l.size) && (c.args.align == l.align.abi))
+    (same_item c.args.lists.now c.args.untagged c.index-lists-untagged.result list c.requires c.index-lists-untagged.is there)
+
+pub returns-clause-view : goal.returns-clause-view
+returns-clause-view g c = λ list there.
+    ap (λ l. l.backend_repr) (same_item c.args.lists.now c.args.untagged c.index-lists-untagged.result list c.requires c.index-lists-untagged.is there)

@@ -1,0 +1,23 @@
+-- Lists that keep up to two items in themselves.
+use Rattle.std.specs.Prelude.{◌≡◌, ℕ, ◌*◌, ◌^◌, ◌<◌, List, [], ◌∷◌, length}
+use Rattle.std.specs.Borrow.{RattleType, Array}
+use Rattle.std.specs.Mem.{FitsInMemory}
+use Rattle.abi_index.specs.declared.few.Front.{Front}
+use Rattle.abi_index.specs.declared.few.Front.TheVariants.{Empty, One, Two}
+
+-- two items of the type, side by side, take fewer than 2 ^ 63 bytes, as is so of each type that has a value
+abbrev pub TwoFit : RattleType → Type 0
+TwoFit R = FitsInMemory (Array R 2)
+
+module _ {T : Type 0} where
+  -- the items of a list: those that it has in itself, or else those that lie in an allocation
+  abbrev pub few_items : Front T → List T → List T
+  few_items Empty rest = rest
+  few_items (One item) rest = item ∷ []
+  few_items (Two pair) rest = pair.first ∷ pair.second ∷ []
+
+  -- a list that has items in itself has none in an allocation, and two of them, of so many bytes each, fit in memory
+  abbrev pub IsAlone : ℕ → Front T → List T → Type 0
+  IsAlone bytes Empty rest = Unit {0}
+  IsAlone bytes (One item) rest = (2 * bytes < 2 ^ 63) × (length rest ≡ 0)
+  IsAlone bytes (Two pair) rest = (2 * bytes < 2 ^ 63) × (length rest ≡ 0)
