@@ -79,7 +79,7 @@ fn tried_of(
     }
 }
 
-/// What types of these layouts are found to be.
+/// The same of layouts that stand in one list, each of which is lent.
 fn tried_made(
     alloc: Global,
     dl: &TargetDataLayout,
