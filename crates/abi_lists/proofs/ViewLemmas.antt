@@ -18,7 +18,7 @@ use Rattle.abi_scalar.specs.Scalar.{primitive_of, scalar_size, scalar_align, IsL
 use Rattle.abi_lists.specs.declared.part.Part.{Part}
 use Rattle.abi_lists.specs.ListView.{bulk_of, bulk_with, bulky_parts, bulky_view, is_bulky, one_view, part_at, two_view}
 use Rattle.abi_lists.specs.declared.list_view.Bulk.{Bulk}
-use Rattle.abi_lists.specs.declared.list_view.Bulk.TheVariants.{One, Two}
+use Rattle.abi_lists.specs.declared.list_view.Bulk.TheVariants.{One, Two, More}
 use Rattle.abi_lists.proofs.NicheLemmas.{readable_size}
 use Rattle.abi_lists.specs.Placement.{source_order}
 
@@ -77,6 +77,18 @@ bulk_then P n now next inv holds pushed =
 
 pub bulk_else : (P : ℕ → Bool) (n : ℕ) (now next : Bulk) → now ≡ bulk_of (filter P (source_order n)) → P n ≡ false → next ≡ now → next ≡ bulk_of (filter P (source_order (n + 1)))
 bulk_else P n now next inv fails same = same ∙ inv ∙ ap bulk_of (bulky_else P n (filter P (source_order n)) (filter P (source_order n)) refl fails refl)
+
+-- once there are more than two, there are more
+pub bulk_stays : (P : ℕ → Bool) (n k : ℕ) → bulk_of (filter P (source_order n)) ≡ More → bulk_of (filter P (source_order (n + k))) ≡ More
+bulk_stays P n zero e = ap (λ m. bulk_of (filter P (source_order m))) (omega arith) ∙ e
+bulk_stays P n (suc k) e =
+    let same : n + suc k ≡ (n + k) + 1 = omega arith in
+    let before = bulk_stays P n k e in
+    ap (λ m. bulk_of (filter P (source_order m))) same ∙ next (P (n + k)) refl before
+  where
+    next : (b : Bool) → P (n + k) ≡ b → bulk_of (filter P (source_order (n + k))) ≡ More → bulk_of (filter P (source_order (n + k + 1))) ≡ More
+    next true holds before = sym (bulk_then P (n + k) More More (sym before) holds refl)
+    next false fails before = sym (bulk_else P (n + k) More More (sym before) fails refl)
 
 pub one_of : (xs : List ℕ) (i : ℕ) → One i ≡ bulk_of xs → xs ≡ i ∷ []
 one_of [] i e = cc

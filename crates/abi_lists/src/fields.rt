@@ -88,7 +88,11 @@ pub(crate) fn lies_as_in_c<FieldIdx: Idx, VariantIdx: Idx, F: LayoutHandle<Field
 ) -> bool
     ensures { result ≡ lies_as_in_c repr.now (map F.layout_of fields.now) }
 {
-    repr.c() | (repr.transparent() & any_repr_c(fields))
+    if repr.transparent() {
+        repr.c() | any_repr_c(fields)
+    } else {
+        repr.c()
+    }
 }
 
 /// The sum of the fields' seeds and this one, modulo 2 to the 64.

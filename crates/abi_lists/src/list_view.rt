@@ -1,6 +1,7 @@
 //! How a code generator sees a list of fields.
 
-ghost use Rattle.std.specs.Prelude.{◌≡◌, ℕ, ◌+◌, ◌^◌, ◌<◌, ◌≤◌, All, IfOk, length, slice_index};
+ghost use Rattle.std.specs.Prelude.{◌≡◌, ℕ, ◌+◌, ◌^◌, ◌<◌, ◌≤◌, ⊤, All, IfOk, MatchBool, length, slice_index};
+ghost use Rattle.abi_lists.specs.declared.list_view.Bulk.TheVariants.{More};
 ghost use Rattle.abi_base.specs.DataLayout.{IsLawfulDataLayout, size_bound};
 ghost use Rattle.abi_scalar.specs.Scalar.{IsLawfulScalar};
 ghost use Rattle.abi_lists.specs.Part.{IsLawfulPart};
@@ -42,7 +43,17 @@ fn bulk_with(bulk: Bulk, index: usize) -> Bulk
     }
 }
 
-/// Those of these fields.
+/// Whether there are more than a view asks for.
+fn is_more(bulk: Bulk) -> bool
+    ensures { MatchBool result (bulk ≡ More) ⊤ }
+{
+    match bulk {
+        Bulk::More => true,
+        _ => false,
+    }
+}
+
+/// Those of these fields; no field is looked at behind the third of them.
 pub(crate) fn bulk_of<FieldIdx: Idx, VariantIdx: Idx, F: LayoutHandle<FieldIdx, VariantIdx>>(
     parts: &Parts<'_, FieldIdx, VariantIdx, F>,
 ) -> Bulk
@@ -50,6 +61,9 @@ pub(crate) fn bulk_of<FieldIdx: Idx, VariantIdx: Idx, F: LayoutHandle<FieldIdx, 
 {
     let mut bulk = Bulk::Nothing;
     for index in 0..parts.len() {
+        if is_more(bulk) {
+            return bulk;
+        }
         if is_bulky(&parts.at(index)) {
             bulk = bulk_with(bulk, index);
         }

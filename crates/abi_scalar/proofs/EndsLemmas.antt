@@ -1,57 +1,72 @@
 -- The least and the greatest of some values, and when the range from one to the other is the least.
-use Rattle.std.proofs.Common.{◌≡◌, ℕ, ◌+◌, ◌-◌, ◌<◌, ◌≤◌, inl, inr, arith, ap, refl, subst, List, [], ◌∷◌, length, get_or, min, max}
+use Rattle.std.proofs.Common.{◌≡◌, ℕ, ◌+◌, ◌-◌, ◌^◌, ◌<◌, ◌≤◌, ◌⊎◌, ◌++◌, inl, inr, arith, ap, refl, subst, List, [], ◌∷◌, length, get_or, min, max}
 use Rattle.std.specs.List.{All, Contains}
 use Rattle.std.specs.List.Sorted.{IsNonDecreasing}
 use Rattle.std.proofs.lemmas.Bool.{cases_lt}
-use Rattle.std.proofs.lemmas.List.Elements.{All-nil, All-cons, All-contains, Contains-get_or}
+use Rattle.std.proofs.lemmas.List.Elements.{All-append, All-cons, All-contains, All-nil, Contains-append_left, Contains-append_right, Contains-get_or}
 use Rattle.abi_scalar.specs.declared.wrapping_range.WrappingRange.{WrappingRange}
 use Rattle.abi_scalar.specs.Range.{numbers_of, IsIn, steps_between}
-use Rattle.abi_scalar.specs.LeastRange.{IsLeastRange}
+use Rattle.abi_scalar.specs.LeastRange.{HaveEnds, IsLeastRange}
 use Rattle.abi_scalar.proofs.RangeLemmas.{steps_are, in_from_between}
 use Rattle.abi_scalar.proofs.LeastLemmas.{best_first, best_kept, least_from_best}
 
--- two of the values, with the first k between them
-pub record AreEnds (xs : List ℕ) (k least greatest : ℕ) : Type 0 where
-  pub low : Contains xs least
-  pub high : Contains xs greatest
-  pub order : least ≤ greatest
-  pub between : (i : ℕ) → i < k → (least ≤ get_or xs i 0) × (get_or xs i 0 ≤ greatest)
+-- Two of the values so far, between which all of them lie; where there are none yet, every number that may come lies beyond both.
+pub record AreEnds (xs : List ℕ) (least greatest : ℕ) : Type 0 where
+  pub low : ((xs ≡ []) × (least ≡ 2 ^ 128 - 1)) ⊎ Contains xs least
+  pub high : ((xs ≡ []) × (greatest ≡ 0)) ⊎ Contains xs greatest
+  pub between : All (λ v. (least ≤ v) × (v ≤ greatest)) xs
 
-pub ends_first : (xs : List ℕ) → 0 < length xs → AreEnds xs 1 (get_or xs 0 0) (get_or xs 0 0)
-ends_first xs some = record {
-  low = Contains-get_or xs 0 0 some;
-  high = Contains-get_or xs 0 0 some;
-  order = omega arith;
-  between = λ i l.
-      let first : i ≡ 0 = omega (arith, l) in
-      let e = ap (λ x. get_or xs x 0) first in
-      (omega (arith, e), omega (arith, e));
+pub ends_of_none : AreEnds [] (2 ^ 128 - 1) 0
+ends_of_none = record {
+  low = inl (refl, refl);
+  high = inl (refl, refl);
+  between = All-nil (λ v. (2 ^ 128 - 1 ≤ v) × (v ≤ 0));
 }
 
 -- one more value
-pub ends_next : (xs : List ℕ) (k least greatest : ℕ) → k < length xs → AreEnds xs k least greatest
-    → AreEnds xs (k + 1) (min least (get_or xs k 0)) (max greatest (get_or xs k 0))
-ends_next xs k least greatest within h =
-    let v = get_or xs k 0 in
-    let here = Contains-get_or xs k 0 within in
+pub ends_next : (xs : List ℕ) (least greatest v : ℕ) → v < 2 ^ 128 → AreEnds xs least greatest
+    → AreEnds (xs ++ v ∷ []) (min least v) (max greatest v)
+ends_next xs least greatest v narrow h =
+    let all = xs ++ v ∷ [] in
+    let here : Contains all v = Contains-append_right xs (v ∷ []) v (Contains-get_or (v ∷ []) 0 0 (omega arith)) in
+    let Q : ℕ → Type 0 = λ x. (min least v ≤ x) × (x ≤ max greatest v) in
     record {
-      low = elim (cases_lt v least) [
-        | inl l ↦ let e : v ≡ min least v = omega (arith, l) in subst (Contains xs) e here
-        | inr g ↦ let e : least ≡ min least v = omega (arith, g) in subst (Contains xs) e h.low
-      ];
-      high = elim (cases_lt greatest v) [
-        | inl l ↦ let e : v ≡ max greatest v = omega (arith, l) in subst (Contains xs) e here
-        | inr g ↦ let e : greatest ≡ max greatest v = omega (arith, g) in subst (Contains xs) e h.high
-      ];
-      order = omega (arith, h.order);
-      between = λ i l. elim (cases_lt i k) [
-        | inl earlier ↦ let b = h.between i earlier in (omega (arith, b), omega (arith, b))
-        | inr late ↦
-            let last : i ≡ k = omega (arith, l, late) in
-            let e = ap (λ x. get_or xs x 0) last in
-            (omega (arith, e), omega (arith, e))
-      ];
+      low = inr (elim h.low [
+        | inl none ↦ let e : v ≡ min least v = omega (arith, none.1, narrow) in subst (Contains all) e here
+        | inr in_xs ↦ elim (cases_lt v least) [
+          | inl l ↦ let e : v ≡ min least v = omega (arith, l) in subst (Contains all) e here
+          | inr g ↦ let e : least ≡ min least v = omega (arith, g) in subst (Contains all) e (Contains-append_left xs (v ∷ []) least in_xs)
+        ]
+      ]);
+      high = inr (elim h.high [
+        | inl none ↦ let e : v ≡ max greatest v = omega (arith, none.1) in subst (Contains all) e here
+        | inr in_xs ↦ elim (cases_lt greatest v) [
+          | inl l ↦ let e : v ≡ max greatest v = omega (arith, l) in subst (Contains all) e here
+          | inr g ↦ let e : greatest ≡ max greatest v = omega (arith, g) in subst (Contains all) e (Contains-append_left xs (v ∷ []) greatest in_xs)
+        ]
+      ]);
+      between = All-append Q xs (v ∷ []) (λ i d l. let b = h.between i d l in (omega (arith, b.0), omega (arith, b.1)))
+          (All-cons Q v [] (omega arith, omega arith) (All-nil Q));
     }
+
+-- the ends of all of them
+pub ends_of_all : (xs : List ℕ) (least greatest : ℕ) → AreEnds xs least greatest → HaveEnds xs least greatest
+ends_of_all xs least greatest h = record {
+  low = λ some. elim h.low [
+    | inl none ↦ absurd (omega (arith, ap length none.0, some))
+    | inr in_xs ↦ in_xs
+  ];
+  high = λ some. elim h.high [
+    | inl none ↦ absurd (omega (arith, ap length none.0, some))
+    | inr in_xs ↦ in_xs
+  ];
+  between = h.between;
+}
+
+-- they ascend
+pub ends_ascend : (xs : List ℕ) (least greatest : ℕ) → 0 < length xs → HaveEnds xs least greatest → least ≤ greatest
+ends_ascend xs least greatest some h =
+    (All-contains (λ v. (least ≤ v) × (v ≤ greatest)) xs least h.between (h.low some)).1
 
 -- two numbers that ascend
 pair_ascends : (a b : ℕ) → a ≤ b → IsNonDecreasing (a ∷ b ∷ [])

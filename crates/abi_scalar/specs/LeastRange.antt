@@ -1,5 +1,5 @@
 -- The least of all ranges that hold some values.
-use Rattle.std.specs.Prelude.{◌≡◌, ℕ, ◌<◌, ◌≤◌, ◌⊎◌, List, [], All, length, Option, MatchOption}
+use Rattle.std.specs.Prelude.{◌≡◌, ℕ, ◌<◌, ◌≤◌, ◌⊎◌, List, [], All, Contains, length, Option, MatchOption}
 use Rattle.abi_scalar.specs.declared.wrapping_range.WrappingRange.{WrappingRange}
 use Rattle.abi_scalar.specs.Range.{IsIn, AreWithin}
 use Rattle.abi_scalar.specs.Count.{AreSoMany}
@@ -24,3 +24,9 @@ pub record IsLeastRange (width : ℕ) (values : List ℕ) (range : WrappingRange
 abbrev pub IsSmallestOf : (width : ℕ) → (values : List ℕ) → Option WrappingRange → Type 0
 IsSmallestOf width values found =
     MatchOption found (values ≡ []) (λ range. (0 < length values) × IsLeastRange width values range)
+
+-- Two of the values, if there are any, between which all of them lie.
+pub record HaveEnds (values : List ℕ) (least greatest : ℕ) : Type 0 where
+  pub low : 0 < length values → Contains values least
+  pub high : 0 < length values → Contains values greatest
+  pub between : All (λ v. (least ≤ v) × (v ≤ greatest)) values

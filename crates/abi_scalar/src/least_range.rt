@@ -1,15 +1,22 @@
 //! The least range that holds some values.
 
-ghost use Rattle.std.specs.Prelude.{◌≡◌, ◌≤◌, ◌<◌, length, All, Contains, IfOk};
+ghost use Rattle.std.specs.Prelude.{◌≡◌, ◌≤◌, ◌<◌, ◌^◌, length, max, min, All, IfOk};
 ghost use Rattle.std.specs.List.Sorted.{IsNonDecreasing};
 ghost use Rattle.std.specs.Iterator.{IsFinite};
 ghost use Rattle.std.specs.Iterator.Runs.{EachRunFrom, WholeRun};
 ghost use Rattle.abi_scalar.specs.Range.{numbers_of};
-ghost use Rattle.abi_scalar.specs.LeastRange.{IsLeastRange, IsSmallestOf};
+ghost use Rattle.abi_scalar.specs.LeastRange.{HaveEnds, IsLeastRange, IsSmallestOf};
 
 use crate::wrapping_range::{WrappingRange, steps};
 use abi_base::Size;
 use std::alloc::{AllocError, Global};
+
+/// Some values, and the least and the greatest of them, the greatest number there is and 0 where there are none.
+#[derive(Drop)]
+struct Values {
+    list: Vec<u128>,
+    ends: WrappingRange,
+}
 
 /// The least range that holds ascending values: from the least to the greatest, or round a gap between two
 /// neighbours.
@@ -40,63 +47,63 @@ fn least_of_ascending(values: &[u128], size: Size) -> WrappingRange
     best
 }
 
-/// The range from the least value to the greatest.
-fn from_least_to_greatest(values: &[u128]) -> WrappingRange
-    requires any { 0 < length values.now }
-    ensures least { Contains values.now result.start }
-    ensures greatest { Contains values.now result.end }
-    ensures order { result.start ≤ result.end }
-    ensures between { All (λ v. (result.start ≤ v) × (v ≤ result.end)) values.now }
-{
-    let mut least = values[0];
-    let mut greatest = values[0];
-    for k in 1..values.len() {
-        let value = values[k];
-        least = least.min(value);
-        greatest = greatest.max(value);
-    }
-    WrappingRange {
-        start: least,
-        end: greatest,
-    }
-}
-
 /// The least range that holds the values; None for no values.
 ///
 /// Where the way on from the greatest value round to the least is no shorter than the way up from the least to
 /// the greatest, which then takes at most half of all numbers, no range that wraps round is better than the one
 /// from the least to the greatest, and nothing is sorted.
-fn least_range(mut values: Vec<u128>, size: Size) -> Option<WrappingRange>
+fn least_range(values: Values, size: Size) -> Option<WrappingRange>
     requires some { 1 ≤ size }
     requires most { size ≤ 16 }
-    requires within { All (λ v. v < numbers_of size) values.items }
-    ensures { IsSmallestOf size values.items result }
+    requires within { All (λ v. v < numbers_of size) values.list.items }
+    requires ends { HaveEnds values.list.items values.ends.start values.ends.end }
+    ensures { IsSmallestOf size values.list.items result }
 {
-    if values.is_empty() {
+    let Values { mut list, ends } = values;
+    if list.is_empty() {
         return None;
     }
-    let whole = from_least_to_greatest(values.as_slice());
-    if whole.end - whole.start <= steps(whole.end, whole.start, size) {
-        return Some(whole);
+    if ends.end - ends.start <= steps(ends.end, ends.start, size) {
+        return Some(ends);
     }
-    values.sort_unstable();
-    Some(least_of_ascending(values.as_slice(), size))
+    list.sort_unstable();
+    Some(least_of_ascending(list.as_slice(), size))
 }
 
-/// The values as a list, in the order in which they come, with room for as many as the iterator is sure of.
-fn values_of<I: Iterator<Item = u128>>(alloc: Global, values: I) -> Result<Vec<u128>, AllocError>
+/// The ends of some values, with one more of them. (That it is narrow is said here, since it isn't known of what an
+/// iterator gives.)
+#[inline(always)]
+fn ends_with(ends: WrappingRange, value: u128) -> WrappingRange
+    ensures narrow { value < 2 ^ 128 }
+    ensures start { result.start ≡ min ends.start value }
+    ensures end { result.end ≡ max ends.end value }
+{
+    WrappingRange {
+        start: ends.start.min(value),
+        end: ends.end.max(value),
+    }
+}
+
+/// The values as a list, in the order in which they come, with room for as many as the iterator is sure of; and their ends.
+fn values_of<I: Iterator<Item = u128>>(alloc: Global, values: I) -> Result<Values, AllocError>
 where
     I: Drop,
     requires can { I.can_next values }
     requires ends { IsFinite (I.remaining values) }
-    ensures { IfOk result (λ list. WholeRun I.next_gives values (λ p. list.items ≡ p.items)) }
+    ensures items { IfOk result (λ all. WholeRun I.next_gives values (λ p. all.list.items ≡ p.items)) }
+    ensures ends { IfOk result (λ all. HaveEnds all.list.items all.ends.start all.ends.end) }
 {
-    let (least, _) = values.size_hint();
-    let mut list = Vec::with_capacity(alloc, least)?;
+    let (sure, _) = values.size_hint();
+    let mut list = Vec::with_capacity(alloc, sure)?;
+    let mut ends = WrappingRange {
+        start: u128::MAX,
+        end: 0,
+    };
     for value in values {
+        ends = ends_with(ends, value);
         list.push(value)?;
     }
-    Ok(list)
+    Ok(Values { list, ends })
 }
 
 impl WrappingRange {

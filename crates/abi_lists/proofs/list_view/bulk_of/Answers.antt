@@ -1,6 +1,7 @@
-use Rattle.std.proofs.Common.{◌≡◌, sym, ap, ◌∙◌}
-use Rattle.abi_lists.specs.ListView.{is_bulky, part_at}
-use Rattle.abi_lists.proofs.ViewLemmas.{bulk_else, bulk_then}
+use Rattle.std.proofs.Common.{◌≡◌, ℕ, ◌+◌, ◌-◌, Bool, arith, filter, length, sym, ap, ◌∙◌}
+use Rattle.abi_lists.specs.ListView.{bulk_of, is_bulky, part_at}
+use Rattle.abi_lists.specs.Placement.{source_order}
+use Rattle.abi_lists.proofs.ViewLemmas.{bulk_else, bulk_stays, bulk_then}
 use Rattle.abi_lists.proofs.list_view.bulk_of.Goals as goal
 use Rattle.abi_lists.proofs.list_view.bulk_of.Goals.{then-is_bulky, else-is_bulky}
 
@@ -14,3 +15,12 @@ loop-index-preserved g c =
       | else-is_bulky w ↦
           bulk_else (λ i. is_bulky (part_at c.args.parts.now i)) c.loop-index.index c.loop-index.bulk c.if-is_bulky.bulk c.loop-index.invariant (sym test ∙ w.if-is_bulky.false) w.bulk-is
     ]
+
+pub returns-then-is_more : goal.returns-then-is_more
+returns-then-is_more g c =
+    let P : ℕ → Bool = λ i. is_bulky (part_at c.args.parts.now i) in
+    let seen = c.loop-index.index in
+    let left = length c.args.parts.now - seen in
+    let all : seen + left ≡ length c.args.parts.now = omega (arith, c.loop-index-test.true, c.len-index-end.ensures) in
+    c.if-is_more.ensures
+    ∙ sym (ap (λ n. bulk_of (filter P (source_order n))) (sym all) ∙ bulk_stays P seen left (sym c.loop-index.invariant ∙ c.if-is_more.ensures))
