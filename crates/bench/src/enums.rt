@@ -1,4 +1,4 @@
-//! Enums: of units, of ten fields a variant, and with a niche.
+//! Enums: of units, of ten fields a variant, of one field without a niche, and with a niche.
 
 ghost use Rattle.std.specs.Prelude.{◌≡◌, ◌<◌, ◌≤◌, All, IfOk, length, map};
 ghost use Rattle.std.specs.List.{AllPairs};
@@ -111,6 +111,22 @@ fn beside_a_niche<'a>(
     Ok(variants)
 }
 
+/// So many variants of one field, a `u8` and a `u16` in turn, neither of which has a niche.
+fn in_turn<'a>(alloc: Global, leaves: &'a [Laid], count: u64) -> Result<Vec<Fields<'a>>, AllocError>
+    requires { length leaves.now ≡ 5 }
+{
+    let mut variants = Vec::new(alloc);
+    for step in 0..count {
+        let leaf = if step % 2 == 0 {
+            &leaves[0]
+        } else {
+            &leaves[2]
+        };
+        variants.push(single(alloc, leaf)?)?;
+    }
+    Ok(variants)
+}
+
 /// Times an enum of these variants.
 fn time_enum(
     rt: &(impl Clock + Print + AllocGlobal),
@@ -165,6 +181,9 @@ fn time_enums(
     }
     if asks_for(words, "enum_niche", count) {
         time_enum(rt, dl, "enum_niche", beside_a_niche(alloc, leaves, count)?)?;
+    }
+    if asks_for(words, "enum_no_niche", count) {
+        time_enum(rt, dl, "enum_no_niche", in_turn(alloc, leaves, count)?)?;
     }
     Ok(())
 }

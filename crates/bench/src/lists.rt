@@ -105,6 +105,16 @@ fn small_lists<'a>(alloc: Global, leaves: &'a [Laid]) -> Result<Vec<Fields<'a>>,
     Ok(lists)
 }
 
+/// What `repr(C)` asks for.
+fn as_in_c() -> ReprOptions
+    ensures { HasLawfulAligns result }
+{
+    ReprOptions {
+        flags: ReprFlags::IS_C,
+        ..ReprOptions::default()
+    }
+}
+
 /// Times lists of these fields.
 fn time_lists(
     rt: &(impl Clock + Print + AllocGlobal),
@@ -165,13 +175,31 @@ fn time_fields(
         )?;
     }
     if asks_for(words, "univariant_c", count) {
-        let mut as_in_c = ReprOptions::default();
-        as_in_c.flags = ReprFlags::IS_C;
         let lists = one_list(alloc, leaves, count)?;
-        time_lists(rt, dl, "univariant_c", count, lists, &as_in_c)?;
+        time_lists(rt, dl, "univariant_c", count, lists, &as_in_c())?;
     }
     if asks_for(words, "union", count) {
         time_union(rt, dl, count, one_list(alloc, leaves, count)?)?;
+    }
+    Ok(())
+}
+
+/// Times a thousand small lists.
+fn time_small(
+    rt: &(impl Clock + Print + AllocGlobal),
+    words: &str,
+    dl: &TargetDataLayout,
+    leaves: &[Laid],
+    name: &str,
+    repr: &ReprOptions,
+) -> io::Result<()>
+    requires data_layout { IsLawfulDataLayout dl.now }
+    requires leaves { length leaves.now ≡ 5 }
+    requires repr { HasLawfulAligns repr.now }
+{
+    if asks_for(words, name, 1000) {
+        let lists = small_lists(rt.alloc(), leaves)?;
+        time_lists(rt, dl, name, 1000, lists, repr)?;
     }
     Ok(())
 }
@@ -189,10 +217,13 @@ pub(crate) fn time_all(
     for count in [1000, 10_000, 100_000, 1_000_000] {
         time_fields(rt, words, dl, &leaves, count)?;
     }
-    let name = "univariant_small_1000_times";
-    if asks_for(words, name, 1000) {
-        let lists = small_lists(alloc, &leaves)?;
-        time_lists(rt, dl, name, 1000, lists, &ReprOptions::default())?;
-    }
-    Ok(())
+    time_small(
+        rt,
+        words,
+        dl,
+        &leaves,
+        "univariant_small_1000_times",
+        &ReprOptions::default(),
+    )?;
+    time_small(rt, words, dl, &leaves, "small_c_1000_times", &as_in_c())
 }

@@ -1,6 +1,6 @@
 //! Least ranges.
 
-ghost use Rattle.std.specs.Prelude.{◌^◌, ◌<◌, All, IfOk};
+ghost use Rattle.std.specs.Prelude.{◌^◌, ◌<◌, ◌≤◌, All, IfOk};
 
 use crate::numbers::Numbers;
 use crate::timing::{Timed, time};
@@ -11,14 +11,15 @@ use std::alloc::{AllocError, Global};
 use std::io;
 use std::rt::Clock;
 
-/// So many numbers.
-fn values_of(alloc: Global, count: u64) -> Result<Vec<u128>, AllocError>
+/// So many numbers, multiples of this one.
+fn values_of(alloc: Global, count: u64, by: u64) -> Result<Vec<u128>, AllocError>
+    requires { by ≤ 2 }
     ensures { IfOk result (λ values. All (λ v. v < 2 ^ 32) values.items) }
 {
     let mut numbers = Numbers::from(8);
     let mut values = Vec::new(alloc);
     for _step in 0..count {
-        values.push(u128::from(numbers.below(1 << 31)))?;
+        values.push(u128::from(numbers.below(1 << 31) * by))?;
     }
     Ok(values)
 }
@@ -42,14 +43,28 @@ impl Timed for Values {
     }
 }
 
-/// Times the search for least ranges.
+/// Times the search for the least range of so many values, multiples of this number.
+fn time_values(
+    rt: &(impl Clock + Print + AllocGlobal),
+    words: &str,
+    name: &str,
+    count: u64,
+    by: u64,
+) -> io::Result<()>
+    requires { by ≤ 2 }
+{
+    if asks_for(words, name, count) {
+        let values = values_of(rt.alloc(), count, by)?;
+        time(rt, name, count, &Values { values })?;
+    }
+    Ok(())
+}
+
+/// Times the search for least ranges: of values in half of all numbers, and of such that spread over all of them.
 pub(crate) fn time_all(rt: &(impl Clock + Print + AllocGlobal), words: &str) -> io::Result<()> {
-    let name = "smallest_range_containing";
     for count in [1000, 100_000] {
-        if asks_for(words, name, count) {
-            let values = values_of(rt.alloc(), count)?;
-            time(rt, name, count, &Values { values })?;
-        }
+        time_values(rt, words, "smallest_range_containing", count, 1)?;
+        time_values(rt, words, "smallest_range_spread", count, 2)?;
     }
     Ok(())
 }

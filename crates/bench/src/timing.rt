@@ -12,22 +12,23 @@ const RUNS: u32 = 9;
 pub(crate) trait Timed {
     ghost is_ready: { Self → Type 0 };
 
-    /// Makes the call, and answers a size of what it lays out or reads, 0 where it is refused.
+    /// Makes the call, and answers a size of what it lays out or reads, or the sum of these, 0 where it is refused.
     fn made(&self, alloc: Global) -> u64
         requires { is_ready self.now };
 }
 
-/// How long a call takes, if it isn't refused.
-fn run_once<T: Timed>(rt: &(impl Clock + AllocGlobal), call: &T) -> io::Result<Option<Duration>>
+/// How long a call takes, and what it answers.
+fn run_once<T: Timed>(rt: &(impl Clock + AllocGlobal), call: &T) -> io::Result<(Duration, u64)>
     requires { T.is_ready call.now }
 {
     let start = Instant::now(rt)?;
     let answer = call.made(rt.alloc());
     let took = start.elapsed(rt)?;
-    Ok(if answer > 0 { Some(took) } else { None })
+    Ok((took, answer))
 }
 
-/// Prints the name and the size of a call and the microseconds of its fastest run. A call that is refused is an error.
+/// Prints the name and the size of a call, the microseconds of its fastest run, and what it answers. A call that is refused is an
+/// error.
 pub(crate) fn time<T: Timed>(
     rt: &(impl Clock + Print + AllocGlobal),
     name: &str,
@@ -37,13 +38,16 @@ pub(crate) fn time<T: Timed>(
     requires { T.is_ready call.now }
 {
     let mut fastest = Duration::MAX;
+    let mut told = 0;
     for _ in 0..RUNS {
-        let Some(took) = run_once(rt, call)? else {
-            let text = format!(in rt.alloc(); "{name} {size} is refused")?;
-            return Err(io::Error::other(&text));
-        };
+        let (took, answer) = run_once(rt, call)?;
         fastest = fastest.min(took);
+        told = answer;
+    }
+    if told == 0 {
+        let text = format!(in rt.alloc(); "{name} {size} is refused")?;
+        return Err(io::Error::other(&text));
     }
     let microseconds = fastest.as_nanos().saturating_add(500) / 1000;
-    println!(rt; "{name} {size} {microseconds}")
+    println!(rt; "{name} {size} {microseconds} {told}")
 }

@@ -1,17 +1,20 @@
 //! Which calls are to be timed.
 
 /// The calls that can be timed.
-const CALLS: [&str; 14] = [
+const CALLS: [&str; 17] = [
     "univariant_free",
     "univariant_c",
     "union",
     "univariant_small_1000_times",
+    "small_c_1000_times",
     "enum_units",
     "enum_ten_fields",
     "enum_niche",
+    "enum_no_niche",
     "coroutine",
     "parse",
     "smallest_range_containing",
+    "smallest_range_spread",
     "lay_out_wide",
     "lay_out_deep",
     "padding_wide",
