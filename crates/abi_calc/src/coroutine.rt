@@ -113,7 +113,7 @@ impl<Cx: HasDataLayout> LayoutCalculator<Cx> {
     {
         let count = prefix.len();
         let fields = first_fields(prefix, field, locals, promoted)?;
-        let first = match self.layout_of_variant(
+        let first = match self.list_of_variant(
             alloc,
             &fields,
             &default_repr(),
@@ -123,7 +123,7 @@ impl<Cx: HasDataLayout> LayoutCalculator<Cx> {
             Err(error) => return Err(error),
         };
         let kind = behind(&first);
-        let lists = match self.layouts_of_own(alloc, locals, promoted, states, &kind) {
+        let lists = match self.lists_of_own(alloc, locals, promoted, states, &kind) {
             Ok(lists) => lists,
             Err(error) => return Err(error),
         };

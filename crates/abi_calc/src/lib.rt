@@ -7,6 +7,7 @@ mod coroutine;
 mod enums;
 mod in_order;
 mod list;
+mod over_lists;
 mod simd;
 mod unions;
 

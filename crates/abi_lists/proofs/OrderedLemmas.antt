@@ -1,33 +1,26 @@
 -- What is promised of a list that lies in an allowed order.
-use Rattle.std.proofs.Common.{◌≡◌, ℕ, zero, suc, ◌+◌, ◌<◌, ◌≤◌, true, false, List, [], ◌∷◌, Option, Some, inl, inr, length, map, get_or, refl, sym, ap, subst, ◌∙◌, arith}
-use Rattle.std.specs.Prelude.{◌⊎◌, All, IfSome, IsPermutation, IsTrue}
+use Rattle.std.proofs.Common.{◌≡◌, ℕ, ◌+◌, ◌<◌, ◌≤◌, List, [], ◌∷◌, Option, length, map, get_or, refl, ap, subst, ◌∙◌, arith}
+use Rattle.std.specs.Prelude.{All, IfSome, IsPermutation}
 use Rattle.std.proofs.lemmas.List.Sorted.{All-permutation, IsPermutation-sym, length_permutation}
 use Rattle.std.proofs.lemmas.List.FromFn.{length-range_with_len}
-use Rattle.std.proofs.lemmas.List.Elements.{All-head, All-tail}
 use Rattle.abi_base.specs.declared.data_layout.TargetDataLayout.{TargetDataLayout}
-use Rattle.abi_base.specs.DataLayout.{size_bound}
 use Rattle.abi_scalar.specs.declared.layout_data.LayoutData.{LayoutData}
 use Rattle.abi_scalar.specs.declared.niche.Niche.{Niche}
 use Rattle.abi_scalar.specs.Lawful.{IsLawfulNiche}
 use Rattle.abi_lists.specs.declared.part.Part.{Part}
 use Rattle.abi_lists.specs.declared.list_repr.ListRepr.{ListRepr}
-use Rattle.abi_lists.specs.declared.order.NicheBias.TheVariants.{Start}
-use Rattle.abi_lists.specs.declared.placing.ListFault.{ListFault}
-use Rattle.abi_lists.specs.declared.placing.ListFault.TheVariants.{Unsized, TooLarge, OutOfMemory}
 use Rattle.abi_lists.specs.Apart.{AreAligned, AreApart}
-use Rattle.abi_lists.specs.Fault.{fault_in}
-use Rattle.abi_lists.specs.List.{AreSized, parts_of}
+use Rattle.abi_lists.specs.List.{parts_of}
 use Rattle.abi_lists.specs.ListNiche.{HasLargestNiche, IsNicheOfPart, niche_in}
-use Rattle.abi_lists.specs.Part.{IsLawfulPart, is_unsized}
-use Rattle.abi_lists.specs.Placement.{IsAllowed, IsNonEmptyIfUnsized, IsSized, align_of, cut, end_from, in_order, no_part, offsets_from, size_in, source_order, start_of, sum_rounded}
+use Rattle.abi_lists.specs.Part.{IsLawfulPart}
+use Rattle.abi_lists.specs.Placement.{align_of, cut, end_from, in_order, offsets_from, source_order, start_of}
 use Rattle.abi_lists.specs.Run.{IsInOrder}
-use Rattle.abi_lists.proofs.FaultLemmas.{clear_of, large_in, memory_in, unsized_in}
-use Rattle.abi_lists.proofs.Least.{all_too_large, allowed_permutes, named_allowed, named_least, named_tight}
+use Rattle.abi_lists.proofs.Least.{allowed_permutes}
 use Rattle.abi_lists.proofs.ListLemmas.{length-parts}
 use Rattle.abi_lists.proofs.NicheLemmas.{IsBelow, IsNicheOfIndex, greatest_below, greatest_of_index, largest_of_parts, of_part, weaken_niche}
 use Rattle.abi_lists.proofs.PlacingLemmas.{length-offsets}
 use Rattle.abi_lists.proofs.Rounding.{rounded_to}
-use Rattle.abi_lists.proofs.RunLemmas.{IsBiased, aligned_parts, niche_inside}
+use Rattle.abi_lists.proofs.RunLemmas.{niche_inside}
 use Rattle.abi_lists.proofs.Sorting.{in_order-permutation, within_order}
 use Rattle.abi_lists.proofs.SourceLemmas.{Lies, length-in, offset_at, part_in, parts_after, parts_aligned, parts_apart}
 

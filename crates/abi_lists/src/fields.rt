@@ -9,7 +9,7 @@ use abi_index::{Hash64, Idx};
 use abi_scalar::{LayoutHandle, ReprOptions};
 
 /// The greatest of the fields' sizes.
-pub fn greatest_size<FieldIdx: Idx, VariantIdx: Idx, F: LayoutHandle<FieldIdx, VariantIdx>>(
+pub(crate) fn greatest_size<FieldIdx: Idx, VariantIdx: Idx, F: LayoutHandle<FieldIdx, VariantIdx>>(
     fields: &[F],
 ) -> Size
     ensures { result ≡ greatest_size (map F.layout_of fields.now) }
@@ -36,10 +36,11 @@ pub fn greatest_align<FieldIdx: Idx, VariantIdx: Idx, F: LayoutHandle<FieldIdx, 
 }
 
 /// The greatest of the fields' alignments before `repr(align)` raised them, and this one.
-pub fn greatest_unadjusted<FieldIdx: Idx, VariantIdx: Idx, F: LayoutHandle<FieldIdx, VariantIdx>>(
-    own: Align,
-    fields: &[F],
-) -> Align
+pub(crate) fn greatest_unadjusted<
+    FieldIdx: Idx,
+    VariantIdx: Idx,
+    F: LayoutHandle<FieldIdx, VariantIdx>,
+>(own: Align, fields: &[F]) -> Align
     ensures { result ≡ greatest_unadjusted own (map F.layout_of fields.now) }
 {
     let mut greatest = own;
@@ -50,10 +51,11 @@ pub fn greatest_unadjusted<FieldIdx: Idx, VariantIdx: Idx, F: LayoutHandle<Field
 }
 
 /// The greatest alignment that a `repr(align)` asks for, this one or one in the fields.
-pub fn greatest_repr_align<FieldIdx: Idx, VariantIdx: Idx, F: LayoutHandle<FieldIdx, VariantIdx>>(
-    own: Option<Align>,
-    fields: &[F],
-) -> Option<Align>
+pub(crate) fn greatest_repr_align<
+    FieldIdx: Idx,
+    VariantIdx: Idx,
+    F: LayoutHandle<FieldIdx, VariantIdx>,
+>(own: Option<Align>, fields: &[F]) -> Option<Align>
     ensures { result ≡ greatest_repr_align own (map F.layout_of fields.now) }
 {
     let mut greatest = own;
@@ -96,7 +98,7 @@ pub(crate) fn lies_as_in_c<FieldIdx: Idx, VariantIdx: Idx, F: LayoutHandle<Field
 }
 
 /// The sum of the fields' seeds and this one, modulo 2 to the 64.
-pub fn seed_with<FieldIdx: Idx, VariantIdx: Idx, F: LayoutHandle<FieldIdx, VariantIdx>>(
+pub(crate) fn seed_with<FieldIdx: Idx, VariantIdx: Idx, F: LayoutHandle<FieldIdx, VariantIdx>>(
     own: Hash64,
     fields: &[F],
 ) -> Hash64

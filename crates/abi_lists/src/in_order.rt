@@ -9,7 +9,8 @@ ghost use Rattle.abi_lists.specs.InOrder.{IsOrderedAnswer};
 ghost use Rattle.abi_lists.specs.List.{HasLawfulAligns};
 ghost use Rattle.abi_lists.specs.Placement.{IsAllowed, IsLawfulPrefix, IsNonEmptyIfUnsized, KeepsTail, list_repr, source_order};
 
-use crate::list::{error_of, fields_named, layout_of_placed};
+use crate::list::{error_of, fields_named, list_of_placed};
+use crate::list_layout::ListLayout;
 use crate::list_repr::{ListRepr, list_repr};
 use crate::order::NicheBias;
 use crate::part::Parts;
@@ -82,15 +83,15 @@ fn is_allowed(
     Ok(keeps_tail(kind, order))
 }
 
-/// The layout of these fields in this order, which is allowed.
-fn layout_in_order<FieldIdx: Idx, VariantIdx: Idx, F: LayoutHandle<FieldIdx, VariantIdx> + Copy>(
+/// These fields as a list in this order, which is allowed.
+fn list_in_order<FieldIdx: Idx, VariantIdx: Idx, F: LayoutHandle<FieldIdx, VariantIdx> + Copy>(
     alloc: Global,
     dl: &TargetDataLayout,
     fields: &[F],
     repr: &ReprOptions,
     list: &ListRepr,
     order: Vec<usize>,
-) -> Result<LayoutData<FieldIdx, VariantIdx>, LayoutCalculatorError<F>>
+) -> Result<ListLayout<FieldIdx, VariantIdx>, LayoutCalculatorError<F>>
     requires data_layout { IsLawfulDataLayout dl.now }
     requires fields { All (λ f. IsLawfulLayout dl.now (F.layout_of f)) fields.now }
     requires repr { HasLawfulAligns repr.now }
@@ -109,7 +110,7 @@ fn layout_in_order<FieldIdx: Idx, VariantIdx: Idx, F: LayoutHandle<FieldIdx, Var
         Err(fault) => return Err(error_of(fields, fault)),
     };
     let in_memory_order = fields_named(alloc, &placed.order)?;
-    Ok(layout_of_placed(dl, fields, repr, list, placed, in_memory_order))
+    Ok(list_of_placed(dl, fields, repr, list, placed, in_memory_order))
 }
 
 /// The layout of these fields as one list of this kind, one after another in memory in this order. The niche is the
@@ -148,5 +149,5 @@ pub fn layout_of_fields_in_order<
     if !is_allowed(alloc, kind, &order, fields.len())? {
         return Err(LayoutCalculatorError::BadOrder);
     }
-    layout_in_order(alloc, dl, fields, repr, &list, order)
+    Ok(list_in_order(alloc, dl, fields, repr, &list, order)?.into_layout())
 }

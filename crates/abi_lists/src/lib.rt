@@ -6,6 +6,7 @@ mod array;
 mod fields;
 mod in_order;
 mod list;
+mod list_layout;
 mod list_niche;
 mod list_repr;
 mod list_view;
@@ -18,11 +19,10 @@ mod simd;
 mod unions;
 
 pub use array::layout_of_array;
-pub use fields::{
-    greatest_align, greatest_repr_align, greatest_size, greatest_unadjusted, seed_with,
-};
+pub use fields::greatest_align;
 pub use in_order::layout_of_fields_in_order;
-pub use list::{any_uninhabited, field_offsets, layout_of_fields};
+pub use list::{any_uninhabited, field_offsets, layout_of_fields, list_of_fields};
+pub use list_layout::ListLayout;
 pub use list_repr::rounded;
 pub use list_view::pair_view;
 pub use one_item::one;

@@ -16,17 +16,16 @@ ghost use Rattle.abi_lists.specs.Run.{IsInOrder};
 ghost use Rattle.abi_lists.specs.Placement.{IsLawfulPrefix, IsNonEmptyIfUnsized, list_repr};
 
 use crate::fields::{greatest_repr_align, lies_as_in_c, seed_with};
+use crate::list_layout::ListLayout;
 use crate::list_repr::{ListRepr, list_repr, unraised};
 use crate::list_view::{Bulk, bulk_of, list_view, transparent_align};
 use crate::order::movable;
 use crate::part::Parts;
 use crate::placing::{ListFault, list_align};
 use crate::run::{PlacedList, layout_of_parts};
-use abi_base::{AbiAlign, Align, Size, StructKind, TargetDataLayout};
+use abi_base::{Align, Size, StructKind, TargetDataLayout};
 use abi_index::{Idx, IndexSlice, IndexVec};
-use abi_scalar::{
-    FieldsShape, LayoutCalculatorError, LayoutData, LayoutHandle, ReprOptions, Variants,
-};
+use abi_scalar::{LayoutCalculatorError, LayoutData, LayoutHandle, ReprOptions};
 use std::alloc::{AllocError, Global};
 
 /// Whether some field has no values.
@@ -106,20 +105,16 @@ fn unadjusted_align<FieldIdx: Idx, VariantIdx: Idx, F: LayoutHandle<FieldIdx, Va
     }
 }
 
-/// The layout of a list that is placed, with its memory order.
+/// A list that is placed, with its memory order.
 #[inline(always)]
-pub(crate) fn layout_of_placed<
-    FieldIdx: Idx,
-    VariantIdx: Idx,
-    F: LayoutHandle<FieldIdx, VariantIdx>,
->(
+pub(crate) fn list_of_placed<FieldIdx: Idx, VariantIdx: Idx, F: LayoutHandle<FieldIdx, VariantIdx>>(
     dl: &TargetDataLayout,
     fields: &[F],
     repr: &ReprOptions,
     list: &ListRepr,
     placed: PlacedList,
     in_memory_order: IndexVec<u32, FieldIdx>,
-) -> LayoutData<FieldIdx, VariantIdx>
+) -> ListLayout<FieldIdx, VariantIdx>
     requires data_layout { IsLawfulDataLayout dl.now }
     requires fields { All (λ f. IsLawfulLayout dl.now (F.layout_of f)) fields.now }
     requires repr { HasLawfulAligns repr.now }
@@ -159,18 +154,14 @@ pub(crate) fn layout_of_placed<
     let view = list_view(dl, fixed, size, align, &parts, &offsets, bulk);
     let unadjusted_abi_align = unadjusted_align(dl, repr, list, size, align, &parts, bulk);
     let offsets = IndexVec::from_raw(offsets);
-    LayoutData {
-        fields: FieldsShape::Arbitrary {
-            offsets,
-            in_memory_order,
-        },
-        variants: Variants::Single {
-            index: VariantIdx::new(0),
-        },
+    ListLayout {
+        offsets,
+        in_memory_order,
+        index: VariantIdx::new(0),
         backend_repr: view,
         largest_niche,
         uninhabited: any_uninhabited(fields),
-        align: AbiAlign::new(align),
+        align,
         size,
         max_repr_align: greatest_repr_align(repr.align, fields),
         unadjusted_abi_align,
@@ -179,15 +170,15 @@ pub(crate) fn layout_of_placed<
     }
 }
 
-/// The layout of these fields as one list.
+/// These fields as one list.
 #[inline(never)]
-fn layout_of_list<FieldIdx: Idx, VariantIdx: Idx, F: LayoutHandle<FieldIdx, VariantIdx> + Copy>(
+fn list_of_slice<FieldIdx: Idx, VariantIdx: Idx, F: LayoutHandle<FieldIdx, VariantIdx> + Copy>(
     alloc: Global,
     dl: &TargetDataLayout,
     fields: &[F],
     repr: &ReprOptions,
     list: &ListRepr,
-) -> Result<LayoutData<FieldIdx, VariantIdx>, LayoutCalculatorError<F>>
+) -> Result<ListLayout<FieldIdx, VariantIdx>, LayoutCalculatorError<F>>
     requires data_layout { IsLawfulDataLayout dl.now }
     requires fields { All (λ f. IsLawfulLayout dl.now (F.layout_of f)) fields.now }
     requires repr { HasLawfulAligns repr.now }
@@ -205,15 +196,37 @@ fn layout_of_list<FieldIdx: Idx, VariantIdx: Idx, F: LayoutHandle<FieldIdx, Vari
         Err(fault) => return Err(error_of(fields, fault)),
     };
     let in_memory_order = fields_named(alloc, &placed.order)?;
-    Ok(layout_of_placed(dl, fields, repr, list, placed, in_memory_order))
+    Ok(list_of_placed(dl, fields, repr, list, placed, in_memory_order))
 }
 
-/// The layout of these fields as one list of this kind, one after another in memory, in an order that the `repr`
-/// allows. Where it leaves a choice, the list has the least size of all orders.
+/// These fields as one list of this kind, one after another in memory, in an order that the `repr` allows. Where it
+/// leaves a choice, the list has the least size of all orders.
 ///
 /// Refused as `UnexpectedUnsized` with a field whose size isn't known beforehand, unless it is the last of a
 /// maybe-unsized list, and as `SizeOverflow` where a field's end or the size isn't below the data layout's bound: the
 /// first fault in memory order is told. `OutOfMemory` may come at any time.
+pub fn list_of_fields<FieldIdx: Idx, VariantIdx: Idx, F: LayoutHandle<FieldIdx, VariantIdx> + Copy>(
+    alloc: Global,
+    dl: &TargetDataLayout,
+    fields: IndexSlice<'_, FieldIdx, F>,
+    repr: &ReprOptions,
+    kind: StructKind,
+) -> Result<ListLayout<FieldIdx, VariantIdx>, LayoutCalculatorError<F>>
+    requires data_layout { IsLawfulDataLayout dl.now }
+    requires fields { All (λ f. IsLawfulLayout dl.now (F.layout_of f)) (items_of fields) }
+    requires repr { HasLawfulAligns repr.now }
+    requires prefix { IsLawfulPrefix kind (size_bound dl.now) }
+    requires tail { IsNonEmptyIfUnsized kind (length (items_of fields)) }
+    ensures exact { IsListAnswer F.layout_of FieldIdx.at (VariantIdx.at 0) dl.now repr.now kind
+        (items_of fields.entry) result }
+    ensures lawful { IfOk result (IsLawfulLayout dl.now) }
+    ensures within { length (items_of fields.entry) ≤ FieldIdx.MAX_INDEX + 1 }
+{
+    let list = list_repr(dl, repr, kind);
+    list_of_slice(alloc, dl, fields.as_raw(), repr, &list)
+}
+
+/// The layout of these fields as `list_of_fields` lays them out, and refused as it refuses them.
 pub fn layout_of_fields<
     FieldIdx: Idx,
     VariantIdx: Idx,
@@ -235,6 +248,5 @@ pub fn layout_of_fields<
     ensures lawful { IfOk result (IsLawfulLayout dl.now) }
     ensures within { length (items_of fields.entry) ≤ FieldIdx.MAX_INDEX + 1 }
 {
-    let list = list_repr(dl, repr, kind);
-    layout_of_list(alloc, dl, fields.as_raw(), repr, &list)
+    Ok(list_of_fields(alloc, dl, fields, repr, kind)?.into_layout())
 }

@@ -1,6 +1,6 @@
 -- What is promised of the lists of an enum's variants, from the answers that the rules give them.
 use Rattle.std.proofs.Common.{◌≡◌, ℕ, ◌^◌, ◌<◌, ◌≤◌, ◌∙◌, Bool, true, false, List, [], ◌∷◌, ap, arith, length, map, refl, subst, sym}
-use Rattle.std.specs.Prelude.{All, Ok, if◌then◌else◌}
+use Rattle.std.specs.Prelude.{All, Err, IfOk, Ok, Result, if◌then◌else◌}
 use Rattle.std.specs.Int.{next_multiple_of}
 use Rattle.std.proofs.lemmas.List.Elements.{All-head, All-tail}
 use Rattle.abi_base.specs.declared.data_layout.TargetDataLayout.{TargetDataLayout}
@@ -8,6 +8,7 @@ use Rattle.abi_base.specs.declared.integer.Integer.{Integer}
 use Rattle.abi_base.specs.declared.struct_kind.StructKind.{StructKind}
 use Rattle.abi_base.specs.DataLayout.{IsLawfulDataLayout, size_bound}
 use Rattle.abi_base.specs.Integer.{integer_align}
+use Rattle.abi_scalar.specs.declared.error.LayoutCalculatorError.{LayoutCalculatorError}
 use Rattle.abi_scalar.specs.declared.layout_data.LayoutData.{LayoutData}
 use Rattle.abi_scalar.specs.declared.repr.ReprOptions.{ReprOptions}
 use Rattle.abi_scalar.specs.Lawful.{IsLawfulLayout}
@@ -57,6 +58,14 @@ good_list layout_of at first dl repr kind fields list law all aligns prefix tail
     (has_least layout_of at first dl repr kind fields order offsets list all tail answer.2) (keeps_apart layout_of at first dl repr kind fields order offsets list tail answer.2)
     (lies_after layout_of at first dl repr kind fields order offsets list tail answer.2) (has_own_niche layout_of at first dl repr kind fields order offsets list tail answer.2)
     (has_greatest_niche layout_of at first dl repr kind fields order offsets list tail answer.2)
+
+-- so is each list that the rules answer with
+pub good_answer : {F V H : Type 0} (layout_of : H → LayoutData F V) (at : ℕ → F) (first : V) (dl : TargetDataLayout) (repr : ReprOptions) (kind : StructKind) (fields : List H) (answer : Result (LayoutData F V) (LayoutCalculatorError H)) → IsLawfulDataLayout dl
+    → All (λ f. IsLawfulLayout dl (layout_of f)) fields → HasLawfulAligns repr → IsLawfulPrefix kind (size_bound dl) → IsSized kind
+    → IsListAnswer layout_of at first dl repr kind fields answer → IfOk answer (IsGoodList layout_of at first dl repr kind fields)
+good_answer layout_of at first dl repr kind fields (Ok list) law all aligns prefix sized answer =
+    good_list layout_of at first dl repr kind fields list law all aligns prefix (tail_of_sized kind (length fields) sized) answer
+good_answer layout_of at first dl repr kind fields (Err error) law all aligns prefix sized answer = tt
 
 -- the sized lists that the rules give an enum's variants are good
 pub good_lists : {F V H : Type 0} (layout_of : H → LayoutData F V) (at : ℕ → F) (first : V) (dl : TargetDataLayout) (repr : ReprOptions) (kind : StructKind) (variants : List (List H)) (lists : List (LayoutData F V))

@@ -1,6 +1,6 @@
 //! The layout of a coroutine, from the layouts of its lists.
 
-ghost use Rattle.std.specs.Prelude.{◌≡◌, ◌≢◌, ◌+◌, ◌<◌, ◌≤◌, ◌⊎◌, ◌||◌, All, IfErr, IfOk, filter, length, map, max, nat_lt};
+ghost use Rattle.std.specs.Prelude.{◌≡◌, ◌≢◌, ◌+◌, ◌<◌, ◌≤◌, ◌⊎◌, ◌||◌, All, IfErr, IfOk, filter, length, map, nat_lt};
 ghost use Rattle.std.specs.List.{AllPairs, AllZip, list_all};
 ghost use Rattle.abi_base.specs.DataLayout.{IsLawfulDataLayout, size_bound};
 ghost use Rattle.abi_index.specs.BitSet.{domain_size, members_of};
@@ -9,12 +9,11 @@ ghost use Rattle.abi_calc.specs.Coroutine.Layout.{IsStateTag, coroutine_layout, 
 ghost use Rattle.abi_calc.specs.Coroutine.Lists.{own_of};
 ghost use Rattle.abi_calc.specs.Coroutine.States.{HasFields, ranks_of, state_layouts};
 
-use crate::coroutine::states::{listed_order, ranks_below, state_layout};
-use crate::enums::lists::listed_offsets;
-use crate::enums::tagged::all_uninhabited;
+use crate::coroutine::states::{ranks_below, state_layout};
+use crate::over_lists::{all_uninhabited, greater_size, greatest_align, greatest_size};
 use abi_base::{AbiAlign, Align, HasDataLayout, Integer, Primitive, Size, TargetDataLayout};
 use abi_index::{DenseBitSet, Hash64, Idx, IndexVec};
-use abi_lists::{field_offsets, greatest_align, greatest_size, rounded};
+use abi_lists::{ListLayout, field_offsets, rounded};
 use abi_scalar::{
     BackendRepr, FieldsShape, LayoutCalculatorError, LayoutData, Scalar, TagEncoding,
     VariantLayout, Variants, WrappingRange,
@@ -54,26 +53,19 @@ pub fn state_tag(count: usize) -> Scalar
 
 /// The greatest alignment of the lists.
 fn whole_align<FieldIdx: Idx, VariantIdx: Idx>(
-    first: &LayoutData<FieldIdx, VariantIdx>,
-    lists: &[LayoutData<FieldIdx, VariantIdx>],
+    first: &ListLayout<FieldIdx, VariantIdx>,
+    lists: &[ListLayout<FieldIdx, VariantIdx>],
 ) -> Align
     ensures { result ≡ whole_align first.now lists.now }
 {
-    greatest_align(first.align.abi, lists)
-}
-
-/// The greater of two sizes.
-fn greater(a: Size, b: Size) -> Size
-    ensures { result ≡ max a b }
-{
-    a.max(b)
+    greatest_align(first.align(), lists)
 }
 
 /// The size of the greatest list in bytes, rounded up to the greatest alignment.
 fn whole_size<FieldIdx: Idx, VariantIdx: Idx>(
     dl: &TargetDataLayout,
-    first: &LayoutData<FieldIdx, VariantIdx>,
-    lists: &[LayoutData<FieldIdx, VariantIdx>],
+    first: &ListLayout<FieldIdx, VariantIdx>,
+    lists: &[ListLayout<FieldIdx, VariantIdx>],
     align: Align,
 ) -> Size
     requires data_layout { IsLawfulDataLayout dl.now }
@@ -82,17 +74,17 @@ fn whole_size<FieldIdx: Idx, VariantIdx: Idx>(
     requires align { align ≡ whole_align first.now lists.now }
     ensures { result ≡ whole_size first.now lists.now }
 {
-    rounded(greater(first.size, greatest_size(lists)), align)
+    rounded(greater_size(first.size(), greatest_size(lists)), align)
 }
 
 /// Whether the coroutine has no values: the first list has none, or no state has any.
 fn is_uninhabited<FieldIdx: Idx, VariantIdx: Idx>(
-    first: &LayoutData<FieldIdx, VariantIdx>,
-    lists: &[LayoutData<FieldIdx, VariantIdx>],
+    first: &ListLayout<FieldIdx, VariantIdx>,
+    lists: &[ListLayout<FieldIdx, VariantIdx>],
 ) -> bool
     ensures { result ≡ (first.now.uninhabited || list_all (λ list. list.uninhabited) lists.now) }
 {
-    first.uninhabited | all_uninhabited(lists)
+    first.uninhabited() | all_uninhabited(lists)
 }
 
 /// The fields that stand before the promoted locals, as they follow one another in memory.
@@ -137,9 +129,9 @@ fn state_layouts<FieldIdx: Idx, VariantIdx: Idx, LocalIdx: Idx>(
     before: usize,
     promoted: &DenseBitSet<LocalIdx>,
     count: usize,
-    first: &LayoutData<FieldIdx, VariantIdx>,
+    first: &ListLayout<FieldIdx, VariantIdx>,
     states: &[IndexVec<FieldIdx, LocalIdx>],
-    lists: Vec<LayoutData<FieldIdx, VariantIdx>>,
+    lists: Vec<ListLayout<FieldIdx, VariantIdx>>,
 ) -> Result<IndexVec<VariantIdx, VariantLayout<FieldIdx>>, AllocError>
     requires count { count ≡ domain_size promoted.now }
     requires named { count ≤ LocalIdx.MAX_INDEX + 1 }
@@ -155,8 +147,8 @@ fn state_layouts<FieldIdx: Idx, VariantIdx: Idx, LocalIdx: Idx>(
         (map (map LocalIdx.number) states.now) lists.items) }
 {
     let below = ranks_below(alloc, promoted, count)?;
-    let shared = &listed_offsets(&first.fields)[before..];
-    let ranks = ranks_of(alloc, before, listed_order(&first.fields))?;
+    let shared = &first.offsets()[before..];
+    let ranks = ranks_of(alloc, before, first.in_memory_order())?;
     let mut layouts = IndexVec::new(alloc);
     for list in lists {
         let state = &states[layouts.len()];
@@ -172,8 +164,8 @@ fn layout_of_size<FieldIdx: Idx, VariantIdx: Idx, LocalIdx: Idx>(
     prefix: usize,
     tag: Scalar,
     saved: Saved<'_, FieldIdx, LocalIdx>,
-    first: LayoutData<FieldIdx, VariantIdx>,
-    lists: Vec<LayoutData<FieldIdx, VariantIdx>>,
+    first: ListLayout<FieldIdx, VariantIdx>,
+    lists: Vec<ListLayout<FieldIdx, VariantIdx>>,
     extent: Extent,
 ) -> Result<LayoutData<FieldIdx, VariantIdx>, AllocError>
     requires prefix { prefix + length (members_of saved.promoted.now) ≤ FieldIdx.MAX_INDEX }
@@ -193,8 +185,8 @@ fn layout_of_size<FieldIdx: Idx, VariantIdx: Idx, LocalIdx: Idx>(
 {
     let before = prefix + 1;
     let uninhabited = is_uninhabited(&first, &lists);
-    let offsets = field_offsets(alloc, &listed_offsets(&first.fields)[..before])?;
-    let in_memory_order = shared_order(alloc, before, listed_order(&first.fields))?;
+    let offsets = field_offsets(alloc, &first.offsets()[..before])?;
+    let in_memory_order = shared_order(alloc, before, first.in_memory_order())?;
     let variants = state_layouts(
         alloc,
         before,
@@ -235,8 +227,8 @@ pub(crate) fn layout_of_lists<FieldIdx: Idx, VariantIdx: Idx, LocalIdx: Idx, F>(
     prefix: usize,
     tag: Scalar,
     saved: Saved<'_, FieldIdx, LocalIdx>,
-    first: LayoutData<FieldIdx, VariantIdx>,
-    lists: Vec<LayoutData<FieldIdx, VariantIdx>>,
+    first: ListLayout<FieldIdx, VariantIdx>,
+    lists: Vec<ListLayout<FieldIdx, VariantIdx>>,
 ) -> Result<LayoutData<FieldIdx, VariantIdx>, LayoutCalculatorError<F>>
     requires data_layout { IsLawfulDataLayout dl.now }
     requires prefix { prefix + length (members_of saved.promoted.now) ≤ FieldIdx.MAX_INDEX }

@@ -13,7 +13,8 @@ ghost use Rattle.abi_calc.specs.Enums.Lists.{AreGoodLists, IsFirstListError, IsG
 use crate::calculator::LayoutCalculator;
 use abi_base::{HasDataLayout, StructKind};
 use abi_index::{DenseBitSet, Idx, IndexVec};
-use abi_scalar::{LayoutCalculatorError, LayoutData, LayoutHandle, ReprOptions};
+use abi_lists::ListLayout;
+use abi_scalar::{LayoutCalculatorError, LayoutHandle, ReprOptions};
 use std::alloc::{AllocError, Global};
 
 /// The `repr` of each list: it asks for nothing.
@@ -25,11 +26,11 @@ pub(crate) fn default_repr() -> ReprOptions
 
 /// Of which kind the states' lists are: each lies behind the first one.
 pub(crate) fn behind<FieldIdx: Idx, VariantIdx: Idx>(
-    first: &LayoutData<FieldIdx, VariantIdx>,
+    first: &ListLayout<FieldIdx, VariantIdx>,
 ) -> StructKind
     ensures { result ≡ behind first.now }
 {
-    StructKind::Prefixed(first.size, first.align.abi)
+    StructKind::Prefixed(first.size(), first.align())
 }
 
 /// The fields of the first list: the prefix fields, the one that holds the tag, and the promoted locals, ascending.
@@ -76,7 +77,7 @@ fn own_fields<FieldIdx: Idx, LocalIdx: Idx, F: Copy>(
 
 impl<Cx: HasDataLayout> LayoutCalculator<Cx> {
     /// The layout of a state's own list, of this kind, which is sized.
-    fn layout_of_own<
+    fn list_of_own<
         FieldIdx: Idx,
         VariantIdx: Idx,
         LocalIdx: Idx,
@@ -88,7 +89,7 @@ impl<Cx: HasDataLayout> LayoutCalculator<Cx> {
         promoted: &DenseBitSet<LocalIdx>,
         state: &IndexVec<FieldIdx, LocalIdx>,
         kind: &StructKind,
-    ) -> Result<LayoutData<FieldIdx, VariantIdx>, LayoutCalculatorError<F>>
+    ) -> Result<ListLayout<FieldIdx, VariantIdx>, LayoutCalculatorError<F>>
         requires data_layout { IsLawfulDataLayout (Cx.target self.now.cx) }
         requires locals { All (λ f. IsLawfulLayout (Cx.target self.now.cx) (F.layout_of f)) locals.now }
         requires within { All (λ l. LocalIdx.number l < length locals.now) state.now }
@@ -106,12 +107,12 @@ impl<Cx: HasDataLayout> LayoutCalculator<Cx> {
             (e ≡ LayoutCalculatorError.OutOfMemory)) }
     {
         let fields = own_fields(alloc, locals, promoted, state)?;
-        self.layout_of_variant(alloc, &fields, &default_repr(), kind)
+        self.list_of_variant(alloc, &fields, &default_repr(), kind)
     }
 
     /// The layout of each state's own list, of this kind, which is sized. Refused as the first of them is that has
     /// none.
-    pub(crate) fn layouts_of_own<
+    pub(crate) fn lists_of_own<
         FieldIdx: Idx,
         VariantIdx: Idx,
         LocalIdx: Idx,
@@ -123,7 +124,7 @@ impl<Cx: HasDataLayout> LayoutCalculator<Cx> {
         promoted: &DenseBitSet<LocalIdx>,
         states: &[IndexVec<FieldIdx, LocalIdx>],
         kind: &StructKind,
-    ) -> Result<Vec<LayoutData<FieldIdx, VariantIdx>>, LayoutCalculatorError<F>>
+    ) -> Result<Vec<ListLayout<FieldIdx, VariantIdx>>, LayoutCalculatorError<F>>
         requires data_layout { IsLawfulDataLayout (Cx.target self.now.cx) }
         requires locals { All (λ f. IsLawfulLayout (Cx.target self.now.cx) (F.layout_of f)) locals.now }
         requires within { All (All (λ l. LocalIdx.number l < length locals.now)) states.now }
@@ -143,7 +144,7 @@ impl<Cx: HasDataLayout> LayoutCalculator<Cx> {
     {
         let mut lists = Vec::with_capacity(alloc, states.len())?;
         for state in states {
-            let list = match self.layout_of_own(alloc, locals, promoted, state, kind) {
+            let list = match self.list_of_own(alloc, locals, promoted, state, kind) {
                 Ok(list) => list,
                 Err(error) => return Err(error),
             };

@@ -4,15 +4,14 @@ ghost use Rattle.std.specs.Prelude.{◌≡◌, ◌≢◌, ℕ, ◌+◌, ◌<◌,
 ghost use Rattle.std.specs.List.{AllPairs};
 ghost use Rattle.std.specs.Option.{option_to_list};
 ghost use Rattle.abi_index.specs.BitSet.{domain_size, is_member, members_of};
-ghost use Rattle.abi_scalar.specs.Shape.{IsListed, listed_offsets, listed_order};
 ghost use Rattle.abi_lists.specs.Placement.{source_order};
 ghost use Rattle.abi_calc.specs.Coroutine.Lists.{own_of};
 ghost use Rattle.abi_calc.specs.Coroutine.States.{HasFields, joined_places, own_places, places_with, rank_of, state_offsets, state_order, stitched_layout};
 
-use crate::enums::lists::listed_offsets;
 use abi_base::Size;
 use abi_index::{DenseBitSet, Idx, IndexVec};
-use abi_scalar::{FieldsShape, LayoutData, VariantLayout};
+use abi_lists::ListLayout;
+use abi_scalar::VariantLayout;
 use std::alloc::{AllocError, Global};
 
 /// How many promoted locals are below each of so many locals: a promoted one's place in the list of them.
@@ -34,20 +33,6 @@ pub(crate) fn ranks_below<LocalIdx: Idx>(
         }
     }
     Ok(ranks)
-}
-
-/// The fields as they follow one another in memory, where they are listed one by one.
-pub(crate) fn listed_order<FieldIdx: Idx>(shape: &FieldsShape<FieldIdx>) -> &[FieldIdx]
-    requires { IsListed shape.now }
-    ensures { result.now ≡ listed_order shape.now }
-{
-    match shape {
-        FieldsShape::Arbitrary {
-            in_memory_order,
-            ..
-        } => in_memory_order.as_slice().as_raw(),
-        _ => unreachable!(),
-    }
 }
 
 /// How many promoted locals are below a promoted one.
@@ -208,7 +193,7 @@ pub(crate) fn state_layout<FieldIdx: Idx, VariantIdx: Idx, LocalIdx: Idx>(
     shared: &[Size],
     ranks: &[usize],
     state: &IndexVec<FieldIdx, LocalIdx>,
-    mut list: LayoutData<FieldIdx, VariantIdx>,
+    mut list: ListLayout<FieldIdx, VariantIdx>,
 ) -> Result<VariantLayout<FieldIdx>, AllocError>
     requires named { domain_size promoted.now ≤ LocalIdx.MAX_INDEX + 1 }
     requires within { All (λ l. LocalIdx.number l < domain_size promoted.now) state.now }
@@ -223,13 +208,9 @@ pub(crate) fn state_layout<FieldIdx: Idx, VariantIdx: Idx, LocalIdx: Idx>(
         (map LocalIdx.number state.now) list) }
 {
     let state = state.as_slice().as_raw();
-    let own = listed_offsets(&list.fields);
-    let offsets = state_offsets(alloc, promoted, below, shared, own, state)?;
-    let own = listed_order(&list.fields);
+    let offsets = state_offsets(alloc, promoted, below, shared, list.offsets(), state)?;
+    let own = list.in_memory_order();
     let in_memory_order = state_order(alloc, promoted, below, ranks, own, state)?;
-    list.fields = FieldsShape::Arbitrary {
-        offsets,
-        in_memory_order,
-    };
-    Ok(VariantLayout::from_layout(list))
+    list.set_places(offsets, in_memory_order);
+    Ok(list.into_variant())
 }

@@ -1,7 +1,6 @@
 //! A tag that grows into the space before the variants' fields.
 
 ghost use Rattle.std.specs.Prelude.{◌≡◌, ◌+◌, ◌≤◌, IfOk, None, Some, length, map, min, slice_get, unwrap_or};
-ghost use Rattle.abi_scalar.specs.Order.{HasPlaceForEach, indices_by_offset};
 ghost use Rattle.abi_lists.specs.Part.{max_align};
 ghost use Rattle.abi_calc.specs.Enums.Growth.{align_or, first_align, grown_tag, grown_variant, moved, start_align};
 ghost use Rattle.abi_calc.specs.Enums.Lists.{AreListsOf};
@@ -9,7 +8,8 @@ ghost use Rattle.abi_calc.specs.Enums.Lists.{AreListsOf};
 use crate::enums::path::{is_free, takes_no_room};
 use abi_base::{Align, Integer, Size, TargetDataLayout};
 use abi_index::{Idx, IndexVec};
-use abi_scalar::{FieldsShape, LayoutData, LayoutHandle, ReprOptions, VariantLayout};
+use abi_lists::ListLayout;
+use abi_scalar::{LayoutData, LayoutHandle, ReprOptions, VariantLayout};
 use std::alloc::{AllocError, Global};
 
 /// The field's alignment, if it takes room.
@@ -41,13 +41,12 @@ fn align_at<FieldIdx: Idx, VariantIdx: Idx, F: LayoutHandle<FieldIdx, VariantIdx
 /// The alignment of the first field in memory order that takes room.
 fn first_align<FieldIdx: Idx, VariantIdx: Idx, F: LayoutHandle<FieldIdx, VariantIdx>>(
     fields: &[F],
-    shape: &FieldsShape<FieldIdx>,
+    order: &[FieldIdx],
 ) -> Option<Align>
-    requires { HasPlaceForEach shape.now }
-    ensures { result ≡ first_align (map F.layout_of fields.now) (indices_by_offset FieldIdx.number shape.now) }
+    ensures { result ≡ first_align (map F.layout_of fields.now) (map FieldIdx.number order.now) }
 {
-    for index in shape.index_by_increasing_offset() {
-        if let Some(align) = align_at(fields, index) {
+    for index in order {
+        if let Some(align) = align_at(fields, index.index()) {
             return Some(align);
         }
     }
@@ -69,14 +68,15 @@ fn least_with(least: Align, other: Option<Align>) -> Align
 /// is, which no integer has.
 pub(crate) fn start_align<FieldIdx: Idx, VariantIdx: Idx, F: LayoutHandle<FieldIdx, VariantIdx>>(
     variants: &[IndexVec<FieldIdx, F>],
-    lists: &[LayoutData<FieldIdx, VariantIdx>],
+    lists: &[ListLayout<FieldIdx, VariantIdx>],
 ) -> Align
     requires { AreListsOf variants.now lists.now }
     ensures { result ≡ start_align FieldIdx.number (map (map F.layout_of) variants.now) lists.now }
 {
     let mut least = Align::MAX;
     for index in 0..lists.len() {
-        let first = first_align(variants[index].as_slice().as_raw(), &lists[index].fields);
+        let fields = variants[index].as_slice().as_raw();
+        let first = first_align(fields, lists[index].in_memory_order());
         least = least_with(least, first);
     }
     least

@@ -16,10 +16,13 @@ ghost use Rattle.abi_calc.specs.Enums.Niche.{IsRoomy, IsSmallList, any_niche, ha
 use crate::calculator::LayoutCalculator;
 use crate::enums::niche::{Room, others_empty, placed_variants, span_of, untagged_of, view_with};
 use crate::enums::path::is_free;
-use crate::enums::tagged::{all_uninhabited, lists_size};
+use crate::enums::tagged::lists_size;
+use crate::over_lists::{
+    all_uninhabited, greatest_align, greatest_repr_align, greatest_unadjusted, seed_with,
+};
 use abi_base::{AbiAlign, Align, HasDataLayout, Size, StructKind, TargetDataLayout};
 use abi_index::{Idx, IndexVec};
-use abi_lists::{greatest_align, greatest_repr_align, greatest_unadjusted, one, seed_with};
+use abi_lists::{ListLayout, one};
 use abi_scalar::{
     BackendRepr, FieldsShape, LayoutCalculatorError, LayoutData, LayoutHandle, Niche,
     RangeInclusive, ReprOptions, Scalar, TagEncoding, VariantLayout, Variants,
@@ -86,18 +89,18 @@ fn niche_view<FieldIdx: Idx, VariantIdx: Idx>(
 
 /// Whether the list fills an enum of this size and alignment.
 fn fills<FieldIdx: Idx, VariantIdx: Idx>(
-    list: &LayoutData<FieldIdx, VariantIdx>,
+    list: &ListLayout<FieldIdx, VariantIdx>,
     size: Size,
     align: Align,
 ) -> bool
     ensures { result ≡ ((size == list.now.size) && (align == list.now.align.abi)) }
 {
-    size == list.size && align == list.align.abi
+    size == list.size() && align == list.align()
 }
 
 /// Whether the list at a place fills an enum of this size and alignment, and its view.
 fn untagged_view<FieldIdx: Idx, VariantIdx: Idx>(
-    lists: &[LayoutData<FieldIdx, VariantIdx>],
+    lists: &[ListLayout<FieldIdx, VariantIdx>],
     untagged: usize,
     size: Size,
     align: Align,
@@ -109,7 +112,7 @@ fn untagged_view<FieldIdx: Idx, VariantIdx: Idx>(
         result.1 ≡ list.backend_repr }
 {
     let list = &lists[untagged];
-    (fills(list, size, align), list.backend_repr)
+    (fills(list, size, align), list.backend_repr())
 }
 
 /// The variants that a niche tells apart: the one that has the niche, and the first and the last of the others.
@@ -128,7 +131,7 @@ fn layout_in_niche<FieldIdx: Idx, VariantIdx: Idx>(
     among: Among,
     niche: Niche,
     handed: (u128, Scalar),
-    lists: Vec<LayoutData<FieldIdx, VariantIdx>>,
+    lists: Vec<ListLayout<FieldIdx, VariantIdx>>,
 ) -> Result<Option<LayoutData<FieldIdx, VariantIdx>>, AllocError>
     requires data_layout { IsLawfulDataLayout dl.now }
     requires lawful { All (IsLawfulLayout dl.now) lists.items }
@@ -147,13 +150,13 @@ fn layout_in_niche<FieldIdx: Idx, VariantIdx: Idx>(
         (variants_from (room_beside dl.now niche lists.items) among.untagged 0 lists.items)) }
 {
     let untagged = among.untagged;
-    let align = greatest_align(dl.aggregate_align, lists.as_slice());
+    let align = greatest_align(dl.aggregate_align, &lists);
     let size = lists_size(dl, &lists, align);
     let (fills, own_view) = untagged_view(&lists, untagged, size, align);
     let uninhabited = all_uninhabited(&lists);
-    let max_repr_align = greatest_repr_align(repr.align, lists.as_slice());
-    let unadjusted_abi_align = greatest_unadjusted(dl.aggregate_align, lists.as_slice());
-    let randomization_seed = seed_with(repr.field_shuffle_seed, lists.as_slice());
+    let max_repr_align = greatest_repr_align(repr.align, &lists);
+    let unadjusted_abi_align = greatest_unadjusted(dl.aggregate_align, &lists);
+    let randomization_seed = seed_with(repr.field_shuffle_seed, &lists);
     let offset = niche.offset;
     let room = room_beside(dl, niche, size);
     let Some(variants) = placed_variants(alloc, &room, untagged, lists)? else {
@@ -187,12 +190,12 @@ fn layout_in_niche<FieldIdx: Idx, VariantIdx: Idx>(
 
 /// The greatest niche of the list at a place.
 fn niche_at<FieldIdx: Idx, VariantIdx: Idx>(
-    lists: &[LayoutData<FieldIdx, VariantIdx>],
+    lists: &[ListLayout<FieldIdx, VariantIdx>],
     place: usize,
 ) -> Option<Niche>
     ensures { result ≡ niche_of_list (slice_get lists.now place) }
 {
-    lists.get(place)?.largest_niche
+    lists.get(place)?.largest_niche()
 }
 
 /// The layout with a niche, where there is one, of variants whose fields have these layouts as always sized lists.
@@ -201,7 +204,7 @@ pub(crate) fn niche_of_lists<FieldIdx: Idx, VariantIdx: Idx, F: LayoutHandle<Fie
     dl: &TargetDataLayout,
     repr: &ReprOptions,
     variants: &[IndexVec<FieldIdx, F>],
-    lists: Vec<LayoutData<FieldIdx, VariantIdx>>,
+    lists: Vec<ListLayout<FieldIdx, VariantIdx>>,
 ) -> Result<Option<LayoutData<FieldIdx, VariantIdx>>, AllocError>
     requires data_layout { IsLawfulDataLayout dl.now }
     requires lawful { All (IsLawfulLayout dl.now) lists.items }
@@ -292,7 +295,7 @@ impl<Cx: HasDataLayout> LayoutCalculator<Cx> {
         if !any_niche(variants) {
             return Ok(None);
         }
-        match self.layouts_of_lists(alloc, variants, repr, &StructKind::AlwaysSized) {
+        match self.lists_of_variants(alloc, variants, repr, &StructKind::AlwaysSized) {
             Ok(lists) => {
                 let dl = self.cx.data_layout();
                 match niche_of_lists(alloc, dl, repr, variants, lists) {

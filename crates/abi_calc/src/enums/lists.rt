@@ -3,28 +3,16 @@
 ghost use Rattle.std.specs.Prelude.{◌≡◌, ◌+◌, ◌≤◌, ◌⊎◌, All, IfErr, IfOk, length, map};
 ghost use Rattle.abi_base.specs.DataLayout.{IsLawfulDataLayout, size_bound};
 ghost use Rattle.abi_scalar.specs.Lawful.{IsLawfulLayout};
-ghost use Rattle.abi_scalar.specs.Shape.{IsListed, listed_offsets};
 ghost use Rattle.abi_lists.specs.List.{HasLawfulAligns, IsListError};
 ghost use Rattle.abi_lists.specs.Placement.{IsLawfulPrefix, IsNonEmptyIfUnsized, IsSized};
 ghost use Rattle.abi_calc.specs.Enums.Lists.{AreGoodLists, AreListLayouts, AreListsOf, IsFirstListError, IsGoodList, align_with_all, behind_tag, tag_align};
 
 use crate::calculator::LayoutCalculator;
-use abi_base::{Align, HasDataLayout, Integer, Size, StructKind, TargetDataLayout};
+use abi_base::{Align, HasDataLayout, Integer, StructKind, TargetDataLayout};
 use abi_index::{Idx, IndexVec};
-use abi_lists::greatest_align;
-use abi_scalar::{FieldsShape, LayoutCalculatorError, LayoutData, LayoutHandle, ReprOptions};
+use abi_lists::{ListLayout, greatest_align, list_of_fields};
+use abi_scalar::{LayoutCalculatorError, LayoutHandle, ReprOptions};
 use std::alloc::Global;
-
-/// The offsets of fields that are listed one by one.
-pub(crate) fn listed_offsets<FieldIdx: Idx>(shape: &FieldsShape<FieldIdx>) -> &[Size]
-    requires { IsListed shape.now }
-    ensures { result.now ≡ listed_offsets shape.now }
-{
-    match shape {
-        FieldsShape::Arbitrary { offsets, .. } => offsets.as_slice().as_raw(),
-        _ => unreachable!(),
-    }
-}
 
 /// The greatest alignment of all variants' fields, and no less than this one.
 fn align_with_all<FieldIdx: Idx, VariantIdx: Idx, F: LayoutHandle<FieldIdx, VariantIdx>>(
@@ -63,7 +51,7 @@ pub(crate) fn behind_tag<FieldIdx: Idx, VariantIdx: Idx, F: LayoutHandle<FieldId
 
 impl<Cx: HasDataLayout> LayoutCalculator<Cx> {
     /// The layout of one variant's fields as a list of this kind, which is sized.
-    pub(crate) fn layout_of_variant<
+    pub(crate) fn list_of_variant<
         FieldIdx: Idx,
         VariantIdx: Idx,
         F: LayoutHandle<FieldIdx, VariantIdx> + Copy,
@@ -73,7 +61,7 @@ impl<Cx: HasDataLayout> LayoutCalculator<Cx> {
         fields: &IndexVec<FieldIdx, F>,
         repr: &ReprOptions,
         kind: &StructKind,
-    ) -> Result<LayoutData<FieldIdx, VariantIdx>, LayoutCalculatorError<F>>
+    ) -> Result<ListLayout<FieldIdx, VariantIdx>, LayoutCalculatorError<F>>
         requires data_layout { IsLawfulDataLayout (Cx.target self.now.cx) }
         requires fields { All (λ f. IsLawfulLayout (Cx.target self.now.cx) (F.layout_of f)) fields.now }
         requires repr { HasLawfulAligns repr.now }
@@ -86,12 +74,12 @@ impl<Cx: HasDataLayout> LayoutCalculator<Cx> {
             IsListError F.layout_of (Cx.target self.now.cx) repr.now kind.now fields.now e ⊎
             (e ≡ LayoutCalculatorError.OutOfMemory)) }
     {
-        self.layout_of_univariant(alloc, fields.as_slice(), repr, *kind)
+        list_of_fields(alloc, self.cx.data_layout(), fields.as_slice(), repr, *kind)
     }
 
     /// The layout of each variant's fields as a list of this kind, which is sized. Refused as the first variant is
     /// whose fields have none.
-    pub(crate) fn layouts_of_lists<
+    pub(crate) fn lists_of_variants<
         FieldIdx: Idx,
         VariantIdx: Idx,
         F: LayoutHandle<FieldIdx, VariantIdx> + Copy,
@@ -101,7 +89,7 @@ impl<Cx: HasDataLayout> LayoutCalculator<Cx> {
         variants: &[IndexVec<FieldIdx, F>],
         repr: &ReprOptions,
         kind: &StructKind,
-    ) -> Result<Vec<LayoutData<FieldIdx, VariantIdx>>, LayoutCalculatorError<F>>
+    ) -> Result<Vec<ListLayout<FieldIdx, VariantIdx>>, LayoutCalculatorError<F>>
         requires data_layout { IsLawfulDataLayout (Cx.target self.now.cx) }
         requires fields { All (All (λ f. IsLawfulLayout (Cx.target self.now.cx) (F.layout_of f))) variants.now }
         requires repr { HasLawfulAligns repr.now }
@@ -122,7 +110,7 @@ impl<Cx: HasDataLayout> LayoutCalculator<Cx> {
     {
         let mut lists = Vec::with_capacity(alloc, variants.len())?;
         for fields in variants {
-            let list = match self.layout_of_variant(alloc, fields, repr, kind) {
+            let list = match self.list_of_variant(alloc, fields, repr, kind) {
                 Ok(list) => list,
                 Err(error) => return Err(error),
             };

@@ -10,8 +10,8 @@ ghost use Rattle.abi_calc.specs.Enums.Niche.{IsRoomy, IsSmallList, beside_niche,
 use crate::enums::path::is_absent;
 use abi_base::Size;
 use abi_index::{Idx, IndexVec};
-use abi_lists::rounded;
-use abi_scalar::{BackendRepr, LayoutData, LayoutHandle, Scalar, VariantLayout};
+use abi_lists::{ListLayout, rounded};
+use abi_scalar::{BackendRepr, LayoutHandle, Scalar, VariantLayout};
 use std::alloc::{AllocError, Global};
 
 /// Where a niche of the untagged variant leaves room.
@@ -27,17 +27,17 @@ pub struct Room {
 
 /// Whether this list is no smaller than the other.
 fn reaches<FieldIdx: Idx, VariantIdx: Idx>(
-    list: &LayoutData<FieldIdx, VariantIdx>,
-    other: &LayoutData<FieldIdx, VariantIdx>,
+    list: &ListLayout<FieldIdx, VariantIdx>,
+    other: &ListLayout<FieldIdx, VariantIdx>,
 ) -> bool
     ensures { result ≡ nat_le other.now.size list.now.size }
 {
-    list.size >= other.size
+    list.size() >= other.size()
 }
 
 /// The variant to which no number is given: the last of those whose lists are greatest.
 pub(crate) fn untagged_of<FieldIdx: Idx, VariantIdx: Idx>(
-    lists: &[LayoutData<FieldIdx, VariantIdx>],
+    lists: &[ListLayout<FieldIdx, VariantIdx>],
 ) -> usize
     ensures { result ≡ untagged_of lists.now }
 {
@@ -106,20 +106,20 @@ fn moved_offsets<FieldIdx: Idx>(
 
 /// A variant without its niche.
 fn without_niche<FieldIdx: Idx, VariantIdx: Idx>(
-    mut list: LayoutData<FieldIdx, VariantIdx>,
+    mut list: ListLayout<FieldIdx, VariantIdx>,
 ) -> VariantLayout<FieldIdx>
     requires { IsListed list.fields }
     ensures { result ≡ without_niche list }
 {
-    list.largest_niche = None;
-    VariantLayout::from_layout(list)
+    list.forget_niche();
+    list.into_variant()
 }
 
 /// The same, moved so many bytes on.
 fn moved_on<FieldIdx: Idx, VariantIdx: Idx>(
     alloc: Global,
     by: Size,
-    list: LayoutData<FieldIdx, VariantIdx>,
+    list: ListLayout<FieldIdx, VariantIdx>,
 ) -> Result<VariantLayout<FieldIdx>, AllocError>
     requires listed { IsListed list.fields }
     requires fits { by + list.size < 2 ^ 64 }
@@ -138,43 +138,43 @@ fn moved_on<FieldIdx: Idx, VariantIdx: Idx>(
 /// Where a variant begins that doesn't end before the niche.
 fn place_after<FieldIdx: Idx, VariantIdx: Idx>(
     room: &Room,
-    list: &LayoutData<FieldIdx, VariantIdx>,
+    list: &ListLayout<FieldIdx, VariantIdx>,
 ) -> Size
     requires roomy { IsRoomy room.now }
     requires align { list.now.align.abi ≤ max_align }
     ensures value { result ≡ place_after room.now list.now.align.abi }
     ensures bound { result < 2 ^ 63 }
 {
-    rounded(room.after, list.align.abi)
+    rounded(room.after, list.align())
 }
 
 /// Whether the variant ends before the niche.
 fn ends_before<FieldIdx: Idx, VariantIdx: Idx>(
     room: &Room,
-    list: &LayoutData<FieldIdx, VariantIdx>,
+    list: &ListLayout<FieldIdx, VariantIdx>,
 ) -> bool
     ensures { result ≡ nat_le list.now.size room.now.before }
 {
-    list.size <= room.before
+    list.size() <= room.before
 }
 
 /// Whether the variant ends inside the whole when it begins after the niche.
 fn ends_within<FieldIdx: Idx, VariantIdx: Idx>(
     room: &Room,
-    list: &LayoutData<FieldIdx, VariantIdx>,
+    list: &ListLayout<FieldIdx, VariantIdx>,
 ) -> bool
     requires roomy { IsRoomy room.now }
     requires small { IsSmallList list.now }
     ensures { result ≡ nat_le (place_after room.now list.now.align.abi + list.now.size) room.now.whole }
 {
-    place_after(room, list) + list.size <= room.whole
+    place_after(room, list) + list.size() <= room.whole
 }
 
 /// A variant beside the niche, if there is room for it.
 fn beside_niche<FieldIdx: Idx, VariantIdx: Idx>(
     alloc: Global,
     room: &Room,
-    list: LayoutData<FieldIdx, VariantIdx>,
+    list: ListLayout<FieldIdx, VariantIdx>,
 ) -> Result<Option<VariantLayout<FieldIdx>>, AllocError>
     requires roomy { IsRoomy room.now }
     requires small { IsSmallList list }
@@ -196,7 +196,7 @@ fn placed<FieldIdx: Idx, VariantIdx: Idx>(
     room: &Room,
     untagged: usize,
     at: usize,
-    list: LayoutData<FieldIdx, VariantIdx>,
+    list: ListLayout<FieldIdx, VariantIdx>,
 ) -> Result<Option<VariantLayout<FieldIdx>>, AllocError>
     requires roomy { IsRoomy room.now }
     requires small { IsSmallList list }
@@ -204,7 +204,7 @@ fn placed<FieldIdx: Idx, VariantIdx: Idx>(
         variant ≡ (if at == untagged then Some (variant_of list) else beside_niche room.now list)) }
 {
     if at == untagged {
-        return Ok(Some(VariantLayout::from_layout(list)));
+        return Ok(Some(list.into_variant()));
     }
     beside_niche(alloc, room, list)
 }
@@ -214,7 +214,7 @@ pub(crate) fn placed_variants<FieldIdx: Idx, VariantIdx: Idx>(
     alloc: Global,
     room: &Room,
     untagged: usize,
-    lists: Vec<LayoutData<FieldIdx, VariantIdx>>,
+    lists: Vec<ListLayout<FieldIdx, VariantIdx>>,
 ) -> Result<Option<IndexVec<VariantIdx, VariantLayout<FieldIdx>>>, AllocError>
     requires roomy { IsRoomy room.now }
     requires small { All IsSmallList lists.items }

@@ -12,11 +12,10 @@ ghost use Rattle.abi_calc.specs.Enums.Lists.{AreListsOf};
 ghost use Rattle.abi_calc.specs.Enums.Tagged.{payloads_of};
 
 use crate::enums::growth::moved;
-use crate::enums::lists::listed_offsets;
 use crate::enums::single::widened;
 use abi_base::{Align, HasDataLayout, Primitive, Size, TargetDataLayout};
 use abi_index::{Idx, IndexVec};
-use abi_lists::pair_view;
+use abi_lists::{ListLayout, pair_view};
 use abi_scalar::{BackendRepr, LayoutData, LayoutHandle, Scalar, VariantLayout, WrappingRange};
 
 /// What one variant holds beside the tag.
@@ -225,7 +224,7 @@ fn variant_payload<FieldIdx: Idx, VariantIdx: Idx, F: LayoutHandle<FieldIdx, Var
     old: Size,
     new: Size,
     variants: &[IndexVec<FieldIdx, F>],
-    lists: &[LayoutData<FieldIdx, VariantIdx>],
+    lists: &[ListLayout<FieldIdx, VariantIdx>],
     index: usize,
 ) -> Payload
     requires data_layout { IsLawfulDataLayout dl.now }
@@ -237,7 +236,7 @@ fn variant_payload<FieldIdx: Idx, VariantIdx: Idx, F: LayoutHandle<FieldIdx, Var
     ensures lawful { IsLawfulPayload dl.now result }
 {
     let fields = variants[index].as_slice().as_raw();
-    payload_of(dl, old, new, fields, listed_offsets(&lists[index].fields))
+    payload_of(dl, old, new, fields, lists[index].offsets())
 }
 
 /// What all variants have in common, whose lists these are, beside a tag that grew from the old size to the new one.
@@ -246,7 +245,7 @@ fn common_of<FieldIdx: Idx, VariantIdx: Idx, F: LayoutHandle<FieldIdx, VariantId
     old: Size,
     new: Size,
     variants: &[IndexVec<FieldIdx, F>],
-    lists: &[LayoutData<FieldIdx, VariantIdx>],
+    lists: &[ListLayout<FieldIdx, VariantIdx>],
 ) -> Payload
     requires data_layout { IsLawfulDataLayout dl.now }
     requires fields { All (All (λ f. IsLawfulLayout dl.now (F.layout_of f))) variants.now }
@@ -299,7 +298,7 @@ pub(crate) fn tagged_view<FieldIdx: Idx, VariantIdx: Idx, F: LayoutHandle<FieldI
     align: Align,
     old: Size,
     variants: &[IndexVec<FieldIdx, F>],
-    lists: &[LayoutData<FieldIdx, VariantIdx>],
+    lists: &[ListLayout<FieldIdx, VariantIdx>],
 ) -> BackendRepr
     requires data_layout { IsLawfulDataLayout dl.now }
     requires tag { IsLawfulScalar dl.now tag }

@@ -1,7 +1,6 @@
 //! The layout of an enum with a tag.
 
 ghost use Rattle.std.specs.Prelude.{◌≡◌, ◌≤◌, ◌<◌, ◌+◌, ◌∷◌, ◌⊎◌, [], All, Err, IfErr, IfOk, None, length, map};
-ghost use Rattle.std.specs.List.{list_all};
 ghost use Rattle.abi_base.specs.DataLayout.{IsLawfulDataLayout, size_bound};
 ghost use Rattle.abi_base.specs.Integer.{integer_size};
 ghost use Rattle.abi_scalar.specs.Lawful.{IsLawfulLayout};
@@ -22,12 +21,13 @@ use crate::enums::discriminants::tag_range;
 use crate::enums::growth::{grown_tag, grown_variant, start_align};
 use crate::enums::lists::behind_tag;
 use crate::enums::payload::{seen_as, tagged_view};
-use abi_base::{AbiAlign, Align, HasDataLayout, Integer, Primitive, Size, TargetDataLayout};
-use abi_index::{Idx, IndexVec};
-use abi_lists::{
-    greatest_align, greatest_repr_align, greatest_size, greatest_unadjusted, one, rounded,
+use crate::over_lists::{
+    all_uninhabited, greatest_align, greatest_repr_align, greatest_size, greatest_unadjusted,
     seed_with,
 };
+use abi_base::{AbiAlign, Align, HasDataLayout, Integer, Primitive, Size, TargetDataLayout};
+use abi_index::{Idx, IndexVec};
+use abi_lists::{ListLayout, one, rounded};
 use abi_scalar::{
     BackendRepr, FieldsShape, LayoutCalculatorError, LayoutData, LayoutHandle, Niche, ReprOptions,
     Scalar, TagEncoding, VariantLayout, Variants,
@@ -37,7 +37,7 @@ use std::alloc::{AllocError, Global};
 /// The greatest size of the variants' lists, rounded up to the greatest alignment.
 pub(crate) fn lists_size<FieldIdx: Idx, VariantIdx: Idx>(
     dl: &TargetDataLayout,
-    lists: &[LayoutData<FieldIdx, VariantIdx>],
+    lists: &[ListLayout<FieldIdx, VariantIdx>],
     align: Align,
 ) -> Size
     requires data_layout { IsLawfulDataLayout dl.now }
@@ -48,20 +48,6 @@ pub(crate) fn lists_size<FieldIdx: Idx, VariantIdx: Idx>(
     rounded(greatest_size(lists), align)
 }
 
-/// Whether no variant has values.
-pub(crate) fn all_uninhabited<FieldIdx: Idx, VariantIdx: Idx>(
-    lists: &[LayoutData<FieldIdx, VariantIdx>],
-) -> bool
-    ensures { result ≡ list_all (λ list. list.uninhabited) lists.now }
-{
-    for list in lists {
-        if !list.uninhabited {
-            return false;
-        }
-    }
-    true
-}
-
 /// The variants, as parts of an enum of this view and size, beside a tag that grew from the old size to the new one.
 fn variants_of<FieldIdx: Idx, VariantIdx: Idx>(
     alloc: Global,
@@ -69,7 +55,7 @@ fn variants_of<FieldIdx: Idx, VariantIdx: Idx>(
     new: Size,
     view: &BackendRepr,
     size: Size,
-    lists: Vec<LayoutData<FieldIdx, VariantIdx>>,
+    lists: Vec<ListLayout<FieldIdx, VariantIdx>>,
 ) -> Result<IndexVec<VariantIdx, VariantLayout<FieldIdx>>, AllocError>
     requires count { length lists.items ≤ VariantIdx.MAX_INDEX + 1 }
     requires listed { All (λ l. IsListed l.fields) lists.items }
@@ -78,7 +64,7 @@ fn variants_of<FieldIdx: Idx, VariantIdx: Idx>(
 {
     let mut variants = IndexVec::with_capacity(alloc, lists.len())?;
     for list in lists {
-        let variant = grown_variant(alloc, old, new, VariantLayout::from_layout(list))?;
+        let variant = grown_variant(alloc, old, new, list.into_variant())?;
         let _index = variants.push(seen_as(*view, size, variant))?;
     }
     Ok(variants)
@@ -101,7 +87,7 @@ fn layout_seen_as<FieldIdx: Idx, VariantIdx: Idx>(
     old: Size,
     tag: Scalar,
     whole: Whole,
-    lists: Vec<LayoutData<FieldIdx, VariantIdx>>,
+    lists: Vec<ListLayout<FieldIdx, VariantIdx>>,
 ) -> Result<LayoutData<FieldIdx, VariantIdx>, AllocError>
     requires data_layout { IsLawfulDataLayout dl.now }
     requires tag { IsLawfulScalar dl.now tag }
@@ -113,9 +99,9 @@ fn layout_seen_as<FieldIdx: Idx, VariantIdx: Idx>(
         (scalar_size dl.now tag) lists.items whole.view) }
 {
     let uninhabited = all_uninhabited(&lists);
-    let max_repr_align = greatest_repr_align(repr.align, lists.as_slice());
-    let unadjusted_abi_align = greatest_unadjusted(dl.aggregate_align, lists.as_slice());
-    let randomization_seed = seed_with(repr.field_shuffle_seed, lists.as_slice());
+    let max_repr_align = greatest_repr_align(repr.align, &lists);
+    let unadjusted_abi_align = greatest_unadjusted(dl.aggregate_align, &lists);
+    let randomization_seed = seed_with(repr.field_shuffle_seed, &lists);
     let variants = variants_of(alloc, old, tag.size(dl), &whole.view, whole.size, lists)?;
     let first = FieldIdx::new(0);
     Ok(LayoutData {
@@ -150,7 +136,7 @@ fn layout_of_lists<FieldIdx: Idx, VariantIdx: Idx, F: LayoutHandle<FieldIdx, Var
     repr: &ReprOptions,
     asked: (Integer, bool),
     values: &[u128],
-    lists: Vec<LayoutData<FieldIdx, VariantIdx>>,
+    lists: Vec<ListLayout<FieldIdx, VariantIdx>>,
 ) -> Result<LayoutData<FieldIdx, VariantIdx>, LayoutCalculatorError<F>>
     requires data_layout { IsLawfulDataLayout dl.now }
     requires fields { All (All (λ f. IsLawfulLayout dl.now (F.layout_of f))) variants.now }
@@ -164,7 +150,7 @@ fn layout_of_lists<FieldIdx: Idx, VariantIdx: Idx, F: LayoutHandle<FieldIdx, Var
         (e ≡ LayoutCalculatorError.OutOfMemory)) }
 {
     let (asked, signed) = asked;
-    let align = greatest_align(dl.aggregate_align, lists.as_slice());
+    let align = greatest_align(dl.aggregate_align, &lists);
     let size = lists_size(dl, &lists, align);
     if size.bytes() >= dl.obj_size_bound() {
         return Err(LayoutCalculatorError::SizeOverflow);
@@ -253,7 +239,7 @@ impl<Cx: HasDataLayout> LayoutCalculator<Cx> {
     {
         let dl = self.cx.data_layout();
         let kind = behind_tag(dl, repr, asked, variants);
-        match self.layouts_of_lists(alloc, variants, repr, &kind) {
+        match self.lists_of_variants(alloc, variants, repr, &kind) {
             Ok(lists) => {
                 layout_of_lists(alloc, dl, variants, repr, (asked, signed), values, lists)
             }

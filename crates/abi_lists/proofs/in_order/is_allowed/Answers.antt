@@ -1,6 +1,4 @@
-use Rattle.std.proofs.Common.{true, Bool}
 use Rattle.abi_lists.proofs.NamesEach.{allowed_by, count_of_each}
-use Rattle.abi_lists.specs.Placement.{IsNonEmptyIfUnsized}
 use Rattle.abi_lists.proofs.in_order.is_allowed.Goals as goal
 
 pub keeps_tail-requires : goal.keeps_tail-requires

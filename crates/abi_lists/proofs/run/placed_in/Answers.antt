@@ -1,4 +1,4 @@
-use Rattle.std.proofs.Common.{rules, ◌≡◌, ◌∙◌, length}
+use Rattle.std.proofs.Common.{rules, ◌≡◌, ◌∙◌}
 use Rattle.std.specs.Prelude.{IfSome}
 use Rattle.abi_scalar.specs.Lawful.{IsLawfulNiche}
 use Rattle.abi_lists.specs.declared.order.NicheBias.TheVariants.{Start, End}

@@ -15,25 +15,25 @@ use Rattle.abi_calc.proofs.coroutine.layout.layout_of_size.Goals as goal
 
 pub slice_bounds-field_offsets-end : goal.slice_bounds-field_offsets-end
 slice_bounds-field_offsets-end g c =
-    let many : c.args.prefix + 1 ≤ length c.listed_offsets.result.now = omega (arith, ap length c.listed_offsets.ensures, c.requires.first.offsets) in
-    sym (length-take-le (c.args.prefix + 1) c.listed_offsets.result.now many)
+    let many : c.args.prefix + 1 ≤ length c.offsets.result.now = omega (arith, ap length c.offsets.ensures, c.requires.first.offsets) in
+    sym (length-take-le (c.args.prefix + 1) c.offsets.result.now many)
 
 pub field_offsets-requires : goal.field_offsets-requires
 field_offsets-requires g c =
-    let many : c.args.prefix + 1 ≤ length c.listed_offsets.result.now = omega (arith, ap length c.listed_offsets.ensures, c.requires.first.offsets) in
-    omega (arith, length-take-le (c.args.prefix + 1) c.listed_offsets.result.now many, c.requires.prefix)
+    let many : c.args.prefix + 1 ≤ length c.offsets.result.now = omega (arith, ap length c.offsets.ensures, c.requires.first.offsets) in
+    omega (arith, length-take-le (c.args.prefix + 1) c.offsets.result.now many, c.requires.prefix)
 
 pub shared_order-requires : goal.shared_order-requires
 shared_order-requires g c =
     let count = order_count (c.args.prefix + 1 + length (members_of c.args.saved.promoted.now)) (map g.FieldIdx.Idx.number (listed_order c.args.first.fields)) c.requires.first.order in
     let long = length-map (listed_order c.args.first.fields) g.FieldIdx.Idx.number in
-    omega (arith, count, long, c.requires.prefix, g.met.FieldIdx.Idx.small, ap length c.listed_order.ensures)
+    omega (arith, count, long, c.requires.prefix, g.met.FieldIdx.Idx.small, ap length c.in_memory_order.ensures.order)
 
 pub returns : goal.returns
 returns g c =
     same_parts _ (coroutine_layout g.FieldIdx.Idx.at g.FieldIdx.Idx.number c.args.prefix c.args.tag c.args.saved.promoted.now (map (map g.LocalIdx.Idx.number) c.args.saved.states.now) c.args.first c.args.lists.items)
-    (ap₂ Arbitrary (c.in_ok-offsets.ensures ∙ ap (take (c.args.prefix + 1)) c.listed_offsets.ensures)
-    (c.in_ok-in_memory_order.ensures ∙ ap (filter (λ i. nat_lt (g.FieldIdx.Idx.number i) (c.args.prefix + 1))) c.listed_order.ensures))
+    (ap₂ Arbitrary (c.in_ok-offsets.ensures ∙ ap (take (c.args.prefix + 1)) c.offsets.ensures)
+    (c.in_ok-in_memory_order.ensures ∙ ap (filter (λ i. nat_lt (g.FieldIdx.Idx.number i) (c.args.prefix + 1))) c.in_memory_order.ensures.order))
     (ap₂ (λ f v. Multiple c.args.tag Direct f v) c.new.ensures c.in_ok-variants.ensures)
     refl
     refl

@@ -27,7 +27,7 @@ offset_bounds-states-len g c =
 
 pub state_layout-requires-clause-shared : goal.state_layout-requires-clause-shared
 state_layout-requires-clause-shared g c =
-    ap length (take_rest c.listed_offsets.result.now c.args.before ∙ ap (drop c.args.before) c.listed_offsets.ensures)
+    ap length (take_rest c.offsets.result.now c.args.before ∙ ap (drop c.args.before) c.offsets.ensures)
     ∙ shared_count c.args.before (length (members_of c.args.promoted.now)) (listed_offsets c.args.first.now.fields) c.requires.first.offsets
 
 pub state_layout-requires-clause-within : goal.state_layout-requires-clause-within
@@ -43,13 +43,13 @@ state_layout-requires-clause-once g c =
 
 pub state_layout-requires-clause-ranks : goal.state_layout-requires-clause-ranks
 state_layout-requires-clause-ranks g c =
-    ap length (c.deref-in-loop-list.ensures.value ∙ c.in_ok-ranks.ensures ∙ ap (ranks_of g.FieldIdx.Idx.number c.args.before) c.listed_order.ensures)
+    ap length (c.deref-in-loop-list.ensures.value ∙ c.in_ok-ranks.ensures ∙ ap (ranks_of g.FieldIdx.Idx.number c.args.before) c.in_memory_order.ensures.order)
     ∙ ranks_count g.FieldIdx.Idx.number c.args.before (length (members_of c.args.promoted.now)) c.args.first.now c.requires.first
 
 pub state_layout-requires-clause-each : goal.state_layout-requires-clause-each
 state_layout-requires-clause-each g c =
     subst (All (λ rank. rank < length (members_of c.args.promoted.now)))
-    (sym (c.deref-in-loop-list.ensures.value ∙ c.in_ok-ranks.ensures ∙ ap (ranks_of g.FieldIdx.Idx.number c.args.before) c.listed_order.ensures))
+    (sym (c.deref-in-loop-list.ensures.value ∙ c.in_ok-ranks.ensures ∙ ap (ranks_of g.FieldIdx.Idx.number c.args.before) c.in_memory_order.ensures.order))
     (ranks_within g.FieldIdx.Idx.number c.args.before (length (members_of c.args.promoted.now)) c.args.first.now c.requires.first)
 
 pub state_layout-requires-clause-list : goal.state_layout-requires-clause-list
@@ -69,7 +69,7 @@ loop-list-preserved g c =
     let more = length_push c.loop-list.layouts c.in_ok-layout.layout in
     let laid : c.in_ok-layout.layout ≡ state_layout g.FieldIdx.Idx.at g.FieldIdx.Idx.number c.args.before c.args.promoted.now c.args.first.now (map g.LocalIdx.Idx.number c.index-states-len.result) c.in-Some.list
     = c.in_ok-layout.ensures ∙ ap₂ (λ shared ranks. stitched_layout g.FieldIdx.Idx.at g.FieldIdx.Idx.number c.args.promoted.now shared ranks (map g.LocalIdx.Idx.number c.index-states-len.result) c.in-Some.list)
-    (take_rest c.listed_offsets.result.now c.args.before ∙ ap (drop c.args.before) c.listed_offsets.ensures) (c.deref-in-loop-list.ensures.value ∙ c.in_ok-ranks.ensures ∙ ap (ranks_of g.FieldIdx.Idx.number c.args.before) c.listed_order.ensures) in
+    (take_rest c.offsets.result.now c.args.before ∙ ap (drop c.args.before) c.offsets.ensures) (c.deref-in-loop-list.ensures.value ∙ c.in_ok-ranks.ensures ∙ ap (ranks_of g.FieldIdx.Idx.number c.args.before) c.in_memory_order.ensures.order) in
     let before = subst (λ rest. c.loop-list.layouts ++ state_layouts g.FieldIdx.Idx.at g.FieldIdx.Idx.number c.args.before c.args.promoted.now c.args.first.now (map (map g.LocalIdx.Idx.number) (drop (length c.loop-list.layouts) c.args.states.now)) rest ≡ state_layouts g.FieldIdx.Idx.at g.FieldIdx.Idx.number c.args.before c.args.promoted.now c.args.first.now (map (map g.LocalIdx.Idx.number) c.args.states.now) c.args.lists.items) c.in-Some.ensures.steps.0 c.loop-list.invariant.all in
     let next = layouts_next g.FieldIdx.Idx.at g.FieldIdx.Idx.number c.args.before c.args.promoted.now c.args.first.now g.LocalIdx.Idx.number c.loop-list.layouts (length c.loop-list.layouts) c.args.states.now c.index-states-len.result c.in-Some.list c.next.new.self.rest.items c.in_ok-layout.layout
     (state_layouts g.FieldIdx.Idx.at g.FieldIdx.Idx.number c.args.before c.args.promoted.now c.args.first.now (map (map g.LocalIdx.Idx.number) c.args.states.now) c.args.lists.items) (subst (λ k. k < length c.args.states.now) c.len.ensures.count short) (subst (λ k. c.index-states-len.result ≡ get_or c.args.states.now k c.index-states-len.result) c.len.ensures.count c.index-states-len.is) laid before in

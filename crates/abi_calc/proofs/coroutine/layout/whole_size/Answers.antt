@@ -1,7 +1,6 @@
 -- Sizes and alignments of lawful lists are small.
-use Rattle.std.proofs.Common.{◌≡◌, ◌∙◌, ◌^◌, ap, ap₂, arith, max, ◌∷◌}
+use Rattle.std.proofs.Common.{◌≡◌, ◌∙◌, ◌^◌, ap₂, arith, max, ◌∷◌}
 use Rattle.std.specs.Int.{next_multiple_of}
-use Rattle.std.proofs.lemmas.List.{map-id}
 use Rattle.abi_lists.specs.Fields.{greatest_size}
 use Rattle.abi_calc.proofs.CoroutineLemmas.Layout.{whole_align_small, whole_small}
 use Rattle.abi_calc.proofs.coroutine.layout.whole_size.Goals as goal
@@ -9,7 +8,7 @@ use Rattle.abi_calc.proofs.coroutine.layout.whole_size.Goals as goal
 pub rounded-requires-clause-offset : goal.rounded-requires-clause-offset
 rounded-requires-clause-offset g c =
     let small = whole_small c.args.dl.now c.args.first.now c.args.lists.now c.requires.data_layout c.requires.first c.requires.lists in
-    let read = c.greater.ensures ∙ ap (max c.args.first.now.size) (c.greatest_size.ensures ∙ ap greatest_size (map-id c.args.lists.now)) in
+    let read = c.greater_size.ensures ∙ ap₂ max c.size.ensures c.greatest_size.ensures in
     omega (arith, small, read)
 
 pub rounded-requires-clause-align : goal.rounded-requires-clause-align
@@ -17,5 +16,5 @@ rounded-requires-clause-align g c = rw c.requires.align (whole_align_small c.arg
 
 pub returns : goal.returns
 returns g c =
-    let read : c.greater.result ≡ greatest_size (c.args.first.now ∷ c.args.lists.now) = c.greater.ensures ∙ ap (max c.args.first.now.size) (c.greatest_size.ensures ∙ ap greatest_size (map-id c.args.lists.now)) in
+    let read : c.greater_size.result ≡ greatest_size (c.args.first.now ∷ c.args.lists.now) = c.greater_size.ensures ∙ ap₂ max c.size.ensures c.greatest_size.ensures in
     c.rounded.ensures.value ∙ ap₂ (λ s a. next_multiple_of s (2 ^ a)) read c.requires.align

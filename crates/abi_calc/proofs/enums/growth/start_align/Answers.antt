@@ -1,6 +1,6 @@
 use Rattle.std.proofs.Common.{◌<◌, length, arith, map, rules, subst, sym, ◌∙◌}
 use Rattle.abi_calc.proofs.AtIndex.{least_within}
-use Rattle.abi_calc.proofs.EnumLemmas.Growth.{list_at, lists_count, start_end, start_most, start_step}
+use Rattle.abi_calc.proofs.EnumLemmas.Growth.{lists_count, start_end, start_most, start_step}
 use Rattle.abi_calc.proofs.enums.growth.start_align.Goals as goal
 
 pub loop-index-init : goal.loop-index-init
@@ -17,16 +17,13 @@ offset_bounds-variants-index g c =
     let fits : c.loop-index.index < length c.args.variants.now = subst (λ n. c.loop-index.index < n) (lists_count c.args.variants.now c.args.lists.now c.requires) c.loop-index-test.true in
     search rules
 
-pub first_align-first-requires : goal.first_align-first-requires
-first_align-first-requires g c = (list_at c.args.variants.now c.args.lists.now c.loop-index.index c.index-variants-index.result c.index-lists-index.result c.requires c.loop-index-test.true).places
-
 pub loop-index-preserved : goal.loop-index-preserved
 loop-index-preserved g c =
     let step = start_step g.FieldIdx.Idx.number g.F.LayoutHandle.layout_of c.args.variants.now c.args.lists.now c.loop-index.index c.index-variants-index.result c.index-lists-index.result c.loop-index.least _ c.requires
     c.loop-index-test.true c.index-variants-index.is c.index-lists-index.is c.loop-index.invariant.least in
     record {
       within = least_within c.loop-index.least _ _ _ c.least_with-least.ensures c.loop-index.invariant.within;
-      least = rw (c.least_with-least.ensures, c.first_align-first.ensures, c.as_raw.ensures.items, c.as_slice.ensures, ← c.index-lists-index.is) step;
+      least = rw (c.least_with-least.ensures, c.first_align-first.ensures, c.in_memory_order.ensures.places, c.as_raw-fields.ensures.items, c.as_slice.ensures) step;
     }
 
 pub returns : goal.returns

@@ -13,4 +13,4 @@ pub returns : goal.returns
 returns g c =
     let there = c.in_ok-get.ensures.lookup in
     let within = tested_within c.args.place (length c.args.lists.now) there.0 in
-    sym (ap niche_of_list (item_there c.args.lists.now c.args.place c.in_ok-get.field-0.now within there.1))
+    c.largest_niche.ensures ∙ sym (ap niche_of_list (item_there c.args.lists.now c.args.place c.in_ok-get.field-0.now within there.1))

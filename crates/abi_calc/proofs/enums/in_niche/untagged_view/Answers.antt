@@ -10,4 +10,4 @@ returns-clause-fills g c = λ list there.
 
 pub returns-clause-view : goal.returns-clause-view
 returns-clause-view g c = λ list there.
-    ap (λ l. l.backend_repr) (same_item c.args.lists.now c.args.untagged c.index-lists-untagged.result list c.requires c.index-lists-untagged.is there)
+    c.backend_repr.ensures ∙ ap (λ l. l.backend_repr) (same_item c.args.lists.now c.args.untagged c.index-lists-untagged.result list c.requires c.index-lists-untagged.is there)

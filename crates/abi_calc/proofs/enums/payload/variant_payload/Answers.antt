@@ -1,5 +1,6 @@
 use Rattle.std.proofs.Common.{◌<◌, ◌∙◌, All, ap, length, rules, subst, sym}
 use Rattle.abi_scalar.specs.Lawful.{IsLawfulLayout}
+use Rattle.abi_scalar.specs.Shape.{listed_offsets}
 use Rattle.abi_calc.proofs.EnumLemmas.Growth.{list_at, lists_count}
 use Rattle.abi_calc.proofs.EnumLemmas.Payload.{payload_there}
 use Rattle.abi_calc.proofs.enums.payload.variant_payload.Goals as goal
@@ -12,9 +13,6 @@ offset_bounds-variants-index g c =
     let fits : c.args.index < length c.args.variants.now = subst (λ n. c.args.index < n) (lists_count c.args.variants.now c.args.lists.now c.requires.lists) c.requires.within in
     search rules
 
-pub listed_offsets-requires : goal.listed_offsets-requires
-listed_offsets-requires g c = (list_at c.args.variants.now c.args.lists.now c.args.index c.index-variants-index.result c.index-lists-index.result c.requires.lists c.requires.within).listed
-
 pub payload_of-requires-clause-fields : goal.payload_of-requires-clause-fields
 payload_of-requires-clause-fields g c =
     let fields = c.as_raw-fields.ensures.items ∙ c.as_slice.ensures ∙ c.index-variants-index.is in
@@ -24,10 +22,12 @@ payload_of-requires-clause-fields g c =
 pub payload_of-requires-clause-count : goal.payload_of-requires-clause-count
 payload_of-requires-clause-count g c =
     let fields = c.as_raw-fields.ensures.items ∙ c.as_slice.ensures ∙ c.index-variants-index.is in
-    ap length c.listed_offsets.ensures ∙ (list_at c.args.variants.now c.args.lists.now c.args.index c.index-variants-index.result c.index-lists-index.result c.requires.lists c.requires.within).count ∙ ap length (sym fields)
+    let offsets = c.offsets.ensures ∙ ap (λ l. listed_offsets l.fields) c.index-lists-index.is in
+    ap length offsets ∙ (list_at c.args.variants.now c.args.lists.now c.args.index c.index-variants-index.result c.index-lists-index.result c.requires.lists c.requires.within).count ∙ ap length (sym fields)
 
 pub returns-clause-value : goal.returns-clause-value
 returns-clause-value g c =
     let fields = c.as_raw-fields.ensures.items ∙ c.as_slice.ensures ∙ c.index-variants-index.is in
-    rw (c.payload_of.ensures.value, fields, c.listed_offsets.ensures)
+    let offsets = c.offsets.ensures ∙ ap (λ l. listed_offsets l.fields) c.index-lists-index.is in
+    rw (c.payload_of.ensures.value, fields, offsets)
     (payload_there c.args.dl.now c.args.old c.args.new g.F.LayoutHandle.layout_of c.args.variants.now c.args.lists.now c.args.index c.index-variants-index.result c.index-lists-index.result c.requires.lists c.requires.within)

@@ -1,7 +1,6 @@
 -- The layout has what its parts are told to be.
-use Rattle.std.proofs.Common.{◌∙◌, ap, map, refl}
+use Rattle.std.proofs.Common.{◌∙◌, ap, refl}
 use Rattle.std.specs.List.{list_all}
-use Rattle.std.proofs.lemmas.List.{map-id}
 use Rattle.abi_scalar.specs.Scalar.{primitive_of, scalar_size}
 use Rattle.abi_scalar.proofs.ReadableLemmas.{lawful_readable}
 use Rattle.abi_lists.specs.Fields.{greatest_repr_align, greatest_unadjusted, seed_with}
@@ -26,7 +25,7 @@ returns g c =
     (c.all_uninhabited-uninhabited.ensures ∙ ap (list_all (λ list. list.uninhabited)) c.deref.ensures.value)
     (ap (λ a. record { abi = a }) (c.new.ensures ∙ c.requires.align))
     c.requires.size
-    (c.greatest_repr_align-max_repr_align.ensures ∙ ap (λ ls. greatest_repr_align c.args.repr.now.align ls) (ap (map (λ l. l)) c.as_slice.ensures.value ∙ map-id c.args.lists.items))
-    (c.greatest_unadjusted-unadjusted_abi_align.ensures ∙ ap (λ ls. greatest_unadjusted c.args.dl.now.aggregate_align ls) (ap (map (λ l. l)) c.as_slice-2.ensures.value ∙ map-id c.args.lists.items))
+    (c.greatest_repr_align-max_repr_align.ensures ∙ ap (λ ls. greatest_repr_align c.args.repr.now.align ls) c.deref-2.ensures.value)
+    (c.greatest_unadjusted-unadjusted_abi_align.ensures ∙ ap (λ ls. greatest_unadjusted c.args.dl.now.aggregate_align ls) c.deref-3.ensures.value)
     c.c.ensures
-    (c.seed_with-randomization_seed.ensures ∙ ap (λ ls. seed_with c.args.repr.now.field_shuffle_seed ls) (ap (map (λ l. l)) c.as_slice-3.ensures.value ∙ map-id c.args.lists.items))
+    (c.seed_with-randomization_seed.ensures ∙ ap (λ ls. seed_with c.args.repr.now.field_shuffle_seed ls) c.deref-4.ensures.value)

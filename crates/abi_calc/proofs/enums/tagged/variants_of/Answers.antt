@@ -2,7 +2,7 @@
 use Rattle.std.proofs.Common.{◌++◌, ◌∙◌, ap, append-nil, map, refl, subst, sym}
 use Rattle.std.specs.Prelude.{All}
 use Rattle.std.proofs.lemmas.List.{nil_from_length}
-use Rattle.std.proofs.lemmas.List.Elements.{All-head, All-tail}
+use Rattle.std.proofs.lemmas.List.Elements.{All-tail}
 use Rattle.abi_scalar.specs.Shape.{IsListed}
 use Rattle.abi_scalar.specs.Variant.{variant_of}
 use Rattle.abi_calc.specs.Enums.Growth.{grown_variant}
@@ -16,10 +16,6 @@ loop-list-init g c = record {
   listed = subst (All (λ list. IsListed list.fields)) (sym c.into_iter-list-iterator.ensures.into_iter_gives.0) c.requires.listed;
 }
 
-pub from_layout-requires : goal.from_layout-requires
-from_layout-requires g c =
-    All-head (λ list. IsListed list.fields) c.in-Some.list c.next.new.self.rest.items (subst (All (λ list. IsListed list.fields)) c.in-Some.ensures.steps.0 c.loop-list.invariant.listed)
-
 pub push-requires : goal.push-requires
 push-requires g c =
     room_for (λ list. seen_as c.args.view.now c.args.size (grown_variant c.args.old c.args.new (variant_of list))) c.loop-list.variants c.in-Some.list c.next.new.self.rest.items c.args.lists.items g.VariantIdx.Idx.MAX_INDEX
@@ -27,7 +23,7 @@ push-requires g c =
 
 pub loop-list-preserved : goal.loop-list-preserved
 loop-list-preserved g c = record {
-  all = rw (c.in_ok-_index.ensures.ok, c.seen_as.ensures, c.in_ok-variant.ensures, c.from_layout.ensures.exact)
+  all = rw (c.in_ok-_index.ensures.ok, c.seen_as.ensures, c.in_ok-variant.ensures, c.into_variant.ensures)
       (one_more (λ list. seen_as c.args.view.now c.args.size (grown_variant c.args.old c.args.new (variant_of list))) c.loop-list.variants c.in-Some.list c.next.new.self.rest.items c.args.lists.items
       (ap (λ rest. c.loop-list.variants ++ map (λ list. seen_as c.args.view.now c.args.size (grown_variant c.args.old c.args.new (variant_of list))) rest) (sym c.in-Some.ensures.steps.0) ∙ c.loop-list.invariant.all));
   listed = All-tail (λ list. IsListed list.fields) c.in-Some.list c.next.new.self.rest.items (subst (All (λ list. IsListed list.fields)) c.in-Some.ensures.steps.0 c.loop-list.invariant.listed);

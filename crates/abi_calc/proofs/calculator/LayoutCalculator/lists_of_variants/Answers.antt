@@ -6,7 +6,7 @@ use Rattle.std.specs.Prelude.{All}
 use Rattle.abi_scalar.specs.Lawful.{IsLawfulLayout}
 use Rattle.abi_calc.specs.Enums.Lists.{AreGoodLists}
 use Rattle.abi_calc.proofs.EnumLemmas.Lists.{all_next, error_next, good_exact, good_lawful, good_listed, good_next}
-use Rattle.abi_calc.proofs.calculator.LayoutCalculator.layouts_of_lists.Goals as goal
+use Rattle.abi_calc.proofs.calculator.LayoutCalculator.lists_of_variants.Goals as goal
 
 pub loop-fields-init : goal.loop-fields-init
 loop-fields-init g c = record {
@@ -14,8 +14,8 @@ loop-fields-init g c = record {
   within = λ k d short. absurd (omega (arith, short));
 }
 
-pub layout_of_variant-requires-clause-fields : goal.layout_of_variant-requires-clause-fields
-layout_of_variant-requires-clause-fields g c =
+pub list_of_variant-requires-clause-fields : goal.list_of_variant-requires-clause-fields
+list_of_variant-requires-clause-fields g c =
     subst (All (λ f. IsLawfulLayout (g.Cx.HasDataLayout.target c.args.self.now.cx) (g.F.LayoutHandle.layout_of f))) (sym c.fields-item.is) (c.requires.fields c.loop-fields.fields-index c.fields-item.result c.loop-fields-test.true)
 
 pub returns-in-Err-clause-fault : goal.returns-in-Err-clause-fault
@@ -30,7 +30,7 @@ loop-fields-preserved g c =
       good = rw (c.push.ensures.items, ok)
           (good_next g.F.LayoutHandle.layout_of g.FieldIdx.Idx.at (g.VariantIdx.Idx.at 0) (g.Cx.HasDataLayout.target c.args.self.now.cx) c.args.repr.now c.args.kind.now c.args.variants.now c.loop-fields.fields-index
           c.loop-fields.lists.items c.fields-item.result c.in-Ok.list c.loop-fields-test.true c.fields-item.is c.loop-fields.invariant.good c.in-Ok.ensures.good);
-      within = all_next (λ fields. length fields ≤ g.FieldIdx.Idx.MAX_INDEX + 1) c.args.variants.now c.loop-fields.fields-index c.fields-item.result c.loop-fields-test.true c.fields-item.is c.loop-fields.invariant.within c.layout_of_variant.ensures.within;
+      within = all_next (λ fields. length fields ≤ g.FieldIdx.Idx.MAX_INDEX + 1) c.args.variants.now c.loop-fields.fields-index c.fields-item.result c.loop-fields-test.true c.fields-item.is c.loop-fields.invariant.within c.list_of_variant.ensures.within;
     }
 
 pub returns-clause-exact : goal.returns-clause-exact

@@ -7,7 +7,7 @@ use Rattle.abi_calc.specs.Coroutine.Lists.{default_repr}
 use Rattle.abi_calc.specs.Coroutine.Sizes.{own_lists}
 use Rattle.abi_calc.specs.Enums.Lists.{AreGoodLists}
 use Rattle.abi_calc.proofs.CoroutineLemmas.Lists.{own_all_next, own_error_next, own_good_next}
-use Rattle.abi_calc.proofs.calculator.LayoutCalculator.layouts_of_own.Goals as goal
+use Rattle.abi_calc.proofs.calculator.LayoutCalculator.lists_of_own.Goals as goal
 
 pub loop-state-init : goal.loop-state-init
 loop-state-init g c = record {
@@ -15,8 +15,8 @@ loop-state-init g c = record {
   within = λ k d short. absurd (omega (arith, short));
 }
 
-pub layout_of_own-requires-clause-within : goal.layout_of_own-requires-clause-within
-layout_of_own-requires-clause-within g c =
+pub list_of_own-requires-clause-within : goal.list_of_own-requires-clause-within
+list_of_own-requires-clause-within g c =
     subst (All (λ l. g.LocalIdx.Idx.number l < length c.args.locals.now)) (sym c.state-item.is) (c.requires.within c.loop-state.state-index c.state-item.result c.loop-state-test.true)
 
 pub returns-in-Err-clause-fault : goal.returns-in-Err-clause-fault

@@ -16,7 +16,7 @@ use Rattle.abi_lists.proofs.InOrderLemmas.{error_in_order, fault_placed}
 use Rattle.abi_lists.proofs.Least.{allowed_permutes}
 use Rattle.abi_lists.proofs.ListLemmas.{length-parts, parts_lawful, repr_lawful}
 use Rattle.abi_lists.proofs.OrderedLemmas.{ordered_few, ordered_within}
-use Rattle.abi_lists.proofs.in_order.layout_in_order.Goals as goal
+use Rattle.abi_lists.proofs.in_order.list_in_order.Goals as goal
 
 -- a list that was laid out in an allowed order lies in it
 laid_in_order : {F V H : Type 0} (layout_of : H → LayoutData F V) (dl : TargetDataLayout) (list : ListRepr) (hs : List H) (parts : List Part) (asked order offsets : List ℕ) (size align : ℕ) (niche : Option Niche)
@@ -56,8 +56,8 @@ returns-in-Err-clause-exact g c =
     error_in_order g.F.LayoutHandle.layout_of c.args.dl.now c.args.repr.now c.args.list.now.kind c.args.list.now c.args.order.items c.args.fields.now c.new-parts.result c.in-Err.fault c.error_of.result
     c.new-parts.ensures c.requires.order c.in-Err.ensures.fault c.error_of.ensures c.requires.list
 
-pub layout_of_placed-requires-clause-placed : goal.layout_of_placed-requires-clause-placed
-layout_of_placed-requires-clause-placed g c = laid_in_order g.F.LayoutHandle.layout_of c.args.dl.now c.args.list.now c.args.fields.now c.new-parts.result c.args.order.items c.in-Ok.placed.order.items c.in-Ok.placed.offsets.items c.in-Ok.placed.size c.in-Ok.placed.align c.in-Ok.placed.largest_niche c.new-parts.ensures c.requires.order (ap (λ o. o.items) c.in-Ok.ensures.same) c.in-Ok.ensures.placed
+pub list_of_placed-requires-clause-placed : goal.list_of_placed-requires-clause-placed
+list_of_placed-requires-clause-placed g c = laid_in_order g.F.LayoutHandle.layout_of c.args.dl.now c.args.list.now c.args.fields.now c.new-parts.result c.args.order.items c.in-Ok.placed.order.items c.in-Ok.placed.offsets.items c.in-Ok.placed.size c.in-Ok.placed.align c.in-Ok.placed.largest_niche c.new-parts.ensures c.requires.order (ap (λ o. o.items) c.in-Ok.ensures.same) c.in-Ok.ensures.placed
 
 pub fields_named-requires-clause-count : goal.fields_named-requires-clause-count
 fields_named-requires-clause-count g c =
@@ -71,7 +71,7 @@ fields_named-requires-clause-within g c =
 
 pub returns-clause-exact : goal.returns-clause-exact
 returns-clause-exact g c =
-    let made = c.layout_of_placed.ensures in
+    let made = c.list_of_placed.ensures in
     let items = ap (λ o. o.items) c.in-Ok.ensures.same in
     let placed = subst (λ (r : ListRepr). IsPlacedIn c.args.dl.now r Start (parts_of c.args.dl.now (map g.F.LayoutHandle.layout_of c.args.fields.now)) c.args.order.items c.in-Ok.placed.offsets.items c.in-Ok.placed.size c.in-Ok.placed.align c.in-Ok.placed.largest_niche) c.requires.list
     (subst (λ (ps : List Part). IsPlacedIn c.args.dl.now c.args.list.now Start ps c.args.order.items c.in-Ok.placed.offsets.items c.in-Ok.placed.size c.in-Ok.placed.align c.in-Ok.placed.largest_niche) c.new-parts.ensures c.in-Ok.ensures.placed) in

@@ -1,21 +1,16 @@
-use Rattle.std.proofs.Common.{arith, ◌≡◌, ℕ, ◌^◌, ◌<◌, ◌≤◌, List, length, map, sym, ap, ap₂, subst, ◌∙◌, refl}
-use Rattle.std.specs.Prelude.{All}
+use Rattle.std.proofs.Common.{arith, ◌≡◌, ◌^◌, ◌≤◌, length, map, sym, ap, subst, ◌∙◌, refl}
 use Rattle.std.specs.Int.{next_multiple_of}
-use Rattle.std.proofs.lemmas.List.FromFn.{length-range_with_len}
-use Rattle.std.proofs.lemmas.List.Sorted.{length_permutation}
 use Rattle.abi_base.specs.DataLayout.{size_bound}
 use Rattle.abi_scalar.specs.declared.fields_shape.FieldsShape.TheVariants.{Arbitrary}
-use Rattle.abi_scalar.specs.declared.variants.Variants.TheVariants.{Single}
 use Rattle.abi_lists.specs.declared.list_repr.ListRepr.{ListRepr}
 use Rattle.abi_lists.specs.List.{parts_of, unadjusted_of}
-use Rattle.abi_lists.specs.Placement.{IsLawfulRepr, IsNonEmptyIfUnsized, align_of, end_from, in_order, source_order, start_of}
+use Rattle.abi_lists.specs.Placement.{IsLawfulRepr, IsNonEmptyIfUnsized, align_of, end_from, in_order, start_of}
 use Rattle.abi_lists.proofs.LawfulList.{made_lawful}
 use Rattle.abi_lists.proofs.Least.{align_small}
 use Rattle.abi_lists.proofs.ListLemmas.{seed_same, view_same, length-parts, parts_lawful, repr_lawful}
-use Rattle.abi_lists.proofs.OrderedLemmas.{ordered_index, ordered_inside, ordered_permutes}
+use Rattle.abi_lists.proofs.OrderedLemmas.{ordered_index, ordered_inside}
 use Rattle.abi_lists.proofs.RunLemmas.{aligned_parts}
-use Rattle.abi_lists.proofs.Sorting.{within_order}
-use Rattle.abi_lists.proofs.list.layout_of_placed.Goals as goal
+use Rattle.abi_lists.proofs.list.list_of_placed.Goals as goal
 
 pub list_view-view-requires-clause-parts : goal.list_view-view-requires-clause-parts
 list_view-view-requires-clause-parts g c = rw c.new-parts.ensures (parts_lawful g.F.LayoutHandle.layout_of c.args.dl.now c.args.fields.now c.requires.fields)
@@ -35,13 +30,13 @@ returns-clause-shape g c = ap (λ os. Arbitrary os c.args.in_memory_order) c.fro
 pub returns-clause-view : goal.returns-clause-view
 returns-clause-view g c =
     c.list_view-view.ensures
-    ∙ view_same c.args.dl.now c.inhibit_newtype_abi_optimization-fixed.result _ c.args.placed.size c.args.placed.align c.new-2.result.abi c.new-parts.result (parts_of c.args.dl.now (map g.F.LayoutHandle.layout_of c.args.fields.now)) c.deref.result.now c.args.placed.offsets.items
-    c.inhibit_newtype_abi_optimization-fixed.ensures (sym c.new-2.ensures) (c.new-parts.ensures) c.deref.ensures.value
+    ∙ view_same c.args.dl.now c.inhibit_newtype_abi_optimization-fixed.result _ c.args.placed.size c.args.placed.align c.args.placed.align c.new-parts.result (parts_of c.args.dl.now (map g.F.LayoutHandle.layout_of c.args.fields.now)) c.deref.result.now c.args.placed.offsets.items
+    c.inhibit_newtype_abi_optimization-fixed.ensures refl (c.new-parts.ensures) c.deref.ensures.value
 
 pub returns-clause-unadjusted : goal.returns-clause-unadjusted
 returns-clause-unadjusted g c =
     c.unadjusted_align-unadjusted_abi_align.ensures
-    ∙ (λ i. unadjusted_of c.args.dl.now c.args.repr.now c.args.list.now.kind c.args.placed.size (sym c.new-2.ensures i) ((c.new-parts.ensures) i))
+    ∙ (λ i. unadjusted_of c.args.dl.now c.args.repr.now c.args.list.now.kind c.args.placed.size c.args.placed.align (c.new-parts.ensures i))
 
 pub returns-clause-seed : goal.returns-clause-seed
 returns-clause-seed g c = c.seed_with.ensures ∙ seed_same g.F.LayoutHandle.layout_of c.args.repr.now c.args.list.now.kind c.args.fields.now c.movable.result.now c.movable.ensures
@@ -61,6 +56,6 @@ returns-clause-lawful g c =
     let view = c.list_view-view.ensures ∙ view_same c.args.dl.now c.inhibit_newtype_abi_optimization-fixed.result c.inhibit_newtype_abi_optimization-fixed.result c.args.placed.size c.args.placed.align c.args.placed.align c.new-parts.result (parts_of c.args.dl.now (map g.F.LayoutHandle.layout_of c.args.fields.now)) c.deref.result.now c.args.placed.offsets.items
     refl refl (c.new-parts.ensures) c.deref.ensures.value in
     made_lawful c.args.dl.now _ c.new.result _ c.args.placed.align c.inhibit_newtype_abi_optimization-fixed.result (parts_of c.args.dl.now (map g.F.LayoutHandle.layout_of c.args.fields.now)) c.args.placed.offsets.items
-    law c.new-2.ensures least size c.requires.fits
+    law refl least size c.requires.fits
     (ordered_inside c.args.dl.now c.args.list.now (parts_of c.args.dl.now (map g.F.LayoutHandle.layout_of c.args.fields.now)) c.args.placed.order.items c.args.placed.offsets.items c.args.placed.size c.args.placed.align c.args.placed.largest_niche law b)
     (ordered_index c.args.dl.now c.args.list.now (parts_of c.args.dl.now (map g.F.LayoutHandle.layout_of c.args.fields.now)) c.args.placed.order.items c.args.placed.offsets.items c.args.placed.size c.args.placed.align c.args.placed.largest_niche b) view refl

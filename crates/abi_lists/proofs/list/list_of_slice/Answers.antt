@@ -8,13 +8,13 @@ use Rattle.abi_scalar.specs.declared.fields_shape.FieldsShape.TheVariants.{Arbit
 use Rattle.abi_scalar.specs.declared.layout_data.LayoutData.{LayoutData}
 use Rattle.abi_scalar.specs.declared.niche.Niche.{Niche}
 use Rattle.abi_lists.specs.List.{parts_of}
-use Rattle.abi_lists.specs.Placement.{IsLawfulRepr, IsNonEmptyIfUnsized, list_repr}
+use Rattle.abi_lists.specs.Placement.{IsLawfulRepr, IsNonEmptyIfUnsized}
 use Rattle.abi_lists.specs.Run.{IsFaultOf, IsInOrder, IsNamedLayout}
 use Rattle.abi_lists.proofs.DeepLemmas.{in_order_of}
 use Rattle.abi_lists.proofs.ListLemmas.{error_exact, fault_named, length-parts, parts_lawful, repr_lawful}
 use Rattle.abi_lists.proofs.OrderedLemmas.{ordered_few, ordered_within}
 use Rattle.abi_lists.proofs.RunLemmas.{biased_of}
-use Rattle.abi_lists.proofs.list.layout_of_list.Goals as goal
+use Rattle.abi_lists.proofs.list.list_of_slice.Goals as goal
 
 -- a list that was laid out in a named order lies in an allowed one
 laid_in_order : {F V H : Type 0} (layout_of : H → LayoutData F V) (dl : TargetDataLayout) (list : ListRepr) (hs : List H) (parts : List Part) (order offsets : List ℕ) (size align : ℕ) (niche : Option Niche)
@@ -51,8 +51,8 @@ returns-in-Err-clause-exact g c =
     let fault : IsFaultOf c.args.dl.now c.args.list.now Start (parts_of c.args.dl.now (map g.F.LayoutHandle.layout_of c.args.fields.now)) c.in-Err.fault = subst (λ (ps : List Part). IsFaultOf c.args.dl.now c.args.list.now Start ps c.in-Err.fault) read c.in-Err.ensures.fault in
     error_exact g.F.LayoutHandle.layout_of c.args.dl.now c.args.repr.now c.args.list.now.kind c.args.list.now c.args.fields.now c.in-Err.fault c.error_of.result fault c.error_of.ensures c.requires.list
 
-pub layout_of_placed-requires-clause-placed : goal.layout_of_placed-requires-clause-placed
-layout_of_placed-requires-clause-placed g c = laid_in_order g.F.LayoutHandle.layout_of c.args.dl.now c.args.list.now c.args.fields.now c.new-parts.result c.in-Ok.placed.order.items c.in-Ok.placed.offsets.items c.in-Ok.placed.size c.in-Ok.placed.align c.in-Ok.placed.largest_niche c.new-parts.ensures c.requires.tail c.in-Ok.ensures.named
+pub list_of_placed-requires-clause-placed : goal.list_of_placed-requires-clause-placed
+list_of_placed-requires-clause-placed g c = laid_in_order g.F.LayoutHandle.layout_of c.args.dl.now c.args.list.now c.args.fields.now c.new-parts.result c.in-Ok.placed.order.items c.in-Ok.placed.offsets.items c.in-Ok.placed.size c.in-Ok.placed.align c.in-Ok.placed.largest_niche c.new-parts.ensures c.requires.tail c.in-Ok.ensures.named
 
 pub fields_named-requires-clause-count : goal.fields_named-requires-clause-count
 fields_named-requires-clause-count g c =
@@ -68,7 +68,7 @@ pub returns-clause-exact : goal.returns-clause-exact
 returns-clause-exact g c =
     let named = subst (λ (r : ListRepr). IsNamedLayout c.args.dl.now r (parts_of c.args.dl.now (map g.F.LayoutHandle.layout_of c.args.fields.now)) c.in-Ok.placed.order.items c.in-Ok.placed.offsets.items c.in-Ok.placed.size c.in-Ok.placed.align c.in-Ok.placed.largest_niche) c.requires.list
     (subst (λ (ps : List Part). IsNamedLayout c.args.dl.now c.args.list.now ps c.in-Ok.placed.order.items c.in-Ok.placed.offsets.items c.in-Ok.placed.size c.in-Ok.placed.align c.in-Ok.placed.largest_niche) c.new-parts.ensures c.in-Ok.ensures.named) in
-    let made = c.layout_of_placed.ensures in (
+    let made = c.list_of_placed.ensures in (
       c.in-Ok.placed.order.items,
       c.in-Ok.placed.offsets.items,
       record {

@@ -2,7 +2,7 @@
 use Rattle.std.proofs.Common.{◌+◌, ◌≤◌, length, take}
 use Rattle.std.specs.Prelude.{All}
 use Rattle.abi_calc.specs.Enums.Lists.{AreGoodLists}
-use Rattle.abi_calc.proofs.calculator.LayoutCalculator.layouts_of_lists.Given as goal
+use Rattle.abi_calc.proofs.calculator.LayoutCalculator.lists_of_variants.Given as goal
 
 abbrev pub invariant-loop-fields : goal.invariant-loop-fields
 invariant-loop-fields g l = record {

@@ -1,7 +1,7 @@
 -- The variants before have no values.
 use Rattle.std.proofs.Common.{◌≡◌, drop}
 use Rattle.std.specs.List.{list_all}
-use Rattle.abi_calc.proofs.enums.tagged.all_uninhabited.Given as goal
+use Rattle.abi_calc.proofs.over_lists.all_uninhabited.Given as goal
 
 abbrev pub invariant-loop-list : goal.invariant-loop-list
 invariant-loop-list g l =

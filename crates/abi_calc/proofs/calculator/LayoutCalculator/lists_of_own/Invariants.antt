@@ -4,7 +4,7 @@ use Rattle.std.specs.Prelude.{All}
 use Rattle.abi_calc.specs.Coroutine.Lists.{default_repr}
 use Rattle.abi_calc.specs.Coroutine.Sizes.{own_lists}
 use Rattle.abi_calc.specs.Enums.Lists.{AreGoodLists}
-use Rattle.abi_calc.proofs.calculator.LayoutCalculator.layouts_of_own.Given as goal
+use Rattle.abi_calc.proofs.calculator.LayoutCalculator.lists_of_own.Given as goal
 
 abbrev pub invariant-loop-state : goal.invariant-loop-state
 invariant-loop-state g l = record {
