@@ -13,7 +13,7 @@ ghost use Rattle.abi_lists.specs.Fields.{greatest_repr_align, lies_as_in_c};
 ghost use Rattle.abi_lists.specs.List.{HasLawfulAligns, IsListAnswer, list_seed, parts_of, unadjusted_of};
 ghost use Rattle.abi_lists.specs.ListView.{bulk_of, bulky_parts, list_view};
 ghost use Rattle.abi_lists.specs.Run.{IsInOrder};
-ghost use Rattle.abi_lists.specs.Placement.{IsLawfulPrefix, IsNonEmptyIfUnsized, list_repr};
+ghost use Rattle.abi_lists.specs.Placement.{IsLawfulPrefix, IsNonEmptyIfUnsized, align_of, list_repr};
 
 use crate::fields::{greatest_repr_align, lies_as_in_c, seed_with};
 use crate::list_layout::ListLayout;
@@ -95,11 +95,15 @@ fn unadjusted_align<FieldIdx: Idx, VariantIdx: Idx, F: LayoutHandle<FieldIdx, Va
     parts: &Parts<'_, FieldIdx, VariantIdx, F>,
     bulk: Bulk,
 ) -> Align
-    requires { bulk ≡ bulk_of (bulky_parts parts.now) }
+    requires bulk { bulk ≡ bulk_of (bulky_parts parts.now) }
+    requires list { list.now ≡ list_repr dl.now repr.now list.now.kind }
+    requires align { align ≡ align_of list.now parts.now }
     ensures { result ≡ unadjusted_of dl.now repr.now list.now.kind size align parts.now }
 {
     if repr.transparent() {
         transparent_align(size, align, parts, bulk)
+    } else if repr.align.is_none() {
+        align
     } else {
         list_align(parts, &unraised(dl, repr, list))
     }
