@@ -127,7 +127,8 @@ impl<T> Few<T> {
         ensures inline { TwoFit T.row → length self.old < 2 → IsOk result }
     {
         if self.rest.len() >= 2 {
-            self.rest.push(item)?;
+            self.rest.reserve(1)?;
+            self.rest.push_reserved(item);
             return Ok(());
         }
         match mem::replace(&mut self.front, Front::Empty) {
@@ -142,7 +143,8 @@ impl<T> Few<T> {
                     };
                     return Ok(());
                 }
-                self.rest.push(item)?;
+                self.rest.reserve(1)?;
+                self.rest.push_reserved(item);
                 Ok(())
             }
             Front::One(first) => {

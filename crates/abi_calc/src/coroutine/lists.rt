@@ -148,9 +148,8 @@ impl<Cx: HasDataLayout> LayoutCalculator<Cx> {
                 Ok(list) => list,
                 Err(error) => return Err(error),
             };
-            if lists.push(list).is_err() {
-                return Err(LayoutCalculatorError::OutOfMemory);
-            }
+            lists.reserve(1)?;
+            lists.push_reserved(list);
         }
         Ok(lists)
     }

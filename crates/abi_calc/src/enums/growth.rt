@@ -1,6 +1,6 @@
 //! A tag that grows into the space before the variants' fields.
 
-ghost use Rattle.std.specs.Prelude.{◌≡◌, ◌+◌, ◌≤◌, IfOk, None, Some, length, map, min, slice_get, unwrap_or};
+ghost use Rattle.std.specs.Prelude.{◌≡◌, ◌+◌, ◌≤◌, IfOk, None, OnOk, Some, length, map, min, slice_get, unwrap_or};
 ghost use Rattle.abi_lists.specs.Part.{max_align};
 ghost use Rattle.abi_calc.specs.Enums.Growth.{align_or, first_align, grown_tag, grown_variant, moved, start_align};
 ghost use Rattle.abi_calc.specs.Enums.Lists.{AreListsOf};
@@ -124,14 +124,14 @@ fn moved_offsets<FieldIdx: Idx>(
     Ok(list)
 }
 
-/// The variant beside a tag that grew from the old size to the new one.
-pub(crate) fn grown_variant<FieldIdx: Idx>(
+/// Lays the variant out beside a tag that grew from the old size to the new one.
+pub(crate) fn grow_variant<FieldIdx: Idx>(
     alloc: Global,
     old: Size,
     new: Size,
-    mut variant: VariantLayout<FieldIdx>,
-) -> Result<VariantLayout<FieldIdx>, AllocError>
-    ensures { IfOk result (λ grown. grown ≡ grown_variant old new variant) }
+    variant: &mut VariantLayout<FieldIdx>,
+) -> Result<(), AllocError>
+    ensures { OnOk result (variant.new ≡ grown_variant old new variant.old) }
 {
     if old < new {
         variant.field_offsets = moved_offsets(
@@ -142,5 +142,5 @@ pub(crate) fn grown_variant<FieldIdx: Idx>(
         )?;
         variant.size = variant.size.max(new);
     }
-    Ok(variant)
+    Ok(())
 }

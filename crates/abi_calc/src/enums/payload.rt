@@ -349,18 +349,16 @@ fn takes_view<FieldIdx: Idx>(view: &BackendRepr, variant: &VariantLayout<FieldId
     is_of_scalars(*view) && is_memory(variant.backend_repr) && variant.has_fields()
 }
 
-/// The variant as a part of an enum of this view and size.
-pub(crate) fn seen_as<FieldIdx: Idx>(
-    view: BackendRepr,
+/// Makes the variant a part of an enum of this view and size.
+pub(crate) fn see_as<FieldIdx: Idx>(
+    view: &BackendRepr,
     size: Size,
-    mut variant: VariantLayout<FieldIdx>,
-) -> VariantLayout<FieldIdx>
-    ensures { result ≡ seen_as view size variant }
+    variant: &mut VariantLayout<FieldIdx>,
+)
+    ensures { variant.new ≡ seen_as view.now size variant.old }
 {
-    if takes_view(&view, &variant) {
-        let greater = variant.size.max(size);
-        variant.backend_repr = view;
-        variant.size = greater;
+    if takes_view(view, variant) {
+        variant.backend_repr = *view;
+        variant.size = variant.size.max(size);
     }
-    variant
 }

@@ -18,9 +18,9 @@ ghost use Rattle.abi_calc.specs.Enums.Tagged.{IsTaggedAnswer, IsTaggedBy, layout
 
 use crate::calculator::LayoutCalculator;
 use crate::enums::discriminants::tag_range;
-use crate::enums::growth::{grown_tag, grown_variant, start_align};
+use crate::enums::growth::{grow_variant, grown_tag, start_align};
 use crate::enums::lists::behind_tag;
-use crate::enums::payload::{seen_as, tagged_view};
+use crate::enums::payload::{see_as, tagged_view};
 use crate::over_lists::{
     all_uninhabited, greatest_align, greatest_repr_align, greatest_size, greatest_unadjusted,
     seed_with,
@@ -64,8 +64,10 @@ fn variants_of<FieldIdx: Idx, VariantIdx: Idx>(
 {
     let mut variants = IndexVec::with_capacity(alloc, lists.len())?;
     for list in lists {
-        let variant = grown_variant(alloc, old, new, list.into_variant())?;
-        let _index = variants.push(seen_as(*view, size, variant))?;
+        let mut variant = list.into_variant();
+        grow_variant(alloc, old, new, &mut variant)?;
+        see_as(view, size, &mut variant);
+        let _index = variants.push(variant)?;
     }
     Ok(variants)
 }

@@ -1,7 +1,6 @@
 -- The states before have their lists; the first error is that of the state at hand.
-use Rattle.std.proofs.Common.{◌≡◌, ◌+◌, ◌<◌, ◌≤◌, arith, length, map, subst, sym, take, true}
+use Rattle.std.proofs.Common.{◌≡◌, ◌+◌, ◌<◌, ◌≤◌, arith, length, map, subst, sym, take}
 use Rattle.std.proofs.lemmas.List.{take_all}
-use Rattle.std.specs.Result.{is_ok}
 use Rattle.std.specs.Prelude.{All}
 use Rattle.abi_calc.specs.Coroutine.Lists.{default_repr}
 use Rattle.abi_calc.specs.Coroutine.Sizes.{own_lists}
@@ -26,9 +25,8 @@ returns-in-Err-clause-fault g c =
 
 pub loop-state-preserved : goal.loop-state-preserved
 loop-state-preserved g c =
-    let ok : is_ok c.push.result ≡ true = c.if-is_err.ensures.negation in
     record {
-      good = rw (c.push.ensures.items, ok)
+      good = rw (c.push_reserved.ensures.items, c.reserve.ensures.items)
           (own_good_next g.F.LayoutHandle.layout_of g.FieldIdx.Idx.at (g.VariantIdx.Idx.at 0) (g.Cx.HasDataLayout.target c.args.self.now.cx) c.args.kind.now g.LocalIdx.Idx.number c.args.locals.now c.args.promoted.now c.args.states.now
           c.loop-state.state-index c.loop-state.lists.items c.state-item.result c.in-Ok.list c.loop-state-test.true c.state-item.is c.loop-state.invariant.good c.in-Ok.ensures.good);
       within = own_all_next g.F.LayoutHandle.layout_of g.FieldIdx.Idx.at (g.VariantIdx.Idx.at 0) (g.Cx.HasDataLayout.target c.args.self.now.cx) c.args.kind.now g.LocalIdx.Idx.number c.args.locals.now c.args.promoted.now c.args.states.now

@@ -1,7 +1,6 @@
 -- The variants before have their lists; the first error is that of the variant at hand.
-use Rattle.std.proofs.Common.{◌≡◌, ◌+◌, ◌≤◌, arith, length, subst, sym, take, true}
+use Rattle.std.proofs.Common.{◌≡◌, ◌+◌, ◌≤◌, arith, length, subst, sym, take}
 use Rattle.std.proofs.lemmas.List.{take_all}
-use Rattle.std.specs.Result.{is_ok}
 use Rattle.std.specs.Prelude.{All}
 use Rattle.abi_scalar.specs.Lawful.{IsLawfulLayout}
 use Rattle.abi_calc.specs.Enums.Lists.{AreGoodLists}
@@ -25,9 +24,8 @@ returns-in-Err-clause-fault g c =
 
 pub loop-fields-preserved : goal.loop-fields-preserved
 loop-fields-preserved g c =
-    let ok : is_ok c.push.result ≡ true = c.if-is_err.ensures.negation in
     record {
-      good = rw (c.push.ensures.items, ok)
+      good = rw (c.push_reserved.ensures.items, c.reserve.ensures.items)
           (good_next g.F.LayoutHandle.layout_of g.FieldIdx.Idx.at (g.VariantIdx.Idx.at 0) (g.Cx.HasDataLayout.target c.args.self.now.cx) c.args.repr.now c.args.kind.now c.args.variants.now c.loop-fields.fields-index
           c.loop-fields.lists.items c.fields-item.result c.in-Ok.list c.loop-fields-test.true c.fields-item.is c.loop-fields.invariant.good c.in-Ok.ensures.good);
       within = all_next (λ fields. length fields ≤ g.FieldIdx.Idx.MAX_INDEX + 1) c.args.variants.now c.loop-fields.fields-index c.fields-item.result c.loop-fields-test.true c.fields-item.is c.loop-fields.invariant.within c.list_of_variant.ensures.within;

@@ -23,7 +23,7 @@ push-requires g c =
 
 pub loop-list-preserved : goal.loop-list-preserved
 loop-list-preserved g c = record {
-  all = rw (c.in_ok-_index.ensures.ok, c.seen_as.ensures, c.in_ok-variant.ensures, c.into_variant.ensures)
+  all = rw (c.in_ok-_index.ensures.ok, c.see_as.ensures, c.in_ok-grow_variant.ensures, c.into_variant-variant.ensures)
       (one_more (λ list. seen_as c.args.view.now c.args.size (grown_variant c.args.old c.args.new (variant_of list))) c.loop-list.variants c.in-Some.list c.next.new.self.rest.items c.args.lists.items
       (ap (λ rest. c.loop-list.variants ++ map (λ list. seen_as c.args.view.now c.args.size (grown_variant c.args.old c.args.new (variant_of list))) rest) (sym c.in-Some.ensures.steps.0) ∙ c.loop-list.invariant.all));
   listed = All-tail (λ list. IsListed list.fields) c.in-Some.list c.next.new.self.rest.items (subst (All (λ list. IsListed list.fields)) c.in-Some.ensures.steps.0 c.loop-list.invariant.listed);
