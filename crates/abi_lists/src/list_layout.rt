@@ -1,4 +1,4 @@
-//! The layout of a list of fields, as what is made of it takes it over.
+//! The layout of a list of fields, without room for several variants.
 
 ghost use Rattle.std.specs.Prelude.{◌≡◌, None, map};
 ghost use Rattle.abi_scalar.specs.declared.fields_shape.FieldsShape.TheVariants.{Arbitrary};
@@ -135,7 +135,7 @@ impl<FieldIdx: Idx, VariantIdx: Idx> ListLayout<FieldIdx, VariantIdx> {
         self.randomization_seed
     }
 
-    /// The list with these offsets, in this order.
+    /// Lays the fields out at these offsets, in this order.
     pub fn set_places(
         &mut self,
         offsets: IndexVec<FieldIdx, Size>,
@@ -147,7 +147,7 @@ impl<FieldIdx: Idx, VariantIdx: Idx> ListLayout<FieldIdx, VariantIdx> {
         self.in_memory_order = in_memory_order;
     }
 
-    /// The list as one without a niche.
+    /// Takes the list's niche away.
     pub fn forget_niche(&mut self)
         ensures { self.new ≡ record self.old { largest_niche = None } }
     {
