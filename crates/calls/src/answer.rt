@@ -6,7 +6,7 @@ use crate::line::Line;
 use crate::out::Out;
 use crate::stop::{Clause, Stop};
 use crate::{
-    coroutines, data_layouts, enums, lists, numbers, random, ranges, registers, sets, types, values,
+    coroutines, data_layouts, enums, lists, numbers, ranges, registers, sets, types, values,
 };
 use abi_base::{Endian, TargetDataLayout};
 use std::alloc::{AllocError, Global};
@@ -24,7 +24,6 @@ fn answer_call(
     lists::call(alloc, dl, name, line, out)
         || enums::call(alloc, dl, name, line, out)
         || coroutines::call(alloc, dl, name, line, out)
-        || random::call(alloc, dl, name, line, out)
         || types::call(alloc, dl, name, line, out)
         || registers::call(alloc, dl, name, line, out)
         || values::call(alloc, dl, name, line, out)

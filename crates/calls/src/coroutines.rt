@@ -19,17 +19,17 @@ use abi_scalar::LayoutData;
 use std::alloc::{AllocError, Global};
 
 /// The locals that a state holds, by their places.
-pub(crate) type State = IndexVec<FieldIdx, u32>;
+type State = IndexVec<FieldIdx, u32>;
 
 /// A coroutine of a line has no more locals, and no more states.
 const MOST_LOCALS: usize = 4096;
 
 /// The locals of a coroutine, which of them its states hold, and which pairs of them conflict.
 #[derive(Clone, Copy)]
-pub(crate) struct Parts<'a> {
-    pub(crate) locals: &'a [&'a Layout],
-    pub(crate) states: &'a [State],
-    pub(crate) conflicts: &'a [(u32, u32)],
+struct Parts<'a> {
+    locals: &'a [&'a Layout],
+    states: &'a [State],
+    conflicts: &'a [(u32, u32)],
 }
 
 /// Whether each of these locals is one of so many.
@@ -140,7 +140,7 @@ fn check_parts(
 
 /// The layout of a coroutine of these prefix fields and parts.
 #[tactic(auto, using(abi_calc::proofs::CoroutineLemmas::OneCoroutine::one_tag))]
-pub(crate) fn laid(
+fn laid(
     alloc: Global,
     dl: &TargetDataLayout,
     prefix: Vec<&Layout>,

@@ -28,14 +28,14 @@ const MOST_VARIANTS: usize = 4096;
 
 /// What is asked of a type, beside its variants.
 #[derive(Clone, Copy)]
-pub(crate) struct Question {
-    pub(crate) repr: ReprOptions,
-    pub(crate) is_enum: bool,
-    pub(crate) always_sized: bool,
-    pub(crate) niches: NicheOptimizations,
+struct Question {
+    repr: ReprOptions,
+    is_enum: bool,
+    always_sized: bool,
+    niches: NicheOptimizations,
     /// What is answered where the tag's integer is asked for.
-    pub(crate) integer: Integer,
-    pub(crate) signed: bool,
+    integer: Integer,
+    signed: bool,
 }
 
 /// Variants: for each its discriminant and the layouts of its fields.
@@ -179,7 +179,7 @@ fn check_variants(
 }
 
 /// The layout of a type of these variants, with these discriminants.
-pub(crate) fn laid(
+fn laid(
     alloc: Global,
     dl: &TargetDataLayout,
     question: &Question,

@@ -13,7 +13,7 @@ use abi_scalar::{ReprFlags, ReprOptions};
 use std::alloc::Global;
 
 /// The list of these fields in this order, as the calculator has it.
-pub(crate) fn list_in_order(
+fn list_in_order(
     alloc: Global,
     dl: &TargetDataLayout,
     fields: &[&Layout],
@@ -37,7 +37,7 @@ pub(crate) fn list_in_order(
 }
 
 /// The index of a field that has this number, where a field can have it.
-pub(crate) fn field_index(number: u32) -> Option<FieldIdx> {
+fn field_index(number: u32) -> Option<FieldIdx> {
     if number > 0xFFFF_FF00 {
         return None;
     }

@@ -109,7 +109,7 @@ pub(crate) fn check_list(
 }
 
 /// The list of these fields, as the calculator has it.
-pub(crate) fn list_of(
+fn list_of(
     alloc: Global,
     dl: &TargetDataLayout,
     fields: &[&Layout],

@@ -13,7 +13,6 @@ mod lists;
 mod numbers;
 mod out;
 mod print;
-mod random;
 mod ranges;
 mod registers;
 mod sets;

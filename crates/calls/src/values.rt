@@ -1,6 +1,6 @@
 //! Calls that write values to bytes and read them from bytes, and that tell which bytes decide.
 
-pub(crate) mod deciders;
+mod deciders;
 mod print;
 mod told;
 

@@ -21,12 +21,7 @@ fn differ_at(a: &[u8], b: &[u8], place: usize) -> bool {
 }
 
 /// Whether the bytes hold the value.
-pub(crate) fn hold(
-    alloc: Global,
-    laid: &Laid,
-    bytes: &[u8],
-    value: &Value,
-) -> Result<bool, AllocError> {
+fn hold(alloc: Global, laid: &Laid, bytes: &[u8], value: &Value) -> Result<bool, AllocError> {
     match read_value(alloc, laid, bytes)? {
         Some(found) => Ok(found == *value),
         None => Ok(false),
@@ -57,7 +52,7 @@ fn decide(
 }
 
 /// What is found of a place: a pair that decides there, none, or a wrong pair.
-pub(crate) fn decided(alloc: Global, laid: &Laid, place: u64) -> Result<&'static str, AllocError> {
+fn decided(alloc: Global, laid: &Laid, place: u64) -> Result<&'static str, AllocError> {
     let Some((a, b)) = laid.decider(alloc, place)? else {
         return Ok("none");
     };
