@@ -1,6 +1,6 @@
 //! Times calls of the libraries: `CALL SIZE MICROSECONDS ANSWER`, the fastest of nine runs, a line each, with the sum of
-//! the sizes that are answered. Standard input has the names of the calls that are asked for, or `all`, and sizes, if not each is wanted; for nothing asked nothing is
-//! printed.
+//! the sizes that are answered. Standard input has the names of the calls that are asked for, or `all`, and sizes, if
+//! not each is wanted; for nothing asked nothing is printed.
 #![tactic(auto)]
 
 mod coroutines;
