@@ -89,7 +89,8 @@ fn held_places<LocalIdx: Idx>(
     below: &[usize],
     count: usize,
     state: &[LocalIdx],
-) -> Result<Vec<Option<usize>>, AllocError>
+) -> Result<Vec<Option<u32>>, AllocError>
+    requires few { length state.now ≤ 0xFFFF_FFFF + 1 }
     requires within { All (λ l. LocalIdx.number l < domain_size promoted.now) state.now }
     requires once { AllPairs (λ a b. a ≢ b) (map LocalIdx.number state.now) }
     requires below { below.now ≡ map (rank_of promoted.now) (source_order (domain_size promoted.now)) }
@@ -104,7 +105,7 @@ fn held_places<LocalIdx: Idx>(
     held.resize(count, None)?;
     for (place, local) in state.iter().enumerate() {
         if promoted.contains(*local) {
-            held[rank_in(promoted, below, *local)] = Some(place);
+            held[rank_in(promoted, below, *local)] = Some(place as u32);
         }
     }
     Ok(held)
@@ -132,7 +133,7 @@ fn own_places<LocalIdx: Idx>(
 /// The held places, as these ranks follow one another, and then those that the indices name.
 fn joined_places<FieldIdx: Idx>(
     alloc: Global,
-    held: &[Option<usize>],
+    held: &[Option<u32>],
     ranks: &[usize],
     places: &[usize],
     own: &[FieldIdx],
@@ -148,7 +149,7 @@ fn joined_places<FieldIdx: Idx>(
     let mut list = IndexVec::new(alloc);
     for rank in ranks {
         if let Some(place) = held[*rank] {
-            let _place = list.push(FieldIdx::new(place))?;
+            let _place = list.push(FieldIdx::new(place as usize))?;
         }
     }
     for index in own {
