@@ -110,12 +110,12 @@ fn add_two(
     ensures err { IfErr result (IsRefusal (pair_answer dl.now a b)) }
     ensures behind { AreStillThere nodes.old.items nodes.new.items }
 {
+    let first = add_lawful(dl, nodes, a)?;
+    let second = add_lawful(dl, nodes, b)?;
     let layout = LayoutData::scalar_pair(alloc, &dl, a, b);
     if layout.size.bytes() >= dl.obj_size_bound() {
         return Err(LayError::SizeOverflow);
     }
-    let first = add_lawful(dl, nodes, a)?;
-    let second = add_lawful(dl, nodes, b)?;
     add(nodes, layout, Shape::Pair { first, second })
 }
 

@@ -1,6 +1,6 @@
 -- A niche of one variant, and the others beside it.
-use Rattle.std.proofs.Common.{◌≡◌, ℕ, suc, ◌+◌, ◌<◌, ◌≤◌, Bool, true, false, List, [], ◌∷◌, ◌++◌, add-one, append_assoc, ap, arith, drop, get_or, length, map, refl, sym, take, ◌∙◌}
-use Rattle.std.specs.Prelude.{◌==◌, ◌&&◌, ◌||◌, None, Option, Some, filter, if◌then◌else◌, nat_le, not, option_map}
+use Rattle.std.proofs.Common.{◌≡◌, ℕ, suc, ◌+◌, ◌<◌, ◌≤◌, Bool, true, false, List, [], ◌∷◌, ◌++◌, add-one, append_assoc, ap, arith, drop, get_or, length, map, refl, subst, sym, take, ◌∙◌}
+use Rattle.std.specs.Prelude.{◌==◌, ◌&&◌, ◌||◌, MatchOption, None, Option, Some, filter, if◌then◌else◌, nat_le, not, option_map}
 use Rattle.std.specs.List.{list_any}
 use Rattle.std.proofs.lemmas.Bool.{leb-true, leb-false}
 use Rattle.std.proofs.lemmas.List.{get_or-map, get_or-take, length-append, length-map, length-take-le, take_all, take_more}
@@ -168,14 +168,24 @@ placed_step done x (Some y) (Some ys) whole before is =
     let same : x ≡ y = cc in
     ap (λ more. Some more) (append_assoc done (x ∷ []) ys ∙ ap (λ z. done ++ z ∷ ys) same) ∙ before
 
--- one more variant, one place on
-pub placed_count : {A : Type 0} (done : List A) (x : A) (at : ℕ) → at ≡ length done → at + 1 ≡ length (done ++ x ∷ [])
-placed_count done x at same = let e : length (done ++ x ∷ []) ≡ length done + 1 = length-append done (x ∷ []) in omega arith
+-- a variant that is put, if there is one, and those behind it
+pub put_step : {A : Type 0} (done new : List A) (here : Option A) (later whole : Option (List A)) (is_put : Bool) → MatchOption here (is_put ≡ false) (λ x. (is_put ≡ true) × (new ≡ done ++ x ∷ []))
+    → is_put ≡ true → option_map (λ more. done ++ more) (with_first here later) ≡ whole → option_map (λ more. new ++ more) later ≡ whole
+put_step done new None later whole is_put told is before = absurd (cc)
+put_step done new (Some x) later whole is_put told is before = subst (λ vs. option_map (λ more. vs ++ more) later ≡ whole) (sym told.1) (placed_step done x (Some x) later whole before refl)
+
+-- where none is put, there are no variants
+pub put_none : {A : Type 0} (done new : List A) (here : Option A) (later whole : Option (List A)) (is_put : Bool) → MatchOption here (is_put ≡ false) (λ x. (is_put ≡ true) × (new ≡ done ++ x ∷ []))
+    → is_put ≡ false → option_map (λ more. done ++ more) (with_first here later) ≡ whole → None ≡ whole
+put_none done new None later whole is_put told is_not before = before
+put_none done new (Some x) later whole is_put told is_not before = absurd (cc (told.0))
 
 -- one more variant, one list less
-pub placed_left : {A B : Type 0} (done : List A) (x : A) (list : B) (rest : List B) (n : ℕ) → length done + length (list ∷ rest) ≡ n → length (done ++ x ∷ []) + length rest ≡ n
-placed_left done x list rest n same =
-    let e : length (done ++ x ∷ []) ≡ length done + 1 = length-append done (x ∷ []) in
+pub put_left : {A B : Type 0} (done new : List A) (here : Option A) (is_put : Bool) (list : B) (rest : List B) (n : ℕ) → MatchOption here (is_put ≡ false) (λ x. (is_put ≡ true) × (new ≡ done ++ x ∷ []))
+    → is_put ≡ true → length done + length (list ∷ rest) ≡ n → length new + length rest ≡ n
+put_left done new None is_put list rest n told is same = absurd (cc)
+put_left done new (Some x) is_put list rest n told is same =
+    let e : length new ≡ length done + 1 = ap length told.1 ∙ length-append done (x ∷ []) in
     let less : length (list ∷ rest) ≡ suc (length rest) = refl in
     omega arith
 

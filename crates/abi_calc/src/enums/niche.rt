@@ -1,6 +1,6 @@
 //! The layout of an enum whose tag lies in a niche of one variant.
 
-ghost use Rattle.std.specs.Prelude.{◌≡◌, ◌==◌, ◌&&◌, ◌||◌, ◌+◌, ◌++◌, ◌∷◌, ◌^◌, ◌<◌, ◌≤◌, [], All, IfOk, List, Some, if◌then◌else◌, length, map, nat_le, not, ℕ};
+ghost use Rattle.std.specs.Prelude.{◌≡◌, ◌==◌, ◌&&◌, ◌||◌, ◌+◌, ◌++◌, ◌∷◌, ◌^◌, ◌<◌, ◌≤◌, [], All, IfOk, List, MatchOption, Some, false, if◌then◌else◌, length, map, nat_le, not, true, ℕ};
 ghost use Rattle.abi_scalar.specs.Shape.{IsListed, listed_offsets};
 ghost use Rattle.abi_scalar.specs.Variant.{variant_of};
 ghost use Rattle.abi_lists.specs.Part.{max_align};
@@ -209,6 +209,32 @@ fn placed<FieldIdx: Idx, VariantIdx: Idx>(
     beside_niche(alloc, room, list)
 }
 
+/// Puts the next variant behind those before it, if there is room for it: the untagged one as it is, another beside
+/// its niche. Whether there is.
+fn put_placed<FieldIdx: Idx, VariantIdx: Idx>(
+    alloc: Global,
+    room: &Room,
+    untagged: usize,
+    list: ListLayout<FieldIdx, VariantIdx>,
+    variants: &mut IndexVec<VariantIdx, VariantLayout<FieldIdx>>,
+) -> Result<bool, AllocError>
+    requires roomy { IsRoomy room.now }
+    requires small { IsSmallList list }
+    requires count { length variants.old ≤ VariantIdx.MAX_INDEX }
+    ensures { IfOk result (λ is_put. MatchOption
+        (if length variants.old == untagged then Some (variant_of list) else beside_niche room.now list)
+        (is_put ≡ false) (λ variant. (is_put ≡ true) × (variants.new ≡ variants.old ++ variant ∷ []))) }
+{
+    let at = variants.len();
+    match placed(alloc, room, untagged, at, list)? {
+        Some(variant) => {
+            let _index = variants.push(variant)?;
+            Ok(true)
+        }
+        None => Ok(false),
+    }
+}
+
 /// The variants: the untagged one as it is, the others beside its niche, if there is room for each.
 pub(crate) fn placed_variants<FieldIdx: Idx, VariantIdx: Idx>(
     alloc: Global,
@@ -222,13 +248,10 @@ pub(crate) fn placed_variants<FieldIdx: Idx, VariantIdx: Idx>(
     ensures { IfOk result (λ variants. variants ≡ variants_from room.now untagged 0 lists.items) }
 {
     let mut variants = IndexVec::with_capacity(alloc, lists.len())?;
-    let mut at = 0;
     for list in lists {
-        let Some(variant) = placed(alloc, room, untagged, at, list)? else {
+        if !put_placed(alloc, room, untagged, list, &mut variants)? {
             return Ok(None);
-        };
-        let _index = variants.push(variant)?;
-        at += 1;
+        }
     }
     Ok(Some(variants))
 }

@@ -6,8 +6,7 @@ use Rattle.abi_calc.proofs.enums.niche.placed_variants.Given as goal
 
 abbrev pub invariant-loop-list : goal.invariant-loop-list
 invariant-loop-list g l = record {
-  all : option_map (λ more. l.variants ++ more) (variants_from l.room l.untagged l.at l.list-iterator.rest.items) ≡ variants_from l.room l.untagged 0 l.fn.lists.items;
-  at : l.at ≡ length l.variants;
+  all : option_map (λ more. l.variants ++ more) (variants_from l.room l.untagged (length l.variants) l.list-iterator.rest.items) ≡ variants_from l.room l.untagged 0 l.fn.lists.items;
   count : length l.variants + length l.list-iterator.rest.items ≡ length l.fn.lists.items;
   small : All IsSmallList l.list-iterator.rest.items;
 }
