@@ -1,6 +1,6 @@
 //! The layout of an enum with a tag.
 
-ghost use Rattle.std.specs.Prelude.{◌≡◌, ◌≤◌, ◌<◌, ◌+◌, ◌∷◌, ◌⊎◌, [], All, Err, IfErr, IfOk, None, length, map};
+ghost use Rattle.std.specs.Prelude.{◌≡◌, ◌≤◌, ◌<◌, ◌+◌, ◌++◌, ◌∷◌, ◌⊎◌, [], All, Err, IfErr, IfOk, None, length, map};
 ghost use Rattle.abi_base.specs.DataLayout.{IsLawfulDataLayout, size_bound};
 ghost use Rattle.abi_base.specs.Integer.{integer_size};
 ghost use Rattle.abi_scalar.specs.Lawful.{IsLawfulLayout};
@@ -48,6 +48,29 @@ pub(crate) fn lists_size<FieldIdx: Idx, VariantIdx: Idx>(
     rounded(greatest_size(lists), align)
 }
 
+/// Puts a variant behind those before it, as a part of an enum of this view and size, beside a tag that grew from the
+/// old size to the new one.
+fn put_variant<FieldIdx: Idx, VariantIdx: Idx>(
+    alloc: Global,
+    old: Size,
+    new: Size,
+    view: &BackendRepr,
+    size: Size,
+    list: ListLayout<FieldIdx, VariantIdx>,
+    variants: &mut IndexVec<VariantIdx, VariantLayout<FieldIdx>>,
+) -> Result<(), AllocError>
+    requires room { length variants.old ≤ VariantIdx.MAX_INDEX }
+    requires listed { IsListed list.fields }
+    ensures { IfOk result (λ _.
+        variants.new ≡ variants.old ++ seen_as view.now size (grown_variant old new (variant_of list)) ∷ []) }
+{
+    let mut variant = list.into_variant();
+    grow_variant(alloc, old, new, &mut variant)?;
+    see_as(view, size, &mut variant);
+    let _index = variants.push(variant)?;
+    Ok(())
+}
+
 /// The variants, as parts of an enum of this view and size, beside a tag that grew from the old size to the new one.
 fn variants_of<FieldIdx: Idx, VariantIdx: Idx>(
     alloc: Global,
@@ -64,10 +87,7 @@ fn variants_of<FieldIdx: Idx, VariantIdx: Idx>(
 {
     let mut variants = IndexVec::with_capacity(alloc, lists.len())?;
     for list in lists {
-        let mut variant = list.into_variant();
-        grow_variant(alloc, old, new, &mut variant)?;
-        see_as(view, size, &mut variant);
-        let _index = variants.push(variant)?;
+        put_variant(alloc, old, new, view, size, list, &mut variants)?;
     }
     Ok(variants)
 }

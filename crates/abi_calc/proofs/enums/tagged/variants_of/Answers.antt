@@ -16,14 +16,14 @@ loop-list-init g c = record {
   listed = subst (All (λ list. IsListed list.fields)) (sym c.into_iter-list-iterator.ensures.into_iter_gives.0) c.requires.listed;
 }
 
-pub push-requires : goal.push-requires
-push-requires g c =
+pub put_variant-requires-clause-room : goal.put_variant-requires-clause-room
+put_variant-requires-clause-room g c =
     room_for (λ list. seen_as c.args.view.now c.args.size (grown_variant c.args.old c.args.new (variant_of list))) c.loop-list.variants c.in-Some.list c.next.new.self.rest.items c.args.lists.items g.VariantIdx.Idx.MAX_INDEX
     (ap (λ rest. c.loop-list.variants ++ map (λ list. seen_as c.args.view.now c.args.size (grown_variant c.args.old c.args.new (variant_of list))) rest) (sym c.in-Some.ensures.steps.0) ∙ c.loop-list.invariant.all) c.requires.count
 
 pub loop-list-preserved : goal.loop-list-preserved
 loop-list-preserved g c = record {
-  all = rw (c.in_ok-_index.ensures.ok, c.see_as.ensures, c.in_ok-grow_variant.ensures, c.into_variant-variant.ensures)
+  all = rw c.in_ok-put_variant.ensures
       (one_more (λ list. seen_as c.args.view.now c.args.size (grown_variant c.args.old c.args.new (variant_of list))) c.loop-list.variants c.in-Some.list c.next.new.self.rest.items c.args.lists.items
       (ap (λ rest. c.loop-list.variants ++ map (λ list. seen_as c.args.view.now c.args.size (grown_variant c.args.old c.args.new (variant_of list))) rest) (sym c.in-Some.ensures.steps.0) ∙ c.loop-list.invariant.all));
   listed = All-tail (λ list. IsListed list.fields) c.in-Some.list c.next.new.self.rest.items (subst (All (λ list. IsListed list.fields)) c.in-Some.ensures.steps.0 c.loop-list.invariant.listed);
