@@ -52,7 +52,7 @@ fn struct_of(alloc: Global, dl: &TargetDataLayout, tree: &TypeTree) -> Result<CS
     match &layout.fields {
         FieldsShape::Arbitrary {
             offsets,
-            ..
+            in_memory_order: _,
         } => Ok(CStruct {
             offsets: offsets.try_clone(alloc)?,
             size: layout.size,
