@@ -160,7 +160,7 @@ span_end layout_of untagged variants i all =
 -- ---- the variants beside the niche
 
 -- a variant that has a place, and those behind it
-pub placed_step : {A : Type 0} (done : List A) (x : A) (here : Option A) (later whole : Option (List A)) → option_map (λ more. done ++ more) (with_first here later) ≡ whole → Some x ≡ here
+placed_step : {A : Type 0} (done : List A) (x : A) (here : Option A) (later whole : Option (List A)) → option_map (λ more. done ++ more) (with_first here later) ≡ whole → Some x ≡ here
     → option_map (λ more. (done ++ x ∷ []) ++ more) later ≡ whole
 placed_step done x None later whole before is = absurd (cc)
 placed_step done x (Some y) None whole before is = before
