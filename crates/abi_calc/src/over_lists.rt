@@ -6,7 +6,7 @@ ghost use Rattle.abi_lists.specs.Fields.{greater, greatest_align, greatest_repr_
 
 use abi_base::{Align, Size};
 use abi_index::{Hash64, Idx};
-use abi_lists::ListLayout;
+use abi_lists::ListLayouts;
 
 /// The greater of two sizes.
 pub(crate) fn greater_size(a: Size, b: Size) -> Size
@@ -35,13 +35,13 @@ fn greater(a: Option<Align>, b: Option<Align>) -> Option<Align>
 
 /// The greatest of the lists' sizes.
 pub(crate) fn greatest_size<FieldIdx: Idx, VariantIdx: Idx>(
-    lists: &[ListLayout<FieldIdx, VariantIdx>],
+    lists: &ListLayouts<FieldIdx, VariantIdx>,
 ) -> Size
     ensures { result ≡ greatest_size lists.now }
 {
     let mut greatest = Size::ZERO;
-    for list in lists {
-        greatest = greater_size(greatest, list.size());
+    for index in 0..lists.len() {
+        greatest = greater_size(greatest, lists.at(index).size());
     }
     greatest
 }
@@ -49,13 +49,13 @@ pub(crate) fn greatest_size<FieldIdx: Idx, VariantIdx: Idx>(
 /// The greatest of the lists' alignments and this one.
 pub(crate) fn greatest_align<FieldIdx: Idx, VariantIdx: Idx>(
     own: Align,
-    lists: &[ListLayout<FieldIdx, VariantIdx>],
+    lists: &ListLayouts<FieldIdx, VariantIdx>,
 ) -> Align
     ensures { result ≡ greatest_align own lists.now }
 {
     let mut greatest = own;
-    for list in lists {
-        greatest = greater_align(greatest, list.align());
+    for index in 0..lists.len() {
+        greatest = greater_align(greatest, lists.at(index).align());
     }
     greatest
 }
@@ -63,13 +63,13 @@ pub(crate) fn greatest_align<FieldIdx: Idx, VariantIdx: Idx>(
 /// The greatest of the lists' alignments before `repr(align)` raised them, and this one.
 pub(crate) fn greatest_unadjusted<FieldIdx: Idx, VariantIdx: Idx>(
     own: Align,
-    lists: &[ListLayout<FieldIdx, VariantIdx>],
+    lists: &ListLayouts<FieldIdx, VariantIdx>,
 ) -> Align
     ensures { result ≡ greatest_unadjusted own lists.now }
 {
     let mut greatest = own;
-    for list in lists {
-        greatest = greater_align(greatest, list.unadjusted_abi_align());
+    for index in 0..lists.len() {
+        greatest = greater_align(greatest, lists.at(index).unadjusted_abi_align());
     }
     greatest
 }
@@ -77,13 +77,13 @@ pub(crate) fn greatest_unadjusted<FieldIdx: Idx, VariantIdx: Idx>(
 /// The greatest alignment that a `repr(align)` asks for, this one or one in the lists.
 pub(crate) fn greatest_repr_align<FieldIdx: Idx, VariantIdx: Idx>(
     own: Option<Align>,
-    lists: &[ListLayout<FieldIdx, VariantIdx>],
+    lists: &ListLayouts<FieldIdx, VariantIdx>,
 ) -> Option<Align>
     ensures { result ≡ greatest_repr_align own lists.now }
 {
     let mut greatest = own;
-    for list in lists {
-        greatest = greater(greatest, list.max_repr_align());
+    for index in 0..lists.len() {
+        greatest = greater(greatest, lists.at(index).max_repr_align());
     }
     greatest
 }
@@ -91,25 +91,25 @@ pub(crate) fn greatest_repr_align<FieldIdx: Idx, VariantIdx: Idx>(
 /// The sum of the lists' seeds and this one, modulo 2 to the 64.
 pub(crate) fn seed_with<FieldIdx: Idx, VariantIdx: Idx>(
     own: Hash64,
-    lists: &[ListLayout<FieldIdx, VariantIdx>],
+    lists: &ListLayouts<FieldIdx, VariantIdx>,
 ) -> Hash64
     ensures { result ≡ seed_with own lists.now }
 {
     let mut seed = Hash64::ZERO;
-    for list in lists {
-        seed = seed.wrapping_add(list.randomization_seed());
+    for index in 0..lists.len() {
+        seed = seed.wrapping_add(lists.at(index).randomization_seed());
     }
     seed.wrapping_add(own)
 }
 
 /// Whether no list has values.
 pub(crate) fn all_uninhabited<FieldIdx: Idx, VariantIdx: Idx>(
-    lists: &[ListLayout<FieldIdx, VariantIdx>],
+    lists: &ListLayouts<FieldIdx, VariantIdx>,
 ) -> bool
     ensures { result ≡ list_all (λ list. list.uninhabited) lists.now }
 {
-    for list in lists {
-        if !list.uninhabited() {
+    for index in 0..lists.len() {
+        if !lists.at(index).uninhabited() {
             return false;
         }
     }

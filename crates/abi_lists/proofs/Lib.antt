@@ -32,3 +32,4 @@ pub mod UnionLemmas
 pub mod UnionLawful
 pub mod VectorLemmas
 pub mod TooLarge
+pub mod ListLayoutsLemmas

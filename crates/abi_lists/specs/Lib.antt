@@ -14,3 +14,4 @@ pub mod Least
 pub mod InOrder
 pub mod Union
 pub mod Simd
+pub mod ListLayouts

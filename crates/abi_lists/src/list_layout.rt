@@ -1,11 +1,11 @@
 //! The layout of a list of fields, without room for several variants.
 
-ghost use Rattle.std.specs.Prelude.{◌≡◌, None, map};
-ghost use Rattle.abi_scalar.specs.declared.fields_shape.FieldsShape.TheVariants.{Arbitrary};
+ghost use Rattle.std.specs.Prelude.{◌≡◌, map};
 ghost use Rattle.abi_scalar.specs.Order.{indices_by_offset};
 ghost use Rattle.abi_scalar.specs.Shape.{listed_offsets, listed_order};
-ghost use Rattle.abi_scalar.specs.Variant.{variant_of};
+ghost use Rattle.abi_lists.specs.ListLayouts.{list_of};
 
+use crate::list_layouts::Rest;
 use abi_base::{AbiAlign, Align, Size};
 use abi_index::{Hash64, Idx, IndexVec};
 use abi_scalar::{BackendRepr, FieldsShape, LayoutData, Niche, VariantLayout, Variants};
@@ -79,20 +79,6 @@ impl<FieldIdx: Idx, VariantIdx: Idx> ListLayout<FieldIdx, VariantIdx> {
         self.in_memory_order.as_slice().as_raw()
     }
 
-    /// How a code generator sees the values.
-    pub fn backend_repr(&self) -> BackendRepr
-        ensures { result ≡ self.now.backend_repr }
-    {
-        self.backend_repr
-    }
-
-    /// The place with the most free numbers.
-    pub fn largest_niche(&self) -> Option<Niche>
-        ensures { result ≡ self.now.largest_niche }
-    {
-        self.largest_niche
-    }
-
     /// Whether no value can be.
     pub fn uninhabited(&self) -> bool
         ensures { result ≡ self.now.uninhabited }
@@ -112,46 +98,6 @@ impl<FieldIdx: Idx, VariantIdx: Idx> ListLayout<FieldIdx, VariantIdx> {
         ensures { result ≡ self.now.size }
     {
         self.size
-    }
-
-    /// The greatest alignment that a `repr(align)` asks for.
-    pub fn max_repr_align(&self) -> Option<Align>
-        ensures { result ≡ self.now.max_repr_align }
-    {
-        self.max_repr_align
-    }
-
-    /// The alignment before `repr(align)` raised it.
-    pub fn unadjusted_abi_align(&self) -> Align
-        ensures { result ≡ self.now.unadjusted_abi_align }
-    {
-        self.unadjusted_abi_align
-    }
-
-    /// A hash of the parts, to seed a shuffle of fields with.
-    pub fn randomization_seed(&self) -> Hash64
-        ensures { result ≡ self.now.randomization_seed }
-    {
-        self.randomization_seed
-    }
-
-    /// Lays the fields out at these offsets, in this order.
-    pub fn set_places(
-        &mut self,
-        offsets: IndexVec<FieldIdx, Size>,
-        in_memory_order: IndexVec<u32, FieldIdx>,
-    )
-        ensures { self.new ≡ record self.old { fields = Arbitrary offsets in_memory_order } }
-    {
-        self.offsets = offsets;
-        self.in_memory_order = in_memory_order;
-    }
-
-    /// Takes the list's niche away.
-    pub fn forget_niche(&mut self)
-        ensures { self.new ≡ record self.old { largest_niche = None } }
-    {
-        self.largest_niche = None;
     }
 
     /// The layout of a type that is this list.
@@ -176,10 +122,18 @@ impl<FieldIdx: Idx, VariantIdx: Idx> ListLayout<FieldIdx, VariantIdx> {
         }
     }
 
-    /// The list as one variant of a type.
-    pub fn into_variant(self) -> VariantLayout<FieldIdx>
-        ensures { result ≡ variant_of self }
+    /// What it has as one variant of a type, and the rest.
+    pub(crate) fn into_parts(self) -> (VariantLayout<FieldIdx>, Rest<VariantIdx>)
+        ensures { list_of result.0 result.1 ≡ self }
     {
-        VariantLayout::from_layout(self.into_layout())
+        let rest = Rest {
+            index: self.index,
+            align: self.align,
+            max_repr_align: self.max_repr_align,
+            unadjusted_abi_align: self.unadjusted_abi_align,
+            repr_c: self.repr_c,
+            randomization_seed: self.randomization_seed,
+        };
+        (VariantLayout::from_layout(self.into_layout()), rest)
     }
 }

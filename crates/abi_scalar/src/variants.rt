@@ -126,6 +126,27 @@ impl<FieldIdx: Idx> VariantLayout<FieldIdx> {
         }
     }
 
+    /// Its fields as they follow one another in memory.
+    pub fn in_memory_order(&self) -> &[FieldIdx]
+        ensures { result.now ≡ self.now.fields_in_memory_order }
+    {
+        self.fields_in_memory_order.as_slice().as_raw()
+    }
+
+    /// The place among its fields with the most free numbers.
+    pub fn largest_niche(&self) -> Option<Niche>
+        ensures { result ≡ self.now.largest_niche }
+    {
+        self.largest_niche
+    }
+
+    /// Takes that place away, for a variant whose type has another use for it.
+    pub fn forget_niche(&mut self)
+        ensures { self.new ≡ record self.old { largest_niche = None } }
+    {
+        self.largest_niche = None;
+    }
+
     /// Whether it is marked as having no value.
     pub fn is_uninhabited(&self) -> bool
         ensures { result ≡ self.now.uninhabited }

@@ -1,9 +1,9 @@
 -- The layout of a coroutine, from the layouts of its lists.
-use Rattle.std.proofs.Common.{◌≡◌, ℕ, ◌+◌, ◌-◌, ◌^◌, ◌<◌, ◌≤◌, Bool, true, false, cond, List, [], ◌∷◌, ◌++◌, ◌∙◌, ap, arith, drop, get_or, length, map, refl, subst, suc, sym, zero}
+use Rattle.std.proofs.Common.{◌≡◌, ℕ, ◌+◌, ◌-◌, ◌^◌, ◌<◌, ◌≤◌, Bool, true, false, cond, List, [], ◌∷◌, ◌++◌, ◌∙◌, ap, ap₂, arith, drop, get_or, length, map, refl, subst, suc, sym, zero}
 use Rattle.std.specs.Prelude.{All, IsPermutation, filter, nat_lt, not, sum_by}
 use Rattle.std.specs.List.{AllZip, range_with_len}
 use Rattle.std.proofs.lemmas.Bool.{ltb-false, lt-ltb, le-ltb}
-use Rattle.std.proofs.lemmas.List.{append_assoc, drop_more, get_or-map, length-drop, length-map, map-id}
+use Rattle.std.proofs.lemmas.List.{append_assoc, get_or-map, length-drop, length-map, map-id}
 use Rattle.std.proofs.lemmas.List.Elements.{All-cons, All-filter, All-map, filter-append, filter_passes}
 use Rattle.std.proofs.lemmas.List.FromFn.{length-range_with_len}
 use Rattle.std.proofs.lemmas.List.Sorted.{sum_by-IsPermutation}
@@ -19,6 +19,7 @@ use Rattle.abi_lists.specs.Placement.{source_order}
 use Rattle.abi_lists.proofs.Sorting.{within_order}
 use Rattle.abi_calc.specs.Coroutine.Layout.{whole_align}
 use Rattle.abi_calc.specs.Coroutine.States.{HasFields, ranks_of, state_layout, state_layouts}
+use Rattle.abi_calc.proofs.AtIndex.{left_at}
 use Rattle.abi_calc.proofs.CoroutineLemmas.States.{kept_map, none_kept, range_split}
 use Rattle.abi_calc.proofs.EnumLemmas.Lists.{align_small}
 use Rattle.abi_calc.proofs.EnumLemmas.Tagged.{size_of_lists_small}
@@ -108,16 +109,19 @@ module _ {F V : Type 0} (number : F → ℕ) (before count : ℕ) (first : Layou
 
 -- ---- lists beside their states
 
--- a list has its state
-pub zip_more : {A B : Type 0} (R : A → B → Type 0) (n : ℕ) (xs : List A) (y : B) (ys : List B) → AllZip R (drop n xs) (y ∷ ys) → n < length xs
-zip_more R zero [] y ys h = elim h [ ]
-zip_more R (suc n) [] y ys h = elim h [ ]
-zip_more R zero (x ∷ xs) y ys h = omega arith
-zip_more R (suc n) (x ∷ xs) y ys h = omega (arith, zip_more R n xs y ys h)
+-- each state has a list
+pub zip_count : {A B : Type 0} (R : A → B → Type 0) (xs : List A) (ys : List B) → AllZip R xs ys → length xs ≡ length ys
+zip_count R [] [] h = refl
+zip_count R [] (y ∷ ys) h = elim h [ ]
+zip_count R (x ∷ xs) [] h = elim h [ ]
+zip_count R (x ∷ xs) (y ∷ ys) h = ap suc (zip_count R xs ys h.1)
 
-pub zip_at : {A B : Type 0} (R : A → B → Type 0) (n : ℕ) (xs : List A) (x : A) (y : B) (ys : List B) → n < length xs → x ≡ get_or xs n x → AllZip R (drop n xs) (y ∷ ys) → R x y × AllZip R (drop (n + 1) xs) ys
-zip_at R n xs x y ys short is h =
-    subst (λ zs. AllZip R zs (y ∷ ys)) (drop_more xs n x short ∙ ap (λ z. z ∷ drop (n + 1) xs) (sym is)) h
+-- the one at its place
+pub zip_there : {A B : Type 0} (R : A → B → Type 0) (xs : List A) (ys : List B) (i : ℕ) (x : A) (y : B) → i < length ys → x ≡ get_or xs i x → y ≡ get_or ys i y → AllZip R xs ys → R x y
+zip_there R xs [] i x y short first second h = absurd (omega arith)
+zip_there R [] (b ∷ ys) i x y short first second h = elim h [ ]
+zip_there R (a ∷ xs) (b ∷ ys) zero x y short first second h = subst (λ z. R z y) (sym first) (subst (R a) (sym second) h.0)
+zip_there R (a ∷ xs) (b ∷ ys) (suc i) x y short first second h = zip_there R xs ys i x y (omega (arith, short)) first second h.1
 
 module _ {F V L : Type 0} (at : ℕ → F) (number : F → ℕ) (before : ℕ) (promoted : List Bool) (first : LayoutData F V) (name : L → ℕ) where
   -- no list, no state
@@ -126,24 +130,11 @@ module _ {F V L : Type 0} (at : ℕ → F) (number : F → ℕ) (before : ℕ) (
   layouts_none (s ∷ ss) = refl
 
   -- one state more
-  pub layouts_next : (done : List (VariantLayout F)) (n : ℕ) (states : List (List L)) (state : List L) (list : LayoutData F V) (rest : List (LayoutData F V)) (layout : VariantLayout F) (all : List (VariantLayout F))
-      → n < length states → state ≡ get_or states n state → layout ≡ state_layout at number before promoted first (map name state) list
-      → done ++ state_layouts at number before promoted first (map (map name) (drop n states)) (list ∷ rest) ≡ all
-      → (done ++ layout ∷ []) ++ state_layouts at number before promoted first (map (map name) (drop (n + 1) states)) rest ≡ all
-  layouts_next done n states state list rest layout all short is laid so =
-      let split : drop n states ≡ state ∷ drop (n + 1) states = drop_more states n state short ∙ ap (λ z. z ∷ drop (n + 1) states) (sym is) in
-      append_assoc done (layout ∷ []) (state_layouts at number before promoted first (map (map name) (drop (n + 1) states)) rest)
-      ∙ ap (λ v. done ++ v ∷ state_layouts at number before promoted first (map (map name) (drop (n + 1) states)) rest) laid
-      ∙ sym (ap (λ ss. done ++ state_layouts at number before promoted first (map (map name) ss) (list ∷ rest)) split) ∙ so
-
--- ---- going over lists beside their states
-
-module _ {A B : Type 0} (R : A → B → Type 0) (n m : ℕ) (xs : List A) (y : B) (rest ys : List B) (same : m ≡ n) (split : rest ≡ y ∷ ys) (zipped : AllZip R (drop n xs) rest) where
-  -- the place of the next list is that of a state
-  pub list_short : m < length xs
-  list_short = subst (λ k. k < length xs) (sym same) (zip_more R n xs y ys (subst (AllZip R (drop n xs)) split zipped))
-
-  -- whose list it is
-  pub list_at : (x : A) → x ≡ get_or xs m x → R x y × AllZip R (drop (n + 1) xs) ys
-  list_at x is =
-      zip_at R n xs x y ys (zip_more R n xs y ys (subst (AllZip R (drop n xs)) split zipped)) (subst (λ k. x ≡ get_or xs k x) same is) (subst (AllZip R (drop n xs)) split zipped)
+  pub layouts_next : (done : List (VariantLayout F)) (n : ℕ) (states : List (List L)) (state : List L) (lists : List (LayoutData F V)) (list : LayoutData F V) (layout : VariantLayout F) (all : List (VariantLayout F))
+      → n < length states → state ≡ get_or states n state → n < length lists → list ≡ get_or lists n list → layout ≡ state_layout at number before promoted first (map name state) list
+      → done ++ state_layouts at number before promoted first (map (map name) (drop n states)) (drop n lists) ≡ all
+      → (done ++ layout ∷ []) ++ state_layouts at number before promoted first (map (map name) (drop (n + 1) states)) (drop (n + 1) lists) ≡ all
+  layouts_next done n states state lists list layout all short is within beside laid so =
+      append_assoc done (layout ∷ []) (state_layouts at number before promoted first (map (map name) (drop (n + 1) states)) (drop (n + 1) lists))
+      ∙ ap (λ v. done ++ v ∷ state_layouts at number before promoted first (map (map name) (drop (n + 1) states)) (drop (n + 1) lists)) laid
+      ∙ sym (ap₂ (λ ss ls. done ++ state_layouts at number before promoted first (map (map name) ss) ls) (left_at states n state short is) (left_at lists n list within beside)) ∙ so

@@ -77,20 +77,20 @@ apart_on on small whole (o ∷ offsets) (m ∷ sizes) fits h = (omega (arith, h.
 
 -- a variant that ends before the niche, or lies after it
 beside_apart : {F V : Type 0} (room : Room) (width : ℕ) (list : LayoutData F V) (sizes : List ℕ) (variant : VariantLayout F) → room.before + width ≤ room.after → room.after ≤ room.whole → list.size ≤ room.whole
-    → AreApart list.size (listed_offsets list.fields) sizes → beside_niche room list ≡ Some variant → AreApart room.whole (room.before ∷ variant.field_offsets) (width ∷ sizes)
+    → AreApart list.size (listed_offsets list.fields) sizes → beside_niche room list.align.abi (variant_of list) ≡ Some variant → AreApart room.whole (room.before ∷ variant.field_offsets) (width ∷ sizes)
 beside_apart room width list sizes variant ends fits less apart e = by (nat_le list.size room.before) (nat_le (place_after room list.align.abi + list.size) room.whole) refl refl e
   where
     by : (b c : Bool) → nat_le list.size room.before ≡ b → nat_le (place_after room list.align.abi + list.size) room.whole ≡ c
-        → (if b then Some (without_niche list) else (if c then Some (moved_on (place_after room list.align.abi) list) else None)) ≡ Some variant
+        → (if b then Some (without_niche (variant_of list)) else (if c then Some (moved_on (place_after room list.align.abi) (variant_of list)) else None)) ≡ Some variant
         → AreApart room.whole (room.before ∷ variant.field_offsets) (width ∷ sizes)
     by true c early late is =
-        let same : without_niche list ≡ variant = cc in
+        let same : without_niche (variant_of list) ≡ variant = cc in
         let short : list.size ≤ room.before = leb-true list.size room.before early in
         subst (λ v. AreApart room.whole (room.before ∷ v.field_offsets) (width ∷ sizes)) same
         (omega (arith, ends, fits), before_place room.before width list.size (listed_offsets list.fields) sizes short apart, wider list.size room.whole (listed_offsets list.fields) sizes less apart)
     by false true early late is =
         let on : ℕ = place_after room list.align.abi in
-        let same : moved_on on list ≡ variant = cc in
+        let same : moved_on on (variant_of list) ≡ variant = cc in
         let inside : on + list.size ≤ room.whole = leb-true (on + list.size) room.whole late in
         let far : room.after ≤ on = (rounded_to room.after list.align.abi).above in
         subst (λ v. AreApart room.whole (room.before ∷ v.field_offsets) (width ∷ sizes)) same
@@ -99,7 +99,7 @@ beside_apart room width list sizes variant ends fits less apart e = by (nat_le l
 
 -- a variant, be it the untagged one or not
 variant_apart : {F V : Type 0} (b : Bool) (room : Room) (width : ℕ) (list : LayoutData F V) (sizes : List ℕ) (variant : VariantLayout F) → room.before + width ≤ room.after → room.after ≤ room.whole → list.size ≤ room.whole
-    → AreApart list.size (listed_offsets list.fields) sizes → (if b then Some (variant_of list) else beside_niche room list) ≡ Some variant
+    → AreApart list.size (listed_offsets list.fields) sizes → (if b then Some (variant_of list) else beside_niche room list.align.abi (variant_of list)) ≡ Some variant
     → MatchBool b (AreApart room.whole variant.field_offsets sizes) (AreApart room.whole (room.before ∷ variant.field_offsets) (width ∷ sizes))
 variant_apart true room width list sizes variant ends fits less apart e =
     let same : variant_of list ≡ variant = cc in
@@ -125,10 +125,10 @@ placed_there : {F V : Type 0} (room : Room) (untagged from i : ℕ) (lists : Lis
     → slice_get lists i ≡ Some list → (variant : VariantLayout F) × (slice_get placed i ≡ Some variant)
 placed_there room untagged from i [] placed list e there = absurd (cc)
 placed_there room untagged from i (l ∷ lists) [] list e there =
-    absurd (never_empty (if from == untagged then Some (variant_of l) else beside_niche room l) (variants_from room untagged (from + 1) lists) e)
+    absurd (never_empty (if from == untagged then Some (variant_of l) else beside_niche room l.align.abi (variant_of l)) (variants_from room untagged (from + 1) lists) e)
 placed_there room untagged from zero (l ∷ lists) (v ∷ placed) list e there = (v, refl)
 placed_there room untagged from (suc i) (l ∷ lists) (v ∷ placed) list e there =
-    let parts = first_parts (if from == untagged then Some (variant_of l) else beside_niche room l) (variants_from room untagged (from + 1) lists) v placed e in
+    let parts = first_parts (if from == untagged then Some (variant_of l) else beside_niche room l.align.abi (variant_of l)) (variants_from room untagged (from + 1) lists) v placed e in
     placed_there room untagged (from + 1) i lists placed list parts.1 there
 
 module _ {F V H : Type 0} (layout_of : H → LayoutData F V) (at : ℕ → F) (first : V) (dl : TargetDataLayout) (repr : ReprOptions) (kind : StructKind) where
@@ -148,9 +148,9 @@ module _ {F V H : Type 0} (layout_of : H → LayoutData F V) (at : ℕ → F) (f
   apart_from room untagged width from [] (list ∷ lists) placed ends fits more good e = absurd good
   apart_from room untagged width from (fields ∷ variants) [] placed ends fits more good e = absurd good
   apart_from room untagged width from (fields ∷ variants) (list ∷ lists) [] ends fits more good e =
-      absurd (never_empty (if from == untagged then Some (variant_of list) else beside_niche room list) (variants_from room untagged (from + 1) lists) e)
+      absurd (never_empty (if from == untagged then Some (variant_of list) else beside_niche room list.align.abi (variant_of list)) (variants_from room untagged (from + 1) lists) e)
   apart_from room untagged width from (fields ∷ variants) (list ∷ lists) (v ∷ placed) ends fits more good e =
-      let parts = first_parts (if from == untagged then Some (variant_of list) else beside_niche room list) (variants_from room untagged (from + 1) lists) v placed e in (
+      let parts = first_parts (if from == untagged then Some (variant_of list) else beside_niche room list.align.abi (variant_of list)) (variants_from room untagged (from + 1) lists) v placed e in (
         subst (λ sizes. MatchBool (from == untagged) (AreApart room.whole v.field_offsets sizes) (AreApart room.whole (room.before ∷ v.field_offsets) (width ∷ sizes))) (sym (sizes_as layout_of fields))
             (variant_apart (from == untagged) room width list (map (λ f. (layout_of f).size) fields) v ends fits (omega (arith, more)) good.0.apart parts.0),
         apart_from room untagged width (from + 1) variants lists placed ends fits (omega (arith, more)) good.1 parts.1,
@@ -164,7 +164,7 @@ module _ {F V H : Type 0} (layout_of : H → LayoutData F V) (at : ℕ → F) (f
 
   -- which it has where it is placed
   own_placed : (b : Bool) (room : Room) (fields : List H) (list : LayoutData F V) (niche : Niche) (variant : VariantLayout F) → IsGoodList layout_of at first dl repr kind fields list → list.largest_niche ≡ Some niche
-      → b ≡ true → (if b then Some (variant_of list) else beside_niche room list) ≡ Some variant → IsNicheOfPart variant.field_offsets (map layout_of fields) niche
+      → b ≡ true → (if b then Some (variant_of list) else beside_niche room list.align.abi (variant_of list)) ≡ Some variant → IsNicheOfPart variant.field_offsets (map layout_of fields) niche
   own_placed true room fields list niche variant good known is e =
       let same : variant_of list ≡ variant = cc in
       subst (λ v. IsNicheOfPart v.field_offsets (map layout_of fields) niche) same (own_list fields list niche good known)
@@ -179,13 +179,13 @@ module _ {F V H : Type 0} (layout_of : H → LayoutData F V) (at : ℕ → F) (f
   own_from room untagged from i (fields ∷ variants) [] placed list niche variant so good is known e there = absurd good
   own_from room untagged from i (fields ∷ variants) (l ∷ lists) [] list niche variant so good is known e there = absurd (cc)
   own_from room untagged from zero (fields ∷ variants) (l ∷ lists) (v ∷ placed) list niche variant so good is known e there =
-      let parts = first_parts (if from == untagged then Some (variant_of l) else beside_niche room l) (variants_from room untagged (from + 1) lists) v placed e in
+      let parts = first_parts (if from == untagged then Some (variant_of l) else beside_niche room l.align.abi (variant_of l)) (variants_from room untagged (from + 1) lists) v placed e in
       let same : v ≡ variant = cc in
       let one : l ≡ list = cc in
       subst (λ w. IsNicheOfPart w.field_offsets (map layout_of fields) niche) same
       (own_placed (from == untagged) room fields l niche v good.0 (ap (λ k. k.largest_niche) one ∙ known) (eq-eqb from untagged (omega (arith, so))) parts.0)
   own_from room untagged from (suc i) (fields ∷ variants) (l ∷ lists) (v ∷ placed) list niche variant so good is known e there =
-      let parts = first_parts (if from == untagged then Some (variant_of l) else beside_niche room l) (variants_from room untagged (from + 1) lists) v placed e in
+      let parts = first_parts (if from == untagged then Some (variant_of l) else beside_niche room l.align.abi (variant_of l)) (variants_from room untagged (from + 1) lists) v placed e in
       own_from room untagged (from + 1) i variants lists placed list niche variant (omega (arith, so)) good.1 is known parts.1 there
 
 -- ---- the numbers

@@ -1,5 +1,5 @@
 -- A tag that grows into the space before the variants' fields.
-use Rattle.std.proofs.Common.{◌≡◌, ℕ, zero, suc, ◌+◌, ◌^◌, ◌<◌, ◌≤◌, Bool, true, false, List, [], ◌∷◌, add-one, ap, arith, drop, drop-cons, get_or, length, map, min, refl, subst, sym, ◌∙◌}
+use Rattle.std.proofs.Common.{◌≡◌, ℕ, zero, suc, ◌+◌, ◌^◌, ◌<◌, ◌≤◌, Bool, true, false, List, [], ◌∷◌, ap, arith, drop, get_or, length, map, min, refl, subst, sym, ◌∙◌}
 use Rattle.std.specs.Prelude.{◌==◌, ◌&&◌, None, Option, Some, cond, if◌then◌else◌, nat_lt, option_map, slice_get, unwrap_or}
 use Rattle.std.specs.List.{find}
 use Rattle.std.proofs.lemmas.Bool.{eqb-true, ltb-false, ltb-true}
@@ -12,13 +12,10 @@ use Rattle.abi_scalar.specs.declared.layout_data.LayoutData.{LayoutData}
 use Rattle.abi_scalar.specs.declared.repr.ReprOptions.{ReprOptions}
 use Rattle.abi_scalar.specs.Order.{indices_by_offset}
 use Rattle.abi_lists.specs.Part.{max_align}
+use Rattle.abi_calc.proofs.AtIndex.{left_at}
 use Rattle.abi_calc.specs.Enums.Growth.{first_align, grown_tag, larger_integer, start_align}
 use Rattle.abi_calc.specs.Enums.Lists.{AreListsOf, IsListOf}
 use Rattle.abi_calc.specs.Enums.Path.{is_free}
-
--- what is left of a list is the item at the index and what is left behind it
-pub left_at : {A : Type 0} (xs : List A) (i : ℕ) (x : A) → i < length xs → x ≡ get_or xs i x → drop i xs ≡ x ∷ drop (i + 1) xs
-left_at xs i x short is = rw add-one (drop-cons xs i x short ∙ ap (λ y. y ∷ drop (suc i) xs) (sym is))
 
 -- ---- the variants' lists
 

@@ -129,7 +129,6 @@ begin_inside whole (o ∷ os) (m ∷ ms) h = All-cons (λ p. p ≤ whole) o os (
 pub small_list : {F V H : Type 0} (layout_of : H → LayoutData F V) (at : ℕ → F) (first : V) (dl : TargetDataLayout) (repr : ReprOptions) (kind : StructKind) (fields : List H) (list : LayoutData F V)
     → IsLawfulDataLayout dl → IsGoodList layout_of at first dl repr kind fields list → IsSmallList list
 small_list layout_of at first dl repr kind fields list law good = record {
-  listed = good.listed.listed;
   inside = begin_inside list.size (listed_offsets list.fields) (map (λ f. (layout_of f).size) fields) good.apart;
   size = omega (arith, good.lawful.bound, bound_small dl law);
   align = good.lawful.limit;

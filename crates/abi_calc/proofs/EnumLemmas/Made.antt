@@ -150,25 +150,25 @@ from_start (o ∷ os) = let same : o ≡ 0 + o = omega arith in rw (sym same, sy
 
 module _ {F V : Type 0} (place width : ℕ) (room : Room) (before : room.before ≡ place) (after : room.after ≡ place + width) where
   after_niche : (list : LayoutData F V) (v : VariantLayout F) (b : Bool) → nat_le (place_after room list.align.abi + list.size) room.whole ≡ b
-      → (if b then Some (moved_on (place_after room list.align.abi) list) else None) ≡ Some v → IsBesideNiche place width room.whole list v
+      → (if b then Some (moved_on (place_after room list.align.abi) (variant_of list)) else None) ≡ Some v → IsBesideNiche place width room.whole list v
   after_niche list v true fits e =
-      let same : moved_on (place_after room list.align.abi) list ≡ v = cc in
+      let same : moved_on (place_after room list.align.abi) (variant_of list) ≡ v = cc in
       let end : place_after room list.align.abi + list.size ≤ room.whole = leb-true (place_after room list.align.abi + list.size) room.whole fits in
       inr (subst (λ n. (next_multiple_of n (2 ^ list.align.abi) + list.size ≤ room.whole) × IsMovedBy (next_multiple_of n (2 ^ list.align.abi)) list v) after
       (end, subst (IsMovedBy (place_after room list.align.abi) list) same (record { offsets = refl; order = refl; size = refl; niche = refl; uninhabited = refl })))
   after_niche list v false fits e = absurd (cc)
 
   beside_by : (list : LayoutData F V) (v : VariantLayout F) (b : Bool) → nat_le list.size room.before ≡ b
-      → (if b then Some (without_niche list) else (if nat_le (place_after room list.align.abi + list.size) room.whole then Some (moved_on (place_after room list.align.abi) list) else None)) ≡ Some v
+      → (if b then Some (without_niche (variant_of list)) else (if nat_le (place_after room list.align.abi + list.size) room.whole then Some (moved_on (place_after room list.align.abi) (variant_of list)) else None)) ≡ Some v
       → IsBesideNiche place width room.whole list v
   beside_by list v true fits e =
-      let same : without_niche list ≡ v = cc in
+      let same : without_niche (variant_of list) ≡ v = cc in
       let end : list.size ≤ place = omega (arith, leb-true list.size room.before fits, before) in
       let none : list.size ≡ 0 + list.size = omega arith in
       inl (end, subst (IsMovedBy 0 list) same (record { offsets = from_start (listed_offsets list.fields); order = refl; size = none; niche = refl; uninhabited = refl }))
   beside_by list v false fits e = after_niche list v (nat_le (place_after room list.align.abi + list.size) room.whole) refl e
 
-  own_by : (list : LayoutData F V) (v : VariantLayout F) (b : Bool) → (if b then Some (variant_of list) else beside_niche room list) ≡ Some v
+  own_by : (list : LayoutData F V) (v : VariantLayout F) (b : Bool) → (if b then Some (variant_of list) else beside_niche room list.align.abi (variant_of list)) ≡ Some v
       → MatchBool b (v ≡ variant_of list) (IsBesideNiche place width room.whole list v)
   own_by list v true e = cc
   own_by list v false e = beside_by list v (nat_le list.size room.before) refl e
@@ -177,9 +177,9 @@ module _ {F V : Type 0} (place width : ℕ) (room : Room) (before : room.before 
       → AreBesideNiche place width room.whole untagged from lists placed
   all_beside untagged from [] [] e = tt
   all_beside untagged from [] (v ∷ placed) e = absurd (cc)
-  all_beside untagged from (l ∷ lists) [] e = absurd (never_empty (if from == untagged then Some (variant_of l) else beside_niche room l) (variants_from room untagged (from + 1) lists) e)
+  all_beside untagged from (l ∷ lists) [] e = absurd (never_empty (if from == untagged then Some (variant_of l) else beside_niche room l.align.abi (variant_of l)) (variants_from room untagged (from + 1) lists) e)
   all_beside untagged from (l ∷ lists) (v ∷ placed) e =
-      let parts = first_parts (if from == untagged then Some (variant_of l) else beside_niche room l) (variants_from room untagged (from + 1) lists) v placed e in
+      let parts = first_parts (if from == untagged then Some (variant_of l) else beside_niche room l.align.abi (variant_of l)) (variants_from room untagged (from + 1) lists) v placed e in
       (own_by l v (from == untagged) parts.0, all_beside untagged (from + 1) lists placed parts.1)
 
 -- ---- the whole

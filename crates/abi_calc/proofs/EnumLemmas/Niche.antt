@@ -1,17 +1,19 @@
 -- A niche of one variant, and the others beside it.
-use Rattle.std.proofs.Common.{◌≡◌, ℕ, suc, ◌+◌, ◌<◌, ◌≤◌, Bool, true, false, List, [], ◌∷◌, ◌++◌, add-one, append_assoc, ap, arith, drop, get_or, length, map, refl, subst, sym, take, ◌∙◌}
+use Rattle.std.proofs.Common.{◌≡◌, ℕ, zero, suc, ◌+◌, ◌<◌, ◌≤◌, Bool, true, false, List, [], ◌∷◌, ◌++◌, add-one, append_assoc, ap, arith, drop, get_or, length, map, refl, set, subst, sym, take, ◌∙◌}
 use Rattle.std.specs.Prelude.{◌==◌, ◌&&◌, ◌||◌, MatchOption, None, Option, Some, filter, if◌then◌else◌, nat_le, not, option_map}
 use Rattle.std.specs.List.{list_any}
 use Rattle.std.proofs.lemmas.Bool.{leb-true, leb-false}
-use Rattle.std.proofs.lemmas.List.{get_or-map, get_or-take, length-append, length-map, length-take-le, take_all, take_more}
+use Rattle.std.proofs.lemmas.List.{append-nil, drop-drop, drop-map, drop-set-lt, drop_all, get_or-map, get_or-take, length-drop, length-map, length-take-le, take_all, take_more, take_more_set}
 use Rattle.std.proofs.lemmas.List.Folds.{list_any-append}
 use Rattle.abi_scalar.specs.declared.layout_data.LayoutData.{LayoutData}
 use Rattle.abi_scalar.specs.declared.variants.VariantLayout.{VariantLayout}
+use Rattle.abi_scalar.specs.Variant.{variant_of}
+use Rattle.abi_calc.specs.declared.enums.niche.Room.{Room}
 use Rattle.abi_lists.specs.Placement.{source_order}
 use Rattle.abi_lists.proofs.ViewLemmas.{bulky_else, bulky_then}
-use Rattle.abi_calc.specs.Enums.Niche.{last_greatest, last_or, needing_numbers, others_empty, span_of, with_first}
+use Rattle.abi_calc.specs.Enums.Niche.{beside_niche, last_greatest, last_or, needing_numbers, others_empty, span_of, variants_from, with_first}
 use Rattle.abi_calc.specs.Enums.Path.{is_absent, variant_at}
-use Rattle.abi_calc.proofs.EnumLemmas.Growth.{left_at}
+use Rattle.abi_calc.proofs.AtIndex.{left_at}
 use Rattle.abi_calc.proofs.EnumLemmas.Path.{variant_read}
 
 -- ---- the untagged variant
@@ -168,26 +170,48 @@ placed_step done x (Some y) (Some ys) whole before is =
     let same : x ≡ y = cc in
     ap (λ more. Some more) (append_assoc done (x ∷ []) ys ∙ ap (λ z. done ++ z ∷ ys) same) ∙ before
 
--- a variant that is put, if there is one, and those behind it
-pub put_step : {A : Type 0} (done new : List A) (here : Option A) (later whole : Option (List A)) (is_put : Bool) → MatchOption here (is_put ≡ false) (λ x. (is_put ≡ true) × (new ≡ done ++ x ∷ []))
-    → is_put ≡ true → option_map (λ more. done ++ more) (with_first here later) ≡ whole → option_map (λ more. new ++ more) later ≡ whole
-put_step done new None later whole is_put told is before = absurd (cc)
-put_step done new (Some x) later whole is_put told is before = subst (λ vs. option_map (λ more. vs ++ more) later ≡ whole) (sym told.1) (placed_step done x (Some x) later whole before refl)
+-- a variant that has a place, if there is one, takes it, and those behind it follow
+pub place_step : {A : Type 0} (xs : List A) (i : ℕ) (y : A) (here : Option A) (later whole : Option (List A)) (has_room : Bool) → i < length xs
+    → MatchOption here (has_room ≡ false) (λ x. (has_room ≡ true) × (y ≡ x)) → has_room ≡ true
+    → option_map (λ more. take i xs ++ more) (with_first here later) ≡ whole → option_map (λ more. take (i + 1) (set xs i y) ++ more) later ≡ whole
+place_step xs i y None later whole has_room short told is before = absurd (cc)
+place_step xs i y (Some x) later whole has_room short told is before =
+    subst (λ done. option_map (λ more. done ++ more) later ≡ whole) (sym (take_more_set xs i y short)) (placed_step (take i xs) y (Some x) later whole before (ap (λ z. Some z) (told.1)))
 
--- where none is put, there are no variants
-pub put_none : {A : Type 0} (done new : List A) (here : Option A) (later whole : Option (List A)) (is_put : Bool) → MatchOption here (is_put ≡ false) (λ x. (is_put ≡ true) × (new ≡ done ++ x ∷ []))
-    → is_put ≡ false → option_map (λ more. done ++ more) (with_first here later) ≡ whole → None ≡ whole
-put_none done new None later whole is_put told is_not before = before
-put_none done new (Some x) later whole is_put told is_not before = absurd (cc (told.0))
+-- where one has no place, there are no variants
+pub place_none : {A : Type 0} (done : List A) (y : A) (here : Option A) (later whole : Option (List A)) (has_room : Bool) → MatchOption here (has_room ≡ false) (λ x. (has_room ≡ true) × (y ≡ x))
+    → has_room ≡ false → option_map (λ more. done ++ more) (with_first here later) ≡ whole → None ≡ whole
+place_none done y None later whole has_room told is_not before = before
+place_none done y (Some x) later whole has_room told is_not before = absurd (cc (told.0))
 
--- one more variant, one list less
-pub put_left : {A B : Type 0} (done new : List A) (here : Option A) (is_put : Bool) (list : B) (rest : List B) (n : ℕ) → MatchOption here (is_put ≡ false) (λ x. (is_put ≡ true) × (new ≡ done ++ x ∷ []))
-    → is_put ≡ true → length done + length (list ∷ rest) ≡ n → length new + length rest ≡ n
-put_left done new None is_put list rest n told is same = absurd (cc)
-put_left done new (Some x) is_put list rest n told is same =
-    let e : length new ≡ length done + 1 = ap length told.1 ∙ length-append done (x ∷ []) in
-    let less : length (list ∷ rest) ≡ suc (length rest) = refl in
-    omega arith
+-- behind the last one there are all
+pub place_last : {F V : Type 0} (room : Room) (untagged i : ℕ) (xs : List (VariantLayout F)) (lists : List (LayoutData F V)) (whole : Option (List (VariantLayout F))) → length lists ≤ i → length xs ≤ i
+    → option_map (λ more. take i xs ++ more) (variants_from room untagged i (drop i lists)) ≡ whole → Some xs ≡ whole
+place_last room untagged i xs lists whole past far all =
+    sym (ap (λ ls. option_map (λ more. take i xs ++ more) (variants_from room untagged i ls)) (drop_all i lists past)
+    ∙ ap (λ done. Some done) (append-nil (take i xs) ∙ take_all i xs far)) ∙ all
+
+-- the list whose variant stands at an index
+pub list_behind : {F V : Type 0} (xs : List (VariantLayout F)) (lists : List (LayoutData F V)) (i : ℕ) (d : VariantLayout F) → i < length xs → drop i xs ≡ map variant_of (drop i lists)
+    → (list : LayoutData F V) × (list ≡ get_or lists i list) × (get_or xs i d ≡ variant_of list)
+list_behind [] lists i d short left = absurd (omega arith)
+list_behind (x ∷ xs) [] zero d short left = absurd (cc)
+list_behind (x ∷ xs) (l ∷ lists) zero d short left = (l, refl, ap (λ vs. get_or vs 0 d) left)
+list_behind (x ∷ xs) [] (suc i) d short left = absurd (omega (arith, short, ap length left, length-drop i xs))
+list_behind (x ∷ xs) (l ∷ lists) (suc i) d short left = list_behind xs lists i d (omega (arith, short)) left
+
+-- what its list gives at that place, and the lists behind it
+pub placed_next : {F V : Type 0} (room : Room) (untagged i : ℕ) (done : List (VariantLayout F)) (lists : List (LayoutData F V)) (list : LayoutData F V) (whole : Option (List (VariantLayout F))) → i < length lists → list ≡ get_or lists i list
+    → option_map (λ more. done ++ more) (variants_from room untagged i (drop i lists)) ≡ whole
+    → option_map (λ more. done ++ more) (with_first (if i == untagged then Some (variant_of list) else beside_niche room list.align.abi (variant_of list)) (variants_from room untagged (i + 1) (drop (i + 1) lists))) ≡ whole
+placed_next room untagged i done lists list whole short is all =
+    sym (ap (λ ls. option_map (λ more. done ++ more) (variants_from room untagged i ls)) (left_at lists i list short is)) ∙ all
+
+-- it is followed by the lists of those behind it
+pub lists_behind : {F V : Type 0} (xs : List (VariantLayout F)) (lists : List (LayoutData F V)) (i : ℕ) (y : VariantLayout F) → drop i xs ≡ map variant_of (drop i lists)
+    → drop (i + 1) (set xs i y) ≡ map variant_of (drop (i + 1) lists)
+lists_behind xs lists i y left =
+    drop-set-lt (i + 1) xs i y (omega arith) ∙ sym (drop-drop 1 i xs) ∙ ap (drop 1) left ∙ drop-map variant_of 1 (drop i lists) ∙ ap (map variant_of) (drop-drop 1 i lists)
 
 -- ---- the others have no bytes
 

@@ -1,6 +1,6 @@
 -- What the variants of a tagged enum hold beside the tag.
-use Rattle.std.proofs.Common.{◌≡◌, ℕ, zero, suc, ◌+◌, ◌<◌, ◌≤◌, List, [], ◌∷◌, ap, arith, drop, get_or, length, map, refl, rules, sym, ◌∙◌}
-use Rattle.std.specs.Prelude.{◌==◌, Some, fold, slice_get, true}
+use Rattle.std.proofs.Common.{◌≡◌, ℕ, zero, suc, ◌+◌, ◌<◌, ◌≤◌, List, [], ◌∷◌, ap, arith, drop, get_or, length, map, refl, sym, ◌∙◌}
+use Rattle.std.specs.Prelude.{Some, fold, slice_get}
 use Rattle.std.proofs.lemmas.List.{drop_all}
 use Rattle.abi_base.specs.declared.data_layout.TargetDataLayout.{TargetDataLayout}
 use Rattle.abi_scalar.specs.declared.layout_data.LayoutData.{LayoutData}
@@ -10,7 +10,7 @@ use Rattle.abi_scalar.specs.Scalar.{IsLawfulScalar, primitive_of}
 use Rattle.abi_lists.proofs.NicheLemmas.{readable_size}
 use Rattle.abi_calc.specs.declared.enums.payload.Payload.{Payload}
 use Rattle.abi_calc.specs.declared.enums.payload.Payload.TheVariants.{Nothing, One, Other}
-use Rattle.abi_calc.proofs.EnumLemmas.Growth.{left_at}
+use Rattle.abi_calc.proofs.AtIndex.{left_at}
 use Rattle.abi_calc.specs.Enums.Payload.{IsLawfulPayload, beside, common, common_of, payload_of, payload_of_field}
 use Rattle.abi_calc.specs.Enums.Growth.{moved}
 use Rattle.abi_calc.specs.Enums.Lists.{AreListsOf}
@@ -87,11 +87,11 @@ common_end dl old new layout_of variants lists i now whole are far before =
     rw (drop_all i (payloads_of dl old new (map (map layout_of) variants) lists) past) at before
 
 -- no lists, nothing in common
-pub common_none : {F V H : Type 0} (dl : TargetDataLayout) (old new : ℕ) (layout_of : H → LayoutData F V) (variants : List (List H)) (lists : List (LayoutData F V)) → (length lists == 0) ≡ true
+pub common_none : {F V H : Type 0} (dl : TargetDataLayout) (old new : ℕ) (layout_of : H → LayoutData F V) (variants : List (List H)) (lists : List (LayoutData F V)) → length lists ≡ 0
     → Nothing ≡ common_of dl (payloads_of dl old new (map (map layout_of) variants) lists)
 common_none dl old new layout_of [] [] none = refl
 common_none dl old new layout_of (fields ∷ variants) [] none = refl
-common_none dl old new layout_of variants (list ∷ lists) none = absurd (search (rules, none))
+common_none dl old new layout_of variants (list ∷ lists) none = absurd (omega (arith, none))
 
 -- ---- the tag
 

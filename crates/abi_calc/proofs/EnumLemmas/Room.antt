@@ -38,21 +38,21 @@ neither a b c d less more (inr h) = omega (arith, more, h)
 
 module _ {F V : Type 0} (place width whole : ℕ) where
   -- a variant that is placed beside the niche has room there
-  placed_room : (list : LayoutData F V) (variant : VariantLayout F) → beside_niche (room_at place width whole) list ≡ Some variant → HasRoomBeside place width whole list
+  placed_room : (list : LayoutData F V) (variant : VariantLayout F) → beside_niche (room_at place width whole) list.align.abi (variant_of list) ≡ Some variant → HasRoomBeside place width whole list
   placed_room list variant e = by (nat_le list.size place) (nat_le (next_multiple_of (place + width) (2 ^ list.align.abi) + list.size) whole) refl refl e
     where
       by : (b c : Bool) → nat_le list.size place ≡ b → nat_le (next_multiple_of (place + width) (2 ^ list.align.abi) + list.size) whole ≡ c
-          → (if b then Some (without_niche list) else (if c then Some (moved_on (place_after (room_at place width whole) list.align.abi) list) else None)) ≡ Some variant → HasRoomBeside place width whole list
+          → (if b then Some (without_niche (variant_of list)) else (if c then Some (moved_on (place_after (room_at place width whole) list.align.abi) (variant_of list)) else None)) ≡ Some variant → HasRoomBeside place width whole list
       by true c early late is = inl (leb-true list.size place early)
       by false true early late is = inr (leb-true (next_multiple_of (place + width) (2 ^ list.align.abi) + list.size) whole late)
       by false false early late is = absurd (cc)
 
   -- and one that has room there is placed
-  room_placed : (list : LayoutData F V) → HasRoomBeside place width whole list → beside_niche (room_at place width whole) list ≡ None → ⊥
+  room_placed : (list : LayoutData F V) → HasRoomBeside place width whole list → beside_niche (room_at place width whole) list.align.abi (variant_of list) ≡ None → ⊥
   room_placed list room e = by (nat_le list.size place) (nat_le (next_multiple_of (place + width) (2 ^ list.align.abi) + list.size) whole) refl refl e
     where
       by : (b c : Bool) → nat_le list.size place ≡ b → nat_le (next_multiple_of (place + width) (2 ^ list.align.abi) + list.size) whole ≡ c
-          → (if b then Some (without_niche list) else (if c then Some (moved_on (place_after (room_at place width whole) list.align.abi) list) else None)) ≡ None → ⊥
+          → (if b then Some (without_niche (variant_of list)) else (if c then Some (moved_on (place_after (room_at place width whole) list.align.abi) (variant_of list)) else None)) ≡ None → ⊥
       by true c early late is = absurd (cc)
       by false true early late is = absurd (cc)
       by false false early late is =
@@ -76,13 +76,13 @@ one_missing (Some x) (Some xs) e = absurd (cc)
 module _ {F V : Type 0} (place width whole untagged : ℕ) where
   -- a variant that has a place has room, unless it is the untagged one
   first_room : (from : ℕ) (list : LayoutData F V) (variant : VariantLayout F) (b : Bool) → (from == untagged) ≡ b → from ≢ untagged
-      → (if b then Some (variant_of list) else beside_niche (room_at place width whole) list) ≡ Some variant → HasRoomBeside place width whole list
+      → (if b then Some (variant_of list) else beside_niche (room_at place width whole) list.align.abi (variant_of list)) ≡ Some variant → HasRoomBeside place width whole list
   first_room from list variant true is other e = absurd (other (eqb-true from untagged is))
   first_room from list variant false is other e = placed_room place width whole list variant e
 
   -- and the same the other way round
   first_placed : (from : ℕ) (list : LayoutData F V) (b : Bool) → (from == untagged) ≡ b → (from ≢ untagged → HasRoomBeside place width whole list)
-      → (if b then Some (variant_of list) else beside_niche (room_at place width whole) list) ≡ None → ⊥
+      → (if b then Some (variant_of list) else beside_niche (room_at place width whole) list.align.abi (variant_of list)) ≡ None → ⊥
   first_placed from list true is room e = absurd (cc)
   first_placed from list false is room e = room_placed place width whole list (room (λ same. let yes : (from == untagged) ≡ true = eq-eqb from untagged same in absurd (cc))) e
 
@@ -91,11 +91,11 @@ module _ {F V : Type 0} (place width whole untagged : ℕ) where
       → (i : ℕ) (list : LayoutData F V) → slice_get lists i ≡ Some list → from + i ≢ untagged → HasRoomBeside place width whole list
   each_room from [] placed e i list is other = absurd (cc)
   each_room from (l ∷ lists) placed e zero list is other =
-      let parts = both_there (if from == untagged then Some (variant_of l) else beside_niche (room_at place width whole) l) (variants_from (room_at place width whole) untagged (from + 1) lists) placed e in
+      let parts = both_there (if from == untagged then Some (variant_of l) else beside_niche (room_at place width whole) l.align.abi (variant_of l)) (variants_from (room_at place width whole) untagged (from + 1) lists) placed e in
       let same : l ≡ list = cc in
       subst (HasRoomBeside place width whole) same (first_room from l parts.0.0 (from == untagged) refl (λ so. other (omega (arith, so))) parts.0.1)
   each_room from (l ∷ lists) placed e (suc i) list is other =
-      let parts = both_there (if from == untagged then Some (variant_of l) else beside_niche (room_at place width whole) l) (variants_from (room_at place width whole) untagged (from + 1) lists) placed e in
+      let parts = both_there (if from == untagged then Some (variant_of l) else beside_niche (room_at place width whole) l.align.abi (variant_of l)) (variants_from (room_at place width whole) untagged (from + 1) lists) placed e in
       each_room (from + 1) lists parts.1.0 parts.1.1 i list is (λ so. other (omega (arith, so)))
 
   -- where each has room but the untagged one, they have places
@@ -104,11 +104,11 @@ module _ {F V : Type 0} (place width whole untagged : ℕ) where
   each_placed from [] room e = absurd (cc)
   each_placed from (l ∷ lists) room e =
       ⊎_elim
-      (λ (none : (if from == untagged then Some (variant_of l) else beside_niche (room_at place width whole) l) ≡ None).
+      (λ (none : (if from == untagged then Some (variant_of l) else beside_niche (room_at place width whole) l.align.abi (variant_of l)) ≡ None).
       first_placed from l (from == untagged) refl (λ other. room 0 l refl (λ so. other (omega (arith, so)))) none)
       (λ (none : variants_from (room_at place width whole) untagged (from + 1) lists ≡ None).
       each_placed (from + 1) lists (λ i list is other. room (suc i) list is (λ so. other (omega (arith, so)))) none)
-      (one_missing (if from == untagged then Some (variant_of l) else beside_niche (room_at place width whole) l) (variants_from (room_at place width whole) untagged (from + 1) lists) e)
+      (one_missing (if from == untagged then Some (variant_of l) else beside_niche (room_at place width whole) l.align.abi (variant_of l)) (variants_from (room_at place width whole) untagged (from + 1) lists) e)
 
 -- ---- the free numbers
 

@@ -1,9 +1,8 @@
 -- The layout of an enum with a tag.
-use Rattle.std.proofs.Common.{◌≡◌, ℕ, suc, ◌+◌, ◌^◌, ◌<◌, ◌≤◌, List, [], ◌∷◌, ◌++◌, ◌∙◌, ap, arith, inl, inr, length, map, refl, subst, sym}
+use Rattle.std.proofs.Common.{◌≡◌, ℕ, ◌^◌, ◌<◌, ◌≤◌, List, ◌∙◌, ap, arith, inl, inr, map, subst, sym}
 use Rattle.std.proofs.Common.{◌*◌, ◌%◌, Bool}
 use Rattle.std.specs.Prelude.{◌⊎◌, All, IfErr, IfOk, Option, None, Some, Result, Ok, Err, unwrap_or}
 use Rattle.std.proofs.lemmas.Nat.{pow_pos}
-use Rattle.std.proofs.lemmas.List.Elements.{All-cons, All-nil}
 use Rattle.abi_base.specs.declared.integer.Integer.{Integer}
 use Rattle.abi_base.specs.declared.integer.Integer.TheVariants.{I8, I16, I32, I64, I128}
 use Rattle.abi_base.specs.declared.primitive.Primitive.TheVariants.{Int}
@@ -15,12 +14,11 @@ use Rattle.abi_scalar.specs.declared.wrapping_range.WrappingRange.{WrappingRange
 use Rattle.abi_scalar.specs.LeastRange.{IsSmallestOf}
 use Rattle.abi_scalar.specs.Range.{AreWithin, numbers_of}
 use Rattle.abi_scalar.specs.Scalar.{IsLawfulScalar}
-use Rattle.abi_scalar.specs.Shape.{IsListed}
 use Rattle.abi_calc.specs.Enums.Discriminants.{IsTagRange}
 use Rattle.abi_calc.specs.Enums.Growth.{grown_tag, start_align}
-use Rattle.abi_calc.specs.Enums.Lists.{AreListLayouts, AreListsOf, behind_tag}
+use Rattle.abi_calc.specs.Enums.Lists.{AreListLayouts, behind_tag}
 use Rattle.abi_calc.specs.Enums.Payload.{tagged_view}
-use Rattle.std.proofs.lemmas.List.{append_assoc, length-append, length-map, map-id}
+use Rattle.std.proofs.lemmas.List.{map-id}
 use Rattle.abi_base.specs.declared.data_layout.TargetDataLayout.{TargetDataLayout}
 use Rattle.abi_base.specs.declared.struct_kind.StructKind.{StructKind}
 use Rattle.abi_base.specs.DataLayout.{IsLawfulDataLayout, size_bound}
@@ -41,20 +39,6 @@ size_of_lists_small dl lists law all = subst (λ ls. greatest_size ls < 2 ^ 62) 
 -- and their greatest alignment has its limit
 pub align_of_lists_small : {F V : Type 0} (dl : TargetDataLayout) (lists : List (LayoutData F V)) → IsLawfulDataLayout dl → All (IsLawfulLayout dl) lists → lists_align dl lists ≤ 29
 align_of_lists_small dl lists law all = subst (λ ls. greatest_align dl.aggregate_align ls ≤ 29) (map-id lists) (align_small (λ l. l) dl dl.aggregate_align lists (aggregate_small dl law) all)
-
--- ---- a list that is made item by item
-
--- there is room for one more
-pub room_for : {A B : Type 0} (f : B → A) (done : List A) (x : B) (rest all : List B) (most : ℕ) → done ++ map f (x ∷ rest) ≡ map f all → length all ≤ most + 1 → length done ≤ most
-room_for f done x rest all most same count =
-    let whole : length done + length (map f (x ∷ rest)) ≡ length (map f all) = sym (length-append done (map f (x ∷ rest))) ∙ ap length same in
-    let items : length (map f all) ≡ length all = length-map all f in
-    let left : length (map f (x ∷ rest)) ≡ suc (length (map f rest)) = refl in
-    omega (arith, whole, items, left, count)
-
--- with one more
-pub one_more : {A B : Type 0} (f : B → A) (done : List A) (x : B) (rest all : List B) → done ++ map f (x ∷ rest) ≡ map f all → (done ++ (f x ∷ [])) ++ map f rest ≡ map f all
-one_more f done x rest all same = append_assoc done (f x ∷ []) (map f rest) ∙ same
 
 -- ---- the layout, part by part
 
@@ -103,13 +87,6 @@ range_within width values range h = subst (AreWithin width) (sym h.2) (found_wit
 -- the tag is a lawful scalar
 pub tag_lawful : (dl : TargetDataLayout) (i : Integer) (signed : Bool) (values : List ℕ) (range : WrappingRange) → IsTagRange (integer_size i) values range → IsLawfulScalar dl (Initialized (Int i signed) range)
 tag_lawful dl i signed values range h = record { pointer = tt; within = range_within (integer_size i) values range h }
-
--- each list is listed one by one
-pub all_listed : {A F V : Type 0} (variants : List (List A)) (lists : List (LayoutData F V)) → AreListsOf variants lists → All (λ l. IsListed l.fields) lists
-all_listed [] [] h = All-nil (λ l. IsListed l.fields)
-all_listed [] (l ∷ lists) h = elim h [ ]
-all_listed (v ∷ variants) [] h = elim h [ ]
-all_listed (v ∷ variants) (l ∷ lists) h = All-cons (λ l. IsListed l.fields) l lists h.0.listed (all_listed variants lists h.1)
 
 -- ---- the whole
 

@@ -1,11 +1,11 @@
 -- Where a state's locals lie in the whole: promoted ones where the first list has them, the others where the state's own list does.
-use Rattle.std.specs.Prelude.{◌≡◌, ℕ, ◌==◌, ◌-◌, not, Bool, IsPermutation, List, [], ◌∷◌, ◌++◌, None, Option, drop, filter, flat_map, length, map, nat_lt, slice_index, slice_index_or, if◌then◌else◌}
+use Rattle.std.specs.Prelude.{◌≡◌, ℕ, ◌==◌, ◌-◌, not, ◌<◌, All, Bool, IsPermutation, List, [], ◌∷◌, ◌++◌, None, Option, drop, filter, flat_map, length, map, nat_lt, slice_index, slice_index_or, if◌then◌else◌}
 use Rattle.std.specs.Option.{option_to_list}
 use Rattle.abi_scalar.specs.declared.layout_data.LayoutData.{LayoutData}
 use Rattle.abi_scalar.specs.declared.variants.VariantLayout.{VariantLayout}
 use Rattle.abi_scalar.specs.Shape.{IsListed, listed_offsets, listed_order}
 use Rattle.abi_scalar.specs.Variant.{variant_of}
-use Rattle.abi_index.specs.BitSet.{is_member, members_of}
+use Rattle.abi_index.specs.BitSet.{domain_size, is_member, members_of}
 use Rattle.abi_lists.specs.Placement.{source_order}
 
 -- the places at which a list has a number
@@ -43,6 +43,14 @@ pub record HasFields {F V : Type 0} (number : F → ℕ) (count : ℕ) (layout :
   pub listed : IsListed layout.fields
   pub offsets : length (listed_offsets layout.fields) ≡ count
   pub order : IsPermutation (source_order count) (map number (listed_order layout.fields))
+
+-- Where the promoted locals lie is told: how many of them are below each local, an offset for each of them, and each one's rank in
+-- memory order.
+pub record ArePlaced (promoted : List Bool) (below offsets ranks : List ℕ) : Type 0 where
+  pub below_each : below ≡ map (rank_of promoted) (source_order (domain_size promoted))
+  pub offset_each : length offsets ≡ length (members_of promoted)
+  pub rank_each : length ranks ≡ length (members_of promoted)
+  pub within : All (λ rank. rank < length (members_of promoted)) ranks
 
 -- the ranks of the promoted locals as they follow one another in memory: `before` fields stand before them in the first list
 abbrev pub ranks_of : {F : Type 0} → (number : F → ℕ) → (before : ℕ) → (order : List F) → List ℕ

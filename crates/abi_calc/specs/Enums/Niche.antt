@@ -18,7 +18,7 @@ use Rattle.abi_scalar.specs.Niche.{available_in, niche_at, niche_size}
 use Rattle.abi_scalar.specs.Repr.{is_c}
 use Rattle.abi_scalar.specs.Reserve.{reserved}
 use Rattle.abi_scalar.specs.Scalar.{primitive_of}
-use Rattle.abi_scalar.specs.Shape.{IsListed, listed_offsets}
+use Rattle.abi_scalar.specs.Shape.{listed_offsets}
 use Rattle.abi_scalar.specs.Variant.{variant_of}
 use Rattle.abi_lists.specs.Fields.{greatest_repr_align, greatest_unadjusted, seed_with}
 use Rattle.abi_lists.specs.Part.{max_align}
@@ -58,22 +58,22 @@ abbrev pub place_after : Room → (align : ℕ) → ℕ
 place_after room align = next_multiple_of room.after (2 ^ align)
 
 -- a variant without its niche
-abbrev pub without_niche : {F V : Type 0} → LayoutData F V → VariantLayout F
-without_niche list = record (variant_of list) { largest_niche = None }
+abbrev pub without_niche : {F : Type 0} → VariantLayout F → VariantLayout F
+without_niche variant = record variant { largest_niche = None }
 
 -- the same, moved so many bytes on: it is bytes in memory unless it has no values
-abbrev pub moved_on : {F V : Type 0} → (by : ℕ) → LayoutData F V → VariantLayout F
-moved_on by list = record (without_niche list) {
-  size = by + list.size;
-  field_offsets = map (λ o. by + o) (without_niche list).field_offsets;
-  backend_repr = if list.uninhabited then list.backend_repr else Memory true;
+abbrev pub moved_on : {F : Type 0} → (by : ℕ) → VariantLayout F → VariantLayout F
+moved_on by variant = record (without_niche variant) {
+  size = by + variant.size;
+  field_offsets = map (λ o. by + o) variant.field_offsets;
+  backend_repr = if variant.uninhabited then variant.backend_repr else Memory true;
 }
 
--- a variant beside the niche: it ends before it, or lies after it inside the whole; else there is no room
-abbrev pub beside_niche : {F V : Type 0} → Room → LayoutData F V → Option (VariantLayout F)
-beside_niche room list =
-    if nat_le list.size room.before then Some (without_niche list)
-    else (if nat_le (place_after room list.align.abi + list.size) room.whole then Some (moved_on (place_after room list.align.abi) list) else None)
+-- a variant of this alignment beside the niche: it ends before it, or lies after it inside the whole; else there is no room
+abbrev pub beside_niche : {F : Type 0} → Room → (align : ℕ) → VariantLayout F → Option (VariantLayout F)
+beside_niche room align variant =
+    if nat_le variant.size room.before then Some (without_niche variant)
+    else (if nat_le (place_after room align + variant.size) room.whole then Some (moved_on (place_after room align) variant) else None)
 
 abbrev pub with_first : {A : Type 0} → Option A → Option (List A) → Option (List A)
 with_first (Some x) (Some xs) = Some (x ∷ xs)
@@ -83,15 +83,14 @@ with_first _ _ = None
 abbrev pub variants_from : {F V : Type 0} → Room → (untagged from : ℕ) → (lists : List (LayoutData F V)) → Option (List (VariantLayout F))
 variants_from room untagged from [] = Some []
 variants_from room untagged from (list ∷ lists) =
-    with_first (if from == untagged then Some (variant_of list) else beside_niche room list) (variants_from room untagged (from + 1) lists)
+    with_first (if from == untagged then Some (variant_of list) else beside_niche room list.align.abi (variant_of list)) (variants_from room untagged (from + 1) lists)
 
 -- the room is small, so that sums of its parts and of sizes don't overflow
 abbrev pub IsRoomy : Room → Type 0
 IsRoomy room = room.after < 2 ^ 62
 
--- A list that can be moved within it: listed one by one, its fields begin inside, and it is small.
+-- A list that can be moved on: its fields begin inside, and it is small.
 pub record IsSmallList {F V : Type 0} (list : LayoutData F V) : Type 0 where
-  pub listed : IsListed list.fields
   pub inside : All (λ o. o ≤ list.size) (listed_offsets list.fields)
   pub size : list.size < 2 ^ 62
   pub align : list.align.abi ≤ max_align

@@ -1,19 +1,21 @@
 //! The layout of a coroutine, from the layouts of its lists.
 
-ghost use Rattle.std.specs.Prelude.{◌≡◌, ◌≢◌, ◌+◌, ◌<◌, ◌≤◌, ◌⊎◌, ◌||◌, All, IfErr, IfOk, filter, length, map, nat_lt};
+ghost use Rattle.std.specs.Prelude.{◌≡◌, ◌≢◌, ◌+◌, ◌++◌, ◌∷◌, ◌<◌, ◌≤◌, ◌⊎◌, ◌||◌, [], All, IfErr, IfOk, filter, length, map, nat_lt, take};
 ghost use Rattle.std.specs.List.{AllPairs, AllZip, list_all};
 ghost use Rattle.abi_base.specs.DataLayout.{IsLawfulDataLayout, size_bound};
 ghost use Rattle.abi_index.specs.BitSet.{domain_size, members_of};
+ghost use Rattle.abi_scalar.specs.declared.fields_shape.FieldsShape.TheVariants.{Arbitrary};
 ghost use Rattle.abi_scalar.specs.Lawful.{IsLawfulLayout};
+ghost use Rattle.abi_scalar.specs.Shape.{listed_offsets, listed_order};
 ghost use Rattle.abi_calc.specs.Coroutine.Layout.{IsStateTag, coroutine_layout, whole_align, whole_size};
 ghost use Rattle.abi_calc.specs.Coroutine.Lists.{own_of};
-ghost use Rattle.abi_calc.specs.Coroutine.States.{HasFields, ranks_of, state_layouts};
+ghost use Rattle.abi_calc.specs.Coroutine.States.{ArePlaced, HasFields, ranks_of, state_layouts, stitched_layout};
 
-use crate::coroutine::states::{ranks_below, state_layout};
+use crate::coroutine::states::{Promoted, ranks_below, state_layout};
 use crate::over_lists::{all_uninhabited, greater_size, greatest_align, greatest_size};
 use abi_base::{AbiAlign, Align, HasDataLayout, Integer, Primitive, Size, TargetDataLayout};
 use abi_index::{DenseBitSet, Hash64, Idx, IndexVec};
-use abi_lists::{ListLayout, field_offsets, rounded};
+use abi_lists::{LentList, ListLayout, ListLayouts, field_offsets, rounded};
 use abi_scalar::{
     BackendRepr, FieldsShape, LayoutCalculatorError, LayoutData, Scalar, TagEncoding,
     VariantLayout, Variants, WrappingRange,
@@ -54,7 +56,7 @@ pub fn state_tag(count: usize) -> Scalar
 /// The greatest alignment of the lists.
 fn whole_align<FieldIdx: Idx, VariantIdx: Idx>(
     first: &ListLayout<FieldIdx, VariantIdx>,
-    lists: &[ListLayout<FieldIdx, VariantIdx>],
+    lists: &ListLayouts<FieldIdx, VariantIdx>,
 ) -> Align
     ensures { result ≡ whole_align first.now lists.now }
 {
@@ -65,7 +67,7 @@ fn whole_align<FieldIdx: Idx, VariantIdx: Idx>(
 fn whole_size<FieldIdx: Idx, VariantIdx: Idx>(
     dl: &TargetDataLayout,
     first: &ListLayout<FieldIdx, VariantIdx>,
-    lists: &[ListLayout<FieldIdx, VariantIdx>],
+    lists: &ListLayouts<FieldIdx, VariantIdx>,
     align: Align,
 ) -> Size
     requires data_layout { IsLawfulDataLayout dl.now }
@@ -80,7 +82,7 @@ fn whole_size<FieldIdx: Idx, VariantIdx: Idx>(
 /// Whether the coroutine has no values: the first list has none, or no state has any.
 fn is_uninhabited<FieldIdx: Idx, VariantIdx: Idx>(
     first: &ListLayout<FieldIdx, VariantIdx>,
-    lists: &[ListLayout<FieldIdx, VariantIdx>],
+    lists: &ListLayouts<FieldIdx, VariantIdx>,
 ) -> bool
     ensures { result ≡ (first.now.uninhabited || list_all (λ list. list.uninhabited) lists.now) }
 {
@@ -123,37 +125,94 @@ fn ranks_of<FieldIdx: Idx>(
     Ok(ranks)
 }
 
+/// The fields that all states share, so many of the first list's: where they begin, and how they follow one another in
+/// memory.
+fn shared_fields<FieldIdx: Idx, VariantIdx: Idx>(
+    alloc: Global,
+    before: usize,
+    first: &ListLayout<FieldIdx, VariantIdx>,
+) -> Result<FieldsShape<FieldIdx>, AllocError>
+    requires within { before ≤ length (listed_offsets first.now.fields) }
+    requires few { before ≤ FieldIdx.MAX_INDEX + 1 }
+    requires order { length (listed_order first.now.fields) ≤ 0xFFFF_FFFF + 1 }
+    ensures { IfOk result (λ shape. shape ≡ Arbitrary (take before (listed_offsets first.now.fields))
+        (filter (λ i. nat_lt (FieldIdx.number i) before) (listed_order first.now.fields))) }
+{
+    let offsets = field_offsets(alloc, &first.offsets()[..before])?;
+    let in_memory_order = shared_order(alloc, before, first.in_memory_order())?;
+    Ok(FieldsShape::Arbitrary {
+        offsets,
+        in_memory_order,
+    })
+}
+
+/// Puts a state in the whole behind those before it, from its own list.
+fn put_state<FieldIdx: Idx, VariantIdx: Idx, LocalIdx: Idx>(
+    alloc: Global,
+    promoted: Promoted<'_, LocalIdx>,
+    state: &IndexVec<FieldIdx, LocalIdx>,
+    list: &LentList<'_, FieldIdx, VariantIdx>,
+    layouts: &mut IndexVec<VariantIdx, VariantLayout<FieldIdx>>,
+) -> Result<(), AllocError>
+    requires room { length layouts.old ≤ VariantIdx.MAX_INDEX }
+    requires named { domain_size promoted.locals.now ≤ LocalIdx.MAX_INDEX + 1 }
+    requires placed { ArePlaced promoted.locals.now promoted.below.now promoted.offsets.now promoted.ranks.now }
+    requires within { All (λ l. LocalIdx.number l < domain_size promoted.locals.now) state.now }
+    requires once { AllPairs (λ a b. a ≢ b) (map LocalIdx.number state.now) }
+    requires list { HasFields FieldIdx.number
+        (length (own_of promoted.locals.now (map LocalIdx.number state.now))) list.now }
+    ensures { IfOk result (λ _. layouts.new ≡ layouts.old ++
+        stitched_layout FieldIdx.at FieldIdx.number promoted.entry.locals.now promoted.entry.offsets.now
+        promoted.entry.ranks.now (map LocalIdx.number state.now) list.now ∷ []) }
+{
+    let layout = state_layout(alloc, promoted, state, list)?;
+    let _index = layouts.push(layout)?;
+    Ok(())
+}
+
 /// Each state in the whole, from its own list and the first one, where so many fields stand before the promoted locals.
 fn state_layouts<FieldIdx: Idx, VariantIdx: Idx, LocalIdx: Idx>(
     alloc: Global,
     before: usize,
-    promoted: &DenseBitSet<LocalIdx>,
-    count: usize,
+    saved: Saved<'_, FieldIdx, LocalIdx>,
     first: &ListLayout<FieldIdx, VariantIdx>,
-    states: &[IndexVec<FieldIdx, LocalIdx>],
-    lists: Vec<ListLayout<FieldIdx, VariantIdx>>,
+    lists: &ListLayouts<FieldIdx, VariantIdx>,
 ) -> Result<IndexVec<VariantIdx, VariantLayout<FieldIdx>>, AllocError>
-    requires count { count ≡ domain_size promoted.now }
-    requires named { count ≤ LocalIdx.MAX_INDEX + 1 }
-    requires few { length states.now ≤ VariantIdx.MAX_INDEX + 1 }
-    requires within { All (All (λ l. LocalIdx.number l < count)) states.now }
-    requires once { All (λ state. AllPairs (λ a b. a ≢ b) (map LocalIdx.number state)) states.now }
-    requires first { HasFields FieldIdx.number (before + length (members_of promoted.now)) first.now }
+    requires count { saved.count ≡ domain_size saved.promoted.now }
+    requires named { saved.count ≤ LocalIdx.MAX_INDEX + 1 }
+    requires few { length saved.states.now ≤ VariantIdx.MAX_INDEX + 1 }
+    requires within { All (All (λ l. LocalIdx.number l < saved.count)) saved.states.now }
+    requires once { All (λ state. AllPairs (λ a b. a ≢ b) (map LocalIdx.number state)) saved.states.now }
+    requires first { HasFields FieldIdx.number (before + length (members_of saved.promoted.now)) first.now }
     requires lists { AllZip (λ state list.
-        HasFields FieldIdx.number (length (own_of promoted.now (map LocalIdx.number state))) list) states.now
-        lists.items }
+        HasFields FieldIdx.number (length (own_of saved.promoted.now (map LocalIdx.number state))) list)
+        saved.states.now lists.now }
     ensures { IfOk result (λ layouts.
-        layouts ≡ state_layouts FieldIdx.at FieldIdx.number before promoted.now first.now
-        (map (map LocalIdx.number) states.now) lists.items) }
+        layouts ≡ state_layouts FieldIdx.at FieldIdx.number before saved.entry.promoted.now first.now
+        (map (map LocalIdx.number) saved.entry.states.now) lists.now) }
 {
+    let Saved {
+        promoted,
+        count,
+        states,
+    } = saved;
     let below = ranks_below(alloc, promoted, count)?;
-    let shared = &first.offsets()[before..];
     let ranks = ranks_of(alloc, before, first.in_memory_order())?;
+    let promoted = Promoted {
+        locals: promoted,
+        below: &below,
+        offsets: &first.offsets()[before..],
+        ranks: &ranks,
+    };
     let mut layouts = IndexVec::new(alloc);
-    for list in lists {
-        let state = &states[layouts.len()];
-        let layout = state_layout(alloc, promoted, &below, shared, &ranks, state, list)?;
-        let _index = layouts.push(layout)?;
+    for index in 0..lists.len() {
+        put_state(
+            alloc,
+            promoted,
+            &states[index],
+            &lists.at(index),
+            &mut layouts,
+        )?;
     }
     Ok(layouts)
 }
@@ -165,7 +224,7 @@ fn layout_of_size<FieldIdx: Idx, VariantIdx: Idx, LocalIdx: Idx>(
     tag: Scalar,
     saved: Saved<'_, FieldIdx, LocalIdx>,
     first: ListLayout<FieldIdx, VariantIdx>,
-    lists: Vec<ListLayout<FieldIdx, VariantIdx>>,
+    lists: ListLayouts<FieldIdx, VariantIdx>,
     extent: Extent,
 ) -> Result<LayoutData<FieldIdx, VariantIdx>, AllocError>
     requires prefix { prefix + length (members_of saved.promoted.now) ≤ FieldIdx.MAX_INDEX }
@@ -177,30 +236,18 @@ fn layout_of_size<FieldIdx: Idx, VariantIdx: Idx, LocalIdx: Idx>(
     requires first { HasFields FieldIdx.number (prefix + 1 + length (members_of saved.promoted.now)) first }
     requires lists { AllZip (λ state list.
         HasFields FieldIdx.number (length (own_of saved.promoted.now (map LocalIdx.number state))) list)
-        saved.states.now lists.items }
-    requires align { extent.align ≡ whole_align first lists.items }
-    requires size { extent.size ≡ whole_size first lists.items }
+        saved.states.now lists }
+    requires align { extent.align ≡ whole_align first lists }
+    requires size { extent.size ≡ whole_size first lists }
     ensures { IfOk result (λ layout. layout ≡ coroutine_layout FieldIdx.at FieldIdx.number prefix tag
-        saved.entry.promoted.now (map (map LocalIdx.number) saved.entry.states.now) first lists.items) }
+        saved.entry.promoted.now (map (map LocalIdx.number) saved.entry.states.now) first lists) }
 {
     let before = prefix + 1;
     let uninhabited = is_uninhabited(&first, &lists);
-    let offsets = field_offsets(alloc, &first.offsets()[..before])?;
-    let in_memory_order = shared_order(alloc, before, first.in_memory_order())?;
-    let variants = state_layouts(
-        alloc,
-        before,
-        saved.promoted,
-        saved.count,
-        &first,
-        saved.states,
-        lists,
-    )?;
+    let fields = shared_fields(alloc, before, &first)?;
+    let variants = state_layouts(alloc, before, saved, &first, &lists)?;
     Ok(LayoutData {
-        fields: FieldsShape::Arbitrary {
-            offsets,
-            in_memory_order,
-        },
+        fields,
         variants: Variants::Multiple {
             tag,
             tag_encoding: TagEncoding::Direct,
@@ -228,7 +275,7 @@ pub(crate) fn layout_of_lists<FieldIdx: Idx, VariantIdx: Idx, LocalIdx: Idx, F>(
     tag: Scalar,
     saved: Saved<'_, FieldIdx, LocalIdx>,
     first: ListLayout<FieldIdx, VariantIdx>,
-    lists: Vec<ListLayout<FieldIdx, VariantIdx>>,
+    lists: ListLayouts<FieldIdx, VariantIdx>,
 ) -> Result<LayoutData<FieldIdx, VariantIdx>, LayoutCalculatorError<F>>
     requires data_layout { IsLawfulDataLayout dl.now }
     requires prefix { prefix + length (members_of saved.promoted.now) ≤ FieldIdx.MAX_INDEX }
@@ -240,14 +287,14 @@ pub(crate) fn layout_of_lists<FieldIdx: Idx, VariantIdx: Idx, LocalIdx: Idx, F>(
     requires first { HasFields FieldIdx.number (prefix + 1 + length (members_of saved.promoted.now)) first }
     requires lists { AllZip (λ state list.
         HasFields FieldIdx.number (length (own_of saved.promoted.now (map LocalIdx.number state))) list)
-        saved.states.now lists.items }
+        saved.states.now lists }
     requires lawful_first { IsLawfulLayout dl.now first }
-    requires lawful { All (IsLawfulLayout dl.now) lists.items }
-    ensures exact { IfOk result (λ layout. (whole_size first lists.items < size_bound dl.now)
+    requires lawful { All (IsLawfulLayout dl.now) lists }
+    ensures exact { IfOk result (λ layout. (whole_size first lists < size_bound dl.now)
         × (layout ≡ coroutine_layout FieldIdx.at FieldIdx.number prefix tag saved.entry.promoted.now
-        (map (map LocalIdx.number) saved.entry.states.now) first lists.items)) }
+        (map (map LocalIdx.number) saved.entry.states.now) first lists)) }
     ensures fault { IfErr result (λ e.
-        ((size_bound dl.now ≤ whole_size first lists.items) × (e ≡ LayoutCalculatorError.SizeOverflow)) ⊎
+        ((size_bound dl.now ≤ whole_size first lists) × (e ≡ LayoutCalculatorError.SizeOverflow)) ⊎
         (e ≡ LayoutCalculatorError.OutOfMemory)) }
 {
     let align = whole_align(&first, &lists);

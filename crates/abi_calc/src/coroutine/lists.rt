@@ -13,7 +13,7 @@ ghost use Rattle.abi_calc.specs.Enums.Lists.{AreGoodLists, IsFirstListError, IsG
 use crate::calculator::LayoutCalculator;
 use abi_base::{HasDataLayout, StructKind};
 use abi_index::{DenseBitSet, Idx, IndexVec};
-use abi_lists::ListLayout;
+use abi_lists::{ListLayout, ListLayouts};
 use abi_scalar::{LayoutCalculatorError, LayoutHandle, ReprOptions};
 use std::alloc::{AllocError, Global};
 
@@ -124,7 +124,7 @@ impl<Cx: HasDataLayout> LayoutCalculator<Cx> {
         promoted: &DenseBitSet<LocalIdx>,
         states: &[IndexVec<FieldIdx, LocalIdx>],
         kind: &StructKind,
-    ) -> Result<Vec<ListLayout<FieldIdx, VariantIdx>>, LayoutCalculatorError<F>>
+    ) -> Result<ListLayouts<FieldIdx, VariantIdx>, LayoutCalculatorError<F>>
         requires data_layout { IsLawfulDataLayout (Cx.target self.now.cx) }
         requires locals { All (λ f. IsLawfulLayout (Cx.target self.now.cx) (F.layout_of f)) locals.now }
         requires within { All (All (λ l. LocalIdx.number l < length locals.now)) states.now }
@@ -133,7 +133,7 @@ impl<Cx: HasDataLayout> LayoutCalculator<Cx> {
         requires sized { IsSized kind.now }
         ensures good { IfOk result (λ lists.
             AreGoodLists F.layout_of FieldIdx.at (VariantIdx.at 0) (Cx.target self.now.cx) default_repr kind.now
-            (own_lists locals.now promoted.now (map (map LocalIdx.number) states.now)) lists.items) }
+            (own_lists locals.now promoted.now (map (map LocalIdx.number) states.now)) lists) }
         ensures within { IfOk result (λ lists.
             All (λ own. length own ≤ FieldIdx.MAX_INDEX + 1)
             (own_lists locals.now promoted.now (map (map LocalIdx.number) states.now))) }
@@ -142,14 +142,13 @@ impl<Cx: HasDataLayout> LayoutCalculator<Cx> {
             (own_lists locals.now promoted.now (map (map LocalIdx.number) states.now)) e ⊎
             (e ≡ LayoutCalculatorError.OutOfMemory)) }
     {
-        let mut lists = Vec::with_capacity(alloc, states.len())?;
+        let mut lists = ListLayouts::with_capacity(alloc, states.len())?;
         for state in states {
             let list = match self.list_of_own(alloc, locals, promoted, state, kind) {
                 Ok(list) => list,
                 Err(error) => return Err(error),
             };
-            lists.reserve(1)?;
-            lists.push_reserved(list);
+            lists.push(list)?;
         }
         Ok(lists)
     }

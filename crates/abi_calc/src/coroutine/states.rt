@@ -6,11 +6,11 @@ ghost use Rattle.std.specs.Option.{option_to_list};
 ghost use Rattle.abi_index.specs.BitSet.{domain_size, is_member, members_of};
 ghost use Rattle.abi_lists.specs.Placement.{source_order};
 ghost use Rattle.abi_calc.specs.Coroutine.Lists.{own_of};
-ghost use Rattle.abi_calc.specs.Coroutine.States.{HasFields, joined_places, own_places, places_with, rank_of, state_offsets, state_order, stitched_layout};
+ghost use Rattle.abi_calc.specs.Coroutine.States.{ArePlaced, HasFields, joined_places, own_places, places_with, rank_of, state_offsets, state_order, stitched_layout};
 
 use abi_base::Size;
 use abi_index::{DenseBitSet, Idx, IndexVec};
-use abi_lists::ListLayout;
+use abi_lists::LentList;
 use abi_scalar::VariantLayout;
 use std::alloc::{AllocError, Global};
 
@@ -185,33 +185,42 @@ fn state_order<FieldIdx: Idx, LocalIdx: Idx>(
     joined_places(alloc, &held, ranks, &places, own)
 }
 
-/// A state in the whole: its own list, with the promoted locals that it holds. The promoted ones lie at these offsets,
-/// by rank, and follow one another in memory as these ranks do; so many of them are `below` each local.
+/// The promoted locals: which they are, how many of them are below each local, and by that rank their offsets, in
+/// bytes; and their ranks as they follow one another in memory.
+#[derive_where(Clone, Copy)]
+pub(crate) struct Promoted<'a, LocalIdx: Idx> {
+    pub(crate) locals: &'a DenseBitSet<LocalIdx>,
+    pub(crate) below: &'a [usize],
+    pub(crate) offsets: &'a [Size],
+    pub(crate) ranks: &'a [usize],
+}
+
+/// A state in the whole: its own list, with the promoted locals that it holds.
 pub(crate) fn state_layout<FieldIdx: Idx, VariantIdx: Idx, LocalIdx: Idx>(
     alloc: Global,
-    promoted: &DenseBitSet<LocalIdx>,
-    below: &[usize],
-    shared: &[Size],
-    ranks: &[usize],
+    promoted: Promoted<'_, LocalIdx>,
     state: &IndexVec<FieldIdx, LocalIdx>,
-    mut list: ListLayout<FieldIdx, VariantIdx>,
+    list: &LentList<'_, FieldIdx, VariantIdx>,
 ) -> Result<VariantLayout<FieldIdx>, AllocError>
-    requires named { domain_size promoted.now ≤ LocalIdx.MAX_INDEX + 1 }
-    requires within { All (λ l. LocalIdx.number l < domain_size promoted.now) state.now }
+    requires named { domain_size promoted.locals.now ≤ LocalIdx.MAX_INDEX + 1 }
+    requires placed { ArePlaced promoted.locals.now promoted.below.now promoted.offsets.now promoted.ranks.now }
+    requires within { All (λ l. LocalIdx.number l < domain_size promoted.locals.now) state.now }
     requires once { AllPairs (λ a b. a ≢ b) (map LocalIdx.number state.now) }
-    requires below { below.now ≡ map (rank_of promoted.now) (source_order (domain_size promoted.now)) }
-    requires shared { length shared.now ≡ length (members_of promoted.now) }
-    requires ranks { length ranks.now ≡ length (members_of promoted.now) }
-    requires each { All (λ rank. rank < length (members_of promoted.now)) ranks.now }
-    requires list { HasFields FieldIdx.number (length (own_of promoted.now (map LocalIdx.number state.now))) list }
+    requires list { HasFields FieldIdx.number
+        (length (own_of promoted.locals.now (map LocalIdx.number state.now))) list.now }
     ensures { IfOk result (λ variant.
-        variant ≡ stitched_layout FieldIdx.at FieldIdx.number promoted.now shared.now ranks.now
-        (map LocalIdx.number state.now) list) }
+        variant ≡ stitched_layout FieldIdx.at FieldIdx.number promoted.entry.locals.now promoted.entry.offsets.now
+        promoted.entry.ranks.now (map LocalIdx.number state.now) list.now) }
 {
+    let Promoted {
+        locals,
+        below,
+        offsets,
+        ranks,
+    } = promoted;
     let state = state.as_slice().as_raw();
-    let offsets = state_offsets(alloc, promoted, below, shared, list.offsets(), state)?;
+    let offsets = state_offsets(alloc, locals, below, offsets, list.offsets(), state)?;
     let own = list.in_memory_order();
-    let in_memory_order = state_order(alloc, promoted, below, ranks, own, state)?;
-    list.set_places(offsets, in_memory_order);
-    Ok(list.into_variant())
+    let in_memory_order = state_order(alloc, locals, below, ranks, own, state)?;
+    Ok(list.placed_at(offsets, in_memory_order))
 }

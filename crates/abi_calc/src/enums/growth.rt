@@ -8,7 +8,7 @@ ghost use Rattle.abi_calc.specs.Enums.Lists.{AreListsOf};
 use crate::enums::path::{is_free, takes_no_room};
 use abi_base::{Align, Integer, Size, TargetDataLayout};
 use abi_index::{Idx, IndexVec};
-use abi_lists::ListLayout;
+use abi_lists::ListLayouts;
 use abi_scalar::{LayoutData, LayoutHandle, ReprOptions, VariantLayout};
 use std::alloc::{AllocError, Global};
 
@@ -68,7 +68,7 @@ fn least_with(least: Align, other: Option<Align>) -> Align
 /// is, which no integer has.
 pub(crate) fn start_align<FieldIdx: Idx, VariantIdx: Idx, F: LayoutHandle<FieldIdx, VariantIdx>>(
     variants: &[IndexVec<FieldIdx, F>],
-    lists: &[ListLayout<FieldIdx, VariantIdx>],
+    lists: &ListLayouts<FieldIdx, VariantIdx>,
 ) -> Align
     requires { AreListsOf variants.now lists.now }
     ensures { result ≡ start_align FieldIdx.number (map (map F.layout_of) variants.now) lists.now }
@@ -76,7 +76,7 @@ pub(crate) fn start_align<FieldIdx: Idx, VariantIdx: Idx, F: LayoutHandle<FieldI
     let mut least = Align::MAX;
     for index in 0..lists.len() {
         let fields = variants[index].as_slice().as_raw();
-        let first = first_align(fields, lists[index].in_memory_order());
+        let first = first_align(fields, lists.at(index).in_memory_order());
         least = least_with(least, first);
     }
     least

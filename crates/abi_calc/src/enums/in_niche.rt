@@ -22,7 +22,7 @@ use crate::over_lists::{
 };
 use abi_base::{AbiAlign, Align, HasDataLayout, Size, StructKind, TargetDataLayout};
 use abi_index::{Idx, IndexVec};
-use abi_lists::{ListLayout, one};
+use abi_lists::{LentList, ListLayouts, one};
 use abi_scalar::{
     BackendRepr, FieldsShape, LayoutCalculatorError, LayoutData, LayoutHandle, Niche,
     RangeInclusive, ReprOptions, Scalar, TagEncoding, VariantLayout, Variants,
@@ -89,7 +89,7 @@ fn niche_view<FieldIdx: Idx, VariantIdx: Idx>(
 
 /// Whether the list fills an enum of this size and alignment.
 fn fills<FieldIdx: Idx, VariantIdx: Idx>(
-    list: &ListLayout<FieldIdx, VariantIdx>,
+    list: &LentList<'_, FieldIdx, VariantIdx>,
     size: Size,
     align: Align,
 ) -> bool
@@ -100,7 +100,7 @@ fn fills<FieldIdx: Idx, VariantIdx: Idx>(
 
 /// Whether the list at a place fills an enum of this size and alignment, and its view.
 fn untagged_view<FieldIdx: Idx, VariantIdx: Idx>(
-    lists: &[ListLayout<FieldIdx, VariantIdx>],
+    lists: &ListLayouts<FieldIdx, VariantIdx>,
     untagged: usize,
     size: Size,
     align: Align,
@@ -111,8 +111,8 @@ fn untagged_view<FieldIdx: Idx, VariantIdx: Idx>(
     ensures view { (list : LayoutData FieldIdx VariantIdx) → slice_get lists.now untagged ≡ Some list →
         result.1 ≡ list.backend_repr }
 {
-    let list = &lists[untagged];
-    (fills(list, size, align), list.backend_repr())
+    let list = lists.at(untagged);
+    (fills(&list, size, align), list.backend_repr())
 }
 
 /// The variants that a niche tells apart: the one that has the niche, and the first and the last of the others.
@@ -131,13 +131,13 @@ fn layout_in_niche<FieldIdx: Idx, VariantIdx: Idx>(
     among: Among,
     niche: Niche,
     handed: (u128, Scalar),
-    lists: Vec<ListLayout<FieldIdx, VariantIdx>>,
+    lists: ListLayouts<FieldIdx, VariantIdx>,
 ) -> Result<Option<LayoutData<FieldIdx, VariantIdx>>, AllocError>
     requires data_layout { IsLawfulDataLayout dl.now }
-    requires lawful { All (IsLawfulLayout dl.now) lists.items }
-    requires small { All IsSmallList lists.items }
-    requires count { length lists.items ≤ VariantIdx.MAX_INDEX + 1 }
-    requires untagged { among.untagged < length lists.items }
+    requires lawful { All (IsLawfulLayout dl.now) lists }
+    requires small { All IsSmallList lists }
+    requires count { length lists ≤ VariantIdx.MAX_INDEX + 1 }
+    requires untagged { among.untagged < length lists }
     requires first { among.span.0 ≤ VariantIdx.MAX_INDEX }
     requires last { among.span.1 ≤ VariantIdx.MAX_INDEX }
     requires readable { IsReadableNiche dl.now niche }
@@ -145,9 +145,9 @@ fn layout_in_niche<FieldIdx: Idx, VariantIdx: Idx>(
     requires handed { handed ≡ reserved dl.now niche (span_count among.span) }
     requires tag { IsLawfulScalar dl.now handed.1 }
     ensures { IfOk result (λ found. (list : LayoutData FieldIdx VariantIdx) →
-        slice_get lists.items among.untagged ≡ Some list →
-        found ≡ if_placed (FieldIdx.at 0) VariantIdx.at dl.now repr.now among.untagged among.span lists.items list niche
-        (variants_from (room_beside dl.now niche lists.items) among.untagged 0 lists.items)) }
+        slice_get lists among.untagged ≡ Some list →
+        found ≡ if_placed (FieldIdx.at 0) VariantIdx.at dl.now repr.now among.untagged among.span lists list niche
+        (variants_from (room_beside dl.now niche lists) among.untagged 0 lists)) }
 {
     let untagged = among.untagged;
     let align = greatest_align(dl.aggregate_align, &lists);
@@ -190,12 +190,16 @@ fn layout_in_niche<FieldIdx: Idx, VariantIdx: Idx>(
 
 /// The greatest niche of the list at a place.
 fn niche_at<FieldIdx: Idx, VariantIdx: Idx>(
-    lists: &[ListLayout<FieldIdx, VariantIdx>],
+    lists: &ListLayouts<FieldIdx, VariantIdx>,
     place: usize,
 ) -> Option<Niche>
     ensures { result ≡ niche_of_list (slice_get lists.now place) }
 {
-    lists.get(place)?.largest_niche()
+    if place < lists.len() {
+        lists.at(place).largest_niche()
+    } else {
+        None
+    }
 }
 
 /// The layout with a niche, where there is one, of variants whose fields have these layouts as always sized lists.
@@ -204,15 +208,15 @@ pub(crate) fn niche_of_lists<FieldIdx: Idx, VariantIdx: Idx, F: LayoutHandle<Fie
     dl: &TargetDataLayout,
     repr: &ReprOptions,
     variants: &[IndexVec<FieldIdx, F>],
-    lists: Vec<ListLayout<FieldIdx, VariantIdx>>,
+    lists: ListLayouts<FieldIdx, VariantIdx>,
 ) -> Result<Option<LayoutData<FieldIdx, VariantIdx>>, AllocError>
     requires data_layout { IsLawfulDataLayout dl.now }
-    requires lawful { All (IsLawfulLayout dl.now) lists.items }
-    requires small { All IsSmallList lists.items }
-    requires count { length lists.items ≤ VariantIdx.MAX_INDEX + 1 }
-    requires each { length lists.items ≡ length variants.now }
+    requires lawful { All (IsLawfulLayout dl.now) lists }
+    requires small { All IsSmallList lists }
+    requires count { length lists ≤ VariantIdx.MAX_INDEX + 1 }
+    requires each { length lists ≡ length variants.now }
     ensures { IfOk result (λ found. found ≡ niche_layout (FieldIdx.at 0) VariantIdx.at dl.now repr.now
-        (map (map F.layout_of) variants.now) lists.items) }
+        (map (map F.layout_of) variants.now) lists) }
 {
     let untagged = untagged_of(&lists);
     let Some(span) = span_of(untagged, variants) else {

@@ -10,7 +10,7 @@ ghost use Rattle.abi_calc.specs.Enums.Lists.{AreGoodLists, AreListLayouts, AreLi
 use crate::calculator::LayoutCalculator;
 use abi_base::{Align, HasDataLayout, Integer, StructKind, TargetDataLayout};
 use abi_index::{Idx, IndexVec};
-use abi_lists::{ListLayout, greatest_align, list_of_fields};
+use abi_lists::{ListLayout, ListLayouts, greatest_align, list_of_fields};
 use abi_scalar::{LayoutCalculatorError, LayoutHandle, ReprOptions};
 use std::alloc::Global;
 
@@ -89,7 +89,7 @@ impl<Cx: HasDataLayout> LayoutCalculator<Cx> {
         variants: &[IndexVec<FieldIdx, F>],
         repr: &ReprOptions,
         kind: &StructKind,
-    ) -> Result<Vec<ListLayout<FieldIdx, VariantIdx>>, LayoutCalculatorError<F>>
+    ) -> Result<ListLayouts<FieldIdx, VariantIdx>, LayoutCalculatorError<F>>
         requires data_layout { IsLawfulDataLayout (Cx.target self.now.cx) }
         requires fields { All (All (λ f. IsLawfulLayout (Cx.target self.now.cx) (F.layout_of f))) variants.now }
         requires repr { HasLawfulAligns repr.now }
@@ -97,25 +97,24 @@ impl<Cx: HasDataLayout> LayoutCalculator<Cx> {
         requires sized { IsSized kind.now }
         ensures exact { IfOk result (λ lists.
             AreListLayouts F.layout_of FieldIdx.at (VariantIdx.at 0)
-            (Cx.target self.now.cx) repr.now kind.now variants.now lists.items) }
+            (Cx.target self.now.cx) repr.now kind.now variants.now lists) }
         ensures good { IfOk result (λ lists.
             AreGoodLists F.layout_of FieldIdx.at (VariantIdx.at 0)
-            (Cx.target self.now.cx) repr.now kind.now variants.now lists.items) }
+            (Cx.target self.now.cx) repr.now kind.now variants.now lists) }
         ensures within { IfOk result (λ lists. All (λ fields. length fields ≤ FieldIdx.MAX_INDEX + 1) variants.now) }
-        ensures lists { IfOk result (λ lists. AreListsOf variants.now lists.items) }
-        ensures lawful { IfOk result (λ lists. All (IsLawfulLayout (Cx.target self.now.cx)) lists.items) }
+        ensures lists { IfOk result (λ lists. AreListsOf variants.now lists) }
+        ensures lawful { IfOk result (λ lists. All (IsLawfulLayout (Cx.target self.now.cx)) lists) }
         ensures fault { IfErr result (λ e.
             IsFirstListError F.layout_of FieldIdx.at (VariantIdx.at 0)
             (Cx.target self.now.cx) repr.now kind.now variants.now e ⊎ (e ≡ LayoutCalculatorError.OutOfMemory)) }
     {
-        let mut lists = Vec::with_capacity(alloc, variants.len())?;
+        let mut lists = ListLayouts::with_capacity(alloc, variants.len())?;
         for fields in variants {
             let list = match self.list_of_variant(alloc, fields, repr, kind) {
                 Ok(list) => list,
                 Err(error) => return Err(error),
             };
-            lists.reserve(1)?;
-            lists.push_reserved(list);
+            lists.push(list)?;
         }
         Ok(lists)
     }

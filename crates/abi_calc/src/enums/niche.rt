@@ -1,16 +1,14 @@
 //! The layout of an enum whose tag lies in a niche of one variant.
 
-ghost use Rattle.std.specs.Prelude.{◌≡◌, ◌==◌, ◌&&◌, ◌||◌, ◌+◌, ◌++◌, ◌∷◌, ◌^◌, ◌<◌, ◌≤◌, [], All, IfOk, List, MatchOption, Some, false, if◌then◌else◌, length, map, nat_le, not, true, ℕ};
-ghost use Rattle.abi_scalar.specs.Shape.{IsListed, listed_offsets};
-ghost use Rattle.abi_scalar.specs.Variant.{variant_of};
+ghost use Rattle.std.specs.Prelude.{◌≡◌, ◌==◌, ◌&&◌, ◌||◌, ◌+◌, ◌++◌, ◌∷◌, ◌^◌, ◌<◌, ◌≤◌, [], All, IfOk, List, MatchOption, OnOk, Some, false, if◌then◌else◌, length, map, nat_le, not, true, ℕ};
 ghost use Rattle.abi_lists.specs.Part.{max_align};
 ghost use Rattle.abi_calc.specs.Enums.Path.{is_absent};
-ghost use Rattle.abi_calc.specs.Enums.Niche.{IsRoomy, IsSmallList, beside_niche, moved_on, needing_numbers, others_empty, place_after, span_of, untagged_of, variants_from, view_with, without_niche};
+ghost use Rattle.abi_calc.specs.Enums.Niche.{IsRoomy, IsSmallList, beside_niche, moved_on, needing_numbers, others_empty, place_after, span_of, untagged_of, variants_from, view_with};
 
 use crate::enums::path::is_absent;
-use abi_base::Size;
+use abi_base::{Align, Size};
 use abi_index::{Idx, IndexVec};
-use abi_lists::{ListLayout, rounded};
+use abi_lists::{LentList, ListLayouts, rounded};
 use abi_scalar::{BackendRepr, LayoutHandle, Scalar, VariantLayout};
 use std::alloc::{AllocError, Global};
 
@@ -27,8 +25,8 @@ pub struct Room {
 
 /// Whether this list is no smaller than the other.
 fn reaches<FieldIdx: Idx, VariantIdx: Idx>(
-    list: &ListLayout<FieldIdx, VariantIdx>,
-    other: &ListLayout<FieldIdx, VariantIdx>,
+    list: &LentList<'_, FieldIdx, VariantIdx>,
+    other: &LentList<'_, FieldIdx, VariantIdx>,
 ) -> bool
     ensures { result ≡ nat_le other.now.size list.now.size }
 {
@@ -37,13 +35,13 @@ fn reaches<FieldIdx: Idx, VariantIdx: Idx>(
 
 /// The variant to which no number is given: the last of those whose lists are greatest.
 pub(crate) fn untagged_of<FieldIdx: Idx, VariantIdx: Idx>(
-    lists: &[ListLayout<FieldIdx, VariantIdx>],
+    lists: &ListLayouts<FieldIdx, VariantIdx>,
 ) -> usize
     ensures { result ≡ untagged_of lists.now }
 {
     let mut untagged = 0;
     for index in 1..lists.len() {
-        if reaches(&lists[index], &lists[untagged]) {
+        if reaches(&lists.at(index), &lists.at(untagged)) {
             untagged = index;
         }
     }
@@ -104,135 +102,83 @@ fn moved_offsets<FieldIdx: Idx>(
     Ok(list)
 }
 
-/// A variant without its niche.
-fn without_niche<FieldIdx: Idx, VariantIdx: Idx>(
-    mut list: ListLayout<FieldIdx, VariantIdx>,
-) -> VariantLayout<FieldIdx>
-    requires { IsListed list.fields }
-    ensures { result ≡ without_niche list }
-{
-    list.forget_niche();
-    list.into_variant()
-}
-
-/// The same, moved so many bytes on.
-fn moved_on<FieldIdx: Idx, VariantIdx: Idx>(
+/// Moves a variant so many bytes on, without its niche. It is bytes in memory unless it has no values.
+fn move_on<FieldIdx: Idx>(
     alloc: Global,
     by: Size,
-    list: ListLayout<FieldIdx, VariantIdx>,
-) -> Result<VariantLayout<FieldIdx>, AllocError>
-    requires listed { IsListed list.fields }
-    requires fits { by + list.size < 2 ^ 64 }
-    requires inside { All (λ o. o ≤ list.size) (listed_offsets list.fields) }
-    ensures { IfOk result (λ variant. variant ≡ moved_on by list) }
+    variant: &mut VariantLayout<FieldIdx>,
+) -> Result<(), AllocError>
+    requires fits { by + variant.old.size < 2 ^ 64 }
+    requires inside { All (λ o. o ≤ variant.old.size) variant.old.field_offsets }
+    ensures { OnOk result (variant.new ≡ moved_on by variant.old) }
 {
-    let mut variant = without_niche(list);
     variant.field_offsets = moved_offsets(alloc, by, variant.field_offsets.as_slice().as_raw())?;
+    variant.forget_niche();
     if !variant.is_uninhabited() {
         variant.backend_repr = BackendRepr::Memory { sized: true };
     }
     variant.size = by + variant.size;
-    Ok(variant)
+    Ok(())
 }
 
-/// Where a variant begins that doesn't end before the niche.
-fn place_after<FieldIdx: Idx, VariantIdx: Idx>(
-    room: &Room,
-    list: &ListLayout<FieldIdx, VariantIdx>,
-) -> Size
+/// Where a variant of this alignment begins that doesn't end before the niche.
+fn place_after(room: &Room, align: Align) -> Size
     requires roomy { IsRoomy room.now }
-    requires align { list.now.align.abi ≤ max_align }
-    ensures value { result ≡ place_after room.now list.now.align.abi }
+    requires align { align ≤ max_align }
+    ensures value { result ≡ place_after room.now align }
     ensures bound { result < 2 ^ 63 }
 {
-    rounded(room.after, list.align())
+    rounded(room.after, align)
 }
 
-/// Whether the variant ends before the niche.
-fn ends_before<FieldIdx: Idx, VariantIdx: Idx>(
-    room: &Room,
-    list: &ListLayout<FieldIdx, VariantIdx>,
-) -> bool
-    ensures { result ≡ nat_le list.now.size room.now.before }
-{
-    list.size() <= room.before
-}
-
-/// Whether the variant ends inside the whole when it begins after the niche.
-fn ends_within<FieldIdx: Idx, VariantIdx: Idx>(
-    room: &Room,
-    list: &ListLayout<FieldIdx, VariantIdx>,
-) -> bool
-    requires roomy { IsRoomy room.now }
-    requires small { IsSmallList list.now }
-    ensures { result ≡ nat_le (place_after room.now list.now.align.abi + list.now.size) room.now.whole }
-{
-    place_after(room, list) + list.size() <= room.whole
-}
-
-/// A variant beside the niche, if there is room for it.
-fn beside_niche<FieldIdx: Idx, VariantIdx: Idx>(
+/// Places a variant of this alignment beside the niche, if there is room for it. Whether there is.
+fn place_beside<FieldIdx: Idx>(
     alloc: Global,
     room: &Room,
-    list: ListLayout<FieldIdx, VariantIdx>,
-) -> Result<Option<VariantLayout<FieldIdx>>, AllocError>
+    align: Align,
+    variant: &mut VariantLayout<FieldIdx>,
+) -> Result<bool, AllocError>
     requires roomy { IsRoomy room.now }
-    requires small { IsSmallList list }
-    ensures { IfOk result (λ variant. variant ≡ beside_niche room.now list) }
+    requires align { align ≤ max_align }
+    requires small { variant.old.size < 2 ^ 62 }
+    requires inside { All (λ o. o ≤ variant.old.size) variant.old.field_offsets }
+    ensures { IfOk result (λ has_room. MatchOption (beside_niche room.now align variant.old) (has_room ≡ false)
+        (λ placed. (has_room ≡ true) × (variant.new ≡ placed))) }
 {
-    if ends_before(room, &list) {
-        return Ok(Some(without_niche(list)));
+    if variant.size <= room.before {
+        variant.forget_niche();
+        return Ok(true);
     }
-    if !ends_within(room, &list) {
-        return Ok(None);
+    let place = place_after(room, align);
+    if place + variant.size > room.whole {
+        return Ok(false);
     }
-    let place = place_after(room, &list);
-    Ok(Some(moved_on(alloc, place, list)?))
+    move_on(alloc, place, variant)?;
+    Ok(true)
 }
 
-/// The variant at this place: the untagged one as it is, another beside its niche, if there is room for it.
-fn placed<FieldIdx: Idx, VariantIdx: Idx>(
+/// Places the variant at an index: the untagged one stays as it is, another one comes beside its niche, if there is
+/// room for it. Whether there is.
+fn place_at<FieldIdx: Idx>(
     alloc: Global,
     room: &Room,
     untagged: usize,
     at: usize,
-    list: ListLayout<FieldIdx, VariantIdx>,
-) -> Result<Option<VariantLayout<FieldIdx>>, AllocError>
-    requires roomy { IsRoomy room.now }
-    requires small { IsSmallList list }
-    ensures { IfOk result (λ variant.
-        variant ≡ (if at == untagged then Some (variant_of list) else beside_niche room.now list)) }
-{
-    if at == untagged {
-        return Ok(Some(list.into_variant()));
-    }
-    beside_niche(alloc, room, list)
-}
-
-/// Puts the next variant behind those before it, if there is room for it: the untagged one as it is, another beside
-/// its niche. Whether there is.
-fn put_placed<FieldIdx: Idx, VariantIdx: Idx>(
-    alloc: Global,
-    room: &Room,
-    untagged: usize,
-    list: ListLayout<FieldIdx, VariantIdx>,
-    variants: &mut IndexVec<VariantIdx, VariantLayout<FieldIdx>>,
+    align: Align,
+    variant: &mut VariantLayout<FieldIdx>,
 ) -> Result<bool, AllocError>
     requires roomy { IsRoomy room.now }
-    requires small { IsSmallList list }
-    requires count { length variants.old ≤ VariantIdx.MAX_INDEX }
-    ensures { IfOk result (λ is_put. MatchOption
-        (if length variants.old == untagged then Some (variant_of list) else beside_niche room.now list)
-        (is_put ≡ false) (λ variant. (is_put ≡ true) × (variants.new ≡ variants.old ++ variant ∷ []))) }
+    requires align { align ≤ max_align }
+    requires small { variant.old.size < 2 ^ 62 }
+    requires inside { All (λ o. o ≤ variant.old.size) variant.old.field_offsets }
+    ensures { IfOk result (λ has_room. MatchOption
+        (if at == untagged then Some variant.old else beside_niche room.now align variant.old) (has_room ≡ false)
+        (λ placed. (has_room ≡ true) × (variant.new ≡ placed))) }
 {
-    let at = variants.len();
-    match placed(alloc, room, untagged, at, list)? {
-        Some(variant) => {
-            let _index = variants.push(variant)?;
-            Ok(true)
-        }
-        None => Ok(false),
+    if at == untagged {
+        return Ok(true);
     }
+    place_beside(alloc, room, align, variant)
 }
 
 /// The variants: the untagged one as it is, the others beside its niche, if there is room for each.
@@ -240,20 +186,20 @@ pub(crate) fn placed_variants<FieldIdx: Idx, VariantIdx: Idx>(
     alloc: Global,
     room: &Room,
     untagged: usize,
-    lists: Vec<ListLayout<FieldIdx, VariantIdx>>,
+    lists: ListLayouts<FieldIdx, VariantIdx>,
 ) -> Result<Option<IndexVec<VariantIdx, VariantLayout<FieldIdx>>>, AllocError>
     requires roomy { IsRoomy room.now }
-    requires small { All IsSmallList lists.items }
-    requires count { length lists.items ≤ VariantIdx.MAX_INDEX + 1 }
-    ensures { IfOk result (λ variants. variants ≡ variants_from room.now untagged 0 lists.items) }
+    requires small { All IsSmallList lists }
+    requires count { length lists ≤ VariantIdx.MAX_INDEX + 1 }
+    ensures { IfOk result (λ variants. variants ≡ variants_from room.now untagged 0 lists) }
 {
-    let mut variants = IndexVec::with_capacity(alloc, lists.len())?;
-    for list in lists {
-        if !put_placed(alloc, room, untagged, list, &mut variants)? {
+    let (mut variants, rests) = lists.into_parts();
+    for (at, variant) in variants.iter_mut().enumerate() {
+        if !place_at(alloc, room, untagged, at, rests[at].align(), variant)? {
             return Ok(None);
         }
     }
-    Ok(Some(variants))
+    Ok(Some(IndexVec::from_raw(variants)))
 }
 
 /// The untagged variant's view, with the numbers of the others.

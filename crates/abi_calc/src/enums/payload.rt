@@ -15,7 +15,7 @@ use crate::enums::growth::moved;
 use crate::enums::single::widened;
 use abi_base::{Align, HasDataLayout, Primitive, Size, TargetDataLayout};
 use abi_index::{Idx, IndexVec};
-use abi_lists::{ListLayout, pair_view};
+use abi_lists::{ListLayouts, pair_view};
 use abi_scalar::{BackendRepr, LayoutData, LayoutHandle, Scalar, VariantLayout, WrappingRange};
 
 /// What one variant holds beside the tag.
@@ -224,7 +224,7 @@ fn variant_payload<FieldIdx: Idx, VariantIdx: Idx, F: LayoutHandle<FieldIdx, Var
     old: Size,
     new: Size,
     variants: &[IndexVec<FieldIdx, F>],
-    lists: &[ListLayout<FieldIdx, VariantIdx>],
+    lists: &ListLayouts<FieldIdx, VariantIdx>,
     index: usize,
 ) -> Payload
     requires data_layout { IsLawfulDataLayout dl.now }
@@ -236,7 +236,7 @@ fn variant_payload<FieldIdx: Idx, VariantIdx: Idx, F: LayoutHandle<FieldIdx, Var
     ensures lawful { IsLawfulPayload dl.now result }
 {
     let fields = variants[index].as_slice().as_raw();
-    payload_of(dl, old, new, fields, lists[index].offsets())
+    payload_of(dl, old, new, fields, lists.at(index).offsets())
 }
 
 /// What all variants have in common, whose lists these are, beside a tag that grew from the old size to the new one.
@@ -245,7 +245,7 @@ fn common_of<FieldIdx: Idx, VariantIdx: Idx, F: LayoutHandle<FieldIdx, VariantId
     old: Size,
     new: Size,
     variants: &[IndexVec<FieldIdx, F>],
-    lists: &[ListLayout<FieldIdx, VariantIdx>],
+    lists: &ListLayouts<FieldIdx, VariantIdx>,
 ) -> Payload
     requires data_layout { IsLawfulDataLayout dl.now }
     requires fields { All (All (λ f. IsLawfulLayout dl.now (F.layout_of f))) variants.now }
@@ -254,7 +254,7 @@ fn common_of<FieldIdx: Idx, VariantIdx: Idx, F: LayoutHandle<FieldIdx, VariantId
         (payloads_of dl.now old new (map (map F.layout_of) variants.now) lists.now) }
     ensures lawful { IsLawfulPayload dl.now result }
 {
-    if lists.is_empty() {
+    if lists.len() == 0 {
         return Payload::Nothing;
     }
     let mut shared = variant_payload(dl, old, new, variants, lists, 0);
@@ -298,7 +298,7 @@ pub(crate) fn tagged_view<FieldIdx: Idx, VariantIdx: Idx, F: LayoutHandle<FieldI
     align: Align,
     old: Size,
     variants: &[IndexVec<FieldIdx, F>],
-    lists: &[ListLayout<FieldIdx, VariantIdx>],
+    lists: &ListLayouts<FieldIdx, VariantIdx>,
 ) -> BackendRepr
     requires data_layout { IsLawfulDataLayout dl.now }
     requires tag { IsLawfulScalar dl.now tag }

@@ -1,11 +1,10 @@
 //! The layout of an enum with a tag.
 
-ghost use Rattle.std.specs.Prelude.{◌≡◌, ◌≤◌, ◌<◌, ◌+◌, ◌++◌, ◌∷◌, ◌⊎◌, [], All, Err, IfErr, IfOk, None, length, map};
+ghost use Rattle.std.specs.Prelude.{◌≡◌, ◌≤◌, ◌<◌, ◌+◌, ◌⊎◌, All, Err, IfErr, IfOk, None, OnOk, length, map};
 ghost use Rattle.abi_base.specs.DataLayout.{IsLawfulDataLayout, size_bound};
 ghost use Rattle.abi_base.specs.Integer.{integer_size};
 ghost use Rattle.abi_scalar.specs.Lawful.{IsLawfulLayout};
 ghost use Rattle.abi_scalar.specs.Scalar.{IsLawfulScalar, scalar_size};
-ghost use Rattle.abi_scalar.specs.Shape.{IsListed};
 ghost use Rattle.abi_scalar.specs.Variant.{variant_of};
 ghost use Rattle.abi_lists.specs.Answer.{IsAnswer};
 ghost use Rattle.abi_lists.specs.List.{AreSized, HasLawfulAligns};
@@ -27,7 +26,7 @@ use crate::over_lists::{
 };
 use abi_base::{AbiAlign, Align, HasDataLayout, Integer, Primitive, Size, TargetDataLayout};
 use abi_index::{Idx, IndexVec};
-use abi_lists::{ListLayout, one, rounded};
+use abi_lists::{ListLayouts, one, rounded};
 use abi_scalar::{
     BackendRepr, FieldsShape, LayoutCalculatorError, LayoutData, LayoutHandle, Niche, ReprOptions,
     Scalar, TagEncoding, VariantLayout, Variants,
@@ -37,7 +36,7 @@ use std::alloc::{AllocError, Global};
 /// The greatest size of the variants' lists, rounded up to the greatest alignment.
 pub(crate) fn lists_size<FieldIdx: Idx, VariantIdx: Idx>(
     dl: &TargetDataLayout,
-    lists: &[ListLayout<FieldIdx, VariantIdx>],
+    lists: &ListLayouts<FieldIdx, VariantIdx>,
     align: Align,
 ) -> Size
     requires data_layout { IsLawfulDataLayout dl.now }
@@ -48,26 +47,19 @@ pub(crate) fn lists_size<FieldIdx: Idx, VariantIdx: Idx>(
     rounded(greatest_size(lists), align)
 }
 
-/// Puts a variant behind those before it, as a part of an enum of this view and size, beside a tag that grew from the
-/// old size to the new one.
-fn put_variant<FieldIdx: Idx, VariantIdx: Idx>(
+/// Makes a variant a part of an enum of this view and size, beside a tag that grew from the old size to the new one.
+fn settle_variant<FieldIdx: Idx>(
     alloc: Global,
     old: Size,
     new: Size,
     view: &BackendRepr,
     size: Size,
-    list: ListLayout<FieldIdx, VariantIdx>,
-    variants: &mut IndexVec<VariantIdx, VariantLayout<FieldIdx>>,
+    variant: &mut VariantLayout<FieldIdx>,
 ) -> Result<(), AllocError>
-    requires room { length variants.old ≤ VariantIdx.MAX_INDEX }
-    requires listed { IsListed list.fields }
-    ensures { IfOk result (λ _.
-        variants.new ≡ variants.old ++ seen_as view.now size (grown_variant old new (variant_of list)) ∷ []) }
+    ensures { OnOk result (variant.new ≡ seen_as view.now size (grown_variant old new variant.old)) }
 {
-    let mut variant = list.into_variant();
-    grow_variant(alloc, old, new, &mut variant)?;
-    see_as(view, size, &mut variant);
-    let _index = variants.push(variant)?;
+    grow_variant(alloc, old, new, variant)?;
+    see_as(view, size, variant);
     Ok(())
 }
 
@@ -78,18 +70,17 @@ fn variants_of<FieldIdx: Idx, VariantIdx: Idx>(
     new: Size,
     view: &BackendRepr,
     size: Size,
-    lists: Vec<ListLayout<FieldIdx, VariantIdx>>,
+    lists: ListLayouts<FieldIdx, VariantIdx>,
 ) -> Result<IndexVec<VariantIdx, VariantLayout<FieldIdx>>, AllocError>
-    requires count { length lists.items ≤ VariantIdx.MAX_INDEX + 1 }
-    requires listed { All (λ l. IsListed l.fields) lists.items }
+    requires { length lists ≤ VariantIdx.MAX_INDEX + 1 }
     ensures { IfOk result (λ variants.
-        variants ≡ map (λ l. seen_as view.now size (grown_variant old new (variant_of l))) lists.items) }
+        variants ≡ map (λ l. seen_as view.now size (grown_variant old new (variant_of l))) lists) }
 {
-    let mut variants = IndexVec::with_capacity(alloc, lists.len())?;
-    for list in lists {
-        put_variant(alloc, old, new, view, size, list, &mut variants)?;
+    let (mut variants, _) = lists.into_parts();
+    for variant in variants.iter_mut() {
+        settle_variant(alloc, old, new, view, size, variant)?;
     }
-    Ok(variants)
+    Ok(IndexVec::from_raw(variants))
 }
 
 /// How an enum is seen and how large it is: its view, its alignment, and its size in bytes.
@@ -109,16 +100,15 @@ fn layout_seen_as<FieldIdx: Idx, VariantIdx: Idx>(
     old: Size,
     tag: Scalar,
     whole: Whole,
-    lists: Vec<ListLayout<FieldIdx, VariantIdx>>,
+    lists: ListLayouts<FieldIdx, VariantIdx>,
 ) -> Result<LayoutData<FieldIdx, VariantIdx>, AllocError>
     requires data_layout { IsLawfulDataLayout dl.now }
     requires tag { IsLawfulScalar dl.now tag }
-    requires align { whole.align ≡ lists_align dl.now lists.items }
-    requires size { whole.size ≡ lists_size dl.now lists.items }
-    requires count { length lists.items ≤ VariantIdx.MAX_INDEX + 1 }
-    requires listed { All (λ l. IsListed l.fields) lists.items }
+    requires align { whole.align ≡ lists_align dl.now lists }
+    requires size { whole.size ≡ lists_size dl.now lists }
+    requires count { length lists ≤ VariantIdx.MAX_INDEX + 1 }
     ensures { IfOk result (λ l. l ≡ layout_seen_as (FieldIdx.at 0) dl.now repr.now old tag
-        (scalar_size dl.now tag) lists.items whole.view) }
+        (scalar_size dl.now tag) lists whole.view) }
 {
     let uninhabited = all_uninhabited(&lists);
     let max_repr_align = greatest_repr_align(repr.align, &lists);
@@ -158,17 +148,17 @@ fn layout_of_lists<FieldIdx: Idx, VariantIdx: Idx, F: LayoutHandle<FieldIdx, Var
     repr: &ReprOptions,
     asked: (Integer, bool),
     values: &[u128],
-    lists: Vec<ListLayout<FieldIdx, VariantIdx>>,
+    lists: ListLayouts<FieldIdx, VariantIdx>,
 ) -> Result<LayoutData<FieldIdx, VariantIdx>, LayoutCalculatorError<F>>
     requires data_layout { IsLawfulDataLayout dl.now }
     requires fields { All (All (λ f. IsLawfulLayout dl.now (F.layout_of f))) variants.now }
-    requires lists { AreListsOf variants.now lists.items }
-    requires lawful { All (IsLawfulLayout dl.now) lists.items }
+    requires lists { AreListsOf variants.now lists }
+    requires lawful { All (IsLawfulLayout dl.now) lists }
     requires count { length variants.now ≤ VariantIdx.MAX_INDEX + 1 }
     ensures exact { IfOk result (IsTaggedBy FieldIdx.number (FieldIdx.at 0) dl.now repr.now asked.0 asked.1 values.now
-        (map (map F.layout_of) variants.now) lists.items) }
+        (map (map F.layout_of) variants.now) lists) }
     ensures fault { IfErr result (λ e.
-        ((size_bound dl.now ≤ lists_size dl.now lists.items) × (e ≡ LayoutCalculatorError.SizeOverflow)) ⊎
+        ((size_bound dl.now ≤ lists_size dl.now lists) × (e ≡ LayoutCalculatorError.SizeOverflow)) ⊎
         (e ≡ LayoutCalculatorError.OutOfMemory)) }
 {
     let (asked, signed) = asked;

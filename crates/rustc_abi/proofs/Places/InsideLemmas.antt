@@ -150,21 +150,21 @@ grown_inside old new whole fields list less fits ends clear flag = by (nat_lt ol
 
 -- beside a niche, before it or behind it
 beside_inside : (room : Room) (fields : List Placed) (list : Layout) (layout : VariantLayout ℕ) → list.size ≤ room.whole → EndInside list.size (listed_offsets list.fields) (map size_of fields)
-    → ByField list fields → beside_niche room list ≡ Some layout → IsInside room.whole fields layout
+    → ByField list fields → beside_niche room list.align.abi (variant_of list) ≡ Some layout → IsInside room.whole fields layout
 beside_inside room fields list layout less ends flag is = by (nat_le list.size room.before) (nat_le (place_after room list.align.abi + list.size) room.whole) refl is
   where
     by : (b c : Bool) → nat_le (place_after room list.align.abi + list.size) room.whole ≡ c
-        → (if b then Some (without_niche list) else (if c then Some (moved_on (place_after room list.align.abi) list) else None)) ≡ Some layout → IsInside room.whole fields layout
-    by true c late e = let same : without_niche list ≡ layout = cc in subst (IsInside room.whole fields) same (less, ends, flag)
+        → (if b then Some (without_niche (variant_of list)) else (if c then Some (moved_on (place_after room list.align.abi) (variant_of list)) else None)) ≡ Some layout → IsInside room.whole fields layout
+    by true c late e = let same : without_niche (variant_of list) ≡ layout = cc in subst (IsInside room.whole fields) same (less, ends, flag)
     by false true late e =
         let on : ℕ = place_after room list.align.abi in
-        let same : moved_on on list ≡ layout = cc in
+        let same : moved_on on (variant_of list) ≡ layout = cc in
         subst (IsInside room.whole fields) same (leb-true (on + list.size) room.whole late, ends_on on list.size (listed_offsets list.fields) (map size_of fields) ends, flag)
     by false false late e = absurd (cc)
 
 -- be it the one that has the niche or not
 placed_inside : (own : Bool) (room : Room) (fields : List Placed) (list : Layout) (layout : VariantLayout ℕ) → list.size ≤ room.whole → EndInside list.size (listed_offsets list.fields) (map size_of fields)
-    → ByField list fields → (if own then Some (variant_of list) else beside_niche room list) ≡ Some layout → IsInside room.whole fields layout
+    → ByField list fields → (if own then Some (variant_of list) else beside_niche room list.align.abi (variant_of list)) ≡ Some layout → IsInside room.whole fields layout
 placed_inside true room fields list layout less ends flag is = let same : variant_of list ≡ layout = cc in subst (IsInside room.whole fields) same (less, ends, flag)
 placed_inside false room fields list layout less ends flag is = beside_inside room fields list layout less ends flag is
 
@@ -207,7 +207,7 @@ module _ (dl : TargetDataLayout) (repr : ReprOptions) (kind : StructKind) where
   placed_variants room untagged from [] (list ∷ lists) placed good more is = absurd good
   placed_variants room untagged from (fields ∷ variants) [] placed good more is = absurd good
   placed_variants room untagged from (fields ∷ variants) (list ∷ lists) placed good more is =
-      let there = both_there (if from == untagged then Some (variant_of list) else beside_niche room list) (variants_from room untagged (from + 1) lists) placed is in
+      let there = both_there (if from == untagged then Some (variant_of list) else beside_niche room list.align.abi (variant_of list)) (variants_from room untagged (from + 1) lists) placed is in
       let one = placed_inside (from == untagged) room fields list there.0 (omega (arith, more)) (good_ends fields list good.0) (good_flag fields list good.0) there.2 in
       subst (λ ls. VariantsInside room.whole ls (fields ∷ variants)) there.4
       (one.0, one.1, placed_variants room untagged (from + 1) variants lists there.1 good.1 (omega (arith, more)) there.3, one.2)

@@ -1,5 +1,5 @@
 -- The calculator's answers to unions and vectors, whatever lends the layouts.
-use Rattle.std.proofs.Common.{◌≡◌, ◌≢◌, ℕ, ◌*◌, ◌^◌, ◌≤◌, List, [], ◌∷◌, Option, Some, None, Bool, true, false, map, length, refl, sym, ap, ◌∙◌, subst, inl, inr, arith, Result, Ok, Err}
+use Rattle.std.proofs.Common.{◌≡◌, ◌≢◌, ℕ, ◌*◌, ◌^◌, ◌≤◌, List, [], ◌∷◌, Option, Some, None, Bool, true, false, map, length, refl, sym, ap, ◌∙◌, subst, inr, arith, Result, Ok, Err}
 use Rattle.std.specs.Prelude.{nat_lt, ◌==◌, if◌then◌else◌}
 use Rattle.std.specs.Int.{next_multiple_of}
 use Rattle.std.proofs.lemmas.Bool.{eqb-false}
@@ -12,11 +12,9 @@ use Rattle.abi_scalar.specs.declared.scalar.Scalar.{Scalar}
 use Rattle.abi_scalar.specs.declared.repr.ReprOptions.{ReprOptions}
 use Rattle.abi_scalar.specs.declared.error.LayoutCalculatorError.{LayoutCalculatorError}
 use Rattle.abi_scalar.specs.declared.error.LayoutCalculatorError.TheVariants.{SizeOverflow, EmptyUnion, ZeroLengthSimdType, OversizedSimdType}
-use Rattle.abi_scalar.specs.declared.error.LayoutCalculatorError.TheVariants as calculator
 use Rattle.abi_scalar.specs.declared.fields_shape.FieldsShape.TheVariants.{Arbitrary}
 use Rattle.abi_scalar.specs.declared.variants.Variants.TheVariants.{Single}
 use Rattle.abi_scalar.specs.LaneCount.{lane_count}
-use Rattle.abi_lists.specs.Answer.{IsAnswer}
 use Rattle.abi_lists.specs.Part.{is_unsized}
 use Rattle.abi_lists.specs.Simd.{after, element_scalar, lanes_answer, vector_layout, is_tight, simd_view, simd_align, simd_answer}
 use Rattle.abi_lists.specs.Union.{IsUnionAnswer, IsUnionView, first_unsized, sized_fault, fault_before, union_fault, union_layout, union_size}

@@ -3,6 +3,6 @@ use Rattle.std.proofs.Common.{◌≡◌, drop}
 use Rattle.std.specs.List.{list_all}
 use Rattle.abi_calc.proofs.over_lists.all_uninhabited.Given as goal
 
-abbrev pub invariant-loop-list : goal.invariant-loop-list
-invariant-loop-list g l =
-    list_all (λ list. list.uninhabited) (drop l.list-index l.lists) ≡ list_all (λ list. list.uninhabited) l.lists
+abbrev pub invariant-loop-index : goal.invariant-loop-index
+invariant-loop-index g l =
+    list_all (λ list. list.uninhabited) (drop l.index l.lists) ≡ list_all (λ list. list.uninhabited) l.lists

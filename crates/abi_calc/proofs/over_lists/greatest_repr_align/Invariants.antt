@@ -3,6 +3,6 @@ use Rattle.std.proofs.Common.{◌≡◌, drop}
 use Rattle.abi_lists.specs.Fields.{greater, greatest_asked}
 use Rattle.abi_calc.proofs.over_lists.greatest_repr_align.Given as goal
 
-abbrev pub invariant-loop-list : goal.invariant-loop-list
-invariant-loop-list g l =
-    greater l.greatest (greatest_asked (drop l.list-index l.lists)) ≡ greater l.fn.own (greatest_asked l.lists)
+abbrev pub invariant-loop-index : goal.invariant-loop-index
+invariant-loop-index g l =
+    greater l.greatest (greatest_asked (drop l.index l.lists)) ≡ greater l.fn.own (greatest_asked l.lists)

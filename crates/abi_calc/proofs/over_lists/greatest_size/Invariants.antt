@@ -3,6 +3,6 @@ use Rattle.std.proofs.Common.{◌≡◌, map, drop, max}
 use Rattle.abi_lists.specs.Fields.{greatest}
 use Rattle.abi_calc.proofs.over_lists.greatest_size.Given as goal
 
-abbrev pub invariant-loop-list : goal.invariant-loop-list
-invariant-loop-list g l =
-    max l.greatest (greatest (map (λ list. list.size) (drop l.list-index l.lists))) ≡ max 0 (greatest (map (λ list. list.size) l.lists))
+abbrev pub invariant-loop-index : goal.invariant-loop-index
+invariant-loop-index g l =
+    max l.greatest (greatest (map (λ list. list.size) (drop l.index l.lists))) ≡ max 0 (greatest (map (λ list. list.size) l.lists))

@@ -3,6 +3,6 @@ use Rattle.std.proofs.Common.{◌≡◌, map, drop, max}
 use Rattle.abi_lists.specs.Fields.{greatest}
 use Rattle.abi_calc.proofs.over_lists.greatest_unadjusted.Given as goal
 
-abbrev pub invariant-loop-list : goal.invariant-loop-list
-invariant-loop-list g l =
-    max l.greatest (greatest (map (λ list. list.unadjusted_abi_align) (drop l.list-index l.lists))) ≡ max l.fn.own (greatest (map (λ list. list.unadjusted_abi_align) l.lists))
+abbrev pub invariant-loop-index : goal.invariant-loop-index
+invariant-loop-index g l =
+    max l.greatest (greatest (map (λ list. list.unadjusted_abi_align) (drop l.index l.lists))) ≡ max l.fn.own (greatest (map (λ list. list.unadjusted_abi_align) l.lists))

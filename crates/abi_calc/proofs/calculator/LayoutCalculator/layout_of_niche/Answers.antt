@@ -10,13 +10,13 @@ niche_of_lists-requires-clause-lawful g c = rw c.data_layout-dl.ensures c.in-Ok.
 
 pub niche_of_lists-requires-clause-small : goal.niche_of_lists-requires-clause-small
 niche_of_lists-requires-clause-small g c =
-    small_lists g.F.LayoutHandle.layout_of g.FieldIdx.Idx.at (g.VariantIdx.Idx.at 0) (g.Cx.HasDataLayout.target c.args.self.now.cx) c.args.repr.now _ c.args.variants.now c.in-Ok.lists.items c.requires.data_layout c.in-Ok.ensures.good
+    small_lists g.F.LayoutHandle.layout_of g.FieldIdx.Idx.at (g.VariantIdx.Idx.at 0) (g.Cx.HasDataLayout.target c.args.self.now.cx) c.args.repr.now _ c.args.variants.now c.in-Ok.lists c.requires.data_layout c.in-Ok.ensures.good
 
 pub niche_of_lists-requires-clause-each : goal.niche_of_lists-requires-clause-each
-niche_of_lists-requires-clause-each g c = lists_count c.args.variants.now c.in-Ok.lists.items c.in-Ok.ensures.lists
+niche_of_lists-requires-clause-each g c = lists_count c.args.variants.now c.in-Ok.lists c.in-Ok.ensures.lists
 
 pub niche_of_lists-requires-clause-count : goal.niche_of_lists-requires-clause-count
-niche_of_lists-requires-clause-count g c = rw (lists_count c.args.variants.now c.in-Ok.lists.items c.in-Ok.ensures.lists) c.requires.count
+niche_of_lists-requires-clause-count g c = rw (lists_count c.args.variants.now c.in-Ok.lists c.in-Ok.ensures.lists) c.requires.count
 
 pub returns-then-not-any_niche-clause-exact : goal.returns-then-not-any_niche-clause-exact
 returns-then-not-any_niche-clause-exact g c =
@@ -30,8 +30,8 @@ returns-then-not-any_niche-clause-good g c =
 
 pub returns-in-Ok-niche_of_lists-clause-exact : goal.returns-in-Ok-niche_of_lists-clause-exact
 returns-in-Ok-niche_of_lists-clause-exact g c =
-    inr (inr (sym c.is_free.ensures ∙ c.if-not-is_free.false, c.in-Ok.lists.items, c.in-Ok.ensures.exact, rw (← c.data_layout-dl.ensures) c.in-Ok-niche_of_lists.ensures))
+    inr (inr (sym c.is_free.ensures ∙ c.if-not-is_free.false, c.in-Ok.lists, c.in-Ok.ensures.exact, rw (← c.data_layout-dl.ensures) c.in-Ok-niche_of_lists.ensures))
 
 pub returns-in-Ok-niche_of_lists-clause-good : goal.returns-in-Ok-niche_of_lists-clause-good
 returns-in-Ok-niche_of_lists-clause-good g c =
-    inr (inr (sym c.is_free.ensures ∙ c.if-not-is_free.false, c.in-Ok.lists.items, c.in-Ok.ensures.good, rw (← c.data_layout-dl.ensures) c.in-Ok-niche_of_lists.ensures))
+    inr (inr (sym c.is_free.ensures ∙ c.if-not-is_free.false, c.in-Ok.lists, c.in-Ok.ensures.good, rw (← c.data_layout-dl.ensures) c.in-Ok-niche_of_lists.ensures))

@@ -98,16 +98,16 @@ layout_of_lists-requires-clause-first g c =
 
 pub layout_of_lists-requires-clause-lists : goal.layout_of_lists-requires-clause-lists
 layout_of_lists-requires-clause-lists g c =
-    let others : AreGoodLists g.F.LayoutHandle.layout_of g.FieldIdx.Idx.at (g.VariantIdx.Idx.at 0) (g.Cx.HasDataLayout.target c.args.self.now.cx) default_repr (behind c.in-Ok.first) (own_lists c.args.locals.now c.args.promoted.now (map (map g.LocalIdx.Idx.number) c.args.states.now)) c.in-Ok-lists_of_own.lists.items
-    = subst (λ k. AreGoodLists g.F.LayoutHandle.layout_of g.FieldIdx.Idx.at (g.VariantIdx.Idx.at 0) (g.Cx.HasDataLayout.target c.args.self.now.cx) default_repr k (own_lists c.args.locals.now c.args.promoted.now (map (map g.LocalIdx.Idx.number) c.args.states.now)) c.in-Ok-lists_of_own.lists.items) c.behind-kind.ensures c.in-Ok-lists_of_own.ensures.good in
-    good_own_fields g.F.LayoutHandle.layout_of g.FieldIdx.Idx.at g.FieldIdx.Idx.number g.FieldIdx.Idx.MAX_INDEX g.met.FieldIdx.Idx.number_at (g.VariantIdx.Idx.at 0) (g.Cx.HasDataLayout.target c.args.self.now.cx) (behind c.in-Ok.first) g.LocalIdx.Idx.number c.args.locals.now c.args.promoted.now c.args.states.now c.in-Ok-lists_of_own.lists.items
+    let others : AreGoodLists g.F.LayoutHandle.layout_of g.FieldIdx.Idx.at (g.VariantIdx.Idx.at 0) (g.Cx.HasDataLayout.target c.args.self.now.cx) default_repr (behind c.in-Ok.first) (own_lists c.args.locals.now c.args.promoted.now (map (map g.LocalIdx.Idx.number) c.args.states.now)) c.in-Ok-lists_of_own.lists
+    = subst (λ k. AreGoodLists g.F.LayoutHandle.layout_of g.FieldIdx.Idx.at (g.VariantIdx.Idx.at 0) (g.Cx.HasDataLayout.target c.args.self.now.cx) default_repr k (own_lists c.args.locals.now c.args.promoted.now (map (map g.LocalIdx.Idx.number) c.args.states.now)) c.in-Ok-lists_of_own.lists) c.behind-kind.ensures c.in-Ok-lists_of_own.ensures.good in
+    good_own_fields g.F.LayoutHandle.layout_of g.FieldIdx.Idx.at g.FieldIdx.Idx.number g.FieldIdx.Idx.MAX_INDEX g.met.FieldIdx.Idx.number_at (g.VariantIdx.Idx.at 0) (g.Cx.HasDataLayout.target c.args.self.now.cx) (behind c.in-Ok.first) g.LocalIdx.Idx.number c.args.locals.now c.args.promoted.now c.args.states.now c.in-Ok-lists_of_own.lists
     c.requires.within c.in-Ok-lists_of_own.ensures.within others
 
 pub layout_of_lists-requires-clause-lawful : goal.layout_of_lists-requires-clause-lawful
 layout_of_lists-requires-clause-lawful g c =
-    let others : AreGoodLists g.F.LayoutHandle.layout_of g.FieldIdx.Idx.at (g.VariantIdx.Idx.at 0) (g.Cx.HasDataLayout.target c.args.self.now.cx) default_repr (behind c.in-Ok.first) (own_lists c.args.locals.now c.args.promoted.now (map (map g.LocalIdx.Idx.number) c.args.states.now)) c.in-Ok-lists_of_own.lists.items
-    = subst (λ k. AreGoodLists g.F.LayoutHandle.layout_of g.FieldIdx.Idx.at (g.VariantIdx.Idx.at 0) (g.Cx.HasDataLayout.target c.args.self.now.cx) default_repr k (own_lists c.args.locals.now c.args.promoted.now (map (map g.LocalIdx.Idx.number) c.args.states.now)) c.in-Ok-lists_of_own.lists.items) c.behind-kind.ensures c.in-Ok-lists_of_own.ensures.good in
-    rw c.data_layout-dl.ensures (good_lawful g.F.LayoutHandle.layout_of g.FieldIdx.Idx.at (g.VariantIdx.Idx.at 0) (g.Cx.HasDataLayout.target c.args.self.now.cx) default_repr (behind c.in-Ok.first) (own_lists c.args.locals.now c.args.promoted.now (map (map g.LocalIdx.Idx.number) c.args.states.now)) c.in-Ok-lists_of_own.lists.items others)
+    let others : AreGoodLists g.F.LayoutHandle.layout_of g.FieldIdx.Idx.at (g.VariantIdx.Idx.at 0) (g.Cx.HasDataLayout.target c.args.self.now.cx) default_repr (behind c.in-Ok.first) (own_lists c.args.locals.now c.args.promoted.now (map (map g.LocalIdx.Idx.number) c.args.states.now)) c.in-Ok-lists_of_own.lists
+    = subst (λ k. AreGoodLists g.F.LayoutHandle.layout_of g.FieldIdx.Idx.at (g.VariantIdx.Idx.at 0) (g.Cx.HasDataLayout.target c.args.self.now.cx) default_repr k (own_lists c.args.locals.now c.args.promoted.now (map (map g.LocalIdx.Idx.number) c.args.states.now)) c.in-Ok-lists_of_own.lists) c.behind-kind.ensures c.in-Ok-lists_of_own.ensures.good in
+    rw c.data_layout-dl.ensures (good_lawful g.F.LayoutHandle.layout_of g.FieldIdx.Idx.at (g.VariantIdx.Idx.at 0) (g.Cx.HasDataLayout.target c.args.self.now.cx) default_repr (behind c.in-Ok.first) (own_lists c.args.locals.now c.args.promoted.now (map (map g.LocalIdx.Idx.number) c.args.states.now)) c.in-Ok-lists_of_own.lists others)
 
 pub returns : goal.returns
 returns g c =
@@ -121,14 +121,14 @@ returns g c =
     let good : IsGoodList g.F.LayoutHandle.layout_of g.FieldIdx.Idx.at (g.VariantIdx.Idx.at 0) (g.Cx.HasDataLayout.target c.args.self.now.cx) default_repr AlwaysSized (first_list c.args.prefix c.args.field c.args.locals.now c.args.promoted.now) c.in-Ok.first
     = subst (λ fs. IsGoodList g.F.LayoutHandle.layout_of g.FieldIdx.Idx.at (g.VariantIdx.Idx.at 0) (g.Cx.HasDataLayout.target c.args.self.now.cx) default_repr AlwaysSized fs c.in-Ok.first) c.in_ok-fields.ensures
     (subst (λ r. IsGoodList g.F.LayoutHandle.layout_of g.FieldIdx.Idx.at (g.VariantIdx.Idx.at 0) (g.Cx.HasDataLayout.target c.args.self.now.cx) r AlwaysSized c.in_ok-fields.fields c.in-Ok.first) c.default_repr.ensures c.in-Ok.ensures.good) in
-    let others : AreGoodLists g.F.LayoutHandle.layout_of g.FieldIdx.Idx.at (g.VariantIdx.Idx.at 0) (g.Cx.HasDataLayout.target c.args.self.now.cx) default_repr (behind c.in-Ok.first) (own_lists c.args.locals.now c.args.promoted.now (map (map g.LocalIdx.Idx.number) c.args.states.now)) c.in-Ok-lists_of_own.lists.items
-    = subst (λ k. AreGoodLists g.F.LayoutHandle.layout_of g.FieldIdx.Idx.at (g.VariantIdx.Idx.at 0) (g.Cx.HasDataLayout.target c.args.self.now.cx) default_repr k (own_lists c.args.locals.now c.args.promoted.now (map (map g.LocalIdx.Idx.number) c.args.states.now)) c.in-Ok-lists_of_own.lists.items) c.behind-kind.ensures c.in-Ok-lists_of_own.ensures.good in
-    let laid = subst (λ n. IfOk c.layout_of_lists.result (λ layout. (whole_size c.in-Ok.first c.in-Ok-lists_of_own.lists.items < size_bound (g.Cx.HasDataLayout.target c.args.self.now.cx))
-    × (layout ≡ coroutine_layout g.FieldIdx.Idx.at g.FieldIdx.Idx.number n c.args.tag c.args.promoted.now (map (map g.LocalIdx.Idx.number) c.args.states.now) c.in-Ok.first c.in-Ok-lists_of_own.lists.items))) c.len-count.ensures.count
-    (subst (λ d. IfOk c.layout_of_lists.result (λ layout. (whole_size c.in-Ok.first c.in-Ok-lists_of_own.lists.items < size_bound d)
-    × (layout ≡ coroutine_layout g.FieldIdx.Idx.at g.FieldIdx.Idx.number c.len-count.result c.args.tag c.args.promoted.now (map (map g.LocalIdx.Idx.number) c.args.states.now) c.in-Ok.first c.in-Ok-lists_of_own.lists.items))) c.data_layout-dl.ensures c.layout_of_lists.ensures.exact) in
-    let fault = subst (λ d. IfErr c.layout_of_lists.result (λ e. ((size_bound d ≤ whole_size c.in-Ok.first c.in-Ok-lists_of_own.lists.items) × (e ≡ SizeOverflow)) ⊎ (e ≡ OutOfMemory))) c.data_layout-dl.ensures c.layout_of_lists.ensures.fault in
-    let p = whole_promised g.F.LayoutHandle.layout_of g.FieldIdx.Idx.at g.FieldIdx.Idx.number (g.VariantIdx.Idx.at 0) (g.Cx.HasDataLayout.target c.args.self.now.cx) c.args.prefix c.args.tag c.args.field c.args.locals.now (map (map g.LocalIdx.Idx.number) c.args.states.now) c.args.promoted.now asked c.in-Ok.first good c.in-Ok-lists_of_own.lists.items others c.layout_of_lists.result laid fault in
+    let others : AreGoodLists g.F.LayoutHandle.layout_of g.FieldIdx.Idx.at (g.VariantIdx.Idx.at 0) (g.Cx.HasDataLayout.target c.args.self.now.cx) default_repr (behind c.in-Ok.first) (own_lists c.args.locals.now c.args.promoted.now (map (map g.LocalIdx.Idx.number) c.args.states.now)) c.in-Ok-lists_of_own.lists
+    = subst (λ k. AreGoodLists g.F.LayoutHandle.layout_of g.FieldIdx.Idx.at (g.VariantIdx.Idx.at 0) (g.Cx.HasDataLayout.target c.args.self.now.cx) default_repr k (own_lists c.args.locals.now c.args.promoted.now (map (map g.LocalIdx.Idx.number) c.args.states.now)) c.in-Ok-lists_of_own.lists) c.behind-kind.ensures c.in-Ok-lists_of_own.ensures.good in
+    let laid = subst (λ n. IfOk c.layout_of_lists.result (λ layout. (whole_size c.in-Ok.first c.in-Ok-lists_of_own.lists < size_bound (g.Cx.HasDataLayout.target c.args.self.now.cx))
+    × (layout ≡ coroutine_layout g.FieldIdx.Idx.at g.FieldIdx.Idx.number n c.args.tag c.args.promoted.now (map (map g.LocalIdx.Idx.number) c.args.states.now) c.in-Ok.first c.in-Ok-lists_of_own.lists))) c.len-count.ensures.count
+    (subst (λ d. IfOk c.layout_of_lists.result (λ layout. (whole_size c.in-Ok.first c.in-Ok-lists_of_own.lists < size_bound d)
+    × (layout ≡ coroutine_layout g.FieldIdx.Idx.at g.FieldIdx.Idx.number c.len-count.result c.args.tag c.args.promoted.now (map (map g.LocalIdx.Idx.number) c.args.states.now) c.in-Ok.first c.in-Ok-lists_of_own.lists))) c.data_layout-dl.ensures c.layout_of_lists.ensures.exact) in
+    let fault = subst (λ d. IfErr c.layout_of_lists.result (λ e. ((size_bound d ≤ whole_size c.in-Ok.first c.in-Ok-lists_of_own.lists) × (e ≡ SizeOverflow)) ⊎ (e ≡ OutOfMemory))) c.data_layout-dl.ensures c.layout_of_lists.ensures.fault in
+    let p = whole_promised g.F.LayoutHandle.layout_of g.FieldIdx.Idx.at g.FieldIdx.Idx.number (g.VariantIdx.Idx.at 0) (g.Cx.HasDataLayout.target c.args.self.now.cx) c.args.prefix c.args.tag c.args.field c.args.locals.now (map (map g.LocalIdx.Idx.number) c.args.states.now) c.args.promoted.now asked c.in-Ok.first good c.in-Ok-lists_of_own.lists others c.layout_of_lists.result laid fault in
     let states = map (map g.LocalIdx.Idx.number) c.args.states.now in
     let within : All (All (λ l. l < length c.args.locals.now)) (map (map g.LocalIdx.Idx.number) c.args.states.now)
     = All-map (All (λ l. l < length c.args.locals.now)) (map g.LocalIdx.Idx.number) c.args.states.now
@@ -138,15 +138,15 @@ returns g c =
       exact = p.exact;
       lawful = p.lawful;
       told = told_promised g.F.LayoutHandle.layout_of g.FieldIdx.Idx.at g.FieldIdx.Idx.number (g.VariantIdx.Idx.at 0) (g.Cx.HasDataLayout.target c.args.self.now.cx) c.args.prefix c.args.tag c.args.field c.args.locals.now c.args.promoted.now
-          c.requires.field c.requires.same c.in-Ok.first good (map (map g.LocalIdx.Idx.number) c.args.states.now) c.in-Ok-lists_of_own.lists.items
-          (λ layout. whole_size c.in-Ok.first c.in-Ok-lists_of_own.lists.items < size_bound (g.Cx.HasDataLayout.target c.args.self.now.cx)) c.layout_of_lists.result asked.tells
+          c.requires.field c.requires.same c.in-Ok.first good (map (map g.LocalIdx.Idx.number) c.args.states.now) c.in-Ok-lists_of_own.lists
+          (λ layout. whole_size c.in-Ok.first c.in-Ok-lists_of_own.lists < size_bound (g.Cx.HasDataLayout.target c.args.self.now.cx)) c.layout_of_lists.result asked.tells
           within once others laid;
       clash = λ conflicts is square count. clash_promised g.F.LayoutHandle.layout_of g.FieldIdx.Idx.at g.FieldIdx.Idx.number (g.VariantIdx.Idx.at 0) (g.Cx.HasDataLayout.target c.args.self.now.cx) c.args.prefix c.args.tag c.args.field c.args.locals.now
-          states conflicts c.in-Ok.first c.in-Ok-lists_of_own.lists.items c.args.promoted.now is count within square good others
-          (λ layout. whole_size c.in-Ok.first c.in-Ok-lists_of_own.lists.items < size_bound (g.Cx.HasDataLayout.target c.args.self.now.cx)) c.layout_of_lists.result laid;
+          states conflicts c.in-Ok.first c.in-Ok-lists_of_own.lists c.args.promoted.now is count within square good others
+          (λ layout. whole_size c.in-Ok.first c.in-Ok-lists_of_own.lists < size_bound (g.Cx.HasDataLayout.target c.args.self.now.cx)) c.layout_of_lists.result laid;
       one_offset = λ conflicts is count. offset_promised g.F.LayoutHandle.layout_of g.FieldIdx.Idx.at g.FieldIdx.Idx.number (g.VariantIdx.Idx.at 0) (g.Cx.HasDataLayout.target c.args.self.now.cx) c.args.prefix c.args.tag c.args.field c.args.locals.now
-          states conflicts c.in-Ok.first c.in-Ok-lists_of_own.lists.items c.args.promoted.now is count within once
-          (λ layout. whole_size c.in-Ok.first c.in-Ok-lists_of_own.lists.items < size_bound (g.Cx.HasDataLayout.target c.args.self.now.cx)) c.layout_of_lists.result laid;
+          states conflicts c.in-Ok.first c.in-Ok-lists_of_own.lists c.args.promoted.now is count within once
+          (λ layout. whole_size c.in-Ok.first c.in-Ok-lists_of_own.lists < size_bound (g.Cx.HasDataLayout.target c.args.self.now.cx)) c.layout_of_lists.result laid;
       size = p.size;
       too_large = p.too_large;
       refused = p.refused;

@@ -28,29 +28,29 @@ returns-in-Ok g c =
     let vs = map (map layout_of) c.args.variants.now in
     let behind : StructKind = behind_tag dl c.args.repr.now c.args.asked vs in
     let kind : c.behind_tag-kind.result ≡ behind = ◌∙◌ {b = behind_tag told c.args.repr.now c.args.asked vs} c.behind_tag-kind.ensures.kind (ap (λ d. behind_tag d c.args.repr.now c.args.asked vs) same) in
-    let h : HasGoodLists layout_of at number first dl c.args.repr.now c.args.asked c.args.signed c.args.values.now behind c.args.variants.now c.in-Ok.lists.items = record {
-      good = subst (λ k. AreGoodLists layout_of at first dl c.args.repr.now k c.args.variants.now c.in-Ok.lists.items) kind c.in-Ok.ensures.good;
+    let h : HasGoodLists layout_of at number first dl c.args.repr.now c.args.asked c.args.signed c.args.values.now behind c.args.variants.now c.in-Ok.lists = record {
+      good = subst (λ k. AreGoodLists layout_of at first dl c.args.repr.now k c.args.variants.now c.in-Ok.lists) kind c.in-Ok.ensures.good;
       some = c.requires.some;
       unpacked = c.requires.unpacked;
     } in
-    let by : IfOk c.layout_of_lists.result (IsBy layout_of at number first dl c.args.repr.now c.args.asked c.args.signed c.args.values.now behind c.args.variants.now c.in-Ok.lists.items)
-    = subst (λ d. IfOk c.layout_of_lists.result (IsBy layout_of at number first d c.args.repr.now c.args.asked c.args.signed c.args.values.now behind c.args.variants.now c.in-Ok.lists.items)) same c.layout_of_lists.ensures.exact in
-    let fault : IfErr c.layout_of_lists.result (IsWholeFault layout_of at number first dl c.args.repr.now c.args.asked c.args.signed c.args.values.now behind c.args.variants.now c.in-Ok.lists.items)
-    = subst (λ d. IfErr c.layout_of_lists.result (IsWholeFault layout_of at number first d c.args.repr.now c.args.asked c.args.signed c.args.values.now behind c.args.variants.now c.in-Ok.lists.items)) same c.layout_of_lists.ensures.fault in
+    let by : IfOk c.layout_of_lists.result (IsBy layout_of at number first dl c.args.repr.now c.args.asked c.args.signed c.args.values.now behind c.args.variants.now c.in-Ok.lists)
+    = subst (λ d. IfOk c.layout_of_lists.result (IsBy layout_of at number first d c.args.repr.now c.args.asked c.args.signed c.args.values.now behind c.args.variants.now c.in-Ok.lists)) same c.layout_of_lists.ensures.exact in
+    let fault : IfErr c.layout_of_lists.result (IsWholeFault layout_of at number first dl c.args.repr.now c.args.asked c.args.signed c.args.values.now behind c.args.variants.now c.in-Ok.lists)
+    = subst (λ d. IfErr c.layout_of_lists.result (IsWholeFault layout_of at number first d c.args.repr.now c.args.asked c.args.signed c.args.values.now behind c.args.variants.now c.in-Ok.lists)) same c.layout_of_lists.ensures.fault in
     record {
-      exact = tagged_answer layout_of at number first dl told c.args.repr.now c.args.asked c.args.signed c.args.values.now c.args.variants.now c.behind_tag-kind.result c.in-Ok.lists.items c.layout_of_lists.result
+      exact = tagged_answer layout_of at number first dl told c.args.repr.now c.args.asked c.args.signed c.args.values.now c.args.variants.now c.behind_tag-kind.result c.in-Ok.lists c.layout_of_lists.result
           same c.behind_tag-kind.ensures.kind c.in-Ok.ensures.exact c.layout_of_lists.ensures.exact c.layout_of_lists.ensures.fault;
-      good = by_good layout_of at number first dl c.args.repr.now c.args.asked c.args.signed c.args.values.now behind c.args.variants.now c.in-Ok.lists.items c.layout_of_lists.result h;
-      size = by_size layout_of at number first dl c.args.repr.now c.args.asked c.args.signed c.args.values.now behind c.args.variants.now c.in-Ok.lists.items c.layout_of_lists.result h by;
-      lawful = by_lawful layout_of at number first dl c.args.repr.now c.args.asked c.args.signed c.args.values.now behind c.args.variants.now c.in-Ok.lists.items g.FieldIdx.Idx.MAX_INDEX g.met.FieldIdx.Idx.number_at c.requires.data_layout refl c.in-Ok.ensures.within c.requires.fields c.in-Ok.ensures.lawful c.layout_of_lists.result h by;
+      good = by_good layout_of at number first dl c.args.repr.now c.args.asked c.args.signed c.args.values.now behind c.args.variants.now c.in-Ok.lists c.layout_of_lists.result h;
+      size = by_size layout_of at number first dl c.args.repr.now c.args.asked c.args.signed c.args.values.now behind c.args.variants.now c.in-Ok.lists c.layout_of_lists.result h by;
+      lawful = by_lawful layout_of at number first dl c.args.repr.now c.args.asked c.args.signed c.args.values.now behind c.args.variants.now c.in-Ok.lists g.FieldIdx.Idx.MAX_INDEX g.met.FieldIdx.Idx.number_at c.requires.data_layout refl c.in-Ok.ensures.within c.requires.fields c.in-Ok.ensures.lawful c.layout_of_lists.result h by;
       within = if_any (All (λ fields. length fields ≤ g.FieldIdx.Idx.MAX_INDEX + 1) c.args.variants.now) c.layout_of_lists.result c.in-Ok.ensures.within;
-      view = by_view layout_of at number first dl c.args.repr.now c.args.asked c.args.signed c.args.values.now behind c.args.variants.now c.in-Ok.lists.items c.layout_of_lists.result by;
-      apart = by_apart layout_of at number first dl c.args.repr.now c.args.asked c.args.signed c.args.values.now behind c.args.variants.now c.in-Ok.lists.items g.FieldIdx.Idx.MAX_INDEX g.met.FieldIdx.Idx.number_at c.requires.data_layout refl c.in-Ok.ensures.within c.layout_of_lists.result h by;
-      numbers = by_numbers layout_of at number first dl c.args.repr.now c.args.asked c.args.signed c.args.values.now behind c.args.variants.now c.in-Ok.lists.items c.layout_of_lists.result by;
-      differ = by_differ layout_of at number first dl c.args.repr.now c.args.asked c.args.signed c.args.values.now behind c.args.variants.now c.in-Ok.lists.items c.layout_of_lists.result by;
-      too_large = by_too_large layout_of at number first dl c.args.repr.now c.args.asked c.args.signed c.args.values.now behind c.args.variants.now c.in-Ok.lists.items c.layout_of_lists.result h fault;
-      refused = λ sized large. by_refused layout_of at number first dl c.args.repr.now c.args.asked c.args.signed c.args.values.now behind c.args.variants.now c.in-Ok.lists.items c.layout_of_lists.result h by fault large;
-      no_other = λ sized. by_no_other layout_of at number first dl c.args.repr.now c.args.asked c.args.signed c.args.values.now behind c.args.variants.now c.in-Ok.lists.items c.layout_of_lists.result fault;
+      view = by_view layout_of at number first dl c.args.repr.now c.args.asked c.args.signed c.args.values.now behind c.args.variants.now c.in-Ok.lists c.layout_of_lists.result by;
+      apart = by_apart layout_of at number first dl c.args.repr.now c.args.asked c.args.signed c.args.values.now behind c.args.variants.now c.in-Ok.lists g.FieldIdx.Idx.MAX_INDEX g.met.FieldIdx.Idx.number_at c.requires.data_layout refl c.in-Ok.ensures.within c.layout_of_lists.result h by;
+      numbers = by_numbers layout_of at number first dl c.args.repr.now c.args.asked c.args.signed c.args.values.now behind c.args.variants.now c.in-Ok.lists c.layout_of_lists.result by;
+      differ = by_differ layout_of at number first dl c.args.repr.now c.args.asked c.args.signed c.args.values.now behind c.args.variants.now c.in-Ok.lists c.layout_of_lists.result by;
+      too_large = by_too_large layout_of at number first dl c.args.repr.now c.args.asked c.args.signed c.args.values.now behind c.args.variants.now c.in-Ok.lists c.layout_of_lists.result h fault;
+      refused = λ sized large. by_refused layout_of at number first dl c.args.repr.now c.args.asked c.args.signed c.args.values.now behind c.args.variants.now c.in-Ok.lists c.layout_of_lists.result h by fault large;
+      no_other = λ sized. by_no_other layout_of at number first dl c.args.repr.now c.args.asked c.args.signed c.args.values.now behind c.args.variants.now c.in-Ok.lists c.layout_of_lists.result fault;
     }
 
 pub returns-in-Err-clause-too_large : goal.returns-in-Err-clause-too_large

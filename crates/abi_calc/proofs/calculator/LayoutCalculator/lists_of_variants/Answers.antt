@@ -9,7 +9,7 @@ use Rattle.abi_calc.proofs.calculator.LayoutCalculator.lists_of_variants.Goals a
 
 pub loop-fields-init : goal.loop-fields-init
 loop-fields-init g c = record {
-  good = rw c.in_ok-lists.ensures.items tt;
+  good = rw c.in_ok-lists.ensures tt;
   within = λ k d short. absurd (omega (arith, short));
 }
 
@@ -20,37 +20,37 @@ list_of_variant-requires-clause-fields g c =
 pub returns-in-Err-clause-fault : goal.returns-in-Err-clause-fault
 returns-in-Err-clause-fault g c =
     error_next g.F.LayoutHandle.layout_of g.FieldIdx.Idx.at (g.VariantIdx.Idx.at 0) (g.Cx.HasDataLayout.target c.args.self.now.cx) c.args.repr.now c.args.kind.now c.args.variants.now c.loop-fields.fields-index
-    c.loop-fields.lists.items c.fields-item.result c.in-Err.error c.loop-fields-test.true c.fields-item.is c.loop-fields.invariant.good c.in-Err.ensures.fault
+    c.loop-fields.lists c.fields-item.result c.in-Err.error c.loop-fields-test.true c.fields-item.is c.loop-fields.invariant.good c.in-Err.ensures.fault
 
 pub loop-fields-preserved : goal.loop-fields-preserved
 loop-fields-preserved g c =
     record {
-      good = rw (c.push_reserved.ensures.items, c.reserve.ensures.items)
+      good = rw c.in_ok-push.ensures
           (good_next g.F.LayoutHandle.layout_of g.FieldIdx.Idx.at (g.VariantIdx.Idx.at 0) (g.Cx.HasDataLayout.target c.args.self.now.cx) c.args.repr.now c.args.kind.now c.args.variants.now c.loop-fields.fields-index
-          c.loop-fields.lists.items c.fields-item.result c.in-Ok.list c.loop-fields-test.true c.fields-item.is c.loop-fields.invariant.good c.in-Ok.ensures.good);
+          c.loop-fields.lists c.fields-item.result c.in-Ok.list c.loop-fields-test.true c.fields-item.is c.loop-fields.invariant.good c.in-Ok.ensures.good);
       within = all_next (λ fields. length fields ≤ g.FieldIdx.Idx.MAX_INDEX + 1) c.args.variants.now c.loop-fields.fields-index c.fields-item.result c.loop-fields-test.true c.fields-item.is c.loop-fields.invariant.within c.list_of_variant.ensures.within;
     }
 
 pub returns-clause-exact : goal.returns-clause-exact
 returns-clause-exact g c =
     let all : take c.loop-fields.fields-index c.args.variants.now ≡ c.args.variants.now = take_all c.loop-fields.fields-index c.args.variants.now c.loop-fields-test.false in
-    good_exact g.F.LayoutHandle.layout_of g.FieldIdx.Idx.at (g.VariantIdx.Idx.at 0) (g.Cx.HasDataLayout.target c.args.self.now.cx) c.args.repr.now c.args.kind.now c.args.variants.now c.loop-fields.lists.items
-    (subst (λ vs. AreGoodLists g.F.LayoutHandle.layout_of g.FieldIdx.Idx.at (g.VariantIdx.Idx.at 0) (g.Cx.HasDataLayout.target c.args.self.now.cx) c.args.repr.now c.args.kind.now vs c.loop-fields.lists.items) all c.loop-fields.invariant.good)
+    good_exact g.F.LayoutHandle.layout_of g.FieldIdx.Idx.at (g.VariantIdx.Idx.at 0) (g.Cx.HasDataLayout.target c.args.self.now.cx) c.args.repr.now c.args.kind.now c.args.variants.now c.loop-fields.lists
+    (subst (λ vs. AreGoodLists g.F.LayoutHandle.layout_of g.FieldIdx.Idx.at (g.VariantIdx.Idx.at 0) (g.Cx.HasDataLayout.target c.args.self.now.cx) c.args.repr.now c.args.kind.now vs c.loop-fields.lists) all c.loop-fields.invariant.good)
 
 pub returns-clause-lists : goal.returns-clause-lists
 returns-clause-lists g c =
     let all : take c.loop-fields.fields-index c.args.variants.now ≡ c.args.variants.now = take_all c.loop-fields.fields-index c.args.variants.now c.loop-fields-test.false in
-    good_listed g.F.LayoutHandle.layout_of g.FieldIdx.Idx.at (g.VariantIdx.Idx.at 0) (g.Cx.HasDataLayout.target c.args.self.now.cx) c.args.repr.now c.args.kind.now c.args.variants.now c.loop-fields.lists.items
-    (subst (λ vs. AreGoodLists g.F.LayoutHandle.layout_of g.FieldIdx.Idx.at (g.VariantIdx.Idx.at 0) (g.Cx.HasDataLayout.target c.args.self.now.cx) c.args.repr.now c.args.kind.now vs c.loop-fields.lists.items) all c.loop-fields.invariant.good)
+    good_listed g.F.LayoutHandle.layout_of g.FieldIdx.Idx.at (g.VariantIdx.Idx.at 0) (g.Cx.HasDataLayout.target c.args.self.now.cx) c.args.repr.now c.args.kind.now c.args.variants.now c.loop-fields.lists
+    (subst (λ vs. AreGoodLists g.F.LayoutHandle.layout_of g.FieldIdx.Idx.at (g.VariantIdx.Idx.at 0) (g.Cx.HasDataLayout.target c.args.self.now.cx) c.args.repr.now c.args.kind.now vs c.loop-fields.lists) all c.loop-fields.invariant.good)
 
 pub returns-clause-lawful : goal.returns-clause-lawful
 returns-clause-lawful g c =
-    good_lawful g.F.LayoutHandle.layout_of g.FieldIdx.Idx.at (g.VariantIdx.Idx.at 0) (g.Cx.HasDataLayout.target c.args.self.now.cx) c.args.repr.now c.args.kind.now (take c.loop-fields.fields-index c.args.variants.now) c.loop-fields.lists.items c.loop-fields.invariant.good
+    good_lawful g.F.LayoutHandle.layout_of g.FieldIdx.Idx.at (g.VariantIdx.Idx.at 0) (g.Cx.HasDataLayout.target c.args.self.now.cx) c.args.repr.now c.args.kind.now (take c.loop-fields.fields-index c.args.variants.now) c.loop-fields.lists c.loop-fields.invariant.good
 
 pub returns-clause-good : goal.returns-clause-good
 returns-clause-good g c =
     let all : take c.loop-fields.fields-index c.args.variants.now ≡ c.args.variants.now = take_all c.loop-fields.fields-index c.args.variants.now c.loop-fields-test.false in
-    subst (λ vs. AreGoodLists g.F.LayoutHandle.layout_of g.FieldIdx.Idx.at (g.VariantIdx.Idx.at 0) (g.Cx.HasDataLayout.target c.args.self.now.cx) c.args.repr.now c.args.kind.now vs c.loop-fields.lists.items) all c.loop-fields.invariant.good
+    subst (λ vs. AreGoodLists g.F.LayoutHandle.layout_of g.FieldIdx.Idx.at (g.VariantIdx.Idx.at 0) (g.Cx.HasDataLayout.target c.args.self.now.cx) c.args.repr.now c.args.kind.now vs c.loop-fields.lists) all c.loop-fields.invariant.good
 
 pub returns-clause-within : goal.returns-clause-within
 returns-clause-within g c =

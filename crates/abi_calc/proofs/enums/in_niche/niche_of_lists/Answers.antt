@@ -12,67 +12,67 @@ use Rattle.abi_calc.proofs.enums.in_niche.niche_of_lists.Goals as goal
 pub returns-in_default : goal.returns-in_default
 returns-in_default g c =
     let vs = map (map g.F.LayoutHandle.layout_of) c.args.variants.now in
-    let lists = c.args.lists.items in
-    let untagged : c.untagged_of-untagged.result ≡ untagged_of lists = c.untagged_of-untagged.ensures ∙ ap untagged_of c.deref.ensures.value in
+    let lists = c.args.lists in
+    let untagged : c.untagged_of-untagged.result ≡ untagged_of lists = c.untagged_of-untagged.ensures in
     let span : span_of (needing_numbers (untagged_of lists) vs) ≡ c.span_of.result = sym (c.span_of.ensures ∙ ap (λ u. span_of (needing_numbers u vs)) untagged) in
     no_span (g.FieldIdx.Idx.at 0) g.VariantIdx.Idx.at c.args.dl.now c.args.repr.now vs lists (span ∙ c.in_default.is)
 
 pub returns-in_default-niche_at : goal.returns-in_default-niche_at
 returns-in_default-niche_at g c =
     let vs = map (map g.F.LayoutHandle.layout_of) c.args.variants.now in
-    let lists = c.args.lists.items in
-    let untagged : c.untagged_of-untagged.result ≡ untagged_of lists = c.untagged_of-untagged.ensures ∙ ap untagged_of c.deref.ensures.value in
+    let lists = c.args.lists in
+    let untagged : c.untagged_of-untagged.result ≡ untagged_of lists = c.untagged_of-untagged.ensures in
     let span : span_of (needing_numbers (untagged_of lists) vs) ≡ c.span_of.result = sym (c.span_of.ensures ∙ ap (λ u. span_of (needing_numbers u vs)) untagged) in
     let found : niche_of_list (slice_get lists (untagged_of lists)) ≡ c.niche_at.result
-    = sym (c.niche_at.ensures ∙ (λ i. niche_of_list (slice_get (c.deref-2.ensures.value i) (untagged i)))) in
+    = sym (c.niche_at.ensures ∙ ap (λ u. niche_of_list (slice_get lists u)) untagged) in
     no_niche (g.FieldIdx.Idx.at 0) g.VariantIdx.Idx.at c.args.dl.now c.args.repr.now vs lists c.in-Some.span (span ∙ c.in-Some.is) (found ∙ c.in_default-niche_at.is)
 
 pub overflow_sub-count : goal.overflow_sub-count
 overflow_sub-count g c =
     let vs = map (map g.F.LayoutHandle.layout_of) c.args.variants.now in
-    let lists = c.args.lists.items in
-    let untagged : c.untagged_of-untagged.result ≡ untagged_of lists = c.untagged_of-untagged.ensures ∙ ap untagged_of c.deref.ensures.value in
+    let lists = c.args.lists in
+    let untagged : c.untagged_of-untagged.result ≡ untagged_of lists = c.untagged_of-untagged.ensures in
     let span : span_of (needing_numbers (untagged_of lists) vs) ≡ c.span_of.result = sym (c.span_of.ensures ∙ ap (λ u. span_of (needing_numbers u vs)) untagged) in
     span_ascends (needing_numbers (untagged_of lists) vs) c.in-Some.span (span ∙ c.in-Some.is) (needing_ascends (untagged_of lists) vs)
 
 pub reserve-requires-clause-readable : goal.reserve-requires-clause-readable
 reserve-requires-clause-readable g c =
     let vs = map (map g.F.LayoutHandle.layout_of) c.args.variants.now in
-    let lists = c.args.lists.items in
-    let untagged : c.untagged_of-untagged.result ≡ untagged_of lists = c.untagged_of-untagged.ensures ∙ ap untagged_of c.deref.ensures.value in
+    let lists = c.args.lists in
+    let untagged : c.untagged_of-untagged.result ≡ untagged_of lists = c.untagged_of-untagged.ensures in
     let span : span_of (needing_numbers (untagged_of lists) vs) ≡ c.span_of.result = sym (c.span_of.ensures ∙ ap (λ u. span_of (needing_numbers u vs)) untagged) in
     let found : niche_of_list (slice_get lists (untagged_of lists)) ≡ c.niche_at.result
-    = sym (c.niche_at.ensures ∙ (λ i. niche_of_list (slice_get (c.deref-2.ensures.value i) (untagged i)))) in
+    = sym (c.niche_at.ensures ∙ ap (λ u. niche_of_list (slice_get lists u)) untagged) in
     let there = niche_there c.args.dl.now lists (untagged_of lists) c.in-Some-niche_at.niche c.requires.lawful (found ∙ c.in-Some-niche_at.is) in
     lawful_readable c.args.dl.now there.0 (Some c.in-Some-niche_at.niche) there.1
 
 pub returns-in_default-reserve : goal.returns-in_default-reserve
 returns-in_default-reserve g c =
     let vs = map (map g.F.LayoutHandle.layout_of) c.args.variants.now in
-    let lists = c.args.lists.items in
-    let untagged : c.untagged_of-untagged.result ≡ untagged_of lists = c.untagged_of-untagged.ensures ∙ ap untagged_of c.deref.ensures.value in
+    let lists = c.args.lists in
+    let untagged : c.untagged_of-untagged.result ≡ untagged_of lists = c.untagged_of-untagged.ensures in
     let span : span_of (needing_numbers (untagged_of lists) vs) ≡ c.span_of.result = sym (c.span_of.ensures ∙ ap (λ u. span_of (needing_numbers u vs)) untagged) in
     let found : niche_of_list (slice_get lists (untagged_of lists)) ≡ c.niche_at.result
-    = sym (c.niche_at.ensures ∙ (λ i. niche_of_list (slice_get (c.deref-2.ensures.value i) (untagged i)))) in
+    = sym (c.niche_at.ensures ∙ ap (λ u. niche_of_list (slice_get lists u)) untagged) in
     let known = niche_known (slice_get lists (untagged_of lists)) c.in-Some-niche_at.niche (found ∙ c.in-Some-niche_at.is) in
     too_few (g.FieldIdx.Idx.at 0) g.VariantIdx.Idx.at c.args.dl.now c.args.repr.now vs lists c.in-Some.span known.0 c.in-Some-niche_at.niche (span ∙ c.in-Some.is) known.1 known.2 (few_of c.reserve.result (span_count c.in-Some.span) (available_in c.args.dl.now c.in-Some-niche_at.niche) c.in_default-reserve.is c.reserve.ensures.room)
 
 pub layout_in_niche-requires-clause-untagged : goal.layout_in_niche-requires-clause-untagged
 layout_in_niche-requires-clause-untagged g c =
     let vs = map (map g.F.LayoutHandle.layout_of) c.args.variants.now in
-    let lists = c.args.lists.items in
-    let untagged : c.untagged_of-untagged.result ≡ untagged_of lists = c.untagged_of-untagged.ensures ∙ ap untagged_of c.deref.ensures.value in
+    let lists = c.args.lists in
+    let untagged : c.untagged_of-untagged.result ≡ untagged_of lists = c.untagged_of-untagged.ensures in
     let span : span_of (needing_numbers (untagged_of lists) vs) ≡ c.span_of.result = sym (c.span_of.ensures ∙ ap (λ u. span_of (needing_numbers u vs)) untagged) in
     let found : niche_of_list (slice_get lists (untagged_of lists)) ≡ c.niche_at.result
-    = sym (c.niche_at.ensures ∙ (λ i. niche_of_list (slice_get (c.deref-2.ensures.value i) (untagged i)))) in
+    = sym (c.niche_at.ensures ∙ ap (λ u. niche_of_list (slice_get lists u)) untagged) in
     let there = niche_there c.args.dl.now lists (untagged_of lists) c.in-Some-niche_at.niche c.requires.lawful (found ∙ c.in-Some-niche_at.is) in
     omega (arith, untagged, there.3)
 
 pub layout_in_niche-requires-clause-first : goal.layout_in_niche-requires-clause-first
 layout_in_niche-requires-clause-first g c =
     let vs = map (map g.F.LayoutHandle.layout_of) c.args.variants.now in
-    let lists = c.args.lists.items in
-    let untagged : c.untagged_of-untagged.result ≡ untagged_of lists = c.untagged_of-untagged.ensures ∙ ap untagged_of c.deref.ensures.value in
+    let lists = c.args.lists in
+    let untagged : c.untagged_of-untagged.result ≡ untagged_of lists = c.untagged_of-untagged.ensures in
     let span : span_of (needing_numbers (untagged_of lists) vs) ≡ c.span_of.result = sym (c.span_of.ensures ∙ ap (λ u. span_of (needing_numbers u vs)) untagged) in
     let within = (span_holds (λ i. i < length vs) (needing_numbers (untagged_of lists) vs) c.in-Some.span (span ∙ c.in-Some.is) (needing_within (untagged_of lists) vs)).0 in
     omega (arith, within, length-map c.args.variants.now (map g.F.LayoutHandle.layout_of), c.requires.each, c.requires.count)
@@ -80,8 +80,8 @@ layout_in_niche-requires-clause-first g c =
 pub layout_in_niche-requires-clause-last : goal.layout_in_niche-requires-clause-last
 layout_in_niche-requires-clause-last g c =
     let vs = map (map g.F.LayoutHandle.layout_of) c.args.variants.now in
-    let lists = c.args.lists.items in
-    let untagged : c.untagged_of-untagged.result ≡ untagged_of lists = c.untagged_of-untagged.ensures ∙ ap untagged_of c.deref.ensures.value in
+    let lists = c.args.lists in
+    let untagged : c.untagged_of-untagged.result ≡ untagged_of lists = c.untagged_of-untagged.ensures in
     let span : span_of (needing_numbers (untagged_of lists) vs) ≡ c.span_of.result = sym (c.span_of.ensures ∙ ap (λ u. span_of (needing_numbers u vs)) untagged) in
     let within = (span_holds (λ i. i < length vs) (needing_numbers (untagged_of lists) vs) c.in-Some.span (span ∙ c.in-Some.is) (needing_within (untagged_of lists) vs)).1 in
     omega (arith, within, length-map c.args.variants.now (map g.F.LayoutHandle.layout_of), c.requires.each, c.requires.count)
@@ -89,46 +89,46 @@ layout_in_niche-requires-clause-last g c =
 pub layout_in_niche-requires-clause-readable : goal.layout_in_niche-requires-clause-readable
 layout_in_niche-requires-clause-readable g c =
     let vs = map (map g.F.LayoutHandle.layout_of) c.args.variants.now in
-    let lists = c.args.lists.items in
-    let untagged : c.untagged_of-untagged.result ≡ untagged_of lists = c.untagged_of-untagged.ensures ∙ ap untagged_of c.deref.ensures.value in
+    let lists = c.args.lists in
+    let untagged : c.untagged_of-untagged.result ≡ untagged_of lists = c.untagged_of-untagged.ensures in
     let span : span_of (needing_numbers (untagged_of lists) vs) ≡ c.span_of.result = sym (c.span_of.ensures ∙ ap (λ u. span_of (needing_numbers u vs)) untagged) in
     let found : niche_of_list (slice_get lists (untagged_of lists)) ≡ c.niche_at.result
-    = sym (c.niche_at.ensures ∙ (λ i. niche_of_list (slice_get (c.deref-2.ensures.value i) (untagged i)))) in
+    = sym (c.niche_at.ensures ∙ ap (λ u. niche_of_list (slice_get lists u)) untagged) in
     let there = niche_there c.args.dl.now lists (untagged_of lists) c.in-Some-niche_at.niche c.requires.lawful (found ∙ c.in-Some-niche_at.is) in
     lawful_readable c.args.dl.now there.0 (Some c.in-Some-niche_at.niche) there.1
 
 pub layout_in_niche-requires-clause-offset : goal.layout_in_niche-requires-clause-offset
 layout_in_niche-requires-clause-offset g c =
     let vs = map (map g.F.LayoutHandle.layout_of) c.args.variants.now in
-    let lists = c.args.lists.items in
-    let untagged : c.untagged_of-untagged.result ≡ untagged_of lists = c.untagged_of-untagged.ensures ∙ ap untagged_of c.deref.ensures.value in
+    let lists = c.args.lists in
+    let untagged : c.untagged_of-untagged.result ≡ untagged_of lists = c.untagged_of-untagged.ensures in
     let span : span_of (needing_numbers (untagged_of lists) vs) ≡ c.span_of.result = sym (c.span_of.ensures ∙ ap (λ u. span_of (needing_numbers u vs)) untagged) in
     let found : niche_of_list (slice_get lists (untagged_of lists)) ≡ c.niche_at.result
-    = sym (c.niche_at.ensures ∙ (λ i. niche_of_list (slice_get (c.deref-2.ensures.value i) (untagged i)))) in
+    = sym (c.niche_at.ensures ∙ ap (λ u. niche_of_list (slice_get lists u)) untagged) in
     let there = niche_there c.args.dl.now lists (untagged_of lists) c.in-Some-niche_at.niche c.requires.lawful (found ∙ c.in-Some-niche_at.is) in
     omega (arith, there.1.inside, there.2, bound_small c.args.dl.now c.requires.data_layout)
 
 pub layout_in_niche-requires-clause-tag : goal.layout_in_niche-requires-clause-tag
 layout_in_niche-requires-clause-tag g c =
     let vs = map (map g.F.LayoutHandle.layout_of) c.args.variants.now in
-    let lists = c.args.lists.items in
-    let untagged : c.untagged_of-untagged.result ≡ untagged_of lists = c.untagged_of-untagged.ensures ∙ ap untagged_of c.deref.ensures.value in
+    let lists = c.args.lists in
+    let untagged : c.untagged_of-untagged.result ≡ untagged_of lists = c.untagged_of-untagged.ensures in
     let span : span_of (needing_numbers (untagged_of lists) vs) ≡ c.span_of.result = sym (c.span_of.ensures ∙ ap (λ u. span_of (needing_numbers u vs)) untagged) in
     let found : niche_of_list (slice_get lists (untagged_of lists)) ≡ c.niche_at.result
-    = sym (c.niche_at.ensures ∙ (λ i. niche_of_list (slice_get (c.deref-2.ensures.value i) (untagged i)))) in
+    = sym (c.niche_at.ensures ∙ ap (λ u. niche_of_list (slice_get lists u)) untagged) in
     let there = niche_there c.args.dl.now lists (untagged_of lists) c.in-Some-niche_at.niche c.requires.lawful (found ∙ c.in-Some-niche_at.is) in
     handed_lawful c.args.dl.now c.in-Some-niche_at.niche c.in-Some-reserve.handed (span_count c.in-Some.span) c.in-Some-reserve.ensures.side there.1.pointer c.in-Some-reserve.ensures.set.within
 
 pub returns : goal.returns
 returns g c =
     let vs = map (map g.F.LayoutHandle.layout_of) c.args.variants.now in
-    let lists = c.args.lists.items in
+    let lists = c.args.lists in
     let first = g.FieldIdx.Idx.at 0 in
     let index = g.VariantIdx.Idx.at in
-    let untagged : c.untagged_of-untagged.result ≡ untagged_of lists = c.untagged_of-untagged.ensures ∙ ap untagged_of c.deref.ensures.value in
+    let untagged : c.untagged_of-untagged.result ≡ untagged_of lists = c.untagged_of-untagged.ensures in
     let span : span_of (needing_numbers (untagged_of lists) vs) ≡ c.span_of.result = sym (c.span_of.ensures ∙ ap (λ u. span_of (needing_numbers u vs)) untagged) in
     let found : niche_of_list (slice_get lists (untagged_of lists)) ≡ c.niche_at.result
-    = sym (c.niche_at.ensures ∙ (λ i. niche_of_list (slice_get (c.deref-2.ensures.value i) (untagged i)))) in
+    = sym (c.niche_at.ensures ∙ ap (λ u. niche_of_list (slice_get lists u)) untagged) in
     let known = niche_known (slice_get lists (untagged_of lists)) c.in-Some-niche_at.niche (found ∙ c.in-Some-niche_at.is) in
     let much = much_of c.reserve.result c.in-Some-reserve.handed (span_count c.in-Some.span) (available_in c.args.dl.now c.in-Some-niche_at.niche) c.in-Some-reserve.is c.reserve.ensures.room in
     let whole = enough first index c.args.dl.now c.args.repr.now vs lists c.in-Some.span known.0 c.in-Some-niche_at.niche (span ∙ c.in-Some.is) known.1 known.2 much in

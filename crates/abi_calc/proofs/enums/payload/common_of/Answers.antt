@@ -1,14 +1,14 @@
-use Rattle.std.proofs.Common.{◌∙◌, sym}
-use Rattle.abi_calc.proofs.AtIndex.{some_item}
+use Rattle.std.proofs.Common.{◌∙◌, arith, refl, sym}
+use Rattle.abi_calc.proofs.AtIndex.{still_within}
 use Rattle.abi_calc.proofs.EnumLemmas.Payload.{common_begin, common_end, common_none, common_step}
 use Rattle.abi_calc.proofs.enums.payload.common_of.Goals as goal
 
-pub returns-then-is_empty-clause-value : goal.returns-then-is_empty-clause-value
-returns-then-is_empty-clause-value g c =
-    common_none c.args.dl.now c.args.old c.args.new g.F.LayoutHandle.layout_of c.args.variants.now c.args.lists.now (sym c.is_empty.ensures ∙ c.if-is_empty.true)
+pub returns-then-len-eq0-clause-value : goal.returns-then-len-eq0-clause-value
+returns-then-len-eq0-clause-value g c =
+    common_none c.args.dl.now c.args.old c.args.new g.F.LayoutHandle.layout_of c.args.variants.now c.args.lists.now (sym c.len.ensures ∙ c.if-len-eq0.true)
 
 pub variant_payload-shared-requires-clause-within : goal.variant_payload-shared-requires-clause-within
-variant_payload-shared-requires-clause-within g c = some_item _ (sym c.is_empty.ensures ∙ c.if-is_empty.false)
+variant_payload-shared-requires-clause-within g c = omega (arith, c.len.ensures, c.if-len-eq0.false)
 
 pub loop-index-init : goal.loop-index-init
 loop-index-init g c = record {
@@ -24,4 +24,4 @@ loop-index-preserved g c = record {
 
 pub returns-clause-value : goal.returns-clause-value
 returns-clause-value g c =
-    common_end c.args.dl.now c.args.old c.args.new g.F.LayoutHandle.layout_of c.args.variants.now c.args.lists.now c.loop-index.index c.loop-index.shared _ c.requires.lists c.loop-index-test.false c.loop-index.invariant.value
+    common_end c.args.dl.now c.args.old c.args.new g.F.LayoutHandle.layout_of c.args.variants.now c.args.lists.now c.loop-index.index c.loop-index.shared _ c.requires.lists (still_within _ _ _ _ c.len-index-end.ensures refl c.loop-index-test.false) c.loop-index.invariant.value

@@ -1,9 +1,7 @@
 -- The layout has what its parts are told to be.
 use Rattle.std.proofs.Common.{◌∙◌, ap, refl}
-use Rattle.std.specs.List.{list_all}
 use Rattle.abi_scalar.specs.Scalar.{primitive_of, scalar_size}
 use Rattle.abi_scalar.proofs.ReadableLemmas.{lawful_readable}
-use Rattle.abi_lists.specs.Fields.{greatest_repr_align, greatest_unadjusted, seed_with}
 use Rattle.abi_lists.proofs.NicheLemmas.{readable_size}
 use Rattle.abi_calc.specs.Enums.Tagged.{layout_seen_as}
 use Rattle.abi_calc.proofs.EnumLemmas.Tagged.{same_parts}
@@ -17,15 +15,15 @@ from_scalar-requires g c = lawful_readable c.args.dl.now c.args.tag c.requires.t
 
 pub returns : goal.returns
 returns g c =
-    same_parts _ (layout_seen_as (g.FieldIdx.Idx.at 0) c.args.dl.now c.args.repr.now c.args.old c.args.tag (scalar_size c.args.dl.now c.args.tag) c.args.lists.items c.args.whole.view)
+    same_parts _ (layout_seen_as (g.FieldIdx.Idx.at 0) c.args.dl.now c.args.repr.now c.args.old c.args.tag (scalar_size c.args.dl.now c.args.tag) c.args.lists c.args.whole.view)
     (rw (c.one.ensures, c.one-2.ensures, c.new-first.ensures) refl)
     (rw (c.new-first.ensures, c.in_ok-variants.ensures, c.size.ensures, c.requires.size) refl)
     refl
     c.from_scalar.ensures.exact
-    (c.all_uninhabited-uninhabited.ensures ∙ ap (list_all (λ list. list.uninhabited)) c.deref.ensures.value)
+    c.all_uninhabited-uninhabited.ensures
     (ap (λ a. record { abi = a }) (c.new.ensures ∙ c.requires.align))
     c.requires.size
-    (c.greatest_repr_align-max_repr_align.ensures ∙ ap (λ ls. greatest_repr_align c.args.repr.now.align ls) c.deref-2.ensures.value)
-    (c.greatest_unadjusted-unadjusted_abi_align.ensures ∙ ap (λ ls. greatest_unadjusted c.args.dl.now.aggregate_align ls) c.deref-3.ensures.value)
+    c.greatest_repr_align-max_repr_align.ensures
+    c.greatest_unadjusted-unadjusted_abi_align.ensures
     c.c.ensures
-    (c.seed_with-randomization_seed.ensures ∙ ap (λ ls. seed_with c.args.repr.now.field_shuffle_seed ls) c.deref-4.ensures.value)
+    c.seed_with-randomization_seed.ensures

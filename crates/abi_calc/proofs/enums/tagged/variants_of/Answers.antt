@@ -1,37 +1,25 @@
--- The variants so far, and those that the lists left give, are all.
-use Rattle.std.proofs.Common.{◌++◌, ◌∙◌, ap, append-nil, map, refl, subst, sym}
-use Rattle.std.specs.Prelude.{All}
-use Rattle.std.proofs.lemmas.List.{nil_from_length}
-use Rattle.std.proofs.lemmas.List.Elements.{All-tail}
-use Rattle.abi_scalar.specs.Shape.{IsListed}
+-- What each list gives takes the place of its variant.
+use Rattle.std.proofs.Common.{◌≡◌, ◌∙◌, ap, arith, length, map}
+use Rattle.std.proofs.lemmas.Simd.{map-map}
 use Rattle.abi_scalar.specs.Variant.{variant_of}
 use Rattle.abi_calc.specs.Enums.Growth.{grown_variant}
 use Rattle.abi_calc.specs.Enums.Payload.{seen_as}
-use Rattle.abi_calc.proofs.EnumLemmas.Tagged.{one_more, room_for}
+use Rattle.abi_calc.proofs.AtIndex.{all_replaced, replaced, written_back}
 use Rattle.abi_calc.proofs.enums.tagged.variants_of.Goals as goal
 
-pub loop-list-init : goal.loop-list-init
-loop-list-init g c = record {
-  all = rw (c.in_ok-variants.ensures, c.into_iter-list-iterator.ensures.into_iter_gives.0) refl;
-  listed = subst (All (λ list. IsListed list.fields)) (sym c.into_iter-list-iterator.ensures.into_iter_gives.0) c.requires.listed;
-}
+pub loop-variant-init : goal.loop-variant-init
+loop-variant-init g c =
+    ap (map (λ v. seen_as c.args.view.now c.args.size (grown_variant c.args.old c.args.new v))) (c.deref_mut-variant-items.ensures.value ∙ c.into_parts-variants.ensures.variants)
+    ∙ map-map (λ v. seen_as c.args.view.now c.args.size (grown_variant c.args.old c.args.new v)) variant_of c.args.lists
 
-pub put_variant-requires-clause-room : goal.put_variant-requires-clause-room
-put_variant-requires-clause-room g c =
-    room_for (λ list. seen_as c.args.view.now c.args.size (grown_variant c.args.old c.args.new (variant_of list))) c.loop-list.variants c.in-Some.list c.next.new.self.rest.items c.args.lists.items g.VariantIdx.Idx.MAX_INDEX
-    (ap (λ rest. c.loop-list.variants ++ map (λ list. seen_as c.args.view.now c.args.size (grown_variant c.args.old c.args.new (variant_of list))) rest) (sym c.in-Some.ensures.steps.0) ∙ c.loop-list.invariant.all) c.requires.count
-
-pub loop-list-preserved : goal.loop-list-preserved
-loop-list-preserved g c = record {
-  all = rw c.in_ok-put_variant.ensures
-      (one_more (λ list. seen_as c.args.view.now c.args.size (grown_variant c.args.old c.args.new (variant_of list))) c.loop-list.variants c.in-Some.list c.next.new.self.rest.items c.args.lists.items
-      (ap (λ rest. c.loop-list.variants ++ map (λ list. seen_as c.args.view.now c.args.size (grown_variant c.args.old c.args.new (variant_of list))) rest) (sym c.in-Some.ensures.steps.0) ∙ c.loop-list.invariant.all));
-  listed = All-tail (λ list. IsListed list.fields) c.in-Some.list c.next.new.self.rest.items (subst (All (λ list. IsListed list.fields)) c.in-Some.ensures.steps.0 c.loop-list.invariant.listed);
-}
+pub loop-variant-preserved : goal.loop-variant-preserved
+loop-variant-preserved g c =
+    replaced (λ v. seen_as c.args.view.now c.args.size (grown_variant c.args.old c.args.new v)) c.loop-variant.variant-items c.loop-variant.variant-index c.variant-item.result c.settle_variant.new.variant _
+    (omega (arith, c.loop-variant-test.true, c.loop-variant.auto.variant-items)) c.in_ok-settle_variant.ensures c.loop-variant.invariant
 
 pub returns : goal.returns
 returns g c =
-    let none = nil_from_length c.loop-list.list-iterator.rest.items (sym c.loop-list.list-iterator.rest.ok.0 ∙ c.in-None.ensures.steps.0) in
-    sym (append-nil c.loop-list.variants)
-    ∙ sym (ap (λ rest. c.loop-list.variants ++ map (λ list. seen_as c.args.view.now c.args.size (grown_variant c.args.old c.args.new (variant_of list))) rest) none)
-    ∙ c.loop-list.invariant.all
+    let long : length c.loop-variant.variant-items ≡ c.into_parts-variants.result.0.len = omega (arith, c.loop-variant.auto.variant-items, ap length c.deref_mut-variant-items.ensures.value) in
+    c.from_raw.ensures ∙ written_back c.loop-variant.variant-items _ c.into_parts-variants.result.0.len long
+    ∙ all_replaced (λ v. seen_as c.args.view.now c.args.size (grown_variant c.args.old c.args.new v)) c.loop-variant.variant-items c.loop-variant.variant-index _
+    (omega (arith, c.loop-variant-test.false, c.loop-variant.auto.variant-items)) c.loop-variant.invariant
