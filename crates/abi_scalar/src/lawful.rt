@@ -3,6 +3,7 @@
 ghost use Rattle.std.specs.Prelude.{◌≡◌, ◌↔◌, ◌≤◌, IsTrue, IfSome};
 ghost use Rattle.abi_base.specs.DataLayout.{IsLawfulDataLayout};
 ghost use Rattle.abi_base.specs.Primitive.{IsLawfulPrimitive};
+ghost use Rattle.abi_scalar.specs.declared.backend_repr.BackendRepr.TheVariants.{ScalarPair};
 ghost use Rattle.abi_scalar.specs.declared.scalar.Scalar.TheVariants.{Initialized};
 ghost use Rattle.abi_scalar.specs.Range.{AreWithin};
 ghost use Rattle.abi_scalar.specs.Scalar.{IsLawfulScalar};
@@ -65,19 +66,24 @@ fn is_lawful_niche(dl: &TargetDataLayout, size: Size, niche: &Niche) -> bool
     niche.offset <= size - width && niche.valid_range.has_free(width)
 }
 
+/// Whether two scalars are lawful, and the second begins after the first and ends inside a type of this size.
+fn is_lawful_pair(dl: &TargetDataLayout, size: Size, a: Scalar, b: Scalar, b_offset: Size) -> bool
+    ensures { IsTrue result ↔ IsLawfulView dl.now size (ScalarPair a b b_offset) }
+{
+    if !is_lawful_scalar(dl, a) || !is_lawful_scalar(dl, b) {
+        return false;
+    }
+    let b_size = b.size(dl);
+    a.size(dl) <= b_offset && b_size <= size && b_offset <= size - b_size
+}
+
 /// Whether the view's scalars are lawful and lie as they should in a type of this size.
 fn is_lawful_view(dl: &TargetDataLayout, size: Size, view: &BackendRepr) -> bool
     ensures { IsTrue result ↔ IsLawfulView dl.now size view.now }
 {
     match *view {
         BackendRepr::Scalar(scalar) => is_lawful_scalar(dl, scalar) && scalar.size(dl) == size,
-        BackendRepr::ScalarPair { a, b, b_offset } => {
-            if !is_lawful_scalar(dl, a) || !is_lawful_scalar(dl, b) {
-                return false;
-            }
-            let b_size = b.size(dl);
-            a.size(dl) <= b_offset && b_size <= size && b_offset <= size - b_size
-        }
+        BackendRepr::ScalarPair { a, b, b_offset } => is_lawful_pair(dl, size, a, b, b_offset),
         BackendRepr::SimdScalableVector {
             element,
             count: _,
