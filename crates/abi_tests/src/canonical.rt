@@ -1,5 +1,6 @@
 //! Calling conventions as a code generator tells them apart.
 
+use crate::texts::is_text;
 use abi_types::{ArmCall, CanonAbi, InterruptKind, X86Call};
 use std::alloc::{AllocError, Global};
 use std::test::Fail;
@@ -49,24 +50,6 @@ static CONVENTIONS: [(CanonAbi, &str); 23] = [
     (CanonAbi::X86(X86Call::Win64), "win64"),
 ];
 
-/// Whether the convention is written as the name.
-fn is_written(alloc: Global, abi: CanonAbi, name: &str) -> Result<bool, AllocError> {
-    let written = format!(in alloc; "{abi}")?;
-    Ok(written.as_str() == name)
-}
-
-/// Whether it is written so at the right of eight places.
-fn is_at_right(alloc: Global, abi: CanonAbi, text: &str) -> Result<bool, AllocError> {
-    let padded = format!(in alloc; "{abi:>8}")?;
-    Ok(padded.as_str() == text)
-}
-
-/// Whether it is written so in the middle of nine places, between dashes.
-fn is_in_middle(alloc: Global, abi: CanonAbi, text: &str) -> Result<bool, AllocError> {
-    let padded = format!(in alloc; "{abi:-^9}")?;
-    Ok(padded.as_str() == text)
-}
-
 /// Whether the name is that of one of the four of Rust's own.
 fn is_rustic(name: &str) -> bool {
     matches!(name, "Rust" | "rust-cold" | "rust-preserve-none" | "tail")
@@ -74,7 +57,8 @@ fn is_rustic(name: &str) -> bool {
 
 /// Whether the convention is written as the name, and is one of Rust's own where the name is.
 fn is_row(alloc: Global, abi: CanonAbi, name: &str) -> Result<bool, AllocError> {
-    Ok(is_written(alloc, abi, name)? && abi.is_rustic_abi() == is_rustic(name))
+    let is_written = is_text(format!(in alloc; "{abi}"), name)?;
+    Ok(is_written && abi.is_rustic_abi() == is_rustic(name))
 }
 
 /// Whether each convention is above the one before it.
@@ -87,19 +71,20 @@ fn all_ascend() -> bool {
     true
 }
 
+/// Whether conventions are written at the right of eight places, and in the middle of nine, between dashes.
+fn are_padded(alloc: Global) -> Result<bool, AllocError> {
+    let swift = is_text(format!(in alloc; "{:>8}", CanonAbi::Swift), "   Swift")?;
+    let cold = is_text(format!(in alloc; "{:>8}", CanonAbi::RustCold), "rust-cold")?;
+    let tail = is_text(format!(in alloc; "{:-^9}", CanonAbi::RustTail), "--tail---")?;
+    Ok(swift && cold && tail)
+}
+
 #[test]
 fn conventions_are_written_and_ordered(rt: HostRuntime) -> Result<(), Fail> {
     for &(abi, name) in &CONVENTIONS {
         assert!(rt; is_row(rt.alloc(), abi, name)?, "{name}");
     }
     assert!(rt; all_ascend());
-    Ok(())
-}
-
-#[test]
-fn conventions_are_padded(rt: HostRuntime) -> Result<(), Fail> {
-    assert!(rt; is_at_right(rt.alloc(), CanonAbi::Swift, "   Swift")?);
-    assert!(rt; is_at_right(rt.alloc(), CanonAbi::RustCold, "rust-cold")?);
-    assert!(rt; is_in_middle(rt.alloc(), CanonAbi::RustTail, "--tail---")?);
+    assert!(rt; are_padded(rt.alloc())?);
     Ok(())
 }

@@ -1,8 +1,11 @@
 //! Index types, a caller's own among them; lists named by them; layouts that a caller's handle lends; hashes.
 
 ghost use Rattle.std.specs.Prelude.{◌≡◌, ◌∷◌, [], IfOk};
+ghost use Rattle.abi_base.specs.DataLayout.{IsLawfulDataLayout};
+ghost use Rattle.abi_index.specs.Relation.{column_count, row_count};
 ghost use Rattle.abi_scalar.specs.Order.{HasPlaceForEach};
 
+use crate::texts::is_text;
 use abi_base::{Integer, Primitive, Size, TargetDataLayout};
 use abi_index::{
     BitMatrix, DenseBitSet, FIRST_VARIANT, FieldIdx, Hash64, Idx, IndexSlice, IndexVec, VariantIdx,
@@ -89,11 +92,11 @@ const BYTE: Scalar = Scalar::Union {
 };
 
 /// The layout of a byte and a word, whose fields and variants are named by the caller's type.
-fn byte_and_word(alloc: Global) -> Result<LayoutData<Place, Place>, AllocError>
-    ensures places { IfOk result (λ pair. HasPlaceForEach pair.fields) }
+fn byte_and_word(alloc: Global, dl: &TargetDataLayout) -> LayoutData<Place, Place>
+    requires { IsLawfulDataLayout dl.now }
+    ensures { HasPlaceForEach result.fields }
 {
-    let dl = TargetDataLayout::default_in(alloc)?;
-    Ok(LayoutData::scalar_pair(alloc, &dl, BYTE, WORD))
+    LayoutData::scalar_pair(alloc, &dl, BYTE, WORD)
 }
 
 /// Whether these are the places of the layout's fields, in memory order.
@@ -119,13 +122,11 @@ fn second_offset(pair: &LayoutData<Place, Place>) -> Option<Size> {
     }
 }
 
-/// Whether a pair's fields and variants are named by the caller's type.
-fn is_pair_named(alloc: Global) -> Result<bool, AllocError> {
-    let pair = byte_and_word(alloc)?;
-    let named = pair.fields.count() == 2
-        && second_offset(&pair) == Some(Size::from_bytes(4))
-        && pair.is_variant_uninhabited(Place { number: 1 });
-    Ok(named && has_places(alloc, &pair, &[0, 1])?)
+/// Whether the pair's fields and variants are named by the caller's type.
+fn is_named(pair: &LayoutData<Place, Place>) -> bool {
+    pair.fields.count() == 2
+        && second_offset(pair) == Some(Size::from_bytes(4))
+        && pair.is_variant_uninhabited(Place { number: 1 })
 }
 
 /// Whether the size is read through a caller's handle, and through a reference.
@@ -138,16 +139,25 @@ fn is_lent(pair: &LayoutData<Place, Place>) -> bool {
     named.name == "pair" && size_of(&named) == size && size_of(&pair) == size
 }
 
-/// Whether a pair's size is.
-fn is_pair_lent(alloc: Global) -> Result<bool, AllocError> {
-    let pair = byte_and_word(alloc)?;
-    Ok(is_lent(&pair))
+/// Whether the pair is named so and lent, and its fields lie in source order.
+fn is_taken(alloc: Global, pair: &LayoutData<Place, Place>) -> Result<bool, AllocError>
+    requires { HasPlaceForEach pair.now.fields }
+{
+    Ok(is_named(pair) && is_lent(pair) && has_places(alloc, pair, &[0, 1])?)
+}
+
+/// Whether a pair of a caller's own is.
+fn is_pair_taken(alloc: Global, dl: &TargetDataLayout) -> Result<bool, AllocError>
+    requires { IsLawfulDataLayout dl.now }
+{
+    let pair = byte_and_word(alloc, dl);
+    is_taken(alloc, &pair)
 }
 
 #[test]
 fn types_of_a_caller_are_taken(rt: HostRuntime) -> Result<(), Fail> {
-    assert!(rt; is_pair_named(rt.alloc())?);
-    assert!(rt; is_pair_lent(rt.alloc())?);
+    let dl = TargetDataLayout::default_in(rt.alloc())?;
+    assert!(rt; is_pair_taken(rt.alloc(), &dl)?);
     Ok(())
 }
 
@@ -186,40 +196,53 @@ fn are_viewed_items_named(view: IndexSlice<'_, FieldIdx, u8>) -> bool {
         && view.indices().size_hint() == (3, Some(3))
 }
 
+/// Whether the list's indices ascend.
+fn do_indices_ascend(alloc: Global, list: &IndexVec<FieldIdx, u8>) -> Result<bool, AllocError> {
+    let indices: Vec<FieldIdx> = list.indices().collect(alloc)?;
+    let wanted = [FieldIdx::ZERO, FieldIdx::ONE, FieldIdx::from_u32(2)];
+    Ok(indices.as_slice() == wanted.as_slice())
+}
+
+/// Whether the list of three numbers is named by indices, which ascend, and is written.
+fn are_three(alloc: Global, list: &IndexVec<FieldIdx, u8>) -> Result<bool, AllocError> {
+    Ok(
+        are_items_named(list)
+            && are_viewed_items_named(list.as_slice())
+            && do_indices_ascend(alloc, list)?
+            && is_text(format!(in alloc; "{list:?}"), "[5, 6, 9]")?,
+    )
+}
+
+/// Whether a list of three numbers is so.
+fn is_list_named(alloc: Global) -> Result<bool, AllocError> {
+    let list = three(alloc)?;
+    are_three(alloc, &list)
+}
+
 #[test]
 fn lists_are_named_by_indices(rt: HostRuntime) -> Result<(), Fail> {
     assert!(rt; is_copied(rt.alloc())?);
-    let list = three(rt.alloc())?;
-    assert!(rt; are_items_named(&list) && are_viewed_items_named(list.as_slice()));
+    assert!(rt; is_list_named(rt.alloc())?);
     Ok(())
 }
 
-#[test]
-fn indices_of_lists_ascend(rt: HostRuntime) -> Result<(), Fail> {
-    let list = three(rt.alloc())?;
-    let indices: Vec<FieldIdx> = list.indices().collect(rt.alloc())?;
-    let wanted = [FieldIdx::ZERO, FieldIdx::ONE, FieldIdx::from_u32(2)];
-    assert!(rt; indices.as_slice() == wanted.as_slice());
-    Ok(())
+/// Whether the list of three numbers takes one more, by the next index.
+fn takes_one(list: &mut IndexVec<FieldIdx, u8>) -> Result<bool, AllocError>
+    requires { list.old ≡ 5 ∷ 6 ∷ 9 ∷ [] }
+{
+    let index = list.push(1)?;
+    Ok(index == FieldIdx::from_u32(3) && list.as_slice().as_raw() == [5, 6, 9, 1].as_slice())
 }
 
-/// The list, written.
-fn text_of_three(alloc: Global) -> Result<String, AllocError> {
-    let list = three(alloc)?;
-    format!(in alloc; "{list:?}")
-}
-
-#[test]
-fn lists_are_written(rt: HostRuntime) -> Result<(), Fail> {
-    assert!(rt; text_of_three(rt.alloc())?.as_str() == "[5, 6, 9]");
-    Ok(())
+/// Whether a list of three numbers does.
+fn grows(alloc: Global) -> Result<bool, AllocError> {
+    let mut list = three(alloc)?;
+    takes_one(&mut list)
 }
 
 #[test]
 fn lists_grow(rt: HostRuntime) -> Result<(), Fail> {
-    let mut list = three(rt.alloc())?;
-    assert!(rt; list.push(1)? == FieldIdx::from_u32(3));
-    assert!(rt; list.as_slice().as_raw() == [5, 6, 9, 1].as_slice());
+    assert!(rt; grows(rt.alloc())?);
     Ok(())
 }
 
@@ -246,38 +269,57 @@ fn is_viewed(raw: &[u8]) -> bool {
     list.len() == 256 && list.get(Place { number: 255 }) == Some(&7)
 }
 
-/// Whether a set and a relation have members for the last index.
-fn have_the_last(alloc: Global) -> Result<bool, AllocError> {
-    let last = Place { number: 255 };
+const LAST: Place = Place { number: 255 };
+
+/// Whether a set has a member for the last index.
+fn is_last_in_set(alloc: Global) -> Result<bool, AllocError> {
     let mut set: DenseBitSet<Place> = DenseBitSet::new_empty(alloc, 256)?;
-    let mut relation: BitMatrix<Place, Place> = BitMatrix::new(alloc, 256, 256)?;
-    let are_new = set.insert(last) && relation.insert(last, last)?;
-    Ok(are_new && set.contains(last) && relation.contains(last, last) && relation.count(last) == 1)
+    Ok(set.insert(LAST) && set.contains(LAST))
 }
+
+/// Whether a relation with room for it takes the last pair.
+fn takes_last(relation: &mut BitMatrix<Place, Place>) -> Result<bool, AllocError>
+    requires rows { row_count relation.old ≡ 256 }
+    requires columns { column_count relation.old ≡ 256 }
+{
+    let is_new = relation.insert(LAST, LAST)?;
+    Ok(is_new && relation.contains(LAST, LAST) && relation.count(LAST) == 1)
+}
+
+/// Whether a relation of as many rows and columns as there are indices does.
+fn is_last_in_relation(alloc: Global) -> Result<bool, AllocError> {
+    let mut relation: BitMatrix<Place, Place> = BitMatrix::new(alloc, 256, 256)?;
+    takes_last(&mut relation)
+}
+
+/// An item for each index.
+static SEVENS: [u8; 256] = [7; 256];
 
 #[test]
 fn each_index_names_an_item(rt: HostRuntime) -> Result<(), Fail> {
     assert!(rt; is_filled(rt.alloc())?);
-    assert!(rt; is_viewed(&[7; 256]));
-    assert!(rt; have_the_last(rt.alloc())?);
+    assert!(rt; is_viewed(&SEVENS));
+    assert!(rt; is_last_in_set(rt.alloc())? && is_last_in_relation(rt.alloc())?);
     Ok(())
 }
 
 #[test]
 fn fields_are_named_by_numbers(rt: HostRuntime) {
-    assert!(rt; FieldIdx::from_u32(3).as_usize() == 3);
+    assert!(rt; FieldIdx::from_u32(3).as_usize() == 3 && u32::new(6).plus(1).index() == 7);
     assert!(rt; FieldIdx::from_usize(0xFFFF_FF00).as_u32() == 0xFFFF_FF00);
-    assert!(rt; FieldIdx::new(2).plus(5) == FieldIdx::from_u32(7));
-    assert!(rt; FieldIdx::ZERO.plus(1) == FieldIdx::ONE && FieldIdx::ZERO < FieldIdx::ONE);
-    assert!(rt; u32::new(6).plus(1).index() == 7);
+    assert!(rt;
+        FieldIdx::new(2).plus(5) == FieldIdx::from_u32(7)
+            && FieldIdx::ZERO.plus(1) == FieldIdx::ONE
+            && FieldIdx::ZERO < FieldIdx::ONE
+    );
 }
 
 #[test]
 fn variants_are_named_by_numbers(rt: HostRuntime) {
-    assert!(rt; VariantIdx::from_u32(9).as_usize() == 9);
-    assert!(rt; VariantIdx::from_usize(4).as_u32() == 4);
-    assert!(rt; FIRST_VARIANT == VariantIdx::ZERO);
-    assert!(rt; VariantIdx::from_u32(2) < VariantIdx::from_u32(10));
+    assert!(rt; VariantIdx::from_u32(9).as_usize() == 9 && VariantIdx::from_usize(4).as_u32() == 4);
+    assert!(rt;
+        FIRST_VARIANT == VariantIdx::ZERO && VariantIdx::from_u32(2) < VariantIdx::from_u32(10)
+    );
 }
 
 #[test]

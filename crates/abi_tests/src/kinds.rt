@@ -3,12 +3,14 @@
 
 ghost use Rattle.std.specs.Prelude.{IsTrue};
 ghost use Rattle.abi_types.specs.Ty.Runs.{IsVariantIndex};
+ghost use Rattle.listed_types.specs.Nodes.{IsPart};
 
-use crate::nodes::{Node, keeps_laws, part_of};
 use crate::shapes::{Data, F32, Row, Shape, U8, U32, types};
 use abi_base::Size;
 use abi_index::VariantIdx;
 use abi_scalar::Variants;
+use abi_types::TyAndLayout;
+use listed_types::{Node, Part, keeps_laws, part_of};
 use std::alloc::{AllocError, Global};
 use std::test::Fail;
 
@@ -56,11 +58,6 @@ static KINDS: [Row; 30] = [
     (Shape::Valueless(&[0], &[16]), 8, 4),
 ];
 
-/// The list of them.
-fn kinds(alloc: Global) -> Result<Vec<Node>, AllocError> {
-    types(alloc, &KINDS)
-}
-
 /// The one field that is more than a place, the one that takes bytes, whether the type is passed as one vector of 16
 /// bytes, and whether some bytes are padding of some variants alone.
 type Walked = (Option<usize>, Option<usize>, bool, bool);
@@ -93,35 +90,41 @@ static WALKED: [(usize, Walked); 24] = [
     (28, (Some(0), Some(0), false, false)),
 ];
 
+/// The index of the one field that is more than a place, if there is one.
+pub(crate) fn only_field(it: TyAndLayout<'_, Part<'_>>) -> Option<usize>
+    requires { IsPart it }
+{
+    match it.non_1zst_field(&()) {
+        Some((index, _field)) => Some(index.as_usize()),
+        None => None,
+    }
+}
+
+/// The index of the one field that takes bytes, if there is one.
+fn only_of_bytes(it: TyAndLayout<'_, Part<'_>>) -> Option<usize>
+    requires { IsPart it }
+{
+    match it.non_zst_field_ignore_alignment(&()) {
+        Some((index, _field)) => Some(index.as_usize()),
+        None => None,
+    }
+}
+
 /// What the walks over the type at a place answer; None where it breaks a law.
 fn walked(nodes: &[Node], at: usize) -> Option<Walked> {
     if !keeps_laws(nodes, 4, at) {
         return None;
     }
     let it = part_of(nodes, 4, at);
-    let more_than_a_place = match it.non_1zst_field(&()) {
-        Some((index, _field)) => Some(index.as_usize()),
-        None => None,
-    };
-    let of_bytes = match it.non_zst_field_ignore_alignment(&()) {
-        Some((index, _field)) => Some(index.as_usize()),
-        None => None,
-    };
     Some((
-        more_than_a_place,
-        of_bytes,
+        only_field(it),
+        only_of_bytes(it),
         it.is_single_vector_element(&(), Size::from_bytes(16)),
         it.has_variant_dependent_padding(&()),
     ))
 }
 
-/// The first type of which the walks answer something else.
-fn unlike_walked(alloc: Global) -> Result<Option<usize>, AllocError> {
-    let nodes = kinds(alloc)?;
-    Ok(first_unlike_walked(&nodes))
-}
-
-/// The first one of these.
+/// The first of these types of which the walks answer something else.
 fn first_unlike_walked(nodes: &[Node]) -> Option<usize> {
     for &(at, wanted) in &WALKED {
         if walked(nodes, at) != Some(wanted) {
@@ -129,13 +132,6 @@ fn first_unlike_walked(nodes: &[Node]) -> Option<usize> {
         }
     }
     None
-}
-
-#[test]
-fn walks_over_each_kind_are_told(rt: HostRuntime) -> Result<(), Fail> {
-    let wrong = unlike_walked(rt.alloc())?;
-    assert!(rt; wrong.is_none(), "type {wrong:?}");
-    Ok(())
 }
 
 /// Whether a type that no mark is set of is passed and seen as itself: peeling leaves it, it isn't passed by a pointer,
@@ -164,19 +160,6 @@ fn first_unlike_itself(nodes: &[Node]) -> Option<usize> {
     None
 }
 
-/// The first one of all.
-fn unlike_itself(alloc: Global) -> Result<Option<usize>, AllocError> {
-    let nodes = kinds(alloc)?;
-    Ok(first_unlike_itself(&nodes))
-}
-
-#[test]
-fn types_without_marks_are_as_they_are(rt: HostRuntime) -> Result<(), Fail> {
-    let wrong = unlike_itself(rt.alloc())?;
-    assert!(rt; wrong.is_none(), "type {wrong:?}");
-    Ok(())
-}
-
 /// Each type by its place, and the runs of its padding.
 static PADDING: [(usize, &[(u64, u64)]); 18] = [
     (0, &[]),
@@ -199,17 +182,14 @@ static PADDING: [(usize, &[(u64, u64)]); 18] = [
     (28, &[(0, 1), (3, 1)]),
 ];
 
-/// Whether the padding of the type at a place is this.
-fn has_padding(
+/// Whether this is the padding of the type.
+fn is_padded(
     alloc: Global,
-    nodes: &[Node],
-    at: usize,
+    it: TyAndLayout<'_, Part<'_>>,
     wanted: &[(u64, u64)],
-) -> Result<bool, AllocError> {
-    if !keeps_laws(nodes, 4, at) {
-        return Ok(false);
-    }
-    let it = part_of(nodes, 4, at);
+) -> Result<bool, AllocError>
+    requires { IsPart it }
+{
     if it.layout.data().is_unsized() {
         return Ok(false);
     }
@@ -217,32 +197,19 @@ fn has_padding(
     Ok(padding.as_slice() == wanted)
 }
 
-/// The first type with other padding.
+/// The first of these types with other padding, or that breaks a law.
 fn first_padded_otherwise(alloc: Global, nodes: &[Node]) -> Result<Option<usize>, AllocError> {
     for &(at, wanted) in &PADDING {
-        if !has_padding(alloc, nodes, at, wanted)? {
+        if !keeps_laws(nodes, 4, at) || !is_padded(alloc, part_of(nodes, 4, at), wanted)? {
             return Ok(Some(at));
         }
     }
     Ok(None)
 }
 
-/// The first one of all.
-fn padded_otherwise(alloc: Global) -> Result<Option<usize>, AllocError> {
-    let nodes = kinds(alloc)?;
-    first_padded_otherwise(alloc, &nodes)
-}
-
-#[test]
-fn padding_of_each_kind_is_told(rt: HostRuntime) -> Result<(), Fail> {
-    let wrong = padded_otherwise(rt.alloc())?;
-    assert!(rt; wrong.is_none(), "type {wrong:?}");
-    Ok(())
-}
-
 /// Each type by its place, a variant, and the runs that other variants cover alone; of types whose variants no tag
 /// tells apart, none.
-static UNUSED: [(usize, usize, &[(u64, u64)]); 9] = [
+static UNUSED: [(usize, u32, &[(u64, u64)]); 9] = [
     (15, 0, &[(1, 1)]),
     (15, 1, &[(2, 1), (4, 4)]),
     (16, 0, &[(1, 1)]),
@@ -269,45 +236,68 @@ fn is_variant(layout: &Data, variant: usize) -> bool
     }
 }
 
-/// Whether what other variants of the type at a place cover alone is this.
+/// Whether this is what other variants of the type cover alone.
 fn leaves_unused(
     alloc: Global,
-    nodes: &[Node],
-    at: usize,
-    variant: usize,
+    it: TyAndLayout<'_, Part<'_>>,
+    index: VariantIdx,
     wanted: &[(u64, u64)],
-) -> Result<bool, AllocError> {
-    if variant > 1024 || !keeps_laws(nodes, 4, at) {
+) -> Result<bool, AllocError>
+    requires { IsPart it }
+{
+    if !is_variant(it.layout.data(), index.as_usize()) {
         return Ok(false);
     }
-    let it = part_of(nodes, 4, at);
-    if !is_variant(it.layout.data(), variant) {
-        return Ok(false);
-    }
-    let index = VariantIdx::from_usize(variant);
     let unused = it.variant_dependent_padding_ranges(alloc, &(), index)?;
     Ok(unused.as_slice() == wanted)
 }
 
-/// The first type of which a variant leaves something else.
+/// The first of these types of which a variant leaves something else, or that breaks a law.
 fn first_used_otherwise(alloc: Global, nodes: &[Node]) -> Result<Option<usize>, AllocError> {
     for &(at, variant, wanted) in &UNUSED {
-        if !leaves_unused(alloc, nodes, at, variant, wanted)? {
+        let index = VariantIdx::from_u32(variant);
+        if !keeps_laws(nodes, 4, at)
+            || !leaves_unused(alloc, part_of(nodes, 4, at), index, wanted)?
+        {
             return Ok(Some(at));
         }
     }
     Ok(None)
 }
 
-/// The first one of all.
-fn used_otherwise(alloc: Global) -> Result<Option<usize>, AllocError> {
-    let nodes = kinds(alloc)?;
-    first_used_otherwise(alloc, &nodes)
+/// What is looked at.
+#[derive(Clone, Copy)]
+enum Look {
+    Walks,
+    Marks,
+    Padding,
+    Unused,
 }
 
+/// The first type that is otherwise.
+fn first_otherwise(alloc: Global, nodes: &[Node], look: Look) -> Result<Option<usize>, AllocError> {
+    match look {
+        Look::Walks => Ok(first_unlike_walked(nodes)),
+        Look::Marks => Ok(first_unlike_itself(nodes)),
+        Look::Padding => first_padded_otherwise(alloc, nodes),
+        Look::Unused => first_used_otherwise(alloc, nodes),
+    }
+}
+
+/// The first one of all.
+fn otherwise(alloc: Global, look: Look) -> Result<Option<usize>, AllocError> {
+    let nodes = types(alloc, &KINDS)?;
+    first_otherwise(alloc, &nodes, look)
+}
+
+/// All that is looked at.
+static LOOKS: [Look; 4] = [Look::Walks, Look::Marks, Look::Padding, Look::Unused];
+
 #[test]
-fn what_each_kind_leaves_unused_is_told(rt: HostRuntime) -> Result<(), Fail> {
-    let wrong = used_otherwise(rt.alloc())?;
-    assert!(rt; wrong.is_none(), "type {wrong:?}");
+fn each_kind_is_told(rt: HostRuntime) -> Result<(), Fail> {
+    for &look in &LOOKS {
+        let wrong = otherwise(rt.alloc(), look)?;
+        assert!(rt; wrong.is_none(), "type {wrong:?}");
+    }
     Ok(())
 }

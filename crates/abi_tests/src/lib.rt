@@ -1,6 +1,5 @@
 //! What no line of text can ask of the libraries: index types and handles of a caller's own, a caller's own types with
-//! their walks, and what only a text, a hash or a refusal of a tree that no line writes shows. It has tests, and types
-//! for them.
+//! their walks, and what only a text, a hash or a refusal of a tree that no line writes shows. All of it is tests.
 #![tactic(auto)]
 
 #[cfg(test)]
@@ -14,10 +13,7 @@ mod indices;
 #[cfg(test)]
 mod kinds;
 #[cfg(test)]
-mod lawful;
-#[cfg(test)]
 mod layouts;
-mod nodes;
 #[cfg(test)]
 mod reprs;
 #[cfg(test)]

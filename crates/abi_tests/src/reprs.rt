@@ -1,5 +1,6 @@
 //! What a `repr` asks: its flags, and what they fix.
 
+use crate::texts::is_text;
 use abi_base::{Integer, IntegerType};
 use abi_index::Hash64;
 use abi_scalar::{ReprFlags, ReprOptions};
@@ -43,10 +44,9 @@ fn flags_are_read(rt: HostRuntime) {
     }
 }
 
-/// Whether the flags are written so.
-fn are_written(alloc: Global, bits: u8, text: &str) -> Result<bool, AllocError> {
-    let written = format!(in alloc; "{:?}", ReprFlags::from_bits_retain(bits))?;
-    Ok(written.as_str() == text)
+/// The flags, as they are written.
+fn written(alloc: Global, bits: u8) -> Result<String, AllocError> {
+    format!(in alloc; "{:?}", ReprFlags::from_bits_retain(bits))
 }
 
 /// Flags, and how they are written.
@@ -65,7 +65,7 @@ static WRITTEN: [(u8, &str); 6] = [
 #[test]
 fn flags_are_written(rt: HostRuntime) -> Result<(), Fail> {
     for &(bits, text) in &WRITTEN {
-        assert!(rt; are_written(rt.alloc(), bits, text)?, "{text}");
+        assert!(rt; is_text(written(rt.alloc(), bits), text)?, "{text}");
     }
     Ok(())
 }

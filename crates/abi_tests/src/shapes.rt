@@ -3,13 +3,13 @@
 ghost use Rattle.std.specs.Prelude.{◌≡◌, IfOk};
 ghost use Rattle.abi_scalar.specs.Shape.{IsListed};
 
-use crate::nodes::{Marked, Node, place_at};
 use abi_base::{AbiAlign, Align, Float, Integer, NumScalableVectors, Primitive, Size};
 use abi_index::{FieldIdx, Hash64, IndexVec, VariantIdx};
 use abi_scalar::{
     BackendLaneCount, BackendRepr, FieldCount, FieldsShape, LayoutData, RangeInclusive, Scalar,
     TagEncoding, VariantLayout, Variants,
 };
+use listed_types::{Marked, Node, place_at};
 use std::alloc::{AllocError, Global};
 
 /// Layouts with numbered fields and variants.
@@ -225,20 +225,44 @@ fn variant(
     Ok(VariantLayout::from_layout(shaped(fields, only(), MEMORY, bytes, align)))
 }
 
-/// What each of at most sixteen variants has of its own, by the rows that tell their fields.
+/// Puts what a variant has of its own, by the row that tells its fields, where fewer than sixteen are there.
+fn put_variant(
+    alloc: Global,
+    row: Row,
+    list: &mut IndexVec<VariantIdx, VariantLayout<FieldIdx>>,
+) -> Result<(), AllocError> {
+    let (Shape::Fields(offsets, _), bytes, align) = row else {
+        return Ok(());
+    };
+    if list.len() < 16 {
+        list.push(variant(alloc, offsets, bytes, align)?)?;
+    }
+    Ok(())
+}
+
+/// Puts what each variant has of its own, by the rows at these places.
+fn put_variants(
+    alloc: Global,
+    rows: &[Row],
+    places: &[usize],
+    list: &mut IndexVec<VariantIdx, VariantLayout<FieldIdx>>,
+) -> Result<(), AllocError> {
+    for place in places {
+        if let Some(row) = rows.get(*place) {
+            put_variant(alloc, *row, list)?;
+        }
+    }
+    Ok(())
+}
+
+/// What each of at most sixteen variants has of its own.
 fn variant_layouts(
     alloc: Global,
     rows: &[Row],
     places: &[usize],
 ) -> Result<IndexVec<VariantIdx, VariantLayout<FieldIdx>>, AllocError> {
     let mut list = IndexVec::new(alloc);
-    for place in places {
-        if list.len() < 16 {
-            if let Some(&(Shape::Fields(offsets, _), bytes, align)) = rows.get(*place) {
-                list.push(variant(alloc, offsets, bytes, align)?)?;
-            }
-        }
-    }
+    put_variants(alloc, rows, places, &mut list)?;
     Ok(list)
 }
 
@@ -258,18 +282,11 @@ fn several(
     })
 }
 
-/// Its variants.
-fn variants_of(
-    alloc: Global,
-    rows: &[Row],
-    shape: Shape,
-) -> Result<Variants<FieldIdx, VariantIdx>, AllocError> {
+/// How its variants are told apart, where it has several: by which tag, and how.
+fn told_apart(shape: Shape) -> Option<(Primitive, TagEncoding<VariantIdx>)> {
     match shape {
-        Shape::Never | Shape::Valueless(_, _) => Ok(Variants::Empty),
-        Shape::Tagged(tag, _, _, places) => {
-            several(alloc, rows, tag, TagEncoding::Direct, places)
-        }
-        Shape::InNiche(tag, _, _, places) => {
+        Shape::Tagged(tag, _, _, _) => Some((tag, TagEncoding::Direct)),
+        Shape::InNiche(tag, _, _, _) => {
             let second = VariantIdx::from_usize(1);
             let niche_variants = RangeInclusive {
                 start: second,
@@ -280,9 +297,30 @@ fn variants_of(
                 niche_variants,
                 niche_start: 0,
             };
-            several(alloc, rows, tag, in_niche, places)
+            Some((tag, in_niche))
         }
-        _ => Ok(only()),
+        _ => None,
+    }
+}
+
+/// Gives a layout the variants of its shape, where there are several.
+fn give_variants(
+    alloc: Global,
+    rows: &[Row],
+    shape: Shape,
+    layout: &mut Data,
+) -> Result<(), AllocError> {
+    if let Some((tag, encoding)) = told_apart(shape) {
+        layout.variants = several(alloc, rows, tag, encoding, variant_types(shape))?;
+    }
+    Ok(())
+}
+
+/// Its only variant, or none.
+fn one_or_none(shape: Shape) -> Variants<FieldIdx, VariantIdx> {
+    match shape {
+        Shape::Never | Shape::Valueless(_, _) => Variants::Empty,
+        _ => only(),
     }
 }
 
@@ -296,30 +334,39 @@ fn four(places: &[usize]) -> [usize; 4] {
     ]
 }
 
-/// The type of a row.
-fn node(
-    alloc: Global,
-    rows: &[Row],
-    shape: Shape,
-    bytes: u64,
-    align: u64,
-) -> Result<Node, AllocError> {
-    let variants = variants_of(alloc, rows, shape)?;
+/// The type of a row, as if it had one variant where it has several.
+fn node(alloc: Global, (shape, bytes, align): Row) -> Result<Node, AllocError> {
     let fields = fields_of(alloc, shape)?;
     let places = variant_types(shape);
     Ok(Node {
-        layout: shaped(fields, variants, view_of(shape), bytes, align),
+        layout: shaped(fields, one_or_none(shape), view_of(shape), bytes, align),
         marked: marks_of(shape),
         fields: four(field_types(shape)),
         variants: [place_at(places, 0), place_at(places, 1)],
     })
 }
 
+/// Puts the types of all rows, as if each had one variant.
+fn put_nodes(alloc: Global, rows: &[Row], nodes: &mut Vec<Node>) -> Result<(), AllocError> {
+    for row in rows {
+        nodes.push(node(alloc, *row)?)?;
+    }
+    Ok(())
+}
+
+/// Gives each type its variants.
+fn give_each(alloc: Global, rows: &[Row], nodes: &mut [Node]) -> Result<(), AllocError> {
+    for i in 0..nodes.len().min(rows.len()) {
+        let (shape, _, _) = rows[i];
+        give_variants(alloc, rows, shape, &mut nodes[i].layout)?;
+    }
+    Ok(())
+}
+
 /// The types of all rows.
 pub(crate) fn types(alloc: Global, rows: &[Row]) -> Result<Vec<Node>, AllocError> {
     let mut nodes = Vec::new(alloc);
-    for &(shape, bytes, align) in rows {
-        nodes.push(node(alloc, rows, shape, bytes, align)?)?;
-    }
+    put_nodes(alloc, rows, &mut nodes)?;
+    give_each(alloc, rows, &mut nodes)?;
     Ok(nodes)
 }

@@ -27,10 +27,7 @@ const WORD: Scalar = Scalar::Union {
 };
 
 /// Whether the layout has so many bytes, is so aligned, and has fields at these offsets.
-fn is_laid(layout: &Layout, bytes: u64, align: u64, wanted: &[Size]) -> bool {
-    let Ok(align) = Align::from_bytes(align) else {
-        return false;
-    };
+fn has(layout: &Layout, bytes: u64, align: Align, wanted: &[Size]) -> bool {
     match &layout.fields {
         FieldsShape::Arbitrary { offsets, .. } => {
             offsets.as_slice().as_raw() == wanted
@@ -41,30 +38,38 @@ fn is_laid(layout: &Layout, bytes: u64, align: u64, wanted: &[Size]) -> bool {
     }
 }
 
-/// Whether a truth and a word are laid out, without memory.
-fn pair_is_laid(alloc: Global, dl: &TargetDataLayout) -> bool
+/// A truth and a word.
+fn pair(alloc: Global, dl: &TargetDataLayout) -> Option<Layout>
     requires { IsLawfulDataLayout dl.now }
 {
-    let pair: Layout = LayoutData::scalar_pair(alloc, &dl, TRUTH, WORD);
-    is_laid(&pair, 8, 4, &[Size::ZERO, Size::from_bytes(4)])
+    Some(LayoutData::scalar_pair(alloc, &dl, TRUTH, WORD))
 }
 
-/// Whether a vector of three words is laid out, without memory.
-fn vector_is_laid(alloc: Global, dl: &TargetDataLayout) -> bool
+/// A vector of three words, if there is one.
+fn vector(alloc: Global, dl: &TargetDataLayout) -> Option<Layout>
     requires { IsLawfulDataLayout dl.now }
 {
     let word: Layout = LayoutData::scalar(&dl, WORD);
-    match LayoutCalculator::new(dl).layout_of_simd_type(alloc, &word, 3, false) {
-        Ok(vector) => is_laid(&vector, 16, 16, &[Size::ZERO]),
-        Err(_) => false,
+    LayoutCalculator::new(dl)
+        .layout_of_simd_type(alloc, &word, 3, false)
+        .ok()
+}
+
+/// Whether there is a layout that has this.
+fn is_laid(made: Option<Layout>, bytes: u64, align: Align, wanted: &[Size]) -> bool {
+    match &made {
+        Some(layout) => has(layout, bytes, align, wanted),
+        None => false,
     }
 }
 
 #[test]
 fn pairs_and_vectors_ask_for_no_memory(rt: HostRuntime) -> Result<(), Fail> {
     let dl = TargetDataLayout::default_in(rt.alloc())?;
-    assert!(rt; pair_is_laid(rt.alloc(), &dl));
-    assert!(rt; vector_is_laid(rt.alloc(), &dl));
+    let offsets = [Size::ZERO, Size::from_bytes(4)];
+    assert!(rt; is_laid(pair(rt.alloc(), &dl), 8, Align::FOUR, &offsets));
+    let sixteen = Align::max_aligned_factor(Size::from_bytes(16));
+    assert!(rt; is_laid(vector(rt.alloc(), &dl), 16, sixteen, &[Size::ZERO]));
     Ok(())
 }
 

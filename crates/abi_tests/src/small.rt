@@ -9,14 +9,20 @@ use abi_scalar::{Scalar, WrappingRange};
 use std::alloc::{AllocError, Global};
 use std::test::Fail;
 
-#[test]
-fn sizes_and_alignments_are_ordered(rt: HostRuntime) {
+/// Whether sizes are summed in place, multiplied, ordered and counted.
+fn are_sizes_counted() -> bool {
     let mut sum = Size::from_bytes(3);
     sum += Size::from_bytes(5);
-    assert!(rt; sum == Size::from_bytes(8) && Size::default() == Size::ZERO);
-    assert!(rt; 4 * Size::from_bytes(3) == Size::from_bytes(12));
-    assert!(rt; Size::from_bytes(3) < Size::from_bytes(5));
-    assert!(rt; sum.bytes_usize() == 8 && sum.bits_usize() == 64);
+    sum == Size::from_bytes(8)
+        && 4 * Size::from_bytes(3) == Size::from_bytes(12)
+        && Size::from_bytes(3) < Size::from_bytes(5)
+        && sum.bytes_usize() == 8
+        && sum.bits_usize() == 64
+}
+
+#[test]
+fn sizes_and_alignments_are_ordered(rt: HostRuntime) {
+    assert!(rt; are_sizes_counted() && Size::default() == Size::ZERO);
     assert!(rt; Align::EIGHT.bytes_usize() == 8 && Align::EIGHT.bits_usize() == 64);
     assert!(rt; Align::FOUR < Align::EIGHT);
 }
@@ -68,42 +74,76 @@ fn the_default_data_layout_has_one_space(rt: HostRuntime) -> Result<(), Fail> {
     Ok(())
 }
 
-/// Whether the default data layout is lawful with this alignment of lists of fields.
-fn is_lawful_for_lists(alloc: Global, align: Align) -> Result<bool, AllocError> {
-    let mut dl = TargetDataLayout::default_in(alloc)?;
-    dl.aggregate_align = align;
-    Ok(dl.is_lawful())
+/// What a data layout has an alignment of.
+#[derive(Clone, Copy)]
+enum Aligned {
+    Lists,
+    Truths,
+    /// Vectors of 8 bytes, and these alone.
+    Vectors,
 }
 
-/// Whether the default data layout is lawful with this alignment of `bool`.
-fn is_lawful_for_truths(alloc: Global, align: Align) -> Result<bool, AllocError> {
-    let mut dl = TargetDataLayout::default_in(alloc)?;
-    dl.i1_align = align;
-    Ok(dl.is_lawful())
+/// One alignment of vectors of 8 bytes.
+fn vectors(alloc: Global, align: Align) -> Result<VectorAligns, AllocError> {
+    let entries = vec![in alloc; (Size::from_bytes(8), align)]?;
+    Ok(VectorAligns::from(entries))
 }
 
-/// Whether the default data layout is lawful with this one alignment of vectors of 8 bytes; none where it isn't listed.
-fn is_lawful_for_vectors(alloc: Global, align: Align) -> Result<Option<bool>, AllocError> {
-    let mut entries = Vec::new(alloc);
-    entries.push((Size::from_bytes(8), align))?;
-    let mut dl = TargetDataLayout::default_in(alloc)?;
-    dl.vector_align = VectorAligns::from(entries);
-    if dl.vector_align.get(Size::from_bytes(8)) == Some(align) {
-        Ok(Some(dl.is_lawful()))
-    } else {
-        Ok(None)
+/// Gives a data layout this alignment of these.
+fn give(
+    alloc: Global,
+    aligned: Aligned,
+    align: Align,
+    dl: &mut TargetDataLayout,
+) -> Result<(), AllocError> {
+    match aligned {
+        Aligned::Lists => dl.aggregate_align = align,
+        Aligned::Truths => dl.i1_align = align,
+        Aligned::Vectors => dl.vector_align = vectors(alloc, align)?,
+    }
+    Ok(())
+}
+
+/// Whether a data layout has this alignment of these.
+fn has(dl: &TargetDataLayout, aligned: Aligned, align: Align) -> bool {
+    match aligned {
+        Aligned::Lists => dl.aggregate_align == align,
+        Aligned::Truths => dl.i1_align == align,
+        Aligned::Vectors => dl.vector_align.get(Size::from_bytes(8)) == Some(align),
     }
 }
 
+/// Whether the default data layout with this alignment of these has it, and is lawful or not.
+fn is_lawful_with(
+    alloc: Global,
+    aligned: Aligned,
+    bytes: u64,
+    lawful: bool,
+) -> Result<bool, AllocError> {
+    let align = Align::max_aligned_factor(Size::from_bytes(bytes));
+    let mut dl = TargetDataLayout::default_in(alloc)?;
+    give(alloc, aligned, align, &mut dl)?;
+    Ok(has(&dl, aligned, align) && dl.is_lawful() == lawful)
+}
+
+/// Alignments in bytes of these, and whether the default data layout is lawful with them.
+static ALIGNED: [(Aligned, u64, bool); 6] = [
+    (Aligned::Lists, 1 << 30, false),
+    (Aligned::Lists, 1 << 29, true),
+    (Aligned::Truths, 1 << 30, false),
+    (Aligned::Truths, 1 << 29, true),
+    (Aligned::Vectors, 1 << 30, false),
+    (Aligned::Vectors, 1 << 29, true),
+];
+
 #[test]
 fn alignments_above_the_limit_are_unlawful(rt: HostRuntime) -> Result<(), Fail> {
-    let above = Align::max_aligned_factor(Size::from_bytes(1 << 30));
-    assert!(rt; !is_lawful_for_lists(rt.alloc(), above)?);
-    assert!(rt; is_lawful_for_lists(rt.alloc(), Align::MAX)?);
-    assert!(rt; !is_lawful_for_truths(rt.alloc(), above)?);
-    assert!(rt; is_lawful_for_truths(rt.alloc(), Align::MAX)?);
-    assert!(rt; is_lawful_for_vectors(rt.alloc(), above)? == Some(false));
-    assert!(rt; is_lawful_for_vectors(rt.alloc(), Align::MAX)? == Some(true));
+    for &(aligned, bytes, lawful) in &ALIGNED {
+        assert!(rt;
+            is_lawful_with(rt.alloc(), aligned, bytes, lawful)?,
+            "{bytes}"
+        );
+    }
     Ok(())
 }
 

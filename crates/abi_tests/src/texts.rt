@@ -1,13 +1,17 @@
-//! What is written of sizes, scalars, layouts and errors.
+//! What is written of sizes, scalars and errors.
 
 use abi_base::{
     AbiAlign, AddressSpace, Align, AlignFromBytesError, Endian, Float, Integer, NoSuchInteger,
     Primitive, Size, TargetDataLayout, TargetDataLayoutError, UnknownEndian, UnknownEndianText,
 };
-use abi_index::{FieldIdx, VariantIdx};
-use abi_scalar::{LayoutCalculatorError, LayoutData, Scalar, WrappingRange};
+use abi_scalar::{LayoutCalculatorError, Scalar, WrappingRange};
 use std::alloc::{AllocError, Global};
 use std::test::Fail;
+
+/// Whether this is what is written.
+pub(crate) fn is_text(written: Result<String, AllocError>, text: &str) -> Result<bool, AllocError> {
+    Ok(written?.as_str() == text)
+}
 
 /// Whether the refusal has this text, and is this one without what it tells.
 fn is_told(
@@ -16,8 +20,8 @@ fn is_told(
     bare: LayoutCalculatorError<()>,
     text: &str,
 ) -> Result<bool, AllocError> {
-    let written = format!(in alloc; "{refusal}")?;
-    Ok(written.as_str() == text && refusal.without_payload() == bare)
+    let is_so = is_text(format!(in alloc; "{refusal}"), text)?;
+    Ok(is_so && refusal.without_payload() == bare)
 }
 
 const SIMD: &str = "invalid simd type definition";
@@ -76,8 +80,7 @@ fn refusals_have_texts(rt: HostRuntime) -> Result<(), Fail> {
 
 /// Whether the scalar is written so.
 fn is_written(alloc: Global, scalar: Scalar, text: &str) -> Result<bool, AllocError> {
-    let written = format!(in alloc; "{scalar:?}")?;
-    Ok(written.as_str() == text)
+    is_text(format!(in alloc; "{scalar:?}"), text)
 }
 
 const UNSIGNED: Primitive = Primitive::Int(Integer::I8, false);
@@ -113,8 +116,8 @@ fn scalars_have_texts(rt: HostRuntime) -> Result<(), Fail> {
 
 /// Whether the primitive is written so behind the word of a union, in a union's scalar and alone.
 fn is_written_in_union(alloc: Global, value: Primitive, text: &str) -> Result<bool, AllocError> {
-    let alone = format!(in alloc; "union {value:?}")?;
-    Ok(alone.as_str() == text && is_written(alloc, Scalar::Union { value }, text)?)
+    let alone = is_text(format!(in alloc; "union {value:?}"), text)?;
+    Ok(alone && is_written(alloc, Scalar::Union { value }, text)?)
 }
 
 /// Each primitive, and how it is written in a union.
@@ -192,16 +195,13 @@ static DATA_LAYOUTS: [(&str, &str); 6] = [
     ("e", ""),
 ];
 
-/// Whether this is said of the text.
-fn is_refused_so(alloc: Global, text: &str, wanted: &str) -> Result<bool, AllocError> {
-    let written = text_of_refusal(alloc, text)?;
-    Ok(written.as_str() == wanted)
-}
-
 #[test]
 fn refused_data_layouts_have_texts(rt: HostRuntime) -> Result<(), Fail> {
     for &(text, wanted) in &DATA_LAYOUTS {
-        assert!(rt; is_refused_so(rt.alloc(), text, wanted)?, "{text}");
+        assert!(rt;
+            is_text(text_of_refusal(rt.alloc(), text), wanted)?,
+            "{text}"
+        );
     }
     Ok(())
 }
@@ -219,54 +219,49 @@ fn text_of_target(alloc: Global) -> Result<String, AllocError> {
     format!(in alloc; "{order}; {width}; {}", TargetDataLayoutError::OutOfMemory)
 }
 
-#[test]
-fn errors_of_targets_have_texts(rt: HostRuntime) -> Result<(), Fail> {
-    let text = text_of_target(rt.alloc())?;
-    assert!(rt;
-        text.as_str() == "byte order big, not little; pointers of 64, not 32 bits; out of memory"
-    );
-    Ok(())
+/// Texts of several values.
+#[derive(Clone, Copy)]
+enum Text {
+    Sizes,
+    Ranges,
+    Alignments,
+    ByteOrders,
+    Target,
 }
 
-#[test]
-fn values_have_texts(rt: HostRuntime) -> Result<(), Fail> {
-    let text = text_of_sizes(rt.alloc())?;
-    assert!(rt; text.as_str() == "Size(4 bytes) Align(4 bytes) Align(8 bytes)");
-    let text = text_of_ranges(rt.alloc())?;
-    assert!(rt; text.as_str() == "0..=1, (..=1) | (255..)");
-    Ok(())
+/// The text.
+fn text_of(alloc: Global, text: Text) -> Result<String, AllocError> {
+    match text {
+        Text::Sizes => text_of_sizes(alloc),
+        Text::Ranges => text_of_ranges(alloc),
+        Text::Alignments => text_of_alignments(alloc),
+        Text::ByteOrders => text_of_byte_orders(alloc),
+        Text::Target => text_of_target(alloc),
+    }
 }
 
-#[test]
-fn errors_have_texts(rt: HostRuntime) -> Result<(), Fail> {
-    let text = text_of_alignments(rt.alloc())?;
-    assert!(rt;
-        text.as_str() == "3 is not a power of 2, 3 is not a power of 2, 1073741824 is too large"
-    );
-    let text = text_of_byte_orders(rt.alloc())?;
-    assert!(rt;
-        text.as_str()
-            == "little big unknown endian: unknown endian: \"x\"; rust does not support integers with 24 bits"
-    );
-    Ok(())
-}
-
-/// The layout of a type with no values.
-fn text_of_never(alloc: Global) -> Result<String, AllocError> {
-    let dl = TargetDataLayout::default_in(alloc)?;
-    let never: LayoutData<FieldIdx, VariantIdx> = LayoutData::never_type(&dl);
-    format!(in alloc; "{never:?}")
-}
+/// Each of them, as it is written.
+static TEXTS: [(Text, &str); 5] = [
+    (Text::Sizes, "Size(4 bytes) Align(4 bytes) Align(8 bytes)"),
+    (Text::Ranges, "0..=1, (..=1) | (255..)"),
+    (
+        Text::Alignments,
+        "3 is not a power of 2, 3 is not a power of 2, 1073741824 is too large",
+    ),
+    (
+        Text::ByteOrders,
+        "little big unknown endian: unknown endian: \"x\"; rust does not support integers with 24 bits",
+    ),
+    (
+        Text::Target,
+        "byte order big, not little; pointers of 64, not 32 bits; out of memory",
+    ),
+];
 
 #[test]
-fn layouts_are_written_part_by_part(rt: HostRuntime) -> Result<(), Fail> {
-    let text = text_of_never(rt.alloc())?;
-    assert!(rt;
-        text.as_str()
-            == "Layout { size: Size(0 bytes), align: Align(1 bytes), backend_repr: Memory { sized: true }, \
-                fields: Primitive, largest_niche: None, uninhabited: true, variants: Empty, \
-                max_repr_align: None, unadjusted_abi_align: Align(1 bytes), repr_c: false, \
-                randomization_seed: Hash64 { inner: 0 } }"
-    );
+fn values_and_errors_have_texts(rt: HostRuntime) -> Result<(), Fail> {
+    for &(text, wanted) in &TEXTS {
+        assert!(rt; is_text(text_of(rt.alloc(), text), wanted)?, "{wanted}");
+    }
     Ok(())
 }

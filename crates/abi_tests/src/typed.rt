@@ -1,9 +1,13 @@
 //! Walks over types by what they say of themselves: complex numbers, transparent types, types that are passed by a
 //! pointer.
 
-use crate::nodes::{Marked, Node, keeps_laws, part_of};
+ghost use Rattle.listed_types.specs.Nodes.{IsPart};
+
+use crate::kinds::only_field;
 use crate::shapes::{F32, Row, Shape, types};
 use abi_base::{AddressSpace, Float, Numeric, Primitive};
+use abi_types::TyAndLayout;
+use listed_types::{Marked, Node, Part, keeps_laws, part_of};
 use std::alloc::{AllocError, Global};
 use std::test::Fail;
 
@@ -66,6 +70,13 @@ fn is_float(number: Option<Numeric>, float: Option<Float>) -> bool {
     }
 }
 
+/// Whether the walks agree that the type is a complex number of this float, or none.
+fn agree(it: TyAndLayout<'_, Part<'_>>, float: Option<Float>) -> bool
+    requires { IsPart it }
+{
+    it.is_complex_number(&()) == float.is_some() && is_float(it.complex_number(&()), float)
+}
+
 /// What the walks over the type at a place answer; None where it breaks a law, or two of them disagree.
 fn walked(nodes: &[Node], at: usize) -> Option<Walked> {
     if !keeps_laws(nodes, 4, at) {
@@ -73,14 +84,14 @@ fn walked(nodes: &[Node], at: usize) -> Option<Walked> {
     }
     let it = part_of(nodes, 4, at);
     let float = it.complex_float(&());
-    if it.is_complex_number(&()) != float.is_some() || !is_float(it.complex_number(&()), float) {
+    if !agree(it, float) {
         return None;
     }
-    let only = match it.non_1zst_field(&()) {
-        Some((index, _field)) => Some(index.as_usize()),
-        None => None,
-    };
-    Some((float, only, it.pass_indirectly_in_non_rustic_abis(&())))
+    Some((
+        float,
+        only_field(it),
+        it.pass_indirectly_in_non_rustic_abis(&()),
+    ))
 }
 
 /// The first type of which the walks answer something else.

@@ -1,9 +1,9 @@
 //! Types that are uniform, and types that aren't, which no line writes.
 
-use crate::nodes::{Node, keeps_laws, part_of};
 use crate::shapes::{F32, Row, Shape, U8, types};
 use abi_base::{RegKind, Size};
 use abi_types::{Heterogeneous, HomogeneousAggregate, Reg};
+use listed_types::{Node, keeps_laws, part_of};
 use std::alloc::{AllocError, Global};
 use std::test::Fail;
 

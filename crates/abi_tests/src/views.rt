@@ -51,14 +51,20 @@ fn views_are_told_apart(rt: HostRuntime) {
     assert!(rt; number.eq_up_to_validity(&ANY_BYTE));
 }
 
+/// Whether a signed view of two bytes is measured, and bytes in memory aren't.
+fn are_measured(dl: &TargetDataLayout) -> bool {
+    let value = Primitive::Int(Integer::I16, true);
+    let one = BackendRepr::Scalar(Scalar::Union { value });
+    one.is_signed()
+        && one.scalar_size(dl) == Some(Size::from_bytes(2))
+        && one.scalar_platform_align(dl) == Align::from_bytes(2).ok()
+        && SIZED.scalar_size(dl).is_none()
+        && SIZED.scalar_platform_align(dl).is_none()
+}
+
 #[test]
 fn views_are_measured(rt: HostRuntime) -> Result<(), Fail> {
     let dl = TargetDataLayout::default_in(rt.alloc())?;
-    let value = Primitive::Int(Integer::I16, true);
-    let one = BackendRepr::Scalar(Scalar::Union { value });
-    assert!(rt; one.is_signed());
-    assert!(rt; one.scalar_size(&dl) == Some(Size::from_bytes(2)));
-    assert!(rt; one.scalar_platform_align(&dl) == Align::from_bytes(2).ok());
-    assert!(rt; SIZED.scalar_size(&dl) == None && SIZED.scalar_platform_align(&dl) == None);
+    assert!(rt; are_measured(&dl));
     Ok(())
 }

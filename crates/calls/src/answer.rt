@@ -6,7 +6,7 @@ use crate::line::Line;
 use crate::out::Out;
 use crate::stop::{Clause, Stop};
 use crate::{
-    coroutines, data_layouts, enums, lists, numbers, ranges, registers, sets, types, values,
+    coroutines, data_layouts, enums, laws, lists, numbers, ranges, registers, sets, types, values,
 };
 use abi_base::{Endian, TargetDataLayout};
 use std::alloc::{AllocError, Global};
@@ -22,6 +22,7 @@ fn answer_call(
     requires { IsLawfulDataLayout dl.now }
 {
     lists::call(alloc, dl, name, line, out)
+        || laws::call(alloc, dl, name, line, out)
         || enums::call(alloc, dl, name, line, out)
         || coroutines::call(alloc, dl, name, line, out)
         || types::call(alloc, dl, name, line, out)

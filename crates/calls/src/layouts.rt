@@ -4,6 +4,7 @@ ghost use Rattle.std.specs.Prelude.{◌≤◌, All, IfOk, IfSome, IsTrue, length
 ghost use Rattle.abi_base.specs.DataLayout.{IsLawfulDataLayout};
 ghost use Rattle.abi_scalar.specs.Lawful.{IsLawfulLayout};
 
+use crate::laws::{beyond, lanes, pair, put_tag};
 use crate::line::Line;
 use crate::stop::{Clause, Stop, calculator};
 use abi_base::{AbiAlign, Align, NumScalableVectors, Size, TargetDataLayout};
@@ -151,6 +152,7 @@ fn niche(alloc: Global, dl: &TargetDataLayout, line: &mut Line<'_>) -> Option<Ni
 enum ChangeWord {
     Size,
     Align,
+    Beyond,
     Unadjusted,
     MaxReprAlign,
     Uninhabited,
@@ -159,14 +161,19 @@ enum ChangeWord {
     Memory,
     Unsized,
     SeenAs,
+    Scalar,
+    Pair,
+    Lanes,
     Scalable,
     Niche,
     NoNiche,
+    Tag,
 }
 
-const CHANGE_WORDS: [(&[u8], ChangeWord); 13] = [
+const CHANGE_WORDS: [(&[u8], ChangeWord); 18] = [
     (b"size", ChangeWord::Size),
     (b"align", ChangeWord::Align),
+    (b"beyond", ChangeWord::Beyond),
     (b"unadjusted", ChangeWord::Unadjusted),
     (b"max-repr-align", ChangeWord::MaxReprAlign),
     (b"uninhabited", ChangeWord::Uninhabited),
@@ -175,9 +182,13 @@ const CHANGE_WORDS: [(&[u8], ChangeWord); 13] = [
     (b"memory", ChangeWord::Memory),
     (b"unsized", ChangeWord::Unsized),
     (b"seen-as", ChangeWord::SeenAs),
+    (b"scalar", ChangeWord::Scalar),
+    (b"pair", ChangeWord::Pair),
+    (b"lanes", ChangeWord::Lanes),
     (b"scalable", ChangeWord::Scalable),
     (b"niche", ChangeWord::Niche),
     (b"no-niche", ChangeWord::NoNiche),
+    (b"tag", ChangeWord::Tag),
 ];
 
 /// Changes what the next words tell of a layout.
@@ -185,6 +196,7 @@ fn change(alloc: Global, dl: &TargetDataLayout, line: &mut Line<'_>, layout: &mu
     match line.one_of(&CHANGE_WORDS, ChangeWord::Uninhabited) {
         ChangeWord::Size => layout.size = Size::from_bytes(line.number()),
         ChangeWord::Align => layout.align = AbiAlign::new(line.align()),
+        ChangeWord::Beyond => layout.align = AbiAlign::new(beyond()),
         ChangeWord::Unadjusted => layout.unadjusted_abi_align = line.align(),
         ChangeWord::MaxReprAlign => layout.max_repr_align = Some(line.align()),
         ChangeWord::Uninhabited => layout.uninhabited = true,
@@ -193,9 +205,13 @@ fn change(alloc: Global, dl: &TargetDataLayout, line: &mut Line<'_>, layout: &mu
         ChangeWord::Memory => layout.backend_repr = BackendRepr::Memory { sized: true },
         ChangeWord::Unsized => layout.backend_repr = BackendRepr::Memory { sized: false },
         ChangeWord::SeenAs => layout.backend_repr = view_of_type(alloc, dl, line),
+        ChangeWord::Scalar => layout.backend_repr = BackendRepr::Scalar(line.scalar(alloc, dl)),
+        ChangeWord::Pair => layout.backend_repr = pair(alloc, dl, line),
+        ChangeWord::Lanes => layout.backend_repr = lanes(alloc, dl, line),
         ChangeWord::Scalable => layout.backend_repr = scalable(alloc, dl, line),
         ChangeWord::Niche => layout.largest_niche = niche(alloc, dl, line),
         ChangeWord::NoNiche => layout.largest_niche = None,
+        ChangeWord::Tag => put_tag(alloc, line.scalar(alloc, dl), layout),
     }
 }
 

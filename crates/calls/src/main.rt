@@ -7,6 +7,7 @@ mod coroutines;
 mod data_layouts;
 mod enums;
 mod in_order;
+mod laws;
 mod layouts;
 mod line;
 mod lists;

@@ -1,6 +1,6 @@
 //! Calls of handles: what a laid-out type, or one of its fields or variants, tells of itself, and the walks over it.
 
-mod handle;
+pub(crate) mod handle;
 
 ghost use Rattle.std.specs.Prelude.{IsTrue};
 ghost use Rattle.abi_laid.specs.Handles.{IsHandle};

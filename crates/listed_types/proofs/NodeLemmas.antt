@@ -10,8 +10,8 @@ use Rattle.abi_scalar.specs.Shape.{field_count, field_offset}
 use Rattle.abi_scalar.specs.Variant.{variants_of}
 use Rattle.abi_types.specs.Ty.Typed.{Typed, at_variant, field_in, layout_in, marks_of, variant_in}
 use Rattle.abi_types.specs.Ty.Lawful.{CanBeNamed, DepthFalls, IsLawfulType, NamesVariant}
-use Rattle.abi_tests.specs.declared.nodes.Node.{Node}
-use Rattle.abi_tests.specs.Nodes.{HasParts, made, marks_in, place_at, place_by, typed_in}
+use Rattle.listed_types.specs.declared.nodes.Node.{Node}
+use Rattle.listed_types.specs.Nodes.{HasParts, made, marks_in, place_at, place_by, typed_in}
 
 -- a type that may hold others
 opened : (nodes : List Node) (depth at : ℕ) → 0 < depth → typed_in nodes depth at ≡ made (slice_get nodes at) (typed_in nodes (depth - 1))

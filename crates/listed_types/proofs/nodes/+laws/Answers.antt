@@ -1,6 +1,6 @@
 use Rattle.std.proofs.Common.{arith, rules}
-use Rattle.abi_tests.proofs.NodeLemmas.{node_lawful}
-use Rattle.abi_tests.proofs.nodes.+laws.Goals as goal
+use Rattle.listed_types.proofs.NodeLemmas.{node_lawful}
+use Rattle.listed_types.proofs.nodes.+laws.Goals as goal
 
 pub keeps_laws-returns : goal.keeps_laws-returns
 keeps_laws-returns t c = λ told.

@@ -1,7 +1,7 @@
 -- From a type to its fields and variants, whose depth is less.
 use Rattle.std.proofs.Common.{◌+◌, ◌*◌, ◌-◌}
-use Rattle.abi_tests.proofs.NodeLemmas.{AreLawfulFields, AreLawfulVariants}
-use Rattle.abi_tests.proofs.nodes.+laws.Given as goal
+use Rattle.listed_types.proofs.NodeLemmas.{AreLawfulFields, AreLawfulVariants}
+use Rattle.listed_types.proofs.nodes.+laws.Given as goal
 
 abbrev pub decreases-field_keeps_laws : goal.decreases-field_keeps_laws
 decreases-field_keeps_laws l = 2 * l.depth + 1

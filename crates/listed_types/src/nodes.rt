@@ -6,7 +6,7 @@ ghost use Rattle.abi_scalar.specs.Shape.{field_count, field_offset};
 ghost use Rattle.abi_scalar.specs.Variant.{variants_of};
 ghost use Rattle.abi_types.specs.Ty.Typed.{at_variant, field_in, layout_in, marks_of};
 ghost use Rattle.abi_types.specs.Ty.Lawful.{CanBeNamed, DepthFalls, IsLawfulType, NamesVariant};
-ghost use Rattle.abi_tests.specs.Nodes.{HasParts, IsPart, part_depth, part_type, place_at, place_by, typed_in};
+ghost use Rattle.listed_types.specs.Nodes.{HasParts, IsPart, marks_by, part_depth, part_type, place_at, place_by, typed_in};
 
 use abi_base::{PointeeInfo, Size};
 use abi_index::{FieldIdx, VariantIdx};
@@ -54,7 +54,7 @@ impl Display for Part<'_> {
 }
 
 /// The place at an index, and the first one where there is none.
-pub(crate) fn place_at(places: &[usize], i: usize) -> usize
+pub fn place_at(places: &[usize], i: usize) -> usize
     ensures { result ≡ place_at places.now i }
 {
     match places.get(i) {
@@ -100,6 +100,14 @@ pub fn part_of(nodes: &[Node], depth: u64, at: usize) -> TyAndLayout<'_, Part<'_
         ty: Part { nodes, at, depth },
         layout: Layout(&nodes[at].layout),
     }
+}
+
+/// What the type says of itself.
+fn marked_in(this: TyAndLayout<'_, Part<'_>>) -> Marked
+    requires { IsPart this }
+    ensures { marks_of (part_type this.entry) ≡ marks_by result }
+{
+    this.ty.nodes[this.ty.at].marked
 }
 
 /// Whether fields can be named by their index: at most 1024, and elements reach no further than to the next.
@@ -219,7 +227,7 @@ impl<'a, C> TyAbiInterface<'a, C> for Part<'a> {
     ghost use Rattle.abi_scalar.specs.Shape.{field_count};
     ghost use Rattle.abi_types.specs.Ty.Typed.{at_variant, field_in, layout_in, marks_of};
     ghost use Rattle.abi_types.specs.Ty.Lawful.{DepthFalls, NamesVariant};
-    ghost use Rattle.abi_tests.specs.Nodes.{IsPart, part_depth, part_type};
+    ghost use Rattle.listed_types.specs.Nodes.{IsPart, part_depth, part_type};
 
     ghost is_valid = { IsPart };
 
@@ -325,14 +333,14 @@ impl<'a, C> TyAbiInterface<'a, C> for Part<'a> {
         requires { IsPart this }
         ensures { result ≡ (marks_of (part_type this.entry)).is_transparent }
     {
-        this.ty.nodes[this.ty.at].marked.transparent
+        marked_in(this).transparent
     }
 
     fn is_complex_number_lang_item(this: TyAndLayout<'a, Part<'a>>, _cx: &C) -> bool
         requires { IsPart this }
         ensures { result ≡ (marks_of (part_type this.entry)).is_complex }
     {
-        this.ty.nodes[this.ty.at].marked.complex
+        marked_in(this).complex
     }
 
     fn is_scalable_vector(this: TyAndLayout<'a, Part<'a>>) -> bool
@@ -346,7 +354,7 @@ impl<'a, C> TyAbiInterface<'a, C> for Part<'a> {
         requires { IsPart this }
         ensures { result ≡ (marks_of (part_type this.entry)).is_passed_indirectly }
     {
-        this.ty.nodes[this.ty.at].marked.indirect
+        marked_in(this).indirect
     }
 
     fn depth(this: TyAndLayout<'a, Part<'a>>) -> u64

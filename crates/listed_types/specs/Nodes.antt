@@ -6,8 +6,9 @@ use Rattle.abi_scalar.specs.Shape.{field_count}
 use Rattle.abi_types.specs.declared.ty.interface.TyAndLayout.{TyAndLayout}
 use Rattle.abi_types.specs.Ty.Typed.{Marks, Typed, typed, no_type, no_marks, layout_in}
 use Rattle.abi_types.specs.Ty.Lawful.{IsLawfulType}
-use Rattle.abi_tests.specs.declared.nodes.Node.{Node}
-use Rattle.abi_tests.specs.declared.nodes.Part.{Part}
+use Rattle.listed_types.specs.declared.nodes.Marked.{Marked}
+use Rattle.listed_types.specs.declared.nodes.Node.{Node}
+use Rattle.listed_types.specs.declared.nodes.Part.{Part}
 
 -- the place at an index, and the first one where there is none
 abbrev pub place_at : List ℕ → (index : ℕ) → ℕ
@@ -19,9 +20,11 @@ place_by (Array stride count) places i = place_at places 0
 place_by shape places i = place_at places i
 
 -- what a type says of itself
+abbrev pub marks_by : Marked → Marks
+marks_by marked = record no_marks { is_transparent = marked.transparent; is_complex = marked.complex; is_passed_indirectly = marked.indirect }
+
 abbrev pub marks_in : Node → Marks
-marks_in node =
-    record no_marks { is_transparent = node.marked.transparent; is_complex = node.marked.complex; is_passed_indirectly = node.marked.indirect }
+marks_in node = marks_by node.marked
 
 -- A complex number has a field.
 pub record HasParts (node : Node) : Type 0 where

@@ -1,6 +1,6 @@
-use Rattle.abi_tests.specs.Nodes.{part_type}
-use Rattle.abi_tests.proofs.NodeLemmas.{none_at, one_at, variant_lawful, variant_type}
-use Rattle.abi_tests.proofs.nodes.PartTyAbiInterface.ty_and_layout_for_variant.Goals as goal
+use Rattle.listed_types.specs.Nodes.{part_type}
+use Rattle.listed_types.proofs.NodeLemmas.{none_at, one_at, variant_lawful, variant_type}
+use Rattle.listed_types.proofs.nodes.PartTyAbiInterface.ty_and_layout_for_variant.Goals as goal
 
 pub part_of-requires : goal.part_of-requires
 part_of-requires g c =

@@ -1,6 +1,6 @@
-use Rattle.abi_tests.specs.Nodes.{part_type}
-use Rattle.abi_tests.proofs.NodeLemmas.{field_lawful, field_type}
-use Rattle.abi_tests.proofs.nodes.PartTyAbiInterface.ty_and_layout_field.Goals as goal
+use Rattle.listed_types.specs.Nodes.{part_type}
+use Rattle.listed_types.proofs.NodeLemmas.{field_lawful, field_type}
+use Rattle.listed_types.proofs.nodes.PartTyAbiInterface.ty_and_layout_field.Goals as goal
 
 pub part_of-requires : goal.part_of-requires
 part_of-requires g c =
