@@ -3,13 +3,12 @@
 ghost use Rattle.std.specs.Prelude.{◌≡◌, map};
 ghost use Rattle.abi_scalar.specs.Order.{indices_by_offset};
 ghost use Rattle.abi_scalar.specs.Shape.{listed_offsets, listed_order};
-ghost use Rattle.abi_scalar.specs.Variant.{variant_of};
 ghost use Rattle.abi_lists.specs.ListLayouts.{list_of};
 
 use crate::list_layouts::Rest;
-use abi_base::{AbiAlign, Align, Size};
-use abi_index::{Hash64, Idx, IndexVec};
-use abi_scalar::{BackendRepr, FieldsShape, LayoutData, Niche, VariantLayout, Variants};
+use abi_base::{Align, Size};
+use abi_index::{Hash64, Idx};
+use abi_scalar::{BackendRepr, Niche, VariantLayout};
 use std::marker::Model;
 
 /// The layout of a list of fields, lent. Contracts see it as that `LayoutData`.
@@ -105,36 +104,5 @@ impl<'a, FieldIdx: Idx, VariantIdx: Idx> LentList<'a, FieldIdx, VariantIdx> {
         ensures { result ≡ self.now.randomization_seed }
     {
         self.rest.randomization_seed
-    }
-
-    /// The list as one variant of a type, with its fields at these offsets, in this order.
-    pub fn placed_at(
-        &self,
-        offsets: IndexVec<FieldIdx, Size>,
-        in_memory_order: IndexVec<u32, FieldIdx>,
-    ) -> VariantLayout<FieldIdx>
-        ensures { result ≡ record (variant_of self.now) {
-          field_offsets = offsets;
-          fields_in_memory_order = in_memory_order;
-        } }
-    {
-        VariantLayout::from_layout(LayoutData {
-            fields: FieldsShape::Arbitrary {
-                offsets,
-                in_memory_order,
-            },
-            variants: Variants::Single {
-                index: self.rest.index,
-            },
-            backend_repr: self.variant.backend_repr,
-            largest_niche: self.variant.largest_niche(),
-            uninhabited: self.variant.is_uninhabited(),
-            align: AbiAlign::new(self.rest.align),
-            size: self.variant.size,
-            max_repr_align: self.rest.max_repr_align,
-            unadjusted_abi_align: self.rest.unadjusted_abi_align,
-            repr_c: self.rest.repr_c,
-            randomization_seed: self.rest.randomization_seed,
-        })
     }
 }

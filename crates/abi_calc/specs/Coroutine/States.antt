@@ -58,16 +58,16 @@ ranks_of number before order = map (λ i. number i - before) (filter (λ i. not 
 
 -- a state in the whole: its own list with the promoted locals that it holds, which lie at these offsets, by rank, and follow one
 -- another in memory as these ranks do
-abbrev pub stitched_layout : {F V : Type 0} → (at : ℕ → F) → (number : F → ℕ) → (promoted : List Bool) → (shared ranks : List ℕ) → (state : List ℕ) → (list : LayoutData F V) → VariantLayout F
-stitched_layout at number promoted shared ranks state list = record (variant_of list) {
-  field_offsets = state_offsets promoted shared (listed_offsets list.fields) state;
-  fields_in_memory_order = map at (state_order promoted ranks (map number (listed_order list.fields)) state);
+abbrev pub stitched : {F : Type 0} → (at : ℕ → F) → (number : F → ℕ) → (promoted : List Bool) → (shared ranks : List ℕ) → (state : List ℕ) → (own : VariantLayout F) → VariantLayout F
+stitched at number promoted shared ranks state own = record own {
+  field_offsets = state_offsets promoted shared own.field_offsets state;
+  fields_in_memory_order = map at (state_order promoted ranks (map number own.fields_in_memory_order) state);
 }
 
 -- a state in the whole, whose promoted locals lie where the first list has them: `before` fields stand before them there
 abbrev pub state_layout : {F V : Type 0} → (at : ℕ → F) → (number : F → ℕ) → (before : ℕ) → (promoted : List Bool) → (first : LayoutData F V) → (state : List ℕ) → (list : LayoutData F V) → VariantLayout F
 state_layout at number before promoted first state list =
-    stitched_layout at number promoted (drop before (listed_offsets first.fields)) (ranks_of number before (listed_order first.fields)) state list
+    stitched at number promoted (drop before (listed_offsets first.fields)) (ranks_of number before (listed_order first.fields)) state (variant_of list)
 
 -- each state in the whole
 abbrev pub state_layouts : {F V : Type 0} → (at : ℕ → F) → (number : F → ℕ) → (before : ℕ) → (promoted : List Bool) → (first : LayoutData F V) → (states : List (List ℕ)) → (lists : List (LayoutData F V)) → List (VariantLayout F)

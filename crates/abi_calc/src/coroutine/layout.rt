@@ -1,6 +1,6 @@
 //! The layout of a coroutine, from the layouts of its lists.
 
-ghost use Rattle.std.specs.Prelude.{◌≡◌, ◌≢◌, ◌+◌, ◌++◌, ◌∷◌, ◌<◌, ◌≤◌, ◌⊎◌, ◌||◌, [], All, IfErr, IfOk, filter, length, map, nat_lt, take};
+ghost use Rattle.std.specs.Prelude.{◌≡◌, ◌≢◌, ◌+◌, ◌<◌, ◌≤◌, ◌⊎◌, ◌||◌, All, IfErr, IfOk, filter, length, map, nat_lt, take};
 ghost use Rattle.std.specs.List.{AllPairs, AllZip, list_all};
 ghost use Rattle.abi_base.specs.DataLayout.{IsLawfulDataLayout, size_bound};
 ghost use Rattle.abi_index.specs.BitSet.{domain_size, members_of};
@@ -9,13 +9,13 @@ ghost use Rattle.abi_scalar.specs.Lawful.{IsLawfulLayout};
 ghost use Rattle.abi_scalar.specs.Shape.{listed_offsets, listed_order};
 ghost use Rattle.abi_calc.specs.Coroutine.Layout.{IsStateTag, coroutine_layout, whole_align, whole_size};
 ghost use Rattle.abi_calc.specs.Coroutine.Lists.{own_of};
-ghost use Rattle.abi_calc.specs.Coroutine.States.{ArePlaced, HasFields, ranks_of, state_layouts, stitched_layout};
+ghost use Rattle.abi_calc.specs.Coroutine.States.{HasFields, ranks_of, state_layouts};
 
-use crate::coroutine::states::{Promoted, ranks_below, state_layout};
+use crate::coroutine::states::{Promoted, place_state, ranks_below};
 use crate::over_lists::{all_uninhabited, greater_size, greatest_align, greatest_size};
 use abi_base::{AbiAlign, Align, HasDataLayout, Integer, Primitive, Size, TargetDataLayout};
 use abi_index::{DenseBitSet, Hash64, Idx, IndexVec};
-use abi_lists::{LentList, ListLayout, ListLayouts, field_offsets, rounded};
+use abi_lists::{ListLayout, ListLayouts, field_offsets, rounded};
 use abi_scalar::{
     BackendRepr, FieldsShape, LayoutCalculatorError, LayoutData, Scalar, TagEncoding,
     VariantLayout, Variants, WrappingRange,
@@ -146,37 +146,13 @@ fn shared_fields<FieldIdx: Idx, VariantIdx: Idx>(
     })
 }
 
-/// Puts a state in the whole behind those before it, from its own list.
-fn put_state<FieldIdx: Idx, VariantIdx: Idx, LocalIdx: Idx>(
-    alloc: Global,
-    promoted: Promoted<'_, LocalIdx>,
-    state: &IndexVec<FieldIdx, LocalIdx>,
-    list: &LentList<'_, FieldIdx, VariantIdx>,
-    layouts: &mut IndexVec<VariantIdx, VariantLayout<FieldIdx>>,
-) -> Result<(), AllocError>
-    requires room { length layouts.old ≤ VariantIdx.MAX_INDEX }
-    requires named { domain_size promoted.locals.now ≤ LocalIdx.MAX_INDEX + 1 }
-    requires placed { ArePlaced promoted.locals.now promoted.below.now promoted.offsets.now promoted.ranks.now }
-    requires within { All (λ l. LocalIdx.number l < domain_size promoted.locals.now) state.now }
-    requires once { AllPairs (λ a b. a ≢ b) (map LocalIdx.number state.now) }
-    requires list { HasFields FieldIdx.number
-        (length (own_of promoted.locals.now (map LocalIdx.number state.now))) list.now }
-    ensures { IfOk result (λ _. layouts.new ≡ layouts.old ++
-        stitched_layout FieldIdx.at FieldIdx.number promoted.entry.locals.now promoted.entry.offsets.now
-        promoted.entry.ranks.now (map LocalIdx.number state.now) list.now ∷ []) }
-{
-    let layout = state_layout(alloc, promoted, state, list)?;
-    let _index = layouts.push(layout)?;
-    Ok(())
-}
-
 /// Each state in the whole, from its own list and the first one, where so many fields stand before the promoted locals.
 fn state_layouts<FieldIdx: Idx, VariantIdx: Idx, LocalIdx: Idx>(
     alloc: Global,
     before: usize,
     saved: Saved<'_, FieldIdx, LocalIdx>,
     first: &ListLayout<FieldIdx, VariantIdx>,
-    lists: &ListLayouts<FieldIdx, VariantIdx>,
+    lists: ListLayouts<FieldIdx, VariantIdx>,
 ) -> Result<IndexVec<VariantIdx, VariantLayout<FieldIdx>>, AllocError>
     requires count { saved.count ≡ domain_size saved.promoted.now }
     requires named { saved.count ≤ LocalIdx.MAX_INDEX + 1 }
@@ -186,10 +162,10 @@ fn state_layouts<FieldIdx: Idx, VariantIdx: Idx, LocalIdx: Idx>(
     requires first { HasFields FieldIdx.number (before + length (members_of saved.promoted.now)) first.now }
     requires lists { AllZip (λ state list.
         HasFields FieldIdx.number (length (own_of saved.promoted.now (map LocalIdx.number state))) list)
-        saved.states.now lists.now }
+        saved.states.now lists }
     ensures { IfOk result (λ layouts.
         layouts ≡ state_layouts FieldIdx.at FieldIdx.number before saved.entry.promoted.now first.now
-        (map (map LocalIdx.number) saved.entry.states.now) lists.now) }
+        (map (map LocalIdx.number) saved.entry.states.now) lists) }
 {
     let Saved {
         promoted,
@@ -204,17 +180,11 @@ fn state_layouts<FieldIdx: Idx, VariantIdx: Idx, LocalIdx: Idx>(
         offsets: &first.offsets()[before..],
         ranks: &ranks,
     };
-    let mut layouts = IndexVec::new(alloc);
-    for index in 0..lists.len() {
-        put_state(
-            alloc,
-            promoted,
-            &states[index],
-            &lists.at(index),
-            &mut layouts,
-        )?;
+    let (mut variants, _) = lists.into_parts();
+    for (at, variant) in variants.iter_mut().enumerate() {
+        place_state(alloc, promoted, &states[at], variant)?;
     }
-    Ok(layouts)
+    Ok(IndexVec::from_raw(variants))
 }
 
 /// The layout of a coroutine with so many prefix fields, of this alignment and size.
@@ -245,7 +215,7 @@ fn layout_of_size<FieldIdx: Idx, VariantIdx: Idx, LocalIdx: Idx>(
     let before = prefix + 1;
     let uninhabited = is_uninhabited(&first, &lists);
     let fields = shared_fields(alloc, before, &first)?;
-    let variants = state_layouts(alloc, before, saved, &first, &lists)?;
+    let variants = state_layouts(alloc, before, saved, &first, lists)?;
     Ok(LayoutData {
         fields,
         variants: Variants::Multiple {

@@ -1,16 +1,15 @@
 //! Where the locals of a coroutine's states lie: promoted ones in the first list, the others in the state's own.
 
-ghost use Rattle.std.specs.Prelude.{◌≡◌, ◌≢◌, ℕ, ◌+◌, ◌<◌, ◌≤◌, All, IfOk, IfSome, length, map, slice_index, slice_index_or, IsPermutation, None, true};
+ghost use Rattle.std.specs.Prelude.{◌≡◌, ◌≢◌, ℕ, ◌+◌, ◌<◌, ◌≤◌, All, IfOk, IfSome, OnOk, length, map, slice_index, slice_index_or, IsPermutation, None, true};
 ghost use Rattle.std.specs.List.{AllPairs};
 ghost use Rattle.std.specs.Option.{option_to_list};
 ghost use Rattle.abi_index.specs.BitSet.{domain_size, is_member, members_of};
 ghost use Rattle.abi_lists.specs.Placement.{source_order};
 ghost use Rattle.abi_calc.specs.Coroutine.Lists.{own_of};
-ghost use Rattle.abi_calc.specs.Coroutine.States.{ArePlaced, HasFields, joined_places, own_places, places_with, rank_of, state_offsets, state_order, stitched_layout};
+ghost use Rattle.abi_calc.specs.Coroutine.States.{ArePlaced, joined_places, own_places, places_with, rank_of, state_offsets, state_order, stitched};
 
 use abi_base::Size;
 use abi_index::{DenseBitSet, Idx, IndexVec};
-use abi_lists::LentList;
 use abi_scalar::VariantLayout;
 use std::alloc::{AllocError, Global};
 
@@ -195,22 +194,23 @@ pub(crate) struct Promoted<'a, LocalIdx: Idx> {
     pub(crate) ranks: &'a [usize],
 }
 
-/// A state in the whole: its own list, with the promoted locals that it holds.
-pub(crate) fn state_layout<FieldIdx: Idx, VariantIdx: Idx, LocalIdx: Idx>(
+/// Places the fields of a state in the whole: those of its own list, and the promoted locals that it holds.
+pub(crate) fn place_state<FieldIdx: Idx, LocalIdx: Idx>(
     alloc: Global,
     promoted: Promoted<'_, LocalIdx>,
     state: &IndexVec<FieldIdx, LocalIdx>,
-    list: &LentList<'_, FieldIdx, VariantIdx>,
-) -> Result<VariantLayout<FieldIdx>, AllocError>
+    variant: &mut VariantLayout<FieldIdx>,
+) -> Result<(), AllocError>
     requires named { domain_size promoted.locals.now ≤ LocalIdx.MAX_INDEX + 1 }
     requires placed { ArePlaced promoted.locals.now promoted.below.now promoted.offsets.now promoted.ranks.now }
     requires within { All (λ l. LocalIdx.number l < domain_size promoted.locals.now) state.now }
     requires once { AllPairs (λ a b. a ≢ b) (map LocalIdx.number state.now) }
-    requires list { HasFields FieldIdx.number
-        (length (own_of promoted.locals.now (map LocalIdx.number state.now))) list.now }
-    ensures { IfOk result (λ variant.
-        variant ≡ stitched_layout FieldIdx.at FieldIdx.number promoted.entry.locals.now promoted.entry.offsets.now
-        promoted.entry.ranks.now (map LocalIdx.number state.now) list.now) }
+    requires offsets { length variant.old.field_offsets ≡
+        length (own_of promoted.locals.now (map LocalIdx.number state.now)) }
+    requires order { IsPermutation (source_order (length (own_of promoted.locals.now
+        (map LocalIdx.number state.now)))) (map FieldIdx.number variant.old.fields_in_memory_order) }
+    ensures { OnOk result (variant.new ≡ stitched FieldIdx.at FieldIdx.number promoted.entry.locals.now
+        promoted.entry.offsets.now promoted.entry.ranks.now (map LocalIdx.number state.now) variant.old) }
 {
     let Promoted {
         locals,
@@ -219,8 +219,10 @@ pub(crate) fn state_layout<FieldIdx: Idx, VariantIdx: Idx, LocalIdx: Idx>(
         ranks,
     } = promoted;
     let state = state.as_slice().as_raw();
-    let offsets = state_offsets(alloc, locals, below, offsets, list.offsets(), state)?;
-    let own = list.in_memory_order();
+    let own = variant.field_offsets.as_slice().as_raw();
+    let offsets = state_offsets(alloc, locals, below, offsets, own, state)?;
+    let own = variant.in_memory_order();
     let in_memory_order = state_order(alloc, locals, below, ranks, own, state)?;
-    Ok(list.placed_at(offsets, in_memory_order))
+    variant.set_places(offsets, in_memory_order);
+    Ok(())
 }
