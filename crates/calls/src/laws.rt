@@ -1,6 +1,5 @@
-//! Calls on a layout that a line hands in: whether it is lawful, its copy, its text, and one of its
-//! variants; and what may stand in
-//! such a layout, views and tags of any scalar.
+//! Calls on a layout that a line hands in: whether it is lawful, its copy, its text, and one of its variants; and what
+//! may stand in such a layout, views and tags of any scalar.
 
 ghost use Rattle.abi_base.specs.DataLayout.{IsLawfulDataLayout};
 
