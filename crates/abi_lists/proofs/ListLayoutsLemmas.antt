@@ -1,7 +1,6 @@
 -- Lists that are kept as variants, and the rest of each beside them.
-use Rattle.std.proofs.Common.{◌≡◌, ℕ, zero, suc, ◌<◌, ◌++◌, List, [], ◌∷◌, ap, ap₂, arith, get_or, length, map, refl, sym, ◌∙◌}
+use Rattle.std.proofs.Common.{◌≡◌, ℕ, zero, suc, ◌<◌, ◌++◌, List, [], ◌∷◌, ap, ap₂, arith, get_or, length, map, refl, sym}
 use Rattle.std.specs.Prelude.{Some, slice_get}
-use Rattle.abi_scalar.specs.declared.layout_data.LayoutData.{LayoutData}
 use Rattle.abi_scalar.specs.declared.variants.VariantLayout.{VariantLayout}
 use Rattle.abi_scalar.specs.Variant.{variant_of}
 use Rattle.abi_lists.specs.declared.list_layouts.Rest.{Rest}
