@@ -185,3 +185,6 @@ named_below kind l field i named found lt (Array stride count) e =
 pub can_be_named : (kind : NoBytes) (t : Typed) (i : ℕ) → IsLawfulType t → only_field (has_no_bytes kind) (layout_in t) (field_in t) ≡ Some i → i < count_of t → i ≤ 0xFFFF_FF00
 can_be_named kind (typed l marks field variant) i law found lt = named_below kind l field i law.0.named found lt l.fields refl
 can_be_named kind no_type i law found lt = absurd law
+
+-- what the walk's proof goes by
+pub ruleset one_field_steps = (none_found, first_found, passed_over, second_found, all_found, of_elements, found_below, still_below)

@@ -64,3 +64,6 @@ another_field t i n lt e = next t i n lt ∙ ap (λ b. b || has_from t (i + 1) n
 -- none is left
 pub no_field : (t : Typed) (n : ℕ) → has_from t n n ≡ false
 no_field t n = ap (λ m. list_any (has_each t) (range_with_len n m)) (let e : n - n ≡ 0 = omega arith in e)
+
+-- what the walk's proof goes by
+pub ruleset padding_steps = (of_several, of_none, of_elements, of_empty_array, of_fields, of_union, of_primitive, some_field, another_field, no_field)

@@ -59,3 +59,6 @@ of_scalable_vector size no_type s c n e = refl
 pub offset_fits : (t : Typed) (i : ℕ) → IsLawfulType t → i < field_count (layout_in t).fields → (layout_in t).size < 2 ^ 64 → field_offset (layout_in t).fields i < 2 ^ 64
 offset_fits no_type i law lt fits = absurd law
 offset_fits (typed l m f v) i law lt fits = let inside : field_offset l.fields i + (layout_in (f i)).size ≤ l.size = law.0.inside i lt in omega (arith, inside, fits)
+
+-- what the walk's proof goes by
+pub ruleset vector_steps = (of_vector, of_field, of_fields, of_moved_field, of_scalar, of_pair, of_scalable_vector, offset_fits)

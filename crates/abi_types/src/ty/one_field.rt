@@ -36,7 +36,7 @@ impl NoBytes {
 
 /// The index of the one field that isn't such; None where there is no such field, or several. Elements of an array are
 /// all one type: of two or more none is the only one.
-#[tactic(auto, using(crate::proofs::OneFieldLemmas::none_found, crate::proofs::OneFieldLemmas::first_found, crate::proofs::OneFieldLemmas::passed_over, crate::proofs::OneFieldLemmas::second_found, crate::proofs::OneFieldLemmas::all_found, crate::proofs::OneFieldLemmas::of_elements, crate::proofs::OneFieldLemmas::found_below, crate::proofs::OneFieldLemmas::still_below))]
+#[tactic(auto, using(crate::proofs::OneFieldLemmas::one_field_steps))]
 pub(crate) fn only_field<W: Walk>(this: W, kind: NoBytes) -> Option<usize>
     requires { W.is_valid this }
     ensures index { result ≡ only_field (has_no_bytes kind) (layout_in (W.typed_of this)) (field_in (W.typed_of this)) }

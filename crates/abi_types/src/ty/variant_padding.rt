@@ -8,7 +8,7 @@ use crate::ty::walk::{At, Walk};
 use abi_scalar::{FieldsShape, Variants};
 
 /// Whether it has a tag that tells variants apart, or holds such a type other than in a union.
-#[tactic(auto, using(crate::proofs::VariantPaddingLemmas::of_several, crate::proofs::VariantPaddingLemmas::of_none, crate::proofs::VariantPaddingLemmas::of_elements, crate::proofs::VariantPaddingLemmas::of_empty_array, crate::proofs::VariantPaddingLemmas::of_fields, crate::proofs::VariantPaddingLemmas::of_union, crate::proofs::VariantPaddingLemmas::of_primitive, crate::proofs::VariantPaddingLemmas::some_field, crate::proofs::VariantPaddingLemmas::another_field, crate::proofs::VariantPaddingLemmas::no_field))]
+#[tactic(auto, using(crate::proofs::VariantPaddingLemmas::padding_steps))]
 fn walk_variant_padding<W: Walk>(this: W) -> bool
     requires { W.is_valid this }
     ensures { result ≡ has_variant_dependent_padding (W.typed_of this) }

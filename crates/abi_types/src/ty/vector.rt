@@ -9,7 +9,7 @@ use abi_base::Size;
 use abi_scalar::BackendRepr;
 
 /// Whether it is a vector of this size, or a type whose one field, at 0, is one or is such a type.
-#[tactic(auto, using(crate::proofs::VectorLemmas::of_vector, crate::proofs::VectorLemmas::of_field, crate::proofs::VectorLemmas::of_fields, crate::proofs::VectorLemmas::of_moved_field, crate::proofs::VectorLemmas::of_scalar, crate::proofs::VectorLemmas::of_pair, crate::proofs::VectorLemmas::of_scalable_vector, crate::proofs::VectorLemmas::offset_fits))]
+#[tactic(auto, using(crate::proofs::VectorLemmas::vector_steps))]
 fn walk_vector<W: Walk>(this: W, expected_size: Size) -> bool
     requires { W.is_valid this }
     ensures { result ≡ is_single_vector expected_size (W.typed_of this) }
