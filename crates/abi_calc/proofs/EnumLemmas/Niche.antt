@@ -200,6 +200,14 @@ list_behind (x ∷ xs) (l ∷ lists) zero d short left = (l, refl, ap (λ vs. ge
 list_behind (x ∷ xs) [] (suc i) d short left = absurd (omega (arith, short, ap length left, length-drop i xs))
 list_behind (x ∷ xs) (l ∷ lists) (suc i) d short left = list_behind xs lists i d (omega (arith, short)) left
 
+-- what is told of a variant is told of the list that it belongs to
+pub told_of_list : {F V : Type 0} (room : Room) (own : Bool) (align : ℕ) (v y : VariantLayout F) (list : LayoutData F V) (has_room : Bool) → v ≡ variant_of list → align ≡ list.align.abi
+    → MatchOption (if own then Some v else beside_niche room align v) (has_room ≡ false) (λ placed. (has_room ≡ true) × (y ≡ placed))
+    → MatchOption (if own then Some (variant_of list) else beside_niche room list.align.abi (variant_of list)) (has_room ≡ false) (λ placed. (has_room ≡ true) × (y ≡ placed))
+told_of_list room own align v y list has_room same beside told =
+    subst (λ a. MatchOption (if own then Some (variant_of list) else beside_niche room a (variant_of list)) (has_room ≡ false) (λ placed. (has_room ≡ true) × (y ≡ placed))) beside
+    (subst (λ w. MatchOption (if own then Some w else beside_niche room align w) (has_room ≡ false) (λ placed. (has_room ≡ true) × (y ≡ placed))) same told)
+
 -- what its list gives at that place, and the lists behind it
 pub placed_next : {F V : Type 0} (room : Room) (untagged i : ℕ) (done : List (VariantLayout F)) (lists : List (LayoutData F V)) (list : LayoutData F V) (whole : Option (List (VariantLayout F))) → i < length lists → list ≡ get_or lists i list
     → option_map (λ more. done ++ more) (variants_from room untagged i (drop i lists)) ≡ whole

@@ -1,12 +1,12 @@
 -- Each list's variant takes its place, if there is room for it.
-use Rattle.std.proofs.Common.{◌≡◌, ◌≤◌, ◌<◌, ◌∙◌, ap, arith, false, length, subst, sym, take, true}
-use Rattle.std.specs.Prelude.{◌==◌, All, MatchOption, Some, if◌then◌else◌}
+use Rattle.std.proofs.Common.{◌≡◌, ◌≤◌, ◌<◌, ◌∙◌, ap, arith, length, subst, sym, take}
+use Rattle.std.specs.Prelude.{◌==◌, All, Some}
 use Rattle.std.proofs.lemmas.Iterator.Adapters.{option_map_id}
 use Rattle.std.proofs.lemmas.List.{length-map, length-set}
 use Rattle.abi_scalar.specs.Variant.{variant_of}
-use Rattle.abi_calc.specs.Enums.Niche.{beside_niche, variants_from}
+use Rattle.abi_calc.specs.Enums.Niche.{variants_from}
 use Rattle.abi_calc.proofs.AtIndex.{same_there, written_back}
-use Rattle.abi_calc.proofs.EnumLemmas.Niche.{list_behind, lists_behind, place_last, place_none, place_step, placed_next}
+use Rattle.abi_calc.proofs.EnumLemmas.Niche.{list_behind, lists_behind, place_last, place_none, place_step, placed_next, told_of_list}
 use Rattle.abi_calc.proofs.enums.niche.placed_variants.Goals as goal
 
 pub loop-at-init : goal.loop-at-init
@@ -52,8 +52,7 @@ returns-then-not-branch g c =
     let many = ap length c.into_parts-variants.ensures.aligns in
     let beside : c.loop-at.at < length c.into_parts-variants.result.1.items = omega (arith, within, many, length-map c.into_parts-variants.result.1.items (λ r. r.align), length-map c.args.lists (λ l. l.align.abi)) in
     let align : c.align.result ≡ here.0.align.abi = c.align.ensures ∙ same_there (λ r. r.align) (λ l. l.align.abi) c.into_parts-variants.result.1.items c.args.lists c.loop-at.at c.index.result.now here.0 c.into_parts-variants.ensures.aligns beside within c.index.ensures here.1 in
-    let own = subst (λ v. MatchOption (if c.loop-at.at == c.args.untagged then Some v else beside_niche c.args.room.now c.align.result v) (c.in_ok-place_at.field-0 ≡ false) (λ placed. (c.in_ok-place_at.field-0 ≡ true) × (c.place_at.new.variant ≡ placed))) here.2 c.in_ok-place_at.ensures in
-    let told = subst (λ a. MatchOption (if c.loop-at.at == c.args.untagged then Some (variant_of here.0) else beside_niche c.args.room.now a (variant_of here.0)) (c.in_ok-place_at.field-0 ≡ false) (λ placed. (c.in_ok-place_at.field-0 ≡ true) × (c.place_at.new.variant ≡ placed))) align own in
+    let told = told_of_list c.args.room.now (c.loop-at.at == c.args.untagged) c.align.result _ c.place_at.new.variant here.0 c.in_ok-place_at.field-0 here.2 align c.in_ok-place_at.ensures in
     let next = placed_next c.args.room.now c.args.untagged c.loop-at.at (take c.loop-at.at c.loop-at.variant-items) c.args.lists here.0 _ within here.1 c.loop-at.invariant.all in
     place_none (take c.loop-at.at c.loop-at.variant-items) c.place_at.new.variant _ _ _ c.in_ok-place_at.field-0 told c.if-not-branch.true next
 
@@ -64,8 +63,7 @@ loop-at-preserved g c =
     let many = ap length c.into_parts-variants.ensures.aligns in
     let beside : c.loop-at.at < length c.into_parts-variants.result.1.items = omega (arith, within, many, length-map c.into_parts-variants.result.1.items (λ r. r.align), length-map c.args.lists (λ l. l.align.abi)) in
     let align : c.align.result ≡ here.0.align.abi = c.align.ensures ∙ same_there (λ r. r.align) (λ l. l.align.abi) c.into_parts-variants.result.1.items c.args.lists c.loop-at.at c.index.result.now here.0 c.into_parts-variants.ensures.aligns beside within c.index.ensures here.1 in
-    let own = subst (λ v. MatchOption (if c.loop-at.at == c.args.untagged then Some v else beside_niche c.args.room.now c.align.result v) (c.in_ok-place_at.field-0 ≡ false) (λ placed. (c.in_ok-place_at.field-0 ≡ true) × (c.place_at.new.variant ≡ placed))) here.2 c.in_ok-place_at.ensures in
-    let told = subst (λ a. MatchOption (if c.loop-at.at == c.args.untagged then Some (variant_of here.0) else beside_niche c.args.room.now a (variant_of here.0)) (c.in_ok-place_at.field-0 ≡ false) (λ placed. (c.in_ok-place_at.field-0 ≡ true) × (c.place_at.new.variant ≡ placed))) align own in
+    let told = told_of_list c.args.room.now (c.loop-at.at == c.args.untagged) c.align.result _ c.place_at.new.variant here.0 c.in_ok-place_at.field-0 here.2 align c.in_ok-place_at.ensures in
     let next = placed_next c.args.room.now c.args.untagged c.loop-at.at (take c.loop-at.at c.loop-at.variant-items) c.args.lists here.0 _ within here.1 c.loop-at.invariant.all in
     record {
       all = place_step c.loop-at.variant-items c.loop-at.at c.place_at.new.variant _ _ _ c.in_ok-place_at.field-0 (omega (arith, c.loop-at-test.true, c.loop-at.auto.variant-items)) told c.if-not-branch.false next;
