@@ -13,7 +13,6 @@ use crate::few::Few;
 use crate::idx::Idx;
 use crate::index_slice::IndexSlice;
 use crate::indices::Indices;
-use crate::try_clone::TryClone;
 use std::alloc::{AllocError, Global};
 use std::fmt;
 use std::fmt::Debug;
@@ -180,22 +179,6 @@ impl<I: Idx, T: Copy> IndexVec<I, T> {
         let mut raw = Few::with_capacity(alloc, self.raw.len())?;
         for item in self.raw.as_slice() {
             raw.push(*item)?;
-        }
-        Ok(IndexVec {
-            raw,
-            of: PhantomData,
-        })
-    }
-}
-
-impl<I: Idx, T: TryClone> IndexVec<I, T> {
-    /// A copy whose items are copies.
-    pub fn try_clone_each(&self, alloc: Global) -> Result<Self, AllocError>
-        ensures { IfOk result (λ made. made ≡ self.now) }
-    {
-        let mut raw = Few::with_capacity(alloc, self.raw.len())?;
-        for item in self.raw.as_slice() {
-            raw.push(item.try_clone(alloc)?)?;
         }
         Ok(IndexVec {
             raw,

@@ -11,7 +11,7 @@ use crate::layout_data::LayoutData;
 use crate::niche::Niche;
 use crate::scalar::Scalar;
 use abi_base::Size;
-use abi_index::{Idx, IndexVec, TryClone};
+use abi_index::{Idx, IndexList, IndexVec, TryClone};
 use std::alloc::{AllocError, Global};
 
 /// The numbers or indices from `start` to `last`, both of them in it.
@@ -90,7 +90,7 @@ pub enum Variants<FieldIdx: Idx, VariantIdx: Idx> {
         /// The field that the tag is, among those of the whole type.
         tag_field: FieldIdx,
         /// What each variant has of its own, in source order.
-        variants: IndexVec<VariantIdx, VariantLayout<FieldIdx>>,
+        variants: IndexList<VariantIdx, VariantLayout<FieldIdx>>,
     },
 }
 
@@ -204,7 +204,7 @@ impl<FieldIdx: Idx, VariantIdx: Idx> TryClone for Variants<FieldIdx, VariantIdx>
                 tag: *tag,
                 tag_encoding: *tag_encoding,
                 tag_field: *tag_field,
-                variants: variants.try_clone_each(alloc)?,
+                variants: variants.try_clone(alloc)?,
             },
         })
     }

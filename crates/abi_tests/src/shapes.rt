@@ -4,7 +4,7 @@ ghost use Rattle.std.specs.Prelude.{◌≡◌, IfOk};
 ghost use Rattle.abi_scalar.specs.Shape.{IsListed};
 
 use abi_base::{AbiAlign, Align, Float, Integer, NumScalableVectors, Primitive, Size};
-use abi_index::{FieldIdx, Hash64, IndexVec, VariantIdx};
+use abi_index::{FieldIdx, Hash64, IndexList, IndexVec, VariantIdx};
 use abi_scalar::{
     BackendLaneCount, BackendRepr, FieldCount, FieldsShape, LayoutData, RangeInclusive, Scalar,
     TagEncoding, VariantLayout, Variants,
@@ -225,18 +225,16 @@ fn variant(
     Ok(VariantLayout::from_layout(shaped(fields, only(), MEMORY, bytes, align)))
 }
 
-/// Puts what a variant has of its own, by the row that tells its fields, where fewer than sixteen are there.
+/// Puts what a variant has of its own, by the row that tells its fields.
 fn put_variant(
     alloc: Global,
     row: Row,
-    list: &mut IndexVec<VariantIdx, VariantLayout<FieldIdx>>,
+    list: &mut Vec<VariantLayout<FieldIdx>>,
 ) -> Result<(), AllocError> {
     let (Shape::Fields(offsets, _), bytes, align) = row else {
         return Ok(());
     };
-    if list.len() < 16 {
-        list.push(variant(alloc, offsets, bytes, align)?)?;
-    }
+    list.push(variant(alloc, offsets, bytes, align)?)?;
     Ok(())
 }
 
@@ -245,7 +243,7 @@ fn put_variants(
     alloc: Global,
     rows: &[Row],
     places: &[usize],
-    list: &mut IndexVec<VariantIdx, VariantLayout<FieldIdx>>,
+    list: &mut Vec<VariantLayout<FieldIdx>>,
 ) -> Result<(), AllocError> {
     for place in places {
         if let Some(row) = rows.get(*place) {
@@ -260,10 +258,11 @@ fn variant_layouts(
     alloc: Global,
     rows: &[Row],
     places: &[usize],
-) -> Result<IndexVec<VariantIdx, VariantLayout<FieldIdx>>, AllocError> {
-    let mut list = IndexVec::new(alloc);
+) -> Result<IndexList<VariantIdx, VariantLayout<FieldIdx>>, AllocError> {
+    let mut list = Vec::new(alloc);
     put_variants(alloc, rows, places, &mut list)?;
-    Ok(list)
+    list.truncate(16);
+    Ok(IndexList::from_raw(list))
 }
 
 /// Its variants, told apart so.

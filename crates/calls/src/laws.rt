@@ -10,7 +10,7 @@ use crate::print::write_made;
 use crate::stop::{Clause, Stop, calculator};
 use crate::types::handle::variant_of;
 use abi_base::{Align, Size, TargetDataLayout};
-use abi_index::{FieldIdx, IndexVec, TryClone};
+use abi_index::{FieldIdx, IndexList, TryClone};
 use abi_scalar::{BackendLaneCount, BackendRepr, Scalar, TagEncoding, Variants};
 use std::alloc::{AllocError, Global};
 
@@ -46,7 +46,7 @@ pub(crate) fn put_tag(alloc: Global, tag: Scalar, layout: &mut Layout) {
         tag,
         tag_encoding: TagEncoding::Direct,
         tag_field: FieldIdx::ZERO,
-        variants: IndexVec::new(alloc),
+        variants: IndexList::from_raw(Vec::new(alloc)),
     };
 }
 

@@ -14,7 +14,7 @@ ghost use Rattle.abi_calc.specs.Coroutine.States.{HasFields, ranks_of, state_lay
 use crate::coroutine::states::{Promoted, place_state, ranks_below};
 use crate::over_lists::{all_uninhabited, greater_size, greatest_align, greatest_size};
 use abi_base::{AbiAlign, Align, HasDataLayout, Integer, Primitive, Size, TargetDataLayout};
-use abi_index::{DenseBitSet, Hash64, Idx, IndexVec};
+use abi_index::{DenseBitSet, Hash64, Idx, IndexList, IndexVec};
 use abi_lists::{ListLayout, ListLayouts, field_offsets, rounded};
 use abi_scalar::{
     BackendRepr, FieldsShape, LayoutCalculatorError, LayoutData, Scalar, TagEncoding,
@@ -153,7 +153,7 @@ fn state_layouts<FieldIdx: Idx, VariantIdx: Idx, LocalIdx: Idx>(
     saved: Saved<'_, FieldIdx, LocalIdx>,
     first: &ListLayout<FieldIdx, VariantIdx>,
     lists: ListLayouts<FieldIdx, VariantIdx>,
-) -> Result<IndexVec<VariantIdx, VariantLayout<FieldIdx>>, AllocError>
+) -> Result<IndexList<VariantIdx, VariantLayout<FieldIdx>>, AllocError>
     requires count { saved.count ≡ domain_size saved.promoted.now }
     requires named { saved.count ≤ LocalIdx.MAX_INDEX + 1 }
     requires few { length saved.states.now ≤ VariantIdx.MAX_INDEX + 1 }
@@ -184,7 +184,7 @@ fn state_layouts<FieldIdx: Idx, VariantIdx: Idx, LocalIdx: Idx>(
     for (at, variant) in variants.iter_mut().enumerate() {
         place_state(alloc, promoted, &states[at], variant)?;
     }
-    Ok(IndexVec::from_raw(variants))
+    Ok(IndexList::from_raw(variants))
 }
 
 /// The layout of a coroutine with so many prefix fields, of this alignment and size.

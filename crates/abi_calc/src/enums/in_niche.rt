@@ -21,7 +21,7 @@ use crate::over_lists::{
     all_uninhabited, greatest_align, greatest_repr_align, greatest_unadjusted, seed_with,
 };
 use abi_base::{AbiAlign, Align, HasDataLayout, Size, StructKind, TargetDataLayout};
-use abi_index::{Idx, IndexVec};
+use abi_index::{Idx, IndexList, IndexVec};
 use abi_lists::{LentList, ListLayouts, one};
 use abi_scalar::{
     BackendRepr, FieldsShape, LayoutCalculatorError, LayoutData, LayoutHandle, Niche,
@@ -75,7 +75,7 @@ fn niche_view<FieldIdx: Idx, VariantIdx: Idx>(
     own_view: BackendRepr,
     offset: Size,
     tag: Scalar,
-    variants: &IndexVec<VariantIdx, VariantLayout<FieldIdx>>,
+    variants: &IndexList<VariantIdx, VariantLayout<FieldIdx>>,
 ) -> BackendRepr
     ensures { result ≡ (if fills && others_empty untagged 0 variants.now then view_with offset tag own_view else
         Memory true) }

@@ -7,7 +7,7 @@ ghost use Rattle.abi_calc.specs.Enums.Niche.{IsRoomy, IsSmallList, beside_niche,
 
 use crate::enums::path::is_absent;
 use abi_base::{Align, Size};
-use abi_index::{Idx, IndexVec};
+use abi_index::{Idx, IndexList, IndexVec};
 use abi_lists::{LentList, ListLayouts, rounded};
 use abi_scalar::{BackendRepr, LayoutHandle, Scalar, VariantLayout};
 use std::alloc::{AllocError, Global};
@@ -187,7 +187,7 @@ pub(crate) fn placed_variants<FieldIdx: Idx, VariantIdx: Idx>(
     room: &Room,
     untagged: usize,
     lists: ListLayouts<FieldIdx, VariantIdx>,
-) -> Result<Option<IndexVec<VariantIdx, VariantLayout<FieldIdx>>>, AllocError>
+) -> Result<Option<IndexList<VariantIdx, VariantLayout<FieldIdx>>>, AllocError>
     requires roomy { IsRoomy room.now }
     requires small { All IsSmallList lists }
     requires count { length lists ≤ VariantIdx.MAX_INDEX + 1 }
@@ -199,7 +199,7 @@ pub(crate) fn placed_variants<FieldIdx: Idx, VariantIdx: Idx>(
             return Ok(None);
         }
     }
-    Ok(Some(IndexVec::from_raw(variants)))
+    Ok(Some(IndexList::from_raw(variants)))
 }
 
 /// The untagged variant's view, with the numbers of the others.

@@ -25,7 +25,7 @@ use crate::over_lists::{
     seed_with,
 };
 use abi_base::{AbiAlign, Align, HasDataLayout, Integer, Primitive, Size, TargetDataLayout};
-use abi_index::{Idx, IndexVec};
+use abi_index::{Idx, IndexList, IndexVec};
 use abi_lists::{ListLayouts, one, rounded};
 use abi_scalar::{
     BackendRepr, FieldsShape, LayoutCalculatorError, LayoutData, LayoutHandle, Niche, ReprOptions,
@@ -71,7 +71,7 @@ fn variants_of<FieldIdx: Idx, VariantIdx: Idx>(
     view: &BackendRepr,
     size: Size,
     lists: ListLayouts<FieldIdx, VariantIdx>,
-) -> Result<IndexVec<VariantIdx, VariantLayout<FieldIdx>>, AllocError>
+) -> Result<IndexList<VariantIdx, VariantLayout<FieldIdx>>, AllocError>
     requires { length lists ≤ VariantIdx.MAX_INDEX + 1 }
     ensures { IfOk result (λ variants.
         variants ≡ map (λ l. seen_as view.now size (grown_variant old new (variant_of l))) lists) }
@@ -80,7 +80,7 @@ fn variants_of<FieldIdx: Idx, VariantIdx: Idx>(
     for variant in variants.iter_mut() {
         settle_variant(alloc, old, new, view, size, variant)?;
     }
-    Ok(IndexVec::from_raw(variants))
+    Ok(IndexList::from_raw(variants))
 }
 
 /// How an enum is seen and how large it is: its view, its alignment, and its size in bytes.
