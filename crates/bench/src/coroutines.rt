@@ -1,13 +1,13 @@
 //! Coroutines.
 
-ghost use Rattle.std.specs.Prelude.{◌≡◌, ◌+◌, ◌<◌, ◌≤◌, All, IfOk, length};
+ghost use Rattle.std.specs.Prelude.{◌≡◌, ◌∷◌, [], ◌+◌, ◌<◌, ◌≤◌, All, IfOk, length};
 ghost use Rattle.abi_base.specs.DataLayout.{IsLawfulDataLayout};
 ghost use Rattle.abi_index.specs.Relation.{column_count, row_count};
 ghost use Rattle.abi_scalar.specs.Lawful.{IsLawfulLayout};
 ghost use Rattle.bench.specs.Asked.{IsHeld, IsLawfulCoroutine};
 
 use crate::lawful::are_lawful;
-use crate::leaves::{Fields, Laid, leaves, picked, single};
+use crate::leaves::{Fields, Laid, leaves, picked, single, size_of};
 use crate::numbers::Numbers;
 use crate::timing::{Timed, time};
 use crate::wanted::asks_for;
@@ -85,26 +85,23 @@ struct Coroutine<'a> {
 }
 
 impl Coroutine<'_> {
-    /// The size of the coroutine, 0 where it is refused.
+    /// The size of the coroutine with its prefix field, 0 where it is refused.
     #[tactic(auto, using(abi_calc::proofs::CoroutineLemmas::OneCoroutine::one_tag))]
-    fn size(&self, alloc: Global) -> Result<u64, AllocError>
-        requires { IsLawfulCoroutine self.now }
+    fn size(&self, alloc: Global, prefix: Fields) -> u64
+        requires coroutine { IsLawfulCoroutine self.now }
+        requires prefix { prefix ≡ self.now.prefix ∷ [] }
     {
         let dl = self.dl;
         let tag: Laid = LayoutData::scalar(dl, state_tag(self.states.len()));
         let states: IndexSlice<VariantIdx, State> = IndexSlice::new(&self.states);
-        let answer = LayoutCalculator::new(dl).layout_of_coroutine(
+        size_of(LayoutCalculator::new(dl).layout_of_coroutine(
             alloc,
             IndexSlice::new(self.locals.as_slice().as_raw()),
-            single(alloc, self.prefix)?,
+            prefix,
             states,
             &self.conflicts,
             |_tag| &tag,
-        );
-        match answer {
-            Ok(layout) => Ok(layout.size.bytes()),
-            Err(_) => Ok(0),
-        }
+        ))
     }
 }
 
@@ -112,7 +109,10 @@ impl Timed for Coroutine<'_> {
     ghost is_ready = { IsLawfulCoroutine };
 
     fn made(&self, alloc: Global) -> u64 {
-        self.size(alloc).unwrap_or(0)
+        match single(alloc, self.prefix) {
+            Ok(prefix) => self.size(alloc, prefix),
+            Err(_) => 0,
+        }
     }
 }
 

@@ -8,7 +8,7 @@ ghost use Rattle.abi_lists.specs.Placement.{source_order};
 ghost use Rattle.bench.specs.Asked.{IsLawfulEnum};
 
 use crate::lawful::are_lawful_lists;
-use crate::leaves::{Fields, Laid, leaves, picked, single};
+use crate::leaves::{Fields, Laid, leaves, picked, single, size_of};
 use crate::numbers::Numbers;
 use crate::timing::{Timed, time};
 use crate::wanted::asks_for;
@@ -37,7 +37,7 @@ impl Timed for Enum<'_> {
         let repr = self.repr;
         let tag = self.tag;
         let variants: IndexSlice<VariantIdx, Fields> = IndexSlice::new(&self.variants);
-        let answer = LayoutCalculator::new(self.dl).layout_of_struct_or_enum(
+        size_of(LayoutCalculator::new(self.dl).layout_of_struct_or_enum(
             alloc,
             &repr,
             variants,
@@ -46,11 +46,7 @@ impl Timed for Enum<'_> {
             |_least, _greatest| (tag, false),
             self.discriminants.iter().copied(),
             true,
-        );
-        match answer {
-            Ok(layout) => layout.size.bytes(),
-            Err(_) => 0,
-        }
+        ))
     }
 }
 

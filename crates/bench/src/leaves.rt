@@ -9,7 +9,7 @@ ghost use Rattle.abi_scalar.specs.Scalar.{IsReadable};
 use crate::numbers::Numbers;
 use abi_base::{Integer, Primitive, TargetDataLayout};
 use abi_index::{FieldIdx, IndexVec, VariantIdx};
-use abi_scalar::{LayoutData, Scalar, WrappingRange};
+use abi_scalar::{LayoutCalculatorError, LayoutData, Scalar, WrappingRange};
 use std::alloc::{AllocError, Global};
 
 /// The layout of a type.
@@ -17,6 +17,14 @@ pub(crate) type Laid = LayoutData<FieldIdx, VariantIdx>;
 
 /// Fields of a list.
 pub(crate) type Fields<'a> = IndexVec<FieldIdx, &'a Laid>;
+
+/// The size of what was laid out, 0 where it is refused.
+pub(crate) fn size_of(answer: Result<Laid, LayoutCalculatorError<&Laid>>) -> u64 {
+    match answer {
+        Ok(layout) => layout.size.bytes(),
+        Err(_) => 0,
+    }
+}
 
 /// The unsigned integers up to this one.
 fn up_to(integer: Integer, greatest: u128) -> Scalar

@@ -6,14 +6,14 @@ ghost use Rattle.abi_scalar.specs.Lawful.{IsLawfulLayout};
 ghost use Rattle.abi_lists.specs.List.{HasLawfulAligns};
 
 use crate::lawful::are_lawful_lists;
-use crate::leaves::{Fields, Laid, leaves, picked};
+use crate::leaves::{Fields, Laid, leaves, picked, size_of};
 use crate::numbers::Numbers;
 use crate::timing::{Timed, time};
 use crate::wanted::asks_for;
 use abi_base::{StructKind, TargetDataLayout};
 use abi_calc::LayoutCalculator;
 use abi_index::{IndexSlice, VariantIdx};
-use abi_scalar::{LayoutCalculatorError, ReprFlags, ReprOptions};
+use abi_scalar::{ReprFlags, ReprOptions};
 use std::alloc::{AllocError, Global};
 use std::io;
 use std::rt::Clock;
@@ -24,13 +24,12 @@ fn list_size(alloc: Global, dl: &TargetDataLayout, fields: &Fields, repr: &ReprO
     requires fields { All (λ f. IsLawfulLayout dl.now f.now) fields.now }
     requires repr { HasLawfulAligns repr.now }
 {
-    let list: Result<Laid, LayoutCalculatorError<&Laid>> = LayoutCalculator::new(
-        dl,
-    ).layout_of_univariant(alloc, fields.as_slice(), repr, StructKind::AlwaysSized);
-    match list {
-        Ok(list) => list.size.bytes(),
-        Err(_) => 0,
-    }
+    size_of(LayoutCalculator::new(dl).layout_of_univariant(
+        alloc,
+        fields.as_slice(),
+        repr,
+        StructKind::AlwaysSized,
+    ))
 }
 
 /// Lists, laid out one after another.
@@ -70,10 +69,7 @@ impl Timed for Union<'_> {
     fn made(&self, alloc: Global) -> u64 {
         let repr = ReprOptions::default();
         let variants: IndexSlice<VariantIdx, Fields> = IndexSlice::new(&self.variant);
-        match LayoutCalculator::new(self.dl).layout_of_union(alloc, &repr, variants) {
-            Ok(union) => union.size.bytes(),
-            Err(_) => 0,
-        }
+        size_of(LayoutCalculator::new(self.dl).layout_of_union(alloc, &repr, variants))
     }
 }
 

@@ -13,11 +13,11 @@ use Rattle.abi_calc.specs.Enums.Discriminants.{inhabited_of}
 use Rattle.abi_calc.specs.Enums.Several.{IsLawfulTag}
 use Rattle.bench.proofs.enums.EnumTimed.made.Goals as goal
 
-pub layout_of_struct_or_enum-answer-requires-clause-fields : goal.layout_of_struct_or_enum-answer-requires-clause-fields
-layout_of_struct_or_enum-answer-requires-clause-fields c = rw (c.new.ensures, c.new-variants.ensures, c.deref.ensures.value) c.requires.fields
+pub layout_of_struct_or_enum-requires-clause-fields : goal.layout_of_struct_or_enum-requires-clause-fields
+layout_of_struct_or_enum-requires-clause-fields c = rw (c.new.ensures, c.new-variants.ensures, c.deref.ensures.value) c.requires.fields
 
-pub layout_of_struct_or_enum-answer-requires-clause-each : goal.layout_of_struct_or_enum-answer-requires-clause-each
-layout_of_struct_or_enum-answer-requires-clause-each c p trigger from whole =
+pub layout_of_struct_or_enum-requires-clause-each : goal.layout_of_struct_or_enum-requires-clause-each
+layout_of_struct_or_enum-requires-clause-each c p trigger from whole =
     let Fields : Type 0 = List (Bor (LayoutData FieldIdx VariantIdx)) in
     let variants : List Fields = c.args.self.now.variants.items in
     let items : p.items ≡ c.args.self.now.discriminants.items = search rules in
