@@ -1,6 +1,6 @@
 //! Coroutines.
 
-ghost use Rattle.std.specs.Prelude.{◌≡◌, ◌∷◌, [], ◌+◌, ◌<◌, ◌≤◌, All, IfOk, length};
+ghost use Rattle.std.specs.Prelude.{◌≡◌, ◌+◌, ◌<◌, ◌≤◌, All, IfOk, length};
 ghost use Rattle.abi_base.specs.DataLayout.{IsLawfulDataLayout};
 ghost use Rattle.abi_index.specs.Relation.{column_count, row_count};
 ghost use Rattle.abi_scalar.specs.Lawful.{IsLawfulLayout};
@@ -84,14 +84,15 @@ struct Coroutine<'a> {
     conflicts: BitMatrix<u32, u32>,
 }
 
-impl Coroutine<'_> {
-    /// The size of the coroutine with its prefix field, 0 where it is refused.
+impl Timed for Coroutine<'_> {
+    ghost is_ready = { IsLawfulCoroutine };
+
     #[tactic(auto, using(abi_calc::proofs::CoroutineLemmas::OneCoroutine::one_tag))]
-    fn size(&self, alloc: Global, prefix: Fields) -> u64
-        requires coroutine { IsLawfulCoroutine self.now }
-        requires prefix { prefix ≡ self.now.prefix ∷ [] }
-    {
+    fn made(&self, alloc: Global) -> u64 {
         let dl = self.dl;
+        let Ok(prefix) = single(alloc, self.prefix) else {
+            return 0;
+        };
         let tag: Laid = LayoutData::scalar(dl, state_tag(self.states.len()));
         let states: IndexSlice<VariantIdx, State> = IndexSlice::new(&self.states);
         size_of(LayoutCalculator::new(dl).layout_of_coroutine(
@@ -102,17 +103,6 @@ impl Coroutine<'_> {
             &self.conflicts,
             |_tag| &tag,
         ))
-    }
-}
-
-impl Timed for Coroutine<'_> {
-    ghost is_ready = { IsLawfulCoroutine };
-
-    fn made(&self, alloc: Global) -> u64 {
-        match single(alloc, self.prefix) {
-            Ok(prefix) => self.size(alloc, prefix),
-            Err(_) => 0,
-        }
     }
 }
 

@@ -5,20 +5,20 @@ use Rattle.abi_index.specs.declared.idx.FieldIdx.{FieldIdx}
 use Rattle.abi_index.specs.declared.idx.VariantIdx.{VariantIdx}
 use Rattle.abi_scalar.specs.declared.layout_data.LayoutData.{LayoutData}
 use Rattle.abi_scalar.specs.Lawful.{IsLawfulLayout}
-use Rattle.bench.proofs.coroutines.Coroutine.size.Goals as goal
+use Rattle.bench.proofs.coroutines.CoroutineTimed.made.Goals as goal
 
 pub layout_of_coroutine-requires-clause-locals : goal.layout_of_coroutine-requires-clause-locals
-layout_of_coroutine-requires-clause-locals c = rw (c.new.ensures, c.new-2.ensures, c.as_raw.ensures.items, c.as_slice.ensures) c.requires.coroutine.fields
+layout_of_coroutine-requires-clause-locals c = rw (c.new.ensures, c.new-2.ensures, c.as_raw.ensures.items, c.as_slice.ensures) c.requires.fields
 
 pub layout_of_coroutine-requires-clause-prefix : goal.layout_of_coroutine-requires-clause-prefix
 layout_of_coroutine-requires-clause-prefix c =
     let P = λ (f : Bor (LayoutData FieldIdx VariantIdx)). IsLawfulLayout c.args.self.now.dl.now f.now in
-    rw (c.new.ensures, c.requires.prefix) (All-cons P c.args.self.now.prefix [] c.requires.coroutine.prefix (All-nil P))
+    rw (c.new.ensures, c.in-Ok.ensures) (All-cons P c.args.self.now.prefix [] c.requires.prefix (All-nil P))
 
 pub layout_of_coroutine-requires-clause-within : goal.layout_of_coroutine-requires-clause-within
 layout_of_coroutine-requires-clause-within c =
-    rw (c.new-states.ensures, c.deref.ensures.value, c.new-2.ensures, c.as_raw.ensures.items, c.as_slice.ensures) (λ k d below. (c.requires.coroutine.held k d below).0)
+    rw (c.new-states.ensures, c.deref.ensures.value, c.new-2.ensures, c.as_raw.ensures.items, c.as_slice.ensures) (λ k d below. (c.requires.held k d below).0)
 
 pub layout_of_coroutine-requires-clause-once : goal.layout_of_coroutine-requires-clause-once
 layout_of_coroutine-requires-clause-once c =
-    rw (c.new-states.ensures, c.deref.ensures.value) (λ k d below. subst (AllPairs (λ a b. a ≢ b)) (sym (map-id _)) (c.requires.coroutine.held k d below).1)
+    rw (c.new-states.ensures, c.deref.ensures.value) (λ k d below. subst (AllPairs (λ a b. a ≢ b)) (sym (map-id _)) (c.requires.held k d below).1)
