@@ -1,8 +1,7 @@
 -- Lists in an order that is handed in.
-use Rattle.std.proofs.Common.{◌≡◌, ℕ, ◌+◌, ◌≤◌, List, [], ◌∷◌, Some, inl, inr, length, map, refl, sym, ap, ap₂, subst, ◌∙◌, arith}
+use Rattle.std.proofs.Common.{◌≡◌, ℕ, ◌+◌, ◌≤◌, List, Some, inl, inr, length, map, sym, ap, ap₂, subst, ◌∙◌, arith}
 use Rattle.std.specs.Prelude.{◌⊎◌, All, Err, IfErr, IfOk, IfSome, IsPermutation, Ok, Result}
 use Rattle.std.proofs.lemmas.List.{length-map}
-use Rattle.std.proofs.lemmas.List.Elements.{All-head, All-tail}
 use Rattle.abi_base.specs.declared.data_layout.TargetDataLayout.{TargetDataLayout}
 use Rattle.abi_base.specs.declared.struct_kind.StructKind.{StructKind}
 use Rattle.abi_base.specs.DataLayout.{size_bound}
@@ -27,6 +26,7 @@ use Rattle.abi_lists.specs.List.{AreSized, parts_of}
 use Rattle.abi_lists.specs.ListNiche.{HasLargestNiche, IsNicheOfPart}
 use Rattle.abi_lists.specs.Placement.{IsAllowed, cut, list_repr, source_order, start_of}
 use Rattle.abi_lists.specs.Run.{IsInOrder}
+use Rattle.abi_lists.proofs.ByNumber.{named_again}
 use Rattle.abi_lists.proofs.DeepLemmas.{sized_cases}
 use Rattle.abi_lists.proofs.FaultLemmas.{clear_of, large_in}
 use Rattle.abi_lists.proofs.Least.{allowed_permutes}
@@ -62,12 +62,6 @@ never_bad : {H : Type 0} (fields : List H) (fault : ListFault) (error : LayoutCa
 never_bad fields (Unsized i) error h is = let other : error ≡ UnexpectedUnsized h.0 = h.2 in absurd (cc)
 never_bad fields TooLarge error h is = absurd (cc)
 never_bad fields OutOfMemory error h is = absurd (cc)
-
--- indices told by their numbers are the same again
-named_again : {F : Type 0} (at : ℕ → F) (number : F → ℕ) (most : ℕ) → ((x : F) → number x ≤ most → at (number x) ≡ x) → (order : List F) → All (λ i. i ≤ most) (map number order) → map at (map number order) ≡ order
-named_again at number most law [] within = refl
-named_again at number most law (x ∷ xs) within =
-    ap₂ (λ y ys. y ∷ ys) (law x (All-head (λ i. i ≤ most) (number x) (map number xs) within)) (named_again at number most law xs (All-tail (λ i. i ≤ most) (number x) (map number xs) within))
 
 module _ {F V H : Type 0} (layout_of : H → LayoutData F V) (at : ℕ → F) (first : V) (dl : TargetDataLayout) (repr : ReprOptions) (kind : StructKind) (order : List ℕ) (hs : List H) where
   -- what holds of each layout in this order holds of the answer

@@ -2,6 +2,7 @@ pub mod Rounding
 pub mod Ends
 pub mod Groups
 pub mod Steps
+pub mod ByNumber
 pub mod Sorting
 pub mod Tight
 pub mod Least

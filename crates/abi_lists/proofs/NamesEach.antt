@@ -1,13 +1,15 @@
 -- An order names each field once where its numbers, sorted, are those of source order.
-use Rattle.std.proofs.Common.{◌≡◌, ℕ, zero, suc, ◌+◌, ◌<◌, ◌≤◌, ◌==◌, Bool, true, false, List, [], ◌∷◌, length, get_or, refl, sym, ap, ◌∙◌, subst, arith, eqb-true, eq-eqb}
-use Rattle.std.specs.Prelude.{◌↔◌, cond, sum_by, IsPermutation, IsTrue}
+use Rattle.std.proofs.Common.{◌≡◌, ℕ, zero, suc, ◌+◌, ◌<◌, ◌≤◌, ◌==◌, Bool, true, false, List, [], ◌∷◌, length, map, get_or, refl, sym, ap, ◌∙◌, subst, arith, eqb-true, eq-eqb}
+use Rattle.std.specs.Prelude.{◌↔◌, cond, sum_by, All, IsPermutation, IsTrue}
 use Rattle.std.specs.List.Sorted.{IsNonDecreasingBy}
+use Rattle.std.proofs.lemmas.List.{length-map}
 use Rattle.std.proofs.lemmas.List.FromFn.{length-range_with_len, get_or-range_with_len}
 use Rattle.std.proofs.lemmas.List.Sorted.{IsPermutation-sym, length_permutation, sum_by-IsPermutation}
 use Rattle.std.proofs.lemmas.List.Sums.{sum_by-cons}
 use Rattle.abi_base.specs.declared.struct_kind.StructKind.{StructKind}
 use Rattle.abi_lists.specs.Placement.{KeepsTail, source_order}
 use Rattle.abi_lists.proofs.OneOrder.{alike}
+use Rattle.abi_lists.proofs.Sorting.{within_order}
 
 -- 1 where the two are equal
 abbrev hit : ℕ → ℕ → ℕ
@@ -96,3 +98,11 @@ allowed_by kind n order true kept h e t =
     let many : length order ≡ n = length_permutation (source_order n) order (h.0 refl) ∙ length-range_with_len 0 n in
     (λ yes. (h.0 refl, subst (λ (m : ℕ). KeepsTail kind m order) many (t.0 yes)), λ both. t.1 (subst (λ (m : ℕ). KeepsTail kind m order) (sym many) both.1))
 allowed_by kind n order false kept h e t = cc
+
+-- an allowed order of so many fields has no more indices, and none greater
+pub few_allowed : {F : Type 0} (number : F → ℕ) (n most : ℕ) (order : List F) (Kept : Type 0) (allowed : Bool) → IsTrue allowed ↔ IsPermutation (source_order n) (map number order) × Kept → allowed ≡ true → n ≤ most + 1
+    → (length order ≤ most + 1) × All (λ i. i ≤ most) (map number order)
+few_allowed number n most order Kept allowed h e few =
+    let p : IsPermutation (source_order n) (map number order) = (h.0 e).0 in
+    let many : length (map number order) ≡ n = length_permutation (source_order n) (map number order) p ∙ length-range_with_len 0 n in
+    (omega (arith, many, length-map order number, few), λ k d lt. omega (arith, within_order n (map number order) p k d lt, few))

@@ -1,8 +1,7 @@
 -- What is promised of a list that lies in an allowed order.
-use Rattle.std.proofs.Common.{◌≡◌, ℕ, ◌+◌, ◌<◌, ◌≤◌, List, [], ◌∷◌, Option, length, map, get_or, refl, ap, subst, ◌∙◌, arith}
+use Rattle.std.proofs.Common.{◌≡◌, ℕ, ◌<◌, ◌≤◌, List, [], ◌∷◌, Option, length, map, get_or, refl, ap, subst, ◌∙◌, arith}
 use Rattle.std.specs.Prelude.{All, IfSome, IsPermutation}
-use Rattle.std.proofs.lemmas.List.Sorted.{All-permutation, IsPermutation-sym, length_permutation}
-use Rattle.std.proofs.lemmas.List.FromFn.{length-range_with_len}
+use Rattle.std.proofs.lemmas.List.Sorted.{All-permutation, IsPermutation-sym}
 use Rattle.abi_base.specs.declared.data_layout.TargetDataLayout.{TargetDataLayout}
 use Rattle.abi_scalar.specs.declared.layout_data.LayoutData.{LayoutData}
 use Rattle.abi_scalar.specs.declared.niche.Niche.{Niche}
@@ -26,21 +25,6 @@ use Rattle.abi_lists.proofs.SourceLemmas.{Lies, length-in, offset_at, part_in, p
 
 pub ordered_permutes : (dl : TargetDataLayout) (repr : ListRepr) (parts : List Part) (order offsets : List ℕ) (size align : ℕ) (niche : Option Niche) → IsInOrder dl repr parts order offsets size align niche → IsPermutation (source_order (length parts)) order
 ordered_permutes dl repr parts order offsets size align niche b = allowed_permutes repr (length parts) order b.allowed
-
--- it names as many fields as there are, and no other
-pub ordered_few : {F V H : Type 0} (layout_of : H → LayoutData F V) (dl : TargetDataLayout) (repr : ListRepr) (hs : List H) (order offsets : List ℕ) (size align : ℕ) (niche : Option Niche) (most : ℕ)
-    → length hs ≤ most + 1 → IsInOrder dl repr (parts_of dl (map layout_of hs)) order offsets size align niche → length order ≤ most + 1
-ordered_few layout_of dl repr hs order offsets size align niche most few b =
-    let count = length (parts_of dl (map layout_of hs)) in
-    let p = ordered_permutes dl repr (parts_of dl (map layout_of hs)) order offsets size align niche b in
-    omega (arith, length_permutation (source_order count) order p, length-range_with_len 0 count, length-parts layout_of dl hs, few)
-
-pub ordered_within : {F V H : Type 0} (layout_of : H → LayoutData F V) (dl : TargetDataLayout) (repr : ListRepr) (hs : List H) (order offsets : List ℕ) (size align : ℕ) (niche : Option Niche) (most : ℕ)
-    → length hs ≤ most + 1 → IsInOrder dl repr (parts_of dl (map layout_of hs)) order offsets size align niche → All (λ i. i ≤ most) order
-ordered_within layout_of dl repr hs order offsets size align niche most few b k d lt =
-    let count = length (parts_of dl (map layout_of hs)) in
-    let p = ordered_permutes dl repr (parts_of dl (map layout_of hs)) order offsets size align niche b in
-    omega (arith, within_order count order p k d lt, length-parts layout_of dl hs, few)
 
 pub ordered_lies : (dl : TargetDataLayout) (repr : ListRepr) (parts : List Part) (order offsets : List ℕ) (size align : ℕ) (niche : Option Niche) → IsInOrder dl repr parts order offsets size align niche → Lies repr.pack (start_of repr.pack repr.kind) parts order offsets
 ordered_lies dl repr parts order offsets size align niche b = record { permutes = ordered_permutes dl repr parts order offsets size align niche b; count = b.placed.count; places = b.placed.places }

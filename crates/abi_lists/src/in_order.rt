@@ -9,9 +9,10 @@ ghost use Rattle.abi_lists.specs.InOrder.{IsOrderedAnswer};
 ghost use Rattle.abi_lists.specs.List.{HasLawfulAligns};
 ghost use Rattle.abi_lists.specs.Placement.{IsAllowed, IsLawfulPrefix, IsNonEmptyIfUnsized, KeepsTail, list_repr, source_order};
 
-use crate::list::{error_of, fields_named, list_of_placed};
+use crate::list::{error_of, list_of_placed};
 use crate::list_layout::ListLayout;
 use crate::list_repr::{ListRepr, list_repr};
+use crate::memory_order::MemoryOrder;
 use crate::order::NicheBias;
 use crate::part::Parts;
 use crate::run::placed_in;
@@ -47,35 +48,40 @@ fn is_source_order(numbers: &[usize], count: usize) -> bool
 }
 
 /// Whether the order names each of so many fields once.
-fn names_each(alloc: Global, order: &[usize], count: usize) -> Result<bool, AllocError>
-    ensures { IfOk result (λ each. IsTrue each ↔ IsPermutation (source_order count) order.now) }
+fn names_each<FieldIdx: Idx>(
+    alloc: Global,
+    order: &[FieldIdx],
+    count: usize,
+) -> Result<bool, AllocError>
+    ensures { IfOk result (λ each.
+        IsTrue each ↔ IsPermutation (source_order count) (map FieldIdx.number order.now)) }
 {
-    let mut sorted = Vec::from_slice(alloc, order)?;
+    let mut sorted = numbers_of(alloc, order)?;
     sorted.sort_unstable();
     Ok(is_source_order(&sorted, count))
 }
 
 /// Whether a last field that may be unsized stays last.
-fn keeps_tail(kind: StructKind, order: &[usize]) -> bool
+fn keeps_tail<FieldIdx: Idx>(kind: StructKind, order: &[FieldIdx]) -> bool
     requires { IsNonEmptyIfUnsized kind (length order.now) }
-    ensures { IsTrue result ↔ KeepsTail kind (length order.now) order.now }
+    ensures { IsTrue result ↔ KeepsTail kind (length order.now) (map FieldIdx.number order.now) }
 {
     match kind {
-        StructKind::MaybeUnsized => order[order.len() - 1] == order.len() - 1,
+        StructKind::MaybeUnsized => order[order.len() - 1].index() == order.len() - 1,
         _ => true,
     }
 }
 
 /// Whether so many fields may lie in this order, if they may be moved at all.
-fn is_allowed(
+fn is_allowed<FieldIdx: Idx>(
     alloc: Global,
     kind: StructKind,
-    order: &[usize],
+    order: &[FieldIdx],
     count: usize,
 ) -> Result<bool, AllocError>
     requires { IsNonEmptyIfUnsized kind count }
-    ensures { IfOk result (λ allowed.
-        IsTrue allowed ↔ IsPermutation (source_order count) order.now × KeepsTail kind count order.now) }
+    ensures { IfOk result (λ allowed. IsTrue allowed ↔ IsPermutation (source_order count) (map FieldIdx.number order.now)
+        × KeepsTail kind count (map FieldIdx.number order.now)) }
 {
     if !names_each(alloc, order, count)? {
         return Ok(false);
@@ -90,7 +96,7 @@ fn list_in_order<FieldIdx: Idx, VariantIdx: Idx, F: LayoutHandle<FieldIdx, Varia
     fields: &[F],
     repr: &ReprOptions,
     list: &ListRepr,
-    order: Vec<usize>,
+    order: MemoryOrder<FieldIdx>,
 ) -> Result<ListLayout<FieldIdx, VariantIdx>, LayoutCalculatorError<F>>
     requires data_layout { IsLawfulDataLayout dl.now }
     requires fields { All (λ f. IsLawfulLayout dl.now (F.layout_of f)) fields.now }
@@ -99,9 +105,9 @@ fn list_in_order<FieldIdx: Idx, VariantIdx: Idx, F: LayoutHandle<FieldIdx, Varia
     requires prefix { IsLawfulPrefix list.now.kind (size_bound dl.now) }
     requires tail { IsNonEmptyIfUnsized list.now.kind (length fields.now) }
     requires count { length fields.now ≤ FieldIdx.MAX_INDEX + 1 }
-    requires order { IsAllowed list.now (length fields.now) order.items }
+    requires order { IsAllowed list.now (length fields.now) order }
     ensures exact { IsOrderedAnswer F.layout_of FieldIdx.at
-        (VariantIdx.at 0) dl.now repr.now list.now.kind order.items fields.now result }
+        (VariantIdx.at 0) dl.now repr.now list.now.kind order fields.now result }
     ensures lawful { IfOk result (IsLawfulLayout dl.now) }
 {
     let parts: Parts<'_, FieldIdx, VariantIdx, F> = Parts::new(dl, fields);
@@ -109,8 +115,7 @@ fn list_in_order<FieldIdx: Idx, VariantIdx: Idx, F: LayoutHandle<FieldIdx, Varia
         Ok(placed) => placed,
         Err(fault) => return Err(error_of(fields, fault)),
     };
-    let in_memory_order = fields_named(alloc, &placed.order)?;
-    Ok(list_of_placed(dl, fields, repr, list, placed, in_memory_order))
+    Ok(list_of_placed(dl, fields, repr, list, placed))
 }
 
 /// The layout of these fields as one list of this kind, one after another in memory in this order. The niche is the
@@ -145,9 +150,9 @@ pub fn layout_of_fields_in_order<
 {
     let list = list_repr(dl, repr, kind);
     let fields = fields.as_raw();
-    let order = numbers_of(alloc, order)?;
-    if !is_allowed(alloc, kind, &order, fields.len())? {
+    if !is_allowed(alloc, kind, order, fields.len())? {
         return Err(LayoutCalculatorError::BadOrder);
     }
+    let order = MemoryOrder::of(alloc, order)?;
     Ok(list_in_order(alloc, dl, fields, repr, &list, order)?.into_layout())
 }

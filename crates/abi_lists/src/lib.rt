@@ -12,6 +12,7 @@ mod list_layouts;
 mod list_niche;
 mod list_repr;
 mod list_view;
+mod memory_order;
 mod one_item;
 mod order;
 mod part;

@@ -57,22 +57,6 @@ pub fn field_offsets<FieldIdx: Idx>(
     Ok(list)
 }
 
-/// The fields of these indices.
-pub(crate) fn fields_named<FieldIdx: Idx>(
-    alloc: Global,
-    order: &[usize],
-) -> Result<IndexVec<u32, FieldIdx>, AllocError>
-    requires count { length order.now ≤ FieldIdx.MAX_INDEX + 1 }
-    requires within { All (λ i. i ≤ FieldIdx.MAX_INDEX) order.now }
-    ensures { IfOk result (λ list. list ≡ map FieldIdx.at order.now) }
-{
-    let mut list = IndexVec::with_capacity(alloc, order.len())?;
-    for index in order {
-        let _place = list.push(FieldIdx::new(*index))?;
-    }
-    Ok(list)
-}
-
 /// The error that tells a fault.
 pub(crate) fn error_of<F: Copy>(fields: &[F], fault: ListFault) -> LayoutCalculatorError<F>
     requires { IsFaultIndex (length fields.now) fault }
@@ -109,15 +93,14 @@ fn unadjusted_align<FieldIdx: Idx, VariantIdx: Idx, F: LayoutHandle<FieldIdx, Va
     }
 }
 
-/// A list that is placed, with its memory order.
+/// A list that is placed.
 #[inline(always)]
 pub(crate) fn list_of_placed<FieldIdx: Idx, VariantIdx: Idx, F: LayoutHandle<FieldIdx, VariantIdx>>(
     dl: &TargetDataLayout,
     fields: &[F],
     repr: &ReprOptions,
     list: &ListRepr,
-    placed: PlacedList,
-    in_memory_order: IndexVec<u32, FieldIdx>,
+    placed: PlacedList<FieldIdx>,
 ) -> ListLayout<FieldIdx, VariantIdx>
     requires data_layout { IsLawfulDataLayout dl.now }
     requires fields { All (λ f. IsLawfulLayout dl.now (F.layout_of f)) fields.now }
@@ -126,13 +109,13 @@ pub(crate) fn list_of_placed<FieldIdx: Idx, VariantIdx: Idx, F: LayoutHandle<Fie
     requires prefix { IsLawfulPrefix list.now.kind (size_bound dl.now) }
     requires tail { IsNonEmptyIfUnsized list.now.kind (length fields.now) }
     requires count { length fields.now ≤ FieldIdx.MAX_INDEX + 1 }
-    requires placed { IsInOrder dl.now list.now (parts_of dl.now (map F.layout_of fields.now)) placed.order.items
+    requires placed { IsInOrder dl.now list.now (parts_of dl.now (map F.layout_of fields.now)) placed.order
         placed.offsets.items placed.size placed.align placed.largest_niche }
     requires fits { placed.size < size_bound dl.now }
     ensures size { result.size ≡ placed.size }
     ensures align { result.align.abi ≡ placed.align }
     ensures niche { result.largest_niche ≡ placed.largest_niche }
-    ensures shape { result.fields ≡ Arbitrary placed.offsets.items in_memory_order }
+    ensures shape { result.fields ≡ Arbitrary placed.offsets.items (map FieldIdx.at placed.order) }
     ensures variants { result.variants ≡ Single (VariantIdx.at 0) }
     ensures view { result.backend_repr ≡ list_view dl.now (is_abi_fixed repr.now) result.size result.align.abi
         (parts_of dl.now (map F.layout_of fields.now)) placed.offsets.items }
@@ -146,7 +129,7 @@ pub(crate) fn list_of_placed<FieldIdx: Idx, VariantIdx: Idx, F: LayoutHandle<Fie
 {
     let PlacedList {
         offsets,
-        order: _,
+        order,
         size,
         align,
         largest_niche,
@@ -160,7 +143,7 @@ pub(crate) fn list_of_placed<FieldIdx: Idx, VariantIdx: Idx, F: LayoutHandle<Fie
     let offsets = IndexVec::from_raw(offsets);
     ListLayout {
         offsets,
-        in_memory_order,
+        in_memory_order: order.into_fields(),
         index: VariantIdx::new(0),
         backend_repr: view,
         largest_niche,
@@ -199,8 +182,7 @@ fn list_of_slice<FieldIdx: Idx, VariantIdx: Idx, F: LayoutHandle<FieldIdx, Varia
         Ok(placed) => placed,
         Err(fault) => return Err(error_of(fields, fault)),
     };
-    let in_memory_order = fields_named(alloc, &placed.order)?;
-    Ok(list_of_placed(dl, fields, repr, list, placed, in_memory_order))
+    Ok(list_of_placed(dl, fields, repr, list, placed))
 }
 
 /// These fields as one list of this kind, one after another in memory, in an order that the `repr` allows. Where it

@@ -1,11 +1,12 @@
 //! The order that fields have in memory.
 
-ghost use Rattle.std.specs.Prelude.{◌≡◌, ℕ, ◌≤◌, All, IfOk, fold, map, max, length};
+ghost use Rattle.std.specs.Prelude.{◌≡◌, ℕ, ◌+◌, ◌≤◌, All, IfOk, fold, map, max, length};
 ghost use Rattle.abi_lists.specs.Part.{IsAlignedPart, max_align};
-ghost use Rattle.abi_lists.specs.Placement.{source_order, IsNonEmptyIfUnsized};
+ghost use Rattle.abi_lists.specs.Placement.{IsNonEmptyIfUnsized};
 ghost use Rattle.abi_lists.specs.Order.{size_as_align, group_of, niche_from_front, niche_to_end, sort_key, key_at, IsSortedOrder, movable, is_prefixed, rule_of, IsSortedBefore, IsNamedOrder};
 
 use crate::list_repr::ListRepr;
+use crate::memory_order::MemoryOrder;
 use crate::part::{Part, Parts};
 use abi_base::{Align, StructKind};
 use abi_index::Idx;
@@ -135,7 +136,7 @@ fn sort_keys<FieldIdx: Idx, VariantIdx: Idx, F: LayoutHandle<FieldIdx, VariantId
     Ok(keys)
 }
 
-fn key_at(keys: &[SortKey], index: usize) -> SortKey
+pub(crate) fn key_at(keys: &[SortKey], index: usize) -> SortKey
     ensures { result ≡ key_at keys.now index }
 {
     keys.get(index).copied().unwrap_or(SortKey {
@@ -145,23 +146,17 @@ fn key_at(keys: &[SortKey], index: usize) -> SortKey
     })
 }
 
-/// The first `count` indices, with room for so many.
-#[tactic(auto, using(crate::proofs::Steps::source_more))]
-fn indices(alloc: Global, room: usize, count: usize) -> Result<Vec<usize>, AllocError>
-    ensures { IfOk result (λ order. order.items ≡ source_order count) }
+/// The places of these keys, least key first, with room for `room` fields.
+fn sorted_order<FieldIdx: Idx>(
+    alloc: Global,
+    room: usize,
+    keys: &[SortKey],
+) -> Result<MemoryOrder<FieldIdx>, AllocError>
+    requires { length keys.now ≤ FieldIdx.MAX_INDEX + 1 }
+    ensures { IfOk result (λ order. IsSortedOrder keys.now order) }
 {
-    let mut order = Vec::with_capacity(alloc, room)?;
-    for index in 0..count {
-        order.push(index)?;
-    }
-    Ok(order)
-}
-
-fn sorted_order(alloc: Global, room: usize, keys: &[SortKey]) -> Result<Vec<usize>, AllocError>
-    ensures { IfOk result (λ order. IsSortedOrder keys.now order.items) }
-{
-    let mut order = indices(alloc, room, keys.len())?;
-    order.sort_by_key(|&index| key_at(keys, index))?;
+    let mut order = MemoryOrder::source(alloc, room, keys.len())?;
+    order.sort(keys)?;
     Ok(order)
 }
 
@@ -235,14 +230,15 @@ fn sorted_before<FieldIdx: Idx, VariantIdx: Idx, F: LayoutHandle<FieldIdx, Varia
     parts: &Parts<'_, FieldIdx, VariantIdx, F>,
     repr: &ListRepr,
     bias: NicheBias,
-) -> Result<Vec<usize>, AllocError>
+) -> Result<MemoryOrder<FieldIdx>, AllocError>
     requires lawful { All IsAlignedPart parts.now }
     requires kind { IsNonEmptyIfUnsized repr.now.kind (length parts.now) }
-    ensures { IfOk result (λ order. IsSortedBefore repr.now bias parts.now order.items) }
+    requires count { length parts.now ≤ FieldIdx.MAX_INDEX + 1 }
+    ensures { IfOk result (λ order. IsSortedBefore repr.now bias parts.now order) }
 {
     let movable = parts.movable(repr.kind);
     if movable.len() < 2 {
-        return indices(alloc, parts.len(), parts.len());
+        return MemoryOrder::source(alloc, parts.len(), parts.len());
     }
     let keys = sort_keys(alloc, &movable, SortRule::new(repr, bias, &movable))?;
     let mut order = sorted_order(alloc, parts.len(), &keys)?;
@@ -258,14 +254,15 @@ pub(crate) fn memory_order<FieldIdx: Idx, VariantIdx: Idx, F: LayoutHandle<Field
     parts: &Parts<'_, FieldIdx, VariantIdx, F>,
     repr: &ListRepr,
     bias: NicheBias,
-) -> Result<Vec<usize>, AllocError>
+) -> Result<MemoryOrder<FieldIdx>, AllocError>
     requires lawful { All IsAlignedPart parts.now }
     requires kind { IsNonEmptyIfUnsized repr.now.kind (length parts.now) }
-    ensures { IfOk result (λ order. IsNamedOrder repr.now bias parts.now order.items) }
+    requires count { length parts.now ≤ FieldIdx.MAX_INDEX + 1 }
+    ensures { IfOk result (λ order. IsNamedOrder repr.now bias parts.now order) }
 {
     if repr.reorderable {
         sorted_before(alloc, parts, repr, bias)
     } else {
-        indices(alloc, parts.len(), parts.len())
+        MemoryOrder::source(alloc, parts.len(), parts.len())
     }
 }

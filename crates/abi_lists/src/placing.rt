@@ -10,6 +10,7 @@ ghost use Rattle.abi_lists.specs.declared.placing.ListFault.TheVariants.{OutOfMe
 
 use crate::list_niche::GreatestNiche;
 use crate::list_repr::{ListRepr, cut_to, rounded};
+use crate::memory_order::MemoryOrder;
 use crate::order::NicheBias;
 use crate::part::{Parts, is_unsized};
 use abi_base::{Align, Size, StructKind, TargetDataLayout};
@@ -109,7 +110,7 @@ pub(crate) fn place<FieldIdx: Idx, VariantIdx: Idx, F: LayoutHandle<FieldIdx, Va
     alloc: Global,
     dl: &TargetDataLayout,
     parts: &Parts<'_, FieldIdx, VariantIdx, F>,
-    order: &[usize],
+    order: &MemoryOrder<FieldIdx>,
     repr: &ListRepr,
 ) -> Result<Placement, ListFault>
     requires data_layout { IsLawfulDataLayout dl.now }
@@ -136,7 +137,9 @@ pub(crate) fn place<FieldIdx: Idx, VariantIdx: Idx, F: LayoutHandle<FieldIdx, Va
     let mut offsets = vec![in alloc; Size::ZERO; parts.len()]?;
     let mut end = list_start(repr.kind, repr.pack, dl.obj_size_bound());
     let mut niche = GreatestNiche::NONE;
-    for (at, &index) in order.iter().enumerate() {
+    let count = order.len();
+    for at in 0..count {
+        let index = order.at(at);
         let part = parts.at(index);
         if is_misplaced(repr.kind, part.view) {
             return Err(ListFault::Unsized(index));
@@ -145,7 +148,7 @@ pub(crate) fn place<FieldIdx: Idx, VariantIdx: Idx, F: LayoutHandle<FieldIdx, Va
         let Some(next) = offset.checked_add(part.size, dl) else {
             return Err(ListFault::TooLarge);
         };
-        if is_followed(part.view, at + 1 < order.len()) {
+        if is_followed(part.view, at + 1 < count) {
             return Err(ListFault::Unsized(index));
         }
         offsets[index] = offset;

@@ -14,6 +14,7 @@ ghost use Rattle.abi_lists.specs.Run.{IsFaultOf, IsNamedLayout, IsPlacedIn, may_
 
 use crate::list_niche::space_beside;
 use crate::list_repr::{ListRepr, rounded};
+use crate::memory_order::MemoryOrder;
 use crate::order::{NicheBias, memory_order};
 use crate::part::Parts;
 use crate::placing::{ListFault, Placement, list_align, place};
@@ -24,11 +25,11 @@ use std::alloc::Global;
 
 /// A list laid out.
 #[derive(Drop)]
-pub struct PlacedList {
+pub struct PlacedList<FieldIdx: Idx> {
     /// Where each field begins, in source order.
     pub offsets: Vec<Size>,
-    /// The fields' indices, as they lie in memory.
-    pub order: Vec<usize>,
+    /// The fields as they lie in memory.
+    pub order: MemoryOrder<FieldIdx>,
     pub size: Size,
     pub align: Align,
     /// The greatest niche, told from the start of the list.
@@ -45,23 +46,23 @@ pub(crate) fn placed_in<FieldIdx: Idx, VariantIdx: Idx, F: LayoutHandle<FieldIdx
     parts: &Parts<'_, FieldIdx, VariantIdx, F>,
     repr: &ListRepr,
     bias: NicheBias,
-    order: Vec<usize>,
-) -> Result<PlacedList, ListFault>
+    order: MemoryOrder<FieldIdx>,
+) -> Result<PlacedList<FieldIdx>, ListFault>
     requires data_layout { IsLawfulDataLayout dl.now }
     requires lawful { All (IsLawfulPart dl.now) parts.now }
     requires repr { IsLawfulRepr repr.now (length parts.now) (size_bound dl.now) }
-    requires order { IsPermutation (source_order (length parts.now)) order.items }
+    requires order { IsPermutation (source_order (length parts.now)) order }
     ensures same { IfOk result (λ list. list.order ≡ order) }
     ensures placed { IfOk result (λ list.
-        IsPlacedIn dl.now repr.now bias parts.now order.items list.offsets.items list.size list.align
+        IsPlacedIn dl.now repr.now bias parts.now order list.offsets.items list.size list.align
         list.largest_niche) }
     ensures last { IfOk result (λ list.
-        list.last_niche ≡ niche_in dl.now repr.now NicheBias.End parts.now order.items) }
+        list.last_niche ≡ niche_in dl.now repr.now NicheBias.End parts.now order) }
     ensures readable { IfOk result (λ list. IfSome list.largest_niche (IsReadableNiche dl.now)) }
     ensures inside { IfOk result (λ list. IfSome list.largest_niche (IsLawfulNiche dl.now list.size)) }
     ensures fits { IfOk result (λ list. list.size < size_bound dl.now) }
     ensures fault { IfErr result (λ fault.
-        (fault_in repr.now (size_bound dl.now) parts.now order.items ≡ Some fault) ⊎ (fault ≡ OutOfMemory)) }
+        (fault_in repr.now (size_bound dl.now) parts.now order ≡ Some fault) ⊎ (fault ≡ OutOfMemory)) }
 {
     let Placement {
         offsets,
@@ -92,16 +93,17 @@ fn run<FieldIdx: Idx, VariantIdx: Idx, F: LayoutHandle<FieldIdx, VariantIdx>>(
     parts: &Parts<'_, FieldIdx, VariantIdx, F>,
     repr: &ListRepr,
     bias: NicheBias,
-) -> Result<PlacedList, ListFault>
+) -> Result<PlacedList<FieldIdx>, ListFault>
     requires data_layout { IsLawfulDataLayout dl.now }
     requires lawful { All (IsLawfulPart dl.now) parts.now }
     requires repr { IsLawfulRepr repr.now (length parts.now) (size_bound dl.now) }
-    ensures named { IfOk result (λ list. IsNamedOrder repr.now bias parts.now list.order.items) }
+    requires count { length parts.now ≤ FieldIdx.MAX_INDEX + 1 }
+    ensures named { IfOk result (λ list. IsNamedOrder repr.now bias parts.now list.order) }
     ensures placed { IfOk result (λ list.
-        IsPlacedIn dl.now repr.now bias parts.now list.order.items list.offsets.items list.size list.align
+        IsPlacedIn dl.now repr.now bias parts.now list.order list.offsets.items list.size list.align
         list.largest_niche) }
     ensures last { IfOk result (λ list.
-        list.last_niche ≡ niche_in dl.now repr.now NicheBias.End parts.now list.order.items) }
+        list.last_niche ≡ niche_in dl.now repr.now NicheBias.End parts.now list.order) }
     ensures readable { IfOk result (λ list. IfSome list.largest_niche (IsReadableNiche dl.now)) }
     ensures inside { IfOk result (λ list. IfSome list.largest_niche (IsLawfulNiche dl.now list.size)) }
     ensures fits { IfOk result (λ list. list.size < size_bound dl.now) }
@@ -122,11 +124,11 @@ fn may_move(kind: StructKind, count: usize) -> bool
 }
 
 /// How far a second order's niche has to begin from the front, if one is tried.
-fn space_wanted(
+fn space_wanted<FieldIdx: Idx>(
     dl: &TargetDataLayout,
     repr: &ListRepr,
     count: usize,
-    first: &PlacedList,
+    first: &PlacedList<FieldIdx>,
 ) -> Option<Size>
     requires readable { IfSome first.now.largest_niche (IsReadableNiche dl.now) }
     requires inside { IfSome first.now.largest_niche (IsLawfulNiche dl.now first.now.size) }
@@ -150,7 +152,7 @@ fn begins_after(niche: &Option<Niche>, space: Size) -> bool
 }
 
 /// The list with the last of its greatest niches, where that begins after so many bytes, else as it is.
-fn with_last_niche(list: PlacedList, space: Size) -> PlacedList
+fn with_last_niche<FieldIdx: Idx>(list: PlacedList<FieldIdx>, space: Size) -> PlacedList<FieldIdx>
     ensures same { (result.offsets ≡ list.offsets) × (result.order ≡ list.order) × (result.size ≡ list.size) ×
         (result.align ≡ list.align) }
     ensures niche { result.largest_niche ≡
@@ -176,12 +178,13 @@ pub(crate) fn layout_of_parts<
     dl: &TargetDataLayout,
     parts: &Parts<'_, FieldIdx, VariantIdx, F>,
     repr: &ListRepr,
-) -> Result<PlacedList, ListFault>
+) -> Result<PlacedList<FieldIdx>, ListFault>
     requires data_layout { IsLawfulDataLayout dl.now }
     requires lawful { All (IsLawfulPart dl.now) parts.now }
     requires repr { IsLawfulRepr repr.now (length parts.now) (size_bound dl.now) }
+    requires count { length parts.now ≤ FieldIdx.MAX_INDEX + 1 }
     ensures named { IfOk result (λ list.
-        IsNamedLayout dl.now repr.now parts.now list.order.items list.offsets.items list.size list.align
+        IsNamedLayout dl.now repr.now parts.now list.order list.offsets.items list.size list.align
         list.largest_niche) }
     ensures fits { IfOk result (λ list. list.size < size_bound dl.now) }
     ensures fault { IfErr result (IsFaultOf dl.now repr.now NicheBias.Start parts.now) }

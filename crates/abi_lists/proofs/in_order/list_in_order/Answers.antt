@@ -15,7 +15,6 @@ use Rattle.abi_lists.specs.Run.{IsInOrder, IsPlacedIn}
 use Rattle.abi_lists.proofs.InOrderLemmas.{error_in_order, fault_placed}
 use Rattle.abi_lists.proofs.Least.{allowed_permutes}
 use Rattle.abi_lists.proofs.ListLemmas.{length-parts, parts_lawful, repr_lawful}
-use Rattle.abi_lists.proofs.OrderedLemmas.{ordered_few, ordered_within}
 use Rattle.abi_lists.proofs.in_order.list_in_order.Goals as goal
 
 -- a list that was laid out in an allowed order lies in it
@@ -43,43 +42,32 @@ placed_in-requires-clause-repr g c =
 pub placed_in-requires-clause-order : goal.placed_in-requires-clause-order
 placed_in-requires-clause-order g c =
     let many : length c.new-parts.result ≡ length c.args.fields.now = ap length (c.new-parts.ensures) ∙ length-parts g.F.LayoutHandle.layout_of c.args.dl.now c.args.fields.now in
-    subst (λ (n : ℕ). IsPermutation (source_order n) c.args.order.items) (sym many) (allowed_permutes c.args.list.now (length c.args.fields.now) c.args.order.items c.requires.order)
+    subst (λ (n : ℕ). IsPermutation (source_order n) c.args.order) (sym many) (allowed_permutes c.args.list.now (length c.args.fields.now) c.args.order c.requires.order)
 
 pub error_of-requires : goal.error_of-requires
 error_of-requires g c =
     let many : length c.new-parts.result ≡ length c.args.fields.now = ap length (c.new-parts.ensures) ∙ length-parts g.F.LayoutHandle.layout_of c.args.dl.now c.args.fields.now in
-    let order = subst (λ (n : ℕ). IsPermutation (source_order n) c.args.order.items) (sym many) (allowed_permutes c.args.list.now (length c.args.fields.now) c.args.order.items c.requires.order) in
-    rw (← many) (fault_placed c.args.list.now c.args.dl.now c.new-parts.result c.args.order.items c.in-Err.fault order c.in-Err.ensures.fault)
+    let order = subst (λ (n : ℕ). IsPermutation (source_order n) c.args.order) (sym many) (allowed_permutes c.args.list.now (length c.args.fields.now) c.args.order c.requires.order) in
+    rw (← many) (fault_placed c.args.list.now c.args.dl.now c.new-parts.result c.args.order c.in-Err.fault order c.in-Err.ensures.fault)
 
 pub returns-in-Err-clause-exact : goal.returns-in-Err-clause-exact
 returns-in-Err-clause-exact g c =
-    error_in_order g.F.LayoutHandle.layout_of c.args.dl.now c.args.repr.now c.args.list.now.kind c.args.list.now c.args.order.items c.args.fields.now c.new-parts.result c.in-Err.fault c.error_of.result
+    error_in_order g.F.LayoutHandle.layout_of c.args.dl.now c.args.repr.now c.args.list.now.kind c.args.list.now c.args.order c.args.fields.now c.new-parts.result c.in-Err.fault c.error_of.result
     c.new-parts.ensures c.requires.order c.in-Err.ensures.fault c.error_of.ensures c.requires.list
 
 pub list_of_placed-requires-clause-placed : goal.list_of_placed-requires-clause-placed
-list_of_placed-requires-clause-placed g c = laid_in_order g.F.LayoutHandle.layout_of c.args.dl.now c.args.list.now c.args.fields.now c.new-parts.result c.args.order.items c.in-Ok.placed.order.items c.in-Ok.placed.offsets.items c.in-Ok.placed.size c.in-Ok.placed.align c.in-Ok.placed.largest_niche c.new-parts.ensures c.requires.order (ap (λ o. o.items) c.in-Ok.ensures.same) c.in-Ok.ensures.placed
-
-pub fields_named-requires-clause-count : goal.fields_named-requires-clause-count
-fields_named-requires-clause-count g c =
-    rw c.deref.ensures.value (ordered_few g.F.LayoutHandle.layout_of c.args.dl.now c.args.list.now c.args.fields.now c.in-Ok.placed.order.items c.in-Ok.placed.offsets.items c.in-Ok.placed.size c.in-Ok.placed.align c.in-Ok.placed.largest_niche _ c.requires.count
-    (laid_in_order g.F.LayoutHandle.layout_of c.args.dl.now c.args.list.now c.args.fields.now c.new-parts.result c.args.order.items c.in-Ok.placed.order.items c.in-Ok.placed.offsets.items c.in-Ok.placed.size c.in-Ok.placed.align c.in-Ok.placed.largest_niche c.new-parts.ensures c.requires.order (ap (λ o. o.items) c.in-Ok.ensures.same) c.in-Ok.ensures.placed))
-
-pub fields_named-requires-clause-within : goal.fields_named-requires-clause-within
-fields_named-requires-clause-within g c =
-    rw c.deref.ensures.value (ordered_within g.F.LayoutHandle.layout_of c.args.dl.now c.args.list.now c.args.fields.now c.in-Ok.placed.order.items c.in-Ok.placed.offsets.items c.in-Ok.placed.size c.in-Ok.placed.align c.in-Ok.placed.largest_niche _ c.requires.count
-    (laid_in_order g.F.LayoutHandle.layout_of c.args.dl.now c.args.list.now c.args.fields.now c.new-parts.result c.args.order.items c.in-Ok.placed.order.items c.in-Ok.placed.offsets.items c.in-Ok.placed.size c.in-Ok.placed.align c.in-Ok.placed.largest_niche c.new-parts.ensures c.requires.order (ap (λ o. o.items) c.in-Ok.ensures.same) c.in-Ok.ensures.placed))
+list_of_placed-requires-clause-placed g c = laid_in_order g.F.LayoutHandle.layout_of c.args.dl.now c.args.list.now c.args.fields.now c.new-parts.result c.args.order c.in-Ok.placed.order c.in-Ok.placed.offsets.items c.in-Ok.placed.size c.in-Ok.placed.align c.in-Ok.placed.largest_niche c.new-parts.ensures c.requires.order c.in-Ok.ensures.same c.in-Ok.ensures.placed
 
 pub returns-clause-exact : goal.returns-clause-exact
 returns-clause-exact g c =
     let made = c.list_of_placed.ensures in
-    let items = ap (λ o. o.items) c.in-Ok.ensures.same in
-    let placed = subst (λ (r : ListRepr). IsPlacedIn c.args.dl.now r Start (parts_of c.args.dl.now (map g.F.LayoutHandle.layout_of c.args.fields.now)) c.args.order.items c.in-Ok.placed.offsets.items c.in-Ok.placed.size c.in-Ok.placed.align c.in-Ok.placed.largest_niche) c.requires.list
-    (subst (λ (ps : List Part). IsPlacedIn c.args.dl.now c.args.list.now Start ps c.args.order.items c.in-Ok.placed.offsets.items c.in-Ok.placed.size c.in-Ok.placed.align c.in-Ok.placed.largest_niche) c.new-parts.ensures c.in-Ok.ensures.placed) in
-    let allowed = subst (λ (r : ListRepr). IsAllowed r (length c.args.fields.now) c.args.order.items) c.requires.list c.requires.order in (
+    let placed = subst (λ (r : ListRepr). IsPlacedIn c.args.dl.now r Start (parts_of c.args.dl.now (map g.F.LayoutHandle.layout_of c.args.fields.now)) c.args.order c.in-Ok.placed.offsets.items c.in-Ok.placed.size c.in-Ok.placed.align c.in-Ok.placed.largest_niche) c.requires.list
+    (subst (λ (ps : List Part). IsPlacedIn c.args.dl.now c.args.list.now Start ps c.args.order c.in-Ok.placed.offsets.items c.in-Ok.placed.size c.in-Ok.placed.align c.in-Ok.placed.largest_niche) c.new-parts.ensures c.in-Ok.ensures.placed) in
+    let allowed = subst (λ (r : ListRepr). IsAllowed r (length c.args.fields.now) c.args.order) c.requires.list c.requires.order in (
       c.in-Ok.placed.offsets.items,
       record {
         named = (rw (length-map c.args.fields.now g.F.LayoutHandle.layout_of) allowed, rw (made.size, made.align, made.niche) placed);
-        shape = made.shape ∙ ap (Arbitrary c.in-Ok.placed.offsets.items) (c.in_ok-in_memory_order.ensures ∙ ap (map g.FieldIdx.Idx.at) c.deref.ensures.value) ∙ ap (λ os. Arbitrary c.in-Ok.placed.offsets.items (map g.FieldIdx.Idx.at os)) items;
+        shape = made.shape ∙ ap (λ os. Arbitrary c.in-Ok.placed.offsets.items (map g.FieldIdx.Idx.at os)) c.in-Ok.ensures.same;
         variants = made.variants;
         view = made.view;
         uninhabited = made.uninhabited;

@@ -1,4 +1,4 @@
-use Rattle.std.proofs.Common.{arith, ◌≡◌, ◌^◌, ◌≤◌, length, map, sym, ap, subst, ◌∙◌, refl}
+use Rattle.std.proofs.Common.{arith, ◌≡◌, ◌^◌, ◌≤◌, length, map, sym, ap, ap₂, subst, ◌∙◌, refl}
 use Rattle.std.specs.Int.{next_multiple_of}
 use Rattle.abi_base.specs.DataLayout.{size_bound}
 use Rattle.abi_scalar.specs.declared.fields_shape.FieldsShape.TheVariants.{Arbitrary}
@@ -25,7 +25,7 @@ from_raw-offsets-requires g c =
     omega (arith, long, c.requires.count)
 
 pub returns-clause-shape : goal.returns-clause-shape
-returns-clause-shape g c = ap (λ os. Arbitrary os c.args.in_memory_order) c.from_raw-offsets.ensures
+returns-clause-shape g c = ap₂ (λ os fields. Arbitrary os fields) c.from_raw-offsets.ensures c.into_fields.ensures
 
 pub returns-clause-view : goal.returns-clause-view
 returns-clause-view g c =
@@ -51,11 +51,11 @@ returns-clause-lawful g c =
     let listed = subst (λ (r : ListRepr). IsLawfulRepr r (length (parts_of c.args.dl.now (map g.F.LayoutHandle.layout_of c.args.fields.now))) (size_bound c.args.dl.now)) (sym c.requires.list) all in
     let small : align_of c.args.list.now (parts_of c.args.dl.now (map g.F.LayoutHandle.layout_of c.args.fields.now)) ≤ 29 = align_small c.args.list.now (parts_of c.args.dl.now (map g.F.LayoutHandle.layout_of c.args.fields.now)) (length (parts_of c.args.dl.now (map g.F.LayoutHandle.layout_of c.args.fields.now))) (size_bound c.args.dl.now) (aligned_parts c.args.dl.now (parts_of c.args.dl.now (map g.F.LayoutHandle.layout_of c.args.fields.now)) law) listed in
     let least : c.args.placed.align ≤ 29 = omega (arith, b.placed.alignment, small) in
-    let size : c.args.placed.size ≡ next_multiple_of (end_from c.args.list.now.pack (start_of c.args.list.now.pack c.args.list.now.kind) (in_order (parts_of c.args.dl.now (map g.F.LayoutHandle.layout_of c.args.fields.now)) c.args.placed.order.items)) (2 ^ c.args.placed.align)
-    = b.placed.extent ∙ ap (λ a. next_multiple_of (end_from c.args.list.now.pack (start_of c.args.list.now.pack c.args.list.now.kind) (in_order (parts_of c.args.dl.now (map g.F.LayoutHandle.layout_of c.args.fields.now)) c.args.placed.order.items)) (2 ^ a)) (sym b.placed.alignment) in
+    let size : c.args.placed.size ≡ next_multiple_of (end_from c.args.list.now.pack (start_of c.args.list.now.pack c.args.list.now.kind) (in_order (parts_of c.args.dl.now (map g.F.LayoutHandle.layout_of c.args.fields.now)) c.args.placed.order)) (2 ^ c.args.placed.align)
+    = b.placed.extent ∙ ap (λ a. next_multiple_of (end_from c.args.list.now.pack (start_of c.args.list.now.pack c.args.list.now.kind) (in_order (parts_of c.args.dl.now (map g.F.LayoutHandle.layout_of c.args.fields.now)) c.args.placed.order)) (2 ^ a)) (sym b.placed.alignment) in
     let view = c.list_view-view.ensures ∙ view_same c.args.dl.now c.inhibit_newtype_abi_optimization-fixed.result c.inhibit_newtype_abi_optimization-fixed.result c.args.placed.size c.args.placed.align c.args.placed.align c.new-parts.result (parts_of c.args.dl.now (map g.F.LayoutHandle.layout_of c.args.fields.now)) c.deref.result.now c.args.placed.offsets.items
     refl refl (c.new-parts.ensures) c.deref.ensures.value in
     made_lawful c.args.dl.now _ c.new.result _ c.args.placed.align c.inhibit_newtype_abi_optimization-fixed.result (parts_of c.args.dl.now (map g.F.LayoutHandle.layout_of c.args.fields.now)) c.args.placed.offsets.items
     law refl least size c.requires.fits
-    (ordered_inside c.args.dl.now c.args.list.now (parts_of c.args.dl.now (map g.F.LayoutHandle.layout_of c.args.fields.now)) c.args.placed.order.items c.args.placed.offsets.items c.args.placed.size c.args.placed.align c.args.placed.largest_niche law b)
-    (ordered_index c.args.dl.now c.args.list.now (parts_of c.args.dl.now (map g.F.LayoutHandle.layout_of c.args.fields.now)) c.args.placed.order.items c.args.placed.offsets.items c.args.placed.size c.args.placed.align c.args.placed.largest_niche b) view refl
+    (ordered_inside c.args.dl.now c.args.list.now (parts_of c.args.dl.now (map g.F.LayoutHandle.layout_of c.args.fields.now)) c.args.placed.order c.args.placed.offsets.items c.args.placed.size c.args.placed.align c.args.placed.largest_niche law b)
+    (ordered_index c.args.dl.now c.args.list.now (parts_of c.args.dl.now (map g.F.LayoutHandle.layout_of c.args.fields.now)) c.args.placed.order c.args.placed.offsets.items c.args.placed.size c.args.placed.align c.args.placed.largest_niche b) view refl

@@ -1,10 +1,9 @@
-use Rattle.std.proofs.Common.{◌≡◌, ℕ, List, Option, length, map, sym, ap, subst, ◌∙◌}
+use Rattle.std.proofs.Common.{◌≡◌, arith, ℕ, List, Option, length, map, sym, ap, subst, ◌∙◌}
 use Rattle.abi_base.specs.DataLayout.{size_bound}
 use Rattle.abi_lists.specs.declared.list_repr.ListRepr.{ListRepr}
 use Rattle.abi_lists.specs.declared.order.NicheBias.TheVariants.{Start}
 use Rattle.abi_lists.specs.declared.part.Part.{Part}
 use Rattle.abi_base.specs.declared.data_layout.TargetDataLayout.{TargetDataLayout}
-use Rattle.abi_scalar.specs.declared.fields_shape.FieldsShape.TheVariants.{Arbitrary}
 use Rattle.abi_scalar.specs.declared.layout_data.LayoutData.{LayoutData}
 use Rattle.abi_scalar.specs.declared.niche.Niche.{Niche}
 use Rattle.abi_lists.specs.List.{parts_of}
@@ -12,7 +11,6 @@ use Rattle.abi_lists.specs.Placement.{IsLawfulRepr, IsNonEmptyIfUnsized}
 use Rattle.abi_lists.specs.Run.{IsFaultOf, IsInOrder, IsNamedLayout}
 use Rattle.abi_lists.proofs.DeepLemmas.{in_order_of}
 use Rattle.abi_lists.proofs.ListLemmas.{error_exact, fault_named, length-parts, parts_lawful, repr_lawful}
-use Rattle.abi_lists.proofs.OrderedLemmas.{ordered_few, ordered_within}
 use Rattle.abi_lists.proofs.RunLemmas.{biased_of}
 use Rattle.abi_lists.proofs.list.list_of_slice.Goals as goal
 
@@ -52,28 +50,23 @@ returns-in-Err-clause-exact g c =
     error_exact g.F.LayoutHandle.layout_of c.args.dl.now c.args.repr.now c.args.list.now.kind c.args.list.now c.args.fields.now c.in-Err.fault c.error_of.result fault c.error_of.ensures c.requires.list
 
 pub list_of_placed-requires-clause-placed : goal.list_of_placed-requires-clause-placed
-list_of_placed-requires-clause-placed g c = laid_in_order g.F.LayoutHandle.layout_of c.args.dl.now c.args.list.now c.args.fields.now c.new-parts.result c.in-Ok.placed.order.items c.in-Ok.placed.offsets.items c.in-Ok.placed.size c.in-Ok.placed.align c.in-Ok.placed.largest_niche c.new-parts.ensures c.requires.tail c.in-Ok.ensures.named
+list_of_placed-requires-clause-placed g c = laid_in_order g.F.LayoutHandle.layout_of c.args.dl.now c.args.list.now c.args.fields.now c.new-parts.result c.in-Ok.placed.order c.in-Ok.placed.offsets.items c.in-Ok.placed.size c.in-Ok.placed.align c.in-Ok.placed.largest_niche c.new-parts.ensures c.requires.tail c.in-Ok.ensures.named
 
-pub fields_named-requires-clause-count : goal.fields_named-requires-clause-count
-fields_named-requires-clause-count g c =
-    rw c.deref.ensures.value (ordered_few g.F.LayoutHandle.layout_of c.args.dl.now c.args.list.now c.args.fields.now c.in-Ok.placed.order.items c.in-Ok.placed.offsets.items c.in-Ok.placed.size c.in-Ok.placed.align c.in-Ok.placed.largest_niche _ c.requires.count
-    (laid_in_order g.F.LayoutHandle.layout_of c.args.dl.now c.args.list.now c.args.fields.now c.new-parts.result c.in-Ok.placed.order.items c.in-Ok.placed.offsets.items c.in-Ok.placed.size c.in-Ok.placed.align c.in-Ok.placed.largest_niche c.new-parts.ensures c.requires.tail c.in-Ok.ensures.named))
-
-pub fields_named-requires-clause-within : goal.fields_named-requires-clause-within
-fields_named-requires-clause-within g c =
-    rw c.deref.ensures.value (ordered_within g.F.LayoutHandle.layout_of c.args.dl.now c.args.list.now c.args.fields.now c.in-Ok.placed.order.items c.in-Ok.placed.offsets.items c.in-Ok.placed.size c.in-Ok.placed.align c.in-Ok.placed.largest_niche _ c.requires.count
-    (laid_in_order g.F.LayoutHandle.layout_of c.args.dl.now c.args.list.now c.args.fields.now c.new-parts.result c.in-Ok.placed.order.items c.in-Ok.placed.offsets.items c.in-Ok.placed.size c.in-Ok.placed.align c.in-Ok.placed.largest_niche c.new-parts.ensures c.requires.tail c.in-Ok.ensures.named))
+pub layout_of_parts-requires-clause-count : goal.layout_of_parts-requires-clause-count
+layout_of_parts-requires-clause-count g c =
+    let many : length c.new-parts.result ≡ length c.args.fields.now = ap length (c.new-parts.ensures) ∙ length-parts g.F.LayoutHandle.layout_of c.args.dl.now c.args.fields.now in
+    omega (arith, many, c.requires.count)
 
 pub returns-clause-exact : goal.returns-clause-exact
 returns-clause-exact g c =
-    let named = subst (λ (r : ListRepr). IsNamedLayout c.args.dl.now r (parts_of c.args.dl.now (map g.F.LayoutHandle.layout_of c.args.fields.now)) c.in-Ok.placed.order.items c.in-Ok.placed.offsets.items c.in-Ok.placed.size c.in-Ok.placed.align c.in-Ok.placed.largest_niche) c.requires.list
-    (subst (λ (ps : List Part). IsNamedLayout c.args.dl.now c.args.list.now ps c.in-Ok.placed.order.items c.in-Ok.placed.offsets.items c.in-Ok.placed.size c.in-Ok.placed.align c.in-Ok.placed.largest_niche) c.new-parts.ensures c.in-Ok.ensures.named) in
+    let named = subst (λ (r : ListRepr). IsNamedLayout c.args.dl.now r (parts_of c.args.dl.now (map g.F.LayoutHandle.layout_of c.args.fields.now)) c.in-Ok.placed.order c.in-Ok.placed.offsets.items c.in-Ok.placed.size c.in-Ok.placed.align c.in-Ok.placed.largest_niche) c.requires.list
+    (subst (λ (ps : List Part). IsNamedLayout c.args.dl.now c.args.list.now ps c.in-Ok.placed.order c.in-Ok.placed.offsets.items c.in-Ok.placed.size c.in-Ok.placed.align c.in-Ok.placed.largest_niche) c.new-parts.ensures c.in-Ok.ensures.named) in
     let made = c.list_of_placed.ensures in (
-      c.in-Ok.placed.order.items,
+      c.in-Ok.placed.order,
       c.in-Ok.placed.offsets.items,
       record {
         named = rw (made.size, made.align, made.niche) named;
-        shape = made.shape ∙ ap (Arbitrary c.in-Ok.placed.offsets.items) (c.in_ok-in_memory_order.ensures ∙ ap (map g.FieldIdx.Idx.at) c.deref.ensures.value);
+        shape = made.shape;
         variants = made.variants;
         view = made.view;
         uninhabited = made.uninhabited;

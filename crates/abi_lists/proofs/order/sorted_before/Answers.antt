@@ -1,20 +1,22 @@
 -- The sorted front, and the tail where one is left.
-use Rattle.std.proofs.Common.{arith, rules, length, ◌<◌, ◌≤◌, ap, append-nil, subst, sym}
-use Rattle.abi_lists.specs.Order.{IsSortedBefore, movable}
+use Rattle.std.proofs.Common.{arith, rules, length, ◌≡◌, ◌<◌, ◌≤◌, ap, append-nil, subst, sym}
+use Rattle.std.proofs.lemmas.List.{length-map}
+use Rattle.abi_lists.specs.Order.{IsSortedBefore, movable, sort_key}
 use Rattle.abi_lists.specs.Part.{IsAlignedPart}
 use Rattle.abi_lists.specs.Placement.{source_order}
+use Rattle.abi_lists.proofs.Orders.{order_length}
 use Rattle.abi_lists.proofs.Sorting.{few_named, items_have, movable_all, tail_of_all, tail_of_front}
 use Rattle.abi_lists.proofs.order.sorted_before.Goals as goal
 use Rattle.abi_lists.proofs.order.sorted_before.Goals.{then-len+in_ok-push, else-len}
 
 pub returns : goal.returns
 returns g c = (
-  c.in_ok-order.order.items,
+  c.in_ok-order.order,
   rw (← c.movable-movable.ensures, ← c.new.ensures, ← c.in_ok-keys.ensures, ← c.deref.ensures.value) c.in_ok-order.ensures,
   elim c.if-len.branch [
     | then-len+in_ok-push w ↦
         let shorter : length (movable c.args.repr.now.kind c.args.parts.now) < length c.args.parts.now = omega (arith, w.if-len.true, c.len-3.ensures, c.len-4.ensures, ap length c.movable-movable.ensures) in
-        rw (← tail_of_front c.args.repr.now.kind c.args.parts.now shorter, ← c.movable-movable.ensures) (search (rules, w.in_ok-push.ensures.items))
+        rw (← tail_of_front c.args.repr.now.kind c.args.parts.now shorter, ← c.movable-movable.ensures) (search (rules, w.in_ok-push.ensures))
     | else-len w ↦
         let whole : length c.args.parts.now ≤ length (movable c.args.repr.now.kind c.args.parts.now) = omega (arith, w.if-len.false, c.len-3.ensures, c.len-4.ensures, ap length c.movable-movable.ensures) in
         rw (← tail_of_all c.args.repr.now.kind c.args.parts.now c.requires.kind whole, append-nil) (search rules)
@@ -30,5 +32,10 @@ sort_keys-requires g c = rw c.movable-movable.ensures (movable_all IsAlignedPart
 pub returns-then-len-lt2 : goal.returns-then-len-lt2
 returns-then-len-lt2 g c =
     let few : length (movable c.args.repr.now.kind c.args.parts.now) < 2 = omega (arith, c.if-len-lt2.true, c.len.ensures, ap length c.movable-movable.ensures) in
-    items_have (λ v. v.items) (IsSortedBefore c.args.repr.now c.args.bias c.args.parts.now) (source_order c.len-then-len-lt2-2.result) c.indices.result (search rules)
+    items_have (λ order. order) (IsSortedBefore c.args.repr.now c.args.bias c.args.parts.now) (source_order c.len-then-len-lt2-2.result) c.source.result (search rules)
     (subst (λ n. IsSortedBefore c.args.repr.now c.args.bias c.args.parts.now (source_order n)) (sym c.len-then-len-lt2-2.ensures) (few_named c.args.repr.now c.args.bias c.args.parts.now c.requires.kind few))
+
+pub push-requires-clause-few : goal.push-requires-clause-few
+push-requires-clause-few g c =
+    let own : length c.in_ok-order.order ≡ length c.in_ok-keys.keys.items = order_length (length c.in_ok-keys.keys.items) c.in_ok-order.order (rw (← c.deref.ensures.value) c.in_ok-order.ensures.permutes) in
+    omega (arith, own, ap length c.in_ok-keys.ensures, length-map c.movable-movable.result (sort_key c.new.result), c.if-len.true, c.len-3.ensures, c.len-4.ensures, c.requires.count)
