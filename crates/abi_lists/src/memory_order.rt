@@ -2,11 +2,14 @@
 
 ghost use Rattle.std.specs.Prelude.{◌≡◌, ◌+◌, ◌<◌, ◌≤◌, ◌++◌, ◌∷◌, [], All, IfOk, IsPermutation, OnOk, length, map, slice_index};
 ghost use Rattle.std.specs.List.Sorted.{IsSortedByKey, IsStableByKey};
-ghost use Rattle.abi_lists.specs.Order.{compare_keys, key_at};
+ghost use Rattle.abi_lists.specs.Order.{compare_keys, key_at, sort_key};
+ghost use Rattle.abi_lists.specs.Part.{IsAlignedPart};
 ghost use Rattle.abi_lists.specs.Placement.{source_order};
 
-use crate::order::{SortKey, key_at};
+use crate::order::{SortKey, SortRule, key_in};
+use crate::part::Parts;
 use abi_index::{Idx, IndexVec};
+use abi_scalar::LayoutHandle;
 use std::alloc::{AllocError, Global};
 use std::marker::Model;
 
@@ -65,13 +68,33 @@ impl<FieldIdx: Idx> MemoryOrder<FieldIdx> {
         self.fields[place].index()
     }
 
-    /// Sorts the fields by their keys, and leaves those of equal keys as they follow one another.
-    pub(crate) fn sort(&mut self, keys: &[SortKey]) -> Result<(), AllocError>
+    /// Sorts the fields by these keys, and leaves those of equal keys as they follow one another.
+    pub(crate) fn sort_by_keys(&mut self, keys: &[SortKey]) -> Result<(), AllocError>
         ensures permutes { IsPermutation self.old self.new }
         ensures sorted { OnOk result (IsSortedByKey (key_at keys.now) compare_keys self.new) }
         ensures stable { IsStableByKey (key_at keys.now) compare_keys self.old self.new }
     {
-        self.fields.sort_by_key(|field| key_at(keys, field.index()))
+        self.fields.sort_by_key(|field| key_in(keys, field.index()))
+    }
+
+    /// Sorts the fields by the keys of these parts, and leaves those of equal keys as they follow one another. Each key is
+    /// found anew where it is compared.
+    pub(crate) fn sort<VariantIdx: Idx, F: LayoutHandle<FieldIdx, VariantIdx>>(
+        &mut self,
+        parts: &Parts<'_, FieldIdx, VariantIdx, F>,
+        rule: &SortRule,
+    ) -> Result<(), AllocError>
+        requires { All IsAlignedPart parts.now }
+        ensures permutes { IsPermutation self.old self.new }
+        ensures sorted { OnOk result
+            (IsSortedByKey (key_at (map (sort_key rule.now) parts.now)) compare_keys self.new) }
+        ensures stable { IsStableByKey (key_at (map (sort_key rule.now) parts.now)) compare_keys self.old self.new }
+    {
+        self.fields.sort_by_key(
+            |field|
+                requires { All IsAlignedPart parts.now }
+            { rule.key_at(parts, field.index()) },
+        )
     }
 
     /// Puts one more field last.

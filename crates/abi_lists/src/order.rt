@@ -1,9 +1,10 @@
 //! The order that fields have in memory.
 
-ghost use Rattle.std.specs.Prelude.{◌≡◌, ℕ, ◌+◌, ◌≤◌, All, IfOk, fold, map, max, length};
+ghost use Rattle.std.specs.Prelude.{◌≡◌, ℕ, ◌+◌, ◌≤◌, All, IfOk, IsPermutation, OnOk, fold, map, max, length};
+ghost use Rattle.std.specs.List.Sorted.{IsSortedByKey, IsStableByKey};
 ghost use Rattle.abi_lists.specs.Part.{IsAlignedPart, max_align};
 ghost use Rattle.abi_lists.specs.Placement.{IsNonEmptyIfUnsized};
-ghost use Rattle.abi_lists.specs.Order.{size_as_align, group_of, niche_from_front, niche_to_end, sort_key, key_at, IsSortedOrder, movable, is_prefixed, rule_of, IsSortedBefore, IsNamedOrder};
+ghost use Rattle.abi_lists.specs.Order.{size_as_align, group_of, niche_from_front, niche_to_end, sort_key, compare_keys, key_at, IsSortedOrder, movable, is_prefixed, rule_of, IsSortedBefore, IsNamedOrder};
 
 use crate::list_repr::ListRepr;
 use crate::memory_order::MemoryOrder;
@@ -119,15 +120,35 @@ impl SortRule {
             },
         }
     }
+
+    /// The key of the part at an index; past the last part, one of zeros.
+    pub(crate) fn key_at<FieldIdx: Idx, VariantIdx: Idx, F: LayoutHandle<FieldIdx, VariantIdx>>(
+        &self,
+        parts: &Parts<'_, FieldIdx, VariantIdx, F>,
+        index: usize,
+    ) -> SortKey
+        requires { All IsAlignedPart parts.now }
+        ensures { result ≡ key_at (map (sort_key self.now) parts.now) index }
+    {
+        if index < parts.len() {
+            self.key_of(&parts.at(index))
+        } else {
+            SortKey {
+                group: 0,
+                niche: 0,
+                distance: 0,
+            }
+        }
+    }
 }
 
 fn sort_keys<FieldIdx: Idx, VariantIdx: Idx, F: LayoutHandle<FieldIdx, VariantIdx>>(
     alloc: Global,
     parts: &Parts<'_, FieldIdx, VariantIdx, F>,
-    rule: SortRule,
+    rule: &SortRule,
 ) -> Result<Vec<SortKey>, AllocError>
     requires { All IsAlignedPart parts.now }
-    ensures { IfOk result (λ keys. keys.items ≡ map (sort_key rule) parts.now) }
+    ensures { IfOk result (λ keys. keys.items ≡ map (sort_key rule.now) parts.now) }
 {
     let mut keys = Vec::with_capacity(alloc, parts.len())?;
     for index in 0..parts.len() {
@@ -136,7 +157,8 @@ fn sort_keys<FieldIdx: Idx, VariantIdx: Idx, F: LayoutHandle<FieldIdx, VariantId
     Ok(keys)
 }
 
-pub(crate) fn key_at(keys: &[SortKey], index: usize) -> SortKey
+/// The key at an index; past the last one, one of zeros.
+pub(crate) fn key_in(keys: &[SortKey], index: usize) -> SortKey
     ensures { result ≡ key_at keys.now index }
 {
     keys.get(index).copied().unwrap_or(SortKey {
@@ -146,17 +168,44 @@ pub(crate) fn key_at(keys: &[SortKey], index: usize) -> SortKey
     })
 }
 
-/// The places of these keys, least key first, with room for `room` fields.
-fn sorted_order<FieldIdx: Idx>(
+/// How many sort keys are kept in a list at most: each takes 48 bytes. Those of a longer list are found anew where they
+/// are compared, which takes longer, and no memory.
+const KEPT_KEYS: usize = 16_384;
+
+/// Sorts the fields of these parts by their keys, and leaves those of equal keys as they follow one another.
+fn sort_fields<FieldIdx: Idx, VariantIdx: Idx, F: LayoutHandle<FieldIdx, VariantIdx>>(
+    alloc: Global,
+    order: &mut MemoryOrder<FieldIdx>,
+    parts: &Parts<'_, FieldIdx, VariantIdx, F>,
+    rule: &SortRule,
+) -> Result<(), AllocError>
+    requires { All IsAlignedPart parts.now }
+    ensures permutes { OnOk result (IsPermutation order.old order.new) }
+    ensures sorted { OnOk result
+        (IsSortedByKey (key_at (map (sort_key rule.now) parts.now)) compare_keys order.new) }
+    ensures stable { OnOk result
+        (IsStableByKey (key_at (map (sort_key rule.now) parts.now)) compare_keys order.old order.new) }
+{
+    if parts.len() > KEPT_KEYS {
+        return order.sort(parts, rule);
+    }
+    let keys = sort_keys(alloc, parts, rule)?;
+    order.sort_by_keys(&keys)
+}
+
+/// The order of these parts, sorted by their keys, with room for `room` fields.
+fn sorted_order<FieldIdx: Idx, VariantIdx: Idx, F: LayoutHandle<FieldIdx, VariantIdx>>(
     alloc: Global,
     room: usize,
-    keys: &[SortKey],
+    parts: &Parts<'_, FieldIdx, VariantIdx, F>,
+    rule: &SortRule,
 ) -> Result<MemoryOrder<FieldIdx>, AllocError>
-    requires { length keys.now ≤ FieldIdx.MAX_INDEX + 1 }
-    ensures { IfOk result (λ order. IsSortedOrder keys.now order) }
+    requires lawful { All IsAlignedPart parts.now }
+    requires count { length parts.now ≤ FieldIdx.MAX_INDEX + 1 }
+    ensures { IfOk result (λ order. IsSortedOrder (map (sort_key rule.now) parts.now) order) }
 {
-    let mut order = MemoryOrder::source(alloc, room, keys.len())?;
-    order.sort(keys)?;
+    let mut order = MemoryOrder::source(alloc, room, parts.len())?;
+    sort_fields(alloc, &mut order, parts, rule)?;
     Ok(order)
 }
 
@@ -240,8 +289,8 @@ fn sorted_before<FieldIdx: Idx, VariantIdx: Idx, F: LayoutHandle<FieldIdx, Varia
     if movable.len() < 2 {
         return MemoryOrder::source(alloc, parts.len(), parts.len());
     }
-    let keys = sort_keys(alloc, &movable, SortRule::new(repr, bias, &movable))?;
-    let mut order = sorted_order(alloc, parts.len(), &keys)?;
+    let rule = SortRule::new(repr, bias, &movable);
+    let mut order = sorted_order(alloc, parts.len(), &movable, &rule)?;
     if movable.len() < parts.len() {
         order.push(movable.len())?;
     }

@@ -28,7 +28,7 @@ pub use abi_base::{
 pub use abi_calc::LayoutCalculator;
 pub use abi_index::{
     BitMatrix, BitRowIter, BitSetIter, DenseBitSet, FIRST_VARIANT, FieldIdx, Hash64, Idx,
-    IndexSlice, IndexVec, Indices, RangeSet, TryClone, VariantIdx,
+    IndexList, IndexSlice, IndexVec, Indices, RangeSet, TryClone, VariantIdx,
 };
 pub use abi_laid::{Laid, TreeTy, TypeTree, Value, ValueError, read_value, write_value};
 pub use abi_scalar::{

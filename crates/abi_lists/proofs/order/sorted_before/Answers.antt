@@ -1,5 +1,5 @@
 -- The sorted front, and the tail where one is left.
-use Rattle.std.proofs.Common.{arith, rules, length, ◌≡◌, ◌<◌, ◌≤◌, ap, append-nil, subst, sym}
+use Rattle.std.proofs.Common.{arith, rules, length, ◌≡◌, ◌<◌, ◌≤◌, ap, append-nil, map, subst, sym}
 use Rattle.std.proofs.lemmas.List.{length-map}
 use Rattle.abi_lists.specs.Order.{IsSortedBefore, movable, sort_key}
 use Rattle.abi_lists.specs.Part.{IsAlignedPart}
@@ -12,7 +12,7 @@ use Rattle.abi_lists.proofs.order.sorted_before.Goals.{then-len+in_ok-push, else
 pub returns : goal.returns
 returns g c = (
   c.in_ok-order.order,
-  rw (← c.movable-movable.ensures, ← c.new.ensures, ← c.in_ok-keys.ensures, ← c.deref.ensures.value) c.in_ok-order.ensures,
+  rw (← c.movable-movable.ensures, ← c.new-rule.ensures) c.in_ok-order.ensures,
   elim c.if-len.branch [
     | then-len+in_ok-push w ↦
         let shorter : length (movable c.args.repr.now.kind c.args.parts.now) < length c.args.parts.now = omega (arith, w.if-len.true, c.len-3.ensures, c.len-4.ensures, ap length c.movable-movable.ensures) in
@@ -23,11 +23,11 @@ returns g c = (
   ],
 )
 
-pub new-requires : goal.new-requires
-new-requires g c = rw c.movable-movable.ensures (movable_all IsAlignedPart c.args.repr.now.kind c.args.parts.now c.requires.lawful)
+pub new-rule-requires : goal.new-rule-requires
+new-rule-requires g c = rw c.movable-movable.ensures (movable_all IsAlignedPart c.args.repr.now.kind c.args.parts.now c.requires.lawful)
 
-pub sort_keys-requires : goal.sort_keys-requires
-sort_keys-requires g c = rw c.movable-movable.ensures (movable_all IsAlignedPart c.args.repr.now.kind c.args.parts.now c.requires.lawful)
+pub sorted_order-requires-clause-lawful : goal.sorted_order-requires-clause-lawful
+sorted_order-requires-clause-lawful g c = rw c.movable-movable.ensures (movable_all IsAlignedPart c.args.repr.now.kind c.args.parts.now c.requires.lawful)
 
 pub returns-then-len-lt2 : goal.returns-then-len-lt2
 returns-then-len-lt2 g c =
@@ -37,5 +37,6 @@ returns-then-len-lt2 g c =
 
 pub push-requires-clause-few : goal.push-requires-clause-few
 push-requires-clause-few g c =
-    let own : length c.in_ok-order.order ≡ length c.in_ok-keys.keys.items = order_length (length c.in_ok-keys.keys.items) c.in_ok-order.order (rw (← c.deref.ensures.value) c.in_ok-order.ensures.permutes) in
-    omega (arith, own, ap length c.in_ok-keys.ensures, length-map c.movable-movable.result (sort_key c.new.result), c.if-len.true, c.len-3.ensures, c.len-4.ensures, c.requires.count)
+    let keys = map (sort_key c.new-rule.result) c.movable-movable.result in
+    let own : length c.in_ok-order.order ≡ length keys = order_length (length keys) c.in_ok-order.order c.in_ok-order.ensures.permutes in
+    omega (arith, own, length-map c.movable-movable.result (sort_key c.new-rule.result), c.if-len.true, c.len-3.ensures, c.len-4.ensures, c.requires.count)
