@@ -1,9 +1,12 @@
 -- The least and the greatest of some values, and when the range from one to the other is the least.
-use Rattle.std.proofs.Common.{◌≡◌, ℕ, ◌+◌, ◌-◌, ◌^◌, ◌<◌, ◌≤◌, ◌⊎◌, ◌++◌, inl, inr, arith, ap, refl, subst, List, [], ◌∷◌, length, get_or, min, max}
+use Rattle.std.proofs.Common.{◌≡◌, ℕ, ◌+◌, ◌-◌, ◌*◌, ◌%◌, ◌^◌, ◌<◌, ◌≤◌, ◌⊎◌, ◌++◌, inl, inr, arith, ap, ap₂, map, refl, subst, List, [], ◌∷◌, length, get_or, min, max}
+use Rattle.std.proofs.Math.Nat.{mod-eq_of_lt}
+use Rattle.std.proofs.Math.Pow.{pow_mono}
+use Rattle.std.proofs.lemmas.List.{map-append}
 use Rattle.std.specs.List.{All, Contains}
 use Rattle.std.specs.List.Sorted.{IsNonDecreasing}
 use Rattle.std.proofs.lemmas.Bool.{cases_lt}
-use Rattle.std.proofs.lemmas.List.Elements.{All-append, All-cons, All-contains, All-nil, Contains-append_left, Contains-append_right, Contains-get_or}
+use Rattle.std.proofs.lemmas.List.Elements.{All-append, All-cons, All-contains, All-head, All-nil, All-tail, Contains-append_left, Contains-append_right, Contains-get_or}
 use Rattle.abi_scalar.specs.declared.wrapping_range.WrappingRange.{WrappingRange}
 use Rattle.abi_scalar.specs.Range.{numbers_of, IsIn, steps_between}
 use Rattle.abi_scalar.specs.LeastRange.{HaveEnds, IsLeastRange}
@@ -12,19 +15,19 @@ use Rattle.abi_scalar.proofs.LeastLemmas.{best_first, best_kept, least_from_best
 
 -- Two of the values so far, between which all of them lie; where there are none yet, every number that may come lies beyond both.
 pub record AreEnds (xs : List ℕ) (least greatest : ℕ) : Type 0 where
-  pub low : ((xs ≡ []) × (least ≡ 2 ^ 128 - 1)) ⊎ Contains xs least
+  pub low : ((xs ≡ []) × (least ≡ 2 ^ 64 - 1)) ⊎ Contains xs least
   pub high : ((xs ≡ []) × (greatest ≡ 0)) ⊎ Contains xs greatest
   pub between : All (λ v. (least ≤ v) × (v ≤ greatest)) xs
 
-pub ends_of_none : AreEnds [] (2 ^ 128 - 1) 0
+pub ends_of_none : AreEnds [] (2 ^ 64 - 1) 0
 ends_of_none = record {
   low = inl (refl, refl);
   high = inl (refl, refl);
-  between = All-nil (λ v. (2 ^ 128 - 1 ≤ v) × (v ≤ 0));
+  between = All-nil (λ v. (2 ^ 64 - 1 ≤ v) × (v ≤ 0));
 }
 
 -- one more value
-pub ends_next : (xs : List ℕ) (least greatest v : ℕ) → v < 2 ^ 128 → AreEnds xs least greatest
+pub ends_next : (xs : List ℕ) (least greatest v : ℕ) → v < 2 ^ 64 → AreEnds xs least greatest
     → AreEnds (xs ++ v ∷ []) (min least v) (max greatest v)
 ends_next xs least greatest v narrow h =
     let all = xs ++ v ∷ [] in
@@ -113,3 +116,17 @@ least_of_ends width xs range below first last order between back =
           h.least other w (All-cons Q range.start (range.end ∷ []) (All-contains Q xs range.start holds first)
           (All-cons Q range.end [] (All-contains Q xs range.end holds last) (All-nil Q)));
     }
+
+-- values of at most 64 bits are their lower 64 bits
+pub low_all : (xs : List ℕ) → All (λ v. v < 2 ^ 64) xs → map (λ v. v % 2 ^ 64) xs ≡ xs
+low_all [] within = refl
+low_all (x ∷ xs) within =
+    ap₂ (λ y ys. y ∷ ys) (mod-eq_of_lt (All-head (λ v. v < 2 ^ 64) x xs within)) (low_all xs (All-tail (λ v. v < 2 ^ 64) x xs within))
+
+-- one more of them
+pub low_more : (xs : List ℕ) (v : ℕ) → map (λ w. w % 2 ^ 64) (xs ++ v ∷ []) ≡ map (λ w. w % 2 ^ 64) xs ++ (v % 2 ^ 64) ∷ []
+low_more xs v = map-append (λ w. w % 2 ^ 64) xs (v ∷ [])
+
+-- numbers of at most eight bytes have 64 bits
+pub narrow_all : (size : ℕ) (xs : List ℕ) → size ≤ 8 → All (λ v. v < numbers_of size) xs → All (λ v. v < 2 ^ 64) xs
+narrow_all size xs few within k d l = omega (arith, within k d l, pow_mono {i = 8 * size} {j = 64} (omega (arith, few)))

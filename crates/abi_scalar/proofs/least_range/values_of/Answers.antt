@@ -1,13 +1,18 @@
-use Rattle.std.proofs.Common.{ℕ, List, [], ◌∷◌, ◌++◌, ap, refl, true}
+use Rattle.std.proofs.Common.{ℕ, ◌≡◌, ◌%◌, ◌^◌, List, [], ◌∷◌, ◌++◌, ◌∙◌, ap, map, max, min, refl, rules, sym, true}
 use Rattle.std.proofs.iter.runs.Made.{run, to_end}
-use Rattle.abi_scalar.proofs.EndsLemmas.{ends_next}
+use Rattle.abi_scalar.proofs.EndsLemmas.{ends_next, low_more}
 use Rattle.abi_scalar.proofs.least_range.values_of.Goals as goal
 
 pub loop-value-preserved : goal.loop-value-preserved
 loop-value-preserved g c =
-    let grown = ends_next c.loop-value.list.items c.loop-value.ends.start c.loop-value.ends.end c.in-Some.value c.ends_with-ends.ensures.narrow c.loop-value.invariant.1 in
-    rw (c.in_ok-push.ensures.items, c.ends_with-ends.ensures.start, c.ends_with-ends.ensures.end)
-    (ap (λ (xs : List ℕ). xs ++ c.in-Some.value ∷ []) c.loop-value.invariant.0, grown)
+    let least : c.min-least.result ≡ min c.loop-value.least c.low-value.result = search rules in
+    let greatest : c.max-greatest.result ≡ max c.loop-value.greatest c.low-value.result = search rules in
+    let grown = ends_next c.loop-value.list.items c.loop-value.least c.loop-value.greatest c.low-value.result c.low-value.ensures.narrow c.loop-value.invariant.1 in
+    rw (c.in_ok-push.ensures.items, least, greatest) (
+      ap (λ (ys : List ℕ). ys ++ c.low-value.result ∷ []) c.loop-value.invariant.0
+          ∙ ap (λ (v : ℕ). map (λ w. w % 2 ^ 64) c.loop-value.yielded ++ v ∷ []) c.low-value.ensures.rest ∙ sym (low_more c.loop-value.yielded c.in-Some.value),
+      grown,
+    )
 
 pub returns-clause-items : goal.returns-clause-items
 returns-clause-items g c =

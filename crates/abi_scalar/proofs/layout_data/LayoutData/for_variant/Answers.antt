@@ -1,4 +1,4 @@
-use Rattle.std.proofs.Common.{◌≡◌, ◌<◌, ◌∙◌, Some, sym, ap, subst, length, slice_get, slice_index_or, IfSome, rules}
+use Rattle.std.proofs.Common.{◌≡◌, ◌<◌, ◌∙◌, Some, sym, ap, subst, length, slice_index_or, IfSome, rules}
 use Rattle.std.proofs.lemmas.Option.{slice_get-get_or}
 use Rattle.abi_scalar.specs.Variant.{IsOrderedVariant, variants_of}
 use Rattle.abi_scalar.proofs.layout_data.LayoutData.for_variant.Goals as goal

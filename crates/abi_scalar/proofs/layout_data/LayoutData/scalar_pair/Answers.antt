@@ -1,4 +1,4 @@
-use Rattle.std.proofs.Common.{◌≡◌, ◌+◌, ◌∙◌, ap, arith, rules}
+use Rattle.std.proofs.Common.{◌≡◌, ◌+◌, rules}
 use Rattle.abi_scalar.specs.Scalar.{scalar_size}
 use Rattle.abi_scalar.specs.Pair.{second_offset}
 use Rattle.abi_scalar.proofs.PairLemmas.{pair_lawful_at}

@@ -1,28 +1,16 @@
-use Rattle.std.proofs.Common.{ℕ, ◌<◌, List, length, subst, sym, All, arith, rules}
+use Rattle.std.proofs.Common.{ℕ, List, subst, sym, All, ◌<◌, rules}
 use Rattle.std.specs.List.Sorted.{IsNonDecreasing}
 use Rattle.std.proofs.lemmas.List.Sorted.{All-permutation, IsNonDecreasingBy-from_sort}
 use Rattle.abi_scalar.specs.Range.{numbers_of}
 use Rattle.abi_scalar.specs.LeastRange.{IsLeastRange}
-use Rattle.abi_scalar.proofs.EndsLemmas.{ends_ascend, least_of_ends}
 use Rattle.abi_scalar.proofs.LeastLemmas.{least_in_order}
-use Rattle.abi_scalar.proofs.least_range.least_range.Goals as goal
-
-pub returns-then-ends-steps : goal.returns-then-ends-steps
-returns-then-ends-steps c =
-    let xs = c.args.values.list.items in
-    let ends = c.args.values.ends in
-    let h = c.requires.ends in
-    let some : 0 < length xs = search rules in (
-      some,
-      least_of_ends c.args.size xs ends c.requires.within (h.low some) (h.high some) (ends_ascend xs ends.start ends.end some h) h.between
-          (omega (arith, c.if-ends-steps.true, c.steps.ensures)),
-    )
+use Rattle.abi_scalar.proofs.least_range.least_of_wide.Goals as goal
 
 pub least_of_ascending-requires-clause-within : goal.least_of_ascending-requires-clause-within
 least_of_ascending-requires-clause-within c =
     let P : List ℕ → Type 0 = λ xs. All (λ v. v < numbers_of c.args.size) xs in
     subst P (sym c.as_slice.ensures.value)
-    (All-permutation (λ v. v < numbers_of c.args.size) c.args.values.list.items c.sort_unstable.new.self.items c.sort_unstable.ensures.permutation c.requires.within)
+    (All-permutation (λ v. v < numbers_of c.args.size) c.args.values.items c.sort_unstable.new.self.items c.sort_unstable.ensures.permutation c.requires.within)
 
 pub least_of_ascending-requires-clause-ascending : goal.least_of_ascending-requires-clause-ascending
 least_of_ascending-requires-clause-ascending c =
@@ -33,7 +21,7 @@ least_of_ascending-requires-clause-ascending c =
 pub returns : goal.returns
 returns c =
     let P : List ℕ → Type 0 = λ xs. IsLeastRange c.args.size xs c.least_of_ascending.result in
-    let least : IsLeastRange c.args.size c.args.values.list.items c.least_of_ascending.result =
-    least_in_order c.args.size c.args.values.list.items c.sort_unstable.new.self.items c.least_of_ascending.result
+    let least : IsLeastRange c.args.size c.args.values.items c.least_of_ascending.result =
+    least_in_order c.args.size c.args.values.items c.sort_unstable.new.self.items c.least_of_ascending.result
     c.sort_unstable.ensures.permutation (subst P c.as_slice.ensures.value c.least_of_ascending.ensures) in
     (search rules, least)
