@@ -106,6 +106,7 @@ pub struct Placement {
 }
 
 /// Places the fields in this order.
+#[inline(always)]
 pub(crate) fn place<FieldIdx: Idx, VariantIdx: Idx, F: LayoutHandle<FieldIdx, VariantIdx>>(
     alloc: Global,
     dl: &TargetDataLayout,
