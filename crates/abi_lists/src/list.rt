@@ -158,7 +158,7 @@ pub(crate) fn list_of_placed<FieldIdx: Idx, VariantIdx: Idx, F: LayoutHandle<Fie
 }
 
 /// These fields as one list.
-#[inline(never)]
+#[inline(always)]
 fn list_of_slice<FieldIdx: Idx, VariantIdx: Idx, F: LayoutHandle<FieldIdx, VariantIdx> + Copy>(
     alloc: Global,
     dl: &TargetDataLayout,

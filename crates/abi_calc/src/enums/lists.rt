@@ -51,6 +51,7 @@ pub(crate) fn behind_tag<FieldIdx: Idx, VariantIdx: Idx, F: LayoutHandle<FieldId
 
 impl<Cx: HasDataLayout> LayoutCalculator<Cx> {
     /// The layout of one variant's fields as a list of this kind, which is sized.
+    #[inline(never)]
     pub(crate) fn list_of_variant<
         FieldIdx: Idx,
         VariantIdx: Idx,
