@@ -13,6 +13,7 @@ mod ranges;
 mod texts;
 mod timing;
 mod trees;
+mod walks;
 mod wanted;
 
 use crate::wanted::are_known;
@@ -30,5 +31,6 @@ fn main(rt: HostRuntime) -> io::Result<()> {
     coroutines::time_all(&rt, &words, &dl)?;
     texts::time_all(&rt, &words)?;
     ranges::time_all(&rt, &words)?;
-    trees::time_all(&rt, &words, &dl)
+    trees::time_all(&rt, &words, &dl)?;
+    walks::time_all(&rt, &words, &dl)
 }

@@ -7,7 +7,6 @@ use crate::numbers::Numbers;
 use crate::timing::{Timed, time};
 use crate::wanted::asks_for;
 use abi_base::TargetDataLayout;
-use abi_laid::Laid;
 use abi_scalar::ReprOptions;
 use rustc_abi::{TypeTree, lay_out};
 use std::alloc::{AllocError, Global};
@@ -15,7 +14,7 @@ use std::io;
 use std::rt::Clock;
 
 /// How many nodes the wide tree has.
-const NODES: u64 = 100_000;
+pub(crate) const NODES: u64 = 100_000;
 
 /// How many structs it has side by side: of nine nodes each, below the one that holds them.
 const STRUCTS: u64 = (NODES - 1) / 9;
@@ -29,7 +28,7 @@ fn leaf(numbers: &mut Numbers) -> TypeTree {
 }
 
 /// A struct of these fields.
-fn structure(fields: Vec<TypeTree>) -> TypeTree {
+pub(crate) fn structure(fields: Vec<TypeTree>) -> TypeTree {
     TypeTree::Struct {
         repr: ReprOptions::default(),
         always_sized: true,
@@ -47,7 +46,7 @@ fn of_eight(alloc: Global, numbers: &mut Numbers) -> Result<TypeTree, AllocError
 }
 
 /// A struct of structs of eight scalars.
-fn wide(alloc: Global) -> Result<TypeTree, AllocError> {
+pub(crate) fn wide(alloc: Global) -> Result<TypeTree, AllocError> {
     let mut numbers = Numbers::from(11);
     let mut fields = Vec::new(alloc);
     for _step in 0..STRUCTS {
@@ -87,50 +86,6 @@ impl Timed for Type<'_> {
     }
 }
 
-/// A type that was laid out, if it could be.
-#[derive(Drop)]
-struct Padding {
-    laid: Option<Laid>,
-}
-
-impl Timed for Padding {
-    ghost is_ready = { λ _. ⊤ };
-
-    fn made(&self, alloc: Global) -> u64 {
-        match &self.laid {
-            Some(laid) => match laid.padding(alloc) {
-                Ok((_ranges, visits)) => visits as u64,
-                Err(_) => 0,
-            },
-            None => 0,
-        }
-    }
-}
-
-/// The same, whose padding the walk over handles lists.
-#[derive(Drop)]
-struct WalkedPadding {
-    laid: Option<Laid>,
-}
-
-impl Timed for WalkedPadding {
-    ghost is_ready = { λ _. ⊤ };
-
-    fn made(&self, alloc: Global) -> u64 {
-        let Some(laid) = &self.laid else {
-            return 0;
-        };
-        let root = laid.root();
-        if root.data().is_unsized() {
-            return 0;
-        }
-        match root.variant_independent_padding_ranges(alloc, &()) {
-            Ok(_ranges) => 1,
-            Err(_) => 0,
-        }
-    }
-}
-
 /// Times whole trees.
 pub(crate) fn time_all(
     rt: &(impl Clock + Print + AllocGlobal),
@@ -145,14 +100,6 @@ pub(crate) fn time_all(
     if asks_for(words, "lay_out_deep", DEPTH) {
         let tree = deep(alloc)?;
         time(rt, "lay_out_deep", DEPTH, &Type { dl, tree })?;
-    }
-    if asks_for(words, "padding_wide", NODES) {
-        let laid = lay_out(alloc, dl, &wide(alloc)?).ok();
-        time(rt, "padding_wide", NODES, &Padding { laid })?;
-    }
-    if asks_for(words, "padding_walk_wide", NODES) {
-        let laid = lay_out(alloc, dl, &wide(alloc)?).ok();
-        time(rt, "padding_walk_wide", NODES, &WalkedPadding { laid })?;
     }
     Ok(())
 }

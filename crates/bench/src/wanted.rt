@@ -1,7 +1,7 @@
 //! Which calls are to be timed.
 
 /// The calls that can be timed.
-const CALLS: [&str; 17] = [
+const CALLS: [&str; 19] = [
     "univariant_free",
     "univariant_c",
     "union",
@@ -19,6 +19,8 @@ const CALLS: [&str; 17] = [
     "lay_out_deep",
     "padding_wide",
     "padding_walk_wide",
+    "variant_dependent_padding_ranges",
+    "homogeneous_aggregate",
 ];
 
 /// Whether each word is a call that can be timed, `all`, or a size.

@@ -36,6 +36,7 @@ pub(crate) fn put_places<W: Walk>(
 
 /// Puts the runs of what a type's fields cover behind the others, moved on by an offset; a type without fields is
 /// covered whole.
+#[inline(always)]
 #[cycle(places)]
 pub(crate) fn put_fields<W: Walk>(
     alloc: Global,
@@ -64,6 +65,7 @@ pub(crate) fn put_fields<W: Walk>(
 }
 
 /// Puts the runs of what the first fields cover behind the others, so many of them, moved on by an offset.
+#[inline(always)]
 #[cycle(places)]
 fn put_listed<W: Walk>(
     alloc: Global,
@@ -137,6 +139,7 @@ pub(crate) fn places_of<W: Walk>(alloc: Global, this: W) -> Result<RangeSet, All
 }
 
 /// Puts the runs of what the variants cover that a tag tells apart behind the others, moved on by an offset.
+#[inline(always)]
 #[cycle(places)]
 #[tactic(auto, using(crate::proofs::PlacesLemmas::variant_fits, crate::proofs::PlacesLemmas::variant_falls))]
 fn put_variants<W: Walk>(

@@ -99,6 +99,7 @@ fn run_all<W: Walk>(this: W) -> Result<(HomogeneousAggregate, u64), Heterogeneou
 }
 
 /// The register of a type's fields, which begin at the start, and where they end.
+#[inline(always)]
 #[cycle(uniform)]
 fn run_fields<W: Walk>(this: W, start: u64) -> Result<(HomogeneousAggregate, u64), Heterogeneous>
     requires { W.is_valid this }
@@ -123,6 +124,7 @@ fn run_fields<W: Walk>(this: W, start: u64) -> Result<(HomogeneousAggregate, u64
 
 /// The register of fields that are listed one by one, the first at the start, each where the last one ended, and where
 /// they end. What has no bytes and is aligned to one byte is passed over.
+#[inline(always)]
 #[cycle(uniform)]
 fn run_listed<W: Walk>(this: W, start: u64) -> Result<(HomogeneousAggregate, u64), Heterogeneous>
     requires valid { W.is_valid this }
