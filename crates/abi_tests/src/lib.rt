@@ -1,5 +1,6 @@
 //! What no line of text can ask of the libraries: index types and handles of a caller's own, a caller's own types with
-//! their walks, and what only a text, a hash or a refusal of a tree that no line writes shows. All of it is tests.
+//! their walks, readers and writers that fail, and what only a text, a hash or a refusal of a tree that no line writes
+//! shows. All of it is tests.
 #![tactic(auto)]
 
 #[cfg(test)]
@@ -16,6 +17,8 @@ mod kinds;
 mod layouts;
 #[cfg(test)]
 mod reprs;
+#[cfg(test)]
+mod running;
 #[cfg(test)]
 mod shapes;
 #[cfg(test)]

@@ -4,8 +4,6 @@
 
 mod layout_text;
 mod run;
-#[cfg(test)]
-mod tests;
 
 pub use run::run;
 use std::io;

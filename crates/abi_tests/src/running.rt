@@ -1,9 +1,32 @@
-//! Runs of `run` with readers and writers that fail, at each of their steps: what a text gives is told by the case
-//! files.
+//! Runs of programs over text with readers and writers that fail, at each of their steps: what a text gives is told by
+//! the case files.
 
-use crate::run;
+use abi_base::TargetDataLayout;
+use abi_laid::Laid;
+use abi_text::{Telling, write_type};
+use std::alloc::{AllocError, Global};
 use std::io;
 use std::io::{ErrorKind, Read, Write};
+
+/// A type is told as `./layout` tells it.
+struct Whole;
+
+impl Telling for Whole {
+    ghost use Rattle.std.specs.Prelude.{⊤};
+
+    ghost tells = { λ _ _ _. ⊤ };
+
+    fn told(alloc: Global, _dl: &TargetDataLayout, laid: &Laid) -> Result<String, AllocError> {
+        let mut text = String::new(alloc);
+        write_type(alloc, &mut text, laid)?;
+        Ok(text)
+    }
+}
+
+/// The program over this reader and this writer, and its status.
+fn run<R: Read, W: Write>(alloc: Global, input: &mut R, output: &mut W) -> u8 {
+    abi_text::run::<Whole, R, W>(alloc, input, output)
+}
 
 /// A reader that fails once its bytes are read.
 #[derive(Drop)]
