@@ -1,17 +1,16 @@
 //! Walks over types that were laid out: their padding, what a variant leaves unused, and the register they are passed in.
 
-ghost use Rattle.std.specs.Prelude.{⊤, IsTrue};
+ghost use Rattle.std.specs.Prelude.{⊤};
 ghost use Rattle.abi_laid.specs.Handles.{IsHandle};
-ghost use Rattle.abi_types.specs.Ty.Runs.{IsVariantIndex};
 
 use crate::leaves::scalar;
 use crate::timing::{Timed, time};
 use crate::trees::{NODES, structure, wide};
 use crate::wanted::asks_for;
 use abi_base::TargetDataLayout;
-use abi_index::{FieldIdx, VariantIdx};
+use abi_index::VariantIdx;
 use abi_laid::Laid;
-use abi_scalar::{LayoutData, ReprOptions, Variants};
+use abi_scalar::{ReprOptions, Variants};
 use abi_types::{HomogeneousAggregate, TyAndLayout};
 use rustc_abi::{TreeTy, TypeTree, lay_out};
 use std::alloc::{AllocError, Global};
@@ -63,30 +62,17 @@ fn padding_of(alloc: Global, root: Handle<'_>) -> u64
     }
 }
 
-/// Whether the index is that of a variant, where a tag tells several apart.
-fn is_variant(layout: &LayoutData<FieldIdx, VariantIdx>, index: VariantIdx) -> bool
-    ensures { IsTrue result → IsVariantIndex layout.now.variants index }
-{
-    match &layout.variants {
-        Variants::Multiple {
-            tag: _,
-            tag_encoding: _,
-            tag_field: _,
-            variants,
-        } => index.as_usize() < variants.len(),
-        _ => true,
-    }
-}
-
 /// How many runs the variant at index 1 leaves to others, 0 where it is none.
 fn unused_of(alloc: Global, root: Handle<'_>) -> u64
     requires { IsHandle root }
 {
-    let second = VariantIdx::from_u32(1);
-    if !is_variant(root.data(), second) {
+    let Variants::Multiple { variants, .. } = &root.data().variants else {
+        return 0;
+    };
+    if variants.len() < 2 {
         return 0;
     }
-    match root.variant_dependent_padding_ranges(alloc, &(), second) {
+    match root.variant_dependent_padding_ranges(alloc, &(), VariantIdx::from_u32(1)) {
         Ok(runs) => runs.as_slice().len() as u64,
         Err(_) => 0,
     }
@@ -102,12 +88,33 @@ fn register_of(root: Handle<'_>) -> u64
     }
 }
 
-/// A walk over a type.
+/// The runs of padding that the nodes of a type list, 0 where memory is refused.
+fn listed_padding(alloc: Global, laid: &Laid) -> u64 {
+    match laid.padding(alloc) {
+        Ok((runs, _visits)) => runs.as_slice().len() as u64,
+        Err(_) => 0,
+    }
+}
+
+/// A walk over a type: its padding, by its nodes or by its handle, what its second variant leaves unused, or the
+/// register that it is passed in.
 #[derive(Clone, Copy)]
 enum Walk {
+    Listed,
     Padding,
     Unused,
     Register,
+}
+
+impl Walk {
+    /// The type that it goes over, of so many variants or fields.
+    fn tree(self, alloc: Global, size: u64) -> Result<TypeTree, AllocError> {
+        match self {
+            Walk::Unused => in_turn(alloc, size),
+            Walk::Register => uniform(alloc, size),
+            _ => wide(alloc),
+        }
+    }
 }
 
 /// A type that was laid out, if it could be, and a walk over it.
@@ -125,6 +132,7 @@ impl Timed for Walked {
             return 0;
         };
         match self.walk {
+            Walk::Listed => listed_padding(alloc, laid),
             Walk::Padding => padding_of(alloc, laid.root()),
             Walk::Unused => unused_of(alloc, laid.root()),
             Walk::Register => register_of(laid.root()),
@@ -132,36 +140,19 @@ impl Timed for Walked {
     }
 }
 
-/// A type that was laid out, if it could be, whose padding its nodes list.
-#[derive(Drop)]
-struct Padding {
-    laid: Option<Laid>,
-}
-
-impl Timed for Padding {
-    ghost is_ready = { λ _. ⊤ };
-
-    fn made(&self, alloc: Global) -> u64 {
-        match &self.laid {
-            Some(laid) => match laid.padding(alloc) {
-                Ok((runs, _visits)) => runs.as_slice().len() as u64,
-                Err(_) => 0,
-            },
-            None => 0,
-        }
-    }
-}
-
-/// Times a walk over a type.
+/// Times a walk, where words ask for it.
 fn time_walk(
     rt: &(impl Clock + Print + AllocGlobal),
+    words: &str,
     dl: &TargetDataLayout,
+    walk: Walk,
     name: &str,
     size: u64,
-    tree: &TypeTree,
-    walk: Walk,
 ) -> io::Result<()> {
-    let laid = lay_out(rt.alloc(), dl, tree).ok();
+    if !asks_for(words, name, size) {
+        return Ok(());
+    }
+    let laid = lay_out(rt.alloc(), dl, &walk.tree(rt.alloc(), size)?).ok();
     time(rt, name, size, &Walked { laid, walk })
 }
 
@@ -171,44 +162,19 @@ pub(crate) fn time_all(
     words: &str,
     dl: &TargetDataLayout,
 ) -> io::Result<()> {
-    let alloc = rt.alloc();
-    if asks_for(words, "padding_wide", NODES) {
-        let laid = lay_out(alloc, dl, &wide(alloc)?).ok();
-        time(rt, "padding_wide", NODES, &Padding { laid })?;
-    }
-    if asks_for(words, "padding_walk_wide", NODES) {
+    time_walk(rt, words, dl, Walk::Listed, "padding_wide", NODES)?;
+    time_walk(rt, words, dl, Walk::Padding, "padding_walk_wide", NODES)?;
+    for count in [1000, 100_000] {
+        let unused = "variant_dependent_padding_ranges";
+        time_walk(rt, words, dl, Walk::Unused, unused, count)?;
         time_walk(
             rt,
+            words,
             dl,
-            "padding_walk_wide",
-            NODES,
-            &wide(alloc)?,
-            Walk::Padding,
+            Walk::Register,
+            "homogeneous_aggregate",
+            count,
         )?;
-    }
-    for count in [1000, 100_000] {
-        if asks_for(words, "variant_dependent_padding_ranges", count) {
-            let tree = in_turn(alloc, count)?;
-            time_walk(
-                rt,
-                dl,
-                "variant_dependent_padding_ranges",
-                count,
-                &tree,
-                Walk::Unused,
-            )?;
-        }
-        if asks_for(words, "homogeneous_aggregate", count) {
-            let tree = uniform(alloc, count)?;
-            time_walk(
-                rt,
-                dl,
-                "homogeneous_aggregate",
-                count,
-                &tree,
-                Walk::Register,
-            )?;
-        }
     }
     Ok(())
 }
