@@ -17,7 +17,6 @@ use abi_index::{BitMatrix, FieldIdx, IndexSlice, IndexVec, VariantIdx};
 use abi_scalar::LayoutData;
 use std::alloc::{AllocError, Global};
 use std::io;
-use std::rt::Clock;
 
 /// The locals that a state holds, by their places.
 type State = IndexVec<FieldIdx, u32>;
@@ -108,7 +107,7 @@ impl Timed for Coroutine<'_> {
 
 /// Times a coroutine of so many locals, and of 3 states for 8 locals.
 fn time_coroutine(
-    rt: &(impl Clock + Print + AllocGlobal),
+    rt: &HostRuntime,
     dl: &TargetDataLayout,
     leaves: &[Laid],
     count: u64,
@@ -138,11 +137,7 @@ fn time_coroutine(
 }
 
 /// Times coroutines.
-pub(crate) fn time_all(
-    rt: &(impl Clock + Print + AllocGlobal),
-    words: &str,
-    dl: &TargetDataLayout,
-) -> io::Result<()>
+pub(crate) fn time_all(rt: &HostRuntime, words: &str, dl: &TargetDataLayout) -> io::Result<()>
     requires { IsLawfulDataLayout dl.now }
 {
     let leaves = leaves(rt.alloc(), dl)?;

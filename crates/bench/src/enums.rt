@@ -18,7 +18,6 @@ use abi_index::{FieldIdx, IndexSlice, IndexVec, VariantIdx};
 use abi_scalar::ReprOptions;
 use std::alloc::{AllocError, Global};
 use std::io;
-use std::rt::Clock;
 
 /// An enum of these variants, with their discriminants, which are their places, and the integer of the tag.
 #[derive(Drop)]
@@ -125,7 +124,7 @@ fn in_turn<'a>(alloc: Global, leaves: &'a [Laid], count: u64) -> Result<Vec<Fiel
 
 /// Times an enum of these variants.
 fn time_enum(
-    rt: &(impl Clock + Print + AllocGlobal),
+    rt: &HostRuntime,
     dl: &TargetDataLayout,
     name: &str,
     variants: Vec<Fields>,
@@ -154,7 +153,7 @@ fn time_enum(
 
 /// Times enums of so many variants, those of ten fields with a tenth as many.
 fn time_enums(
-    rt: &(impl Clock + Print + AllocGlobal),
+    rt: &HostRuntime,
     words: &str,
     dl: &TargetDataLayout,
     leaves: &[Laid],
@@ -185,11 +184,7 @@ fn time_enums(
 }
 
 /// Times enums.
-pub(crate) fn time_all(
-    rt: &(impl Clock + Print + AllocGlobal),
-    words: &str,
-    dl: &TargetDataLayout,
-) -> io::Result<()>
+pub(crate) fn time_all(rt: &HostRuntime, words: &str, dl: &TargetDataLayout) -> io::Result<()>
     requires { IsLawfulDataLayout dl.now }
 {
     let leaves = leaves(rt.alloc(), dl)?;

@@ -16,7 +16,6 @@ use abi_index::{IndexSlice, VariantIdx};
 use abi_scalar::{ReprFlags, ReprOptions};
 use std::alloc::{AllocError, Global};
 use std::io;
-use std::rt::Clock;
 
 /// The size of these fields as a list, 0 where it is refused.
 fn list_size(alloc: Global, dl: &TargetDataLayout, fields: &Fields, repr: &ReprOptions) -> u64
@@ -113,7 +112,7 @@ fn as_in_c() -> ReprOptions
 
 /// Times lists of these fields.
 fn time_lists(
-    rt: &(impl Clock + Print + AllocGlobal),
+    rt: &HostRuntime,
     dl: &TargetDataLayout,
     name: &str,
     size: u64,
@@ -132,7 +131,7 @@ fn time_lists(
 
 /// Times a union of the fields of its one variant.
 fn time_union(
-    rt: &(impl Clock + Print + AllocGlobal),
+    rt: &HostRuntime,
     dl: &TargetDataLayout,
     size: u64,
     variant: Vec<Fields>,
@@ -148,7 +147,7 @@ fn time_union(
 
 /// Times a list of so many fields, in free order and in source order, and a union of them.
 fn time_fields(
-    rt: &(impl Clock + Print + AllocGlobal),
+    rt: &HostRuntime,
     words: &str,
     dl: &TargetDataLayout,
     leaves: &[Laid],
@@ -182,7 +181,7 @@ fn time_fields(
 
 /// Times a thousand small lists.
 fn time_small(
-    rt: &(impl Clock + Print + AllocGlobal),
+    rt: &HostRuntime,
     words: &str,
     dl: &TargetDataLayout,
     leaves: &[Laid],
@@ -201,11 +200,7 @@ fn time_small(
 }
 
 /// Times lists of fields, unions and small lists.
-pub(crate) fn time_all(
-    rt: &(impl Clock + Print + AllocGlobal),
-    words: &str,
-    dl: &TargetDataLayout,
-) -> io::Result<()>
+pub(crate) fn time_all(rt: &HostRuntime, words: &str, dl: &TargetDataLayout) -> io::Result<()>
     requires { IsLawfulDataLayout dl.now }
 {
     let alloc = rt.alloc();

@@ -9,7 +9,6 @@ use abi_base::Size;
 use abi_scalar::WrappingRange;
 use std::alloc::{AllocError, Global};
 use std::io;
-use std::rt::Clock;
 
 /// So many numbers, multiples of this one.
 fn values_of(alloc: Global, count: u64, by: u64) -> Result<Vec<u128>, AllocError>
@@ -44,13 +43,7 @@ impl Timed for Values {
 }
 
 /// Times the search for the least range of so many values, multiples of this number.
-fn time_values(
-    rt: &(impl Clock + Print + AllocGlobal),
-    words: &str,
-    name: &str,
-    count: u64,
-    by: u64,
-) -> io::Result<()>
+fn time_values(rt: &HostRuntime, words: &str, name: &str, count: u64, by: u64) -> io::Result<()>
     requires { by ≤ 2 }
 {
     if asks_for(words, name, count) {
@@ -61,7 +54,7 @@ fn time_values(
 }
 
 /// Times the search for least ranges: of values in half of all numbers, and of such that spread over all of them.
-pub(crate) fn time_all(rt: &(impl Clock + Print + AllocGlobal), words: &str) -> io::Result<()> {
+pub(crate) fn time_all(rt: &HostRuntime, words: &str) -> io::Result<()> {
     for count in [1000, 100_000] {
         time_values(rt, words, "smallest_range_containing", count, 1)?;
         time_values(rt, words, "smallest_range_spread", count, 2)?;

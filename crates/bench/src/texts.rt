@@ -8,7 +8,6 @@ use crate::wanted::asks_for;
 use abi_base::{AddressSpace, TargetDataLayout};
 use std::alloc::{AllocError, Global};
 use std::io;
-use std::rt::Clock;
 
 /// The specs that texts are made of.
 const SPECS: [&str; 5] = ["i64:64", "v128:128", "m:e", "n8:16", "f64:64"];
@@ -45,7 +44,7 @@ impl Timed for Text {
 }
 
 /// Times the reading of data layout strings.
-pub(crate) fn time_all(rt: &(impl Clock + Print + AllocGlobal), words: &str) -> io::Result<()> {
+pub(crate) fn time_all(rt: &HostRuntime, words: &str) -> io::Result<()> {
     for count in [10_000, 100_000, 1_000_000] {
         if asks_for(words, "parse", count) {
             let text = text_of(rt.alloc(), count)?;

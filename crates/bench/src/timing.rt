@@ -2,7 +2,6 @@
 
 use std::alloc::Global;
 use std::io;
-use std::rt::Clock;
 use std::time::{Duration, Instant};
 
 /// How often each call is made.
@@ -18,7 +17,7 @@ pub(crate) trait Timed {
 }
 
 /// How long a call takes, and what it answers.
-fn run_once<T: Timed>(rt: &(impl Clock + AllocGlobal), call: &T) -> io::Result<(Duration, u64)>
+fn run_once<T: Timed>(rt: &HostRuntime, call: &T) -> io::Result<(Duration, u64)>
     requires { T.is_ready call.now }
 {
     let start = Instant::now(rt)?;
@@ -29,12 +28,7 @@ fn run_once<T: Timed>(rt: &(impl Clock + AllocGlobal), call: &T) -> io::Result<(
 
 /// Prints the name and the size of a call, the microseconds of its fastest run, and what it answers. A call that is refused is an
 /// error.
-pub(crate) fn time<T: Timed>(
-    rt: &(impl Clock + Print + AllocGlobal),
-    name: &str,
-    size: u64,
-    call: &T,
-) -> io::Result<()>
+pub(crate) fn time<T: Timed>(rt: &HostRuntime, name: &str, size: u64, call: &T) -> io::Result<()>
     requires { T.is_ready call.now }
 {
     let mut fastest = Duration::MAX;

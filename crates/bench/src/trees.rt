@@ -11,7 +11,6 @@ use abi_scalar::ReprOptions;
 use rustc_abi::{TypeTree, lay_out};
 use std::alloc::{AllocError, Global};
 use std::io;
-use std::rt::Clock;
 
 /// How many nodes the wide tree has.
 pub(crate) const NODES: u64 = 100_000;
@@ -87,11 +86,7 @@ impl Timed for Type<'_> {
 }
 
 /// Times whole trees.
-pub(crate) fn time_all(
-    rt: &(impl Clock + Print + AllocGlobal),
-    words: &str,
-    dl: &TargetDataLayout,
-) -> io::Result<()> {
+pub(crate) fn time_all(rt: &HostRuntime, words: &str, dl: &TargetDataLayout) -> io::Result<()> {
     let alloc = rt.alloc();
     if asks_for(words, "lay_out_wide", NODES) {
         let tree = wide(alloc)?;

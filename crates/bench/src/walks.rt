@@ -15,7 +15,6 @@ use abi_types::{HomogeneousAggregate, TyAndLayout};
 use rustc_abi::{TreeTy, TypeTree, lay_out};
 use std::alloc::{AllocError, Global};
 use std::io;
-use std::rt::Clock;
 
 /// A type with its layout.
 type Handle<'a> = TyAndLayout<'a, TreeTy<'a>>;
@@ -142,7 +141,7 @@ impl Timed for Walked {
 
 /// Times a walk, where words ask for it.
 fn time_walk(
-    rt: &(impl Clock + Print + AllocGlobal),
+    rt: &HostRuntime,
     words: &str,
     dl: &TargetDataLayout,
     walk: Walk,
@@ -157,11 +156,7 @@ fn time_walk(
 }
 
 /// Times walks over types.
-pub(crate) fn time_all(
-    rt: &(impl Clock + Print + AllocGlobal),
-    words: &str,
-    dl: &TargetDataLayout,
-) -> io::Result<()> {
+pub(crate) fn time_all(rt: &HostRuntime, words: &str, dl: &TargetDataLayout) -> io::Result<()> {
     time_walk(rt, words, dl, Walk::Listed, "padding_wide", NODES)?;
     time_walk(rt, words, dl, Walk::Padding, "padding_walk_wide", NODES)?;
     for count in [1000, 100_000] {

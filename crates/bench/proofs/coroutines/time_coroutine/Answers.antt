@@ -2,7 +2,7 @@ use Rattle.std.proofs.Common.{IsTrue, arith, rules, subst, ◌∙◌}
 use Rattle.bench.proofs.coroutines.time_coroutine.Goals as goal
 
 pub time-requires : goal.time-requires
-time-requires g c = record {
+time-requires c = record {
   data_layout = c.requires.data_layout;
   prefix = search rules;
   fields = let yes : IsTrue c.are_lawful.result = search rules in rw (c.as_raw.ensures.items, c.as_slice.ensures) at (c.are_lawful.ensures yes);

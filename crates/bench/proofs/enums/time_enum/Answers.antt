@@ -10,7 +10,7 @@ use Rattle.bench.proofs.Apart.{apart}
 use Rattle.bench.proofs.enums.time_enum.Goals as goal
 
 pub time-requires : goal.time-requires
-time-requires g c =
+time-requires c =
     let yes : IsTrue c.are_lawful_lists.result = search rules in
     let variants = c.args.variants.items in
     let items = c.in_ok-discriminants.discriminants.items in
