@@ -88,6 +88,15 @@ fn of_ten_fields<'a>(
     Ok(variants)
 }
 
+/// 200 fields, and a `char` behind them.
+fn before_a_char<'a>(alloc: Global, leaves: &'a [Laid]) -> Result<Fields<'a>, AllocError>
+    requires { length leaves.now ≡ 5 }
+{
+    let mut fields = picked(alloc, leaves, &mut Numbers::from(99), 200)?;
+    let _field: FieldIdx = fields.push(&leaves[3])?;
+    Ok(fields)
+}
+
 /// So many variants: the first has 200 fields and a `char`, each other a `u8`, beside the niche of the `char`.
 fn beside_a_niche<'a>(
     alloc: Global,
@@ -96,10 +105,8 @@ fn beside_a_niche<'a>(
 ) -> Result<Vec<Fields<'a>>, AllocError>
     requires { length leaves.now ≡ 5 }
 {
-    let mut first = picked(alloc, leaves, &mut Numbers::from(99), 200)?;
-    let _field: FieldIdx = first.push(&leaves[3])?;
     let mut variants = Vec::new(alloc);
-    variants.push(first)?;
+    variants.push(before_a_char(alloc, leaves)?)?;
     for _step in 1..count {
         variants.push(single(alloc, &leaves[0])?)?;
     }

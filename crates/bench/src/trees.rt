@@ -85,16 +85,24 @@ impl Timed for Type<'_> {
     }
 }
 
+/// Times the layout of a tree of so many nodes or so deep.
+fn time_tree(
+    rt: &HostRuntime,
+    dl: &TargetDataLayout,
+    name: &str,
+    size: u64,
+    tree: TypeTree,
+) -> io::Result<()> {
+    time(rt, name, size, &Type { dl, tree })
+}
+
 /// Times whole trees.
 pub(crate) fn time_all(rt: &HostRuntime, words: &str, dl: &TargetDataLayout) -> io::Result<()> {
-    let alloc = rt.alloc();
     if asks_for(words, "lay_out_wide", NODES) {
-        let tree = wide(alloc)?;
-        time(rt, "lay_out_wide", NODES, &Type { dl, tree })?;
+        time_tree(rt, dl, "lay_out_wide", NODES, wide(rt.alloc())?)?;
     }
     if asks_for(words, "lay_out_deep", DEPTH) {
-        let tree = deep(alloc)?;
-        time(rt, "lay_out_deep", DEPTH, &Type { dl, tree })?;
+        time_tree(rt, dl, "lay_out_deep", DEPTH, deep(rt.alloc())?)?;
     }
     Ok(())
 }
