@@ -46,10 +46,13 @@ has_left mark (Some text) = sym (some_parts mark text.now)
 pub left_next : (mark : ℕ) (o : Option (Bor (List ℕ))) (text : Bor (List ℕ)) (part : List ℕ) (parts : List (List ℕ)) → o ≡ Some text → parts_of mark text.now ≡ part ∷ parts → parts_left mark (option_copied o) ≡ part ∷ parts
 left_next mark o text part parts is e = rw is e
 
+index_at : (size align preferred index : List ℕ) (parts : List (List ℕ)) → has_parts parts ≡ true → index_text size (align ∷ preferred ∷ index ∷ parts) ≡ size
+index_at size align preferred index [] h = absurd (cc)
+index_at size align preferred index (p ∷ ps) h = refl
+
 -- more than five parts
-pub index_more : (size align preferred index : List ℕ) (parts : List (List ℕ)) → has_parts parts ≡ true → index_text size (align ∷ preferred ∷ index ∷ parts) ≡ size
-index_more size align preferred index [] h = absurd (cc)
-index_more size align preferred index (p ∷ ps) h = refl
+pub index_more : (size align preferred index text : List ℕ) → index_text size (align ∷ preferred ∷ index ∷ parts_of 58 text) ≡ size
+index_more size align preferred index text = index_at size align preferred index (parts_of 58 text) (some_parts 58 text)
 
 pub some_byte : (text : List ℕ) → 0 < slice_index text 0 → 1 ≤ length text
 some_byte [] h = absurd (omega arith)

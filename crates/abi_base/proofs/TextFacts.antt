@@ -1,10 +1,10 @@
 -- The meaning of data layout strings, tried on a few.
-use Rattle.std.proofs.Common.{◌≡◌, ◌^◌, false, Ok, Err, refl, [], ◌∷◌}
+use Rattle.std.proofs.Common.{◌≡◌, ◌-◌, ◌^◌, false, Ok, Err, refl, [], ◌∷◌}
 use Rattle.std.specs.Prelude.{codes}
 use Rattle.std.specs.Int.Count.{count_trailing_zeros}
 use Rattle.std.specs.Str.{chars}
 use Rattle.abi_base.specs.declared.parse_number.NumberError.TheVariants.{Empty, InvalidDigit, PosOverflow}
-use Rattle.abi_base.specs.declared.align.AlignFromBytesError.TheVariants.{NotPowerOfTwo}
+use Rattle.abi_base.specs.declared.align.AlignFromBytesError.TheVariants.{NotPowerOfTwo, TooLarge}
 use Rattle.abi_base.specs.DataLayout.{default_data_layout}
 use Rattle.abi_base.specs.DataLayoutFault.{bad_alignment, bad_bits, bad_space, missing_alignment}
 use Rattle.abi_base.specs.NumberText.{number_answer}
@@ -46,10 +46,41 @@ pub no_alignment : data_layout_in (record { 0 = 0 }) (codes "a:24") ≡ Err (bad
 unfolding data_layout_in settings_of setting_of row_of lettered_row setting_in alignment_in bits_in size_in number_answer count_trailing_zeros
 no_alignment = refl
 
+-- an alignment of 2 ^ 29 bytes is one, and of 2 ^ 30 bytes is none
+pub greatest_alignment : data_layout_in (record { 0 = 0 }) (codes "a:4294967296") ≡ Ok (record default_data_layout { aggregate_align = 29 })
+unfolding data_layout_in settings_of setting_of row_of lettered_row setting_in alignment_in bits_in size_in number_answer count_trailing_zeros
+greatest_alignment = refl
+
+pub alignment_above : data_layout_in (record { 0 = 0 }) (codes "a:8589934592") ≡ Err (bad_alignment (codes "a") (TooLarge (2 ^ 30)))
+unfolding data_layout_in settings_of setting_of row_of lettered_row setting_in alignment_in bits_in size_in number_answer count_trailing_zeros
+alignment_above = refl
+
 -- an index of its own, and the fifth part
 pub fifth_part : data_layout_in (record { 0 = 0 }) (codes "p:32:32:32:16") ≡ Ok (record default_data_layout { default_address_space_pointer_spec = record { pointer_size = 4; pointer_align = 2; pointer_offset = 2; is_fat = false } })
 unfolding data_layout_in settings_of setting_of row_of lettered_row setting_in pointer_setting pointers_in pointer_space alignment_in bits_in size_in number_answer chars count_trailing_zeros
 fifth_part = refl
+
+-- a sixth part, so that the fifth is no index
+pub sixth_part : data_layout_in (record { 0 = 0 }) (codes "p:32:32:32:16:8") ≡ Ok (record default_data_layout { default_address_space_pointer_spec = record { pointer_size = 4; pointer_align = 2; pointer_offset = 4; is_fat = false } })
+unfolding data_layout_in settings_of setting_of row_of lettered_row setting_in pointer_setting pointers_in pointer_space alignment_in bits_in size_in number_answer chars count_trailing_zeros
+sixth_part = refl
+
+-- the faults of a pointer spec, each told before those that follow it here: the space, the size, the alignment, the index
+pub space_before_size : pointers_in false (codes "4294967296") (codes "x") (codes "y" ∷ []) ≡ Err (bad_space (codes "4294967296") (codes "p-") PosOverflow)
+unfolding pointers_in pointer_space space_in number_answer
+space_before_size = refl
+
+pub size_before_alignment : data_layout_in (record { 0 = 0 }) (codes "p:x:y") ≡ Err (bad_bits (codes "size") (codes "x") (codes "p-") InvalidDigit)
+unfolding data_layout_in settings_of setting_of row_of lettered_row setting_in pointer_setting pointers_in pointer_space alignment_in bits_in size_in number_answer chars count_trailing_zeros
+size_before_alignment = refl
+
+pub alignment_before_index : data_layout_in (record { 0 = 0 }) (codes "p:32:y:32:x") ≡ Err (bad_bits (codes "alignment") (codes "y") (codes "p-") InvalidDigit)
+unfolding data_layout_in settings_of setting_of row_of lettered_row setting_in pointer_setting pointers_in pointer_space alignment_in bits_in size_in number_answer chars count_trailing_zeros
+alignment_before_index = refl
+
+pub index_told : data_layout_in (record { 0 = 0 }) (codes "p:32:32:32:x") ≡ Err (bad_bits (codes "size") (codes "x") (codes "p-") InvalidDigit)
+unfolding data_layout_in settings_of setting_of row_of lettered_row setting_in pointer_setting pointers_in pointer_space alignment_in bits_in size_in number_answer chars count_trailing_zeros
+index_told = refl
 
 -- the space of functions, known with the default pointers
 pub functions_known : data_layout_in (record { 0 = 0 }) (codes "P7") ≡ Ok (record default_data_layout {
@@ -76,3 +107,15 @@ bad_end = refl
 pub plus_alone : number_answer (2 ^ 32) (codes "+") ≡ Err InvalidDigit
 unfolding number_answer
 plus_alone = refl
+
+pub no_number : number_answer (2 ^ 32) [] ≡ Err Empty
+unfolding number_answer
+no_number = refl
+
+pub minus : number_answer (2 ^ 32) (codes "-1") ≡ Err InvalidDigit
+unfolding number_answer
+minus = refl
+
+pub greatest_number : number_answer (2 ^ 32) (codes "+4294967295") ≡ Ok (2 ^ 32 - 1)
+unfolding number_answer
+greatest_number = refl

@@ -33,6 +33,7 @@ abbrev pub begins_alphabetic_in : List ℕ → Bool
 begins_alphabetic_in [] = false
 begins_alphabetic_in (c ∷ cs) = is_alphabetic c
 
+-- the text begins with a letter: a character of the class Alphabetic
 abbrev pub begins_alphabetic : List ℕ → Bool
 begins_alphabetic text = begins_alphabetic_in (chars text)
 
@@ -108,6 +109,7 @@ lettered_row word parts =
     else (if begins 105 word then integer word parts
     else (if begins 118 word then vector word parts else ignored))
 
+-- the row of a spec that begins with a word, behind which an alignment stands
 abbrev pub aligned_row : Option AlignedWord → (word : List ℕ) → (parts : List (List ℕ)) → Row
 aligned_row (Some named) word parts = aligned named word parts
 aligned_row None word parts = lettered_row word parts
@@ -169,6 +171,7 @@ setting_in (vector word parts) = do
   Ok (Vector size align)
 setting_in ignored = Ok Nothing
 
+-- what a spec of these parts sets, or its first fault
 abbrev pub setting_of_parts : List (List ℕ) → Result Setting Fault
 setting_of_parts [] = Ok Nothing
 setting_of_parts (word ∷ parts) = setting_in (row_of word parts)

@@ -28,6 +28,7 @@ abbrev pub instructions_set : Setting → Option AddressSpace
 instructions_set (Instructions space) = Some space
 instructions_set _ = None
 
+-- an alignment is named by the same word
 abbrev pub same_word : AlignedWord → AlignedWord → Bool
 same_word Aggregate Aggregate = true
 same_word F16 F16 = true

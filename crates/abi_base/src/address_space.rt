@@ -4,6 +4,13 @@
 #[derive(Clone, Copy, PartialEq, Eq, PartialOrd, Ord, Hash, Debug)]
 pub struct AddressSpace(pub u32);
 
+// Their numbers are those of data layout strings.
+const _: () = prove!(AddressSpace::ZERO.0 == 0);
+
+const _: () = prove!(AddressSpace::GPU_CONSTANT.0 == 4);
+
+const _: () = prove!(AddressSpace::GPU_WORKGROUP.0 == 3);
+
 impl AddressSpace {
     /// The space of data, where no other is named.
     pub const ZERO: AddressSpace = AddressSpace(0);

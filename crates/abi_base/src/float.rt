@@ -24,6 +24,17 @@ pub enum Float {
     PpcF128,
 }
 
+// The order in which floats are compared.
+const _: () = prove!((Float::F16 as u8) < Float::F16B as u8);
+
+const _: () = prove!((Float::F16B as u8) < Float::F32 as u8);
+
+const _: () = prove!((Float::F32 as u8) < Float::F64 as u8);
+
+const _: () = prove!((Float::F64 as u8) < Float::F128 as u8);
+
+const _: () = prove!((Float::F128 as u8) < Float::PpcF128 as u8);
+
 impl Float {
     /// How many bytes it has.
     pub fn size(self) -> Size

@@ -30,6 +30,15 @@ pub enum Integer {
     I128,
 }
 
+// The order of the integers, by which they are compared, is that of their sizes.
+const _: () = prove!((Integer::I8 as u8) < Integer::I16 as u8);
+
+const _: () = prove!((Integer::I16 as u8) < Integer::I32 as u8);
+
+const _: () = prove!((Integer::I32 as u8) < Integer::I64 as u8);
+
+const _: () = prove!((Integer::I64 as u8) < Integer::I128 as u8);
+
 impl Integer {
     /// How many bytes it has.
     pub fn size(self) -> Size

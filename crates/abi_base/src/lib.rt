@@ -1,31 +1,38 @@
 //! Sizes, alignments, primitive types, and what a data layout says of them.
 #![tactic(auto)]
 
-mod abi_from_str_err;
-mod address_space;
+// Numbers of bytes, and alignments.
 mod align;
-mod data_layout;
-mod endian;
+mod size;
+
+// Primitive types, and what stands behind pointers.
+mod address_space;
 mod float;
 mod integer;
-mod keyed_list;
-mod lawful;
 mod niche_optimizations;
 mod numeric;
+mod pointee;
+mod primitive;
+mod reg_kind;
+mod scalable;
+mod simd;
+mod struct_kind;
+
+// Data layouts.
+mod data_layout;
+mod endian;
+mod keyed_list;
+mod lawful;
+mod pointer_spec;
+
+// Data layout strings, and errors.
+mod abi_from_str_err;
 mod parse;
 mod parse_error;
 mod parse_number;
 mod parse_spec;
 mod parse_text;
-mod pointee;
-mod pointer_spec;
-mod primitive;
-mod reg_kind;
-mod scalable;
 mod setting;
-mod simd;
-mod size;
-mod struct_kind;
 
 pub use abi_from_str_err::AbiFromStrErr;
 pub use address_space::AddressSpace;

@@ -81,6 +81,7 @@ fn pointer_space<'a>(text: &'a str) -> Result<AddressSpace, TargetDataLayoutErro
 
 /// The text of an index size: the fifth part of exactly five, else that of the size. The parts are
 /// those that follow the size.
+#[tactic(auto, using(crate::proofs::Parts::index_more, crate::proofs::Parts::left_next))]
 fn index_text<'a>(size: &'a str, parts: Option<&'a str>) -> &'a str
     ensures { result.now ≡ index_text size.now (parts_left 58 (option_copied parts.entry)) }
 {
@@ -93,11 +94,14 @@ fn index_text<'a>(size: &'a str, parts: Option<&'a str>) -> &'a str
     let (_, Some(parts)) = cut(parts, ':') else {
         return size;
     };
-    let (index, more) = cut(parts, ':');
-    if more.is_some() { size } else { index }
+    match cut(parts, ':') {
+        (index, None) => index,
+        (_, Some(_)) => size,
+    }
 }
 
 /// The pointers of a space.
+#[tactic(auto, using(crate::proofs::SpecFaults::space_told, crate::proofs::SpecFaults::size_told, crate::proofs::SpecFaults::alignment_told, crate::proofs::SpecFaults::index_told, crate::proofs::SpecFaults::pointers_read))]
 fn pointers<'a>(
     is_fat: bool,
     space: &'a str,
@@ -186,6 +190,7 @@ fn aligned<'a>(
 }
 
 /// An integer's alignment.
+#[tactic(auto, using(crate::proofs::SpecFaults::width_told, crate::proofs::SpecFaults::integer_told, crate::proofs::SpecFaults::integer_read))]
 fn integer<'a>(word: &'a str, parts: Option<&'a str>) -> Result<Setting, TargetDataLayoutError<'a>>
     requires { slice_index word.now 0 ≡ 105 }
     ensures { IsReading (setting_in (integer word.now (parts_left 58 (option_copied parts.entry)))) result }
@@ -196,6 +201,7 @@ fn integer<'a>(word: &'a str, parts: Option<&'a str>) -> Result<Setting, TargetD
 }
 
 /// A vector's alignment.
+#[tactic(auto, using(crate::proofs::SpecFaults::vector_size_told, crate::proofs::SpecFaults::vector_told, crate::proofs::SpecFaults::vector_read))]
 fn vector<'a>(word: &'a str, parts: Option<&'a str>) -> Result<Setting, TargetDataLayoutError<'a>>
     requires { slice_index word.now 0 ≡ 118 }
     ensures { IsReading (setting_in (vector word.now (parts_left 58 (option_copied parts.entry)))) result }

@@ -32,6 +32,9 @@ impl Model for Size {
     ghost inverse = { λ n. record { raw = n } };
 }
 
+// No bytes are 0 of them.
+const _: () = prove!(Size::ZERO.raw == 0);
+
 impl Size {
     /// No bytes.
     pub const ZERO: Size = Size { raw: 0 };

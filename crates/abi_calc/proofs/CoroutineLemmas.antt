@@ -36,3 +36,5 @@ pub mod SameCoroutine
 pub mod Seen
 -- the fields of a coroutine and of its states follow one another in memory, and never back
 pub mod Ordered
+-- all of it as one fact
+pub mod Good

@@ -1,7 +1,14 @@
+-- indices
 pub mod AtIndex
+-- arrays
+pub mod Arrays
+-- structs and enums
 pub mod EnumLemmas
+-- what types take over from all of their lists
 pub mod OverLists
+-- coroutines
 pub mod CoroutineLemmas
+-- views, orders handed in, and the lists that a layout is made of
 pub mod Seen
 pub mod Handed
 pub mod Made

@@ -1,6 +1,7 @@
 -- How lists, unions and types of one list are seen, from the answers that the rules give them.
 use Rattle.std.proofs.Common.{◌≡◌, ℕ, ◌∙◌, List, ap, length, map, refl, subst, sym}
 use Rattle.std.specs.Prelude.{IfOk, Result, Ok, Err}
+use Rattle.std.proofs.lemmas.List.{length-map}
 use Rattle.abi_base.specs.declared.data_layout.TargetDataLayout.{TargetDataLayout}
 use Rattle.abi_base.specs.declared.niche_optimizations.NicheOptimizations.{NicheOptimizations}
 use Rattle.abi_base.specs.declared.niche_optimizations.NicheOptimizations.TheVariants.{Enabled, Disabled}
@@ -8,6 +9,7 @@ use Rattle.abi_base.specs.declared.struct_kind.StructKind.{StructKind}
 use Rattle.abi_scalar.specs.declared.error.LayoutCalculatorError.{LayoutCalculatorError}
 use Rattle.abi_scalar.specs.declared.layout_data.LayoutData.{LayoutData}
 use Rattle.abi_scalar.specs.declared.repr.ReprOptions.{ReprOptions}
+use Rattle.abi_scalar.specs.declared.fields_shape.FieldsShape.TheVariants.{Union}
 use Rattle.abi_scalar.specs.declared.variants.Variants.TheVariants.{Single}
 use Rattle.abi_scalar.specs.Repr.{is_abi_fixed}
 use Rattle.abi_scalar.specs.Shape.{listed_offsets}
@@ -61,6 +63,11 @@ module _ {F V H : Type 0} (layout_of : H → LayoutData F V) (at : ℕ → F) (f
   single_seen optimizations index (Err e) tail h = tt
 
 -- a union has one variant, is aligned as its fields ask, and is seen as they tell
+pub union_fields : {F V H : Type 0} (layout_of : H → LayoutData F V) (first : V) (dl : TargetDataLayout) (repr : ReprOptions) (fields : List H) (result : Result (LayoutData F V) (LayoutCalculatorError H))
+    → IsUnionAnswer layout_of first dl repr fields result → IfOk result (λ l. l.fields ≡ Union (length fields))
+union_fields layout_of first dl repr fields (Ok l) (none, view, is) = ap (λ m. m.fields) is ∙ ap (λ n. Union n) (length-map fields layout_of)
+union_fields layout_of first dl repr fields (Err e) h = tt
+
 pub union_single : {F V H : Type 0} (layout_of : H → LayoutData F V) (first : V) (dl : TargetDataLayout) (repr : ReprOptions) (fields : List H) (result : Result (LayoutData F V) (LayoutCalculatorError H))
     → IsUnionAnswer layout_of first dl repr fields result → IfOk result (λ l. l.variants ≡ Single first)
 union_single layout_of first dl repr fields (Ok l) (none, view, is) = ap (λ m. m.variants) is

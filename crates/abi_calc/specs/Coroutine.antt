@@ -7,3 +7,4 @@ pub mod Answer
 pub mod Clash
 pub mod Sizes
 pub mod Made
+pub mod Promised

@@ -16,3 +16,4 @@ pub mod Room
 pub mod Beside
 pub mod Answer
 pub mod Made
+pub mod Promised

@@ -5,13 +5,12 @@ mod lists;
 mod promotion;
 mod states;
 
-ghost use Rattle.std.specs.Prelude.{◌≡◌, ◌≢◌, ◌+◌, ◌<◌, ◌≤◌, ◌⊎◌, All, Err, IfErr, IfOk, None, length, map, true};
+ghost use Rattle.std.specs.Prelude.{◌≡◌, ◌≢◌, ◌+◌, ◌<◌, ◌≤◌, ◌⊎◌, All, Err, IfErr, IfOk, length, map};
 ghost use Rattle.std.specs.List.{AllPairs};
 ghost use Rattle.abi_base.specs.DataLayout.{IsLawfulDataLayout};
 ghost use Rattle.abi_index.specs.BitSet.{domain_size};
 ghost use Rattle.abi_index.specs.Relation.{Relation, column_count, row_count};
 ghost use Rattle.abi_index.specs.Slice.{items_of};
-ghost use Rattle.abi_scalar.specs.declared.backend_repr.BackendRepr.TheVariants.{Memory};
 ghost use Rattle.abi_scalar.specs.declared.scalar.Scalar.{Scalar};
 ghost use Rattle.abi_scalar.specs.Lawful.{IsLawfulLayout};
 ghost use Rattle.abi_scalar.specs.Simple.{scalar_layout};
@@ -21,11 +20,9 @@ ghost use Rattle.abi_lists.specs.List.{AreSized};
 ghost use Rattle.abi_calc.specs.Coroutine.Answer.{IsCoroutineAnswer, IsPromotedAnswer};
 ghost use Rattle.abi_calc.specs.Coroutine.Clash.{AreClashingApart, HaveOneOffset, IsToldByState};
 ghost use Rattle.abi_calc.specs.Coroutine.Layout.{IsStateTag};
-ghost use Rattle.abi_calc.specs.Coroutine.Made.{IsAlignedAsLists, IsMadeOfStates};
+ghost use Rattle.abi_calc.specs.Coroutine.Promised.{IsGoodCoroutine, IsSizedCoroutine};
 ghost use Rattle.abi_calc.specs.Coroutine.Promotion.{promoted_of};
-ghost use Rattle.abi_calc.specs.Coroutine.Sizes.{IsOverlapSize, IsSizeWith, IsTooLargeWith, MayOverlap};
-ghost use Rattle.abi_calc.specs.Marks.{HasCoroutineMarks};
-ghost use Rattle.abi_calc.specs.Ordered.{IsOrderedWhole};
+ghost use Rattle.abi_calc.specs.Coroutine.Sizes.{IsSizeWith, IsTooLargeWith};
 
 use crate::calculator::LayoutCalculator;
 pub use crate::coroutine::layout::state_tag;
@@ -189,34 +186,12 @@ impl<Cx: HasDataLayout> LayoutCalculator<Cx> {
         ensures one_offset { IfOk result (λ l.
             HaveOneOffset (map (map LocalIdx.number) states.now) (variants_of l.variants)) }
 
-        // The size is that of the first list and those behind it, each of its least size.
-        ensures size { (tag : Scalar) → IsStateTag (length states.now) tag →
-            IfOk result (λ l. IsSizeWith (Cx.target self.now.cx) (map F.layout_of prefix)
+        ensures sized { (tag : Scalar) → IsStateTag (length states.now) tag →
+            IsSizedCoroutine (Cx.target self.now.cx) (map F.layout_of prefix)
             (scalar_layout (VariantIdx.at 0) (Cx.target self.now.cx) tag) (map F.layout_of locals.now)
-            (map (map LocalIdx.number) states.now)
-            (promoted_of (map (map LocalIdx.number) states.now) conflicts.now) l.size) }
+            (map (map LocalIdx.number) states.now) conflicts.now result }
 
-        // Where each local stands in one state, several states hold locals and no conflict joins two of them, the
-        // states share all their bytes: no local is promoted.
-        ensures overlap { MayOverlap (row_count conflicts.now) (map (map LocalIdx.number) states.now) conflicts.now →
-            (tag : Scalar) → IsStateTag (length states.now) tag
-            → IfOk result (λ l. IsOverlapSize (Cx.target self.now.cx) (map F.layout_of prefix)
-            (scalar_layout (VariantIdx.at 0) (Cx.target self.now.cx) tag) (map F.layout_of locals.now)
-            (map (map LocalIdx.number) states.now) l.size) }
-
-        // It is refused for its size only where a list is too large in each allowed order, or that size is, and sized
-        // fields always then; sized fields are refused by no other name.
-        ensures too_large { (tag : Scalar) → IsStateTag (length states.now) tag →
-            result ≡ Err LayoutCalculatorError.SizeOverflow
-            → IsTooLargeWith (Cx.target self.now.cx) (map F.layout_of prefix)
-            (scalar_layout (VariantIdx.at 0) (Cx.target self.now.cx) tag) (map F.layout_of locals.now)
-            (map (map LocalIdx.number) states.now) (promoted_of (map (map LocalIdx.number) states.now) conflicts.now) }
-        ensures refused { AreSized (map F.layout_of prefix) → AreSized (map F.layout_of locals.now) → (tag : Scalar) →
-            IsStateTag (length states.now) tag
-            → IsTooLargeWith (Cx.target self.now.cx) (map F.layout_of prefix)
-            (scalar_layout (VariantIdx.at 0) (Cx.target self.now.cx) tag) (map F.layout_of locals.now)
-            (map (map LocalIdx.number) states.now) (promoted_of (map (map LocalIdx.number) states.now) conflicts.now) →
-            IsAnswer (Err LayoutCalculatorError.SizeOverflow) result }
+        // Sized fields are refused by no other name.
         ensures no_other { AreSized (map F.layout_of prefix) → AreSized (map F.layout_of locals.now) →
             IfErr result (λ e. (e ≡ LayoutCalculatorError.SizeOverflow) ⊎ (e ≡ LayoutCalculatorError.OutOfMemory)) }
     {
@@ -284,77 +259,16 @@ impl<Cx: HasDataLayout> LayoutCalculator<Cx> {
             (Cx.target self.now.cx) prefix_layouts tag field (items_of local_layouts.entry)
             (map (map LocalIdx.number) (items_of variant_fields.entry)) storage_conflicts.now result }
         ensures lawful { IfOk result (IsLawfulLayout (Cx.target self.now.cx)) }
-
-        // It has no niche, is seen as bytes in memory, is aligned as the greatest of its lists is, and has no values
-        // where the first list has none, or each state's.
-        ensures niche { IfOk result (λ l. l.largest_niche ≡ None) }
-        ensures view { IfOk result (λ l. l.backend_repr ≡ Memory true) }
-        ensures alignment { IfOk result (IsAlignedAsLists (VariantIdx.at 0) (Cx.target self.now.cx)
-            (map F.layout_of prefix_layouts) (map F.layout_of (items_of local_layouts.entry))
-            (map (map LocalIdx.number) (items_of variant_fields.entry)) storage_conflicts.now) }
-        ensures marks { IfOk result (HasCoroutineMarks (map F.layout_of prefix_layouts)
-            (map F.layout_of (items_of local_layouts.entry)) (map (map LocalIdx.number) (items_of variant_fields.entry))
-            storage_conflicts.now) }
-
-        // Its fields, and those of each state, have a place in memory order each, which never steps back.
-        ensures ordered { IfOk result (IsOrderedWhole FieldIdx.number) }
-
-        // Each of its lists lies in an allowed order of the least size, and its fields lie where the lists have them,
-        // in their orders.
-        ensures made { IfOk result (IsMadeOfStates FieldIdx.at FieldIdx.number (VariantIdx.at 0)
+        ensures good { IfOk result (IsGoodCoroutine FieldIdx.at FieldIdx.number (VariantIdx.at 0)
             (Cx.target self.now.cx) (map F.layout_of prefix_layouts) (map F.layout_of (items_of local_layouts.entry))
             (map (map LocalIdx.number) (items_of variant_fields.entry)) storage_conflicts.now) }
-
-        // The prefix fields, the tag and the locals of each state share no byte, and the tag may hold each state's
-        // index.
-        ensures told { IfOk result (IsToldByState (Cx.target self.now.cx) FieldIdx.at (map F.layout_of prefix_layouts)
-            (map F.layout_of (items_of local_layouts.entry))
-            (map (map LocalIdx.number) (items_of variant_fields.entry))) }
-
-        // Different locals that one state holds, or that conflict in either direction, share no byte, and a local has
-        // one offset.
-        ensures clash { IfOk result (λ l.
-            AreClashingApart (map (map LocalIdx.number) (items_of variant_fields.entry)) storage_conflicts.now
-            (map F.layout_of (items_of local_layouts.entry)) (variants_of l.variants)) }
-        ensures one_offset { IfOk result (λ l.
-            HaveOneOffset (map (map LocalIdx.number) (items_of variant_fields.entry)) (variants_of l.variants)) }
-
-        // The size is that of the first list and those behind it, each of its least size.
-        ensures size { (tag : Scalar) → IsStateTag (length (items_of variant_fields.entry)) tag →
-            IfOk result (λ l. IsSizeWith (Cx.target self.now.cx) (map F.layout_of prefix_layouts)
+        ensures sized { (tag : Scalar) → IsStateTag (length (items_of variant_fields.entry)) tag →
+            IsSizedCoroutine (Cx.target self.now.cx) (map F.layout_of prefix_layouts)
             (scalar_layout (VariantIdx.at 0) (Cx.target self.now.cx) tag)
             (map F.layout_of (items_of local_layouts.entry))
-            (map (map LocalIdx.number) (items_of variant_fields.entry))
-            (promoted_of (map (map LocalIdx.number) (items_of variant_fields.entry)) storage_conflicts.now) l.size) }
+            (map (map LocalIdx.number) (items_of variant_fields.entry)) storage_conflicts.now result }
 
-        // Where each local stands in one state, several states hold locals and no conflict joins two of them, the
-        // states share all their bytes: no local is promoted.
-        ensures overlap { MayOverlap (row_count storage_conflicts.now)
-            (map (map LocalIdx.number) (items_of variant_fields.entry)) storage_conflicts.now → (tag : Scalar) →
-            IsStateTag (length (items_of variant_fields.entry)) tag
-            → IfOk result (λ l. IsOverlapSize (Cx.target self.now.cx) (map F.layout_of prefix_layouts)
-            (scalar_layout (VariantIdx.at 0) (Cx.target self.now.cx) tag)
-            (map F.layout_of (items_of local_layouts.entry))
-            (map (map LocalIdx.number) (items_of variant_fields.entry)) l.size) }
-
-        // It is refused for its size only where a list is too large in each allowed order, or that size is, and sized
-        // fields always then; sized fields are refused by no other name.
-        ensures too_large { (tag : Scalar) → IsStateTag (length (items_of variant_fields.entry)) tag →
-            result ≡ Err LayoutCalculatorError.SizeOverflow
-            → IsTooLargeWith (Cx.target self.now.cx) (map F.layout_of prefix_layouts)
-            (scalar_layout (VariantIdx.at 0) (Cx.target self.now.cx) tag)
-            (map F.layout_of (items_of local_layouts.entry))
-            (map (map LocalIdx.number) (items_of variant_fields.entry))
-            (promoted_of (map (map LocalIdx.number) (items_of variant_fields.entry)) storage_conflicts.now) }
-        ensures refused { AreSized (map F.layout_of prefix_layouts) →
-            AreSized (map F.layout_of (items_of local_layouts.entry)) → (tag : Scalar) →
-            IsStateTag (length (items_of variant_fields.entry)) tag
-            → IsTooLargeWith (Cx.target self.now.cx) (map F.layout_of prefix_layouts)
-            (scalar_layout (VariantIdx.at 0) (Cx.target self.now.cx) tag)
-            (map F.layout_of (items_of local_layouts.entry))
-            (map (map LocalIdx.number) (items_of variant_fields.entry))
-            (promoted_of (map (map LocalIdx.number) (items_of variant_fields.entry)) storage_conflicts.now) →
-            IsAnswer (Err LayoutCalculatorError.SizeOverflow) result }
+        // Sized fields are refused by no other name.
         ensures no_other { AreSized (map F.layout_of prefix_layouts) →
             AreSized (map F.layout_of (items_of local_layouts.entry)) →
             IfErr result (λ e. (e ≡ LayoutCalculatorError.SizeOverflow) ⊎ (e ≡ LayoutCalculatorError.OutOfMemory)) }

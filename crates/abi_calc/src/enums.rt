@@ -12,28 +12,19 @@ mod several;
 mod single;
 pub(crate) mod tagged;
 
-ghost use Rattle.std.specs.Prelude.{◌≡◌, ◌⊎◌, All, Err, IfErr, IfOk, IsSome, IsTrue, None, Ok, false, length, map};
+ghost use Rattle.std.specs.Prelude.{◌≡◌, All, IfOk, IsTrue, Ok, false, length, map};
 ghost use Rattle.std.specs.Iterator.{IsFinite};
 ghost use Rattle.std.specs.Iterator.Runs.{EachRunFrom, WholeRun};
-ghost use Rattle.std.specs.List.{list_all};
 ghost use Rattle.abi_index.specs.Slice.{items_of};
 ghost use Rattle.abi_base.specs.DataLayout.{IsLawfulDataLayout};
 ghost use Rattle.abi_scalar.specs.Lawful.{IsLawfulLayout};
 ghost use Rattle.abi_scalar.specs.Simple.{never_layout};
-ghost use Rattle.abi_scalar.specs.Variant.{variants_of};
-ghost use Rattle.abi_lists.specs.Answer.{IsAnswer};
-ghost use Rattle.abi_lists.specs.Least.{IsEachOrderTooLarge};
-ghost use Rattle.abi_lists.specs.List.{AreSized, HasLawfulAligns};
-ghost use Rattle.abi_lists.specs.Part.{is_unsized};
-ghost use Rattle.abi_calc.specs.Enums.Answer.{HasOneEach, IsGoodSingle, IsTypeAnswer, kind_at};
-ghost use Rattle.abi_calc.specs.Enums.Beside.{AreToldApart};
-ghost use Rattle.abi_calc.specs.Enums.Discriminants.{counting_of};
-ghost use Rattle.abi_calc.specs.Enums.Made.{AreVariantsAligned, HasLeastTag, IsMadeOfLists};
-ghost use Rattle.abi_calc.specs.Enums.Path.{has_no_value, path_of, variant_at};
-ghost use Rattle.abi_calc.specs.Enums.Several.{AreLawfulTags, HasEnumSize, IsAlwaysTooLarge, IsAskedTooLarge};
+ghost use Rattle.abi_lists.specs.List.{HasLawfulAligns};
+ghost use Rattle.abi_calc.specs.Enums.Answer.{HasOneEach, IsTypeAnswer, kind_at};
+ghost use Rattle.abi_calc.specs.Enums.Path.{path_of, variant_at};
+ghost use Rattle.abi_calc.specs.Enums.Promised.{AreSeveralVariants, IsListedType};
+ghost use Rattle.abi_calc.specs.Enums.Several.{AreLawfulTags};
 ghost use Rattle.abi_calc.specs.declared.enums.path.Path.TheVariants.{NoValue as HasNoValue, OneList as IsOneList, Several as AreSeveral};
-ghost use Rattle.abi_calc.specs.Ordered.{IsOrderedWhole, IsTagField};
-ghost use Rattle.abi_calc.specs.Seen.{IsSeenAsList};
 
 use crate::calculator::LayoutCalculator;
 use crate::enums::path::{Path, path_of};
@@ -104,104 +95,17 @@ impl<Cx: HasDataLayout> LayoutCalculator<Cx> {
             (D.post discr_range_of_repr) (λ items. WholeRun I.next_gives discriminants (λ run. items ≡ run.items))
             (path_of is_enum repr.now (map (map F.layout_of) (items_of variants.entry))) result }
         ensures lawful { IfOk result (IsLawfulLayout (Cx.target self.now.cx)) }
-
-        // One list is laid out and refused as `layout_of_univariant` does it.
-        ensures listed { (i : _) → path_of is_enum repr.now
-            (map (map F.layout_of) (items_of variants.entry)) ≡ IsOneList i →
-            IfOk result (IsGoodSingle F.layout_of FieldIdx.at FieldIdx.number (Cx.target self.now.cx) repr.now
-            (kind_at is_enum always_sized (items_of variants.entry) i) (variant_at (items_of variants.entry) i)) }
-        ensures list_too_large { (i : _) →
-            path_of is_enum repr.now (map (map F.layout_of) (items_of variants.entry)) ≡ IsOneList i →
-            result ≡ Err LayoutCalculatorError.SizeOverflow
-            → IsEachOrderTooLarge (Cx.target self.now.cx) repr.now
-            (kind_at is_enum always_sized (items_of variants.entry) i)
-            (map F.layout_of (variant_at (items_of variants.entry) i)) }
-        ensures list_refused { (i : _) → path_of is_enum repr.now
-            (map (map F.layout_of) (items_of variants.entry)) ≡ IsOneList i →
-            AreSized (map F.layout_of (variant_at (items_of variants.entry) i))
-            → IsEachOrderTooLarge (Cx.target self.now.cx) repr.now
-            (kind_at is_enum always_sized (items_of variants.entry) i)
-            (map F.layout_of (variant_at (items_of variants.entry) i)) →
-            IsAnswer (Err LayoutCalculatorError.SizeOverflow) result }
-        ensures list_no_other { (i : _) →
-            path_of is_enum repr.now (map (map F.layout_of) (items_of variants.entry)) ≡ IsOneList i →
-            AreSized (map F.layout_of (variant_at (items_of variants.entry) i))
-            → IfErr result (λ e. (e ≡ LayoutCalculatorError.SizeOverflow) ⊎ (e ≡ LayoutCalculatorError.OutOfMemory)) }
-
-        // It has one variant, and the niche, the view and the marks of the list, where niches may be used.
-        ensures seen { (i : _)
-            → path_of is_enum repr.now (map (map F.layout_of) (items_of variants.entry)) ≡ IsOneList i
-            → IfOk result (IsSeenAsList (VariantIdx.at i) (Cx.target self.now.cx) repr.now
-            (kind_at is_enum always_sized (items_of variants.entry) i) niche_optimizations
-            (map F.layout_of (variant_at (items_of variants.entry) i))) }
-
-        // Without a present variant it is the type without values, which is never refused.
         ensures never { path_of is_enum repr.now (map (map F.layout_of) (items_of variants.entry)) ≡ HasNoValue
             → result ≡ Ok (never_layout (Cx.target self.now.cx)) }
-
-        // Several variants are told apart by a tag of its own, behind which their fields lie, or by a niche of the
-        // untagged one.
-        ensures told { path_of is_enum repr.now (map (map F.layout_of) (items_of variants.entry)) ≡ AreSeveral
-            → IfOk result (λ l. WholeRun I.next_gives discriminants (λ run.
-            AreToldApart (Cx.target self.now.cx) VariantIdx.number
-            (map (map F.layout_of) (items_of variants.entry)) run.items l)) }
-
-        // Each of their variants is laid out as a list, in an allowed order of the least size; the alignment is the
-        // greatest of these lists', and the marks are theirs. They have no values where none of the variants may have
-        // one, and are sized.
-        ensures made { path_of is_enum repr.now (map (map F.layout_of) (items_of variants.entry)) ≡ AreSeveral
-            → IfOk result (λ l. WholeRun I.next_gives discriminants (λ run. IsMadeOfLists FieldIdx.at VariantIdx.number
-            (Cx.target self.now.cx) repr.now (D.post discr_range_of_repr)
-            (counting_of VariantIdx.number repr.now (map (map F.layout_of) (items_of variants.entry)) run.items)
-            (map (map F.layout_of) (items_of variants.entry)) l)) }
-        ensures uninhabited { path_of is_enum repr.now (map (map F.layout_of) (items_of variants.entry)) ≡ AreSeveral
-            → IfOk result (λ l. l.uninhabited
-            ≡ list_all has_no_value (map (map F.layout_of) (items_of variants.entry))) }
-        ensures sized { path_of is_enum repr.now (map (map F.layout_of) (items_of variants.entry)) ≡ AreSeveral
-            → IfOk result (λ l. is_unsized l.backend_repr ≡ false) }
-
-        // The tag is field 0, and one of its own holds the least range of the discriminants that count. Fields lie at
-        // multiples of their alignments, and memory order never steps back.
-        ensures tag { path_of is_enum repr.now (map (map F.layout_of) (items_of variants.entry)) ≡ AreSeveral
-            → IfOk result (λ l. WholeRun I.next_gives discriminants (λ run. HasLeastTag (counting_of VariantIdx.number
-            repr.now (map (map F.layout_of) (items_of variants.entry)) run.items) l.variants)) }
-        ensures tag_field { path_of is_enum repr.now (map (map F.layout_of) (items_of variants.entry)) ≡ AreSeveral
-            → IfOk result (λ l. IsTagField FieldIdx.number 0 l.variants) }
-        ensures aligned { path_of is_enum repr.now (map (map F.layout_of) (items_of variants.entry)) ≡ AreSeveral
-            → IfOk result (λ l. AreVariantsAligned (map (map F.layout_of) (items_of variants.entry))
-            (variants_of l.variants)) }
-        ensures ordered { path_of is_enum repr.now (map (map F.layout_of) (items_of variants.entry)) ≡ AreSeveral
-            → IfOk result (IsOrderedWhole FieldIdx.number) }
-
-        // Their size is that of the variants' always sized lists where these leave room for a niche, else the tagged
-        // size.
-        ensures size { path_of is_enum repr.now (map (map F.layout_of) (items_of variants.entry)) ≡ AreSeveral
-            → IfOk result (λ l. WholeRun I.next_gives discriminants (λ run.
-            HasEnumSize F.layout_of FieldIdx.at (VariantIdx.at 0) (Cx.target self.now.cx) repr.now
-            (D.post discr_range_of_repr)
-            (counting_of VariantIdx.number repr.now (map (map F.layout_of) (items_of variants.entry)) run.items)
-            (items_of variants.entry) l.size)) }
-
-        // They are refused where they are packed, and for their size only where a list behind the tag, or the tagged
-        // size, is too large, and sized fields always then; sized fields are refused by no other name.
-        ensures packed { path_of is_enum repr.now (map (map F.layout_of) (items_of variants.entry)) ≡ AreSeveral →
-            IsSome repr.now.pack → result ≡ Err LayoutCalculatorError.ReprConflict }
-        ensures too_large { path_of is_enum repr.now (map (map F.layout_of) (items_of variants.entry)) ≡ AreSeveral →
-            result ≡ Err LayoutCalculatorError.SizeOverflow
-            → WholeRun I.next_gives discriminants (λ run.
-            IsAskedTooLarge (Cx.target self.now.cx) repr.now (D.post discr_range_of_repr)
-            (counting_of VariantIdx.number repr.now (map (map F.layout_of) (items_of variants.entry)) run.items)
-            (map (map F.layout_of) (items_of variants.entry))) }
-        ensures refused { path_of is_enum repr.now (map (map F.layout_of) (items_of variants.entry)) ≡ AreSeveral →
-            (repr.now.pack ≡ None) → All AreSized (map (map F.layout_of) (items_of variants.entry))
-            → EachRunFrom I.next_gives discriminants (λ run. IsTrue run.whole →
-            IsAlwaysTooLarge (Cx.target self.now.cx) repr.now (D.post discr_range_of_repr)
-            (counting_of VariantIdx.number repr.now (map (map F.layout_of) (items_of variants.entry)) run.items)
-            (map (map F.layout_of) (items_of variants.entry)))
-            → IsAnswer (Err LayoutCalculatorError.SizeOverflow) result }
-        ensures no_other { path_of is_enum repr.now (map (map F.layout_of) (items_of variants.entry)) ≡ AreSeveral →
-            (repr.now.pack ≡ None) → All AreSized (map (map F.layout_of) (items_of variants.entry))
-            → IfErr result (λ e. (e ≡ LayoutCalculatorError.SizeOverflow) ⊎ (e ≡ LayoutCalculatorError.OutOfMemory)) }
+        ensures listed { (i : _)
+            → path_of is_enum repr.now (map (map F.layout_of) (items_of variants.entry)) ≡ IsOneList i
+            → IsListedType F.layout_of FieldIdx.at FieldIdx.number (VariantIdx.at i) (Cx.target self.now.cx) repr.now
+            niche_optimizations (kind_at is_enum always_sized (items_of variants.entry) i)
+            (variant_at (items_of variants.entry) i) result }
+        ensures several { path_of is_enum repr.now (map (map F.layout_of) (items_of variants.entry)) ≡ AreSeveral
+            → AreSeveralVariants F.layout_of FieldIdx.at FieldIdx.number (VariantIdx.at 0) VariantIdx.number
+            (Cx.target self.now.cx) repr.now (D.post discr_range_of_repr) I.next_gives discriminants
+            (items_of variants.entry) result }
     {
         let all = variants.as_raw();
         match path_of(is_enum, repr, all) {

@@ -1,15 +1,18 @@
 //! The layout calculator: the layouts of types that have parts.
 #![tactic(auto)]
 
+// The calculator, and its calls for arrays, lists, unions and vectors.
 mod array;
 mod calculator;
-mod coroutine;
-mod enums;
 mod in_order;
 mod list;
-mod over_lists;
 mod simd;
 mod unions;
+
+// Structs and enums, coroutines, and what both take over from their lists.
+mod coroutine;
+mod enums;
+mod over_lists;
 
 pub use calculator::LayoutCalculator;
 pub use coroutine::state_tag;

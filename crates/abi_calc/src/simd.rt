@@ -1,11 +1,13 @@
 //! Vectors: lanes of one scalar.
 
-ghost use Rattle.std.specs.Prelude.{◌≡◌, ◌≢◌, ℕ, ◌*◌, ◌^◌, IfOk, IsTrue, Err};
+ghost use Rattle.std.specs.Prelude.{◌≡◌, ◌≢◌, ℕ, ◌*◌, ◌^◌, IfOk, IsTrue, Err, false, true};
 ghost use Rattle.std.specs.Int.{next_multiple_of};
 ghost use Rattle.abi_base.specs.DataLayout.{IsLawfulDataLayout};
+ghost use Rattle.abi_scalar.specs.declared.backend_repr.BackendRepr.TheVariants.{Memory, Scalar as OneScalar, SimdVector};
+ghost use Rattle.abi_scalar.specs.declared.scalar.Scalar.{Scalar};
 ghost use Rattle.abi_scalar.specs.Lawful.{IsLawfulLayout};
 ghost use Rattle.abi_scalar.specs.Order.{HasPlaceForEach, IsAscending};
-ghost use Rattle.abi_lists.specs.Simd.{IsVectorTooLarge, is_tight, scalable_answer, simd_answer};
+ghost use Rattle.abi_lists.specs.Simd.{IsVectorTooLarge, is_tight, lanes_align, scalable_answer, simd_answer};
 
 use crate::calculator::LayoutCalculator;
 use abi_base::{HasDataLayout, NumScalableVectors};
@@ -48,6 +50,12 @@ impl<Cx: HasDataLayout> LayoutCalculator<Cx> {
             IsVectorTooLarge (Cx.target self.now.cx) (F.layout_of element) count repr_packed }
         ensures refused { IsVectorTooLarge (Cx.target self.now.cx) (F.layout_of element) count repr_packed →
             result ≡ Err LayoutCalculatorError.SizeOverflow }
+        ensures niche { IfOk result (λ l. l.largest_niche ≡ (F.layout_of element).largest_niche) }
+        ensures alignment { IfOk result (λ l. l.align.abi ≡ lanes_align (Cx.target self.now.cx) repr_packed count
+            ((F.layout_of element).size * count)) }
+        ensures view { (scalar : Scalar) → (F.layout_of element).backend_repr ≡ OneScalar scalar →
+            is_tight repr_packed count ≡ false → IfOk result (λ l. l.backend_repr ≡ SimdVector scalar count) }
+        ensures tight_view { is_tight repr_packed count ≡ true → IfOk result (λ l. l.backend_repr ≡ Memory true) }
         ensures places { IfOk result (λ l. HasPlaceForEach l.fields) }
         ensures ascending { IfOk result (λ l. IsAscending FieldIdx.number l.fields) }
     {
@@ -78,6 +86,7 @@ impl<Cx: HasDataLayout> LayoutCalculator<Cx> {
         ensures size { IfOk result (λ l. l.size ≡ next_multiple_of
             ((F.layout_of element).size * count * number_of_vectors.0) (2 ^ l.align.abi)) }
         ensures lawful { number_of_vectors.0 ≢ 0 → IfOk result (IsLawfulLayout (Cx.target self.now.cx)) }
+        ensures niche { IfOk result (λ l. l.largest_niche ≡ (F.layout_of element).largest_niche) }
         ensures places { IfOk result (λ l. HasPlaceForEach l.fields) }
         ensures ascending { IfOk result (λ l. IsAscending FieldIdx.number l.fields) }
     {

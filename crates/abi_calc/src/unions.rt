@@ -4,6 +4,7 @@ ghost use Rattle.std.specs.Prelude.{◌≡◌, ◌+◌, ◌^◌, ◌≤◌, All,
 ghost use Rattle.std.specs.Int.{next_multiple_of};
 ghost use Rattle.abi_index.specs.Slice.{items_of};
 ghost use Rattle.abi_base.specs.DataLayout.{IsLawfulDataLayout};
+ghost use Rattle.abi_scalar.specs.declared.fields_shape.FieldsShape.TheVariants.{Union};
 ghost use Rattle.abi_scalar.specs.declared.variants.Variants.TheVariants.{Single};
 ghost use Rattle.abi_scalar.specs.Lawful.{IsLawfulLayout};
 ghost use Rattle.abi_scalar.specs.Order.{HasPlaceForEach, IsAscending};
@@ -60,6 +61,7 @@ impl<Cx: HasDataLayout> LayoutCalculator<Cx> {
         ensures size { IfOk result (λ l. l.size ≡ next_multiple_of
             (greatest_size (map F.layout_of (only_of (items_of variants.entry)))) (2 ^ l.align.abi)) }
         ensures lawful { IfOk result (IsLawfulLayout (Cx.target self.now.cx)) }
+        ensures fields { IfOk result (λ l. l.fields ≡ Union (length (only_of (items_of variants.entry)))) }
         ensures niche { IfOk result (λ l. l.largest_niche ≡ None) }
         ensures inhabited { IfOk result (λ l. l.uninhabited ≡ false) }
         ensures single { IfOk result (λ l. l.variants ≡ Single (VariantIdx.at 0)) }

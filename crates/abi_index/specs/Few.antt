@@ -9,6 +9,11 @@ use Rattle.abi_index.specs.declared.few.Front.TheVariants.{Empty, One, Two}
 abbrev pub TwoFit : RattleType → Type 0
 TwoFit R = FitsInMemory (Array R 2)
 
+-- what is kept of a list: its items, and for how many the allocation has room
+pub record Kept (T : Type 0) : Type 0 where
+  pub items : List T
+  pub room : ℕ
+
 module _ {T : Type 0} where
   -- the items of a list: those that it has in itself, or else those that lie in an allocation
   abbrev pub few_items : Front T → List T → List T

@@ -12,6 +12,7 @@ pub record Relation : Type 0 where
 abbrev pub row_count : Relation → ℕ
 row_count m = length m.rows
 
+-- how many columns the relation has
 abbrev pub column_count : Relation → ℕ
 column_count m = m.columns
 

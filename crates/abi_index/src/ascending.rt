@@ -1,6 +1,6 @@
 //! Ascending lists of numbers.
 
-ghost use Rattle.std.specs.Prelude.{◌≡◌, ℕ, ◌<◌, ◌≤◌, ◌==◌, ◌||◌, [], length, not, true, false, OnOk, OnErr, IfOk, IfErr, insert};
+ghost use Rattle.std.specs.Prelude.{◌≡◌, ℕ, ◌<◌, ◌≤◌, ◌==◌, ◌||◌, [], length, not, true, false, OnOk, OnErr, IfOk, IfErr, IsOk, insert};
 ghost use Rattle.abi_index.specs.Ascending.{IsAscendingFrom, has_number};
 
 use std::alloc::{AllocError, Global};
@@ -76,11 +76,13 @@ impl Ascending {
         place_of(self.numbers.as_slice(), number).is_ok()
     }
 
-    /// Puts a number in its place, and tells whether it is new. A refused growth leaves the list as it was.
+    /// Puts a number in its place, and tells whether it is new. A refused growth leaves the list as it was; a number that
+    /// is there asks for none.
     #[tactic(auto, using(crate::proofs::AscendingLemmas::inserted))]
     pub(crate) fn insert(&mut self, number: u32) -> Result<bool, AllocError>
         ensures is_new { IfOk result (λ is_new. is_new ≡ not (has_number self.old number)) }
         ensures numbers { OnOk result ((k : ℕ) → has_number self.new k ≡ (k == number || has_number self.old k)) }
+        ensures there { has_number self.old number ≡ true → IsOk result }
         ensures err { OnErr result (self.new ≡ self.old) }
     {
         match place_of(self.numbers.as_slice(), number) {

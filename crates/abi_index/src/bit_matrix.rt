@@ -1,6 +1,6 @@
 //! Relations between indices.
 
-ghost use Rattle.std.specs.Prelude.{◌≡◌, ℕ, ◌≤◌, ◌<◌, ◌+◌, ◌==◌, ◌||◌, ◌&&◌, not, false, length, map, OnOk, OnErr, IfOk, [], replicate, All};
+ghost use Rattle.std.specs.Prelude.{◌≡◌, ℕ, ◌≤◌, ◌<◌, ◌+◌, ◌==◌, ◌||◌, ◌&&◌, not, false, true, length, map, OnOk, OnErr, IfOk, IsOk, [], replicate, All};
 ghost use Rattle.std.specs.List.{range_with_len};
 ghost use Rattle.abi_index.specs.Relation.{row_count, column_count, is_entry, columns_of};
 ghost use Rattle.abi_index.specs.BitRow.{columns_left};
@@ -80,7 +80,8 @@ impl<R: Idx, C: Idx> BitMatrix<R, C> {
         })
     }
 
-    /// Relates a row and a column, and tells whether that is new. A refused growth leaves the relation as it was.
+    /// Relates a row and a column, and tells whether that is new. A refused growth leaves the relation as it was; what is
+    /// related already asks for none.
     pub fn insert(&mut self, row: R, column: C) -> Result<bool, AllocError>
         requires row { R.number row < row_count self.old }
         requires column { C.number column < column_count self.old }
@@ -89,6 +90,7 @@ impl<R: Idx, C: Idx> BitMatrix<R, C> {
             ≡ ((r == R.number row && c == C.number column) || is_entry self.old r c)) }
         ensures rows { row_count self.new ≡ row_count self.old }
         ensures columns { column_count self.new ≡ column_count self.old }
+        ensures there { is_entry self.old (R.number row) (C.number column) ≡ true → IsOk result }
         ensures err { OnErr result (self.new ≡ self.old) }
     {
         let number = column.index() as u32;

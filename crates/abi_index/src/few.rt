@@ -1,8 +1,8 @@
 //! Lists that keep up to two items in themselves.
 
-ghost use Rattle.std.specs.Prelude.{◌≡◌, ℕ, ◌≤◌, ◌<◌, ◌↔◌, [], ◌∷◌, ◌++◌, length, IsTrue, IsOk, IfOk, OnOk, OnErr};
+ghost use Rattle.std.specs.Prelude.{◌≡◌, ℕ, ◌≤◌, ◌<◌, ◌↔◌, [], ◌∷◌, ◌++◌, length, IsTrue, IsOk, IfOk, IfErr, OnOk, OnErr, nat_le, if◌then◌else◌, option_to_list, vec_capacity};
 ghost use Rattle.std.specs.Mem.{type_size};
-ghost use Rattle.abi_index.specs.Few.{TwoFit};
+ghost use Rattle.abi_index.specs.Few.{TwoFit, few_items};
 
 use crate::pair::{Pair, both};
 use std::alloc::{AllocError, Global};
@@ -34,12 +34,12 @@ pub(crate) struct Few<T: InMemory> {
 }
 
 impl<T: InMemory> Model for Few<T> {
-    ghost use Rattle.std.specs.Prelude.{List};
-    ghost use Rattle.abi_index.specs.Few.{few_items, IsAlone};
+    ghost use Rattle.std.specs.Prelude.{vec_capacity};
+    ghost use Rattle.abi_index.specs.Few.{Kept, few_items, IsAlone};
 
-    ghost Value = { List T };
+    ghost Value = { Kept T };
 
-    ghost view = { λ a. few_items a.front a.rest.items };
+    ghost view = { λ a. record { items = few_items a.front a.rest.items; room = vec_capacity a.rest } };
 
     ghost invariant = { λ a. IsAlone T.bytes a.front a.rest.items };
 }
@@ -59,10 +59,58 @@ fn two_fit<T>(item: &T) -> bool
     mem::size_of_val(item) < 0x4000_0000_0000_0000
 }
 
+/// The item, behind the one that is before it, if one is.
+fn behind<T>(before: Option<T>, item: T) -> Front<T>
+    ensures { few_items result [] ≡ option_to_list before ++ item ∷ [] }
+{
+    match before {
+        None => Front::One(item),
+        Some(first) => Front::Two(Pair {
+            first,
+            second: item,
+        }),
+    }
+}
+
+/// Puts an item behind those that lie in an allocation. Where growth is refused, all is as it was.
+fn push_allocated<T: Drop>(rest: &mut Vec<T>, item: T) -> Result<(), AllocError>
+    ensures ok { OnOk result (rest.new.items ≡ rest.old.items ++ item ∷ []) }
+    ensures err { OnErr result (rest.new.items ≡ rest.old.items) }
+    ensures room { OnErr result (vec_capacity rest.new ≡ vec_capacity rest.old) }
+    ensures kept { vec_capacity rest.old ≤ vec_capacity rest.new }
+    ensures reserved { length rest.old.items < vec_capacity rest.old → IsOk result }
+{
+    rest.reserve(1)?;
+    rest.push_reserved(item);
+    Ok(())
+}
+
+/// Moves a pair into an allocation, which has no items, and puts one behind them. Where growth is refused, the pair is
+/// given back, and the allocation is as it was.
+fn push_third<T: Drop>(rest: &mut Vec<T>, pair: Pair<T>, item: T) -> Result<(), Pair<T>>
+    requires { rest.old.items ≡ [] }
+    ensures ok { OnOk result (rest.new.items ≡ pair.first ∷ pair.second ∷ item ∷ []) }
+    ensures back { IfErr result (λ back. back ≡ pair) }
+    ensures err { OnErr result (rest.new.items ≡ []) }
+    ensures room { OnErr result (vec_capacity rest.new ≡ vec_capacity rest.old) }
+    ensures kept { vec_capacity rest.old ≤ vec_capacity rest.new }
+    ensures reserved { 2 < vec_capacity rest.old → IsOk result }
+{
+    if rest.reserve(3).is_err() {
+        return Err(pair);
+    }
+    let Pair { first, second } = pair;
+    rest.push_reserved(first);
+    rest.push_reserved(second);
+    rest.push_reserved(item);
+    Ok(())
+}
+
 impl<T> Few<T> {
     /// An empty list.
     pub(crate) fn new(alloc: Global) -> Self
-        ensures { result ≡ [] }
+        ensures items { result.items ≡ [] }
+        ensures room { result.room ≡ 0 }
     {
         Few {
             front: Front::Empty,
@@ -70,9 +118,11 @@ impl<T> Few<T> {
         }
     }
 
-    /// An empty list with room for so many items. `AllocError` where the room is refused.
+    /// An empty list with room for so many items. `AllocError` where the room is refused; room for at most two is in the
+    /// list itself, and isn't asked for.
     pub(crate) fn with_capacity(alloc: Global, capacity: usize) -> Result<Self, AllocError>
-        ensures ok { IfOk result (λ list. list ≡ []) }
+        ensures ok { IfOk result (λ list. list.items ≡ []) }
+        ensures room { IfOk result (λ list. list.room ≡ (if nat_le capacity 2 then 0 else capacity)) }
         ensures inline { capacity ≤ 2 → IsOk result }
     {
         let rest = if capacity <= 2 {
@@ -88,7 +138,8 @@ impl<T> Few<T> {
 
     /// The list of these items. Nothing is copied.
     pub(crate) fn from_vec(rest: Vec<T>) -> Self
-        ensures { result ≡ rest.items }
+        ensures items { result.items ≡ rest.items }
+        ensures room { result.room ≡ vec_capacity rest }
     {
         Few {
             front: Front::Empty,
@@ -98,7 +149,7 @@ impl<T> Few<T> {
 
     /// How many items there are.
     pub(crate) fn len(&self) -> usize
-        ensures { result ≡ length self.now }
+        ensures { result ≡ length self.now.items }
     {
         match &self.front {
             Front::Empty => self.rest.len(),
@@ -109,7 +160,7 @@ impl<T> Few<T> {
 
     /// The items.
     pub(crate) fn as_slice(&self) -> &[T]
-        ensures { result.now ≡ self.now }
+        ensures { result.now ≡ self.now.items }
     {
         match &self.front {
             Front::Empty => self.rest.as_slice(),
@@ -118,53 +169,36 @@ impl<T> Few<T> {
         }
     }
 
-    /// Puts an item last. A refused growth leaves the list as it was, and a list of at most two items asks for none.
+    /// Puts an item last. A refused growth leaves the list as it was. A list of at most two items then asks for none, and
+    /// one that has room for the item neither.
     pub(crate) fn push(&mut self, item: T) -> Result<(), AllocError>
     where
         T: Drop,
-        ensures ok { OnOk result (self.new ≡ self.old ++ item ∷ []) }
+        ensures ok { OnOk result (self.new.items ≡ self.old.items ++ item ∷ []) }
         ensures err { OnErr result (self.new ≡ self.old) }
-        ensures inline { TwoFit T.row → length self.old < 2 → IsOk result }
+        ensures inline { TwoFit T.row → length self.old.items < 2 → IsOk result × (self.new.room ≡ self.old.room) }
+        ensures reserved { length self.old.items < self.old.room → IsOk result }
+        ensures kept { self.old.room ≤ self.new.room }
     {
         if self.rest.len() >= 2 {
-            self.rest.reserve(1)?;
-            self.rest.push_reserved(item);
-            return Ok(());
+            return push_allocated(&mut self.rest, item);
         }
         match mem::replace(&mut self.front, Front::Empty) {
             Front::Empty => {
-                if two_fit(&item) {
-                    self.front = match self.rest.pop() {
-                        None => Front::One(item),
-                        Some(first) => Front::Two(Pair {
-                            first,
-                            second: item,
-                        }),
-                    };
-                    return Ok(());
+                if !two_fit(&item) {
+                    return push_allocated(&mut self.rest, item);
                 }
-                self.rest.reserve(1)?;
-                self.rest.push_reserved(item);
-                Ok(())
+                let first = self.rest.pop();
+                self.front = behind(first, item);
             }
-            Front::One(first) => {
-                self.front = Front::Two(Pair {
-                    first,
-                    second: item,
-                });
-                Ok(())
-            }
+            Front::One(first) => self.front = behind(Some(first), item),
             Front::Two(pair) => {
-                if self.rest.reserve(3).is_err() {
+                if let Err(pair) = push_third(&mut self.rest, pair, item) {
                     self.front = Front::Two(pair);
                     return Err(AllocError);
                 }
-                let Pair { first, second } = pair;
-                self.rest.push_reserved(first);
-                self.rest.push_reserved(second);
-                self.rest.push_reserved(item);
-                Ok(())
             }
         }
+        Ok(())
     }
 }

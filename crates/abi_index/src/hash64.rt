@@ -20,6 +20,9 @@ impl Model for Hash64 {
     ghost inverse = { λ n. record { inner = n } };
 }
 
+// The hash of nothing has the number 0.
+const _: () = prove!(Hash64::ZERO.inner == 0);
+
 impl Hash64 {
     /// The hash of nothing.
     pub const ZERO: Hash64 = Hash64 { inner: 0 };

@@ -32,9 +32,9 @@ impl<I: Idx, T> Model for IndexVec<I, T> {
 
     ghost Value = { List T };
 
-    ghost view = { λ a. a.raw };
+    ghost view = { λ a. a.raw.items };
 
-    ghost invariant = { λ a. length a.raw ≤ I.MAX_INDEX + 1 };
+    ghost invariant = { λ a. length a.raw.items ≤ I.MAX_INDEX + 1 };
 }
 
 impl<I: Idx, T: PartialEq> PartialEq for IndexVec<I, T> {
@@ -88,7 +88,9 @@ impl<I: Idx, T> IndexVec<I, T> {
     /// An empty list with room for so many items, which are then put into it without a growth. `AllocError` where the
     /// room is refused.
     pub fn with_capacity(alloc: Global, capacity: usize) -> Result<Self, AllocError>
-        ensures { IfOk result (λ list. list ≡ []) }
+        ensures ok { IfOk result (λ list. list ≡ []) }
+        // Room for at most two items is in the list itself, and isn't asked for.
+        ensures inline { capacity ≤ 2 → IsOk result }
     {
         Ok(IndexVec {
             raw: Few::with_capacity(alloc, capacity)?,

@@ -1,25 +1,34 @@
 //! Index types with their laws, and the lists whose places they name.
 #![tactic(auto)]
 
-mod add_run;
+// Index types, and going over indices.
+mod idx;
+mod indices;
+
+// Lists named by an index type, views of them, copies.
+mod few;
+mod index_list;
+mod index_slice;
+mod index_vec;
+mod pair;
+mod try_clone;
+
+// Relations between indices, and sets of them.
 mod ascending;
 mod bit_matrix;
 mod bit_row_iter;
 mod bit_set;
 mod bit_set_iter;
-mod few;
 mod first_member;
-mod hash64;
-mod idx;
-mod index_list;
-mod index_slice;
-mod index_vec;
-mod indices;
-mod pair;
+
+// Sets of bytes, kept as runs.
+mod add_run;
 mod range_set;
 mod range_set_builder;
-mod try_clone;
 mod uncut;
+
+// Hashes.
+mod hash64;
 
 pub use bit_matrix::BitMatrix;
 pub use bit_row_iter::BitRowIter;

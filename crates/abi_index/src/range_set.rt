@@ -1,6 +1,6 @@
 //! Sets of bytes, kept as runs.
 
-ghost use Rattle.std.specs.Prelude.{◌≡◌, ℕ, ◌<◌, ◌+◌, ◌^◌, ◌&&◌, ◌||◌, not, nat_lt, [], IfOk, OnOk, OnErr};
+ghost use Rattle.std.specs.Prelude.{◌≡◌, ℕ, ◌<◌, ◌+◌, ◌^◌, ◌&&◌, ◌||◌, not, nat_lt, [], IfOk, IsOk, OnOk, OnErr};
 ghost use Rattle.abi_index.specs.RangeSet.{is_in_run, is_in_ranges, AreMaximalRuns};
 
 use crate::add_run::add_run;
@@ -75,11 +75,13 @@ impl RangeSet {
     }
 
     /// Puts in the `size` bytes from byte `offset` on. `AllocError` where memory is refused: then the set is as it was.
-    /// Bytes that begin no earlier than the last run are put in without going over the others.
+    /// Bytes that begin no earlier than the last run are put in without going over the others, and no bytes ask for no
+    /// memory.
     pub fn add_range(&mut self, offset: u64, size: u64) -> Result<(), AllocError>
         requires { offset + size < 2 ^ 64 }
         ensures bytes { OnOk result ((k : ℕ) →
             is_in_ranges self.new k ≡ (is_in_run k (offset, size) || is_in_ranges self.old k)) }
+        ensures none { size ≡ 0 → IsOk result }
         ensures err { OnErr result (self.new ≡ self.old) }
     {
         if size > 0 {

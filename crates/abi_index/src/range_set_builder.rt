@@ -1,6 +1,6 @@
 //! Runs of bytes that are collected, of which a set is made at once.
 
-ghost use Rattle.std.specs.Prelude.{◌≡◌, ℕ, ◌+◌, ◌*◌, ◌-◌, ◌<◌, ◌≤◌, ◌^◌, [], All, IfOk, OnErr, OnOk, nat_lt};
+ghost use Rattle.std.specs.Prelude.{◌≡◌, ℕ, ◌+◌, ◌*◌, ◌-◌, ◌<◌, ◌≤◌, ◌^◌, [], All, IfOk, IsOk, OnErr, OnOk, nat_lt};
 ghost use Rattle.abi_index.specs.RangeSet.{is_in_ranges};
 ghost use Rattle.abi_index.specs.Runs.{Adds, Extends, moved, repeated};
 
@@ -36,15 +36,19 @@ impl RangeSetBuilder {
         }
     }
 
-    /// Puts in the `size` bytes from byte `offset` on. `AllocError` where memory is refused: then all is as it was.
+    /// Puts in the `size` bytes from byte `offset` on. `AllocError` where memory is refused: then all is as it was. No
+    /// bytes ask for none.
     #[tactic(auto, using(crate::proofs::RunsLemmas::adds_run, crate::proofs::RunsLemmas::extends_by))]
     pub fn add_range(&mut self, offset: u64, size: u64) -> Result<(), AllocError>
         requires { offset + size < 2 ^ 64 }
         ensures bytes { OnOk result (Adds self.old self.new (moved offset (λ k. nat_lt k size))) }
         ensures kept { Extends self.old self.new }
+        ensures none { size ≡ 0 → IsOk result }
         ensures err { OnErr result (self.new ≡ self.old) }
     {
-        self.runs.push((offset, size))?;
+        if size > 0 {
+            self.runs.push((offset, size))?;
+        }
         Ok(())
     }
 

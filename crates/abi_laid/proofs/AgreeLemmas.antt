@@ -1,17 +1,17 @@
 -- Bytes that hold one value agree wherever the value covers one.
-use Rattle.std.proofs.Common.{◌≡◌, ℕ, zero, suc, ◌+◌, ◌-◌, ◌*◌, ◌/◌, ◌%◌, ◌^◌, ◌<◌, ◌≤◌, ⊎_elim, inl, inr, List, length, drop, get_or, arith, refl, sym, ap, ap₂, ◌∙◌, subst}
-use Rattle.std.specs.Prelude.{Bool, true, false, ◌==◌, ◌&&◌, ◌||◌, not, nat_le, nat_lt}
+use Rattle.std.proofs.Common.{◌≡◌, ℕ, zero, suc, ◌+◌, ◌-◌, ◌*◌, ◌/◌, ◌%◌, ◌^◌, ◌<◌, ◌≤◌, ⊎_elim, inl, inr, List, length, drop, get_or, arith, sym, ap, ap₂, ◌∙◌, subst}
+use Rattle.std.specs.Prelude.{Bool, true, ◌==◌, ◌&&◌, ◌||◌, not, nat_le, nat_lt}
 use Rattle.std.proofs.lemmas.Bool.{and_parts, or_cases, leb-true, ltb-true, eq-eqb, true≢false}
 use Rattle.std.proofs.lemmas.List.{get_or-drop, get_or-take}
 use Rattle.abi_base.specs.declared.endian.Endian.{Endian}
 use Rattle.abi_base.specs.declared.endian.Endian.TheVariants.{Little, Big}
 use Rattle.abi_scalar.specs.declared.variants.TagEncoding.{TagEncoding}
 use Rattle.abi_scalar.specs.declared.variants.TagEncoding.TheVariants.{Direct, Niche}
-use Rattle.abi_laid.specs.Bytes.{AreBytes, bytes_at, number_of, picked}
+use Rattle.abi_laid.specs.Bytes.{AreBytes, bytes_at, number_of}
 use Rattle.abi_laid.specs.Value.{Value, number, two, list, variant, state, bytes, Values, no_values, more_values}
 use Rattle.abi_laid.specs.Placed.{Placed, scalar, pair, never, elements, vector, fields, union, single, tagged, states, Parts, no_parts, part, Arms, no_arms, arm, size_of}
 use Rattle.abi_laid.specs.Places.{is_data_place}
-use Rattle.abi_laid.specs.Tag.{Names, NamesDirectly, NamesByNiche}
+use Rattle.abi_laid.specs.Tag.{Names, NamesDirectly}
 use Rattle.abi_laid.specs.Holding.{IsAt, HoldEach, Holds, HoldParts, HoldArm, tag_at}
 use Rattle.abi_laid.specs.Covering.{is_told, is_byte_at, each_covered, is_covered, are_covered, is_arm_covered}
 use Rattle.abi_laid.specs.Deciding.{CoveredBytesDecide}

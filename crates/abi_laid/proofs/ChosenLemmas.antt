@@ -1,29 +1,24 @@
 -- What a walk that puts a covering value knows of the nodes that it comes to.
-use Rattle.std.proofs.Common.{◌≡◌, ℕ, zero, suc, ◌+◌, ◌-◌, ◌*◌, ◌<◌, ◌≤◌, Bool, true, false, Option, Some, None, List, [], ◌∷◌, ◌++◌, length, get_or, map, take, All, arith, refl, sym, ap, ◌∙◌, subst, ⊎_elim}
-use Rattle.std.specs.Prelude.{◌&&◌, ◌||◌, ◌==◌, nat_le, nat_lt, not, Vec}
-use Rattle.std.specs.declared.alloc.Global.{Global}
+use Rattle.std.proofs.Common.{◌≡◌, ℕ, zero, suc, ◌+◌, ◌<◌, ◌≤◌, true, false, Option, Some, None, List, [], ◌∷◌, ◌++◌, length, get_or, map, take, All, arith, refl, sym, ◌∙◌, subst, ⊎_elim}
+use Rattle.std.specs.Prelude.{◌&&◌, ◌==◌, nat_le}
 use Rattle.std.specs.Borrow.{Bor}
-use Rattle.std.specs.List.{list_all, list_any}
+use Rattle.std.specs.List.{list_all}
 use Rattle.std.proofs.lemmas.Bool.{and_parts, cases_lt, eq-eqb, leb-true, or_cases, or_left, or_right}
-use Rattle.std.proofs.lemmas.List.{get_or_default, get_or_past, get_or-map, get_or-take, length-map}
+use Rattle.std.proofs.lemmas.List.{get_or_default, get_or_past, get_or-map, length-map}
 use Rattle.std.proofs.lemmas.List.Elements.{All-cons, All-nil}
-use Rattle.abi_index.specs.RangeSet.{AreMaximalRuns, is_in_ranges}
+use Rattle.abi_index.specs.RangeSet.{is_in_ranges}
 use Rattle.abi_scalar.specs.Shape.{listed_offsets}
 use Rattle.abi_scalar.specs.Variant.{variants_of}
-use Rattle.abi_laid.specs.declared.mark.Mark.{Mark}
-use Rattle.abi_laid.specs.declared.node.Shape.{Shape}
-use Rattle.abi_laid.specs.declared.node.Shape.TheVariants.{Scalar, Pair, Never, Elements, Fields, Union, Vector, Single, Tagged, States}
 use Rattle.abi_laid.specs.declared.node.Node.{Node}
-use Rattle.abi_laid.specs.Placed.{Placed, Layout, layout_of, nothing, size_of}
-use Rattle.abi_laid.specs.Places.{is_data_place, is_place_of_part}
+use Rattle.abi_laid.specs.Placed.{Placed, Layout, nothing, size_of}
+use Rattle.abi_laid.specs.Places.{is_place_of_part}
 use Rattle.abi_laid.specs.Nodes.{own_fields, parts_at, placed_at, placed_in, types_in}
-use Rattle.abi_laid.specs.Needed.{AreNeeded, HaveSets, IsKept, IsMade, IsPartAt, is_among, named_by, placed_nodes}
+use Rattle.abi_laid.specs.Needed.{HaveSets, IsKept, IsMade, IsPartAt, is_among, named_by, placed_nodes}
 use Rattle.abi_laid.specs.Typed.{variant_nodes}
-use Rattle.abi_laid.specs.Laws.{has_fields, has_list, has_variants, have_lists, keep_laws, keeps_laws, sizes_at}
+use Rattle.abi_laid.specs.Laws.{has_fields, has_list, has_variants, have_lists, sizes_at}
 use Rattle.abi_laid.specs.Room.{has_room, have_room}
-use Rattle.abi_laid.specs.Well.{all_at, are_nodes}
-use Rattle.abi_laid.proofs.DataPlacesLemmas.{all_before}
-use Rattle.abi_laid.proofs.MadeLemmas.{each_list, listed_own}
+use Rattle.abi_laid.specs.Well.{all_at}
+use Rattle.abi_laid.proofs.MadeLemmas.{listed_own}
 use Rattle.abi_laid.proofs.NeededLemmas.{laws_here, variants_listed}
 use Rattle.abi_laid.proofs.RoomLemmas.{room_at}
 

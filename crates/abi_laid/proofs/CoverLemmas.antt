@@ -1,7 +1,7 @@
 -- How the bytes of a value that covers a place are put from those of its parts.
-use Rattle.std.proofs.Common.{◌≡◌, ℕ, zero, suc, ◌+◌, ◌-◌, ◌*◌, ◌<◌, ◌≤◌, List, [], ◌∷◌, Bool, true, false, Option, Some, None, length, get_or, drop, min, map, All, arith, refl, sym, ap, ◌∙◌, subst, ⊎_elim}
+use Rattle.std.proofs.Common.{◌≡◌, ℕ, zero, suc, ◌+◌, ◌-◌, ◌*◌, ◌<◌, ◌≤◌, List, [], ◌∷◌, Bool, true, false, Option, length, get_or, drop, min, All, arith, refl, sym, ap, ◌∙◌, subst, ⊎_elim}
 use Rattle.std.specs.Prelude.{◌&&◌, ◌||◌, ◌==◌, ◌≢◌, nat_le, nat_lt, replicate, if◌then◌else◌}
-use Rattle.std.proofs.lemmas.Bool.{and_parts, and_right, and_left, cases_Bool, cases_lt, false_from_ne_true, le-leb, leb-true, lt-ltb, ltb-true, le-ltb, or_cases, true≢false}
+use Rattle.std.proofs.lemmas.Bool.{and_parts, and_right, cases_Bool, cases_lt, le-leb, leb-true, lt-ltb, ltb-true, le-ltb, or_cases, true≢false}
 use Rattle.std.specs.Cmp.Derive.{both_true}
 use Rattle.std.proofs.lemmas.List.{drop_more, drop_all, get_or_past}
 use Rattle.abi_base.specs.declared.endian.Endian.{Endian}
@@ -11,12 +11,12 @@ use Rattle.abi_scalar.specs.declared.variants.TagEncoding.TheVariants.{Direct}
 use Rattle.abi_index.specs.RangeSet.{is_in_ranges, is_in_run}
 use Rattle.abi_laid.specs.Value.{Value, number, two, list, variant, state, bytes, Values, no_values, more_values}
 use Rattle.abi_laid.specs.Bytes.{AreBytes, bytes_at, picked, place_count}
-use Rattle.abi_laid.specs.Placed.{Placed, Layout, scalar, pair, never, elements, vector, fields, union, single, tagged, states, Parts, no_parts, part, Arms, no_arms, arm, size_of, nothing}
+use Rattle.abi_laid.specs.Placed.{Placed, Layout, scalar, pair, never, elements, vector, fields, union, single, tagged, states, Parts, no_parts, part, Arms, size_of, nothing}
 use Rattle.abi_laid.specs.Places.{is_data_place, is_place_of_part}
 use Rattle.abi_laid.specs.Nodes.{arms_in, own_fields, parts_at, placed_in}
 use Rattle.abi_laid.specs.Laws.{has_list}
 use Rattle.abi_laid.specs.Room.{has_room, have_room}
-use Rattle.abi_laid.specs.Holding.{HoldEach, HoldParts, Holds, IsAt}
+use Rattle.abi_laid.specs.Holding.{HoldEach, HoldParts, Holds}
 use Rattle.abi_laid.specs.Covering.{are_covered, each_covered, is_arm_covered, is_byte_at, is_covered, is_told}
 use Rattle.abi_laid.specs.Deciding.{arm_for, arm_values, covering_value, covering_values, each_value, first_with, place_in, two_of}
 use Rattle.abi_laid.specs.Reading.{IsNamedIn}
@@ -125,13 +125,26 @@ module _ (order : Endian) (p : Placed) (place : Option ℕ) (count at : ℕ) (b 
       subst (λ o. ElementsLeft o (count - 0) old) start (subst (λ n. ElementsLeft 0 n old) all
       (written_none (each_covered (is_covered p) (size_of p) 0 (elements_from 0 count)) (HoldEach (Holds order p) (size_of p) 0 b (elements_from 0 count)) at b old h))
 
-  one_more : (o left : ℕ) (now new : List ℕ) → AreBytes b → ElementsLeft o (suc left) now → Covered order (at + o) now new (place_in place o (size_of p)) p → ElementsLeft (o + size_of p) left new
-  one_more o left now new all h put =
+  one_next : (o left : ℕ) (now new : List ℕ) → ElementsLeft o (suc left) now →
+      IsPutOver (λ k. is_byte_at o (size_of p) k && is_covered p (covering_value p (place_in place o (size_of p))) (k - o)) at b now new → ElementsLeft (o + size_of p) left new
+  one_next o left now new h put =
       let v : Value = covering_value p (place_in place o (size_of p)) in
       written_more (each_covered (is_covered p) (size_of p) 0 (elements_from 0 count)) (λ k. is_byte_at o (size_of p) k && is_covered p v (k - o))
       (each_covered (is_covered p) (size_of p) (o + size_of p) (elements_from (o + size_of p) left))
-      (HoldEach (Holds order p) (size_of p) o b (elements_from o (suc left))) (HoldEach (Holds order p) (size_of p) (o + size_of p) b (elements_from (o + size_of p) left)) at b old now new h
-      (put_slice order p v at o b now new all h.held.0 put) h.held.1
+      (HoldEach (Holds order p) (size_of p) o b (elements_from o (suc left))) (HoldEach (Holds order p) (size_of p) (o + size_of p) b (elements_from (o + size_of p) left)) at b old now new h put h.held.1
+
+  one_more : (o left : ℕ) (now new : List ℕ) → AreBytes b → ElementsLeft o (suc left) now → Covered order (at + o) now new (place_in place o (size_of p)) p → ElementsLeft (o + size_of p) left new
+  one_more o left now new all h put =
+      one_next o left now new h (put_slice order p (covering_value p (place_in place o (size_of p))) at o b now new all h.held.0 put)
+
+  -- one more, whose bytes were put in whatever way
+  pub elements_next : (i : ℕ) (now new : List ℕ) → i < count → ElementsPut i now →
+      IsPutOver (λ k. is_byte_at (i * size_of p) (size_of p) k && is_covered p (covering_value p (place_in place (i * size_of p) (size_of p))) (k - i * size_of p)) at b now new → ElementsPut (i + 1) new
+  elements_next i now new lt h put =
+      let left : count - i ≡ suc (count - (i + 1)) = omega (arith, lt) in
+      let next : i * size_of p + size_of p ≡ (i + 1) * size_of p = omega arith in
+      let rest : ElementsLeft (i * size_of p) (suc (count - (i + 1))) now = subst (λ n. ElementsLeft (i * size_of p) n now) left h in
+      subst (λ o. ElementsLeft o (count - (i + 1)) new) next (one_next (i * size_of p) (count - (i + 1)) now new rest put)
 
   pub elements_more : (i : ℕ) (now new : List ℕ) → i < count → AreBytes b → ElementsPut i now → Covered order (at + i * size_of p) now new (place_in place (i * size_of p) (size_of p)) p → ElementsPut (i + 1) new
   elements_more i now new lt all h put =

@@ -21,7 +21,8 @@ use Rattle.abi_laid.specs.Room.{has_room, have_room, arms_have_room}
 use Rattle.abi_laid.specs.Laws.{end_inside, has_fields, has_list, has_variants, have_lists, have_places, is_listed, keep_laws, keeps_laws, sizes_at}
 use Rattle.abi_laid.specs.Typed.{variant_nodes}
 use Rattle.abi_laid.specs.Well.{all_at, are_nodes, is_node}
-use Rattle.abi_laid.specs.Needed.{IsKept, AreNeeded, Marks, is_among, named_by, placed_nodes}
+use Rattle.abi_laid.specs.Bytes.{one_if, place_count}
+use Rattle.abi_laid.specs.Needed.{AreNeeded, AreVisits, IsClosed, IsKept, Marks, RestsOn, is_among, named_by, placed_nodes}
 use Rattle.abi_laid.proofs.NodesLemmas.{pair_before, placed_at-node}
 use Rattle.abi_laid.proofs.TypedLemmas.{laws_at}
 use Rattle.abi_laid.proofs.DataPlacesLemmas.{all_before, variants_before, elements_node, fields_node, pair_node, single_node, states_node, tagged_node, union_node, vector_node}
@@ -233,16 +234,41 @@ module _ (ns : List Node) (well : are_nodes 0 ns ≡ true) (laws : keep_laws [] 
 -- ---- from the last node on down
 
 -- Of the nodes from a place on up to the root each that is marked is kept at its place, and what it names is marked; no more were read
--- than there are. Each marked node is one up to the root, and has room.
+-- than there are. Each marked node is one up to the root, has room, and is one that the root's data places rest on.
 pub record AreRead (ns : List Node) (root at : ℕ) (needed : List Bool) (kept : List (Option (Bor Node))) (read : ℕ) : Type 0 where
   pub marks : length needed ≡ root + 1
   pub long : length kept ≡ root + 1
   pub few : read + at ≤ root + 1
+  pub count : read ≡ place_count (λ i. get_or needed i false) at (length ns - at)
+  pub rests : (i : ℕ) → get_or needed i false ≡ true → RestsOn ns root i
   pub first : get_or needed root false ≡ true
   pub room : (i : ℕ) → get_or needed i false ≡ true → HasRoom ns i
   pub stays : (i : ℕ) → at ≤ i → get_or needed i false ≡ true → IsKept kept i
   pub own : (i : ℕ) (n : Bor Node) → get_or kept i None ≡ Some n → (n.now ≡ get_or ns i n.now) × (get_or needed i false ≡ true)
   pub named : (i : ℕ) (n : Bor Node) → get_or kept i None ≡ Some n → 0 < n.now.layout.size → All (λ j. get_or needed j false ≡ true) (named_by n.now.layout n.now.shape)
+
+-- a test that picks none of these places picks none of them
+count_none : (p : ℕ → Bool) (k n : ℕ) → ((i : ℕ) → k ≤ i → p i ≡ false) → place_count p k n ≡ 0
+count_none p k zero none = refl
+count_none p k (suc n) none = let rest = count_none p (k + 1) n (λ i le. none i (omega (arith, le))) in omega (arith, ap one_if (none k (omega arith)), rest)
+
+-- tests that agree on these places pick as many of them
+count_same : (p q : ℕ → Bool) (k n : ℕ) → ((i : ℕ) → k ≤ i → p i ≡ q i) → place_count p k n ≡ place_count q k n
+count_same p q k zero same = refl
+count_same p q k (suc n) same = let rest = count_same p q (k + 1) n (λ i le. same i (omega (arith, le))) in omega (arith, ap one_if (same k (omega arith)), rest)
+
+-- two tests' truths that follow from each other are one
+same_truth : (a b : Bool) → (a ≡ true → b ≡ true) → (b ≡ true → a ≡ true) → a ≡ b
+same_truth true b to back = sym (to refl)
+same_truth false true to back = back refl
+same_truth false false to back = refl
+
+-- there is one count of the nodes that a root's data places rest on
+pub one_count : (ns : List Node) (root n m : ℕ) → AreVisits ns root n → AreVisits ns root m → n ≡ m
+one_count ns root n m a b =
+    a.many
+    ∙ count_same a.nodes b.nodes 0 (length ns) (λ i le. same_truth (a.nodes i) (b.nodes i) (λ h. (b.rest i).1 ((a.rest i).0 h)) (λ h. (a.rest i).1 ((b.rest i).0 h)))
+    ∙ sym b.many
 
 none_marked : (n i : ℕ) → get_or (replicate n false) i false ≡ false
 none_marked zero i = refl
@@ -256,9 +282,9 @@ none_kept (suc n) (suc i) = none_kept n i
 
 module _ (ns : List Node) (root : ℕ) where
   -- at first the root is marked
-  pub read_first : (needed : List Bool) (kept : List (Option (Bor Node))) → needed ≡ replicate (root + 1) false → kept ≡ replicate (root + 1) None → HasRoom ns root →
-      AreRead ns root (root + 1) (set needed root true) kept 0
-  read_first needed kept unmarked empty room =
+  pub read_first : (needed : List Bool) (kept : List (Option (Bor Node))) (visits : ℕ) → visits ≡ 0 → needed ≡ replicate (root + 1) false → kept ≡ replicate (root + 1) None → HasRoom ns root →
+      AreRead ns root (root + 1) (set needed root true) kept visits
+  read_first needed kept visits unread unmarked empty room =
       let old : List Bool = replicate (root + 1) false in
       let only : (i : ℕ) → get_or (set old root true) i false ≡ true → i ≡ root = λ i h.
       ⊎_elim (λ (same : i ≡ root). same)
@@ -266,10 +292,13 @@ module _ (ns : List Node) (root : ℕ) where
       let long : length old ≡ root + 1 = length-replicate (root + 1) false in
       let absent : (i : ℕ) (n : Bor Node) → get_or kept i None ≡ Some n → ⊥ = λ i n h.
       let clash : Some n ≡ None = sym h ∙ ap (λ k. get_or k i None) empty ∙ none_kept (root + 1) i in cc in
-      subst (λ xs. AreRead ns root (root + 1) (set xs root true) kept 0) (sym unmarked) record {
+      let later : (i : ℕ) → root + 1 ≤ i → get_or (set old root true) i false ≡ false = λ i le. false_from_ne_true (get_or (set old root true) i false) (λ h. absurd (omega (arith, le, only i h))) in
+      subst (λ xs. AreRead ns root (root + 1) (set xs root true) kept visits) (sym unmarked) record {
         marks = length-set old root true ∙ long;
         long = ap length empty ∙ length-replicate (root + 1) None;
-        few = omega arith;
+        few = omega (arith, unread);
+        count = unread ∙ sym (count_none (λ i. get_or (set old root true) i false) (root + 1) (length ns - (root + 1)) later);
+        rests = λ i h. subst (RestsOn ns root) (sym (only i h)) (λ set closed. closed.first);
         first = get_or-set_same old root true false (omega (arith, long));
         room = λ i h. subst (HasRoom ns) (sym (only i h)) room;
         stays = λ i le h. absurd (omega (arith, le, only i h));
@@ -288,11 +317,13 @@ module _ (ns : List Node) (root : ℕ) where
 
       -- it is kept, and no more is marked but what it names
       read_on : (new : List Bool) (now : ℕ) → now ≡ visits + 1 → length new ≡ length needed → ((i : ℕ) → IsMarked needed i → IsMarked new i) → ((i : ℕ) → k ≤ i → IsMarked new i → IsMarked needed i)
-          → ((i : ℕ) → IsMarked new i → HasRoom ns i) → (0 < n.now.layout.size → All (IsMarked new) (named_by n.now.layout n.now.shape)) → AreRead ns root k new (set kept k (Some n)) now
-      read_on new now more long grows only room named = record {
+          → ((i : ℕ) → IsMarked new i → HasRoom ns i) → ((i : ℕ) → IsMarked new i → RestsOn ns root i) → (0 < n.now.layout.size → All (IsMarked new) (named_by n.now.layout n.now.shape)) → AreRead ns root k new (set kept k (Some n)) now
+      read_on new now more long grows only room rests named = record {
         marks = long ∙ read.marks;
         long = length-set kept k (Some n) ∙ read.long;
         few = omega (arith, read.few, more);
+        count = counted;
+        rests = rests;
         first = grows root read.first;
         room = room;
         stays = λ i le h.
@@ -322,6 +353,17 @@ module _ (ns : List Node) (root : ℕ) where
           within : k < length kept
           within = omega (arith, below, read.long)
 
+          counted : now ≡ place_count (λ i. get_or new i false) k (length ns - k)
+          counted =
+              let p : ℕ → Bool = λ i. get_or new i false in
+              let rest : ℕ = length ns - (k + 1) in
+              let here : p k ≡ true = grows k marked in
+              let same = count_same p (λ i. get_or needed i false) (k + 1) rest (λ i le. same_truth (p i) (get_or needed i false) (only i (omega (arith, le))) (grows i)) in
+              let one : one_if (p k) ≡ 1 = ap one_if here in
+              let long : length ns - k ≡ suc rest = omega (arith, in_nodes) in
+              let all : now ≡ one_if (p k) + place_count p (k + 1) rest = omega (arith, more, read.count, same, one) in
+              all ∙ ap (place_count p k) (sym long)
+
           here_is : (i : ℕ) (m : Bor Node) → i ≡ k → get_or (set kept k (Some n)) i None ≡ Some m → n ≡ m
           here_is i m same h =
               let both : Some n ≡ Some m = sym (get_or-set_same kept k (Some n) None within) ∙ ap (λ j. get_or (set kept k (Some n)) j None) (sym same) ∙ h in
@@ -329,11 +371,11 @@ module _ (ns : List Node) (root : ℕ) where
 
       -- it has no bytes
       pub read_bare : (now : ℕ) → now ≡ visits + 1 → (0 < n.now.layout.size → ⊥) → AreRead ns root k needed (set kept k (Some n)) now
-      read_bare now more bare = read_on needed now more refl (λ i h. h) (λ i le h. h) read.room (λ some. absurd (bare some))
+      read_bare now more bare = read_on needed now more refl (λ i h. h) (λ i le h. h) read.room read.rests (λ some. absurd (bare some))
 
       -- it has bytes
-      pub read_more : (new : List Bool) (now : ℕ) → now ≡ visits + 1 → Marks needed new (named_by n.now.layout n.now.shape) → AreRead ns root k new (set kept k (Some n)) now
-      read_more new now more marks =
+      pub read_more : (new : List Bool) (now : ℕ) → now ≡ visits + 1 → 0 < n.now.layout.size → Marks needed new (named_by n.now.layout n.now.shape) → AreRead ns root k new (set kept k (Some n)) now
+      read_more new now more some marks =
           let cs : List ℕ = named_by n.now.layout n.now.shape in
           let before : All (λ j. j < k) cs = named_first ns well laws k n.now in_nodes at in
           read_on new now more marks.0
@@ -343,7 +385,59 @@ module _ (ns : List Node) (root : ℕ) where
           (λ i h. ⊎_elim (λ (old : IsMarked needed i). read.room i old)
           (λ (new_one : is_among cs i ≡ true). among_all (HasRoom ns) cs i (named_room ns well laws k n.now in_nodes at (read.room k marked)) new_one)
           (or_cases (get_or needed i false) (is_among cs i) (sym (marks.1 i) ∙ h)))
+          (λ i h. ⊎_elim (λ (old : IsMarked needed i). read.rests i old)
+          (λ (new_one : is_among cs i ≡ true). λ set closed. closed.step k i (read.rests k marked set closed) (n.now, in_nodes, at, some, new_one))
+          (or_cases (get_or needed i false) (is_among cs i) (sym (marks.1 i) ∙ h)))
           (λ some j d lt. marks.1 (get_or cs j d) ∙ or_right (get_or needed (get_or cs j d) false) (is_among cs (get_or cs j d)) (among_own cs j d lt))
+
+  -- a node that isn't needed isn't read
+  pub read_skip : (k : ℕ) (needed : List Bool) (kept : List (Option (Bor Node))) (visits : ℕ) → root < length ns → k < root + 1 → AreRead ns root (k + 1) needed kept visits → get_or needed k false ≡ false →
+      AreRead ns root k needed kept visits
+  read_skip k needed kept visits there below read unmarked = record {
+    marks = read.marks;
+    long = read.long;
+    few = omega (arith, read.few);
+    count =
+        let p : ℕ → Bool = λ i. get_or needed i false in
+        let rest : ℕ = length ns - (k + 1) in
+        let long : length ns - k ≡ suc rest = omega (arith, there, below) in
+        let all : visits ≡ one_if (p k) + place_count p (k + 1) rest = omega (arith, read.count, ap one_if unmarked) in
+        all ∙ ap (place_count p k) (sym long);
+    rests = read.rests;
+    first = read.first;
+    room = read.room;
+    stays = λ i le h.
+        ⊎_elim (λ (same : i ≡ k). let clash : true ≡ false = sym h ∙ ap (λ j. get_or needed j false) same ∙ unmarked in absurd (cc))
+        (λ (other : i ≢ k). read.stays i (omega (arith, le, other)) h) (cases_eq i k);
+    own = read.own;
+    named = read.named;
+  }
+
+  -- all that were read are those that the root's data places rest on
+  read_counted : (needed : List Bool) (kept : List (Option (Bor Node))) (visits : ℕ) → AreRead ns root 0 needed kept visits → AreVisits ns root visits
+  read_counted needed kept visits read =
+      let all : length ns - 0 ≡ length ns = omega arith in
+      record {
+        nodes = λ i. get_or needed i false;
+        rest = λ i. (read.rests i, λ rests. rests (λ j. get_or needed j false) closed);
+        many = read.count ∙ ap (place_count (λ i. get_or needed i false) 0) all;
+      }
+    where
+      closed : IsClosed ns root (λ j. get_or needed j false)
+      closed = record {
+        first = read.first;
+        step = λ i j marked from.
+            let keeps = read.stays i (omega arith) marked in
+            let own = read.own i keeps.0 keeps.1 in
+            let same : keeps.0.now ≡ from.0 = own.0 ∙ get_or_default ns i keeps.0.now from.0 from.1 ∙ sym from.2 in
+            let some : 0 < keeps.0.now.layout.size = subst (λ (m : Node). 0 < m.layout.size) (sym same) from.3 in
+            among_all (λ m. get_or needed m false ≡ true) (named_by keeps.0.now.layout keeps.0.now.shape) j (read.named i keeps.0 keeps.1 some)
+            (subst (λ (m : Node). is_among (named_by m.layout m.shape) j ≡ true) (sym same) from.4);
+      }
+
+  pub counted_all : (at : ℕ) (needed : List Bool) (kept : List (Option (Bor Node))) (visits count : ℕ) → AreRead ns root at needed kept visits → at ≡ 0 → count ≡ visits → AreVisits ns root count
+  counted_all at needed kept visits count read none same =
+      subst (AreVisits ns root) (sym same) (read_counted needed kept visits (subst (λ i. AreRead ns root i needed kept visits) none read))
 
   -- all are read
   pub read_all : (needed : List Bool) (kept : List (Option (Bor Node))) (visits : ℕ) → are_nodes 0 ns ≡ true → keep_laws [] ns ≡ true → root < length ns →

@@ -21,6 +21,7 @@ abbrev pub number_of : Endian → List ℕ → ℕ
 number_of Little bytes = little bytes
 number_of Big bytes = little (reverse bytes)
 
+-- the byte in front, where the test holds
 abbrev pub put_if : Bool → ℕ → List ℕ → List ℕ
 put_if true b rest = b ∷ rest
 put_if false b rest = rest
@@ -30,6 +31,7 @@ abbrev pub picked : (ℕ → Bool) → (k : ℕ) → List ℕ → List ℕ
 picked p k [] = []
 picked p k (b ∷ bytes) = put_if (p k) b (picked p (k + 1) bytes)
 
+-- 1 where the test holds, and else 0
 abbrev pub one_if : Bool → ℕ
 one_if true = 1
 one_if false = 0

@@ -115,6 +115,7 @@ abbrev mutual
 abbrev pub are_inhabited : List Node → Bool
 are_inhabited ns = list_all (λ n. not n.layout.uninhabited) ns
 
+-- no node of the laid-out type is flagged
 abbrev pub all_inhabited_of : Laid → Bool
 all_inhabited_of laid = are_inhabited laid.nodes
 

@@ -34,6 +34,7 @@ has_elements whole _ size = false
 abbrev pub sizes_at : List Placed → (places : List ℕ) → List ℕ
 sizes_at done places = map (λ i. size_of (placed_in done i)) places
 
+-- the node has the fields that its layout promises, inside
 abbrev pub has_fields : List Placed → Layout → Shape → Bool
 has_fields done layout (Elements count element) = has_elements layout.size layout.fields (size_of (placed_in done element))
 has_fields done layout shape = have_places layout.size layout.fields (sizes_at done (field_nodes shape))

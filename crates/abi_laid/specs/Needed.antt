@@ -1,5 +1,5 @@
 -- The nodes that a node's data places rest on, and the runs that are made of those of the nodes that it names.
-use Rattle.std.specs.Prelude.{◌≡◌, ℕ, ◌+◌, ◌-◌, ◌==◌, ◌<◌, ◌≤◌, ◌||◌, Bool, true, false, List, [], ◌∷◌, ◌++◌, None, Option, Some, get_or, length, map, take}
+use Rattle.std.specs.Prelude.{◌≡◌, ◌↔◌, ℕ, ◌+◌, ◌-◌, ◌==◌, ◌<◌, ◌≤◌, ◌||◌, Bool, true, false, List, [], ◌∷◌, ◌++◌, None, Option, Some, get_or, length, map, take}
 use Rattle.std.specs.Borrow.{Bor}
 use Rattle.std.specs.List.{list_any}
 use Rattle.abi_index.specs.RangeSet.{AreMaximalRuns, is_in_ranges}
@@ -8,6 +8,7 @@ use Rattle.abi_scalar.specs.Shape.{listed_offsets}
 use Rattle.abi_laid.specs.declared.node.Shape.{Shape}
 use Rattle.abi_laid.specs.declared.node.Shape.TheVariants.{Scalar, Pair, Never, Elements, Fields, Union, Vector, Single, Tagged, States}
 use Rattle.abi_laid.specs.declared.node.Node.{Node}
+use Rattle.abi_laid.specs.Bytes.{place_count}
 use Rattle.abi_laid.specs.Placed.{Placed, Layout, size_of}
 use Rattle.abi_laid.specs.Places.{is_data_place, is_place_of_part}
 use Rattle.abi_laid.specs.Nodes.{meaning, own_fields, placed_at, placed_in}
@@ -44,6 +45,26 @@ Marks old new places = (length new ≡ length old) × ((i : ℕ) → get_or new 
 -- the node at this place is kept
 abbrev pub IsKept : List (Option (Bor Node)) → (place : ℕ) → Type 0
 IsKept kept i = (n : Bor Node) × (get_or kept i None ≡ Some n)
+
+-- the data places of the node at the first place are made of those of the node at the second: it has bytes, and names it
+abbrev pub AreMadeFrom : List Node → (place other : ℕ) → Type 0
+AreMadeFrom ns i j =
+    (n : Node) × (i < length ns) × (n ≡ get_or ns i n) × (0 < n.layout.size) × (is_among (named_by n.layout n.shape) j ≡ true)
+
+-- the set has the root, and with each place those of which its node's data places are made
+pub record IsClosed (ns : List Node) (root : ℕ) (set : ℕ → Bool) : Type 0 where
+  pub first : set root ≡ true
+  pub step : (i j : ℕ) → set i ≡ true → AreMadeFrom ns i j → set j ≡ true
+
+-- the data places of the root rest on the node at this place: each such set has it
+abbrev pub RestsOn : List Node → (root place : ℕ) → Type 0
+RestsOn ns root i = (set : ℕ → Bool) → IsClosed ns root set → set i ≡ true
+
+-- A set has those nodes that the root's data places rest on, and no other; there are so many.
+pub record AreVisits (ns : List Node) (root count : ℕ) : Type 0 where
+  pub nodes : ℕ → Bool
+  pub rest : (i : ℕ) → (nodes i ≡ true) ↔ RestsOn ns root i
+  pub many : count ≡ place_count nodes 0 (length ns)
 
 -- Nodes are kept at their own places: the last one, and with each that has bytes all whose data places are its own. Each has room.
 pub record AreNeeded (ns : List Node) (kept : List (Option (Bor Node))) : Type 0 where

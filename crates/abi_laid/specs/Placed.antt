@@ -13,6 +13,7 @@ abbrev pub Layout : Type 0
 Layout = LayoutData ℕ ℕ
 
 mutual
+  -- a laid-out type
   pub data Placed : Type 0 where
     -- a number over the whole size
     scalar : Layout → Scalar → Placed
@@ -45,6 +46,7 @@ mutual
     no_arms : Arms
     arm : (number : ℕ) → Layout → Mark → Parts → Arms → Arms
 
+-- the layout of the type itself
 abbrev pub layout_of : Placed → Layout
 layout_of (scalar layout s) = layout
 layout_of (pair layout parts) = layout
@@ -57,9 +59,11 @@ layout_of (single layout mark index parts) = layout
 layout_of (tagged layout mark offset tag encoding arms) = layout
 layout_of (states layout prefix offset tag arms) = layout
 
+-- how many bytes it has
 abbrev pub size_of : Placed → ℕ
 size_of placed = (layout_of placed).size
 
+-- its largest niche
 abbrev pub niche_of : Placed → Option Niche
 niche_of placed = (layout_of placed).largest_niche
 
@@ -80,14 +84,17 @@ parts_of (union layout mark parts) = parts
 parts_of (states layout prefix offset tag arms) = prefix
 parts_of _ = no_parts
 
+-- the first part, or a type without values where there is none
 abbrev pub first_part : Parts → Placed
 first_part no_parts = nothing
 first_part (part offset placed parts) = placed
 
+-- the parts behind the first
 abbrev pub more_parts : Parts → Parts
 more_parts no_parts = no_parts
 more_parts (part offset placed parts) = parts
 
+-- the parts of the arm with an index
 abbrev pub parts_of_arm : Arms → (index : ℕ) → Parts
 parts_of_arm no_arms i = no_parts
 parts_of_arm (arm number layout mark parts arms) zero = parts

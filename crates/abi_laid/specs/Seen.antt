@@ -14,6 +14,7 @@ SeesWhole t layout marks = (layout_in t ≡ layout) × (marks_of t ≡ marks)
 abbrev pub HasOffset : Typed → (index offset : ℕ) → Type 0
 HasOffset t i offset = field_offset (layout_in t).fields i ≡ offset
 
+-- how many parts there are
 abbrev pub part_count : Parts → ℕ
 part_count no_parts = 0
 part_count (part offset p parts) = part_count parts + 1

@@ -9,6 +9,7 @@ use Rattle.abi_laid.specs.declared.tree.TypeTree.TheOpen as layer
 use Rattle.abi_laid.specs.declared.tree.TypeTree.TheFolds.{fold-TypeTree}
 
 mutual
+  -- a type
   pub data Tree : Type 0 where
     -- a number
     scalar : Scalar → Tree
@@ -30,6 +31,7 @@ mutual
     -- fields of every state, locals, for each state the indices of its locals, and pairs of locals that may not share bytes
     coroutine : (prefix locals : Trees) → (states : List (List ℕ)) → (conflicts : List (ℕ × ℕ)) → Tree
 
+  -- a list of types
   pub data Trees : Type 0 where
     no_trees : Trees
     more_trees : Tree → Trees → Trees

@@ -36,10 +36,12 @@ abbrev mutual
   InUnions P (tagged layout mark offset tag encoding arms) = InUnions P tag × InUnionsOfArms P arms
   InUnions P (states layout prefix offset tag arms) = InUnionsOf P prefix × InUnions P tag × InUnionsOfArms P arms
 
+  -- it does so in each of these parts
   pub InUnionsOf : (P : (field whole : Placed) → Type 0) → Parts → Type 0
   InUnionsOf P no_parts = ⊤
   InUnionsOf P (part offset placed parts) = InUnions P placed × InUnionsOf P parts
 
+  -- and in the parts of each of these arms
   pub InUnionsOfArms : (P : (field whole : Placed) → Type 0) → Arms → Type 0
   InUnionsOfArms P no_arms = ⊤
   InUnionsOfArms P (arm number layout mark parts arms) = InUnionsOf P parts × InUnionsOfArms P arms

@@ -30,10 +30,12 @@ module _ (order : Endian) where
     UntaggedNamed (tagged layout mark offset tag encoding arms) = NamesItself offset tag encoding arms × UntaggedNamedOfArms arms
     UntaggedNamed (states layout prefix offset tag arms) = UntaggedNamedOf prefix × UntaggedNamedOfArms arms
 
+    -- it is so in each of these parts
     pub UntaggedNamedOf : Parts → Type 0
     UntaggedNamedOf no_parts = ⊤
     UntaggedNamedOf (part offset placed parts) = UntaggedNamed placed × UntaggedNamedOf parts
 
+    -- and in the parts of each of these arms
     pub UntaggedNamedOfArms : Arms → Type 0
     UntaggedNamedOfArms no_arms = ⊤
     UntaggedNamedOfArms (arm number layout mark parts arms) = UntaggedNamedOf parts × UntaggedNamedOfArms arms

@@ -6,6 +6,7 @@ use Rattle.abi_laid.specs.declared.value.Value.TheOpen as layer
 use Rattle.abi_laid.specs.declared.value.Value.TheFolds.{fold-Value}
 
 mutual
+  -- a value
   pub data Value : Type 0 where
     number : ℕ → Value
     two : (first second : ℕ) → Value
@@ -17,6 +18,7 @@ mutual
     -- of a union: its data bytes, ascending
     bytes : List ℕ → Value
 
+  -- a list of values
   pub data Values : Type 0 where
     no_values : Values
     more_values : Value → Values → Values

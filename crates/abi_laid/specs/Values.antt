@@ -16,6 +16,7 @@ EachAt P _ parts _ = ⊥
 
 module _ (dl : TargetDataLayout) where
   abbrev mutual
+    -- the value is one of the tree's
     pub IsValueOf : Tree → Placed → Value → Type 0
     IsValueOf (scalar s) placed (number n) = IsNumberOf (scalar_size dl s) s n
     IsValueOf (pair a b) placed (two n m) = IsNumberOf (scalar_size dl a) a n × IsNumberOf (scalar_size dl b) b m
@@ -55,6 +56,7 @@ module _ (dl : TargetDataLayout) where
   abbrev pub HasValue : Tree → Type 0
   HasValue t = (placed : Placed) × (v : Value) × IsValueOf t placed v
 
+  -- each of these trees has a value, however it is laid out
   abbrev pub HaveValues : Trees → Type 0
   HaveValues no_trees = ⊤
   HaveValues (more_trees t ts) = HasValue t × HaveValues ts
@@ -70,10 +72,12 @@ module _ (dl : TargetDataLayout) where
     LocalsHaveValues (coroutine prefix locals states conflicts) = LocalsOfEach prefix × LocalsOfEach locals × HaveValues locals
     LocalsHaveValues _ = ⊤
 
+    -- so has each in these trees
     pub LocalsOfEach : Trees → Type 0
     LocalsOfEach no_trees = ⊤
     LocalsOfEach (more_trees t ts) = LocalsHaveValues t × LocalsOfEach ts
 
+    -- and each in the fields of these variants
     pub LocalsOfVariants : Variants → Type 0
     LocalsOfVariants no_variants = ⊤
     LocalsOfVariants (more_variants discriminant fields others) = LocalsOfEach fields × LocalsOfVariants others
@@ -89,10 +93,12 @@ module _ (dl : TargetDataLayout) where
     VectorsHaveValues (coroutine prefix locals states conflicts) = VectorsOfEach prefix × VectorsOfEach locals
     VectorsHaveValues _ = ⊤
 
+    -- so has each in these trees
     pub VectorsOfEach : Trees → Type 0
     VectorsOfEach no_trees = ⊤
     VectorsOfEach (more_trees t ts) = VectorsHaveValues t × VectorsOfEach ts
 
+    -- and each in the fields of these variants
     pub VectorsOfVariants : Variants → Type 0
     VectorsOfVariants no_variants = ⊤
     VectorsOfVariants (more_variants discriminant fields others) = VectorsOfEach fields × VectorsOfVariants others

@@ -9,7 +9,6 @@ ghost use Rattle.abi_laid.specs.Typed.{marks_in, typed_at, variant_nodes};
 use crate::laid::Laid;
 use crate::mark::Mark;
 use crate::node::Shape;
-use crate::read_one::{read_layout, read_one};
 use abi_base::{PointeeInfo, Size};
 use abi_index::VariantIdx;
 use abi_scalar::Variants;
@@ -20,7 +19,7 @@ use std::fmt::{Debug, Display};
 /// A type that was laid out, or a part of one. Beside its layout it is a handle: it tells of each field and each
 /// variant its handle, and what the type is. `Laid::root` gives the handle of the whole, and `TyAndLayout` has the
 /// questions. How it prints isn't promised.
-#[derive(Clone, Copy)]
+#[derive(Clone, Copy, PartialEq, Eq)]
 pub struct TreeTy<'a> {
     laid: &'a Laid,
     node: usize,
@@ -47,7 +46,7 @@ pub(crate) fn handle_at(laid: &Laid, node: usize) -> TyAndLayout<'_, TreeTy<'_>>
 {
     TyAndLayout {
         ty: TreeTy { laid, node },
-        layout: Layout(read_layout(laid.nodes(), node)),
+        layout: Layout(laid.layout_at(node)),
     }
 }
 
@@ -123,7 +122,7 @@ fn mark_of(this: TyAndLayout<'_, TreeTy<'_>>) -> Mark
     requires { IsHandle this }
     ensures { marks_by result ≡ marks_of (tree_type this.entry) }
 {
-    mark_in(&read_one(this.ty.laid.nodes(), this.ty.node).shape)
+    mark_in(&this.ty.laid.node_at(this.ty.node).shape)
 }
 
 /// A handle needs no context to answer, so any serves.
@@ -167,7 +166,7 @@ impl<'a, C> TyAbiInterface<'a, C> for TreeTy<'a> {
                 variants: _,
             } => {
                 let laid = this.ty.laid;
-                let shape = &read_one(laid.nodes(), this.ty.node).shape;
+                let shape = &laid.node_at(this.ty.node).shape;
                 handle_at(laid, variant_node(shape, variant_index.as_usize()))
             }
             Variants::Single { index: _ } => this,
@@ -190,7 +189,7 @@ impl<'a, C> TyAbiInterface<'a, C> for TreeTy<'a> {
         ensures falls { tree_depth result < tree_depth this.entry }
     {
         let laid = this.ty.laid;
-        let shape = &read_one(laid.nodes(), this.ty.node).shape;
+        let shape = &laid.node_at(this.ty.node).shape;
         handle_at(laid, field_node(shape, i))
     }
 

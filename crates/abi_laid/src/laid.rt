@@ -1,16 +1,16 @@
 //! Types that were laid out.
 
-ghost use Rattle.std.specs.Prelude.{◌≡◌, ℕ, ◌<◌, ◌≤◌, [], IfOk, length, true};
+ghost use Rattle.std.specs.Prelude.{◌≡◌, ℕ, ◌-◌, ◌<◌, ◌≤◌, [], IfOk, get_or, length, true};
 ghost use Rattle.abi_laid.specs.Nodes.{root_of};
 ghost use Rattle.abi_laid.specs.Well.{AreWell, are_nodes};
 ghost use Rattle.abi_laid.specs.Laws.{keep_laws};
 ghost use Rattle.abi_laid.specs.Widths.{have_widths};
 ghost use Rattle.abi_laid.specs.Room.{has_room};
 
+use crate::counted::Counted;
 use crate::handle::{TreeTy, handle_at};
 use crate::node::Node;
 use crate::nodes::Nodes;
-use crate::read_one::read_layout;
 use crate::runs_of::padding;
 use crate::value::decide::decider;
 use abi_base::Endian;
@@ -18,9 +18,12 @@ use abi_index::{FieldIdx, RangeSet, VariantIdx};
 use abi_scalar::LayoutData;
 use abi_types::TyAndLayout;
 use std::alloc::{AllocError, Global};
+use std::fmt;
+use std::fmt::Debug;
 
-/// A type that was laid out: its layout, and those of its parts.
-#[derive(Drop)]
+/// A type that was laid out: its layout, and those of its parts. Two are equal where all of these are, and the byte
+/// order. How it prints isn't promised.
+#[derive(Drop, PartialEq, Eq)]
 pub struct Laid {
     nodes: Nodes,
     endian: Endian,
@@ -31,10 +34,22 @@ pub struct Laid {
     ghost room: { has_room (root_of nodes) ≡ true },
 }
 
+impl Debug for Laid {
+    fn fmt<W: fmt::Write>(&self, f: &mut fmt::Formatter<W>) -> fmt::Result {
+        f.debug_struct("Laid")
+            .field("layout", self.layout())
+            .field("nodes", &self.node_count())
+            .field("endian", &self.endian)
+            .finish()
+    }
+}
+
 impl Laid {
     ghost use Rattle.abi_laid.specs.Laid.{placed_of, endian_of, node_count_of, typed_of};
     ghost use Rattle.abi_laid.specs.Handles.{IsHandle, tree_type};
     ghost use Rattle.abi_laid.specs.Seen.{Sees};
+    ghost use Rattle.abi_laid.specs.Needed.{AreVisits};
+    ghost use Rattle.abi_laid.specs.Nodes.{placed_at};
     ghost use Rattle.abi_laid.specs.Placed.{layout_of, size_of};
     ghost use Rattle.abi_laid.specs.Places.{is_data_place};
     ghost use Rattle.std.specs.Prelude.{◌&&◌, IfSome, None, false};
@@ -71,11 +86,28 @@ impl Laid {
         &self.nodes
     }
 
+    /// The node at a place.
+    pub(crate) fn node_at(&self, at: usize) -> &Node
+        requires { at < length self.now.nodes }
+        ensures { result.now ≡ get_or self.now.nodes at result.now }
+    {
+        let mut visits = 0;
+        self.nodes.read(at, &mut visits)
+    }
+
+    /// The layout of the node at a place.
+    pub(crate) fn layout_at(&self, at: usize) -> &LayoutData<FieldIdx, VariantIdx>
+        requires { at < length self.now.nodes }
+        ensures { result.now ≡ layout_of (placed_at self.now.nodes at) }
+    {
+        &self.node_at(at).layout
+    }
+
     /// The layout of the type.
     pub fn layout(&self) -> &LayoutData<FieldIdx, VariantIdx>
         ensures { result.now ≡ layout_of (placed_of self.now) }
     {
-        read_layout(&self.nodes, self.nodes.len() - 1)
+        self.layout_at(self.nodes.len() - 1)
     }
 
     /// The type as a handle, beside its layout: what asks types for their fields and variants takes it. All data places
@@ -99,12 +131,14 @@ impl Laid {
     }
 
     /// The bytes of the type that decide nothing, whatever the value: those below its size that are no data places; and
-    /// how many nodes were read to tell, each of those once. `AllocError` where memory is refused.
+    /// how many nodes were read to tell: each of those that its data places rest on, once. `AllocError` where memory is
+    /// refused.
     pub fn padding(&self, alloc: Global) -> Result<(RangeSet, usize), AllocError>
         ensures ranges { IfOk result (λ r. (k : ℕ) → is_in_ranges r.0 k ≡ is_padding_of (placed_of self.now) k) }
-        ensures visits { IfOk result (λ r. r.1 ≤ node_count_of self.now) }
+        ensures visits { IfOk result (λ r. AreVisits self.now.nodes (node_count_of self.now - 1) r.1) }
+        ensures few { IfOk result (λ r. r.1 ≤ node_count_of self.now) }
     {
-        padding(alloc, &self.nodes, self.nodes.len() - 1)
+        padding(alloc, Counted::new(&self.nodes), self.nodes.len() - 1)
     }
 
     /// Whether each type in the type has a value: no layout in it is flagged as having none, be it that of a variant that
@@ -113,7 +147,7 @@ impl Laid {
         ensures { result ≡ all_inhabited_of self.now }
     {
         for i in 0..self.nodes.len() {
-            if read_layout(&self.nodes, i).uninhabited {
+            if self.layout_at(i).uninhabited {
                 return false;
             }
         }

@@ -1,15 +1,20 @@
 //! Types as trees and as they were laid out: their places and handles, and the values that their bytes hold.
 #![tactic(auto)]
 
-mod handle;
+// Types as trees, and as they were laid out.
 mod laid;
 mod mark;
-mod needed;
 mod node;
 mod nodes;
-mod read_one;
-mod runs_of;
 mod tree;
+
+// Their places, and their handles.
+mod counted;
+mod handle;
+mod needed;
+mod runs_of;
+
+// Values, and the bytes that hold them.
 mod value;
 
 pub use handle::TreeTy;

@@ -7,7 +7,7 @@ use abi_scalar::{ReprFlags, ReprOptions};
 use bitflags::Flags;
 
 /// What a type is, as its node keeps it.
-#[derive(Clone, Copy)]
+#[derive(Clone, Copy, PartialEq, Eq)]
 pub enum Mark {
     /// A state of a coroutine.
     Plain,

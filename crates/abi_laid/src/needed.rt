@@ -2,13 +2,13 @@
 
 ghost use Rattle.std.specs.Prelude.{◌≡◌, ◌+◌, ◌<◌, ◌≤◌, [], All, IfOk, None, length, map, replicate, true};
 ghost use Rattle.abi_laid.specs.Laws.{keep_laws};
-ghost use Rattle.abi_laid.specs.Needed.{AreNeeded, Marks, named_by, placed_nodes};
+ghost use Rattle.abi_laid.specs.Needed.{AreNeeded, AreVisits, Marks, named_by, placed_nodes};
 ghost use Rattle.abi_laid.specs.Nodes.{placed_at};
 ghost use Rattle.abi_laid.specs.Room.{has_room};
 ghost use Rattle.abi_laid.specs.Well.{are_nodes};
 
+use crate::counted::Counted;
 use crate::node::{Node, Shape, offsets};
-use crate::nodes::Nodes;
 use abi_index::{FieldIdx, VariantIdx};
 use abi_scalar::LayoutData;
 use std::alloc::{AllocError, Global};
@@ -93,33 +93,35 @@ fn unread<'a>(alloc: Global, count: usize) -> Result<Vec<Option<&'a Node>>, Allo
 /// The nodes that the data places of the node at `root` rest on, each at its place, and how many were read: each of
 /// those once, from the last to the first. Nothing below a node without bytes is needed, and an array of no elements
 /// has none.
-pub(crate) fn needed_nodes(
+#[tactic(auto, using(crate::proofs::NeededLemmas::counted_all))]
+pub(crate) fn needed_nodes<'a>(
     alloc: Global,
-    nodes: &Nodes,
+    mut nodes: Counted<'a>,
     root: usize,
-) -> Result<(Vec<Option<&Node>>, usize), AllocError>
-    requires there { root < length nodes.now }
-    requires well { are_nodes 0 nodes.now ≡ true }
-    requires laws { keep_laws [] nodes.now ≡ true }
-    requires room { has_room (placed_at nodes.now root) ≡ true }
-    ensures needed { IfOk result (λ r. AreNeeded nodes.now r.0.items) }
+) -> Result<(Vec<Option<&'a Node>>, usize), AllocError>
+    requires none { nodes.visits ≡ 0 }
+    requires there { root < length nodes.nodes.now }
+    requires well { are_nodes 0 nodes.nodes.now ≡ true }
+    requires laws { keep_laws [] nodes.nodes.now ≡ true }
+    requires room { has_room (placed_at nodes.nodes.now root) ≡ true }
+    ensures needed { IfOk result (λ r. AreNeeded nodes.entry.nodes.now r.0.items) }
     ensures long { IfOk result (λ r. length r.0.items ≡ root + 1) }
-    ensures visits { IfOk result (λ r. r.1 ≤ root + 1) }
+    ensures visits { IfOk result (λ r. AreVisits nodes.entry.nodes.now root r.1) }
+    ensures few { IfOk result (λ r. r.1 ≤ root + 1) }
 {
     // There are so many that a number of 64 bits can tell it.
     let _count = nodes.len();
     let mut needed = vec![in alloc; false; root + 1]?;
     needed[root] = true;
     let mut kept = unread(alloc, root + 1)?;
-    let mut visits = 0;
     for at in (0..root + 1).rev() {
         if needed[at] {
-            let node = nodes.read(at, &mut visits);
+            let node = nodes.read(at);
             if node.layout.size.bytes() > 0 {
                 mark_named(&mut needed, node);
             }
             kept[at] = Some(node);
         }
     }
-    Ok((kept, visits))
+    Ok((kept, nodes.visits()))
 }

@@ -11,7 +11,7 @@ use abi_index::{FieldIdx, VariantIdx};
 use abi_scalar::{FieldsShape, LayoutData, Scalar};
 
 /// What a node consists of. Children are named by their places among the nodes.
-#[derive(Drop)]
+#[derive(Drop, PartialEq, Eq)]
 pub enum Shape {
     /// A number.
     Scalar(Scalar),
@@ -62,7 +62,7 @@ pub enum Shape {
 }
 
 /// A type that was laid out.
-#[derive(Drop)]
+#[derive(Drop, PartialEq, Eq)]
 pub struct Node {
     /// How it is laid out.
     pub layout: LayoutData<FieldIdx, VariantIdx>,

@@ -20,6 +20,26 @@ impl Model for Nodes {
     ghost view = { λ a. a.all.items };
 }
 
+impl PartialEq for Nodes {
+    ghost use Rattle.std.specs.Cmp.Lexicographic.{pointwise, lists_per};
+    ghost use Rattle.abi_laid.specs.contracts.node.NodePartialEq.TheImpl.Laws as NodeLaws;
+
+    ghost eq = { λ x y. pointwise ⟦<Node as PartialEq>⟧.eq x y };
+
+    ghost laws = { lists_per NodeLaws.laws-law };
+
+    fn eq(&self, other: &Self) -> bool {
+        self.all == other.all
+    }
+}
+
+impl Eq for Nodes {
+    ghost use Rattle.std.specs.Cmp.Lexicographic.{lists_equiv};
+    ghost use Rattle.abi_laid.specs.contracts.node.NodeEq.TheImpl.Laws as NodeLaws;
+
+    ghost laws = { lists_equiv NodeLaws.laws-law };
+}
+
 impl Nodes {
     /// These nodes, in their order.
     pub(crate) fn new(all: Vec<Node>) -> Nodes

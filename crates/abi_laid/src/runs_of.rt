@@ -5,7 +5,7 @@ ghost use Rattle.abi_index.specs.RangeSet.{is_in_ranges};
 ghost use Rattle.abi_index.specs.Runs.{Adds, moved, repeated};
 ghost use Rattle.abi_laid.specs.declared.node.Node.{Node as OneNode};
 ghost use Rattle.abi_laid.specs.Laws.{keep_laws};
-ghost use Rattle.abi_laid.specs.Needed.{AreMade, AreNeeded, IsMadeOf, IsSet, parts_cover, sets_at, some_covers};
+ghost use Rattle.abi_laid.specs.Needed.{AreMade, AreNeeded, AreVisits, IsMadeOf, IsSet, parts_cover, sets_at, some_covers};
 ghost use Rattle.abi_laid.specs.Nodes.{meaning, placed_at};
 ghost use Rattle.abi_laid.specs.Placed.{Placed};
 ghost use Rattle.abi_laid.specs.Places.{is_data_place};
@@ -13,9 +13,9 @@ ghost use Rattle.abi_laid.specs.Room.{has_room};
 ghost use Rattle.abi_laid.specs.Runs.{is_padding_of};
 ghost use Rattle.abi_laid.specs.Well.{are_nodes};
 
+use crate::counted::Counted;
 use crate::needed::{needed_nodes, placed};
 use crate::node::{Node, Shape, offsets, state_tag_offset, tag_offset};
-use crate::nodes::Nodes;
 use abi_base::Size;
 use abi_index::{RangeSet, RangeSetBuilder};
 use std::alloc::{AllocError, Global};
@@ -223,12 +223,18 @@ fn kept_size(kept: &[Option<&Node>], node: usize) -> u64
 }
 
 /// The data places of a node.
-pub(crate) fn data_places(alloc: Global, nodes: &Nodes, node: usize) -> Result<RangeSet, AllocError>
-    requires there { node < length nodes.now }
-    requires well { are_nodes 0 nodes.now ≡ true }
-    requires laws { keep_laws [] nodes.now ≡ true }
-    requires room { has_room (placed_at nodes.now node) ≡ true }
-    ensures { IfOk result (λ set. (k : ℕ) → is_in_ranges set k ≡ is_data_place (placed_at nodes.now node) k) }
+pub(crate) fn data_places(
+    alloc: Global,
+    nodes: Counted<'_>,
+    node: usize,
+) -> Result<RangeSet, AllocError>
+    requires none { nodes.visits ≡ 0 }
+    requires there { node < length nodes.nodes.now }
+    requires well { are_nodes 0 nodes.nodes.now ≡ true }
+    requires laws { keep_laws [] nodes.nodes.now ≡ true }
+    requires room { has_room (placed_at nodes.nodes.now node) ≡ true }
+    ensures { IfOk result (λ set. (k : ℕ) →
+        is_in_ranges set k ≡ is_data_place (placed_at nodes.entry.nodes.now node) k) }
 {
     let (kept, _visits) = needed_nodes(alloc, nodes, node)?;
     joined_runs(alloc, &kept)
@@ -237,15 +243,18 @@ pub(crate) fn data_places(alloc: Global, nodes: &Nodes, node: usize) -> Result<R
 /// The padding of a node: the bytes below its size that are no data places; and how many nodes were read.
 pub(crate) fn padding(
     alloc: Global,
-    nodes: &Nodes,
+    nodes: Counted<'_>,
     node: usize,
 ) -> Result<(RangeSet, usize), AllocError>
-    requires there { node < length nodes.now }
-    requires well { are_nodes 0 nodes.now ≡ true }
-    requires laws { keep_laws [] nodes.now ≡ true }
-    requires room { has_room (placed_at nodes.now node) ≡ true }
-    ensures ranges { IfOk result (λ r. (k : ℕ) → is_in_ranges r.0 k ≡ is_padding_of (placed_at nodes.now node) k) }
-    ensures visits { IfOk result (λ r. r.1 ≤ node + 1) }
+    requires none { nodes.visits ≡ 0 }
+    requires there { node < length nodes.nodes.now }
+    requires well { are_nodes 0 nodes.nodes.now ≡ true }
+    requires laws { keep_laws [] nodes.nodes.now ≡ true }
+    requires room { has_room (placed_at nodes.nodes.now node) ≡ true }
+    ensures ranges { IfOk result (λ r. (k : ℕ) →
+        is_in_ranges r.0 k ≡ is_padding_of (placed_at nodes.entry.nodes.now node) k) }
+    ensures visits { IfOk result (λ r. AreVisits nodes.entry.nodes.now node r.1) }
+    ensures few { IfOk result (λ r. r.1 ≤ node + 1) }
 {
     let (kept, visits) = needed_nodes(alloc, nodes, node)?;
     let places = joined_runs(alloc, &kept)?;

@@ -17,6 +17,7 @@ is_maybe_unsized AlwaysSized = false
 is_maybe_unsized MaybeUnsized = true
 is_maybe_unsized (Prefixed size align) = false
 
+-- no index is left
 abbrev pub is_empty : List ℕ → Bool
 is_empty [] = true
 is_empty (i ∷ is) = false

@@ -59,6 +59,7 @@ pair_view dl size align low a high b =
     then ScalarPair a b (second_offset dl a b)
     else Memory true
 
+-- the view of a list that has two parts with bytes: both scalars, where a pair of them lies as they do
 abbrev pub two_view : TargetDataLayout → (size align : ℕ) → (first : ℕ) → BackendRepr → (second : ℕ) → BackendRepr → BackendRepr
 two_view dl size align first (OneScalar a) second (OneScalar b) =
     if nat_lt first second then pair_view dl size align first a second b else pair_view dl size align second b first a
@@ -87,6 +88,7 @@ abbrev pub bulky_align : (align : ℕ) → List Part → (bulky : List ℕ) → 
 bulky_align align parts (i ∷ []) = (part_at parts i).unadjusted_align
 bulky_align align parts _ = align
 
+-- the alignment, before `repr(align)` raised it, of a transparent list: that of its one part with bytes, else its own
 abbrev pub transparent_align : (size align : ℕ) → (parts : List Part) → ℕ
 transparent_align size align parts =
     if any_unsized parts then align else (if size == 0 then align else bulky_align align parts (bulky_parts parts))

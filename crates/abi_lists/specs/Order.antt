@@ -19,6 +19,7 @@ use Rattle.abi_lists.specs.Placement.{source_order}
 abbrev pub size_as_align : Part → ℕ
 size_as_align field = trailing_zeros w64 (max (2 ^ field.align) field.size)
 
+-- a field's group under a bias to a side
 abbrev pub biased_group : NicheBias → SortRule → Part → ℕ
 biased_group Start rule field = min rule.greatest_align (size_as_align field)
 biased_group End rule field = if field.free == rule.greatest_niche then field.align else size_as_align field
@@ -28,6 +29,7 @@ abbrev pub group_by_pack : Option ℕ → SortRule → Part → ℕ
 group_by_pack (Some pack) rule field = min field.align pack
 group_by_pack None rule field = if rule.greatest_niche == 0 then size_as_align field else biased_group rule.bias rule field
 
+-- the group by which a field is sorted
 abbrev pub group_of : SortRule → Part → ℕ
 group_of rule field = group_by_pack rule.pack rule field
 
@@ -49,6 +51,7 @@ abbrev pub key_by_prefix : Bool → SortRule → Part → SortKey
 key_by_prefix true rule field = record { group = group_of rule field; niche = field.free; distance = 0 }
 key_by_prefix false rule field = descending_key rule.bias rule field
 
+-- the key by which a field is sorted
 abbrev pub sort_key : SortRule → Part → SortKey
 sort_key rule field = key_by_prefix rule.is_prefixed rule field
 
@@ -78,6 +81,7 @@ tail AlwaysSized fields = []
 tail MaybeUnsized fields = (length fields - 1) ∷ []
 tail (Prefixed size align) fields = []
 
+-- the list follows a prefix
 abbrev pub is_prefixed : StructKind → Bool
 is_prefixed AlwaysSized = false
 is_prefixed MaybeUnsized = false

@@ -37,6 +37,7 @@ start_of pack AlwaysSized = 0
 start_of pack MaybeUnsized = 0
 start_of pack (Prefixed size align) = next_multiple_of size (2 ^ cut pack align)
 
+-- the alignment of what comes before the fields
 abbrev pub prefix_align : Option ℕ → StructKind → ℕ
 prefix_align pack AlwaysSized = 0
 prefix_align pack MaybeUnsized = 0

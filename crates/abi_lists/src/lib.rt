@@ -2,24 +2,31 @@
 //! unions and vectors.
 #![tactic(auto)]
 
+// Arrays, unions, vectors, and what types take over from all of their fields.
 mod array;
 mod fields;
-mod in_order;
-mod lent_list;
-mod list;
-mod list_layout;
-mod list_layouts;
-mod list_niche;
-mod list_repr;
-mod list_view;
-mod memory_order;
 mod one_item;
+mod simd;
+mod unions;
+
+// Lists of fields: their parts, orders and places.
+mod list_repr;
+mod memory_order;
 mod order;
 mod part;
 mod placing;
 mod run;
-mod simd;
-mod unions;
+
+// Their layouts: view, niche, and the whole; in an order that is handed in.
+mod in_order;
+mod list;
+mod list_layout;
+mod list_niche;
+mod list_view;
+
+// Lists that are to be the variants of a type.
+mod lent_list;
+mod list_layouts;
 
 pub use array::layout_of_array;
 pub use fields::greatest_align;

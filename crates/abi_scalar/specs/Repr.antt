@@ -13,18 +13,23 @@ has_flags repr flags = bit_and repr.flags.0 flags == flags
 abbrev pub has_flag_of : ReprOptions → ℕ → Bool
 has_flag_of repr flags = not (bit_and repr.flags.0 flags == 0)
 
+-- the flag of `repr(C)` is set
 abbrev pub is_c : ReprOptions → Bool
 is_c repr = has_flags repr 1
 
+-- the flag of vectors is set
 abbrev pub is_simd : ReprOptions → Bool
 is_simd repr = has_flags repr 2
 
+-- the flag of `repr(transparent)` is set
 abbrev pub is_transparent : ReprOptions → Bool
 is_transparent repr = has_flags repr 4
 
+-- the flag by which fields stay in source order is set
 abbrev pub is_linear : ReprOptions → Bool
 is_linear repr = has_flags repr 8
 
+-- the flag of vectors whose length the machine decides is set
 abbrev pub is_scalable : ReprOptions → Bool
 is_scalable repr = has_flags repr 64
 

@@ -12,6 +12,7 @@ use Rattle.abi_scalar.specs.Niche.{niche_size}
 abbrev pub stepped_on : (width : ℕ) → (n count : ℕ) → ℕ
 stepped_on width n count = (n + count) % numbers_of width
 
+-- the number so many steps back, in numbers of so many bytes
 abbrev pub stepped_back : (width : ℕ) → (n count : ℕ) → ℕ
 stepped_back width n count = (n + numbers_of width - count) % numbers_of width
 
@@ -19,6 +20,7 @@ stepped_back width n count = (n + numbers_of width - count) % numbers_of width
 abbrev pub start_moved : (width : ℕ) → WrappingRange → (count : ℕ) → WrappingRange
 start_moved width range count = record { start = stepped_back width range.start count; end = range.end }
 
+-- the range whose end is moved so far on
 abbrev pub end_moved : (width : ℕ) → WrappingRange → (count : ℕ) → WrappingRange
 end_moved width range count = record { start = range.start; end = stepped_on width range.end count }
 

@@ -1,27 +1,35 @@
 //! Scalars, the numbers they may hold, and layouts as data.
 #![tactic(auto)]
 
-mod backend_repr;
+// What a `repr` asks, lanes, refusals.
 mod error;
-mod fields_shape;
-mod for_variant;
-mod handle;
-mod increasing_offset;
 mod lane_count;
-mod lawful;
-mod layout_calls;
-mod layout_data;
+mod repr;
+
+// Ranges of numbers, scalars, niches.
 mod least_range;
 mod niche;
-mod pair;
-mod repr;
 mod reserve;
 mod scalar;
 mod scalar_text;
-mod simple;
+mod wrapping_range;
+
+// Layouts as data.
+mod backend_repr;
+mod fields_shape;
+mod handle;
+mod increasing_offset;
+mod lawful;
+mod layout_calls;
+mod layout_data;
+pub mod variant_parts;
 mod variants;
 mod view;
-mod wrapping_range;
+
+// Layouts of types without parts, of two scalars, of one variant.
+mod for_variant;
+mod pair;
+mod simple;
 
 pub use backend_repr::BackendRepr;
 pub use error::LayoutCalculatorError;

@@ -2,7 +2,7 @@
 
 ghost use Rattle.std.specs.Prelude.{◌≡◌, ◌↔◌, ◌≤◌, ◌<◌, IsSome, IfSome};
 ghost use Rattle.abi_scalar.specs.Range.{numbers_of, AreWithin};
-ghost use Rattle.abi_scalar.specs.Scalar.{range_of};
+ghost use Rattle.abi_scalar.specs.Scalar.{primitive_of, range_of};
 ghost use Rattle.abi_scalar.specs.Niche.{niche_size, available_in, IsReadableNiche};
 ghost use Rattle.abi_scalar.specs.Reserve.{stepped_on, stepped_back, magnitude, start_is_nearer, end_overshoots, start_gives_room, moves_start, reserved, HandsOut};
 
@@ -111,6 +111,7 @@ impl Niche {
         requires some { 1 ≤ count }
         ensures room { IsSome result ↔ (count ≤ available_in (C.target cx.now) self.now) }
         ensures side { IfSome result (λ handed. handed ≡ reserved (C.target cx.now) self.now count) }
+        ensures primitive { IfSome result (λ handed. primitive_of handed.1 ≡ self.now.value) }
         ensures set { IfSome result (λ handed. HandsOut (niche_size (C.target cx.now) self.now) self.now.valid_range
             (range_of (C.target cx.now) handed.1) handed.0 count) }
     {

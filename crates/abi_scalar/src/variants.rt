@@ -140,28 +140,6 @@ impl<FieldIdx: Idx> VariantLayout<FieldIdx> {
         self.largest_niche
     }
 
-    /// Lays its fields at these offsets, which follow one another in memory in this order.
-    pub fn set_places(
-        &mut self,
-        offsets: IndexVec<FieldIdx, Size>,
-        in_memory_order: IndexVec<u32, FieldIdx>,
-    )
-        ensures { self.new ≡ record self.old {
-          field_offsets = offsets;
-          fields_in_memory_order = in_memory_order;
-        } }
-    {
-        self.field_offsets = offsets;
-        self.fields_in_memory_order = in_memory_order;
-    }
-
-    /// Takes that place away, for a variant whose type has another use for it.
-    pub fn forget_niche(&mut self)
-        ensures { self.new ≡ record self.old { largest_niche = None } }
-    {
-        self.largest_niche = None;
-    }
-
     /// Whether it is marked as having no value.
     pub fn is_uninhabited(&self) -> bool
         ensures { result ≡ self.now.uninhabited }

@@ -3,22 +3,13 @@
 //! shows. All of it is tests.
 #![tactic(auto)]
 
-#[cfg(test)]
-mod canonical;
-#[cfg(test)]
-mod conventions;
-#[cfg(test)]
-mod edges;
+// Indices, short lists, layouts and views.
 #[cfg(test)]
 mod indices;
-#[cfg(test)]
-mod kinds;
 #[cfg(test)]
 mod layouts;
 #[cfg(test)]
 mod reprs;
-#[cfg(test)]
-mod running;
 #[cfg(test)]
 mod shapes;
 #[cfg(test)]
@@ -26,12 +17,30 @@ mod short_lists;
 #[cfg(test)]
 mod small;
 #[cfg(test)]
-mod texts;
+mod views;
+
+// Handles and types of a caller's own, and their walks.
+#[cfg(test)]
+mod kinds;
 #[cfg(test)]
 mod trees;
 #[cfg(test)]
 mod typed;
 #[cfg(test)]
 mod uniform;
+
+// Texts, hashes, conventions, and what no line writes.
 #[cfg(test)]
-mod views;
+mod canonical;
+#[cfg(test)]
+mod conventions;
+#[cfg(test)]
+mod edges;
+#[cfg(test)]
+mod layout_texts;
+#[cfg(test)]
+mod texts;
+
+// Programs, with devices that fail.
+#[cfg(test)]
+mod running;

@@ -1,8 +1,7 @@
 //! Lists of at most two items, and layouts of two scalars and of vectors, which ask for no memory.
 //!
-//! `rt try --test --fail-alloc N` refuses the N-th request of each test. The first test passes where N is 2 or more,
-//! since its data layout makes the first request and nothing makes another; the second passes for each N, and where N
-//! is 1 its third item is refused.
+//! `scripts/try_memory` runs each of these tests, as the gate built them, and counts its requests: those that its table has
+//! are made and no more, also where the next one would be refused.
 
 ghost use Rattle.abi_base.specs.DataLayout.{IsLawfulDataLayout};
 
@@ -71,6 +70,58 @@ fn pairs_and_vectors_ask_for_no_memory(rt: HostRuntime) -> Result<(), Fail> {
     let sixteen = Align::max_aligned_factor(Size::from_bytes(16));
     assert!(rt; is_laid(vector(rt.alloc(), &dl), 16, sixteen, &[Size::ZERO]));
     Ok(())
+}
+
+/// Whether a list and its copy have the same items.
+fn is_copied(alloc: Global, list: &IndexVec<FieldIdx, u32>) -> bool {
+    match list.try_clone(alloc) {
+        Ok(copy) => copy.as_slice().as_raw() == list.as_slice().as_raw(),
+        Err(AllocError) => false,
+    }
+}
+
+/// Whether a list is copied that has no item, one and two.
+fn are_copied(alloc: Global) -> bool {
+    let mut list: IndexVec<FieldIdx, u32> = IndexVec::new(alloc);
+    is_copied(alloc, &list)
+        && list.push(5).is_ok()
+        && is_copied(alloc, &list)
+        && list.push(6).is_ok()
+        && is_copied(alloc, &list)
+}
+
+/// Whether a list with so much room is there, and takes two items.
+fn takes_two(alloc: Global, room: usize) -> bool {
+    match IndexVec::<FieldIdx, u32>::with_capacity(alloc, room) {
+        Ok(mut list) => list.push(5).is_ok() && list.push(6).is_ok(),
+        Err(AllocError) => false,
+    }
+}
+
+/// Whether a list with room for five items is there, and takes five: one more than a list that grows has room for at
+/// first.
+fn takes_five(alloc: Global) -> bool {
+    match IndexVec::<FieldIdx, u32>::with_capacity(alloc, 5) {
+        Ok(mut list) => {
+            list.push(5).is_ok()
+                && list.push(6).is_ok()
+                && list.push(7).is_ok()
+                && list.push(8).is_ok()
+                && list.push(9).is_ok()
+        }
+        Err(AllocError) => false,
+    }
+}
+
+#[test]
+fn lists_of_two_ask_for_no_memory(rt: HostRuntime) {
+    assert!(rt; are_copied(rt.alloc()));
+    assert!(rt; takes_two(rt.alloc(), 0) && takes_two(rt.alloc(), 1) && takes_two(rt.alloc(), 2));
+}
+
+#[test]
+fn room_is_asked_for_once(rt: HostRuntime) {
+    assert!(rt; takes_five(rt.alloc()));
 }
 
 /// Whether two items are put without memory, and a third is put behind them or refused, with the two still there.

@@ -6,6 +6,7 @@ use Rattle.abi_text.specs.Pieces.{before, after}
 abbrev pub without_return : List ℕ → List ℕ
 without_return line = if slice_index line (length line - 1) == 13 then take (length line - 1) line else line
 
+-- the first line, without a carriage return at its end
 abbrev pub first_line : List ℕ → List ℕ
 first_line text = without_return (before 10 text)
 

@@ -11,7 +11,7 @@ use Rattle.rustc_abi.specs.declared.error.LayError.{LayError}
 use Rattle.abi_laid.specs.Tree.{Tree}
 use Rattle.abi_laid.specs.Placed.{Placed}
 use Rattle.rustc_abi.specs.Laying.{IsLaying}
-use Rattle.abi_text.specs.declared.answer.Answer.{Answer}
+use Rattle.abi_text.specs.declared.answers.Answer.{Answer}
 use Rattle.abi_text.specs.declared.fault.Fault.{Fault}
 use Rattle.abi_text.specs.declared.fault.Fault.TheVariants.{Unreadable, TooDeep, OutOfMemory}
 use Rattle.abi_text.specs.DataLayoutLine.{data_layout_of}
@@ -33,9 +33,11 @@ refused name = record { text = codes "refused " ++ name ++ codes "\n"; status = 
 abbrev pub unreadable : (number : ℕ) → Output
 unreadable number = record { text = codes "unreadable word " ++ decimal number ++ codes "\n"; status = 2 }
 
+-- the output where memory is wanting
 abbrev pub out_of_memory : Output
 out_of_memory = refused (codes "OutOfMemory")
 
+-- the output for a text that can't be read
 abbrev pub output_of_fault : Fault → Output
 output_of_fault (Unreadable number) = unreadable number
 output_of_fault TooDeep = refused (codes "TooDeep")
@@ -55,6 +57,7 @@ pub record IsOutputOfTree (tells : TargetDataLayout → Placed → List ℕ → 
   pub lawful : IsLawfulDataLayout dl → (r : Result Placed LayError) × IsLaying dl tree r × IsOutputOfLayout tells dl r output
   pub unlawful : (IsLawfulDataLayout dl → ⊥) → output ≡ refused (codes "UnlawfulDataLayout")
 
+-- the output for a type that was read, or for the fault of its text
 abbrev pub IsOutputOfType : (tells : TargetDataLayout → Placed → List ℕ → Type 0) → TargetDataLayout → Result Tree Fault → Output → Type 0
 IsOutputOfType tells dl (Ok tree) output = IsOutputOfTree tells dl tree output
 IsOutputOfType tells dl (Err fault) output = output ≡ output_of_fault fault
@@ -81,6 +84,7 @@ abbrev pub Sent : (old new : Option (List ℕ)) → (text : List ℕ) → (given
 Sent old new text given status =
     (Appends old new text × (status ≡ given)) ⊎ ((count : ℕ) × Appends old new (take count text) × (status ≡ 1))
 
+-- such an output was sent
 abbrev pub SentOutput : (old new : Option (List ℕ)) → Output → (status : ℕ) → Type 0
 SentOutput old new output status = Sent old new output.text output.status status
 
@@ -93,7 +97,3 @@ Answered old new P status =
 -- an answer, as the definitions see it
 abbrev pub answered_by : Answer → Output
 answered_by answer = record { text = string_bytes answer.text; status = answer.status }
-
--- the answer is such an output, or that memory was wanting
-abbrev pub IsAnswer : (Output → Type 0) → Answer → Type 0
-IsAnswer P answer = P (answered_by answer) ⊎ (answered_by answer ≡ out_of_memory)

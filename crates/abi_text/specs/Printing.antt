@@ -25,6 +25,7 @@ use Rattle.abi_laid.specs.Runs.{padding_of, unused_of}
 abbrev pub size_line : Layout → List ℕ
 size_line layout = codes "size " ++ decimal layout.size ++ codes " align " ++ decimal (2 ^ layout.align.abi) ++ codes "\n"
 
+-- the line of a type that is marked as having no values
 abbrev pub uninhabited_line : (uninhabited : Bool) → List ℕ
 uninhabited_line true = codes "uninhabited\n"
 uninhabited_line false = []
@@ -52,6 +53,7 @@ primitive_text (Int integer signed) = integer_text integer signed
 primitive_text (Float float) = float_text float
 primitive_text (Pointer space) = if space.0 == 0 then codes "pointer" else codes "pointer(AddressSpace(" ++ decimal space.0 ++ codes "))"
 
+-- the line of the largest niche
 abbrev pub niche_line : Option Niche → List ℕ
 niche_line None = codes "niche none\n"
 niche_line (Some n) =

@@ -79,9 +79,11 @@ pub record State : Type 0 where
   pub begun : List Begun
   pub tree : Option Tree
 
+-- what comes next, within these types
 abbrev pub waiting : Want → List Begun → State
 waiting want begun = record { want = want; begun = begun; tree = None }
 
+-- nothing has been read, and a type comes next
 abbrev pub start : State
 start = waiting want.Tree []
 
@@ -137,32 +139,40 @@ closed number (variants_so_far repr vs ∷ begun) = Ok (put (enum repr (variants
 closed number (coroutine_with parts ∷ begun) = Ok (part_closed parts begun)
 closed number _ = Err (Unreadable number)
 
+-- the count of an array's elements
 abbrev pub at_count : (number : ℕ) → List Begun → Option ℕ → Result State Fault
 at_count number begun None = Err (Unreadable number)
 at_count number begun (Some n) = Ok (waiting want.Tree (elements n ∷ begun))
 
+-- the count of a vector's lanes
 abbrev pub at_lanes : (number : ℕ) → (packed : Bool) → List Begun → Option ℕ → Result State Fault
 at_lanes number packed begun None = Err (Unreadable number)
 at_lanes number packed begun (Some n) = Ok (waiting want.Tree (lanes n packed ∷ begun))
 
+-- the repr of a struct
 abbrev pub at_repr : (number : ℕ) → List Begun → Option StructRepr → Result State Fault
 at_repr number begun None = Err (Unreadable number)
 at_repr number begun (Some asked) = Ok (waiting (want.Opening asked) begun)
 
+-- the repr of a union
 abbrev pub at_union_repr : (number : ℕ) → List Begun → Option ReprOptions → Result State Fault
 at_union_repr number begun None = Err (Unreadable number)
 at_union_repr number begun (Some repr) = Ok (waiting (want.UnionOpening repr) begun)
 
+-- the repr of an enum
 abbrev pub at_enum_repr : (number : ℕ) → List Begun → Option ReprOptions → Result State Fault
 at_enum_repr number begun None = Err (Unreadable number)
 at_enum_repr number begun (Some repr) = Ok (waiting (want.EnumOpening repr) begun)
 
+-- the parenthesis that opens a struct's fields
 abbrev pub at_opening : (number : ℕ) → StructRepr → List Begun → (opens : Bool) → Result State Fault
 at_opening number asked begun opens = if opens then Ok (waiting want.Tree (fields asked [] ∷ begun)) else Err (Unreadable number)
 
+-- the parenthesis that opens a union's fields
 abbrev pub at_union_opening : (number : ℕ) → ReprOptions → List Begun → (opens : Bool) → Result State Fault
 at_union_opening number repr begun opens = if opens then Ok (waiting want.Tree (members repr [] ∷ begun)) else Err (Unreadable number)
 
+-- the parenthesis that opens an enum's variants
 abbrev pub at_enum_opening : (number : ℕ) → ReprOptions → List Begun → (opens : Bool) → Result State Fault
 at_enum_opening number repr begun opens = if opens then Ok (waiting want.Discriminant (variants_so_far repr [] ∷ begun)) else Err (Unreadable number)
 
@@ -172,6 +182,7 @@ at_discriminant number true begun _ = closed number begun
 at_discriminant number false begun None = Err (Unreadable number)
 at_discriminant number false begun (Some d) = Ok (waiting (want.VariantOpening d) begun)
 
+-- the parenthesis that opens a variant's fields
 abbrev pub at_variant_opening : (number : ℕ) → (discriminant : ℕ) → List Begun → (opens : Bool) → Result State Fault
 at_variant_opening number d (variants_so_far repr vs ∷ begun) true = Ok (waiting want.Tree (variant repr vs d [] ∷ begun))
 at_variant_opening number d _ _ = Err (Unreadable number)
@@ -201,6 +212,7 @@ at_row number true begun _ = closed number begun
 at_row number false begun None = Err (Unreadable number)
 at_row number false begun (Some row) = Ok (waiting (want.Coroutine (part.Column row)) begun)
 
+-- the column of a conflict
 abbrev pub at_column : (number : ℕ) → (row : ℕ) → List Begun → Option ℕ → Result State Fault
 at_column number row (coroutine_with (in_conflicts ps ls ss cs) ∷ begun) (Some column) =
     Ok (waiting (want.Coroutine part.Row) (coroutine_with (in_conflicts ps ls ss (cs ++ (row, column) ∷ [])) ∷ begun))
@@ -221,6 +233,7 @@ abbrev pub at_order_repr : (number : ℕ) → List Begun → Option StructRepr �
 at_order_repr number begun None = Err (Unreadable number)
 at_order_repr number begun (Some asked) = Ok (waiting (want.Order (order.Opening asked)) begun)
 
+-- the parenthesis that opens an order
 abbrev pub at_order_opening : (number : ℕ) → StructRepr → List Begun → (opens : Bool) → Result State Fault
 at_order_opening number asked begun opens = if opens then Ok (waiting (want.Order order.Index) (ordering asked [] ∷ begun)) else Err (Unreadable number)
 
@@ -242,10 +255,12 @@ next_in_order number begun w (order.Opening asked) = at_order_opening number ask
 next_in_order number begun w order.Index = at_index number (bytes_eq w (codes ")")) begun (number_in 64 w)
 next_in_order number begun w order.FieldsOpening = at_fields_opening number begun (bytes_eq w (codes "("))
 
+-- the start of a range
 abbrev pub at_start : (number : ℕ) → Primitive → ScalarPlace → List Begun → Option ℕ → Result State Fault
 at_start number p place begun None = Err (Unreadable number)
 at_start number p place begun (Some n) = Ok (waiting (want.RangeEnd p n place) begun)
 
+-- the end of a range
 abbrev pub at_end : (number : ℕ) → Primitive → (start : ℕ) → ScalarPlace → List Begun → Option ℕ → Result State Fault
 at_end number p n place begun None = Err (Unreadable number)
 at_end number p n place begun (Some m) = Ok (put_scalar (Initialized p (record { start = n; end = m })) place begun)
@@ -279,14 +294,17 @@ module _ (dl : TargetDataLayout) where
   begin_scalar shape place begun word.Range = waiting (want.Primitive form.Range place) begun
   begin_scalar shape place begun word.UnionOf = waiting (want.Primitive form.Union place) begun
 
+  -- a word that begins a scalar
   abbrev pub at_scalar : (number : ℕ) → ScalarPlace → List Begun → Option ScalarWord → Result State Fault
   at_scalar number place begun None = Err (Unreadable number)
   at_scalar number place begun (Some w) = Ok (begin_scalar form.Full place begun w)
 
+  -- the primitive of a range or of a union's scalar
   abbrev pub at_primitive : (number : ℕ) → ScalarForm → ScalarPlace → List Begun → Option ScalarWord → Result State Fault
   at_primitive number shape place begun None = Err (Unreadable number)
   at_primitive number shape place begun (Some w) = if is_primitive w then Ok (begin_scalar shape place begun w) else Err (Unreadable number)
 
+  -- the address space of a pointer
   abbrev pub at_space : (number : ℕ) → ScalarForm → ScalarPlace → List Begun → Option ℕ → Result State Fault
   at_space number shape place begun None = Err (Unreadable number)
   at_space number shape place begun (Some n) = Ok (put_primitive (Pointer (record { 0 = n })) shape place begun)
@@ -332,6 +350,7 @@ module _ (dl : TargetDataLayout) where
   next number begun w (want.Order next_part) = next_in_order number begun w next_part
   next number begun w want.End = Err (Unreadable number)
 
+  -- what has been read with one word more
   abbrev pub step : (number : ℕ) → State → (word : List ℕ) → Result State Fault
   step number state w = next number state.begun w state.want
 
@@ -340,6 +359,7 @@ abbrev pub finished : (number : ℕ) → Option Tree → Result Tree Fault
 finished number None = Err (Unreadable number)
 finished number (Some t) = Ok t
 
+-- what follows, where there was no fault
 abbrev pub on_ok : {A B E : Type 0} → Result A E → (A → Result B E) → Result B E
 on_ok (Ok a) f = f a
 on_ok (Err e) f = Err e
@@ -381,6 +401,7 @@ begun_by (open_type.Variants repr vs) = variants_so_far repr (map variant_by vs.
 begun_by (open_type.Variant repr vs d ts) = variant repr (map variant_by vs.items) d (map tree_of ts.items)
 begun_by (open_type.Coroutine parts) = coroutine_with (parts_by parts)
 
+-- the types that are begun, as the definitions see them
 abbrev pub begun_in : List Open → List Begun
 begun_in all = reverse (map begun_by all)
 

@@ -31,6 +31,7 @@ parts_of (b ∷ bs) = if b == 44 then [] ∷ parts_of bs else longer b (parts_of
 abbrev pub plain : StructRepr
 plain = record { repr = record { int = None; align = None; pack = None; flags = record { 0 = 0 }; scalable = None; field_shuffle_seed = 0 }; always_sized = true }
 
+-- the alignment, where the number is one
 abbrev pub where_valid : Result ℕ AlignFromBytesError → Option ℕ
 where_valid (Ok a) = Some a
 where_valid (Err e) = None
@@ -44,6 +45,7 @@ alignment_of (Some n) = where_valid (align_of_bytes n)
 abbrev pub alignment_after : (name : List ℕ) → List ℕ → Option ℕ
 alignment_after name w = if bytes_eq (take (length name) w) name then alignment_of (number_in 64 (drop (length name) w)) else None
 
+-- the integer that a repr names
 abbrev pub fixed : Option (AnInteger × Bool) → Option IntegerType
 fixed None = None
 fixed (Some p) = Some (Fixed p.0 p.1)
@@ -68,6 +70,7 @@ part_of w =
     else (if bytes_eq w (codes "linear") then Some Linear
     else (if bytes_eq w (codes "tail") then Some Tail else valued_part w)))
 
+-- of which kind a word of a repr is
 abbrev pub kind_of : ReprPart → ReprKind
 kind_of C = kind.C
 kind_of Transparent = kind.Transparent
@@ -77,6 +80,7 @@ kind_of (Align a) = kind.Align
 kind_of (Integer i) = kind.Integer
 kind_of Tail = kind.Tail
 
+-- two words are of one kind
 abbrev pub same_kind : ReprKind → ReprKind → Bool
 same_kind kind.C kind.C = true
 same_kind kind.Transparent kind.Transparent = true
@@ -102,6 +106,7 @@ are_repr_words parts =
     list_all (λ p. is_some (part_of p)) parts && is_single kind.C parts && is_single kind.Transparent parts && is_single kind.Linear parts
     && is_single kind.Packed parts && is_single kind.Align parts && is_single kind.Integer parts && is_single kind.Tail parts
 
+-- what is asked, with this flag set
 abbrev pub flagged : (flag : ℕ) → StructRepr → StructRepr
 flagged flag asked = record asked { repr = record asked.repr { flags = record { 0 = bit_or asked.repr.flags.0 flag } } }
 

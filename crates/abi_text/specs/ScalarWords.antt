@@ -36,17 +36,21 @@ float_named w =
     else (if bytes_eq w (codes "f128") then Some F128
     else (if bytes_eq w (codes "ppcf128") then Some PpcF128 else None)))))
 
+-- the word of an integer
 abbrev pub an_integer : Option (Integer × Bool) → Option ScalarWord
 an_integer None = None
 an_integer (Some p) = Some (AnInteger p.0 p.1)
 
+-- the word of a float
 abbrev pub a_float : Option Float → Option ScalarWord
 a_float None = None
 a_float (Some f) = Some (AFloat f)
 
+-- the integer that a word names
 abbrev pub integer_word : List ℕ → Option ScalarWord
 integer_word w = an_integer (integer_named w)
 
+-- the float that a word names
 abbrev pub float_word : List ℕ → Option ScalarWord
 float_word w = a_float (float_named w)
 

@@ -26,6 +26,7 @@ index_primitive dl signed = Int (index_integer dl.default_address_space_pointer_
 abbrev pub default_pointer : Primitive
 default_pointer = Pointer (record { 0 = 0 })
 
+-- a byte that is 0 or 1
 abbrev pub a_bool : Scalar
 a_bool = Initialized (Int I8 false) (record { start = 0; end = 1 })
 

@@ -21,6 +21,7 @@ other_word w =
     else (if bytes_eq w (codes "enum") then Some Enum
     else (if bytes_eq w (codes "coroutine") then Some Coroutine else None))))))))))
 
+-- a word that begins a scalar begins a type, too
 abbrev pub word_with : Option ScalarWord → Option TypeWord → Option TypeWord
 word_with None word = word
 word_with (Some s) word = Some (Scalar s)

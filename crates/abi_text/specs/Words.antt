@@ -15,6 +15,7 @@ abbrev pub grown : (b : ℕ) → List (List ℕ) → List (List ℕ)
 grown b [] = (b ∷ []) ∷ []
 grown b (w ∷ ws) = (b ∷ w) ∷ ws
 
+-- the words of a line
 abbrev pub words_of : List ℕ → List (List ℕ)
 words_of [] = []
 words_of (b ∷ bs) =

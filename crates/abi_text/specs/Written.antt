@@ -134,10 +134,12 @@ abbrev mutual
   nesting (coroutine prefix locals states conflicts) = max (nesting_of_fields prefix) (nesting_of_fields locals)
   nesting _ = 0
 
+  -- the same of these types, 0 of none
   pub nesting_of_fields : Trees → ℕ
   nesting_of_fields no_trees = 0
   nesting_of_fields (more_trees t ts) = max (nesting t + 1) (nesting_of_fields ts)
 
+  -- the same of the fields of these variants
   pub nesting_of_variants : Variants → ℕ
   nesting_of_variants no_variants = 0
   nesting_of_variants (more_variants discriminant ts vs) = max (nesting_of_fields ts) (nesting_of_variants vs)

@@ -2,22 +2,32 @@
 //! programs over text share. `docs/FORMATS.md` has the format.
 #![tactic(auto)]
 
-mod answer;
-mod data_layout;
-mod fault;
+// Words, numbers, lines.
 mod lines;
-mod names;
 mod number;
 mod pieces;
-mod print;
-mod print_variants;
-mod reader;
-mod running;
-mod telling;
 mod words;
 
+// Data layouts and types read, and why one isn't.
+mod data_layout;
+mod fault;
+mod reader;
+
+// Laid-out types printed, and the names of refusals.
+mod layout_text;
+mod names;
+mod print;
+mod print_variants;
+
+// The answer to an input, and programs over any reader and writer.
+mod answers;
+mod running;
+mod telling;
+
+pub use answers::{Answer, answer_input};
 pub use data_layout::read_data_layout;
 pub use fault::Fault;
+pub use layout_text::{LayoutText, run_layout};
 pub use names::{data_layout_error_name, error_name};
 pub use number::{decimal, discriminant, short, wide};
 pub use pieces::cut;

@@ -4,7 +4,7 @@ ghost use Rattle.std.specs.Prelude.{◌≤◌, IfSome, MatchOption, length, take
 ghost use Rattle.std.specs.Io.KnownBytes.{Appends, Keeps};
 ghost use Rattle.abi_text.specs.Output.{Answered, Sent, IsOutputOf};
 
-use crate::answer::answer_input;
+use crate::answers::answer_input;
 use crate::telling::Telling;
 use std::alloc::Global;
 use std::io::{ErrorKind, Read, Write};

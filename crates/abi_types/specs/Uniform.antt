@@ -68,6 +68,7 @@ AllRunBy Empty fields runs end r = ⊥
 abbrev pub scalar_register : Primitive → (size : ℕ) → Reg
 scalar_register primitive size = record { kind = reg_kind_of primitive; size = size }
 
+-- the register of a vector of so many bytes
 abbrev pub lanes_register : Primitive → (size : ℕ) → Reg
 lanes_register primitive size = record { kind = kind.Vector primitive; size = size }
 

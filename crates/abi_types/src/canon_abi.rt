@@ -47,6 +47,11 @@ pub enum ArmCall {
     CCmseNonSecureEntry,
 }
 
+// The order in which they are compared.
+const _: () = prove!((ArmCall::Aapcs as u8) < ArmCall::CCmseNonSecureCall as u8);
+
+const _: () = prove!((ArmCall::CCmseNonSecureCall as u8) < ArmCall::CCmseNonSecureEntry as u8);
+
 /// The targets whose handlers of interrupts have conventions of their own. No code calls them.
 #[derive(Clone, Copy, PartialEq, Eq, PartialOrd, Ord, Hash, Debug)]
 pub enum InterruptKind {
@@ -64,6 +69,17 @@ pub enum InterruptKind {
     X86,
 }
 
+// The order in which they are compared.
+const _: () = prove!((InterruptKind::Avr as u8) < InterruptKind::AvrNonBlocking as u8);
+
+const _: () = prove!((InterruptKind::AvrNonBlocking as u8) < InterruptKind::Msp430 as u8);
+
+const _: () = prove!((InterruptKind::Msp430 as u8) < InterruptKind::RiscvMachine as u8);
+
+const _: () = prove!((InterruptKind::RiscvMachine as u8) < InterruptKind::RiscvSupervisor as u8);
+
+const _: () = prove!((InterruptKind::RiscvSupervisor as u8) < InterruptKind::X86 as u8);
+
 /// The conventions of x86 and x86-64.
 #[derive(Clone, Copy, PartialEq, Eq, PartialOrd, Ord, Hash, Debug)]
 pub enum X86Call {
@@ -80,6 +96,17 @@ pub enum X86Call {
     /// The convention of 64-bit Windows.
     Win64,
 }
+
+// The order in which they are compared.
+const _: () = prove!((X86Call::Fastcall as u8) < X86Call::Stdcall as u8);
+
+const _: () = prove!((X86Call::Stdcall as u8) < X86Call::SysV64 as u8);
+
+const _: () = prove!((X86Call::SysV64 as u8) < X86Call::Thiscall as u8);
+
+const _: () = prove!((X86Call::Thiscall as u8) < X86Call::Vectorcall as u8);
+
+const _: () = prove!((X86Call::Vectorcall as u8) < X86Call::Win64 as u8);
 
 impl CanonAbi {
     /// Whether it is one of Rust's own, which no other language has a say in.

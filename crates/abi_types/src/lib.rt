@@ -1,12 +1,15 @@
 //! Calling conventions and registers.
 #![tactic(auto)]
 
+// Types beside their layouts, and walks over them.
+mod homogeneous;
+mod ty;
+
+// Registers, and calling conventions.
 mod c_variadic;
 mod canon_abi;
 mod extern_abi;
-mod homogeneous;
 mod reg;
-mod ty;
 
 pub use c_variadic::CVariadicStatus;
 pub use canon_abi::{ArmCall, CanonAbi, InterruptKind, X86Call};

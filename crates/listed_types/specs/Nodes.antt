@@ -23,6 +23,7 @@ place_by shape places i = place_at places i
 abbrev pub marks_by : Marked → Marks
 marks_by marked = record no_marks { is_transparent = marked.transparent; is_complex = marked.complex; is_passed_indirectly = marked.indirect }
 
+-- what a node tells of itself
 abbrev pub marks_in : Node → Marks
 marks_in node = marks_by node.marked
 
@@ -41,9 +42,11 @@ abbrev pub typed_in : List Node → (depth place : ℕ) → Typed
 typed_in nodes zero at = no_type
 typed_in nodes (suc depth) at = made (slice_get nodes at) (typed_in nodes depth)
 
+-- the type of a handle
 abbrev pub part_type : TyAndLayout Part → Typed
 part_type this = typed_in this.ty.nodes.now this.ty.depth this.ty.at
 
+-- how many types lie in it, one in another
 abbrev pub part_depth : TyAndLayout Part → ℕ
 part_depth this = this.ty.depth
 

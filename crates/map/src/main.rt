@@ -2,15 +2,7 @@
 //! output gets the runs of bytes that the same parts have.
 #![tactic(auto)]
 
-mod covering;
-mod map_text;
-mod part;
-mod parts;
-mod print;
-mod run;
-mod starts;
-
-pub use run::run;
+pub use abi_map::run_map as run;
 use std::io;
 use std::process::ExitCode;
 

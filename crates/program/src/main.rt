@@ -2,10 +2,7 @@
 //! layout.
 #![tactic(auto)]
 
-mod layout_text;
-mod run;
-
-pub use run::run;
+pub use abi_text::run_layout as run;
 use std::io;
 use std::process::ExitCode;
 

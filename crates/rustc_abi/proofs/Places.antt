@@ -10,3 +10,5 @@ pub mod CoveredLemmas
 pub mod SeenPlacesLemmas
 -- each data place is covered by a value of the tree, where each type in it has values
 pub mod DecidingLemmas
+-- no layout is flagged, where each type in the tree has a value
+pub mod HaveLemmas

@@ -105,10 +105,12 @@ abbrev mutual
   tree_size (coroutine prefix locals states conflicts) = trees_size prefix + trees_size locals + 1
   tree_size _ = 1
 
+  -- how many nodes the types of a list are laid out with
   pub trees_size : Trees → ℕ
   trees_size no_trees = 0
   trees_size (more_trees t ts) = tree_size t + trees_size ts
 
+  -- and those of the fields of variants
   pub variants_size : Variants → ℕ
   variants_size no_variants = 0
   variants_size (more_variants discriminant ts others) = trees_size ts + variants_size others

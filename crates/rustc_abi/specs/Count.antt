@@ -63,11 +63,13 @@ module _ (dl : TargetDataLayout) where
       (n : ℕ) × HasNodes t n × (length new ≡ length old + n)
       × ((are_inhabited new ≡ true) ↔ ((are_inhabited old ≡ true) × EachInhabited dl t))
 
+  -- the same of types one after another
   abbrev pub AreCounted : (old new : List Node) → Trees → Type 0
   AreCounted old new ts =
       (n : ℕ) × HaveNodes ts n × (length new ≡ length old + n)
       × ((are_inhabited new ≡ true) ↔ ((are_inhabited old ≡ true) × AreInhabited dl ts))
 
+  -- the same of the fields of variants
   abbrev pub AreVariantsCounted : (old new : List Node) → Variants → Type 0
   AreVariantsCounted old new all =
       (n : ℕ) × VariantsHaveNodes all n × (length new ≡ length old + n)

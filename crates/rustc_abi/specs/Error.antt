@@ -5,6 +5,7 @@ use Rattle.abi_scalar.specs.declared.error.LayoutCalculatorError.TheVariants as 
 use Rattle.rustc_abi.specs.declared.error.LayError.{LayError}
 use Rattle.rustc_abi.specs.declared.error.LayError.TheVariants.{UnexpectedUnsized, SizeOverflow, EmptyUnion, ReprConflict, ZeroLengthSimdType, OversizedSimdType, NonPrimitiveSimdType, BadOrder, OutOfMemory}
 
+-- the name that a refusal of the calculator has for a tree
 abbrev pub lay_error : {H : Type 0} → LayoutCalculatorError H → LayError
 lay_error (calculator.UnexpectedUnsized field) = UnexpectedUnsized
 lay_error calculator.SizeOverflow = SizeOverflow

@@ -1,10 +1,11 @@
 -- Which trees have values everywhere: each type in the tree is laid out unflagged, absent variants' fields and locals of no state among
--- them.
+-- them; and each of them has a value.
 use Rattle.std.specs.Prelude.{◌≡◌, false, Ok, ⊤}
 use Rattle.abi_base.specs.declared.data_layout.TargetDataLayout.{TargetDataLayout}
 use Rattle.abi_laid.specs.Tree.{Tree, array, vector, struct, union, enum, coroutine}
 use Rattle.abi_laid.specs.Tree.{Trees, no_trees, more_trees, Variants, no_variants, more_variants}
 use Rattle.abi_laid.specs.Placed.{Placed, layout_of}
+use Rattle.abi_laid.specs.Values.{HasValue}
 use Rattle.rustc_abi.specs.Laying.{IsLaying}
 
 module _ (dl : TargetDataLayout) where
@@ -33,3 +34,25 @@ module _ (dl : TargetDataLayout) where
     pub VariantsInhabited : Variants → Type 0
     VariantsInhabited no_variants = ⊤
     VariantsInhabited (more_variants discriminant ts others) = AreInhabited ts × VariantsInhabited others
+
+  abbrev mutual
+    -- the type has a value, and so has each type in it
+    pub EachHasValue : Tree → Type 0
+    EachHasValue (array count element) = EachHasValue element × HasValue dl (array count element)
+    EachHasValue (vector lanes packed element) = EachHasValue element × HasValue dl (vector lanes packed element)
+    EachHasValue (struct repr always_sized order all) = HaveValuesEach all × HasValue dl (struct repr always_sized order all)
+    EachHasValue (union repr all) = HaveValuesEach all × HasValue dl (union repr all)
+    EachHasValue (enum repr all) = VariantsHaveValues all × HasValue dl (enum repr all)
+    EachHasValue (coroutine prefix locals states conflicts) =
+        HaveValuesEach prefix × HaveValuesEach locals × HasValue dl (coroutine prefix locals states conflicts)
+    EachHasValue t = HasValue dl t
+
+    -- these types have, and each in them
+    pub HaveValuesEach : Trees → Type 0
+    HaveValuesEach no_trees = ⊤
+    HaveValuesEach (more_trees t ts) = EachHasValue t × HaveValuesEach ts
+
+    -- the fields of these variants have
+    pub VariantsHaveValues : Variants → Type 0
+    VariantsHaveValues no_variants = ⊤
+    VariantsHaveValues (more_variants discriminant ts others) = HaveValuesEach ts × VariantsHaveValues others

@@ -59,6 +59,7 @@ abbrev pub two_scalars : TargetDataLayout → (a b : Scalar) → Placed
 two_scalars dl a b =
     placed_pair (pair_layout 0 0 1 dl a b) (part 0 (one_scalar dl a) (part (second_offset dl a b) (one_scalar dl b) no_parts))
 
+-- the answer to a scalar: its fault, or its layout
 abbrev pub scalar_answer : TargetDataLayout → Scalar → Result Placed LayError
 scalar_answer dl s = unless (scalar_fault dl s) (Ok (one_scalar dl s))
 
@@ -68,6 +69,7 @@ pair_answer dl a b =
     unless (scalar_fault dl a) (unless (scalar_fault dl b)
     (if nat_lt (pair_size dl a b) (size_bound dl) then Ok (two_scalars dl a b) else Err SizeOverflow))
 
+-- the answer to an array: that its size isn't below the bound, or its layout
 abbrev pub elements_answer : TargetDataLayout → (count : ℕ) → Placed → Result Placed LayError
 elements_answer dl count element =
     placed_by (λ layout. elements layout count element) (named {H = ℕ} (array_answer 0 dl (layout_of element) (Some count)))
@@ -83,6 +85,7 @@ abbrev pub is_above_limit : Option ℕ → Bool
 is_above_limit None = false
 is_above_limit (Some align) = nat_lt 29 align
 
+-- an alignment that the repr names is above 2^29 bytes
 abbrev pub has_bad_align : ReprOptions → Bool
 has_bad_align repr = is_above_limit repr.align || is_above_limit repr.pack
 
@@ -248,6 +251,7 @@ abbrev mutual
   AreLaying dl no_trees r = r ≡ Ok []
   AreLaying dl (more_trees t ts) r = Follows (IsLaying dl t) (λ p. Follows (AreLaying dl ts) (λ ps r. r ≡ Ok (p ∷ ps))) r
 
+  -- the answers to the fields of variants, or the first fault
   pub VariantsLaying : TargetDataLayout → Variants → Result (List (List Placed)) LayError → Type 0
   VariantsLaying dl no_variants r = r ≡ Ok []
   VariantsLaying dl (more_variants discriminant ts others) r =

@@ -54,6 +54,7 @@ IsTooLargeBy dl repr numbers variants (OneList i) = IsEachOrderTooLarge dl repr 
 IsTooLargeBy dl repr numbers variants Several =
     (repr.pack ≡ None) × IsAskedTooLarge dl repr (IsTagInteger dl repr) (counted repr numbers variants) (layouts_of variants)
 
+-- an enum is too large, by the way in which it is laid out
 abbrev pub IsEnumTooLarge : TargetDataLayout → ReprOptions → (numbers : List ℕ) → List (List Placed) → Type 0
 IsEnumTooLarge dl repr numbers variants = IsTooLargeBy dl repr numbers variants (path_of true repr (layouts_of variants))
 
@@ -174,6 +175,7 @@ module _ (dl : TargetDataLayout) where
     AreTooLarge no_trees = ⊥
     AreTooLarge (more_trees t ts) = IsTooLarge t ⊎ ((p : Placed) × IsLaying dl t (Ok p) × AreTooLarge ts)
 
+    -- the first fault of the fields of variants is a size
     pub AreVariantsTooLarge : Variants → Type 0
     AreVariantsTooLarge no_variants = ⊥
     AreVariantsTooLarge (more_variants discriminant ts others) =

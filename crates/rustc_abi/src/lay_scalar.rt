@@ -1,12 +1,14 @@
 //! How types without parts, and pairs of scalars, are laid out.
 
-ghost use Rattle.std.specs.Prelude.{◌≡◌, ◌+◌, IfOk, IfErr, None, OnErr, false, length, true};
-ghost use Rattle.abi_base.specs.DataLayout.{IsLawfulDataLayout};
+ghost use Rattle.std.specs.Prelude.{◌≡◌, ◌+◌, ◌<◌, IfOk, IfErr, Err, None, Ok, OnErr, false, length, true};
+ghost use Rattle.abi_base.specs.DataLayout.{IsLawfulDataLayout, size_bound};
+ghost use Rattle.abi_scalar.specs.Pair.{pair_size};
 ghost use Rattle.abi_scalar.specs.Scalar.{primitive_of};
 ghost use Rattle.abi_laid.specs.Tree.{scalar, pair, never, unit};
 ghost use Rattle.abi_scalar.specs.Lawful.{IsLawfulLayout};
 ghost use Rattle.abi_laid.specs.Placed.{layout_of};
-ghost use Rattle.rustc_abi.specs.Laying.{one_scalar, scalar_answer, pair_answer};
+ghost use Rattle.rustc_abi.specs.Laying.{one_scalar, pair_answer, scalar_answer, two_scalars, unless};
+ghost use Rattle.rustc_abi.specs.declared.error.LayError.{LayError};
 ghost use Rattle.rustc_abi.specs.ScalarFault.{is_lawful_primitive, has_range_within, scalar_fault};
 ghost use Rattle.abi_laid.specs.Well.{IsPut};
 ghost use Rattle.rustc_abi.specs.Adding.{AreStillThere, IsAdded, IsRefusal};
@@ -15,6 +17,7 @@ ghost use Rattle.rustc_abi.specs.Count.{HasMore, IsOwnPut};
 use crate::error::LayError;
 use crate::node::add;
 use abi_base::{Primitive, TargetDataLayout};
+use abi_index::{FieldIdx, VariantIdx};
 use abi_laid::{Mark, Node, Shape};
 use abi_scalar::{LayoutData, Scalar};
 use std::alloc::Global;
@@ -75,7 +78,7 @@ fn add_lawful(
     add(nodes, LayoutData::scalar(&dl, value), Shape::Scalar(value))
 }
 
-/// A node for a scalar.
+/// A node for a scalar. Its fault is told before memory is asked for.
 pub(crate) fn add_scalar(
     dl: &TargetDataLayout,
     nodes: &mut Vec<Node>,
@@ -85,6 +88,7 @@ pub(crate) fn add_scalar(
     ensures ok { IfOk result (λ i. IsAdded dl.now nodes.old.items nodes.new.items i (scalar value)) }
     ensures own { IfOk result (IsOwnPut nodes.old.items nodes.new.items) }
     ensures err { IfErr result (IsRefusal (scalar_answer dl.now value)) }
+    ensures fault { (e : LayError) → scalar_answer dl.now value ≡ Err e → result ≡ Err e }
     ensures kept { OnErr result (nodes.new.items ≡ nodes.old.items) }
     ensures behind { AreStillThere nodes.old.items nodes.new.items }
 {
@@ -94,7 +98,29 @@ pub(crate) fn add_scalar(
     }
 }
 
-/// Nodes for two scalars without faults, and one for both.
+/// The fault of two scalars, if they have one: the first's, then the second's, then that their size isn't below the bound.
+/// No memory is asked for.
+fn pair_fault(alloc: Global, dl: &TargetDataLayout, a: Scalar, b: Scalar) -> Option<LayError>
+    requires { IsLawfulDataLayout dl.now }
+    ensures { pair_answer dl.now a b ≡ unless result (Ok (two_scalars dl.now a b)) }
+{
+    let first = scalar_fault(dl, a);
+    if first.is_some() {
+        return first;
+    }
+    let second = scalar_fault(dl, b);
+    if second.is_some() {
+        return second;
+    }
+    let layout: LayoutData<FieldIdx, VariantIdx> = LayoutData::scalar_pair(alloc, &dl, a, b);
+    if layout.size.bytes() < dl.obj_size_bound() {
+        None
+    } else {
+        Some(LayError::SizeOverflow)
+    }
+}
+
+/// Nodes for two scalars without faults, whose size is below the bound, and one for both.
 fn add_two(
     alloc: Global,
     dl: &TargetDataLayout,
@@ -105,21 +131,19 @@ fn add_two(
     requires data_layout { IsLawfulDataLayout dl.now }
     requires first { scalar_fault dl.now a ≡ None }
     requires second { scalar_fault dl.now b ≡ None }
+    requires below { pair_size dl.now a b < size_bound dl.now }
     ensures ok { IfOk result (λ i. IsAdded dl.now nodes.old.items nodes.new.items i (pair a b)) }
     ensures own { IfOk result (IsOwnPut nodes.old.items nodes.new.items) }
-    ensures err { IfErr result (IsRefusal (pair_answer dl.now a b)) }
+    ensures err { IfErr result (λ e. e ≡ LayError.OutOfMemory) }
     ensures behind { AreStillThere nodes.old.items nodes.new.items }
 {
     let first = add_lawful(dl, nodes, a)?;
     let second = add_lawful(dl, nodes, b)?;
     let layout = LayoutData::scalar_pair(alloc, &dl, a, b);
-    if layout.size.bytes() >= dl.obj_size_bound() {
-        return Err(LayError::SizeOverflow);
-    }
     add(nodes, layout, Shape::Pair { first, second })
 }
 
-/// A node for two scalars, and one for each of them.
+/// A node for two scalars, and one for each of them. Their fault is told before memory is asked for.
 pub(crate) fn add_pair(
     alloc: Global,
     dl: &TargetDataLayout,
@@ -131,12 +155,10 @@ pub(crate) fn add_pair(
     ensures ok { IfOk result (λ i. IsAdded dl.now nodes.old.items nodes.new.items i (pair a b)) }
     ensures own { IfOk result (IsOwnPut nodes.old.items nodes.new.items) }
     ensures err { IfErr result (IsRefusal (pair_answer dl.now a b)) }
+    ensures fault { (e : LayError) → pair_answer dl.now a b ≡ Err e → result ≡ Err e }
     ensures behind { AreStillThere nodes.old.items nodes.new.items }
 {
-    if let Some(fault) = scalar_fault(dl, a) {
-        return Err(fault);
-    }
-    if let Some(fault) = scalar_fault(dl, b) {
+    if let Some(fault) = pair_fault(alloc, dl, a, b) {
         return Err(fault);
     }
     add_two(alloc, dl, nodes, a, b)

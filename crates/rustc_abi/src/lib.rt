@@ -1,21 +1,28 @@
 //! How types are laid out, as trees; and all that the crates below export, under one name.
 #![tactic(auto)]
 
-mod conflicts;
-mod coroutine_fault;
-mod discriminants;
+// The layout of a tree, and why it has none.
 mod error;
 mod lay;
+
+// The way down a tree, and nodes.
+mod lay_tree;
+mod node;
+
+// A node of each kind.
 mod lay_array;
 mod lay_coroutine;
 mod lay_enum;
 mod lay_fields;
 mod lay_ordered;
 mod lay_scalar;
-mod lay_tree;
 mod lay_union;
 mod lay_vector;
-mod node;
+
+// What enums and coroutines ask before.
+mod conflicts;
+mod coroutine_fault;
+mod discriminants;
 mod tag_integer;
 
 pub use abi_base::{

@@ -12,11 +12,11 @@ use Rattle.abi_base.specs.declared.primitive.Primitive.{Primitive}
 use Rattle.abi_base.specs.declared.primitive.Primitive.TheVariants.{Int, Float as OneFloat, Pointer}
 use Rattle.abi_base.specs.Float.{float_size}
 use Rattle.abi_base.specs.Integer.{integer_size}
-use Rattle.abi_base.specs.Primitive.{IsLawfulPrimitive, primitive_size}
+use Rattle.abi_base.specs.Primitive.{IsLawfulPrimitive, KnowsPrimitive, primitive_size}
 use Rattle.abi_scalar.specs.Range.{IsIn, numbers_of}
 
 -- one byte more
-numbers_of-more : (w : ℕ) → numbers_of (w + 1) ≡ 256 * numbers_of w
+pub numbers_of-more : (w : ℕ) → numbers_of (w + 1) ≡ 256 * numbers_of w
 numbers_of-more w =
     let split : 8 * (w + 1) ≡ 8 + 8 * w = omega arith in
     ap (λ e. 2 ^ e) split ∙ pow-add 2 8 (8 * w)
@@ -61,6 +61,12 @@ pub primitive_most : (dl : TargetDataLayout) (p : Primitive) → IsLawfulPrimiti
 primitive_most dl (Int i signed) lawful = integer_most i
 primitive_most dl (OneFloat f) lawful = float_most f
 primitive_most dl (Pointer space) lawful = lawful.1.most
+
+-- a lawful pointer's space is known
+pub knows_lawful : (dl : TargetDataLayout) (p : Primitive) → IsLawfulPrimitive dl p → KnowsPrimitive dl p
+knows_lawful dl (Int i signed) lawful = tt
+knows_lawful dl (OneFloat f) lawful = tt
+knows_lawful dl (Pointer space) lawful = lawful.0
 
 -- of one byte, counting from 0 to 1 meets two numbers
 bool_by : (n steps : ℕ) → n ≡ (0 + steps) % numbers_of 1 → ((k : ℕ) → k < steps → (0 + k) % numbers_of 1 ≢ 1) → (n ≡ 0) ⊎ (n ≡ 1)

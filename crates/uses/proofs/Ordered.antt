@@ -140,16 +140,16 @@ listed dl repr ts placed ps layout are h is =
       count = ap length offsets ∙ many ∙ length-map (map layout_of ps) (λ f. part_of dl f) ∙ length-map ps layout_of;
     }
 
-abbrev ok : Placed → Result Placed LayError
+abbrev pub ok : Placed → Result Placed LayError
 ok placed = Ok placed
 
-abbrev error : LayError → Result Placed LayError
+abbrev pub error : LayError → Result Placed LayError
 error e = Err e
 
-inj-Ok : (a b : Placed) → ok a ≡ ok b → a ≡ b
+pub inj-Ok : (a b : Placed) → ok a ≡ ok b → a ≡ b
 inj-Ok a b e = cc
 
-no_error : (a : Placed) (e : LayError) → ok a ≡ error e → ⊥
+pub no_error : (a : Placed) (e : LayError) → ok a ≡ error e → ⊥
 no_error a e is = cc
 
 -- no own fault: the calculator's answer

@@ -1,16 +1,26 @@
 -- Fields that lie as C has them.
-use Rattle.std.specs.Prelude.{◌≡◌, ℕ, ◌+◌, ◌^◌, ◌≤◌, All, List, [], ◌∷◌, None, true}
+use Rattle.std.specs.Prelude.{◌≡◌, ℕ, ◌+◌, ◌^◌, ◌≤◌, All, List, [], ◌∷◌, None, Ok, true}
 use Rattle.std.specs.Int.{◌∣◌}
+use Rattle.abi_base.specs.DataLayout.{IsLawfulDataLayout}
+use Rattle.abi_base.specs.declared.data_layout.TargetDataLayout.{TargetDataLayout}
 use Rattle.abi_scalar.specs.declared.repr.ReprOptions.{ReprOptions}
 use Rattle.abi_scalar.specs.Repr.{has_fixed_order}
+use Rattle.abi_scalar.specs.Shape.{listed_offsets}
 use Rattle.abi_laid.specs.Placed.{Placed, layout_of, size_of}
-use Rattle.abi_laid.specs.Tree.{Tree, Trees, struct}
+use Rattle.abi_laid.specs.Tree.{Tree, Trees, struct, union}
+use Rattle.rustc_abi.specs.Laying.{IsLaying}
 
 -- the tree is a struct of these fields, under a repr that fixes their order and names no alignment, as `repr(C)` does
 abbrev pub IsInC : Tree → Trees → Type 0
 IsInC tree fields =
     (repr : ReprOptions) × (tree ≡ struct repr true None fields) × (has_fixed_order repr ≡ true)
     × (repr.pack ≡ None) × (repr.align ≡ None)
+
+-- laid out under a lawful data layout, the tree lists its fields at these offsets, and has this size and this alignment
+abbrev pub IsLaidOutAs : TargetDataLayout → Tree → (offsets : List ℕ) → (size align : ℕ) → Type 0
+IsLaidOutAs dl tree offsets size align =
+    IsLawfulDataLayout dl × (placed : Placed) × IsLaying dl tree (Ok placed)
+    × (listed_offsets (layout_of placed).fields ≡ offsets) × (size_of placed ≡ size) × ((layout_of placed).align.abi ≡ align)
 
 -- The place is the least multiple of the alignment, an exponent of two, that isn't before `from`.
 pub record IsLeastMultiple (align from place : ℕ) : Type 0 where
@@ -41,5 +51,26 @@ pub record IsGreatestAlign (least : ℕ) (fields : List Placed) (align : ℕ) : 
 pub record LieAsInC (least : ℕ) (fields : List Placed) (offsets : List ℕ) (size align : ℕ) : Type 0 where
   pub end : ℕ
   pub follow : FollowEachOther 0 fields offsets end
+  pub aligned : IsGreatestAlign least fields align
+  pub rounded : IsLeastMultiple align end size
+
+-- ---- unions
+
+-- the tree is a union of these fields, under a repr that names no alignment, as `repr(C)` does
+abbrev pub IsUnionInC : Tree → Trees → Type 0
+IsUnionInC tree fields = (repr : ReprOptions) × (tree ≡ union repr fields) × (repr.pack ≡ None) × (repr.align ≡ None)
+
+-- laid out under a lawful data layout, the tree has this size and this alignment
+abbrev pub HasExtent : TargetDataLayout → Tree → (size align : ℕ) → Type 0
+HasExtent dl tree size align =
+    IsLawfulDataLayout dl × (placed : Placed) × IsLaying dl tree (Ok placed) × (size_of placed ≡ size)
+    × ((layout_of placed).align.abi ≡ align)
+
+-- Fields lie so, each at 0: the alignment of the whole is the greatest one, and the size is the greatest size, rounded up
+-- to it.
+pub record LieTogetherAsInC (least : ℕ) (fields : List Placed) (size align : ℕ) : Type 0 where
+  pub end : ℕ
+  pub each : All (λ field. size_of field ≤ end) fields
+  pub no_less : (other : ℕ) → All (λ field. size_of field ≤ other) fields → end ≤ other
   pub aligned : IsGreatestAlign least fields align
   pub rounded : IsLeastMultiple align end size

@@ -1,19 +1,23 @@
 //! A binding generator: where a C compiler has the fields of a struct.
 
+mod fields;
+mod unions;
+
 ghost use Rattle.std.specs.Prelude.{◌≡◌, IfErr, IfOk, List, None, Ok, map, true};
 ghost use Rattle.abi_scalar.specs.Repr.{has_fixed_order};
 ghost use Rattle.abi_laid.specs.Placed.{Placed};
 ghost use Rattle.abi_laid.specs.Tree.{Tree, Trees, tree_of, trees};
 ghost use Rattle.rustc_abi.specs.Fault.{IsRefusedFor};
 ghost use Rattle.rustc_abi.specs.Laying.{AreLaying};
-ghost use Rattle.uses.specs.InC.{IsInC, LieAsInC};
-ghost use Rattle.uses.specs.Loaded.{HasLayout};
+ghost use Rattle.uses.specs.InC.{IsInC, IsLaidOutAs, LieAsInC};
 
+pub use fields::{CFault, CRefusal, c_struct};
 use rustc_abi::{
     Align, FieldIdx, FieldsShape, IndexVec, LayError, ReprFlags, ReprOptions, Size,
     TargetDataLayout, TypeTree, lay_out,
 };
 use std::alloc::Global;
+pub use unions::{CUnion, c_union};
 
 /// A struct as C has it.
 #[derive(Drop)]
@@ -27,7 +31,7 @@ pub struct CStruct {
 }
 
 /// What `repr(C)` asks for.
-fn c_repr() -> ReprOptions
+pub(crate) fn c_repr() -> ReprOptions
     ensures fixed { has_fixed_order result ≡ true }
     ensures unpacked { result.pack ≡ None }
     ensures unraised { result.align ≡ None }
@@ -44,7 +48,7 @@ fn struct_of(alloc: Global, dl: &TargetDataLayout, tree: &TypeTree) -> Result<CS
     ensures placed { IfOk result (λ c. (fields : Trees) → IsInC (tree_of tree.now) fields →
         (placed : List Placed) × AreLaying dl.now fields (Ok placed) ×
         LieAsInC dl.now.aggregate_align placed c.offsets c.size c.align) }
-    ensures laid { IfOk result (λ _. HasLayout dl.now (tree_of tree.now)) }
+    ensures laid { IfOk result (λ c. IsLaidOutAs dl.now (tree_of tree.now) c.offsets c.size c.align) }
     ensures refused { IfErr result (IsRefusedFor dl.now (tree_of tree.now)) }
 {
     let laid = lay_out(alloc, dl, tree)?;
@@ -75,9 +79,9 @@ pub fn c_offsets(
         AreLaying dl.now (trees (map tree_of fields.items)) (Ok placed) ×
         LieAsInC dl.now.aggregate_align placed c.offsets c.size c.align) }
 
-    // It is answered only where the struct has a layout, and refused only where it has none, or memory is wanting.
-    ensures laid { IfOk result (λ _. (tree : Tree) ×
-        IsInC tree (trees (map tree_of fields.items)) × HasLayout dl.now tree) }
+    // They are those of the struct as it is laid out; it is refused only where it has no layout, or memory is wanting.
+    ensures laid { IfOk result (λ c. (tree : Tree) × IsInC tree (trees (map tree_of fields.items)) ×
+        IsLaidOutAs dl.now tree c.offsets c.size c.align) }
     ensures refused { IfErr result (λ e. (tree : Tree) ×
         IsInC tree (trees (map tree_of fields.items)) × IsRefusedFor dl.now tree e) }
 {

@@ -1,5 +1,9 @@
 //! A code generator: numbers loaded from memory.
 
+mod pairs;
+mod stores;
+mod tags;
+
 ghost use Rattle.std.specs.Prelude.{◌≡◌, ◌⊎◌, ◌<◌, ◌≤◌, IfErr, IfOk, IfSome, MatchBool, None, Ok, length};
 ghost use Rattle.abi_laid.specs.Bytes.{number_of};
 ghost use Rattle.abi_laid.specs.Holding.{Holds};
@@ -15,10 +19,13 @@ ghost use Rattle.rustc_abi.specs.Fault.{IsRefusedFor};
 ghost use Rattle.rustc_abi.specs.Laying.{IsLaying};
 ghost use Rattle.uses.specs.Loaded.{HasLayout, IsSeenAs};
 
+pub use pairs::{LoadedPair, load_at, load_pair};
 use rustc_abi::{
     BackendRepr, Endian, Laid, LayError, Scalar, TargetDataLayout, TypeTree, lay_out, read_value,
 };
 use std::alloc::{AllocError, Global};
+pub use stores::store;
+pub use tags::variant_named;
 
 /// A number that was loaded.
 #[derive(Clone, Copy)]
@@ -30,7 +37,7 @@ pub struct Loaded {
 }
 
 /// The number that these bytes make, at most 16.
-fn number_in(order: Endian, bytes: &[u8]) -> u128
+pub(crate) fn number_in(order: Endian, bytes: &[u8]) -> u128
     requires { length bytes.now ≤ 16 }
     ensures value { result ≡ number_of order bytes.now }
     ensures bound { result < numbers_of (length bytes.now) }
@@ -48,7 +55,7 @@ fn number_in(order: Endian, bytes: &[u8]) -> u128
 }
 
 /// Whether these bytes hold a value of the type.
-fn is_value(alloc: Global, laid: &Laid, bytes: &[u8]) -> Result<bool, AllocError>
+pub(crate) fn is_value(alloc: Global, laid: &Laid, bytes: &[u8]) -> Result<bool, AllocError>
     ensures { IfOk result (λ yes. MatchBool yes
         ((v : Meant) × Holds (endian_of laid.now) (placed_of laid.now) bytes.now v)
         ((v : Meant) → Holds (endian_of laid.now) (placed_of laid.now) bytes.now v → ⊥)) }

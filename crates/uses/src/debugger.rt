@@ -1,25 +1,41 @@
 //! A debugger: values in the bytes of a program that it looks at.
 
+mod parts;
+mod slices;
+
 ghost use Rattle.std.specs.Prelude.{◌≡◌, IfErr, IfOk, None, slice_get};
 ghost use Rattle.abi_base.specs.declared.data_layout.TargetDataLayout.{TargetDataLayout as Target};
 ghost use Rattle.abi_laid.specs.Holding.{Holds};
 ghost use Rattle.abi_laid.specs.Laid.{endian_of, placed_of};
+ghost use Rattle.abi_laid.specs.OfTree.{IsOfTree};
 ghost use Rattle.abi_laid.specs.Reading.{KeepsValues};
 ghost use Rattle.abi_laid.specs.Tree.{Tree};
 ghost use Rattle.abi_laid.specs.Value.{Values, list, value_of};
 ghost use Rattle.abi_laid.specs.Values.{IsValueOf};
-ghost use Rattle.uses.specs.Kept.{IsKept};
 ghost use Rattle.uses.specs.Field.{IsAnswer, value_at};
 
+pub use parts::{field_of_variant, local_of_state, numbers_of};
 use rustc_abi::{Laid, Value, ValueError, read_value, write_value};
+pub use slices::{put_field, slice_of_field};
 use std::alloc::{AllocError, Global};
+
+/// A value that was written, and read from its bytes.
+#[derive(Drop)]
+pub struct ReadBack {
+    /// The bytes that were written.
+    pub bytes: Vec<u8>,
+    /// The value that was read.
+    pub value: Value,
+}
 
 /// Writes a value of a type that was laid out, and reads it from the bytes that were written.
 ///
 /// `NotAValue` where the value is none of the type's. `OutOfMemory` where a growth of memory was refused.
-pub fn read_back(alloc: Global, laid: &Laid, value: &Value) -> Result<Value, ValueError>
-    requires kept { IsKept laid.now }
-    ensures same { IfOk result (λ read. value_of read ≡ value_of value.now) }
+pub fn read_back(alloc: Global, laid: &Laid, value: &Value) -> Result<ReadBack, ValueError>
+    requires laid { IsOfTree laid.now }
+    ensures held { IfOk result (λ back.
+        Holds (endian_of laid.now) (placed_of laid.now) back.bytes.items (value_of back.value)) }
+    ensures same { IfOk result (λ back. value_of back.value ≡ value_of value.now) }
     ensures value { IfOk result (λ _. (dl : Target) (tree : Tree) → KeepsValues dl tree laid.now →
         IsValueOf dl tree (placed_of laid.now) (value_of value.now)) }
     ensures not_a_value { IfErr result (λ e. e ≡ ValueError.NotAValue →
@@ -28,13 +44,13 @@ pub fn read_back(alloc: Global, laid: &Laid, value: &Value) -> Result<Value, Val
 {
     let bytes = write_value(alloc, laid, value)?;
     match read_value(alloc, laid, &bytes)? {
-        Some(read) => Ok(read),
+        Some(read) => Ok(ReadBack { bytes, value: read }),
         None => unreachable!(),
     }
 }
 
 /// One of these values, if there are so many.
-fn taken(mut values: Vec<Value>, index: usize) -> Option<Value>
+pub(crate) fn taken(mut values: Vec<Value>, index: usize) -> Option<Value>
     ensures { result ≡ slice_get values.items index }
 {
     if index < values.len() {
@@ -54,7 +70,7 @@ pub fn field_of(
     bytes: &[u8],
     index: usize,
 ) -> Result<Option<Value>, AllocError>
-    requires kept { IsKept laid.now }
+    requires laid { IsOfTree laid.now }
     ensures field { IfOk result (λ found.
         (vs : Values) → Holds (endian_of laid.now) (placed_of laid.now) bytes.now (list vs) →
         IsAnswer found (value_at vs index)) }

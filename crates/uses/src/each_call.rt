@@ -4,8 +4,7 @@ ghost use Rattle.std.specs.Prelude.{IfOk};
 ghost use Rattle.abi_base.specs.declared.data_layout.TargetDataLayout.{TargetDataLayout as Target};
 ghost use Rattle.abi_laid.specs.Tree.{tree_of};
 ghost use Rattle.abi_laid.specs.Values.{LocalsHaveValues};
-ghost use Rattle.uses.specs.Ignored.{IgnoresPadding};
-ghost use Rattle.uses.specs.Kept.{ArePlacesKept, IsKept};
+ghost use Rattle.abi_laid.specs.OfTree.{IsOfTree};
 
 use crate::binding_generator::c_offsets;
 use crate::code_generator::load;
@@ -46,7 +45,7 @@ fn flagged(alloc: Global) -> Result<TypeTree, AllocError>
 
 /// Whether the value is one of the type's, and was read back.
 fn comes_back(alloc: Global, laid: &Laid, value: &Value) -> Result<bool, LayError>
-    requires kept { IsKept laid.now }
+    requires laid { IsOfTree laid.now }
 {
     match read_back(alloc, laid, value) {
         Ok(_read) => Ok(true),
@@ -57,7 +56,7 @@ fn comes_back(alloc: Global, laid: &Laid, value: &Value) -> Result<bool, LayErro
 
 /// Whether the bytes hold a list with a field of this index.
 fn has_field(alloc: Global, laid: &Laid, bytes: &[u8], index: usize) -> Result<bool, AllocError>
-    requires kept { IsKept laid.now }
+    requires laid { IsOfTree laid.now }
 {
     Ok(field_of(alloc, laid, bytes, index)?.is_some())
 }
@@ -69,23 +68,21 @@ fn holds_still(
     bytes: &mut [u8],
     place: usize,
 ) -> Result<bool, AllocError>
-    requires padding { IgnoresPadding laid.now }
+    requires laid { IsOfTree laid.now }
 {
     Ok(ignore(alloc, laid, bytes, place, 0xFF)?.is_some())
 }
 
 /// Whether the byte at the place decides something.
 fn is_decider(alloc: Global, laid: &Laid, place: u64) -> Result<bool, AllocError>
-    requires places { ArePlacesKept laid.now }
+    requires laid { IsOfTree laid.now }
 {
     Ok(flip(alloc, laid, place)?.is_some())
 }
 
 /// Hands a type to the functions that take one.
 fn try_laid(alloc: Global, laid: &Laid, value: &Value, bytes: &mut [u8]) -> Result<bool, LayError>
-    requires kept { IsKept laid.now }
-    requires padding { IgnoresPadding laid.now }
-    requires places { ArePlacesKept laid.now }
+    requires laid { IsOfTree laid.now }
 {
     let back = comes_back(alloc, laid, value)?;
     let field = has_field(alloc, laid, bytes, 0)?;

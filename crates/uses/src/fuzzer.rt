@@ -1,6 +1,8 @@
 //! A fuzzer: bytes of a value, changed at will.
 
-ghost use Rattle.std.specs.Prelude.{◌≡◌, ◌↔◌, ◌&&◌, ◌⊎◌, IfErr, IfOk, IfSome, None, false, if◌then◌else◌, slice_set};
+mod spare;
+
+ghost use Rattle.std.specs.Prelude.{◌≡◌, ◌↔◌, ◌&&◌, ◌⊎◌, IfErr, IfOk, IfSome, None, false, true, if◌then◌else◌, slice_set};
 ghost use Rattle.abi_index.specs.RangeSet.{is_in_ranges};
 ghost use Rattle.abi_laid.specs.Deciding.{DifferAt, all_inhabited_of};
 ghost use Rattle.abi_laid.specs.Holding.{Holds};
@@ -8,10 +10,11 @@ ghost use Rattle.abi_laid.specs.Laid.{endian_of, placed_of};
 ghost use Rattle.abi_laid.specs.Places.{is_data_place};
 ghost use Rattle.abi_laid.specs.Reading.{Finds};
 ghost use Rattle.abi_laid.specs.Value.{Value as Meant, value_of};
-ghost use Rattle.uses.specs.Ignored.{IgnoresPadding, with_padding};
-ghost use Rattle.uses.specs.Kept.{ArePlacesKept};
+ghost use Rattle.abi_laid.specs.OfTree.{IsOfTree};
+ghost use Rattle.uses.specs.Ignored.{DecidesNothing, with_padding};
 
 use rustc_abi::{Laid, RangeSet, Value, read_value};
+pub use spare::vary;
 use std::alloc::{AllocError, Global};
 
 /// Whether the byte with this number is in one of the ranges.
@@ -46,7 +49,7 @@ pub fn ignore(
     place: usize,
     byte: u8,
 ) -> Result<Option<Value>, AllocError>
-    requires padding { IgnoresPadding laid.now }
+    requires laid { IsOfTree laid.now }
 
     // What is read is what the bytes held before, and they hold it still.
     ensures reads { IfOk result (Finds (Holds (endian_of laid.now) (placed_of laid.now) bytes.old)) }
@@ -76,11 +79,11 @@ pub struct Flipped {
 
 /// Two byte lists that differ in the byte at the place alone, the first of which is read as a value, and the second not
 /// as it. `None` where the byte decides nothing, as it is padding or lies behind the type, and where some type in the
-/// type has no value.
+/// type has no value: where each has one, exactly where the byte decides nothing.
 ///
 /// `AllocError` where a growth of memory was refused.
 pub fn flip(alloc: Global, laid: &Laid, place: u64) -> Result<Option<Flipped>, AllocError>
-    requires kept { ArePlacesKept laid.now }
+    requires laid { IsOfTree laid.now }
 
     // What the byte lists are.
     ensures differ { IfOk result (λ found. IfSome found (λ f. DifferAt place f.first.items f.second.items)) }
@@ -92,6 +95,8 @@ pub fn flip(alloc: Global, laid: &Laid, place: u64) -> Result<Option<Flipped>, A
     // Where there are none.
     ensures none { IfOk result (λ found. found ≡ None →
         (all_inhabited_of laid.now && is_data_place (placed_of laid.now) place) ≡ false) }
+    ensures exactly { IfOk result (λ found. all_inhabited_of laid.now ≡ true →
+        (found ≡ None) ↔ DecidesNothing (endian_of laid.now) (placed_of laid.now) place) }
 {
     let (first, second) = match laid.decider(alloc, place)? {
         Some(pair) => pair,

@@ -2,13 +2,20 @@
 //! has a theorem of its own, which is proved from the public clauses of the calls that it makes, and from nothing else.
 #![tactic(auto)]
 
+// The four users.
 mod binding_generator;
 mod code_generator;
 mod debugger;
-mod each_call;
 mod fuzzer;
 
-pub use binding_generator::{CStruct, c_offsets};
-pub use code_generator::{Loaded, load};
-pub use debugger::{field_of, read_back};
-pub use fuzzer::{Flipped, flip, ignore};
+// What they share, and that what they ask can be met.
+mod each_call;
+mod slice;
+
+pub use binding_generator::{CFault, CRefusal, CStruct, CUnion, c_offsets, c_struct, c_union};
+pub use code_generator::{Loaded, LoadedPair, load, load_at, load_pair, store, variant_named};
+pub use debugger::{
+    ReadBack, field_of, field_of_variant, local_of_state, numbers_of, put_field, read_back,
+    slice_of_field,
+};
+pub use fuzzer::{Flipped, flip, ignore, vary};

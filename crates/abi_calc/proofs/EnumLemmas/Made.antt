@@ -39,6 +39,7 @@ use Rattle.abi_calc.specs.Enums.Made.{AreBehindTag, AreBesideNiche, AreVariantsA
 use Rattle.abi_calc.specs.Enums.Niche.{beside_niche, moved_on, niche_layout, place_after, room_beside, span_count, untagged_of, variants_from, with_first, without_niche}
 use Rattle.abi_calc.specs.Enums.Path.{has_no_value}
 use Rattle.abi_calc.specs.Enums.Payload.{seen_as, tagged_view}
+use Rattle.abi_calc.specs.Enums.Promised.{IsGoodEnum}
 use Rattle.abi_calc.specs.Enums.Several.{IsAskedAnswer, IsAskedFor, IsEnumAnswer, IsSeveralAnswer, better_of}
 use Rattle.abi_calc.specs.Enums.Tagged.{IsTaggedBy, lists_align, lists_size, payloads_of}
 use Rattle.abi_calc.specs.Ordered.{IsOrderedWhole, IsTagField}
@@ -396,3 +397,16 @@ module _ {F V H : Type 0} (layout_of : H → LayoutData F V) (at : ℕ → F) (n
   several_ordered most law lawful fields aligns gives (Ok l) h few =
       several_ok (IsOrderedWhole number) (tagged_ordered most law few lawful fields aligns) (niche_ordered most law few) gives (Ok l) h
   several_ordered most law lawful fields aligns gives (Err e) h few = tt
+
+  -- what holds whatever the discriminants are
+  pub several_good : (most : ℕ) → ((i : ℕ) → i ≤ most → number (at i) ≡ i) → number (at 0) ≡ 0 → IsLawfulDataLayout dl → All (All (λ f. IsLawfulLayout dl (layout_of f))) variants → HasLawfulAligns repr → (gives : List (V × ℕ) → Type 0)
+      → (r : Result (LayoutData F V) (LayoutCalculatorError H)) → IsSeveralAnswer layout_of at number index place dl repr asks variants gives r → IfOk r (λ l. All (λ fields. length fields ≤ most + 1) variants)
+      → IfOk r (IsGoodEnum number (map (map layout_of) variants))
+  several_good most law first lawful fields aligns gives (Ok l) h few = record {
+    uninhabited = several_ok (λ l. l.uninhabited ≡ list_all (λ fields. has_no_value fields) (map (map layout_of) variants)) tagged_flag niche_flag gives (Ok l) h;
+    sized = several_ok (λ l. is_unsized l.backend_repr ≡ false) tagged_sized niche_sized gives (Ok l) h;
+    tag_field = several_ok (λ l. IsTagField number 0 l.variants) (tagged_field first) (niche_field first) gives (Ok l) h;
+    aligned = several_ok (λ l. AreVariantsAligned (map (map layout_of) variants) (variants_of l.variants)) tagged_aligned niche_aligned gives (Ok l) h;
+    ordered = several_ordered most law lawful fields aligns gives (Ok l) h few;
+  }
+  several_good most law first lawful fields aligns gives (Err e) h few = tt

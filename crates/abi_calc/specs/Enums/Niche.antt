@@ -40,6 +40,7 @@ untagged_of lists = last_greatest (map (λ l. l.size) lists)
 abbrev pub needing_numbers : {F V : Type 0} → (untagged : ℕ) → (variants : List (List (LayoutData F V))) → List ℕ
 needing_numbers untagged variants = filter (λ i. not (i == untagged) && not (is_absent (variant_at variants i))) (source_order (length variants))
 
+-- the last of these indices, or another one where there is none
 abbrev pub last_or : ℕ → List ℕ → ℕ
 last_or i [] = i
 last_or i (j ∷ js) = last_or j js
@@ -75,6 +76,7 @@ beside_niche room align variant =
     if nat_le variant.size room.before then Some (without_niche variant)
     else (if nat_le (place_after room align + variant.size) room.whole then Some (moved_on (place_after room align) variant) else None)
 
+-- with the first of the numbers that were handed out
 abbrev pub with_first : {A : Type 0} → Option A → Option (List A) → Option (List A)
 with_first (Some x) (Some xs) = Some (x ∷ xs)
 with_first _ _ = None
@@ -163,11 +165,13 @@ if_niche first index dl repr untagged span lists list (Some niche) =
     then if_placed first index dl repr untagged span lists list niche (variants_from (room_beside dl niche lists) untagged 0 lists)
     else None
 
+-- the layout, where there is such a list
 abbrev pub if_list : {F V : Type 0} → (first : F) → (index : ℕ → V) → TargetDataLayout → ReprOptions → (untagged : ℕ) → (span : ℕ × ℕ) → (lists : List (LayoutData F V)) → Option (LayoutData F V)
     → Option (LayoutData F V)
 if_list first index dl repr untagged span lists None = None
 if_list first index dl repr untagged span lists (Some list) = if_niche first index dl repr untagged span lists list list.largest_niche
 
+-- the layout, where some variants need a number
 abbrev pub if_span : {F V : Type 0} → (first : F) → (index : ℕ → V) → TargetDataLayout → ReprOptions → (untagged : ℕ) → (lists : List (LayoutData F V)) → Option (ℕ × ℕ) → Option (LayoutData F V)
 if_span first index dl repr untagged lists None = None
 if_span first index dl repr untagged lists (Some span) = if_list first index dl repr untagged span lists (slice_get lists untagged)

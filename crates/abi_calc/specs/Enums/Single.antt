@@ -49,6 +49,7 @@ abbrev pub allowed_view : TargetDataLayout → NicheOptimizations → BackendRep
 allowed_view dl Enabled view = view
 allowed_view dl Disabled view = widened_view dl view
 
+-- the niche, where niches may be used
 abbrev pub allowed_niche : NicheOptimizations → Option Niche → Option Niche
 allowed_niche Enabled niche = niche
 allowed_niche Disabled niche = None

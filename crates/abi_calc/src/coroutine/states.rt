@@ -11,6 +11,7 @@ ghost use Rattle.abi_calc.specs.Coroutine.States.{ArePlaced, joined_places, own_
 use abi_base::Size;
 use abi_index::{DenseBitSet, Idx, IndexVec};
 use abi_scalar::VariantLayout;
+use abi_scalar::variant_parts::set_places;
 use std::alloc::{AllocError, Global};
 
 /// How many promoted locals are below each of so many locals: a promoted one's place in the list of them.
@@ -223,6 +224,6 @@ pub(crate) fn place_state<FieldIdx: Idx, LocalIdx: Idx>(
     let offsets = state_offsets(alloc, locals, below, offsets, own, state)?;
     let own = variant.in_memory_order();
     let in_memory_order = state_order(alloc, locals, below, ranks, own, state)?;
-    variant.set_places(offsets, in_memory_order);
+    set_places(variant, offsets, in_memory_order);
     Ok(())
 }

@@ -9,6 +9,7 @@ use crate::enums::path::is_absent;
 use abi_base::{Align, Size};
 use abi_index::{Idx, IndexList, IndexVec};
 use abi_lists::{LentList, ListLayouts, rounded};
+use abi_scalar::variant_parts::forget_niche;
 use abi_scalar::{BackendRepr, LayoutHandle, Scalar, VariantLayout};
 use std::alloc::{AllocError, Global};
 
@@ -113,7 +114,7 @@ fn move_on<FieldIdx: Idx>(
     ensures { OnOk result (variant.new ≡ moved_on by variant.old) }
 {
     variant.field_offsets = moved_offsets(alloc, by, variant.field_offsets.as_slice().as_raw())?;
-    variant.forget_niche();
+    forget_niche(variant);
     if !variant.is_uninhabited() {
         variant.backend_repr = BackendRepr::Memory { sized: true };
     }
@@ -146,7 +147,7 @@ fn place_beside<FieldIdx: Idx>(
         (λ placed. (has_room ≡ true) × (variant.new ≡ placed))) }
 {
     if variant.size <= room.before {
-        variant.forget_niche();
+        forget_niche(variant);
         return Ok(true);
     }
     let place = place_after(room, align);

@@ -1,6 +1,6 @@
 //! The bytes of a value that covers a place.
 
-ghost use Rattle.std.specs.Prelude.{◌≡◌, ℕ, ◌+◌, ◌*◌, ◌<◌, ◌≤◌, ◌&&◌, ◌||◌, [], All, IfOk, IfSome, List, None, Some, false, get_or, length, map, true};
+ghost use Rattle.std.specs.Prelude.{◌≡◌, ℕ, ◌+◌, ◌*◌, ◌<◌, ◌≤◌, ◌&&◌, ◌||◌, [], All, IfOk, IfSome, IsTrue, List, None, Some, false, get_or, length, map, true};
 ghost use Rattle.abi_base.specs.declared.data_layout.TargetDataLayout.{TargetDataLayout};
 ghost use Rattle.abi_index.specs.RangeSet.{AreMaximalRuns, is_in_ranges, is_in_run};
 ghost use Rattle.abi_scalar.specs.Shape.{listed_offsets};
@@ -19,16 +19,18 @@ ghost use Rattle.abi_laid.specs.Reading.{IsNamedIn};
 ghost use Rattle.abi_laid.specs.Tree.{Tree};
 ghost use Rattle.abi_laid.specs.Well.{all_at, are_nodes};
 ghost use Rattle.abi_laid.specs.Widths.{have_widths};
-ghost use Rattle.abi_laid.specs.Writing.{IsPutOver};
+ghost use Rattle.abi_laid.specs.Writing.{IsCopied, IsPutOver};
+ghost use Rattle.abi_laid.specs.declared.mark.Mark.{Mark};
 
+use crate::counted::Counted;
 use crate::laid::Laid;
 use crate::needed::needed_nodes;
 use crate::node::{Node, Shape, offsets, state_tag_offset, tag_offset};
 use crate::nodes::Nodes;
-use crate::read_one::{read_layout, read_one};
 use crate::runs_of::{set_at, sets_of};
 use crate::value::named::encoding_of;
-use crate::value::write::{Told, put_number, write_tag};
+use crate::value::read_one::{read_layout, read_one};
+use crate::value::write::{Told, arms_of, put_number, write_tag};
 use abi_base::{Endian, Size};
 use abi_index::{Idx, RangeSet, VariantIdx};
 use abi_scalar::{Scalar, TagEncoding};
@@ -161,6 +163,46 @@ fn put_zeros(runs: &[(u64, u64)], at: usize, size: usize, bytes: &mut [u8])
     }
 }
 
+/// Whether so many bytes from a place on are 0.
+fn are_zeros(bytes: &[u8], at: usize, count: usize) -> bool
+    requires { at + count ≤ length bytes.now }
+    ensures { IsTrue result → (k : ℕ) → k < count → get_or bytes.now (at + k) 0 ≡ 0 }
+{
+    for k in 0..count {
+        if bytes[at + k] != 0 {
+            return false;
+        }
+    }
+    true
+}
+
+/// The index of the first element of so many bytes that doesn't have the place: at most one has it.
+fn first_without(place: Option<u64>, size: u64) -> u64
+    ensures { place_in place (result * size) size ≡ None }
+{
+    match place {
+        Some(k) => if k < size { 1 } else { 0 },
+        None => 0,
+    }
+}
+
+/// Whether an element may be a copy of the one that it is like: of one before it, where all bytes were 0, and where it
+/// doesn't have the place.
+fn may_copy(blank: bool, like: u64, i: u64, here: Option<u64>) -> bool
+    ensures { IsTrue result → (blank ≡ true) × (like < i) × (here ≡ None) }
+{
+    blank && like < i && here.is_none()
+}
+
+/// Copies so many bytes to a place behind them.
+fn copy_bytes(bytes: &mut [u8], from: usize, to: usize, size: usize)
+    requires behind { from + size ≤ to }
+    requires fits { to + size ≤ length bytes.old }
+    ensures { IsCopied from to size bytes.old bytes.new }
+{
+    bytes.copy_within(from..from + size, to);
+}
+
 /// Puts a value that covers the place over the bytes of a node, wherever its parts cover one.
 #[cycle(cover)]
 fn put_node(cover: Cover<'_>, node: usize, place: Option<u64>, at: usize, bytes: &mut [u8])
@@ -174,69 +216,101 @@ fn put_node(cover: Cover<'_>, node: usize, place: Option<u64>, at: usize, bytes:
         IsPutOver (is_covered p (covering_value p place)) at b bytes.old bytes.new }
 {
     let here = read_one(cover.nodes, node);
-    let layout = &here.layout;
-    let size = layout.size.bytes() as usize;
+    let list = offsets(&here.layout);
+    let size = here.layout.size.bytes() as usize;
     if size == 0 {
         return;
     }
     match &here.shape {
         Shape::Scalar(scalar) => put_number(cover.order, some_number(scalar), size, at, bytes),
-        Shape::Pair { first, second } => put_parts(
-            cover,
-            node,
-            offsets(layout),
-            &[*first, *second],
-            place,
-            at,
-            bytes,
-        ),
+        Shape::Pair { first, second } => {
+            put_parts(cover, node, list, &[*first, *second], place, at, bytes)
+        }
         Shape::Never(_) => {}
         Shape::Elements { count, element } => {
             put_elements(cover, *element, *count, place, at, bytes)
         }
-        Shape::Fields(_, children) => {
-            put_parts(cover, node, offsets(layout), children, place, at, bytes)
-        }
+        Shape::Fields(_, children) => put_parts(cover, node, list, children, place, at, bytes),
         Shape::Union(_, _) => put_zeros(set_at(cover.sets, node).as_slice(), at, size, bytes),
         Shape::Vector(lanes) => put_node(cover, *lanes, place, at, bytes),
-        Shape::Single(_, children) => {
-            put_parts(cover, node, offsets(layout), children, place, at, bytes)
-        }
-        Shape::Tagged {
-            mark: _,
-            tag,
-            variants,
-        } => {
-            let encoding = encoding_of(layout);
-            let told = Told {
-                encoding: &encoding,
-                tag: *tag,
-                offset: tag_offset(layout),
-                arms: variants,
-                size,
-            };
-            put_arm(cover, node, told, place, at, bytes)
-        }
-        Shape::States {
-            prefix,
-            tag,
-            states,
-        } => {
-            let direct = TagEncoding::Direct;
-            put_parts(cover, node, offsets(layout), prefix, place, at, bytes);
-            let told = Told {
-                encoding: &direct,
-                tag: *tag,
-                offset: state_tag_offset(layout, prefix.len()),
-                arms: states,
-                size,
-            };
-            put_arm(cover, node, told, place, at, bytes)
-        }
+        Shape::Single(_, children) => put_parts(cover, node, list, children, place, at, bytes),
+        Shape::Tagged { .. } => put_variant(cover, node, here, place, at, bytes),
+        Shape::States { .. } => put_state(cover, node, here, place, at, bytes),
     }
 }
 
-/// Puts so many elements over their bytes, one after another.
+/// Puts a variant that covers the place, and its tag, over the bytes of a node that has a tag and variants beside it.
+#[cycle(cover)]
+fn put_variant(
+    cover: Cover<'_>,
+    node: usize,
+    here: &Node,
+    place: Option<u64>,
+    at: usize,
+    bytes: &mut [u8],
+)
+    requires sets { HaveSets cover.nodes.now cover.kept.now cover.sets.now }
+    requires kept { IsKept cover.kept.now node }
+    requires fits { at + size_of (placed_at cover.nodes.now node) ≤ length bytes.old }
+    requires here { here.now ≡ get_or cover.nodes.now node here.now }
+    requires some { 0 < here.now.layout.size }
+    requires tagged { (mark : Mark) × (tag : ℕ) × (all : _) × (here.now.shape ≡ Shape.Tagged mark tag all) }
+    ensures long { length bytes.new ≡ length bytes.old }
+    ensures put { (b : List ℕ) → AreBytes b →
+        let p = placed_at cover.entry.nodes.now node in
+        Holds cover.entry.order p b (covering_value p place) →
+        IsPutOver (is_covered p (covering_value p place)) at b bytes.old bytes.new }
+{
+    let beside = arms_of(&here.shape);
+    let encoding = encoding_of(&here.layout);
+    let told = Told {
+        encoding: &encoding,
+        tag: beside.tag,
+        offset: tag_offset(&here.layout),
+        arms: beside.arms,
+        size: here.layout.size.bytes() as usize,
+    };
+    put_arm(cover, node, told, place, at, bytes)
+}
+
+/// Puts a state that covers the place, its tag and the prefix fields over the bytes of a node that has these.
+#[cycle(cover)]
+fn put_state(
+    cover: Cover<'_>,
+    node: usize,
+    here: &Node,
+    place: Option<u64>,
+    at: usize,
+    bytes: &mut [u8],
+)
+    requires sets { HaveSets cover.nodes.now cover.kept.now cover.sets.now }
+    requires kept { IsKept cover.kept.now node }
+    requires fits { at + size_of (placed_at cover.nodes.now node) ≤ length bytes.old }
+    requires here { here.now ≡ get_or cover.nodes.now node here.now }
+    requires some { 0 < here.now.layout.size }
+    requires states { (prefix : _) × (tag : ℕ) × (all : _) × (here.now.shape ≡ Shape.States prefix tag all) }
+    ensures long { length bytes.new ≡ length bytes.old }
+    ensures put { (b : List ℕ) → AreBytes b →
+        let p = placed_at cover.entry.nodes.now node in
+        Holds cover.entry.order p b (covering_value p place) →
+        IsPutOver (is_covered p (covering_value p place)) at b bytes.old bytes.new }
+{
+    let beside = arms_of(&here.shape);
+    let direct = TagEncoding::Direct;
+    let told = Told {
+        encoding: &direct,
+        tag: beside.tag,
+        offset: state_tag_offset(&here.layout, beside.prefix.len()),
+        arms: beside.arms,
+        size: here.layout.size.bytes() as usize,
+    };
+    let list = offsets(&here.layout);
+    put_parts(cover, node, list, beside.prefix, place, at, bytes);
+    put_arm(cover, node, told, place, at, bytes)
+}
+
+/// Puts so many elements over their bytes, one after another. Where these are all 0 yet, as they are where parts don't
+/// overlap, the first that doesn't have the place is put, and the others that don't are copies of it.
 #[cycle(cover)]
 fn put_elements(
     cover: Cover<'_>,
@@ -257,10 +331,16 @@ fn put_elements(
         IsPutOver (each_covered (is_covered p) (size_of p) 0 vs) at b bytes.old bytes.new }
 {
     let size = read_layout(cover.nodes, element).size.bytes();
+    let blank = are_zeros(bytes, at, (size * count) as usize);
+    let like = first_without(place, size);
     for i in 0..count {
-        let start = i * size;
-        let here = place_in(place, start, size);
-        put_node(cover, element, here, at + start as usize, bytes);
+        let start = at + (i * size) as usize;
+        let here = place_in(place, i * size, size);
+        if may_copy(blank, like, i, here) {
+            copy_bytes(bytes, at + (like * size) as usize, start, size as usize);
+        } else {
+            put_node(cover, element, here, start, bytes);
+        }
     }
 }
 
@@ -343,7 +423,7 @@ fn covering_bytes(alloc: Global, laid: &Laid, place: u64) -> Result<Option<Vec<u
 {
     let nodes = laid.nodes();
     let root = nodes.len() - 1;
-    let (kept, _visits) = needed_nodes(alloc, nodes, root)?;
+    let (kept, _visits) = needed_nodes(alloc, Counted::new(nodes), root)?;
     let sets = sets_of(alloc, &kept)?;
     if !has_byte(set_at(&sets, root), place) {
         return Ok(None);

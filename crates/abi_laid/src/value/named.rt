@@ -8,7 +8,7 @@ ghost use Rattle.abi_laid.specs.Tag.{IsSpanned, Names, NamesByNiche, NamesDirect
 
 use crate::node::{Shape, offsets};
 use crate::nodes::Nodes;
-use crate::read_one::{read_layout, read_one};
+use crate::value::read_one::{read_layout, read_one};
 use abi_base::Size;
 use abi_index::{FieldIdx, Idx, VariantIdx};
 use abi_scalar::{LayoutData, TagEncoding, Variants};

@@ -22,13 +22,14 @@ ghost use Rattle.abi_laid.specs.Laid.{endian_of, placed_of};
 ghost use Rattle.abi_laid.specs.declared.value.Value.{Num, List, Variant};
 ghost use Rattle.abi_laid.specs.Reading.{Finds, FindsEach, FindsNamed, FindsNumber, HoldsTwo, IsList, IsNamedIn, KeepsValues};
 
+use crate::counted::Counted;
 use crate::laid::Laid;
 use crate::node::{Shape, offsets, state_tag_offset, tag_offset};
-use crate::read_one::{read_layout, read_one};
 use crate::runs_of::data_places;
 use crate::value::Value;
 use crate::value::named::{encoding_of, is_named, own_parts};
 use crate::value::number::{number_in, part_of};
+use crate::value::read_one::{read_layout, read_one};
 use crate::value::walk::Walk;
 use abi_base::{Endian, Size};
 use abi_index::{FieldIdx, Idx, VariantIdx};
@@ -132,7 +133,7 @@ fn read_union(walk: Walk<'_>, node: usize, bytes: &[u8]) -> Result<Vec<u8>, Allo
     ensures { IfOk result (λ content.
         content.items ≡ picked (is_data_place (placed_at walk.entry.nodes.now node)) 0 bytes.now) }
 {
-    let places = data_places(walk.alloc, walk.nodes, node)?;
+    let places = data_places(walk.alloc, Counted::new(walk.nodes), node)?;
     read_places(walk.alloc, places.as_slice(), bytes)
 }
 

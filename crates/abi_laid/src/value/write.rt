@@ -22,14 +22,15 @@ ghost use Rattle.abi_laid.specs.Reading.{IsNamedIn, KeepsValues};
 ghost use Rattle.abi_laid.specs.Covering.{are_covered, each_covered, is_arm_covered, is_byte_at, is_covered, is_told};
 ghost use Rattle.abi_laid.specs.Writing.{IsPutOver};
 
+use crate::counted::Counted;
 use crate::laid::Laid;
 use crate::node::{Shape, offsets, state_tag_offset, tag_offset};
-use crate::read_one::{read_layout, read_one};
 use crate::runs_of::data_places;
 use crate::value::Value;
 use crate::value::error::ValueError;
 use crate::value::named::{encoding_of, niche_number, own_parts};
 use crate::value::read::read_node;
+use crate::value::read_one::{read_layout, read_one};
 use crate::value::same::is_same;
 use crate::value::walk::Walk;
 use abi_base::{Endian, Size};
@@ -86,14 +87,14 @@ fn put_places(runs: &[(u64, u64)], content: &[u8], at: usize, size: usize, bytes
 /// What a node names beside its layout where a tag tells its variants or states apart: the prefix fields, which an enum
 /// has none of, the tag, and the variants or states, each with its number.
 #[derive(Clone, Copy)]
-struct Beside<'a> {
-    prefix: &'a [usize],
-    tag: usize,
-    arms: &'a [(u128, usize)],
+pub(crate) struct Beside<'a> {
+    pub(crate) prefix: &'a [usize],
+    pub(crate) tag: usize,
+    pub(crate) arms: &'a [(u128, usize)],
 }
 
 /// What a node of this shape names beside its layout; nothing where there is no tag.
-fn arms_of(shape: &Shape) -> Beside<'_>
+pub(crate) fn arms_of(shape: &Shape) -> Beside<'_>
     ensures tagged { (mark : Mark) (tag : ℕ) (all : _) → shape.now ≡ Shape.Tagged mark tag all →
         (result.tag ≡ tag) × (result.arms.now ≡ all.items) }
     ensures states { (prefix : _) (tag : ℕ) (all : _) → shape.now ≡ Shape.States prefix tag all →
@@ -227,7 +228,7 @@ fn write_union(
         IsPutOver (is_data_place (placed_at walk.entry.nodes.now node)) at b bytes.old bytes.new) }
 {
     let size = read_layout(walk.nodes, node).size.bytes() as usize;
-    let places = data_places(walk.alloc, walk.nodes, node)?;
+    let places = data_places(walk.alloc, Counted::new(walk.nodes), node)?;
     put_places(places.as_slice(), content, at, size, bytes);
     Ok(())
 }

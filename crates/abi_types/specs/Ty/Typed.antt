@@ -51,6 +51,7 @@ no_layout = record {
   randomization_seed = 0;
 }
 
+-- a type that tells nothing of itself
 abbrev pub no_marks : Marks
 no_marks = record {
   is_adt = false;
@@ -65,18 +66,22 @@ no_marks = record {
   pointee = λ offset. None;
 }
 
+-- the layout of the type
 abbrev pub layout_in : Typed → Layout
 layout_in (typed layout marks field variant) = layout
 layout_in no_type = no_layout
 
+-- what the type tells of itself
 abbrev pub marks_of : Typed → Marks
 marks_of (typed layout marks field variant) = marks
 marks_of no_type = no_marks
 
+-- the type's field with this index
 abbrev pub field_in : Typed → (index : ℕ) → Typed
 field_in (typed layout marks field variant) i = field i
 field_in no_type i = no_type
 
+-- the type's variant with this index
 abbrev pub variant_in : Typed → (index : ℕ) → Typed
 variant_in (typed layout marks field variant) i = variant i
 variant_in no_type i = no_type

@@ -22,6 +22,7 @@ abbrev pub is_sized_memory : BackendRepr → Bool
 is_sized_memory (Memory sized) = sized
 is_sized_memory _ = false
 
+-- the size is known beforehand
 abbrev pub is_sized : BackendRepr → Bool
 is_sized (Memory sized) = sized
 is_sized _ = true
@@ -75,6 +76,7 @@ part_of_complex (primitive.Float F16B) = None
 part_of_complex (primitive.Float float) = Some (numeric.Float float)
 part_of_complex (primitive.Pointer space) = None
 
+-- the integer or float that a view of one scalar is
 abbrev pub number_in : BackendRepr → Option Numeric
 number_in (OneScalar scalar) = part_of_complex (primitive_of scalar)
 number_in _ = None
@@ -83,6 +85,7 @@ number_in _ = None
 abbrev pub complex_number : Typed → Option Numeric
 complex_number t = if (marks_of (peel t)).is_complex then number_in (layout_in (peel (field_in (peel t) 0))).backend_repr else None
 
+-- that, where it is a float
 abbrev pub float_of : Option Numeric → Option Float
 float_of (Some (numeric.Float float)) = Some float
 float_of _ = None

@@ -1,63 +1,34 @@
 //! Which bytes of a type decide.
 
 use crate::out::Out;
-use rustc_abi::{Laid, Value, read_value};
+use rustc_abi::Laid;
 use std::alloc::{AllocError, Global};
 
 /// No type of which each place is asked for is larger, in bytes.
 pub(crate) const MOST_BYTES: u64 = 65_536;
 
-/// Whether the byte lists differ at this place alone.
-fn differ_at(a: &[u8], b: &[u8], place: usize) -> bool {
-    if a.len() != b.len() || place >= a.len() {
+/// Whether both byte lists are of so many bytes, and differ at this place alone.
+fn differ_at(a: &[u8], b: &[u8], size: u64, place: u64) -> bool {
+    if a.len() as u64 != size || b.len() as u64 != size || place >= size {
         return false;
     }
     for k in 0..a.len() {
-        if (a[k] != b[k]) != (k == place) {
+        if (a[k] != b[k]) != (k as u64 == place) {
             return false;
         }
     }
     true
 }
 
-/// Whether the bytes hold the value.
-fn hold(alloc: Global, laid: &Laid, bytes: &[u8], value: &Value) -> Result<bool, AllocError> {
-    match read_value(alloc, laid, bytes)? {
-        Some(found) => Ok(found == *value),
-        None => Ok(false),
-    }
-}
-
-/// Whether the first bytes hold a value, and the second don't hold it.
-fn tell_apart(alloc: Global, laid: &Laid, a: &[u8], b: &[u8]) -> Result<bool, AllocError> {
-    match read_value(alloc, laid, a)? {
-        Some(value) => Ok(!hold(alloc, laid, b, &value)?),
-        None => Ok(false),
-    }
-}
-
-/// Whether the first bytes hold a value, and the second, which differ at this place alone, don't hold it.
-fn decide(
-    alloc: Global,
-    laid: &Laid,
-    a: &[u8],
-    b: &[u8],
-    place: usize,
-) -> Result<bool, AllocError> {
-    if differ_at(a, b, place) {
-        tell_apart(alloc, laid, a, b)
-    } else {
-        Ok(false)
-    }
-}
-
-/// What is found of a place: a pair that decides there, none, or a wrong pair.
+/// What is found of a place: a pair that decides there, none, or a pair that isn't of the type's size or doesn't differ
+/// there alone. That the first bytes hold a value, and the second don't hold it, is what `decider` promises; neither is
+/// read as a value here, which may have any number of elements without bytes.
 fn decided(alloc: Global, laid: &Laid, place: u64) -> Result<&'static str, AllocError> {
     let Some((a, b)) = laid.decider(alloc, place)? else {
         return Ok("none");
     };
-    let decides = decide(alloc, laid, &a, &b, place as usize)?;
-    Ok(if decides { "pair" } else { "wrong" })
+    let differ = differ_at(&a, &b, laid.layout().size.bytes(), place);
+    Ok(if differ { "pair" } else { "wrong" })
 }
 
 /// Runs that are being written: what stands before the next one, and where an open one began.

@@ -106,8 +106,8 @@ module _ (dl : TargetDataLayout) (law : IsLawfulDataLayout dl) (pres ps : List P
         ap (λ variants. length (variants_of variants)) told.told
         ∙ states_count layout.size told.offsets (map (λ (f : Layout). f.size) (map layout_of pres) ++ scalar_size dl told.tag ∷ []) (map layout_of ps) all told.layouts told.apart
 
-    flag : IsFlaggedBy (map layout_of pres) (map layout_of ps) layout.uninhabited
-    flag =
+    pub coroutine_flag : IsFlaggedBy (map layout_of pres) (map layout_of ps) layout.uninhabited
+    coroutine_flag =
         let first = laid.1 in
         let count = own_count dl (behind laid.0) ps promoted all laid.2 laid.3 in
         subst (IsFlaggedBy (map layout_of pres) (map layout_of ps)) (sym (ap (λ l. l.uninhabited) laid.5))
@@ -128,7 +128,7 @@ module _ (dl : TargetDataLayout) (law : IsLawfulDataLayout dl) (pres ps : List P
       lawful = (coroutine_promised layout_of dl pres tag (one_scalar dl tag) ps all (conflicts_of (length ps) pairs) asked (Ok layout) laid).lawful;
       view = ap (λ l. l.backend_repr) laid.5;
       niche = ap (λ l. l.largest_niche) laid.5;
-      flag = flag;
+      flag = coroutine_flag;
     }
 
     -- a coroutine that is laid out keeps its values

@@ -1,7 +1,5 @@
-use Rattle.std.proofs.Common.{List, ap, sym, ◌∙◌}
+use Rattle.std.proofs.Common.{List, sym, ◌∙◌}
 use Rattle.abi_laid.specs.declared.node.Node.{Node}
-use Rattle.abi_laid.specs.Placed.{layout_of}
-use Rattle.abi_laid.specs.Nodes.{placed_at}
 use Rattle.abi_laid.proofs.TypedLemmas.{lawful_at, layout-placed}
 use Rattle.abi_laid.proofs.handle.handle_at.Goals as goal
 
@@ -10,6 +8,6 @@ returns-clause-valid c =
     let ns : List Node = c.args.laid.now.nodes in
     record {
       there = c.requires;
-      layout = layout-placed ns c.args.node c.requires ∙ sym (c.read_layout.ensures ∙ ap (λ ns. layout_of (placed_at ns c.args.node)) c.nodes.ensures.same);
+      layout = layout-placed ns c.args.node c.requires ∙ sym c.layout_at.ensures;
       lawful = lawful_at ns c.args.laid.now.earlier c.args.laid.now.laws c.args.node c.requires;
     }

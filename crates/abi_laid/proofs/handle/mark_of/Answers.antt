@@ -1,4 +1,4 @@
-use Rattle.std.proofs.Common.{◌≡◌, ap, get_or, sym, ◌∙◌}
+use Rattle.std.proofs.Common.{◌≡◌, get_or, sym, ◌∙◌}
 use Rattle.abi_laid.specs.declared.node.Node.{Node}
 use Rattle.abi_laid.proofs.HandleLemmas.{marks_at}
 use Rattle.abi_laid.proofs.handle.mark_of.Goals as goal
@@ -6,6 +6,6 @@ use Rattle.abi_laid.proofs.handle.mark_of.Goals as goal
 pub returns : goal.returns
 returns c =
     let this = c.args.this.ty in
-    let n : Node = c.read_one.result.now in
-    let at : n ≡ get_or this.laid.now.nodes this.node n = c.read_one.ensures ∙ ap (λ ns. get_or ns this.node n) c.nodes.ensures.same in
+    let n : Node = c.node_at.result.now in
+    let at : n ≡ get_or this.laid.now.nodes this.node n = c.node_at.ensures in
     c.mark_in.ensures ∙ sym (marks_at this.laid.now.nodes this.laid.now.earlier this.laid.now.laws this.node n c.requires.there at)

@@ -8,7 +8,7 @@ use Rattle.abi_laid.proofs.runs_of.data_places.Goals as goal
 
 pub returns : goal.returns
 returns c =
-    let ns : List Node = c.args.nodes.now in
+    let ns : List Node = c.args.nodes.nodes.now in
     let slice : c.deref.result.now ≡ c.in_ok-kept.kept.items = c.deref.ensures.value in
     let last : length c.deref.result.now - 1 ≡ c.args.node = omega (arith, ap length slice, c.in_ok-kept.ensures.long) in
     IfOk-weaker c.joined_runs.result _ _

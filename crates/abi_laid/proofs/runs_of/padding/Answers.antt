@@ -9,7 +9,7 @@ use Rattle.abi_laid.proofs.runs_of.padding.Goals as goal
 
 pub returns-clause-ranges : goal.returns-clause-ranges
 returns-clause-ranges c =
-    let ns : List Node = c.args.nodes.now in
+    let ns : List Node = c.args.nodes.nodes.now in
     let p : Placed = placed_at ns c.args.node in
     let slice : c.deref.result.now ≡ c.in_ok-kept.kept.items = c.deref.ensures.value in
     let other : c.deref-2.result.now ≡ c.in_ok-kept.kept.items = c.deref-2.ensures.value in

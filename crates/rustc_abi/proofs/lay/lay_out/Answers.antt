@@ -1,14 +1,16 @@
-use Rattle.std.proofs.Common.{◌≡◌, Some, ap, arith, length, subst, sym, true, ◌∙◌}
+use Rattle.std.proofs.Common.{◌≡◌, Ok, Result, Some, ap, arith, length, subst, sym, true, ◌∙◌}
 use Rattle.abi_laid.specs.Tree.{tree_of}
 use Rattle.rustc_abi.specs.Clash.{AreClashingApart, HaveOneOffset}
 use Rattle.rustc_abi.specs.Count.{HasNodes}
 use Rattle.abi_laid.specs.Laid.{node_count_of, placed_of, typed_of}
-use Rattle.abi_laid.specs.Placed.{Placed}
+use Rattle.abi_laid.specs.Placed.{Placed, layout_of}
+use Rattle.abi_scalar.specs.Lawful.{IsLawfulLayout}
 use Rattle.abi_laid.specs.Deciding.{are_inhabited, covering_value}
 use Rattle.abi_laid.specs.Room.{has_room}
 use Rattle.abi_laid.proofs.DecideLemmas.{each_decides}
 use Rattle.abi_laid.proofs.RoomLemmas.{within_room}
 use Rattle.rustc_abi.proofs.Places.DecidingLemmas.{coverable}
+use Rattle.rustc_abi.proofs.Places.HaveLemmas.{each_inhabited}
 use Rattle.rustc_abi.specs.Least.{HasOverlapSize, IsLeast}
 use Rattle.rustc_abi.specs.Lists.{HasLeastLists}
 use Rattle.rustc_abi.specs.Orders.{LiesAsAsked}
@@ -17,7 +19,9 @@ use Rattle.rustc_abi.proofs.Sizes.EachListLemmas.{laid_lists}
 use Rattle.rustc_abi.proofs.Sizes.PlacedLemmas.{laid_as_asked}
 use Rattle.abi_laid.proofs.AgreeLemmas.{covered_decides}
 use Rattle.rustc_abi.proofs.Trees.EverywhereLemmas.{everywhere}
-use Rattle.rustc_abi.proofs.Trees.LaidLemmas.{laid_sized}
+use Rattle.rustc_abi.proofs.Trees.LaidLemmas.{laid_sized, laid_whole}
+use Rattle.rustc_abi.specs.declared.error.LayError.{LayError}
+use Rattle.rustc_abi.specs.Laying.{IsLaying}
 use Rattle.rustc_abi.proofs.Trees.LayLemmas.{begins_root, common_root, faithful_root, laid_root, lawful_root, room_root, untagged_root}
 use Rattle.rustc_abi.proofs.Sizes.LeastLemmas.{laid_least, laid_overlap, never_large, passed_as, told_large, told_overflow}
 use Rattle.rustc_abi.proofs.Trees.ListLemmas.{passed_on}
@@ -103,6 +107,30 @@ returns-clause-one_offset c =
     let law = c.is_lawful.ensures.0 c.if-not-is_lawful.false in
     everywhere c.args.dl.now law HaveOneOffset (laid_one_offset c.args.dl.now law) (tree_of c.args.tree.now) _ (laid_root _ _ _ _ _ _ c.in_ok-_root.ensures.ok c.new.ensures.placed)
 
+pub returns-clause-parts : goal.returns-clause-parts
+returns-clause-parts c =
+    let law = c.is_lawful.ensures.0 c.if-not-is_lawful.false in
+    everywhere c.args.dl.now law (λ t p. IsLaying c.args.dl.now t (Ok p)) (λ t p h. h) (tree_of c.args.tree.now) _ (laid_root _ _ _ _ _ _ c.in_ok-_root.ensures.ok c.new.ensures.placed)
+
+abbrev ok : Placed → Result Placed LayError
+ok placed = Ok placed
+
+inj-Ok : (p q : Placed) → ok q ≡ ok p → q ≡ p
+inj-Ok p q e = cc
+
+pub returns-clause-one_each : goal.returns-clause-one_each
+returns-clause-one_each c =
+    let law = c.is_lawful.ensures.0 c.if-not-is_lawful.false in
+    everywhere c.args.dl.now law (λ t p. (q : Placed) → IsLaying c.args.dl.now t (Ok q) → q ≡ p)
+    (λ t p h q k. inj-Ok p q (one_answer c.args.dl.now t (Ok q) (Ok p) k h))
+    (tree_of c.args.tree.now) _ (laid_root _ _ _ _ _ _ c.in_ok-_root.ensures.ok c.new.ensures.placed)
+
+pub returns-clause-each_layout : goal.returns-clause-each_layout
+returns-clause-each_layout c =
+    let law = c.is_lawful.ensures.0 c.if-not-is_lawful.false in
+    everywhere c.args.dl.now law (λ t p. IsLawfulLayout c.args.dl.now (layout_of p)) (λ t p h. (laid_whole c.args.dl.now law t p h).0)
+    (tree_of c.args.tree.now) _ (laid_root _ _ _ _ _ _ c.in_ok-_root.ensures.ok c.new.ensures.placed)
+
 pub returns-clause-sized : goal.returns-clause-sized
 returns-clause-sized c =
     let law = c.is_lawful.ensures.0 c.if-not-is_lawful.false in
@@ -116,6 +144,12 @@ returns-clause-inhabited c = (
   λ all. (c.in_ok-_root.ensures.counted.3.0 (sym c.new.ensures.flags ∙ all)).1,
   λ each. c.new.ensures.flags ∙ c.in_ok-_root.ensures.counted.3.1 (ap are_inhabited c.new-nodes.ensures.items, each),
 )
+
+pub returns-clause-all_have : goal.returns-clause-all_have
+returns-clause-all_have c = λ have.
+    let law = c.is_lawful.ensures.0 c.if-not-is_lawful.false in
+    (returns-clause-inhabited c).1
+    (each_inhabited c.args.dl.now law (tree_of c.args.tree.now) _ (laid_root _ _ _ _ _ _ c.in_ok-_root.ensures.ok c.new.ensures.placed) have).0
 
 pub returns-clause-covers : goal.returns-clause-covers
 returns-clause-covers c = λ all.
@@ -134,6 +168,14 @@ returns-clause-covers c = λ all.
       value = λ k place. own.value (Some k);
       covers = λ k place. own.covers (room_root _ _ _ _ _ _ c.in_ok-_root.ensures.ok c.new.ensures.placed) k place;
     }
+
+pub returns-clause-of_tree : goal.returns-clause-of_tree
+returns-clause-of_tree c = record {
+  order = c.new.ensures.endian;
+  values = returns-clause-keeps c;
+  padding = returns-clause-padding c;
+  places = returns-clause-covers c;
+}
 
 pub returns-clause-decides : goal.returns-clause-decides
 returns-clause-decides c = λ all k place.

@@ -38,9 +38,9 @@ returns-clause-apart c =
     let hs = items_of c.as_slice.result in
     let lent : map (λ r. r.now) hs ≡ map layout_of ps =
     ap (map (λ r. r.now)) c.as_slice.ensures ∙ c.in_ok-layouts.ensures in
-    subst (AreApart c.in_ok-answer.field-0.size (listed_offsets c.in_ok-answer.field-0.fields)) (sizes_by (λ r. r.now) hs ps lent) c.in_ok-answer.ensures.apart
+    subst (AreApart c.in_ok-answer.field-0.size (listed_offsets c.in_ok-answer.field-0.fields)) (sizes_by (λ r. r.now) hs ps lent) c.in_ok-answer.ensures.good.apart
 
 pub returns-clause-niche : goal.returns-clause-niche
 returns-clause-niche c =
     let lent = ap (map (λ r. r.now)) c.as_slice.ensures ∙ c.in_ok-layouts.ensures in
-    subst (λ layouts. IfSome c.in_ok-answer.field-0.largest_niche (IsNicheOfPart (listed_offsets c.in_ok-answer.field-0.fields) layouts)) lent c.in_ok-answer.ensures.niche
+    subst (λ layouts. IfSome c.in_ok-answer.field-0.largest_niche (IsNicheOfPart (listed_offsets c.in_ok-answer.field-0.fields) layouts)) lent c.in_ok-answer.ensures.good.niche

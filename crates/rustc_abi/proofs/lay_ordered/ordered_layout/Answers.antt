@@ -62,4 +62,4 @@ returns-clause-apart c =
     let hs = items_of c.as_slice.result in
     let lent : map (λ r. r.now) hs ≡ map layout_of ps =
     ap (map (λ r. r.now)) c.as_slice.ensures ∙ c.in_ok-layouts.ensures in
-    subst (AreApart c.in_ok-answer.field-0.size (listed_offsets c.in_ok-answer.field-0.fields)) (sizes_by (λ r. r.now) hs ps lent) c.in_ok-answer.ensures.apart
+    subst (AreApart c.in_ok-answer.field-0.size (listed_offsets c.in_ok-answer.field-0.fields)) (sizes_by (λ r. r.now) hs ps lent) c.in_ok-answer.ensures.good.apart

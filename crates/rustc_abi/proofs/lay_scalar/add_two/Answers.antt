@@ -29,8 +29,7 @@ add-requires-clause-laws c =
     let a = c.args.a in
     let b = c.args.b in
     let made = c.scalar_pair-layout.ensures.exact in
-    let size : c.scalar_pair-layout.result.size ≡ pair_size dl a b = ap (λ l. l.size) made in
-    let below : pair_size dl a b < size_bound dl = omega (arith, size, c.bytes.ensures, c.obj_size_bound.ensures, c.if-bytes-obj_size_bound.false) in
+    let below = c.requires.below in
     let lawful = c.scalar_pair-layout.ensures.lawful (faultless dl a c.requires.first) (faultless dl b c.requires.second) below in
     let first = c.in_ok-first.ensures.ok in
     let second = c.in_ok-second.ensures.ok in
@@ -50,8 +49,7 @@ returns-clause-ok c =
     let a = c.args.a in
     let b = c.args.b in
     let made = c.scalar_pair-layout.ensures.exact in
-    let size : c.scalar_pair-layout.result.size ≡ pair_size dl a b = ap (λ l. l.size) made in
-    let below : pair_size dl a b < size_bound dl = omega (arith, size, c.bytes.ensures, c.obj_size_bound.ensures, c.if-bytes-obj_size_bound.false) in
+    let below = c.requires.below in
     let lawful = subst (IsLawfulLayout dl) made (c.scalar_pair-layout.ensures.lawful (faultless dl a c.requires.first) (faultless dl b c.requires.second) below) in
     IfOk-weaker c.add.result _ _
     (λ i put. IsAdded-pair dl _ _ _ _ c.in_ok-first.first c.in_ok-second.second i a b c.requires.first c.requires.second below c.add_lawful.ensures.lawful c.add_lawful-2.ensures.lawful lawful

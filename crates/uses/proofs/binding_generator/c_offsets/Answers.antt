@@ -8,8 +8,7 @@ use Rattle.rustc_abi.specs.declared.error.LayError.{LayError}
 use Rattle.rustc_abi.specs.Fault.{IsRefusedFor}
 use Rattle.rustc_abi.specs.Laying.{AreLaying}
 use Rattle.uses.specs.declared.binding_generator.CStruct.{CStruct}
-use Rattle.uses.specs.InC.{IsInC, LieAsInC}
-use Rattle.uses.specs.Loaded.{HasLayout}
+use Rattle.uses.specs.InC.{IsInC, IsLaidOutAs, LieAsInC}
 use Rattle.uses.proofs.Trees.{tree_of-Struct}
 use Rattle.uses.proofs.binding_generator.c_offsets.Goals as goal
 
@@ -26,8 +25,8 @@ struct_of-requires c = (
 )
 
 -- what is said of an answer, whichever it is
-answered_so : (r : Result CStruct LayError) (P Q : Type 0) → (P → Q) → IfOk r (λ c. P) → IfOk r (λ c. Q)
-answered_so (Ok c) P Q f h = f h
+answered_so : (r : Result CStruct LayError) (P Q : CStruct → Type 0) → ((c : CStruct) → P c → Q c) → IfOk r P → IfOk r Q
+answered_so (Ok c) P Q f h = f c h
 answered_so (Err e) P Q f h = h
 
 -- what is said of the tree's refusal is said of such a struct's
@@ -56,4 +55,5 @@ returns-clause-laid c =
     let tree = tree_of (Struct c.c_repr.result true c.args.fields) in
     let fields = trees (map tree_of c.args.fields.items) in
     let in_c : IsInC tree fields = (c.c_repr.result, tree_of-Struct c.c_repr.result true c.args.fields, c.c_repr.ensures.fixed, c.c_repr.ensures.unpacked, c.c_repr.ensures.unraised) in
-    answered_so c.struct_of.result (HasLayout c.args.dl.now tree) ((tree : Tree) × IsInC tree fields × HasLayout c.args.dl.now tree) (λ laid. (tree, in_c, laid)) c.struct_of.ensures.laid
+    answered_so c.struct_of.result (λ c'. IsLaidOutAs c.args.dl.now tree c'.offsets c'.size c'.align)
+    (λ c'. (tree : Tree) × IsInC tree fields × IsLaidOutAs c.args.dl.now tree c'.offsets c'.size c'.align) (λ c' laid. (tree, in_c, laid)) c.struct_of.ensures.laid

@@ -1,6 +1,8 @@
 -- The struct that was laid out, from what is said of its order and of its layout.
-use Rattle.std.proofs.Common.{List, ℕ, subst, sym}
+use Rattle.std.proofs.Common.{List, ℕ, ap, subst, sym, ◌∙◌}
+use Rattle.abi_scalar.specs.Shape.{listed_offsets}
 use Rattle.abi_laid.specs.Laid.{placed_of}
+use Rattle.abi_laid.specs.Placed.{Layout}
 use Rattle.abi_laid.specs.Tree.{tree_of}
 use Rattle.uses.specs.InC.{LieAsInC}
 use Rattle.uses.proofs.Ordered.{offsets_listed, struct_in_c}
@@ -18,4 +20,11 @@ returns-clause-placed c = λ fields is.
     (in_c.0, in_c.1, subst (λ (os : List ℕ). LieAsInC c.args.dl.now.aggregate_align in_c.0 os c.layout-layout.result.now.size c.layout-layout.result.now.align.abi) (sym c.in_ok-try_clone-in-Arbitrary.ensures.ok) in_c.2)
 
 pub returns-clause-laid : goal.returns-clause-laid
-returns-clause-laid c = (c.in_ok-laid.ensures.lawful, placed_of c.in_ok-laid.laid, c.in_ok-laid.ensures.laid)
+returns-clause-laid c = (
+  c.in_ok-laid.ensures.lawful,
+  placed_of c.in_ok-laid.laid,
+  c.in_ok-laid.ensures.laid,
+  ap (λ (l : Layout). listed_offsets l.fields) (sym c.layout-layout.ensures) ∙ ap listed_offsets c.in-Arbitrary.is ∙ sym c.in_ok-try_clone-in-Arbitrary.ensures.ok,
+  ap (λ (l : Layout). l.size) (sym c.layout-layout.ensures),
+  ap (λ (l : Layout). l.align.abi) (sym c.layout-layout.ensures),
+)

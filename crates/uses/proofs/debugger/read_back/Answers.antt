@@ -15,4 +15,9 @@ pub returns-clause-same : goal.returns-clause-same
 returns-clause-same c =
     let held = subst (λ (b : List ℕ). Holds (endian_of c.args.laid.now) (placed_of c.args.laid.now) b (value_of c.args.value.now)) (sym c.deref.ensures.value) c.in_ok-bytes.ensures.holds in
     let one = rw c.in-Some.is at c.in_ok-read.ensures.one in
-    sym (one c.requires.kept.0 c.requires.kept.1 c.requires.kept.2 (value_of c.args.value.now) held)
+    sym (one c.requires.laid.dl c.requires.laid.tree (c.requires.laid.keeps.values c.requires.laid.locals) (value_of c.args.value.now) held)
+
+pub returns-clause-held : goal.returns-clause-held
+returns-clause-held c =
+    subst (λ (b : List ℕ). Holds (endian_of c.args.laid.now) (placed_of c.args.laid.now) b (value_of c.in-Some.read)) c.deref.ensures.value
+    (rw c.in-Some.is at c.in_ok-read.ensures.finds)

@@ -1,12 +1,8 @@
--- What was laid out keeps the tree's values; its padding decides nothing; and it keeps its data places where each type in it has values.
+-- What was laid out keeps the tree.
 use Rattle.abi_laid.specs.Tree.{tree_of}
 use Rattle.uses.proofs.each_call.try_tree.Goals as goal
 
-pub try_laid-requires-clause-kept : goal.try_laid-requires-clause-kept
-try_laid-requires-clause-kept c = (c.args.dl.now, tree_of c.args.tree.now, c.in_ok-laid.ensures.keeps c.requires.locals)
-
-pub try_laid-requires-clause-padding : goal.try_laid-requires-clause-padding
-try_laid-requires-clause-padding c = (c.args.dl.now, c.in_ok-laid.ensures.order, c.in_ok-laid.ensures.padding c.requires.locals)
-
-pub try_laid-requires-clause-places : goal.try_laid-requires-clause-places
-try_laid-requires-clause-places c = (c.args.dl.now, tree_of c.args.tree.now, c.in_ok-laid.ensures.covers)
+pub try_laid-requires : goal.try_laid-requires
+try_laid-requires c = record {
+  laid = record { dl = c.args.dl.now; tree = tree_of c.args.tree.now; locals = c.requires.locals; keeps = c.in_ok-laid.ensures.of_tree };
+}

@@ -14,12 +14,12 @@ whichever (Err e) P h = h
 pub returns-clause-reads : goal.returns-clause-reads
 returns-clause-reads c =
     let changed : c.put_in.new.bytes ≡ with_padding (placed_of c.args.laid.now) c.args.bytes.now c.args.place c.args.byte = search rules in
-    same_read c.args.laid.now c.requires.padding c.args.bytes.now c.args.place c.args.byte c.read_value.result (rw changed at c.read_value.ensures.finds)
+    same_read c.args.laid.now c.requires.laid c.args.bytes.now c.args.place c.args.byte c.read_value.result (rw changed at c.read_value.ensures.finds)
 
 pub returns-clause-holds : goal.returns-clause-holds
 returns-clause-holds c =
     let changed : c.put_in.new.bytes ≡ with_padding (placed_of c.args.laid.now) c.args.bytes.now c.args.place c.args.byte = search rules in
-    rw changed (same_values c.args.laid.now c.requires.padding c.args.bytes.now c.args.place c.args.byte)
+    rw changed (same_values c.args.laid.now c.requires.laid c.args.bytes.now c.args.place c.args.byte)
 
 pub returns-clause-no_other : goal.returns-clause-no_other
 returns-clause-no_other c =

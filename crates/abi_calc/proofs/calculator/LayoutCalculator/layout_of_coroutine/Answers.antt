@@ -9,6 +9,7 @@ use Rattle.abi_index.specs.Slice.{items_of}
 use Rattle.abi_scalar.specs.Lawful.{IsLawfulLayout}
 use Rattle.abi_scalar.specs.Simple.{scalar_layout}
 use Rattle.abi_calc.specs.Coroutine.Layout.{IsStateTag}
+use Rattle.abi_calc.proofs.CoroutineLemmas.Good.{coroutine_good}
 use Rattle.abi_calc.proofs.CoroutineLemmas.Promised.{IsAsked}
 use Rattle.abi_calc.proofs.CoroutineLemmas.Ordered.{coroutine_ordered}
 use Rattle.abi_calc.proofs.CoroutineLemmas.Seen.{coroutine_align, coroutine_made, coroutine_marks, coroutine_niche, coroutine_view}
@@ -48,7 +49,13 @@ layout_of_states-requires-clause-tag g c =
 
 pub returns : goal.returns
 returns g c =
+    let lo = g.F.LayoutHandle.layout_of in
+    let at = g.FieldIdx.Idx.at in
+    let number = g.FieldIdx.Idx.number in
+    let first = g.VariantIdx.Idx.at 0 in
     let dl : TargetDataLayout = g.Cx.HasDataLayout.target c.args.self.now.cx in
+    let conflicts = c.args.storage_conflicts.now in
+    let result = c.layout_of_states.result in
     let locals = items_of c.args.local_layouts in
     let states : List (List ℕ) = map (map g.LocalIdx.Idx.number) (items_of c.args.variant_fields) in
     let exact = rw (c.as_raw-locals.ensures.items, c.as_raw-states.ensures.items) at c.layout_of_states.ensures.exact in
@@ -59,26 +66,20 @@ returns g c =
     record {
       exact = exact;
       lawful = c.layout_of_states.ensures.lawful;
-      niche = coroutine_niche g.F.LayoutHandle.layout_of g.FieldIdx.Idx.at g.FieldIdx.Idx.number (g.VariantIdx.Idx.at 0) dl c.args.prefix_layouts exact.0 exact.2 locals states c.args.storage_conflicts.now c.layout_of_states.result exact.4;
-      view = coroutine_view g.F.LayoutHandle.layout_of g.FieldIdx.Idx.at g.FieldIdx.Idx.number (g.VariantIdx.Idx.at 0) dl c.args.prefix_layouts exact.0 exact.2 locals states c.args.storage_conflicts.now c.layout_of_states.result exact.4;
-      alignment = coroutine_align g.F.LayoutHandle.layout_of g.FieldIdx.Idx.at g.FieldIdx.Idx.number (g.VariantIdx.Idx.at 0) dl c.args.prefix_layouts exact.0 exact.2 locals states c.args.storage_conflicts.now holds tells
-          c.layout_of_states.result exact.4;
-      marks = coroutine_marks g.F.LayoutHandle.layout_of g.FieldIdx.Idx.at g.FieldIdx.Idx.number (g.VariantIdx.Idx.at 0) dl c.args.prefix_layouts exact.0 exact.2 locals states c.args.storage_conflicts.now holds
-          c.layout_of_states.result exact.4;
-      made = coroutine_made g.F.LayoutHandle.layout_of g.FieldIdx.Idx.at g.FieldIdx.Idx.number (g.VariantIdx.Idx.at 0) dl c.args.prefix_layouts exact.0 exact.2 locals states c.args.storage_conflicts.now holds asked
-          c.layout_of_states.result exact.4;
-      ordered = coroutine_ordered g.F.LayoutHandle.layout_of g.FieldIdx.Idx.at g.FieldIdx.Idx.number g.FieldIdx.Idx.MAX_INDEX g.met.FieldIdx.Idx.number_at (g.VariantIdx.Idx.at 0) dl c.args.prefix_layouts exact.0 exact.2 locals states
-          c.args.storage_conflicts.now c.requires.rows c.requires.count
+      good = coroutine_good at number first dl (map lo c.args.prefix_layouts) (map lo locals) states conflicts result
+          (coroutine_niche lo at number first dl c.args.prefix_layouts exact.0 exact.2 locals states conflicts result exact.4)
+          (coroutine_view lo at number first dl c.args.prefix_layouts exact.0 exact.2 locals states conflicts result exact.4)
+          (coroutine_align lo at number first dl c.args.prefix_layouts exact.0 exact.2 locals states conflicts holds tells result exact.4)
+          (coroutine_marks lo at number first dl c.args.prefix_layouts exact.0 exact.2 locals states conflicts holds result exact.4)
+          (coroutine_ordered lo at number g.FieldIdx.Idx.MAX_INDEX g.met.FieldIdx.Idx.number_at first dl c.args.prefix_layouts exact.0 exact.2 locals states conflicts c.requires.rows c.requires.count
           (All-map (AllPairs (λ a b. a ≢ b)) (map g.LocalIdx.Idx.number) (items_of c.args.variant_fields) c.requires.once)
           (All-map (All (λ l. l < length locals)) (map g.LocalIdx.Idx.number) (items_of c.args.variant_fields)
           (λ k d short. All-map (λ l. l < length locals) g.LocalIdx.Idx.number (get_or (items_of c.args.variant_fields) k d) (c.requires.within k d short)))
-          c.layout_of_states.result exact.4;
-      told = rw (sym c.as_raw-locals.ensures.items, sym c.as_raw-states.ensures.items) c.layout_of_states.ensures.told;
-      clash = rw (sym c.as_raw-locals.ensures.items, sym c.as_raw-states.ensures.items) c.layout_of_states.ensures.clash;
-      one_offset = rw (sym c.as_raw-states.ensures.items) c.layout_of_states.ensures.one_offset;
-      size = rw (sym c.as_raw-locals.ensures.items, sym c.as_raw-states.ensures.items) c.layout_of_states.ensures.size;
-      overlap = rw (sym c.as_raw-locals.ensures.items, sym c.as_raw-states.ensures.items) c.layout_of_states.ensures.overlap;
-      too_large = rw (sym c.as_raw-locals.ensures.items, sym c.as_raw-states.ensures.items) c.layout_of_states.ensures.too_large;
-      refused = rw (sym c.as_raw-locals.ensures.items, sym c.as_raw-states.ensures.items) c.layout_of_states.ensures.refused;
+          result exact.4)
+          (coroutine_made lo at number first dl c.args.prefix_layouts exact.0 exact.2 locals states conflicts holds asked result exact.4)
+          (rw (sym c.as_raw-locals.ensures.items, sym c.as_raw-states.ensures.items) c.layout_of_states.ensures.told)
+          (rw (sym c.as_raw-locals.ensures.items, sym c.as_raw-states.ensures.items) c.layout_of_states.ensures.clash)
+          (rw (sym c.as_raw-states.ensures.items) c.layout_of_states.ensures.one_offset);
+      sized = rw (sym c.as_raw-locals.ensures.items, sym c.as_raw-states.ensures.items) c.layout_of_states.ensures.sized;
       no_other = rw (sym c.as_raw-locals.ensures.items) c.layout_of_states.ensures.no_other;
     }

@@ -1,4 +1,4 @@
-use Rattle.std.proofs.Common.{refl, arith}
+use Rattle.std.proofs.Common.{◌≡◌, refl, arith}
 use Rattle.abi_scalar.specs.Order.{HasPlaceForEach, IsAscending}
 use Rattle.abi_lists.proofs.VectorLemmas.{scalable_ok, scalable_size}
 use Rattle.abi_calc.proofs.calculator.LayoutCalculator.layout_of_scalable_vector_type.Goals as goal
@@ -28,3 +28,9 @@ returns-clause-ascending g c =
     scalable_ok g.F.LayoutHandle.layout_of (g.VariantIdx.Idx.at 0) (g.FieldIdx.Idx.at 0) c.data_layout.result.now
     c.args.element c.args.count (λ l. IsAscending g.FieldIdx.Idx.number l.fields) c.args.number_of_vectors
     c.layout_of_scalable.result c.layout_of_scalable.ensures.exact (λ lanes are i j d low high. absurd (omega arith))
+
+pub returns-clause-niche : goal.returns-clause-niche
+returns-clause-niche g c =
+    scalable_ok g.F.LayoutHandle.layout_of (g.VariantIdx.Idx.at 0) (g.FieldIdx.Idx.at 0) c.data_layout.result.now
+    c.args.element c.args.count (λ l. l.largest_niche ≡ (g.F.LayoutHandle.layout_of c.args.element).largest_niche) c.args.number_of_vectors
+    c.layout_of_scalable.result c.layout_of_scalable.ensures.exact (λ lanes are. refl)

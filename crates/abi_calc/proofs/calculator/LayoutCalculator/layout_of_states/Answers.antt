@@ -1,11 +1,13 @@
 -- The promoted locals are those that the states and the conflicts tell, and the tag is the one of so many states.
-use Rattle.std.proofs.Common.{◌≡◌, ◌∙◌, ap, inr, length, map, refl, subst, sym}
+use Rattle.std.proofs.Common.{◌≡◌, ◌∙◌, ℕ, List, ap, inr, length, map, refl, subst, sym}
+use Rattle.abi_base.specs.declared.data_layout.TargetDataLayout.{TargetDataLayout}
 use Rattle.std.specs.Prelude.{Err, IfOk, Ok, Result}
 use Rattle.std.specs.Result.{IsErrAnd}
 use Rattle.abi_scalar.specs.declared.error.LayoutCalculatorError.{LayoutCalculatorError}
 use Rattle.abi_scalar.specs.declared.error.LayoutCalculatorError.TheVariants.{OutOfMemory}
 use Rattle.abi_scalar.specs.Simple.{scalar_layout}
 use Rattle.abi_calc.specs.Coroutine.Answer.{IsPromotedAnswer}
+use Rattle.abi_calc.specs.Coroutine.Promised.{IsSizedCoroutine}
 use Rattle.abi_calc.specs.Coroutine.Promotion.{promoted_of}
 use Rattle.abi_calc.specs.Coroutine.Sizes.{IsSizeWith, IsTooLargeWith}
 use Rattle.abi_calc.proofs.CoroutineLemmas.OneCoroutine.{one_tag}
@@ -33,30 +35,52 @@ returns-in_err-promoted-clause-exact g c =
     (promoted_of (map (map g.LocalIdx.Idx.number) c.args.states.now) c.args.conflicts.now) in
     (c.state_tag-tag.result, c.state_tag-tag.ensures, c.tag_to_layout-field.result, c.tag_to_layout-field.ensures, no_memory answer c.from_residual.result c.from_residual.ensures.1 (inr (inr refl)))
 
+pub returns-in_err-promoted-clause-sized : goal.returns-in_err-promoted-clause-sized
+returns-in_err-promoted-clause-sized g c tag is =
+    let lo = g.F.LayoutHandle.layout_of in
+    let dl : TargetDataLayout = g.Cx.HasDataLayout.target c.args.self.now.cx in
+    let states : List (List ℕ) = map (map g.LocalIdx.Idx.number) c.args.states.now in
+    no_memory (IsSizedCoroutine dl (map lo c.args.prefix) (scalar_layout (g.VariantIdx.Idx.at 0) dl tag) (map lo c.args.locals.now) states c.args.conflicts.now)
+    c.from_residual.result c.from_residual.ensures.1
+    (record { size = tt; overlap = λ may. tt; too_large = λ large. absurd (cc); refused = λ front rest large. inr refl })
+
 pub returns : goal.returns
 returns g c =
+    let lo = g.F.LayoutHandle.layout_of in
+    let dl : TargetDataLayout = g.Cx.HasDataLayout.target c.args.self.now.cx in
+    let first = g.VariantIdx.Idx.at 0 in
+    let before = map lo c.args.prefix in
+    let all = map lo c.args.locals.now in
+    let states : List (List ℕ) = map (map g.LocalIdx.Idx.number) c.args.states.now in
+    let conflicts = c.args.conflicts.now in
+    let told = c.state_tag-tag.result in
+    let result = c.layout_of_promoted.result in
+    let promoted = promoted_of states conflicts in
     let known = c.in_ok-promoted.ensures.exact in
-    let sized : (tag : Scalar) → IsStateTag (length c.args.states.now) tag → IfOk c.layout_of_promoted.result (λ l. IsSizeWith (g.Cx.HasDataLayout.target c.args.self.now.cx) (map g.F.LayoutHandle.layout_of c.args.prefix) (scalar_layout (g.VariantIdx.Idx.at 0) (g.Cx.HasDataLayout.target c.args.self.now.cx) tag) (map g.F.LayoutHandle.layout_of c.args.locals.now) (map (map g.LocalIdx.Idx.number) c.args.states.now) (promoted_of (map (map g.LocalIdx.Idx.number) c.args.states.now) c.args.conflicts.now) l.size)
-    = λ tag is. subst (λ t. IfOk c.layout_of_promoted.result (λ l. IsSizeWith (g.Cx.HasDataLayout.target c.args.self.now.cx) (map g.F.LayoutHandle.layout_of c.args.prefix) (scalar_layout (g.VariantIdx.Idx.at 0) (g.Cx.HasDataLayout.target c.args.self.now.cx) t) (map g.F.LayoutHandle.layout_of c.args.locals.now) (map (map g.LocalIdx.Idx.number) c.args.states.now) (promoted_of (map (map g.LocalIdx.Idx.number) c.args.states.now) c.args.conflicts.now) l.size)) (one_tag (length c.args.states.now) c.state_tag-tag.result tag c.state_tag-tag.ensures is)
-    (subst (λ p. IfOk c.layout_of_promoted.result (λ l. IsSizeWith (g.Cx.HasDataLayout.target c.args.self.now.cx) (map g.F.LayoutHandle.layout_of c.args.prefix) (scalar_layout (g.VariantIdx.Idx.at 0) (g.Cx.HasDataLayout.target c.args.self.now.cx) c.state_tag-tag.result) (map g.F.LayoutHandle.layout_of c.args.locals.now) (map (map g.LocalIdx.Idx.number) c.args.states.now) p l.size)) known c.layout_of_promoted.ensures.size) in
+    let same : (tag : Scalar) → IsStateTag (length c.args.states.now) tag → told ≡ tag = λ tag is. one_tag (length c.args.states.now) told tag c.state_tag-tag.ensures is in
+    let size : IfOk result (λ l. IsSizeWith dl before (scalar_layout first dl told) all states promoted l.size)
+    = subst (λ p. IfOk result (λ l. IsSizeWith dl before (scalar_layout first dl told) all states p l.size)) known c.layout_of_promoted.ensures.size in
+    let sized : (tag : Scalar) → IsStateTag (length c.args.states.now) tag → IfOk result (λ l. IsSizeWith dl before (scalar_layout first dl tag) all states promoted l.size)
+    = λ tag is. subst (λ t. IfOk result (λ l. IsSizeWith dl before (scalar_layout first dl t) all states promoted l.size)) (same tag is) size in
     record {
       exact = (
-        c.state_tag-tag.result,
+        told,
         c.state_tag-tag.ensures,
         c.tag_to_layout-field.result,
         c.tag_to_layout-field.ensures,
-        subst (λ p. IsPromotedAnswer g.F.LayoutHandle.layout_of g.FieldIdx.Idx.at g.FieldIdx.Idx.number (g.VariantIdx.Idx.at 0) (g.Cx.HasDataLayout.target c.args.self.now.cx) c.args.prefix c.state_tag-tag.result c.tag_to_layout-field.result c.args.locals.now (map (map g.LocalIdx.Idx.number) c.args.states.now) p c.layout_of_promoted.result) known c.layout_of_promoted.ensures.exact,
+        subst (λ p. IsPromotedAnswer lo g.FieldIdx.Idx.at g.FieldIdx.Idx.number first dl c.args.prefix told c.tag_to_layout-field.result c.args.locals.now states p result) known c.layout_of_promoted.ensures.exact,
       );
       lawful = c.layout_of_promoted.ensures.lawful;
       told = c.layout_of_promoted.ensures.told;
-      clash = c.layout_of_promoted.ensures.clash c.args.conflicts.now known (c.requires.columns ∙ sym c.requires.rows) c.requires.rows;
-      one_offset = c.layout_of_promoted.ensures.one_offset c.args.conflicts.now known c.requires.rows;
-      size = sized;
-      overlap = λ may tag is. overlap_promised (g.Cx.HasDataLayout.target c.args.self.now.cx) (map g.F.LayoutHandle.layout_of c.args.prefix) (scalar_layout (g.VariantIdx.Idx.at 0) (g.Cx.HasDataLayout.target c.args.self.now.cx) tag) (map g.F.LayoutHandle.layout_of c.args.locals.now)
-          (map (map g.LocalIdx.Idx.number) c.args.states.now) c.args.conflicts.now c.layout_of_promoted.result may (sized tag is);
-      too_large = λ tag is large. subst (λ t. IsTooLargeWith (g.Cx.HasDataLayout.target c.args.self.now.cx) (map g.F.LayoutHandle.layout_of c.args.prefix) (scalar_layout (g.VariantIdx.Idx.at 0) (g.Cx.HasDataLayout.target c.args.self.now.cx) t) (map g.F.LayoutHandle.layout_of c.args.locals.now) (map (map g.LocalIdx.Idx.number) c.args.states.now) (promoted_of (map (map g.LocalIdx.Idx.number) c.args.states.now) c.args.conflicts.now)) (one_tag (length c.args.states.now) c.state_tag-tag.result tag c.state_tag-tag.ensures is)
-          (subst (λ p. IsTooLargeWith (g.Cx.HasDataLayout.target c.args.self.now.cx) (map g.F.LayoutHandle.layout_of c.args.prefix) (scalar_layout (g.VariantIdx.Idx.at 0) (g.Cx.HasDataLayout.target c.args.self.now.cx) c.state_tag-tag.result) (map g.F.LayoutHandle.layout_of c.args.locals.now) (map (map g.LocalIdx.Idx.number) c.args.states.now) p) known (c.layout_of_promoted.ensures.too_large large));
-      refused = λ before all tag is large. c.layout_of_promoted.ensures.refused before all
-          (subst (λ p. IsTooLargeWith (g.Cx.HasDataLayout.target c.args.self.now.cx) (map g.F.LayoutHandle.layout_of c.args.prefix) (scalar_layout (g.VariantIdx.Idx.at 0) (g.Cx.HasDataLayout.target c.args.self.now.cx) c.state_tag-tag.result) (map g.F.LayoutHandle.layout_of c.args.locals.now) (map (map g.LocalIdx.Idx.number) c.args.states.now) p) (sym known) (subst (λ t. IsTooLargeWith (g.Cx.HasDataLayout.target c.args.self.now.cx) (map g.F.LayoutHandle.layout_of c.args.prefix) (scalar_layout (g.VariantIdx.Idx.at 0) (g.Cx.HasDataLayout.target c.args.self.now.cx) t) (map g.F.LayoutHandle.layout_of c.args.locals.now) (map (map g.LocalIdx.Idx.number) c.args.states.now) (promoted_of (map (map g.LocalIdx.Idx.number) c.args.states.now) c.args.conflicts.now)) (one_tag (length c.args.states.now) tag c.state_tag-tag.result is c.state_tag-tag.ensures) large));
+      clash = c.layout_of_promoted.ensures.clash conflicts known (c.requires.columns ∙ sym c.requires.rows) c.requires.rows;
+      one_offset = c.layout_of_promoted.ensures.one_offset conflicts known c.requires.rows;
+      sized = λ tag is. record {
+        size = sized tag is;
+        overlap = λ may. overlap_promised dl before (scalar_layout first dl tag) all states conflicts result may (sized tag is);
+        too_large = λ large. subst (λ t. IsTooLargeWith dl before (scalar_layout first dl t) all states promoted) (same tag is)
+            (subst (λ p. IsTooLargeWith dl before (scalar_layout first dl told) all states p) known (c.layout_of_promoted.ensures.too_large large));
+        refused = λ front rest large. c.layout_of_promoted.ensures.refused front rest
+            (subst (λ p. IsTooLargeWith dl before (scalar_layout first dl told) all states p) (sym known) (subst (λ t. IsTooLargeWith dl before (scalar_layout first dl t) all states promoted) (sym (same tag is)) large));
+      };
       no_other = c.layout_of_promoted.ensures.no_other;
     }

@@ -1,7 +1,7 @@
 use Rattle.abi_index.specs.Slice.{items_of}
 use Rattle.abi_lists.specs.Union.{only_of}
 use Rattle.abi_lists.proofs.TooLarge.{union_large, union_refused}
-use Rattle.abi_calc.proofs.Seen.{union_aligned, union_marks, union_single, union_viewed}
+use Rattle.abi_calc.proofs.Seen.{union_aligned, union_fields, union_marks, union_single, union_viewed}
 use Rattle.abi_calc.proofs.calculator.LayoutCalculator.layout_of_union.Goals as goal
 
 pub layout_of_union-requires-clause-fields : goal.layout_of_union-requires-clause-fields
@@ -47,4 +47,10 @@ pub returns-clause-view : goal.returns-clause-view
 returns-clause-view g c =
     let exact = rw (c.only_fields-fields.ensures, c.data_layout.ensures) at c.layout_of_union.ensures.exact in
     union_viewed g.F.LayoutHandle.layout_of (g.VariantIdx.Idx.at 0) (g.Cx.HasDataLayout.target c.args.self.now.cx)
+    c.args.repr.now (only_of (items_of c.args.variants)) c.layout_of_union.result exact
+
+pub returns-clause-fields : goal.returns-clause-fields
+returns-clause-fields g c =
+    let exact = rw (c.only_fields-fields.ensures, c.data_layout.ensures) at c.layout_of_union.ensures.exact in
+    union_fields g.F.LayoutHandle.layout_of (g.VariantIdx.Idx.at 0) (g.Cx.HasDataLayout.target c.args.self.now.cx)
     c.args.repr.now (only_of (items_of c.args.variants)) c.layout_of_union.result exact

@@ -1,4 +1,4 @@
-use Rattle.std.proofs.Common.{◌≡◌, ℕ, ◌+◌, ◌<◌, ◌≤◌, List, drop, length, get_or, true, false, arith, refl, sym, ap, ◌∙◌}
+use Rattle.std.proofs.Common.{List, arith, sym, ap, ◌∙◌}
 use Rattle.std.proofs.lemmas.List.{drop_all}
 use Rattle.abi_laid.specs.declared.node.Node.{Node}
 use Rattle.abi_laid.specs.Deciding.{are_inhabited}
@@ -8,12 +8,12 @@ use Rattle.abi_laid.proofs.laid.Laid.all_inhabited.Goals as goal
 pub loop-i-preserved : goal.loop-i-preserved
 loop-i-preserved c =
     let ns : List Node = c.args.self.now.nodes in
-    c.loop-i.invariant ∙ inhabited_from ns c.loop-i.i (omega arith) (ap (λ l. l.uninhabited) (sym c.read_layout.ensures) ∙ c.if-read_layout.false)
+    c.loop-i.invariant ∙ inhabited_from ns c.loop-i.i (omega arith) (ap (λ l. l.uninhabited) (sym c.layout_at.ensures) ∙ c.if-layout_at.false)
 
-pub returns-then-read_layout : goal.returns-then-read_layout
-returns-then-read_layout c =
+pub returns-then-layout_at : goal.returns-then-layout_at
+returns-then-layout_at c =
     let ns : List Node = c.args.self.now.nodes in
-    sym (c.loop-i.invariant ∙ flagged_from ns c.loop-i.i (omega arith) (ap (λ l. l.uninhabited) (sym c.read_layout.ensures) ∙ c.if-read_layout.true))
+    sym (c.loop-i.invariant ∙ flagged_from ns c.loop-i.i (omega arith) (ap (λ l. l.uninhabited) (sym c.layout_at.ensures) ∙ c.if-layout_at.true))
 
 pub returns : goal.returns
 returns c = sym (c.loop-i.invariant ∙ ap are_inhabited (drop_all c.loop-i.i c.args.self.now.nodes (omega arith)))

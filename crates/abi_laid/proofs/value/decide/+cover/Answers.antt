@@ -1,30 +1,32 @@
-use Rattle.std.proofs.Common.{◌≡◌, ◌+◌, ◌<◌, ◌≤◌, ◌*◌, ℕ, All, Option, length, true, List, [], ◌∷◌, map, get_or, arith, refl, sym, ap, ◌∙◌, subst}
-use Rattle.std.specs.Prelude.{◌&&◌, nat_lt}
+use Rattle.std.proofs.Common.{None, ◌≡◌, ◌+◌, ◌<◌, ◌≤◌, ◌*◌, ℕ, All, length, true, List, [], ◌∷◌, map, get_or, arith, refl, sym, ap, ◌∙◌, subst}
+use Rattle.std.specs.Prelude.{nat_lt}
 use Rattle.std.proofs.lemmas.List.{get_or_default}
 use Rattle.abi_index.specs.RangeSet.{is_in_ranges}
 use Rattle.abi_scalar.specs.Shape.{listed_offsets}
 use Rattle.abi_scalar.specs.declared.variants.TagEncoding.TheVariants.{Direct}
+use Rattle.abi_laid.specs.Holding.{HoldEach, Holds}
 use Rattle.abi_laid.specs.Bytes.{AreBytes, place_count}
-use Rattle.abi_laid.specs.Covering.{are_covered, is_arm_covered, is_byte_at, is_covered, is_told}
-use Rattle.abi_laid.specs.Deciding.{arm_for, arm_values, covering_value, covering_values, place_in}
-use Rattle.abi_laid.specs.Holding.{Holds}
+use Rattle.abi_laid.specs.Covering.{is_covered}
+use Rattle.abi_laid.specs.Deciding.{arm_for, arm_values, covering_value, each_value, place_in}
 use Rattle.abi_laid.specs.Needed.{is_among, named_by}
-use Rattle.abi_laid.specs.Nodes.{arms_in, encoding_of, index_of, own_fields, parts_at, parts_at_0, placed_at, placed_in, state_tag_offset, states_in, tag_offset, types_in}
-use Rattle.abi_laid.specs.Placed.{Placed, Layout, Parts, Arms, elements, fields, nothing, pair, scalar, single, size_of, tagged, union, vector}
+use Rattle.abi_laid.specs.Nodes.{arms_in, encoding_of, parts_at, parts_at_0, placed_at, state_tag_offset, tag_offset, types_in}
+use Rattle.abi_laid.specs.Placed.{Placed, Layout, Parts, nothing, size_of, union}
 use Rattle.abi_laid.specs.Places.{is_data_place}
 use Rattle.abi_laid.specs.Typed.{variant_nodes}
 use Rattle.abi_laid.specs.Well.{all_at}
-use Rattle.abi_laid.specs.Writing.{IsPutOver}
+use Rattle.abi_laid.specs.Writing.{IsCopied, IsPutOver}
 use Rattle.abi_laid.proofs.ChosenLemmas.{all_kept, list_at, among_one, among_prefix, among_states, among_tagged, kept_named, kept_parts, kept_room, kept_set, kept_there, kept_variants, variant_sizes}
-use Rattle.abi_laid.proofs.CoverLemmas.{AreCovered, ArmCovered, Covered, arm_put, states_put, elements_end, elements_first, elements_more, fields_end, fields_first, fields_more, pair_put, put_bare, union_put, variant_put}
+use Rattle.abi_laid.proofs.CopyLemmas.{copy_put}
+use Rattle.abi_laid.proofs.CoverLemmas.{AreCovered, ArmCovered, Covered, ElementsPut, arm_put, states_put, elements_end, elements_first, elements_more, elements_next, fields_end, fields_first, fields_more, pair_put, put_bare, union_put}
 use Rattle.abi_laid.proofs.DataPlacesLemmas.{elements_node, fields_node, never_node, pair_node, runs_inside, scalar_node, single_node, states_node, tagged_node, union_node, vector_node}
 use Rattle.abi_laid.proofs.FoundLemmas.{node_size, states_rooms}
 use Rattle.abi_laid.proofs.HoldLemmas.{length-Holds}
 use Rattle.abi_laid.proofs.NamedLemmas.{child_is, count_children}
-use Rattle.abi_laid.proofs.PutOverLemmas.{put_both, put_like}
+use Rattle.abi_laid.proofs.PutOverLemmas.{put_like}
 use Rattle.abi_laid.proofs.ReadLemmas.{from_arm}
 use Rattle.abi_laid.proofs.WidthLemmas.{scalar_width_at, state_tag_width_at, tag_width_at}
-use Rattle.abi_laid.proofs.WriteLemmas.{TagPut, arm_covers, put_slice, put_vector, vector_room}
+use Rattle.abi_laid.proofs.WriteLemmas.{TagPut, put_slice, put_vector, vector_room}
+use Rattle.abi_laid.proofs.value.decide.+cover.Goals.{put_elements-then-may_copy, put_elements-else-may_copy}
 use Rattle.abi_laid.proofs.value.decide.+cover.Goals as goal
 
 -- ---- the node itself
@@ -79,7 +81,7 @@ put_node-put_parts-requires t c =
       omega (arith, c.decreases),
       (
         have,
-        rw c.offsets.ensures
+        rw c.offsets-list.ensures
             (kept_parts ns c.args.cover.kept.now c.args.cover.sets.now have c.args.node c.requires.kept _ c.read_one-here.ensures cs (length c.args.bytes.now) c.args.at (omega (arith, c.if-size-eq0.false, c.bytes-size.ensures))
             named facts.0 facts.2 (omega (arith, size, c.requires.fits))),
       ),
@@ -96,7 +98,7 @@ put_node-returns-in-Pair-clause-put t c =
     let facts = pair_node ns have.needed.well c.args.node _ there c.read_one-here.ensures room c.in-Pair.first c.in-Pair.second c.in-Pair.is in
     let parts : Parts = parts_at (listed_offsets layout.fields) (all_at ns cs) in
     let put : AreCovered c.args.cover.order c.args.at c.args.bytes.now c.put_parts.new.bytes c.args.place parts =
-    subst (λ os. AreCovered c.args.cover.order c.args.at c.args.bytes.now c.put_parts.new.bytes c.args.place (parts_at os (all_at ns cs))) c.offsets.ensures c.put_parts.ensures.put in
+    subst (λ os. AreCovered c.args.cover.order c.args.at c.args.bytes.now c.put_parts.new.bytes c.args.place (parts_at os (all_at ns cs))) c.offsets-list.ensures c.put_parts.ensures.put in
     subst (Covered c.args.cover.order c.args.at c.args.bytes.now c.put_parts.new.bytes c.args.place) (sym facts.1)
     (λ b all held. pair_put c.args.cover.order layout c.args.place c.args.at b c.args.bytes.now c.put_parts.new.bytes parts (put b all) held)
 
@@ -144,7 +146,7 @@ put_node-put_parts-requires-in-Fields t c =
       omega (arith, c.decreases),
       (
         have,
-        rw (c.offsets-in-Fields.ensures, c.deref.ensures.value)
+        rw (c.offsets-list.ensures, c.deref.ensures.value)
             (kept_parts ns c.args.cover.kept.now c.args.cover.sets.now have c.args.node c.requires.kept _ c.read_one-here.ensures c.in-Fields.children.items (length c.args.bytes.now) c.args.at
             (omega (arith, c.if-size-eq0.false, c.bytes-size.ensures)) named facts.0 facts.2 (omega (arith, size, c.requires.fits))),
       ),
@@ -160,8 +162,8 @@ put_node-returns-in-Fields-clause-put t c =
     let room = kept_room ns c.args.cover.kept.now c.args.cover.sets.now have c.args.node c.requires.kept in
     let facts = fields_node ns have.needed.well c.args.node _ there c.read_one-here.ensures room c.in-Fields.field-0 c.in-Fields.children c.in-Fields.is in
     let put : AreCovered c.args.cover.order c.args.at c.args.bytes.now new c.args.place (parts_at (listed_offsets layout.fields) (all_at ns c.in-Fields.children.items)) =
-    subst (λ os. AreCovered c.args.cover.order c.args.at c.args.bytes.now new c.args.place (parts_at os (all_at ns c.in-Fields.children.items))) c.offsets-in-Fields.ensures
-    (subst (λ cs. AreCovered c.args.cover.order c.args.at c.args.bytes.now new c.args.place (parts_at c.offsets-in-Fields.result.now (all_at ns cs))) c.deref.ensures.value c.put_parts-in-Fields.ensures.put) in
+    subst (λ os. AreCovered c.args.cover.order c.args.at c.args.bytes.now new c.args.place (parts_at os (all_at ns c.in-Fields.children.items))) c.offsets-list.ensures
+    (subst (λ cs. AreCovered c.args.cover.order c.args.at c.args.bytes.now new c.args.place (parts_at c.offsets-list.result.now (all_at ns cs))) c.deref.ensures.value c.put_parts-in-Fields.ensures.put) in
     subst (Covered c.args.cover.order c.args.at c.args.bytes.now new c.args.place) (sym facts.1) (λ b all held. put b all held.1)
 
 pub put_node-put_parts-requires-in-Single : goal.put_node-put_parts-requires-in-Single
@@ -177,7 +179,7 @@ put_node-put_parts-requires-in-Single t c =
       omega (arith, c.decreases),
       (
         have,
-        rw (c.offsets-in-Single.ensures, c.deref-in-Single.ensures.value)
+        rw (c.offsets-list.ensures, c.deref-in-Single.ensures.value)
             (kept_parts ns c.args.cover.kept.now c.args.cover.sets.now have c.args.node c.requires.kept _ c.read_one-here.ensures c.in-Single.children.items (length c.args.bytes.now) c.args.at
             (omega (arith, c.if-size-eq0.false, c.bytes-size.ensures)) named facts.0 facts.2 (omega (arith, size, c.requires.fits))),
       ),
@@ -193,8 +195,8 @@ put_node-returns-in-Single-clause-put t c =
     let room = kept_room ns c.args.cover.kept.now c.args.cover.sets.now have c.args.node c.requires.kept in
     let facts = single_node ns have.needed.well c.args.node _ there c.read_one-here.ensures room c.in-Single.field-0 c.in-Single.children c.in-Single.is in
     let put : AreCovered c.args.cover.order c.args.at c.args.bytes.now new c.args.place (parts_at (listed_offsets layout.fields) (all_at ns c.in-Single.children.items)) =
-    subst (λ os. AreCovered c.args.cover.order c.args.at c.args.bytes.now new c.args.place (parts_at os (all_at ns c.in-Single.children.items))) c.offsets-in-Single.ensures
-    (subst (λ cs. AreCovered c.args.cover.order c.args.at c.args.bytes.now new c.args.place (parts_at c.offsets-in-Single.result.now (all_at ns cs))) c.deref-in-Single.ensures.value c.put_parts-in-Single.ensures.put) in
+    subst (λ os. AreCovered c.args.cover.order c.args.at c.args.bytes.now new c.args.place (parts_at os (all_at ns c.in-Single.children.items))) c.offsets-list.ensures
+    (subst (λ cs. AreCovered c.args.cover.order c.args.at c.args.bytes.now new c.args.place (parts_at c.offsets-list.result.now (all_at ns cs))) c.deref-in-Single.ensures.value c.put_parts-in-Single.ensures.put) in
     subst (Covered c.args.cover.order c.args.at c.args.bytes.now new c.args.place) (sym facts.1) (λ b all held. put b all held.2)
 
 pub put_node-put_zeros-requires-clause-inside : goal.put_node-put_zeros-requires-clause-inside
@@ -268,31 +270,33 @@ put_node-returns-in-Vector-clause-put t c =
     (λ s each holds. subst (λ a. IsPutOver (is_covered lanes (covering_value lanes c.args.place)) a s c.args.bytes.now new) start (c.put_node.ensures.put s each holds)))
     held)
 
-pub put_node-put_arm-requires : goal.put_node-put_arm-requires
-put_node-put_arm-requires t c =
+pub put_variant-put_arm-requires : goal.put_variant-put_arm-requires
+put_variant-put_arm-requires t c =
     let ns = c.args.cover.nodes.now in
+    let is = c.requires.tagged in
+    let own = c.arms_of-beside.ensures.tagged is.0 is.1 is.2 is.3 in
     let have = c.requires.sets in
     let kept = c.args.cover.kept.now in
     let sets = c.args.cover.sets.now in
-    let layout : Layout = c.read_one-here.result.now.layout in
-    let vs : List (ℕ × ℕ) = c.in-Tagged.variants.items in
-    let lent : c.deref-in-Tagged.result.now ≡ vs = c.deref-in-Tagged.ensures.value in
+    let layout : Layout = c.args.here.now.layout in
+    let vs : List (ℕ × ℕ) = is.2.items in
+    let lent : c.arms_of-beside.result.arms.now ≡ vs = own.1 in
     let there = kept_there ns kept sets have c.args.node c.requires.kept in
     let room = kept_room ns kept sets have c.args.node c.requires.kept in
-    let some : 0 < layout.size = omega (arith, c.if-size-eq0.false, c.bytes-size.ensures) in
-    let size = node_size ns c.args.node _ there c.read_one-here.ensures in
-    let facts = tagged_node ns have.needed.well c.args.node _ there c.read_one-here.ensures room c.in-Tagged.mark c.in-Tagged.tag c.in-Tagged.variants c.in-Tagged.is in
-    let width = tag_width_at ns have.needed.well c.args.cover.widths c.args.node _ there c.read_one-here.ensures c.in-Tagged.mark c.in-Tagged.tag c.in-Tagged.variants c.in-Tagged.is in
-    let nodes : variant_nodes c.read_one-here.result.now.shape ≡ map (λ v. v.1) vs = ap variant_nodes c.in-Tagged.is in
+    let some : 0 < layout.size = c.requires.some in
+    let size = node_size ns c.args.node _ there c.requires.here in
+    let facts = tagged_node ns have.needed.well c.args.node _ there c.requires.here room is.0 is.1 is.2 is.3 in
+    let width = tag_width_at ns have.needed.well c.args.cover.widths c.args.node _ there c.requires.here is.0 is.1 is.2 is.3 in
+    let nodes : variant_nodes c.args.here.now.shape ≡ map (λ v. v.1) vs = ap variant_nodes is.3 in
     let keeps = all_kept kept vs (λ j h.
-    kept_named ns kept sets have c.args.node c.requires.kept _ c.read_one-here.ensures some j (subst (λ s. is_among (named_by layout s) j ≡ true) (sym c.in-Tagged.is) (among_tagged c.in-Tagged.tag vs j h))) in
-    let listed = kept_variants ns kept sets have c.args.node c.requires.kept _ c.read_one-here.ensures vs nodes in
-    let sizes = variant_sizes ns kept sets have c.args.node c.requires.kept _ c.read_one-here.ensures vs nodes in (
+    kept_named ns kept sets have c.args.node c.requires.kept _ c.requires.here some j (subst (λ s. is_among (named_by layout s) j ≡ true) (sym is.3) (among_tagged is.1 vs j h))) in
+    let listed = kept_variants ns kept sets have c.args.node c.requires.kept _ c.requires.here vs nodes in
+    let sizes = variant_sizes ns kept sets have c.args.node c.requires.kept _ c.requires.here vs nodes in (
       omega (arith, c.decreases),
       (
         have,
         (
-          omega (arith, facts.0, there),
+          omega (arith, facts.0, there, own.0),
           (
             rw lent facts.1,
             (
@@ -300,9 +304,9 @@ put_node-put_arm-requires t c =
               (
                 rw lent listed,
                 (
-                  width,
+                  subst (λ t. size_of (placed_at ns t) ≤ 16) (sym own.0) width,
                   (
-                    omega (arith, facts.3, c.tag_offset.ensures, size, c.requires.fits),
+                    omega (arith, facts.3, c.tag_offset.ensures, size, c.requires.fits, ap (λ t. size_of (placed_at ns t)) own.0),
                     rw lent (λ k d lt. omega (arith, sizes k d lt, size, c.requires.fits)),
                   ),
                 ),
@@ -313,74 +317,81 @@ put_node-put_arm-requires t c =
       ),
     )
 
-pub put_node-returns-in-Tagged-clause-put : goal.put_node-returns-in-Tagged-clause-put
-put_node-returns-in-Tagged-clause-put t c =
+pub put_variant-returns-clause-put : goal.put_variant-returns-clause-put
+put_variant-returns-clause-put t c =
     let ns = c.args.cover.nodes.now in
+    let is = c.requires.tagged in
+    let own = c.arms_of-beside.ensures.tagged is.0 is.1 is.2 is.3 in
     let have = c.requires.sets in
-    let layout : Layout = c.read_one-here.result.now.layout in
+    let layout : Layout = c.args.here.now.layout in
     let new : List ℕ = c.put_arm.new.bytes in
-    let vs : List (ℕ × ℕ) = c.in-Tagged.variants.items in
+    let vs : List (ℕ × ℕ) = is.2.items in
     let there = kept_there ns c.args.cover.kept.now c.args.cover.sets.now have c.args.node c.requires.kept in
     let room = kept_room ns c.args.cover.kept.now c.args.cover.sets.now have c.args.node c.requires.kept in
-    let facts = tagged_node ns have.needed.well c.args.node _ there c.read_one-here.ensures room c.in-Tagged.mark c.in-Tagged.tag c.in-Tagged.variants c.in-Tagged.is in
-    let tag : Placed = placed_at ns c.in-Tagged.tag in
-    let sizes = variant_sizes ns c.args.cover.kept.now c.args.cover.sets.now have c.args.node c.requires.kept _ c.read_one-here.ensures vs (ap variant_nodes c.in-Tagged.is) in
+    let facts = tagged_node ns have.needed.well c.args.node _ there c.requires.here room is.0 is.1 is.2 is.3 in
+    let tag : Placed = placed_at ns is.1 in
+    let sizes = variant_sizes ns c.args.cover.kept.now c.args.cover.sets.now have c.args.node c.requires.kept _ c.requires.here vs (ap variant_nodes is.3) in
     let put : ArmCovered c.args.cover.order c.args.at c.args.bytes.now new c.args.place (encoding_of layout.variants) (tag_offset layout) tag (types_in ns) vs =
     subst (λ e. ArmCovered c.args.cover.order c.args.at c.args.bytes.now new c.args.place e (tag_offset layout) tag (types_in ns) vs) c.encoding_of-encoding.ensures
     (subst (λ o. ArmCovered c.args.cover.order c.args.at c.args.bytes.now new c.args.place c.encoding_of-encoding.result o tag (types_in ns) vs) c.tag_offset.ensures
-    (subst (λ ws. ArmCovered c.args.cover.order c.args.at c.args.bytes.now new c.args.place c.encoding_of-encoding.result c.tag_offset.result tag (types_in ns) ws) c.deref-in-Tagged.ensures.value
-    c.put_arm.ensures.put)) in
+    (subst (λ ws. ArmCovered c.args.cover.order c.args.at c.args.bytes.now new c.args.place c.encoding_of-encoding.result c.tag_offset.result tag (types_in ns) ws) own.1
+    (subst (λ j. ArmCovered c.args.cover.order c.args.at c.args.bytes.now new c.args.place c.encoding_of-encoding.result c.tag_offset.result (placed_at ns j) (types_in ns) c.arms_of-beside.result.arms.now) own.0
+    c.put_arm.ensures.put))) in
     subst (Covered c.args.cover.order c.args.at c.args.bytes.now new c.args.place) (sym facts.2) (λ b all held. put b all (λ k d lt. omega (arith, sizes k d lt, held.0)) (held.1, held.2, held.3))
 
-pub put_node-put_parts-requires-in-States : goal.put_node-put_parts-requires-in-States
-put_node-put_parts-requires-in-States t c =
+pub put_state-put_parts-requires : goal.put_state-put_parts-requires
+put_state-put_parts-requires t c =
     let ns = c.args.cover.nodes.now in
+    let is = c.requires.states in
+    let own = c.arms_of-beside.ensures.states is.0 is.1 is.2 is.3 in
     let have = c.requires.sets in
-    let layout : Layout = c.read_one-here.result.now.layout in
+    let layout : Layout = c.args.here.now.layout in
     let there = kept_there ns c.args.cover.kept.now c.args.cover.sets.now have c.args.node c.requires.kept in
     let room = kept_room ns c.args.cover.kept.now c.args.cover.sets.now have c.args.node c.requires.kept in
-    let size = node_size ns c.args.node _ there c.read_one-here.ensures in
-    let facts = states_node ns have.needed.well c.args.node _ there c.read_one-here.ensures room c.in-States.prefix c.in-States.tag c.in-States.states c.in-States.is in
-    let rooms = states_rooms ns layout c.in-States.prefix.items c.in-States.tag c.in-States.states.items facts.4 in
-    let named : (j : ℕ) → is_among _ j ≡ true → is_among (named_by layout c.read_one-here.result.now.shape) j ≡ true =
-    λ j h. subst (λ s. is_among (named_by layout s) j ≡ true) (sym c.in-States.is) (among_prefix layout c.in-States.prefix.items c.in-States.tag c.in-States.states.items j h) in (
+    let size = node_size ns c.args.node _ there c.requires.here in
+    let facts = states_node ns have.needed.well c.args.node _ there c.requires.here room is.0 is.1 is.2 is.3 in
+    let rooms = states_rooms ns layout is.0.items is.1 is.2.items facts.4 in
+    let named : (j : ℕ) → is_among _ j ≡ true → is_among (named_by layout c.args.here.now.shape) j ≡ true =
+    λ j h. subst (λ s. is_among (named_by layout s) j ≡ true) (sym is.3) (among_prefix layout is.0.items is.1 is.2.items j h) in (
       omega (arith, c.decreases),
       (
         have,
-        rw (c.offsets-in-States.ensures, c.deref-in-States.ensures.value)
-            (kept_parts ns c.args.cover.kept.now c.args.cover.sets.now have c.args.node c.requires.kept _ c.read_one-here.ensures c.in-States.prefix.items (length c.args.bytes.now) c.args.at
-            (omega (arith, c.if-size-eq0.false, c.bytes-size.ensures)) named facts.0 rooms.0 (omega (arith, size, c.requires.fits))),
+        rw (c.offsets-list.ensures, own.0)
+            (kept_parts ns c.args.cover.kept.now c.args.cover.sets.now have c.args.node c.requires.kept _ c.requires.here is.0.items (length c.args.bytes.now) c.args.at
+            (c.requires.some) named facts.0 rooms.0 (omega (arith, size, c.requires.fits))),
       ),
     )
 
-pub put_node-put_arm-requires-in-States : goal.put_node-put_arm-requires-in-States
-put_node-put_arm-requires-in-States t c =
+pub put_state-put_arm-requires : goal.put_state-put_arm-requires
+put_state-put_arm-requires t c =
     let ns = c.args.cover.nodes.now in
+    let is = c.requires.states in
+    let own = c.arms_of-beside.ensures.states is.0 is.1 is.2 is.3 in
     let have = c.requires.sets in
     let kept = c.args.cover.kept.now in
     let sets = c.args.cover.sets.now in
-    let layout : Layout = c.read_one-here.result.now.layout in
-    let vs : List (ℕ × ℕ) = c.in-States.states.items in
-    let lent : c.deref-in-States-2.result.now ≡ vs = c.deref-in-States-2.ensures.value in
+    let layout : Layout = c.args.here.now.layout in
+    let vs : List (ℕ × ℕ) = is.2.items in
+    let lent : c.arms_of-beside.result.arms.now ≡ vs = own.2 in
     let there = kept_there ns kept sets have c.args.node c.requires.kept in
     let room = kept_room ns kept sets have c.args.node c.requires.kept in
-    let some : 0 < layout.size = omega (arith, c.if-size-eq0.false, c.bytes-size.ensures) in
-    let size = node_size ns c.args.node _ there c.read_one-here.ensures in
-    let facts = states_node ns have.needed.well c.args.node _ there c.read_one-here.ensures room c.in-States.prefix c.in-States.tag c.in-States.states c.in-States.is in
-    let rooms = states_rooms ns layout c.in-States.prefix.items c.in-States.tag vs facts.4 in
-    let width = state_tag_width_at ns have.needed.well c.args.cover.widths c.args.node _ there c.read_one-here.ensures c.in-States.prefix c.in-States.tag c.in-States.states c.in-States.is in
-    let nodes : variant_nodes c.read_one-here.result.now.shape ≡ map (λ v. v.1) vs = ap variant_nodes c.in-States.is in
+    let some : 0 < layout.size = c.requires.some in
+    let size = node_size ns c.args.node _ there c.requires.here in
+    let facts = states_node ns have.needed.well c.args.node _ there c.requires.here room is.0 is.1 is.2 is.3 in
+    let rooms = states_rooms ns layout is.0.items is.1 vs facts.4 in
+    let width = state_tag_width_at ns have.needed.well c.args.cover.widths c.args.node _ there c.requires.here is.0 is.1 is.2 is.3 in
+    let nodes : variant_nodes c.args.here.now.shape ≡ map (λ v. v.1) vs = ap variant_nodes is.3 in
     let keeps = all_kept kept vs (λ j h.
-    kept_named ns kept sets have c.args.node c.requires.kept _ c.read_one-here.ensures some j
-    (subst (λ s. is_among (named_by layout s) j ≡ true) (sym c.in-States.is) (among_states layout c.in-States.prefix.items c.in-States.tag vs j h))) in
-    let listed = kept_variants ns kept sets have c.args.node c.requires.kept _ c.read_one-here.ensures vs nodes in
-    let sizes = variant_sizes ns kept sets have c.args.node c.requires.kept _ c.read_one-here.ensures vs nodes in
-    let offset : c.state_tag_offset.result ≡ state_tag_offset layout (length c.in-States.prefix.items) = c.state_tag_offset.ensures ∙ ap (state_tag_offset layout) (omega (arith, c.len.ensures, ap length c.deref-in-States.ensures.value, c.deref-in-States.ensures.len)) in (
+    kept_named ns kept sets have c.args.node c.requires.kept _ c.requires.here some j
+    (subst (λ s. is_among (named_by layout s) j ≡ true) (sym is.3) (among_states layout is.0.items is.1 vs j h))) in
+    let listed = kept_variants ns kept sets have c.args.node c.requires.kept _ c.requires.here vs nodes in
+    let sizes = variant_sizes ns kept sets have c.args.node c.requires.kept _ c.requires.here vs nodes in
+    let offset : c.state_tag_offset.result ≡ state_tag_offset layout (length is.0.items) = c.state_tag_offset.ensures ∙ ap (λ (ps : List ℕ). state_tag_offset layout (length ps)) own.0 in (
       omega (arith, c.decreases),
       (
         have,
         (
-          omega (arith, facts.1, there),
+          omega (arith, facts.1, there, own.1),
           (
             rw lent facts.2,
             (
@@ -388,10 +399,10 @@ put_node-put_arm-requires-in-States t c =
               (
                 rw lent listed,
                 (
-                  width,
+                  subst (λ t. size_of (placed_at ns t) ≤ 16) (sym own.1) width,
                   (
-                    omega (arith, rooms.2, offset, size, c.requires.fits, c.put_parts-in-States.ensures.long),
-                    rw lent (λ k d lt. omega (arith, sizes k d lt, size, c.requires.fits, c.put_parts-in-States.ensures.long)),
+                    omega (arith, rooms.2, offset, ap (λ t. size_of (placed_at ns t)) own.1, size, c.requires.fits, c.put_parts.ensures.long),
+                    rw lent (λ k d lt. omega (arith, sizes k d lt, size, c.requires.fits, c.put_parts.ensures.long)),
                   ),
                 ),
               ),
@@ -401,27 +412,30 @@ put_node-put_arm-requires-in-States t c =
       ),
     )
 
-pub put_node-returns-in-States-clause-put : goal.put_node-returns-in-States-clause-put
-put_node-returns-in-States-clause-put t c =
+pub put_state-returns-clause-put : goal.put_state-returns-clause-put
+put_state-returns-clause-put t c =
     let ns = c.args.cover.nodes.now in
+    let is = c.requires.states in
+    let own = c.arms_of-beside.ensures.states is.0 is.1 is.2 is.3 in
     let have = c.requires.sets in
-    let layout : Layout = c.read_one-here.result.now.layout in
-    let mid : List ℕ = c.put_parts-in-States.new.bytes in
-    let new : List ℕ = c.put_arm-in-States.new.bytes in
-    let prefix : List ℕ = c.in-States.prefix.items in
-    let vs : List (ℕ × ℕ) = c.in-States.states.items in
+    let layout : Layout = c.args.here.now.layout in
+    let mid : List ℕ = c.put_parts.new.bytes in
+    let new : List ℕ = c.put_arm.new.bytes in
+    let prefix : List ℕ = is.0.items in
+    let vs : List (ℕ × ℕ) = is.2.items in
     let there = kept_there ns c.args.cover.kept.now c.args.cover.sets.now have c.args.node c.requires.kept in
     let room = kept_room ns c.args.cover.kept.now c.args.cover.sets.now have c.args.node c.requires.kept in
-    let facts = states_node ns have.needed.well c.args.node _ there c.read_one-here.ensures room c.in-States.prefix c.in-States.tag c.in-States.states c.in-States.is in
-    let tag : Placed = placed_at ns c.in-States.tag in
-    let sizes = variant_sizes ns c.args.cover.kept.now c.args.cover.sets.now have c.args.node c.requires.kept _ c.read_one-here.ensures vs (ap variant_nodes c.in-States.is) in
-    let offset : c.state_tag_offset.result ≡ state_tag_offset layout (length prefix) = c.state_tag_offset.ensures ∙ ap (state_tag_offset layout) (omega (arith, c.len.ensures, ap length c.deref-in-States.ensures.value, c.deref-in-States.ensures.len)) in
+    let facts = states_node ns have.needed.well c.args.node _ there c.requires.here room is.0 is.1 is.2 is.3 in
+    let tag : Placed = placed_at ns is.1 in
+    let sizes = variant_sizes ns c.args.cover.kept.now c.args.cover.sets.now have c.args.node c.requires.kept _ c.requires.here vs (ap variant_nodes is.3) in
+    let offset : c.state_tag_offset.result ≡ state_tag_offset layout (length prefix) = c.state_tag_offset.ensures ∙ ap (λ (ps : List ℕ). state_tag_offset layout (length ps)) own.0 in
     let front : AreCovered c.args.cover.order c.args.at c.args.bytes.now mid c.args.place (parts_at (listed_offsets layout.fields) (all_at ns prefix)) =
-    subst (λ os. AreCovered c.args.cover.order c.args.at c.args.bytes.now mid c.args.place (parts_at os (all_at ns prefix))) c.offsets-in-States.ensures
-    (subst (λ cs. AreCovered c.args.cover.order c.args.at c.args.bytes.now mid c.args.place (parts_at c.offsets-in-States.result.now (all_at ns cs))) c.deref-in-States.ensures.value c.put_parts-in-States.ensures.put) in
+    subst (λ os. AreCovered c.args.cover.order c.args.at c.args.bytes.now mid c.args.place (parts_at os (all_at ns prefix))) c.offsets-list.ensures
+    (subst (λ cs. AreCovered c.args.cover.order c.args.at c.args.bytes.now mid c.args.place (parts_at c.offsets-list.result.now (all_at ns cs))) own.0 c.put_parts.ensures.put) in
     let put : ArmCovered c.args.cover.order c.args.at mid new c.args.place Direct (state_tag_offset layout (length prefix)) tag (types_in ns) vs =
     subst (λ o. ArmCovered c.args.cover.order c.args.at mid new c.args.place Direct o tag (types_in ns) vs) offset
-    (subst (λ ws. ArmCovered c.args.cover.order c.args.at mid new c.args.place Direct c.state_tag_offset.result tag (types_in ns) ws) c.deref-in-States-2.ensures.value c.put_arm-in-States.ensures.put) in
+    (subst (λ ws. ArmCovered c.args.cover.order c.args.at mid new c.args.place Direct c.state_tag_offset.result tag (types_in ns) ws) own.2
+    (subst (λ j. ArmCovered c.args.cover.order c.args.at mid new c.args.place Direct c.state_tag_offset.result (placed_at ns j) (types_in ns) c.arms_of-beside.result.arms.now) own.1 c.put_arm.ensures.put)) in
     subst (Covered c.args.cover.order c.args.at c.args.bytes.now new c.args.place) (sym facts.3)
     (λ b all held. states_put c.args.cover.order layout c.args.place c.args.at b c.args.bytes.now mid new (parts_at (listed_offsets layout.fields) (all_at ns prefix)) (state_tag_offset layout (length prefix)) tag (arms_in (types_in ns) vs)
     (front b all) (put b all (λ k d lt. omega (arith, sizes k d lt, held.0))) held)
@@ -438,15 +452,43 @@ pub put_elements-loop-i-preserved : goal.put_elements-loop-i-preserved
 put_elements-loop-i-preserved t c =
     let p : Placed = placed_at c.args.cover.nodes.now c.args.element in
     let i : ℕ = c.loop-i.i in
+    let old : List ℕ = c.args.bytes.now in
+    let now : List ℕ = c.loop-i.bytes in
     let size : c.bytes-size.result ≡ size_of p = rw c.bytes-size.ensures (ap (λ l. l.size) c.read_layout.ensures) in
-    let start : i * c.bytes-size.result ≡ i * size_of p = ap (λ n. i * n) size in
-    let put : Covered c.args.cover.order (c.args.at + i * size_of p) c.loop-i.bytes c.put_node.new.bytes (place_in c.args.place (i * size_of p) (size_of p)) p =
-    subst (λ n. Covered c.args.cover.order (c.args.at + i * n) c.loop-i.bytes c.put_node.new.bytes (place_in c.args.place (i * n) n) p) size
-    (subst (λ x. Covered c.args.cover.order (c.args.at + i * c.bytes-size.result) c.loop-i.bytes c.put_node.new.bytes x p) c.place_in-here.ensures c.put_node.ensures.put) in
-    record {
-      long = c.put_node.ensures.long ∙ c.loop-i.invariant.long;
-      put = λ b all held. elements_more c.args.cover.order p c.args.place c.args.count c.args.at b c.args.bytes.now i c.loop-i.bytes c.put_node.new.bytes c.loop-i-test.true all (c.loop-i.invariant.put b all held) put;
-    }
+    let Next : List ℕ → Type 0 = λ new.
+    (length new ≡ length old)
+    × ((b : List ℕ) → AreBytes b → HoldEach (Holds c.args.cover.order p) (size_of p) 0 b (each_value (covering_value p) (size_of p) 0 c.args.count c.args.place) →
+    ElementsPut c.args.cover.order p c.args.place c.args.count c.args.at b old (i + 1) new) in
+    let next : Next c.if-may_copy.bytes =
+    elim c.if-may_copy.branch as (λ _. Next c.if-may_copy.bytes) [
+      | put_elements-then-may_copy w ↦
+          let new : List ℕ = w.copy_bytes.new.bytes in
+          let s : ℕ = c.first_without-like.result in
+          let copies = c.may_copy.ensures w.if-may_copy.true in
+          let blank : (k : ℕ) → k < size_of p * c.args.count → get_or old (c.args.at + k) 0 ≡ 0 =
+          subst (λ n. (k : ℕ) → k < n * c.args.count → get_or old (c.args.at + k) 0 ≡ 0) size (c.are_zeros-blank.ensures copies.0) in
+          let none_i : place_in c.args.place (i * size_of p) (size_of p) ≡ None = subst (λ n. place_in c.args.place (i * n) n ≡ None) size (sym c.place_in-here.ensures ∙ copies.2) in
+          let none_s : place_in c.args.place (s * size_of p) (size_of p) ≡ None = subst (λ n. place_in c.args.place (s * n) n ≡ None) size c.first_without-like.ensures in
+          let copy : IsCopied (c.args.at + s * size_of p) (c.args.at + i * size_of p) (size_of p) now new =
+          subst (λ n. IsCopied (c.args.at + s * n) (c.args.at + i * n) n now new) size w.copy_bytes.ensures in
+          subst Next (sym w.bytes-is) (
+            copy.long ∙ c.loop-i.invariant.long,
+            λ b all held.
+                let before = c.loop-i.invariant.put b all held in
+                elements_next c.args.cover.order p c.args.place c.args.count c.args.at b old i now new c.loop-i-test.true before
+                (copy_put c.args.cover.order p c.args.place c.args.count c.args.at b old all held blank i now before c.loop-i-test.true none_i s copies.1 none_s new copy),
+          )
+      | put_elements-else-may_copy w ↦
+          let new : List ℕ = w.put_node.new.bytes in
+          let put : Covered c.args.cover.order (c.args.at + i * size_of p) now new (place_in c.args.place (i * size_of p) (size_of p)) p =
+          subst (λ n. Covered c.args.cover.order (c.args.at + i * n) now new (place_in c.args.place (i * n) n) p) size
+          (subst (λ x. Covered c.args.cover.order (c.args.at + i * c.bytes-size.result) now new x p) c.place_in-here.ensures w.put_node.ensures.put) in
+          subst Next (sym w.bytes-is) (
+            w.put_node.ensures.long ∙ c.loop-i.invariant.long,
+            λ b all held. elements_more c.args.cover.order p c.args.place c.args.count c.args.at b old i now new c.loop-i-test.true all (c.loop-i.invariant.put b all held) put,
+          )
+    ] in
+    record { long = next.0; put = next.1 }
 
 pub put_elements-returns-clause-put : goal.put_elements-returns-clause-put
 put_elements-returns-clause-put t c = λ b all held.

@@ -14,6 +14,12 @@ decreases-put_parts l = 6 * l.node
 abbrev pub decreases-put_arm : goal.decreases-put_arm
 decreases-put_arm l = 6 * l.node + 1
 
+abbrev pub decreases-put_variant : goal.decreases-put_variant
+decreases-put_variant l = 6 * l.node + 2
+
+abbrev pub decreases-put_state : goal.decreases-put_state
+decreases-put_state l = 6 * l.node + 2
+
 abbrev pub decreases-put_node : goal.decreases-put_node
 decreases-put_node l = 6 * l.node + 3
 

@@ -1,5 +1,4 @@
-use Rattle.std.proofs.Common.{◌≡◌, ◌<◌, ℕ, List, arith, ap, length, sym, true, subst, ◌∙◌}
-use Rattle.std.specs.Prelude.{IfSome}
+use Rattle.std.proofs.Common.{◌≡◌, ◌<◌, arith, ap, length, true, subst}
 use Rattle.abi_laid.specs.declared.laid.Laid.{Laid}
 use Rattle.abi_laid.specs.Bytes.{AreBytes}
 use Rattle.abi_laid.specs.Deciding.{DifferAt}

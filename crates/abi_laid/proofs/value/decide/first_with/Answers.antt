@@ -1,4 +1,4 @@
-use Rattle.std.proofs.Common.{◌≡◌, ℕ, ◌<◌, length, get_or, true, false, refl, sym, ap, ◌∙◌}
+use Rattle.std.proofs.Common.{sym, ap, ◌∙◌}
 use Rattle.abi_index.specs.RangeSet.{is_in_ranges}
 use Rattle.abi_laid.specs.Nodes.{types_in}
 use Rattle.abi_laid.proofs.ChosenLemmas.{kept_set, variant_set}

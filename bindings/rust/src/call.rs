@@ -1,0 +1,47 @@
+//! The calls of the archive: all that is `unsafe`.
+
+use crate::Answer;
+
+/// A room that is enough for most answers, in bytes.
+const ROOM: usize = 4096;
+
+// As `rustc_abi.h` declares them, which nothing checks.
+extern "C" {
+    fn abi_c_layout(input: *const u8, input_len: usize, output: *mut u8, output_len: usize, needed: *mut usize) -> u8;
+    fn abi_c_map(input: *const u8, input_len: usize, output: *mut u8, output_len: usize, needed: *mut usize) -> u8;
+}
+
+/// A call: what is asked, where the answer goes if it fits, and its status with its length.
+pub(crate) type Call = fn(&[u8], &mut [u8]) -> (u8, usize);
+
+/// Asks for a layout.
+pub(crate) fn layout(input: &[u8], output: &mut [u8]) -> (u8, usize) {
+    let mut needed = 0;
+    // SAFETY: the slices are borrowed for the call, so that they are there and don't overlap, `needed` is a local, and none of
+    // their pointers is null, not of an empty slice either. The call keeps none of them, and writes inside `output` alone.
+    let status = unsafe { abi_c_layout(input.as_ptr(), input.len(), output.as_mut_ptr(), output.len(), &mut needed) };
+    (status, needed)
+}
+
+/// Asks for a map.
+pub(crate) fn map(input: &[u8], output: &mut [u8]) -> (u8, usize) {
+    let mut needed = 0;
+    // SAFETY: as in `layout`, whose declaration this call shares.
+    let status = unsafe { abi_c_map(input.as_ptr(), input.len(), output.as_mut_ptr(), output.len(), &mut needed) };
+    (status, needed)
+}
+
+/// The whole answer of a call.
+pub(crate) fn asked(call: Call, input: &[u8]) -> Answer {
+    let mut output = vec![0; ROOM];
+    loop {
+        let (status, needed) = call(input, &mut output);
+        if needed <= output.len() {
+            output.truncate(needed);
+            let text = String::from_utf8(output).expect("an answer is UTF-8");
+            return Answer { text, status };
+        }
+        // (nothing was written: once more, with room for all)
+        output.resize(needed, 0);
+    }
+}

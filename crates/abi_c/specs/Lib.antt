@@ -1,0 +1,2 @@
+-- what a call leaves in the memory that its caller lent
+pub mod Lent

@@ -1,0 +1,66 @@
+//! Type layouts, for C and for what calls as C does. `docs/EMBEDDING.md` has how to link it.
+#![tactic(auto)]
+
+// Texts in memory that a caller lends.
+mod lend;
+
+ghost use Rattle.std.specs.Prelude.{◌≡◌, ℕ, List};
+ghost use Rattle.abi_text.specs.Output.{IsOutputOf, Output};
+ghost use Rattle.abi_text.specs.Telling.{TellsLayout};
+ghost use Rattle.abi_map.specs.Map.{TellsMap};
+ghost use Rattle.abi_c.specs.Lent.{IsLentAnswer};
+
+use crate::lend::lend;
+use abi_map::MapText;
+use abi_text::{LayoutText, Telling, answer_input};
+use std::alloc::Global;
+
+/// Lends the answer to an input, of whose type `T` tells, and answers its status.
+fn tell<T: Telling>(alloc: Global, input: &[u8], output: &mut [u8], needed: &mut usize) -> u8
+    ensures { IsLentAnswer (IsOutputOf T.tells input.now) result output.old output.new needed.new }
+{
+    match answer_input::<T>(alloc, input) {
+        Ok(answer) => {
+            lend(answer.text.as_bytes(), output, needed);
+            answer.status
+        }
+        Err(_) => {
+            lend(b"refused OutOfMemory\n", output, needed);
+            1
+        }
+    }
+}
+
+/// Answers what the program `layout` writes for an input, a data layout string and a type, a line each, and its status:
+/// 0 for a type with a layout, 1 for one that is refused, 2 for a text that can't be read.
+///
+/// `needed` is the length of the text in bytes. It stands at the front of `output` where it fits, and nothing behind it
+/// changes; else `output` stays as it was. Where memory is wanting the text is `refused OutOfMemory`, and the status 1.
+#[unsafe(no_mangle)]
+pub extern "C" fn abi_c_layout(
+    alloc: Global,
+    input: &[u8],
+    output: &mut [u8],
+    needed: &mut usize,
+) -> u8
+    ensures answered { IsLentAnswer (IsOutputOf TellsLayout input.now) result output.old output.new needed.new }
+    ensures some { (all : List ℕ) → (o : Output) × IsOutputOf TellsLayout all o }
+    ensures one { (all : List ℕ) (a b : Output) → IsOutputOf TellsLayout all a → IsOutputOf TellsLayout all b → a ≡ b }
+{
+    tell::<LayoutText>(alloc, input, output, needed)
+}
+
+/// Answers what the program `map` writes for an input, as `abi_c_layout` does of `layout`.
+#[unsafe(no_mangle)]
+pub extern "C" fn abi_c_map(
+    alloc: Global,
+    input: &[u8],
+    output: &mut [u8],
+    needed: &mut usize,
+) -> u8
+    ensures answered { IsLentAnswer (IsOutputOf TellsMap input.now) result output.old output.new needed.new }
+    ensures some { (all : List ℕ) → (o : Output) × IsOutputOf TellsMap all o }
+    ensures one { (all : List ℕ) (a b : Output) → IsOutputOf TellsMap all a → IsOutputOf TellsMap all b → a ≡ b }
+{
+    tell::<MapText>(alloc, input, output, needed)
+}

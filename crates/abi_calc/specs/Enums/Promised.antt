@@ -1,0 +1,82 @@
+-- What is told of a struct or an enum: of a type that is the list of its fields, and of one of several variants.
+use Rattle.std.specs.Prelude.{◌≡◌, ◌⊎◌, ℕ, All, Bool, Err, IfErr, IfOk, IsSome, IsTrue, List, None, Option, Result, ℤ, false, map}
+use Rattle.std.specs.Iterator.Runs.{EachRunFrom, WholeRun}
+use Rattle.std.specs.List.{list_all}
+use Rattle.abi_base.specs.declared.data_layout.TargetDataLayout.{TargetDataLayout}
+use Rattle.abi_base.specs.declared.integer.Integer.{Integer}
+use Rattle.abi_base.specs.declared.niche_optimizations.NicheOptimizations.{NicheOptimizations}
+use Rattle.abi_base.specs.declared.struct_kind.StructKind.{StructKind}
+use Rattle.abi_scalar.specs.declared.error.LayoutCalculatorError.{LayoutCalculatorError}
+use Rattle.abi_scalar.specs.declared.error.LayoutCalculatorError.TheVariants.{OutOfMemory, ReprConflict, SizeOverflow}
+use Rattle.abi_scalar.specs.declared.layout_data.LayoutData.{LayoutData}
+use Rattle.abi_scalar.specs.declared.repr.ReprOptions.{ReprOptions}
+use Rattle.abi_scalar.specs.declared.variants.RangeFrom.{RangeFrom}
+use Rattle.abi_scalar.specs.declared.variants.RangeToInclusive.{RangeToInclusive}
+use Rattle.abi_scalar.specs.Variant.{variants_of}
+use Rattle.abi_lists.specs.Answer.{IsAnswer}
+use Rattle.abi_lists.specs.Least.{IsEachOrderTooLarge}
+use Rattle.abi_lists.specs.List.{AreSized}
+use Rattle.abi_lists.specs.Part.{is_unsized}
+use Rattle.abi_calc.specs.Enums.Answer.{IsGoodSingle}
+use Rattle.abi_calc.specs.Enums.Beside.{AreToldApart}
+use Rattle.abi_calc.specs.Enums.Discriminants.{counting_of}
+use Rattle.abi_calc.specs.Enums.Made.{AreVariantsAligned, HasLeastTag, IsMadeOfLists}
+use Rattle.abi_calc.specs.Enums.Path.{has_no_value}
+use Rattle.abi_calc.specs.Enums.Several.{HasEnumSize, IsAlwaysTooLarge, IsAskedTooLarge}
+use Rattle.abi_calc.specs.Ordered.{IsOrderedWhole, IsTagField}
+use Rattle.abi_calc.specs.Seen.{IsSeenAsList}
+
+-- A type that is one list is laid out and refused as `layout_of_univariant` does it. `index` is that of its variant.
+pub record IsListedType {F V H : Type 0} (layout_of : H → LayoutData F V) (at : ℕ → F) (number : F → ℕ) (index : V)
+    (dl : TargetDataLayout) (repr : ReprOptions) (optimizations : NicheOptimizations) (kind : StructKind) (fields : List H)
+    (result : Result (LayoutData F V) (LayoutCalculatorError H)) : Type 0 where
+  pub good : IfOk result (IsGoodSingle layout_of at number dl repr kind fields)
+  -- It has one variant, and the niche, the view and the marks of the list, where niches may be used.
+  pub seen : IfOk result (IsSeenAsList index dl repr kind optimizations (map layout_of fields))
+  -- It is refused for its size only where every allowed order is too large, and a list of sized fields always then; sized fields
+  -- are refused by no other name.
+  pub too_large : result ≡ Err SizeOverflow → IsEachOrderTooLarge dl repr kind (map layout_of fields)
+  pub refused : AreSized (map layout_of fields) → IsEachOrderTooLarge dl repr kind (map layout_of fields) →
+      IsAnswer (Err SizeOverflow) result
+  pub no_other : AreSized (map layout_of fields) → IfErr result (λ e. (e ≡ SizeOverflow) ⊎ (e ≡ OutOfMemory))
+
+-- What holds of the layout of several variants, whatever their discriminants are.
+pub record IsGoodEnum {F V : Type 0} (number : F → ℕ) (layouts : List (List (LayoutData F V))) (layout : LayoutData F V) : Type 0 where
+  -- It has no values where none of the variants may have one, and is sized.
+  pub uninhabited : layout.uninhabited ≡ list_all has_no_value layouts
+  pub sized : is_unsized layout.backend_repr ≡ false
+  -- The tag is field 0, fields lie at multiples of their alignments, and memory order never steps back.
+  pub tag_field : IsTagField number 0 layout.variants
+  pub aligned : AreVariantsAligned layouts (variants_of layout.variants)
+  pub ordered : IsOrderedWhole number layout
+
+-- The answer to several variants. `first` is the index of the first variant and `place` tells the number of one; `asks` tells the
+-- tag's integer, and `gives`, from `given` on, the discriminants.
+pub record AreSeveralVariants {F V H S : Type 0} (layout_of : H → LayoutData F V) (at : ℕ → F) (number : F → ℕ) (first : V) (place : V → ℕ)
+    (dl : TargetDataLayout) (repr : ReprOptions) (asks : RangeFrom ℤ → RangeToInclusive ℕ → Integer × Bool → Type 0)
+    (gives : S → Option (V × ℕ) → S → Type 0) (given : S) (variants : List (List H))
+    (result : Result (LayoutData F V) (LayoutCalculatorError H)) : Type 0 where
+  pub good : IfOk result (IsGoodEnum number (map (map layout_of) variants))
+  -- They are told apart by a tag of its own, behind which their fields lie, or by a niche of the untagged one.
+  pub told : IfOk result (λ l. WholeRun gives given (λ run. AreToldApart dl place (map (map layout_of) variants) run.items l))
+  -- Each variant is laid out as a list, in an allowed order of the least size; the alignment is the greatest of these lists', and
+  -- the marks are theirs.
+  pub made : IfOk result (λ l. WholeRun gives given (λ run.
+      IsMadeOfLists at place dl repr asks (counting_of place repr (map (map layout_of) variants) run.items) (map (map layout_of) variants) l))
+  -- A tag of its own holds the least range of the discriminants that count.
+  pub tag : IfOk result (λ l. WholeRun gives given (λ run.
+      HasLeastTag (counting_of place repr (map (map layout_of) variants) run.items) l.variants))
+  -- The size is that of the variants' always sized lists where these leave room for a niche, else the tagged size.
+  pub size : IfOk result (λ l. WholeRun gives given (λ run.
+      HasEnumSize layout_of at first dl repr asks (counting_of place repr (map (map layout_of) variants) run.items) variants l.size))
+  -- They are refused where they are packed, and for their size only where a list behind the tag, or the tagged size, is too large,
+  -- and sized fields always then; sized fields are refused by no other name.
+  pub packed : IsSome repr.pack → result ≡ Err ReprConflict
+  pub too_large : result ≡ Err SizeOverflow → WholeRun gives given (λ run.
+      IsAskedTooLarge dl repr asks (counting_of place repr (map (map layout_of) variants) run.items) (map (map layout_of) variants))
+  pub refused : repr.pack ≡ None → All AreSized (map (map layout_of) variants) →
+      EachRunFrom gives given (λ run. IsTrue run.whole →
+      IsAlwaysTooLarge dl repr asks (counting_of place repr (map (map layout_of) variants) run.items) (map (map layout_of) variants)) →
+      IsAnswer (Err SizeOverflow) result
+  pub no_other : repr.pack ≡ None → All AreSized (map (map layout_of) variants) →
+      IfErr result (λ e. (e ≡ SizeOverflow) ⊎ (e ≡ OutOfMemory))

@@ -1,0 +1,67 @@
+-- The map of a type: a line for each maximal run of bytes that the same parts have.
+use Rattle.std.specs.Prelude.{◌≡◌, ℕ, ◌+◌, List, [], ◌∷◌, ◌++◌, codes, get_or, map, nat_lt, Option, None, Some, if◌then◌else◌}
+use Rattle.std.specs.Fmt.{decimal}
+use Rattle.std.specs.List.{filter}
+use Rattle.abi_base.specs.declared.data_layout.TargetDataLayout.{TargetDataLayout}
+use Rattle.abi_scalar.specs.declared.niche.Niche.{Niche}
+use Rattle.abi_scalar.specs.Niche.{available_in, niche_size}
+use Rattle.abi_types.specs.Ty.Typed.{Typed, layout_in}
+use Rattle.abi_laid.specs.Placed.{Placed}
+use Rattle.abi_laid.specs.Seen.{Sees}
+use Rattle.abi_text.specs.Printing.{size_line}
+use Rattle.abi_map.specs.declared.part.Name.{Name}
+use Rattle.abi_map.specs.declared.part.Name.TheVariants.{Number, Elements, Lanes, Field, Tag, VariantField}
+use Rattle.abi_map.specs.Parts.{Part, parts_of}
+use Rattle.abi_map.specs.Starts.{starts_of}
+
+-- the names of the parts that have a byte
+abbrev pub names_at : List Part → (k : ℕ) → List Name
+names_at parts k = map (λ part. part.name) (filter (λ part. part.has k) parts)
+
+-- how a part is called
+abbrev pub name_text : Name → List ℕ
+name_text Number = codes "number"
+name_text Elements = codes "elements"
+name_text Lanes = codes "lanes"
+name_text (Field i) = codes "field " ++ decimal i
+name_text Tag = codes "tag"
+name_text (VariantField v i) = codes "variant " ++ decimal v ++ codes " field " ++ decimal i
+
+-- names behind others
+abbrev pub more_names : List Name → List ℕ
+more_names [] = []
+more_names (n ∷ names) = codes " | " ++ name_text n ++ more_names names
+
+-- names in a row; what has none is padding
+abbrev pub names_text : List Name → List ℕ
+names_text [] = codes "padding"
+names_text (n ∷ names) = name_text n ++ more_names names
+
+-- a run from a byte on up to another and without it
+abbrev pub run_line : (start end : ℕ) → List Name → List ℕ
+run_line start end names = decimal start ++ codes ".." ++ decimal end ++ codes " " ++ names_text names ++ codes "\n"
+
+-- the runs that begin at these bytes: each ends where the next begins, and the last at the size
+abbrev pub run_lines : List Part → (size : ℕ) → (starts : List ℕ) → List ℕ
+run_lines parts size [] = []
+run_lines parts size (start ∷ starts) = run_line start (get_or starts 0 size) (names_at parts start) ++ run_lines parts size starts
+
+-- all runs, of a type of at most 2 ^ 16 bytes
+abbrev pub bytes_text : Typed → List ℕ
+bytes_text t =
+    if nat_lt 65536 (layout_in t).size then codes "not drawn\n"
+    else run_lines (parts_of t) (layout_in t).size (starts_of (parts_of t) (layout_in t).size)
+
+-- the bytes of the largest niche, and how many numbers it has free
+abbrev pub niche_text : TargetDataLayout → Option Niche → List ℕ
+niche_text dl None = codes "niche none\n"
+niche_text dl (Some n) =
+    codes "niche " ++ decimal n.offset ++ codes ".." ++ decimal (n.offset + niche_size dl n) ++ codes " " ++ decimal (available_in dl n) ++ codes " free\n"
+
+-- all that is told of a type
+abbrev pub map_text : TargetDataLayout → Typed → List ℕ
+map_text dl t = size_line (layout_in t) ++ bytes_text t ++ niche_text dl (layout_in t).largest_niche
+
+-- the text is the map of the type, as handles see it
+abbrev pub TellsMap : TargetDataLayout → Placed → (text : List ℕ) → Type 0
+TellsMap dl placed text = (t : Typed) × Sees t placed × (text ≡ map_text dl t)

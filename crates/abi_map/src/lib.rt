@@ -1,0 +1,16 @@
+//! Maps of types: which parts of a type have each of its bytes, as lines of text. `docs/FORMATS.md` has the format.
+#![tactic(auto)]
+
+// Parts of a type, and where runs of their bytes begin.
+mod covering;
+mod part;
+mod parts;
+mod starts;
+
+// The map as text, and programs that tell it.
+mod map_text;
+mod print;
+mod run;
+
+pub use map_text::MapText;
+pub use run::run_map;

@@ -1,0 +1,39 @@
+//! The map of a type as text.
+
+ghost use Rattle.std.specs.Prelude.{◌≡◌, IfOk, string_bytes};
+ghost use Rattle.abi_laid.specs.Laid.{typed_of};
+ghost use Rattle.abi_text.specs.LaidOut.{IsLaidOut};
+ghost use Rattle.abi_map.specs.Map.{map_text};
+
+use crate::print::{write_bytes, write_niche};
+use abi_base::TargetDataLayout;
+use abi_laid::Laid;
+use abi_text::{Telling, write_size};
+use std::alloc::{AllocError, Global};
+
+/// A type is told by a map of its bytes.
+pub struct MapText;
+
+impl Telling for MapText {
+    ghost use Rattle.abi_map.specs.Map.{TellsMap};
+
+    ghost tells = { TellsMap };
+
+    fn told(alloc: Global, dl: &TargetDataLayout, laid: &Laid) -> Result<String, AllocError> {
+        map_of(alloc, dl, laid)
+    }
+}
+
+/// The lines that tell what each byte of a type holds. `AllocError` where memory is refused.
+fn map_of(alloc: Global, dl: &TargetDataLayout, laid: &Laid) -> Result<String, AllocError>
+    requires { IsLaidOut dl.now laid.now }
+    ensures { IfOk result (λ text. string_bytes text ≡ map_text dl.now (typed_of laid.now)) }
+{
+    let root = laid.root();
+    let layout = root.data();
+    let mut text = String::new(alloc);
+    write_size(&mut text, layout)?;
+    write_bytes(alloc, &mut text, root)?;
+    write_niche(&mut text, dl, layout.largest_niche)?;
+    Ok(text)
+}

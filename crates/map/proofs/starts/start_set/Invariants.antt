@@ -1,6 +1,0 @@
-use Rattle.std.proofs.Common.{take}
-use Rattle.map.proofs.StartLemmas.{HasStarts}
-use Rattle.map.proofs.starts.start_set.Given as goal
-
-abbrev pub invariant-loop-part : goal.invariant-loop-part
-invariant-loop-part l = HasStarts l.size (take l.part-index l.parts) l.runs

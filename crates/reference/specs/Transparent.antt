@@ -1,0 +1,46 @@
+-- `repr.transparent.layout-abi`: a transparent struct, or enum of one variant, is as large and as aligned as its one field that
+-- isn't of size 0 and alignment 1, or as unit. The chapter says the same of its niche and its view.
+use Rattle.std.specs.Prelude.{◌≡◌, ◌==◌, ◌&&◌, ⊤, Bool, false, true, List, [], ◌∷◌, None, if◌then◌else◌}
+use Rattle.abi_scalar.specs.declared.repr.ReprOptions.{ReprOptions}
+use Rattle.abi_scalar.specs.Repr.{is_c, is_transparent}
+use Rattle.abi_laid.specs.Tree.{Tree, no_variants, more_variants, struct, enum}
+use Rattle.abi_laid.specs.Placed.{Placed, Parts, no_parts, part, fields, never, single, size_of}
+use Rattle.reference.specs.Words.{Extent, align_of, extent_of}
+
+-- size 0 and alignment 1
+abbrev pub is_one_zst : Placed → Bool
+is_one_zst placed = (size_of placed == 0) && (align_of placed == 1)
+
+-- the other fields
+abbrev pub others : Parts → List Placed
+others no_parts = []
+others (part offset placed parts) = if is_one_zst placed then others parts else placed ∷ others parts
+
+abbrev pub unit_extent : Extent
+unit_extent = record { size = 0; align = 1 }
+
+-- as the one of these fields, or as unit where there is none; more of them the representation doesn't allow
+abbrev pub IsAsLargeAs : List Placed → (whole : Placed) → Type 0
+IsAsLargeAs [] whole = extent_of whole ≡ unit_extent
+IsAsLargeAs (field ∷ []) whole = extent_of whole ≡ extent_of field
+IsAsLargeAs _ whole = ⊤
+
+-- transparent, with neither `align` nor `packed`
+abbrev pub IsPlainTransparent : ReprOptions → Type 0
+IsPlainTransparent repr = (is_transparent repr ≡ true) × (repr.align ≡ None) × (repr.pack ≡ None)
+
+-- and with no other representation
+abbrev pub IsAlone : ReprOptions → Type 0
+IsAlone repr = (is_c repr ≡ false) × (repr.int ≡ None)
+
+-- an enum whose variant is absent is as unit: each of its fields has size 0 and alignment 1
+abbrev pub IsTransparent : Tree → Placed → Type 0
+IsTransparent (struct repr always_sized order all) (fields layout mark parts) =
+    IsPlainTransparent repr → IsAsLargeAs (others parts) (fields layout mark parts)
+IsTransparent (struct repr always_sized order all) _ = IsPlainTransparent repr → ⊥
+IsTransparent (enum repr (more_variants discriminant ts no_variants)) (single layout mark index parts) =
+    IsPlainTransparent repr → IsAlone repr → IsAsLargeAs (others parts) (single layout mark index parts)
+IsTransparent (enum repr (more_variants discriminant ts no_variants)) (never layout mark) =
+    IsPlainTransparent repr → IsAlone repr → extent_of (never layout mark) ≡ unit_extent
+IsTransparent (enum repr (more_variants discriminant ts no_variants)) _ = IsPlainTransparent repr → IsAlone repr → ⊥
+IsTransparent _ placed = ⊤
