@@ -4,10 +4,10 @@ use Rattle.std.specs.Prelude.{not, codes}
 use Rattle.std.specs.Str.{bytes_eq}
 use Rattle.abi_base.specs.declared.endian.Endian.TheVariants.{Little, Big}
 use Rattle.abi_base.specs.declared.setting.AlignedWord.{AlignedWord}
-use Rattle.abi_base.specs.DataLayoutSpec.{order, instructions, aligned, pointer, integer, vector, ignored, aligned_word, begins, has_parts, lettered_row, parts_of, row_of, setting_in, setting_of}
+use Rattle.abi_base.specs.DataLayoutSpec.{order, instructions, aligned, pointer, integer, vector, ignored, aligned_word, begins, has_parts, lettered_row, spec_parts, row_of, setting_in, setting_of}
 
 -- a spec, by its first part and the others
-pub setting_first : (spec word : List ℕ) (parts : List (List ℕ)) → parts_of 58 spec ≡ word ∷ parts → setting_of spec ≡ setting_in (row_of word parts)
+pub setting_first : (spec word : List ℕ) (parts : List (List ℕ)) → spec_parts 58 spec ≡ word ∷ parts → setting_of spec ≡ setting_in (row_of word parts)
 unfolding setting_of
 setting_first spec word parts e = rw e refl
 

@@ -8,8 +8,8 @@ use Rattle.abi_base.specs.declared.setting.Setting.{Setting}
 use Rattle.abi_base.specs.declared.setting.Setting.TheVariants.{Order, Instructions, Aligned, Pointer, Integer, Vector, Nothing}
 use Rattle.abi_base.specs.declared.data_layout.TargetDataLayout.{TargetDataLayout}
 use Rattle.abi_base.specs.DataLayout.{same_space}
-use Rattle.abi_base.specs.DataLayoutText.{integer_set, last_of, pointers_set, put_space, put_vector, spaces_after, wide_bits, wider, widest, with_settings}
-use Rattle.abi_base.specs.Setting.{IsWide, with_integer}
+use Rattle.abi_base.specs.DataLayoutText.{integer_set, last_said, pointers_set, put_space, put_vector, spaces_after, wide_bits, wider, widest, with_settings}
+use Rattle.abi_base.specs.Setting.{IsWidthOfLong, with_integer}
 
 pub wider_least : (o : Option ℕ) (n : ℕ) → n ≤ wider o n
 wider_least None n = omega arith
@@ -76,15 +76,15 @@ set_here most Nothing e a b = (cc)
 set_here most (Integer width align) e a b = here_at width most align a b (width == most) refl (wide_cases width most (nat_le 64 width) (nat_le width 128) e)
 
 -- an alignment of the greatest width is found where that is not the least one
-found : (least most : ℕ) (ss : List Setting) → widest least ss ≡ most → most ≢ least → (a b : ℕ) → last_of (integer_set most) ss a ≡ last_of (integer_set most) ss b
+found : (least most : ℕ) (ss : List Setting) → widest least ss ≡ most → most ≢ least → (a b : ℕ) → last_said (integer_set most) ss a ≡ last_said (integer_set most) ss b
 found least most [] e ne a b = absurd (ne (sym e))
 found least most (s ∷ ss) e ne a b = elim (wider_is (wide_bits s) (widest least ss) most e) [
-  | inl here ↦ ap (last_of (integer_set most) ss) (set_here most s here a b)
+  | inl here ↦ ap (last_said (integer_set most) ss) (set_here most s here a b)
   | inr later ↦ found least most ss later ne (unwrap_or (integer_set most s) a) (unwrap_or (integer_set most s) b)
 ]
 
 taken_at : (most bits align a : ℕ) (ss : List Setting) (t : Bool) → (bits == most) ≡ t → widest bits ss ≡ most
-    → last_of (integer_set most) ss align ≡ last_of (integer_set most) ss (unwrap_or (integer_set most (Integer bits align)) a)
+    → last_said (integer_set most) ss align ≡ last_said (integer_set most) ss (unwrap_or (integer_set most (Integer bits align)) a)
 taken_at most bits align a ss true e w = rw e refl
 taken_at most bits align a ss false e w =
     let ne : most ≢ bits = grind (arith, nat_tests) in
@@ -106,16 +106,16 @@ other_at : (bits most least : ℕ) → (bits < least) ⊎ (128 < bits) → least
 other_at bits most least (inl h) low high = let ne : bits ≢ most = omega (arith, h, low) in grind (arith, nat_tests)
 other_at bits most least (inr h) low high = let ne : bits ≢ most = omega (arith, h, high) in grind (arith, nat_tests)
 
-left_at : (most other bits align a : ℕ) (ss : List Setting) → other ≡ most → (bits == most) ≡ false → last_of (integer_set most) ss a ≡ last_of (integer_set other) ss (unwrap_or (integer_set other (Integer bits align)) a)
+left_at : (most other bits align a : ℕ) (ss : List Setting) → other ≡ most → (bits == most) ≡ false → last_said (integer_set most) ss a ≡ last_said (integer_set other) ss (unwrap_or (integer_set other (Integer bits align)) a)
 left_at most other bits align a ss same e = rw (same, e) refl
 
-module _ (dl : TargetDataLayout) (least bits align : ℕ) (wide : IsWide least) (ss : List Setting) where
+module _ (dl : TargetDataLayout) (least bits align : ℕ) (wide : IsWidthOfLong least) (ss : List Setting) where
   -- the alignment of 128 bits is this one's or that of a later one
   pub integer_taken : least ≤ bits → bits ≤ 128 → with_settings (record (with_integer dl bits align) { i128_align = align }) bits ss ≡ with_settings dl least (Integer bits align ∷ ss)
   integer_taken low high =
       let same : widest bits ss ≡ widest least (Integer bits align ∷ ss) = sym (widest_above least bits ss low) ∙ sym (wide_is bits (widest least ss) (omega (arith, wide.0, low)) high) in
       ap (λ (a : ℕ). record (with_settings dl least (Integer bits align ∷ ss)) { i128_align = a })
-      (ap (λ m. last_of (integer_set m) ss align) same ∙ taken_at (widest least (Integer bits align ∷ ss)) bits align dl.i128_align ss (bits == widest least (Integer bits align ∷ ss)) refl same)
+      (ap (λ m. last_said (integer_set m) ss align) same ∙ taken_at (widest least (Integer bits align ∷ ss)) bits align dl.i128_align ss (bits == widest least (Integer bits align ∷ ss)) refl same)
 
   -- or stays with the later ones, or with what it was
   pub integer_left : (bits < least) ⊎ (128 < bits) → with_settings (with_integer dl bits align) least ss ≡ with_settings dl least (Integer bits align ∷ ss)
@@ -142,7 +142,7 @@ module _ (dl : TargetDataLayout) (least : ℕ) where
 
   pointers_at : (space : AddressSpace) (spec : PointerSpec) (ss : List Setting) → Bool → TargetDataLayout
   pointers_at space spec ss t = record (with_settings dl least (Pointer space spec ∷ ss)) {
-    default_address_space_pointer_spec = last_of (pointers_set dl.default_address_space) ss (unwrap_or (if t then Some spec else None) dl.default_address_space_pointer_spec);
+    default_address_space_pointer_spec = last_said (pointers_set dl.default_address_space) ss (unwrap_or (if t then Some spec else None) dl.default_address_space_pointer_spec);
     address_space_info = spaces_after dl.default_address_space (if t then dl.address_space_info else put_space space spec dl.address_space_info) ss;
   }
 

@@ -11,7 +11,7 @@ use Rattle.abi_base.specs.declared.integer.Integer.TheVariants.{I16, I32, I64}
 use Rattle.abi_base.specs.declared.endian.Endian.TheVariants.{Big}
 use Rattle.abi_base.specs.declared.float.Float.{Float}
 use Rattle.abi_base.specs.Align.{max_exponent, next_exponent}
-use Rattle.abi_base.specs.KeyedList.{value_of}
+use Rattle.abi_base.specs.KeyedList.{entry_value}
 use Rattle.abi_base.specs.Integer.{integer_size, integer_align}
 use Rattle.abi_base.specs.Float.{float_size, float_align}
 
@@ -21,7 +21,7 @@ same_space = on (λ space. space.0) nat_eq
 
 -- the entry of a space other than the default one, if there is one
 abbrev pub entry_of : List (AddressSpace × PointerSpec) → AddressSpace → Option PointerSpec
-entry_of entries space = value_of same_space entries space
+entry_of entries space = entry_value same_space entries space
 
 -- how the pointers of a space are represented, if the data layout knows it
 abbrev pub known_spec : TargetDataLayout → AddressSpace → Option PointerSpec
@@ -56,7 +56,7 @@ index_integer bytes = if bytes == 2 then I16 else (if bytes == 4 then I32 else I
 
 -- the listed alignment of vectors of a size
 abbrev pub listed_align : List (ℕ × ℕ) → ℕ → Option ℕ
-listed_align entries size = value_of nat_eq entries size
+listed_align entries size = entry_value nat_eq entries size
 
 -- the alignment of vectors of a size: the listed one, else the next power of two
 abbrev pub vector_align_of : TargetDataLayout → ℕ → ℕ

@@ -19,18 +19,18 @@ pub data Fault : Type 0 where
   unknown_pointer : (rest : List ℕ) → Fault
 
 -- the error tells the fault that is the answer, or memory was wanting
-abbrev pub IsRefusal : {A : Type 0} → Result A Fault → TargetDataLayoutError → Type 0
-IsRefusal answer (InvalidAddressSpace text cause err) = answer ≡ Err (bad_space text.now cause.now err)
-IsRefusal answer (InvalidBits kind text cause err) = answer ≡ Err (bad_bits kind.now text.now cause.now err)
-IsRefusal answer (MissingAlignment cause) = answer ≡ Err (missing_alignment cause.now)
-IsRefusal answer (InvalidAlignment cause err) = answer ≡ Err (bad_alignment cause.now err)
-IsRefusal answer (UnknownPointerSpecification rest) = answer ≡ Err (unknown_pointer rest.now)
-IsRefusal answer (InconsistentTargetArchitecture dl target) = ⊥
-IsRefusal answer (InconsistentTargetPointerWidth pointer_size target) = ⊥
-IsRefusal answer (InvalidBitsSize err) = ⊥
-IsRefusal answer OutOfMemory = ⊤
+abbrev pub TellsFault : {A : Type 0} → Result A Fault → TargetDataLayoutError → Type 0
+TellsFault answer (InvalidAddressSpace text cause err) = answer ≡ Err (bad_space text.now cause.now err)
+TellsFault answer (InvalidBits kind text cause err) = answer ≡ Err (bad_bits kind.now text.now cause.now err)
+TellsFault answer (MissingAlignment cause) = answer ≡ Err (missing_alignment cause.now)
+TellsFault answer (InvalidAlignment cause err) = answer ≡ Err (bad_alignment cause.now err)
+TellsFault answer (UnknownPointerSpecification rest) = answer ≡ Err (unknown_pointer rest.now)
+TellsFault answer (InconsistentTargetArchitecture dl target) = ⊥
+TellsFault answer (InconsistentTargetPointerWidth pointer_size target) = ⊥
+TellsFault answer (InvalidBitsSize err) = ⊥
+TellsFault answer OutOfMemory = ⊤
 
 -- the result is the answer, want of memory aside
 abbrev pub IsReading : {A : Type 0} → Result A Fault → Result A TargetDataLayoutError → Type 0
 IsReading answer (Ok x) = answer ≡ Ok x
-IsReading answer (Err error) = IsRefusal answer error
+IsReading answer (Err error) = TellsFault answer error

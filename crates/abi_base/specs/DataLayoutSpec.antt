@@ -16,13 +16,13 @@ use Rattle.abi_base.specs.DataLayoutFault.{Fault, bad_space, bad_bits, missing_a
 use Rattle.abi_base.specs.NumberText.{number_answer}
 
 -- the parts of a text between marks
-abbrev pub parts_of : (mark : ℕ) → List ℕ → List (List ℕ)
-parts_of mark text = slice_split (λ b. b == mark) text
+abbrev pub spec_parts : (mark : ℕ) → List ℕ → List (List ℕ)
+spec_parts mark text = slice_split (λ b. b == mark) text
 
 -- the parts that are left, if any are
-abbrev pub parts_left : (mark : ℕ) → Option (List ℕ) → List (List ℕ)
-parts_left mark None = []
-parts_left mark (Some text) = parts_of mark text
+abbrev pub spec_parts_left : (mark : ℕ) → Option (List ℕ) → List (List ℕ)
+spec_parts_left mark None = []
+spec_parts_left mark (Some text) = spec_parts mark text
 
 -- the text begins with the byte
 abbrev pub begins : (b : ℕ) → List ℕ → Bool
@@ -178,7 +178,7 @@ setting_of_parts (word ∷ parts) = setting_in (row_of word parts)
 
 -- what a spec sets, or its first fault
 unfoldable pub setting_of : List ℕ → Result Setting Fault
-setting_of spec = setting_of_parts (parts_of 58 spec)
+setting_of spec = setting_of_parts (spec_parts 58 spec)
 
 -- what each spec sets, or the fault of the first one that has any
 unfoldable pub settings_of : List (List ℕ) → Result (List Setting) Fault

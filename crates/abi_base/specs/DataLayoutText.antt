@@ -11,12 +11,12 @@ use Rattle.abi_base.specs.declared.setting.Setting.TheVariants.{Order, Instructi
 use Rattle.abi_base.specs.KeyedList.{put_entry}
 use Rattle.abi_base.specs.DataLayout.{default_data_layout, known_spec, same_space}
 use Rattle.abi_base.specs.DataLayoutFault.{Fault}
-use Rattle.abi_base.specs.DataLayoutSpec.{◌>>=◌, parts_of, settings_of}
+use Rattle.abi_base.specs.DataLayoutSpec.{◌>>=◌, spec_parts, settings_of}
 
 -- what the last setting says of those that say anything of a kind; where none does, the default
-abbrev pub last_of : {A : Type 0} → (Setting → Option A) → List Setting → A → A
-last_of says [] default = default
-last_of says (s ∷ ss) default = last_of says ss (unwrap_or (says s) default)
+abbrev pub last_said : {A : Type 0} → (Setting → Option A) → List Setting → A → A
+last_said says [] default = default
+last_said says (s ∷ ss) default = last_said says ss (unwrap_or (says s) default)
 
 -- the byte order that is set
 abbrev pub order_set : Setting → Option Endian
@@ -92,23 +92,23 @@ spaces_after default entries (s ∷ ss) = spaces_after default entries ss
 -- least width doesn't count.
 abbrev pub with_settings : TargetDataLayout → (least : ℕ) → List Setting → TargetDataLayout
 with_settings dl least ss = record {
-  endian = last_of order_set ss dl.endian;
-  i1_align = last_of (integer_set 1) ss dl.i1_align;
-  i8_align = last_of (integer_set 8) ss dl.i8_align;
-  i16_align = last_of (integer_set 16) ss dl.i16_align;
-  i32_align = last_of (integer_set 32) ss dl.i32_align;
-  i64_align = last_of (integer_set 64) ss dl.i64_align;
-  i128_align = last_of (integer_set (widest least ss)) ss dl.i128_align;
-  f16_align = last_of (word_set F16) ss dl.f16_align;
-  f32_align = last_of (word_set F32) ss dl.f32_align;
-  f64_align = last_of (word_set F64) ss dl.f64_align;
-  f128_align = last_of (word_set F128) ss dl.f128_align;
-  aggregate_align = last_of (word_set Aggregate) ss dl.aggregate_align;
+  endian = last_said order_set ss dl.endian;
+  i1_align = last_said (integer_set 1) ss dl.i1_align;
+  i8_align = last_said (integer_set 8) ss dl.i8_align;
+  i16_align = last_said (integer_set 16) ss dl.i16_align;
+  i32_align = last_said (integer_set 32) ss dl.i32_align;
+  i64_align = last_said (integer_set 64) ss dl.i64_align;
+  i128_align = last_said (integer_set (widest least ss)) ss dl.i128_align;
+  f16_align = last_said (word_set F16) ss dl.f16_align;
+  f32_align = last_said (word_set F32) ss dl.f32_align;
+  f64_align = last_said (word_set F64) ss dl.f64_align;
+  f128_align = last_said (word_set F128) ss dl.f128_align;
+  aggregate_align = last_said (word_set Aggregate) ss dl.aggregate_align;
   vector_align = vectors_after dl.vector_align ss;
   default_address_space = dl.default_address_space;
-  default_address_space_pointer_spec = last_of (pointers_set dl.default_address_space) ss dl.default_address_space_pointer_spec;
+  default_address_space_pointer_spec = last_said (pointers_set dl.default_address_space) ss dl.default_address_space_pointer_spec;
   address_space_info = spaces_after dl.default_address_space dl.address_space_info ss;
-  instruction_address_space = last_of instructions_set ss dl.instruction_address_space;
+  instruction_address_space = last_said instructions_set ss dl.instruction_address_space;
   c_enum_min_size = dl.c_enum_min_size;
 }
 
@@ -125,5 +125,5 @@ default_with space = record default_data_layout { default_address_space = space 
 -- What the text means: the data layout of its specs, or the fault of the first spec that has one.
 unfoldable pub data_layout_in : AddressSpace → List ℕ → Result TargetDataLayout Fault
 data_layout_in space text = do
-  settings ← settings_of (parts_of 45 text)
+  settings ← settings_of (spec_parts 45 text)
   Ok (with_instructions (with_settings (default_with space) 64 settings))

@@ -1,5 +1,5 @@
 -- Integer types.
-use Rattle.std.specs.Prelude.{ℕ, Bool, ◌==◌, ◌&&◌, nat_le, ◌-◌, ◌*◌, ◌^◌, ◌<◌, List, [], ◌∷◌, ◌++◌, codes, ℤ, pos, neg_ℤ, ◌≤ℤ◌, ◌<ℤ◌}
+use Rattle.std.specs.Prelude.{ℕ, Bool, true, false, ◌==◌, ◌&&◌, nat_le, ◌-◌, ◌*◌, ◌^◌, ◌<◌, List, [], ◌∷◌, ◌++◌, codes, ℤ, pos, neg_ℤ, ◌≤ℤ◌, ◌<ℤ◌}
 use Rattle.std.specs.Fmt.{decimal}
 use Rattle.abi_base.specs.declared.integer.Integer.{Integer}
 use Rattle.abi_base.specs.declared.integer.Integer.TheVariants.{I8, I16, I32, I64, I128}
@@ -60,6 +60,11 @@ unsigned_text I16 = codes "u16"
 unsigned_text I32 = codes "u32"
 unsigned_text I64 = codes "u64"
 unsigned_text I128 = codes "u128"
+
+-- the name of an integer type
+abbrev pub integer_text : Integer → (signed : Bool) → List ℕ
+integer_text integer true = signed_text integer
+integer_text integer false = unsigned_text integer
 
 -- what is said where no integer has so many bits
 abbrev pub no_such_text : ℕ → List ℕ

@@ -13,6 +13,6 @@ numeric_size (Int integer signed) = integer_size integer
 numeric_size (Float float) = float_size float
 
 -- the primitive that it is
-abbrev pub primitive_of : Numeric → Primitive
-primitive_of (Int integer signed) = primitive.Int integer signed
-primitive_of (Float float) = primitive.Float float
+abbrev pub primitive_of_numeric : Numeric → Primitive
+primitive_of_numeric (Int integer signed) = primitive.Int integer signed
+primitive_of_numeric (Float float) = primitive.Float float

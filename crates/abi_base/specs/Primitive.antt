@@ -1,10 +1,10 @@
 -- Primitive types.
-use Rattle.std.specs.Prelude.{ℕ, ⊤, ◌==◌, true, false, List, ◌++◌, codes, if◌then◌else◌}
+use Rattle.std.specs.Prelude.{ℕ, ⊤, ◌==◌, List, ◌++◌, codes, if◌then◌else◌}
 use Rattle.std.specs.Fmt.{decimal}
 use Rattle.abi_base.specs.declared.primitive.Primitive.{Primitive}
 use Rattle.abi_base.specs.declared.primitive.Primitive.TheVariants.{Int, Float, Pointer}
 use Rattle.abi_base.specs.declared.data_layout.TargetDataLayout.{TargetDataLayout}
-use Rattle.abi_base.specs.Integer.{integer_size, integer_align, signed_text, unsigned_text}
+use Rattle.abi_base.specs.Integer.{integer_size, integer_align, integer_text}
 use Rattle.abi_base.specs.Float.{float_size, float_align, float_text}
 use Rattle.abi_base.specs.DataLayout.{Knows, HasLawfulPointer, pointer_spec_of}
 
@@ -32,7 +32,6 @@ IsLawfulPrimitive dl _ = ⊤
 
 -- its name; a pointer's tells the space where that is not 0
 abbrev pub primitive_text : Primitive → List ℕ
-primitive_text (Int integer true) = signed_text integer
-primitive_text (Int integer false) = unsigned_text integer
+primitive_text (Int integer signed) = integer_text integer signed
 primitive_text (Float float) = float_text float
 primitive_text (Pointer space) = if space.0 == 0 then codes "pointer" else codes "pointer(AddressSpace(" ++ decimal space.0 ++ codes "))"

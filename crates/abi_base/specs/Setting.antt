@@ -5,8 +5,8 @@ use Rattle.abi_base.specs.declared.setting.Setting.TheVariants.{Integer}
 use Rattle.abi_base.specs.DataLayoutText.{integer_set}
 
 -- the widths that the alignment of integers of 128 bits is taken from
-abbrev pub IsWide : ℕ → Type 0
-IsWide bits = (64 ≤ bits) × (bits ≤ 128)
+abbrev pub IsWidthOfLong : ℕ → Type 0
+IsWidthOfLong bits = (64 ≤ bits) × (bits ≤ 128)
 
 -- the alignment of integers of so many bits, where the width is one of 1 to 64 bits that have a field
 abbrev pub with_integer : TargetDataLayout → (bits align : ℕ) → TargetDataLayout

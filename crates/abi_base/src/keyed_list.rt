@@ -2,7 +2,7 @@
 
 ghost use Rattle.std.specs.Prelude.{◌≡◌, ◌<◌, ◌++◌, ◌∷◌, [], MatchOption, length, slice_set};
 ghost use Rattle.std.specs.Result.{OnErr, OnOk};
-ghost use Rattle.abi_base.specs.KeyedList.{value_of, put_entry};
+ghost use Rattle.abi_base.specs.KeyedList.{entry_value, put_entry};
 
 use std::alloc::{AllocError, Global};
 use std::fmt;
@@ -82,7 +82,7 @@ impl<K, V> KeyedList<K, V> {
 impl<K: PartialEq + Copy, V: Copy> KeyedList<K, V> {
     /// The value under the key, if there is one: the first of the key.
     pub fn get(&self, key: K) -> Option<V>
-        ensures { result ≡ value_of K.eq self.now key }
+        ensures { result ≡ entry_value K.eq self.now key }
     {
         for (listed, value) in &self.entries {
             if *listed == key {

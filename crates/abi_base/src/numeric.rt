@@ -1,7 +1,7 @@
 //! Numbers: integers and floats.
 
 ghost use Rattle.std.specs.Prelude.{◌≡◌};
-ghost use Rattle.abi_base.specs.Numeric.{numeric_size, primitive_of};
+ghost use Rattle.abi_base.specs.Numeric.{numeric_size, primitive_of_numeric};
 ghost use Rattle.abi_base.specs.RegKind.{reg_kind_of};
 
 use crate::float::Float;
@@ -32,7 +32,7 @@ impl Numeric {
 
     /// The kind of register that it is passed in, as its primitive is.
     pub fn reg_kind(self) -> RegKind
-        ensures { result ≡ reg_kind_of (primitive_of self) }
+        ensures { result ≡ reg_kind_of (primitive_of_numeric self) }
     {
         match self {
             Numeric::Int(integer, signed) => {

@@ -5,10 +5,10 @@ ghost use Rattle.std.specs.Result.{OnErr, OnOk};
 ghost use Rattle.abi_base.specs.declared.setting.Setting.{Setting};
 ghost use Rattle.abi_base.specs.declared.data_layout.TargetDataLayout.{TargetDataLayout};
 ghost use Rattle.abi_base.specs.DataLayout.{Knows};
-ghost use Rattle.abi_base.specs.DataLayoutFault.{IsRefusal};
+ghost use Rattle.abi_base.specs.DataLayoutFault.{TellsFault};
 ghost use Rattle.abi_base.specs.declared.setting.Setting.TheVariants.{Aligned, Integer, Pointer};
 ghost use Rattle.abi_base.specs.DataLayoutText.{data_layout_in, default_with, with_instructions, with_settings};
-ghost use Rattle.abi_base.specs.Setting.{IsWide, with_integer};
+ghost use Rattle.abi_base.specs.Setting.{IsWidthOfLong, with_integer};
 
 use crate::address_space::AddressSpace;
 use crate::align::Align;
@@ -63,11 +63,11 @@ impl Reading {
 
     /// The alignment of integers of so many bits.
     fn set_integer(&mut self, bits: u64, align: Align)
-        requires { IsWide self.old.widest }
+        requires { IsWidthOfLong self.old.widest }
         ensures one_more { (ss : List Setting) →
             with_settings self.new.dl self.new.widest ss ≡ with_settings self.old.dl self.old.widest
             (Integer bits align ∷ ss) }
-        ensures wide { IsWide self.new.widest }
+        ensures wide { IsWidthOfLong self.new.widest }
     {
         self.set_width(bits, align);
         if self.widest <= bits && bits <= 128 {
@@ -94,10 +94,10 @@ impl Reading {
 
     /// One spec more.
     fn set(&mut self, setting: Setting) -> Result<(), AllocError>
-        requires { IsWide self.old.widest }
+        requires { IsWidthOfLong self.old.widest }
         ensures one_more { OnOk result ((ss : List Setting) →
             with_settings self.new.dl self.new.widest ss ≡ with_settings self.old.dl self.old.widest (setting ∷ ss)) }
-        ensures wide { OnOk result (IsWide self.new.widest) }
+        ensures wide { OnOk result (IsWidthOfLong self.new.widest) }
         ensures err { OnErr result (self.new ≡ self.old) }
     {
         match setting {
@@ -154,7 +154,7 @@ impl TargetDataLayout {
         default_address_space: AddressSpace,
     ) -> Result<TargetDataLayout, TargetDataLayoutError<'a>>
         ensures ok { IfOk result (λ dl. data_layout_in default_address_space input.now ≡ Ok dl) }
-        ensures err { IfErr result (IsRefusal (data_layout_in default_address_space input.now)) }
+        ensures err { IfErr result (TellsFault (data_layout_in default_address_space input.now)) }
         ensures instructions { IfOk result (λ dl. Knows dl dl.instruction_address_space) }
     {
         let dl = TargetDataLayout::default_with(alloc, default_address_space)?;

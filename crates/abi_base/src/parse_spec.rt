@@ -4,7 +4,7 @@ ghost use Rattle.std.specs.Prelude.{◌≡◌, ◌∷◌, ◌<◌, slice_index};
 ghost use Rattle.std.specs.Option.{option_copied};
 ghost use Rattle.abi_base.specs.declared.endian.Endian.{Endian};
 ghost use Rattle.abi_base.specs.DataLayoutFault.{IsReading};
-ghost use Rattle.abi_base.specs.DataLayoutSpec.{aligned, aligned_word, alignment_in, bits_in, index_text, instructions, integer, lettered_row, parts_left, pointers_in, pointer_setting, pointer_space, row_of, space_text, setting_in, setting_of, size_in, space_in, vector};
+ghost use Rattle.abi_base.specs.DataLayoutSpec.{aligned, aligned_word, alignment_in, bits_in, index_text, instructions, integer, lettered_row, spec_parts_left, pointers_in, pointer_setting, pointer_space, row_of, space_text, setting_in, setting_of, size_in, space_in, vector};
 
 use crate::address_space::AddressSpace;
 use crate::align::Align;
@@ -41,7 +41,7 @@ fn size<'a>(text: &'a str, cause: &'a str) -> Result<Size, TargetDataLayoutError
 
 /// An alignment, written in bits: that of the first of the parts.
 fn alignment<'a>(parts: Option<&'a str>, cause: &'a str) -> Result<Align, TargetDataLayoutError<'a>>
-    ensures { IsReading (alignment_in (parts_left 58 (option_copied parts.entry)) cause.now) result }
+    ensures { IsReading (alignment_in (spec_parts_left 58 (option_copied parts.entry)) cause.now) result }
 {
     let Some(parts) = parts else {
         return Err(TargetDataLayoutError::MissingAlignment { cause });
@@ -83,7 +83,7 @@ fn pointer_space<'a>(text: &'a str) -> Result<AddressSpace, TargetDataLayoutErro
 /// those that follow the size.
 #[tactic(auto, using(crate::proofs::Parts::index_more, crate::proofs::Parts::left_next))]
 fn index_text<'a>(size: &'a str, parts: Option<&'a str>) -> &'a str
-    ensures { result.now ≡ index_text size.now (parts_left 58 (option_copied parts.entry)) }
+    ensures { result.now ≡ index_text size.now (spec_parts_left 58 (option_copied parts.entry)) }
 {
     let Some(parts) = parts else {
         return size;
@@ -108,7 +108,7 @@ fn pointers<'a>(
     bytes: &'a str,
     parts: Option<&'a str>,
 ) -> Result<Setting, TargetDataLayoutError<'a>>
-    ensures { IsReading (pointers_in is_fat space.now bytes.now (parts_left 58 (option_copied parts.entry))) result }
+    ensures { IsReading (pointers_in is_fat space.now bytes.now (spec_parts_left 58 (option_copied parts.entry))) result }
 {
     let space = pointer_space(space)?;
     let pointer_size = size(bytes, "p-")?;
@@ -137,7 +137,7 @@ fn pointer_spec<'a>(
     rest: &'a str,
     parts: Option<&'a str>,
 ) -> Result<Setting, TargetDataLayoutError<'a>>
-    ensures { IsReading (pointer_setting rest.now (parts_left 58 (option_copied parts.entry))) result }
+    ensures { IsReading (pointer_setting rest.now (spec_parts_left 58 (option_copied parts.entry))) result }
 {
     let Some(parts) = parts else {
         return Ok(Setting::Nothing);
@@ -183,7 +183,7 @@ fn aligned<'a>(
     word: &'a str,
     parts: Option<&'a str>,
 ) -> Result<Setting, TargetDataLayoutError<'a>>
-    ensures { IsReading (setting_in (aligned named word.now (parts_left 58 (option_copied parts.entry)))) result }
+    ensures { IsReading (setting_in (aligned named word.now (spec_parts_left 58 (option_copied parts.entry)))) result }
 {
     let align = alignment(parts, word)?;
     Ok(Setting::Aligned(named, align))
@@ -193,7 +193,7 @@ fn aligned<'a>(
 #[tactic(auto, using(crate::proofs::SpecFaults::width_told, crate::proofs::SpecFaults::integer_told, crate::proofs::SpecFaults::integer_read))]
 fn integer<'a>(word: &'a str, parts: Option<&'a str>) -> Result<Setting, TargetDataLayoutError<'a>>
     requires { slice_index word.now 0 ≡ 105 }
-    ensures { IsReading (setting_in (integer word.now (parts_left 58 (option_copied parts.entry)))) result }
+    ensures { IsReading (setting_in (integer word.now (spec_parts_left 58 (option_copied parts.entry)))) result }
 {
     let bits = bits("size", tail(word), "i")?;
     let align = alignment(parts, word)?;
@@ -204,7 +204,7 @@ fn integer<'a>(word: &'a str, parts: Option<&'a str>) -> Result<Setting, TargetD
 #[tactic(auto, using(crate::proofs::SpecFaults::vector_size_told, crate::proofs::SpecFaults::vector_told, crate::proofs::SpecFaults::vector_read))]
 fn vector<'a>(word: &'a str, parts: Option<&'a str>) -> Result<Setting, TargetDataLayoutError<'a>>
     requires { slice_index word.now 0 ≡ 118 }
-    ensures { IsReading (setting_in (vector word.now (parts_left 58 (option_copied parts.entry)))) result }
+    ensures { IsReading (setting_in (vector word.now (spec_parts_left 58 (option_copied parts.entry)))) result }
 {
     let size = size(tail(word), "v")?;
     let align = alignment(parts, word)?;
@@ -213,7 +213,7 @@ fn vector<'a>(word: &'a str, parts: Option<&'a str>) -> Result<Setting, TargetDa
 
 /// A spec whose first part is no word of its own.
 fn lettered<'a>(word: &'a str, parts: Option<&'a str>) -> Result<Setting, TargetDataLayoutError<'a>>
-    ensures { IsReading (setting_in (lettered_row word.now (parts_left 58 (option_copied parts.entry)))) result }
+    ensures { IsReading (setting_in (lettered_row word.now (spec_parts_left 58 (option_copied parts.entry)))) result }
 {
     if begins(word, 'p') & has_parts(parts) {
         pointer_spec(tail(word), parts)

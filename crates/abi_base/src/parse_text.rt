@@ -2,14 +2,14 @@
 
 ghost use Rattle.std.specs.Prelude.{◌≡◌, ◌<◌, ◌+◌, IfSome, length, drop, slice_index, ◌∷◌};
 ghost use Rattle.std.specs.Option.{option_copied};
-ghost use Rattle.abi_base.specs.DataLayoutSpec.{begins, begins_alphabetic, has_parts, parts_left, parts_of};
+ghost use Rattle.abi_base.specs.DataLayoutSpec.{begins, begins_alphabetic, has_parts, spec_parts_left, spec_parts};
 
 use unicode::properties::is_alphabetic;
 
 /// A text's first part, up to the mark, and those that follow it, if there are any.
 pub(crate) fn cut(text: &str, mark: char) -> (&str, Option<&str>)
     requires { mark < 128 }
-    ensures parts { parts_of mark text.now ≡ result.0.now ∷ parts_left mark (option_copied result.1) }
+    ensures parts { spec_parts mark text.now ≡ result.0.now ∷ spec_parts_left mark (option_copied result.1) }
     ensures shorter { IfSome result.1 (λ rest. length rest.now < length text.now) }
 {
     match text.split_once(mark) {
@@ -20,7 +20,7 @@ pub(crate) fn cut(text: &str, mark: char) -> (&str, Option<&str>)
 
 /// Whether there are parts.
 pub(crate) fn has_parts(parts: Option<&str>) -> bool
-    ensures { result ≡ has_parts (parts_left 58 (option_copied parts.entry)) }
+    ensures { result ≡ has_parts (spec_parts_left 58 (option_copied parts.entry)) }
 {
     parts.is_some()
 }

@@ -7,7 +7,7 @@ use Rattle.std.proofs.lemmas.Bool.{lt-ltb, le-ltb, le-leb, lt-leb, ltb_from_iff,
 use Rattle.std.proofs.lemmas.Nat.{mul-le, mul-add-lt, div_below}
 use Rattle.std.proofs.lemmas.List.Elements.{All-head, All-tail}
 use Rattle.abi_index.specs.RangeSet.{is_in_ranges}
-use Rattle.abi_index.specs.Runs.{Adds, moved, repeated}
+use Rattle.abi_index.specs.Runs.{Adds, moved_to, repeated}
 use Rattle.abi_index.proofs.RunsLemmas.{adds_both, adds_same, moved-moved, moved-or, moved-same}
 
 -- runs inside a size cover nothing beyond it
@@ -34,7 +34,7 @@ repeated-whole size count c some all k =
     sym (div_lt k count size some) ∙ sym (ap (λ b. nat_lt (k / size) count && b) (all (k % size) rest) ∙ and-true (nat_lt (k / size) count))
 
 step : (q r i size k : ℕ) (c : ℕ → Bool) → k ≡ q * size + r → r < size → ((j : ℕ) → size ≤ j → c j ≡ false) →
-    ((nat_lt q i && c r) || moved (size * i) c k) ≡ (nat_lt q (i + 1) && c r)
+    ((nat_lt q i && c r) || moved_to (size * i) c k) ≡ (nat_lt q (i + 1) && c r)
 step q r i size k c split rest beyond =
     ⊎_elim
     (λ (below : q < i).
@@ -61,23 +61,23 @@ step q r i size k c split rest beyond =
     (cases_lt q i)
 
 -- one part more
-repeated-more : (size i : ℕ) (c : ℕ → Bool) → 0 < size → ((j : ℕ) → size ≤ j → c j ≡ false) → (k : ℕ) → (repeated size i c k || moved (size * i) c k) ≡ repeated size (i + 1) c k
+repeated-more : (size i : ℕ) (c : ℕ → Bool) → 0 < size → ((j : ℕ) → size ≤ j → c j ≡ false) → (k : ℕ) → (repeated size i c k || moved_to (size * i) c k) ≡ repeated size (i + 1) c k
 repeated-more size i c some beyond k = step (k / size) (k % size) i size k c (omega arith) (omega arith) beyond
 
 -- one part more behind the others
-pub adds_part : (all old new : List (ℕ × ℕ)) (offset size i : ℕ) (c : ℕ → Bool) → 0 < size → ((j : ℕ) → size ≤ j → c j ≡ false) → Adds all old (moved offset (repeated size i c))
-    → Adds old new (moved (offset + size * i) c) → Adds all new (moved offset (repeated size (i + 1) c))
+pub adds_part : (all old new : List (ℕ × ℕ)) (offset size i : ℕ) (c : ℕ → Bool) → 0 < size → ((j : ℕ) → size ≤ j → c j ≡ false) → Adds all old (moved_to offset (repeated size i c))
+    → Adds old new (moved_to (offset + size * i) c) → Adds all new (moved_to offset (repeated size (i + 1) c))
 adds_part all old new offset size i c some beyond before next =
-    adds_same all new (λ k. moved offset (repeated size i c) k || moved (offset + size * i) c k) (moved offset (repeated size (i + 1) c))
-    (adds_both all old new (moved offset (repeated size i c)) (moved (offset + size * i) c) before next)
-    (λ k. ap (λ b. moved offset (repeated size i c) k || b) (moved-moved offset (size * i) c k) ∙ sym (moved-or offset (repeated size i c) (moved (size * i) c) k)
-    ∙ moved-same offset (λ j. repeated size i c j || moved (size * i) c j) (repeated size (i + 1) c) (repeated-more size i c some beyond) k)
+    adds_same all new (λ k. moved_to offset (repeated size i c) k || moved_to (offset + size * i) c k) (moved_to offset (repeated size (i + 1) c))
+    (adds_both all old new (moved_to offset (repeated size i c)) (moved_to (offset + size * i) c) before next)
+    (λ k. ap (λ b. moved_to offset (repeated size i c) k || b) (moved-moved offset (size * i) c k) ∙ sym (moved-or offset (repeated size i c) (moved_to (size * i) c) k)
+    ∙ moved-same offset (λ j. repeated size i c j || moved_to (size * i) c j) (repeated size (i + 1) c) (repeated-more size i c some beyond) k)
 
 -- all of them as one run
 pub adds_whole : (all new : List (ℕ × ℕ)) (offset size count : ℕ) (c : ℕ → Bool) → 0 < size → ((j : ℕ) → j < size → c j ≡ true)
-    → Adds all new (moved offset (λ k. nat_lt k (size * count))) → Adds all new (moved offset (repeated size count c))
+    → Adds all new (moved_to offset (λ k. nat_lt k (size * count))) → Adds all new (moved_to offset (repeated size count c))
 adds_whole all new offset size count c some whole adds =
-    adds_same all new (moved offset (λ k. nat_lt k (size * count))) (moved offset (repeated size count c)) adds
+    adds_same all new (moved_to offset (λ k. nat_lt k (size * count))) (moved_to offset (repeated size count c)) adds
     (moved-same offset (λ k. nat_lt k (size * count)) (repeated size count c) (repeated-whole size count c some whole))
 
 -- the first run covers all

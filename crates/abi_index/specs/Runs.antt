@@ -7,8 +7,8 @@ abbrev pub HaveEnds : List (ℕ × ℕ) → Type 0
 HaveEnds runs = All (λ run. run.0 + run.1 < 2 ^ 64) runs
 
 -- what is covered where that which covers lies at an offset
-abbrev pub moved : (offset : ℕ) → (covers : ℕ → Bool) → (k : ℕ) → Bool
-moved offset covers k = nat_le offset k && covers (k - offset)
+abbrev pub moved_to : (offset : ℕ) → (covers : ℕ → Bool) → (k : ℕ) → Bool
+moved_to offset covers k = nat_le offset k && covers (k - offset)
 
 -- what is covered by one of so many parts, each so many bytes after the one before; a part reaches no further than to the next
 abbrev pub repeated : (stride count : ℕ) → (covers : ℕ → Bool) → (k : ℕ) → Bool

@@ -2,7 +2,7 @@
 
 ghost use Rattle.std.specs.Prelude.{◌≡◌, ℕ, ◌+◌, ◌*◌, ◌-◌, ◌<◌, ◌≤◌, ◌^◌, [], All, IfOk, IsOk, OnErr, OnOk, nat_lt};
 ghost use Rattle.abi_index.specs.RangeSet.{is_in_ranges};
-ghost use Rattle.abi_index.specs.Runs.{Adds, Extends, moved, repeated};
+ghost use Rattle.abi_index.specs.Runs.{Adds, Extends, moved_to, repeated};
 
 use crate::range_set::RangeSet;
 use std::alloc::{AllocError, Global};
@@ -41,7 +41,7 @@ impl RangeSetBuilder {
     #[tactic(auto, using(crate::proofs::RunsLemmas::adds_run, crate::proofs::RunsLemmas::extends_by))]
     pub fn add_range(&mut self, offset: u64, size: u64) -> Result<(), AllocError>
         requires { offset + size < 2 ^ 64 }
-        ensures bytes { OnOk result (Adds self.old self.new (moved offset (λ k. nat_lt k size))) }
+        ensures bytes { OnOk result (Adds self.old self.new (moved_to offset (λ k. nat_lt k size))) }
         ensures kept { Extends self.old self.new }
         ensures none { size ≡ 0 → IsOk result }
         ensures err { OnErr result (self.new ≡ self.old) }
@@ -57,7 +57,7 @@ impl RangeSetBuilder {
     #[tactic(auto, using(crate::proofs::RunsLemmas::adds_none, crate::proofs::RunsLemmas::adds_next, crate::proofs::RunsLemmas::extends_twice))]
     pub fn add_set(&mut self, set: &RangeSet, offset: u64) -> Result<(), AllocError>
         requires { All (λ run. offset + (run.0 + run.1) < 2 ^ 64) set.now }
-        ensures bytes { OnOk result (Adds self.old self.new (moved offset (is_in_ranges set.now))) }
+        ensures bytes { OnOk result (Adds self.old self.new (moved_to offset (is_in_ranges set.now))) }
         ensures kept { Extends self.old self.new }
     {
         for run in set.as_slice() {
@@ -80,7 +80,7 @@ impl RangeSetBuilder {
         requires inside { All (λ run. run.0 + run.1 ≤ stride) set.now }
         requires fits { All (λ run. offset + stride * (count - 1) + (run.0 + run.1) < 2 ^ 64) set.now }
         ensures bytes { OnOk result (Adds self.old self.new
-            (moved offset (repeated stride count (is_in_ranges set.now)))) }
+            (moved_to offset (repeated stride count (is_in_ranges set.now)))) }
         ensures kept { Extends self.old self.new }
     {
         let runs = set.as_slice();

@@ -10,7 +10,8 @@ use Rattle.abi_index.specs.RangeSet.{is_in_ranges}
 use Rattle.abi_scalar.specs.Shape.{listed_offsets}
 use Rattle.abi_scalar.specs.Variant.{variants_of}
 use Rattle.abi_laid.specs.declared.node.Node.{Node}
-use Rattle.abi_laid.specs.Placed.{Placed, Layout, nothing, size_of}
+use Rattle.abi_laid.specs.Placed.{Placed, nothing, size_of}
+use Rattle.abi_scalar.specs.Layout.{Layout}
 use Rattle.abi_laid.specs.Places.{is_place_of_part}
 use Rattle.abi_laid.specs.Nodes.{own_fields, parts_at, placed_at, placed_in, types_in}
 use Rattle.abi_laid.specs.Needed.{HaveSets, IsKept, IsMade, IsPartAt, is_among, named_by, placed_nodes}

@@ -10,8 +10,9 @@ use Rattle.abi_scalar.specs.declared.variants.TagEncoding.{TagEncoding}
 use Rattle.abi_scalar.specs.declared.variants.TagEncoding.TheVariants.{Direct}
 use Rattle.abi_index.specs.RangeSet.{is_in_ranges, is_in_run}
 use Rattle.abi_laid.specs.Value.{Value, number, two, list, variant, state, bytes, Values, no_values, more_values}
-use Rattle.abi_laid.specs.Bytes.{AreBytes, bytes_at, picked, place_count}
-use Rattle.abi_laid.specs.Placed.{Placed, Layout, scalar, pair, never, elements, vector, fields, union, single, tagged, states, Parts, no_parts, part, Arms, size_of, nothing}
+use Rattle.abi_laid.specs.Bytes.{AreBytes, bytes_at, picked_bytes, count_picked}
+use Rattle.abi_laid.specs.Placed.{Placed, scalar, pair, never, elements, vector, fields, union, single, tagged, states, Parts, no_parts, part, Arms, size_of, nothing}
+use Rattle.abi_scalar.specs.Layout.{Layout}
 use Rattle.abi_laid.specs.Places.{is_data_place, is_place_of_part}
 use Rattle.abi_laid.specs.Nodes.{arms_in, own_fields, parts_at, placed_in}
 use Rattle.abi_laid.specs.Laws.{has_list}
@@ -351,18 +352,18 @@ module _ (p : ℕ → Bool) (at size : ℕ) (old : List ℕ) where
   zeros_all now from none before = λ b long zeros. put_like (λ j. p j && nat_lt j from) p at b old now (before_all_left p from none) (before b long zeros)
 
 -- bytes whose picked ones are zeros have one at each place
-pub zeros_there : (p : ℕ → Bool) (b : List ℕ) (n : ℕ) → replicate n 0 ≡ picked p 0 b → (k : ℕ) → p k ≡ true → get_or b k 0 ≡ 0
+pub zeros_there : (p : ℕ → Bool) (b : List ℕ) (n : ℕ) → replicate n 0 ≡ picked_bytes p 0 b → (k : ℕ) → p k ≡ true → get_or b k 0 ≡ 0
 zeros_there p b n is k place =
     let start : 0 + k ≡ k = omega arith in
     ⊎_elim
     (λ (lt : k < length b).
-    sym (picked-at p 0 k b (subst (λ i. p i ≡ true) (sym start) place) lt) ∙ ap (λ xs. get_or xs (place_count p 0 k) 0) (sym is) ∙ zeros_at n (place_count p 0 k))
+    sym (picked-at p 0 k b (subst (λ i. p i ≡ true) (sym start) place) lt) ∙ ap (λ xs. get_or xs (count_picked p 0 k) 0) (sym is) ∙ zeros_at n (count_picked p 0 k))
     (λ (le : length b ≤ k). get_or_past b k 0 le)
     (cases_lt k (length b))
 
 pub union_put : (order : Endian) (layout : Layout) (at : ℕ) (b old new : List ℕ) (u : Placed) (content : List ℕ) (n : ℕ) → content ≡ replicate n 0 →
     (length b ≡ layout.size → ((k : ℕ) → is_data_place u k ≡ true → get_or b k 0 ≡ 0) → IsPutOver (is_data_place u) at b old new) →
-    length b ≡ layout.size → content ≡ picked (is_data_place u) 0 b → IsPutOver (is_data_place u) at b old new
+    length b ≡ layout.size → content ≡ picked_bytes (is_data_place u) 0 b → IsPutOver (is_data_place u) at b old new
 union_put order layout at b old new u content n zeros put long is = put long (zeros_there (is_data_place u) b n (sym zeros ∙ is))
 
 -- ---- a byte in runs, one run after another

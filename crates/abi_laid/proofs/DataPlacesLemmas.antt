@@ -13,9 +13,10 @@ use Rattle.std.specs.Prelude.{Vec}
 use Rattle.std.specs.declared.alloc.Global.{Global}
 use Rattle.abi_scalar.specs.Shape.{listed_offsets}
 use Rattle.abi_laid.specs.declared.mark.Mark.{Mark}
-use Rattle.abi_laid.specs.Placed.{Placed, Layout, scalar, pair, never, elements, vector, fields, union, single, tagged, size_of, no_parts, nothing}
+use Rattle.abi_laid.specs.Placed.{Placed, scalar, pair, never, elements, vector, fields, union, single, tagged, size_of, no_parts, nothing}
+use Rattle.abi_scalar.specs.Layout.{Layout}
 use Rattle.abi_laid.specs.Places.{is_data_place}
-use Rattle.abi_laid.specs.Nodes.{parts_at, parts_at_0, placed_in, placed_at, types_in, arms_in, own_fields, index_of, meaning, tag_offset, encoding_of, states_in}
+use Rattle.abi_laid.specs.Nodes.{parts_at, parts_at_0, placed_in, placed_at, types_in, arms_in, own_fields, variant_left, meaning, tag_offset, encoding_of, states_in}
 use Rattle.abi_laid.specs.Room.{has_room, have_room, arms_have_room}
 use Rattle.abi_laid.specs.Well.{are_nodes, all_at}
 use Rattle.abi_index.specs.RangeSet.{AreMaximalRuns, is_in_ranges}
@@ -79,7 +80,7 @@ module _ (ns : List Node) (well : are_nodes 0 ns ≡ true) (i : ℕ) (n : Node) 
   -- the fields of the one variant that is left
   pub single_node : (mark : Mark) (children : Vec ℕ Global) → n.shape ≡ Single mark children →
       All (λ child. child < i) children.items
-      × (placed_at ns i ≡ single n.layout mark (index_of n.layout.variants) (parts_at (listed_offsets n.layout.fields) (all_at ns children.items)))
+      × (placed_at ns i ≡ single n.layout mark (variant_left n.layout.variants) (parts_at (listed_offsets n.layout.fields) (all_at ns children.items)))
       × (have_room n.layout.size (parts_at (listed_offsets n.layout.fields) (all_at ns children.items)) ≡ true)
   single_node mark children e =
       let is = placed_at-node ns well i n (Single mark children) lt at e in

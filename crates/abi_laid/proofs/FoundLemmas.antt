@@ -13,8 +13,9 @@ use Rattle.abi_laid.specs.declared.mark.Mark.{Mark}
 use Rattle.abi_laid.specs.declared.node.Node.{Node}
 use Rattle.abi_laid.specs.declared.value.Value.{Value as Kept, Pair as PairKept, Union as UnionKept}
 use Rattle.abi_laid.specs.Value.{Value, number, two, list, variant, state, Values, value_count, value_of}
-use Rattle.abi_laid.specs.Bytes.{bytes_at, number_of, picked}
-use Rattle.abi_laid.specs.Placed.{Placed, Layout, nothing, scalar, pair, never, elements, vector, fields, union, single, tagged, states, Parts, no_parts, part, Arms, size_of}
+use Rattle.abi_laid.specs.Bytes.{bytes_at, number_of, picked_bytes}
+use Rattle.abi_laid.specs.Placed.{Placed, nothing, scalar, pair, never, elements, vector, fields, union, single, tagged, states, Parts, no_parts, part, Arms, size_of}
+use Rattle.abi_scalar.specs.Layout.{Layout}
 use Rattle.abi_laid.specs.Places.{is_data_place}
 use Rattle.abi_laid.specs.Tag.{Names}
 use Rattle.abi_laid.specs.Nodes.{arms_in, meaning, parts_at, placed_at, state_tag_offset, states_in, types_in}
@@ -115,7 +116,7 @@ list_of order layout lanes b u v at holds = absurd holds
 
 -- a union holds its data bytes
 pub to_union : (order : Endian) (layout : Layout) (mark : Mark) (parts : Parts) (b : List ℕ) (content : Vec ℕ Global) → length b ≡ layout.size →
-    content.items ≡ picked (is_data_place (union layout mark parts)) 0 b → Holds order (union layout mark parts) b (value_of (UnionKept content))
+    content.items ≡ picked_bytes (is_data_place (union layout mark parts)) 0 b → Holds order (union layout mark parts) b (value_of (UnionKept content))
 to_union order layout mark parts b content long is = subst (Holds order (union layout mark parts) b) (sym (value_of-Union content)) (long, is)
 
 -- a vector's value is that of its lanes, where that is a list

@@ -16,10 +16,11 @@ use Rattle.abi_laid.specs.declared.mark.Mark.TheVariants.{Plain}
 use Rattle.abi_laid.specs.declared.node.Shape.{Shape}
 use Rattle.abi_laid.specs.declared.node.Shape.TheVariants.{Scalar, Pair, Never, Elements, Fields, Union, Vector, Single, Tagged, States}
 use Rattle.abi_laid.specs.declared.node.Node.{Node}
-use Rattle.abi_laid.specs.Placed.{Placed, Layout}
+use Rattle.abi_laid.specs.Placed.{Placed}
+use Rattle.abi_scalar.specs.Layout.{Layout}
 use Rattle.abi_laid.specs.Nodes.{types_in}
 use Rattle.abi_laid.specs.Well.{are_nodes, is_node}
-use Rattle.abi_laid.specs.Typed.{all_told, field_by, marks_in, told, type_in, typed_at, variant_nodes}
+use Rattle.abi_laid.specs.Typed.{all_told, field_by, marks_in, typed_node, type_in, typed_at, variant_nodes}
 use Rattle.abi_laid.specs.Laws.{has_fields, has_variants, keep_laws, keeps_laws}
 use Rattle.abi_laid.specs.Handles.{HasField, field_place, variant_place}
 use Rattle.abi_laid.proofs.NodesLemmas.{children_before, pair_before}
@@ -80,7 +81,7 @@ module _ (ns : List Node) (well : are_nodes 0 ns ≡ true) (laws : keep_laws [] 
   layout-same : layout_in (typed_at ns i) ≡ n.layout
   layout-same = layout-typed_at ns i n lt ∙ ap (λ (m : Node). m.layout) (sym at)
 
-  told-here : typed_at ns i ≡ told (all_told [] ns) n
+  told-here : typed_at ns i ≡ typed_node (all_told [] ns) n
   told-here = typed_at-node ns well i n lt at
 
   is-here : is_node i n.shape ≡ true

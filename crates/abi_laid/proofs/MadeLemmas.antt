@@ -8,7 +8,7 @@ use Rattle.std.proofs.lemmas.List.{get_or-map, get_or-take, get_or_append_left, 
 use Rattle.std.proofs.lemmas.List.Elements.{All-nil, All-cons, All-head, All-tail}
 use Rattle.std.proofs.lemmas.List.Folds.{list_any-append}
 use Rattle.abi_index.specs.RangeSet.{AreMaximalRuns, is_in_run, is_in_ranges}
-use Rattle.abi_index.specs.Runs.{Adds, moved, repeated}
+use Rattle.abi_index.specs.Runs.{Adds, moved_to, repeated}
 use Rattle.abi_index.proofs.RunsLemmas.{adds_both, adds_same, moved-zero}
 use Rattle.abi_scalar.specs.Shape.{listed_offsets}
 use Rattle.std.specs.Prelude.{Vec}
@@ -38,24 +38,24 @@ or_assoc true b c = refl
 or_assoc false b c = refl
 
 parts_cover-push : (os : List ℕ) (ss : List (List (ℕ × ℕ))) (o : ℕ) (s : List (ℕ × ℕ)) (k : ℕ) → length os ≡ length ss →
-    parts_cover (os ++ o ∷ []) (ss ++ s ∷ []) k ≡ (parts_cover os ss k || moved o (is_in_ranges s) k)
-parts_cover-push [] [] o s k same = or-false (moved o (is_in_ranges s) k)
+    parts_cover (os ++ o ∷ []) (ss ++ s ∷ []) k ≡ (parts_cover os ss k || moved_to o (is_in_ranges s) k)
+parts_cover-push [] [] o s k same = or-false (moved_to o (is_in_ranges s) k)
 parts_cover-push [] (t ∷ ss) o s k same = absurd (omega arith)
 parts_cover-push (r ∷ os) [] o s k same = absurd (omega arith)
 parts_cover-push (r ∷ os) (t ∷ ss) o s k same =
-    ap (λ b. moved r (is_in_ranges t) k || b) (parts_cover-push os ss o s k (omega arith)) ∙ sym (or_assoc (moved r (is_in_ranges t) k) (parts_cover os ss k) (moved o (is_in_ranges s) k))
+    ap (λ b. moved_to r (is_in_ranges t) k || b) (parts_cover-push os ss o s k (omega arith)) ∙ sym (or_assoc (moved_to r (is_in_ranges t) k) (parts_cover os ss k) (moved_to o (is_in_ranges s) k))
 
 -- the first of them, and one more
 pub parts_next : (all old new : List (ℕ × ℕ)) (os : List ℕ) (done : List (List (ℕ × ℕ))) (cs : List ℕ) (i : ℕ) → i < length os → i < length cs →
-    Adds all old (parts_cover (take i os) (take i (sets_at done cs))) → Adds old new (moved (get_or os i 0) (is_in_ranges (get_or done (get_or cs i 0) []))) →
+    Adds all old (parts_cover (take i os) (take i (sets_at done cs))) → Adds old new (moved_to (get_or os i 0) (is_in_ranges (get_or done (get_or cs i 0) []))) →
     Adds all new (parts_cover (take (i + 1) os) (take (i + 1) (sets_at done cs)))
 parts_next all old new os done cs i lt below before next =
     let ss : List (List (ℕ × ℕ)) = sets_at done cs in
     let within : i < length ss = omega (arith, below, length-map cs (λ c. get_or done c [])) in
     let s : List (ℕ × ℕ) = get_or done (get_or cs i 0) [] in
     let at : get_or ss i [] ≡ s = get_or-map (λ c. get_or done c []) cs i 0 [] below in
-    adds_same all new (λ k. parts_cover (take i os) (take i ss) k || moved (get_or os i 0) (is_in_ranges s) k) (parts_cover (take (i + 1) os) (take (i + 1) ss))
-    (adds_both all old new (parts_cover (take i os) (take i ss)) (moved (get_or os i 0) (is_in_ranges s)) before next)
+    adds_same all new (λ k. parts_cover (take i os) (take i ss) k || moved_to (get_or os i 0) (is_in_ranges s) k) (parts_cover (take (i + 1) os) (take (i + 1) ss))
+    (adds_both all old new (parts_cover (take i os) (take i ss)) (moved_to (get_or os i 0) (is_in_ranges s)) before next)
     (λ k. sym (ap (λ xs. parts_cover xs (take (i + 1) ss) k) (take_more os i 0 lt)
     ∙ ap (λ xs. parts_cover (take i os ++ get_or os i 0 ∷ []) xs k) (take_more ss i [] within ∙ ap (λ t. take i ss ++ t ∷ []) at)
     ∙ parts_cover-push (take i os) (take i ss) (get_or os i 0) s k (length-take-le i os (omega (arith, lt)) ∙ sym (length-take-le i ss (omega (arith, within))))))
@@ -65,25 +65,25 @@ pub parts_all : (os : List ℕ) (ss : List (List (ℕ × ℕ))) (n k : ℕ) → 
 parts_all [] ss n k e = let none : n ≡ 0 = omega arith in ap (λ m. parts_cover (take m []) (take m ss) k) none
 parts_all (o ∷ os) [] n k e = let none : n ≡ 0 = omega arith in ap (λ m. parts_cover (take m (o ∷ os)) (take m []) k) none
 parts_all (o ∷ os) (s ∷ ss) zero k e = absurd (omega arith)
-parts_all (o ∷ os) (s ∷ ss) (suc n) k e = ap (λ b. moved o (is_in_ranges s) k || b) (parts_all os ss n k (omega arith))
+parts_all (o ∷ os) (s ∷ ss) (suc n) k e = ap (λ b. moved_to o (is_in_ranges s) k || b) (parts_all os ss n k (omega arith))
 
 -- one set more at the same place
 pub stacked_next : (all old new : List (ℕ × ℕ)) (done : List (List (ℕ × ℕ))) (cs : List ℕ) (i d : ℕ) → i < length cs → Adds all old (some_covers (sets_at done (take i cs))) →
-    Adds old new (moved 0 (is_in_ranges (get_or done (get_or cs i d) []))) → Adds all new (some_covers (sets_at done (take (i + 1) cs)))
+    Adds old new (moved_to 0 (is_in_ranges (get_or done (get_or cs i d) []))) → Adds all new (some_covers (sets_at done (take (i + 1) cs)))
 stacked_next all old new done cs i d lt before next =
     let s : List (ℕ × ℕ) = get_or done (get_or cs i d) [] in
-    adds_same all new (λ k. some_covers (sets_at done (take i cs)) k || moved 0 (is_in_ranges s) k) (some_covers (sets_at done (take (i + 1) cs)))
-    (adds_both all old new (some_covers (sets_at done (take i cs))) (moved 0 (is_in_ranges s)) before next)
+    adds_same all new (λ k. some_covers (sets_at done (take i cs)) k || moved_to 0 (is_in_ranges s) k) (some_covers (sets_at done (take (i + 1) cs)))
+    (adds_both all old new (some_covers (sets_at done (take i cs))) (moved_to 0 (is_in_ranges s)) before next)
     (λ k. sym (ap (λ xs. some_covers (sets_at done xs) k) (take_more cs i d lt) ∙ ap (λ ss. some_covers ss k) (map-append (λ c. get_or done c []) (take i cs) (get_or cs i d ∷ []))
     ∙ list_any-append (λ t. is_in_ranges t k) (sets_at done (take i cs)) (s ∷ []) ∙ ap (λ b. some_covers (sets_at done (take i cs)) k || b) (or-false (is_in_ranges s k) ∙ sym (moved-zero (is_in_ranges s) k))))
 
 pub variant_next : (all old new : List (ℕ × ℕ)) (done : List (List (ℕ × ℕ))) (vs : List (ℕ × ℕ)) (i : ℕ) (d : ℕ × ℕ) → i < length vs → Adds all old (some_covers (sets_at done (map (λ v. v.1) (take i vs)))) →
-    Adds old new (moved 0 (is_in_ranges (get_or done (get_or vs i d).1 []))) → Adds all new (some_covers (sets_at done (map (λ v. v.1) (take (i + 1) vs))))
+    Adds old new (moved_to 0 (is_in_ranges (get_or done (get_or vs i d).1 []))) → Adds all new (some_covers (sets_at done (map (λ v. v.1) (take (i + 1) vs))))
 variant_next all old new done vs i d lt before next =
     let s : List (ℕ × ℕ) = get_or done (get_or vs i d).1 [] in
     let cs : List ℕ = map (λ v. v.1) (take i vs) in
-    adds_same all new (λ k. some_covers (sets_at done cs) k || moved 0 (is_in_ranges s) k) (some_covers (sets_at done (map (λ v. v.1) (take (i + 1) vs))))
-    (adds_both all old new (some_covers (sets_at done cs)) (moved 0 (is_in_ranges s)) before next)
+    adds_same all new (λ k. some_covers (sets_at done cs) k || moved_to 0 (is_in_ranges s) k) (some_covers (sets_at done (map (λ v. v.1) (take (i + 1) vs))))
+    (adds_both all old new (some_covers (sets_at done cs)) (moved_to 0 (is_in_ranges s)) before next)
     (λ k. sym (ap (λ xs. some_covers (sets_at done xs) k) (ap (map (λ v. v.1)) (take_more vs i d lt) ∙ map-append (λ v. v.1) (take i vs) (get_or vs i d ∷ []))
     ∙ ap (λ ss. some_covers ss k) (map-append (λ c. get_or done c []) cs ((get_or vs i d).1 ∷ []))
     ∙ list_any-append (λ t. is_in_ranges t k) (sets_at done cs) (s ∷ []) ∙ ap (λ b. some_covers (sets_at done cs) k || b) (or-false (is_in_ranges s k) ∙ sym (moved-zero (is_in_ranges s) k))))
@@ -118,7 +118,7 @@ module _ (types : List Placed) (done : List (List (ℕ × ℕ))) where
   stacked_same [] k made = refl
   stacked_same (c ∷ cs) k made =
       ap (λ b. b || some_covers (sets_at done cs) k) ((All-head Made c cs made).1 k ∙ sym (moved-zero (is_data_place (placed_in types c)) k))
-      ∙ ap (λ b. moved 0 (is_data_place (placed_in types c)) k || b) (stacked_same cs k (All-tail Made c cs made))
+      ∙ ap (λ b. moved_to 0 (is_data_place (placed_in types c)) k || b) (stacked_same cs k (All-tail Made c cs made))
 
   arms_same : (vs : List (ℕ × ℕ)) (k : ℕ) → All Made (map (λ v. v.1) vs) → All Own (map (λ v. v.1) vs) → some_covers (sets_at done (map (λ v. v.1) vs)) k ≡ is_place_of_arm (arms_in types vs) k
   arms_same [] k made own = refl
@@ -167,11 +167,11 @@ module _ (types : List Placed) (n : Node) (done : List (List (ℕ × ℕ))) (mad
   listed_sets cs all = sets_of (placed_nodes n.layout cs) all
 
   -- all bytes
-  pub put_number : (s : Scalar) (old new : List (ℕ × ℕ)) → n.shape ≡ Number s → Adds old new (moved 0 (λ k. nat_lt k n.layout.size)) → Adds old new (is_data_place (meaning types n.layout n.shape))
-  put_number s old new e adds = put_as (Number s) old new (moved 0 (λ k. nat_lt k n.layout.size)) e adds (λ k. moved-zero (λ k. nat_lt k n.layout.size) k)
+  pub put_number : (s : Scalar) (old new : List (ℕ × ℕ)) → n.shape ≡ Number s → Adds old new (moved_to 0 (λ k. nat_lt k n.layout.size)) → Adds old new (is_data_place (meaning types n.layout n.shape))
+  put_number s old new e adds = put_as (Number s) old new (moved_to 0 (λ k. nat_lt k n.layout.size)) e adds (λ k. moved-zero (λ k. nat_lt k n.layout.size) k)
 
-  pub put_never : (mark : Mark) (old new : List (ℕ × ℕ)) → n.shape ≡ Never mark → Adds old new (moved 0 (λ k. nat_lt k n.layout.size)) → Adds old new (is_data_place (meaning types n.layout n.shape))
-  put_never mark old new e adds = put_as (Never mark) old new (moved 0 (λ k. nat_lt k n.layout.size)) e adds (λ k. moved-zero (λ k. nat_lt k n.layout.size) k)
+  pub put_never : (mark : Mark) (old new : List (ℕ × ℕ)) → n.shape ≡ Never mark → Adds old new (moved_to 0 (λ k. nat_lt k n.layout.size)) → Adds old new (is_data_place (meaning types n.layout n.shape))
+  put_never mark old new e adds = put_as (Never mark) old new (moved_to 0 (λ k. nat_lt k n.layout.size)) e adds (λ k. moved-zero (λ k. nat_lt k n.layout.size) k)
 
   -- fields, each at its offset
   abbrev offsets_of : List ℕ
@@ -246,9 +246,9 @@ module _ (types : List Placed) (n : Node) (done : List (List (ℕ × ℕ))) (mad
   pub vector_set : (lanes : ℕ) → n.shape ≡ Vector lanes → IsSet done lanes
   vector_set lanes e = (All-head (Made types done) lanes [] (made_as (Vector lanes) e)).0
 
-  pub put_vector : (lanes : ℕ) (old new : List (ℕ × ℕ)) → n.shape ≡ Vector lanes → Adds old new (moved 0 (is_in_ranges (get_or done lanes []))) → Adds old new (is_data_place (meaning types n.layout n.shape))
+  pub put_vector : (lanes : ℕ) (old new : List (ℕ × ℕ)) → n.shape ≡ Vector lanes → Adds old new (moved_to 0 (is_in_ranges (get_or done lanes []))) → Adds old new (is_data_place (meaning types n.layout n.shape))
   put_vector lanes old new e adds =
-      put_as (Vector lanes) old new (moved 0 (is_in_ranges (get_or done lanes []))) e adds
+      put_as (Vector lanes) old new (moved_to 0 (is_in_ranges (get_or done lanes []))) e adds
       (λ k. moved-zero (is_in_ranges (get_or done lanes [])) k ∙ (All-head (Made types done) lanes [] (made_as (Vector lanes) e)).1 k)
 
   -- a tag and variants beside it
@@ -287,7 +287,7 @@ module _ (types : List Placed) (n : Node) (done : List (List (ℕ × ℕ))) (mad
       (of_tag.0, λ k d lt. omega (arith, ends k d lt, beside.0, fits), sets_of rest (All-tail (Made types done) tag rest beside.2))
 
   beside_same : (offset tag : ℕ) (vs : List (ℕ × ℕ)) (k : ℕ) → Beside offset tag vs →
-      (moved offset (is_in_ranges (get_or done tag [])) k || some_covers (sets_at done (map (λ v. v.1) vs)) k)
+      (moved_to offset (is_in_ranges (get_or done tag [])) k || some_covers (sets_at done (map (λ v. v.1) vs)) k)
       ≡ ((nat_le offset k && is_data_place (placed_in types tag) (k - offset)) || is_place_of_arm (arms_in types vs) k)
   beside_same offset tag vs k beside =
       let rest : List ℕ = map (λ v. v.1) vs in
@@ -296,25 +296,25 @@ module _ (types : List Placed) (n : Node) (done : List (List (ℕ × ℕ))) (mad
       ∙ ap (λ b. (nat_le offset k && is_data_place (placed_in types tag) (k - offset)) || b) (arms_same types done vs k (All-tail (Made types done) tag rest beside.2) beside.3)
 
   pub put_tagged : (mark : Mark) (tag : ℕ) (variants : Vec (ℕ × ℕ) Global) (offset : ℕ) (vs : List (ℕ × ℕ)) (old new : List (ℕ × ℕ)) → n.shape ≡ Tagged mark tag variants → offset ≡ tag_offset n.layout → vs ≡ variants.items →
-      Adds old new (λ k. moved offset (is_in_ranges (get_or done tag [])) k || some_covers (sets_at done (map (λ v. v.1) vs)) k) → Adds old new (is_data_place (meaning types n.layout n.shape))
+      Adds old new (λ k. moved_to offset (is_in_ranges (get_or done tag [])) k || some_covers (sets_at done (map (λ v. v.1) vs)) k) → Adds old new (is_data_place (meaning types n.layout n.shape))
   put_tagged mark tag variants offset vs old new e at are adds =
-      put_as (Tagged mark tag variants) old new (λ k. moved offset (is_in_ranges (get_or done tag [])) k || some_covers (sets_at done (map (λ v. v.1) vs)) k) e adds
-      (λ k. ap (λ o. moved o (is_in_ranges (get_or done tag [])) k || some_covers (sets_at done (map (λ v. v.1) vs)) k) at
-      ∙ ap (λ w. moved (tag_offset n.layout) (is_in_ranges (get_or done tag [])) k || some_covers (sets_at done (map (λ v. v.1) w)) k) are
+      put_as (Tagged mark tag variants) old new (λ k. moved_to offset (is_in_ranges (get_or done tag [])) k || some_covers (sets_at done (map (λ v. v.1) vs)) k) e adds
+      (λ k. ap (λ o. moved_to o (is_in_ranges (get_or done tag [])) k || some_covers (sets_at done (map (λ v. v.1) vs)) k) at
+      ∙ ap (λ w. moved_to (tag_offset n.layout) (is_in_ranges (get_or done tag [])) k || some_covers (sets_at done (map (λ v. v.1) w)) k) are
       ∙ beside_same (tag_offset n.layout) tag variants.items k (beside_tagged mark tag variants e))
 
   pub put_states : (prefix : Vec ℕ Global) (tag : ℕ) (all : Vec (ℕ × ℕ) Global) (os xs : List ℕ) (offset : ℕ) (vs : List (ℕ × ℕ)) (old middle new : List (ℕ × ℕ)) → n.shape ≡ States prefix tag all → os ≡ offsets_of →
       xs ≡ placed_nodes n.layout prefix.items → offset ≡ state_tag_offset n.layout (length prefix.items) → vs ≡ all.items → Adds old middle (parts_cover os (sets_at done xs)) →
-      Adds middle new (λ k. moved offset (is_in_ranges (get_or done tag [])) k || some_covers (sets_at done (map (λ v. v.1) vs)) k) → Adds old new (is_data_place (meaning types n.layout n.shape))
+      Adds middle new (λ k. moved_to offset (is_in_ranges (get_or done tag [])) k || some_covers (sets_at done (map (λ v. v.1) vs)) k) → Adds old new (is_data_place (meaning types n.layout n.shape))
   put_states prefix tag all os xs offset vs old middle new e same are at which first second =
       let parts = states_parts prefix tag all e in
       let place : ℕ = state_tag_offset n.layout (length prefix.items) in
-      let later : ℕ → Bool = λ k. moved offset (is_in_ranges (get_or done tag [])) k || some_covers (sets_at done (map (λ v. v.1) vs)) k in
+      let later : ℕ → Bool = λ k. moved_to offset (is_in_ranges (get_or done tag [])) k || some_covers (sets_at done (map (λ v. v.1) vs)) k in
       put_as (States prefix tag all) old new (λ k. parts_cover os (sets_at done xs) k || later k) e (adds_both old middle new (parts_cover os (sets_at done xs)) later first second)
       (λ k. ap (λ b. b || later k) (listed_same prefix.items os xs parts.0 same are k)
       ∙ ap (λ b. is_place_of_part (parts_at offsets_of (map (placed_in types) prefix.items)) k || b)
-      (ap (λ o. moved o (is_in_ranges (get_or done tag [])) k || some_covers (sets_at done (map (λ v. v.1) vs)) k) at
-      ∙ ap (λ w. moved place (is_in_ranges (get_or done tag [])) k || some_covers (sets_at done (map (λ v. v.1) w)) k) which
+      (ap (λ o. moved_to o (is_in_ranges (get_or done tag [])) k || some_covers (sets_at done (map (λ v. v.1) vs)) k) at
+      ∙ ap (λ w. moved_to place (is_in_ranges (get_or done tag [])) k || some_covers (sets_at done (map (λ v. v.1) w)) k) which
       ∙ beside_same place tag all.items k parts.1))
 
 -- a node without bytes has no data places
@@ -446,10 +446,10 @@ elements_end size stride count some e =
     let all : size ≡ stride * (count - 1 + 1) = e ∙ ap (λ n. stride * n) one in
     omega (arith, all, ap (λ n. n * (count - 1)) same)
 
-pub put_repeated : (old new set : List (ℕ × ℕ)) (size stride count : ℕ) → 0 < size → size ≡ stride * count → Adds old new (moved 0 (repeated (size / count) count (is_in_ranges set))) →
+pub put_repeated : (old new set : List (ℕ × ℕ)) (size stride count : ℕ) → 0 < size → size ≡ stride * count → Adds old new (moved_to 0 (repeated (size / count) count (is_in_ranges set))) →
     Adds old new (repeated stride count (is_in_ranges set))
 put_repeated old new set size stride count some e adds =
-    adds_same old new (moved 0 (repeated (size / count) count (is_in_ranges set))) (repeated stride count (is_in_ranges set)) adds
+    adds_same old new (moved_to 0 (repeated (size / count) count (is_in_ranges set))) (repeated stride count (is_in_ranges set)) adds
     (λ k. moved-zero (repeated (size / count) count (is_in_ranges set)) k ∙ ap (λ m. repeated m count (is_in_ranges set) k) (element_stride size stride count some e))
 
 -- what data places leave of a whole

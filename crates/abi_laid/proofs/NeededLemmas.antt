@@ -15,14 +15,15 @@ use Rattle.abi_scalar.specs.Variant.{variants_of}
 use Rattle.abi_laid.specs.declared.node.Shape.{Shape}
 use Rattle.abi_laid.specs.declared.node.Shape.TheVariants.{Scalar as Number, Pair, Never, Elements, Fields, Union, Vector, Single, Tagged, States}
 use Rattle.abi_laid.specs.declared.node.Node.{Node}
-use Rattle.abi_laid.specs.Placed.{Placed, Layout, size_of}
+use Rattle.abi_laid.specs.Placed.{Placed, size_of}
+use Rattle.abi_scalar.specs.Layout.{Layout}
 use Rattle.abi_laid.specs.Nodes.{arms_in, meaning, own_fields, parts_at, parts_at_0, placed_at, placed_in, state_tag_offset, types_in}
 use Rattle.abi_laid.specs.Room.{has_room, have_room, arms_have_room}
 use Rattle.abi_laid.specs.Laws.{end_inside, has_fields, has_list, has_variants, have_lists, have_places, is_listed, keep_laws, keeps_laws, sizes_at}
 use Rattle.abi_laid.specs.Typed.{variant_nodes}
 use Rattle.abi_laid.specs.Well.{all_at, are_nodes, is_node}
-use Rattle.abi_laid.specs.Bytes.{one_if, place_count}
-use Rattle.abi_laid.specs.Needed.{AreNeeded, AreVisits, IsClosed, IsKept, Marks, RestsOn, is_among, named_by, placed_nodes}
+use Rattle.abi_laid.specs.Bytes.{one_if, count_picked}
+use Rattle.abi_laid.specs.Needed.{AreNeeded, AreVisits, IsClosed, IsKept, MarksPlaces, RestsOn, is_among, named_by, placed_nodes}
 use Rattle.abi_laid.proofs.NodesLemmas.{pair_before, placed_at-node}
 use Rattle.abi_laid.proofs.TypedLemmas.{laws_at}
 use Rattle.abi_laid.proofs.DataPlacesLemmas.{all_before, variants_before, elements_node, fields_node, pair_node, single_node, states_node, tagged_node, union_node, vector_node}
@@ -33,10 +34,10 @@ or_assoc : (a b c : Bool) → ((a || b) || c) ≡ (a || (b || c))
 or_assoc true b c = refl
 or_assoc false b c = refl
 
-pub marks_none : (old : List Bool) → Marks old old []
+pub marks_none : (old : List Bool) → MarksPlaces old old []
 marks_none old = (refl, λ i. sym (or-false (get_or old i false)))
 
-pub marks_both : (old middle new : List Bool) (xs ys : List ℕ) → Marks old middle xs → Marks middle new ys → Marks old new (xs ++ ys)
+pub marks_both : (old middle new : List Bool) (xs ys : List ℕ) → MarksPlaces old middle xs → MarksPlaces middle new ys → MarksPlaces old new (xs ++ ys)
 marks_both old middle new xs ys first second = (
   second.0 ∙ first.0,
   λ i. second.1 i ∙ ap (λ b. b || is_among ys i) (first.1 i) ∙ or_assoc (get_or old i false) (is_among xs i) (is_among ys i)
@@ -44,7 +45,7 @@ marks_both old middle new xs ys first second = (
 )
 
 -- one more
-marks_one : (old : List Bool) (p : ℕ) → p < length old → Marks old (set old p true) (p ∷ [])
+marks_one : (old : List Bool) (p : ℕ) → p < length old → MarksPlaces old (set old p true) (p ∷ [])
 marks_one old p lt = (
   length-set old p true,
   λ i.
@@ -59,10 +60,10 @@ marks_one old p lt = (
       (cases_eq i p),
 )
 
-pub marks_variant : (old middle : List Bool) (vs : List (ℕ × ℕ)) (i : ℕ) (d : ℕ × ℕ) → Marks old middle (map (λ v. v.1) (take i vs)) → i < length vs → (get_or vs i d).1 < length old →
-    Marks old (set middle (get_or vs i d).1 true) (map (λ v. v.1) (take (i + 1) vs))
+pub marks_variant : (old middle : List Bool) (vs : List (ℕ × ℕ)) (i : ℕ) (d : ℕ × ℕ) → MarksPlaces old middle (map (λ v. v.1) (take i vs)) → i < length vs → (get_or vs i d).1 < length old →
+    MarksPlaces old (set middle (get_or vs i d).1 true) (map (λ v. v.1) (take (i + 1) vs))
 marks_variant old middle vs i d marks lt there =
-    subst (Marks old (set middle (get_or vs i d).1 true)) (sym (ap (map (λ v. v.1)) (take_more vs i d lt) ∙ map-append (λ v. v.1) (take i vs) (get_or vs i d ∷ [])))
+    subst (MarksPlaces old (set middle (get_or vs i d).1 true)) (sym (ap (map (λ v. v.1)) (take_more vs i d lt) ∙ map-append (λ v. v.1) (take i vs) (get_or vs i d ∷ [])))
     (marks_both old middle (set middle (get_or vs i d).1 true) (map (λ v. v.1) (take i vs)) ((get_or vs i d).1 ∷ []) marks (marks_one middle (get_or vs i d).1 (omega (arith, there, marks.0))))
 
 -- what holds of all places holds of each
@@ -239,7 +240,7 @@ pub record AreRead (ns : List Node) (root at : ℕ) (needed : List Bool) (kept :
   pub marks : length needed ≡ root + 1
   pub long : length kept ≡ root + 1
   pub few : read + at ≤ root + 1
-  pub count : read ≡ place_count (λ i. get_or needed i false) at (length ns - at)
+  pub count : read ≡ count_picked (λ i. get_or needed i false) at (length ns - at)
   pub rests : (i : ℕ) → get_or needed i false ≡ true → RestsOn ns root i
   pub first : get_or needed root false ≡ true
   pub room : (i : ℕ) → get_or needed i false ≡ true → HasRoom ns i
@@ -248,12 +249,12 @@ pub record AreRead (ns : List Node) (root at : ℕ) (needed : List Bool) (kept :
   pub named : (i : ℕ) (n : Bor Node) → get_or kept i None ≡ Some n → 0 < n.now.layout.size → All (λ j. get_or needed j false ≡ true) (named_by n.now.layout n.now.shape)
 
 -- a test that picks none of these places picks none of them
-count_none : (p : ℕ → Bool) (k n : ℕ) → ((i : ℕ) → k ≤ i → p i ≡ false) → place_count p k n ≡ 0
+count_none : (p : ℕ → Bool) (k n : ℕ) → ((i : ℕ) → k ≤ i → p i ≡ false) → count_picked p k n ≡ 0
 count_none p k zero none = refl
 count_none p k (suc n) none = let rest = count_none p (k + 1) n (λ i le. none i (omega (arith, le))) in omega (arith, ap one_if (none k (omega arith)), rest)
 
 -- tests that agree on these places pick as many of them
-count_same : (p q : ℕ → Bool) (k n : ℕ) → ((i : ℕ) → k ≤ i → p i ≡ q i) → place_count p k n ≡ place_count q k n
+count_same : (p q : ℕ → Bool) (k n : ℕ) → ((i : ℕ) → k ≤ i → p i ≡ q i) → count_picked p k n ≡ count_picked q k n
 count_same p q k zero same = refl
 count_same p q k (suc n) same = let rest = count_same p q (k + 1) n (λ i le. same i (omega (arith, le))) in omega (arith, ap one_if (same k (omega arith)), rest)
 
@@ -353,7 +354,7 @@ module _ (ns : List Node) (root : ℕ) where
           within : k < length kept
           within = omega (arith, below, read.long)
 
-          counted : now ≡ place_count (λ i. get_or new i false) k (length ns - k)
+          counted : now ≡ count_picked (λ i. get_or new i false) k (length ns - k)
           counted =
               let p : ℕ → Bool = λ i. get_or new i false in
               let rest : ℕ = length ns - (k + 1) in
@@ -361,8 +362,8 @@ module _ (ns : List Node) (root : ℕ) where
               let same = count_same p (λ i. get_or needed i false) (k + 1) rest (λ i le. same_truth (p i) (get_or needed i false) (only i (omega (arith, le))) (grows i)) in
               let one : one_if (p k) ≡ 1 = ap one_if here in
               let long : length ns - k ≡ suc rest = omega (arith, in_nodes) in
-              let all : now ≡ one_if (p k) + place_count p (k + 1) rest = omega (arith, more, read.count, same, one) in
-              all ∙ ap (place_count p k) (sym long)
+              let all : now ≡ one_if (p k) + count_picked p (k + 1) rest = omega (arith, more, read.count, same, one) in
+              all ∙ ap (count_picked p k) (sym long)
 
           here_is : (i : ℕ) (m : Bor Node) → i ≡ k → get_or (set kept k (Some n)) i None ≡ Some m → n ≡ m
           here_is i m same h =
@@ -374,7 +375,7 @@ module _ (ns : List Node) (root : ℕ) where
       read_bare now more bare = read_on needed now more refl (λ i h. h) (λ i le h. h) read.room read.rests (λ some. absurd (bare some))
 
       -- it has bytes
-      pub read_more : (new : List Bool) (now : ℕ) → now ≡ visits + 1 → 0 < n.now.layout.size → Marks needed new (named_by n.now.layout n.now.shape) → AreRead ns root k new (set kept k (Some n)) now
+      pub read_more : (new : List Bool) (now : ℕ) → now ≡ visits + 1 → 0 < n.now.layout.size → MarksPlaces needed new (named_by n.now.layout n.now.shape) → AreRead ns root k new (set kept k (Some n)) now
       read_more new now more some marks =
           let cs : List ℕ = named_by n.now.layout n.now.shape in
           let before : All (λ j. j < k) cs = named_first ns well laws k n.now in_nodes at in
@@ -401,8 +402,8 @@ module _ (ns : List Node) (root : ℕ) where
         let p : ℕ → Bool = λ i. get_or needed i false in
         let rest : ℕ = length ns - (k + 1) in
         let long : length ns - k ≡ suc rest = omega (arith, there, below) in
-        let all : visits ≡ one_if (p k) + place_count p (k + 1) rest = omega (arith, read.count, ap one_if unmarked) in
-        all ∙ ap (place_count p k) (sym long);
+        let all : visits ≡ one_if (p k) + count_picked p (k + 1) rest = omega (arith, read.count, ap one_if unmarked) in
+        all ∙ ap (count_picked p k) (sym long);
     rests = read.rests;
     first = read.first;
     room = read.room;
@@ -420,7 +421,7 @@ module _ (ns : List Node) (root : ℕ) where
       record {
         nodes = λ i. get_or needed i false;
         rest = λ i. (read.rests i, λ rests. rests (λ j. get_or needed j false) closed);
-        many = read.count ∙ ap (place_count (λ i. get_or needed i false) 0) all;
+        many = read.count ∙ ap (count_picked (λ i. get_or needed i false) 0) all;
       }
     where
       closed : IsClosed ns root (λ j. get_or needed j false)

@@ -11,8 +11,9 @@ use Rattle.abi_scalar.specs.Shape.{listed_offsets}
 use Rattle.abi_laid.specs.declared.node.Shape.{Shape}
 use Rattle.abi_laid.specs.declared.node.Shape.TheVariants.{Scalar, Pair, Never, Elements, Fields, Union, Vector, Single, Tagged, States}
 use Rattle.abi_laid.specs.declared.node.Node.{Node}
-use Rattle.abi_laid.specs.Placed.{Placed, Layout, layout_of, pair, elements, vector, fields, union, single, tagged, states, Arms, nothing}
-use Rattle.abi_laid.specs.Nodes.{placed_in, parts_at, parts_at_0, arms_in, encoding_of, index_of, own_arm, tag_offset, state_tag_offset, states_in, meaning, meanings, types_in, placed_at, Keeps}
+use Rattle.abi_laid.specs.Placed.{Placed, layout_of, pair, elements, vector, fields, union, single, tagged, states, Arms, nothing}
+use Rattle.abi_scalar.specs.Layout.{Layout}
+use Rattle.abi_laid.specs.Nodes.{placed_in, parts_at, parts_at_0, arms_in, encoding_of, variant_left, own_arm, tag_offset, state_tag_offset, states_in, meaning, meanings, types_in, placed_at, Keeps}
 use Rattle.abi_laid.specs.Laws.{keeps_laws, keep_laws}
 use Rattle.abi_laid.specs.Widths.{has_width, have_widths}
 use Rattle.abi_laid.specs.Well.{is_node, are_nodes, IsPut}
@@ -182,7 +183,7 @@ meaning-same xs ys n same layout (Fields mark children) is =
 meaning-same xs ys n same layout (Union mark children) is = ap (λ ps. union layout mark (parts_at_0 ps)) (children-same xs ys n same children.items is)
 meaning-same xs ys n same layout (Vector lanes) is = ap (vector layout) (same lanes (ltb-true lanes n is))
 meaning-same xs ys n same layout (Single mark children) is =
-    ap (λ ps. single layout mark (index_of layout.variants) (parts_at (listed_offsets layout.fields) ps)) (children-same xs ys n same children.items is)
+    ap (λ ps. single layout mark (variant_left layout.variants) (parts_at (listed_offsets layout.fields) ps)) (children-same xs ys n same children.items is)
 meaning-same xs ys n same layout (Tagged mark tag variants) is =
     let both = and_parts (nat_lt tag n) (list_all (λ v. nat_lt v.1 n) variants.items) is in
     ap (λ p. tagged layout mark (tag_offset layout) p (encoding_of layout.variants) (arms_in xs variants.items)) (same tag (ltb-true tag n both.0))

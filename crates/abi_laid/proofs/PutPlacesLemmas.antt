@@ -5,7 +5,7 @@ use Rattle.std.specs.Cmp.Derive.{both_true}
 use Rattle.std.proofs.Math.Bool.{or-false}
 use Rattle.std.proofs.lemmas.Bool.{and_left, and_right, cases_Bool, cases_eq, cases_lt, eq-eqb, eqb-true, false_from_ne_true, le-ltb, lt-ltb, or_right}
 use Rattle.std.proofs.lemmas.List.{drop_all, drop_more}
-use Rattle.abi_laid.specs.Bytes.{one_if, picked, place_count, put_if}
+use Rattle.abi_laid.specs.Bytes.{one_if, picked_bytes, count_picked, put_if}
 use Rattle.abi_laid.specs.Writing.{IsPutOver}
 use Rattle.abi_index.specs.RangeSet.{AreMaximalRuns, is_in_ranges}
 use Rattle.abi_index.proofs.RangeSetLemmas.{earlier}
@@ -16,7 +16,7 @@ use Rattle.abi_laid.proofs.PutOverLemmas.{lt-more, put_like, put_none, put_one}
 -- ---- how many places a test picks
 
 -- of one place more
-place_count-more : (p : ℕ → Bool) (k n : ℕ) → place_count p k (suc n) ≡ place_count p k n + one_if (p (k + n))
+place_count-more : (p : ℕ → Bool) (k n : ℕ) → count_picked p k (suc n) ≡ count_picked p k n + one_if (p (k + n))
 place_count-more p k zero =
     let here : k ≡ k + 0 = omega arith in
     omega (arith, ap (λ i. one_if (p i)) here)
@@ -24,15 +24,15 @@ place_count-more p k (suc n) =
     let there : k + 1 + n ≡ k + suc n = omega arith in
     omega (arith, place_count-more p (k + 1) n, ap (λ i. one_if (p i)) there)
 
-place_count-next : (p : ℕ → Bool) (k j : ℕ) → j ≡ k + 1 → place_count p 0 j ≡ place_count p 0 k + one_if (p k)
+place_count-next : (p : ℕ → Bool) (k j : ℕ) → j ≡ k + 1 → count_picked p 0 j ≡ count_picked p 0 k + one_if (p k)
 place_count-next p k j e =
     let next : j ≡ suc k = omega arith in
     let here : 0 + k ≡ k = omega arith in
-    ap (place_count p 0) next ∙ place_count-more p 0 k ∙ ap (λ i. place_count p 0 k + one_if (p i)) here
+    ap (count_picked p 0) next ∙ place_count-more p 0 k ∙ ap (λ i. count_picked p 0 k + one_if (p i)) here
 
 -- no more where none of the next places is picked
-place_count-skip : (p : ℕ → Bool) (from n j : ℕ) → j ≡ from + n → ((i : ℕ) → from ≤ i → i < j → p i ≡ false) → place_count p 0 j ≡ place_count p 0 from
-place_count-skip p from zero j e none = let same : j ≡ from = omega arith in ap (place_count p 0) same
+place_count-skip : (p : ℕ → Bool) (from n j : ℕ) → j ≡ from + n → ((i : ℕ) → from ≤ i → i < j → p i ≡ false) → count_picked p 0 j ≡ count_picked p 0 from
+place_count-skip p from zero j e none = let same : j ≡ from = omega arith in ap (count_picked p 0) same
 place_count-skip p from (suc n) j e none =
     let out : p (from + n) ≡ false = none (from + n) (omega arith) (omega arith) in
     omega (arith, place_count-next p (from + n) j (omega arith), ap one_if out, place_count-skip p from n (from + n) refl (λ i le lt. none i le (omega arith)))
@@ -48,24 +48,24 @@ put_if-below true x rest n lt = omega arith
 put_if-below false x rest n lt = omega arith
 
 -- the byte of a picked place is among those picked, behind as many as the test picks before it
-pub picked-at : (p : ℕ → Bool) (k m : ℕ) (b : List ℕ) → p (k + m) ≡ true → m < length b → get_or (picked p k b) (place_count p k m) 0 ≡ get_or b m 0
+pub picked-at : (p : ℕ → Bool) (k m : ℕ) (b : List ℕ) → p (k + m) ≡ true → m < length b → get_or (picked_bytes p k b) (count_picked p k m) 0 ≡ get_or b m 0
 picked-at p k m [] place lt = absurd (omega arith)
 picked-at p k zero (x ∷ b) place lt =
     let here : k + 0 ≡ k = omega arith in
-    ap (λ t. get_or (put_if t x (picked p (k + 1) b)) 0 0) (subst (λ i. p i ≡ true) here place)
+    ap (λ t. get_or (put_if t x (picked_bytes p (k + 1) b)) 0 0) (subst (λ i. p i ≡ true) here place)
 picked-at p k (suc m) (x ∷ b) place lt =
     let there : k + suc m ≡ k + 1 + m = omega arith in
-    put_if-at (p k) x (picked p (k + 1) b) (place_count p (k + 1) m) ∙ picked-at p (k + 1) m b (subst (λ i. p i ≡ true) there place) (omega arith)
+    put_if-at (p k) x (picked_bytes p (k + 1) b) (count_picked p (k + 1) m) ∙ picked-at p (k + 1) m b (subst (λ i. p i ≡ true) there place) (omega arith)
 
-picked-below : (p : ℕ → Bool) (k m : ℕ) (b : List ℕ) → p (k + m) ≡ true → m < length b → place_count p k m < length (picked p k b)
+picked-below : (p : ℕ → Bool) (k m : ℕ) (b : List ℕ) → p (k + m) ≡ true → m < length b → count_picked p k m < length (picked_bytes p k b)
 picked-below p k m [] place lt = absurd (omega arith)
 picked-below p k zero (x ∷ b) place lt =
     let here : k + 0 ≡ k = omega arith in
-    let whole = ap (λ t. length (put_if t x (picked p (k + 1) b))) (subst (λ i. p i ≡ true) here place) in
+    let whole = ap (λ t. length (put_if t x (picked_bytes p (k + 1) b))) (subst (λ i. p i ≡ true) here place) in
     omega (arith, whole)
 picked-below p k (suc m) (x ∷ b) place lt =
     let there : k + suc m ≡ k + 1 + m = omega arith in
-    put_if-below (p k) x (picked p (k + 1) b) (place_count p (k + 1) m) (picked-below p (k + 1) m b (subst (λ i. p i ≡ true) there place) (omega arith))
+    put_if-below (p k) x (picked_bytes p (k + 1) b) (count_picked p (k + 1) m) (picked-below p (k + 1) m b (subst (λ i. p i ≡ true) there place) (omega arith))
 
 -- ---- places before one place
 
@@ -105,7 +105,7 @@ before_all_left p from none j =
 -- the picked bytes before place k were put, and they were so many
 abbrev pub PutBefore : (p : ℕ → Bool) (at size : ℕ) (content old now : List ℕ) (next k : ℕ) → Type 0
 PutBefore p at size content old now next k =
-    (b : List ℕ) → length b ≡ size → content ≡ picked p 0 b → IsPutOver (λ j. p j && nat_lt j k) at b old now × (next ≡ place_count p 0 k)
+    (b : List ℕ) → length b ≡ size → content ≡ picked_bytes p 0 b → IsPutOver (λ j. p j && nat_lt j k) at b old now × (next ≡ count_picked p 0 k)
 
 module _ (p : ℕ → Bool) (at size : ℕ) (content old : List ℕ) where
   -- at first nothing
@@ -131,8 +131,8 @@ module _ (p : ℕ → Bool) (at size : ℕ) (content old : List ℕ) where
         let lt : k < length b = omega (arith, long) in
         let zero_on : k ≡ 0 + k = omega arith in
         let byte : get_or content next 0 ≡ get_or b k 0 =
-        ap (λ c. get_or c next 0) same ∙ ap (λ i. get_or (picked p 0 b) i 0) h.1 ∙ picked-at p 0 k b (subst (λ i. p i ≡ true) zero_on place) lt in
-        let more : next + 1 ≡ place_count p 0 (k + 1) = omega (arith, h.1, place_count-next p k (k + 1) refl, ap one_if place) in (
+        ap (λ c. get_or c next 0) same ∙ ap (λ i. get_or (picked_bytes p 0 b) i 0) h.1 ∙ picked-at p 0 k b (subst (λ i. p i ≡ true) zero_on place) lt in
+        let more : next + 1 ≡ count_picked p 0 (k + 1) = omega (arith, h.1, place_count-next p k (k + 1) refl, ap one_if place) in (
           put_like (λ j. (p j && nat_lt j k) || (j == k)) (λ j. p j && nat_lt j (k + 1)) at b old new (before_more p k place)
               (put_one (λ j. p j && nat_lt j k) at k b old now new lt h.0 long_now (here ∙ byte) other),
           more,
@@ -148,7 +148,7 @@ module _ (p : ℕ → Bool) (at size : ℕ) (content old : List ℕ) where
 
   -- all, where none is picked from there on
   pub PutBefore-all : (now : List ℕ) (next from : ℕ) → ((i : ℕ) → from ≤ i → p i ≡ false) → PutBefore p at size content old now next from →
-      (b : List ℕ) → length b ≡ size → content ≡ picked p 0 b → IsPutOver p at b old now
+      (b : List ℕ) → length b ≡ size → content ≡ picked_bytes p 0 b → IsPutOver p at b old now
   PutBefore-all now next from none before = λ b long same. put_like (λ j. p j && nat_lt j from) p at b old now (before_all_left p from none) (before b long same).0
 
 -- ---- the runs that are left

@@ -15,12 +15,13 @@ use Rattle.abi_laid.specs.Mark.{marks_by}
 use Rattle.abi_laid.specs.declared.node.Shape.{Shape}
 use Rattle.abi_laid.specs.declared.node.Shape.TheVariants.{Scalar, Pair, Never, Elements, Fields, Union, Vector, Single, Tagged, States}
 use Rattle.abi_laid.specs.declared.node.Node.{Node}
-use Rattle.abi_laid.specs.Placed.{Placed, Layout, layout_of, scalar, pair, never, elements, vector, fields, union, single, tagged, states}
+use Rattle.abi_laid.specs.Placed.{Placed, layout_of, scalar, pair, never, elements, vector, fields, union, single, tagged, states}
+use Rattle.abi_scalar.specs.Layout.{Layout}
 use Rattle.abi_laid.specs.Nodes.{arms_in, meaning, own_fields, own_mark, parts_at, parts_at_0, placed_at, placed_in, state_tag_offset, types_in}
 use Rattle.abi_laid.specs.Well.{are_nodes, is_node}
-use Rattle.abi_laid.specs.Typed.{all_told, told, type_by, type_in, typed_at}
+use Rattle.abi_laid.specs.Typed.{all_told, typed_node, type_by, type_in, typed_at}
 use Rattle.abi_laid.specs.Laws.{has_fields, has_list, has_variants, have_lists, have_places, is_listed, keep_laws, sizes_at}
-use Rattle.abi_laid.specs.Seen.{HasOffset, IsListOf, Sees, SeesArms, SeesParts, SeesTypes, SeesWhole, last_of, part_count}
+use Rattle.abi_laid.specs.Seen.{HasOffset, IsListOf, Sees, SeesArms, SeesParts, SeesTypes, SeesWhole, last_field, part_count}
 use Rattle.abi_laid.proofs.NodesLemmas.{children_before, pair_before, placed_at-node}
 use Rattle.abi_laid.proofs.TypedLemmas.{field_count-nodes, fields_below, laws_at, place_below, type_by-place, typed_at-node, variant_count-nodes, variants_below, variants_listed}
 
@@ -69,7 +70,7 @@ fields_listed (Array stride count) ps e is = absurd (false≢true is)
 fields_listed (Arbitrary offsets order) ps e is = (tt, sym (count_at offsets ps e))
 
 node_list : (ts : List Typed) (ps : List Placed) (layout : Layout) (shape : Shape) → has_fields ps layout shape ≡ true → has_variants ps layout shape ≡ true → has_list (meaning ps layout shape) ≡ true →
-    IsListOf (own_fields (meaning ps layout shape)) (told ts (record { layout = layout; shape = shape }))
+    IsListOf (own_fields (meaning ps layout shape)) (typed_node ts (record { layout = layout; shape = shape }))
 node_list ts ps layout (Scalar s) h v is = absurd (false≢true is)
 node_list ts ps layout (Pair first second) h v is = absurd (false≢true is)
 node_list ts ps layout (Never mark) h v is = absurd (false≢true is)
@@ -184,36 +185,36 @@ module _ (ns : List Node) (i : ℕ) (below : (c : ℕ) → c < i → Sees (typed
       (list (get_or cs j 0) (place_below i cs before j (omega (arith, lt, long))) (lists_each ps cs lists j (omega (arith, lt, long))))))
 
   node_seen : (layout : Layout) (shape : Shape) → is_node i shape ≡ true → has_fields ps layout shape ≡ true → has_variants ps layout shape ≡ true →
-      Sees (told ts (record { layout = layout; shape = shape })) (meaning ps layout shape)
+      Sees (typed_node ts (record { layout = layout; shape = shape })) (meaning ps layout shape)
   node_seen layout (Scalar s) is h v = (refl, refl)
   node_seen layout (Pair first second) is h v =
-      ((refl, refl), listed_seen (told ts (record { layout = layout; shape = Pair first second })) (first ∷ second ∷ []) (pair_before i first second is) (λ j lt. refl))
+      ((refl, refl), listed_seen (typed_node ts (record { layout = layout; shape = Pair first second })) (first ∷ second ∷ []) (pair_before i first second is) (λ j lt. refl))
   node_seen layout (Never mark) is h v = (refl, refl)
   node_seen layout (Elements count element) is h v = ((refl, refl), λ k. below element (ltb-true element i is))
-  node_seen layout (Fields mark children) is h v = ((refl, refl), listed_seen (told ts (record { layout = layout; shape = Fields mark children })) children.items is (λ j lt. refl))
+  node_seen layout (Fields mark children) is h v = ((refl, refl), listed_seen (typed_node ts (record { layout = layout; shape = Fields mark children })) children.items is (λ j lt. refl))
   node_seen layout (Union mark children) is h v =
-      let t : Typed = told ts (record { layout = layout; shape = Union mark children }) in
+      let t : Typed = typed_node ts (record { layout = layout; shape = Union mark children }) in
       let each : (j : ℕ) → j < length children.items → Sees (field_in t (0 + j)) (placed_in ps (get_or children.items j 0)) = λ j lt.
       subst (λ n. Sees (field_in t n) (placed_in ps (get_or children.items j 0))) (first_index j) (each_seen children.items is j lt) in
       ((refl, refl), types_seen ps t children.items 0 each)
   node_seen layout (Vector lanes) is h v = ((refl, refl), below lanes (ltb-true lanes i is))
-  node_seen layout (Single mark children) is h v = ((refl, refl), listed_seen (told ts (record { layout = layout; shape = Single mark children })) children.items is (λ j lt. refl))
+  node_seen layout (Single mark children) is h v = ((refl, refl), listed_seen (typed_node ts (record { layout = layout; shape = Single mark children })) children.items is (λ j lt. refl))
   node_seen layout (Tagged mark tag variants) is h v =
       let both = and_parts (nat_lt tag i) (list_all (λ v. nat_lt v.1 i) variants.items) is in
-      let t : Typed = told ts (record { layout = layout; shape = Tagged mark tag variants }) in (
+      let t : Typed = typed_node ts (record { layout = layout; shape = Tagged mark tag variants }) in (
         (refl, refl),
         placed_offset layout.size layout.fields (sizes_at ps (tag ∷ [])) h 0,
         below tag (ltb-true tag i both.0),
         variants_seen t variants.items (variants_below i (Tagged mark tag variants) is) (variants_listed ps layout (Tagged mark tag variants) v).1 (λ j. refl),
       )
   node_seen layout (States prefix tag all) is h v =
-      let t : Typed = told ts (record { layout = layout; shape = States prefix tag all }) in
+      let t : Typed = typed_node ts (record { layout = layout; shape = States prefix tag all }) in
       let cs : List ℕ = prefix.items ++ tag ∷ [] in
       let n : ℕ = length prefix.items in
       let both = and_parts (list_all (λ child. nat_lt child i) prefix.items) (nat_lt tag i && list_all (λ v. nat_lt v.1 i) all.items) is in
       let beside = and_parts (nat_lt tag i) (list_all (λ v. nat_lt v.1 i) all.items) both.1 in
       let long : length cs ≡ n + 1 = length-append prefix.items (tag ∷ []) in
-      let last : n ≡ last_of layout = omega (arith, field_count-nodes ps layout cs h, long) in
+      let last : n ≡ last_field layout = omega (arith, field_count-nodes ps layout cs h, long) in
       let at : get_or cs n 0 ≡ tag = ap (λ k. get_or cs k 0) (omega arith) ∙ get_or-append-add prefix.items (tag ∷ []) 0 0 in
       let seen : Sees (type_by ts cs n) (placed_in ps tag) =
       subst (λ c. Sees (type_by ts cs n) (placed_in ps c)) at (each_seen cs (fields_below i (States prefix tag all) is) n (omega (arith, long))) in
@@ -247,7 +248,7 @@ module _ (ns : List Node) (well : are_nodes 0 ns ≡ true) (laws : keep_laws [] 
       let at : here ≡ get_or ns i here = get_or_default ns i d here lt in
       let is : is_node i here.shape ≡ true = children_before ns i d lt well in
       let both = and_parts (has_fields (types_in ns) here.layout here.shape) (has_variants (types_in ns) here.layout here.shape) (laws_at ns well laws i d lt) in
-      let seen : Sees (told (all_told [] ns) here) (meaning (types_in ns) here.layout here.shape) =
+      let seen : Sees (typed_node (all_told [] ns) here) (meaning (types_in ns) here.layout here.shape) =
       node_seen ns i (λ c less. seen_before n c (omega arith) (omega arith)) (λ c less. list_at c (omega arith)) here.layout here.shape is both.0 both.1 in
       let meant = (placed_at-node ns well i here here.shape lt at refl).1 in
       subst (λ p. Sees (typed_at ns i) p) (sym meant)

@@ -20,28 +20,29 @@ use Rattle.abi_laid.specs.declared.node.Shape.{Shape}
 use Rattle.abi_laid.specs.declared.node.Shape.TheVariants.{Scalar, Pair, Never, Elements, Fields, Union, Vector, Single, Tagged, States}
 use Rattle.abi_laid.specs.declared.node.Node.{Node}
 use Rattle.abi_laid.specs.Mark.{marks_by}
-use Rattle.abi_laid.specs.Placed.{Placed, Layout, layout_of, size_of, nothing}
+use Rattle.abi_laid.specs.Placed.{Placed, layout_of, size_of, nothing}
+use Rattle.abi_scalar.specs.Layout.{Layout}
 use Rattle.abi_laid.specs.Nodes.{meaning, meanings, placed_at, placed_in, types_in}
 use Rattle.abi_laid.specs.Well.{are_nodes, is_node}
-use Rattle.abi_laid.specs.Typed.{all_told, field_by, field_nodes, marks_in, told, type_by, type_in, typed_at, variant_nodes}
+use Rattle.abi_laid.specs.Typed.{all_told, field_by, field_nodes, marks_in, typed_node, type_by, type_in, typed_at, variant_nodes}
 use Rattle.abi_laid.specs.Laws.{end_inside, has_elements, has_fields, has_list, has_variants, have_lists, have_places, keep_laws, keeps_laws, sizes_at}
 use Rattle.abi_laid.proofs.NodesLemmas.{children_before, layout_of-placed_at, pair_before}
 
 all_told-first : (done : List Typed) (ns : List Node) (i : ℕ) → i < length done → type_in (all_told done ns) i ≡ type_in done i
 all_told-first done [] i lt = refl
 all_told-first done (m ∷ ns) i lt =
-    let x = told done m in
+    let x = typed_node done m in
     all_told-first (done ++ x ∷ []) ns i (omega (arith, length-append done (x ∷ []))) ∙ get_or_append_left done (x ∷ []) no_type i lt
 
 layout-told : (done : List Typed) (ns : List Node) (i j : ℕ) (d : Node) → j ≡ length done + i → i < length ns →
     layout_in (type_in (all_told done ns) j) ≡ (get_or ns i d).layout
 layout-told done [] i j d e lt = absurd (omega arith)
 layout-told done (m ∷ ns) zero j d e lt =
-    let x = told done m in
+    let x = typed_node done m in
     let at : length done ≡ j = omega arith in
     ap layout_in (all_told-first (done ++ x ∷ []) ns j (omega (arith, length-append done (x ∷ []))) ∙ get_or_push done x no_type j at)
 layout-told done (m ∷ ns) (suc i) j d e lt =
-    let x = told done m in
+    let x = typed_node done m in
     layout-told (done ++ x ∷ []) ns i j d (omega (arith, length-append done (x ∷ []))) (omega arith)
 
 -- a node's layout is that of what it is
@@ -117,16 +118,16 @@ fields-same xs ys n same (Single mark children) is = types_by-same xs ys n same 
 fields-same xs ys n same (Tagged mark tag variants) is = types_by-same xs ys n same (tag ∷ []) (fields_below n (Tagged mark tag variants) is)
 fields-same xs ys n same (States prefix tag all) is = types_by-same xs ys n same (prefix.items ++ tag ∷ []) (fields_below n (States prefix tag all) is)
 
-told-same : (xs ys : List Typed) (n : ℕ) → ((i : ℕ) → i < n → type_in xs i ≡ type_in ys i) → (m : Node) → is_node n m.shape ≡ true → told xs m ≡ told ys m
+told-same : (xs ys : List Typed) (n : ℕ) → ((i : ℕ) → i < n → type_in xs i ≡ type_in ys i) → (m : Node) → is_node n m.shape ≡ true → typed_node xs m ≡ typed_node ys m
 told-same xs ys n same m is =
     ap (λ fields. typed m.layout (marks_in m.shape) fields (type_by xs (variant_nodes m.shape))) (fields-same xs ys n same m.shape is)
     ∙ ap (typed m.layout (marks_in m.shape) (field_by ys m.shape)) (types_by-same xs ys n same (variant_nodes m.shape) (variants_below n m.shape is))
 
 type-told : (done : List Typed) (ns : List Node) (i j : ℕ) (d : Node) → j ≡ length done + i → i < length ns → is_node j (get_or ns i d).shape ≡ true →
-    type_in (all_told done ns) j ≡ told (all_told done ns) (get_or ns i d)
+    type_in (all_told done ns) j ≡ typed_node (all_told done ns) (get_or ns i d)
 type-told done [] i j d e lt is = absurd (omega arith)
 type-told done (m ∷ ns) zero j d e lt is =
-    let x = told done m in
+    let x = typed_node done m in
     let at : length done ≡ j = omega arith in
     let more = done ++ x ∷ [] in
     let long = length-append done (x ∷ []) in
@@ -134,13 +135,13 @@ type-told done (m ∷ ns) zero j d e lt is =
     sym (all_told-first more ns k (omega arith) ∙ get_or_append_left done (x ∷ []) no_type k (omega arith)) in
     all_told-first more ns j (omega arith) ∙ get_or_push done x no_type j at ∙ told-same done (all_told more ns) j same m is
 type-told done (m ∷ ns) (suc i) j d e lt is =
-    let x = told done m in
+    let x = typed_node done m in
     type-told (done ++ x ∷ []) ns i j d (omega (arith, length-append done (x ∷ []))) (omega arith) is
 
 -- what a node is, by what its fields and its variants are
-pub typed_at-node : (ns : List Node) → are_nodes 0 ns ≡ true → (i : ℕ) (n : Node) → i < length ns → n ≡ get_or ns i n → typed_at ns i ≡ told (all_told [] ns) n
+pub typed_at-node : (ns : List Node) → are_nodes 0 ns ≡ true → (i : ℕ) (n : Node) → i < length ns → n ≡ get_or ns i n → typed_at ns i ≡ typed_node (all_told [] ns) n
 typed_at-node ns well i n lt at =
-    type-told [] ns i i n (omega arith) lt (children_before ns i n lt well) ∙ ap (told (all_told [] ns)) (sym at)
+    type-told [] ns i i n (omega arith) lt (children_before ns i n lt well) ∙ ap (typed_node (all_told [] ns)) (sym at)
 
 meanings-kept : (done : List Placed) (ns : List Node) (i : ℕ) → i < length done → placed_in done i ≡ placed_in (meanings done ns) i
 meanings-kept done [] i lt = refl
@@ -405,7 +406,7 @@ module _ (ns : List Node) (i : ℕ) (past : i ≤ length ns) (below : (c : ℕ) 
         kept = λ k lt. by-lawful cs before k (omega (arith, lt, count));
       }
 
-  told_lawful : (n : Node) → is_node i n.shape ≡ true → keeps_laws ps n.layout n.shape ≡ true → IsLawfulType (told ts n)
+  told_lawful : (n : Node) → is_node i n.shape ≡ true → keeps_laws ps n.layout n.shape ≡ true → IsLawfulType (typed_node ts n)
   told_lawful n is h =
       let both = and_parts (has_fields ps n.layout n.shape) (has_variants ps n.layout n.shape) h in
       let fields = fields_lawful n.layout n.shape is both.0 in
@@ -423,7 +424,7 @@ module _ (ns : List Node) (well : are_nodes 0 ns ≡ true) (laws : keep_laws [] 
       let here : Node = get_or ns i d in
       let is : is_node i here.shape ≡ true = children_before ns i d lt well in
       let at : here ≡ get_or ns i here = get_or_default ns i d here lt in
-      let law : IsLawfulType (told (all_told [] ns) here) =
+      let law : IsLawfulType (typed_node (all_told [] ns) here) =
       told_lawful ns i (omega arith) (λ c less. lawful_before n c (omega arith) (omega arith)) here is (laws_at ns well laws i d lt) in
       subst IsLawfulType (sym (typed_at-node ns well i here lt at)) law
 

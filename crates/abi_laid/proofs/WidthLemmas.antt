@@ -12,7 +12,8 @@ use Rattle.abi_laid.specs.declared.mark.Mark.{Mark}
 use Rattle.abi_laid.specs.declared.node.Shape.{Shape}
 use Rattle.abi_laid.specs.declared.node.Shape.TheVariants.{Scalar as OneScalar, Tagged, States}
 use Rattle.abi_laid.specs.declared.node.Node.{Node}
-use Rattle.abi_laid.specs.Placed.{Placed, Layout, nothing, size_of}
+use Rattle.abi_laid.specs.Placed.{Placed, nothing, size_of}
+use Rattle.abi_scalar.specs.Layout.{Layout}
 use Rattle.abi_laid.specs.Nodes.{meaning, meanings, placed_at, placed_in, types_in}
 use Rattle.abi_laid.specs.Well.{are_nodes, is_node}
 use Rattle.abi_laid.specs.Widths.{has_width, have_widths, is_narrow}

@@ -12,8 +12,9 @@ use Rattle.abi_scalar.specs.declared.variants.TagEncoding.TheVariants.{Direct}
 use Rattle.abi_laid.specs.declared.mark.Mark.{Mark}
 use Rattle.abi_laid.specs.declared.value.Value.{Value as Kept, Num as NumKept}
 use Rattle.abi_laid.specs.Value.{Value, number, two, list, variant, state, bytes, Values, no_values, more_values, value_count, value_of, values_of}
-use Rattle.abi_laid.specs.Bytes.{AreBytes, bytes_at, number_of, picked}
-use Rattle.abi_laid.specs.Placed.{Placed, Layout, scalar, pair, never, elements, vector, fields, union, single, tagged, states, Parts, no_parts, part, Arms, nothing, size_of}
+use Rattle.abi_laid.specs.Bytes.{AreBytes, bytes_at, number_of, picked_bytes}
+use Rattle.abi_laid.specs.Placed.{Placed, scalar, pair, never, elements, vector, fields, union, single, tagged, states, Parts, no_parts, part, Arms, nothing, size_of}
+use Rattle.abi_scalar.specs.Layout.{Layout}
 use Rattle.abi_laid.specs.Places.{is_data_place}
 use Rattle.abi_laid.specs.Nodes.{arms_in, own_fields, parts_at, placed_at, placed_in}
 use Rattle.abi_laid.specs.declared.node.Node.{Node}
@@ -195,7 +196,7 @@ module _ (order : Endian) (layout : Layout) (at : ℕ) (b old new : List ℕ) wh
   put_fields mark parts v us is h held = absurd held
 
   pub put_union : (mark : Mark) (parts : Parts) (v : Value) (content : List ℕ) → ((xs : List ℕ) → v ≡ bytes xs → content ≡ xs) →
-      (length b ≡ layout.size → content ≡ picked (is_data_place (union layout mark parts)) 0 b → IsPutOver (is_data_place (union layout mark parts)) at b old new) →
+      (length b ≡ layout.size → content ≡ picked_bytes (is_data_place (union layout mark parts)) 0 b → IsPutOver (is_data_place (union layout mark parts)) at b old new) →
       Holds order (union layout mark parts) b v → Put (union layout mark parts) v
   put_union mark parts (bytes xs) content is h held = h held.0 (is xs refl ∙ held.1)
   put_union mark parts v content is h held = absurd held

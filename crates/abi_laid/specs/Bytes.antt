@@ -27,9 +27,9 @@ put_if true b rest = b ∷ rest
 put_if false b rest = rest
 
 -- the bytes at the places that the test picks, ascending; the first byte's place is k
-abbrev pub picked : (ℕ → Bool) → (k : ℕ) → List ℕ → List ℕ
-picked p k [] = []
-picked p k (b ∷ bytes) = put_if (p k) b (picked p (k + 1) bytes)
+abbrev pub picked_bytes : (ℕ → Bool) → (k : ℕ) → List ℕ → List ℕ
+picked_bytes p k [] = []
+picked_bytes p k (b ∷ bytes) = put_if (p k) b (picked_bytes p (k + 1) bytes)
 
 -- 1 where the test holds, and else 0
 abbrev pub one_if : Bool → ℕ
@@ -37,6 +37,6 @@ one_if true = 1
 one_if false = 0
 
 -- how many of the n places from k on the test picks
-abbrev pub place_count : (ℕ → Bool) → (k n : ℕ) → ℕ
-place_count p k zero = 0
-place_count p k (suc n) = one_if (p k) + place_count p (k + 1) n
+abbrev pub count_picked : (ℕ → Bool) → (k n : ℕ) → ℕ
+count_picked p k zero = 0
+count_picked p k (suc n) = one_if (p k) + count_picked p (k + 1) n

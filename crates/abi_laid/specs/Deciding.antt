@@ -13,7 +13,7 @@ use Rattle.abi_laid.specs.declared.node.Node.{Node}
 use Rattle.abi_laid.specs.Tree.{Tree}
 use Rattle.abi_laid.specs.Value.{Value, number, two, list, variant, state, bytes, Values, no_values, more_values}
 use Rattle.abi_laid.specs.Values.{IsValueOf}
-use Rattle.abi_laid.specs.Bytes.{AreBytes, place_count}
+use Rattle.abi_laid.specs.Bytes.{AreBytes, count_picked}
 use Rattle.abi_laid.specs.Placed.{Placed, scalar, pair, never, elements, vector, fields, union, single, tagged, states, Parts, no_parts, part, Arms, no_arms, arm, size_of}
 use Rattle.abi_laid.specs.Places.{is_data_place, is_place_of_part}
 use Rattle.abi_laid.specs.Holding.{Holds}
@@ -90,7 +90,7 @@ abbrev mutual
   covering_value (elements layout count element) place = list (each_value (covering_value element) (size_of element) 0 count place)
   covering_value (vector layout lanes) place = covering_value lanes place
   covering_value (fields layout mark parts) place = list (covering_values parts place)
-  covering_value (union layout mark parts) place = bytes (replicate (place_count (is_data_place (union layout mark parts)) 0 layout.size) 0)
+  covering_value (union layout mark parts) place = bytes (replicate (count_picked (is_data_place (union layout mark parts)) 0 layout.size) 0)
   covering_value (single layout mark index parts) place = variant index (covering_values parts place)
   covering_value (tagged layout mark offset tag encoding arms) place =
       variant (arm_for encoding arms place) (arm_values arms (arm_for encoding arms place) place)

@@ -4,7 +4,7 @@ use Rattle.abi_base.specs.declared.endian.Endian.{Endian}
 use Rattle.abi_scalar.specs.declared.variants.TagEncoding.TheVariants.{Direct}
 use Rattle.abi_scalar.specs.Scalar.{IsNumberOf}
 use Rattle.abi_laid.specs.Value.{Value, number, two, list, variant, state, bytes, Values, no_values, more_values, value_count}
-use Rattle.abi_laid.specs.Bytes.{bytes_at, number_of, picked}
+use Rattle.abi_laid.specs.Bytes.{bytes_at, number_of, picked_bytes}
 use Rattle.abi_laid.specs.Placed.{Placed, scalar, pair, elements, vector, fields, union, single, tagged, states, Parts, no_parts, part, Arms, no_arms, arm, size_of}
 use Rattle.abi_laid.specs.Places.{is_data_place}
 use Rattle.abi_laid.specs.Tag.{Names}
@@ -36,7 +36,7 @@ module _ (order : Endian) where
         (length b ≡ layout.size) × IsAt 0 (size_of lanes) (λ slice. Holds lanes slice (list vs)) b
     Holds (fields layout mark parts) b (list vs) = (length b ≡ layout.size) × HoldParts parts b vs
     Holds (union layout mark parts) b (bytes content) =
-        (length b ≡ layout.size) × (content ≡ picked (is_data_place (union layout mark parts)) 0 b)
+        (length b ≡ layout.size) × (content ≡ picked_bytes (is_data_place (union layout mark parts)) 0 b)
     Holds (single layout mark index parts) b (variant i vs) = (length b ≡ layout.size) × (i ≡ index) × HoldParts parts b vs
     Holds (tagged layout mark offset tag encoding arms) b (variant i vs) =
         (length b ≡ layout.size) × (offset + size_of tag ≤ length b)

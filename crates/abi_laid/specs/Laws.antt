@@ -8,7 +8,8 @@ use Rattle.abi_scalar.specs.Variant.{variants_of}
 use Rattle.abi_laid.specs.declared.node.Shape.{Shape}
 use Rattle.abi_laid.specs.declared.node.Shape.TheVariants.{Elements}
 use Rattle.abi_laid.specs.declared.node.Node.{Node}
-use Rattle.abi_laid.specs.Placed.{Placed, Layout, fields, size_of}
+use Rattle.abi_laid.specs.Placed.{Placed, fields, size_of}
+use Rattle.abi_scalar.specs.Layout.{Layout}
 use Rattle.abi_laid.specs.Nodes.{meaning, placed_in}
 use Rattle.abi_laid.specs.Typed.{field_nodes, variant_nodes}
 

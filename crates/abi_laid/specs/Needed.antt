@@ -3,13 +3,14 @@ use Rattle.std.specs.Prelude.{◌≡◌, ◌↔◌, ℕ, ◌+◌, ◌-◌, ◌==
 use Rattle.std.specs.Borrow.{Bor}
 use Rattle.std.specs.List.{list_any}
 use Rattle.abi_index.specs.RangeSet.{AreMaximalRuns, is_in_ranges}
-use Rattle.abi_index.specs.Runs.{moved}
+use Rattle.abi_index.specs.Runs.{moved_to}
 use Rattle.abi_scalar.specs.Shape.{listed_offsets}
 use Rattle.abi_laid.specs.declared.node.Shape.{Shape}
 use Rattle.abi_laid.specs.declared.node.Shape.TheVariants.{Scalar, Pair, Never, Elements, Fields, Union, Vector, Single, Tagged, States}
 use Rattle.abi_laid.specs.declared.node.Node.{Node}
-use Rattle.abi_laid.specs.Bytes.{place_count}
-use Rattle.abi_laid.specs.Placed.{Placed, Layout, size_of}
+use Rattle.abi_laid.specs.Bytes.{count_picked}
+use Rattle.abi_laid.specs.Placed.{Placed, size_of}
+use Rattle.abi_scalar.specs.Layout.{Layout}
 use Rattle.abi_laid.specs.Places.{is_data_place, is_place_of_part}
 use Rattle.abi_laid.specs.Nodes.{meaning, own_fields, placed_at, placed_in}
 use Rattle.abi_laid.specs.Typed.{variant_nodes}
@@ -39,8 +40,8 @@ abbrev pub is_among : List ℕ → (place : ℕ) → Bool
 is_among places i = list_any (λ j. j == i) places
 
 -- these places are marked, beside those that were
-abbrev pub Marks : (old new : List Bool) → (places : List ℕ) → Type 0
-Marks old new places = (length new ≡ length old) × ((i : ℕ) → get_or new i false ≡ (get_or old i false || is_among places i))
+abbrev pub MarksPlaces : (old new : List Bool) → (places : List ℕ) → Type 0
+MarksPlaces old new places = (length new ≡ length old) × ((i : ℕ) → get_or new i false ≡ (get_or old i false || is_among places i))
 
 -- the node at this place is kept
 abbrev pub IsKept : List (Option (Bor Node)) → (place : ℕ) → Type 0
@@ -64,7 +65,7 @@ RestsOn ns root i = (set : ℕ → Bool) → IsClosed ns root set → set i ≡ 
 pub record AreVisits (ns : List Node) (root count : ℕ) : Type 0 where
   pub nodes : ℕ → Bool
   pub rest : (i : ℕ) → (nodes i ≡ true) ↔ RestsOn ns root i
-  pub many : count ≡ place_count nodes 0 (length ns)
+  pub many : count ≡ count_picked nodes 0 (length ns)
 
 -- Nodes are kept at their own places: the last one, and with each that has bytes all whose data places are its own. Each has room.
 pub record AreNeeded (ns : List Node) (kept : List (Option (Bor Node))) : Type 0 where
@@ -111,7 +112,7 @@ sets_at done places = map (λ i. get_or done i []) places
 
 -- one of these sets, each at its offset, has the byte
 abbrev pub parts_cover : (offsets : List ℕ) → List (List (ℕ × ℕ)) → (k : ℕ) → Bool
-parts_cover (o ∷ offsets) (set ∷ sets) k = moved o (is_in_ranges set) k || parts_cover offsets sets k
+parts_cover (o ∷ offsets) (set ∷ sets) k = moved_to o (is_in_ranges set) k || parts_cover offsets sets k
 parts_cover _ _ k = false
 
 -- one of these sets has the byte

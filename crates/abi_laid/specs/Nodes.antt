@@ -5,7 +5,8 @@ use Rattle.abi_scalar.specs.declared.variants.TagEncoding.{TagEncoding}
 use Rattle.abi_scalar.specs.declared.variants.TagEncoding.TheVariants.{Direct}
 use Rattle.abi_scalar.specs.declared.variants.Variants.{Variants}
 use Rattle.abi_scalar.specs.declared.variants.Variants.TheVariants.{Single as OneVariant, Multiple}
-use Rattle.abi_laid.specs.Placed.{Placed, Layout, scalar, pair, never, elements, vector, fields, union, single, tagged, states, Parts, no_parts, part, Arms, no_arms, arm, layout_of, nothing}
+use Rattle.abi_laid.specs.Placed.{Placed, scalar, pair, never, elements, vector, fields, union, single, tagged, states, Parts, no_parts, part, Arms, no_arms, arm, layout_of, nothing}
+use Rattle.abi_scalar.specs.Layout.{Layout}
 use Rattle.abi_laid.specs.declared.mark.Mark.{Mark}
 use Rattle.abi_laid.specs.declared.mark.Mark.TheVariants.{Plain}
 use Rattle.abi_laid.specs.declared.node.Shape.{Shape}
@@ -26,9 +27,9 @@ abbrev pub parts_at_0 : List Placed → Parts
 parts_at_0 ps = parts_at (map (λ p. 0) ps) ps
 
 -- which variant is left, where one is
-abbrev pub index_of : Variants ℕ ℕ → ℕ
-index_of (OneVariant i) = i
-index_of _ = 0
+abbrev pub variant_left : Variants ℕ ℕ → ℕ
+variant_left (OneVariant i) = i
+variant_left _ = 0
 
 -- where a tag lies: it is the one field of the whole enum
 abbrev pub tag_offset : Layout → ℕ
@@ -79,7 +80,7 @@ meaning done layout (Fields mark children) = fields layout mark (parts_at (liste
 meaning done layout (Union mark children) = union layout mark (parts_at_0 (map (placed_in done) children.items))
 meaning done layout (Vector lanes) = vector layout (placed_in done lanes)
 meaning done layout (Single mark children) =
-    single layout mark (index_of layout.variants) (parts_at (listed_offsets layout.fields) (map (placed_in done) children.items))
+    single layout mark (variant_left layout.variants) (parts_at (listed_offsets layout.fields) (map (placed_in done) children.items))
 meaning done layout (Tagged mark tag variants) =
     tagged layout mark (tag_offset layout) (placed_in done tag) (encoding_of layout.variants) (arms_in done variants.items)
 meaning done layout (States prefix tag all) = states_in done layout prefix.items tag all.items

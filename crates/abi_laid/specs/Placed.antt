@@ -3,14 +3,9 @@ use Rattle.std.specs.Prelude.{ℕ, zero, suc, Option, Bool, false, ◌||◌}
 use Rattle.abi_scalar.specs.declared.scalar.Scalar.{Scalar}
 use Rattle.abi_scalar.specs.declared.niche.Niche.{Niche}
 use Rattle.abi_scalar.specs.declared.variants.TagEncoding.{TagEncoding}
-use Rattle.abi_scalar.specs.declared.layout_data.LayoutData.{LayoutData}
 use Rattle.abi_types.specs.Ty.Typed.{no_layout}
 use Rattle.abi_laid.specs.declared.mark.Mark.{Mark}
 use Rattle.abi_laid.specs.declared.mark.Mark.TheVariants.{Plain}
-
--- a layout, with fields and variants named by their numbers
-abbrev pub Layout : Type 0
-Layout = LayoutData ℕ ℕ
 
 mutual
   -- a laid-out type
@@ -78,11 +73,11 @@ element_of (vector layout lanes) = lanes
 element_of _ = nothing
 
 -- the fields, of a coroutine the prefix fields
-abbrev pub parts_of : Placed → Parts
-parts_of (fields layout mark parts) = parts
-parts_of (union layout mark parts) = parts
-parts_of (states layout prefix offset tag arms) = prefix
-parts_of _ = no_parts
+abbrev pub parts_in : Placed → Parts
+parts_in (fields layout mark parts) = parts
+parts_in (union layout mark parts) = parts
+parts_in (states layout prefix offset tag arms) = prefix
+parts_in _ = no_parts
 
 -- the first part, or a type without values where there is none
 abbrev pub first_part : Parts → Placed

@@ -4,7 +4,8 @@ use Rattle.abi_scalar.specs.Shape.{IsListed, field_count, field_offset}
 use Rattle.abi_scalar.specs.Variant.{variants_of}
 use Rattle.abi_types.specs.Ty.Typed.{Marks, Typed, field_in, layout_in, marks_of, no_marks, variant_in}
 use Rattle.abi_laid.specs.Mark.{marks_by}
-use Rattle.abi_laid.specs.Placed.{Placed, Layout, scalar, pair, never, elements, vector, fields, union, single, tagged, states, Parts, no_parts, part, Arms, no_arms, arm}
+use Rattle.abi_laid.specs.Placed.{Placed, scalar, pair, never, elements, vector, fields, union, single, tagged, states, Parts, no_parts, part, Arms, no_arms, arm}
+use Rattle.abi_scalar.specs.Layout.{Layout}
 
 -- the type has this layout, and tells this of itself
 abbrev pub SeesWhole : Typed → Layout → Marks → Type 0
@@ -24,8 +25,8 @@ abbrev pub IsListOf : Parts → Typed → Type 0
 IsListOf parts t = IsListed (layout_in t).fields × (field_count (layout_in t).fields ≡ part_count parts) × (variants_of (layout_in t).variants ≡ [])
 
 -- the last field: of a coroutine the tag
-abbrev pub last_of : Layout → ℕ
-last_of layout = field_count layout.fields - 1
+abbrev pub last_field : Layout → ℕ
+last_field layout = field_count layout.fields - 1
 
 abbrev mutual
   -- the type of a handle is the laid-out type, with all parts
@@ -40,7 +41,7 @@ abbrev mutual
   Sees t (single layout mark index parts) = SeesWhole t layout (marks_by mark) × SeesParts t 0 parts
   Sees t (tagged layout mark offset tag encoding arms) = SeesWhole t layout (marks_by mark) × HasOffset t 0 offset × Sees (field_in t 0) tag × SeesArms t 0 arms
   Sees t (states layout prefix offset tag arms) =
-      SeesWhole t layout no_marks × SeesParts t 0 prefix × HasOffset t (last_of layout) offset × Sees (field_in t (last_of layout)) tag × SeesArms t 0 arms
+      SeesWhole t layout no_marks × SeesParts t 0 prefix × HasOffset t (last_field layout) offset × Sees (field_in t (last_field layout)) tag × SeesArms t 0 arms
 
   -- the fields from this index on are the parts
   pub SeesParts : Typed → (index : ℕ) → Parts → Type 0

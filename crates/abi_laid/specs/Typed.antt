@@ -47,13 +47,13 @@ field_by done (Elements count element) i = type_in done element
 field_by done shape i = type_by done (field_nodes shape) i
 
 -- what a node is, after those before it
-abbrev pub told : List Typed → Node → Typed
-told done n = typed n.layout (marks_in n.shape) (field_by done n.shape) (type_by done (variant_nodes n.shape))
+abbrev pub typed_node : List Typed → Node → Typed
+typed_node done n = typed n.layout (marks_in n.shape) (field_by done n.shape) (type_by done (variant_nodes n.shape))
 
 -- what all nodes are, after those that are done
 abbrev pub all_told : List Typed → List Node → List Typed
 all_told done [] = done
-all_told done (n ∷ ns) = all_told (done ++ told done n ∷ []) ns
+all_told done (n ∷ ns) = all_told (done ++ typed_node done n ∷ []) ns
 
 -- what the node at this place is
 abbrev pub typed_at : List Node → (place : ℕ) → Typed

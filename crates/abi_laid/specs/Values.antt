@@ -4,8 +4,8 @@ use Rattle.abi_base.specs.declared.data_layout.TargetDataLayout.{TargetDataLayou
 use Rattle.abi_scalar.specs.Scalar.{scalar_size, IsNumberOf}
 use Rattle.abi_laid.specs.Tree.{Tree, scalar, pair, unit, array, vector, struct, union, enum, coroutine, Trees, no_trees, more_trees, Variants, no_variants, more_variants}
 use Rattle.abi_laid.specs.Value.{Value, number, two, list, variant, state, bytes, Values, no_values, more_values, value_count, Each}
-use Rattle.abi_laid.specs.Bytes.{AreBytes, place_count}
-use Rattle.abi_laid.specs.Placed.{Placed, Parts, size_of, element_of, parts_of, first_part, more_parts, own_parts}
+use Rattle.abi_laid.specs.Bytes.{AreBytes, count_picked}
+use Rattle.abi_laid.specs.Placed.{Placed, Parts, size_of, element_of, parts_in, first_part, more_parts, own_parts}
 use Rattle.abi_laid.specs.Places.{is_data_place}
 
 -- one value for each index, with the part at its place
@@ -25,12 +25,12 @@ module _ (dl : TargetDataLayout) where
         (value_count vs ≡ count) × Each (IsValueOf element (element_of placed)) vs
     IsValueOf (vector lanes packed element) placed (list vs) =
         (value_count vs ≡ lanes) × Each (IsValueOf element (element_of (element_of placed))) vs
-    IsValueOf (struct repr always_sized order fields) placed (list vs) = AreValuesOf fields (parts_of placed) vs
+    IsValueOf (struct repr always_sized order fields) placed (list vs) = AreValuesOf fields (parts_in placed) vs
     IsValueOf (union repr fields) placed (bytes content) =
-        AreBytes content × (length content ≡ place_count (is_data_place placed) 0 (size_of placed))
+        AreBytes content × (length content ≡ count_picked (is_data_place placed) 0 (size_of placed))
     IsValueOf (enum repr all) placed (variant i vs) = AreValuesOfVariant all i (own_parts placed i) vs
     IsValueOf (coroutine prefix locals states conflicts) placed (state i ps vs) =
-        AreValuesOf prefix (parts_of placed) ps × (i < length states)
+        AreValuesOf prefix (parts_in placed) ps × (i < length states)
         × EachAt (IsValueAt locals) (get_or states i []) (own_parts placed i) vs
     IsValueOf _ placed _ = ⊥
 

@@ -7,7 +7,8 @@ use Rattle.abi_scalar.specs.Range.{numbers_of}
 use Rattle.abi_laid.specs.declared.node.Shape.{Shape}
 use Rattle.abi_laid.specs.declared.node.Shape.TheVariants.{Scalar as OneScalar, Tagged, States}
 use Rattle.abi_laid.specs.declared.node.Node.{Node}
-use Rattle.abi_laid.specs.Placed.{Placed, Layout, size_of}
+use Rattle.abi_laid.specs.Placed.{Placed, size_of}
+use Rattle.abi_scalar.specs.Layout.{Layout}
 use Rattle.abi_laid.specs.Nodes.{meaning, placed_in}
 
 -- a scalar of so many bytes has at most 16, and both ends of its range, if it has one, are numbers of so many bytes

@@ -2,7 +2,7 @@
 
 ghost use Rattle.std.specs.Prelude.{◌≡◌, ◌+◌, ◌<◌, ◌≤◌, [], All, IfOk, None, length, map, replicate, true};
 ghost use Rattle.abi_laid.specs.Laws.{keep_laws};
-ghost use Rattle.abi_laid.specs.Needed.{AreNeeded, AreVisits, Marks, named_by, placed_nodes};
+ghost use Rattle.abi_laid.specs.Needed.{AreNeeded, AreVisits, MarksPlaces, named_by, placed_nodes};
 ghost use Rattle.abi_laid.specs.Nodes.{placed_at};
 ghost use Rattle.abi_laid.specs.Room.{has_room};
 ghost use Rattle.abi_laid.specs.Well.{are_nodes};
@@ -27,7 +27,7 @@ pub(crate) fn placed<'a>(
 /// Marks places.
 fn mark(needed: &mut [bool], places: &[usize])
     requires { All (λ i. i < length needed.old) places.now }
-    ensures { Marks needed.old needed.new places.now }
+    ensures { MarksPlaces needed.old needed.new places.now }
 {
     for place in places {
         needed[*place] = true;
@@ -37,7 +37,7 @@ fn mark(needed: &mut [bool], places: &[usize])
 /// Marks the places of variants.
 fn mark_variants(needed: &mut [bool], variants: &[(u128, usize)])
     requires { All (λ i. i < length needed.old) (map (λ v. v.1) variants.now) }
-    ensures { Marks needed.old needed.new (map (λ v. v.1) variants.now) }
+    ensures { MarksPlaces needed.old needed.new (map (λ v. v.1) variants.now) }
 {
     for variant in variants {
         needed[variant.1] = true;
@@ -47,7 +47,7 @@ fn mark_variants(needed: &mut [bool], variants: &[(u128, usize)])
 /// Marks the places of the nodes whose data places are a node's own.
 fn mark_named(needed: &mut [bool], node: &Node)
     requires { All (λ i. i < length needed.old) (named_by node.now.layout node.now.shape) }
-    ensures { Marks needed.old needed.new (named_by node.now.layout node.now.shape) }
+    ensures { MarksPlaces needed.old needed.new (named_by node.now.layout node.now.shape) }
 {
     let layout = &node.layout;
     match &node.shape {

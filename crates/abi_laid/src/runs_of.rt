@@ -2,7 +2,7 @@
 
 ghost use Rattle.std.specs.Prelude.{◌≡◌, ℕ, ◌+◌, ◌*◌, ◌-◌, ◌^◌, ◌<◌, ◌≤◌, ◌||◌, [], All, IfOk, IfSome, List, None, OnOk, get_or, length, map, true};
 ghost use Rattle.abi_index.specs.RangeSet.{is_in_ranges};
-ghost use Rattle.abi_index.specs.Runs.{Adds, moved, repeated};
+ghost use Rattle.abi_index.specs.Runs.{Adds, moved_to, repeated};
 ghost use Rattle.abi_laid.specs.declared.node.Node.{Node as OneNode};
 ghost use Rattle.abi_laid.specs.Laws.{keep_laws};
 ghost use Rattle.abi_laid.specs.Needed.{AreMade, AreNeeded, AreVisits, IsMadeOf, IsSet, parts_cover, sets_at, some_covers};
@@ -88,7 +88,7 @@ fn put_tagged(
     requires fits { All (λ run. offset + (run.0 + run.1) < 2 ^ 64) (get_or done.now tag []) }
     requires made { All (IsSet done.now) (map (λ v. v.1) variants.now) }
     ensures { OnOk result (Adds runs.old runs.new
-        (λ k. moved offset (is_in_ranges (get_or done.now tag [])) k || some_covers
+        (λ k. moved_to offset (is_in_ranges (get_or done.now tag [])) k || some_covers
         (sets_at done.now (map (λ v. v.1) variants.now)) k)) }
 {
     runs.add_set(set_at(done, tag), offset)?;

@@ -10,10 +10,11 @@ use Rattle.abi_scalar.specs.declared.variants.VariantLayout.{VariantLayout}
 use Rattle.abi_scalar.specs.Shape.{IsListed}
 use Rattle.abi_scalar.specs.Variant.{variants_of}
 use Rattle.abi_types.specs.Ty.Places.{is_place}
-use Rattle.abi_types.specs.Ty.Runs.{IsBeside}
+use Rattle.abi_types.specs.Ty.Runs.{IsVariantOfSeveral}
 use Rattle.abi_types.specs.Ty.Typed.{Typed, layout_in, variant_in}
 use Rattle.abi_laid.specs.declared.mark.Mark.{Mark}
-use Rattle.abi_laid.specs.Placed.{Placed, Layout, size_of}
+use Rattle.abi_laid.specs.Placed.{Placed, size_of}
+use Rattle.abi_scalar.specs.Layout.{Layout}
 use Rattle.abi_laid.specs.Places.{is_data_place}
 use Rattle.abi_laid.specs.Runs.{is_padding_of}
 use Rattle.abi_laid.specs.Seen.{Sees, SeesArms}
@@ -23,7 +24,7 @@ use Rattle.rustc_abi.specs.Inside.{VariantsInside}
 use Rattle.rustc_abi.specs.Laying.{IsLaying}
 use Rattle.rustc_abi.proofs.Trees.KindsLemmas.{IsKept, laid_kept}
 use Rattle.abi_map.specs.Map.{names_at}
-use Rattle.abi_map.specs.Parts.{parts_of}
+use Rattle.abi_map.specs.Parts.{all_parts}
 use Rattle.abi_map.proofs.PaddingLemmas.{VariantsListed, any_has, no_names, none_has, parts_cover}
 
 -- ---- variants list their fields
@@ -32,7 +33,7 @@ use Rattle.abi_map.proofs.PaddingLemmas.{VariantsListed, any_has, no_names, none
 abbrev ListsVariants : Placed → Type 0
 ListsVariants p = (t : Typed) → Sees t p → VariantsListed t
 
-pub none_beside : (vs : Variants ℕ ℕ) (v : ℕ) → variants_of vs ≡ [] → IsBeside vs v → ⊥
+pub none_beside : (vs : Variants ℕ ℕ) (v : ℕ) → variants_of vs ≡ [] → IsVariantOfSeveral vs v → ⊥
 none_beside Empty v e h = h
 none_beside (Single i) v e h = h
 none_beside (Multiple tag encoding at layouts) v e h = omega (arith, h, ap (λ (ls : List (VariantLayout ℕ)). length ls) e)
@@ -56,12 +57,12 @@ arms_list whole mark t i size (n ∷ numbers) (l ∷ layouts) (ps ∷ variants) 
     (arms_list whole mark t (i + 1) size numbers layouts variants (omega arith) inside.2 (subst (λ m. SeesArms t m (arms_at whole mark (i + 1) layouts numbers variants)) next seen.3) j (omega arith))
 
 -- several that a tag tells apart
-several_list : (t : Typed) (layout : Layout) (vs : Variants ℕ ℕ) (layouts : List (VariantLayout ℕ)) → layout_in t ≡ layout → layout.variants ≡ vs → ((v : ℕ) → IsBeside vs v → v < length layouts)
+several_list : (t : Typed) (layout : Layout) (vs : Variants ℕ ℕ) (layouts : List (VariantLayout ℕ)) → layout_in t ≡ layout → layout.variants ≡ vs → ((v : ℕ) → IsVariantOfSeveral vs v → v < length layouts)
     → ((j : ℕ) → j < length layouts → IsListed (layout_in (variant_in t (0 + j))).fields × (variants_of (layout_in (variant_in t (0 + j))).variants ≡ [])) → VariantsListed t
 several_list t layout vs layouts same told within each v beside =
     let here : 0 + v ≡ v = omega arith in
     subst (λ m. IsListed (layout_in (variant_in t m)).fields × (variants_of (layout_in (variant_in t m)).variants ≡ [])) here
-    (each v (within v (subst (λ (ws : Variants ℕ ℕ). IsBeside ws v) (ap (λ (l : Layout). l.variants) same ∙ told) beside)))
+    (each v (within v (subst (λ (ws : Variants ℕ ℕ). IsVariantOfSeveral ws v) (ap (λ (l : Layout). l.variants) same ∙ told) beside)))
 
 module _ (dl : TargetDataLayout) where
   lists_kept : IsKept dl ListsVariants
@@ -95,9 +96,9 @@ not_place size k true lt e =
 not_place size k false lt e = refl
 
 -- where a type tells its data places, the bytes without a name are padding
-pub padding_named : (t : Typed) (placed : Placed) (k : ℕ) → VariantsListed t → is_place t k ≡ is_data_place placed k → k < size_of placed → (names_at (parts_of t) k ≡ []) ↔ (is_padding_of placed k ≡ true)
+pub padding_named : (t : Typed) (placed : Placed) (k : ℕ) → VariantsListed t → is_place t k ≡ is_data_place placed k → k < size_of placed → (names_at (all_parts t) k ≡ []) ↔ (is_padding_of placed k ≡ true)
 padding_named t placed k listed told lt =
-    let place : any_has (parts_of t) k ≡ is_data_place placed k = parts_cover t k listed ∙ told in (
-      λ none. ap (λ b. b && not (is_data_place placed k)) (lt-ltb k (size_of placed) lt) ∙ ap (λ b. not b) (sym place ∙ none_has (parts_of t) k none),
-      λ padding. no_names (parts_of t) k (place ∙ not_place (size_of placed) k (is_data_place placed k) lt padding),
+    let place : any_has (all_parts t) k ≡ is_data_place placed k = parts_cover t k listed ∙ told in (
+      λ none. ap (λ b. b && not (is_data_place placed k)) (lt-ltb k (size_of placed) lt) ∙ ap (λ b. not b) (sym place ∙ none_has (all_parts t) k none),
+      λ padding. no_names (all_parts t) k (place ∙ not_place (size_of placed) k (is_data_place placed k) lt padding),
     )

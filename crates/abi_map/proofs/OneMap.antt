@@ -6,7 +6,7 @@ use Rattle.std.proofs.lemmas.Bool.{cases_lt, le-ltb}
 use Rattle.std.proofs.lemmas.List.Elements.{All-head, All-tail}
 use Rattle.abi_base.specs.declared.data_layout.TargetDataLayout.{TargetDataLayout}
 use Rattle.abi_base.specs.DataLayout.{IsLawfulDataLayout}
-use Rattle.abi_index.specs.Runs.{moved}
+use Rattle.abi_index.specs.Runs.{moved_to}
 use Rattle.abi_scalar.specs.declared.fields_shape.FieldsShape.{FieldsShape}
 use Rattle.abi_scalar.specs.declared.fields_shape.FieldsShape.TheVariants.{Primitive, Union, Array, Arbitrary}
 use Rattle.abi_scalar.specs.declared.scalar.Scalar.{Scalar}
@@ -16,13 +16,14 @@ use Rattle.abi_scalar.specs.declared.variants.VariantLayout.{VariantLayout}
 use Rattle.abi_scalar.specs.Shape.{field_count, field_offset}
 use Rattle.abi_scalar.specs.Variant.{variants_of}
 use Rattle.abi_types.specs.Ty.Places.{covers_element, fields_cover, is_place, is_shared_place, variants_cover}
-use Rattle.abi_types.specs.Ty.Runs.{IsBeside}
+use Rattle.abi_types.specs.Ty.Runs.{IsVariantOfSeveral}
 use Rattle.abi_types.specs.Ty.Typed.{Marks, Typed, field_in, layout_in, marks_of, no_marks, variant_in}
 use Rattle.abi_laid.specs.declared.mark.Mark.{Mark}
 use Rattle.abi_laid.specs.Mark.{marks_by}
-use Rattle.abi_laid.specs.Placed.{Placed, Layout}
+use Rattle.abi_laid.specs.Placed.{Placed}
+use Rattle.abi_scalar.specs.Layout.{Layout}
 use Rattle.abi_laid.specs.Nodes.{parts_at}
-use Rattle.abi_laid.specs.Seen.{Sees, SeesArms, SeesParts, SeesTypes, SeesWhole, last_of, part_count}
+use Rattle.abi_laid.specs.Seen.{Sees, SeesArms, SeesParts, SeesTypes, SeesWhole, last_field, part_count}
 use Rattle.abi_laid.specs.Tree.{Tree}
 use Rattle.rustc_abi.specs.Enums.{arms_at}
 use Rattle.rustc_abi.specs.Inside.{VariantsInside}
@@ -31,7 +32,7 @@ use Rattle.rustc_abi.proofs.Trees.KindsLemmas.{IsKept, laid_kept}
 use Rattle.abi_map.specs.declared.part.Name.{Name}
 use Rattle.abi_map.specs.declared.part.Name.TheVariants.{Elements, Lanes, Number, VariantField}
 use Rattle.abi_map.specs.Map.{TellsMap, map_text}
-use Rattle.abi_map.specs.Parts.{Part, each_variant, field_name, field_parts, is_alone, is_vector, own_parts, parts_of, variant_parts, variants_parts, whole_part}
+use Rattle.abi_map.specs.Parts.{Part, parts_of_variants, field_name, field_parts, is_alone, is_vector, common_parts, all_parts, variant_parts, variants_parts, whole_part}
 use Rattle.abi_map.proofs.LaidLemmas.{none_beside}
 use Rattle.abi_map.proofs.PaddingLemmas.{alone_cover, any_same, place_by}
 use Rattle.abi_map.proofs.SizedLemmas.{fields_counted, front_counted, zeros_counted}
@@ -55,7 +56,7 @@ record AreAlike (t u : Typed) : Type 0 where
   layout : layout_in t ≡ layout_in u
   marks : marks_of t ≡ marks_of u
   fields : HaveSameFields t u (field_count (layout_in t).fields)
-  variants : (v : ℕ) → IsBeside (layout_in t).variants v → AreSameVariants (variant_in t v) (variant_in u v)
+  variants : (v : ℕ) → IsVariantOfSeveral (layout_in t).variants v → AreSameVariants (variant_in t v) (variant_in u v)
 
 -- ---- data places
 
@@ -76,7 +77,7 @@ fields_alike size (Arbitrary offsets order) t u k same =
     any_same (λ i. nat_le (at i) k && is_place (field_in t i) (k - at i)) (λ i. nat_le (at i) k && is_place (field_in u i) (k - at i)) (length offsets) 0
     (λ i from below. ap (λ (p : ℕ → Bool). nat_le (at i) k && p (k - at i)) (same i (omega (arith, below))).1)
 
-variants_alike : (vs : Variants ℕ ℕ) (p q : ℕ → ℕ → Bool) (k : ℕ) → ((v : ℕ) → IsBeside vs v → p v ≡ q v) → variants_cover vs p k ≡ variants_cover vs q k
+variants_alike : (vs : Variants ℕ ℕ) (p q : ℕ → ℕ → Bool) (k : ℕ) → ((v : ℕ) → IsVariantOfSeveral vs v → p v ≡ q v) → variants_cover vs p k ≡ variants_cover vs q k
 variants_alike Empty p q k same = refl
 variants_alike (Single i) p q k same = refl
 variants_alike (Multiple tag encoding at layouts) p q k same =
@@ -125,7 +126,7 @@ part_by name place = record { name = name; has = place }
 
 -- at the offset of a field
 abbrev part_in : Name → Layout → (index : ℕ) → (place : ℕ → Bool) → Part
-part_in name layout i place = part_by name (moved (field_offset layout.fields i) place)
+part_in name layout i place = part_by name (moved_to (field_offset layout.fields i) place)
 
 field_parts_same : (t u : Typed) (count : ℕ) → layout_in t ≡ layout_in u → HaveSameFields t u count → field_parts t count ≡ field_parts u count
 field_parts_same t u count layout same =
@@ -148,7 +149,7 @@ module _ (t u : Typed) (alike : AreAlike t u) where
   vector_same : (count : ℕ) → is_vector t count ≡ is_vector u count
   vector_same count = ap₂ (λ (m : Marks) (l : Layout). (count == 1) && (not m.is_adt && is_alone l.variants)) alike.marks alike.layout
 
-  own_same : own_parts t ≡ own_parts u
+  own_same : common_parts t ≡ common_parts u
   own_same = by (layout_in t).fields refl
     where
       listed : (shape : FieldsShape ℕ) → (layout_in t).fields ≡ shape → field_parts t (field_count shape) ≡ field_parts u (field_count shape)
@@ -157,7 +158,7 @@ module _ (t u : Typed) (alike : AreAlike t u) where
       other : (shape : FieldsShape ℕ) → (layout_in t).fields ≡ shape → (layout_in u).fields ≡ shape
       other shape e = ap (λ (l : Layout). l.fields) (sym alike.layout) ∙ e
 
-      by : (shape : FieldsShape ℕ) → (layout_in t).fields ≡ shape → own_parts t ≡ own_parts u
+      by : (shape : FieldsShape ℕ) → (layout_in t).fields ≡ shape → common_parts t ≡ common_parts u
       by Primitive e = rw (e, other Primitive e) (whole_same Number)
       by (Array stride count) e = rw (e, other (Array stride count) e) (whole_same Elements)
       by (Union count) e = rw (e, other (Union count) e) (listed (Union count) e)
@@ -173,7 +174,7 @@ module _ (t u : Typed) (alike : AreAlike t u) where
       other : (vs : Variants ℕ ℕ) → (layout_in t).variants ≡ vs → (layout_in u).variants ≡ vs
       other vs e = ap (λ (l : Layout). l.variants) (sym alike.layout) ∙ e
 
-      each : (n : ℕ) → ((v : ℕ) → v < n → IsBeside (layout_in t).variants v) → each_variant t n ≡ each_variant u n
+      each : (n : ℕ) → ((v : ℕ) → v < n → IsVariantOfSeveral (layout_in t).variants v) → parts_of_variants t n ≡ parts_of_variants u n
       each n beside =
           lists_same (λ v. variant_parts t v (field_count (layout_in (variant_in t v)).fields)) (λ v. variant_parts u v (field_count (layout_in (variant_in u v)).fields)) n 0
           (λ v from below. variant_parts_same t u v (alike.variants v (beside v (omega (arith, below)))))
@@ -182,10 +183,10 @@ module _ (t u : Typed) (alike : AreAlike t u) where
       by Empty e = rw (e, other Empty e) refl
       by (Single i) e = rw (e, other (Single i) e) refl
       by (Multiple tag encoding at layouts) e =
-          let all = each (length layouts) (λ v lt. subst (λ (vs : Variants ℕ ℕ). IsBeside vs v) (sym e) lt) in
+          let all = each (length layouts) (λ v lt. subst (λ (vs : Variants ℕ ℕ). IsVariantOfSeveral vs v) (sym e) lt) in
           rw (e, other (Multiple tag encoding at layouts) e) all
 
-  parts_same : parts_of t ≡ parts_of u
+  parts_same : all_parts t ≡ all_parts u
   parts_same = ap₂ (λ xs ys. xs ++ ys) own_same variants_same
 
   map_same : (dl : TargetDataLayout) → map_text dl t ≡ map_text dl u
@@ -243,12 +244,12 @@ arms_same whole mark t u i size (n ∷ numbers) (l ∷ layouts) (ps ∷ variants
 
 -- where both see the whole, its fields and its variants
 both_see : (t u : Typed) (layout : Layout) (marks : Marks) (count : ℕ) → SeesWhole t layout marks → SeesWhole u layout marks → field_count layout.fields ≡ count → HaveSameFields t u count
-    → ((v : ℕ) → IsBeside layout.variants v → AreSameVariants (variant_in t v) (variant_in u v)) → AreAlike t u
+    → ((v : ℕ) → IsVariantOfSeveral layout.variants v → AreSameVariants (variant_in t v) (variant_in u v)) → AreAlike t u
 both_see t u layout marks count a b counted fields variants = record {
   layout = a.0 ∙ sym b.0;
   marks = a.1 ∙ sym b.1;
   fields = subst (HaveSameFields t u) (sym (ap (λ (l : Layout). field_count l.fields) a.0 ∙ counted)) fields;
-  variants = λ v beside. variants v (subst (λ (l : Layout). IsBeside l.variants v) a.0 beside);
+  variants = λ v beside. variants v (subst (λ (l : Layout). IsVariantOfSeveral l.variants v) a.0 beside);
 }
 
 -- and no tag tells variants apart
@@ -259,13 +260,13 @@ both_alone t u layout marks count a b counted fields alone =
 
 -- and one does, of these layouts
 both_tagged : (t u : Typed) (layout : Layout) (marks : Marks) (count : ℕ) (vs : Variants ℕ ℕ) (layouts : List (VariantLayout ℕ)) → SeesWhole t layout marks → SeesWhole u layout marks
-    → field_count layout.fields ≡ count → HaveSameFields t u count → layout.variants ≡ vs → ((v : ℕ) → IsBeside vs v → v < length layouts)
+    → field_count layout.fields ≡ count → HaveSameFields t u count → layout.variants ≡ vs → ((v : ℕ) → IsVariantOfSeveral vs v → v < length layouts)
     → ((v : ℕ) → v < length layouts → AreSameVariants (variant_in t (0 + v)) (variant_in u (0 + v))) → AreAlike t u
 both_tagged t u layout marks count vs layouts a b counted fields told within each =
     both_see t u layout marks count a b counted fields
     (λ v beside.
     let here : 0 + v ≡ v = omega arith in
-    subst (λ m. AreSameVariants (variant_in t m) (variant_in u m)) here (each v (within v (subst (λ (ws : Variants ℕ ℕ). IsBeside ws v) told beside))))
+    subst (λ m. AreSameVariants (variant_in t m) (variant_in u m)) here (each v (within v (subst (λ (ws : Variants ℕ ℕ). IsVariantOfSeveral ws v) told beside))))
 
 no_fields : (t u : Typed) → HaveSameFields t u 0
 no_fields t u i lt = absurd (omega (arith, lt))
@@ -306,8 +307,8 @@ module _ (dl : TargetDataLayout) where
     of_states = λ layout offsets pres tag numbers layouts variants beside none front own t u a b.
         let counted = ap field_count beside.shape ∙ sym (front_counted offsets pres beside.count) in
         both_tagged t u layout no_marks (part_count (parts_at offsets pres) + 1) (Multiple tag beside.encoding beside.field layouts) layouts a.0 b.0 counted
-        (fields_and_last t u (part_count (parts_at offsets pres)) (last_of layout) (omega (arith, counted)) (fields_same t u offsets pres front a.1 b.1)
-        (seen_same (one_scalar dl tag) (scalar_alike tag) (field_in t (last_of layout)) (field_in u (last_of layout)) a.3 b.3)) beside.told (λ v lt. lt)
+        (fields_and_last t u (part_count (parts_at offsets pres)) (last_field layout) (omega (arith, counted)) (fields_same t u offsets pres front a.1 b.1)
+        (seen_same (one_scalar dl tag) (scalar_alike tag) (field_in t (last_field layout)) (field_in u (last_field layout)) a.3 b.3)) beside.told (λ v lt. lt)
         (arms_same layout _ t u 0 layout.size numbers layouts variants beside.numbered beside.inside own a.4 b.4);
   }
 

@@ -5,7 +5,7 @@ use Rattle.std.specs.List.{filter, flat_map, list_any, range_with_len}
 use Rattle.std.proofs.lemmas.Bool.{le-ltb}
 use Rattle.std.proofs.lemmas.List.Folds.{list_any-append}
 use Rattle.std.proofs.Math.Bool.{or-false}
-use Rattle.abi_index.specs.Runs.{moved}
+use Rattle.abi_index.specs.Runs.{moved_to}
 use Rattle.abi_index.proofs.RunsLemmas.{moved-zero}
 use Rattle.abi_scalar.specs.declared.fields_shape.FieldsShape.{FieldsShape}
 use Rattle.abi_scalar.specs.declared.fields_shape.FieldsShape.TheVariants.{Primitive, Union, Array, Arbitrary}
@@ -15,12 +15,12 @@ use Rattle.abi_scalar.specs.declared.variants.VariantLayout.{VariantLayout}
 use Rattle.abi_scalar.specs.Shape.{IsListed, field_count, field_offset}
 use Rattle.abi_scalar.specs.Variant.{variants_of}
 use Rattle.abi_types.specs.Ty.Places.{fields_cover, is_place, is_shared_place, variants_cover}
-use Rattle.abi_types.specs.Ty.Runs.{IsBeside}
+use Rattle.abi_types.specs.Ty.Runs.{IsVariantOfSeveral}
 use Rattle.abi_types.specs.Ty.Typed.{Typed, typed, no_type, field_in, layout_in, variant_in}
 use Rattle.abi_map.specs.declared.part.Name.{Name}
 use Rattle.abi_map.specs.declared.part.Name.TheVariants.{Elements, Lanes, Number, VariantField}
 use Rattle.abi_map.specs.Map.{names_at}
-use Rattle.abi_map.specs.Parts.{Part, each_variant, field_name, field_part, field_parts, is_vector, own_parts, parts_of, variant_parts, variants_parts, whole_part}
+use Rattle.abi_map.specs.Parts.{Part, parts_of_variants, field_name, field_part, field_parts, is_vector, common_parts, all_parts, variant_parts, variants_parts, whole_part}
 
 -- ---- bytes without a name
 
@@ -70,16 +70,16 @@ shared_as t k shape e = ap (λ s. fields_cover (layout_in t).size s (field_in t)
 
 -- the field has the byte at its offset
 abbrev has_at : Typed → (k index : ℕ) → Bool
-has_at t k i = moved (field_offset (layout_in t).fields i) (is_place (field_in t i)) k
+has_at t k i = moved_to (field_offset (layout_in t).fields i) (is_place (field_in t i)) k
 
 listed_shared : (t : Typed) (k : ℕ) (offsets order : List ℕ) → (layout_in t).fields ≡ Arbitrary offsets order → list_any (has_at t k) (range_with_len 0 (length offsets)) ≡ is_shared_place t k
 listed_shared t k offsets order e =
-    ap (λ (s : FieldsShape ℕ). list_any (λ i. moved (field_offset s i) (is_place (field_in t i)) k) (range_with_len 0 (length offsets))) e ∙ sym (shared_as t k (Arbitrary offsets order) e)
+    ap (λ (s : FieldsShape ℕ). list_any (λ i. moved_to (field_offset s i) (is_place (field_in t i)) k) (range_with_len 0 (length offsets))) e ∙ sym (shared_as t k (Arbitrary offsets order) e)
 
 union_shared : (t : Typed) (k count : ℕ) → (layout_in t).fields ≡ Union count → list_any (has_at t k) (range_with_len 0 count) ≡ is_shared_place t k
 union_shared t k count e =
-    ap (λ (s : FieldsShape ℕ). list_any (λ i. moved (field_offset s i) (is_place (field_in t i)) k) (range_with_len 0 count)) e
-    ∙ any_same (λ i. moved 0 (is_place (field_in t i)) k) (λ i. is_place (field_in t i) k) count 0 (λ i from below. moved-zero (is_place (field_in t i)) k)
+    ap (λ (s : FieldsShape ℕ). list_any (λ i. moved_to (field_offset s i) (is_place (field_in t i)) k) (range_with_len 0 count)) e
+    ∙ any_same (λ i. moved_to 0 (is_place (field_in t i)) k) (λ i. is_place (field_in t i) k) count 0 (λ i from below. moved-zero (is_place (field_in t i)) k)
     ∙ sym (shared_as t k (Union count) e)
 
 fields_have : (t : Typed) (k count : ℕ) → any_has (field_parts t count) k ≡ list_any (has_at t k) (range_with_len 0 count)
@@ -91,7 +91,7 @@ or_again false true = refl
 or_again false false = refl
 
 -- what a type's own parts have, beside what variants cover
-own_have : (t : Typed) (k : ℕ) (covers : Bool) → is_place t k ≡ (is_shared_place t k || covers) → (any_has (own_parts t) k || covers) ≡ is_place t k
+own_have : (t : Typed) (k : ℕ) (covers : Bool) → is_place t k ≡ (is_shared_place t k || covers) → (any_has (common_parts t) k || covers) ≡ is_place t k
 own_have t k covers is = by (layout_in t).fields refl
   where
     whole : (name : Name) → (any_has (whole_part name t ∷ []) k || covers) ≡ is_place t k
@@ -104,7 +104,7 @@ own_have t k covers is = by (layout_in t).fields refl
     chosen true name parts same = whole name
     chosen false name parts same = listed parts same
 
-    by : (shape : FieldsShape ℕ) → (layout_in t).fields ≡ shape → (any_has (own_parts t) k || covers) ≡ is_place t k
+    by : (shape : FieldsShape ℕ) → (layout_in t).fields ≡ shape → (any_has (common_parts t) k || covers) ≡ is_place t k
     by Primitive e = rw e (whole Number)
     by (Array stride count) e = rw e (whole Elements)
     by (Union count) e = let all = fields_have t k count ∙ union_shared t k count e in rw e (listed (field_parts t count) all)
@@ -115,7 +115,7 @@ own_have t k covers is = by (layout_in t).fields refl
 
 -- each variant that a tag tells apart lists its fields one by one, and has no variants
 abbrev pub VariantsListed : Typed → Type 0
-VariantsListed t = (v : ℕ) → IsBeside (layout_in t).variants v → IsListed (layout_in (variant_in t v)).fields × (variants_of (layout_in (variant_in t v)).variants ≡ [])
+VariantsListed t = (v : ℕ) → IsVariantOfSeveral (layout_in t).variants v → IsListed (layout_in (variant_in t v)).fields × (variants_of (layout_in (variant_in t v)).variants ≡ [])
 
 pub alone_cover : (vs : Variants ℕ ℕ) (own : ℕ → ℕ → Bool) (k : ℕ) → variants_of vs ≡ [] → variants_cover vs own k ≡ false
 alone_cover Empty own k e = refl
@@ -137,7 +137,7 @@ variant_has u v k t same listed alone =
 variants_have : (t : Typed) (k : ℕ) → VariantsListed t → any_has (variants_parts t) k ≡ variants_cover (layout_in t).variants (λ v. is_place (variant_in t v)) k
 variants_have t k listed = by (layout_in t).variants refl
   where
-    each : (n : ℕ) → ((v : ℕ) → v < n → IsBeside (layout_in t).variants v) → any_has (each_variant t n) k ≡ list_any (λ v. is_place (variant_in t v) k) (range_with_len 0 n)
+    each : (n : ℕ) → ((v : ℕ) → v < n → IsVariantOfSeveral (layout_in t).variants v) → any_has (parts_of_variants t n) k ≡ list_any (λ v. is_place (variant_in t v) k) (range_with_len 0 n)
     each n beside =
         any_flat (λ v. variant_parts t v (field_count (layout_in (variant_in t v)).fields)) k (range_with_len 0 n)
         ∙ any_same (λ v. any_has (variant_parts t v (field_count (layout_in (variant_in t v)).fields)) k) (λ v. is_place (variant_in t v) k) n 0
@@ -147,10 +147,10 @@ variants_have t k listed = by (layout_in t).variants refl
     by Empty e = rw e refl
     by (Single i) e = rw e refl
     by (Multiple tag encoding at layouts) e =
-        let all = each (length layouts) (λ v lt. subst (λ (vs : Variants ℕ ℕ). IsBeside vs v) (sym e) lt) in rw e all
+        let all = each (length layouts) (λ v lt. subst (λ (vs : Variants ℕ ℕ). IsVariantOfSeveral vs v) (sym e) lt) in rw e all
 
 -- some part has a byte exactly where it is a data place
-pub parts_cover : (t : Typed) (k : ℕ) → VariantsListed t → any_has (parts_of t) k ≡ is_place t k
+pub parts_cover : (t : Typed) (k : ℕ) → VariantsListed t → any_has (all_parts t) k ≡ is_place t k
 parts_cover t k listed =
-    list_any-append (λ (part : Part). part.has k) (own_parts t) (variants_parts t) ∙ ap (λ b. any_has (own_parts t) k || b) (variants_have t k listed)
+    list_any-append (λ (part : Part). part.has k) (common_parts t) (variants_parts t) ∙ ap (λ b. any_has (common_parts t) k || b) (variants_have t k listed)
     ∙ own_have t k (variants_cover (layout_in t).variants (λ v. is_place (variant_in t v)) k) (place_by t k)

@@ -13,12 +13,13 @@ use Rattle.abi_index.specs.RangeSet.{AreMaximalRuns, is_in_ranges, is_in_run}
 use Rattle.abi_scalar.specs.Shape.{field_count, field_offset}
 use Rattle.abi_types.specs.Ty.Lawful.{IsLawfulType}
 use Rattle.abi_types.specs.Ty.Places.{is_padding, is_place}
-use Rattle.abi_types.specs.Ty.Typed.{Layout, Typed, typed, no_type, field_in, layout_in, variant_in}
+use Rattle.abi_types.specs.Ty.Typed.{Typed, typed, no_type, field_in, layout_in, variant_in}
+use Rattle.abi_scalar.specs.Layout.{Layout}
 use Rattle.abi_types.proofs.PlacesLemmas.{place_inside}
 use Rattle.abi_map.specs.declared.part.Name.{Name}
 use Rattle.abi_map.specs.declared.part.Name.TheVariants.{VariantField}
 use Rattle.abi_map.specs.declared.part.PartBytes.{PartBytes}
-use Rattle.abi_map.specs.Parts.{Part, each_variant, field_part, part_told, variant_parts}
+use Rattle.abi_map.specs.Parts.{Part, parts_of_variants, field_part, part_told, variant_parts}
 use Rattle.abi_map.proofs.StartLemmas.{ends_below}
 
 -- ---- the bytes of a type
@@ -77,10 +78,10 @@ flat_more f n =
     ∙ flat_map-append f (range_with_len 0 n) (n ∷ []) ∙ ap (λ xs. flat_map f (range_with_len 0 n) ++ xs) (append-nil (f n))
 
 -- the fields of one variant more
-pub variants_more : (t u : Typed) (base now new : List Part) (v : ℕ) → now ≡ base ++ each_variant t v
-    → new ≡ now ++ map (λ i. field_part (VariantField v i) u i) (range_with_len 0 (field_count (layout_in u).fields)) → u ≡ variant_in t v → new ≡ base ++ each_variant t (v + 1)
+pub variants_more : (t u : Typed) (base now new : List Part) (v : ℕ) → now ≡ base ++ parts_of_variants t v
+    → new ≡ now ++ map (λ i. field_part (VariantField v i) u i) (range_with_len 0 (field_count (layout_in u).fields)) → u ≡ variant_in t v → new ≡ base ++ parts_of_variants t (v + 1)
 variants_more t u base now new v inv is same =
     is ∙ ap (λ xs. xs ++ map (λ i. field_part (VariantField v i) u i) (range_with_len 0 (field_count (layout_in u).fields))) inv
-    ∙ append_assoc base (each_variant t v) (map (λ i. field_part (VariantField v i) u i) (range_with_len 0 (field_count (layout_in u).fields)))
-    ∙ ap (λ w. base ++ (each_variant t v ++ map (λ i. field_part (VariantField v i) w i) (range_with_len 0 (field_count (layout_in w).fields)))) same
+    ∙ append_assoc base (parts_of_variants t v) (map (λ i. field_part (VariantField v i) u i) (range_with_len 0 (field_count (layout_in u).fields)))
+    ∙ ap (λ w. base ++ (parts_of_variants t v ++ map (λ i. field_part (VariantField v i) w i) (range_with_len 0 (field_count (layout_in w).fields)))) same
     ∙ ap (λ xs. base ++ xs) (sym (flat_more (λ w. variant_parts t w (field_count (layout_in (variant_in t w)).fields)) v))

@@ -21,26 +21,27 @@ use Rattle.abi_lists.specs.Array.{elements_layout}
 use Rattle.abi_lists.specs.Part.{is_unsized}
 use Rattle.abi_lists.specs.Placement.{source_order}
 use Rattle.abi_lists.specs.Simd.{simd_answer}
-use Rattle.abi_types.specs.Ty.Runs.{IsBeside}
+use Rattle.abi_types.specs.Ty.Runs.{IsVariantOfSeveral}
 use Rattle.abi_types.specs.Ty.Typed.{Typed, field_in, layout_in, variant_in}
 use Rattle.abi_types.specs.Ty.Walks.{is_sized}
 use Rattle.abi_laid.specs.declared.mark.Mark.{Mark}
 use Rattle.abi_laid.specs.declared.mark.Mark.TheVariants.{Never, Plain, Unit}
 use Rattle.abi_calc.specs.Enums.Path.{variant_at}
-use Rattle.abi_laid.specs.Placed.{Placed, Layout, Parts, Arms, arm, elements, fields, layout_of, never as placed_never, no_arms, no_parts, pair as placed_pair, part, scalar as placed_scalar, single, size_of, states, tagged, union as placed_union, vector as placed_vector}
+use Rattle.abi_laid.specs.Placed.{Placed, Parts, Arms, arm, elements, fields, layout_of, never as placed_never, no_arms, no_parts, pair as placed_pair, part, scalar as placed_scalar, single, size_of, states, tagged, union as placed_union, vector as placed_vector}
+use Rattle.abi_scalar.specs.Layout.{Layout}
 use Rattle.abi_laid.specs.Nodes.{parts_at, parts_at_0, placed_in}
-use Rattle.abi_laid.specs.Seen.{Sees, SeesArms, SeesParts, SeesTypes, last_of, part_count}
+use Rattle.abi_laid.specs.Seen.{Sees, SeesArms, SeesParts, SeesTypes, last_field, part_count}
 use Rattle.abi_laid.specs.Tree.{Tree, scalar, pair, never, unit, array, vector, struct, union, enum, coroutine}
 use Rattle.abi_laid.proofs.SeenLemmas.{count_at}
 use Rattle.rustc_abi.specs.declared.error.LayError.TheVariants.{SizeOverflow}
 use Rattle.rustc_abi.specs.Enums.{IsEnumed, arms_at, discriminants_of}
 use Rattle.rustc_abi.specs.Error.{named}
 use Rattle.rustc_abi.specs.Inside.{VariantsInside}
-use Rattle.rustc_abi.specs.Laying.{IsLaying, IsListed, IsListedInOrder, IsUnited, coroutine_fault, enum_fault, fields_fault, kind_of, lanes_of, one_scalar, ordered_fault, placed_by, placed_enum, placed_fields, placed_together, placed_variants, randomized, two_scalars, unless}
+use Rattle.rustc_abi.specs.Laying.{IsLaying, IsLaidList, IsListedInOrder, IsUnited, coroutine_fault, enum_fault, fields_fault, kind_of, lanes_of, one_scalar, ordered_fault, placed_by, placed_enum, placed_fields, placed_together, placed_variants, randomized, two_scalars, unless}
 use Rattle.rustc_abi.specs.ScalarFault.{scalar_fault}
 use Rattle.rustc_abi.proofs.Trees.KindsLemmas.{AreFields, IsKept, laid_kept}
 use Rattle.rustc_abi.proofs.Trees.LaidLemmas.{IsWhole, all_whole, coroutine_laid, fitted, laid_by, laid_sized, no_fault, placed_back, variants_whole}
-use Rattle.abi_map.specs.Sized.{AreFieldsSized, ArePartsSized, IsSized}
+use Rattle.abi_map.specs.Sized.{AreFieldsSized, ArePartsSized, HasSize}
 
 -- ---- what is sized
 
@@ -149,7 +150,7 @@ module _ (dl : TargetDataLayout) (law : IsLawfulDataLayout dl) where
       subst HasSized found.2 refl
   has_sized (struct repr always_sized order all) p (inl f) = absurd (cc f.2)
   has_sized (struct repr always_sized None all) p (inr (ps, there, answer)) =
-      let found = laid_by (fields_fault repr ps) (IsListed dl repr (kind_of always_sized ps) (map layout_of ps)) (placed_fields repr ps) p answer in
+      let found = laid_by (fields_fault repr ps) (IsLaidList dl repr (kind_of always_sized ps) (map layout_of ps)) (placed_fields repr ps) p answer in
       subst HasSized found.2 (each_at (listed_offsets found.0.fields) ps (whole_sized ps (all_whole dl law all ps there)))
   has_sized (struct repr always_sized (Some order) all) p (inr (ps, there, answer)) =
       let found = laid_by (ordered_fault repr ps) (IsListedInOrder dl (randomized repr) (kind_of always_sized ps) order (map layout_of ps)) (placed_fields repr ps) p answer in
@@ -190,8 +191,8 @@ IsCounted (placed_vector layout lanes) = field_count layout.fields ≡ 1
 IsCounted (fields layout mark parts) = field_count layout.fields ≡ part_count parts
 IsCounted (placed_union layout mark parts) = field_count layout.fields ≡ part_count parts
 IsCounted (single layout mark index parts) = field_count layout.fields ≡ part_count parts
-IsCounted (tagged layout mark offset tag encoding arms) = (field_count layout.fields ≡ 1) × ((v : ℕ) → IsBeside layout.variants v → v < arm_count arms)
-IsCounted (states layout prefix offset tag arms) = (field_count layout.fields ≡ part_count prefix + 1) × ((v : ℕ) → IsBeside layout.variants v → v < arm_count arms)
+IsCounted (tagged layout mark offset tag encoding arms) = (field_count layout.fields ≡ 1) × ((v : ℕ) → IsVariantOfSeveral layout.variants v → v < arm_count arms)
+IsCounted (states layout prefix offset tag arms) = (field_count layout.fields ≡ part_count prefix + 1) × ((v : ℕ) → IsVariantOfSeveral layout.variants v → v < arm_count arms)
 
 pub fields_counted : (layout : Layout) (offsets : List ℕ) (ps : List Placed) → AreFields layout offsets ps → field_count layout.fields ≡ part_count (parts_at offsets ps)
 fields_counted layout offsets ps all = ap field_count all.shape ∙ sym (count_at offsets ps all.count)
@@ -227,14 +228,14 @@ module _ (dl : TargetDataLayout) where
     of_tagged = λ layout mark offset tag encoding numbers layouts variants beside whole own. (
       ap field_count beside.shape,
       λ v h.
-          let lt : v < length layouts = subst (λ (vs : LayoutVariants ℕ ℕ). IsBeside vs v) beside.told h in
+          let lt : v < length layouts = subst (λ (vs : LayoutVariants ℕ ℕ). IsVariantOfSeveral vs v) beside.told h in
           let count = arms_counted layout mark 0 layout.size numbers layouts variants beside.numbered beside.inside in
           omega (arith, lt, count),
     );
     of_states = λ layout offsets pres tag numbers layouts variants beside none front own. (
       ap field_count beside.shape ∙ sym (front_counted offsets pres beside.count),
       λ v h.
-          let lt : v < length layouts = subst (λ (vs : LayoutVariants ℕ ℕ). IsBeside vs v) beside.told h in
+          let lt : v < length layouts = subst (λ (vs : LayoutVariants ℕ ℕ). IsVariantOfSeveral vs v) beside.told h in
           let count = arms_counted layout Plain 0 layout.size numbers layouts variants beside.numbered beside.inside in
           omega (arith, lt, count),
     );
@@ -254,20 +255,20 @@ seen_layout t (single layout mark index parts) seen = seen.0.0
 seen_layout t (tagged layout mark offset tag encoding arms) seen = seen.0.0
 seen_layout t (states layout prefix offset tag arms) seen = seen.0.0
 
-seen_sized : (t : Typed) (p : Placed) → Sees t p → IsSizedType p → IsSized t
+seen_sized : (t : Typed) (p : Placed) → Sees t p → IsSizedType p → HasSize t
 seen_sized t p seen own = ap (λ (l : Layout). is_sized l.backend_repr) (seen_layout t p seen) ∙ own
 
-parts_seen : (t : Typed) (j : ℕ) (parts : Parts) → SeesParts t j parts → EachSized parts → (i : ℕ) → i < part_count parts → IsSized (field_in t (j + i))
+parts_seen : (t : Typed) (j : ℕ) (parts : Parts) → SeesParts t j parts → EachSized parts → (i : ℕ) → i < part_count parts → HasSize (field_in t (j + i))
 parts_seen t j no_parts seen own i lt = absurd (omega (arith, lt))
-parts_seen t j (part offset p parts) seen own zero lt = let here : j ≡ j + 0 = omega arith in subst (λ m. IsSized (field_in t m)) here (seen_sized (field_in t j) p seen.1 own.0)
+parts_seen t j (part offset p parts) seen own zero lt = let here : j ≡ j + 0 = omega arith in subst (λ m. HasSize (field_in t m)) here (seen_sized (field_in t j) p seen.1 own.0)
 parts_seen t j (part offset p parts) seen own (suc i) lt =
-    let there : suc j + i ≡ j + suc i = omega arith in subst (λ m. IsSized (field_in t m)) there (parts_seen t (suc j) parts seen.2 own.1 i (omega (arith, lt)))
+    let there : suc j + i ≡ j + suc i = omega arith in subst (λ m. HasSize (field_in t m)) there (parts_seen t (suc j) parts seen.2 own.1 i (omega (arith, lt)))
 
-types_seen : (t : Typed) (j : ℕ) (parts : Parts) → SeesTypes t j parts → EachSized parts → (i : ℕ) → i < part_count parts → IsSized (field_in t (j + i))
+types_seen : (t : Typed) (j : ℕ) (parts : Parts) → SeesTypes t j parts → EachSized parts → (i : ℕ) → i < part_count parts → HasSize (field_in t (j + i))
 types_seen t j no_parts seen own i lt = absurd (omega (arith, lt))
-types_seen t j (part offset p parts) seen own zero lt = let here : j ≡ j + 0 = omega arith in subst (λ m. IsSized (field_in t m)) here (seen_sized (field_in t j) p seen.0 own.0)
+types_seen t j (part offset p parts) seen own zero lt = let here : j ≡ j + 0 = omega arith in subst (λ m. HasSize (field_in t m)) here (seen_sized (field_in t j) p seen.0 own.0)
 types_seen t j (part offset p parts) seen own (suc i) lt =
-    let there : suc j + i ≡ j + suc i = omega arith in subst (λ m. IsSized (field_in t m)) there (types_seen t (suc j) parts seen.1 own.1 i (omega (arith, lt)))
+    let there : suc j + i ≡ j + suc i = omega arith in subst (λ m. HasSize (field_in t m)) there (types_seen t (suc j) parts seen.1 own.1 i (omega (arith, lt)))
 
 arms_seen : (t : Typed) (j : ℕ) (arms : Arms) → SeesArms t j arms → EachArmSized arms → (v : ℕ) → v < arm_count arms → AreFieldsSized (variant_in t (j + v))
 arms_seen t j no_arms seen own v lt = absurd (omega (arith, lt))
@@ -276,16 +277,16 @@ arms_seen t j (arm number layout mark parts arms) seen own zero lt =
     subst (λ m. AreFieldsSized (variant_in t m)) here
     (λ i within.
     let first : 0 + i ≡ i = omega arith in
-    subst (λ m. IsSized (field_in (variant_in t j) m)) first (parts_seen (variant_in t j) 0 parts seen.2 own.0 i (omega (arith, within, seen.1.1))))
+    subst (λ m. HasSize (field_in (variant_in t j) m)) first (parts_seen (variant_in t j) 0 parts seen.2 own.0 i (omega (arith, within, seen.1.1))))
 arms_seen t j (arm number layout mark parts arms) seen own (suc v) lt =
     let there : suc j + v ≡ j + suc v = omega arith in subst (λ m. AreFieldsSized (variant_in t m)) there (arms_seen t (suc j) arms seen.3 own.1 v (omega (arith, lt)))
 
 -- of so many parts, from the first on
-first_seen : (t : Typed) (layout : Layout) (count : ℕ) → layout_in t ≡ layout → field_count layout.fields ≡ count → ((i : ℕ) → i < count → IsSized (field_in t (0 + i))) → AreFieldsSized t
+first_seen : (t : Typed) (layout : Layout) (count : ℕ) → layout_in t ≡ layout → field_count layout.fields ≡ count → ((i : ℕ) → i < count → HasSize (field_in t (0 + i))) → AreFieldsSized t
 first_seen t layout count same counted each i lt =
     let first : 0 + i ≡ i = omega arith in
     let all : field_count (layout_in t).fields ≡ count = ap (λ (l : Layout). field_count l.fields) same ∙ counted in
-    subst (λ m. IsSized (field_in t m)) first (each i (omega (arith, lt, all)))
+    subst (λ m. HasSize (field_in t m)) first (each i (omega (arith, lt, all)))
 
 fields_seen : (t : Typed) (p : Placed) → Sees t p → HasSized p → IsCounted p → AreFieldsSized t
 fields_seen t (placed_scalar layout s) seen own counted = first_seen t layout 0 seen.0 counted (λ i lt. absurd (omega (arith, lt)))
@@ -293,31 +294,31 @@ fields_seen t (placed_never layout mark) seen own counted = first_seen t layout 
 fields_seen t (placed_pair layout parts) seen own counted = first_seen t layout (part_count parts) seen.0.0 counted (parts_seen t 0 parts seen.1 own)
 fields_seen t (elements layout count q) seen own counted = λ i lt. seen_sized (field_in t i) q (seen.1 i) own
 fields_seen t (placed_vector layout lanes) seen own counted =
-    first_seen t layout 1 seen.0.0 counted (λ i lt. let here : 0 ≡ 0 + i = omega (arith, lt) in subst (λ m. IsSized (field_in t m)) here (seen_sized (field_in t 0) lanes seen.1 own))
+    first_seen t layout 1 seen.0.0 counted (λ i lt. let here : 0 ≡ 0 + i = omega (arith, lt) in subst (λ m. HasSize (field_in t m)) here (seen_sized (field_in t 0) lanes seen.1 own))
 fields_seen t (fields layout mark parts) seen own counted = first_seen t layout (part_count parts) seen.0.0 counted (parts_seen t 0 parts seen.1 own)
 fields_seen t (placed_union layout mark parts) seen own counted = first_seen t layout (part_count parts) seen.0.0 counted (types_seen t 0 parts seen.1 own)
 fields_seen t (single layout mark index parts) seen own counted = first_seen t layout (part_count parts) seen.0.0 counted (parts_seen t 0 parts seen.1 own)
 fields_seen t (tagged layout mark offset tag encoding arms) seen own counted =
-    first_seen t layout 1 seen.0.0 counted.0 (λ i lt. let here : 0 ≡ 0 + i = omega (arith, lt) in subst (λ m. IsSized (field_in t m)) here (seen_sized (field_in t 0) tag seen.2 own.0))
+    first_seen t layout 1 seen.0.0 counted.0 (λ i lt. let here : 0 ≡ 0 + i = omega (arith, lt) in subst (λ m. HasSize (field_in t m)) here (seen_sized (field_in t 0) tag seen.2 own.0))
 fields_seen t (states layout prefix offset tag arms) seen own counted =
     first_seen t layout (part_count prefix + 1) seen.0.0 counted.0 (λ i lt. elim (cases_lt i (part_count prefix)) [
       | inl before ↦ parts_seen t 0 prefix seen.1 own.0 i before
       | inr behind ↦
-          let last : last_of layout ≡ 0 + i = omega (arith, counted.0, lt, behind) in
-          subst (λ m. IsSized (field_in t m)) last (seen_sized (field_in t (last_of layout)) tag seen.3 own.1)
+          let last : last_field layout ≡ 0 + i = omega (arith, counted.0, lt, behind) in
+          subst (λ m. HasSize (field_in t m)) last (seen_sized (field_in t (last_field layout)) tag seen.3 own.1)
     ])
 
-none_beside : (vs : LayoutVariants ℕ ℕ) (v : ℕ) → variants_of vs ≡ [] → IsBeside vs v → ⊥
+none_beside : (vs : LayoutVariants ℕ ℕ) (v : ℕ) → variants_of vs ≡ [] → IsVariantOfSeveral vs v → ⊥
 none_beside Empty v e h = h
 none_beside (Single i) v e h = h
 none_beside (Multiple tag encoding at layouts) v e h = omega (arith, h, ap (λ (ls : List (VariantLayout ℕ)). length ls) e)
 
 -- each variant, where there are some
-variants_seen : (t : Typed) (layout : Layout) (arms : Arms) → layout_in t ≡ layout → ((v : ℕ) → IsBeside layout.variants v → v < arm_count arms) → SeesArms t 0 arms → EachArmSized arms
-    → (v : ℕ) → IsBeside (layout_in t).variants v → AreFieldsSized (variant_in t v)
+variants_seen : (t : Typed) (layout : Layout) (arms : Arms) → layout_in t ≡ layout → ((v : ℕ) → IsVariantOfSeveral layout.variants v → v < arm_count arms) → SeesArms t 0 arms → EachArmSized arms
+    → (v : ℕ) → IsVariantOfSeveral (layout_in t).variants v → AreFieldsSized (variant_in t v)
 variants_seen t layout arms same counted seen own v beside =
     let first : 0 + v ≡ v = omega arith in
-    subst (λ m. AreFieldsSized (variant_in t m)) first (arms_seen t 0 arms seen own v (counted v (subst (λ (l : Layout). IsBeside l.variants v) same beside)))
+    subst (λ m. AreFieldsSized (variant_in t m)) first (arms_seen t 0 arms seen own v (counted v (subst (λ (l : Layout). IsVariantOfSeveral l.variants v) same beside)))
 
 -- no tag tells variants of the type apart, unless it is one with a tag
 abbrev IsAlone : Placed → Type 0
@@ -340,10 +341,10 @@ module _ (dl : TargetDataLayout) where
     of_states = λ layout offsets pres tag numbers layouts variants beside none front own. tt;
   }
 
-untagged : (t : Typed) (layout : Layout) → layout_in t ≡ layout → variants_of layout.variants ≡ [] → (v : ℕ) → IsBeside (layout_in t).variants v → AreFieldsSized (variant_in t v)
+untagged : (t : Typed) (layout : Layout) → layout_in t ≡ layout → variants_of layout.variants ≡ [] → (v : ℕ) → IsVariantOfSeveral (layout_in t).variants v → AreFieldsSized (variant_in t v)
 untagged t layout same alone v beside = absurd (none_beside (layout_in t).variants v (ap (λ (l : Layout). variants_of l.variants) same ∙ alone) beside)
 
-all_variants : (t : Typed) (p : Placed) → Sees t p → HasSized p → IsCounted p → IsAlone p → (v : ℕ) → IsBeside (layout_in t).variants v → AreFieldsSized (variant_in t v)
+all_variants : (t : Typed) (p : Placed) → Sees t p → HasSized p → IsCounted p → IsAlone p → (v : ℕ) → IsVariantOfSeveral (layout_in t).variants v → AreFieldsSized (variant_in t v)
 all_variants t (placed_scalar layout s) seen own counted alone = untagged t layout seen.0 alone
 all_variants t (placed_never layout mark) seen own counted alone = untagged t layout seen.0 alone
 all_variants t (placed_pair layout parts) seen own counted alone = untagged t layout seen.0.0 alone

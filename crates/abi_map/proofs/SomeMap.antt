@@ -14,9 +14,10 @@ use Rattle.abi_types.specs.Ty.Typed.{Marks, Typed, typed, no_type, field_in, lay
 use Rattle.abi_laid.specs.declared.mark.Mark.{Mark}
 use Rattle.abi_laid.specs.declared.mark.Mark.TheVariants.{Plain}
 use Rattle.abi_laid.specs.Mark.{marks_by}
-use Rattle.abi_laid.specs.Placed.{Placed, Layout, size_of}
+use Rattle.abi_laid.specs.Placed.{Placed, size_of}
+use Rattle.abi_scalar.specs.Layout.{Layout}
 use Rattle.abi_laid.specs.Nodes.{parts_at}
-use Rattle.abi_laid.specs.Seen.{IsListOf, Sees, SeesArms, SeesParts, SeesTypes, SeesWhole, last_of}
+use Rattle.abi_laid.specs.Seen.{IsListOf, Sees, SeesArms, SeesParts, SeesTypes, SeesWhole, last_field}
 use Rattle.abi_laid.specs.Tree.{Tree}
 use Rattle.abi_laid.proofs.SeenLemmas.{count_at}
 use Rattle.rustc_abi.specs.Enums.{arms_at}
@@ -158,12 +159,12 @@ module _ (dl : TargetDataLayout) where
     of_states = λ layout offsets pres tag numbers layouts variants beside none front own.
         let seen = scalar_seen tag in
         let t : Typed = typed layout no_marks (fields_of pres front seen.0) (variants_from layout Plain 0 layouts variants own) in
-        let last : length pres ≡ last_of layout = omega (arith, ap field_count beside.shape, beside.count) in (
+        let last : length pres ≡ last_field layout = omega (arith, ap field_count beside.shape, beside.count) in (
           t,
           (
             (refl, refl),
             all_fields t seen.0 layout offsets beside.order pres front refl beside.shape (λ i. refl),
-            ap (λ (s : FieldsShape ℕ). field_offset s (last_of layout)) beside.shape ∙ unwrap_or-slice_get offsets (last_of layout) 0 ∙ ap (λ n. get_or offsets n 0) (sym last),
+            ap (λ (s : FieldsShape ℕ). field_offset s (last_field layout)) beside.shape ∙ unwrap_or-slice_get offsets (last_field layout) 0 ∙ ap (λ n. get_or offsets n 0) (sym last),
             subst (λ u. Sees u (one_scalar dl tag)) (sym (ap (fields_of pres front seen.0) (sym last) ∙ behind_all pres front seen.0)) seen.1,
             all_arms t layout Plain layouts numbers variants own beside.inside (λ j. refl),
           ),

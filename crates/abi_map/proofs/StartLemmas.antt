@@ -10,7 +10,7 @@ use Rattle.std.proofs.lemmas.List.FromFn.{map-range_with_len_more}
 use Rattle.std.proofs.lemmas.List.Folds.{list_any-append}
 use Rattle.std.proofs.Math.Bool.{and-false, or-false}
 use Rattle.abi_index.specs.RangeSet.{AreMaximalRuns, is_in_ranges, is_in_run}
-use Rattle.abi_index.specs.Runs.{Adds, moved}
+use Rattle.abi_index.specs.Runs.{Adds, moved_to}
 use Rattle.abi_index.proofs.RangeSetLemmas.{earlier}
 use Rattle.abi_index.proofs.RunsLemmas.{moved-zero}
 use Rattle.abi_index.proofs.UncutLemmas.{none_below}
@@ -44,7 +44,7 @@ ends_below size low runs maximal none = λ i d lt. by runs low maximal none i d 
 -- ---- one part
 
 -- below the size a cut set moved on by one is the whole one
-cut_moved : (size k : ℕ) (bytes has : ℕ → Bool) → k < size → ((j : ℕ) → bytes j ≡ (nat_lt j size && has j)) → moved 1 bytes k ≡ moved 1 has k
+cut_moved : (size k : ℕ) (bytes has : ℕ → Bool) → k < size → ((j : ℕ) → bytes j ≡ (nat_lt j size && has j)) → moved_to 1 bytes k ≡ moved_to 1 has k
 cut_moved size k bytes has lt same = ap (λ b. nat_le 1 k && b) (same (k - 1) ∙ ap (λ b. b && has (k - 1)) (lt-ltb (k - 1) size (omega (arith, lt))))
 
 -- the sets that are collected end where 64 bits can tell it
@@ -57,30 +57,30 @@ begins_fit size cut begins has other few maximal is_cut same i d lt =
     omega (arith, few, ends_below size 0 begins maximal (λ k le. same k ∙ ap (λ b. b && other k) (is_cut k ∙ ap (λ b. b && has k) (le-ltb k size le))) i d lt)
 
 pub ends_fit : (size : ℕ) (cut late before ends none : List (ℕ × ℕ)) (has other : ℕ → Bool) → size ≤ 65536 → AreMaximalRuns 0 ends → ((k : ℕ) → is_in_ranges cut k ≡ (nat_lt k size && has k))
-    → none ≡ [] → Adds none late (moved 1 (is_in_ranges cut)) → ((k : ℕ) → is_in_ranges before k ≡ is_in_ranges late k) → ((k : ℕ) → is_in_ranges ends k ≡ (is_in_ranges before k && other k))
+    → none ≡ [] → Adds none late (moved_to 1 (is_in_ranges cut)) → ((k : ℕ) → is_in_ranges before k ≡ is_in_ranges late k) → ((k : ℕ) → is_in_ranges ends k ≡ (is_in_ranges before k && other k))
     → All (λ run. 0 + (run.0 + run.1) < 2 ^ 64) ends
 ends_fit size cut late before ends none has other few maximal is_cut empty is_late is_before same i d lt =
     omega (
       arith,
       few,
       ends_below (size + 1) 0 ends maximal
-          (λ k le. same k ∙ ap (λ b. b && other k) (is_before k ∙ is_late k ∙ ap (λ rs. is_in_ranges rs k || moved 1 (is_in_ranges cut) k) empty
+          (λ k le. same k ∙ ap (λ b. b && other k) (is_before k ∙ is_late k ∙ ap (λ rs. is_in_ranges rs k || moved_to 1 (is_in_ranges cut) k) empty
           ∙ ap (λ b. nat_le 1 k && b) (is_cut (k - 1) ∙ ap (λ b. b && has (k - 1)) (le-ltb (k - 1) size (omega (arith, le)))) ∙ and-false (nat_le 1 k))) i d lt,
     )
 
 -- what has changed is put in
 pub changes_put : (size : ℕ) (part : Part) (cut late before begins ends none old middle new : List (ℕ × ℕ)) → none ≡ [] → ((k : ℕ) → is_in_ranges cut k ≡ (nat_lt k size && part.has k))
-    → Adds none late (moved 1 (is_in_ranges cut)) → ((k : ℕ) → is_in_ranges before k ≡ is_in_ranges late k) → ((k : ℕ) → is_in_ranges begins k ≡ (is_in_ranges cut k && not (is_in_ranges before k)))
-    → ((k : ℕ) → is_in_ranges ends k ≡ (is_in_ranges before k && not (is_in_ranges cut k))) → Adds old middle (moved 0 (is_in_ranges begins)) → Adds middle new (moved 0 (is_in_ranges ends))
+    → Adds none late (moved_to 1 (is_in_ranges cut)) → ((k : ℕ) → is_in_ranges before k ≡ is_in_ranges late k) → ((k : ℕ) → is_in_ranges begins k ≡ (is_in_ranges cut k && not (is_in_ranges before k)))
+    → ((k : ℕ) → is_in_ranges ends k ≡ (is_in_ranges before k && not (is_in_ranges cut k))) → Adds old middle (moved_to 0 (is_in_ranges begins)) → Adds middle new (moved_to 0 (is_in_ranges ends))
     → AddsBelow size old new (changes part)
 changes_put size part cut late before begins ends none old middle new empty is_cut is_late is_before is_begin is_end first next k lt =
     let here : is_in_ranges cut k ≡ part.has k = is_cut k ∙ ap (λ b. b && part.has k) (lt-ltb k size lt) in
-    let earlier_too : is_in_ranges before k ≡ had part k = is_before k ∙ is_late k ∙ ap (λ rs. is_in_ranges rs k || moved 1 (is_in_ranges cut) k) empty ∙ cut_moved size k (is_in_ranges cut) part.has lt is_cut in
-    let begin : moved 0 (is_in_ranges begins) k ≡ (part.has k && not (had part k)) =
+    let earlier_too : is_in_ranges before k ≡ had part k = is_before k ∙ is_late k ∙ ap (λ rs. is_in_ranges rs k || moved_to 1 (is_in_ranges cut) k) empty ∙ cut_moved size k (is_in_ranges cut) part.has lt is_cut in
+    let begin : moved_to 0 (is_in_ranges begins) k ≡ (part.has k && not (had part k)) =
     moved-zero (is_in_ranges begins) k ∙ is_begin k ∙ ap (λ b. b && not (is_in_ranges before k)) here ∙ ap (λ b. part.has k && not b) earlier_too in
-    let end : moved 0 (is_in_ranges ends) k ≡ (had part k && not (part.has k)) =
+    let end : moved_to 0 (is_in_ranges ends) k ≡ (had part k && not (part.has k)) =
     moved-zero (is_in_ranges ends) k ∙ is_end k ∙ ap (λ b. b && not (is_in_ranges cut k)) earlier_too ∙ ap (λ b. had part k && not b) here in
-    next k ∙ ap (λ b. b || moved 0 (is_in_ranges ends) k) (first k) ∙ ap (λ b. (is_in_ranges old k || b) || moved 0 (is_in_ranges ends) k) begin
+    next k ∙ ap (λ b. b || moved_to 0 (is_in_ranges ends) k) (first k) ∙ ap (λ b. (is_in_ranges old k || b) || moved_to 0 (is_in_ranges ends) k) begin
     ∙ ap (λ b. (is_in_ranges old k || (part.has k && not (had part k))) || b) end ∙ or_assoc (is_in_ranges old k) (part.has k && not (had part k)) (had part k && not (part.has k))
   where
     or_assoc : (a b c : Bool) → ((a || b) || c) ≡ (a || (b || c))
@@ -93,8 +93,8 @@ changes_put size part cut late before begins ends none old middle new empty is_c
 abbrev pub HasStarts : (size : ℕ) → List PartBytes → List (ℕ × ℕ) → Type 0
 HasStarts size parts runs = (k : ℕ) → k < size → is_in_ranges runs k ≡ is_start (map part_told parts) k
 
-pub starts_none : (size : ℕ) (none runs : List (ℕ × ℕ)) → none ≡ [] → Adds none runs (moved 0 (λ k. nat_lt k 1)) → HasStarts size [] runs
-starts_none size none runs empty adds k lt = adds k ∙ ap (λ rs. is_in_ranges rs k || moved 0 (λ k. nat_lt k 1) k) empty ∙ moved-zero (λ k. nat_lt k 1) k ∙ first k ∙ sym (or-false (k == 0))
+pub starts_none : (size : ℕ) (none runs : List (ℕ × ℕ)) → none ≡ [] → Adds none runs (moved_to 0 (λ k. nat_lt k 1)) → HasStarts size [] runs
+starts_none size none runs empty adds k lt = adds k ∙ ap (λ rs. is_in_ranges rs k || moved_to 0 (λ k. nat_lt k 1) k) empty ∙ moved-zero (λ k. nat_lt k 1) k ∙ first k ∙ sym (or-false (k == 0))
   where
     first : (k : ℕ) → nat_lt k 1 ≡ (k == 0)
     first k = elim (cases_lt 0 k) [

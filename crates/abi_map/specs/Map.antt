@@ -11,7 +11,7 @@ use Rattle.abi_laid.specs.Seen.{Sees}
 use Rattle.abi_text.specs.Printing.{size_line}
 use Rattle.abi_map.specs.declared.part.Name.{Name}
 use Rattle.abi_map.specs.declared.part.Name.TheVariants.{Number, Elements, Lanes, Field, Tag, VariantField}
-use Rattle.abi_map.specs.Parts.{Part, parts_of}
+use Rattle.abi_map.specs.Parts.{Part, all_parts}
 use Rattle.abi_map.specs.Starts.{starts_of}
 
 -- the names of the parts that have a byte
@@ -50,7 +50,7 @@ run_lines parts size (start ∷ starts) = run_line start (get_or starts 0 size) 
 abbrev pub bytes_text : Typed → List ℕ
 bytes_text t =
     if nat_lt 65536 (layout_in t).size then codes "not drawn\n"
-    else run_lines (parts_of t) (layout_in t).size (starts_of (parts_of t) (layout_in t).size)
+    else run_lines (all_parts t) (layout_in t).size (starts_of (all_parts t) (layout_in t).size)
 
 -- the bytes of the largest niche, and how many numbers it has free
 abbrev pub niche_text : TargetDataLayout → Option Niche → List ℕ

@@ -2,7 +2,7 @@
 use Rattle.std.specs.Prelude.{ℕ, ◌&&◌, ◌==◌, ◌++◌, Bool, true, false, not, List, [], ◌∷◌, length, map, if◌then◌else◌}
 use Rattle.std.specs.List.{flat_map, range_with_len}
 use Rattle.abi_index.specs.RangeSet.{is_in_ranges}
-use Rattle.abi_index.specs.Runs.{moved}
+use Rattle.abi_index.specs.Runs.{moved_to}
 use Rattle.abi_scalar.specs.declared.fields_shape.FieldsShape.{FieldsShape}
 use Rattle.abi_scalar.specs.declared.fields_shape.FieldsShape.TheVariants.{Primitive, Union, Array, Arbitrary}
 use Rattle.abi_scalar.specs.declared.variants.Variants.{Variants}
@@ -29,7 +29,7 @@ whole_part name t = record { name = name; has = is_place t }
 
 -- the data places of the field with this index, at its offset
 abbrev pub field_part : Name → Typed → (index : ℕ) → Part
-field_part name t i = record { name = name; has = moved (field_offset (layout_in t).fields i) (is_place (field_in t i)) }
+field_part name t i = record { name = name; has = moved_to (field_offset (layout_in t).fields i) (is_place (field_in t i)) }
 
 -- a field is called by its index; the tag, which is one of the fields, by what it is
 abbrev pub field_name : Variants ℕ ℕ → (index : ℕ) → Name
@@ -50,8 +50,8 @@ abbrev pub field_parts : Typed → (count : ℕ) → List Part
 field_parts t count = map (λ i. field_part (field_name (layout_in t).variants i) t i) (range_with_len 0 count)
 
 -- the parts that a type has whatever its variant
-abbrev pub own_parts : Typed → List Part
-own_parts t = by (layout_in t).fields
+abbrev pub common_parts : Typed → List Part
+common_parts t = by (layout_in t).fields
   where
     by : FieldsShape ℕ → List Part
     by Primitive = whole_part Number t ∷ []
@@ -64,17 +64,17 @@ abbrev pub variant_parts : Typed → (variant count : ℕ) → List Part
 variant_parts t v count = map (λ i. field_part (VariantField v i) (variant_in t v) i) (range_with_len 0 count)
 
 -- the fields of the first variants, so many
-abbrev pub each_variant : Typed → (count : ℕ) → List Part
-each_variant t count = flat_map (λ v. variant_parts t v (field_count (layout_in (variant_in t v)).fields)) (range_with_len 0 count)
+abbrev pub parts_of_variants : Typed → (count : ℕ) → List Part
+parts_of_variants t count = flat_map (λ v. variant_parts t v (field_count (layout_in (variant_in t v)).fields)) (range_with_len 0 count)
 
 -- the fields of all variants that a tag tells apart
 abbrev pub variants_parts : Typed → List Part
 variants_parts t = by (layout_in t).variants
   where
     by : Variants ℕ ℕ → List Part
-    by (Multiple tag encoding at layouts) = each_variant t (length layouts)
+    by (Multiple tag encoding at layouts) = parts_of_variants t (length layouts)
     by _ = []
 
 -- all parts, in the order in which they are told
-abbrev pub parts_of : Typed → List Part
-parts_of t = own_parts t ++ variants_parts t
+abbrev pub all_parts : Typed → List Part
+all_parts t = common_parts t ++ variants_parts t

@@ -7,7 +7,7 @@ use Rattle.abi_laid.specs.Placed.{size_of}
 use Rattle.abi_laid.specs.Runs.{is_padding_of}
 use Rattle.abi_text.specs.LaidOut.{IsLaidOut}
 use Rattle.abi_map.specs.Map.{names_at}
-use Rattle.abi_map.specs.Parts.{Part, parts_of}
+use Rattle.abi_map.specs.Parts.{Part, all_parts}
 use Rattle.abi_map.specs.Starts.{is_start, starts_of}
 
 -- From a byte on up to the size there is one run behind another: each begins where the one before ends, has a byte, and has the same
@@ -27,4 +27,4 @@ RunsFollow = (parts : List Part) (size : ℕ) → AreRuns parts size 0 (starts_o
 abbrev pub PaddingHasNoName : Type 0
 PaddingHasNoName =
     (dl : TargetDataLayout) (laid : Laid) (k : ℕ) → IsLaidOut dl laid → k < size_of (placed_of laid)
-    → (names_at (parts_of (typed_of laid)) k ≡ []) ↔ (is_padding_of (placed_of laid) k ≡ true)
+    → (names_at (all_parts (typed_of laid)) k ≡ []) ↔ (is_padding_of (placed_of laid) k ≡ true)

@@ -1,12 +1,12 @@
 -- Where runs begin: the bytes whose parts aren't those of the byte before.
 use Rattle.std.specs.Prelude.{ℕ, ◌&&◌, ◌||◌, ◌==◌, Bool, not, List}
 use Rattle.std.specs.List.{filter, list_any, range_with_len}
-use Rattle.abi_index.specs.Runs.{moved}
+use Rattle.abi_index.specs.Runs.{moved_to}
 use Rattle.abi_map.specs.Parts.{Part}
 
 -- the part has the byte before this one
 abbrev pub had : Part → (k : ℕ) → Bool
-had part k = moved 1 part.has k
+had part k = moved_to 1 part.has k
 
 -- the part begins at the byte, or it ended at the one before
 abbrev pub changes : Part → (k : ℕ) → Bool

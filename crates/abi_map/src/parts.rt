@@ -2,16 +2,16 @@
 
 ghost use Rattle.std.specs.Prelude.{◌≡◌, ℕ, ◌<◌, ◌≤◌, ◌++◌, ◌∷◌, [], IfOk, OnOk, map};
 ghost use Rattle.abi_index.specs.RangeSet.{is_in_ranges};
-ghost use Rattle.abi_index.specs.Runs.{moved};
+ghost use Rattle.abi_index.specs.Runs.{moved_to};
 ghost use Rattle.abi_laid.specs.Handles.{IsHandle, tree_type};
 ghost use Rattle.abi_scalar.specs.Shape.{field_count, field_offset};
 ghost use Rattle.abi_types.specs.Ty.Places.{is_place};
 ghost use Rattle.abi_types.specs.Ty.Typed.{field_in, layout_in, variant_in};
 ghost use Rattle.std.specs.List.{range_with_len};
 ghost use Rattle.abi_map.specs.declared.part.Name.TheVariants.{VariantField};
-ghost use Rattle.abi_map.specs.Sized.{AreFieldsSized, ArePartsSized, IsSized};
-ghost use Rattle.abi_map.specs.Parts.{each_variant, field_name, field_part, field_parts, is_alone, is_vector};
-ghost use Rattle.abi_map.specs.Parts.{own_parts, part_told, parts_of, variant_parts, variants_parts, whole_part};
+ghost use Rattle.abi_map.specs.Sized.{AreFieldsSized, ArePartsSized, HasSize};
+ghost use Rattle.abi_map.specs.Parts.{parts_of_variants, field_name, field_part, field_parts, is_alone, is_vector};
+ghost use Rattle.abi_map.specs.Parts.{common_parts, part_told, all_parts, variant_parts, variants_parts, whole_part};
 
 use crate::part::{Name, PartBytes};
 use abi_index::{FieldIdx, RangeSet, RangeSetBuilder, VariantIdx};
@@ -26,7 +26,7 @@ pub(crate) type Handle<'a> = TyAndLayout<'a, TreeTy<'a>>;
 /// The data places of a type: its bytes without its padding.
 fn places_of(alloc: Global, this: Handle<'_>) -> Result<RangeSet, AllocError>
     requires valid { IsHandle this }
-    requires sized { IsSized (tree_type this) }
+    requires sized { HasSize (tree_type this) }
     ensures { IfOk result (λ set. (k : ℕ) → is_in_ranges set k ≡ is_place (tree_type this.entry) k) }
 {
     let padding = this.variant_independent_padding_ranges(alloc, &())?;
@@ -39,9 +39,9 @@ fn places_of(alloc: Global, this: Handle<'_>) -> Result<RangeSet, AllocError>
 fn field_bytes(alloc: Global, this: Handle<'_>, i: usize) -> Result<RangeSet, AllocError>
     requires valid { IsHandle this }
     requires within { i < field_count (layout_in (tree_type this)).fields }
-    requires sized { IsSized (field_in (tree_type this) i) }
+    requires sized { HasSize (field_in (tree_type this) i) }
     ensures { IfOk result (λ set. (k : ℕ) → is_in_ranges set k ≡
-        moved (field_offset (layout_in (tree_type this.entry)).fields i)
+        moved_to (field_offset (layout_in (tree_type this.entry)).fields i)
         (is_place (field_in (tree_type this.entry) i)) k) }
 {
     // It is a number of 64 bits, below which the field ends.
@@ -60,7 +60,7 @@ fn put_whole(
     name: Name,
 ) -> Result<(), AllocError>
     requires valid { IsHandle this }
-    requires sized { IsSized (tree_type this) }
+    requires sized { HasSize (tree_type this) }
     ensures { OnOk result (map part_told parts.new.items ≡
         map part_told parts.old.items ++ whole_part name (tree_type this.entry) ∷ []) }
 {
@@ -79,7 +79,7 @@ fn put_field(
 ) -> Result<(), AllocError>
     requires valid { IsHandle this }
     requires within { i < field_count (layout_in (tree_type this)).fields }
-    requires sized { IsSized (field_in (tree_type this) i) }
+    requires sized { HasSize (field_in (tree_type this) i) }
     ensures { OnOk result (map part_told parts.new.items ≡
         map part_told parts.old.items ++ field_part name (tree_type this.entry) i ∷ []) }
 {
@@ -150,7 +150,7 @@ fn put_own(alloc: Global, parts: &mut Vec<PartBytes>, this: Handle<'_>) -> Resul
     requires valid { IsHandle this }
     requires sized { ArePartsSized (tree_type this) }
     ensures { OnOk result (map part_told parts.new.items ≡
-        map part_told parts.old.items ++ own_parts (tree_type this.entry)) }
+        map part_told parts.old.items ++ common_parts (tree_type this.entry)) }
 {
     match &this.data().fields {
         FieldsShape::Primitive => put_whole(alloc, parts, this, Name::Number),
@@ -223,7 +223,7 @@ fn put_variants(
 pub(crate) fn parts_of(alloc: Global, this: Handle<'_>) -> Result<Vec<PartBytes>, AllocError>
     requires valid { IsHandle this }
     requires sized { ArePartsSized (tree_type this) }
-    ensures { IfOk result (λ parts. map part_told parts.items ≡ parts_of (tree_type this.entry)) }
+    ensures { IfOk result (λ parts. map part_told parts.items ≡ all_parts (tree_type this.entry)) }
 {
     let mut parts = Vec::new(alloc);
     put_own(alloc, &mut parts, this)?;

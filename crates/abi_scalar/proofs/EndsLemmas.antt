@@ -9,7 +9,7 @@ use Rattle.std.proofs.lemmas.Bool.{cases_lt}
 use Rattle.std.proofs.lemmas.List.Elements.{All-append, All-cons, All-contains, All-head, All-nil, All-tail, Contains-append_left, Contains-append_right, Contains-get_or}
 use Rattle.abi_scalar.specs.declared.wrapping_range.WrappingRange.{WrappingRange}
 use Rattle.abi_scalar.specs.Range.{numbers_of, IsIn, steps_between}
-use Rattle.abi_scalar.specs.LeastRange.{HaveEnds, IsLeastRange}
+use Rattle.abi_scalar.specs.LeastRange.{HaveLeastAndGreatest, IsLeastRange}
 use Rattle.abi_scalar.proofs.RangeLemmas.{steps_are, in_from_between}
 use Rattle.abi_scalar.proofs.LeastLemmas.{best_first, best_kept, least_from_best}
 
@@ -53,7 +53,7 @@ ends_next xs least greatest v narrow h =
     }
 
 -- the ends of all of them
-pub ends_of_all : (xs : List ℕ) (least greatest : ℕ) → AreEnds xs least greatest → HaveEnds xs least greatest
+pub ends_of_all : (xs : List ℕ) (least greatest : ℕ) → AreEnds xs least greatest → HaveLeastAndGreatest xs least greatest
 ends_of_all xs least greatest h = record {
   low = λ some. elim h.low [
     | inl none ↦ absurd (omega (arith, ap length none.0, some))
@@ -67,7 +67,7 @@ ends_of_all xs least greatest h = record {
 }
 
 -- they ascend
-pub ends_ascend : (xs : List ℕ) (least greatest : ℕ) → 0 < length xs → HaveEnds xs least greatest → least ≤ greatest
+pub ends_ascend : (xs : List ℕ) (least greatest : ℕ) → 0 < length xs → HaveLeastAndGreatest xs least greatest → least ≤ greatest
 ends_ascend xs least greatest some h =
     (All-contains (λ v. (least ≤ v) × (v ≤ greatest)) xs least h.between (h.low some)).1
 

@@ -8,6 +8,10 @@ use Rattle.abi_scalar.specs.declared.variants.Variants.{Variants}
 use Rattle.abi_scalar.specs.declared.variants.Variants.TheVariants.{Empty, Single, Multiple}
 use Rattle.abi_scalar.specs.View.{IsSizedView, IsBoolView, IsSameUpToValidity}
 
+-- a layout, with fields and variants named by their numbers
+abbrev pub Layout : Type 0
+Layout = LayoutData ℕ ℕ
+
 -- sized bytes in memory, and none of them
 abbrev pub IsZst : {F V : Type 0} → LayoutData F V → Type 0
 IsZst layout = (layout.backend_repr ≡ Memory true) × (layout.size ≡ 0)

@@ -26,7 +26,7 @@ IsSmallestOf width values found =
     MatchOption found (values ≡ []) (λ range. (0 < length values) × IsLeastRange width values range)
 
 -- Two of the values, if there are any, between which all of them lie.
-pub record HaveEnds (values : List ℕ) (least greatest : ℕ) : Type 0 where
+pub record HaveLeastAndGreatest (values : List ℕ) (least greatest : ℕ) : Type 0 where
   pub low : 0 < length values → Contains values least
   pub high : 0 < length values → Contains values greatest
   pub between : All (λ v. (least ≤ v) × (v ≤ greatest)) values

@@ -14,11 +14,11 @@ use Rattle.abi_scalar.specs.Scalar.{primitive_of, scalar_size, scalar_align, ran
 use Rattle.abi_scalar.specs.Niche.{niche_at}
 
 -- what tells apart the seeds of equally large primitives
-abbrev pub kind_of : Primitive → ℕ
-kind_of (Int integer true) = 1
-kind_of (Int integer false) = 2
-kind_of (Float float) = 3
-kind_of (Pointer space) = 4
+abbrev pub seed_kind : Primitive → ℕ
+seed_kind (Int integer true) = 1
+seed_kind (Int integer false) = 2
+seed_kind (Float float) = 3
+seed_kind (Pointer space) = 4
 
 -- the low 64 bits, rotated right by 16
 abbrev pub mixed : ℕ → ℕ
@@ -27,7 +27,7 @@ mixed n = rotate_right w64 (n % 2 ^ 64) 16
 -- the seed of a scalar
 abbrev pub scalar_seed : TargetDataLayout → Scalar → ℕ
 scalar_seed dl scalar =
-    (scalar_size dl scalar + kind_of (primitive_of scalar) * 2 ^ 32
+    (scalar_size dl scalar + seed_kind (primitive_of scalar) * 2 ^ 32
     + mixed (range_of dl scalar).start + mixed (range_of dl scalar).end) % 2 ^ 64
 
 -- the layout of a scalar; `first` is the index of the first variant

@@ -5,7 +5,7 @@ ghost use Rattle.std.specs.List.Sorted.{IsNonDecreasing};
 ghost use Rattle.std.specs.Iterator.{IsFinite};
 ghost use Rattle.std.specs.Iterator.Runs.{EachRunFrom, WholeRun};
 ghost use Rattle.abi_scalar.specs.Range.{numbers_of};
-ghost use Rattle.abi_scalar.specs.LeastRange.{HaveEnds, IsLeastRange, IsSmallestOf};
+ghost use Rattle.abi_scalar.specs.LeastRange.{HaveLeastAndGreatest, IsLeastRange, IsSmallestOf};
 
 use crate::wrapping_range::{WrappingRange, steps};
 use abi_base::Size;
@@ -73,7 +73,7 @@ fn least_of_short(
     requires some { 1 ≤ size }
     requires most { size ≤ 16 }
     requires within { All (λ v. v < numbers_of size) values.list.items }
-    requires ends { HaveEnds values.list.items values.least values.greatest }
+    requires ends { HaveLeastAndGreatest values.list.items values.least values.greatest }
     ensures { IfOk result (IsSmallestOf size values.list.items) }
 {
     let Values {
@@ -128,7 +128,7 @@ where
     requires ends { IsFinite (I.remaining values) }
     ensures items { IfOk result (λ all. WholeRun I.next_gives values (λ p.
         all.list.items ≡ map (λ v. v % 2 ^ 64) p.items)) }
-    ensures ends { IfOk result (λ all. HaveEnds all.list.items all.least all.greatest) }
+    ensures ends { IfOk result (λ all. HaveLeastAndGreatest all.list.items all.least all.greatest) }
 {
     let (sure, _) = values.size_hint();
     let mut list = Vec::with_capacity(alloc, sure)?;

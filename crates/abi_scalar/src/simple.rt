@@ -3,7 +3,7 @@
 ghost use Rattle.std.specs.Prelude.{◌≡◌, ℕ, ◌+◌, ◌*◌, ◌%◌, ◌^◌};
 ghost use Rattle.abi_base.specs.DataLayout.{IsLawfulDataLayout};
 ghost use Rattle.abi_scalar.specs.Scalar.{IsReadable, IsLawfulScalar};
-ghost use Rattle.abi_scalar.specs.Simple.{kind_of, mixed, scalar_seed, scalar_layout, unit_layout, never_layout, uninhabited_layout};
+ghost use Rattle.abi_scalar.specs.Simple.{seed_kind, mixed, scalar_seed, scalar_layout, unit_layout, never_layout, uninhabited_layout};
 ghost use Rattle.abi_scalar.specs.Lawful.{IsLawfulLayout};
 ghost use Rattle.abi_scalar.specs.Order.{HasOrder};
 
@@ -19,7 +19,7 @@ use std::alloc::Global;
 
 /// What tells apart the seeds of equally large primitives.
 fn kind(value: Primitive) -> u64
-    ensures { result ≡ kind_of value }
+    ensures { result ≡ seed_kind value }
 {
     match value {
         Primitive::Int(_, signed) => { if signed { 1 } else { 2 } }

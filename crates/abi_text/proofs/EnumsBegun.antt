@@ -7,12 +7,12 @@ use Rattle.abi_laid.specs.declared.tree.TypeTree.TheVariants.{rolls-Enum}
 use Rattle.abi_laid.specs.declared.tree.TypeTree.TheShapes.{former-TypeTree-Enum-1-at-3}
 use Rattle.abi_laid.specs.declared.tree.TypeTree.TheOpen as layer
 use Rattle.abi_laid.specs.Tree.{Tree, tree_of, layer_tree, trees, enum, variants, more_variants}
-use Rattle.abi_text.specs.Reading.{variant_by, variants_in}
+use Rattle.abi_text.specs.Reading.{variant_by, variants_read}
 
-variants_map : (all : List (ℕ × Vec TypeTree Global)) → variants (map (former-TypeTree-Enum-1-at-3.map TypeTree Tree tree_of) all) ≡ variants_in (map variant_by all)
+variants_map : (all : List (ℕ × Vec TypeTree Global)) → variants (map (former-TypeTree-Enum-1-at-3.map TypeTree Tree tree_of) all) ≡ variants_read (map variant_by all)
 variants_map [] = refl
 variants_map (v ∷ all) = ap (more_variants v.0 (trees (map tree_of v.1.items))) (variants_map all)
 
 -- the tree of an enum, with the variants that were kept
-pub enum_tree : (repr : ReprOptions) (all : Vec (ℕ × Vec TypeTree Global) Global) → tree_of (Enum repr all) ≡ enum repr (variants_in (map variant_by all.items))
+pub enum_tree : (repr : ReprOptions) (all : Vec (ℕ × Vec TypeTree Global) Global) → tree_of (Enum repr all) ≡ enum repr (variants_read (map variant_by all.items))
 enum_tree repr all = ap tree_of (sym (rolls-Enum repr all)) ∙ fold-roll-TypeTree Tree layer_tree (layer.Enum repr all) ∙ ap (enum repr) (variants_map all.items)

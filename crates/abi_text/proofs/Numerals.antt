@@ -8,7 +8,7 @@ use Rattle.std.proofs.lemmas.Bool.{le-leb}
 use Rattle.std.proofs.lemmas.Bool.Decides.{nat_tests}
 use Rattle.std.proofs.lemmas.Str.Parse.{IsNumeralModel, numerals_by_fold}
 use Rattle.std.proofs.lemmas.Fmt.{decimal_is_IsNumeral_wide}
-use Rattle.abi_text.specs.Numbers.{digits_from, discriminant_in, fitting, negated, number_in, number_to}
+use Rattle.abi_text.specs.Numbers.{digits_from, discriminant_in, fitting, negated, number_of_bits, number_to}
 use Rattle.abi_text.specs.Written.{IsNumeral, IsDiscriminant, not_negative, negative}
 use Rattle.abi_text.proofs.Text.{number_some}
 use Rattle.std.proofs.Common.{rules}
@@ -69,11 +69,11 @@ numeral_to most bits n word wide small h =
     ∙ ap (fitting most) (zeros_read h.1 (decimal n) ∙ digits_read 0 (decimal n) d.1 ∙ ap (λ m. Some m) d.2) ∙ whole
 
 -- a numeral reads back as its number
-pub numeral_read : (bits n : ℕ) (word : List ℕ) → 2 ^ bits ≤ 2 ^ 128 → IsNumeral bits n word → number_in bits word ≡ Some n
+pub numeral_read : (bits n : ℕ) (word : List ℕ) → 2 ^ bits ≤ 2 ^ 128 → IsNumeral bits n word → number_of_bits bits word ≡ Some n
 numeral_read bits n word wide h = numeral_to (2 ^ bits - 1) bits n word wide (omega arith) h
 
 -- a word that begins with a digit is no negative number
-unsigned_read : (word : List ℕ) → 0 < length word → all_ascii_digits word ≡ true → discriminant_in word ≡ number_in 128 word
+unsigned_read : (word : List ℕ) → 0 < length word → all_ascii_digits word ≡ true → discriminant_in word ≡ number_of_bits 128 word
 unsigned_read [] some digits = absurd (omega arith)
 unsigned_read (c ∷ cs) some digits =
     let digit : is_ascii_digit c ≡ true = (both (is_ascii_digit c) (all_ascii_digits cs) digits).0 in

@@ -14,7 +14,7 @@ use Rattle.rustc_abi.proofs.Trees.OneAnswer.{one_answer}
 use Rattle.abi_text.specs.declared.fault.Fault.{Fault}
 use Rattle.abi_text.specs.DataLayoutLine.{data_layout_of}
 use Rattle.abi_text.specs.Lines.{first_line, second_line}
-use Rattle.abi_text.specs.Output.{Output, IsOutputOf, IsOutputOfLayout, IsOutputOfTree, IsOutputOfType, IsOutputUnder, told, unreadable}
+use Rattle.abi_text.specs.Output.{Output, IsOutputOf, IsOutputOfLayout, IsOutputOfTree, IsOutputOfType, IsOutputUnder, output_of_text, unreadable}
 use Rattle.abi_text.specs.Reading.{read}
 use Rattle.abi_text.specs.Words.{words_of}
 
@@ -44,7 +44,7 @@ one_of_two a b h = same_output a b (one_list_at (whole a) (whole b) (bytes_eq (w
 module _ (tells : TargetDataLayout → Placed → List ℕ → Type 0)
     (one : (dl : TargetDataLayout) (t : Tree) (p : Placed) (a b : List ℕ) → IsLawfulDataLayout dl → IsLaying dl t (Ok p) → tells dl p a → tells dl p b → a ≡ b) where
   of_layout : (dl : TargetDataLayout) (t : Tree) (r : Result Placed LayError) (a b : Output) → IsLawfulDataLayout dl → IsLaying dl t r → IsOutputOfLayout tells dl r a → IsOutputOfLayout tells dl r b → a ≡ b
-  of_layout dl t (Ok p) a b lawful laying h g = h.2 ∙ ap told (one dl t p h.0 g.0 lawful laying h.1 g.1) ∙ sym g.2
+  of_layout dl t (Ok p) a b lawful laying h g = h.2 ∙ ap output_of_text (one dl t p h.0 g.0 lawful laying h.1 g.1) ∙ sym g.2
   of_layout dl t (Err e) a b lawful laying h g = h ∙ sym g
 
   where_lawful : (dl : TargetDataLayout) (t : Tree) (a b : Output) → IsOutputOfTree tells dl t a → IsOutputOfTree tells dl t b → IsLawfulDataLayout dl → a ≡ b

@@ -16,10 +16,10 @@ use Rattle.abi_laid.specs.Tree.{Tree, Trees, Variants, tree_of}
 use Rattle.abi_text.specs.declared.fault.Fault.{Fault}
 use Rattle.abi_text.specs.declared.fault.Fault.TheVariants.{OutOfMemory}
 use Rattle.abi_base.specs.Float.{float_text}
-use Rattle.abi_text.specs.Printing.{integer_text}
+use Rattle.abi_base.specs.Integer.{integer_text}
 use Rattle.abi_text.specs.Reading.{Agrees, read}
 use Rattle.abi_text.specs.Words.{begins_plain, grown, is_plain, words_of}
-use Rattle.abi_text.specs.Written.{IsNumeral, IsPrimitiveWrittenAs, IsScalarWrittenAs, IsWrittenAs, AreWrittenAs, an_integer, an_index, a_float, a_pointer, a_pointer_in, every_number, the_bool, the_char, the_ref, a_range, of_a_union, a_scalar, a_pair, no_value, one_value, an_array, a_vector, a_struct, an_ordered, a_union, an_enum, a_coroutine, no_more, one_more, AreVariantsWrittenAs, no_variant_more, one_variant_more, IsDiscriminant, not_negative, negative, in_parentheses, AreNumerals, no_number_more, one_number_more, AreStatesWrittenAs, no_state_more, one_state_more, AreConflictsWrittenAs, no_conflict_more, one_conflict_more, index_text, IsLineOf, no_words, a_space, an_opening, a_closing, a_word, nesting, vector_word}
+use Rattle.abi_text.specs.Written.{IsNumeral, IsPrimitiveWrittenAs, IsScalarWrittenAs, IsWrittenAs, AreWrittenAs, an_integer, an_index, a_float, a_pointer, a_pointer_in, every_number, the_bool, the_char, the_ref, a_range, of_a_union, a_scalar, a_pair, no_value, one_value, an_array, a_vector, a_struct, an_ordered, a_union, an_enum, a_coroutine, no_more, one_more, AreVariantsWrittenAs, no_variant_more, one_variant_more, IsDiscriminant, not_negative, negative, in_parentheses, AreNumerals, no_number_more, one_number_more, AreStatesWrittenAs, no_state_more, one_state_more, AreConflictsWrittenAs, no_conflict_more, one_conflict_more, usize_text, IsLineOf, no_words, a_space, an_opening, a_closing, a_word, nesting, vector_word}
 use Rattle.abi_text.proofs.Numerals.{numeral_digits}
 use Rattle.abi_text.proofs.ReprWords.{IsPlain, both, digit_plain, struct_repr_plain, union_repr_plain}
 use Rattle.abi_text.proofs.Text.{words_alone, words_grow}
@@ -110,7 +110,7 @@ integer_word I64 false = inl refl
 integer_word I128 true = inl refl
 integer_word I128 false = inl refl
 
-index_word : (signed : Bool) → IsWord (index_text signed)
+index_word : (signed : Bool) → IsWord (usize_text signed)
 index_word true = inl refl
 index_word false = inl refl
 

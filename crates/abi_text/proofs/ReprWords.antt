@@ -12,8 +12,8 @@ use Rattle.abi_scalar.specs.declared.repr.ReprOptions.{ReprOptions}
 use Rattle.abi_text.specs.declared.reader.repr_text.ReprKind.TheVariants as kind
 use Rattle.abi_text.specs.declared.reader.repr_text.ReprPart.TheVariants.{Packed, Align, Integer}
 use Rattle.abi_text.specs.declared.reader.repr_text.StructRepr.{StructRepr}
-use Rattle.abi_text.specs.Numbers.{digits_from, fitting, number_in, number_to}
-use Rattle.abi_text.specs.Repr.{alignment_after, alignment_of, are_repr_words, fixed, integer_type_named, is_single, longer, part_of, parts_of, struct_repr, union_repr, valued_part, without_tail}
+use Rattle.abi_text.specs.Numbers.{digits_from, fitting, number_of_bits, number_to}
+use Rattle.abi_text.specs.Repr.{alignment_after, alignment_of, are_repr_words, fixed, integer_type_named, is_single, longer, repr_part, repr_parts, struct_repr, union_repr, valued_part, without_tail}
 use Rattle.abi_text.specs.ScalarWords.{first_of, integer_named}
 use Rattle.abi_text.specs.Words.{is_plain}
 
@@ -84,10 +84,10 @@ integer_type_plain : (w : List ℕ) → is_some (integer_type_named w) ≡ true 
 integer_type_plain w = named w (codes "usize") _ _ refl (named w (codes "isize") _ _ refl (λ h. integer_plain w (some_fixed (integer_named w) h)))
 
 alignment_plain_at : (name w : List ℕ) (b : Bool) → bytes_eq (take (length name) w) name ≡ b → IsPlain name
-    → is_some (if b then alignment_of (number_in 64 (drop (length name) w)) else None) ≡ true → IsPlain w
+    → is_some (if b then alignment_of (number_of_bits 64 (drop (length name) w)) else None) ≡ true → IsPlain w
 alignment_plain_at name w true e plain h =
     let front : IsPlain (take (length name) w) = subst IsPlain (sym ((bytes_eq-Decides (take (length name) w) name).0 e)) plain in
-    let back : IsPlain (drop (length name) w) = number_plain (2 ^ 64 - 1) (drop (length name) w) (some_alignment (number_in 64 (drop (length name) w)) h) in
+    let back : IsPlain (drop (length name) w) = number_plain (2 ^ 64 - 1) (drop (length name) w) (some_alignment (number_of_bits 64 (drop (length name) w)) h) in
     subst IsPlain (take-append-drop (length name) w) (plain_append (take (length name) w) (drop (length name) w) front back)
 alignment_plain_at name w false e plain h = cc
 
@@ -107,14 +107,14 @@ valued_plain w h =
           ]
     ]
 
-part_plain : (w : List ℕ) → is_some (part_of w) ≡ true → IsPlain w
+part_plain : (w : List ℕ) → is_some (repr_part w) ≡ true → IsPlain w
 part_plain w =
     named w (codes "C") _ _ refl (named w (codes "transparent") _ _ refl (named w (codes "linear") _ _ refl (named w (codes "tail") _ _ refl (valued_plain w))))
 
-parts_plain : (ps : List (List ℕ)) → list_all (λ p. is_some (part_of p)) ps ≡ true → list_all (list_all is_plain) ps ≡ true
+parts_plain : (ps : List (List ℕ)) → list_all (λ p. is_some (repr_part p)) ps ≡ true → list_all (list_all is_plain) ps ≡ true
 parts_plain [] h = refl
 parts_plain (p ∷ ps) h =
-    let known = both (is_some (part_of p)) (list_all (λ p. is_some (part_of p)) ps) h in
+    let known = both (is_some (repr_part p)) (list_all (λ p. is_some (repr_part p)) ps) h in
     rw (part_plain p known.0) (parts_plain ps known.1)
 
 longer_plain : (b : ℕ) (ps : List (List ℕ)) → list_all (list_all is_plain) (longer b ps) ≡ true → (is_plain b ≡ true) × (list_all (list_all is_plain) ps ≡ true)
@@ -124,16 +124,16 @@ longer_plain b (p ∷ ps) h =
     let front = both (is_plain b) (list_all is_plain p) whole.0 in
     (front.0, rw front.1 whole.1)
 
-joined_plain_at : (b : ℕ) (bs : List ℕ) (comma : Bool) → (b == 44) ≡ comma → (list_all (list_all is_plain) (parts_of bs) ≡ true → IsPlain bs)
-    → list_all (list_all is_plain) (if comma then [] ∷ parts_of bs else longer b (parts_of bs)) ≡ true → IsPlain (b ∷ bs)
+joined_plain_at : (b : ℕ) (bs : List ℕ) (comma : Bool) → (b == 44) ≡ comma → (list_all (list_all is_plain) (repr_parts bs) ≡ true → IsPlain bs)
+    → list_all (list_all is_plain) (if comma then [] ∷ repr_parts bs else longer b (repr_parts bs)) ≡ true → IsPlain (b ∷ bs)
 joined_plain_at b bs true e more h =
     let here : is_plain b ≡ true = grind (arith, nat_tests) in
     rw here (more h)
 joined_plain_at b bs false e more h =
-    let p = longer_plain b (parts_of bs) h in
+    let p = longer_plain b (repr_parts bs) h in
     rw p.0 (more p.1)
 
-joined_plain : (w : List ℕ) → list_all (list_all is_plain) (parts_of w) ≡ true → IsPlain w
+joined_plain : (w : List ℕ) → list_all (list_all is_plain) (repr_parts w) ≡ true → IsPlain w
 joined_plain [] h = refl
 joined_plain (b ∷ bs) h = joined_plain_at b bs (b == 44) refl (joined_plain bs) h
 
@@ -142,17 +142,17 @@ first_test true b c d e f g h all = refl
 first_test false b c d e f g h all = all
 
 -- the first of the tests of a repr
-parts_known : (ps : List (List ℕ)) → are_repr_words ps ≡ true → list_all (λ p. is_some (part_of p)) ps ≡ true
+parts_known : (ps : List (List ℕ)) → are_repr_words ps ≡ true → list_all (λ p. is_some (repr_part p)) ps ≡ true
 parts_known ps h =
-    first_test (list_all (λ p. is_some (part_of p)) ps) (is_single kind.C ps) (is_single kind.Transparent ps) (is_single kind.Linear ps)
+    first_test (list_all (λ p. is_some (repr_part p)) ps) (is_single kind.C ps) (is_single kind.Transparent ps) (is_single kind.Linear ps)
     (is_single kind.Packed ps) (is_single kind.Align ps) (is_single kind.Integer ps) (is_single kind.Tail ps) h
 
-repr_plain_at : (w : List ℕ) (b : Bool) → are_repr_words (parts_of w) ≡ b → (asked : StructRepr) → is_some (if b then Some asked else None) ≡ true → IsPlain w
-repr_plain_at w true e asked h = joined_plain w (parts_plain (parts_of w) (parts_known (parts_of w) e))
+repr_plain_at : (w : List ℕ) (b : Bool) → are_repr_words (repr_parts w) ≡ b → (asked : StructRepr) → is_some (if b then Some asked else None) ≡ true → IsPlain w
+repr_plain_at w true e asked h = joined_plain w (parts_plain (repr_parts w) (parts_known (repr_parts w) e))
 repr_plain_at w false e asked h = cc
 
 repr_plain : (w : List ℕ) → is_some (struct_repr w) ≡ true → IsPlain w
-repr_plain w = named w (codes "-") _ _ refl (repr_plain_at w (are_repr_words (parts_of w)) refl _)
+repr_plain w = named w (codes "-") _ _ refl (repr_plain_at w (are_repr_words (repr_parts w)) refl _)
 
 repr_some_bytes : (w : List ℕ) → is_some (struct_repr w) ≡ true → 0 < length w
 repr_some_bytes [] h = cc

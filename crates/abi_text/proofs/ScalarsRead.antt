@@ -21,11 +21,11 @@ use Rattle.abi_text.specs.declared.reader.begun.ScalarForm.TheVariants as form
 use Rattle.abi_text.specs.declared.reader.scalar_word.ScalarWord.{ScalarWord}
 use Rattle.abi_text.specs.declared.reader.scalar_word.ScalarWord.TheVariants as word
 use Rattle.abi_base.specs.Float.{float_text}
-use Rattle.abi_text.specs.Printing.{integer_text}
+use Rattle.abi_base.specs.Integer.{integer_text}
 use Rattle.abi_text.specs.Reading.{Begun, State, at_end, at_primitive, at_scalar, at_space, at_start, at_type, begin_scalar, is_primitive, next, on_ok, put_primitive, put_scalar, read_from, waiting}
 use Rattle.abi_text.specs.ScalarWords.{scalar_word}
 use Rattle.abi_text.specs.TypeWords.{other_word, word_with}
-use Rattle.abi_text.specs.Written.{IsPrimitiveWrittenAs, IsScalarWrittenAs, index_text, an_integer, an_index, a_float, a_pointer, a_pointer_in, every_number, the_bool, the_char, the_ref, a_range, of_a_union}
+use Rattle.abi_text.specs.Written.{IsPrimitiveWrittenAs, IsScalarWrittenAs, usize_text, an_integer, an_index, a_float, a_pointer, a_pointer_in, every_number, the_bool, the_char, the_ref, a_range, of_a_union}
 use Rattle.abi_text.proofs.Numerals.{numeral_read}
 
 word_of_integer : (width : Integer) (signed : Bool) → scalar_word (integer_text width signed) ≡ Some (word.Integer width signed)
@@ -40,7 +40,7 @@ word_of_integer I64 false = refl
 word_of_integer I128 true = refl
 word_of_integer I128 false = refl
 
-word_of_index : (signed : Bool) → scalar_word (index_text signed) ≡ Some (word.Index signed)
+word_of_index : (signed : Bool) → scalar_word (usize_text signed) ≡ Some (word.Index signed)
 word_of_index true = refl
 word_of_index false = refl
 
@@ -89,7 +89,7 @@ module _ (dl : TargetDataLayout) where
       one_word w begun number (integer_text width signed) rest (begin_scalar dl shape place begun (word.Integer width signed))
       (takes number (integer_text width signed) (word.Integer width signed) (word_of_integer width signed) refl)
   read_primitive p words (an_index signed) w shape place begun number rest takes =
-      one_word w begun number (index_text signed) rest (begin_scalar dl shape place begun (word.Index signed)) (takes number (index_text signed) (word.Index signed) (word_of_index signed) refl)
+      one_word w begun number (usize_text signed) rest (begin_scalar dl shape place begun (word.Index signed)) (takes number (usize_text signed) (word.Index signed) (word_of_index signed) refl)
   read_primitive p words (a_float format) w shape place begun number rest takes =
       one_word w begun number (float_text format) rest (begin_scalar dl shape place begun (word.Float format)) (takes number (float_text format) (word.Float format) (word_of_float format) refl)
   read_primitive p words a_pointer w shape place begun number rest takes =

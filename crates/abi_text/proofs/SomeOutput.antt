@@ -24,7 +24,7 @@ use Rattle.rustc_abi.proofs.Trees.SomeAnswer.{some_answer}
 use Rattle.abi_text.specs.declared.fault.Fault.{Fault}
 use Rattle.abi_text.specs.DataLayoutLine.{data_layout_of}
 use Rattle.abi_text.specs.Lines.{first_line, second_line}
-use Rattle.abi_text.specs.Output.{Output, IsOutputOf, IsOutputOfLayout, IsOutputOfTree, IsOutputOfType, IsOutputUnder, output_of_fault, refused, told, unreadable}
+use Rattle.abi_text.specs.Output.{Output, IsOutputOf, IsOutputOfLayout, IsOutputOfTree, IsOutputOfType, IsOutputUnder, output_of_fault, refused, output_of_text, unreadable}
 use Rattle.abi_text.specs.Names.{error_name, flaw_name}
 use Rattle.abi_text.specs.Reading.{read}
 use Rattle.abi_text.specs.Words.{words_of}
@@ -36,11 +36,11 @@ either (inr n) (inl b) = inl (inr b)
 either (inr n) (inr m) = inr (λ s. elim s [ inl a ↦ n a | inr b ↦ m b ])
 
 divides : (m n : ℕ) → IsTold (m ∣ n)
-divides m n = told (same_number (n % m) zero)
+divides m n = by (same_number (n % m) zero)
   where
-    told : IsTold (n % m ≡ zero) → IsTold (m ∣ n)
-    told (inl e) = inl (dvd_of_mod-eq-zero m e)
-    told (inr never) = inr (λ d. never (mod-eq-zero_of_dvd m d))
+    by : IsTold (n % m ≡ zero) → IsTold (m ∣ n)
+    by (inl e) = inl (dvd_of_mod-eq-zero m e)
+    by (inr never) = inr (λ d. never (mod-eq-zero_of_dvd m d))
 
 all_at_most : (most : ℕ) (ns : List ℕ) → IsTold (All (λ n. n ≤ most) ns)
 all_at_most most [] = inl (All-nil (λ n. n ≤ most))
@@ -99,7 +99,7 @@ HasOutput P = (output : Output) × P output
 module _ (tells : TargetDataLayout → Placed → List ℕ → Type 0)
     (some : (dl : TargetDataLayout) (t : Tree) (p : Placed) → IsLawfulDataLayout dl → IsLaying dl t (Ok p) → (text : List ℕ) × tells dl p text) where
   of_layout : (dl : TargetDataLayout) (t : Tree) (r : Result Placed LayError) → IsLawfulDataLayout dl → IsLaying dl t r → HasOutput (IsOutputOfLayout tells dl r)
-  of_layout dl t (Ok p) law laying = let text = some dl t p law laying in (told text.0, (text.0, text.1, refl))
+  of_layout dl t (Ok p) law laying = let text = some dl t p law laying in (output_of_text text.0, (text.0, text.1, refl))
   of_layout dl t (Err e) law laying = (refused (error_name e), refl)
 
   tree_if : (dl : TargetDataLayout) (t : Tree) → IsTold (IsLawfulDataLayout dl) → HasOutput (IsOutputOfTree tells dl t)

@@ -13,7 +13,7 @@ use Rattle.abi_text.specs.declared.reader.begun.ScalarPlace.TheVariants as scala
 use Rattle.abi_text.specs.declared.reader.begun.CoroutineWant.TheVariants as part
 use Rattle.abi_text.specs.declared.reader.begun.OrderWant.TheVariants as order
 use Rattle.abi_text.specs.declared.reader.repr_text.StructRepr.{StructRepr}
-use Rattle.abi_text.specs.Reading.{Begun, State, elements, lanes, fields, ordering, ordered, members, at_index, at_order_repr, variants_so_far, variant, variants_in, coroutine_with, in_prefix, in_locals, between_states, in_state, in_conflicts, at_count, at_lanes, at_repr, at_union_repr, at_enum_repr, at_discriminant, at_local, at_row, at_column, next, put, read, read_from, waiting}
+use Rattle.abi_text.specs.Reading.{Begun, State, elements, lanes, fields, ordering, ordered, members, at_index, at_order_repr, variants_so_far, variant, variants_read, coroutine_with, in_prefix, in_locals, between_states, in_state, in_conflicts, at_count, at_lanes, at_repr, at_union_repr, at_enum_repr, at_discriminant, at_local, at_row, at_column, next, put, read, read_from, waiting}
 use Rattle.abi_text.specs.Written.{IsWrittenAs, AreWrittenAs, a_scalar, a_pair, no_value, one_value, an_array, a_vector, a_struct, an_ordered, a_union, an_enum, a_coroutine, no_more, one_more, AreVariantsWrittenAs, no_variant_more, one_variant_more, IsNumeral, IsDiscriminant, not_negative, negative, in_parentheses, AreNumerals, no_number_more, one_number_more, AreStatesWrittenAs, no_state_more, one_state_more, AreConflictsWrittenAs, no_conflict_more, one_conflict_more, nesting, nesting_of_fields, nesting_of_variants, vector_word}
 use Rattle.abi_text.proofs.Numerals.{both, numeral_read, numeral_digits, discriminant_read}
 use Rattle.abi_text.proofs.ScalarsRead.{not_deep, one_word, pair_takes, read_scalar, type_takes}
@@ -30,7 +30,7 @@ abbrev variant_list : Variants → List (ℕ × List Tree)
 variant_list no_variants = []
 variant_list (more_variants d ts vs) = (d, list_in ts) ∷ variant_list vs
 
-variants_listed : (vs : Variants) → variants_in (variant_list vs) ≡ vs
+variants_listed : (vs : Variants) → variants_read (variant_list vs) ≡ vs
 variants_listed no_variants = refl
 variants_listed (more_variants d ts vs) = ap₂ (more_variants d) (trees_in ts) (variants_listed vs)
 
@@ -221,7 +221,7 @@ module _ (dl : TargetDataLayout) where
         ∙ one_word dl (want.EnumOpening repr) begun (number + 1 + 1) (codes "(") ((more ++ codes ")" ∷ []) ++ rest) (waiting want.Discriminant (variants_so_far repr [] ∷ begun)) refl
         ∙ ap (read_from dl (number + 1 + 1 + 1) (waiting want.Discriminant (variants_so_far repr [] ∷ begun))) (append_assoc more (codes ")" ∷ []) rest)
         ∙ read_variants vs more are repr begun [] (number + 1 + 1 + 1) (codes ")" ∷ rest) deep
-        ∙ one_word dl want.Discriminant (variants_so_far repr (variant_list vs) ∷ begun) (number + 1 + 1 + 1 + length more) (codes ")") rest (put (enum repr (variants_in (variant_list vs))) begun) refl
+        ∙ one_word dl want.Discriminant (variants_so_far repr (variant_list vs) ∷ begun) (number + 1 + 1 + 1 + length more) (codes ")") rest (put (enum repr (variants_read (variant_list vs))) begun) refl
         ∙ ap₂ (λ n us. read_from dl n (put (enum repr us) begun) rest) there (variants_listed vs)
     read_tree t words (a_coroutine ps ls ss cs prefix locals states conflicts first_types then_types then_states then_conflicts) begun number rest deep =
         let ps_read = list_in ps in

@@ -1,6 +1,6 @@
 -- How a text falls into lines.
 use Rattle.std.specs.Prelude.{ℕ, ◌-◌, ◌==◌, List, [], length, take, slice_index, unwrap_or, if◌then◌else◌}
-use Rattle.abi_text.specs.Pieces.{before, after}
+use Rattle.abi_text.specs.Pieces.{before, after_byte}
 
 -- a line without a carriage return at its end
 abbrev pub without_return : List ℕ → List ℕ
@@ -12,4 +12,4 @@ first_line text = without_return (before 10 text)
 
 -- the second line, or nothing where there is none
 abbrev pub second_line : List ℕ → List ℕ
-second_line text = without_return (before 10 (unwrap_or (after 10 text) []))
+second_line text = without_return (before 10 (unwrap_or (after_byte 10 text) []))

@@ -18,8 +18,8 @@ number_to most [] = None
 number_to most (d ∷ ds) = fitting most (digits_from 0 (d ∷ ds))
 
 -- a number of so many bits
-abbrev pub number_in : (bits : ℕ) → List ℕ → Option ℕ
-number_in bits w = number_to (2 ^ bits - 1) w
+abbrev pub number_of_bits : (bits : ℕ) → List ℕ → Option ℕ
+number_of_bits bits w = number_to (2 ^ bits - 1) w
 
 -- minus the number, as two's complement of 128 bits; no number for 0
 abbrev pub negated : Option ℕ → Option ℕ
@@ -29,4 +29,4 @@ negated (Some n) = if n == 0 then None else Some (2 ^ 128 - n)
 -- the discriminant that the word is: a number of 128 bits, or `-` and a number from 1 to 2 ^ 127
 abbrev pub discriminant_in : List ℕ → Option ℕ
 discriminant_in [] = None
-discriminant_in (b ∷ bs) = if b == 45 then negated (number_to (2 ^ 127) bs) else number_in 128 (b ∷ bs)
+discriminant_in (b ∷ bs) = if b == 45 then negated (number_to (2 ^ 127) bs) else number_of_bits 128 (b ∷ bs)

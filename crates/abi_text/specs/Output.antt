@@ -44,12 +44,12 @@ output_of_fault TooDeep = refused (codes "TooDeep")
 output_of_fault OutOfMemory = out_of_memory
 
 -- a text that tells of a type
-abbrev pub told : (text : List ℕ) → Output
-told text = record { text = text; status = 0 }
+abbrev pub output_of_text : (text : List ℕ) → Output
+output_of_text text = record { text = text; status = 0 }
 
 -- the output for a type's layout, or for its first fault
 abbrev pub IsOutputOfLayout : (tells : TargetDataLayout → Placed → List ℕ → Type 0) → TargetDataLayout → Result Placed LayError → Output → Type 0
-IsOutputOfLayout tells dl (Ok placed) output = (text : List ℕ) × tells dl placed text × (output ≡ told text)
+IsOutputOfLayout tells dl (Ok placed) output = (text : List ℕ) × tells dl placed text × (output ≡ output_of_text text)
 IsOutputOfLayout tells dl (Err error) output = output ≡ refused (error_name error)
 
 -- the output for a type under a data layout: where the data layout is lawful, that for its layout or its first fault

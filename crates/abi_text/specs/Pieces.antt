@@ -7,6 +7,6 @@ before b [] = []
 before b (c ∷ cs) = if c == b then [] else c ∷ before b cs
 
 -- what follows the first such byte, if there is one
-abbrev pub after : (b : ℕ) → List ℕ → Option (List ℕ)
-after b [] = None
-after b (c ∷ cs) = if c == b then Some cs else after b cs
+abbrev pub after_byte : (b : ℕ) → List ℕ → Option (List ℕ)
+after_byte b [] = None
+after_byte b (c ∷ cs) = if c == b then Some cs else after_byte b cs

@@ -1,11 +1,7 @@
 -- How a laid-out type is written, one line for each fact.
-use Rattle.std.specs.Prelude.{ℕ, ◌+◌, ◌^◌, ◌==◌, Bool, true, false, List, [], ◌∷◌, ◌++◌, codes, nat_lt, replicate, Option, None, Some, if◌then◌else◌}
+use Rattle.std.specs.Prelude.{ℕ, ◌+◌, ◌^◌, Bool, true, false, List, [], ◌∷◌, ◌++◌, codes, nat_lt, replicate, Option, None, Some, if◌then◌else◌}
 use Rattle.std.specs.Fmt.{decimal}
-use Rattle.abi_base.specs.declared.primitive.Primitive.{Primitive}
-use Rattle.abi_base.specs.declared.primitive.Primitive.TheVariants.{Int, Float, Pointer}
-use Rattle.abi_base.specs.declared.integer.Integer.{Integer}
-use Rattle.abi_base.specs.Float.{float_text}
-use Rattle.abi_base.specs.Integer.{signed_text, unsigned_text}
+use Rattle.abi_base.specs.Primitive.{primitive_text}
 use Rattle.abi_scalar.specs.declared.fields_shape.FieldsShape.{FieldsShape}
 use Rattle.abi_scalar.specs.declared.fields_shape.FieldsShape.TheVariants.{Primitive as NoFields, Union, Array, Arbitrary}
 use Rattle.abi_scalar.specs.declared.niche.Niche.{Niche}
@@ -18,7 +14,8 @@ use Rattle.abi_scalar.specs.declared.variants.VariantLayout.{VariantLayout}
 use Rattle.abi_scalar.specs.declared.variants.Variants.{Variants}
 use Rattle.abi_scalar.specs.declared.variants.Variants.TheVariants.{Empty, Single, Multiple}
 use Rattle.abi_scalar.specs.RangeText.{range_text}
-use Rattle.abi_laid.specs.Placed.{Layout, Placed, layout_of, size_of}
+use Rattle.abi_laid.specs.Placed.{Placed, layout_of, size_of}
+use Rattle.abi_scalar.specs.Layout.{Layout}
 use Rattle.abi_laid.specs.Runs.{padding_of, unused_of}
 
 -- size and alignment, in bytes
@@ -42,17 +39,6 @@ shape_lines (Union count) = field_lines 0 (replicate count 0)
 shape_lines (Array stride count) = codes "elements stride " ++ decimal stride ++ codes " count " ++ decimal count ++ codes "\n"
 shape_lines (Arbitrary offsets order) = field_lines 0 offsets
 
--- the name of an integer type
-abbrev pub integer_text : Integer → (signed : Bool) → List ℕ
-integer_text integer true = signed_text integer
-integer_text integer false = unsigned_text integer
-
--- a pointer has the number of its address space, unless that is 0
-abbrev pub primitive_text : Primitive → List ℕ
-primitive_text (Int integer signed) = integer_text integer signed
-primitive_text (Float float) = float_text float
-primitive_text (Pointer space) = if space.0 == 0 then codes "pointer" else codes "pointer(AddressSpace(" ++ decimal space.0 ++ codes "))"
-
 -- the line of the largest niche
 abbrev pub niche_line : Option Niche → List ℕ
 niche_line None = codes "niche none\n"
@@ -73,14 +59,14 @@ abbrev pub variant_lines : (variant : ℕ) → (offsets unused : List ℕ) → L
 variant_lines variant offsets unused = codes "variant " ++ decimal variant ++ codes "\n" ++ field_lines 0 offsets ++ unused
 
 -- variants, the first of which has this index
-abbrev pub each_variant : {F : Type 0} → Placed → (index : ℕ) → List (VariantLayout F) → List ℕ
-each_variant placed index [] = []
-each_variant placed index (v ∷ variants) = variant_lines index v.field_offsets (unused_lines placed index) ++ each_variant placed (index + 1) variants
+abbrev pub lines_of_variants : {F : Type 0} → Placed → (index : ℕ) → List (VariantLayout F) → List ℕ
+lines_of_variants placed index [] = []
+lines_of_variants placed index (v ∷ variants) = variant_lines index v.field_offsets (unused_lines placed index) ++ lines_of_variants placed (index + 1) variants
 
 -- a scalar's primitive, and its range, which a union's scalar doesn't have
-abbrev pub scalar_text : Scalar → List ℕ
-scalar_text (Initialized value range) = primitive_text value ++ codes " " ++ range_text range.start range.end
-scalar_text (OfUnion value) = primitive_text value
+abbrev pub printed_scalar : Scalar → List ℕ
+printed_scalar (Initialized value range) = primitive_text value ++ codes " " ++ range_text range.start range.end
+printed_scalar (OfUnion value) = primitive_text value
 
 -- the variant that a niche doesn't name, and those that it names by the numbers from this one on
 abbrev pub named_text : (untagged : ℕ) → (named : RangeInclusive ℕ) → (start : ℕ) → List ℕ
@@ -89,13 +75,13 @@ named_text untagged named start =
 
 -- which field the tag is, what it holds, and how it names a variant: by its discriminant, or in a niche
 abbrev pub tag_line : (field : ℕ) → (tag : Scalar) → TagEncoding ℕ → List ℕ
-tag_line field tag Direct = codes "tag " ++ decimal field ++ codes " direct " ++ scalar_text tag ++ codes "\n"
+tag_line field tag Direct = codes "tag " ++ decimal field ++ codes " direct " ++ printed_scalar tag ++ codes "\n"
 tag_line field tag (InNiche untagged named start) =
-    codes "tag " ++ decimal field ++ codes " niche " ++ scalar_text tag ++ named_text untagged named start ++ codes "\n"
+    codes "tag " ++ decimal field ++ codes " niche " ++ printed_scalar tag ++ named_text untagged named start ++ codes "\n"
 
 -- several variants, and behind them the tag that tells them apart
 abbrev pub variants_lines : Placed → Variants ℕ ℕ → List ℕ
-variants_lines placed (Multiple tag encoding field variants) = each_variant placed 0 variants ++ tag_line field tag encoding
+variants_lines placed (Multiple tag encoding field variants) = lines_of_variants placed 0 variants ++ tag_line field tag encoding
 variants_lines placed Empty = []
 variants_lines placed (Single index) = []
 

@@ -32,7 +32,7 @@ use Rattle.abi_text.specs.declared.reader.begun.Open.TheVariants as open_type
 use Rattle.abi_text.specs.declared.reader.begun.CoroutineParts.{CoroutineParts}
 use Rattle.abi_text.specs.declared.reader.begun.CoroutineParts.TheVariants as open_parts
 use Rattle.abi_text.specs.declared.reader.begun.Reader.{Reader}
-use Rattle.abi_text.specs.Numbers.{discriminant_in, number_in}
+use Rattle.abi_text.specs.Numbers.{discriminant_in, number_of_bits}
 use Rattle.abi_text.specs.Repr.{struct_repr, union_repr}
 use Rattle.abi_text.specs.ScalarWords.{scalar_word}
 use Rattle.abi_text.specs.TypeWords.{type_word}
@@ -40,17 +40,17 @@ use Rattle.abi_text.specs.Scalars.{a_bool, a_char, a_ref, default_pointer, full,
 
 -- the parts so far of a coroutine that is begun: prefix fields, locals, for each state the indices of its locals, and conflicts,
 -- each by its row and its column
-pub data Parts : Type 0 where
+pub data PartsBegun : Type 0 where
   -- within the prefix fields
-  in_prefix : List Tree → Parts
+  in_prefix : List Tree → PartsBegun
   -- within the locals
-  in_locals : (prefix : List Tree) → List Tree → Parts
+  in_locals : (prefix : List Tree) → List Tree → PartsBegun
   -- between the states, with those so far
-  between_states : (prefix locals : List Tree) → List (List ℕ) → Parts
+  between_states : (prefix locals : List Tree) → List (List ℕ) → PartsBegun
   -- within a state: the states before it, and its own indices so far
-  in_state : (prefix locals : List Tree) → List (List ℕ) → (indices : List ℕ) → Parts
+  in_state : (prefix locals : List Tree) → List (List ℕ) → (indices : List ℕ) → PartsBegun
   -- within the conflicts
-  in_conflicts : (prefix locals : List Tree) → (states : List (List ℕ)) → List (ℕ × ℕ) → Parts
+  in_conflicts : (prefix locals : List Tree) → (states : List (List ℕ)) → List (ℕ × ℕ) → PartsBegun
 
 -- a type that is begun
 pub data Begun : Type 0 where
@@ -71,7 +71,7 @@ pub data Begun : Type 0 where
   -- an enum within a variant: the variants before it, its discriminant, and its fields so far
   variant : ReprOptions → List (ℕ × List Tree) → (discriminant : ℕ) → List Tree → Begun
   -- a coroutine, with its parts so far
-  coroutine_with : Parts → Begun
+  coroutine_with : PartsBegun → Begun
 
 -- What has been read: what comes next, the types that are begun, the innermost first, and the whole type once it's complete.
 pub record State : Type 0 where
@@ -88,7 +88,7 @@ abbrev pub start : State
 start = waiting want.Tree []
 
 -- a type more in the part of a coroutine that is begun: types come in its prefix and among its locals alone
-abbrev pub with_type : Tree → Parts → Parts
+abbrev pub with_type : Tree → PartsBegun → PartsBegun
 with_type t (in_prefix ts) = in_prefix (ts ++ t ∷ [])
 with_type t (in_locals ps ts) = in_locals ps (ts ++ t ∷ [])
 with_type t parts = parts
@@ -116,12 +116,12 @@ put_scalar s scalar_place.First begun = waiting (want.Scalar (scalar_place.Secon
 put_scalar s (scalar_place.Second a) begun = put (pair a s) begun
 
 -- the variants of a list
-abbrev pub variants_in : List (ℕ × List Tree) → Variants
-variants_in [] = no_variants
-variants_in (v ∷ vs) = more_variants v.0 (trees v.1) (variants_in vs)
+abbrev pub variants_read : List (ℕ × List Tree) → Variants
+variants_read [] = no_variants
+variants_read (v ∷ vs) = more_variants v.0 (trees v.1) (variants_read vs)
 
 -- a closing parenthesis ends a part of a coroutine; the conflicts are the last, and end the coroutine
-abbrev pub part_closed : Parts → List Begun → State
+abbrev pub part_closed : PartsBegun → List Begun → State
 part_closed (in_prefix ps) begun = waiting (want.Coroutine part.TypesOpening) (coroutine_with (in_locals ps []) ∷ begun)
 part_closed (in_locals ps ls) begun = waiting (want.Coroutine part.StatesOpening) (coroutine_with (between_states ps ls []) ∷ begun)
 part_closed (between_states ps ls ss) begun = waiting (want.Coroutine part.ConflictsOpening) (coroutine_with (in_conflicts ps ls ss []) ∷ begun)
@@ -135,7 +135,7 @@ closed number (ordering asked is ∷ begun) = Ok (waiting (want.Order order.Fiel
 closed number (ordered asked is ts ∷ begun) = Ok (put (struct asked.repr asked.always_sized (Some is) (trees ts)) begun)
 closed number (members repr ts ∷ begun) = Ok (put (union repr (trees ts)) begun)
 closed number (variant repr vs d ts ∷ begun) = Ok (waiting want.Discriminant (variants_so_far repr (vs ++ (d, ts) ∷ []) ∷ begun))
-closed number (variants_so_far repr vs ∷ begun) = Ok (put (enum repr (variants_in vs)) begun)
+closed number (variants_so_far repr vs ∷ begun) = Ok (put (enum repr (variants_read vs)) begun)
 closed number (coroutine_with parts ∷ begun) = Ok (part_closed parts begun)
 closed number _ = Err (Unreadable number)
 
@@ -223,10 +223,10 @@ abbrev pub next_in_coroutine : (number : ℕ) → List Begun → (word : List �
 next_in_coroutine number begun w part.TypesOpening = at_part_opening number want.Tree begun (bytes_eq w (codes "("))
 next_in_coroutine number begun w part.StatesOpening = at_part_opening number (want.Coroutine part.State) begun (bytes_eq w (codes "("))
 next_in_coroutine number begun w part.State = at_state number (bytes_eq w (codes ")")) (bytes_eq w (codes "(")) begun
-next_in_coroutine number begun w part.Local = at_local number (bytes_eq w (codes ")")) begun (number_in 64 w)
+next_in_coroutine number begun w part.Local = at_local number (bytes_eq w (codes ")")) begun (number_of_bits 64 w)
 next_in_coroutine number begun w part.ConflictsOpening = at_part_opening number (want.Coroutine part.Row) begun (bytes_eq w (codes "("))
-next_in_coroutine number begun w part.Row = at_row number (bytes_eq w (codes ")")) begun (number_in 64 w)
-next_in_coroutine number begun w (part.Column row) = at_column number row begun (number_in 64 w)
+next_in_coroutine number begun w part.Row = at_row number (bytes_eq w (codes ")")) begun (number_of_bits 64 w)
+next_in_coroutine number begun w (part.Column row) = at_column number row begun (number_of_bits 64 w)
 
 -- the repr of a struct whose order is handed in, and the parenthesis that opens the order
 abbrev pub at_order_repr : (number : ℕ) → List Begun → Option StructRepr → Result State Fault
@@ -252,7 +252,7 @@ at_fields_opening number _ _ = Err (Unreadable number)
 abbrev pub next_in_order : (number : ℕ) → List Begun → (word : List ℕ) → OrderWant → Result State Fault
 next_in_order number begun w order.Repr = at_order_repr number begun (struct_repr w)
 next_in_order number begun w (order.Opening asked) = at_order_opening number asked begun (bytes_eq w (codes "("))
-next_in_order number begun w order.Index = at_index number (bytes_eq w (codes ")")) begun (number_in 64 w)
+next_in_order number begun w order.Index = at_index number (bytes_eq w (codes ")")) begun (number_of_bits 64 w)
 next_in_order number begun w order.FieldsOpening = at_fields_opening number begun (bytes_eq w (codes "("))
 
 -- the start of a range
@@ -333,11 +333,11 @@ module _ (dl : TargetDataLayout) where
   next number begun w want.Tree = at_type number (bytes_eq w (codes ")")) begun (type_word w)
   next number begun w (want.Scalar place) = at_scalar number place begun (scalar_word w)
   next number begun w (want.Primitive shape place) = at_primitive number shape place begun (scalar_word w)
-  next number begun w (want.Space shape place) = at_space number shape place begun (number_in 32 w)
-  next number begun w (want.RangeStart p place) = at_start number p place begun (number_in 128 w)
-  next number begun w (want.RangeEnd p n place) = at_end number p n place begun (number_in 128 w)
-  next number begun w want.Count = at_count number begun (number_in 64 w)
-  next number begun w (want.Lanes packed) = at_lanes number packed begun (number_in 64 w)
+  next number begun w (want.Space shape place) = at_space number shape place begun (number_of_bits 32 w)
+  next number begun w (want.RangeStart p place) = at_start number p place begun (number_of_bits 128 w)
+  next number begun w (want.RangeEnd p n place) = at_end number p n place begun (number_of_bits 128 w)
+  next number begun w want.Count = at_count number begun (number_of_bits 64 w)
+  next number begun w (want.Lanes packed) = at_lanes number packed begun (number_of_bits 64 w)
   next number begun w want.Repr = at_repr number begun (struct_repr w)
   next number begun w want.UnionRepr = at_union_repr number begun (union_repr w)
   next number begun w want.EnumRepr = at_enum_repr number begun (union_repr w)
@@ -382,7 +382,7 @@ abbrev pub indices_by : Vec ℕ Global → List ℕ
 indices_by s = s.items
 
 -- what the program keeps of a coroutine that is begun
-abbrev pub parts_by : CoroutineParts → Parts
+abbrev pub parts_by : CoroutineParts → PartsBegun
 parts_by (open_parts.Prefix ps) = in_prefix (map tree_of ps.items)
 parts_by (open_parts.Locals ps ls) = in_locals (map tree_of ps.items) (map tree_of ls.items)
 parts_by (open_parts.States ps ls ss) = between_states (map tree_of ps.items) (map tree_of ls.items) (map indices_by ss.items)

@@ -14,7 +14,7 @@ use Rattle.abi_text.specs.declared.reader.repr_text.ReprKind.{ReprKind}
 use Rattle.abi_text.specs.declared.reader.repr_text.ReprKind.TheVariants as kind
 use Rattle.abi_text.specs.declared.reader.repr_text.StructRepr.{StructRepr}
 use Rattle.abi_scalar.specs.declared.repr.ReprOptions.{ReprOptions}
-use Rattle.abi_text.specs.Numbers.{number_in}
+use Rattle.abi_text.specs.Numbers.{number_of_bits}
 use Rattle.abi_text.specs.ScalarWords.{first_of, integer_named}
 
 -- the first part, longer by a byte in front
@@ -23,9 +23,9 @@ longer b [] = (b ∷ []) ∷ []
 longer b (p ∷ ps) = (b ∷ p) ∷ ps
 
 -- the parts between commas
-abbrev pub parts_of : List ℕ → List (List ℕ)
-parts_of [] = [] ∷ []
-parts_of (b ∷ bs) = if b == 44 then [] ∷ parts_of bs else longer b (parts_of bs)
+abbrev pub repr_parts : List ℕ → List (List ℕ)
+repr_parts [] = [] ∷ []
+repr_parts (b ∷ bs) = if b == 44 then [] ∷ repr_parts bs else longer b (repr_parts bs)
 
 -- what a struct's repr asks for where it asks for nothing
 abbrev pub plain : StructRepr
@@ -43,7 +43,7 @@ alignment_of (Some n) = where_valid (align_of_bytes n)
 
 -- the alignment of so many bytes that the word says after this beginning
 abbrev pub alignment_after : (name : List ℕ) → List ℕ → Option ℕ
-alignment_after name w = if bytes_eq (take (length name) w) name then alignment_of (number_in 64 (drop (length name) w)) else None
+alignment_after name w = if bytes_eq (take (length name) w) name then alignment_of (number_of_bits 64 (drop (length name) w)) else None
 
 -- the integer that a repr names
 abbrev pub fixed : Option (AnInteger × Bool) → Option IntegerType
@@ -63,22 +63,22 @@ valued_part w =
     (first_of (option_map (λ a. Packed a) (alignment_after (codes "packed=") w)) (option_map (λ a. Align a) (alignment_after (codes "align=") w)))
 
 -- what a part of a repr asks for
-abbrev pub part_of : List ℕ → Option ReprPart
-part_of w =
+abbrev pub repr_part : List ℕ → Option ReprPart
+repr_part w =
     if bytes_eq w (codes "C") then Some C
     else (if bytes_eq w (codes "transparent") then Some Transparent
     else (if bytes_eq w (codes "linear") then Some Linear
     else (if bytes_eq w (codes "tail") then Some Tail else valued_part w)))
 
 -- of which kind a word of a repr is
-abbrev pub kind_of : ReprPart → ReprKind
-kind_of C = kind.C
-kind_of Transparent = kind.Transparent
-kind_of Linear = kind.Linear
-kind_of (Packed a) = kind.Packed
-kind_of (Align a) = kind.Align
-kind_of (Integer i) = kind.Integer
-kind_of Tail = kind.Tail
+abbrev pub repr_kind : ReprPart → ReprKind
+repr_kind C = kind.C
+repr_kind Transparent = kind.Transparent
+repr_kind Linear = kind.Linear
+repr_kind (Packed a) = kind.Packed
+repr_kind (Align a) = kind.Align
+repr_kind (Integer i) = kind.Integer
+repr_kind Tail = kind.Tail
 
 -- two words are of one kind
 abbrev pub same_kind : ReprKind → ReprKind → Bool
@@ -94,16 +94,16 @@ same_kind _ _ = false
 -- the part is a word of this kind
 abbrev pub has_kind : ReprKind → Option ReprPart → Bool
 has_kind k None = false
-has_kind k (Some part) = same_kind (kind_of part) k
+has_kind k (Some part) = same_kind (repr_kind part) k
 
 -- the kind comes at most once
 abbrev pub is_single : ReprKind → List (List ℕ) → Bool
-is_single k parts = nat_le (count_by (λ p. has_kind k (part_of p)) parts) 1
+is_single k parts = nat_le (count_by (λ p. has_kind k (repr_part p)) parts) 1
 
 -- each part is a word of a repr, and no kind comes twice
 abbrev pub are_repr_words : List (List ℕ) → Bool
 are_repr_words parts =
-    list_all (λ p. is_some (part_of p)) parts && is_single kind.C parts && is_single kind.Transparent parts && is_single kind.Linear parts
+    list_all (λ p. is_some (repr_part p)) parts && is_single kind.C parts && is_single kind.Transparent parts && is_single kind.Linear parts
     && is_single kind.Packed parts && is_single kind.Align parts && is_single kind.Integer parts && is_single kind.Tail parts
 
 -- what is asked, with this flag set
@@ -124,13 +124,13 @@ with_part asked (Some Tail) = record asked { always_sized = false }
 -- what is asked for with these words
 abbrev pub asked_by : StructRepr → List (List ℕ) → StructRepr
 asked_by asked [] = asked
-asked_by asked (p ∷ ps) = asked_by (with_part asked (part_of p)) ps
+asked_by asked (p ∷ ps) = asked_by (with_part asked (repr_part p)) ps
 
 -- what a word asks for where a struct's repr stands
 abbrev pub struct_repr : List ℕ → Option StructRepr
 struct_repr w =
     if bytes_eq w (codes "-") then Some plain
-    else (if are_repr_words (parts_of w) then Some (asked_by plain (parts_of w)) else None)
+    else (if are_repr_words (repr_parts w) then Some (asked_by plain (repr_parts w)) else None)
 
 -- the options of a repr that has no `tail`
 abbrev pub without_tail : Option StructRepr → Option ReprOptions
@@ -142,6 +142,6 @@ abbrev pub union_repr : List ℕ → Option ReprOptions
 union_repr w = without_tail (struct_repr w)
 
 -- the parts that are left
-abbrev pub parts_left : Option (List ℕ) → List (List ℕ)
-parts_left None = []
-parts_left (Some w) = parts_of w
+abbrev pub repr_parts_left : Option (List ℕ) → List (List ℕ)
+repr_parts_left None = []
+repr_parts_left (Some w) = repr_parts w

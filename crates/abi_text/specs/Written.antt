@@ -12,7 +12,7 @@ use Rattle.abi_scalar.specs.declared.scalar.Scalar.TheVariants.{Initialized, Uni
 use Rattle.abi_laid.specs.Tree.{Tree, scalar, pair, never, unit, array, vector, struct, union, enum, coroutine, Trees, no_trees, more_trees, Variants, no_variants, more_variants}
 use Rattle.abi_text.specs.declared.reader.repr_text.StructRepr.{StructRepr}
 use Rattle.abi_base.specs.Float.{float_text}
-use Rattle.abi_text.specs.Printing.{integer_text}
+use Rattle.abi_base.specs.Integer.{integer_text}
 use Rattle.abi_text.specs.Repr.{struct_repr, union_repr}
 use Rattle.abi_text.specs.Scalars.{a_bool, a_char, a_ref, default_pointer, full, index_primitive}
 use Rattle.abi_text.specs.Words.{begins_plain}
@@ -27,13 +27,13 @@ pub data IsDiscriminant : (discriminant : ℕ) → (word : List ℕ) → Type 0 
   negative : (n : ℕ) (word : List ℕ) → 0 < n → n ≤ 2 ^ 127 → IsNumeral 128 n word → IsDiscriminant (2 ^ 128 - n) (codes "-" ++ word)
 
 -- the word of an integer as wide as an index
-abbrev pub index_text : (signed : Bool) → List ℕ
-index_text signed = if signed then codes "isize" else codes "usize"
+abbrev pub usize_text : (signed : Bool) → List ℕ
+usize_text signed = if signed then codes "isize" else codes "usize"
 
 -- the words write the primitive
 pub data IsPrimitiveWrittenAs (dl : TargetDataLayout) : Primitive → (words : List (List ℕ)) → Type 0 where
   an_integer : (width : Integer) (signed : Bool) → IsPrimitiveWrittenAs dl (Int width signed) (integer_text width signed ∷ [])
-  an_index : (signed : Bool) → IsPrimitiveWrittenAs dl (index_primitive dl signed) (index_text signed ∷ [])
+  an_index : (signed : Bool) → IsPrimitiveWrittenAs dl (index_primitive dl signed) (usize_text signed ∷ [])
   a_float : (format : Format) → IsPrimitiveWrittenAs dl (Float format) (float_text format ∷ [])
   -- a pointer into space 0, and one into any space
   a_pointer : IsPrimitiveWrittenAs dl default_pointer (codes "ptr" ∷ [])

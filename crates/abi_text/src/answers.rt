@@ -9,7 +9,7 @@ ghost use Rattle.abi_text.specs.DataLayoutLine.{data_layout_of};
 ghost use Rattle.abi_text.specs.LaidOut.{IsLaidOut};
 ghost use Rattle.abi_text.specs.Names.{data_layout_error_name, error_name};
 ghost use Rattle.abi_text.specs.Output.{answered_by, IsOutputOf, IsOutputOfTree, IsOutputOfType};
-ghost use Rattle.abi_text.specs.Output.{IsOutputUnder, output_of_fault, refused, told, unreadable};
+ghost use Rattle.abi_text.specs.Output.{IsOutputUnder, output_of_fault, refused, output_of_text, unreadable};
 ghost use Rattle.abi_text.specs.Reading.{read};
 ghost use Rattle.abi_text.specs.Words.{words_of};
 
@@ -93,7 +93,7 @@ fn answer_laid<T: Telling>(
 ) -> Result<Answer, AllocError>
     requires { IsLaidOut dl.now laid.now }
     ensures { IfOk result (λ a. (text : List ℕ) × T.tells dl.now (placed_of laid.now) text ×
-        (answered_by a ≡ told text)) }
+        (answered_by a ≡ output_of_text text)) }
 {
     let text = T::told(alloc, dl, laid)?;
     Ok(Answer { text, status: 0 })

@@ -1,7 +1,7 @@
 //! Numbers in a type's text.
 
 ghost use Rattle.std.specs.Prelude.{◌≡◌, Some};
-ghost use Rattle.abi_text.specs.Numbers.{discriminant_in, negated, number_in, number_to};
+ghost use Rattle.abi_text.specs.Numbers.{discriminant_in, negated, number_of_bits, number_to};
 
 /// The number that the word is: decimal digits without a sign. None where it's something else, or greater than `most`.
 fn number_to(word: &[u8], most: u128) -> Option<u128>
@@ -31,7 +31,7 @@ fn number_to(word: &[u8], most: u128) -> Option<u128>
 
 /// The number of 128 bits that a word is: decimal digits without a sign. None where it is something else, or greater.
 pub fn wide(word: &[u8]) -> Option<u128>
-    ensures { result ≡ number_in 128 word.now }
+    ensures { result ≡ number_of_bits 128 word.now }
 {
     number_to(word, u128::MAX)
 }
@@ -59,14 +59,14 @@ pub fn discriminant(word: &[u8]) -> Option<u128>
 
 /// The number of 64 bits that a word is: decimal digits without a sign. None where it is something else, or greater.
 pub fn decimal(word: &[u8]) -> Option<u64>
-    ensures { result ≡ number_in 64 word.now }
+    ensures { result ≡ number_of_bits 64 word.now }
 {
     Some(number_to(word, u128::from(u64::MAX))? as u64)
 }
 
 /// The number of 32 bits that a word is: decimal digits without a sign. None where it is something else, or greater.
 pub fn short(word: &[u8]) -> Option<u32>
-    ensures { result ≡ number_in 32 word.now }
+    ensures { result ≡ number_of_bits 32 word.now }
 {
     Some(number_to(word, u128::from(u32::MAX))? as u32)
 }

@@ -1,7 +1,9 @@
 //! How a laid-out type is written.
 
 ghost use Rattle.std.specs.Prelude.{◌≡◌, ◌<◌, ◌++◌, OnOk, IfOk, replicate, string_bytes};
-ghost use Rattle.abi_text.specs.Printing.{field_lines, integer_text, layout_lines, niche_line, padding_lines, primitive_text, range_lines, shape_lines, size_line, type_text, uninhabited_line};
+ghost use Rattle.abi_text.specs.Printing.{field_lines, layout_lines, niche_line, padding_lines, range_lines, shape_lines, size_line, type_text, uninhabited_line};
+ghost use Rattle.abi_base.specs.Integer.{integer_text};
+ghost use Rattle.abi_base.specs.Primitive.{primitive_text};
 ghost use Rattle.abi_index.specs.RangeSet.{AreMaximalRuns};
 ghost use Rattle.abi_text.specs.Told.{TellsBytes};
 ghost use Rattle.abi_laid.specs.Laid.{placed_of};

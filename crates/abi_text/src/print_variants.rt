@@ -3,9 +3,9 @@
 ghost use Rattle.std.specs.Prelude.{◌≡◌, ℕ, ◌<◌, ◌≤◌, ◌+◌, ◌++◌, List, [], IfOk, OnOk, codes, get_or, length, string_bytes};
 ghost use Rattle.abi_index.specs.Idx.{greatest_place};
 ghost use Rattle.abi_index.specs.RangeSet.{AreMaximalRuns};
-ghost use Rattle.abi_text.specs.Printing.{each_variant, named_text, range_lines, scalar_text, tag_line, unused_lines, variant_lines, variants_lines};
+ghost use Rattle.abi_text.specs.Printing.{lines_of_variants, named_text, range_lines, printed_scalar, tag_line, unused_lines, variant_lines, variants_lines};
 ghost use Rattle.abi_text.specs.Told.{TellsBytes};
-ghost use Rattle.abi_types.specs.Ty.Runs.{IsBeside};
+ghost use Rattle.abi_types.specs.Ty.Runs.{IsVariantOfSeveral};
 ghost use Rattle.abi_laid.specs.Laid.{placed_of};
 ghost use Rattle.abi_laid.specs.Placed.{layout_of};
 
@@ -21,7 +21,7 @@ use std::alloc::{AllocError, Global};
 fn listed_unused(alloc: Global, laid: &Laid) -> Result<IndexVec<VariantIdx, RangeSet>, AllocError>
     requires { TellsBytes laid.now }
     ensures { IfOk result (λ sets. (i : ℕ) (runs : List (ℕ × ℕ)) →
-        IsBeside (layout_of (placed_of laid.now)).variants i →
+        IsVariantOfSeveral (layout_of (placed_of laid.now)).variants i →
         runs ≡ get_or sets i [] → AreMaximalRuns 0 runs →
         range_lines (codes "unused") runs ≡ unused_lines (placed_of laid.now) i) }
 {
@@ -69,8 +69,8 @@ fn write_each_variant(
 ) -> Result<(), AllocError>
     requires told { TellsBytes laid.now }
     requires most { length variants.now ≤ greatest_place + 1 }
-    requires variants { (i : ℕ) → i < length variants.now → IsBeside (layout_of (placed_of laid.now)).variants i }
-    ensures { OnOk result (string_bytes out.new ≡ string_bytes out.old ++ each_variant
+    requires variants { (i : ℕ) → i < length variants.now → IsVariantOfSeveral (layout_of (placed_of laid.now)).variants i }
+    ensures { OnOk result (string_bytes out.new ≡ string_bytes out.old ++ lines_of_variants
         (placed_of laid.now) 0 variants.now) }
 {
     let unused = listed_unused(alloc, laid)?;
@@ -84,7 +84,7 @@ fn write_each_variant(
 
 /// Writes the primitive of a scalar, and its range where it has one.
 fn write_scalar(out: &mut String, scalar: Scalar) -> Result<(), AllocError>
-    ensures { OnOk result (string_bytes out.new ≡ string_bytes out.old ++ scalar_text scalar) }
+    ensures { OnOk result (string_bytes out.new ≡ string_bytes out.old ++ printed_scalar scalar) }
 {
     match scalar {
         Scalar::Initialized { value, valid_range } => {

@@ -14,7 +14,7 @@ ghost use Rattle.std.specs.Prelude.{◌≡◌, ◌≤◌, ℕ, List, MatchResult
 ghost use Rattle.std.specs.Str.{bytes_eq};
 ghost use Rattle.abi_laid.specs.Tree.{Tree, tree_of};
 ghost use Rattle.abi_text.specs.Reading.{Agrees, at_count, at_discriminant, at_enum_opening, at_enum_repr, at_lanes, at_opening, at_repr, at_type, at_union_opening, at_union_repr, at_variant_opening, begun_in, next, read, state_of};
-ghost use Rattle.abi_text.specs.Numbers.{discriminant_in, number_in};
+ghost use Rattle.abi_text.specs.Numbers.{discriminant_in, number_of_bits};
 ghost use Rattle.abi_text.specs.Repr.{struct_repr, union_repr};
 ghost use Rattle.abi_text.specs.Words.{words_of};
 ghost use Rattle.abi_text.specs.Written.{IsLineOf, IsWrittenAs, nesting};
@@ -79,7 +79,7 @@ fn read_type_word(
 
 /// Reads an array's count.
 fn read_count(number: u64, begun: Vec<Open>, word: &[u8]) -> Result<Reader, Fault>
-    ensures { Agrees state_of (at_count number (begun_in begun.items) (number_in 64 word.now)) result }
+    ensures { Agrees state_of (at_count number (begun_in begun.items) (number_of_bits 64 word.now)) result }
 {
     let mut begun = begun;
     match decimal(word) {
@@ -93,7 +93,7 @@ fn read_count(number: u64, begun: Vec<Open>, word: &[u8]) -> Result<Reader, Faul
 
 /// Reads how many lanes a vector has.
 fn read_lanes(number: u64, packed: bool, begun: Vec<Open>, word: &[u8]) -> Result<Reader, Fault>
-    ensures { Agrees state_of (at_lanes number packed (begun_in begun.items) (number_in 64 word.now)) result }
+    ensures { Agrees state_of (at_lanes number packed (begun_in begun.items) (number_of_bits 64 word.now)) result }
 {
     let mut begun = begun;
     match decimal(word) {

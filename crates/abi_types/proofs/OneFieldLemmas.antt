@@ -10,10 +10,10 @@ use Rattle.abi_scalar.specs.declared.backend_repr.BackendRepr.TheVariants.{Scala
 use Rattle.abi_scalar.specs.declared.fields_shape.FieldsShape.{FieldsShape}
 use Rattle.abi_scalar.specs.declared.fields_shape.FieldsShape.TheVariants.{Primitive, Union, Array, Arbitrary}
 use Rattle.abi_scalar.specs.Shape.{field_count}
-use Rattle.abi_scalar.specs.Layout.{IsZst, Is1zst}
+use Rattle.abi_scalar.specs.Layout.{IsZst, Is1zst, Layout}
 use Rattle.abi_scalar.specs.View.{IsSizedView}
 use Rattle.abi_types.specs.declared.ty.one_field.NoBytes.{NoBytes}
-use Rattle.abi_types.specs.Ty.Typed.{Layout, Typed, typed, no_type, field_in, layout_in}
+use Rattle.abi_types.specs.Ty.Typed.{Typed, typed, no_type, field_in, layout_in}
 use Rattle.abi_types.specs.Ty.Lawful.{CanBeNamed, IsLawfulType}
 use Rattle.abi_types.specs.Ty.NoBytes.{has_no_bytes}
 use Rattle.abi_types.specs.Ty.Walks.{is_sized, is_sized_memory, is_zst, is_1zst, only_field, only_item}

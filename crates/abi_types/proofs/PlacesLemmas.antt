@@ -22,11 +22,12 @@ use Rattle.abi_scalar.specs.declared.variants.Variants.{Variants}
 use Rattle.abi_scalar.specs.declared.variants.Variants.TheVariants.{Empty, Single, Multiple}
 use Rattle.abi_scalar.specs.Shape.{field_count, field_offset}
 use Rattle.abi_scalar.specs.Variant.{variants_of}
-use Rattle.abi_types.specs.Ty.Typed.{Layout, Typed, typed, no_type, at_variant, field_in, layout_in, variant_in}
+use Rattle.abi_types.specs.Ty.Typed.{Typed, typed, no_type, at_variant, field_in, layout_in, variant_in}
+use Rattle.abi_scalar.specs.Layout.{Layout}
 use Rattle.abi_types.specs.Ty.Lawful.{CanBeNamed, DepthFalls, IsLawfulType, NamesVariant}
 use Rattle.abi_types.specs.Ty.Places.{covers_element, fields_cover, is_place, is_shared_place, is_unused, variants_cover}
-use Rattle.abi_index.specs.Runs.{Adds, moved, repeated}
-use Rattle.abi_types.specs.Ty.Runs.{AreUnusedOf, IsBeside, IsVariantIndex, elements_cover, first_cover, variant_count}
+use Rattle.abi_index.specs.Runs.{Adds, moved_to, repeated}
+use Rattle.abi_types.specs.Ty.Runs.{AreUnusedOf, IsVariantOfSeveral, IsVariantIndex, elements_cover, first_cover, variant_count}
 use Rattle.abi_index.proofs.RunsLemmas.{adds_both, adds_nothing, adds_same, moved-moved, moved-none, moved-or, moved-same, moved-zero}
 
 -- ---- tests of numbers that follow one another
@@ -109,39 +110,39 @@ first_variants t n k = list_any (λ v. is_place (variant_in t v) k) (range_with_
 pub of_variant : (t : Typed) (i : ℕ) (tag : Scalar) (encoding : TagEncoding ℕ) (at : ℕ) (layouts : List (VariantLayout ℕ)) → (layout_in t).variants ≡ Multiple tag encoding at layouts → at_variant t i ≡ variant_in t i
 of_variant t i tag encoding at layouts e = rw e refl
 
-adds_field_at : (all old new : List (ℕ × ℕ)) (offset : ℕ) (t : Typed) (i : ℕ) → Adds all old (moved offset (first_cover t i))
-    → Adds old new (moved (offset + field_offset (layout_in t).fields i) (is_place (field_in t i))) → Adds all new (moved offset (first_cover t (i + 1)))
+adds_field_at : (all old new : List (ℕ × ℕ)) (offset : ℕ) (t : Typed) (i : ℕ) → Adds all old (moved_to offset (first_cover t i))
+    → Adds old new (moved_to (offset + field_offset (layout_in t).fields i) (is_place (field_in t i))) → Adds all new (moved_to offset (first_cover t (i + 1)))
 adds_field_at all old new offset t i before next =
     let off : ℕ = field_offset (layout_in t).fields i in
     let p : ℕ → Bool = is_place (field_in t i) in
-    adds_same all new (λ k. moved offset (first_cover t i) k || moved (offset + off) p k) (moved offset (first_cover t (i + 1)))
-    (adds_both all old new (moved offset (first_cover t i)) (moved (offset + off) p) before next)
-    (λ k. ap (λ b. moved offset (first_cover t i) k || b) (moved-moved offset off p k) ∙ sym (moved-or offset (first_cover t i) (moved off p) k)
-    ∙ sym (moved-same offset (first_cover t (i + 1)) (λ j. first_cover t i j || moved off p j) (λ j. any_more (λ n. moved (field_offset (layout_in t).fields n) (is_place (field_in t n)) j) i) k))
+    adds_same all new (λ k. moved_to offset (first_cover t i) k || moved_to (offset + off) p k) (moved_to offset (first_cover t (i + 1)))
+    (adds_both all old new (moved_to offset (first_cover t i)) (moved_to (offset + off) p) before next)
+    (λ k. ap (λ b. moved_to offset (first_cover t i) k || b) (moved-moved offset off p k) ∙ sym (moved-or offset (first_cover t i) (moved_to off p) k)
+    ∙ sym (moved-same offset (first_cover t (i + 1)) (λ j. first_cover t i j || moved_to off p j) (λ j. any_more (λ n. moved_to (field_offset (layout_in t).fields n) (is_place (field_in t n)) j) i) k))
 
 -- the next field, at its place
-pub adds_field : (all old new : List (ℕ × ℕ)) (offset : ℕ) (t u : Typed) (i place : ℕ) → place ≡ field_offset (layout_in t).fields i → u ≡ field_in t i → Adds all old (moved offset (first_cover t i))
-    → Adds old new (moved (offset + place) (is_place u)) → Adds all new (moved offset (first_cover t (i + 1)))
+pub adds_field : (all old new : List (ℕ × ℕ)) (offset : ℕ) (t u : Typed) (i place : ℕ) → place ≡ field_offset (layout_in t).fields i → u ≡ field_in t i → Adds all old (moved_to offset (first_cover t i))
+    → Adds old new (moved_to (offset + place) (is_place u)) → Adds all new (moved_to offset (first_cover t (i + 1)))
 adds_field all old new offset t u i place e f before next =
     adds_field_at all old new offset t i before
-    (subst (λ w. Adds old new (moved (offset + field_offset (layout_in t).fields i) (is_place w))) f (subst (λ m. Adds old new (moved (offset + m) (is_place u))) e next))
+    (subst (λ w. Adds old new (moved_to (offset + field_offset (layout_in t).fields i) (is_place w))) f (subst (λ m. Adds old new (moved_to (offset + m) (is_place u))) e next))
 
-adds_variant_in : (all old new : List (ℕ × ℕ)) (offset : ℕ) (t : Typed) (i : ℕ) → Adds all old (moved offset (first_variants t i)) → Adds old new (moved offset (is_place (variant_in t i)))
-    → Adds all new (moved offset (first_variants t (i + 1)))
+adds_variant_in : (all old new : List (ℕ × ℕ)) (offset : ℕ) (t : Typed) (i : ℕ) → Adds all old (moved_to offset (first_variants t i)) → Adds old new (moved_to offset (is_place (variant_in t i)))
+    → Adds all new (moved_to offset (first_variants t (i + 1)))
 adds_variant_in all old new offset t i before next =
     let p : ℕ → Bool = is_place (variant_in t i) in
-    adds_same all new (λ k. moved offset (first_variants t i) k || moved offset p k) (moved offset (first_variants t (i + 1)))
-    (adds_both all old new (moved offset (first_variants t i)) (moved offset p) before next)
+    adds_same all new (λ k. moved_to offset (first_variants t i) k || moved_to offset p k) (moved_to offset (first_variants t (i + 1)))
+    (adds_both all old new (moved_to offset (first_variants t i)) (moved_to offset p) before next)
     (λ k. sym (moved-or offset (first_variants t i) p k)
     ∙ sym (moved-same offset (first_variants t (i + 1)) (λ j. first_variants t i j || p j) (λ j. any_more (λ n. is_place (variant_in t n) j) i) k))
 
 -- the next variant
 pub adds_variant : (all old new : List (ℕ × ℕ)) (offset : ℕ) (t u : Typed) (i n : ℕ) (tag : Scalar) (encoding : TagEncoding ℕ) (at : ℕ) (layouts : List (VariantLayout ℕ))
-    → (layout_in t).variants ≡ Multiple tag encoding at layouts → u ≡ at_variant t n → n ≡ i → Adds all old (moved offset (first_variants t i)) → Adds old new (moved offset (is_place u))
-    → Adds all new (moved offset (first_variants t (i + 1)))
+    → (layout_in t).variants ≡ Multiple tag encoding at layouts → u ≡ at_variant t n → n ≡ i → Adds all old (moved_to offset (first_variants t i)) → Adds old new (moved_to offset (is_place u))
+    → Adds all new (moved_to offset (first_variants t (i + 1)))
 adds_variant all old new offset t u i n tag encoding at layouts several e f before next =
     adds_variant_in all old new offset t i before
-    (subst (λ w. Adds old new (moved offset (is_place w))) (e ∙ ap (at_variant t) f ∙ of_variant t i tag encoding at layouts several) next)
+    (subst (λ w. Adds old new (moved_to offset (is_place w))) (e ∙ ap (at_variant t) f ∙ of_variant t i tag encoding at layouts several) next)
 
 variant_inside : (t : Typed) (i : ℕ) → IsLawfulType t → i < length (variants_of (layout_in t).variants) → (layout_in (variant_in t i)).size ≤ (layout_in t).size
 variant_inside (typed l m f v) i law lt = law.0.within i lt
@@ -176,14 +177,14 @@ offset_of t l i place offset same e f = f ∙ e ∙ ap (λ m. field_offset m.fie
 -- all fields of a union
 union_covered : (t : Typed) (count : ℕ) → (layout_in t).fields ≡ Union count → (k : ℕ) → first_cover t count k ≡ is_shared_place t k
 union_covered t count e k =
-    any_same (λ i. moved (field_offset (layout_in t).fields i) (is_place (field_in t i)) k) (λ i. is_place (field_in t i) k)
-    (λ i. ap (λ s. moved (field_offset s i) (is_place (field_in t i)) k) e ∙ moved-zero (is_place (field_in t i)) k) (range_with_len 0 count)
+    any_same (λ i. moved_to (field_offset (layout_in t).fields i) (is_place (field_in t i)) k) (λ i. is_place (field_in t i) k)
+    (λ i. ap (λ s. moved_to (field_offset s i) (is_place (field_in t i)) k) e ∙ moved-zero (is_place (field_in t i)) k) (range_with_len 0 count)
     ∙ sym (ap (λ s. fields_cover (layout_in t).size s (field_in t) (λ i. is_place (field_in t i)) k) e)
 
-pub adds_union : (all new : List (ℕ × ℕ)) (offset : ℕ) (t : Typed) (l : Layout) (n count : ℕ) → l ≡ layout_in t → l.fields ≡ Union n → count ≡ n → Adds all new (moved offset (first_cover t count))
-    → Adds all new (moved offset (is_shared_place t))
+pub adds_union : (all new : List (ℕ × ℕ)) (offset : ℕ) (t : Typed) (l : Layout) (n count : ℕ) → l ≡ layout_in t → l.fields ≡ Union n → count ≡ n → Adds all new (moved_to offset (first_cover t count))
+    → Adds all new (moved_to offset (is_shared_place t))
 adds_union all new offset t l n count same e f adds =
-    adds_same all new (moved offset (first_cover t count)) (moved offset (is_shared_place t)) adds
+    adds_same all new (moved_to offset (first_cover t count)) (moved_to offset (is_shared_place t)) adds
     (moved-same offset (first_cover t count) (is_shared_place t) (union_covered t count (sym (ap (λ m. m.fields) same) ∙ e ∙ ap Union (sym f))))
 
 -- fields, and variants
@@ -192,18 +193,18 @@ place_split (typed l m f v) k = refl
 place_split no_type k = sym (ap (λ b. b || false) (le-ltb k 0 (omega arith)))
 
 -- what fields cover, and behind it what variants cover
-pub adds_type : (all old new : List (ℕ × ℕ)) (offset : ℕ) (t : Typed) → Adds all old (moved offset (is_shared_place t))
-    → Adds old new (moved offset (variants_cover (layout_in t).variants (λ v. is_place (variant_in t v)))) → Adds all new (moved offset (is_place t))
+pub adds_type : (all old new : List (ℕ × ℕ)) (offset : ℕ) (t : Typed) → Adds all old (moved_to offset (is_shared_place t))
+    → Adds old new (moved_to offset (variants_cover (layout_in t).variants (λ v. is_place (variant_in t v)))) → Adds all new (moved_to offset (is_place t))
 adds_type all old new offset t fields variants =
     let q : ℕ → Bool = variants_cover (layout_in t).variants (λ v. is_place (variant_in t v)) in
-    adds_same all new (λ k. moved offset (is_shared_place t) k || moved offset q k) (moved offset (is_place t))
-    (adds_both all old new (moved offset (is_shared_place t)) (moved offset q) fields variants)
+    adds_same all new (λ k. moved_to offset (is_shared_place t) k || moved_to offset q k) (moved_to offset (is_place t))
+    (adds_both all old new (moved_to offset (is_shared_place t)) (moved_to offset q) fields variants)
     (λ k. sym (moved-or offset (is_shared_place t) q k) ∙ sym (moved-same offset (is_place t) (λ j. is_shared_place t j || q j) (place_split t) k))
 
 -- a type of no bytes has no data places
-pub adds_empty : (all : List (ℕ × ℕ)) (offset : ℕ) (t : Typed) → IsLawfulType t → (layout_in t).size ≡ 0 → Adds all all (moved offset (is_place t))
+pub adds_empty : (all : List (ℕ × ℕ)) (offset : ℕ) (t : Typed) → IsLawfulType t → (layout_in t).size ≡ 0 → Adds all all (moved_to offset (is_place t))
 adds_empty all offset t law none =
-    adds_nothing all (moved offset (is_place t)) (λ k. moved-same offset (is_place t) (λ j. false) (λ j. place_inside t law j (omega (arith, none))) k ∙ moved-none offset k)
+    adds_nothing all (moved_to offset (is_place t)) (λ k. moved-same offset (is_place t) (λ j. false) (λ j. place_inside t law j (omega (arith, none))) k ∙ moved-none offset k)
 
 -- ---- elements
 
@@ -244,10 +245,10 @@ stacked count c some k = sym (ap (λ n. nat_lt n count && c (k % 0)) (div-zero k
 -- elements that all lie at one place
 pub adds_stacked : (all new : List (ℕ × ℕ)) (offset : ℕ) (t : Typed) (set : List (ℕ × ℕ)) (stride count : ℕ)
     → ((k : ℕ) → is_in_ranges set k ≡ covers_element (layout_in t) (is_place t) k) → 0 < count → stride ≡ 0
-    → Adds all new (moved offset (is_in_ranges set)) → Adds all new (moved offset (elements_cover t stride count))
+    → Adds all new (moved_to offset (is_in_ranges set)) → Adds all new (moved_to offset (elements_cover t stride count))
 adds_stacked all new offset t set stride count same some none adds =
     let p : ℕ → Bool = covers_element (layout_in t) (is_place t) in
-    adds_same all new (moved offset (is_in_ranges set)) (moved offset (elements_cover t stride count)) adds
+    adds_same all new (moved_to offset (is_in_ranges set)) (moved_to offset (elements_cover t stride count)) adds
     (moved-same offset (is_in_ranges set) (elements_cover t stride count) (λ k. same k ∙ stacked count p some k ∙ ap (λ m. repeated m count p k) (sym none)))
 
 -- ---- what a variant leaves unused
@@ -256,7 +257,7 @@ pub beside_at : (vs : Variants ℕ ℕ) (i : ℕ) (tag : Scalar) (encoding : Tag
     → i < length layouts
 beside_at vs i tag encoding at layouts h e = subst (λ w. IsVariantIndex w i) e h
 
-pub beside_parts : (vs : Variants ℕ ℕ) (i : ℕ) → IsBeside vs i
+pub beside_parts : (vs : Variants ℕ ℕ) (i : ℕ) → IsVariantOfSeveral vs i
     → (tag : Scalar) × (encoding : TagEncoding ℕ) × (at : ℕ) × (layouts : List (VariantLayout ℕ)) × (vs ≡ Multiple tag encoding at layouts) × (i < length layouts)
 beside_parts (Multiple tag encoding at layouts) i h = (tag, encoding, at, layouts, refl, h)
 beside_parts Empty i h = absurd h
@@ -268,8 +269,8 @@ unused_split : (t : Typed) (i k : ℕ) (tag : Scalar) (encoding : TagEncoding �
 unused_split t i k tag encoding at layouts e = rw e refl
 
 -- what is put behind nothing
-pub first_bytes : (old new : List (ℕ × ℕ)) (p : ℕ → Bool) → old ≡ [] → Adds old new (moved 0 p) → (k : ℕ) → is_in_ranges new k ≡ p k
-first_bytes old new p e put k = put k ∙ ap (λ rs. is_in_ranges rs k || moved 0 p k) e ∙ moved-zero p k
+pub first_bytes : (old new : List (ℕ × ℕ)) (p : ℕ → Bool) → old ≡ [] → Adds old new (moved_to 0 p) → (k : ℕ) → is_in_ranges new k ≡ p k
+first_bytes old new p e put k = put k ∙ ap (λ rs. is_in_ranges rs k || moved_to 0 p k) e ∙ moved-zero p k
 
 -- without one, and without another
 without_both : (p s o : Bool) → ((p && not s) && not o) ≡ (p && not (s || o))
@@ -278,7 +279,7 @@ without_both true false o = refl
 without_both false s o = refl
 
 -- what any variant covers and no shared field, without what this variant covers
-pub unused_bytes : (t u : Typed) (i : ℕ) → IsBeside (layout_in t).variants i → u ≡ at_variant t i → (beside own rest : List (ℕ × ℕ))
+pub unused_bytes : (t u : Typed) (i : ℕ) → IsVariantOfSeveral (layout_in t).variants i → u ≡ at_variant t i → (beside own rest : List (ℕ × ℕ))
     → ((k : ℕ) → is_in_ranges beside k ≡ (is_place t k && not (is_shared_place t k))) → ((k : ℕ) → is_in_ranges own k ≡ is_place u k)
     → ((k : ℕ) → is_in_ranges rest k ≡ (is_in_ranges beside k && not (is_in_ranges own k))) → (k : ℕ) → is_in_ranges rest k ≡ is_unused t i k
 unused_bytes t u i several same beside own rest all mine left k =
@@ -288,25 +289,25 @@ unused_bytes t u i several same beside own rest all mine left k =
     ∙ without_both (is_place t k) (is_shared_place t k) (is_place (variant_in t i) k) ∙ sym (unused_split t i k tag encoding at layouts e)
 
 -- such a variant is one of the type's, one of those that are counted, and fits where the type does
-pub beside_index : (vs : Variants ℕ ℕ) (i : ℕ) → IsBeside vs i → IsVariantIndex vs i
+pub beside_index : (vs : Variants ℕ ℕ) (i : ℕ) → IsVariantOfSeveral vs i → IsVariantIndex vs i
 beside_index (Multiple tag encoding at layouts) i h = h
 beside_index Empty i h = absurd h
 beside_index (Single only) i h = absurd h
 
-beside_count : (vs : Variants ℕ ℕ) (i : ℕ) → IsBeside vs i → i < variant_count vs
+beside_count : (vs : Variants ℕ ℕ) (i : ℕ) → IsVariantOfSeveral vs i → i < variant_count vs
 beside_count (Multiple tag encoding at layouts) i h = h
 beside_count Empty i h = absurd h
 beside_count (Single only) i h = absurd h
 
-pub beside_counted : (l m : Layout) (i : ℕ) → l ≡ m → IsBeside m.variants i → i < variant_count l.variants
+pub beside_counted : (l m : Layout) (i : ℕ) → l ≡ m → IsVariantOfSeveral m.variants i → i < variant_count l.variants
 beside_counted l m i same h = subst (λ k. i < variant_count k.variants) (sym same) (beside_count m.variants i h)
 
-pub beside_named : (vs : Variants ℕ ℕ) (i : ℕ) → IsBeside vs i → NamesVariant vs i
+pub beside_named : (vs : Variants ℕ ℕ) (i : ℕ) → IsVariantOfSeveral vs i → NamesVariant vs i
 beside_named (Multiple tag encoding at layouts) i h = h
 beside_named Empty i h = absurd h
 beside_named (Single only) i h = absurd h
 
-pub beside_fits : (t : Typed) (i : ℕ) → IsLawfulType t → IsBeside (layout_in t).variants i → (layout_in t).size < 2 ^ 64 → (layout_in (at_variant t i)).size < 2 ^ 64
+pub beside_fits : (t : Typed) (i : ℕ) → IsLawfulType t → IsVariantOfSeveral (layout_in t).variants i → (layout_in t).size < 2 ^ 64 → (layout_in (at_variant t i)).size < 2 ^ 64
 beside_fits t i law several fits =
     let (tag, encoding, at, layouts, e, lt) = beside_parts (layout_in t).variants i several in
     let all = variant_fits t i 0 tag encoding at layouts law e lt (omega (arith, fits)) in

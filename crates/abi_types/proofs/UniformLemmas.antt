@@ -13,7 +13,8 @@ use Rattle.abi_scalar.specs.declared.variants.Variants.TheVariants.{Empty, Singl
 use Rattle.abi_scalar.specs.Shape.{field_offset}
 use Rattle.abi_types.specs.declared.reg.Reg.{Reg}
 use Rattle.abi_types.specs.Homogeneous.{AllRun}
-use Rattle.abi_types.specs.Ty.Typed.{Layout, Typed, typed, no_type, layout_in, variant_in}
+use Rattle.abi_types.specs.Ty.Typed.{Typed, typed, no_type, layout_in, variant_in}
+use Rattle.abi_scalar.specs.Layout.{Layout}
 use Rattle.abi_types.specs.Uniform.{AllRunBy, AreOne, FieldsRun, FieldsRunBy, IsUniform, RunsBy, VariantsRunBy, bulky_fields}
 use Rattle.abi_types.proofs.RegisterLemmas.{HasOne, IsEnd, IsFound, chain_once, choice, each, end_from, end_once, end_to, found_from, found_once, found_to}
 

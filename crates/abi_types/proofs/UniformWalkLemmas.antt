@@ -14,8 +14,9 @@ use Rattle.abi_scalar.specs.Variant.{variants_of}
 use Rattle.abi_types.specs.declared.reg.Reg.{Reg}
 use Rattle.abi_types.specs.declared.homogeneous.Heterogeneous.{Heterogeneous}
 use Rattle.abi_types.specs.declared.homogeneous.HomogeneousAggregate.{HomogeneousAggregate}
-use Rattle.abi_types.specs.Homogeneous.{AllRun, Answers, AnswersRun, IsOneOf, IsUnion, register_of}
-use Rattle.abi_types.specs.Ty.Typed.{Layout, Typed, typed, no_type, at_variant, field_in, layout_in, variant_in}
+use Rattle.abi_types.specs.Homogeneous.{AllRun, Answers, AnswersRun, IsOneOf, IsUnionShape, register_of}
+use Rattle.abi_types.specs.Ty.Typed.{Typed, typed, no_type, at_variant, field_in, layout_in, variant_in}
+use Rattle.abi_scalar.specs.Layout.{Layout}
 use Rattle.abi_types.specs.Ty.Walks.{is_1zst}
 use Rattle.abi_types.specs.Uniform.{AllRunBy, FieldsRun, FieldsRunBy, IsChain, IsUniform, RunsBy, VariantsRunBy, bulky_fields}
 use Rattle.abi_types.proofs.OneFieldLemmas.{kept, passed, taken}
@@ -98,7 +99,7 @@ pub listed_begun : (t : Typed) (start : ℕ) → IsListed (layout_in t).fields �
 listed_begun (typed l m field variant) start listed = listed_by l field (kept (is_bulky (typed l m field variant)) 0 (field_count l.fields)) start (all_kept (typed l m field variant)) l.fields listed
 listed_begun no_type start listed = absurd listed
 
-union_by : (l : Layout) (field : ℕ → Typed) (parts : List ℕ) (start : ℕ) → bulky_fields l field ≡ parts → (s : FieldsShape ℕ) → IsUnion s
+union_by : (l : Layout) (field : ℕ → Typed) (parts : List ℕ) (start : ℕ) → bulky_fields l field ≡ parts → (s : FieldsShape ℕ) → IsUnionShape s
     → IsSameRun (FieldsRunBy s l field (λ i. IsUniform (field i)) start) (IsLeft (λ i. IsUniform (field i)) None parts (IsEnd (union_ends field) parts start))
 union_by l field parts start e (Union count) union end r =
     let own : ℕ → Option Reg → Type 0 = λ i. IsUniform (field i) in
@@ -114,7 +115,7 @@ union_by l field parts start e (Arbitrary offsets order) union end r = absurd un
 union_by l field parts start e (Array stride count) union end r = absurd union
 
 -- the same of a union
-pub union_begun : (t : Typed) (start : ℕ) → IsUnion (layout_in t).fields → IsSameRun (FieldsRun t start) (IsLeftOfUnion t 0 None start)
+pub union_begun : (t : Typed) (start : ℕ) → IsUnionShape (layout_in t).fields → IsSameRun (FieldsRun t start) (IsLeftOfUnion t 0 None start)
 union_begun (typed l m field variant) start union = union_by l field (kept (is_bulky (typed l m field variant)) 0 (field_count l.fields)) start (all_kept (typed l m field variant)) l.fields union
 union_begun no_type start union = absurd union
 

@@ -7,7 +7,7 @@ use Rattle.abi_types.specs.declared.canon_abi.CanonAbi.TheVariants.{C, Rust, Rus
 use Rattle.abi_types.specs.declared.canon_abi.ArmCall.TheVariants as arm
 use Rattle.abi_types.specs.declared.canon_abi.InterruptKind.TheVariants as interrupt
 use Rattle.abi_types.specs.declared.canon_abi.X86Call.TheVariants as x86
-use Rattle.abi_types.specs.ExternAbi.{name_of}
+use Rattle.abi_types.specs.ExternAbi.{abi_name}
 
 -- Rust's own conventions
 abbrev pub is_rustic_canon : CanonAbi → Bool
@@ -45,4 +45,4 @@ same_name (X86 x86.Win64) = extern.Win64 false
 
 -- its name, as bytes
 abbrev pub canon_text : CanonAbi → List ℕ
-canon_text abi = name_of (same_name abi)
+canon_text abi = abi_name (same_name abi)

@@ -53,30 +53,30 @@ row_of (Win64 true) = (38, codes "win64-unwind")
 row_of X86Interrupt = (39, codes "x86-interrupt")
 
 -- its number
-abbrev pub number_of : ExternAbi → ℕ
-number_of abi = (row_of abi).0
+abbrev pub abi_number : ExternAbi → ℕ
+abi_number abi = (row_of abi).0
 
 -- its name, as bytes
-abbrev pub name_of : ExternAbi → List ℕ
-name_of abi = (row_of abi).1
+abbrev pub abi_name : ExternAbi → List ℕ
+abi_name abi = (row_of abi).1
 
 -- the text is its name
 abbrev pub has_name : List ℕ → ExternAbi → Bool
-has_name text abi = bytes_eq (name_of abi) text
+has_name text abi = bytes_eq (abi_name abi) text
 
 -- both have one name, so are one convention
 abbrev pub have_same_name : ExternAbi → ExternAbi → Bool
-have_same_name = on name_of bytes_eq
+have_same_name = on abi_name bytes_eq
 
 -- the order of the names, byte by byte
 abbrev pub name_cmp : ExternAbi → ExternAbi → Ordering
-name_cmp = on name_of (slice_cmp nat_cmp)
+name_cmp = on abi_name (slice_cmp nat_cmp)
 
 -- What is read from a text: the convention of that name, and `Unknown` where it is no convention's.
-pub record IsReading (text : List ℕ) (read : Result ExternAbi AbiFromStrErr) : Type 0 where
+pub record IsAbiOfText (text : List ℕ) (read : Result ExternAbi AbiFromStrErr) : Type 0 where
   -- what is read has the text for its name
-  pub named : IfOk read (λ abi. text ≡ name_of abi)
+  pub named : IfOk read (λ abi. text ≡ abi_name abi)
   -- and a convention whose name is the text is read
-  pub each : (abi : ExternAbi) → text ≡ name_of abi → read ≡ Ok abi
+  pub each : (abi : ExternAbi) → text ≡ abi_name abi → read ≡ Ok abi
   -- there is no other error
   pub unknown : IfErr read (λ error. error ≡ Unknown)

@@ -33,6 +33,6 @@ abbrev pub AllRun : Typed → (end : ℕ) → Option Reg → Type 0
 AllRun t end r = AllRunBy (layout_in t).variants (FieldsRun t 0) (λ v. FieldsRun (variant_in t v)) end r
 
 -- fields that all lie at the start
-abbrev pub IsUnion : FieldsShape ℕ → Type 0
-IsUnion (Union count) = ⊤
-IsUnion _ = ⊥
+abbrev pub IsUnionShape : FieldsShape ℕ → Type 0
+IsUnionShape (Union count) = ⊤
+IsUnionShape _ = ⊥

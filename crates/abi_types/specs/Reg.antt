@@ -27,8 +27,8 @@ abbrev pub vector_reg : ℕ → Reg
 vector_reg bytes = record { kind = kind.Vector (Int I8 true); size = bytes }
 
 -- the least integer that has room for so many bytes
-abbrev pub least_integer : ℕ → Integer
-least_integer bytes = unwrap_or (find (λ i. nat_le bytes (integer_size i)) integers) I128
+abbrev pub integer_with_room : ℕ → Integer
+integer_with_room bytes = unwrap_or (find (λ i. nat_le bytes (integer_size i)) integers) I128
 
 -- a float may have so many bytes
 abbrev pub IsFloatSize : ℕ → Type 0
@@ -55,7 +55,7 @@ HasAlign dl reg = HasAlignAs dl reg.kind reg.size
 
 -- the alignment of a register of the kind and so many bytes, as an exponent of two
 abbrev pub align_as : TargetDataLayout → RegKind → ℕ → ℕ
-align_as dl kind.Integer bytes = integer_align dl (least_integer bytes)
+align_as dl kind.Integer bytes = integer_align dl (integer_with_room bytes)
 align_as dl kind.Float bytes = float_align dl (plain_float bytes)
 align_as dl kind.PpcF128 bytes = dl.f128_align
 align_as dl (kind.Vector lane) bytes = vector_align_of dl bytes

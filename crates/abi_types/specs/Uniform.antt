@@ -13,7 +13,8 @@ use Rattle.abi_scalar.specs.declared.variants.Variants.TheVariants.{Empty, Singl
 use Rattle.abi_scalar.specs.Scalar.{primitive_of}
 use Rattle.abi_scalar.specs.Shape.{field_count, field_offset}
 use Rattle.abi_types.specs.declared.reg.Reg.{Reg}
-use Rattle.abi_types.specs.Ty.Typed.{Layout, Typed, typed, no_type, layout_in}
+use Rattle.abi_types.specs.Ty.Typed.{Typed, typed, no_type, layout_in}
+use Rattle.abi_scalar.specs.Layout.{Layout}
 use Rattle.abi_types.specs.Ty.Walks.{is_1zst}
 
 -- the greatest of some numbers, 0 where there is none

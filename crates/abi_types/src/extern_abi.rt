@@ -6,7 +6,7 @@ mod text;
 
 ghost use Rattle.std.specs.Prelude.{◌≡◌, ◌+◌, ◌<◌, IfOk, Some, length, map, slice_get, vec_len, if◌then◌else◌};
 ghost use Rattle.abi_types.specs.declared.extern_abi.ExternAbi.{ExternAbi};
-ghost use Rattle.abi_types.specs.ExternAbi.{name_of, number_of};
+ghost use Rattle.abi_types.specs.ExternAbi.{abi_name, abi_number};
 
 use std::alloc::{AllocError, Global};
 
@@ -155,8 +155,8 @@ impl ExternAbi {
 
     /// Its number and its name.
     fn row(self) -> (u8, &'static str)
-        ensures number { result.0 ≡ number_of self }
-        ensures name { result.1.now ≡ name_of self }
+        ensures number { result.0 ≡ abi_number self }
+        ensures name { result.1.now ≡ abi_name self }
     {
         match self {
             Self::C { unwind } => row_by(unwind, 0, "C", "C-unwind"),
@@ -194,15 +194,15 @@ impl ExternAbi {
 
     /// Its name, which no other convention has.
     pub fn as_str(&self) -> &'static str
-        ensures name { result.now ≡ name_of self.now }
-        ensures own { (abi : ExternAbi) → name_of abi ≡ result.now → abi ≡ self.now }
+        ensures name { result.now ≡ abi_name self.now }
+        ensures own { (abi : ExternAbi) → abi_name abi ≡ result.now → abi ≡ self.now }
     {
         self.row().1
     }
 
     /// Its name.
     pub fn name(self) -> &'static str
-        ensures { result.now ≡ name_of self }
+        ensures { result.now ≡ abi_name self }
     {
         self.as_str()
     }
@@ -210,7 +210,7 @@ impl ExternAbi {
     /// Its number, which is its place in `ALL_VARIANTS`.
     #[tactic(auto, using(crate::proofs::ConventionLemmas::at_number))]
     pub fn as_packed(&self) -> u8
-        ensures number { result ≡ number_of self.now }
+        ensures number { result ≡ abi_number self.now }
         ensures place { slice_get ExternAbi.ALL_VARIANTS.now result ≡ Some self.now }
     {
         self.row().0
@@ -220,9 +220,9 @@ impl ExternAbi {
     #[tactic(auto, using(crate::proofs::ConventionLemmas::only_numbered))]
     pub fn from_packed(index: u8) -> ExternAbi
         requires { index < 40 }
-        ensures number { number_of result ≡ index }
+        ensures number { abi_number result ≡ index }
         ensures place { slice_get ExternAbi.ALL_VARIANTS.now index ≡ Some result }
-        ensures only { (abi : ExternAbi) → number_of abi ≡ index → result ≡ abi }
+        ensures only { (abi : ExternAbi) → abi_number abi ≡ index → result ≡ abi }
         ensures fallback { index ≡ 0 → result ≡ ExternAbi.FALLBACK }
     {
         item_at(ExternAbi::ALL_VARIANTS, usize::from(index))
@@ -251,7 +251,7 @@ fn row_by(
 /// The names of all conventions, in the order of `ALL_VARIANTS`. `AllocError` where there is no
 /// memory for the list.
 pub fn all_names(alloc: Global) -> Result<Vec<&'static str>, AllocError>
-    ensures names { IfOk result (λ names. map (λ name. name.now) names.items ≡ map name_of ExternAbi.ALL_VARIANTS.now) }
+    ensures names { IfOk result (λ names. map (λ name. name.now) names.items ≡ map abi_name ExternAbi.ALL_VARIANTS.now) }
     ensures count { IfOk result (λ names. vec_len names ≡ 40) }
 {
     names_of(alloc, ExternAbi::ALL_VARIANTS)
@@ -259,7 +259,7 @@ pub fn all_names(alloc: Global) -> Result<Vec<&'static str>, AllocError>
 
 /// The names of the conventions. `AllocError` where there is no memory for the list.
 fn names_of(alloc: Global, abis: &[ExternAbi]) -> Result<Vec<&'static str>, AllocError>
-    ensures names { IfOk result (λ names. map (λ name. name.now) names.items ≡ map name_of abis.now) }
+    ensures names { IfOk result (λ names. map (λ name. name.now) names.items ≡ map abi_name abis.now) }
     ensures count { IfOk result (λ names. vec_len names ≡ length abis.now) }
 {
     let mut names = Vec::with_capacity(alloc, abis.len())?;

@@ -1,7 +1,7 @@
 //! Registers that a value is passed in.
 
 ghost use Rattle.std.specs.Prelude.{◌≡◌, ◌≤◌};
-ghost use Rattle.abi_types.specs.Reg.{float_reg, integer_reg, vector_reg, least_integer, plain_float, IsFloatSize, HasAlign, reg_align};
+ghost use Rattle.abi_types.specs.Reg.{float_reg, integer_reg, vector_reg, integer_with_room, plain_float, IsFloatSize, HasAlign, reg_align};
 
 use abi_base::{Align, Float, HasDataLayout, Integer, Primitive, RegKind, Size};
 
@@ -130,7 +130,7 @@ impl Reg {
 fn integer_holding(size: Size) -> Integer
     requires least { 1 ≤ size }
     requires most { size ≤ 16 }
-    ensures { result ≡ least_integer size }
+    ensures { result ≡ integer_with_room size }
 {
     match size.bytes() {
         1 => Integer::I8,

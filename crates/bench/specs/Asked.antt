@@ -1,6 +1,5 @@
 -- What the calculator asks of the calls that are timed.
-use Rattle.std.specs.Prelude.{◌≡◌, ◌≢◌, ℕ, ◌<◌, ◌≤◌, All, List, length, map}
-use Rattle.std.specs.List.{AllPairs}
+use Rattle.std.specs.Prelude.{◌≡◌, ◌<◌, ◌≤◌, All, length, map}
 use Rattle.abi_base.specs.DataLayout.{IsLawfulDataLayout}
 use Rattle.abi_lists.specs.List.{HasLawfulAligns}
 use Rattle.abi_lists.specs.Placement.{source_order}
@@ -20,10 +19,6 @@ pub record IsLawfulEnum (e : Enum) : Type 0 where
   pub few : length e.variants.items ≤ 1_000_000
   pub each : map (λ item. item.0) e.discriminants.items ≡ source_order (length e.variants.items)
   pub tag : IsLawfulTag e.dl.now e.repr (inhabited_of (λ i. i) (map (map (λ f. f.now)) e.variants.items) e.discriminants.items) e.tag
-
--- a state holds these locals: they differ, and each is one of so many
-abbrev pub IsHeld : (count : ℕ) → List ℕ → Type 0
-IsHeld count locals = All (λ local. local < count) locals × AllPairs (λ a b. a ≢ b) locals
 
 -- What is asked of a coroutine: it has states, each holds some of its locals, and the conflicts are between these.
 pub record IsLawfulCoroutine (c : Coroutine) : Type 0 where

@@ -4,7 +4,8 @@ ghost use Rattle.std.specs.Prelude.{◌≡◌, ◌+◌, ◌<◌, ◌≤◌, All,
 ghost use Rattle.abi_base.specs.DataLayout.{IsLawfulDataLayout};
 ghost use Rattle.abi_index.specs.Relation.{column_count, row_count};
 ghost use Rattle.abi_scalar.specs.Lawful.{IsLawfulLayout};
-ghost use Rattle.bench.specs.Asked.{IsHeld, IsLawfulCoroutine};
+ghost use Rattle.bench.specs.Asked.{IsLawfulCoroutine};
+ghost use Rattle.rustc_abi.specs.Coroutines.{IsHeld};
 
 use crate::lawful::are_lawful;
 use crate::leaves::{Fields, Laid, leaves, picked, single, size_of};

@@ -5,7 +5,7 @@ ghost use Rattle.std.specs.List.{AllPairs};
 ghost use Rattle.abi_base.specs.DataLayout.{IsLawfulDataLayout};
 ghost use Rattle.abi_scalar.specs.Lawful.{IsLawfulLayout};
 ghost use Rattle.abi_index.specs.Relation.{column_count, row_count};
-ghost use Rattle.calls.specs.Asked.{IsHeld};
+ghost use Rattle.rustc_abi.specs.Coroutines.{IsHeld};
 
 use crate::layouts::{Layout, MOST_ITEMS, are_lawful, calculated, layouts, lent};
 use crate::line::Line;

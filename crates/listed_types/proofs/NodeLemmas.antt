@@ -11,7 +11,7 @@ use Rattle.abi_scalar.specs.Variant.{variants_of}
 use Rattle.abi_types.specs.Ty.Typed.{Typed, at_variant, field_in, layout_in, marks_of, variant_in}
 use Rattle.abi_types.specs.Ty.Lawful.{CanBeNamed, DepthFalls, IsLawfulType, NamesVariant}
 use Rattle.listed_types.specs.declared.nodes.Node.{Node}
-use Rattle.listed_types.specs.Nodes.{HasParts, made, marks_in, place_at, place_by, typed_in}
+use Rattle.listed_types.specs.Nodes.{HasParts, made, marks_of_node, place_at, place_by, typed_in}
 
 -- a type that may hold others
 opened : (nodes : List Node) (depth at : ℕ) → 0 < depth → typed_in nodes depth at ≡ made (slice_get nodes at) (typed_in nodes (depth - 1))
@@ -104,7 +104,7 @@ type_is : (nodes : List Node) (depth at : ℕ) (n : Node) → IsLawfulType (type
 type_is nodes depth at n law is = of_node nodes depth at n (lawful_deep nodes depth at law) (node_is nodes depth at n law is)
 
 -- what it says of itself
-pub marks_are : (nodes : List Node) (depth at : ℕ) (n : Node) → IsLawfulType (typed_in nodes depth at) → n ≡ slice_index_or nodes at n → marks_of (typed_in nodes depth at) ≡ marks_in n
+pub marks_are : (nodes : List Node) (depth at : ℕ) (n : Node) → IsLawfulType (typed_in nodes depth at) → n ≡ slice_index_or nodes at n → marks_of (typed_in nodes depth at) ≡ marks_of_node n
 marks_are nodes depth at n law is = ap marks_of (type_is nodes depth at n law is)
 
 -- a field's type keeps the laws

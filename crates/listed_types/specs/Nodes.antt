@@ -20,12 +20,12 @@ place_by (Array stride count) places i = place_at places 0
 place_by shape places i = place_at places i
 
 -- what a type says of itself
-abbrev pub marks_by : Marked → Marks
-marks_by marked = record no_marks { is_transparent = marked.transparent; is_complex = marked.complex; is_passed_indirectly = marked.indirect }
+abbrev pub marks_of_marked : Marked → Marks
+marks_of_marked marked = record no_marks { is_transparent = marked.transparent; is_complex = marked.complex; is_passed_indirectly = marked.indirect }
 
 -- what a node tells of itself
-abbrev pub marks_in : Node → Marks
-marks_in node = marks_by node.marked
+abbrev pub marks_of_node : Node → Marks
+marks_of_node node = marks_of_marked node.marked
 
 -- A complex number has a field.
 pub record HasParts (node : Node) : Type 0 where
@@ -35,7 +35,7 @@ pub record HasParts (node : Node) : Type 0 where
 abbrev pub made : Option Node → (inner : ℕ → Typed) → Typed
 made None inner = no_type
 made (Some node) inner =
-    typed node.layout (marks_in node) (λ i. inner (place_by node.layout.fields node.fields i)) (λ v. inner (place_at node.variants v))
+    typed node.layout (marks_of_node node) (λ i. inner (place_by node.layout.fields node.fields i)) (λ v. inner (place_at node.variants v))
 
 -- the type at a place, of at most so many that lie one in another
 abbrev pub typed_in : List Node → (depth place : ℕ) → Typed
@@ -51,6 +51,6 @@ abbrev pub part_depth : TyAndLayout Part → ℕ
 part_depth this = this.ty.depth
 
 -- The layout beside a type is its own, and the type keeps the laws.
-pub record IsPart (this : TyAndLayout Part) : Type 0 where
+pub record IsLawfulHandle (this : TyAndLayout Part) : Type 0 where
   pub layout : layout_in (part_type this) ≡ this.layout.0.now
   pub lawful : IsLawfulType (part_type this)

@@ -5,11 +5,11 @@ use Rattle.abi_base.specs.declared.data_layout.TargetDataLayout.{TargetDataLayou
 use Rattle.abi_base.specs.DataLayout.{IsLawfulDataLayout}
 use Rattle.abi_scalar.specs.declared.repr.ReprOptions.{ReprOptions}
 use Rattle.abi_lists.specs.Placement.{own_align}
-use Rattle.abi_laid.specs.Placed.{Placed, parts_of}
+use Rattle.abi_laid.specs.Placed.{Placed, parts_in}
 use Rattle.abi_laid.specs.Tree.{Tree, Trees, scalar, pair, never, unit, array, vector, struct, union, enum, coroutine}
 use Rattle.rustc_abi.specs.Everywhere.{OfEach, Within}
 use Rattle.rustc_abi.specs.Laying.{IsLaying}
-use Rattle.reference.specs.Words.{align_of, extent_of, most_aligned}
+use Rattle.reference.specs.Words.{align_in_bytes, extent_of, most_aligned}
 use Rattle.reference.specs.Modifiers.{IsPackedWide, IsRaised, unaligned, unpacked}
 use Rattle.reference.proofs.Everywhere.{IsOnly, same_fields}
 use Rattle.reference.proofs.Lists.{extents_for, pow_max}
@@ -17,7 +17,7 @@ use Rattle.reference.proofs.Over.{IsOver, byte_align, least_align, over_struct, 
 
 module _ (dl : TargetDataLayout) where
   -- the fields of two types over the same trees are the same, where one of these has but one layout for each
-  over_same : (repr other : ReprOptions) (all : Trees) (p q : Placed) → (h : IsOver dl repr all p) → OfEach dl (IsOnly dl) all (parts_of p)
+  over_same : (repr other : ReprOptions) (all : Trees) (p q : Placed) → (h : IsOver dl repr all p) → OfEach dl (IsOnly dl) all (parts_in p)
       → (k : IsOver dl other all q) → k.fields ≡ h.fields
   over_same repr other all p q h inside k =
       same_fields dl (IsOnly dl) (λ t p own. own.0) all h.offsets h.fields k.fields h.count h.are
@@ -26,14 +26,14 @@ module _ (dl : TargetDataLayout) where
   -- ---- `align`
 
   raised_by : (repr : ReprOptions) (all : Trees) (n : ℕ) (p before : Placed) → repr.align ≡ Some n → (h : IsOver dl repr all p)
-      → OfEach dl (IsOnly dl) all (parts_of p) → IsOver dl (unaligned repr) all before → align_of p ≡ max (2 ^ n) (align_of before)
+      → OfEach dl (IsOnly dl) all (parts_in p) → IsOver dl (unaligned repr) all before → align_in_bytes p ≡ max (2 ^ n) (align_in_bytes before)
   raised_by repr all n p before raised h inside k =
       let same : k.fields ≡ h.fields = over_same repr (unaligned repr) all p before h inside k in
       let own : ℕ = own_align dl repr in
       let most : ℕ = most_aligned (extents_for repr.pack h.fields) in
-      let high : align_of p ≡ max (2 ^ max own n) most =
+      let high : align_in_bytes p ≡ max (2 ^ max own n) most =
       h.align ∙ ap (λ (o : Option ℕ). max (2 ^ max own (unwrap_or o 0)) most) raised in
-      let low : align_of before ≡ max (2 ^ own) most =
+      let low : align_in_bytes before ≡ max (2 ^ own) most =
       k.align ∙ ap₂ (λ (a : ℕ) ps. max (2 ^ a) (most_aligned (extents_for repr.pack ps))) (let is : max own 0 ≡ own = omega arith in is) same in
       let both : 2 ^ max own n ≡ max (2 ^ own) (2 ^ n) = pow_max own n in
       omega arith
@@ -61,12 +61,12 @@ module _ (dl : TargetDataLayout) where
   uncut n [] le = refl
   uncut n (p ∷ ps) le =
       let rest : most_aligned (extents_for (Some n) ps) ≡ most_aligned (map extent_of ps) = uncut n ps (omega arith) in
-      let own : min (2 ^ n) (align_of p) ≡ align_of p = omega arith in
+      let own : min (2 ^ n) (align_in_bytes p) ≡ align_in_bytes p = omega arith in
       ap₂ (λ a b. max a b) own rest
 
   wide_by : IsLawfulDataLayout dl → dl.aggregate_align ≡ 0 → (repr : ReprOptions) (all : Trees) (n : ℕ) (p before : Placed) → repr.pack ≡ Some n
-      → (h : IsOver dl repr all p) → OfEach dl (IsOnly dl) all (parts_of p) → IsOver dl (unpacked repr) all before
-      → align_of before ≤ 2 ^ n → align_of p ≡ align_of before
+      → (h : IsOver dl repr all p) → OfEach dl (IsOnly dl) all (parts_in p) → IsOver dl (unpacked repr) all before
+      → align_in_bytes before ≤ 2 ^ n → align_in_bytes p ≡ align_in_bytes before
   wide_by law byte repr all n p before packed h inside k le =
       let same : k.fields ≡ h.fields = over_same repr (unpacked repr) all p before h inside k in
       let raised : ℕ = unwrap_or repr.align 0 in
@@ -74,9 +74,9 @@ module _ (dl : TargetDataLayout) where
       let own : least_align dl repr ≡ raised =
       ap (λ (pack : Option ℕ). max (if is_some pack then dl.i8_align else dl.aggregate_align) raised) packed ∙ omega arith in
       let other : least_align dl (unpacked repr) ≡ raised = omega (arith, byte) in
-      let low : align_of before ≡ max (2 ^ raised) (most_aligned (map extent_of h.fields)) =
+      let low : align_in_bytes before ≡ max (2 ^ raised) (most_aligned (map extent_of h.fields)) =
       k.align ∙ ap₂ (λ (a : ℕ) ps. max (2 ^ a) (most_aligned (extents_for None ps))) other same in
-      let high : align_of p ≡ max (2 ^ raised) (most_aligned (extents_for (Some n) h.fields)) =
+      let high : align_in_bytes p ≡ max (2 ^ raised) (most_aligned (extents_for (Some n) h.fields)) =
       h.align ∙ ap₂ (λ (a : ℕ) (pack : Option ℕ). max (2 ^ a) (most_aligned (extents_for pack h.fields))) own packed in
       let uncut_all : most_aligned (extents_for (Some n) h.fields) ≡ most_aligned (map extent_of h.fields) = uncut n h.fields (omega arith) in
       omega arith

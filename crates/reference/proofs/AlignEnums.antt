@@ -23,13 +23,14 @@ use Rattle.abi_calc.specs.Enums.Path.{is_free}
 use Rattle.abi_calc.specs.Enums.Tagged.{layout_seen_as, lists_size}
 use Rattle.abi_laid.specs.declared.mark.Mark.{Mark}
 use Rattle.abi_laid.specs.Mark.{mark_of}
-use Rattle.abi_laid.specs.Placed.{Placed, Layout, layout_of}
+use Rattle.abi_laid.specs.Placed.{Placed, layout_of}
+use Rattle.abi_scalar.specs.Layout.{Layout}
 use Rattle.abi_laid.specs.Tree.{Tree, Trees, no_trees, more_trees, Variants, no_variants, more_variants, struct, enum}
 use Rattle.rustc_abi.specs.declared.error.LayError.{LayError}
-use Rattle.rustc_abi.specs.Enums.{IsEnumed, IsTagInteger as IsAsking, arms_at, counted, discriminants_of, layouts_of, numbered_from, tag_integer}
+use Rattle.rustc_abi.specs.Enums.{IsEnumed, IsTagIntegerAnswer as IsAsking, arms_at, counted, discriminants_of, layouts_of, numbered_from, tag_integer}
 use Rattle.rustc_abi.specs.Everywhere.{OfArms, Within}
 use Rattle.rustc_abi.specs.Laying.{AreLaying, IsLaying, VariantsLaying, enum_fault, placed_enum}
-use Rattle.reference.specs.Words.{align_of, extent_of, most_aligned}
+use Rattle.reference.specs.Words.{align_in_bytes, extent_of, most_aligned}
 use Rattle.reference.specs.Modifiers.{IsForeign, unaligned}
 use Rattle.reference.proofs.Answers.{laid_by}
 use Rattle.reference.proofs.CEnums.{c_is_asked}
@@ -176,11 +177,11 @@ module _ (dl : TargetDataLayout) where
     lists_of : AreListsFrom dl repr (start_of repr.pack (behind_tag dl repr h.behind.asked (layouts_of every))) (tag_align_of repr h.behind.asked every) every h.behind.lists
     lists_of = lists_are dl repr (behind_tag dl repr h.behind.asked (layouts_of every)) every h.behind.lists fixed h.behind.are
 
-    behind_aligned : align_of p ≡ max (2 ^ dl.aggregate_align) (max (2 ^ max (least_align dl repr) (tag_align_of repr h.behind.asked every)) (most_of every))
+    behind_aligned : align_in_bytes p ≡ max (2 ^ dl.aggregate_align) (max (2 ^ max (least_align dl repr) (tag_align_of repr h.behind.asked every)) (most_of every))
     behind_aligned =
         let most : ℕ = greatest (map (λ (f : Layout). f.align.abi) h.behind.lists) in
-        let whole : align_of p ≡ 2 ^ max dl.aggregate_align most =
-        ap align_of (sym h.is) ∙ ap (λ l. align_of (placed_enum dl repr (discriminants_of all) every l)) h.behind.is in
+        let whole : align_in_bytes p ≡ 2 ^ max dl.aggregate_align most =
+        ap align_in_bytes (sym h.is) ∙ ap (λ l. align_in_bytes (placed_enum dl repr (discriminants_of all) every l)) h.behind.is in
         whole ∙ pow_max dl.aggregate_align most
         ∙ ap (max (2 ^ dl.aggregate_align)) (lists_most dl repr h.loose _ _ h.first h.others h.behind.lists lists_of)
 
@@ -230,7 +231,7 @@ module _ (dl : TargetDataLayout) where
 
   foreign_raised : (repr : ReprOptions) (d : ℕ) (ts : Trees) (rest : Variants) (p q : Placed) (n : ℕ) → IsForeign repr → repr.align ≡ Some n
       → (h : IsBehind dl repr (more_variants d ts rest) p) → Within dl (IsOnly dl) (enum repr (more_variants d ts rest)) p
-      → IsBehind dl (unaligned repr) (more_variants d ts rest) q → align_of p ≡ max (2 ^ max dl.aggregate_align n) (align_of q)
+      → IsBehind dl (unaligned repr) (more_variants d ts rest) q → align_in_bytes p ≡ max (2 ^ max dl.aggregate_align n) (align_in_bytes q)
   foreign_raised repr d ts rest p q n foreign raised h inside k =
       let all : Variants = more_variants d ts rest in
       let fixed : has_fixed_order repr ≡ true = foreign_is_fixed repr foreign in
@@ -245,10 +246,10 @@ module _ (dl : TargetDataLayout) where
       let before : ℕ = tag_align_of repr h.behind.asked variants in
       let least : ℕ = own_align dl repr in
       let own : own_align dl repr ≡ dl.aggregate_align = ap (λ (pack : Option ℕ). if is_some pack then dl.i8_align else dl.aggregate_align) h.loose in
-      let high : align_of p ≡ max (2 ^ dl.aggregate_align) (max (2 ^ max (max least n) before) (most_of variants)) =
+      let high : align_in_bytes p ≡ max (2 ^ dl.aggregate_align) (max (2 ^ max (max least n) before) (most_of variants)) =
       behind_aligned repr all p fixed h
       ∙ ap (λ (o : Option ℕ). max (2 ^ dl.aggregate_align) (max (2 ^ max (max least (unwrap_or o 0)) before) (most_of variants))) raised in
-      let low : align_of q ≡ max (2 ^ dl.aggregate_align) (max (2 ^ max (max least 0) before) (most_of variants)) =
+      let low : align_in_bytes q ≡ max (2 ^ dl.aggregate_align) (max (2 ^ max (max least 0) before) (most_of variants)) =
       behind_aligned (unaligned repr) all q fixed k
       ∙ ap₂ (λ (i : Integer) vs. max (2 ^ dl.aggregate_align) (max (2 ^ max (max least 0) (tag_align_of repr i vs)) (most_of vs))) (sym asked) same in
       let whole : ℕ = 2 ^ dl.aggregate_align in
@@ -265,14 +266,14 @@ module _ (dl : TargetDataLayout) where
   -- the struct around it
   pub around_is : (around : ReprOptions) (t : Tree) (n : ℕ) (wrapped : Placed) → around.align ≡ Some n → around.pack ≡ None
       → IsLaying dl (struct around true None (more_trees t no_trees)) (Ok wrapped)
-      → (q : Placed) × IsLaying dl t (Ok q) × (align_of wrapped ≡ max (2 ^ max dl.aggregate_align n) (max (align_of q) 1))
+      → (q : Placed) × IsLaying dl t (Ok q) × (align_in_bytes wrapped ≡ max (2 ^ max dl.aggregate_align n) (max (align_in_bytes q) 1))
   around_is around t n wrapped raised loose there =
       let s = struct_laid dl around true None (more_trees t no_trees) wrapped there in
       by s.fields s.are s.align
     where
       by : (ps : List Placed) → AreLaying dl (more_trees t no_trees) (Ok ps)
-          → align_of wrapped ≡ max (2 ^ least_align dl around) (most_aligned (extents_for around.pack ps))
-          → (q : Placed) × IsLaying dl t (Ok q) × (align_of wrapped ≡ max (2 ^ max dl.aggregate_align n) (max (align_of q) 1))
+          → align_in_bytes wrapped ≡ max (2 ^ least_align dl around) (most_aligned (extents_for around.pack ps))
+          → (q : Placed) × IsLaying dl t (Ok q) × (align_in_bytes wrapped ≡ max (2 ^ max dl.aggregate_align n) (max (align_in_bytes q) 1))
       by ps (inl f) e = absurd (cc f.2)
       by ps (inr (q, here, inl f)) e = absurd (cc f.2)
       by ps (inr (q, here, inr (none, later, is))) e =
@@ -287,7 +288,7 @@ module _ (dl : TargetDataLayout) where
   -- in both, the enum's alignment and the struct's
   pub raised_foreign : (repr : ReprOptions) (d : ℕ) (ts : Trees) (rest : Variants) (p q : Placed) (n : ℕ) → IsForeign repr → repr.align ≡ Some n
       → Within dl (IsOnly dl) (enum repr (more_variants d ts rest)) p → IsLaying dl (enum repr (more_variants d ts rest)) (Ok p)
-      → IsLaying dl (enum (unaligned repr) (more_variants d ts rest)) (Ok q) → align_of p ≡ max (2 ^ max dl.aggregate_align n) (align_of q)
+      → IsLaying dl (enum (unaligned repr) (more_variants d ts rest)) (Ok q) → align_in_bytes p ≡ max (2 ^ max dl.aggregate_align n) (align_in_bytes q)
   raised_foreign repr d ts rest p q n foreign raised inside h k =
       let asked : is_free repr ≡ false = foreign_is_asked repr foreign in
       foreign_raised repr d ts rest p q n foreign raised (behind_of repr d ts rest p asked h) inside (behind_of (unaligned repr) d ts rest q asked k)

@@ -47,12 +47,13 @@ use Rattle.abi_calc.specs.Enums.Several.{IsAskedAnswer, IsAskedFor, IsSeveralAns
 use Rattle.abi_calc.specs.Enums.Tagged.{lists_align, lists_size, payloads_of}
 use Rattle.abi_laid.specs.Mark.{mark_of}
 use Rattle.abi_laid.specs.Nodes.{parts_at}
-use Rattle.abi_laid.specs.Placed.{Placed, Layout, layout_of}
+use Rattle.abi_laid.specs.Placed.{Placed, layout_of}
+use Rattle.abi_scalar.specs.Layout.{Layout}
 use Rattle.abi_laid.specs.Tree.{Tree, Trees, Variants, no_variants, more_variants, scalar, pair, never, unit, array, vector, struct, union, enum, coroutine}
-use Rattle.rustc_abi.specs.Enums.{IsEnumed, IsTagInteger as IsAsking, discriminants_of, holds_both, is_negative, layouts_of, least_integer, least_tag, numbered_from}
+use Rattle.rustc_abi.specs.Enums.{IsEnumed, IsTagIntegerAnswer as IsAsking, discriminants_of, holds_both, is_negative, layouts_of, least_integer, least_tag, numbered_from}
 use Rattle.rustc_abi.specs.Everywhere.{ByThemselves, OfAbsent, OfEach, OfVariant, Within}
 use Rattle.rustc_abi.specs.Laying.{AreLaying, IsLaying, VariantsLaying, enum_fault, placed_enum, placed_variants}
-use Rattle.reference.specs.Words.{align_of, extent_of, most_aligned}
+use Rattle.reference.specs.Words.{align_in_bytes, extent_of, most_aligned}
 use Rattle.reference.specs.Modifiers.{HasVariant, IsRaisable, IsRaisedEnum, unaligned}
 use Rattle.reference.proofs.Answers.{laid_by}
 use Rattle.reference.proofs.AlignEnums.{HaveCounts, around_is, inj-variants, most_of, raised_alike, raised_foreign, same_variants, twice}
@@ -360,7 +361,7 @@ module _ (dl : TargetDataLayout) where
 
 -- what a whole is aligned to, whichever way it is laid out
 whole_align : (dl : TargetDataLayout) (repr : ReprOptions) (numbers : List ℕ) (variants : List (List Placed)) (layout : Layout) (vs : LayoutVariants ℕ ℕ)
-    → align_of (placed_variants dl repr numbers variants layout vs) ≡ 2 ^ layout.align.abi
+    → align_in_bytes (placed_variants dl repr numbers variants layout vs) ≡ 2 ^ layout.align.abi
 whole_align dl repr numbers variants layout Empty = refl
 whole_align dl repr numbers variants layout (Single i) = refl
 whole_align dl repr numbers variants layout (Multiple tag encoding field layouts) = refl
@@ -423,7 +424,7 @@ module _ (dl : TargetDataLayout) (law : IsLawfulDataLayout dl) (repr : ReprOptio
       same_variants dl layout (mark_of true repr) 0 all variants others layouts counts are inside k
 
   pub free_raised : (p q : Placed) → HasVariant p → Within dl (IsOnly dl) (enum repr all) p → IsLaying dl (enum repr all) (Ok p) → IsLaying dl (enum (unaligned repr) all) (Ok q)
-      → align_of p ≡ max (max (2 ^ dl.aggregate_align) (2 ^ n)) (align_of q)
+      → align_in_bytes p ≡ max (max (2 ^ dl.aggregate_align) (2 ^ n)) (align_in_bytes q)
   free_raised p q left inside (inl f) k = absurd (cc f.2)
   free_raised p q left inside (inr h) (inl f) = absurd (cc f.2)
   free_raised p q left inside (inr (variants, there, answer)) (inr (others, here, other)) =
@@ -431,8 +432,8 @@ module _ (dl : TargetDataLayout) (law : IsLawfulDataLayout dl) (repr : ReprOptio
       let lower = laid_by (enum_fault dl (unaligned repr) numbers others) (IsEnumed dl (unaligned repr) numbers others) (placed_enum dl (unaligned repr) numbers others) q other in
       let own : HasVariant (placed_enum dl repr numbers variants found.0) = subst HasVariant (sym found.2) left in
       let inner : Within dl (IsOnly dl) (enum repr all) (placed_enum dl repr numbers variants found.0) = subst (Within dl (IsOnly dl) (enum repr all)) (sym found.2) inside in
-      let high : align_of p ≡ 2 ^ found.0.align.abi = ap align_of (sym found.2) ∙ whole_align dl repr numbers variants found.0 found.0.variants in
-      let low : align_of q ≡ 2 ^ lower.0.align.abi = ap align_of (sym lower.2) ∙ whole_align dl (unaligned repr) numbers others lower.0 lower.0.variants in
+      let high : align_in_bytes p ≡ 2 ^ found.0.align.abi = ap align_in_bytes (sym found.2) ∙ whole_align dl repr numbers variants found.0 found.0.variants in
+      let low : align_in_bytes q ≡ 2 ^ lower.0.align.abi = ap align_in_bytes (sym lower.2) ∙ whole_align dl (unaligned repr) numbers others lower.0 lower.0.variants in
       high ∙ go variants others found.0 lower.0 there here found.1 lower.1 own inner ∙ ap (max (max (2 ^ dl.aggregate_align) (2 ^ n))) (sym low)
     where
       go : (variants others : List (List Placed)) (layout lower : Layout) → VariantsLaying dl all (Ok variants) → VariantsLaying dl all (Ok others)
@@ -451,9 +452,9 @@ module _ (dl : TargetDataLayout) where
   -- with Rust's own representation, or with another
   raised_either : IsLawfulDataLayout dl → (repr : ReprOptions) (d : ℕ) (ts : Trees) (rest : Variants) (p q : Placed) (n : ℕ) → repr.align ≡ Some n
       → IsRaisable repr (more_variants d ts rest) p → Within dl (IsOnly dl) (enum repr (more_variants d ts rest)) p → IsLaying dl (enum repr (more_variants d ts rest)) (Ok p)
-      → IsLaying dl (enum (unaligned repr) (more_variants d ts rest)) (Ok q) → align_of p ≡ max (max (2 ^ dl.aggregate_align) (2 ^ n)) (align_of q)
+      → IsLaying dl (enum (unaligned repr) (more_variants d ts rest)) (Ok q) → align_in_bytes p ≡ max (max (2 ^ dl.aggregate_align) (2 ^ n)) (align_in_bytes q)
   raised_either law repr d ts rest p q n raised (inl foreign) inside h k =
-      raised_foreign dl repr d ts rest p q n foreign raised inside h k ∙ ap (λ a. max a (align_of q)) (pow_max dl.aggregate_align n)
+      raised_foreign dl repr d ts rest p q n foreign raised inside h k ∙ ap (λ a. max a (align_in_bytes q)) (pow_max dl.aggregate_align n)
   raised_either law repr d ts rest p q n raised (inr own) inside h k = by (is_free repr) refl
     where
       foreign_by : (b c : Bool) → not (b || c) ≡ false → (b ≡ true) ⊎ (c ≡ true)
@@ -461,22 +462,22 @@ module _ (dl : TargetDataLayout) where
       foreign_by false true e = inr refl
       foreign_by false false e = absurd (cc)
 
-      by : (b : Bool) → is_free repr ≡ b → align_of p ≡ max (max (2 ^ dl.aggregate_align) (2 ^ n)) (align_of q)
+      by : (b : Bool) → is_free repr ≡ b → align_in_bytes p ≡ max (max (2 ^ dl.aggregate_align) (2 ^ n)) (align_in_bytes q)
       by true free =
           free_raised dl law repr free own.0 n raised (more_variants d ts rest)
           (subst (All (λ d. d < 256)) (sym (same_numbers (more_variants d ts rest))) own.1) p q own.2 inside h k
       by false asked =
           raised_foreign dl repr d ts rest p q n (foreign_by (is_c repr) (is_some repr.int) asked) raised inside h k
-          ∙ ap (λ a. max a (align_of q)) (pow_max dl.aggregate_align n)
+          ∙ ap (λ a. max a (align_in_bytes q)) (pow_max dl.aggregate_align n)
 
   pub only_raised_enum : IsLawfulDataLayout dl → (t : Tree) (p : Placed) → IsOnly dl t p → Within dl (IsOnly dl) t p → IsRaisedEnum (λ t p. IsLaying dl t (Ok p)) t p
   only_raised_enum law (enum repr no_variants) p h inside = tt
   only_raised_enum law (enum repr (more_variants d ts rest)) p h inside = λ n raised able around too loose wrapped there.
       let outer = around_is dl around (enum (unaligned repr) (more_variants d ts rest)) n wrapped too loose there in
-      let is : align_of p ≡ max (max (2 ^ dl.aggregate_align) (2 ^ n)) (align_of outer.0) =
+      let is : align_in_bytes p ≡ max (max (2 ^ dl.aggregate_align) (2 ^ n)) (align_in_bytes outer.0) =
       raised_either law repr d ts rest p outer.0 n raised able inside h.1 outer.1 in
-      let some : 0 < align_of outer.0 = pow_pos (layout_of outer.0).align.abi in
-      let one : max (align_of outer.0) 1 ≡ align_of outer.0 = omega arith in
+      let some : 0 < align_in_bytes outer.0 = pow_pos (layout_of outer.0).align.abi in
+      let one : max (align_in_bytes outer.0) 1 ≡ align_in_bytes outer.0 = omega arith in
       is ∙ sym (outer.2 ∙ ap₂ (λ a b. max a b) (pow_max dl.aggregate_align n) one)
   only_raised_enum law (scalar s) p h inside = tt
   only_raised_enum law unit p h inside = tt

@@ -20,7 +20,7 @@ use Rattle.rustc_abi.specs.declared.error.LayError.{LayError}
 use Rattle.rustc_abi.specs.declared.error.LayError.TheVariants.{SizeOverflow}
 use Rattle.rustc_abi.specs.ScalarFault.{scalar_fault}
 use Rattle.rustc_abi.specs.Laying.{IsLaying, one_scalar, two_scalars, unless}
-use Rattle.reference.specs.Words.{Extent, align_of, extent_of}
+use Rattle.reference.specs.Words.{Extent, align_in_bytes, extent_of}
 use Rattle.reference.specs.Primitive.{HasPointersOfIndex, HasWideIndex, HoldsAddresses, IsSignless, IsThin, IsWide, index_of}
 
 abbrev primitive_extent : TargetDataLayout → Primitive → Extent
@@ -115,9 +115,9 @@ module _ (dl : TargetDataLayout) where
       let end : second_offset dl a b + scalar_size dl b ≤ pair_size dl a b = (rounded_to (second_offset dl a b + scalar_size dl b) (pair_align dl a b)).above in
       let high : 2 ^ primitive_align dl (primitive_of a) ≤ 2 ^ pair_align dl a b = pow_mono {i = primitive_align dl (primitive_of a)} {j = pair_align dl a b} (omega arith) in
       let size : size_of p ≡ pair_size dl a b = ap size_of whole in
-      let align : align_of p ≡ 2 ^ pair_align dl a b = ap align_of whole in
+      let align : align_in_bytes p ≡ 2 ^ pair_align dl a b = ap align_in_bytes whole in
       let own_size : size_of thin ≡ scalar_size dl a = ap (λ (e : Extent). e.size) one in
-      let own_align : align_of thin ≡ 2 ^ primitive_align dl (primitive_of a) = ap (λ (e : Extent). e.align) one in
+      let own_align : align_in_bytes thin ≡ 2 ^ primitive_align dl (primitive_of a) = ap (λ (e : Extent). e.align) one in
       (omega (arith, first, end, size, own_size), omega (arith, high, align, own_align))
   laid_wide (scalar s) p h = tt
   laid_wide unit p h = tt

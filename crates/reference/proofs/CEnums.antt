@@ -19,7 +19,7 @@ use Rattle.abi_scalar.specs.Simple.{never_layout}
 use Rattle.abi_base.specs.declared.niche_optimizations.NicheOptimizations.TheVariants.{Enabled}
 use Rattle.abi_calc.specs.declared.enums.path.Path.{Path}
 use Rattle.abi_calc.specs.Enums.Answer.{IsTypeAnswer}
-use Rattle.rustc_abi.specs.Enums.{IsTagInteger as IsAsking, numbered_from}
+use Rattle.rustc_abi.specs.Enums.{IsTagIntegerAnswer as IsAsking, numbered_from}
 use Rattle.abi_lists.specs.Fields.{greatest, greatest_size}
 use Rattle.abi_lists.specs.Placement.{cut, own_align, prefix_align, start_of}
 use Rattle.reference.proofs.Rounding.{pow_dvd, round_add, round_mono, round_multiple, round_round, rounded_to}
@@ -28,12 +28,14 @@ use Rattle.abi_calc.specs.Enums.Path.{is_free}
 use Rattle.abi_calc.specs.Enums.Tagged.{layout_seen_as, lists_align, lists_size}
 use Rattle.abi_laid.specs.Mark.{mark_of}
 use Rattle.abi_laid.specs.declared.mark.Mark.{Mark}
-use Rattle.abi_laid.specs.Placed.{Placed, Layout, layout_of, scalar as one_number, pair as two, never as nowhere, elements, vector as lanes_of, fields, union as together, single, tagged, states}
+use Rattle.abi_laid.specs.Placed.{Placed, layout_of, scalar as one_number, pair as two, never as nowhere, elements, vector as lanes_of, fields, union as together, single, tagged, states}
+use Rattle.abi_scalar.specs.Layout.{Layout}
 use Rattle.abi_laid.specs.Tree.{Tree, Variants, scalar, pair, never, unit, array, vector, struct, union, enum, coroutine}
 use Rattle.rustc_abi.specs.Enums.{IsEnumed, arms_at, discriminants_of, layouts_of}
 use Rattle.rustc_abi.specs.Laying.{IsLaying, VariantsLaying, enum_fault, placed_enum}
 use Rattle.reference.proofs.Answers.{laid_by, numbers_for}
-use Rattle.reference.specs.Words.{Extent, align_of, extents_of, offsets_of, extent_of, largest, most_aligned, padding_needed_for, rounded_up}
+use Rattle.reference.specs.Words.{Extent, align_in_bytes, extents_of, extent_of, largest, most_aligned, padding_needed_for, rounded_up}
+use Rattle.rustc_abi.specs.Lists.{offsets_of}
 use Rattle.reference.specs.CStruct.{IsPlainC, c_end, c_offsets, c_struct}
 use Rattle.reference.specs.Tags.{integer_extent}
 use Rattle.reference.specs.FieldEnums.{EachVariant, IsCEnum, LieInPayload, c_enum, payload, variant_fields, with_fields}
@@ -77,7 +79,7 @@ tops_are own (ps ∷ variants) = tops_are (max own (top ps)) variants ∙ omega 
 
 top_is : (ps : List Placed) → 2 ^ top ps ≡ most_aligned (map extent_of ps)
 top_is [] = refl
-top_is (p ∷ ps) = pow_max (layout_of p).align.abi (top ps) ∙ ap (λ k. max (align_of p) k) (top_is ps)
+top_is (p ∷ ps) = pow_max (layout_of p).align.abi (top ps) ∙ ap (λ k. max (align_in_bytes p) k) (top_is ps)
 
 abbrev extents : List (List Placed) → List (List Extent)
 extents variants = map (map extent_of) variants
@@ -140,7 +142,7 @@ shifted : (k u from : ℕ) (ps : List Placed) → 2 ^ u ∣ k → top ps ≤ u
 shifted k u from [] fits le = refl
 shifted k u from (p ∷ ps) fits le =
     let own = shifted_one k from (layout_of p).align.abi (dvd_trans (2 ^ (layout_of p).align.abi) (pow_dvd (layout_of p).align.abi u (omega arith)) fits) in
-    let next : ℕ = from + padding_needed_for from (align_of p) + (extent_of p).size in
+    let next : ℕ = from + padding_needed_for from (align_in_bytes p) + (extent_of p).size in
     ap₂ (λ (o : ℕ) (os : List ℕ). o ∷ os) own
     (ap (λ n. c_offsets n (map extent_of ps)) (ap (λ n. n + (extent_of p).size) own ∙ omega arith)
     ∙ shifted k u next ps fits (omega arith))
@@ -150,7 +152,7 @@ shifted_end : (k u from : ℕ) (ps : List Placed) → 2 ^ u ∣ k → top ps ≤
 shifted_end k u from [] fits le = refl
 shifted_end k u from (p ∷ ps) fits le =
     let own = shifted_one k from (layout_of p).align.abi (dvd_trans (2 ^ (layout_of p).align.abi) (pow_dvd (layout_of p).align.abi u (omega arith)) fits) in
-    let next : ℕ = from + padding_needed_for from (align_of p) + (extent_of p).size in
+    let next : ℕ = from + padding_needed_for from (align_in_bytes p) + (extent_of p).size in
     ap (λ n. c_end n (map extent_of ps)) (ap (λ n. n + (extent_of p).size) own ∙ omega arith)
     ∙ shifted_end k u next ps fits (omega arith)
 

@@ -15,11 +15,12 @@ use Rattle.abi_lists.specs.List.{parts_of}
 use Rattle.abi_lists.specs.Part.{part_of}
 use Rattle.abi_lists.specs.Placement.{cut, end_from, list_repr, offsets_from, own_align, prefix_align, start_of}
 use Rattle.abi_laid.specs.Nodes.{parts_at}
-use Rattle.abi_laid.specs.Placed.{Placed, Layout, layout_of}
+use Rattle.abi_laid.specs.Placed.{Placed, layout_of}
+use Rattle.abi_scalar.specs.Layout.{Layout}
 use Rattle.abi_laid.specs.Tree.{Tree, Trees, scalar, pair, never, unit, array, vector, struct, union, enum, coroutine}
 use Rattle.rustc_abi.specs.declared.error.LayError.{LayError}
 use Rattle.rustc_abi.specs.Error.{Follows}
-use Rattle.rustc_abi.specs.Laying.{AreLaying, IsLaying, IsListed, fields_fault, kind_of, placed_fields}
+use Rattle.rustc_abi.specs.Laying.{AreLaying, IsLaying, IsLaidList, fields_fault, kind_of, placed_fields}
 use Rattle.reference.specs.Words.{Extent, extent_of, extents_of, most_aligned, rounded_up}
 use Rattle.reference.specs.CStruct.{IsCStruct, c_end, c_offsets, c_struct}
 use Rattle.reference.proofs.Answers.{inj-Ok, no_error}
@@ -36,7 +37,7 @@ pub record ListsInC (dl : TargetDataLayout) (repr : ReprOptions) (ps : List Plac
 
 pub lists_in_c : (dl : TargetDataLayout) (repr : ReprOptions) (kind : StructKind) (ps : List Placed) (layout : Layout)
     → has_fixed_order repr ≡ true → start_of repr.pack kind ≡ 0 → prefix_align repr.pack kind ≡ 0
-    → IsListed dl repr kind (map layout_of ps) (Ok layout) → ListsInC dl repr ps layout
+    → IsLaidList dl repr kind (map layout_of ps) (Ok layout) → ListsInC dl repr ps layout
 lists_in_c dl repr kind ps layout fixed start prefix (order, offsets, h) =
     let parts : List Part = parts_of dl (map layout_of ps) in
     let s : LiesInSource (list_repr dl repr kind) parts offsets layout.size layout.align.abi =
@@ -61,7 +62,7 @@ nothing_before pack true (p ∷ ps) = refl
 nothing_before pack false (p ∷ ps) = refl
 
 pub listed_in_c : (dl : TargetDataLayout) (repr : ReprOptions) (always_sized : Bool) (ps : List Placed) (layout : Layout)
-    → has_fixed_order repr ≡ true → IsListed dl repr (kind_of always_sized ps) (map layout_of ps) (Ok layout)
+    → has_fixed_order repr ≡ true → IsLaidList dl repr (kind_of always_sized ps) (map layout_of ps) (Ok layout)
     → ListsInC dl repr ps layout
 listed_in_c dl repr always_sized ps layout fixed h =
     lists_in_c dl repr (kind_of always_sized ps) ps layout fixed (nothing_before repr.pack always_sized ps)
@@ -70,7 +71,7 @@ listed_in_c dl repr always_sized ps layout fixed h =
 -- neither packed nor raised, under aggregates that are aligned to a byte
 c_listed : (dl : TargetDataLayout) (repr : ReprOptions) (always_sized : Bool) (all : Trees) (ps : List Placed) (layout : Layout)
     → dl.aggregate_align ≡ 0 → AreLaying dl all (Ok ps)
-    → IsListed dl repr (kind_of always_sized ps) (map layout_of ps) (Ok layout)
+    → IsLaidList dl repr (kind_of always_sized ps) (map layout_of ps) (Ok layout)
     → IsCStruct (struct repr always_sized None all) (placed_fields repr ps layout)
 c_listed dl repr always_sized all ps layout byte are h = λ plain.
     let l = listed_in_c dl repr always_sized ps layout (c_is_fixed repr plain.0) h in
@@ -98,7 +99,7 @@ each_packed n (p ∷ ps) = ap (λ (es : List Extent). packed_to (2 ^ n) (extent_
 -- packed: the same with the cut alignments; nothing is asked of aggregates, since a packed list begins with a byte's
 packed_listed : (dl : TargetDataLayout) (repr : ReprOptions) (always_sized : Bool) (all : Trees) (ps : List Placed) (layout : Layout)
     → IsLawfulDataLayout dl → AreLaying dl all (Ok ps)
-    → IsListed dl repr (kind_of always_sized ps) (map layout_of ps) (Ok layout)
+    → IsLaidList dl repr (kind_of always_sized ps) (map layout_of ps) (Ok layout)
     → IsPackedC (struct repr always_sized None all) (placed_fields repr ps layout)
 packed_listed dl repr always_sized all ps layout law are h = λ n packed unraised c.
     let l = listed_in_c dl repr always_sized ps layout (c_is_fixed repr c) h in
@@ -122,9 +123,9 @@ packed_listed dl repr always_sized all ps layout law are h = λ n packed unraise
 
 -- a struct without an own fault has the calculator's answer; `P` is what each such answer has
 answered : (dl : TargetDataLayout) (repr : ReprOptions) (always_sized : Bool) (placed : Placed) (ps : List Placed) (P : Placed → Type 0)
-    → ((layout : Layout) → IsListed dl repr (kind_of always_sized ps) (map layout_of ps) (Ok layout) → P (placed_fields repr ps layout))
+    → ((layout : Layout) → IsLaidList dl repr (kind_of always_sized ps) (map layout_of ps) (Ok layout) → P (placed_fields repr ps layout))
     → (fault : Option LayError) → MatchOption fault
-    (Follows (IsListed dl repr (kind_of always_sized ps) (map layout_of ps)) (λ layout r. r ≡ Ok (placed_fields repr ps layout)) (Ok placed))
+    (Follows (IsLaidList dl repr (kind_of always_sized ps) (map layout_of ps)) (λ layout r. r ≡ Ok (placed_fields repr ps layout)) (Ok placed))
     (λ e. Ok placed ≡ Err e) → P placed
 answered dl repr always_sized placed ps P each None (inl h) = absurd (no_error placed h.0 h.2)
 answered dl repr always_sized placed ps P each None (inr h) =
@@ -134,7 +135,7 @@ answered dl repr always_sized placed ps P each (Some e) h = absurd (no_error pla
 -- what each list of a struct's fields has, the struct has
 pub struct_has : (dl : TargetDataLayout) (repr : ReprOptions) (always_sized : Bool) (all : Trees) (P : Placed → Type 0)
     → ((ps : List Placed) (layout : Layout) → AreLaying dl all (Ok ps)
-    → IsListed dl repr (kind_of always_sized ps) (map layout_of ps) (Ok layout) → P (placed_fields repr ps layout))
+    → IsLaidList dl repr (kind_of always_sized ps) (map layout_of ps) (Ok layout) → P (placed_fields repr ps layout))
     → (p : Placed) → IsLaying dl (struct repr always_sized None all) (Ok p) → P p
 struct_has dl repr always_sized all P each p (inl h) = absurd (no_error p h.0 h.2)
 struct_has dl repr always_sized all P each p (inr h) =

@@ -23,11 +23,12 @@ use Rattle.abi_calc.specs.declared.enums.path.Path.{Path}
 use Rattle.abi_calc.specs.Enums.Answer.{IsTypeAnswer}
 use Rattle.abi_calc.specs.Enums.Path.{has_no_value, is_free, variant_at}
 use Rattle.abi_calc.specs.Enums.Discriminants.{IsAskedWith, IsGreatestOf, IsLeastOf, counts, meant_by}
-use Rattle.abi_laid.specs.Placed.{Placed, Layout, layout_of, scalar as one_number, pair as two, never as nowhere, elements, vector as lanes_of, fields, union as together, single, tagged, states}
+use Rattle.abi_laid.specs.Placed.{Placed, layout_of, scalar as one_number, pair as two, never as nowhere, elements, vector as lanes_of, fields, union as together, single, tagged, states}
+use Rattle.abi_scalar.specs.Layout.{Layout}
 use Rattle.abi_laid.specs.Tree.{Tree, Variants, no_variants, more_variants, scalar, pair, never, unit, array, vector, struct, union, enum, coroutine}
 use Rattle.rustc_abi.specs.declared.error.LayError.{LayError}
 use Rattle.rustc_abi.specs.declared.error.LayError.TheVariants.{BadAlign, BadIndex, DiscriminantTooWide, DuplicateDiscriminant}
-use Rattle.rustc_abi.specs.Enums.{IsEnumed, IsTagInteger as IsAsking, counted, discriminants_of, has_equal, holds_both, is_discriminant, is_negative, layouts_of, least_integer, least_tag, numbered_from, tag_integer}
+use Rattle.rustc_abi.specs.Enums.{IsEnumed, IsTagIntegerAnswer as IsAsking, counted, discriminants_of, has_equal, holds_both, is_discriminant, is_negative, layouts_of, least_integer, least_tag, numbered_from, tag_integer}
 use Rattle.rustc_abi.specs.Laying.{IsLaying, enum_fault, has_bad_align, has_bad_index, placed_enum}
 use Rattle.reference.specs.CStruct.{IsPlainC}
 use Rattle.reference.specs.FieldEnums.{IsCTag}

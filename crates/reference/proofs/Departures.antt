@@ -35,12 +35,14 @@ use Rattle.abi_calc.specs.Enums.Tagged.{layout_seen_as, lists_size}
 use Rattle.abi_laid.specs.declared.mark.Mark.TheVariants.{Never, Unit}
 use Rattle.abi_laid.specs.Mark.{mark_of}
 use Rattle.abi_laid.specs.Nodes.{parts_at, parts_at_0}
-use Rattle.abi_laid.specs.Placed.{Placed, Layout, Arms, no_arms, arm, no_parts, part, layout_of, parts_of, elements, fields, never as nowhere}
+use Rattle.abi_laid.specs.Placed.{Placed, Arms, no_arms, arm, no_parts, part, layout_of, parts_in, elements, fields, never as nowhere}
+use Rattle.abi_scalar.specs.Layout.{Layout}
 use Rattle.abi_laid.specs.Tree.{Tree, Trees, no_trees, more_trees, Variants, no_variants, more_variants, struct, union, enum, array, never, unit, scalar as number_type}
 use Rattle.rustc_abi.specs.Enums.{IsEnumed, arms_at, counted, discriminants_of, tag_integer}
-use Rattle.rustc_abi.specs.Laying.{AreLaying, IsLaying, IsListed, IsUnited, VariantsLaying, elements_answer, enum_fault, fields_fault, kind_of, one_scalar, placed_enum, placed_fields, placed_together}
+use Rattle.rustc_abi.specs.Laying.{AreLaying, IsLaying, IsLaidList, IsUnited, VariantsLaying, elements_answer, enum_fault, fields_fault, kind_of, one_scalar, placed_enum, placed_fields, placed_together}
 use Rattle.rustc_abi.specs.ScalarFault.{scalar_fault}
-use Rattle.reference.specs.Words.{Extent, HasArmForEach, align_of, extent_of, extents_of, most_aligned, offsets_of}
+use Rattle.reference.specs.Words.{Extent, HasArmForEach, align_in_bytes, extent_of, extents_of, most_aligned}
+use Rattle.rustc_abi.specs.Lists.{offsets_of}
 use Rattle.reference.specs.CStruct.{IsCStruct, c_struct}
 use Rattle.reference.specs.CUnion.{IsCUnion}
 use Rattle.reference.specs.FieldEnums.{IsCEnum, IsCTag, payload, variant_fields, with_fields}
@@ -65,7 +67,7 @@ empty = struct c true None no_trees
 
 -- a `repr(C)` struct without fields is aligned to eight bytes, and not to one
 empty_is_raised : (ps : List Placed) (layout : Layout) → AreLaying aligned_aggregates no_trees (Ok ps)
-    → IsListed aligned_aggregates c (kind_of true ps) (map layout_of ps) (Ok layout)
+    → IsLaidList aligned_aggregates c (kind_of true ps) (map layout_of ps) (Ok layout)
     → IsCStruct empty (placed_fields c ps layout) → ⊥
 empty_is_raised [] layout are h lies =
     let l = listed_in_c aligned_aggregates c true [] layout refl h in
@@ -127,8 +129,8 @@ transparent_departs p h lies =
     let none : others (parts_at (listed_offsets s.layout.fields) s.fields) ≡ [] =
     nothing_counts (listed_offsets s.layout.fields) s.fields (nothing_there s.fields s.are) s.count in
     let unit_like : extent_of whole ≡ unit_extent = subst (λ list. IsAsLargeAs list whole) none (own (refl, refl, refl)) in
-    let low : align_of p ≡ 1 = ap align_of (sym s.is) ∙ ap (λ (e : Extent). e.align) unit_like in
-    let high : align_of p ≡ max 8 (most_aligned (extents_for None s.fields)) = s.align in
+    let low : align_in_bytes p ≡ 1 = ap align_in_bytes (sym s.is) ∙ ap (λ (e : Extent). e.align) unit_like in
+    let high : align_in_bytes p ≡ max 8 (most_aligned (extents_for None s.fields)) = s.align in
     absurd (omega (arith, low, high))
 
 -- and a `repr(C)` enum without fields, whose tag has no alignment above four bytes
@@ -223,34 +225,34 @@ variants_are variants (inr (ps, inr (q, here, inr (none, later, is)), inr (other
 
 unraised_by : (variants : List (List Placed)) (layout : Layout) → variants ≡ (void ∷ []) ∷ []
     → IsEnumed default_data_layout raised (0 ∷ []) variants (Ok layout)
-    → align_of (placed_enum default_data_layout raised (0 ∷ []) variants layout) ≡ 1
+    → align_in_bytes (placed_enum default_data_layout raised (0 ∷ []) variants layout) ≡ 1
 unraised_by variants layout are h =
     let there : IsEnumed default_data_layout raised (0 ∷ []) ((void ∷ []) ∷ []) (Ok layout) =
     subst (λ vs. IsEnumed default_data_layout raised (0 ∷ []) vs (Ok layout)) are h in
     let same : layout ≡ never_layout default_data_layout = cc there in
-    ap₂ (λ vs l. align_of (placed_enum default_data_layout raised (0 ∷ []) vs l)) are same
+    ap₂ (λ vs l. align_in_bytes (placed_enum default_data_layout raised (0 ∷ []) vs l)) are same
 
-pub absent_is_unraised : (p : Placed) → IsLaying default_data_layout (absent raised) (Ok p) → align_of p ≡ 1
+pub absent_is_unraised : (p : Placed) → IsLaying default_data_layout (absent raised) (Ok p) → align_in_bytes p ≡ 1
 absent_is_unraised p (inl f) = absurd (cc f.2)
 absent_is_unraised p (inr (variants, there, answer)) =
     let numbers = discriminants_of (more_variants 0 (more_trees never no_trees) no_variants) in
     let found = laid_by (enum_fault default_data_layout raised numbers variants) (IsEnumed default_data_layout raised numbers variants)
     (placed_enum default_data_layout raised numbers variants) p answer in
-    ap align_of (sym found.2) ∙ unraised_by variants found.0 (variants_are variants there) found.1
+    ap align_in_bytes (sym found.2) ∙ unraised_by variants found.0 (variants_are variants there) found.1
 
-around_is_raised : (ps : List Placed) (layout : Layout) → IsListed default_data_layout around (kind_of true ps) (map layout_of ps) (Ok layout)
-    → 16 ≤ align_of (placed_fields around ps layout)
+around_is_raised : (ps : List Placed) (layout : Layout) → IsLaidList default_data_layout around (kind_of true ps) (map layout_of ps) (Ok layout)
+    → 16 ≤ align_in_bytes (placed_fields around ps layout)
 around_is_raised ps layout h =
     let l = listed_in_c default_data_layout around true ps layout refl h in omega (arith, l.align)
 
 -- the rule promises that both are aligned alike
 pub enum_align_departs : (p wrapped : Placed) → IsLaying default_data_layout (absent raised) (Ok p)
     → IsLaying default_data_layout (struct around true None (more_trees (absent (unaligned raised)) no_trees)) (Ok wrapped)
-    → align_of p ≡ align_of wrapped → ⊥
+    → align_in_bytes p ≡ align_in_bytes wrapped → ⊥
 enum_align_departs p wrapped own outer same =
-    let low : align_of p ≡ 1 = absent_is_unraised p own in
-    let high : 16 ≤ align_of wrapped =
-    struct_has default_data_layout around true (more_trees (absent (unaligned raised)) no_trees) (λ q. 16 ≤ align_of q)
+    let low : align_in_bytes p ≡ 1 = absent_is_unraised p own in
+    let high : 16 ≤ align_in_bytes wrapped =
+    struct_has default_data_layout around true (more_trees (absent (unaligned raised)) no_trees) (λ q. 16 ≤ align_in_bytes q)
     (λ ps layout are listed. around_is_raised ps layout listed) wrapped outer in
     absurd (omega arith)
 
@@ -299,7 +301,7 @@ pub thin_departs : (p q : Placed) → IsLaying default_data_layout (number_type 
 thin_departs p q there other same =
     let first : p ≡ one_scalar default_data_layout pointer = faultless (one_scalar default_data_layout pointer) p (scalar_fault default_data_layout pointer) there in
     let second : q ≡ one_scalar default_data_layout usize = faultless (one_scalar default_data_layout usize) q (scalar_fault default_data_layout usize) other in
-    absurd (let is : 8 ≡ 4 = ap align_of (sym first) ∙ ap (λ (e : Extent). e.align) same ∙ ap align_of second in omega (arith, is))
+    absurd (let is : 8 ≡ 4 = ap align_in_bytes (sym first) ∙ ap (λ (e : Extent). e.align) same ∙ ap align_in_bytes second in omega (arith, is))
 
 -- ---- `packed(16)` on a struct of `u32` and four `u16` in free order, which is aligned to four bytes
 
@@ -387,7 +389,7 @@ packed_sorted order (front, s, is) =
     absurd (let no : true ≡ false = sorted 0 0 (lit≤ tt) (lit≤ tt) in cc))
     (two_orders front s.permutes)
 
-free_offset : (layout : Layout) → IsListed default_data_layout default_repr AlwaysSized (layout_of word ∷ layout_of shorts ∷ []) (Ok layout)
+free_offset : (layout : Layout) → IsLaidList default_data_layout default_repr AlwaysSized (layout_of word ∷ layout_of shorts ∷ []) (Ok layout)
     → get_or (listed_offsets layout.fields) 0 0 ≡ 8
 free_offset layout (order, offsets, h) =
     let named = h.named in
@@ -396,7 +398,7 @@ free_offset layout (order, offsets, h) =
     let placed = subst (λ o. IsPlacedIn default_data_layout free_list Start asked o offsets layout.size layout.align.abi layout.largest_niche) run.0 run.1 in
     ap (λ os. get_or os 0 0) (ap listed_offsets h.shape) ∙ ap (λ xs. get_or xs 1 0) placed.places
 
-packed_offset : (layout : Layout) → IsListed default_data_layout packed_to_16 AlwaysSized (layout_of word ∷ layout_of shorts ∷ []) (Ok layout)
+packed_offset : (layout : Layout) → IsLaidList default_data_layout packed_to_16 AlwaysSized (layout_of word ∷ layout_of shorts ∷ []) (Ok layout)
     → get_or (listed_offsets layout.fields) 0 0 ≡ 0
 packed_offset layout (order, offsets, h) =
     let named = h.named in
@@ -407,7 +409,7 @@ packed_offset layout (order, offsets, h) =
 
 -- where the first field of the struct lies
 abbrev first_offset : Placed → ℕ
-first_offset p = get_or (offsets_of (parts_of p)) 0 0
+first_offset p = get_or (offsets_of (parts_in p)) 0 0
 
 first_of : (repr : ReprOptions) (n : ℕ) (layout : Layout) (os : List ℕ) → listed_offsets layout.fields ≡ os → length os ≡ 2 → get_or os 0 0 ≡ n
     → first_offset (placed_fields repr (word ∷ shorts ∷ []) layout) ≡ n
@@ -416,19 +418,19 @@ first_of repr n layout (o ∷ os) is long at =
     ap (λ ns. get_or (offsets_of (parts_at ns (word ∷ shorts ∷ []))) 0 0) is ∙ at
 
 struct_first : (repr : ReprOptions) (n : ℕ)
-    → ((layout : Layout) → IsListed default_data_layout repr AlwaysSized (layout_of word ∷ layout_of shorts ∷ []) (Ok layout) → get_or (listed_offsets layout.fields) 0 0 ≡ n)
+    → ((layout : Layout) → IsLaidList default_data_layout repr AlwaysSized (layout_of word ∷ layout_of shorts ∷ []) (Ok layout) → get_or (listed_offsets layout.fields) 0 0 ≡ n)
     → (p : Placed) → IsLaying default_data_layout (struct repr true None mixed) (Ok p) → first_offset p ≡ n
 struct_first repr n at p h =
     struct_has default_data_layout repr true mixed (λ q. first_offset q ≡ n)
     (λ ps layout are listed.
     let is : ps ≡ word ∷ shorts ∷ [] = mixed_are ps are in
-    let own = subst (λ qs. IsListed default_data_layout repr (kind_of true qs) (map layout_of qs) (Ok layout)) is listed in
+    let own = subst (λ qs. IsLaidList default_data_layout repr (kind_of true qs) (map layout_of qs) (Ok layout)) is listed in
     let count : length (listed_offsets layout.fields) ≡ 2 = list_count default_data_layout repr true (word ∷ shorts ∷ []) layout own in
     ap (λ qs. first_offset (placed_fields repr qs layout)) is
     ∙ first_of repr n layout (listed_offsets layout.fields) refl count (at layout own)) p h
 
 -- the word lies at 8, and packed at 0
 pub packed_departs : (p q : Placed) → IsLaying default_data_layout (struct default_repr true None mixed) (Ok p)
-    → IsLaying default_data_layout (struct packed_to_16 true None mixed) (Ok q) → offsets_of (parts_of p) ≡ offsets_of (parts_of q) → ⊥
+    → IsLaying default_data_layout (struct packed_to_16 true None mixed) (Ok q) → offsets_of (parts_in p) ≡ offsets_of (parts_in q) → ⊥
 packed_departs p q free packed same =
     absurd (let is : 8 ≡ 0 = sym (struct_first default_repr 8 free_offset p free) ∙ ap (λ os. get_or os 0 0) same ∙ struct_first packed_to_16 0 packed_offset q packed in omega (arith, is))

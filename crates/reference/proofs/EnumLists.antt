@@ -33,11 +33,13 @@ use Rattle.abi_calc.specs.Enums.Payload.{tagged_view}
 use Rattle.abi_lists.specs.List.{IsListAnswer}
 use Rattle.abi_laid.specs.Nodes.{parts_at}
 use Rattle.abi_laid.specs.declared.mark.Mark.{Mark}
-use Rattle.abi_laid.specs.Placed.{Placed, Layout, layout_of}
+use Rattle.abi_laid.specs.Placed.{Placed, layout_of}
+use Rattle.abi_scalar.specs.Layout.{Layout}
 use Rattle.abi_laid.specs.Tree.{Variants, no_variants, more_variants}
-use Rattle.rustc_abi.specs.Enums.{IsTagInteger, arms_at, counted, discriminants_of, layouts_of, numbered_from}
+use Rattle.rustc_abi.specs.Enums.{IsTagIntegerAnswer, arms_at, counted, discriminants_of, layouts_of, numbered_from}
 use Rattle.rustc_abi.specs.Laying.{AreLaying, VariantsLaying}
-use Rattle.reference.specs.Words.{Extent, HasArmForEach, extent_of, extents_of, most_aligned, offsets_of, rounded_up}
+use Rattle.reference.specs.Words.{Extent, HasArmForEach, extent_of, extents_of, most_aligned, rounded_up}
+use Rattle.rustc_abi.specs.Lists.{offsets_of}
 use Rattle.reference.specs.CStruct.{c_end, c_offsets}
 use Rattle.reference.specs.FieldEnums.{EachVariant, variant_fields}
 use Rattle.reference.proofs.Lists.{LiesInSource, align_same, end_same, extents_for, extents_of-parts_at, lies_in_source, offsets_of-parts_at, offsets_same, part_for_each, rounded}
@@ -49,7 +51,7 @@ pub record IsTaggedBehind (dl : TargetDataLayout) (repr : ReprOptions) (numbers 
   pub asked : Integer
   pub signed : Bool
   pub range : WrappingRange
-  pub for : IsAskedFor dl repr (IsTagInteger dl repr) (counted repr numbers variants) asked signed
+  pub for : IsAskedFor dl repr (IsTagIntegerAnswer dl repr) (counted repr numbers variants) asked signed
   pub lists : List Layout
   pub are : AreListLayouts layout_of (λ i. i) 0 dl repr (behind_tag dl repr asked (layouts_of variants)) variants lists
   pub view : BackendRepr
@@ -80,7 +82,7 @@ is_several repr v vs free = several_by (is_free repr) _ _ free
 
 pub tagged_by : (dl : TargetDataLayout) (repr : ReprOptions) (numbers : List ℕ) (variants : List (List Placed)) (layout : Layout)
     → is_free repr ≡ false
-    → IsSeveralAnswer layout_of (λ i. i) (λ i. i) (λ i. i) (λ i. i) dl repr (IsTagInteger dl repr) variants (λ items. items ≡ numbered_from 0 numbers) (Ok layout)
+    → IsSeveralAnswer layout_of (λ i. i) (λ i. i) (λ i. i) (λ i. i) dl repr (IsTagIntegerAnswer dl repr) variants (λ items. items ≡ numbered_from 0 numbers) (Ok layout)
     → IsTaggedBehind dl repr numbers variants layout
 tagged_by dl repr numbers variants layout free (inl packed) = absurd (no_error layout _ packed.1)
 tagged_by dl repr numbers variants layout free (inr (inl want)) = absurd (no_error layout _ want.1)
@@ -97,7 +99,7 @@ tagged_by dl repr numbers variants layout free (inr (inr (none, items, are, inr 
       asked = asked;
       signed = signed;
       range = by.ranged.0;
-      for = subst (λ its. IsAskedFor dl repr (IsTagInteger dl repr) (counting_of (λ v. v) repr (layouts_of variants) its) asked signed) are for;
+      for = subst (λ its. IsAskedFor dl repr (IsTagIntegerAnswer dl repr) (counting_of (λ v. v) repr (layouts_of variants) its) asked signed) are for;
       lists = lists;
       are = lay;
       view = seen asked;

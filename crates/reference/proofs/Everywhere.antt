@@ -8,7 +8,7 @@ use Rattle.abi_scalar.specs.Lawful.{IsLawfulLayout}
 use Rattle.abi_laid.specs.declared.laid.Laid.{Laid}
 use Rattle.abi_laid.specs.Laid.{placed_of}
 use Rattle.abi_laid.specs.Nodes.{parts_at, parts_at_0}
-use Rattle.abi_laid.specs.Placed.{Placed, Parts, Arms, no_arms, arm, element_of, first_part, layout_of, more_parts, parts_of, scalar as one_number, pair as two, never as nowhere, elements, vector as lanes_of, fields, union as together, single, tagged, states as in_states}
+use Rattle.abi_laid.specs.Placed.{Placed, Parts, Arms, no_arms, arm, element_of, first_part, layout_of, more_parts, parts_in, scalar as one_number, pair as two, never as nowhere, elements, vector as lanes_of, fields, union as together, single, tagged, states as in_states}
 use Rattle.abi_laid.specs.Tree.{Tree, Trees, no_trees, more_trees, Variants, no_variants, more_variants, scalar, pair, never, unit, array, vector, struct, union, enum, coroutine}
 use Rattle.rustc_abi.specs.declared.error.LayError.{LayError}
 use Rattle.rustc_abi.specs.Everywhere.{ByThemselves, Everywhere, OfAbsent, OfArms, OfEach, OfVariant, Within}
@@ -28,8 +28,8 @@ module _ (dl : TargetDataLayout) (P Q : Tree → Placed → Type 0) (each : (t :
     within (array count element) p h = (each element (element_of p) h.0 h.1, within element (element_of p) h.1)
     within (vector lanes packed element) p h =
         (each element (element_of (element_of p)) h.0 h.1, within element (element_of (element_of p)) h.1)
-    within (struct repr always_sized order all) p h = of_each all (parts_of p) h
-    within (union repr all) p h = of_each all (parts_of p) h
+    within (struct repr always_sized order all) p h = of_each all (parts_in p) h
+    within (union repr all) p h = of_each all (parts_in p) h
     within (enum repr all) (nowhere layout mark) h = of_absent all h
     within (enum repr all) (single layout mark index parts) h = of_variant all index parts h
     within (enum repr all) (tagged layout mark offset tag encoding arms) h = of_arms all arms h
@@ -128,8 +128,8 @@ module _ (dl : TargetDataLayout) (P Q : Tree → Placed → Type 0) (one : (t : 
     both_within unit p h k = tt
     both_within (array count element) p h k = ((h.0, k.0), both_within element (element_of p) h.1 k.1)
     both_within (vector lanes packed element) p h k = ((h.0, k.0), both_within element (element_of (element_of p)) h.1 k.1)
-    both_within (struct repr always_sized order all) p h k = both_of_each all (parts_of p) h k
-    both_within (union repr all) p h k = both_of_each all (parts_of p) h k
+    both_within (struct repr always_sized order all) p h k = both_of_each all (parts_in p) h k
+    both_within (union repr all) p h k = both_of_each all (parts_in p) h k
     both_within (enum repr all) (nowhere layout mark) h k = both_of_absent all h k
     both_within (enum repr all) (single layout mark index parts) h k = both_of_variant all index parts h k
     both_within (enum repr all) (tagged layout mark offset tag encoding arms) h k = both_of_arms all arms h k

@@ -17,9 +17,11 @@ use Rattle.abi_scalar.specs.Range.{full_range}
 use Rattle.abi_calc.specs.Coroutine.Lists.{default_repr}
 use Rattle.abi_laid.specs.declared.mark.Mark.TheVariants.{Plain}
 use Rattle.abi_laid.specs.Tree.{Tree, Trees, no_trees, more_trees, no_variants, more_variants, struct, union, enum, array, scalar as number_type}
-use Rattle.abi_laid.specs.Placed.{Placed, Layout, layout_of, scalar, fields, union as together, elements, tagged, no_parts, part, no_arms, arm, nothing}
+use Rattle.abi_laid.specs.Placed.{Placed, layout_of, scalar, fields, union as together, elements, tagged, no_parts, part, no_arms, arm, nothing}
+use Rattle.abi_scalar.specs.Layout.{Layout}
 use Rattle.rustc_abi.specs.Laying.{one_scalar}
-use Rattle.reference.specs.Words.{Extent, HasPartForEach, extent_of, extents_of, offsets_of}
+use Rattle.reference.specs.Words.{Extent, HasPartForEach, extent_of, extents_of}
+use Rattle.rustc_abi.specs.Lists.{offsets_of}
 use Rattle.reference.specs.Arrays.{IsArray}
 use Rattle.reference.specs.CStruct.{IsCStruct, c_offsets, c_struct}
 use Rattle.reference.specs.CUnion.{IsCUnion}

@@ -25,10 +25,11 @@ use Rattle.abi_lists.specs.Placement.{align_of as list_align, cut, list_repr, ow
 use Rattle.abi_lists.specs.Run.{IsPlacedIn, IsRun, space_wanted}
 use Rattle.abi_lists.specs.Union.{raised_to}
 use Rattle.abi_laid.specs.Nodes.{parts_at}
-use Rattle.abi_laid.specs.Placed.{Placed, Layout, layout_of, parts_of}
+use Rattle.abi_laid.specs.Placed.{Placed, layout_of, parts_in}
+use Rattle.abi_scalar.specs.Layout.{Layout}
 use Rattle.abi_laid.specs.Tree.{Trees, struct, union}
-use Rattle.rustc_abi.specs.Laying.{AreLaying, IsLaying, IsListed, IsListedInOrder, IsUnited, fields_fault, kind_of, ordered_fault, placed_fields, placed_together, randomized}
-use Rattle.reference.specs.Words.{HasPartForEach, align_of, extent_of, most_aligned}
+use Rattle.rustc_abi.specs.Laying.{AreLaying, IsLaying, IsLaidList, IsListedInOrder, IsUnited, fields_fault, kind_of, ordered_fault, placed_fields, placed_together, randomized}
+use Rattle.reference.specs.Words.{HasPartForEach, align_in_bytes, extent_of, most_aligned}
 use Rattle.reference.proofs.Answers.{laid_by}
 use Rattle.reference.proofs.Lists.{align_same, cut_to, extents_for, part_for_each, pow_max, pow_min}
 
@@ -80,7 +81,7 @@ pub record IsStruct (dl : TargetDataLayout) (repr : ReprOptions) (all : Trees) (
   pub are : AreLaying dl all (Ok fields)
   pub count : length (listed_offsets layout.fields) ≡ length fields
   pub is : placed_fields repr fields layout ≡ whole
-  pub align : align_of whole ≡ max (2 ^ least_align dl repr) (most_aligned (extents_for repr.pack fields))
+  pub align : align_in_bytes whole ≡ max (2 ^ least_align dl repr) (most_aligned (extents_for repr.pack fields))
 
 -- A union: the same, with each field at 0.
 pub record IsTogether (dl : TargetDataLayout) (repr : ReprOptions) (all : Trees) (whole : Placed) : Type 0 where
@@ -88,7 +89,7 @@ pub record IsTogether (dl : TargetDataLayout) (repr : ReprOptions) (all : Trees)
   pub layout : Layout
   pub are : AreLaying dl all (Ok fields)
   pub is : placed_together repr fields layout ≡ whole
-  pub align : align_of whole ≡ max (2 ^ least_align dl repr) (most_aligned (extents_for repr.pack fields))
+  pub align : align_in_bytes whole ≡ max (2 ^ least_align dl repr) (most_aligned (extents_for repr.pack fields))
 
 -- Fields by themselves and where they lie, one for each tree, and the alignment of the whole by theirs.
 pub record IsOver (dl : TargetDataLayout) (repr : ReprOptions) (all : Trees) (whole : Placed) : Type 0 where
@@ -96,8 +97,8 @@ pub record IsOver (dl : TargetDataLayout) (repr : ReprOptions) (all : Trees) (wh
   pub are : AreLaying dl all (Ok fields)
   pub offsets : List ℕ
   pub count : length offsets ≡ length fields
-  pub parts : parts_of whole ≡ parts_at offsets fields
-  pub align : align_of whole ≡ max (2 ^ least_align dl repr) (most_aligned (extents_for repr.pack fields))
+  pub parts : parts_in whole ≡ parts_at offsets fields
+  pub align : align_in_bytes whole ≡ max (2 ^ least_align dl repr) (most_aligned (extents_for repr.pack fields))
 
 module _ (dl : TargetDataLayout) where
   pub asked_count : (ps : List Placed) → length (asked_of dl (map layout_of ps)) ≡ length ps
@@ -114,7 +115,7 @@ module _ (dl : TargetDataLayout) where
 
   -- a list has one offset for each field
   pub list_count : (repr : ReprOptions) (always_sized : Bool) (ps : List Placed) (layout : Layout)
-      → IsListed dl repr (kind_of always_sized ps) (map layout_of ps) (Ok layout) → length (listed_offsets layout.fields) ≡ length ps
+      → IsLaidList dl repr (kind_of always_sized ps) (map layout_of ps) (Ok layout) → length (listed_offsets layout.fields) ≡ length ps
   list_count repr always_sized ps layout listed =
       let kind : StructKind = kind_of always_sized ps in
       let parts : List Part = asked_of dl (map layout_of ps) in
@@ -128,7 +129,7 @@ module _ (dl : TargetDataLayout) where
   struct_laid repr always_sized order all p (inl f) = absurd (cc f.2)
   struct_laid repr always_sized None all p (inr (ps, there, answer)) =
       let kind : StructKind = kind_of always_sized ps in
-      let found = laid_by (fields_fault repr ps) (IsListed dl repr kind (map layout_of ps)) (placed_fields repr ps) p answer in
+      let found = laid_by (fields_fault repr ps) (IsLaidList dl repr kind (map layout_of ps)) (placed_fields repr ps) p answer in
       let layout : Layout = found.0 in
       let listed = found.1 in
       let run = listed.2.named in
@@ -142,7 +143,7 @@ module _ (dl : TargetDataLayout) where
         are = there;
         count = list_count repr always_sized ps layout listed;
         is = found.2;
-        align = ap align_of (sym found.2) ∙ list_aligned repr always_sized ps layout.align.abi high;
+        align = ap align_in_bytes (sym found.2) ∙ list_aligned repr always_sized ps layout.align.abi high;
       }
   struct_laid repr always_sized (Some order) all p (inr (ps, there, answer)) =
       let kind : StructKind = kind_of always_sized ps in
@@ -155,7 +156,7 @@ module _ (dl : TargetDataLayout) where
         are = there;
         count = ap length (ap listed_offsets listed.1.shape) ∙ listed.1.named.1.count ∙ asked_count ps;
         is = found.2;
-        align = ap align_of (sym found.2) ∙ list_aligned repr always_sized ps layout.align.abi listed.1.named.1.alignment;
+        align = ap align_in_bytes (sym found.2) ∙ list_aligned repr always_sized ps layout.align.abi listed.1.named.1.alignment;
       }
 
   -- ---- unions
@@ -213,7 +214,7 @@ module _ (dl : TargetDataLayout) where
         layout = layout;
         are = there;
         is = found.2;
-        align = ap align_of (sym found.2) ∙ ap (λ (l : Layout). 2 ^ l.align.abi) made
+        align = ap align_in_bytes (sym found.2) ∙ ap (λ (l : Layout). 2 ^ l.align.abi) made
             ∙ ap (λ ls. 2 ^ raised_to repr.align (cut repr.pack (greatest_align (own_align dl repr) ls))) (map-id (map layout_of ps))
             ∙ union_aligned law repr ps;
       }
@@ -226,7 +227,7 @@ module _ (dl : TargetDataLayout) where
     are = h.are;
     offsets = listed_offsets h.layout.fields;
     count = h.count;
-    parts = ap parts_of (sym h.is);
+    parts = ap parts_in (sym h.is);
     align = h.align;
   }
 
@@ -236,7 +237,7 @@ module _ (dl : TargetDataLayout) where
     are = h.are;
     offsets = map {B = ℕ} (λ q. 0) h.fields;
     count = length-map {B = ℕ} h.fields (λ q. 0);
-    parts = ap parts_of (sym h.is);
+    parts = ap parts_in (sym h.is);
     align = h.align;
   }
 

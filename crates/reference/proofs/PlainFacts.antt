@@ -19,7 +19,7 @@ use Rattle.abi_calc.specs.Coroutine.Lists.{default_repr}
 use Rattle.abi_laid.specs.declared.mark.Mark.TheVariants.{Plain}
 use Rattle.abi_laid.specs.Tree.{Tree, struct, unit, never, pair as two_numbers, scalar as number_type, no_variants, more_variants, enum, no_trees, more_trees}
 use Rattle.abi_laid.specs.Placed.{Placed, scalar, pair, fields, single, never as nowhere, no_parts, part, size_of}
-use Rattle.reference.specs.Words.{Extent, align_of, extent_of, padding_needed_for, rounded_up}
+use Rattle.reference.specs.Words.{Extent, align_in_bytes, extent_of, padding_needed_for, rounded_up}
 use Rattle.reference.specs.Modifiers.{IsPacked, IsPackedWide, IsRaisable, IsRaised, IsRaisedEnum, LieClosely, LiePacked, positioned}
 use Rattle.reference.specs.Primitive.{HasPowerAlign, HoldsAddresses, IsAlignedBySize, IsSignless, IsSizedByTable, IsThin, IsUnit, IsWhole, IsWide}
 use Rattle.reference.specs.Transparent.{IsTransparent}
@@ -93,7 +93,7 @@ thin_of_twice_the_size h =
 wide_right : IsWide (Is (scalar (sized 8 3) pointer)) (two_numbers pointer (unsigned I64)) (pair (sized 16 3) no_parts)
 wide_right = λ thin there. (
   subst (λ p. size_of p ≤ 16) (sym there) (lit≤ tt),
-  subst (λ p. align_of p ≤ 8) (sym there) (lit≤ tt),
+  subst (λ p. align_in_bytes p ≤ 8) (sym there) (lit≤ tt),
 )
 
 wide_aligned_to_less : IsWide (Is (scalar (sized 8 3) pointer)) (two_numbers pointer (unsigned I64)) (pair (sized 16 2) no_parts) → ⊥
@@ -203,7 +203,7 @@ aligned_to n = record default_repr { align = Some n }
 
 raised_right : IsRaised (Is (pair_of 4 8 2)) (free (aligned_to 3)) (pair_of 4 8 3)
 raised_right = λ n is before there.
-    sym (ap₂ (λ (k : ℕ) (p : Placed). max (2 ^ k) (align_of p)) (sym (inj-Some 3 n is)) there)
+    sym (ap₂ (λ (k : ℕ) (p : Placed). max (2 ^ k) (align_in_bytes p)) (sym (inj-Some 3 n is)) there)
 
 -- `align(1)` lowers nothing
 lowered : IsRaised (Is (pair_of 4 8 2)) (free (aligned_to 0)) (pair_of 1 5 0) → ⊥
@@ -213,7 +213,7 @@ abbrev packed_to_16 : ReprOptions
 packed_to_16 = record default_repr { pack = Some 4 }
 
 wide_pack_right : IsPackedWide (Is (pair_of 4 8 2)) (free packed_to_16) (turned 8 2)
-wide_pack_right = λ n is before there le. sym (ap align_of there)
+wide_pack_right = λ n is before there le. sym (ap align_in_bytes there)
 
 wide_pack_raises : IsPackedWide (Is (pair_of 4 8 2)) (free packed_to_16) (turned 16 4) → ⊥
 wide_pack_raises h = absurd (let is : 16 ≡ 4 = h 4 refl (pair_of 4 8 2) refl (lit≤ tt) in omega (arith, is))
@@ -227,7 +227,7 @@ abbrev foreign_to : ℕ → ReprOptions
 foreign_to n = record c { align = Some n }
 
 raised_enum_right : IsRaisedEnum (Is (pair_of 4 8 3)) (enum_with (foreign_to 3)) (turned 8 3)
-raised_enum_right = λ n is foreign around same loose wrapped there. sym (ap align_of there)
+raised_enum_right = λ n is foreign around same loose wrapped there. sym (ap align_in_bytes there)
 
 raised_enum_left_alone : IsRaisedEnum (Is (pair_of 4 8 3)) (enum_with (foreign_to 3)) (turned 8 2) → ⊥
 raised_enum_left_alone h = absurd (let is : 4 ≡ 8 = h 3 refl (inl (inl refl)) (foreign_to 3) refl refl (pair_of 4 8 3) refl in omega (arith, is))
@@ -237,7 +237,7 @@ abbrev lone : (align : ℕ) → Placed
 lone align = single (sized 8 align) Plain 0 no_parts
 
 raised_free_enum_right : IsRaisedEnum (Is (pair_of 4 8 3)) (enum_with (aligned_to 3)) (lone 3)
-raised_free_enum_right = λ n is free_too around same loose wrapped there. sym (ap align_of there)
+raised_free_enum_right = λ n is free_too around same loose wrapped there. sym (ap align_in_bytes there)
 
 raised_free_enum_left_alone : IsRaisedEnum (Is (pair_of 4 8 3)) (enum_with (aligned_to 3)) (lone 2) → ⊥
 raised_free_enum_left_alone h =

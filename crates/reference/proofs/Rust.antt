@@ -16,15 +16,16 @@ use Rattle.abi_lists.specs.Placement.{cut, own_align, place_of, prefix_align, st
 use Rattle.abi_laid.specs.declared.mark.Mark.{Mark}
 use Rattle.abi_laid.specs.Mark.{mark_of}
 use Rattle.abi_laid.specs.Nodes.{parts_at}
-use Rattle.abi_laid.specs.Placed.{Placed, Layout, Parts, no_parts, part, fields, layout_of}
+use Rattle.abi_laid.specs.Placed.{Placed, Parts, no_parts, part, fields, layout_of}
+use Rattle.abi_scalar.specs.Layout.{Layout}
 use Rattle.abi_laid.specs.Tree.{Tree, Trees, scalar, pair, never, unit, array, vector, struct, union, enum, coroutine}
 use Rattle.rustc_abi.specs.Laying.{IsLaying, kind_of, randomized}
 use Rattle.rustc_abi.specs.Least.{fields_of}
 use Rattle.rustc_abi.specs.Lists.{offsets_of, types_of}
 use Rattle.rustc_abi.specs.Orders.{LiesAsAsked}
-use Rattle.reference.specs.Words.{Extent, align_of, extent_of, most_aligned, padding_needed_for}
+use Rattle.reference.specs.Words.{Extent, align_in_bytes, extent_of, most_aligned, padding_needed_for}
 use Rattle.reference.specs.Modifiers.{IsPacked, LieClosely, LiePacked, positioned}
-use Rattle.reference.specs.RustLayout.{AreAligned, DontOverlap, IsApart, places}
+use Rattle.reference.specs.RustLayout.{ArePartsAligned, DontOverlap, IsApart, places}
 use Rattle.reference.proofs.Lists.{align_same, extents_for, pow_min, rounded}
 use Rattle.reference.proofs.CStructs.{nothing_before}
 use Rattle.reference.proofs.Over.{struct_laid, struct_parts}
@@ -59,7 +60,7 @@ fields_apart dl pack parts size align h = (
 -- ---- each is aligned
 
 pub each_aligned : (dl : TargetDataLayout) (whole : ℕ) (parts : Parts) → All (IsFitting dl None) (with_places dl parts)
-    → most_aligned (map extent_of (fields_of parts)) ≤ whole → AreAligned whole parts
+    → most_aligned (map extent_of (fields_of parts)) ≤ whole → ArePartsAligned whole parts
 each_aligned dl whole no_parts h le = tt
 each_aligned dl whole (part offset placed parts) h le = (
   All-head (IsFitting dl None) (offset, part_of dl (layout_of placed)) (with_places dl parts) h,
@@ -69,7 +70,7 @@ each_aligned dl whole (part offset placed parts) h le = (
 
 pub aligned_by : (dl : TargetDataLayout) (repr : ReprOptions) (kind : StructKind) (from : ℕ) (parts : Parts) (order : List ℕ) (size align : ℕ)
     → repr.pack ≡ None → start_of repr.pack kind ≡ from
-    → IsPlacedBy dl repr kind (types_of parts) order (offsets_of parts) size align → AreAligned (2 ^ align) parts
+    → IsPlacedBy dl repr kind (types_of parts) order (offsets_of parts) size align → ArePartsAligned (2 ^ align) parts
 aligned_by dl repr kind from parts order size align loose start h =
     let begin : ℕ = max (max (own_align dl repr) (unwrap_or repr.align 0)) (prefix_align repr.pack kind) in
     let high : 2 ^ align ≡ max (2 ^ begin) (most_aligned (extents_for repr.pack (fields_of parts))) =
@@ -122,7 +123,7 @@ struct_row dl repr always_sized (Some order) all layout mark parts h =
     (nothing_before repr.pack always_sized (fields_of parts)) h
 
 pub struct_aligned : (dl : TargetDataLayout) (repr : ReprOptions) (always_sized : Bool) (order : Option (List ℕ)) (all : Trees) (layout : Layout) (mark : Mark) (parts : Parts)
-    → LiesAsAsked dl (struct repr always_sized order all) (fields layout mark parts) → repr.pack ≡ None → AreAligned (2 ^ layout.align.abi) parts
+    → LiesAsAsked dl (struct repr always_sized order all) (fields layout mark parts) → repr.pack ≡ None → ArePartsAligned (2 ^ layout.align.abi) parts
 struct_aligned dl repr always_sized None all layout mark parts h loose =
     aligned_by dl repr (kind_of always_sized (fields_of parts)) 0 parts h.0 layout.size layout.align.abi loose
     (nothing_before repr.pack always_sized (fields_of parts)) h.1
@@ -131,9 +132,9 @@ struct_aligned dl repr always_sized (Some order) all layout mark parts h loose =
     (nothing_before repr.pack always_sized (fields_of parts)) h
 
 -- fields at 0 are aligned, in a whole that is aligned as the greatest of them
-pub together_aligned : (whole : ℕ) (ps : List Placed) → most_aligned (map extent_of ps) ≤ whole → AreAligned whole (parts_at (map {B = ℕ} (λ q. 0) ps) ps)
+pub together_aligned : (whole : ℕ) (ps : List Placed) → most_aligned (map extent_of ps) ≤ whole → ArePartsAligned whole (parts_at (map {B = ℕ} (λ q. 0) ps) ps)
 together_aligned whole [] le = tt
-together_aligned whole (p ∷ ps) le = (dvd-zero (align_of p), omega arith, together_aligned whole ps (omega arith))
+together_aligned whole (p ∷ ps) le = (dvd-zero (align_in_bytes p), omega arith, together_aligned whole ps (omega arith))
 
 module _ (dl : TargetDataLayout) where
   pub known_apart : (t : Tree) (p : Placed) → IsLaying dl t (Ok p) → LiesAsAsked dl t p → IsApart t p

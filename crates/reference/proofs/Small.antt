@@ -27,14 +27,15 @@ use Rattle.abi_lists.specs.Fields.{greatest, greatest_align, greatest_size}
 use Rattle.abi_lists.specs.Placement.{cut}
 use Rattle.abi_lists.specs.Union.{raised_to, union_layout}
 use Rattle.abi_laid.specs.declared.mark.Mark.TheVariants.{Unit}
-use Rattle.abi_laid.specs.Placed.{Placed, Layout, layout_of, size_of, fields as placed_fields_of, no_parts}
+use Rattle.abi_laid.specs.Placed.{Placed, layout_of, size_of, fields as placed_fields_of, no_parts}
+use Rattle.abi_scalar.specs.Layout.{Layout}
 use Rattle.abi_laid.specs.Tree.{Tree, Trees, scalar, pair, never, unit, array, vector, struct, union, enum, coroutine}
 use Rattle.rustc_abi.specs.declared.error.LayError.{LayError}
 use Rattle.rustc_abi.specs.Error.{Follows}
 use Rattle.rustc_abi.specs.declared.error.LayError.TheVariants.{BadRange, UnknownSpace}
 use Rattle.rustc_abi.specs.ScalarFault.{has_range_within, is_lawful_primitive, is_lawful_spec, scalar_fault}
 use Rattle.rustc_abi.specs.Laying.{AreLaying, IsLaying, IsUnited, fields_fault, one_scalar, placed_together, unless}
-use Rattle.reference.specs.Words.{Extent, align_of, extent_of, largest, most_aligned, rounded_up}
+use Rattle.reference.specs.Words.{Extent, align_in_bytes, extent_of, largest, most_aligned, rounded_up}
 use Rattle.reference.specs.CUnion.{IsCUnion, c_union}
 use Rattle.reference.proofs.Answers.{faultless, inj-Ok, no_error}
 use Rattle.reference.specs.Primitive.{HasTableSize, IsAlignedBySize, IsSizedByTable, IsUnit}
@@ -51,7 +52,7 @@ one_byte align fits =
 pub laid_unit : (dl : TargetDataLayout) → IsLawfulDataLayout dl → (t : Tree) (p : Placed) → IsLaying dl t (Ok p) → IsUnit t p
 laid_unit dl law unit p h =
     let is : p ≡ placed_fields_of (unit_layout 0 dl true) Unit no_parts = inj-Ok _ _ h in
-    subst (λ q. (size_of q ≡ 0) × (align_of q ≡ 1)) (sym is) (refl, one_byte dl.i8_align (law.integers I8))
+    subst (λ q. (size_of q ≡ 0) × (align_in_bytes q ≡ 1)) (sym is) (refl, one_byte dl.i8_align (law.integers I8))
 laid_unit dl law (scalar s) p h = tt
 laid_unit dl law (pair a b) p h = tt
 laid_unit dl law never p h = tt
@@ -129,7 +130,7 @@ lawful_by dl s p false range e = absurd (no_error p UnknownSpace e)
 
 pub laid_by_size : (dl : TargetDataLayout) → IsLawfulDataLayout dl → (t : Tree) (p : Placed) → IsLaying dl t (Ok p) → IsAlignedBySize t p
 laid_by_size dl law (scalar s) p h =
-    subst (λ q. align_of q ≤ size_of q) (sym (faultless (one_scalar dl s) p (scalar_fault dl s) h))
+    subst (λ q. align_in_bytes q ≤ size_of q) (sym (faultless (one_scalar dl s) p (scalar_fault dl s) h))
     (no_less_large dl law (primitive_of s) (lawful_by dl s p (is_lawful_primitive dl (primitive_of s)) (has_range_within dl s) h))
 laid_by_size dl law unit p h = tt
 laid_by_size dl law (pair a b) p h = tt
@@ -150,7 +151,7 @@ greatest_aligned : (ps : List Placed) → 2 ^ greatest (map (λ (f : Layout). f.
 greatest_aligned [] = refl
 greatest_aligned (p ∷ ps) =
     pow_max (layout_of p).align.abi (greatest (map (λ (f : Layout). f.align.abi) (map same (map layout_of ps))))
-    ∙ ap (λ k. max (align_of p) k) (greatest_aligned ps)
+    ∙ ap (λ k. max (align_in_bytes p) k) (greatest_aligned ps)
 
 greatest_sized : (ps : List Placed) → greatest_size (map same (map layout_of ps)) ≡ largest (map extent_of ps)
 greatest_sized [] = refl

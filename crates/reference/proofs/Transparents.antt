@@ -28,15 +28,16 @@ use Rattle.abi_calc.specs.Enums.Answer.{IsTypeAnswer}
 use Rattle.abi_calc.specs.Enums.Path.{is_free, is_present, path_among, path_of, variant_at}
 use Rattle.abi_laid.specs.Mark.{mark_of}
 use Rattle.abi_laid.specs.Nodes.{parts_at}
-use Rattle.abi_laid.specs.Placed.{Placed, Layout, Parts, no_parts, part, layout_of, size_of, never as nowhere}
+use Rattle.abi_laid.specs.Placed.{Placed, Parts, no_parts, part, layout_of, size_of, never as nowhere}
+use Rattle.abi_scalar.specs.Layout.{Layout}
 use Rattle.abi_laid.specs.Tree.{Tree, Trees, no_trees, more_trees, Variants, no_variants, more_variants, scalar, pair, never, unit, array, vector, struct, union, enum, coroutine}
-use Rattle.rustc_abi.specs.Enums.{IsEnumed, IsTagInteger as IsAsking, discriminants_of, layouts_of, numbered_from}
+use Rattle.rustc_abi.specs.Enums.{IsEnumed, IsTagIntegerAnswer as IsAsking, discriminants_of, layouts_of, numbered_from}
 use Rattle.rustc_abi.specs.Everywhere.{OfEach, Within}
 use Rattle.rustc_abi.specs.Laying.{AreLaying, IsLaying, VariantsLaying, enum_fault, placed_enum, placed_fields, placed_variants}
 use Rattle.rustc_abi.specs.Least.{fields_of}
 use Rattle.rustc_abi.specs.Orders.{LiesAsAsked}
-use Rattle.reference.specs.Words.{Extent, HasPartForEach, align_of, extent_of, most_aligned}
-use Rattle.reference.specs.Transparent.{IsAlone, IsAsLargeAs, IsPlainTransparent, IsTransparent, is_one_zst, others, unit_extent}
+use Rattle.reference.specs.Words.{Extent, HasPartForEach, align_in_bytes, extent_of, most_aligned}
+use Rattle.reference.specs.Transparent.{IsOnlyField, IsAsLargeAs, IsPlainTransparent, IsTransparent, is_one_zst, others, unit_extent}
 use Rattle.reference.proofs.AlignFree.{list_count}
 use Rattle.reference.proofs.Answers.{laid_by}
 use Rattle.reference.proofs.Lists.{align_same, aligned_some, extents_for, part_for_each}
@@ -156,13 +157,13 @@ module _ (dl : TargetDataLayout) where
 
   most_others : (parts : Parts) → most_aligned (map extent_of (fields_of parts)) ≡ most_aligned (map extent_of (others parts))
   most_others no_parts = refl
-  most_others (part offset placed parts) = ap (max (align_of placed)) (most_others parts) ∙ by (is_one_zst placed) refl
+  most_others (part offset placed parts) = ap (max (align_in_bytes placed)) (most_others parts) ∙ by (is_one_zst placed) refl
     where
       by : (b : Bool) → is_one_zst placed ≡ b
-          → max (align_of placed) (most_aligned (map extent_of (others parts))) ≡ most_aligned (map extent_of (if b then others parts else placed ∷ others parts))
+          → max (align_in_bytes placed) (most_aligned (map extent_of (others parts))) ≡ most_aligned (map extent_of (if b then others parts else placed ∷ others parts))
       by true is =
-          let both = and_parts (size_of placed == 0) (align_of placed == 1) is in
-          let one : align_of placed ≡ 1 = eqb-true (align_of placed) 1 both.1 in
+          let both = and_parts (size_of placed == 0) (align_in_bytes placed == 1) is in
+          let one : align_in_bytes placed ≡ 1 = eqb-true (align_in_bytes placed) 1 both.1 in
           let some : 1 ≤ most_aligned (map extent_of (others parts)) = aligned_some (map extent_of (others parts)) in
           omega arith
       by false is = refl
@@ -205,9 +206,9 @@ module _ (dl : TargetDataLayout) where
       subst (All (λ p. size_of p ≡ size_of field)) (sym is) (All-cons (λ p. size_of p ≡ size_of field) field [] refl (All-nil (λ p. size_of p ≡ size_of field))) in
       let each : All P row.ordered = All-permutation P (with_places dl parts) row.ordered row.permuted (each_other (size_of field) parts sizes) in
       let end : row_end 0 row.ordered ≡ size_of field = one_room (size_of field) row.ordered each one row.row in
-      let some : 0 < align_of field = pow_pos (layout_of field).align.abi in
-      let alone : max 1 (max (align_of field) 1) ≡ align_of field = omega arith in
-      let same : 2 ^ align ≡ align_of field = high ∙ ap (max 1) (most_others parts ∙ ap (λ ps. most_aligned (map extent_of ps)) is) ∙ alone in
+      let some : 0 < align_in_bytes field = pow_pos (layout_of field).align.abi in
+      let alone : max 1 (max (align_in_bytes field) 1) ≡ align_in_bytes field = omega arith in
+      let same : 2 ^ align ≡ align_in_bytes field = high ∙ ap (max 1) (most_others parts ∙ ap (λ ps. most_aligned (map extent_of ps)) is) ∙ alone in
       let large : size ≡ size_of field =
       row.extent ∙ ap₂ next_multiple_of end same ∙ round_multiple (size_of field) (layout_of field).align.abi (All-head Fits field [] fit) in
       own ∙ ap₂ (λ (n a : ℕ). let e : Extent = record { size = n; align = a } in e) large same
@@ -228,7 +229,7 @@ module _ (dl : TargetDataLayout) where
       let least : least_align dl repr ≡ 0 =
       ap₂ (λ (pack raised : Option ℕ). max (if is_some pack then dl.i8_align else dl.aggregate_align) (unwrap_or raised 0)) plain.2 plain.1 ∙ omega (arith, byte) in
       let high : 2 ^ s.layout.align.abi ≡ max 1 (most_aligned (map extent_of (fields_of parts))) =
-      ap align_of s.is ∙ s.align
+      ap align_in_bytes s.is ∙ s.align
       ∙ ap₂ (λ (a : ℕ) (pack : Option ℕ). max (2 ^ a) (most_aligned (extents_for pack s.fields))) least plain.2
       ∙ ap (λ ps. max 1 (most_aligned (map extent_of ps))) (sym (fields_of-parts_at (listed_offsets s.layout.fields) s.fields s.count)) in
       as_large parts s.layout.size s.layout.align.abi (others parts) refl (all_fit all parts (struct_parts dl repr all p s) inside) high
@@ -272,7 +273,7 @@ module _ (dl : TargetDataLayout) where
     abbrev numbers : List ℕ
     numbers = discriminants_of lone
 
-    free_alone : IsAlone repr → is_free repr ≡ true
+    free_alone : IsOnlyField repr → is_free repr ≡ true
     free_alone alone = ap₂ (λ (b : Bool) (o : Option IntegerType). not (b || is_some o)) alone.0 alone.1
 
     one_as_large : (v : List Placed) (layout : Layout) → AreLaying dl ts (Ok v) → length (listed_offsets layout.fields) ≡ length v
@@ -296,7 +297,7 @@ module _ (dl : TargetDataLayout) where
     abbrev Holds : Placed → Type 0
     Holds q = LiesAsAsked dl (enum repr lone) q → Within dl (λ t p. IsLawfulLayout dl (layout_of p)) (enum repr lone) q → IsTransparent (enum repr lone) q
 
-    given : (v : List Placed) (layout : Layout) (vs : LayoutVariants ℕ ℕ) → layout.variants ≡ vs → AreLaying dl ts (Ok v) → (IsAlone repr → IsLone v layout)
+    given : (v : List Placed) (layout : Layout) (vs : LayoutVariants ℕ ℕ) → layout.variants ≡ vs → AreLaying dl ts (Ok v) → (IsOnlyField repr → IsLone v layout)
         → Holds (placed_variants dl repr numbers (v ∷ []) layout vs)
     given v layout Empty e are lies asked inside = λ plain alone. by (lies alone)
       where

@@ -47,14 +47,15 @@ use Rattle.abi_scalar.specs.Reserve.{reserved}
 use Rattle.abi_laid.specs.declared.mark.Mark.{Mark}
 use Rattle.abi_laid.specs.Mark.{mark_of}
 use Rattle.abi_laid.specs.Nodes.{parts_at}
-use Rattle.abi_laid.specs.Placed.{Placed, Layout, Parts, no_parts, part, Arms, no_arms, arm, layout_of, size_of, scalar as one_number, pair as two, never as nowhere, elements, vector as lanes_of, fields, union as together, single, tagged, states as in_states}
+use Rattle.abi_laid.specs.Placed.{Placed, Parts, no_parts, part, Arms, no_arms, arm, layout_of, size_of, scalar as one_number, pair as two, never as nowhere, elements, vector as lanes_of, fields, union as together, single, tagged, states as in_states}
+use Rattle.abi_scalar.specs.Layout.{Layout}
 use Rattle.abi_laid.specs.Tree.{Tree, Variants, scalar, pair, never, unit, array, vector, struct, union, enum, coroutine}
-use Rattle.rustc_abi.specs.Enums.{IsEnumed, IsTagInteger as IsAsking, arms_at, discriminants_of, layouts_of, numbered_from}
+use Rattle.rustc_abi.specs.Enums.{IsEnumed, IsTagIntegerAnswer as IsAsking, arms_at, discriminants_of, layouts_of, numbered_from}
 use Rattle.rustc_abi.specs.Laying.{IsLaying, enum_fault, one_scalar, placed_enum, placed_together, placed_variants}
 use Rattle.rustc_abi.specs.Orders.{LiesAsAsked}
 use Rattle.rustc_abi.specs.Least.{fields_of}
 use Rattle.rustc_abi.specs.Lists.{AreListsBeside, AreMovedLists, HasLeastLists, IsLeastList, MayMove, offsets_of, types_of}
-use Rattle.reference.specs.Words.{align_of, extent_of, most_aligned}
+use Rattle.reference.specs.Words.{align_in_bytes, extent_of, most_aligned}
 use Rattle.reference.specs.RustLayout.{AreAlignedIn, IsAligned}
 use Rattle.reference.proofs.Answers.{laid_by}
 use Rattle.reference.proofs.Lists.{align_same, aligned_some, extents_for, pow_max}
@@ -414,12 +415,12 @@ known_aligned dl law (struct repr always_sized order all) p h asked lists =
     (λ own. struct_aligned dl repr always_sized order all s.layout (mark_of false repr) (parts_at (listed_offsets s.layout.fields) s.fields) own) asked
 known_aligned dl law (union repr all) p h asked lists =
     let u = union_laid dl law repr all p h in
-    let high : align_of (placed_together repr u.fields u.layout) ≡ max (2 ^ least_align dl repr) (most_aligned (extents_for repr.pack u.fields)) =
-    ap align_of u.is ∙ u.align in
+    let high : align_in_bytes (placed_together repr u.fields u.layout) ≡ max (2 ^ least_align dl repr) (most_aligned (extents_for repr.pack u.fields)) =
+    ap align_in_bytes u.is ∙ u.align in
     subst (IsAligned (union repr all)) u.is (λ loose.
     let own : most_aligned (extents_for repr.pack u.fields) ≡ most_aligned (map extent_of u.fields) =
     ap (λ pack. most_aligned (extents_for pack u.fields)) loose in
-    together_aligned (align_of (placed_together repr u.fields u.layout)) u.fields (omega (arith, high, own)))
+    together_aligned (align_in_bytes (placed_together repr u.fields u.layout)) u.fields (omega (arith, high, own)))
 known_aligned dl law (enum repr all) p h asked lists = enum_aligned dl repr all p asked (enum_beside dl repr all p h lists)
 known_aligned dl law (scalar s) p h asked lists = tt
 known_aligned dl law (pair a b) p h asked lists = tt

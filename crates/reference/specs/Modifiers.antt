@@ -4,8 +4,9 @@ use Rattle.std.specs.Prelude.{◌≡◌, ℕ, ◌+◌, ◌^◌, ◌<◌, ◌≤�
 use Rattle.abi_scalar.specs.declared.repr.ReprOptions.{ReprOptions}
 use Rattle.abi_scalar.specs.Repr.{is_c}
 use Rattle.abi_laid.specs.Tree.{Tree, more_trees, no_trees, Variants, more_variants, struct, union, enum}
-use Rattle.abi_laid.specs.Placed.{Placed, Parts, no_parts, part, fields, single, tagged, parts_of, size_of}
-use Rattle.reference.specs.Words.{Extent, HasPartForEach, align_of, extent_of, extents_of, offsets_of, padding_needed_for, rounded_up}
+use Rattle.abi_laid.specs.Placed.{Placed, Parts, no_parts, part, fields, single, tagged, parts_in, size_of}
+use Rattle.reference.specs.Words.{Extent, HasPartForEach, align_in_bytes, extent_of, extents_of, padding_needed_for, rounded_up}
+use Rattle.rustc_abi.specs.Lists.{offsets_of}
 use Rattle.reference.specs.CStruct.{c_offsets, c_struct}
 use Rattle.reference.specs.Tags.{discriminants}
 
@@ -36,7 +37,7 @@ pub record LiePacked (bytes : ℕ) (parts : Parts) (size align : ℕ) : Type 0 w
 -- which order, only `repr(C)` says
 abbrev pub IsPacked : Tree → Placed → Type 0
 IsPacked (struct repr always_sized order all) placed =
-    (n : ℕ) → repr.pack ≡ Some n → LiePacked (2 ^ n) (parts_of placed) (size_of placed) (align_of placed)
+    (n : ℕ) → repr.pack ≡ Some n → LiePacked (2 ^ n) (parts_in placed) (size_of placed) (align_in_bytes placed)
 IsPacked _ placed = ⊤
 
 -- a packed `repr(C)` struct: the C algorithm with the cut alignments
@@ -73,7 +74,7 @@ module _ (HasLayout : Tree → Placed → Type 0) where
   -- `repr.alignment.align`: with `align(n)` the alignment is n, or that of the type without it where that is greater
   abbrev pub IsRaisedFrom : (bytes : ℕ) → (without : Tree) → Placed → Type 0
   IsRaisedFrom bytes without placed =
-      (before : Placed) → HasLayout without before → align_of placed ≡ max bytes (align_of before)
+      (before : Placed) → HasLayout without before → align_in_bytes placed ≡ max bytes (align_in_bytes before)
 
   abbrev pub IsRaised : Tree → Placed → Type 0
   IsRaised (struct repr always_sized order all) placed =
@@ -86,10 +87,10 @@ module _ (HasLayout : Tree → Placed → Type 0) where
   abbrev pub IsPackedWide : Tree → Placed → Type 0
   IsPackedWide (struct repr always_sized order all) placed =
       (n : ℕ) → repr.pack ≡ Some n → (before : Placed) → HasLayout (struct (unpacked repr) always_sized order all) before
-      → align_of before ≤ 2 ^ n → align_of placed ≡ align_of before
+      → align_in_bytes before ≤ 2 ^ n → align_in_bytes placed ≡ align_in_bytes before
   IsPackedWide (union repr all) placed =
       (n : ℕ) → repr.pack ≡ Some n → (before : Placed) → HasLayout (union (unpacked repr) all) before
-      → align_of before ≤ 2 ^ n → align_of placed ≡ align_of before
+      → align_in_bytes before ≤ 2 ^ n → align_in_bytes placed ≡ align_in_bytes before
   IsPackedWide _ placed = ⊤
 
   -- `repr.alignment.enum`: an enum under `align(n)` is aligned as a struct under it around the enum without it. Of an enum without
@@ -99,5 +100,5 @@ module _ (HasLayout : Tree → Placed → Type 0) where
       (n : ℕ) → repr.align ≡ Some n → IsRaisable repr (more_variants discriminant ts others) placed
       → (around : ReprOptions) → around.align ≡ Some n → around.pack ≡ None → (wrapped : Placed)
       → HasLayout (struct around true None (more_trees (enum (unaligned repr) (more_variants discriminant ts others)) no_trees)) wrapped
-      → align_of placed ≡ align_of wrapped
+      → align_in_bytes placed ≡ align_in_bytes wrapped
   IsRaisedEnum _ placed = ⊤

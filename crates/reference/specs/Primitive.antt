@@ -13,7 +13,7 @@ use Rattle.abi_base.specs.Integer.{integer_align}
 use Rattle.abi_scalar.specs.Scalar.{primitive_of}
 use Rattle.abi_laid.specs.Tree.{Tree, scalar, pair, unit}
 use Rattle.abi_laid.specs.Placed.{Placed, size_of}
-use Rattle.reference.specs.Words.{align_of, extent_of}
+use Rattle.reference.specs.Words.{align_in_bytes, extent_of}
 
 -- `primitive.size`: the table; `bool` is a byte and `char` four
 abbrev pub HasTableSize : Primitive → (size : ℕ) → Type 0
@@ -32,21 +32,21 @@ IsSizedByTable _ placed = ⊤
 
 -- `primitive.platform-specific-alignment`: it may be less than the size
 abbrev pub IsAlignedBySize : Tree → Placed → Type 0
-IsAlignedBySize (scalar s) placed = align_of placed ≤ size_of placed
+IsAlignedBySize (scalar s) placed = align_in_bytes placed ≤ size_of placed
 IsAlignedBySize _ placed = ⊤
 
 -- `tuple.unit`
 abbrev pub IsUnit : Tree → Placed → Type 0
-IsUnit unit placed = (size_of placed ≡ 0) × (align_of placed ≡ 1)
+IsUnit unit placed = (size_of placed ≡ 0) × (align_in_bytes placed ≡ 1)
 IsUnit _ placed = ⊤
 
 -- `properties.align`, of each type: a power of two, at least 1 and at most 2^29
 abbrev pub HasPowerAlign : Tree → Placed → Type 0
-HasPowerAlign tree placed = (n : ℕ) × (n ≤ 29) × (align_of placed ≡ 2 ^ n)
+HasPowerAlign tree placed = (n : ℕ) × (n ≤ 29) × (align_in_bytes placed ≡ 2 ^ n)
 
 -- `properties.size`, of each type
 abbrev pub IsWhole : Tree → Placed → Type 0
-IsWhole tree placed = align_of placed ∣ size_of placed
+IsWhole tree placed = align_in_bytes placed ∣ size_of placed
 
 -- `usize` is the integer that an index is. That this is as wide as a pointer, and aligned as one, a data layout need not say:
 -- `p:64:64:64:32` has narrow indices, and `p:64:64` beside `i64:32` an integer that is aligned to less.
@@ -71,7 +71,7 @@ HoldsAddresses dl _ placed = ⊤
 module _ (HasLayout : Tree → Placed → Type 0) where
   -- `pointer.unsized`: a pointer and what it brings along are no smaller and no less aligned than the pointer
   abbrev pub IsWide : Tree → Placed → Type 0
-  IsWide (pair a b) placed = (thin : Placed) → HasLayout (scalar a) thin → (size_of thin ≤ size_of placed) × (align_of thin ≤ align_of placed)
+  IsWide (pair a b) placed = (thin : Placed) → HasLayout (scalar a) thin → (size_of thin ≤ size_of placed) × (align_in_bytes thin ≤ align_in_bytes placed)
   IsWide _ placed = ⊤
 
   -- `primitive.integer-alignment`, and of sizes: an integer with a sign and one without are alike

@@ -2,28 +2,28 @@
 use Rattle.std.specs.Prelude.{◌≡◌, ℕ, ◌+◌, ◌≤◌, ⊤, List, [], ◌∷◌, None, IsPermutation}
 use Rattle.std.specs.Int.{◌∣◌}
 use Rattle.abi_laid.specs.Tree.{Tree, struct, union, enum}
-use Rattle.abi_laid.specs.Placed.{Placed, Parts, no_parts, part, Arms, no_arms, arm, fields, single, tagged, parts_of, size_of}
-use Rattle.reference.specs.Words.{HasPartForEach, align_of}
+use Rattle.abi_laid.specs.Placed.{Placed, Parts, no_parts, part, Arms, no_arms, arm, fields, single, tagged, parts_in, size_of}
+use Rattle.reference.specs.Words.{HasPartForEach, align_in_bytes}
 
 -- each offset is a multiple of the field's alignment, and the type's alignment is at least the field's
-abbrev pub AreAligned : (whole : ℕ) → Parts → Type 0
-AreAligned whole no_parts = ⊤
-AreAligned whole (part offset placed parts) =
-    (align_of placed ∣ offset) × (align_of placed ≤ whole) × AreAligned whole parts
+abbrev pub ArePartsAligned : (whole : ℕ) → Parts → Type 0
+ArePartsAligned whole no_parts = ⊤
+ArePartsAligned whole (part offset placed parts) =
+    (align_in_bytes placed ∣ offset) × (align_in_bytes placed ≤ whole) × ArePartsAligned whole parts
 
 -- the same of each variant's fields
 abbrev pub AreAlignedIn : (whole : ℕ) → Arms → Type 0
 AreAlignedIn whole no_arms = ⊤
-AreAlignedIn whole (arm number layout mark parts arms) = AreAligned whole parts × AreAlignedIn whole arms
+AreAlignedIn whole (arm number layout mark parts arms) = ArePartsAligned whole parts × AreAlignedIn whole arms
 
 -- of structs, unions and enums that aren't packed
 abbrev pub IsAligned : Tree → Placed → Type 0
-IsAligned (struct repr always_sized order all) placed = repr.pack ≡ None → AreAligned (align_of placed) (parts_of placed)
-IsAligned (union repr all) placed = repr.pack ≡ None → AreAligned (align_of placed) (parts_of placed)
+IsAligned (struct repr always_sized order all) placed = repr.pack ≡ None → ArePartsAligned (align_in_bytes placed) (parts_in placed)
+IsAligned (union repr all) placed = repr.pack ≡ None → ArePartsAligned (align_in_bytes placed) (parts_in placed)
 IsAligned (enum repr all) (single layout mark index parts) =
-    repr.pack ≡ None → AreAligned (align_of (single layout mark index parts)) parts
+    repr.pack ≡ None → ArePartsAligned (align_in_bytes (single layout mark index parts)) parts
 IsAligned (enum repr all) (tagged layout mark offset tag encoding arms) =
-    repr.pack ≡ None → AreAlignedIn (align_of (tagged layout mark offset tag encoding arms)) arms
+    repr.pack ≡ None → AreAlignedIn (align_in_bytes (tagged layout mark offset tag encoding arms)) arms
 IsAligned _ placed = ⊤
 
 -- where each field begins and how many bytes it has

@@ -5,11 +5,11 @@ use Rattle.abi_scalar.specs.declared.repr.ReprOptions.{ReprOptions}
 use Rattle.abi_scalar.specs.Repr.{is_c, is_transparent}
 use Rattle.abi_laid.specs.Tree.{Tree, no_variants, more_variants, struct, enum}
 use Rattle.abi_laid.specs.Placed.{Placed, Parts, no_parts, part, fields, never, single, size_of}
-use Rattle.reference.specs.Words.{Extent, align_of, extent_of}
+use Rattle.reference.specs.Words.{Extent, align_in_bytes, extent_of}
 
 -- size 0 and alignment 1
 abbrev pub is_one_zst : Placed → Bool
-is_one_zst placed = (size_of placed == 0) && (align_of placed == 1)
+is_one_zst placed = (size_of placed == 0) && (align_in_bytes placed == 1)
 
 -- the other fields
 abbrev pub others : Parts → List Placed
@@ -30,8 +30,8 @@ abbrev pub IsPlainTransparent : ReprOptions → Type 0
 IsPlainTransparent repr = (is_transparent repr ≡ true) × (repr.align ≡ None) × (repr.pack ≡ None)
 
 -- and with no other representation
-abbrev pub IsAlone : ReprOptions → Type 0
-IsAlone repr = (is_c repr ≡ false) × (repr.int ≡ None)
+abbrev pub IsOnlyField : ReprOptions → Type 0
+IsOnlyField repr = (is_c repr ≡ false) × (repr.int ≡ None)
 
 -- an enum whose variant is absent is as unit: each of its fields has size 0 and alignment 1
 abbrev pub IsTransparent : Tree → Placed → Type 0
@@ -39,8 +39,8 @@ IsTransparent (struct repr always_sized order all) (fields layout mark parts) =
     IsPlainTransparent repr → IsAsLargeAs (others parts) (fields layout mark parts)
 IsTransparent (struct repr always_sized order all) _ = IsPlainTransparent repr → ⊥
 IsTransparent (enum repr (more_variants discriminant ts no_variants)) (single layout mark index parts) =
-    IsPlainTransparent repr → IsAlone repr → IsAsLargeAs (others parts) (single layout mark index parts)
+    IsPlainTransparent repr → IsOnlyField repr → IsAsLargeAs (others parts) (single layout mark index parts)
 IsTransparent (enum repr (more_variants discriminant ts no_variants)) (never layout mark) =
-    IsPlainTransparent repr → IsAlone repr → extent_of (never layout mark) ≡ unit_extent
-IsTransparent (enum repr (more_variants discriminant ts no_variants)) _ = IsPlainTransparent repr → IsAlone repr → ⊥
+    IsPlainTransparent repr → IsOnlyField repr → extent_of (never layout mark) ≡ unit_extent
+IsTransparent (enum repr (more_variants discriminant ts no_variants)) _ = IsPlainTransparent repr → IsOnlyField repr → ⊥
 IsTransparent _ placed = ⊤

@@ -18,9 +18,10 @@ use Rattle.abi_scalar.specs.Range.{IsIn, full_range}
 use Rattle.abi_types.specs.Ty.Typed.{Marks, Typed, layout_in, marks_of, variant_in}
 use Rattle.abi_laid.specs.Tree.{Tree, never, struct, enum, coroutine, no_trees, more_trees, no_variants, more_variants, scalar as number_type}
 use Rattle.abi_laid.specs.Value.{Value, number, two, list, variant, state, bytes, no_values, more_values}
-use Rattle.abi_laid.specs.Bytes.{picked}
+use Rattle.abi_laid.specs.Bytes.{picked_bytes}
 use Rattle.abi_laid.specs.declared.mark.Mark.TheVariants.{Plain}
-use Rattle.abi_laid.specs.Placed.{Placed, Layout, layout_of, scalar, never as nowhere, fields, union, single, tagged, states, Parts, no_parts, part, Arms, no_arms, arm, nothing}
+use Rattle.abi_laid.specs.Placed.{Placed, layout_of, scalar, never as nowhere, fields, union, single, tagged, states, Parts, no_parts, part, Arms, no_arms, arm, nothing}
+use Rattle.abi_scalar.specs.Layout.{Layout}
 use Rattle.abi_laid.specs.Places.{is_data_place}
 use Rattle.abi_laid.specs.Runs.{padding_of, unused_of}
 use Rattle.abi_laid.specs.Seen.{Sees}
@@ -311,7 +312,7 @@ none_held_by_itself (bytes content) h = h
 abbrev either : Placed
 either = union (sized 4) Plain (part 0 u8_placed (part 0 (fields (sized 4) Plain (part 0 u8_placed (part 2 u8_placed (part 3 u8_placed no_parts)))) no_parts))
 
-data_bytes : picked (is_data_place either) 0 (10 ∷ 11 ∷ 12 ∷ 13 ∷ []) ≡ 10 ∷ 12 ∷ 13 ∷ []
+data_bytes : picked_bytes (is_data_place either) 0 (10 ∷ 11 ∷ 12 ∷ 13 ∷ []) ≡ 10 ∷ 12 ∷ 13 ∷ []
 data_bytes = refl
 
 union_held : Holds Little either (10 ∷ 11 ∷ 12 ∷ 13 ∷ []) (bytes (10 ∷ 12 ∷ 13 ∷ []))

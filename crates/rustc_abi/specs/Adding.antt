@@ -9,7 +9,8 @@ use Rattle.rustc_abi.specs.declared.error.LayError.{LayError}
 use Rattle.rustc_abi.specs.declared.error.LayError.TheVariants.{OutOfMemory}
 use Rattle.abi_laid.specs.declared.node.Node.{Node}
 use Rattle.abi_laid.specs.Tree.{Tree, array, vector, struct, union, enum, coroutine, Trees, no_trees, more_trees, trees, Variants, no_variants, more_variants}
-use Rattle.abi_laid.specs.Placed.{Placed, Layout, size_of, Arms}
+use Rattle.abi_laid.specs.Placed.{Placed, size_of, Arms}
+use Rattle.abi_scalar.specs.Layout.{Layout}
 use Rattle.abi_laid.specs.Fits.{Fits}
 use Rattle.abi_laid.specs.Nodes.{types_in, placed_at, arms_in, Keeps}
 use Rattle.abi_laid.specs.Well.{AreWell, all_at}

@@ -4,8 +4,8 @@ use Rattle.abi_laid.specs.Tree.{Tree, coroutine}
 use Rattle.abi_laid.specs.Placed.{Placed, states as placed_states, Parts, no_parts, part, Arms, parts_of_arm, size_of}
 
 -- two locals clash where some state holds both, or a pair of the conflicts names them, in either order
-abbrev pub DoClash : (states : List (List ℕ)) → (conflicts : List (ℕ × ℕ)) → (a b : ℕ) → Type 0
-DoClash states conflicts a b =
+abbrev pub DoLocalsClash : (states : List (List ℕ)) → (conflicts : List (ℕ × ℕ)) → (a b : ℕ) → Type 0
+DoLocalsClash states conflicts a b =
     ((state : List ℕ) × Contains states state × Contains state a × Contains state b) ⊎ Contains conflicts (a, b) ⊎ Contains conflicts (b, a)
 
 -- the part at this place is this type at this offset
@@ -20,13 +20,13 @@ HasLocal states arms local offset placed =
     (i : ℕ) × (state : List ℕ) × (place : ℕ) × (slice_get states i ≡ Some state) × (slice_get state place ≡ Some local) × IsPart (parts_of_arm arms i) place offset placed
 
 -- two different locals of a coroutine that clash share no byte, wherever states have them; of other types nothing is said
-abbrev pub AreClashingApart : Tree → Placed → Type 0
-AreClashingApart (coroutine prefix locals all conflicts) (placed_states layout pre offset tag arms) =
-    (a b o p : ℕ) (x y : Placed) → a ≢ b → DoClash all conflicts a b → HasLocal all arms a o x → HasLocal all arms b p y → (o + size_of x ≤ p) ⊎ (p + size_of y ≤ o)
-AreClashingApart _ placed = ⊤
+abbrev pub AreClashingLocalsApart : Tree → Placed → Type 0
+AreClashingLocalsApart (coroutine prefix locals all conflicts) (placed_states layout pre offset tag arms) =
+    (a b o p : ℕ) (x y : Placed) → a ≢ b → DoLocalsClash all conflicts a b → HasLocal all arms a o x → HasLocal all arms b p y → (o + size_of x ≤ p) ⊎ (p + size_of y ≤ o)
+AreClashingLocalsApart _ placed = ⊤
 
 -- a local of a coroutine lies at one offset, whatever states hold it; of other types nothing is said
-abbrev pub HaveOneOffset : Tree → Placed → Type 0
-HaveOneOffset (coroutine prefix locals all conflicts) (placed_states layout pre offset tag arms) =
+abbrev pub HaveLocalsOneOffset : Tree → Placed → Type 0
+HaveLocalsOneOffset (coroutine prefix locals all conflicts) (placed_states layout pre offset tag arms) =
     (local o p : ℕ) (x y : Placed) → HasLocal all arms local o x → HasLocal all arms local p y → o ≡ p
-HaveOneOffset _ placed = ⊤
+HaveLocalsOneOffset _ placed = ⊤

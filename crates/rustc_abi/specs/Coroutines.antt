@@ -1,6 +1,6 @@
 -- What a coroutine asks of its states and of the conflicts between its locals, and what the calculator answers to it.
-use Rattle.std.specs.Prelude.{◌≡◌, ℕ, ◌==◌, ◌&&◌, ◌||◌, Bool, List, filter, length, map, nat_le, Result, Ok, Err}
-use Rattle.std.specs.List.{list_any}
+use Rattle.std.specs.Prelude.{◌≡◌, ◌≢◌, ℕ, ◌==◌, ◌<◌, ◌&&◌, ◌||◌, All, Bool, List, filter, length, map, nat_le, Result, Ok, Err}
+use Rattle.std.specs.List.{AllPairs, list_any}
 use Rattle.abi_base.specs.declared.data_layout.TargetDataLayout.{TargetDataLayout}
 use Rattle.abi_index.specs.Relation.{Relation}
 use Rattle.abi_scalar.specs.declared.error.LayoutCalculatorError.{LayoutCalculatorError}
@@ -9,8 +9,13 @@ use Rattle.abi_scalar.specs.declared.scalar.Scalar.{Scalar}
 use Rattle.abi_lists.specs.Placement.{source_order}
 use Rattle.abi_calc.specs.Coroutine.Answer.{IsCoroutineAnswer}
 use Rattle.rustc_abi.specs.declared.error.LayError.{LayError}
-use Rattle.abi_laid.specs.Placed.{Placed, Layout, layout_of}
+use Rattle.abi_laid.specs.Placed.{Placed, layout_of}
+use Rattle.abi_scalar.specs.Layout.{Layout}
 use Rattle.rustc_abi.specs.Error.{lay_error}
+
+-- a state holds these locals: they differ, and each is one of so many
+abbrev pub IsHeld : (count : ℕ) → List ℕ → Type 0
+IsHeld count locals = All (λ local. local < count) locals × AllPairs (λ a b. a ≢ b) locals
 
 -- a state or a conflict names a local that is none of so many
 abbrev pub names_unknown : (locals : ℕ) → (states : List (List ℕ)) → (conflicts : List (ℕ × ℕ)) → Bool

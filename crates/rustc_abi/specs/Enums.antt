@@ -21,7 +21,8 @@ use Rattle.abi_calc.specs.Enums.Path.{path_of}
 use Rattle.rustc_abi.specs.declared.error.LayError.{LayError}
 use Rattle.abi_laid.specs.Tree.{Variants, no_variants, more_variants}
 use Rattle.abi_laid.specs.declared.mark.Mark.{Mark}
-use Rattle.abi_laid.specs.Placed.{Placed, Layout, layout_of, Arms, no_arms, arm}
+use Rattle.abi_laid.specs.Placed.{Placed, layout_of, Arms, no_arms, arm}
+use Rattle.abi_scalar.specs.Layout.{Layout}
 use Rattle.abi_laid.specs.Nodes.{parts_at}
 use Rattle.rustc_abi.specs.Error.{lay_error}
 
@@ -72,8 +73,8 @@ tag_integer dl repr least greatest =
     (least_integer (least_tag dl repr) least greatest, is_negative least)
 
 -- the same as what is answered where the calculator asks for it
-abbrev pub IsTagInteger : TargetDataLayout → ReprOptions → RangeFrom ℤ → RangeToInclusive ℕ → Integer × Bool → Type 0
-IsTagInteger dl repr from to answer = answer ≡ tag_integer dl repr from.start to.last
+abbrev pub IsTagIntegerAnswer : TargetDataLayout → ReprOptions → RangeFrom ℤ → RangeToInclusive ℕ → Integer × Bool → Type 0
+IsTagIntegerAnswer dl repr from to answer = answer ≡ tag_integer dl repr from.start to.last
 
 -- ---- the calculator's answer
 
@@ -93,7 +94,7 @@ counted repr numbers variants = counting_of (λ i. i) repr (layouts_of variants)
 -- the calculator's answer to these variants with these discriminants
 abbrev pub IsCalculated : TargetDataLayout → ReprOptions → (numbers : List ℕ) → List (List Placed) → Result Layout (LayoutCalculatorError Placed) → Type 0
 IsCalculated dl repr numbers variants =
-    IsTypeAnswer layout_of (λ i. i) (λ i. i) (λ i. i) (λ i. i) dl repr variants true true Enabled (IsTagInteger dl repr)
+    IsTypeAnswer layout_of (λ i. i) (λ i. i) (λ i. i) (λ i. i) dl repr variants true true Enabled (IsTagIntegerAnswer dl repr)
     (λ items. items ≡ numbered_from 0 numbers) (path_of true repr (layouts_of variants))
 
 -- the same, memory aside, with its refusal by the name that a tree's layout has for it

@@ -5,7 +5,7 @@ use Rattle.abi_laid.specs.Tree.{Tree, scalar, pair, never, unit, array, vector, 
 use Rattle.abi_laid.specs.Tree.{Trees, no_trees, more_trees, Variants, no_variants, more_variants}
 use Rattle.abi_laid.specs.Placed.{Placed, never as nowhere, single, tagged, states as placed_states, Parts, Arms}
 use Rattle.abi_laid.specs.Placed.{no_arms, arm}
-use Rattle.abi_laid.specs.Placed.{element_of, parts_of, first_part, more_parts}
+use Rattle.abi_laid.specs.Placed.{element_of, parts_in, first_part, more_parts}
 use Rattle.abi_laid.specs.Nodes.{parts_at_0, placed_in}
 use Rattle.rustc_abi.specs.Laying.{AreLaying}
 use Rattle.rustc_abi.specs.Least.{fields_of}
@@ -32,8 +32,8 @@ module _ (dl : TargetDataLayout) (P : Tree → Placed → Type 0) where
     Within unit placed = ⊤
     Within (array count element) placed = P element (element_of placed) × Within element (element_of placed)
     Within (vector lanes packed element) placed = P element (element_of (element_of placed)) × Within element (element_of (element_of placed))
-    Within (struct repr always_sized order all) placed = OfEach all (parts_of placed)
-    Within (union repr all) placed = OfEach all (parts_of placed)
+    Within (struct repr always_sized order all) placed = OfEach all (parts_in placed)
+    Within (union repr all) placed = OfEach all (parts_in placed)
     Within (enum repr all) (nowhere layout mark) = OfAbsent all
     Within (enum repr all) (single layout mark index parts) = OfVariant all index parts
     Within (enum repr all) (tagged layout mark offset tag encoding arms) = OfArms all arms

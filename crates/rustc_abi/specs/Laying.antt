@@ -27,7 +27,8 @@ use Rattle.abi_calc.specs.Enums.Path.{variant_at}
 use Rattle.rustc_abi.specs.declared.error.LayError.{LayError}
 use Rattle.rustc_abi.specs.declared.error.LayError.TheVariants.{BadIndex, BadAlign, BadOrder, DuplicateDiscriminant, DiscriminantTooWide, NoState, LocalTwice, SizeOverflow}
 use Rattle.abi_laid.specs.Tree.{Tree, scalar, pair, never, unit, array, vector, struct, union, enum, coroutine, Trees, no_trees, more_trees, Variants, no_variants, more_variants}
-use Rattle.abi_laid.specs.Placed.{Placed, Layout, layout_of, scalar as placed_scalar, pair as placed_pair, never as placed_never, elements, vector as placed_vector, fields, union as placed_union, single as placed_single, tagged as placed_tagged, states as placed_states, no_parts, part}
+use Rattle.abi_laid.specs.Placed.{Placed, layout_of, scalar as placed_scalar, pair as placed_pair, never as placed_never, elements, vector as placed_vector, fields, union as placed_union, single as placed_single, tagged as placed_tagged, states as placed_states, no_parts, part}
+use Rattle.abi_scalar.specs.Layout.{Layout}
 use Rattle.abi_laid.specs.declared.mark.Mark.TheVariants.{Never, Plain, Unit}
 use Rattle.abi_laid.specs.Mark.{mark_of}
 use Rattle.abi_laid.specs.Nodes.{parts_at, parts_at_0, placed_in, state_tag_offset, tag_offset}
@@ -90,10 +91,10 @@ abbrev pub has_bad_align : ReprOptions → Bool
 has_bad_align repr = is_above_limit repr.align || is_above_limit repr.pack
 
 -- the calculator's answer to a list of layouts, with its refusal by that name
-abbrev pub IsListed : TargetDataLayout → ReprOptions → StructKind → List Layout → Result Layout LayError → Type 0
-IsListed dl repr kind layouts (Ok layout) =
+abbrev pub IsLaidList : TargetDataLayout → ReprOptions → StructKind → List Layout → Result Layout LayError → Type 0
+IsLaidList dl repr kind layouts (Ok layout) =
     (order : List ℕ) × (offsets : List ℕ) × IsListLayout (λ i. i) 0 dl repr kind layouts order offsets layout
-IsListed dl repr kind layouts (Err e) =
+IsLaidList dl repr kind layouts (Err e) =
     (error : LayoutCalculatorError Layout) × IsListError (λ l. l) dl repr kind layouts error × (e ≡ lay_error error)
 
 -- fields as parts of a struct with this layout
@@ -109,7 +110,7 @@ fields_fault repr ps =
 abbrev pub IsFieldsAnswer : TargetDataLayout → ReprOptions → (always_sized : Bool) → List Placed → Result Placed LayError → Type 0
 IsFieldsAnswer dl repr always_sized ps r =
     MatchOption (fields_fault repr ps)
-    (Follows (IsListed dl repr (kind_of always_sized ps) (map layout_of ps)) (λ layout r. r ≡ Ok (placed_fields repr ps layout)) r)
+    (Follows (IsLaidList dl repr (kind_of always_sized ps) (map layout_of ps)) (λ layout r. r ≡ Ok (placed_fields repr ps layout)) r)
     (λ e. r ≡ Err e)
 
 -- the same repr, under which fields may lie in any order

@@ -26,7 +26,7 @@ use Rattle.abi_laid.specs.Placed.{states as placed_states}
 use Rattle.abi_laid.specs.Placed.{Parts, no_parts, part, Arms, no_arms, arm, element_of, layout_of, size_of}
 use Rattle.rustc_abi.specs.ScalarFault.{scalar_fault}
 use Rattle.rustc_abi.specs.Coroutines.{conflicts_of}
-use Rattle.rustc_abi.specs.Enums.{IsTagInteger, counted, discriminants_of, layouts_of}
+use Rattle.rustc_abi.specs.Enums.{IsTagIntegerAnswer, counted, discriminants_of, layouts_of}
 use Rattle.rustc_abi.specs.Laying.{IsLaying, AreLaying, VariantsLaying, coroutine_fault, enum_fault, fields_fault, kind_of, one_scalar}
 use Rattle.rustc_abi.specs.Laying.{ordered_fault, randomized}
 
@@ -36,15 +36,15 @@ fields_of no_parts = []
 fields_of (part offset placed parts) = placed ∷ fields_of parts
 
 -- the laid-out fields of variants beside a tag
-abbrev pub variants_of : Arms → List (List Placed)
-variants_of no_arms = []
-variants_of (arm number layout mark parts arms) = fields_of parts ∷ variants_of arms
+abbrev pub fields_of_arms : Arms → List (List Placed)
+fields_of_arms no_arms = []
+fields_of_arms (arm number layout mark parts arms) = fields_of parts ∷ fields_of_arms arms
 
 -- several variants with these discriminants have the size that their lists allow: with a niche, where these leave room for one, else
 -- behind a tag
 abbrev pub IsEnumSized : TargetDataLayout → ReprOptions → (numbers : List ℕ) → List (List Placed) → (size : ℕ) → Type 0
 IsEnumSized dl repr numbers variants size =
-    HasEnumSize layout_of (λ i. i) 0 dl repr (IsTagInteger dl repr) (counted repr numbers variants) variants size
+    HasEnumSize layout_of (λ i. i) 0 dl repr (IsTagIntegerAnswer dl repr) (counted repr numbers variants) variants size
 
 -- variants with these discriminants are too large: the one that is left is in each order of its list, and of several one's list behind
 -- the tag is in each order, or the tagged size is
@@ -52,7 +52,7 @@ abbrev pub IsTooLargeBy : TargetDataLayout → ReprOptions → (numbers : List �
 IsTooLargeBy dl repr numbers variants NoValue = ⊥
 IsTooLargeBy dl repr numbers variants (OneList i) = IsEachOrderTooLarge dl repr AlwaysSized (map layout_of (variant_at variants i))
 IsTooLargeBy dl repr numbers variants Several =
-    (repr.pack ≡ None) × IsAskedTooLarge dl repr (IsTagInteger dl repr) (counted repr numbers variants) (layouts_of variants)
+    (repr.pack ≡ None) × IsAskedTooLarge dl repr (IsTagIntegerAnswer dl repr) (counted repr numbers variants) (layouts_of variants)
 
 -- an enum is too large, by the way in which it is laid out
 abbrev pub IsEnumTooLarge : TargetDataLayout → ReprOptions → (numbers : List ℕ) → List (List Placed) → Type 0
@@ -110,7 +110,7 @@ IsLeastEnum dl repr numbers variants (OneList i) (single layout mark index parts
     (index ≡ i) × (fields_of parts ≡ variant_at variants i)
     × IsLeastSize dl repr AlwaysSized (map layout_of (variant_at variants i)) layout.size
 IsLeastEnum dl repr numbers variants Several (tagged layout mark offset tag encoding arms) =
-    (variants_of arms ≡ variants) × IsEnumSized dl repr numbers variants layout.size
+    (fields_of_arms arms ≡ variants) × IsEnumSized dl repr numbers variants layout.size
 IsLeastEnum dl repr numbers variants _ _ = ⊥
 
 module _ (dl : TargetDataLayout) where

@@ -19,12 +19,13 @@ use Rattle.abi_calc.specs.Enums.Lists.{behind_tag}
 use Rattle.abi_calc.specs.Enums.Several.{IsAskedFor}
 use Rattle.abi_lists.specs.Least.{IsLeastSize, IsPlacedBy, align_by}
 use Rattle.abi_laid.specs.Tree.{Tree, struct, enum, coroutine}
-use Rattle.abi_laid.specs.Placed.{Placed, Layout, fields, single, tagged, states as placed_states}
+use Rattle.abi_laid.specs.Placed.{Placed, fields, single, tagged, states as placed_states}
+use Rattle.abi_scalar.specs.Layout.{Layout}
 use Rattle.abi_laid.specs.Placed.{Parts, no_parts, part, Arms, no_arms, arm, layout_of, size_of}
 use Rattle.rustc_abi.specs.Coroutines.{conflicts_of}
-use Rattle.rustc_abi.specs.Enums.{IsTagInteger, counted, discriminants_of, layouts_of}
+use Rattle.rustc_abi.specs.Enums.{IsTagIntegerAnswer, counted, discriminants_of, layouts_of}
 use Rattle.rustc_abi.specs.Laying.{AreLaying, kind_of}
-use Rattle.rustc_abi.specs.Least.{fields_of, variants_of}
+use Rattle.rustc_abi.specs.Least.{fields_of, fields_of_arms}
 
 -- where parts lie
 abbrev pub offsets_of : Parts → List ℕ
@@ -79,9 +80,9 @@ abbrev pub AreLeastVariants : TargetDataLayout → ReprOptions → (numbers : Li
     → TagEncoding ℕ → Arms → Type 0
 AreLeastVariants dl repr numbers whole place tag Direct arms =
     (asked : Integer) × (signed : Bool)
-    × IsAskedFor dl repr (IsTagInteger dl repr) (counted repr numbers (variants_of arms)) asked signed
+    × IsAskedFor dl repr (IsTagIntegerAnswer dl repr) (counted repr numbers (fields_of_arms arms)) asked signed
     × (integer_size asked ≤ size_of tag)
-    × AreMovedLists dl repr (behind_tag dl repr asked (layouts_of (variants_of arms)))
+    × AreMovedLists dl repr (behind_tag dl repr asked (layouts_of (fields_of_arms arms)))
     (moved (integer_size asked) (size_of tag)) arms
 AreLeastVariants dl repr numbers whole place tag (Niche untagged span start) arms =
     AreListsBeside dl repr place (size_of tag) whole untagged 0 arms

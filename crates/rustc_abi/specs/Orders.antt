@@ -6,7 +6,8 @@ use Rattle.abi_base.specs.declared.struct_kind.StructKind.TheVariants.{AlwaysSiz
 use Rattle.abi_scalar.specs.declared.repr.ReprOptions.{ReprOptions}
 use Rattle.abi_lists.specs.Least.{IsPlacedBy}
 use Rattle.abi_laid.specs.Tree.{Tree, struct, enum}
-use Rattle.abi_laid.specs.Placed.{Placed, Layout, Parts, fields, single}
+use Rattle.abi_laid.specs.Placed.{Placed, Parts, fields, single}
+use Rattle.abi_scalar.specs.Layout.{Layout}
 use Rattle.rustc_abi.specs.Laying.{kind_of, randomized}
 use Rattle.rustc_abi.specs.Least.{fields_of}
 use Rattle.rustc_abi.specs.Lists.{offsets_of, types_of}

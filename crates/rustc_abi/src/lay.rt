@@ -17,7 +17,7 @@ ghost use Rattle.abi_laid.specs.Places.{is_data_place};
 ghost use Rattle.abi_laid.specs.Runs.{is_place_of_variant};
 ghost use Rattle.abi_types.specs.Ty.Runs.{IsVariantIndex};
 ghost use Rattle.abi_types.specs.Ty.Walks.{is_sized};
-ghost use Rattle.rustc_abi.specs.Clash.{AreClashingApart, HaveOneOffset};
+ghost use Rattle.rustc_abi.specs.Clash.{AreClashingLocalsApart, HaveLocalsOneOffset};
 ghost use Rattle.rustc_abi.specs.Count.{HasNodes};
 ghost use Rattle.rustc_abi.specs.Everywhere.{Everywhere};
 ghost use Rattle.rustc_abi.specs.Inhabited.{EachHasValue, EachInhabited};
@@ -83,8 +83,8 @@ pub fn lay_out(alloc: Global, dl: &TargetDataLayout, tree: &TypeTree) -> Result<
         IsErrAnd result (λ e. (e ≡ LayError.SizeOverflow) ⊎ (e ≡ LayError.OutOfMemory)) }
 
     // What the locals of each coroutine in it share, and with how many nodes it is laid out.
-    ensures clash { IfOk result (λ laid. Everywhere dl.now AreClashingApart (tree_of tree.now) (placed_of laid)) }
-    ensures one_offset { IfOk result (λ laid. Everywhere dl.now HaveOneOffset (tree_of tree.now) (placed_of laid)) }
+    ensures clash { IfOk result (λ laid. Everywhere dl.now AreClashingLocalsApart (tree_of tree.now) (placed_of laid)) }
+    ensures one_offset { IfOk result (λ laid. Everywhere dl.now HaveLocalsOneOffset (tree_of tree.now) (placed_of laid)) }
     ensures counted { IfOk result (λ laid. HasNodes dl.now (tree_of tree.now) (node_count_of laid)) }
 
     // Whether each type in it has values, that it is sized, and which bytes are data places, as its handle tells.

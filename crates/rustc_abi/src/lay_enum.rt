@@ -10,7 +10,7 @@ ghost use Rattle.abi_lists.specs.List.{HasLawfulAligns};
 ghost use Rattle.abi_laid.specs.Tree.{Variants as VariantTrees, enum};
 ghost use Rattle.abi_laid.specs.Placed.{Placed, layout_of, size_of, tagged};
 ghost use Rattle.abi_laid.specs.Nodes.{encoding_of, tag_offset};
-ghost use Rattle.rustc_abi.specs.Enums.{IsEnumed, IsTagInteger, arms_at, discriminants_of, has_equal, is_discriminant, layouts_of};
+ghost use Rattle.rustc_abi.specs.Enums.{IsEnumed, IsTagIntegerAnswer, arms_at, discriminants_of, has_equal, is_discriminant, layouts_of};
 ghost use Rattle.rustc_abi.specs.Laying.{IsEnumOf, VariantsLaying, enum_fault, most_fields, one_scalar, placed_enum};
 ghost use Rattle.rustc_abi.specs.Inside.{VariantsInside};
 ghost use Rattle.abi_laid.specs.Laws.{have_places};
@@ -112,7 +112,7 @@ where
     requires narrow { list_all (is_discriminant dl.now repr.now) numbers.now ≡ true }
     requires callable { D.IsAlwaysCallable discr_range_of_repr }
     requires asked { (from : _) (to : _) (answer : _) → D.post discr_range_of_repr from to answer →
-        IsTagInteger dl.now repr.now from to answer }
+        IsTagIntegerAnswer dl.now repr.now from to answer }
     ensures ok { IfOk result (λ l. (all : List (List Placed)) →
         map (map (λ lent. lent.now)) variants.now ≡ layouts_of all → IsEnumed dl.now repr.now numbers.now all (Ok l)) }
     ensures err { IfErr result (λ e. (all : List (List Placed)) →

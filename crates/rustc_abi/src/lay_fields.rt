@@ -9,7 +9,7 @@ ghost use Rattle.abi_lists.specs.List.{HasLawfulAligns};
 ghost use Rattle.abi_lists.specs.ListNiche.{IsNicheOfPart};
 ghost use Rattle.abi_laid.specs.Tree.{Trees, struct};
 ghost use Rattle.abi_laid.specs.Placed.{Placed, layout_of, size_of};
-ghost use Rattle.rustc_abi.specs.Laying.{AreLaying, IsFieldsAnswer, IsListed, fields_fault, has_bad_align, has_bad_index, is_above_limit, kind_of, most_fields};
+ghost use Rattle.rustc_abi.specs.Laying.{AreLaying, IsFieldsAnswer, IsLaidList, fields_fault, has_bad_align, has_bad_index, is_above_limit, kind_of, most_fields};
 ghost use Rattle.rustc_abi.specs.Error.{IsRefused};
 ghost use Rattle.abi_laid.specs.Well.{all_at};
 ghost use Rattle.rustc_abi.specs.Adding.{AreStillThere, EachFits, IsAdded};
@@ -100,10 +100,10 @@ fn fields_layout(
     requires data_layout { IsLawfulDataLayout dl.now }
     requires there { All (λ child. child < length nodes.now) children.now }
     requires lawful { All (λ p. IsLawfulLayout dl.now (layout_of p)) (all_at nodes.now children.now) }
-    ensures ok { IfOk result (λ l. IsListed dl.now repr.now kind
+    ensures ok { IfOk result (λ l. IsLaidList dl.now repr.now kind
         (map layout_of (all_at nodes.now children.now)) (Ok l)) }
     ensures err { IfErr result (IsRefused
-        (IsListed dl.now repr.now kind (map layout_of (all_at nodes.now children.now)))) }
+        (IsLaidList dl.now repr.now kind (map layout_of (all_at nodes.now children.now)))) }
     ensures lawful { IfOk result (IsLawfulLayout dl.now) }
     ensures apart { IfOk result (λ l.
         AreApart l.size (listed_offsets l.fields) (map size_of (all_at nodes.now children.now))) }

@@ -7,10 +7,11 @@ use Rattle.abi_types.specs.Ty.Lawful.{IsLawfulType}
 use Rattle.abi_types.specs.Ty.Typed.{Typed, typed, no_type, field_in, layout_in}
 use Rattle.abi_laid.specs.Bytes.{bytes_at}
 use Rattle.abi_laid.specs.Holding.{HoldParts, Holds, IsAt}
-use Rattle.abi_laid.specs.Placed.{Placed, Layout, scalar, pair, never, elements, vector, fields, union, single, tagged, states, Parts, no_parts, part, layout_of, size_of}
+use Rattle.abi_laid.specs.Placed.{Placed, scalar, pair, never, elements, vector, fields, union, single, tagged, states, Parts, no_parts, part, layout_of, size_of}
+use Rattle.abi_scalar.specs.Layout.{Layout}
 use Rattle.abi_laid.specs.Seen.{HasOffset, Sees, SeesParts}
 use Rattle.abi_laid.specs.Value.{Value, Values, no_values, more_values, list}
-use Rattle.uses.specs.Field.{HasField, IsPartOf, value_at}
+use Rattle.uses.specs.Field.{HasFieldAt, IsPartOf, value_at}
 
 -- ---- as handles see them
 
@@ -39,7 +40,7 @@ seen_part t from (part offset placed parts) (suc i) o p s h =
     let e : suc from + i ≡ from + suc i = omega arith in
     subst (λ j. IsSeenAt t j o p) e (seen_part t (suc from) parts i o p s.2 h)
 
-seen_field : (t : Typed) (placed : Placed) (i o : ℕ) (p : Placed) → Sees t placed → HasField placed i o p → IsSeenAt t i o p
+seen_field : (t : Typed) (placed : Placed) (i o : ℕ) (p : Placed) → Sees t placed → HasFieldAt placed i o p → IsSeenAt t i o p
 seen_field t (fields layout mark parts) i o p s h =
     let e : 0 + i ≡ i = omega arith in
     subst (λ j. IsSeenAt t j o p) e (seen_part t 0 parts i o p s.1 h)
@@ -47,7 +48,7 @@ seen_field t _ i o p s h = absurd h
 
 -- where a field was looked up, and how large
 pub field_there : (t u : Typed) (placed : Placed) (layout own : Layout) (i o n : ℕ) → Sees t placed → layout ≡ layout_of placed → o ≡ field_offset layout.fields i →
-    u ≡ field_in t i → layout_in u ≡ own → n ≡ own.size → (offset : ℕ) (field : Placed) → HasField placed i offset field → (o ≡ offset) × (n ≡ size_of field)
+    u ≡ field_in t i → layout_in u ≡ own → n ≡ own.size → (offset : ℕ) (field : Placed) → HasFieldAt placed i offset field → (o ≡ offset) × (n ≡ size_of field)
 field_there t u placed layout own i o n s is at of_type beside large offset field h =
     let seen = seen_field t placed i offset field s h in
     let here : layout ≡ layout_in t = is ∙ sym (layout-Sees t placed s) in
@@ -77,7 +78,7 @@ held_part order (part offset placed parts) zero o p b (more_values w vs) v h g e
 held_part order (part offset placed parts) (suc i) o p b (more_values w vs) v h g e = held_part order parts i o p b vs v h g.1 e
 
 -- a field's own slice holds its value
-pub held_field : (order : Endian) (placed : Placed) (i o : ℕ) (p : Placed) (b : List ℕ) (vs : Values) (v : Value) → HasField placed i o p → Holds order placed b (list vs) →
+pub held_field : (order : Endian) (placed : Placed) (i o : ℕ) (p : Placed) (b : List ℕ) (vs : Values) (v : Value) → HasFieldAt placed i o p → Holds order placed b (list vs) →
     value_at vs i ≡ Some v → Holds order p (bytes_at b o (size_of p)) v
 held_field order (fields layout mark parts) i o p b vs v h g e = (held_part order parts i o p b vs v h g.1 e).1
 held_field order _ i o p b vs v h g e = absurd h
@@ -91,7 +92,7 @@ part_fits order (part offset placed parts) zero o p b (more_values w vs) h g =
 part_fits order (part offset placed parts) (suc i) o p b (more_values w vs) h g = part_fits order parts i o p b vs h g.1
 
 -- and it lies inside the bytes
-pub field_fits : (order : Endian) (placed : Placed) (i o : ℕ) (p : Placed) (b : List ℕ) (vs : Values) → HasField placed i o p → Holds order placed b (list vs) → o + size_of p ≤ length b
+pub field_fits : (order : Endian) (placed : Placed) (i o : ℕ) (p : Placed) (b : List ℕ) (vs : Values) → HasFieldAt placed i o p → Holds order placed b (list vs) → o + size_of p ≤ length b
 field_fits order (fields layout mark parts) i o p b vs h g = part_fits order parts i o p b vs h g.1
 field_fits order _ i o p b vs h g = absurd h
 

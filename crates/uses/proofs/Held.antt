@@ -16,7 +16,7 @@ use Rattle.abi_laid.specs.Placed.{Placed, scalar, pair, never, elements, vector,
 use Rattle.abi_laid.specs.Reading.{KeepsValues}
 use Rattle.abi_laid.specs.Tree.{Tree}
 use Rattle.abi_laid.specs.Value.{Value, number, two, list, variant, state, bytes, Values, more_values, layer_value, value_of, values_of}
-use Rattle.uses.specs.Field.{IsAnswer, value_at, with_value}
+use Rattle.uses.specs.Field.{IsValueFound, value_at, with_value}
 
 -- bytes that hold a value are as many as the type is large
 pub length-Holds : (order : Endian) (placed : Placed) (b : List ℕ) (v : Value) → Holds order placed b v → length b ≡ size_of placed
@@ -51,7 +51,7 @@ value_at-values_of (k ∷ ks) zero = refl
 value_at-values_of (k ∷ ks) (suc i) = value_at-values_of ks i
 
 -- the program's value is its own answer
-answer_of : (o : Option Kept) → IsAnswer o (option_map value_of o)
+answer_of : (o : Option Kept) → IsValueFound o (option_map value_of o)
 answer_of None = refl
 answer_of (Some k) = refl
 
@@ -60,15 +60,15 @@ inj-list vs ws e = cc
 
 -- the value with an index in the only value that is held, whose values are these
 pub part_answer : (held : Value → Type 0) (only : Value) (ks : List Kept) (i : ℕ) (found : Option Kept) → ((other : Value) → held other → other ≡ only) → found ≡ slice_get ks i →
-    (v : Value) (ws : Values) → (v ≡ only → ws ≡ values_of ks) → held v → IsAnswer found (value_at ws i)
+    (v : Value) (ws : Values) → (v ≡ only → ws ≡ values_of ks) → held v → IsValueFound found (value_at ws i)
 part_answer held only ks i found one is v ws parts h =
     let value : value_at ws i ≡ option_map value_of found = ap (λ us. value_at us i) (parts (one v h)) ∙ value_at-values_of ks i ∙ ap (option_map value_of) (sym is) in
-    subst (IsAnswer found) (sym value) (answer_of found)
+    subst (IsValueFound found) (sym value) (answer_of found)
 
 -- the field of the only value that is held
 pub field_answer : (laid : Laid) (b : List ℕ) (vs : Vec Kept Global) (i : ℕ) (found : Option Kept) → IsOfTree laid →
     ((dl : TargetDataLayout) (tree : Tree) → KeepsValues dl tree laid → (other : Value) → Holds (endian_of laid) (placed_of laid) b other → other ≡ value_of (ListKept vs)) →
-    found ≡ slice_get vs.items i → (ws : Values) → Holds (endian_of laid) (placed_of laid) b (list ws) → IsAnswer found (value_at ws i)
+    found ≡ slice_get vs.items i → (ws : Values) → Holds (endian_of laid) (placed_of laid) b (list ws) → IsValueFound found (value_at ws i)
 field_answer laid b vs i found kept one is ws held =
     part_answer (Holds (endian_of laid) (placed_of laid) b) (value_of (ListKept vs)) vs.items i found (one kept.dl kept.tree (kept.keeps.values kept.locals)) is (list ws) ws
     (λ e. inj-list ws (values_of vs.items) (e ∙ value_of-List vs)) held

@@ -23,16 +23,17 @@ use Rattle.abi_lists.specs.Part.{part_of}
 use Rattle.abi_lists.specs.Placement.{IsAllowed, align_of as list_align, cut, end_from, in_order, list_repr, no_part, offsets_from, own_align, place_of, source_order}
 use Rattle.abi_lists.specs.Run.{IsPlacedIn, IsRun, space_wanted}
 use Rattle.abi_laid.specs.Nodes.{parts_at}
-use Rattle.abi_laid.specs.Placed.{Layout, Parts, Placed, layout_of, size_of}
+use Rattle.abi_laid.specs.Placed.{Parts, Placed, layout_of, size_of}
+use Rattle.abi_scalar.specs.Layout.{Layout}
 use Rattle.abi_laid.specs.Tree.{Tree, Trees, struct}
 use Rattle.rustc_abi.specs.declared.error.LayError.{LayError}
 use Rattle.rustc_abi.specs.Error.{Follows}
 use Rattle.rustc_abi.specs.Everywhere.{Everywhere}
-use Rattle.rustc_abi.specs.Laying.{AreLaying, IsLaying, IsListed, fields_fault, kind_of, placed_fields}
+use Rattle.rustc_abi.specs.Laying.{AreLaying, IsLaying, IsLaidList, fields_fault, kind_of, placed_fields}
 use Rattle.rustc_abi.specs.Least.{fields_of}
 use Rattle.rustc_abi.specs.Lists.{offsets_of, types_of}
 use Rattle.rustc_abi.specs.Orders.{LiesAsAsked}
-use Rattle.uses.specs.InC.{FollowEachOther, IsGreatestAlign, IsInC, IsLeastMultiple, LieAsInC, align_of}
+use Rattle.uses.specs.InC.{FollowEachOther, IsGreatestAlign, IsInC, IsLeastMultiple, LieAsInC, align_exponent}
 use Rattle.uses.proofs.Rounded.{rounded_up}
 
 -- ---- lists in source order
@@ -48,7 +49,7 @@ each_in_order d xs =
 follow_from : (dl : TargetDataLayout) (from : ℕ) (ps : List Placed) →
     FollowEachOther from ps (offsets_from None from (parts_of dl (map layout_of ps))) (end_from None from (parts_of dl (map layout_of ps)))
 follow_from dl from [] = refl
-follow_from dl from (p ∷ ps) = (rounded_up (align_of p) from, follow_from dl (place_of None from (part_of dl (layout_of p)) + size_of p) ps)
+follow_from dl from (p ∷ ps) = (rounded_up (align_exponent p) from, follow_from dl (place_of None from (part_of dl (layout_of p)) + size_of p) ps)
 
 -- the greatest alignment isn't below that of each field
 first_below : (least : ℕ) (ps : List Part) → least ≤ fold (λ most (part : Part). max most part.align) least ps
@@ -56,18 +57,18 @@ first_below least [] = omega arith
 first_below least (p ∷ ps) = omega (arith, first_below (max least p.align) ps)
 
 each_below : (dl : TargetDataLayout) (least : ℕ) (ps : List Placed) →
-    All (λ p. align_of p ≤ fold (λ most (part : Part). max most part.align) least (parts_of dl (map layout_of ps))) ps
+    All (λ p. align_exponent p ≤ fold (λ most (part : Part). max most part.align) least (parts_of dl (map layout_of ps))) ps
 each_below dl least [] k d lt = absurd (omega arith)
-each_below dl least (p ∷ ps) zero d lt = omega (arith, first_below (max least (align_of p)) (parts_of dl (map layout_of ps)))
-each_below dl least (p ∷ ps) (suc k) d lt = each_below dl (max least (align_of p)) ps k d (omega arith)
+each_below dl least (p ∷ ps) zero d lt = omega (arith, first_below (max least (align_exponent p)) (parts_of dl (map layout_of ps)))
+each_below dl least (p ∷ ps) (suc k) d lt = each_below dl (max least (align_exponent p)) ps k d (omega arith)
 
 -- nor above each number that is none of these
-none_above : (dl : TargetDataLayout) (least other : ℕ) (ps : List Placed) → least ≤ other → All (λ p. align_of p ≤ other) ps →
+none_above : (dl : TargetDataLayout) (least other : ℕ) (ps : List Placed) → least ≤ other → All (λ p. align_exponent p ≤ other) ps →
     fold (λ most (part : Part). max most part.align) least (parts_of dl (map layout_of ps)) ≤ other
 none_above dl least other [] low all = low
 none_above dl least other (p ∷ ps) low all =
-    let first : align_of p ≤ other = all 0 p (omega arith) in
-    none_above dl (max least (align_of p)) other ps (omega arith) (λ k d lt. all (suc k) d (omega arith))
+    let first : align_exponent p ≤ other = all 0 p (omega arith) in
+    none_above dl (max least (align_exponent p)) other ps (omega arith) (λ k d lt. all (suc k) d (omega arith))
 
 greatest_align : (dl : TargetDataLayout) (least : ℕ) (ps : List Placed) →
     IsGreatestAlign least ps (fold (λ most (part : Part). max most part.align) least (parts_of dl (map layout_of ps)))
@@ -124,7 +125,7 @@ pub record IsStruct (dl : TargetDataLayout) (repr : ReprOptions) (ts : Trees) (p
 
 -- the layout of a list of fields
 listed : (dl : TargetDataLayout) (repr : ReprOptions) (ts : Trees) (placed : Placed) (ps : List Placed) (layout : Layout) → AreLaying dl ts (Ok ps) →
-    IsListed dl repr (kind_of true ps) (map layout_of ps) (Ok layout) → placed ≡ placed_fields repr ps layout → IsStruct dl repr ts placed
+    IsLaidList dl repr (kind_of true ps) (map layout_of ps) (Ok layout) → placed ≡ placed_fields repr ps layout → IsStruct dl repr ts placed
 listed dl repr ts placed ps layout are h is =
     let offsets : listed_offsets layout.fields ≡ h.1 = ap listed_offsets h.2.shape in
     let run = h.2.named in
@@ -155,7 +156,7 @@ no_error a e is = cc
 -- no own fault: the calculator's answer
 answered : (dl : TargetDataLayout) (repr : ReprOptions) (ts : Trees) (placed : Placed) (ps : List Placed) (fault : Option LayError) → AreLaying dl ts (Ok ps) →
     MatchOption fault
-    (Follows (IsListed dl repr (kind_of true ps) (map layout_of ps)) (λ layout r. r ≡ Ok (placed_fields repr ps layout)) (Ok placed))
+    (Follows (IsLaidList dl repr (kind_of true ps) (map layout_of ps)) (λ layout r. r ≡ Ok (placed_fields repr ps layout)) (Ok placed))
     (λ e. Ok placed ≡ Err e) → IsStruct dl repr ts placed
 answered dl repr ts placed ps None are (inl h) = absurd (no_error placed h.0 h.2)
 answered dl repr ts placed ps None are (inr h) = listed dl repr ts placed ps h.0 are h.1 (inj-Ok placed (placed_fields repr ps h.0) h.2)

@@ -10,7 +10,7 @@ use Rattle.abi_scalar.specs.declared.variants.TagEncoding.{TagEncoding}
 use Rattle.abi_scalar.specs.declared.variants.TagEncoding.TheVariants.{Direct, Niche}
 use Rattle.abi_laid.specs.declared.laid.Laid.{Laid}
 use Rattle.abi_laid.specs.declared.value.Value.{Value as Kept}
-use Rattle.abi_laid.specs.Bytes.{bytes_at, number_of, picked, put_if}
+use Rattle.abi_laid.specs.Bytes.{bytes_at, number_of, picked_bytes, put_if}
 use Rattle.abi_laid.specs.Covering.{are_covered, each_covered, is_arm_covered, is_byte_at, is_covered, is_told}
 use Rattle.abi_laid.specs.Holding.{HoldArm, HoldEach, HoldParts, Holds, IsAt, tag_at}
 use Rattle.abi_laid.specs.Laid.{endian_of, placed_of}
@@ -22,7 +22,7 @@ use Rattle.abi_laid.specs.Tag.{Names}
 use Rattle.abi_laid.specs.Tree.{Tree}
 use Rattle.abi_laid.specs.Untagged.{NamesItself, UntaggedNamed, UntaggedNamedOf, UntaggedNamedOfArms}
 use Rattle.abi_laid.specs.Value.{Value, number, two, list, variant, state, bytes, Values, no_values, more_values, value_of}
-use Rattle.uses.specs.Field.{IsAnswer}
+use Rattle.uses.specs.Field.{IsValueFound}
 
 -- the byte lists are equally long, and agree wherever the test takes a byte
 abbrev Agree : (ℕ → Bool) → (b w : List ℕ) → Type 0
@@ -98,13 +98,13 @@ put_if-same : (t : Bool) (x y : ℕ) (xs ys : List ℕ) → (t ≡ true → x �
 put_if-same true x y xs ys here later = let first : x ≡ y = here refl in cc
 put_if-same false x y xs ys here later = later
 
-picked-same : (p : ℕ → Bool) (k : ℕ) (xs ys : List ℕ) → length xs ≡ length ys → ((j : ℕ) → p (k + j) ≡ true → get_or xs j 0 ≡ get_or ys j 0) → picked p k xs ≡ picked p k ys
+picked-same : (p : ℕ → Bool) (k : ℕ) (xs ys : List ℕ) → length xs ≡ length ys → ((j : ℕ) → p (k + j) ≡ true → get_or xs j 0 ≡ get_or ys j 0) → picked_bytes p k xs ≡ picked_bytes p k ys
 picked-same p k [] [] e agree = refl
 picked-same p k [] (y ∷ ys) e agree = absurd (omega arith)
 picked-same p k (x ∷ xs) [] e agree = absurd (omega arith)
 picked-same p k (x ∷ xs) (y ∷ ys) e agree =
     let first : k ≡ k + 0 = omega arith in
-    put_if-same (p k) x y (picked p (k + 1) xs) (picked p (k + 1) ys) (λ t. agree 0 (subst (λ i. p i ≡ true) first t))
+    put_if-same (p k) x y (picked_bytes p (k + 1) xs) (picked_bytes p (k + 1) ys) (λ t. agree 0 (subst (λ i. p i ≡ true) first t))
     (picked-same p (k + 1) xs ys (omega arith) (λ j place. let at : k + 1 + j ≡ k + suc j = omega arith in agree (suc j) (subst (λ i. p i ≡ true) at place)))
 
 -- ---- tags
@@ -219,7 +219,7 @@ module _ (laid : Laid) (of_tree : IsOfTree laid) (b : List ℕ) (place byte : �
   pub varied_read : (read : Result (Option Kept) AllocError) → IfOk read (Finds (Holds (endian_of laid) (placed_of laid) (set b place byte))) →
       IfOk read (λ found. IfSome found (λ k. (dl : TargetDataLayout) (tree : Tree) → KeepsValues dl tree laid →
       (other : Value) → Holds (endian_of laid) (placed_of laid) (set b place byte) other → other ≡ value_of k)) →
-      IfOk read (λ found. (v : Value) → Holds (endian_of laid) (placed_of laid) b v → is_covered (placed_of laid) v place ≡ false → IsAnswer found (Some v))
+      IfOk read (λ found. (v : Value) → Holds (endian_of laid) (placed_of laid) b v → is_covered (placed_of laid) v place ≡ false → IsValueFound found (Some v))
   varied_read (Ok None) finds one = λ v h free. absurd (finds v (varied v h free))
   varied_read (Ok (Some k)) finds one = λ v h free. ap Some (one of_tree.dl of_tree.tree keeps_here v (varied v h free))
   varied_read (Err e) finds one = tt

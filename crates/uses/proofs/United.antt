@@ -7,12 +7,13 @@ use Rattle.abi_scalar.specs.declared.repr.ReprOptions.{ReprOptions}
 use Rattle.abi_lists.specs.Fields.{greatest, greatest_size}
 use Rattle.abi_lists.specs.Placement.{cut}
 use Rattle.abi_lists.specs.Union.{raised_to, union_align, union_size}
-use Rattle.abi_laid.specs.Placed.{Layout, Placed, layout_of, size_of}
+use Rattle.abi_laid.specs.Placed.{Placed, layout_of, size_of}
+use Rattle.abi_scalar.specs.Layout.{Layout}
 use Rattle.abi_laid.specs.Tree.{Tree, Trees, union}
 use Rattle.rustc_abi.specs.declared.error.LayError.{LayError}
 use Rattle.rustc_abi.specs.Error.{Follows}
 use Rattle.rustc_abi.specs.Laying.{AreLaying, IsLaying, IsUnited, fields_fault, placed_together}
-use Rattle.uses.specs.InC.{IsGreatestAlign, IsLeastMultiple, IsUnionInC, LieTogetherAsInC, align_of}
+use Rattle.uses.specs.InC.{IsGreatestAlign, IsLeastMultiple, IsUnionInC, LieTogetherAsInC, align_exponent}
 use Rattle.uses.proofs.Ordered.{inj-Ok, no_error}
 use Rattle.uses.proofs.Rounded.{rounded_up}
 
@@ -36,15 +37,15 @@ sizes_least other (p ∷ ps) all =
 abbrev greatest_of : List Placed → ℕ
 greatest_of ps = greatest (map (λ (l : Layout). l.align.abi) (handed ps))
 
-aligns_below : (ps : List Placed) → All (λ p. align_of p ≤ greatest_of ps) ps
+aligns_below : (ps : List Placed) → All (λ p. align_exponent p ≤ greatest_of ps) ps
 aligns_below [] k d lt = absurd (omega arith)
 aligns_below (p ∷ ps) zero d lt = omega arith
 aligns_below (p ∷ ps) (suc k) d lt = let below = aligns_below ps k d (omega arith) in omega (arith, below)
 
-aligns_least : (other : ℕ) (ps : List Placed) → All (λ p. align_of p ≤ other) ps → greatest_of ps ≤ other
+aligns_least : (other : ℕ) (ps : List Placed) → All (λ p. align_exponent p ≤ other) ps → greatest_of ps ≤ other
 aligns_least other [] all = omega arith
 aligns_least other (p ∷ ps) all =
-    let first : align_of p ≤ other = all 0 p (omega arith) in
+    let first : align_exponent p ≤ other = all 0 p (omega arith) in
     omega (arith, first, aligns_least other ps (λ k d lt. all (suc k) d (omega arith)))
 
 greatest_of_all : (least : ℕ) (ps : List Placed) → IsGreatestAlign least ps (max least (greatest_of ps))
@@ -61,7 +62,7 @@ pub record IsUnionLaid (dl : TargetDataLayout) (repr : ReprOptions) (ts : Trees)
   pub fields : List Placed
   pub are : AreLaying dl ts (Ok fields)
   pub size : size_of placed ≡ union_size dl repr (handed fields)
-  pub align : align_of placed ≡ union_align dl repr (handed fields)
+  pub align : align_exponent placed ≡ union_align dl repr (handed fields)
 
 united : (dl : TargetDataLayout) (repr : ReprOptions) (ts : Trees) (placed : Placed) (ps : List Placed) (fault : Option LayError) → AreLaying dl ts (Ok ps) →
     MatchOption fault (Follows (IsUnited dl repr (map layout_of ps)) (λ layout r. r ≡ Ok (placed_together repr ps layout)) (Ok placed)) (λ e. Ok placed ≡ Err e) → IsUnionLaid dl repr ts placed

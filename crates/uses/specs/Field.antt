@@ -11,8 +11,8 @@ value_at (more_values v vs) zero = Some v
 value_at (more_values v vs) (suc i) = value_at vs i
 
 -- the program's value is this one, or there is none
-abbrev pub IsAnswer : Option Kept → Option Value → Type 0
-IsAnswer found v = MatchOption found (v ≡ None) (λ k. v ≡ Some (value_of k))
+abbrev pub IsValueFound : Option Kept → Option Value → Type 0
+IsValueFound found v = MatchOption found (v ≡ None) (λ k. v ≡ Some (value_of k))
 
 -- the values with this one in the place of that with this index, if there is one
 abbrev pub with_value : Values → (index : ℕ) → Value → Values
@@ -27,6 +27,6 @@ IsPartOf (part offset placed parts) zero o p = (o ≡ offset) × (p ≡ placed)
 IsPartOf (part offset placed parts) (suc i) o p = IsPartOf parts i o p
 
 -- the laid-out type has fields, and that with this index lies at this offset, and is this type
-abbrev pub HasField : Placed → (index offset : ℕ) → Placed → Type 0
-HasField (fields layout mark parts) i o p = IsPartOf parts i o p
-HasField _ i o p = ⊥
+abbrev pub HasFieldAt : Placed → (index offset : ℕ) → Placed → Type 0
+HasFieldAt (fields layout mark parts) i o p = IsPartOf parts i o p
+HasFieldAt _ i o p = ⊥

@@ -15,8 +15,8 @@ abbrev pub list_fault : ReprOptions → (count : ℕ) → Option CFault
 list_fault repr count = if count == 0 then Some NoSize else order_fault repr
 
 -- of so many variants: an enum without one has no value
-abbrev pub enum_fault : ReprOptions → (count : ℕ) → Option CFault
-enum_fault repr count = if count == 0 then Some NoValue else order_fault repr
+abbrev pub c_enum_fault : ReprOptions → (count : ℕ) → Option CFault
+c_enum_fault repr count = if count == 0 then Some NoValue else order_fault repr
 
 -- how many trees there are
 abbrev pub tree_count : Trees → ℕ
@@ -24,9 +24,9 @@ tree_count no_trees = 0
 tree_count (more_trees t ts) = tree_count ts + 1
 
 -- how many variants there are
-abbrev pub variant_count : Variants → ℕ
-variant_count no_variants = 0
-variant_count (more_variants discriminant fields others) = variant_count others + 1
+abbrev pub variants_count : Variants → ℕ
+variants_count no_variants = 0
+variants_count (more_variants discriminant fields others) = variants_count others + 1
 
 -- why C has no field of this type, if it has none; whether C has the fields of a struct or a union is asked of these by themselves
 abbrev pub field_fault : Tree → Option CFault
@@ -39,7 +39,7 @@ field_fault (vector lanes packed element) = Some NoType
 field_fault (struct repr always_sized None fields) = list_fault repr (tree_count fields)
 field_fault (struct repr always_sized (Some order) fields) = Some NoOrder
 field_fault (union repr fields) = list_fault repr (tree_count fields)
-field_fault (enum repr all) = enum_fault repr (variant_count all)
+field_fault (enum repr all) = c_enum_fault repr (variants_count all)
 field_fault (coroutine prefix locals states conflicts) = Some NoType
 
 -- the field with this index and why C hasn't it, or what is said of the later ones

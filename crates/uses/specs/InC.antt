@@ -29,22 +29,22 @@ pub record IsLeastMultiple (align from place : ℕ) : Type 0 where
   pub least : (other : ℕ) → 2 ^ align ∣ other → from ≤ other → place ≤ other
 
 -- how a type that was laid out is aligned, as an exponent of two
-abbrev pub align_of : Placed → ℕ
-align_of placed = (layout_of placed).align.abi
+abbrev pub align_exponent : Placed → ℕ
+align_exponent placed = (layout_of placed).align.abi
 
 -- each field lies at the least multiple of its alignment that isn't before the end of the one before it, the first from
 -- `from` on, and the last one ends at `end`
 abbrev pub FollowEachOther : (from : ℕ) → List Placed → (offsets : List ℕ) → (end : ℕ) → Type 0
 FollowEachOther from [] [] end = end ≡ from
 FollowEachOther from (field ∷ fields) (offset ∷ offsets) end =
-    IsLeastMultiple (align_of field) from offset × FollowEachOther (offset + size_of field) fields offsets end
+    IsLeastMultiple (align_exponent field) from offset × FollowEachOther (offset + size_of field) fields offsets end
 FollowEachOther from _ _ end = ⊥
 
 -- The alignment is the greatest one: of `least`, and of those of the fields.
 pub record IsGreatestAlign (least : ℕ) (fields : List Placed) (align : ℕ) : Type 0 where
   pub above : least ≤ align
-  pub each : All (λ field. align_of field ≤ align) fields
-  pub no_greater : (other : ℕ) → least ≤ other → All (λ field. align_of field ≤ other) fields → align ≤ other
+  pub each : All (λ field. align_exponent field ≤ align) fields
+  pub no_greater : (other : ℕ) → least ≤ other → All (λ field. align_exponent field ≤ other) fields → align ≤ other
 
 -- Fields lie so at these offsets, from 0 on. The alignment of the whole is the greatest one, and the size is the end of
 -- the fields, rounded up to it.

@@ -12,7 +12,7 @@ ghost use Rattle.abi_laid.specs.Reading.{KeepsValues};
 ghost use Rattle.abi_laid.specs.Tree.{Tree};
 ghost use Rattle.abi_laid.specs.Value.{Values, list, value_of};
 ghost use Rattle.abi_laid.specs.Values.{IsValueOf};
-ghost use Rattle.uses.specs.Field.{IsAnswer, value_at};
+ghost use Rattle.uses.specs.Field.{IsValueFound, value_at};
 
 pub use parts::{field_of_variant, local_of_state, numbers_of};
 use rustc_abi::{Laid, Value, ValueError, read_value, write_value};
@@ -73,7 +73,7 @@ pub fn field_of(
     requires laid { IsOfTree laid.now }
     ensures field { IfOk result (λ found.
         (vs : Values) → Holds (endian_of laid.now) (placed_of laid.now) bytes.now (list vs) →
-        IsAnswer found (value_at vs index)) }
+        IsValueFound found (value_at vs index)) }
     ensures none { IfOk result (λ found.
         ((vs : Values) → Holds (endian_of laid.now) (placed_of laid.now) bytes.now (list vs) → ⊥) → found ≡ None) }
 {

@@ -6,13 +6,13 @@ ghost use Rattle.abi_laid.specs.Value.{Value as Meant, number, value_count, valu
 ghost use Rattle.abi_laid.specs.Values.{IsValueOf};
 ghost use Rattle.abi_laid.specs.Tree.{Tree};
 ghost use Rattle.abi_base.specs.declared.data_layout.TargetDataLayout.{TargetDataLayout};
-ghost use Rattle.abi_laid.specs.Bytes.{number_of, picked};
+ghost use Rattle.abi_laid.specs.Bytes.{number_of, picked_bytes};
 ghost use Rattle.abi_laid.specs.declared.mark.Mark.{Mark};
 ghost use Rattle.abi_laid.specs.Placed.{Placed, layout_of, size_of, tagged};
 ghost use Rattle.abi_laid.specs.Places.{is_data_place};
 ghost use Rattle.abi_laid.specs.Tag.{Names};
 ghost use Rattle.abi_laid.specs.Holding.{HoldArm, HoldEach, HoldParts, Holds, IsAt, tag_at};
-ghost use Rattle.abi_laid.specs.Nodes.{arms_in, encoding_of, index_of, own_fields, parts_at, placed_at, state_tag_offset, states_in, tag_offset, types_in};
+ghost use Rattle.abi_laid.specs.Nodes.{arms_in, encoding_of, variant_left, own_fields, parts_at, placed_at, state_tag_offset, states_in, tag_offset, types_in};
 ghost use Rattle.abi_laid.specs.Well.{all_at};
 ghost use Rattle.abi_laid.specs.Room.{arms_have_room, has_room, have_room};
 ghost use Rattle.abi_laid.specs.Widths.{is_narrow};
@@ -113,7 +113,7 @@ fn read_pair(
 fn read_places(alloc: Global, runs: &[(u64, u64)], bytes: &[u8]) -> Result<Vec<u8>, AllocError>
     requires maximal { AreMaximalRuns 0 runs.now }
     requires inside { All (λ run. run.0 + run.1 ≤ length bytes.now) runs.now }
-    ensures { IfOk result (λ content. content.items ≡ picked (is_in_ranges runs.now) 0 bytes.now) }
+    ensures { IfOk result (λ content. content.items ≡ picked_bytes (is_in_ranges runs.now) 0 bytes.now) }
 {
     let mut content = Vec::new(alloc);
     for run in runs {
@@ -131,7 +131,7 @@ fn read_union(walk: Walk<'_>, node: usize, bytes: &[u8]) -> Result<Vec<u8>, Allo
     requires room { has_room (placed_at walk.nodes.now node) ≡ true }
     requires size { length bytes.now ≡ size_of (placed_at walk.nodes.now node) }
     ensures { IfOk result (λ content.
-        content.items ≡ picked (is_data_place (placed_at walk.entry.nodes.now node)) 0 bytes.now) }
+        content.items ≡ picked_bytes (is_data_place (placed_at walk.entry.nodes.now node)) 0 bytes.now) }
 {
     let places = data_places(walk.alloc, Counted::new(walk.nodes), node)?;
     read_places(walk.alloc, places.as_slice(), bytes)
@@ -187,7 +187,7 @@ fn only_list(found: Option<Value>) -> Option<Value>
 
 /// Which variant is left of an enum without a tag.
 fn index_left(layout: &LayoutData<FieldIdx, VariantIdx>) -> usize
-    ensures { result ≡ index_of layout.now.variants }
+    ensures { result ≡ variant_left layout.now.variants }
 {
     match &layout.variants {
         Variants::Single { index } => index.as_usize(),

@@ -7,7 +7,7 @@ ghost use Rattle.abi_laid.specs.Tree.{Tree};
 ghost use Rattle.abi_laid.specs.Values.{IsValueOf};
 ghost use Rattle.abi_laid.specs.Laid.{endian_of, placed_of};
 ghost use Rattle.abi_laid.specs.Value.{Value as Meant, value_count, value_of, values_of};
-ghost use Rattle.abi_laid.specs.Bytes.{AreBytes, number_of, picked};
+ghost use Rattle.abi_laid.specs.Bytes.{AreBytes, number_of, picked_bytes};
 ghost use Rattle.abi_laid.specs.declared.mark.Mark.{Mark};
 ghost use Rattle.abi_laid.specs.Placed.{Placed, size_of, tagged};
 ghost use Rattle.abi_laid.specs.Places.{is_data_place};
@@ -70,7 +70,7 @@ fn put_places(runs: &[(u64, u64)], content: &[u8], at: usize, size: usize, bytes
     requires inside { All (λ run. run.0 + run.1 ≤ size) runs.now }
     requires fits { at + size ≤ length bytes.old }
     ensures long { length bytes.new ≡ length bytes.old }
-    ensures put { (b : List ℕ) → length b ≡ size → content.now ≡ picked (is_in_ranges runs.now) 0 b →
+    ensures put { (b : List ℕ) → length b ≡ size → content.now ≡ picked_bytes (is_in_ranges runs.now) 0 b →
         IsPutOver (is_in_ranges runs.now) at b bytes.old bytes.new }
 {
     let mut next = 0;
@@ -224,7 +224,7 @@ fn write_union(
     requires fits { at + size_of (placed_at walk.nodes.now node) ≤ length bytes.old }
     ensures long { length bytes.new ≡ length bytes.old }
     ensures put { OnOk result ((b : List ℕ) → length b ≡ size_of (placed_at walk.entry.nodes.now node) →
-        content.now ≡ picked (is_data_place (placed_at walk.entry.nodes.now node)) 0 b →
+        content.now ≡ picked_bytes (is_data_place (placed_at walk.entry.nodes.now node)) 0 b →
         IsPutOver (is_data_place (placed_at walk.entry.nodes.now node)) at b bytes.old bytes.new) }
 {
     let size = read_layout(walk.nodes, node).size.bytes() as usize;

@@ -2,7 +2,7 @@
 
 ghost use Rattle.std.specs.Prelude.{◌≡◌, IfOk, IfErr, Some, map};
 ghost use Rattle.abi_laid.specs.Tree.{coroutine, enum, struct, tree_of, trees};
-ghost use Rattle.abi_text.specs.Reading.{Agrees, begun_in, closed, indices_by, part_closed, parts_by, state_of, variant_by, variants_in};
+ghost use Rattle.abi_text.specs.Reading.{Agrees, begun_in, closed, indices_by, part_closed, parts_by, state_of, variant_by, variants_read};
 
 use crate::fault::Fault;
 use crate::reader::begun::{
@@ -29,7 +29,7 @@ fn ordered(asked: &StructRepr, order: Vec<u64>, fields: Vec<TypeTree>) -> TypeTr
 
 /// An enum of these variants.
 fn whole_enum(repr: ReprOptions, variants: Vec<(u128, Vec<TypeTree>)>) -> TypeTree
-    ensures { tree_of result ≡ enum repr (variants_in (map variant_by variants.items)) }
+    ensures { tree_of result ≡ enum repr (variants_read (map variant_by variants.items)) }
 {
     TypeTree::Enum { repr, variants }
 }

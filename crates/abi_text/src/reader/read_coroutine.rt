@@ -2,7 +2,7 @@
 
 ghost use Rattle.std.specs.Prelude.{◌≡◌, ◌∷◌, IfOk, IfErr, [], codes};
 ghost use Rattle.std.specs.Str.{bytes_eq};
-ghost use Rattle.abi_text.specs.Numbers.{number_in};
+ghost use Rattle.abi_text.specs.Numbers.{number_of_bits};
 ghost use Rattle.abi_text.specs.Reading.{Agrees, at_column, at_local, at_part_opening, at_row, at_state, begun_in, coroutine_with, in_prefix, next_in_coroutine, state_of, state_opened, waiting};
 
 use crate::fault::Fault;
@@ -73,7 +73,7 @@ fn read_state(alloc: Global, number: u64, begun: Vec<Open>, word: &[u8]) -> Resu
 /// Reads the index of a state's next local, or the parenthesis that ends the state.
 fn read_local(alloc: Global, number: u64, begun: Vec<Open>, word: &[u8]) -> Result<Reader, Fault>
     ensures { Agrees state_of (at_local number (bytes_eq word.now (codes ")")) (begun_in begun.items)
-        (number_in 64 word.now)) result }
+        (number_of_bits 64 word.now)) result }
 {
     if word == b")".as_slice() {
         return close(alloc, number, begun);
@@ -95,7 +95,7 @@ fn read_local(alloc: Global, number: u64, begun: Vec<Open>, word: &[u8]) -> Resu
 /// Reads the row of the next conflict, or the parenthesis that ends the coroutine.
 fn read_row(alloc: Global, number: u64, begun: Vec<Open>, word: &[u8]) -> Result<Reader, Fault>
     ensures { Agrees state_of (at_row number (bytes_eq word.now (codes ")")) (begun_in begun.items)
-        (number_in 64 word.now)) result }
+        (number_of_bits 64 word.now)) result }
 {
     if word == b")".as_slice() {
         return close(alloc, number, begun);
@@ -108,7 +108,7 @@ fn read_row(alloc: Global, number: u64, begun: Vec<Open>, word: &[u8]) -> Result
 
 /// Reads the column of a conflict with this row.
 fn read_column(number: u64, row: u64, begun: Vec<Open>, word: &[u8]) -> Result<Reader, Fault>
-    ensures { Agrees state_of (at_column number row (begun_in begun.items) (number_in 64 word.now)) result }
+    ensures { Agrees state_of (at_column number row (begun_in begun.items) (number_of_bits 64 word.now)) result }
 {
     let mut begun = begun;
     match (begun.pop(), decimal(word)) {

@@ -2,7 +2,7 @@
 
 ghost use Rattle.std.specs.Prelude.{◌≡◌, codes};
 ghost use Rattle.std.specs.Str.{bytes_eq};
-ghost use Rattle.abi_text.specs.Numbers.{number_in};
+ghost use Rattle.abi_text.specs.Numbers.{number_of_bits};
 ghost use Rattle.abi_text.specs.Reading.{Agrees, at_fields_opening, at_index, at_order_opening, at_order_repr, begun_in, next_in_order, state_of};
 ghost use Rattle.abi_text.specs.Repr.{struct_repr};
 
@@ -45,7 +45,7 @@ fn read_order_opening(
 /// Reads the order's next index, or the parenthesis that ends the order.
 fn read_index(alloc: Global, number: u64, begun: Vec<Open>, word: &[u8]) -> Result<Reader, Fault>
     ensures { Agrees state_of (at_index number (bytes_eq word.now (codes ")")) (begun_in begun.items)
-        (number_in 64 word.now)) result }
+        (number_of_bits 64 word.now)) result }
 {
     if word == b")".as_slice() {
         return close(alloc, number, begun);

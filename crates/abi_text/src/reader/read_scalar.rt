@@ -1,7 +1,7 @@
 //! Reads the words of a scalar.
 
 ghost use Rattle.std.specs.Prelude.{◌≡◌, IfOk, IfErr};
-ghost use Rattle.abi_text.specs.Numbers.{number_in};
+ghost use Rattle.abi_text.specs.Numbers.{number_of_bits};
 ghost use Rattle.abi_text.specs.Reading.{Agrees, at_end, at_primitive, at_scalar, at_space, at_start, begin_scalar, begun_in, is_primitive, state_of};
 ghost use Rattle.abi_text.specs.ScalarWords.{scalar_word};
 
@@ -120,7 +120,7 @@ pub(crate) fn read_space(
     word: &[u8],
 ) -> Result<Reader, Fault>
     ensures { Agrees state_of (at_space dl.now number form place (begun_in begun.items)
-        (number_in 32 word.now)) result }
+        (number_of_bits 32 word.now)) result }
 {
     match short(word) {
         Some(space) => {
@@ -139,7 +139,7 @@ pub(crate) fn read_start(
     begun: Vec<Open>,
     word: &[u8],
 ) -> Result<Reader, Fault>
-    ensures { Agrees state_of (at_start number value place (begun_in begun.items) (number_in 128 word.now)) result }
+    ensures { Agrees state_of (at_start number value place (begun_in begun.items) (number_of_bits 128 word.now)) result }
 {
     match wide(word) {
         Some(start) => Ok(waiting(Want::RangeEnd(value, start, place), begun)),
@@ -157,7 +157,7 @@ pub(crate) fn read_end(
     begun: Vec<Open>,
     word: &[u8],
 ) -> Result<Reader, Fault>
-    ensures { Agrees state_of (at_end number value start place (begun_in begun.items) (number_in 128 word.now)) result }
+    ensures { Agrees state_of (at_end number value start place (begun_in begun.items) (number_of_bits 128 word.now)) result }
 {
     match wide(word) {
         Some(end) => {

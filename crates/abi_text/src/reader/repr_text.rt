@@ -2,7 +2,7 @@
 
 ghost use Rattle.std.specs.Prelude.{◌≡◌, is_some};
 ghost use Rattle.std.specs.List.{list_all};
-ghost use Rattle.abi_text.specs.Repr.{alignment_after, are_repr_words, asked_by, has_kind, integer_type_named, is_single, kind_of, flagged, part_of, parts_of, plain, struct_repr, union_repr, valued_part, with_part};
+ghost use Rattle.abi_text.specs.Repr.{alignment_after, are_repr_words, asked_by, has_kind, integer_type_named, is_single, repr_kind, flagged, repr_part, repr_parts, plain, struct_repr, union_repr, valued_part, with_part};
 
 use crate::number::decimal;
 use crate::pieces::cut;
@@ -99,7 +99,7 @@ fn valued_part(part: &[u8]) -> Option<ReprPart>
 
 /// What a part of a repr asks for. None for what is no word of a repr.
 fn part_of(part: &[u8]) -> Option<ReprPart>
-    ensures { result ≡ part_of part.now }
+    ensures { result ≡ repr_part part.now }
 {
     if part == b"C".as_slice() {
         Some(ReprPart::C)
@@ -115,7 +115,7 @@ fn part_of(part: &[u8]) -> Option<ReprPart>
 }
 
 fn kind_of(part: ReprPart) -> ReprKind
-    ensures { result ≡ kind_of part }
+    ensures { result ≡ repr_kind part }
 {
     match part {
         ReprPart::C => ReprKind::C,
@@ -129,7 +129,7 @@ fn kind_of(part: ReprPart) -> ReprKind
 }
 
 fn has_kind(part: &[u8], kind: ReprKind) -> bool
-    ensures { result ≡ has_kind kind (part_of part.now) }
+    ensures { result ≡ has_kind kind (repr_part part.now) }
 {
     match part_of(part) {
         Some(found) => kind_of(found) == kind,
@@ -139,7 +139,7 @@ fn has_kind(part: &[u8], kind: ReprKind) -> bool
 
 /// Whether each part is a word of a repr.
 fn are_known(text: &[u8]) -> bool
-    ensures { result ≡ list_all (λ p. is_some (part_of p)) (parts_of text.now) }
+    ensures { result ≡ list_all (λ p. is_some (repr_part p)) (repr_parts text.now) }
 {
     let mut rest = Some(text);
     while let Some(text) = rest {
@@ -154,7 +154,7 @@ fn are_known(text: &[u8]) -> bool
 
 /// Whether the kind comes at most once.
 fn is_single(text: &[u8], kind: ReprKind) -> bool
-    ensures { result ≡ is_single kind (parts_of text.now) }
+    ensures { result ≡ is_single kind (repr_parts text.now) }
 {
     let mut seen = false;
     let mut rest = Some(text);
@@ -172,7 +172,7 @@ fn is_single(text: &[u8], kind: ReprKind) -> bool
 }
 
 fn are_repr_words(text: &[u8]) -> bool
-    ensures { result ≡ are_repr_words (parts_of text.now) }
+    ensures { result ≡ are_repr_words (repr_parts text.now) }
 {
     are_known(text)
         && is_single(text, ReprKind::C)
@@ -220,7 +220,7 @@ fn with_part(asked: &StructRepr, part: &ReprPart) -> StructRepr
 
 /// What the words ask for together.
 fn asked_by(text: &[u8]) -> StructRepr
-    ensures { result ≡ asked_by plain (parts_of text.now) }
+    ensures { result ≡ asked_by plain (repr_parts text.now) }
 {
     let mut asked = plain();
     let mut rest = Some(text);

@@ -6,7 +6,8 @@ use Rattle.abi_scalar.specs.declared.variants.Variants.{Variants}
 use Rattle.abi_scalar.specs.declared.variants.Variants.TheVariants.{Single, Multiple}
 use Rattle.abi_scalar.specs.Shape.{field_count, field_offset}
 use Rattle.abi_scalar.specs.Variant.{variants_of}
-use Rattle.abi_types.specs.Ty.Typed.{Layout, Marks, Typed, typed, no_type, layout_in}
+use Rattle.abi_types.specs.Ty.Typed.{Marks, Typed, typed, no_type, layout_in}
+use Rattle.abi_scalar.specs.Layout.{Layout}
 
 -- fields can be named by their index: elements are all of one type and reach no further than to the next, and other fields are at most
 -- so many

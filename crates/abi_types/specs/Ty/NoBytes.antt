@@ -2,7 +2,7 @@
 use Rattle.std.specs.Prelude.{Bool}
 use Rattle.abi_types.specs.declared.ty.one_field.NoBytes.{NoBytes}
 use Rattle.abi_types.specs.declared.ty.one_field.NoBytes.TheVariants.{OfAnyAlign, OfLeastAlign}
-use Rattle.abi_types.specs.Ty.Typed.{Layout}
+use Rattle.abi_scalar.specs.Layout.{Layout}
 use Rattle.abi_types.specs.Ty.Walks.{is_zst, is_1zst}
 
 -- the layout is one of no bytes, so aligned

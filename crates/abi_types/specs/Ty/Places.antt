@@ -8,7 +8,8 @@ use Rattle.abi_scalar.specs.declared.fields_shape.FieldsShape.TheVariants.{Primi
 use Rattle.abi_scalar.specs.declared.variants.Variants.{Variants}
 use Rattle.abi_scalar.specs.declared.variants.Variants.TheVariants.{Multiple}
 use Rattle.abi_scalar.specs.Shape.{field_offset}
-use Rattle.abi_types.specs.Ty.Typed.{Layout, Typed, typed, no_type, field_in, layout_in, variant_in}
+use Rattle.abi_types.specs.Ty.Typed.{Typed, typed, no_type, field_in, layout_in, variant_in}
+use Rattle.abi_scalar.specs.Layout.{Layout}
 
 -- an element of one scalar covers all its bytes, any other what its fields cover
 abbrev pub covers_element : Layout → (own : ℕ → Bool) → (k : ℕ) → Bool

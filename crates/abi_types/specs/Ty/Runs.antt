@@ -2,7 +2,7 @@
 use Rattle.std.specs.Prelude.{◌≡◌, ℕ, ◌<◌, Bool, List, [], ⊤, get_or, length}
 use Rattle.std.specs.List.{list_any, range_with_len}
 use Rattle.abi_index.specs.RangeSet.{is_in_ranges}
-use Rattle.abi_index.specs.Runs.{moved, repeated}
+use Rattle.abi_index.specs.Runs.{moved_to, repeated}
 use Rattle.abi_scalar.specs.declared.variants.Variants.{Variants}
 use Rattle.abi_scalar.specs.declared.variants.Variants.TheVariants.{Multiple}
 use Rattle.abi_scalar.specs.Shape.{field_offset}
@@ -11,7 +11,7 @@ use Rattle.abi_types.specs.Ty.Places.{covers_element, is_place, is_unused}
 
 -- byte k is covered by one of the first n fields, at its offset
 abbrev pub first_cover : Typed → (n k : ℕ) → Bool
-first_cover t n k = list_any (λ i. moved (field_offset (layout_in t).fields i) (is_place (field_in t i)) k) (range_with_len 0 n)
+first_cover t n k = list_any (λ i. moved_to (field_offset (layout_in t).fields i) (is_place (field_in t i)) k) (range_with_len 0 n)
 
 -- byte k is covered by one of so many elements of this type, each so many bytes after the one before
 abbrev pub elements_cover : (element : Typed) → (stride count k : ℕ) → Bool
@@ -23,9 +23,9 @@ IsVariantIndex (Multiple tag encoding at layouts) i = i < length layouts
 IsVariantIndex _ i = ⊤
 
 -- the index is that of one of several variants that a tag tells apart
-abbrev pub IsBeside : Variants ℕ ℕ → (index : ℕ) → Type 0
-IsBeside (Multiple tag encoding at layouts) i = i < length layouts
-IsBeside _ i = ⊥
+abbrev pub IsVariantOfSeveral : Variants ℕ ℕ → (index : ℕ) → Type 0
+IsVariantOfSeveral (Multiple tag encoding at layouts) i = i < length layouts
+IsVariantOfSeveral _ i = ⊥
 
 -- how many variants a tag tells apart
 abbrev pub variant_count : Variants ℕ ℕ → ℕ

@@ -3,13 +3,8 @@ use Rattle.std.specs.Prelude.{ℕ, Bool, false, true, None, Option}
 use Rattle.abi_base.specs.declared.pointee.PointeeInfo.{PointeeInfo}
 use Rattle.abi_scalar.specs.declared.backend_repr.BackendRepr.TheVariants.{Memory}
 use Rattle.abi_scalar.specs.declared.fields_shape.FieldsShape.TheVariants.{Primitive}
-use Rattle.abi_scalar.specs.declared.layout_data.LayoutData.{LayoutData}
 use Rattle.abi_scalar.specs.declared.variants.Variants.{Variants}
 use Rattle.abi_scalar.specs.declared.variants.Variants.TheVariants.{Empty, Multiple}
-
--- a layout, with fields and variants named by their numbers
-abbrev pub Layout : Type 0
-Layout = LayoutData ℕ ℕ
 
 -- What a type says of itself, beside its layout.
 pub record Marks : Type 0 where

@@ -15,7 +15,8 @@ use Rattle.abi_scalar.specs.declared.variants.Variants.{Variants}
 use Rattle.abi_scalar.specs.declared.variants.Variants.TheVariants.{Empty, Single, Multiple}
 use Rattle.abi_scalar.specs.Scalar.{primitive_of}
 use Rattle.abi_scalar.specs.Shape.{field_count, field_offset}
-use Rattle.abi_types.specs.Ty.Typed.{Layout, Typed, typed, no_type, field_in, layout_in, marks_of}
+use Rattle.abi_types.specs.Ty.Typed.{Typed, typed, no_type, field_in, layout_in, marks_of}
+use Rattle.abi_scalar.specs.Layout.{Layout}
 
 -- a view that has no size of its own, or one, as `Memory` says it
 abbrev pub is_sized_memory : BackendRepr → Bool

@@ -6,7 +6,7 @@ ghost use Rattle.std.specs.Hash as fed;
 ghost use Rattle.std.specs.Cmp.Rules.{comparing, hashing};
 ghost use Rattle.std.specs.Cmp.{partial_order_from_own_ties};
 ghost use Rattle.std.specs.Ordering.{as_partial_cmp};
-ghost use Rattle.abi_types.specs.ExternAbi.{name_of, have_same_name, name_cmp};
+ghost use Rattle.abi_types.specs.ExternAbi.{abi_name, have_same_name, name_cmp};
 
 use crate::extern_abi::ExternAbi;
 use std::cmp::Ordering;
@@ -54,7 +54,7 @@ impl Ord for ExternAbi {
 }
 
 impl Hash for ExternAbi {
-    ghost hash_input = { λ abi. fed.str (name_of abi) ++ fed.u32 0x4142_4900 };
+    ghost hash_input = { λ abi. fed.str (abi_name abi) ++ fed.u32 0x4142_4900 };
 
     ghost respects_eq = { Prim.search (hashing, rules) };
 

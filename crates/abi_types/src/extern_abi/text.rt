@@ -3,7 +3,7 @@
 ghost use Rattle.std.specs.Prelude.{◌≡◌, ◌++◌, codes, Some};
 ghost use Rattle.std.specs.List.{find};
 ghost use Rattle.abi_base.specs.ErrorText.{quoted};
-ghost use Rattle.abi_types.specs.ExternAbi.{name_of, has_name, IsReading};
+ghost use Rattle.abi_types.specs.ExternAbi.{abi_name, has_name, IsAbiOfText};
 
 use crate::extern_abi::ExternAbi;
 use abi_base::AbiFromStrErr;
@@ -14,7 +14,7 @@ use std::str::FromStr;
 impl FromStr for ExternAbi {
     type Err = AbiFromStrErr;
 
-    ghost from_str_gives = { IsReading };
+    ghost from_str_gives = { IsAbiOfText };
 
     /// The convention of the name. `Unknown` where it is no convention's.
     #[tactic(auto, using(crate::proofs::ConventionLemmas::is_reading))]
@@ -36,7 +36,7 @@ fn first_named(abis: &[ExternAbi], text: &str) -> Option<ExternAbi>
 }
 
 impl Display for ExternAbi {
-    ghost output = { λ abi. Some (quoted (name_of abi)) };
+    ghost output = { λ abi. Some (quoted (abi_name abi)) };
 
     /// Its name in double quotes.
     fn fmt<W: fmt::Write>(&self, f: &mut fmt::Formatter<W>) -> fmt::Result {

@@ -6,7 +6,7 @@ ghost use Rattle.abi_index.specs.RangeSet.{is_in_ranges};
 ghost use Rattle.abi_types.specs.Ty.Typed.{layout_in};
 ghost use Rattle.abi_types.specs.Ty.Walks.{is_sized};
 ghost use Rattle.abi_types.specs.Ty.Places.{is_padding, is_place, is_shared_place, is_unused};
-ghost use Rattle.abi_types.specs.Ty.Runs.{AreUnused, AreUnusedOf, IsBeside, IsVariantIndex};
+ghost use Rattle.abi_types.specs.Ty.Runs.{AreUnused, AreUnusedOf, IsVariantOfSeveral, IsVariantIndex};
 
 use crate::ty::interface::{TyAbiInterface, TyAndLayout};
 use crate::ty::places::{places_of, put_fields};
@@ -49,7 +49,7 @@ fn unused_of<W: Walk>(
     beside: &RangeSet,
 ) -> Result<RangeSet, AllocError>
     requires valid { W.is_valid this }
-    requires variant { IsBeside (layout_in (W.typed_of this)).variants variant }
+    requires variant { IsVariantOfSeveral (layout_in (W.typed_of this)).variants variant }
     requires beside { (k : ℕ) → is_in_ranges beside.now k ≡
         (is_place (W.typed_of this) k && not (is_shared_place (W.typed_of this) k)) }
     ensures { IfOk result (λ set. (k : ℕ) → is_in_ranges set k ≡ is_unused (W.typed_of this) variant k) }
@@ -87,7 +87,7 @@ fn unused_of_each<W: Walk>(
     count: usize,
 ) -> Result<IndexVec<VariantIdx, RangeSet>, AllocError>
     requires valid { W.is_valid this }
-    requires several { (v : ℕ) → v < count → IsBeside (layout_in (W.typed_of this)).variants v }
+    requires several { (v : ℕ) → v < count → IsVariantOfSeveral (layout_in (W.typed_of this)).variants v }
     requires few { count ≤ greatest_place + 1 }
     ensures { IfOk result (λ sets. AreUnusedOf (W.typed_of this) count sets) }
 {

@@ -5,7 +5,7 @@ ghost use Rattle.abi_index.specs.RangeSet.{is_in_ranges};
 ghost use Rattle.abi_scalar.specs.Shape.{field_count};
 ghost use Rattle.abi_types.specs.Ty.Typed.{layout_in, variant_in};
 ghost use Rattle.abi_types.specs.Ty.Places.{covers_element, is_place, is_shared_place, variants_cover};
-ghost use Rattle.abi_index.specs.Runs.{Adds, moved};
+ghost use Rattle.abi_index.specs.Runs.{Adds, moved_to};
 ghost use Rattle.abi_types.specs.Ty.Runs.{elements_cover, first_cover};
 
 use crate::ty::walk::Walk;
@@ -24,7 +24,7 @@ pub(crate) fn put_places<W: Walk>(
 ) -> Result<(), AllocError>
     requires valid { W.is_valid this }
     requires fits { offset + (layout_in (W.typed_of this)).size < 2 ^ 64 }
-    ensures { OnOk result (Adds all.old all.new (moved offset (is_place (W.typed_of this)))) }
+    ensures { OnOk result (Adds all.old all.new (moved_to offset (is_place (W.typed_of this)))) }
 {
     // A type of no bytes has no data places, however many fields it has.
     if this.layout().size == Size::ZERO {
@@ -46,7 +46,7 @@ pub(crate) fn put_fields<W: Walk>(
 ) -> Result<(), AllocError>
     requires valid { W.is_valid this }
     requires fits { offset + (layout_in (W.typed_of this)).size < 2 ^ 64 }
-    ensures { OnOk result (Adds all.old all.new (moved offset (is_shared_place (W.typed_of this)))) }
+    ensures { OnOk result (Adds all.old all.new (moved_to offset (is_shared_place (W.typed_of this)))) }
 {
     match &this.layout().fields {
         FieldsShape::Primitive => all.add_range(offset, this.layout().size.bytes()),
@@ -77,7 +77,7 @@ fn put_listed<W: Walk>(
     requires valid { W.is_valid this }
     requires within { count ≤ field_count (layout_in (W.typed_of this)).fields }
     requires fits { offset + (layout_in (W.typed_of this)).size < 2 ^ 64 }
-    ensures { OnOk result (Adds all.old all.new (moved offset (first_cover (W.typed_of this) count))) }
+    ensures { OnOk result (Adds all.old all.new (moved_to offset (first_cover (W.typed_of this) count))) }
 {
     for i in 0..count {
         let place = offset + this.layout().fields.offset(i).bytes();
@@ -100,7 +100,7 @@ fn put_elements<W: Walk>(
     requires valid { W.is_valid element }
     requires some { 0 < count }
     requires fits { offset + stride * (count - 1) + (layout_in (W.typed_of element)).size < 2 ^ 64 }
-    ensures { OnOk result (Adds all.old all.new (moved offset (elements_cover (W.typed_of element) stride count))) }
+    ensures { OnOk result (Adds all.old all.new (moved_to offset (elements_cover (W.typed_of element) stride count))) }
 {
     let one = element_places(alloc, element)?;
     if stride == 0 {
@@ -151,7 +151,7 @@ fn put_variants<W: Walk>(
     requires valid { W.is_valid this }
     requires fits { offset + (layout_in (W.typed_of this)).size < 2 ^ 64 }
     ensures { OnOk result (Adds all.old all.new
-        (moved offset (variants_cover (layout_in (W.typed_of this)).variants (λ v.
+        (moved_to offset (variants_cover (layout_in (W.typed_of this)).variants (λ v.
         is_place (variant_in (W.typed_of this) v))))) }
 {
     match &this.layout().variants {

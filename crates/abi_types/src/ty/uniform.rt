@@ -3,7 +3,7 @@
 
 ghost use Rattle.std.specs.Prelude.{◌≡◌, ℕ, Option, IfErr, IfOk, IsOk};
 ghost use Rattle.abi_scalar.specs.Shape.{IsListed};
-ghost use Rattle.abi_types.specs.Homogeneous.{AllRun, Answers, AnswersRun, IsUnion, register_of};
+ghost use Rattle.abi_types.specs.Homogeneous.{AllRun, Answers, AnswersRun, IsUnionShape, register_of};
 ghost use Rattle.abi_types.specs.Ty.Typed.{layout_in};
 ghost use Rattle.abi_types.specs.Uniform.{FieldsRun, IsUniform};
 
@@ -155,7 +155,7 @@ fn run_listed<W: Walk>(this: W, start: u64) -> Result<(HomogeneousAggregate, u64
 #[cycle(uniform)]
 fn run_union<W: Walk>(this: W, start: u64) -> Result<(HomogeneousAggregate, u64), Heterogeneous>
     requires valid { W.is_valid this }
-    requires union { IsUnion (layout_in (W.typed_of this)).fields }
+    requires union { IsUnionShape (layout_in (W.typed_of this)).fields }
     ensures { AnswersRun result (FieldsRun (W.typed_of this) start) }
 {
     let mut found = HomogeneousAggregate::NoData;

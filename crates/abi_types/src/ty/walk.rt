@@ -13,7 +13,7 @@ use abi_scalar::LayoutData;
 /// A place in a type, with all that a walk asks of it. No lifetime is named in it, so that a recursion may have it as
 /// its bound.
 pub(crate) trait Walk: Copy {
-    ghost use Rattle.abi_types.specs.Ty.Typed.{Layout};
+    ghost use Rattle.abi_scalar.specs.Layout.{Layout};
 
     /// The layout is one of the type.
     ghost is_valid: { Self → Type 0 };

@@ -13,9 +13,10 @@ use Rattle.abi_calc.proofs.CoroutineLemmas.Deep.{coroutine_clash, coroutine_one_
 use Rattle.abi_laid.specs.Tree.{Tree, scalar, pair, never, unit, array, vector, struct, union, enum, coroutine, Trees}
 use Rattle.abi_laid.specs.declared.mark.Mark.{Mark}
 use Rattle.abi_laid.specs.declared.mark.Mark.TheVariants.{Plain}
-use Rattle.abi_laid.specs.Placed.{Placed, Layout, layout_of, parts_of_arm}
+use Rattle.abi_laid.specs.Placed.{Placed, layout_of, parts_of_arm}
+use Rattle.abi_scalar.specs.Layout.{Layout}
 use Rattle.abi_laid.specs.Nodes.{parts_at, placed_in}
-use Rattle.rustc_abi.specs.Clash.{AreClashingApart, DoClash, HasLocal, HaveOneOffset, IsPart}
+use Rattle.rustc_abi.specs.Clash.{AreClashingLocalsApart, DoLocalsClash, HasLocal, HaveLocalsOneOffset, IsPart}
 use Rattle.rustc_abi.specs.Coroutines.{conflicts_of}
 use Rattle.rustc_abi.specs.Enums.{arms_at}
 use Rattle.rustc_abi.specs.Laying.{AreLaying, IsCoroutineOf, IsLaying, coroutine_fault, one_scalar}
@@ -63,7 +64,7 @@ module _ (ps : List Placed) (states : List (List ℕ)) (layouts : List (VariantL
       )
 
 -- locals that clash do so by the relation of the conflicts
-do_clash : (count : ℕ) (states : List (List ℕ)) (pairs : List (ℕ × ℕ)) (a b : ℕ) → All (λ c. (c.0 < count) × (c.1 < count)) pairs → DoClash states pairs a b → calculator.DoClash states (conflicts_of count pairs) a b
+do_clash : (count : ℕ) (states : List (List ℕ)) (pairs : List (ℕ × ℕ)) (a b : ℕ) → All (λ c. (c.0 < count) × (c.1 < count)) pairs → DoLocalsClash states pairs a b → calculator.DoClash states (conflicts_of count pairs) a b
 do_clash count states pairs a b within (inl held) = inl held
 do_clash count states pairs a b within (inr (inl at)) = inr (inl (entry_of count pairs a b within at))
 do_clash count states pairs a b within (inr (inr at)) = inr (inr (entry_of count pairs b a within at))
@@ -71,7 +72,7 @@ do_clash count states pairs a b within (inr (inr at)) = inr (inr (entry_of count
 module _ (dl : TargetDataLayout) (law : IsLawfulDataLayout dl) where
   module _ (prefix locals : Trees) (pres ps : List Placed) (states : List (List ℕ)) (conflicts : List (ℕ × ℕ)) (before : AreLaying dl prefix (Ok pres)) (there : AreLaying dl locals (Ok ps)) (p : Placed)
       (answer : IsCoroutineOf dl pres ps states conflicts (Ok p)) where
-    clash_coroutine : AreClashingApart (coroutine prefix locals states conflicts) p
+    clash_coroutine : AreClashingLocalsApart (coroutine prefix locals states conflicts) p
     clash_coroutine =
         let found = coroutine_laid dl law pres ps states conflicts (coroutine_fault (length pres) (length ps) states conflicts) p answer in
         let asked = coroutine_asked dl law pres ps states conflicts (whole_lawful dl pres (all_whole dl law prefix pres before)) (whole_lawful dl ps (all_whole dl law locals ps there)) found.0 found.1 in
@@ -79,24 +80,24 @@ module _ (dl : TargetDataLayout) (law : IsLawfulDataLayout dl) where
         let known = conflicts_within (length pres) (length ps) states conflicts found.5 in
         let apart =
         coroutine_clash layout_of dl pres found.0 (one_scalar dl found.0) ps states (conflicts_of (length ps) conflicts) asked within (conflict_rows (length ps) conflicts) (conflict_columns (length ps) conflicts) found.2 found.3 in
-        subst (AreClashingApart (coroutine prefix locals states conflicts)) found.4 (λ a b o q x y differ clash here also.
+        subst (AreClashingLocalsApart (coroutine prefix locals states conflicts)) found.4 (λ a b o q x y differ clash here also.
         (let one = has_local ps states (variants_of found.2.variants) (source_order (length states)) within found.2 Plain a o x here in
         let other = has_local ps states (variants_of found.2.variants) (source_order (length states)) within found.2 Plain b q y also in
         apart a b o q (layout_of x) (layout_of y) differ (do_clash (length ps) states conflicts a b known clash) one.1 other.1 one.0 other.0))
 
-    one_offset_coroutine : HaveOneOffset (coroutine prefix locals states conflicts) p
+    one_offset_coroutine : HaveLocalsOneOffset (coroutine prefix locals states conflicts) p
     one_offset_coroutine =
         let found = coroutine_laid dl law pres ps states conflicts (coroutine_fault (length pres) (length ps) states conflicts) p answer in
         let asked = coroutine_asked dl law pres ps states conflicts (whole_lawful dl pres (all_whole dl law prefix pres before)) (whole_lawful dl ps (all_whole dl law locals ps there)) found.0 found.1 in
         let within = states_within (length pres) (length ps) states conflicts found.5 in
         let once = states_once (length pres) (length ps) states conflicts found.5 in
         let one = coroutine_one_offset layout_of dl pres found.0 (one_scalar dl found.0) ps states (conflicts_of (length ps) conflicts) asked within (conflict_rows (length ps) conflicts) once found.2 found.3 in
-        subst (HaveOneOffset (coroutine prefix locals states conflicts)) found.4 (λ local o q x y here also.
+        subst (HaveLocalsOneOffset (coroutine prefix locals states conflicts)) found.4 (λ local o q x y here also.
         one local o q (has_local ps states (variants_of found.2.variants) (source_order (length states)) within found.2 Plain local o x here).0
         (has_local ps states (variants_of found.2.variants) (source_order (length states)) within found.2 Plain local q y also).0)
 
   -- locals that clash share no byte
-  pub laid_clash : (t : Tree) (p : Placed) → IsLaying dl t (Ok p) → AreClashingApart t p
+  pub laid_clash : (t : Tree) (p : Placed) → IsLaying dl t (Ok p) → AreClashingLocalsApart t p
   laid_clash (scalar s) p h = tt
   laid_clash (pair a b) p h = tt
   laid_clash never p h = tt
@@ -111,7 +112,7 @@ module _ (dl : TargetDataLayout) (law : IsLawfulDataLayout dl) where
   laid_clash (coroutine prefix locals states conflicts) p (inr (pres, before, inr (ps, there, answer))) = clash_coroutine prefix locals pres ps states conflicts before there p answer
 
   -- and each lies at one offset
-  pub laid_one_offset : (t : Tree) (p : Placed) → IsLaying dl t (Ok p) → HaveOneOffset t p
+  pub laid_one_offset : (t : Tree) (p : Placed) → IsLaying dl t (Ok p) → HaveLocalsOneOffset t p
   laid_one_offset (scalar s) p h = tt
   laid_one_offset (pair a b) p h = tt
   laid_one_offset never p h = tt

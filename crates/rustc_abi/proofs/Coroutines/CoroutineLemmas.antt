@@ -19,7 +19,8 @@ use Rattle.abi_lists.specs.Placement.{source_order}
 use Rattle.abi_laid.specs.Tree.{Tree, coroutine, Trees, no_trees, more_trees}
 use Rattle.abi_laid.specs.Value.{Value, number, two, list, variant, state, bytes, Values, no_values, more_values}
 use Rattle.abi_laid.specs.declared.mark.Mark.TheVariants.{Plain}
-use Rattle.abi_laid.specs.Placed.{Placed, Layout, Parts, part, first_part, more_parts, Arms, layout_of, size_of, states, parts_of_arm}
+use Rattle.abi_laid.specs.Placed.{Placed, Parts, part, first_part, more_parts, Arms, layout_of, size_of, states, parts_of_arm}
+use Rattle.abi_scalar.specs.Layout.{Layout}
 use Rattle.abi_laid.specs.Values.{EachAt, IsValueOf, IsValueAt, HasValue, HaveValues, LocalsHaveValues, LocalsOfEach, VectorsHaveValues}
 use Rattle.abi_laid.specs.Room.{has_room}
 use Rattle.abi_laid.specs.Faithful.{IsFaithful, IsFlagTrue}

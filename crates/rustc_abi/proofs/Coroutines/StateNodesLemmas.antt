@@ -14,7 +14,8 @@ use Rattle.abi_lists.specs.Placement.{source_order}
 use Rattle.abi_laid.specs.declared.node.Shape.TheVariants.{States}
 use Rattle.abi_laid.specs.declared.node.Node.{Node}
 use Rattle.abi_laid.specs.declared.mark.Mark.TheVariants.{Plain}
-use Rattle.abi_laid.specs.Placed.{Placed, Layout, size_of, states, Parts, Arms, nothing}
+use Rattle.abi_laid.specs.Placed.{Placed, size_of, states, Parts, Arms, nothing}
+use Rattle.abi_scalar.specs.Layout.{Layout}
 use Rattle.abi_laid.specs.Nodes.{placed_in, parts_at, arms_in, state_tag_offset, meaning, types_in, Keeps}
 use Rattle.rustc_abi.specs.Enums.{arms_at}
 use Rattle.rustc_abi.specs.Inside.{VariantsInside}

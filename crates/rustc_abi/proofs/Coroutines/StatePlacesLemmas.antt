@@ -10,7 +10,8 @@ use Rattle.abi_scalar.specs.Variant.{variant_layout}
 use Rattle.abi_lists.specs.Apart.{AreApart, IsBeside}
 use Rattle.abi_laid.specs.Tree.{Trees, no_trees, more_trees}
 use Rattle.abi_laid.specs.declared.mark.Mark.TheVariants.{Plain}
-use Rattle.abi_laid.specs.Placed.{Placed, Layout, Arms, no_arms, arm, size_of}
+use Rattle.abi_laid.specs.Placed.{Placed, Arms, no_arms, arm, size_of}
+use Rattle.abi_scalar.specs.Layout.{Layout}
 use Rattle.abi_laid.specs.Values.{LocalsHaveValues, LocalsOfEach}
 use Rattle.abi_laid.specs.Room.{arms_have_room}
 use Rattle.abi_laid.specs.Fits.{Fits}

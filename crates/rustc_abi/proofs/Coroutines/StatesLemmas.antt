@@ -11,7 +11,8 @@ use Rattle.abi_scalar.specs.Scalar.{scalar_size, IsNumberOf}
 use Rattle.abi_laid.specs.Tree.{Tree, coroutine, Trees}
 use Rattle.abi_laid.specs.Bytes.{AreBytes, bytes_at, number_of}
 use Rattle.abi_laid.specs.Value.{Value, number, two, list, variant, state, bytes}
-use Rattle.abi_laid.specs.Placed.{Placed, Layout, Parts, Arms, size_of, states}
+use Rattle.abi_laid.specs.Placed.{Placed, Parts, Arms, size_of, states}
+use Rattle.abi_scalar.specs.Layout.{Layout}
 use Rattle.abi_laid.specs.Places.{is_data_place, is_place_of_part, is_place_of_arm}
 use Rattle.abi_laid.specs.Tag.{NamesDirectly}
 use Rattle.abi_laid.specs.Values.{IsValueOf}

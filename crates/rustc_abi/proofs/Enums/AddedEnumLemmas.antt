@@ -23,9 +23,10 @@ use Rattle.std.specs.Prelude.{Vec}
 use Rattle.std.specs.declared.alloc.Global.{Global}
 use Rattle.abi_laid.specs.declared.node.Node.{Node}
 use Rattle.abi_laid.specs.Tree.{Variants, enum}
-use Rattle.abi_laid.specs.Placed.{Placed, Layout, layout_of}
+use Rattle.abi_laid.specs.Placed.{Placed, layout_of}
+use Rattle.abi_scalar.specs.Layout.{Layout}
 use Rattle.rustc_abi.specs.Error.{IsRefused, lay_error}
-use Rattle.rustc_abi.specs.Enums.{IsCalculated, IsEnumed, IsTagInteger, discriminants_of, layouts_of, numbered_from}
+use Rattle.rustc_abi.specs.Enums.{IsCalculated, IsEnumed, IsTagIntegerAnswer, discriminants_of, layouts_of, numbered_from}
 use Rattle.rustc_abi.specs.Laying.{IsEnumOf, IsLaying, VariantsLaying, enum_fault, placed_enum}
 use Rattle.abi_laid.specs.Well.{IsPut}
 use Rattle.rustc_abi.specs.Adding.{HasReadableTag, HasVariants, IsAdded, VariantsFit, variants_in}
@@ -99,19 +100,19 @@ memory_or calculator.OutOfMemory = inl refl
 module _ {H : Type 0} (f : H → Layout) (dl : TargetDataLayout) (repr : ReprOptions) (numbers : List ℕ) (hs : List (List H)) (variants : List (List Placed)) (same : map (map f) hs ≡ layouts_of variants) where
   abbrev Lent : Result Layout (LayoutCalculatorError H) → Type 0
   Lent r =
-      IsTypeAnswer f (λ i. i) (λ i. i) (λ i. i) (λ i. i) dl repr hs true true Enabled (IsTagInteger dl repr) (λ items. items ≡ numbered_from 0 numbers) (path_of true repr (map (map f) hs)) r
+      IsTypeAnswer f (λ i. i) (λ i. i) (λ i. i) (λ i. i) dl repr hs true true Enabled (IsTagIntegerAnswer dl repr) (λ items. items ≡ numbered_from 0 numbers) (path_of true repr (map (map f) hs)) r
 
   pub enumed_ok : (l : Layout) → Lent (Ok l) → IsEnumed dl repr numbers variants (Ok l)
   enumed_ok l h =
-      subst (λ ls. IsTypeAnswer layout_of (λ i. i) (λ i. i) (λ i. i) (λ i. i) dl repr variants true true Enabled (IsTagInteger dl repr) (λ items. items ≡ numbered_from 0 numbers) (path_of true repr ls) (Ok l)) same
-      (same_type f layout_of dl repr hs variants same true true Enabled (IsTagInteger dl repr) (λ items. items ≡ numbered_from 0 numbers) (path_of true repr (map (map f) hs)) l h)
+      subst (λ ls. IsTypeAnswer layout_of (λ i. i) (λ i. i) (λ i. i) (λ i. i) dl repr variants true true Enabled (IsTagIntegerAnswer dl repr) (λ items. items ≡ numbered_from 0 numbers) (path_of true repr ls) (Ok l)) same
+      (same_type f layout_of dl repr hs variants same true true Enabled (IsTagIntegerAnswer dl repr) (λ items. items ≡ numbered_from 0 numbers) (path_of true repr (map (map f) hs)) l h)
 
   pub enumed_err : (e : LayoutCalculatorError H) → Lent (Err e) → IsRefused (IsEnumed dl repr numbers variants) (lay_error e)
   enumed_err e h =
-      let found = same_type_error f layout_of dl repr hs variants same true true Enabled (IsTagInteger dl repr) (λ items. items ≡ numbered_from 0 numbers) (path_of true repr (map (map f) hs)) e h in
+      let found = same_type_error f layout_of dl repr hs variants same true true Enabled (IsTagIntegerAnswer dl repr) (λ items. items ≡ numbered_from 0 numbers) (path_of true repr (map (map f) hs)) e h in
       let name : lay_error e ≡ lay_error found.0 = same_name e found.0 found.2 in
       let answer : IsCalculated dl repr numbers variants (Err found.0) =
-      subst (λ ls. IsTypeAnswer layout_of (λ i. i) (λ i. i) (λ i. i) (λ i. i) dl repr variants true true Enabled (IsTagInteger dl repr) (λ items. items ≡ numbered_from 0 numbers) (path_of true repr ls) (Err found.0)) same found.1 in
+      subst (λ ls. IsTypeAnswer layout_of (λ i. i) (λ i. i) (λ i. i) (λ i. i) dl repr variants true true Enabled (IsTagIntegerAnswer dl repr) (λ items. items ≡ numbered_from 0 numbers) (path_of true repr ls) (Err found.0)) same found.1 in
       ⊎_elim (λ want. inl (name ∙ want)) (λ other. inr (found.0, answer, other, name)) (memory_or found.0)
 
 -- layouts that are lent are lawful where the types' are

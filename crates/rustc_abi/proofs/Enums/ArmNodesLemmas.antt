@@ -16,7 +16,8 @@ use Rattle.abi_scalar.specs.Variant.{variant_layout, variants_of}
 use Rattle.abi_laid.specs.declared.node.Shape.TheVariants.{Fields, Tagged}
 use Rattle.abi_laid.specs.declared.node.Node.{Node}
 use Rattle.abi_laid.specs.declared.mark.Mark.{Mark}
-use Rattle.abi_laid.specs.Placed.{Placed, Layout, layout_of, size_of, tagged, Parts, Arms, no_arms, arm}
+use Rattle.abi_laid.specs.Placed.{Placed, layout_of, size_of, tagged, Parts, Arms, no_arms, arm}
+use Rattle.abi_scalar.specs.Layout.{Layout}
 use Rattle.abi_laid.specs.Nodes.{placed_in, parts_at, arms_in, own_arm, own_fields, own_mark, encoding_of, tag_offset, meaning, types_in, placed_at, Keeps}
 use Rattle.rustc_abi.specs.Enums.{arms_at}
 use Rattle.rustc_abi.specs.Inside.{EndInside, IsFlaggedByField, VariantsInside}

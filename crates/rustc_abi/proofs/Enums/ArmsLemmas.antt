@@ -16,7 +16,8 @@ use Rattle.abi_calc.specs.Enums.Places.{AreApartBehind}
 use Rattle.abi_laid.specs.Tree.{enum, Trees, no_trees, Variants, no_variants, more_variants}
 use Rattle.abi_laid.specs.declared.mark.Mark.{Mark}
 use Rattle.abi_laid.specs.Mark.{mark_of}
-use Rattle.abi_laid.specs.Placed.{Placed, Layout, layout_of, size_of, Arms, arm, tagged, parts_of_arm, is_flagged}
+use Rattle.abi_laid.specs.Placed.{Placed, layout_of, size_of, Arms, arm, tagged, parts_of_arm, is_flagged}
+use Rattle.abi_scalar.specs.Layout.{Layout}
 use Rattle.abi_laid.specs.Room.{arms_have_room}
 use Rattle.abi_laid.specs.Value.{Value, number, two, list, variant, state, bytes, Values}
 use Rattle.abi_laid.specs.Values.{IsValueOf, AreValuesOfVariant, LocalsOfVariants, VectorsOfVariants}

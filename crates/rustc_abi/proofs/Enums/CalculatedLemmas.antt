@@ -32,10 +32,11 @@ use Rattle.abi_calc.proofs.EnumLemmas.Whole.{index_within, several_some}
 use Rattle.abi_calc.proofs.EnumLemmas.GoodLists.{good_list}
 use Rattle.abi_laid.specs.Tree.{Variants, enum, struct}
 use Rattle.abi_laid.specs.Mark.{mark_of}
-use Rattle.abi_laid.specs.Placed.{Placed, Layout, layout_of, fields}
+use Rattle.abi_laid.specs.Placed.{Placed, layout_of, fields}
+use Rattle.abi_scalar.specs.Layout.{Layout}
 use Rattle.abi_laid.specs.Fits.{Fits}
 use Rattle.abi_laid.specs.Nodes.{parts_at}
-use Rattle.rustc_abi.specs.Enums.{IsCalculated, IsTagInteger, discriminants_of, layouts_of, numbered_from}
+use Rattle.rustc_abi.specs.Enums.{IsCalculated, IsTagIntegerAnswer, discriminants_of, layouts_of, numbered_from}
 use Rattle.rustc_abi.specs.Laying.{placed_enum}
 use Rattle.rustc_abi.specs.Adding.{HasReadableTag, HasVariants, VariantsFit}
 use Rattle.rustc_abi.proofs.Enums.ArmsLemmas.{EachApart, apart_behind, apart_beside}
@@ -72,10 +73,10 @@ readable dl (Multiple tag encoding field layouts) h = lawful_readable dl tag h
 
 module _ (dl : TargetDataLayout) (law : IsLawfulDataLayout dl) (repr : ReprOptions) (numbers : List ℕ) (variants : List (List Placed)) (aligns : HasLawfulAligns repr)
     (lawful : All (All (λ p. IsLawfulLayout dl (layout_of p))) variants) (each : HasOneEach (λ v. v) (length variants) (numbered_from 0 numbers))
-    (tags : AreLawfulTags (λ v. v) dl repr (IsTagInteger dl repr) (layouts_of variants) (numbered_from 0 numbers)) where
+    (tags : AreLawfulTags (λ v. v) dl repr (IsTagIntegerAnswer dl repr) (layouts_of variants) (numbered_from 0 numbers)) where
   abbrev Answers : Path → Layout → Type 0
   Answers path l =
-      IsTypeAnswer layout_of (λ i. i) (λ i. i) (λ i. i) (λ i. i) dl repr variants true true Enabled (IsTagInteger dl repr) (λ items. items ≡ numbered_from 0 numbers) path (Ok l)
+      IsTypeAnswer layout_of (λ i. i) (λ i. i) (λ i. i) (λ i. i) dl repr variants true true Enabled (IsTagIntegerAnswer dl repr) (λ items. items ≡ numbered_from 0 numbers) path (Ok l)
 
   never_is_lawful : IsLawfulLayout {F = ℕ} {V = ℕ} dl (never_layout dl)
   never_is_lawful = empty_lawful dl true (never_layout dl) law refl refl refl refl tt
@@ -84,7 +85,7 @@ module _ (dl : TargetDataLayout) (law : IsLawfulDataLayout dl) (repr : ReprOptio
   some_variant path = several_some layout_of repr variants true path
 
   pub told : path_of true repr (layouts_of variants) ≡ Several → (l : Layout) → Answers Several l → AreToldApart dl (λ v. v) (layouts_of variants) (numbered_from 0 numbers) l
-  told path l h = enum_told layout_of dl law repr (IsTagInteger dl repr) variants (numbered_from 0 numbers) aligns lawful (some_variant path) each tags l h
+  told path l h = enum_told layout_of dl law repr (IsTagIntegerAnswer dl repr) variants (numbered_from 0 numbers) aligns lawful (some_variant path) each tags l h
 
   -- its layout is lawful
   lawful_by : (path : Path) → path_of true repr (layouts_of variants) ≡ path → (l : Layout) → Answers path l → IsLawfulLayout dl l
@@ -92,7 +93,7 @@ module _ (dl : TargetDataLayout) (law : IsLawfulDataLayout dl) (repr : ReprOptio
   lawful_by (OneList i) path l h =
       let good = good_list layout_of (λ i. i) 0 dl repr AlwaysSized (variant_at variants i) h.0 law (lawful_at dl variants i lawful) aligns tt tt h.1 in
       subst (IsLawfulLayout dl) (sym h.2) (single_lawful i dl Enabled h.0 good.lawful)
-  lawful_by Several path l h = enum_lawful layout_of dl law repr (IsTagInteger dl repr) variants (numbered_from 0 numbers) aligns lawful (some_variant path) each tags l h
+  lawful_by Several path l h = enum_lawful layout_of dl law repr (IsTagIntegerAnswer dl repr) variants (numbered_from 0 numbers) aligns lawful (some_variant path) each tags l h
 
   pub calculated_lawful : (l : Layout) → IsCalculated dl repr numbers variants (Ok l) → IsLawfulLayout dl l
   calculated_lawful l h = lawful_by (path_of true repr (layouts_of variants)) refl l h
@@ -144,7 +145,7 @@ module _ (dl : TargetDataLayout) (law : IsLawfulDataLayout dl) (repr : ReprOptio
     fits_by (OneList i) path l h = fits_one i path l h
     fits_by Several path l h =
         let law_l = lawful_by Several path l h in
-        let flag = enum_flag layout_of dl law repr (IsTagInteger dl repr) variants (numbered_from 0 numbers) aligns lawful (some_variant path) each tags l h in
+        let flag = enum_flag layout_of dl law repr (IsTagIntegerAnswer dl repr) variants (numbered_from 0 numbers) aligns lawful (some_variant path) each tags l h in
         subst (λ ns. Fits dl (enum repr all) (placed_enum dl repr ns variants l)) (sym is)
         (⊎_elim
         (λ t. Fits-by-tag dl repr all variants l (some_variant path) fits law_l flag t)

@@ -31,7 +31,8 @@ use Rattle.abi_laid.specs.Bytes.{bytes_at, number_of}
 use Rattle.abi_laid.specs.Value.{Value, number, two, list, variant, state, bytes, Values, no_values, more_values}
 use Rattle.abi_laid.specs.declared.mark.Mark.{Mark}
 use Rattle.abi_laid.specs.Mark.{mark_of}
-use Rattle.abi_laid.specs.Placed.{Placed, Layout, Arms, layout_of, size_of, tagged}
+use Rattle.abi_laid.specs.Placed.{Placed, Arms, layout_of, size_of, tagged}
+use Rattle.abi_scalar.specs.Layout.{Layout}
 use Rattle.abi_laid.specs.Room.{has_room}
 use Rattle.abi_laid.specs.Holding.{Holds, HoldParts, HoldArm}
 use Rattle.abi_laid.specs.Faithful.{IsFaithful, IsTrueOf, IsScalarTrue}

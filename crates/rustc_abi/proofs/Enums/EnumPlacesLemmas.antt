@@ -35,11 +35,12 @@ use Rattle.abi_laid.specs.declared.node.Shape.TheVariants.{Single}
 use Rattle.abi_laid.specs.Well.{all_at}
 use Rattle.rustc_abi.specs.Adding.{variants_in}
 use Rattle.abi_laid.specs.Nodes.{placed_in, types_in}
-use Rattle.rustc_abi.specs.Enums.{IsEnumed, IsTagInteger, layouts_of, numbered_from}
+use Rattle.rustc_abi.specs.Enums.{IsEnumed, IsTagIntegerAnswer, layouts_of, numbered_from}
 use Rattle.abi_laid.specs.Laws.{have_places, keeps_laws, sizes_at}
 use Rattle.rustc_abi.specs.Adding.{HavePlaces}
 use Rattle.rustc_abi.specs.Laying.{enum_fault, most_fields}
-use Rattle.abi_laid.specs.Placed.{Placed, Layout, layout_of, size_of}
+use Rattle.abi_laid.specs.Placed.{Placed, layout_of, size_of}
+use Rattle.abi_scalar.specs.Layout.{Layout}
 use Rattle.rustc_abi.proofs.Enums.ArmsLemmas.{apart_beside}
 use Rattle.rustc_abi.proofs.Enums.CalculatedLemmas.{lawful_at, some_variant, told}
 use Rattle.rustc_abi.proofs.Faults.FaultlessLemmas.{few_fields}
@@ -69,7 +70,7 @@ module _ (dl : TargetDataLayout) (law : IsLawfulDataLayout dl) (repr : ReprOptio
     (long : length numbers ≡ length variants) (lawful : All (All (λ p. IsLawfulLayout dl (layout_of p))) variants) where
   abbrev Answers : Path → Layout → Type 0
   Answers path l =
-      IsTypeAnswer layout_of (λ i. i) (λ i. i) (λ i. i) (λ i. i) dl repr variants true true Enabled (IsTagInteger dl repr) (λ items. items ≡ numbered_from 0 numbers) path (Ok l)
+      IsTypeAnswer layout_of (λ i. i) (λ i. i) (λ i. i) (λ i. i) dl repr variants true true Enabled (IsTagIntegerAnswer dl repr) (λ items. items ≡ numbered_from 0 numbers) path (Ok l)
 
   -- the one variant that is left
   places_one : (i : ℕ) (l : Layout) → Answers (OneList i) l → HavePlaces dl l variants l.variants

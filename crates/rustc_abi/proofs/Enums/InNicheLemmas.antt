@@ -18,7 +18,8 @@ use Rattle.abi_laid.specs.Tree.{Tree, enum, Variants, no_variants, more_variants
 use Rattle.abi_laid.specs.Bytes.{AreBytes, bytes_at, number_of}
 use Rattle.abi_laid.specs.Value.{Value, number, two, list, variant, state, bytes, Values}
 use Rattle.abi_laid.specs.Mark.{mark_of}
-use Rattle.abi_laid.specs.Placed.{Placed, Layout, Arms, no_arms, arm, size_of, tagged, parts_of_arm, is_flagged}
+use Rattle.abi_laid.specs.Placed.{Placed, Arms, no_arms, arm, size_of, tagged, parts_of_arm, is_flagged}
+use Rattle.abi_scalar.specs.Layout.{Layout}
 use Rattle.abi_laid.specs.Places.{is_data_place, is_place_of_part, is_place_of_arm}
 use Rattle.abi_laid.specs.Tag.{NamesByNiche, niche_number}
 use Rattle.abi_laid.specs.Values.{IsValueOf, AreValuesOfVariant}

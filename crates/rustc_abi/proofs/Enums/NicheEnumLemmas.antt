@@ -26,7 +26,8 @@ use Rattle.abi_calc.specs.Enums.Beside.{IsToldByNiche}
 use Rattle.rustc_abi.specs.Enums.{layouts_of, arms_at, discriminants_of}
 use Rattle.abi_laid.specs.Mark.{mark_of}
 use Rattle.abi_laid.specs.declared.mark.Mark.{Mark}
-use Rattle.abi_laid.specs.Placed.{parts_of_arm, Placed, layout_of, is_flagged, size_of, Layout, Arms, tagged}
+use Rattle.abi_laid.specs.Placed.{parts_of_arm, Placed, layout_of, is_flagged, size_of, Arms, tagged}
+use Rattle.abi_scalar.specs.Layout.{Layout}
 use Rattle.abi_laid.specs.Tree.{Variants, enum}
 use Rattle.rustc_abi.specs.Adding.{VariantsFit}
 use Rattle.abi_laid.specs.Fits.{Fits}

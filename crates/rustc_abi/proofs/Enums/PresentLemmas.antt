@@ -8,7 +8,7 @@ use Rattle.abi_scalar.specs.declared.repr.ReprOptions.{ReprOptions}
 use Rattle.abi_lists.specs.Placement.{source_order}
 use Rattle.abi_calc.specs.declared.enums.path.Path.TheVariants.{NoValue, OneList}
 use Rattle.abi_calc.specs.Enums.Path.{has_no_value, is_absent, is_free, is_present, path_among, path_of, present_of, variant_at}
-use Rattle.abi_laid.specs.Placed.{Layout}
+use Rattle.abi_scalar.specs.Layout.{Layout}
 
 -- where none is kept, each fails the test
 none_step : (test : ℕ → Bool) (x : ℕ) (xs : List ℕ) (b : Bool) → test x ≡ b → cond b (x ∷ filter test xs) (filter test xs) ≡ [] →

@@ -13,7 +13,8 @@ use Rattle.abi_calc.specs.Enums.Path.{variant_at, has_no_value}
 use Rattle.abi_laid.specs.Tree.{Trees, Tree, Variants, struct, enum, no_trees, more_trees, no_variants, more_variants}
 use Rattle.abi_laid.specs.Values.{LocalsOfVariants, LocalsOfEach, VectorsOfVariants, VectorsOfEach, VectorsHaveValues, AreValuesOfVariant, AreValuesOf, IsValueOf}
 use Rattle.abi_laid.specs.Mark.{mark_of}
-use Rattle.abi_laid.specs.Placed.{Parts, no_parts, Placed, layout_of, first_part, more_parts, Layout, size_of, single, fields, never}
+use Rattle.abi_laid.specs.Placed.{Parts, no_parts, Placed, layout_of, first_part, more_parts, size_of, single, fields, never}
+use Rattle.abi_scalar.specs.Layout.{Layout}
 use Rattle.abi_laid.specs.Value.{Values, Value, number, two, list, variant, state, bytes, no_values, more_values}
 use Rattle.rustc_abi.specs.Adding.{VariantsFit, EachFits}
 use Rattle.rustc_abi.specs.Enums.{layouts_of}

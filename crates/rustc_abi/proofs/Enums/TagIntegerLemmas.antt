@@ -27,8 +27,8 @@ use Rattle.abi_calc.specs.Enums.Answer.{HasOneEach}
 use Rattle.abi_calc.specs.Enums.Discriminants.{IsAskedWith, counting_of, counts, discr_bits, inhabited_of, meant_by}
 use Rattle.abi_calc.specs.Enums.Path.{has_no_value, variant_at}
 use Rattle.abi_calc.specs.Enums.Several.{AreLawfulTags, IsLawfulTag}
-use Rattle.abi_laid.specs.Placed.{Layout}
-use Rattle.rustc_abi.specs.Enums.{IsTagInteger, has_equal, holds_both, is_discriminant, is_negative, least_integer, least_tag, numbered_from, tag_integer}
+use Rattle.abi_scalar.specs.Layout.{Layout}
+use Rattle.rustc_abi.specs.Enums.{IsTagIntegerAnswer, has_equal, holds_both, is_discriminant, is_negative, least_integer, least_tag, numbered_from, tag_integer}
 
 -- ---- each variant has a discriminant
 
@@ -44,12 +44,12 @@ one_each numbers count long =
 -- ---- there is one integer
 
 -- the question for the tag's integer has an answer, whatever the ends
-pub tag_integer_total : (dl : TargetDataLayout) (repr : ReprOptions) (from : RangeFrom ℤ) (to : RangeToInclusive ℕ) → (x : Integer × Bool) × IsTagInteger dl repr from to x
+pub tag_integer_total : (dl : TargetDataLayout) (repr : ReprOptions) (from : RangeFrom ℤ) (to : RangeToInclusive ℕ) → (x : Integer × Bool) × IsTagIntegerAnswer dl repr from to x
 tag_integer_total dl repr from to = (tag_integer dl repr from.start to.last, refl)
 
 -- and only one
 pub tag_integer_one : (dl : TargetDataLayout) (repr : ReprOptions) (from : RangeFrom ℤ) (to : RangeToInclusive ℕ) (x y : Integer × Bool)
-    → IsTagInteger dl repr from to x → IsTagInteger dl repr from to y → x ≡ y
+    → IsTagIntegerAnswer dl repr from to x → IsTagIntegerAnswer dl repr from to y → x ≡ y
 tag_integer_one dl repr from to x y h k = h ∙ sym k
 
 -- ---- numbers of 128 bits, cut to fewer
@@ -468,7 +468,7 @@ answer_by dl repr least greatest int =
 -- Each answer to the question for the tag's integer is a lawful one, where the discriminants are all of their type and all different.
 pub lawful_tags : (dl : TargetDataLayout) → IsLawfulDataLayout dl → (repr : ReprOptions) (numbers : List ℕ) (layouts : List (List Layout))
     → has_equal numbers ≡ false → list_all (is_discriminant dl repr) numbers ≡ true
-    → AreLawfulTags (λ i. i) dl repr (IsTagInteger dl repr) layouts (numbered_from 0 numbers)
+    → AreLawfulTags (λ i. i) dl repr (IsTagIntegerAnswer dl repr) layouts (numbered_from 0 numbers)
 lawful_tags dl law repr numbers layouts apart fits asked signed (least, greatest, ends, is) = by repr.int refl
   where
     answer : (o : Option IntegerType) → repr.int ≡ o → asked ≡ (answer_by dl repr least greatest o).0

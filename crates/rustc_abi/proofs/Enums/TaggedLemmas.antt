@@ -17,7 +17,8 @@ use Rattle.abi_laid.specs.Tree.{Tree, enum, Trees, no_trees, more_trees, Variant
 use Rattle.abi_laid.specs.Bytes.{AreBytes, bytes_at, number_of}
 use Rattle.abi_laid.specs.Value.{Value, number, two, list, variant, state, bytes, Values, no_values, more_values}
 use Rattle.abi_laid.specs.Mark.{mark_of}
-use Rattle.abi_laid.specs.Placed.{Placed, Layout, Parts, no_parts, part, Arms, no_arms, arm, layout_of, size_of, tagged, parts_of_arm, is_flagged}
+use Rattle.abi_laid.specs.Placed.{Placed, Parts, no_parts, part, Arms, no_arms, arm, layout_of, size_of, tagged, parts_of_arm, is_flagged}
+use Rattle.abi_scalar.specs.Layout.{Layout}
 use Rattle.abi_laid.specs.Places.{is_data_place, is_place_of_part, is_place_of_arm}
 use Rattle.abi_laid.specs.Tag.{NamesDirectly}
 use Rattle.abi_laid.specs.Values.{IsValueOf, AreValuesOf, AreValuesOfVariant, VectorsHaveValues}

@@ -21,7 +21,8 @@ use Rattle.abi_lists.specs.ListView.{any_unsized, bulky_parts, bulky_view, kept_
 use Rattle.abi_lists.specs.Part.{part_of}
 use Rattle.abi_lists.specs.Placement.{no_part}
 use Rattle.abi_lists.specs.Union.{CountsForView, HasView, IsUnionView}
-use Rattle.abi_laid.specs.Placed.{Placed, Layout, layout_of, nothing, size_of}
+use Rattle.abi_laid.specs.Placed.{Placed, layout_of, nothing, size_of}
+use Rattle.abi_scalar.specs.Layout.{Layout}
 use Rattle.abi_laid.specs.Places.{is_data_place, is_place_of_part}
 use Rattle.abi_laid.specs.Nodes.{parts_at}
 

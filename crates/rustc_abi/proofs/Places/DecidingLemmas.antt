@@ -35,9 +35,10 @@ use Rattle.abi_calc.proofs.EnumLemmas.Whole.{several_some}
 use Rattle.abi_laid.specs.declared.mark.Mark.{Mark}
 use Rattle.abi_laid.specs.declared.mark.Mark.TheVariants.{Never, Plain, Unit}
 use Rattle.abi_laid.specs.Mark.{mark_of}
-use Rattle.abi_laid.specs.Bytes.{AreBytes, place_count}
+use Rattle.abi_laid.specs.Bytes.{AreBytes, count_picked}
 use Rattle.abi_laid.specs.Tree.{Tree, scalar, pair, never, unit, array, vector, struct, union, enum, coroutine, Trees, no_trees, more_trees, Variants, no_variants, more_variants}
-use Rattle.abi_laid.specs.Placed.{Placed, Layout, layout_of, size_of, elements, fields, no_parts, never as placed_never, vector as placed_vector, Parts, part, Arms, no_arms, arm, parts_of_arm}
+use Rattle.abi_laid.specs.Placed.{Placed, layout_of, size_of, elements, fields, no_parts, never as placed_never, vector as placed_vector, Parts, part, Arms, no_arms, arm, parts_of_arm}
+use Rattle.abi_scalar.specs.Layout.{Layout}
 use Rattle.abi_laid.specs.Places.{is_data_place, is_place_of_part}
 use Rattle.abi_laid.specs.Value.{Value, value_count, Each}
 use Rattle.abi_laid.specs.Values.{AreValuesOf, AreValuesOfVariant, EachAt, HaveValues, IsValueAt, IsValueOf, LocalsHaveValues, LocalsOfEach, LocalsOfVariants}
@@ -46,11 +47,11 @@ use Rattle.abi_laid.specs.Deciding.{arm_for, arm_values, covering_value, coverin
 use Rattle.abi_laid.proofs.CoverableLemmas.{ArmsCover, Covers, PartsCover, covers_elements, covers_fields, covers_pair, covers_scalar, covers_single, covers_states, covers_tagged, covers_union, covers_vector}
 use Rattle.rustc_abi.specs.Count.{arm_count}
 use Rattle.rustc_abi.specs.Coroutines.{IsStated}
-use Rattle.rustc_abi.specs.Enums.{IsEnumed, IsTagInteger, arms_at, discriminants_of, layouts_of, numbered_from}
+use Rattle.rustc_abi.specs.Enums.{IsEnumed, IsTagIntegerAnswer, arms_at, discriminants_of, layouts_of, numbered_from}
 use Rattle.rustc_abi.specs.Error.{named}
 use Rattle.rustc_abi.specs.Everywhere.{HaveLocals}
 use Rattle.rustc_abi.specs.Inhabited.{AreInhabited, EachInhabited, IsInhabited, VariantsInhabited}
-use Rattle.rustc_abi.specs.Laying.{AreLaying, IsLaying, IsListed, IsListedInOrder, IsUnited, VariantsLaying, coroutine_fault, enum_fault, fields_fault, kind_of, lanes_of, one_scalar, ordered_fault, pair_answer, placed_coroutine, placed_enum, placed_fields, placed_together, placed_variants, randomized, scalar_answer, two_scalars, unless}
+use Rattle.rustc_abi.specs.Laying.{AreLaying, IsLaying, IsLaidList, IsListedInOrder, IsUnited, VariantsLaying, coroutine_fault, enum_fault, fields_fault, kind_of, lanes_of, one_scalar, ordered_fault, pair_answer, placed_coroutine, placed_enum, placed_fields, placed_together, placed_variants, randomized, scalar_answer, two_scalars, unless}
 use Rattle.rustc_abi.specs.Least.{fields_of}
 use Rattle.rustc_abi.specs.ScalarFault.{scalar_fault}
 use Rattle.rustc_abi.specs.declared.error.LayError.{LayError}
@@ -228,7 +229,7 @@ module _ (dl : TargetDataLayout) (law : IsLawfulDataLayout dl) where
     facts_by Several way l h =
         let some = several_some layout_of repr variants true way in
         by_arms dl law repr (discriminants_of all) variants none long whole (λ vs. HasOwnNumber (length variants) vs → Facts l vs) l way h (λ tag encoding field layouts apart own. (some, own))
-        (enum_span layout_of dl law repr (IsTagInteger dl repr) variants (numbered_from 0 (discriminants_of all))
+        (enum_span layout_of dl law repr (IsTagIntegerAnswer dl repr) variants (numbered_from 0 (discriminants_of all))
         (aligns_of dl law repr (discriminants_of all) variants none long) (each_lawful dl variants whole) some
         (each_of dl law repr (discriminants_of all) variants none long) (tags_of dl law repr (discriminants_of all) variants none long) l h)
 
@@ -362,7 +363,7 @@ module _ (dl : TargetDataLayout) (law : IsLawfulDataLayout dl) where
 
   union_coverable : (repr : ReprOptions) (ts : Trees) (ps : List Placed) (layout : Layout) → AreCoverable dl ts ps → IsCoverable dl (union repr ts) (placed_together repr ps layout)
   union_coverable repr ts ps layout own =
-      let count : ℕ = place_count (is_data_place (placed_together repr ps layout)) 0 layout.size in
+      let count : ℕ = count_picked (is_data_place (placed_together repr ps layout)) 0 layout.size in
       record {
         value = λ place. (zero_bytes count, length-replicate count 0);
         covers = covers_union layout (mark_of false repr) (parts_at_0 ps);
@@ -414,7 +415,7 @@ module _ (dl : TargetDataLayout) (law : IsLawfulDataLayout dl) where
         subst (IsCoverable dl (vector lanes packed element)) found.2 (vector_coverable element found.0 lanes packed q (coverable element q there some.0))
     coverable (struct repr always_sized order all) p (inl f) some = absurd (cc f.2)
     coverable (struct repr always_sized None all) p (inr (ps, there, answer)) some =
-        let found = laid_by (fields_fault repr ps) (IsListed dl repr (kind_of always_sized ps) (map layout_of ps)) (placed_fields repr ps) p answer in
+        let found = laid_by (fields_fault repr ps) (IsLaidList dl repr (kind_of always_sized ps) (map layout_of ps)) (placed_fields repr ps) p answer in
         let count = listed_count dl repr always_sized ps (all_whole dl law all ps there) found.0 found.1 in
         subst (IsCoverable dl (struct repr always_sized None all)) found.2 (fields_coverable repr always_sized None all ps found.0 count (are_coverable all ps there some.0))
     coverable (struct repr always_sized (Some order) all) p (inr (ps, there, answer)) some =

@@ -21,13 +21,14 @@ use Rattle.abi_calc.specs.Enums.Path.{has_no_value, path_of, variant_at}
 use Rattle.abi_calc.proofs.EnumLemmas.Deep.{enum_flag}
 use Rattle.abi_laid.specs.declared.mark.Mark.TheVariants.{Unit}
 use Rattle.abi_laid.specs.Tree.{Tree, scalar, pair, never, unit, array, vector, struct, union, enum, coroutine, Trees, no_trees, more_trees, Variants, no_variants, more_variants}
-use Rattle.abi_laid.specs.Placed.{Placed, Layout, layout_of, size_of, fields, no_parts, vector as placed_vector}
+use Rattle.abi_laid.specs.Placed.{Placed, layout_of, size_of, fields, no_parts, vector as placed_vector}
+use Rattle.abi_scalar.specs.Layout.{Layout}
 use Rattle.abi_laid.specs.Value.{Value, number, two, list, variant, state, bytes}
 use Rattle.abi_laid.specs.Values.{HasValue, IsValueOf}
-use Rattle.rustc_abi.specs.Enums.{IsEnumed, IsTagInteger, discriminants_of, layouts_of, numbered_from}
+use Rattle.rustc_abi.specs.Enums.{IsEnumed, IsTagIntegerAnswer, discriminants_of, layouts_of, numbered_from}
 use Rattle.rustc_abi.specs.Error.{named}
 use Rattle.rustc_abi.specs.Inhabited.{AreInhabited, EachHasValue, EachInhabited, HaveValuesEach, VariantsHaveValues, VariantsInhabited}
-use Rattle.rustc_abi.specs.Laying.{AreLaying, IsLaying, IsListed, IsListedInOrder, IsUnited, VariantsLaying, coroutine_fault, enum_fault, fields_fault, kind_of, lanes_of, one_scalar, ordered_fault, pair_answer, placed_enum, placed_fields, placed_together, randomized, scalar_answer, two_scalars, unless}
+use Rattle.rustc_abi.specs.Laying.{AreLaying, IsLaying, IsLaidList, IsListedInOrder, IsUnited, VariantsLaying, coroutine_fault, enum_fault, fields_fault, kind_of, lanes_of, one_scalar, ordered_fault, pair_answer, placed_enum, placed_fields, placed_together, randomized, scalar_answer, two_scalars, unless}
 use Rattle.rustc_abi.specs.ScalarFault.{scalar_fault}
 use Rattle.rustc_abi.specs.declared.error.LayError.TheVariants.{SizeOverflow}
 use Rattle.rustc_abi.proofs.Coroutines.AddedCoroutineLemmas.{coroutine_flag}
@@ -101,7 +102,7 @@ module _ (dl : TargetDataLayout) (law : IsLawfulDataLayout dl) where
       (long : length numbers ≡ length variants) (whole : All (All (IsWhole dl)) variants) (some : 0 < length variants) (own : All (All IsClear) variants) where
     abbrev Answers : Path → Layout → Type 0
     Answers path l =
-        IsTypeAnswer layout_of (λ i. i) (λ i. i) (λ i. i) (λ i. i) dl repr variants true true Enabled (IsTagInteger dl repr) (λ items. items ≡ numbered_from 0 numbers) path (Ok l)
+        IsTypeAnswer layout_of (λ i. i) (λ i. i) (λ i. i) (λ i. i) dl repr variants true true Enabled (IsTagIntegerAnswer dl repr) (λ items. items ≡ numbered_from 0 numbers) path (Ok l)
 
     clear_by : (path : Path) → path_of true repr (layouts_of variants) ≡ path → (l : Layout) → Answers path l → l.uninhabited ≡ false
     clear_by NoValue way l h =
@@ -114,7 +115,7 @@ module _ (dl : TargetDataLayout) (law : IsLawfulDataLayout dl) where
     clear_by (OneList i) way l h =
         ap (λ (m : Layout). m.uninhabited) h.2 ∙ h.1.2.uninhabited ∙ none_of (variant_at variants i) (fact_at (All IsClear) (All-nil IsClear) variants i own)
     clear_by Several way l h =
-        enum_flag layout_of dl law repr (IsTagInteger dl repr) variants (numbered_from 0 numbers) (aligns_of dl law repr numbers variants none long) (each_lawful dl variants whole) some
+        enum_flag layout_of dl law repr (IsTagIntegerAnswer dl repr) variants (numbered_from 0 numbers) (aligns_of dl law repr numbers variants none long) (each_lawful dl variants whole) some
         (each_of dl law repr numbers variants none long) (tags_of dl law repr numbers variants none long) l h
         ∙ some_clear variants some own
 
@@ -148,7 +149,7 @@ module _ (dl : TargetDataLayout) (law : IsLawfulDataLayout dl) where
     each_inhabited (struct repr always_sized order all) p (inl f) have = absurd (cc f.2)
     each_inhabited (struct repr always_sized None all) p (inr (ps, there, answer)) have =
         let own = are_inhabited all ps there have.0 in
-        let found = laid_by (fields_fault repr ps) (IsListed dl repr (kind_of always_sized ps) (map layout_of ps)) (placed_fields repr ps) p answer in
+        let found = laid_by (fields_fault repr ps) (IsLaidList dl repr (kind_of always_sized ps) (map layout_of ps)) (placed_fields repr ps) p answer in
         let clear : IsClear p = subst IsClear found.2 (found.1.2.uninhabited ∙ none_of ps own.1) in
         ((own.0, (p, inr (ps, there, answer), clear)), clear)
     each_inhabited (struct repr always_sized (Some order) all) p (inr (ps, there, answer)) have =

@@ -60,9 +60,10 @@ use Rattle.abi_calc.proofs.EnumLemmas.Several.{by_both}
 use Rattle.abi_calc.proofs.EnumLemmas.Whole.{several_some}
 use Rattle.abi_calc.proofs.EnumLemmas.GoodLists.{good_list, good_lists, tag_prefix}
 use Rattle.abi_calc.proofs.CoroutineLemmas.OneCoroutine.{lists_own}
-use Rattle.abi_laid.specs.Placed.{Placed, Layout, layout_of, size_of}
+use Rattle.abi_laid.specs.Placed.{Placed, layout_of, size_of}
+use Rattle.abi_scalar.specs.Layout.{Layout}
 use Rattle.abi_laid.specs.Nodes.{placed_in}
-use Rattle.rustc_abi.specs.Enums.{IsEnumed, IsTagInteger, layouts_of, numbered_from}
+use Rattle.rustc_abi.specs.Enums.{IsEnumed, IsTagIntegerAnswer, layouts_of, numbered_from}
 use Rattle.rustc_abi.specs.Coroutines.{IsCoroutined, conflicts_of}
 use Rattle.rustc_abi.specs.Inside.{EndInside, IsFlaggedByField, VariantsInside}
 use Rattle.rustc_abi.specs.Laying.{coroutine_fault, enum_fault, most_fields, one_scalar}
@@ -268,7 +269,7 @@ module _ (dl : TargetDataLayout) (law : IsLawfulDataLayout dl) (repr : ReprOptio
 
   -- which is the answer
   chosen_inside : (values : List ℕ) (l : Layout) (found : Option Layout) (r : Result Layout (LayoutCalculatorError Placed)) → repr.pack ≡ None → 0 < length variants → IsNiche found
-      → IsAskedAnswer layout_of (λ i. i) (λ i. i) 0 dl repr (IsTagInteger dl repr) values variants r → Ok l ≡ better_of dl r found → IsEnumInside l
+      → IsAskedAnswer layout_of (λ i. i) (λ i. i) 0 dl repr (IsTagIntegerAnswer dl repr) values variants r → Ok l ≡ better_of dl r found → IsEnumInside l
   chosen_inside values l found (Ok tagged) unpacked some niche (asked, signed, is, h) e =
       let same : better dl tagged found ≡ l = cc in
       subst IsEnumInside same (better_inside tagged found niche (with_tag asked signed values tagged unpacked some h))
@@ -276,7 +277,7 @@ module _ (dl : TargetDataLayout) (law : IsLawfulDataLayout dl) (repr : ReprOptio
 
   -- to variants that aren't packed; others have none
   several_inside : (gives : List (ℕ × ℕ) → Type 0) (l : Layout) → 0 < length variants
-      → IsSeveralAnswer layout_of (λ i. i) (λ i. i) (λ i. i) (λ i. i) dl repr (IsTagInteger dl repr) variants gives (Ok l) → IsEnumInside l
+      → IsSeveralAnswer layout_of (λ i. i) (λ i. i) (λ i. i) (λ i. i) dl repr (IsTagIntegerAnswer dl repr) variants gives (Ok l) → IsEnumInside l
   several_inside gives l some (inl packed) = absurd (cc packed.1)
   several_inside gives l some (inr (inl want)) = absurd (cc want.1)
   several_inside gives l some (inr (inr (unpacked, items, given, inl want))) = absurd (cc)
@@ -285,7 +286,7 @@ module _ (dl : TargetDataLayout) (law : IsLawfulDataLayout dl) (repr : ReprOptio
 
   -- no tag tells variants apart in a type without values, or in one that is the list of one variant
   by_path : (path : Path) → path_of true repr (layouts_of variants) ≡ path → (l : Layout)
-      → IsTypeAnswer layout_of (λ i. i) (λ i. i) (λ i. i) (λ i. i) dl repr variants true true Enabled (IsTagInteger dl repr) (λ items. items ≡ numbered_from 0 numbers) path (Ok l)
+      → IsTypeAnswer layout_of (λ i. i) (λ i. i) (λ i. i) (λ i. i) dl repr variants true true Enabled (IsTagIntegerAnswer dl repr) (λ items. items ≡ numbered_from 0 numbers) path (Ok l)
       → (tag : Scalar) (encoding : TagEncoding ℕ) (field : ℕ) (layouts : List (VariantLayout ℕ)) → l.variants ≡ Multiple tag encoding field layouts → IsEnumInside l
   by_path NoValue path l h tag encoding field layouts told =
       let same : never_layout dl ≡ l = cc in

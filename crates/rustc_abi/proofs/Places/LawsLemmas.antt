@@ -29,7 +29,8 @@ use Rattle.rustc_abi.specs.Inside.{EndInside, VariantsInside}
 use Rattle.abi_laid.specs.Laws.{end_inside, has_elements, have_lists, have_places, keeps_laws, sizes_at}
 use Rattle.rustc_abi.specs.Laying.{IsUnited, one_scalar}
 use Rattle.abi_laid.specs.Nodes.{placed_in}
-use Rattle.abi_laid.specs.Placed.{Placed, Layout, layout_of, size_of}
+use Rattle.abi_laid.specs.Placed.{Placed, layout_of, size_of}
+use Rattle.abi_scalar.specs.Layout.{Layout}
 use Rattle.rustc_abi.proofs.Unions.CalcLemmas.{united_layout, vector_made}
 use Rattle.rustc_abi.proofs.Trees.ListLemmas.{chosen}
 use Rattle.rustc_abi.proofs.Unions.UnionLemmas.{below_greatest}

@@ -34,7 +34,8 @@ use Rattle.abi_laid.specs.declared.laid.Laid.{Laid}
 use Rattle.abi_laid.specs.declared.mark.Mark.{Mark}
 use Rattle.abi_laid.specs.declared.mark.Mark.TheVariants.{Plain}
 use Rattle.abi_laid.specs.Tree.{Tree}
-use Rattle.abi_laid.specs.Placed.{Placed, Layout, Arms, layout_of, scalar, pair, never, elements, vector, fields, union, single, tagged, states, parts_of_arm, size_of}
+use Rattle.abi_laid.specs.Placed.{Placed, Arms, layout_of, scalar, pair, never, elements, vector, fields, union, single, tagged, states, parts_of_arm, size_of}
+use Rattle.abi_scalar.specs.Layout.{Layout}
 use Rattle.abi_laid.specs.Places.{is_data_place, is_place_of_arm, is_place_of_part}
 use Rattle.rustc_abi.specs.Inside.{EndInside, VariantsInside}
 use Rattle.abi_laid.specs.Laid.{placed_of, typed_of}
@@ -45,7 +46,7 @@ use Rattle.abi_laid.specs.Runs.{is_padding_of, is_place_of_variant}
 use Rattle.abi_index.specs.RangeSet.{AreMaximalRuns, is_in_ranges}
 use Rattle.abi_laid.proofs.MaximalLemmas.{padding_listed, padding_told}
 use Rattle.abi_types.specs.Ty.Runs.{IsVariantIndex}
-use Rattle.abi_laid.specs.Seen.{HasOffset, IsListOf, Sees, SeesArms, SeesParts, SeesTypes, last_of}
+use Rattle.abi_laid.specs.Seen.{HasOffset, IsListOf, Sees, SeesArms, SeesParts, SeesTypes, last_field}
 use Rattle.rustc_abi.proofs.Places.CoveredLemmas.{HasOneWhole, IsCovered, IsNoScalar, covered_parts, memory_none}
 use Rattle.rustc_abi.proofs.Trees.KindsLemmas.{AreBeside, AreFields, IsKept, IsTagWhole, laid_kept}
 use Rattle.rustc_abi.proofs.Places.LawsLemmas.{lengths_in}
@@ -384,7 +385,7 @@ module _ (dl : TargetDataLayout) (law : IsLawfulDataLayout dl) where
       IsTold (states layout (parts_at offsets pres) (get_or offsets (length pres) 0) (one_scalar dl tag) (arms_at layout Plain 0 layouts numbers variants))
   told_states layout offsets pres tag numbers layouts variants beside none front own =
       let offset : ℕ = get_or offsets (length pres) 0 in
-      let last : last_of layout ≡ length pres = let count : field_count layout.fields ≡ length offsets = ap field_count beside.shape in omega (arith, count, beside.count) in
+      let last : last_field layout ≡ length pres = let count : field_count layout.fields ≡ length offsets = ap field_count beside.shape in omega (arith, count, beside.count) in
       record {
         covered = λ s e. absurd (none s e);
         places = λ t seen.

@@ -14,7 +14,8 @@ use Rattle.abi_base.specs.DataLayout.{size_bound}
 use Rattle.abi_lists.specs.Array.{array_answer, elements_layout}
 use Rattle.rustc_abi.specs.Error.{named}
 use Rattle.abi_laid.specs.Tree.{Tree, array, vector, struct, union, enum, coroutine, Trees, Variants, tree_of, trees, trees_of_variants}
-use Rattle.abi_laid.specs.Placed.{Placed, Layout, layout_of}
+use Rattle.abi_laid.specs.Placed.{Placed, layout_of}
+use Rattle.abi_scalar.specs.Layout.{Layout}
 use Rattle.abi_laid.specs.Deciding.{are_inhabited}
 use Rattle.abi_laid.proofs.NodesLemmas.{layout_of-placed_at}
 use Rattle.abi_laid.specs.Nodes.{arms_in, placed_at}

@@ -61,10 +61,11 @@ use Rattle.abi_laid.specs.declared.mark.Mark.{Mark}
 use Rattle.abi_laid.specs.declared.mark.Mark.TheVariants.{Plain}
 use Rattle.abi_laid.specs.Mark.{mark_of}
 use Rattle.abi_laid.specs.Nodes.{parts_at, placed_in, state_tag_offset, tag_offset}
-use Rattle.abi_laid.specs.Placed.{Placed, Layout, Arms, layout_of, size_of}
+use Rattle.abi_laid.specs.Placed.{Placed, Arms, layout_of, size_of}
+use Rattle.abi_scalar.specs.Layout.{Layout}
 use Rattle.rustc_abi.specs.Coroutines.{conflicts_of}
-use Rattle.rustc_abi.specs.Enums.{IsEnumed, IsTagInteger, arms_at, counted, discriminants_of, layouts_of, numbered_from}
-use Rattle.rustc_abi.specs.Laying.{AreLaying, IsCoroutineOf, IsLaying, IsListed, VariantsLaying, coroutine_fault}
+use Rattle.rustc_abi.specs.Enums.{IsEnumed, IsTagIntegerAnswer, arms_at, counted, discriminants_of, layouts_of, numbered_from}
+use Rattle.rustc_abi.specs.Laying.{AreLaying, IsCoroutineOf, IsLaying, IsLaidList, VariantsLaying, coroutine_fault}
 use Rattle.rustc_abi.specs.Laying.{enum_fault, fields_fault, kind_of, one_scalar, placed_coroutine, placed_enum}
 use Rattle.rustc_abi.specs.Laying.{placed_fields, placed_variants}
 use Rattle.rustc_abi.specs.Least.{fields_of}
@@ -204,7 +205,7 @@ module _ (dl : TargetDataLayout) (repr : ReprOptions) where
 abbrev HasLists : TargetDataLayout → ReprOptions → (values : List ℕ) → (variants : List (List Layout)) → Layout
     → LayoutVariants ℕ ℕ → Type 0
 HasLists dl repr values variants l (Multiple tag Direct field layouts) =
-    (asked : Integer) × (signed : Bool) × IsAskedFor dl repr (IsTagInteger dl repr) values asked signed
+    (asked : Integer) × (signed : Bool) × IsAskedFor dl repr (IsTagIntegerAnswer dl repr) values asked signed
     × (integer_size asked ≤ scalar_size dl tag)
     × (lists : List Layout) × AreFieldLists (λ i. i) dl repr (behind_tag dl repr asked variants) variants lists
     × AreBehindTag (integer_size asked) (scalar_size dl tag) l.size lists layouts
@@ -222,7 +223,7 @@ module _ (dl : TargetDataLayout) (law : IsLawfulDataLayout dl) (repr : ReprOptio
       HasLists dl repr (counting_of (λ i. i) repr (map (map layout_of) variants) items)
       (map (map layout_of) variants) l l.variants
 
-  tagged_lists : OfTagged layout_of (λ i. i) (λ i. i) (λ i. i) (λ i. i) dl repr (IsTagInteger dl repr) variants Listed
+  tagged_lists : OfTagged layout_of (λ i. i) (λ i. i) (λ i. i) (λ i. i) dl repr (IsTagIntegerAnswer dl repr) variants Listed
   tagged_lists items asked signed lists t unpacked is are by =
       let grown : Integer = grown_tag dl repr asked (start_align (λ i. i) (map (map layout_of) variants) lists) in
       let tag : Scalar = Initialized (Int grown signed) by.ranged.0 in
@@ -240,7 +241,7 @@ module _ (dl : TargetDataLayout) (law : IsLawfulDataLayout dl) (repr : ReprOptio
         all_behind (integer_size asked) (integer_size grown) no_less view (lists_size dl lists) lists,
       )
 
-  niche_lists : OfNiche layout_of (λ i. i) (λ i. i) (λ i. i) (λ i. i) dl repr (IsTagInteger dl repr) variants Listed
+  niche_lists : OfNiche layout_of (λ i. i) (λ i. i) (λ i. i) (λ i. i) dl repr (IsTagIntegerAnswer dl repr) variants Listed
   niche_lists items lists t unpacked are is =
       let p = niche_parts 0 (λ i. i) dl repr (map (map layout_of) variants) lists t is in
       subst (Listed items) (sym p.is) (
@@ -262,7 +263,7 @@ module _ (dl : TargetDataLayout) (law : IsLawfulDataLayout dl) (repr : ReprOptio
       let back = variants_back l (mark_of true repr) 0 l.size layouts numbers variants apart long in (
         asked,
         signed,
-        subst (λ vs. IsAskedFor dl repr (IsTagInteger dl repr) (counted repr numbers vs) asked signed) (sym back) is,
+        subst (λ vs. IsAskedFor dl repr (IsTagIntegerAnswer dl repr) (counted repr numbers vs) asked signed) (sym back) is,
         no_less,
         subst (λ vs. AreMovedLists dl repr (behind_tag dl repr asked (layouts_of vs))
             (moved (integer_size asked) (scalar_size dl tag))
@@ -303,7 +304,7 @@ module _ (dl : TargetDataLayout) (law : IsLawfulDataLayout dl) (repr : ReprOptio
       → Answers dl law repr (discriminants_of all) variants none long whole Several (Ok l) → With l l.variants
   listed_several l way h =
       let found =
-      several_holds layout_of (λ i. i) (λ i. i) (λ i. i) (λ i. i) dl repr (IsTagInteger dl repr) variants
+      several_holds layout_of (λ i. i) (λ i. i) (λ i. i) (λ i. i) dl repr (IsTagIntegerAnswer dl repr) variants
       (Listed dl law repr (discriminants_of all) variants none long whole)
       (tagged_lists dl law repr (discriminants_of all) variants none long whole)
       (niche_lists dl law repr (discriminants_of all) variants none long whole)
@@ -482,7 +483,7 @@ module _ (dl : TargetDataLayout) (law : IsLawfulDataLayout dl) where
   -- ---- types
 
   listed_struct : (repr : ReprOptions) (always_sized : Bool) (all : Trees) (ps : List Placed) (layout : Layout)
-      → AreLaying dl all (Ok ps) → IsListed dl repr (kind_of always_sized ps) (map layout_of ps) (Ok layout)
+      → AreLaying dl all (Ok ps) → IsLaidList dl repr (kind_of always_sized ps) (map layout_of ps) (Ok layout)
       → HasLeastLists dl (struct repr always_sized None all) (placed_fields repr ps layout)
   listed_struct repr always_sized all ps layout there listed =
       let own = all_whole dl law all ps there in
@@ -502,7 +503,7 @@ module _ (dl : TargetDataLayout) (law : IsLawfulDataLayout dl) where
   pub laid_lists : (t : Tree) (p : Placed) → IsLaying dl t (Ok p) → HasLeastLists dl t p
   laid_lists (struct repr always_sized None all) p (inl f) = absurd (cc f.2)
   laid_lists (struct repr always_sized None all) p (inr (ps, there, answer)) =
-      let found = laid_by (fields_fault repr ps) (IsListed dl repr (kind_of always_sized ps) (map layout_of ps))
+      let found = laid_by (fields_fault repr ps) (IsLaidList dl repr (kind_of always_sized ps) (map layout_of ps))
       (placed_fields repr ps) p answer in
       subst (HasLeastLists dl (struct repr always_sized None all)) found.2
       (listed_struct repr always_sized all ps found.0 there found.1)

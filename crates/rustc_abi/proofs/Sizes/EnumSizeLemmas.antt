@@ -38,12 +38,13 @@ use Rattle.rustc_abi.specs.declared.error.LayError.{LayError}
 use Rattle.rustc_abi.specs.declared.error.LayError.TheVariants.{SizeOverflow}
 use Rattle.abi_laid.specs.declared.mark.Mark.{Mark}
 use Rattle.abi_laid.specs.Mark.{mark_of}
-use Rattle.abi_laid.specs.Placed.{Placed, Layout, layout_of, size_of}
+use Rattle.abi_laid.specs.Placed.{Placed, layout_of, size_of}
+use Rattle.abi_scalar.specs.Layout.{Layout}
 use Rattle.rustc_abi.specs.Error.{lay_error}
 use Rattle.abi_laid.specs.Nodes.{parts_at}
-use Rattle.rustc_abi.specs.Enums.{IsCalculated, IsEnumed, IsTagInteger, arms_at, counted, layouts_of, numbered_from}
+use Rattle.rustc_abi.specs.Enums.{IsCalculated, IsEnumed, IsTagIntegerAnswer, arms_at, counted, layouts_of, numbered_from}
 use Rattle.rustc_abi.specs.Laying.{enum_fault, placed_enum, placed_variants}
-use Rattle.rustc_abi.specs.Least.{IsEnumSized, IsEnumTooLarge, IsLeastEnum, IsTooLargeBy, fields_of, variants_of}
+use Rattle.rustc_abi.specs.Least.{IsEnumSized, IsEnumTooLarge, IsLeastEnum, IsTooLargeBy, fields_of, fields_of_arms}
 use Rattle.rustc_abi.proofs.Enums.ArmsLemmas.{EachApart, apart_behind, apart_beside}
 use Rattle.rustc_abi.proofs.Trees.LaidLemmas.{IsWhole, aligns_of, asked_sized, each_lawful, each_of, tags_of}
 use Rattle.rustc_abi.proofs.Enums.TagIntegerLemmas.{tag_integer_one}
@@ -67,14 +68,14 @@ apart_long size (o ∷ offsets) (n ∷ sizes) h = ap suc (apart_long size offset
 pub variants_back : (whole : Layout) (mark : Mark) (first : ℕ) (size : ℕ) (layouts : List (VariantLayout ℕ))
     (numbers : List ℕ) (variants : List (List Placed)) → EachApart size variants layouts
     → length numbers ≡ length variants →
-    variants_of (arms_at whole mark first layouts numbers variants) ≡ variants
+    fields_of_arms (arms_at whole mark first layouts numbers variants) ≡ variants
 variants_back whole mark first size [] numbers [] apart long = refl
 variants_back whole mark first size [] numbers (ps ∷ variants) apart long = absurd apart
 variants_back whole mark first size (l ∷ layouts) numbers [] apart long = absurd apart
 variants_back whole mark first size (l ∷ layouts) [] (ps ∷ variants) apart long = absurd (omega (arith, long))
 variants_back whole mark first size (l ∷ layouts) (n ∷ numbers) (ps ∷ variants) apart long =
     let here : fields_of (parts_at l.field_offsets ps) ≡ ps = fields_back l.field_offsets ps (omega (arith, apart_long size l.field_offsets (map size_of ps) apart.0 ∙ length-map ps size_of)) in
-    ap (λ qs. qs ∷ variants_of (arms_at whole mark (first + 1) layouts numbers variants)) here ∙ ap (λ rest. ps ∷ rest) (variants_back whole mark (first + 1) size layouts numbers variants apart.1 (omega (arith, long)))
+    ap (λ qs. qs ∷ fields_of_arms (arms_at whole mark (first + 1) layouts numbers variants)) here ∙ ap (λ rest. ps ∷ rest) (variants_back whole mark (first + 1) size layouts numbers variants apart.1 (omega (arith, long)))
 
 -- an error that is told as that of a size is it
 pub size_error : (error : LayoutCalculatorError Placed) → SizeOverflow ≡ lay_error error → error ≡ calculator.SizeOverflow
@@ -110,7 +111,7 @@ module _ (dl : TargetDataLayout) (law : IsLawfulDataLayout dl) (repr : ReprOptio
     (long : length numbers ≡ length variants) (whole : All (All (IsWhole dl)) variants) where
   abbrev pub Answers : Path → Result Layout (LayoutCalculatorError Placed) → Type 0
   Answers path r =
-      IsTypeAnswer layout_of (λ i. i) (λ i. i) (λ i. i) (λ i. i) dl repr variants true true Enabled (IsTagInteger dl repr) (λ items. items ≡ numbered_from 0 numbers) path r
+      IsTypeAnswer layout_of (λ i. i) (λ i. i) (λ i. i) (λ i. i) dl repr variants true true Enabled (IsTagIntegerAnswer dl repr) (λ items. items ≡ numbered_from 0 numbers) path r
 
   lawful : All (All (λ p. IsLawfulLayout dl (layout_of p))) variants
   lawful = each_lawful dl variants whole
@@ -123,7 +124,7 @@ module _ (dl : TargetDataLayout) (law : IsLawfulDataLayout dl) (repr : ReprOptio
 
   -- ---- when it is too large
 
-  not_packed : IsSeveralAnswer layout_of (λ i. i) (λ i. i) (λ i. i) (λ i. i) dl repr (IsTagInteger dl repr) variants (λ items. items ≡ numbered_from 0 numbers) (Err calculator.SizeOverflow) → repr.pack ≡ None
+  not_packed : IsSeveralAnswer layout_of (λ i. i) (λ i. i) (λ i. i) (λ i. i) dl repr (IsTagIntegerAnswer dl repr) variants (λ items. items ≡ numbered_from 0 numbers) (Err calculator.SizeOverflow) → repr.pack ≡ None
   not_packed (inl packed) = absurd (cc packed.1)
   not_packed (inr (inl want)) = want.0
   not_packed (inr (inr h)) = h.0
@@ -133,7 +134,7 @@ module _ (dl : TargetDataLayout) (law : IsLawfulDataLayout dl) (repr : ReprOptio
   large_by (OneList i) way h = answer_large layout_of (λ i. i) 0 dl repr AlwaysSized (variant_at variants i) (Err calculator.SizeOverflow) (lawful_at i) tt h refl
   large_by Several way h = (
     not_packed h,
-    enum_too_large layout_of dl law repr (IsTagInteger dl repr) variants (numbered_from 0 numbers) (aligns_of dl law repr numbers variants none long) lawful (several_some layout_of repr variants true way)
+    enum_too_large layout_of dl law repr (IsTagIntegerAnswer dl repr) variants (numbered_from 0 numbers) (aligns_of dl law repr numbers variants none long) lawful (several_some layout_of repr variants true way)
         (each_of dl law repr numbers variants none long) (tags_of dl law repr numbers variants none long) h,
   )
 
@@ -144,9 +145,9 @@ module _ (dl : TargetDataLayout) (law : IsLawfulDataLayout dl) (repr : ReprOptio
       large_by (path_of true repr (layouts_of variants)) refl (subst (λ x. IsCalculated dl repr numbers variants (Err x)) is h)
 
   -- what is too large by the integer that is asked for is so by each
-  always : IsAskedTooLarge dl repr (IsTagInteger dl repr) (counted repr numbers variants) (layouts_of variants) → IsAlwaysTooLarge dl repr (IsTagInteger dl repr) (counted repr numbers variants) (layouts_of variants)
+  always : IsAskedTooLarge dl repr (IsTagIntegerAnswer dl repr) (counted repr numbers variants) (layouts_of variants) → IsAlwaysTooLarge dl repr (IsTagIntegerAnswer dl repr) (counted repr numbers variants) (layouts_of variants)
   always (asked, signed, answered, large) other sign also =
-      let same = one_asked_for dl repr (IsTagInteger dl repr) (counted repr numbers variants) asked other signed sign (tag_integer_one dl repr) answered also in
+      let same = one_asked_for dl repr (IsTagIntegerAnswer dl repr) (counted repr numbers variants) asked other signed sign (tag_integer_one dl repr) answered also in
       subst (λ i. IsTaggedTooLarge dl repr (behind_tag dl repr i (layouts_of variants)) (layouts_of variants)) same.0 large
 
   abbrev IsSizeOrMemory : Result Layout (LayoutCalculatorError Placed) → Type 0
@@ -161,7 +162,7 @@ module _ (dl : TargetDataLayout) (law : IsLawfulDataLayout dl) (repr : ReprOptio
   refused_by (OneList i) way large (Ok l) h = absurd (listed_never_large layout_of (λ i. i) 0 dl repr AlwaysSized (variant_at variants i) h.1.0 h.1.1 h.0 tt h.1.2 large)
   refused_by (OneList i) way large (Err e) h = one_of e (answer_refused layout_of (λ i. i) 0 dl repr AlwaysSized (variant_at variants i) (Err e) tt h (sized_at i) large)
   refused_by Several way large r h =
-      enum_refused layout_of dl law repr (IsTagInteger dl repr) variants (numbered_from 0 numbers) (aligns_of dl law repr numbers variants none long) lawful (several_some layout_of repr variants true way)
+      enum_refused layout_of dl law repr (IsTagIntegerAnswer dl repr) variants (numbered_from 0 numbers) (aligns_of dl law repr numbers variants none long) lawful (several_some layout_of repr variants true way)
       (each_of dl law repr numbers variants none long) (tags_of dl law repr numbers variants none long) large.0 (each_sized dl variants whole) (always large.1) r h
 
   -- an enum that is too large is refused for its size
@@ -203,14 +204,14 @@ module _ (dl : TargetDataLayout) (law : IsLawfulDataLayout dl) (repr : ReprOptio
       ⊎_elim
       (λ t. arms_by Q l t.tag _ t.field t.layouts t.told (apart_behind l.size _ variants t.layouts t.apart) each)
       (λ t. arms_by Q l t.tag _ t.field t.layouts t.told (apart_beside l.size _ _ _ 0 variants t.layouts t.apart) each)
-      (enum_told layout_of dl law repr (IsTagInteger dl repr) variants (numbered_from 0 numbers)
+      (enum_told layout_of dl law repr (IsTagIntegerAnswer dl repr) variants (numbered_from 0 numbers)
       (aligns_of dl law repr numbers variants none long) lawful (several_some layout_of repr variants true way)
       (each_of dl law repr numbers variants none long) (tags_of dl law repr numbers variants none long) l h)
 
   several_size : (l : Layout) → path_of true repr (layouts_of variants) ≡ Several → Answers Several (Ok l)
       → IsEnumSized dl repr numbers variants l.size
   several_size l way h =
-      enum_size layout_of dl law repr (IsTagInteger dl repr) variants (numbered_from 0 numbers)
+      enum_size layout_of dl law repr (IsTagIntegerAnswer dl repr) variants (numbered_from 0 numbers)
       (aligns_of dl law repr numbers variants none long) lawful (several_some layout_of repr variants true way)
       (each_of dl law repr numbers variants none long) (tags_of dl law repr numbers variants none long) l h
 

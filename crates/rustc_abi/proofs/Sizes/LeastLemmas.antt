@@ -41,12 +41,13 @@ use Rattle.abi_calc.proofs.CoroutineLemmas.Shared.{overlap_promised}
 use Rattle.rustc_abi.specs.declared.error.LayError.{LayError}
 use Rattle.rustc_abi.specs.declared.error.LayError.TheVariants.{SizeOverflow, UnexpectedUnsized, BadIndex, BadAlign, UnknownSpace, BadRange, DuplicateDiscriminant, DiscriminantTooWide, LocalTwice, NoState}
 use Rattle.abi_laid.specs.Tree.{Tree, scalar, pair, never, unit, array, vector, struct, union, enum, coroutine, Trees, no_trees, more_trees, Variants, no_variants, more_variants}
-use Rattle.abi_laid.specs.Placed.{Placed, Layout, layout_of, size_of, elements, vector as placed_vector}
+use Rattle.abi_laid.specs.Placed.{Placed, layout_of, size_of, elements, vector as placed_vector}
+use Rattle.abi_scalar.specs.Layout.{Layout}
 use Rattle.abi_laid.specs.Placed.{states as placed_states}
 use Rattle.rustc_abi.specs.Error.{Follows, IsRefused, named, lay_error}
 use Rattle.rustc_abi.specs.ScalarFault.{is_lawful_primitive, has_range_within, scalar_fault}
 use Rattle.rustc_abi.specs.Laying.{IsListedInOrder, IsOrderedFieldsAnswer, ordered_fault, randomized}
-use Rattle.rustc_abi.specs.Laying.{AreLaying, IsFieldsAnswer, IsLaying, IsListed, IsCoroutineOf, IsUnionOf, IsUnited, VariantsLaying, elements_answer, fields_fault, kind_of, lanes_of, one_scalar, pair_answer, placed_by, placed_fields, placed_together, scalar_answer, two_scalars, unless, vector_answer, placed_enum, enum_fault, has_bad_index, has_bad_align, IsEnumOf, coroutine_fault, most_fields, placed_coroutine}
+use Rattle.rustc_abi.specs.Laying.{AreLaying, IsFieldsAnswer, IsLaying, IsLaidList, IsCoroutineOf, IsUnionOf, IsUnited, VariantsLaying, elements_answer, fields_fault, kind_of, lanes_of, one_scalar, pair_answer, placed_by, placed_fields, placed_together, scalar_answer, two_scalars, unless, vector_answer, placed_enum, enum_fault, has_bad_index, has_bad_align, IsEnumOf, coroutine_fault, most_fields, placed_coroutine}
 use Rattle.rustc_abi.specs.Coroutines.{IsCoroutined, IsStated, conflicts_of, names_unknown}
 use Rattle.rustc_abi.specs.Least.{HasOverlapSize, IsCoroutineSized, IsCoroutineTooLarge, IsLeast, IsOverlapSized}
 use Rattle.rustc_abi.specs.Least.{fields_of, IsLeastStruct, IsStructTooLarge, IsTooLarge, AreTooLarge}
@@ -105,24 +106,24 @@ module _ (dl : TargetDataLayout) (repr : ReprOptions) (always_sized : Bool) (ps 
   asked order q = subst (λ n. IsAllowed (list_repr dl repr (kind_of always_sized ps)) n order) (length-map ps layout_of ∙ sym (length-asked dl ps)) q
 
   -- a struct has its least size
-  listed_least : (layout : Layout) → IsListed dl repr (kind_of always_sized ps) (map layout_of ps) (Ok layout) → IsLeastStruct dl repr always_sized ps layout.size
+  listed_least : (layout : Layout) → IsLaidList dl repr (kind_of always_sized ps) (map layout_of ps) (Ok layout) → IsLeastStruct dl repr always_sized ps layout.size
   listed_least layout listed = has_least layout_of (λ i. i) 0 dl repr (kind_of always_sized ps) ps listed.0 listed.1 layout (whole_lawful dl ps whole) (some_field always_sized ps) listed.2
 
   -- each field has an offset
-  pub listed_count : (layout : Layout) → IsListed dl repr (kind_of always_sized ps) (map layout_of ps) (Ok layout) → length (listed_offsets layout.fields) ≡ length ps
+  pub listed_count : (layout : Layout) → IsLaidList dl repr (kind_of always_sized ps) (map layout_of ps) (Ok layout) → length (listed_offsets layout.fields) ≡ length ps
   listed_count layout listed =
       let made = biased_of dl (list_repr dl repr (kind_of always_sized ps)) (asked_of dl (map layout_of ps)) listed.0 listed.1 layout.size layout.align.abi layout.largest_niche listed.2.named in
       ap (λ shape. length (listed_offsets shape)) listed.2.shape ∙ made.placed.count ∙ length-asked dl ps
 
   -- what is laid out is not too large in each order
-  listed_small : (layout : Layout) → IsListed dl repr (kind_of always_sized ps) (map layout_of ps) (Ok layout) → IsStructTooLarge dl repr always_sized ps → ⊥
+  listed_small : (layout : Layout) → IsLaidList dl repr (kind_of always_sized ps) (map layout_of ps) (Ok layout) → IsStructTooLarge dl repr always_sized ps → ⊥
   listed_small layout listed all = listed_never_large layout_of (λ i. i) 0 dl repr (kind_of always_sized ps) ps listed.0 listed.1 layout (some_field always_sized ps) listed.2 all
 
   plain : map (λ (l : Layout). l) (map layout_of ps) ≡ map layout_of ps
   plain = map-id (map layout_of ps)
 
   -- a list that is refused for its size is too large in each order
-  refused_large : IsListed dl repr (kind_of always_sized ps) (map layout_of ps) (Err SizeOverflow) → IsStructTooLarge dl repr always_sized ps
+  refused_large : IsLaidList dl repr (kind_of always_sized ps) (map layout_of ps) (Err SizeOverflow) → IsStructTooLarge dl repr always_sized ps
   refused_large (error, (first, named, fault, there, of), e) other q =
       let list = list_repr dl repr (kind_of always_sized ps) in
       let ls = map (λ (l : Layout). l) (map layout_of ps) in
@@ -142,7 +143,7 @@ module _ (dl : TargetDataLayout) (repr : ReprOptions) (always_sized : Bool) (ps 
       absurd (memory_in (list_repr dl repr (kind_of always_sized ps)) (size_bound dl) (asked_of dl (map (λ (l : Layout). l) (map layout_of ps))) order there)
 
   -- a refusal of sized fields is one for their size
-  refused_for_size : (e : LayError) → IsListed dl repr (kind_of always_sized ps) (map layout_of ps) (Err e) → e ≡ SizeOverflow
+  refused_for_size : (e : LayError) → IsLaidList dl repr (kind_of always_sized ps) (map layout_of ps) (Err e) → e ≡ SizeOverflow
   refused_for_size e (error, (first, named, fault, there, of), is) =
       let list = list_repr dl repr (kind_of always_sized ps) in
       let sized = subst AreSized (sym plain) (asked_sized dl ps whole) in
@@ -261,14 +262,14 @@ module _ (dl : TargetDataLayout) (law : IsLawfulDataLayout dl) where
   -- the answer to a struct whose own fault is this
   abbrev AnswersBy : Option LayError → ReprOptions → (always_sized : Bool) → List Placed → Result Placed LayError → Type 0
   AnswersBy fault repr always_sized ps r =
-      MatchOption fault (Follows (IsListed dl repr (kind_of always_sized ps) (map layout_of ps)) (λ layout z. z ≡ Ok (placed_fields repr ps layout)) r) (λ e. r ≡ Err e)
+      MatchOption fault (Follows (IsLaidList dl repr (kind_of always_sized ps) (map layout_of ps)) (λ layout z. z ≡ Ok (placed_fields repr ps layout)) r) (λ e. r ≡ Err e)
 
   overflow_fields : (fault : Option LayError) (repr : ReprOptions) (always_sized : Bool) (all : Trees) (ps : List Placed) → fields_fault repr ps ≡ fault → AreLaying dl all (Ok ps)
       → AnswersBy fault repr always_sized ps (Err SizeOverflow)
       → IsTooLarge dl (struct repr always_sized None all)
   overflow_fields None repr always_sized all ps none there (inl (e, listed, is)) =
       let same : e ≡ SizeOverflow = cc in
-      inr (ps, there, none, refused_large dl repr always_sized ps (all_whole dl law all ps there) (subst (λ x. IsListed dl repr (kind_of always_sized ps) (map layout_of ps) (Err x)) same listed))
+      inr (ps, there, none, refused_large dl repr always_sized ps (all_whole dl law all ps there) (subst (λ x. IsLaidList dl repr (kind_of always_sized ps) (map layout_of ps) (Err x)) same listed))
   overflow_fields None repr always_sized all ps none there (inr (layout, listed, is)) = absurd (cc)
   overflow_fields (Some f) repr always_sized all ps fault there e =
       let same : Some f ≡ Some SizeOverflow = cc in
@@ -277,7 +278,7 @@ module _ (dl : TargetDataLayout) (law : IsLawfulDataLayout dl) where
   least_fields : (fault : Option LayError) (repr : ReprOptions) (always_sized : Bool) (all : Trees) (ps : List Placed) (p : Placed) → AreLaying dl all (Ok ps)
       → AnswersBy fault repr always_sized ps (Ok p) → IsLeast dl (struct repr always_sized None all) p
   least_fields fault repr always_sized all ps p there answer =
-      let found = laid_by fault (IsListed dl repr (kind_of always_sized ps) (map layout_of ps)) (placed_fields repr ps) p answer in
+      let found = laid_by fault (IsLaidList dl repr (kind_of always_sized ps) (map layout_of ps)) (placed_fields repr ps) p answer in
       let layout : Layout = found.0 in
       let whole = all_whole dl law all ps there in
       let count = listed_count dl repr always_sized ps whole layout found.1 in

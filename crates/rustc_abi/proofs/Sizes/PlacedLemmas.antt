@@ -18,9 +18,10 @@ use Rattle.abi_calc.specs.Enums.Single.{IsSingleAnswer}
 use Rattle.abi_calc.proofs.Made.{field_list}
 use Rattle.abi_laid.specs.Tree.{Tree, struct, enum, Trees, Variants}
 use Rattle.abi_laid.specs.Nodes.{parts_at}
-use Rattle.abi_laid.specs.Placed.{Placed, Layout, layout_of}
+use Rattle.abi_laid.specs.Placed.{Placed, layout_of}
+use Rattle.abi_scalar.specs.Layout.{Layout}
 use Rattle.rustc_abi.specs.Enums.{IsEnumed, discriminants_of, layouts_of}
-use Rattle.rustc_abi.specs.Laying.{AreLaying, IsLaying, IsListed, IsListedInOrder, VariantsLaying, enum_fault, fields_fault, kind_of, ordered_fault}
+use Rattle.rustc_abi.specs.Laying.{AreLaying, IsLaying, IsLaidList, IsListedInOrder, VariantsLaying, enum_fault, fields_fault, kind_of, ordered_fault}
 use Rattle.rustc_abi.specs.Laying.{placed_enum, placed_fields, placed_variants, randomized}
 use Rattle.rustc_abi.specs.Least.{fields_of}
 use Rattle.rustc_abi.specs.Lists.{types_of}
@@ -51,7 +52,7 @@ module _ (dl : TargetDataLayout) (law : IsLawfulDataLayout dl) where
       (sym (fields_back (listed_offsets layout.fields) ps (omega (arith, count)))) h
 
   placed_struct : (repr : ReprOptions) (always_sized : Bool) (all : Trees) (ps : List Placed) (layout : Layout)
-      → AreLaying dl all (Ok ps) → IsListed dl repr (kind_of always_sized ps) (map layout_of ps) (Ok layout)
+      → AreLaying dl all (Ok ps) → IsLaidList dl repr (kind_of always_sized ps) (map layout_of ps) (Ok layout)
       → LiesAsAsked dl (struct repr always_sized None all) (placed_fields repr ps layout)
   placed_struct repr always_sized all ps layout there listed =
       let kind = kind_of always_sized ps in
@@ -104,7 +105,7 @@ module _ (dl : TargetDataLayout) (law : IsLawfulDataLayout dl) where
   pub laid_as_asked : (t : Tree) (p : Placed) → IsLaying dl t (Ok p) → LiesAsAsked dl t p
   laid_as_asked (struct repr always_sized order all) p (inl f) = absurd (cc f.2)
   laid_as_asked (struct repr always_sized None all) p (inr (ps, there, answer)) =
-      let found = laid_by (fields_fault repr ps) (IsListed dl repr (kind_of always_sized ps) (map layout_of ps)) (placed_fields repr ps) p answer in
+      let found = laid_by (fields_fault repr ps) (IsLaidList dl repr (kind_of always_sized ps) (map layout_of ps)) (placed_fields repr ps) p answer in
       subst (LiesAsAsked dl (struct repr always_sized None all)) found.2 (placed_struct repr always_sized all ps found.0 there found.1)
   laid_as_asked (struct repr always_sized (Some order) all) p (inr (ps, there, answer)) =
       let found = laid_by (ordered_fault repr ps) (IsListedInOrder dl (randomized repr) (kind_of always_sized ps) order (map layout_of ps)) (placed_fields repr ps) p answer in

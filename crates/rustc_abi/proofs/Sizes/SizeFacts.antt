@@ -31,7 +31,8 @@ use Rattle.abi_lists.proofs.Facts.{IsOneOfSix, order_021, order_102, six_orders}
 use Rattle.abi_calc.specs.declared.enums.path.Path.TheVariants.{Several}
 use Rattle.abi_laid.specs.declared.mark.Mark.{Mark}
 use Rattle.abi_laid.specs.Tree.{enum, no_trees, Variants, no_variants, more_variants}
-use Rattle.abi_laid.specs.Placed.{Placed, Layout, Parts, layout_of, scalar, never as nowhere, single}
+use Rattle.abi_laid.specs.Placed.{Placed, Parts, layout_of, scalar, never as nowhere, single}
+use Rattle.abi_scalar.specs.Layout.{Layout}
 use Rattle.rustc_abi.specs.Coroutines.{conflicts_of}
 use Rattle.rustc_abi.specs.Enums.{layouts_of}
 use Rattle.rustc_abi.specs.Laying.{VariantsLaying, one_scalar}

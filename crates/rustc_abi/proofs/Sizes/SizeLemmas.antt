@@ -17,7 +17,8 @@ use Rattle.abi_lists.specs.Union.{union_size}
 use Rattle.abi_lists.proofs.VectorLemmas.{lanes_are}
 use Rattle.abi_laid.specs.Tree.{Tree, scalar, pair, never, unit, array, vector, union, Trees}
 use Rattle.abi_laid.specs.declared.mark.Mark.TheVariants.{Never, Unit}
-use Rattle.abi_laid.specs.Placed.{Placed, Layout, layout_of, size_of, elements, fields, no_parts, never as placed_never}
+use Rattle.abi_laid.specs.Placed.{Placed, layout_of, size_of, elements, fields, no_parts, never as placed_never}
+use Rattle.abi_scalar.specs.Layout.{Layout}
 use Rattle.abi_laid.specs.Placed.{vector as placed_vector}
 use Rattle.rustc_abi.specs.declared.error.LayError.TheVariants.{SizeOverflow}
 use Rattle.rustc_abi.specs.Error.{named}

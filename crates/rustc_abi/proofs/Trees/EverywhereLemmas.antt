@@ -16,7 +16,8 @@ use Rattle.abi_lists.specs.Simd.{simd_answer}
 use Rattle.abi_laid.specs.Tree.{Tree, scalar, pair, never, unit, array, vector, struct, union, enum, coroutine, Trees, no_trees, more_trees, Variants, no_variants, more_variants}
 use Rattle.abi_laid.specs.declared.mark.Mark.{Mark}
 use Rattle.abi_laid.specs.Mark.{mark_of}
-use Rattle.abi_laid.specs.Placed.{Placed, Layout, layout_of, size_of, vector as placed_vector}
+use Rattle.abi_laid.specs.Placed.{Placed, layout_of, size_of, vector as placed_vector}
+use Rattle.abi_scalar.specs.Layout.{Layout}
 use Rattle.abi_laid.specs.Nodes.{parts_at, placed_in}
 use Rattle.abi_laid.specs.declared.mark.Mark.TheVariants.{Plain}
 use Rattle.std.proofs.lemmas.List.FromFn.{length-range_with_len}
@@ -32,7 +33,7 @@ use Rattle.rustc_abi.specs.Coroutines.{IsStated, conflicts_of}
 use Rattle.rustc_abi.proofs.Sizes.EachListLemmas.{state_count}
 use Rattle.rustc_abi.specs.Error.{named}
 use Rattle.rustc_abi.specs.Enums.{IsEnumed, arms_at, discriminants_of}
-use Rattle.rustc_abi.specs.Laying.{AreLaying, IsLaying, IsListed, IsListedInOrder, IsUnited, VariantsLaying, coroutine_fault, enum_fault}
+use Rattle.rustc_abi.specs.Laying.{AreLaying, IsLaying, IsLaidList, IsListedInOrder, IsUnited, VariantsLaying, coroutine_fault, enum_fault}
 use Rattle.rustc_abi.specs.Laying.{ordered_fault, randomized}
 use Rattle.rustc_abi.proofs.Trees.OrderLemmas.{ordered_count}
 use Rattle.rustc_abi.specs.Laying.{one_scalar}
@@ -112,7 +113,7 @@ module _ (dl : TargetDataLayout) (law : IsLawfulDataLayout dl) (P : Tree → Pla
         subst (Within dl P (vector lanes packed element)) found.2 (each element q there, within element q there)
     within (struct repr always_sized order all) p (inl f) = absurd (cc f.2)
     within (struct repr always_sized None all) p (inr (ps, there, answer)) =
-        let found = laid_by (fields_fault repr ps) (IsListed dl repr (kind_of always_sized ps) (map layout_of ps)) (placed_fields repr ps) p answer in
+        let found = laid_by (fields_fault repr ps) (IsLaidList dl repr (kind_of always_sized ps) (map layout_of ps)) (placed_fields repr ps) p answer in
         let count = listed_count dl repr always_sized ps (all_whole dl law all ps there) found.0 found.1 in
         subst (Within dl P (struct repr always_sized None all)) found.2 (of_each all ps (listed_offsets found.0.fields) (omega (arith, count)) there)
     within (struct repr always_sized (Some order) all) p (inr (ps, there, answer)) =

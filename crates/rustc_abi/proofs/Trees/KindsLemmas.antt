@@ -43,15 +43,16 @@ use Rattle.abi_laid.specs.declared.mark.Mark.TheVariants.{Never, Plain, Unit}
 use Rattle.rustc_abi.specs.declared.error.LayError.TheVariants.{SizeOverflow}
 use Rattle.abi_laid.specs.Mark.{mark_of}
 use Rattle.abi_laid.specs.Tree.{Tree, scalar, pair, never, unit, array, vector, struct, union, enum, coroutine, Trees, no_trees, more_trees, Variants, no_variants, more_variants}
-use Rattle.abi_laid.specs.Placed.{Placed, Layout, layout_of, size_of, elements, fields, nothing, no_parts, pair as placed_pair, never as placed_never, vector as placed_vector, union as placed_union, single as placed_single, tagged as placed_tagged, states as placed_states}
+use Rattle.abi_laid.specs.Placed.{Placed, layout_of, size_of, elements, fields, nothing, no_parts, pair as placed_pair, never as placed_never, vector as placed_vector, union as placed_union, single as placed_single, tagged as placed_tagged, states as placed_states}
+use Rattle.abi_scalar.specs.Layout.{Layout}
 use Rattle.abi_laid.specs.Nodes.{parts_at, parts_at_0, placed_in}
 use Rattle.rustc_abi.specs.Inside.{VariantsInside}
 use Rattle.rustc_abi.specs.Error.{named}
 use Rattle.rustc_abi.specs.ScalarFault.{scalar_fault}
 use Rattle.rustc_abi.specs.Coroutines.{IsStated}
-use Rattle.rustc_abi.specs.Enums.{IsEnumed, IsTagInteger, arms_at, discriminants_of, layouts_of, numbered_from}
+use Rattle.rustc_abi.specs.Enums.{IsEnumed, IsTagIntegerAnswer, arms_at, discriminants_of, layouts_of, numbered_from}
 use Rattle.rustc_abi.specs.Laying.{IsListedInOrder, ordered_fault, randomized}
-use Rattle.rustc_abi.specs.Laying.{AreLaying, IsLaying, IsListed, IsUnited, VariantsLaying, coroutine_fault, enum_fault, fields_fault, kind_of, lanes_of, one_scalar, pair_answer, placed_by, placed_coroutine, placed_enum, placed_fields, placed_together, placed_variants, scalar_answer, two_scalars, unless, vector_answer}
+use Rattle.rustc_abi.specs.Laying.{AreLaying, IsLaying, IsLaidList, IsUnited, VariantsLaying, coroutine_fault, enum_fault, fields_fault, kind_of, lanes_of, one_scalar, pair_answer, placed_by, placed_coroutine, placed_enum, placed_fields, placed_together, placed_variants, scalar_answer, two_scalars, unless, vector_answer}
 use Rattle.rustc_abi.proofs.Unions.CalcLemmas.{after_ok, chosen_ok, named-ok, united_layout, vector_made}
 use Rattle.rustc_abi.proofs.Enums.CalculatedLemmas.{calculated_lawful, lawful_at, told}
 use Rattle.rustc_abi.proofs.Faults.CoroutineFaultLemmas.{states_within}
@@ -178,7 +179,7 @@ module _ (dl : TargetDataLayout) (law : IsLawfulDataLayout dl) (P : Placed → T
       (long : length numbers ≡ length variants) (whole : All (All (IsWhole dl)) variants) (own : All (All P) variants) where
     abbrev Answers : Path → Layout → Type 0
     Answers path l =
-        IsTypeAnswer layout_of (λ i. i) (λ i. i) (λ i. i) (λ i. i) dl repr variants true true Enabled (IsTagInteger dl repr) (λ items. items ≡ numbered_from 0 numbers) path (Ok l)
+        IsTypeAnswer layout_of (λ i. i) (λ i. i) (λ i. i) (λ i. i) dl repr variants true true Enabled (IsTagIntegerAnswer dl repr) (λ items. items ≡ numbered_from 0 numbers) path (Ok l)
 
     lawful : All (All (λ p. IsLawfulLayout dl (layout_of p))) variants
     lawful = each_lawful dl variants whole
@@ -282,7 +283,7 @@ module _ (dl : TargetDataLayout) (law : IsLawfulDataLayout dl) (P : Placed → T
     laid_kept (vector lanes packed element) p (inr (q, there, e)) = kept_vector lanes packed q p (laid_whole dl law element q there).0 (laid_kept element q there) e
     laid_kept (struct repr always_sized order all) p (inl f) = absurd (cc f.2)
     laid_kept (struct repr always_sized None all) p (inr (ps, there, answer)) =
-        let found = laid_by (fields_fault repr ps) (IsListed dl repr (kind_of always_sized ps) (map layout_of ps)) (placed_fields repr ps) p answer in
+        let found = laid_by (fields_fault repr ps) (IsLaidList dl repr (kind_of always_sized ps) (map layout_of ps)) (placed_fields repr ps) p answer in
         let count = listed_count dl repr always_sized ps (all_whole dl law all ps there) found.0 found.1 in
         subst P found.2
         (kept.of_fields found.0 (mark_of false repr) (listed_offsets found.0.fields) ps (fields_of dl repr (kind_of always_sized ps) ps found.1.0 found.1.1 found.0 found.1.2 count) (all_kept all ps there))

@@ -62,13 +62,14 @@ use Rattle.rustc_abi.specs.declared.error.LayError.TheVariants.{SizeOverflow}
 use Rattle.abi_types.specs.Ty.Walks.{is_sized}
 use Rattle.abi_laid.specs.Tree.{Tree, scalar, pair, never, unit, array, vector, struct, union, enum, coroutine, Trees, no_trees, more_trees, Variants, no_variants, more_variants}
 use Rattle.abi_laid.specs.declared.mark.Mark.TheVariants.{Never, Unit}
-use Rattle.abi_laid.specs.Placed.{Placed, Layout, layout_of, size_of, elements, fields, vector as placed_vector, no_parts, never as placed_never}
+use Rattle.abi_laid.specs.Placed.{Placed, layout_of, size_of, elements, fields, vector as placed_vector, no_parts, never as placed_never}
+use Rattle.abi_scalar.specs.Layout.{Layout}
 use Rattle.rustc_abi.specs.ScalarFault.{scalar_fault}
 use Rattle.rustc_abi.specs.Error.{named, Follows}
 use Rattle.rustc_abi.specs.Laying.{IsListedInOrder, ordered_fault, randomized}
-use Rattle.rustc_abi.specs.Laying.{IsLaying, AreLaying, IsListed, IsUnited, fields_fault, kind_of, lanes_of, one_scalar, pair_answer, placed_by, placed_fields, placed_together, scalar_answer, two_scalars, unless, vector_answer, placed_variants, placed_enum, enum_fault, VariantsLaying, coroutine_fault, placed_coroutine}
+use Rattle.rustc_abi.specs.Laying.{IsLaying, AreLaying, IsLaidList, IsUnited, fields_fault, kind_of, lanes_of, one_scalar, pair_answer, placed_by, placed_fields, placed_together, scalar_answer, two_scalars, unless, vector_answer, placed_variants, placed_enum, enum_fault, VariantsLaying, coroutine_fault, placed_coroutine}
 use Rattle.rustc_abi.specs.Coroutines.{IsCoroutined, IsStated, conflicts_of}
-use Rattle.rustc_abi.specs.Enums.{layouts_of, IsTagInteger, numbered_from, IsEnumed, discriminants_of}
+use Rattle.rustc_abi.specs.Enums.{layouts_of, IsTagIntegerAnswer, numbered_from, IsEnumed, discriminants_of}
 use Rattle.rustc_abi.proofs.Unions.CalcLemmas.{after_ok, chosen_ok, named-ok, united_layout}
 use Rattle.rustc_abi.proofs.Faults.FaultLemmas.{faultless}
 use Rattle.rustc_abi.proofs.Trees.LayLemmas.{faultless_aligns}
@@ -244,7 +245,7 @@ module _ (dl : TargetDataLayout) (law : IsLawfulDataLayout dl) where
 
   module _ (repr : ReprOptions) (numbers : List ℕ) (variants : List (List Placed)) (none : enum_fault dl repr numbers variants ≡ None) (long : length numbers ≡ length variants) where
     -- the question for its tag's integer has a lawful answer
-    pub tags_of : AreLawfulTags (λ v. v) dl repr (IsTagInteger dl repr) (layouts_of variants) (numbered_from 0 numbers)
+    pub tags_of : AreLawfulTags (λ v. v) dl repr (IsTagIntegerAnswer dl repr) (layouts_of variants) (numbered_from 0 numbers)
     tags_of = lawful_tags dl law repr numbers (layouts_of variants) (none_equal dl repr numbers variants none) (all_discriminants dl repr numbers variants none)
 
     pub each_of : HasOneEach (λ v. v) (length variants) (numbered_from 0 numbers)
@@ -259,7 +260,7 @@ module _ (dl : TargetDataLayout) (law : IsLawfulDataLayout dl) where
     sized_at (ps ∷ all) (suc i) h = sized_at all i (All-tail (All (IsWhole dl)) ps all h)
 
     sized_by : All (All (IsWhole dl)) variants → (path : Path) → path_of true repr (layouts_of variants) ≡ path → (l : Layout) →
-        IsTypeAnswer layout_of (λ i. i) (λ i. i) (λ i. i) (λ i. i) dl repr variants true true Enabled (IsTagInteger dl repr) (λ items. items ≡ numbered_from 0 numbers) path (Ok l) →
+        IsTypeAnswer layout_of (λ i. i) (λ i. i) (λ i. i) (λ i. i) dl repr variants true true Enabled (IsTagIntegerAnswer dl repr) (λ items. items ≡ numbered_from 0 numbers) path (Ok l) →
         is_unsized l.backend_repr ≡ false
     sized_by whole NoValue path l h = let same : never_layout dl ≡ l = cc in subst (λ (m : Layout). is_unsized m.backend_repr ≡ false) same refl
     sized_by whole (OneList i) path l h =
@@ -268,7 +269,7 @@ module _ (dl : TargetDataLayout) (law : IsLawfulDataLayout dl) where
         ap is_unsized made.view ∙ view_sized dl (is_abi_fixed repr) h.0.size h.0.align.abi (map layout_of (variant_at variants i)) h.1.1 (sized_at variants i whole) in
         subst (λ (m : Layout). is_unsized m.backend_repr ≡ false) (sym h.2) sized
     sized_by whole Several path l h =
-        enum_sized layout_of dl law repr (IsTagInteger dl repr) variants (numbered_from 0 numbers) aligns_of (each_lawful dl variants whole) (several_some layout_of repr variants true path) each_of tags_of l h
+        enum_sized layout_of dl law repr (IsTagIntegerAnswer dl repr) variants (numbered_from 0 numbers) aligns_of (each_lawful dl variants whole) (several_some layout_of repr variants true path) each_of tags_of l h
 
     -- its layout is lawful, and it is sized
     enumed_whole : All (All (IsWhole dl)) variants → (l : Layout) → IsEnumed dl repr numbers variants (Ok l) → IsWhole dl (placed_enum dl repr numbers variants l)
@@ -361,7 +362,7 @@ module _ (dl : TargetDataLayout) (law : IsLawfulDataLayout dl) where
       )
 
   listed_whole : (repr : ReprOptions) (always_sized : Bool) (ps : List Placed) (layout : Layout) → fields_fault repr ps ≡ None → All (IsWhole dl) ps →
-      IsListed dl repr (kind_of always_sized ps) (map layout_of ps) (Ok layout) → IsWhole dl (placed_fields repr ps layout)
+      IsLaidList dl repr (kind_of always_sized ps) (map layout_of ps) (Ok layout) → IsWhole dl (placed_fields repr ps layout)
   listed_whole repr always_sized ps layout none h listed =
       let kind = kind_of always_sized ps in
       let list = list_repr dl repr kind in
@@ -467,7 +468,7 @@ module _ (dl : TargetDataLayout) (law : IsLawfulDataLayout dl) where
         whole_elements (nat_lt (size_of q * count) (size_bound dl)) count q p (laid_whole element q there) refl e
     laid_whole (struct repr always_sized order all) p (inl f) = absurd (cc f.2)
     laid_whole (struct repr always_sized None all) p (inr (ps, there, answer)) =
-        answer_whole (fields_fault repr ps) (IsListed dl repr (kind_of always_sized ps) (map layout_of ps)) (placed_fields repr ps) p
+        answer_whole (fields_fault repr ps) (IsLaidList dl repr (kind_of always_sized ps) (map layout_of ps)) (placed_fields repr ps) p
         (λ none layout listed. listed_whole repr always_sized ps layout none (all_whole all ps there) listed) answer
     laid_whole (struct repr always_sized (Some order) all) p (inr (ps, there, answer)) =
         answer_whole (ordered_fault repr ps) (IsListedInOrder dl (randomized repr) (kind_of always_sized ps) order (map layout_of ps)) (placed_fields repr ps) p

@@ -26,14 +26,15 @@ use Rattle.rustc_abi.specs.ScalarFault.{scalar_fault}
 use Rattle.rustc_abi.proofs.Faults.FaultLemmas.{faultless}
 use Rattle.rustc_abi.proofs.Values.PairLemmas.{Fits-pair}
 use Rattle.abi_laid.specs.Tree.{Tree, pair, array, struct, Trees, no_trees, more_trees, trees, Variants, no_variants, more_variants}
-use Rattle.abi_laid.specs.Placed.{Placed, Layout, layout_of, size_of, niche_of, pair as placed_pair, elements, part, no_parts}
+use Rattle.abi_laid.specs.Placed.{Placed, layout_of, size_of, niche_of, pair as placed_pair, elements, part, no_parts}
+use Rattle.abi_scalar.specs.Layout.{Layout}
 use Rattle.rustc_abi.specs.Error.{named, IsRefused}
 use Rattle.abi_laid.specs.Fits.{Fits}
 use Rattle.abi_laid.specs.Nodes.{placed_in, meaning, types_in, placed_at, root_of, Keeps}
 use Rattle.abi_laid.specs.Values.{LocalsHaveValues}
 use Rattle.abi_laid.specs.Faithful.{IsFaithful}
 use Rattle.rustc_abi.specs.Laying.{IsListedInOrder, IsOrderedFieldsAnswer, ordered_fault, randomized}
-use Rattle.rustc_abi.specs.Laying.{IsLaying, AreLaying, IsFieldsAnswer, IsListed, fields_fault, has_bad_align, is_above_limit, most_fields, kind_of, placed_fields, placed_by, unless, one_scalar, two_scalars, pair_answer}
+use Rattle.rustc_abi.specs.Laying.{IsLaying, AreLaying, IsFieldsAnswer, IsLaidList, fields_fault, has_bad_align, is_above_limit, most_fields, kind_of, placed_fields, placed_by, unless, one_scalar, two_scalars, pair_answer}
 use Rattle.abi_laid.specs.Room.{has_room}
 use Rattle.abi_laid.specs.Unions.{Begins, IsCommon, InUnions}
 use Rattle.abi_laid.specs.Untagged.{UntaggedNamed}
@@ -135,7 +136,7 @@ kind_cases false (p ∷ ps) = inr (refl, omega arith)
 
 -- the calculator's refusal is the struct's
 pub fields_refused : (dl : TargetDataLayout) (repr : ReprOptions) (always_sized : Bool) (ps : List Placed) (e : LayError) → fields_fault repr ps ≡ None →
-    IsRefused (IsListed dl repr (kind_of always_sized ps) (map layout_of ps)) e → IsRefused (IsFieldsAnswer dl repr always_sized ps) e
+    IsRefused (IsLaidList dl repr (kind_of always_sized ps) (map layout_of ps)) e → IsRefused (IsFieldsAnswer dl repr always_sized ps) e
 fields_refused dl repr always_sized ps e faultless (inl memory) = inl memory
 fields_refused dl repr always_sized ps e faultless (inr f) = inr (rw faultless (inl (e, f, refl)))
 
@@ -158,7 +159,7 @@ ordered_tree_refused dl repr always_sized order ts ps e exact (inr f) = inr (inr
 
 -- a struct's layout
 pub IsAdded-fields : (dl : TargetDataLayout) (old new : List Node) (i : ℕ) (repr : ReprOptions) (always_sized : Bool) (ps : List Placed) (layout : Layout) (ts : Trees) →
-    fields_fault repr ps ≡ None → IsListed dl repr (kind_of always_sized ps) (map layout_of ps) (Ok layout) → IsLawfulLayout dl layout →
+    fields_fault repr ps ≡ None → IsLaidList dl repr (kind_of always_sized ps) (map layout_of ps) (Ok layout) → IsLawfulLayout dl layout →
     IfSome layout.largest_niche (IsNicheOfPart (listed_offsets layout.fields) (map layout_of ps)) → AreApart layout.size (listed_offsets layout.fields) (map size_of ps) →
     IsPut old new i (placed_fields repr ps layout) → AreLaying dl ts (Ok ps) → EachFits dl ts ps → IsAdded dl old new i (struct repr always_sized None ts)
 IsAdded-fields dl old new i repr always_sized ps layout ts faultless listed lawful niche apart put exact fits =

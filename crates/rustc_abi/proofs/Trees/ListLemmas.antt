@@ -24,9 +24,10 @@ use Rattle.abi_lists.specs.List.{IsListAnswer, parts_of}
 use Rattle.abi_lists.specs.Order.{IsNamedOrder}
 use Rattle.abi_lists.specs.Placement.{list_repr}
 use Rattle.rustc_abi.specs.declared.error.LayError.{LayError}
-use Rattle.abi_laid.specs.Placed.{Placed, Layout, layout_of, size_of}
+use Rattle.abi_laid.specs.Placed.{Placed, layout_of, size_of}
+use Rattle.abi_scalar.specs.Layout.{Layout}
 use Rattle.rustc_abi.specs.Error.{lay_error, named, IsRefused}
-use Rattle.rustc_abi.specs.Laying.{IsListed, IsListedInOrder}
+use Rattle.rustc_abi.specs.Laying.{IsLaidList, IsListedInOrder}
 
 -- what a choice made
 pub chosen : (H : Type 0) (b : Bool) (layout made : Layout) → named {H = H} (if b then Ok layout else Err SizeOverflow) ≡ Ok made → made ≡ layout
@@ -47,17 +48,17 @@ module _ {H : Type 0} (f : H → Layout) (dl : TargetDataLayout) (repr : ReprOpt
   named_error hs fault.OutOfMemory e h = (calculator.OutOfMemory, refl, ap lay_error h)
 
   -- it is the answer to the list of the layouts
-  pub listed_ok : (hs : List H) (layouts : List Layout) (made : Layout) → map f hs ≡ layouts → IsListAnswer f (λ i. i) 0 dl repr kind hs (Ok made) → IsListed dl repr kind layouts (Ok made)
-  listed_ok hs layouts made same h = subst (λ ls. IsListed dl repr kind ls (Ok made)) same h
+  pub listed_ok : (hs : List H) (layouts : List Layout) (made : Layout) → map f hs ≡ layouts → IsListAnswer f (λ i. i) 0 dl repr kind hs (Ok made) → IsLaidList dl repr kind layouts (Ok made)
+  listed_ok hs layouts made same h = subst (λ ls. IsLaidList dl repr kind ls (Ok made)) same h
 
   pub listed_err : (hs : List H) (layouts : List Layout) (e : LayoutCalculatorError H) → map f hs ≡ layouts → IsListAnswer f (λ i. i) 0 dl repr kind hs (Err e) →
-      IsRefused (IsListed dl repr kind layouts) (lay_error e)
+      IsRefused (IsLaidList dl repr kind layouts) (lay_error e)
   listed_err hs layouts e same (inl (order, first, which, there, of)) =
       let error = named_error hs which e of in
       let whole : map (λ l. l) (map f hs) ≡ map f hs = map-id (map f hs) in
       let order_of = subst (λ ls. IsNamedOrder (list_repr dl repr kind) Start (parts_of dl ls) order) (sym whole) first in
       let fault_of = subst (λ ls. fault_in (list_repr dl repr kind) (size_bound dl) (parts_of dl ls) order ≡ Some which) (sym whole) there in
-      subst (λ ls. IsRefused (IsListed dl repr kind ls) (lay_error e)) same (inr (error.0, (order, order_of, which, fault_of, error.1), error.2))
+      subst (λ ls. IsRefused (IsLaidList dl repr kind ls) (lay_error e)) same (inr (error.0, (order, order_of, which, fault_of, error.1), error.2))
   listed_err hs layouts e same (inr memory) = inl (ap lay_error memory)
 
   -- and in an order that is handed in

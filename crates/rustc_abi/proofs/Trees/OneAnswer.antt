@@ -25,12 +25,13 @@ use Rattle.abi_calc.proofs.CoroutineLemmas.OneCoroutine.{one_coroutine, one_tag}
 use Rattle.abi_calc.specs.Enums.Path.{path_of}
 use Rattle.rustc_abi.specs.declared.error.LayError.{LayError}
 use Rattle.abi_laid.specs.Tree.{Tree, scalar, pair, never, unit, array, vector, struct, union, enum, coroutine, Trees, no_trees, more_trees, Variants, no_variants, more_variants}
-use Rattle.abi_laid.specs.Placed.{Placed, Layout, layout_of}
+use Rattle.abi_laid.specs.Placed.{Placed, layout_of}
+use Rattle.abi_scalar.specs.Layout.{Layout}
 use Rattle.rustc_abi.specs.Error.{Follows, lay_error}
 use Rattle.rustc_abi.specs.Laying.{IsListedInOrder, IsOrderedFieldsAnswer, ordered_fault, randomized}
-use Rattle.rustc_abi.specs.Laying.{IsLaying, AreLaying, VariantsLaying, IsFieldsAnswer, IsListed, IsCoroutineOf, IsUnionOf, IsUnited, elements_answer, fields_fault, kind_of, placed_fields, placed_together, vector_answer, IsEnumOf, enum_fault, placed_enum, coroutine_fault, one_scalar, placed_coroutine}
+use Rattle.rustc_abi.specs.Laying.{IsLaying, AreLaying, VariantsLaying, IsFieldsAnswer, IsLaidList, IsCoroutineOf, IsUnionOf, IsUnited, elements_answer, fields_fault, kind_of, placed_fields, placed_together, vector_answer, IsEnumOf, enum_fault, placed_enum, coroutine_fault, one_scalar, placed_coroutine}
 use Rattle.rustc_abi.specs.Coroutines.{IsCoroutined, IsStated, conflicts_of}
-use Rattle.rustc_abi.specs.Enums.{IsCalculated, IsEnumed, IsTagInteger, numbered_from, layouts_of, discriminants_of}
+use Rattle.rustc_abi.specs.Enums.{IsCalculated, IsEnumed, IsTagIntegerAnswer, numbered_from, layouts_of, discriminants_of}
 use Rattle.rustc_abi.proofs.Unions.CalcLemmas.{united_layout}
 use Rattle.rustc_abi.proofs.Trees.LaidLemmas.{CoroutineAnswersBy, length-asked, some_field}
 use Rattle.rustc_abi.proofs.Enums.TagIntegerLemmas.{tag_integer_one}
@@ -74,13 +75,13 @@ module _ (dl : TargetDataLayout) (repr : ReprOptions) (kind : StructKind) (layou
       let one : fault2 ≡ fault = cc in
       one_name fault e f of (subst (λ x. IsErrorOf layouts x f) one of2)
 
-  never_both : (a : Layout) (f : LayError) → IsListed dl repr kind layouts (Ok a) → IsListed dl repr kind layouts (Err f) → ⊥
+  never_both : (a : Layout) (f : LayError) → IsLaidList dl repr kind layouts (Ok a) → IsLaidList dl repr kind layouts (Err f) → ⊥
   never_both a f (order, offsets, made) (error, (first, named, fault, there, of), e) =
       never_refused dl (list_repr dl repr kind) (parts_of dl layouts) some order offsets first a.size a.align.abi a.largest_niche fault made.named
       (subst (λ ls. IsNamedOrder (list_repr dl repr kind) Start (parts_of dl ls) first) whole named)
       (subst (λ ls. fault_in (list_repr dl repr kind) (size_bound dl) (parts_of dl ls) first ≡ Some fault) whole there)
 
-  one_listed : (r s : Result Layout LayError) → IsListed dl repr kind layouts r → IsListed dl repr kind layouts s → r ≡ s
+  one_listed : (r s : Result Layout LayError) → IsLaidList dl repr kind layouts r → IsLaidList dl repr kind layouts s → r ≡ s
   one_listed (Ok a) (Ok b) (order, offsets, made) (order2, offsets2, made2) =
       ap (λ l. Ok l) (one_layout (λ i. i) 0 dl repr kind layouts order order2 offsets offsets2 a b some made made2)
   one_listed (Ok a) (Err f) h k = absurd (never_both a f h k)
@@ -152,7 +153,7 @@ module _ (dl : TargetDataLayout) where
   one_calculated : (repr : ReprOptions) (numbers : List ℕ) (variants : List (List Placed)) (r s : Result Layout (LayoutCalculatorError Placed)) →
       IsCalculated dl repr numbers variants r → IsCalculated dl repr numbers variants s → IsMade r → IsMade s → r ≡ s
   one_calculated repr numbers variants r s h k p q =
-      one_type layout_of dl repr variants true true Enabled (IsTagInteger dl repr) (tag_integer_one dl repr) (λ items. items ≡ numbered_from 0 numbers)
+      one_type layout_of dl repr variants true true Enabled (IsTagIntegerAnswer dl repr) (tag_integer_one dl repr) (λ items. items ≡ numbered_from 0 numbers)
       (λ xs ys (a : xs ≡ numbered_from 0 numbers) b. a ∙ sym b) (path_of true repr (layouts_of variants)) r s h k p q
 
   -- what has one answer with its calculator's errors has one with their names
@@ -231,7 +232,7 @@ module _ (dl : TargetDataLayout) where
         follows_one (IsLaying dl element) (λ p z. z ≡ elements_answer dl count p) r s (λ x y p q. one_answer element x y p q) (λ p (a : r ≡ elements_answer dl count p) b. a ∙ sym b) h k
     one_answer (struct repr always_sized None all) r s h k =
         follows_one (AreLaying dl all) (IsFieldsAnswer dl repr always_sized) r s (λ x y p q. one_list all x y p q)
-        (λ ps a b. one_by (fields_fault repr ps) (IsListed dl repr (kind_of always_sized ps) (map layout_of ps)) (placed_fields repr ps) r s
+        (λ ps a b. one_by (fields_fault repr ps) (IsLaidList dl repr (kind_of always_sized ps) (map layout_of ps)) (placed_fields repr ps) r s
         (λ x y p q. one_listed dl repr (kind_of always_sized ps) (map layout_of ps) (full always_sized ps) x y p q) a b) h k
     one_answer (struct repr always_sized (Some order) all) r s h k =
         follows_one (AreLaying dl all) (IsOrderedFieldsAnswer dl repr always_sized order) r s (λ x y p q. one_list all x y p q)

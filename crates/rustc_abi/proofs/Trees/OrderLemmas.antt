@@ -19,7 +19,8 @@ use Rattle.abi_lists.proofs.Least.{allowed_permutes}
 use Rattle.abi_lists.specs.Run.{IsInOrder}
 use Rattle.abi_lists.proofs.Sorting.{within_order}
 use Rattle.rustc_abi.specs.declared.error.LayError.TheVariants.{BadAlign, BadIndex, BadOrder}
-use Rattle.abi_laid.specs.Placed.{Placed, Layout, layout_of}
+use Rattle.abi_laid.specs.Placed.{Placed, layout_of}
+use Rattle.abi_scalar.specs.Layout.{Layout}
 use Rattle.rustc_abi.specs.Laying.{IsListedInOrder, fields_fault, has_bad_align, ordered_fault, randomized}
 
 -- ---- the repr

@@ -45,14 +45,15 @@ use Rattle.abi_calc.specs.Enums.Path.{path_of}
 use Rattle.rustc_abi.specs.declared.error.LayError.{LayError}
 use Rattle.rustc_abi.specs.declared.error.LayError.TheVariants.{BadOrder, SizeOverflow}
 use Rattle.abi_laid.specs.Tree.{Tree, scalar, pair, never, unit, array, vector, struct, union, enum, coroutine, Trees, no_trees, more_trees, Variants, no_variants, more_variants}
-use Rattle.abi_laid.specs.Placed.{Placed, Layout, layout_of}
+use Rattle.abi_laid.specs.Placed.{Placed, layout_of}
+use Rattle.abi_scalar.specs.Layout.{Layout}
 use Rattle.rustc_abi.specs.Error.{Follows, lay_error}
 use Rattle.rustc_abi.specs.Laying.{IsListedInOrder, IsOrderedFieldsAnswer, ordered_fault, randomized}
 use Rattle.rustc_abi.proofs.Trees.OrderLemmas.{allowed_parts, ordered_faultless, reorderable}
 use Rattle.abi_lists.proofs.Allowed.{keeps_or_not, permutes_or_not}
-use Rattle.rustc_abi.specs.Laying.{AreLaying, IsFieldsAnswer, IsLaying, IsListed, IsCoroutineOf, IsUnionOf, IsUnited, VariantsLaying, elements_answer, fields_fault, kind_of, placed_fields, placed_together, vector_answer, IsEnumOf, enum_fault, placed_enum, coroutine_fault, most_fields, one_scalar, placed_coroutine}
+use Rattle.rustc_abi.specs.Laying.{AreLaying, IsFieldsAnswer, IsLaying, IsLaidList, IsCoroutineOf, IsUnionOf, IsUnited, VariantsLaying, elements_answer, fields_fault, kind_of, placed_fields, placed_together, vector_answer, IsEnumOf, enum_fault, placed_enum, coroutine_fault, most_fields, one_scalar, placed_coroutine}
 use Rattle.rustc_abi.specs.Coroutines.{IsCoroutined, IsStated, conflicts_of}
-use Rattle.rustc_abi.specs.Enums.{IsCalculated, IsEnumed, IsTagInteger, numbered_from, layouts_of, discriminants_of}
+use Rattle.rustc_abi.specs.Enums.{IsCalculated, IsEnumed, IsTagIntegerAnswer, numbered_from, layouts_of, discriminants_of}
 use Rattle.rustc_abi.proofs.Trees.LaidLemmas.{IsWhole, all_whole, whole_lawful, asked_lawful, asked_sized, length-asked, some_field, each_lawful, variants_whole, coroutine_asked, CoroutineAnswersBy}
 use Rattle.rustc_abi.proofs.Faults.CoroutineFaultLemmas.{few_states}
 use Rattle.rustc_abi.proofs.Enums.TagIntegerLemmas.{tag_integer_total}
@@ -133,7 +134,7 @@ module _ (dl : TargetDataLayout) (law : IsLawfulDataLayout dl) where
 
     refused : (first : List ℕ) (fault : ListFault) → IsNamedOrder (list_repr dl repr (kind_of always_sized ps)) Start (asked_of dl layouts) first
         → fault_in (list_repr dl repr (kind_of always_sized ps)) (size_bound dl) (asked_of dl layouts) first ≡ Some fault
-        → HasAnswer (IsListed dl repr (kind_of always_sized ps) layouts)
+        → HasAnswer (IsLaidList dl repr (kind_of always_sized ps) layouts)
     refused first fault named there =
         let list = list_repr dl repr (kind_of always_sized ps) in
         let same_named = subst (λ ls. IsNamedOrder list Start (asked_of dl ls) first) (sym plain) named in
@@ -175,19 +176,19 @@ module _ (dl : TargetDataLayout) (law : IsLawfulDataLayout dl) where
         (made, is)
 
     laid : (order offsets : List ℕ) (size align : ℕ) (niche : Option Niche) → IsNamedLayout dl (list_repr dl repr (kind_of always_sized ps)) (asked_of dl layouts) order offsets size align niche
-        → HasAnswer (IsListed dl repr (kind_of always_sized ps) layouts)
+        → HasAnswer (IsLaidList dl repr (kind_of always_sized ps) layouts)
     laid order offsets size align niche named =
         let made = made_by (IsNamedLayout dl (list_repr dl repr (kind_of always_sized ps)) (asked_of dl layouts)) order offsets size align niche named in
         (Ok made.0, (order, offsets, made.1))
 
-    some_listed : HasAnswer (IsListed dl repr (kind_of always_sized ps) layouts)
+    some_listed : HasAnswer (IsLaidList dl repr (kind_of always_sized ps) layouts)
     some_listed = either (some_layout dl (list_repr dl repr (kind_of always_sized ps)) (asked_of dl layouts) (asked_lawful dl ps whole) full)
       where
         either : ((first : List ℕ) × IsNamedOrder (list_repr dl repr (kind_of always_sized ps)) Start (asked_of dl layouts) first
             × ((fault : ListFault) × (fault_in (list_repr dl repr (kind_of always_sized ps)) (size_bound dl) (asked_of dl layouts) first ≡ Some fault)))
             ⊎ ((order : List ℕ) × (offsets : List ℕ) × (size : ℕ) × (align : ℕ) × (niche : Option Niche)
             × IsNamedLayout dl (list_repr dl repr (kind_of always_sized ps)) (asked_of dl layouts) order offsets size align niche)
-            → HasAnswer (IsListed dl repr (kind_of always_sized ps) layouts)
+            → HasAnswer (IsLaidList dl repr (kind_of always_sized ps) layouts)
         either (inl (first, named, (fault, there))) = refused first fault named there
         either (inr (order, offsets, size, align, niche, named)) = laid order offsets size align niche named
 
@@ -243,7 +244,7 @@ module _ (dl : TargetDataLayout) (law : IsLawfulDataLayout dl) where
 
   some_enumed : (repr : ReprOptions) (numbers : List ℕ) (variants : List (List Placed)) → All (All (λ p. IsLawfulLayout dl (layout_of p))) variants → HasAnswer (IsEnumed dl repr numbers variants)
   some_enumed repr numbers variants lawful =
-      let answer = some_type layout_of dl repr variants lawful true true Enabled (IsTagInteger dl repr) (tag_integer_total dl repr) (λ items. items ≡ numbered_from 0 numbers) (numbered_from 0 numbers) refl
+      let answer = some_type layout_of dl repr variants lawful true true Enabled (IsTagIntegerAnswer dl repr) (tag_integer_total dl repr) (λ items. items ≡ numbered_from 0 numbers) (numbered_from 0 numbers) refl
       (path_of true repr (layouts_of variants)) in
       named_so repr numbers variants answer.0 answer.1 answer.2
 
@@ -293,7 +294,7 @@ module _ (dl : TargetDataLayout) (law : IsLawfulDataLayout dl) where
     some_answer (array count element) = some_follows (IsLaying dl element) (λ p r. r ≡ elements_answer dl count p) (some_answer element) (λ p h. (elements_answer dl count p, refl))
     some_answer (struct repr always_sized None all) =
         some_follows (AreLaying dl all) (IsFieldsAnswer dl repr always_sized) (some_list all)
-        (λ ps h. some_by (fields_fault repr ps) (IsListed dl repr (kind_of always_sized ps) (map layout_of ps)) (placed_fields repr ps) (some_listed repr always_sized ps (all_whole dl law all ps h)))
+        (λ ps h. some_by (fields_fault repr ps) (IsLaidList dl repr (kind_of always_sized ps) (map layout_of ps)) (placed_fields repr ps) (some_listed repr always_sized ps (all_whole dl law all ps h)))
     some_answer (struct repr always_sized (Some order) all) =
         some_follows (AreLaying dl all) (IsOrderedFieldsAnswer dl repr always_sized order) (some_list all)
         (λ ps h. ordered_by repr always_sized order ps (ordered_fault repr ps) refl (some_ordered (randomized repr) always_sized ps (all_whole dl law all ps h) order))

@@ -6,10 +6,11 @@ use Rattle.std.proofs.lemmas.List.{length-replicate}
 use Rattle.std.proofs.lemmas.List.Elements.{All-replicate}
 use Rattle.abi_base.specs.declared.data_layout.TargetDataLayout.{TargetDataLayout}
 use Rattle.abi_base.specs.declared.endian.Endian.{Endian}
-use Rattle.abi_laid.specs.Bytes.{bytes_at, picked}
+use Rattle.abi_laid.specs.Bytes.{bytes_at, picked_bytes}
 use Rattle.abi_laid.specs.Value.{number, two, list, variant, state, bytes}
 use Rattle.abi_laid.specs.declared.mark.Mark.{Mark}
-use Rattle.abi_laid.specs.Placed.{Placed, Layout, scalar, pair, never, elements, vector, fields, union, single, tagged, states, Parts, no_parts, part, Arms, no_arms, arm, size_of}
+use Rattle.abi_laid.specs.Placed.{Placed, scalar, pair, never, elements, vector, fields, union, single, tagged, states, Parts, no_parts, part, Arms, no_arms, arm, size_of}
+use Rattle.abi_scalar.specs.Layout.{Layout}
 use Rattle.abi_laid.specs.Places.{is_data_place, is_place_of_part}
 use Rattle.abi_laid.specs.Room.{has_room, have_room, arms_have_room}
 use Rattle.abi_laid.specs.Faithful.{PaddingDecidesNothing}
@@ -25,7 +26,7 @@ module _ (order : Endian) where
       let long : length b ≡ size_of field = length-Holds order field b v h in
       let more : List ℕ = replicate (layout.size - length b) 0 in
       let whole : length (b ++ more) ≡ layout.size = omega (arith, length-append b more, length-replicate {A = ℕ} (layout.size - length b) 0) in
-      (more, bytes (picked (is_data_place (union layout mark all)) 0 (b ++ more)), All-replicate (λ b. b < 256) (layout.size - length b) 0 (omega arith), (whole, refl))
+      (more, bytes (picked_bytes (is_data_place (union layout mark all)) 0 (b ++ more)), All-replicate (λ b. b < 256) (layout.size - length b) 0 (omega arith), (whole, refl))
 
   each_begins : (layout : Layout) (mark : Mark) (all parts : Parts) → have_room layout.size parts ≡ true → EachPart (λ field. Begins order field (union layout mark all)) parts
   each_begins layout mark all no_parts room = tt

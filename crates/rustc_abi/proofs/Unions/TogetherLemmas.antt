@@ -13,7 +13,8 @@ use Rattle.abi_lists.specs.Simd.{simd_answer}
 use Rattle.rustc_abi.specs.declared.error.LayError.{LayError}
 use Rattle.abi_laid.specs.declared.node.Node.{Node}
 use Rattle.abi_laid.specs.Tree.{Tree, array, vector, union, Trees}
-use Rattle.abi_laid.specs.Placed.{Placed, Layout, layout_of, elements, vector as placed_vector}
+use Rattle.abi_laid.specs.Placed.{Placed, layout_of, elements, vector as placed_vector}
+use Rattle.abi_scalar.specs.Layout.{Layout}
 use Rattle.rustc_abi.specs.Error.{named, IsRefused}
 use Rattle.abi_laid.specs.Fits.{Fits}
 use Rattle.abi_laid.specs.Nodes.{placed_in, types_in}

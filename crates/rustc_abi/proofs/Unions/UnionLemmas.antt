@@ -14,11 +14,12 @@ use Rattle.abi_scalar.specs.View.{union_view}
 use Rattle.abi_lists.specs.Fields.{greatest}
 use Rattle.abi_lists.specs.Union.{CountsForView, HasView, IsUnionView, union_layout}
 use Rattle.abi_laid.specs.Tree.{Tree, union, Trees, no_trees, more_trees}
-use Rattle.abi_laid.specs.Bytes.{AreBytes, place_count}
+use Rattle.abi_laid.specs.Bytes.{AreBytes, count_picked}
 use Rattle.abi_laid.specs.Value.{Value, number, two, list, variant, state, bytes}
 use Rattle.abi_laid.specs.declared.mark.Mark.{Mark}
 use Rattle.abi_laid.specs.Mark.{mark_of}
-use Rattle.abi_laid.specs.Placed.{Placed, Layout, Parts, part, layout_of, size_of, union as placed_union}
+use Rattle.abi_laid.specs.Placed.{Placed, Parts, part, layout_of, size_of, union as placed_union}
+use Rattle.abi_scalar.specs.Layout.{Layout}
 use Rattle.abi_laid.specs.Places.{is_data_place, is_place_of_part}
 use Rattle.abi_laid.specs.Values.{IsValueOf, LocalsOfEach, VectorsHaveValues}
 use Rattle.abi_laid.specs.Unions.{IsCommon, EachPart}
@@ -60,7 +61,7 @@ module _ (dl : TargetDataLayout) (repr : ReprOptions) (ts : Trees) (layout : Lay
   union_only : (b : List ℕ) (v : Value) → AreBytes b → Holds dl.endian placed b v → IsValueOf dl tree placed v
   union_only b (bytes content) are h = (
     subst AreBytes (sym h.1) (AreBytes-picked (is_data_place placed) 0 b are),
-    ap length h.1 ∙ length-picked (is_data_place placed) 0 b ∙ ap (place_count (is_data_place placed) 0) h.0,
+    ap length h.1 ∙ length-picked (is_data_place placed) 0 b ∙ ap (count_picked (is_data_place placed) 0) h.0,
   )
   union_only b (list vs) are h = absurd h
   union_only b (number n) are h = absurd h
@@ -94,7 +95,7 @@ module _ (dl : TargetDataLayout) (repr : ReprOptions) (ts : Trees) (layout : Lay
   -- every union has a value
   some_value : (v : Value) × IsValueOf dl tree placed v
   some_value =
-      let n = place_count (is_data_place placed) 0 layout.size in
+      let n = count_picked (is_data_place placed) 0 layout.size in
       (bytes (replicate n 0), (All-replicate (λ b. b < 256) n 0 (omega arith), length-replicate n 0))
 
   union_faithful : layout.largest_niche ≡ None → layout.uninhabited ≡ false → ((b : List ℕ) → IsTrueOf dl layout.backend_repr b) → IsFaithful dl tree placed

@@ -14,7 +14,8 @@ use Rattle.abi_scalar.specs.Lawful.{IsLawfulLayout}
 use Rattle.abi_laid.specs.Tree.{Tree, array, vector}
 use Rattle.abi_laid.specs.Bytes.{AreBytes, bytes_at, number_of}
 use Rattle.abi_laid.specs.Value.{Value, number, two, list, variant, state, bytes}
-use Rattle.abi_laid.specs.Placed.{Placed, Layout, size_of, niche_of, elements, vector as placed_vector}
+use Rattle.abi_laid.specs.Placed.{Placed, size_of, niche_of, elements, vector as placed_vector}
+use Rattle.abi_scalar.specs.Layout.{Layout}
 use Rattle.abi_laid.specs.Values.{IsValueOf, HasValue, VectorsHaveValues}
 use Rattle.abi_laid.specs.Holding.{Holds}
 use Rattle.abi_laid.specs.Faithful.{AgreeOn, IsFaithful, IsTrueOf}

@@ -4,9 +4,9 @@ use Rattle.std.proofs.lemmas.List.{length-replicate}
 use Rattle.std.proofs.lemmas.List.Elements.{All-replicate}
 use Rattle.abi_base.specs.declared.data_layout.TargetDataLayout.{TargetDataLayout}
 use Rattle.abi_laid.specs.Tree.{Tree, scalar, pair, unit, array, vector, struct, union, enum, coroutine, Trees, no_trees, more_trees, Variants, no_variants, more_variants}
-use Rattle.abi_laid.specs.Bytes.{place_count}
+use Rattle.abi_laid.specs.Bytes.{count_picked}
 use Rattle.abi_laid.specs.Value.{Value, number, two, list, variant, state, bytes, Values, no_values, more_values, value_count, Each}
-use Rattle.abi_laid.specs.Placed.{Placed, Parts, size_of, element_of, parts_of, first_part, more_parts, own_parts}
+use Rattle.abi_laid.specs.Placed.{Placed, Parts, size_of, element_of, parts_in, first_part, more_parts, own_parts}
 use Rattle.abi_laid.specs.Places.{is_data_place}
 use Rattle.abi_laid.specs.Values.{EachAt, IsValueOf, AreValuesOf, AreValuesOfVariant, IsValueAt}
 
@@ -41,16 +41,16 @@ module _ (dl : TargetDataLayout) where
         let found = each_anywhere (IsValueOf dl element (element_of (element_of p))) (IsValueOf dl element (element_of (element_of q))) (λ v. value_anywhere element (element_of (element_of p)) (element_of (element_of q)) v) vs h.1 in
         (list found.0, (found.1 ∙ h.0, found.2))
     value_anywhere (struct repr always_sized order fields) p q (list vs) h =
-        let found = values_anywhere fields (parts_of p) (parts_of q) vs h in
+        let found = values_anywhere fields (parts_in p) (parts_in q) vs h in
         (list found.0, found.1)
     value_anywhere (union repr fields) p q v h =
-        let n = place_count (is_data_place q) 0 (size_of q) in
+        let n = count_picked (is_data_place q) 0 (size_of q) in
         (bytes (replicate n 0), (All-replicate (λ b. b < 256) n 0 (omega arith), length-replicate n 0))
     value_anywhere (enum repr all) p q (variant i vs) h =
         let found = variant_anywhere all i (own_parts p i) (own_parts q i) vs h in
         (variant i found.0, found.1)
     value_anywhere (coroutine prefix locals states conflicts) p q (state i ps vs) h =
-        let first = values_anywhere prefix (parts_of p) (parts_of q) ps h.0 in
+        let first = values_anywhere prefix (parts_in p) (parts_in q) ps h.0 in
         let found = at_anywhere (IsValueAt dl locals) (λ k. at_index locals k) (get_or states i []) (own_parts p i) (own_parts q i) vs h.2 in
         (state i first.0 found.0, (first.1, h.1, found.1))
     value_anywhere _ p q v h = absurd h

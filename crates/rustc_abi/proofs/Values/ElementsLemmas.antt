@@ -15,7 +15,8 @@ use Rattle.abi_scalar.specs.Lawful.{IsLawfulLayout}
 use Rattle.abi_laid.specs.Tree.{Tree, array}
 use Rattle.abi_laid.specs.Bytes.{AreBytes, bytes_at, number_of}
 use Rattle.abi_laid.specs.Value.{Value, number, two, list, variant, state, bytes, Values, no_values, more_values, value_count, Each}
-use Rattle.abi_laid.specs.Placed.{Placed, Layout, layout_of, size_of, elements}
+use Rattle.abi_laid.specs.Placed.{Placed, layout_of, size_of, elements}
+use Rattle.abi_scalar.specs.Layout.{Layout}
 use Rattle.abi_laid.specs.Places.{is_data_place}
 use Rattle.abi_laid.specs.Values.{IsValueOf}
 use Rattle.abi_laid.specs.Holding.{Holds, HoldEach}

@@ -17,7 +17,8 @@ use Rattle.abi_laid.specs.Tree.{Tree, struct, Trees, no_trees, more_trees}
 use Rattle.abi_laid.specs.Bytes.{AreBytes, bytes_at, number_of}
 use Rattle.abi_laid.specs.Value.{Value, number, two, list, variant, state, bytes, Values, no_values, more_values}
 use Rattle.abi_laid.specs.Mark.{mark_of}
-use Rattle.abi_laid.specs.Placed.{Placed, Layout, Parts, no_parts, part, layout_of, size_of, niche_of, fields}
+use Rattle.abi_laid.specs.Placed.{Placed, Parts, no_parts, part, layout_of, size_of, niche_of, fields}
+use Rattle.abi_scalar.specs.Layout.{Layout}
 use Rattle.abi_laid.specs.Values.{IsValueOf, LocalsOfEach}
 use Rattle.abi_laid.specs.Holding.{Holds, HoldParts}
 use Rattle.abi_laid.specs.Faithful.{AgreeOn, IsFaithful, IsFlagTrue, IsTrueOf}

@@ -9,7 +9,8 @@ use Rattle.abi_lists.specs.Apart.{AreApart}
 use Rattle.abi_laid.specs.Tree.{Tree, array, struct, Trees, no_trees, more_trees}
 use Rattle.abi_laid.specs.Value.{Value, number, two, list, variant, state, bytes, Values, no_values, more_values, value_count, Each}
 use Rattle.abi_laid.specs.Mark.{mark_of}
-use Rattle.abi_laid.specs.Placed.{Placed, Layout, layout_of, size_of, elements, fields}
+use Rattle.abi_laid.specs.Placed.{Placed, layout_of, size_of, elements, fields}
+use Rattle.abi_scalar.specs.Layout.{Layout}
 use Rattle.abi_laid.specs.Values.{IsValueOf, AreValuesOf, LocalsOfEach, VectorsHaveValues, VectorsOfEach}
 use Rattle.abi_laid.specs.Faithful.{IsFlagTrue}
 use Rattle.abi_laid.specs.Nodes.{parts_at}

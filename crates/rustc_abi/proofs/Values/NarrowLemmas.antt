@@ -10,7 +10,8 @@ use Rattle.abi_scalar.specs.Range.{numbers_of}
 use Rattle.abi_scalar.specs.Scalar.{IsReadable, scalar_size}
 use Rattle.abi_scalar.specs.Simple.{scalar_layout}
 use Rattle.abi_laid.specs.declared.node.Node.{Node}
-use Rattle.abi_laid.specs.Placed.{Layout, size_of}
+use Rattle.abi_laid.specs.Placed.{size_of}
+use Rattle.abi_scalar.specs.Layout.{Layout}
 use Rattle.abi_laid.specs.Nodes.{Keeps, placed_at, types_in}
 use Rattle.abi_laid.specs.Well.{IsPut}
 use Rattle.abi_laid.specs.Widths.{is_narrow}

@@ -18,7 +18,8 @@ use Rattle.abi_scalar.specs.Lawful.{IsLawfulLayout}
 use Rattle.abi_laid.specs.Tree.{Tree, scalar, pair, Trees, no_trees, more_trees}
 use Rattle.abi_laid.specs.Bytes.{AreBytes, bytes_at, number_of}
 use Rattle.abi_laid.specs.Value.{Value, number, two, list, variant, state, bytes, Values, no_values, more_values}
-use Rattle.abi_laid.specs.Placed.{Placed, Layout, Parts, no_parts, part, size_of}
+use Rattle.abi_laid.specs.Placed.{Placed, Parts, no_parts, part, size_of}
+use Rattle.abi_scalar.specs.Layout.{Layout}
 use Rattle.abi_laid.specs.Values.{IsValueOf}
 use Rattle.abi_laid.specs.Holding.{Holds}
 use Rattle.abi_laid.specs.Faithful.{AgreeOn, IsFaithful, IsScalarTrue, IsTrueOf}

@@ -18,7 +18,8 @@ use Rattle.abi_scalar.specs.Lawful.{IsLawfulLayout}
 use Rattle.abi_laid.specs.Tree.{Tree, scalar}
 use Rattle.abi_laid.specs.Bytes.{AreBytes, bytes_at, number_of}
 use Rattle.abi_laid.specs.Value.{Value, number, two, list, variant, state, bytes}
-use Rattle.abi_laid.specs.Placed.{Placed, Layout, size_of, scalar as placed_scalar}
+use Rattle.abi_laid.specs.Placed.{Placed, size_of, scalar as placed_scalar}
+use Rattle.abi_scalar.specs.Layout.{Layout}
 use Rattle.abi_laid.specs.Places.{is_data_place}
 use Rattle.abi_laid.specs.Values.{IsValueOf}
 use Rattle.abi_laid.specs.Holding.{Holds}

@@ -5,7 +5,7 @@ ghost use Rattle.abi_laid.specs.Placed.{Placed};
 ghost use Rattle.abi_laid.specs.Tree.{Tree, tree_of, trees};
 ghost use Rattle.rustc_abi.specs.Fault.{IsRefusedFor};
 ghost use Rattle.rustc_abi.specs.Laying.{AreLaying};
-ghost use Rattle.uses.specs.FieldOfC.{enum_fault, field_fault, first_fault, list_fault, order_fault};
+ghost use Rattle.uses.specs.FieldOfC.{c_enum_fault, field_fault, first_fault, list_fault, order_fault};
 ghost use Rattle.uses.specs.InC.{IsInC, LieAsInC};
 
 use crate::binding_generator::{CStruct, c_offsets};
@@ -58,7 +58,7 @@ fn list_fault(repr: &ReprOptions, count: usize) -> Option<CFault>
 
 /// Why C has no enum of so many variants under this `repr`.
 fn enum_fault(repr: &ReprOptions, count: usize) -> Option<CFault>
-    ensures { result ≡ enum_fault repr.now count }
+    ensures { result ≡ c_enum_fault repr.now count }
 {
     if count == 0 {
         Some(CFault::NoValue)

@@ -5,7 +5,7 @@ ghost use Rattle.abi_laid.specs.Holding.{Holds};
 ghost use Rattle.abi_laid.specs.Laid.{endian_of, placed_of};
 ghost use Rattle.abi_laid.specs.OfTree.{IsOfTree};
 ghost use Rattle.abi_laid.specs.Value.{Values, state, two, value_of, values_of, variant};
-ghost use Rattle.uses.specs.Field.{IsAnswer, value_at};
+ghost use Rattle.uses.specs.Field.{IsValueFound, value_at};
 
 use crate::debugger::taken;
 use rustc_abi::{Laid, Value, read_value};
@@ -62,7 +62,7 @@ pub fn field_of_variant(
     requires laid { IsOfTree laid.now }
     ensures field { IfOk result (λ found.
         (vs : Values) → Holds (endian_of laid.now) (placed_of laid.now) bytes.now (variant wanted vs) →
-        IsAnswer found (value_at vs index)) }
+        IsValueFound found (value_at vs index)) }
     ensures none { IfOk result (λ found.
         ((vs : Values) → Holds (endian_of laid.now) (placed_of laid.now) bytes.now (variant wanted vs) → ⊥) →
         found ≡ None) }
@@ -90,7 +90,7 @@ pub fn local_of_state(
     requires laid { IsOfTree laid.now }
     ensures local { IfOk result (λ found.
         (ps vs : Values) → Holds (endian_of laid.now) (placed_of laid.now) bytes.now (state wanted ps vs) →
-        IsAnswer found (value_at vs index)) }
+        IsValueFound found (value_at vs index)) }
     ensures none { IfOk result (λ found.
         ((ps vs : Values) → Holds (endian_of laid.now) (placed_of laid.now) bytes.now (state wanted ps vs) → ⊥) →
         found ≡ None) }

@@ -12,7 +12,7 @@ ghost use Rattle.abi_laid.specs.Tree.{Tree};
 ghost use Rattle.abi_laid.specs.Value.{Value as Meant, Values, list as of_list, value_of};
 ghost use Rattle.abi_laid.specs.Values.{IsValueOf};
 ghost use Rattle.abi_scalar.specs.Shape.{field_count};
-ghost use Rattle.uses.specs.Field.{HasField, value_at, with_value};
+ghost use Rattle.uses.specs.Field.{HasFieldAt, value_at, with_value};
 
 use crate::slice::bytes_from;
 use rustc_abi::{Laid, Value, ValueError, read_value, write_value};
@@ -22,13 +22,13 @@ use std::alloc::Global;
 /// has. `None` where the layout has no field of this index, and where the bytes end before it does.
 pub fn slice_of_field<'a>(laid: &Laid, bytes: &'a [u8], index: usize) -> Option<&'a [u8]>
     ensures slice { IfSome result (λ slice. (offset : ℕ) (field : Placed) →
-        HasField (placed_of laid.now) index offset field → slice.now ≡ bytes_at bytes.now offset (size_of field)) }
+        HasFieldAt (placed_of laid.now) index offset field → slice.now ≡ bytes_at bytes.now offset (size_of field)) }
     ensures holds { IfSome result (λ slice. (offset : ℕ) (field : Placed) →
-        HasField (placed_of laid.now) index offset field →
+        HasFieldAt (placed_of laid.now) index offset field →
         (vs : Values) (v : Meant) → Holds (endian_of laid.now) (placed_of laid.now) bytes.now (of_list vs) →
         value_at vs index ≡ Some v → Holds (endian_of laid.now) field slice.now v) }
     ensures none { result ≡ None → index < field_count (layout_of (placed_of laid.now)).fields →
-        (offset : ℕ) (field : Placed) → HasField (placed_of laid.now) index offset field →
+        (offset : ℕ) (field : Placed) → HasFieldAt (placed_of laid.now) index offset field →
         (vs : Values) → Holds (endian_of laid.now) (placed_of laid.now) bytes.now (of_list vs) → ⊥ }
 {
     let root = laid.root();

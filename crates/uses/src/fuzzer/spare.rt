@@ -7,7 +7,7 @@ ghost use Rattle.abi_laid.specs.Laid.{endian_of, placed_of};
 ghost use Rattle.abi_laid.specs.OfTree.{IsOfTree};
 ghost use Rattle.abi_laid.specs.Reading.{Finds};
 ghost use Rattle.abi_laid.specs.Value.{Value as Meant};
-ghost use Rattle.uses.specs.Field.{IsAnswer};
+ghost use Rattle.uses.specs.Field.{IsValueFound};
 
 use rustc_abi::{Laid, Value, read_value};
 use std::alloc::{AllocError, Global};
@@ -41,7 +41,7 @@ pub fn vary(
     ensures finds { IfOk result (Finds (Holds (endian_of laid.now) (placed_of laid.now) bytes.new)) }
     ensures reads { IfOk result (λ found. (v : Meant) →
         Holds (endian_of laid.now) (placed_of laid.now) bytes.old v →
-        is_covered (placed_of laid.now) v place ≡ false → IsAnswer found (Some v)) }
+        is_covered (placed_of laid.now) v place ≡ false → IsValueFound found (Some v)) }
 {
     put(bytes, place, byte);
     read_value(alloc, laid, bytes)

@@ -1,6 +1,6 @@
 use Rattle.std.proofs.Common.{◌≡◌, ◌∷◌, refl, sym}
 use Rattle.std.specs.Option.{option_copied}
-use Rattle.abi_base.specs.DataLayoutSpec.{parts_left, pointer_setting, pointers_in}
+use Rattle.abi_base.specs.DataLayoutSpec.{spec_parts_left, pointer_setting, pointers_in}
 use Rattle.abi_base.proofs.Parts.{left_next, some_parts}
 use Rattle.abi_base.proofs.Specs.{pointer_first, pointer_unknown, same_reading}
 use Rattle.abi_base.proofs.parse_spec.pointer_spec.Goals as goal
@@ -12,9 +12,9 @@ returns-in_default c =
 
 pub returns-then-begins_alphabetic : goal.returns-then-begins_alphabetic
 returns-then-begins_alphabetic c =
-    pointer_unknown c.args.rest.now c.space_text-space.result.now (parts_left 58 (option_copied c.args.parts)) (rw c.in-Some.is (some_parts 58 c.in-Some.parts.now)) c.space_text-space.ensures (sym c.if-begins_alphabetic.ensures)
+    pointer_unknown c.args.rest.now c.space_text-space.result.now (spec_parts_left 58 (option_copied c.args.parts)) (rw c.in-Some.is (some_parts 58 c.in-Some.parts.now)) c.space_text-space.ensures (sym c.if-begins_alphabetic.ensures)
 
 pub returns : goal.returns
 returns c =
-    let parts : parts_left 58 (option_copied c.args.parts) ≡ c.cut.result.0.now ∷ parts_left 58 (option_copied c.cut.result.1) = left_next 58 c.args.parts c.in-Some.parts c.cut.result.0.now (parts_left 58 (option_copied c.cut.result.1)) c.in-Some.is c.cut.ensures.parts in
-    same_reading (pointer_setting c.args.rest.now (parts_left 58 (option_copied c.args.parts))) (pointers_in c.begins.result c.space_text-space.result.now c.cut.result.0.now (parts_left 58 (option_copied c.cut.result.1))) c.pointers.result (pointer_first c.args.rest.now c.space_text-space.result.now c.cut.result.0.now (parts_left 58 (option_copied c.args.parts)) (parts_left 58 (option_copied c.cut.result.1)) c.begins.result parts c.space_text-space.ensures c.begins.ensures (sym c.if-begins_alphabetic.ensures)) c.pointers.ensures
+    let parts : spec_parts_left 58 (option_copied c.args.parts) ≡ c.cut.result.0.now ∷ spec_parts_left 58 (option_copied c.cut.result.1) = left_next 58 c.args.parts c.in-Some.parts c.cut.result.0.now (spec_parts_left 58 (option_copied c.cut.result.1)) c.in-Some.is c.cut.ensures.parts in
+    same_reading (pointer_setting c.args.rest.now (spec_parts_left 58 (option_copied c.args.parts))) (pointers_in c.begins.result c.space_text-space.result.now c.cut.result.0.now (spec_parts_left 58 (option_copied c.cut.result.1))) c.pointers.result (pointer_first c.args.rest.now c.space_text-space.result.now c.cut.result.0.now (spec_parts_left 58 (option_copied c.args.parts)) (spec_parts_left 58 (option_copied c.cut.result.1)) c.begins.result parts c.space_text-space.ensures c.begins.ensures (sym c.if-begins_alphabetic.ensures)) c.pointers.ensures

@@ -1,6 +1,6 @@
 use Rattle.std.proofs.Common.{ℕ, ◌<◌, List, [], ◌∷◌, ◌++◌, All, ap, arith, length, map, subst, sym, ◌∙◌}
 use Rattle.std.proofs.lemmas.List.Elements.{All-nil, All-cons, All-head, All-tail}
-use Rattle.abi_laid.specs.Needed.{Marks, named_by, placed_nodes}
+use Rattle.abi_laid.specs.Needed.{MarksPlaces, named_by, placed_nodes}
 use Rattle.abi_laid.proofs.NeededLemmas.{All-left, All-right, marks_both}
 use Rattle.abi_laid.proofs.needed.mark_named.Goals as goal
 
@@ -47,7 +47,7 @@ returns-in-States c =
     let new = c.mark_variants-in-States.new.needed in
     let first : List ℕ = placed_nodes c.args.node.now.layout c.in-States.prefix.items in
     let later : List ℕ = map (λ v. v.1) c.in-States.states.items in
-    let prefix : Marks old one first = subst (Marks old one) (c.placed-in-States.ensures ∙ ap (placed_nodes c.args.node.now.layout) c.deref-in-States.ensures.value) c.mark-in-States.ensures in
-    let states : Marks two new later = subst (λ vs. Marks two new (map (λ v. v.1) vs)) c.deref-in-States-2.ensures.value c.mark_variants-in-States.ensures in
-    subst (λ s. Marks old new (named_by c.args.node.now.layout s)) (sym c.in-States.is)
+    let prefix : MarksPlaces old one first = subst (MarksPlaces old one) (c.placed-in-States.ensures ∙ ap (placed_nodes c.args.node.now.layout) c.deref-in-States.ensures.value) c.mark-in-States.ensures in
+    let states : MarksPlaces two new later = subst (λ vs. MarksPlaces two new (map (λ v. v.1) vs)) c.deref-in-States-2.ensures.value c.mark_variants-in-States.ensures in
+    subst (λ s. MarksPlaces old new (named_by c.args.node.now.layout s)) (sym c.in-States.is)
     (marks_both old one new first (c.in-States.tag ∷ later) prefix (marks_both one two new (c.in-States.tag ∷ []) later c.mark-in-States-2.ensures states))

@@ -1,7 +1,7 @@
 use Rattle.std.proofs.Common.{◌≡◌, ◌+◌, ◌-◌, ◌<◌, ℕ, List, Bool, Some, true, false, ap, arith, drop, get_or, length, refl, set, subst, sym, ◌∙◌}
 use Rattle.std.proofs.lemmas.List.{get_or_default, take_at}
 use Rattle.abi_laid.specs.declared.node.Node.{Node}
-use Rattle.abi_laid.specs.Needed.{Marks, named_by}
+use Rattle.abi_laid.specs.Needed.{MarksPlaces, named_by}
 use Rattle.abi_laid.proofs.NeededLemmas.{AreRead, named_first, read_all, read_bare, read_first, read_more, read_skip}
 use Rattle.abi_laid.proofs.needed.needed_nodes.Goals.{then-bytes-gt0, else-bytes-gt0}
 use Rattle.abi_laid.proofs.needed.needed_nodes.Goals as goal
@@ -41,8 +41,8 @@ loop-at-preserved-then-index c =
       read =
           elim c.if-bytes-gt0.branch as (λ _. AreRead ns c.args.root i c.if-bytes-gt0.needed.items kept now) [
             | then-bytes-gt0 w ↦
-                let marks : Marks c.loop-at.needed.items w.mark_named.new.needed (named_by node.now.layout node.now.shape) =
-                subst (λ old. Marks old w.mark_named.new.needed (named_by node.now.layout node.now.shape)) w.deref_mut.ensures.value w.mark_named.ensures in
+                let marks : MarksPlaces c.loop-at.needed.items w.mark_named.new.needed (named_by node.now.layout node.now.shape) =
+                subst (λ old. MarksPlaces old w.mark_named.new.needed (named_by node.now.layout node.now.shape)) w.deref_mut.ensures.value w.mark_named.ensures in
                 let new : List Bool = w.mark_named.new.needed in
                 let some : 0 < node.now.layout.size = omega (arith, c.bytes.ensures, w.if-bytes-gt0.true) in
                 let long : length new ≡ c.loop-at.needed.len = w.mark_named.ensures.0 ∙ w.deref_mut.ensures.len in

@@ -2,7 +2,7 @@ use Rattle.std.proofs.Common.{◌≡◌, ◌<◌, ℕ, List, [], ap, arith, get_
 use Rattle.std.specs.Prelude.{◌||◌}
 use Rattle.std.proofs.lemmas.List.{get_or_default, length-map}
 use Rattle.abi_index.specs.RangeSet.{is_in_ranges}
-use Rattle.abi_index.specs.Runs.{Adds, moved}
+use Rattle.abi_index.specs.Runs.{Adds, moved_to}
 use Rattle.abi_laid.specs.Needed.{sets_at}
 use Rattle.abi_laid.proofs.MadeLemmas.{parts_all, parts_next}
 use Rattle.abi_laid.proofs.runs_of.put_parts.Goals as goal
@@ -29,8 +29,8 @@ loop-i-preserved c =
     let below : i < length cs = omega (arith, c.min-i-end.ensures, c.loop-i-test.true) in
     let offset : c.bytes.result ≡ get_or os i 0 = c.bytes.ensures ∙ c.index-offsets-i.is ∙ get_or_default os i c.index-offsets-i.result 0 lt in
     parts_next c.args.runs.now c.loop-i.runs c.add_set.new.self os c.args.done.now cs i lt below c.loop-i.invariant
-    (subst (λ o. Adds c.loop-i.runs c.add_set.new.self (moved o (is_in_ranges (get_or c.args.done.now (get_or cs i 0) [])))) offset
-    (subst (λ s. Adds c.loop-i.runs c.add_set.new.self (moved c.bytes.result (is_in_ranges s))) c.set_at.ensures c.in_ok-add_set.ensures.bytes))
+    (subst (λ o. Adds c.loop-i.runs c.add_set.new.self (moved_to o (is_in_ranges (get_or c.args.done.now (get_or cs i 0) [])))) offset
+    (subst (λ s. Adds c.loop-i.runs c.add_set.new.self (moved_to c.bytes.result (is_in_ranges s))) c.set_at.ensures c.in_ok-add_set.ensures.bytes))
 
 pub returns : goal.returns
 returns c = λ k.

@@ -2,7 +2,7 @@ use Rattle.std.proofs.Common.{◌≡◌, ◌<◌, ℕ, [], ◌∷◌, ap, arith,
 use Rattle.std.specs.Prelude.{◌^◌}
 use Rattle.std.proofs.lemmas.Result.{on_ok_weaker}
 use Rattle.abi_index.specs.RangeSet.{is_in_ranges}
-use Rattle.abi_index.specs.Runs.{Adds, moved, repeated}
+use Rattle.abi_index.specs.Runs.{Adds, moved_to, repeated}
 use Rattle.abi_laid.specs.declared.node.Node.{Node}
 use Rattle.abi_laid.specs.Nodes.{placed_in, state_tag_offset}
 use Rattle.abi_laid.specs.Placed.{size_of}
@@ -139,7 +139,7 @@ pub returns-in-Vector : goal.returns-in-Vector
 returns-in-Vector c =
     on_ok_weaker c.add_set.result
     (λ put types made. put_vector types c.args.node.now c.args.done.now made c.requires.some c.in-Vector.lanes c.args.runs.now c.add_set.new.self c.in-Vector.is
-    (subst (λ s. Adds c.args.runs.now c.add_set.new.self (moved 0 (is_in_ranges s))) c.set_at-in-Vector.ensures put))
+    (subst (λ s. Adds c.args.runs.now c.add_set.new.self (moved_to 0 (is_in_ranges s))) c.set_at-in-Vector.ensures put))
     c.add_set.ensures.bytes
 
 pub put_tagged-requires-clause-tag : goal.put_tagged-requires-clause-tag

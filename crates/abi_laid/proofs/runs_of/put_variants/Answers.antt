@@ -1,7 +1,7 @@
 use Rattle.std.proofs.Common.{subst, arith}
 use Rattle.std.proofs.lemmas.List.{get_or-map, length-map}
 use Rattle.abi_index.specs.RangeSet.{is_in_ranges}
-use Rattle.abi_index.specs.Runs.{Adds, moved}
+use Rattle.abi_index.specs.Runs.{Adds, moved_to}
 use Rattle.abi_laid.specs.Needed.{IsSet}
 use Rattle.abi_laid.proofs.MadeLemmas.{maximal_fits, variant_next}
 use Rattle.abi_laid.proofs.runs_of.put_variants.Goals as goal
@@ -23,4 +23,4 @@ add_set-requires c =
 pub loop-variant-preserved : goal.loop-variant-preserved
 loop-variant-preserved c =
     variant_next c.args.runs.now c.loop-variant.runs c.add_set.new.self c.args.done.now c.args.variants.now c.loop-variant.variant-index (0, 0) c.loop-variant-test.true c.loop-variant.invariant
-    (subst (λ s. Adds c.loop-variant.runs c.add_set.new.self (moved 0 (is_in_ranges s))) c.set_at.ensures c.in_ok-add_set.ensures.bytes)
+    (subst (λ s. Adds c.loop-variant.runs c.add_set.new.self (moved_to 0 (is_in_ranges s))) c.set_at.ensures c.in_ok-add_set.ensures.bytes)

@@ -1,6 +1,6 @@
 -- As many as the locals before, which are held.
 use Rattle.std.proofs.Common.{◌≡◌, ◌+◌, length}
-use Rattle.bench.specs.Asked.{IsHeld}
+use Rattle.rustc_abi.specs.Coroutines.{IsHeld}
 use Rattle.bench.proofs.coroutines.neighbours.Given as goal
 
 abbrev pub invariant-loop-local : goal.invariant-loop-local

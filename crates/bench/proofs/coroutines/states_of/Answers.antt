@@ -1,6 +1,6 @@
 use Rattle.std.proofs.Common.{ℕ, List, All, ◌+◌, ◌<◌, ◌≤◌, arith, rules, subst, sym}
 use Rattle.std.proofs.lemmas.List.Elements.{All-push, All-weaker}
-use Rattle.bench.specs.Asked.{IsHeld}
+use Rattle.rustc_abi.specs.Coroutines.{IsHeld}
 use Rattle.bench.proofs.coroutines.states_of.Goals as goal
 
 pub loop-step-preserved : goal.loop-step-preserved

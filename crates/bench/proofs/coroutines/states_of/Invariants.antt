@@ -1,6 +1,6 @@
 -- As many as the steps, each held.
 use Rattle.std.proofs.Common.{◌≡◌, All, length}
-use Rattle.bench.specs.Asked.{IsHeld}
+use Rattle.rustc_abi.specs.Coroutines.{IsHeld}
 use Rattle.bench.proofs.coroutines.states_of.Given as goal
 
 abbrev pub invariant-loop-step : goal.invariant-loop-step

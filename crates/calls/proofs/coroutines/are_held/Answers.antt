@@ -1,7 +1,7 @@
 use Rattle.std.proofs.Common.{IsTrue, get_or, rules, subst, take}
 use Rattle.std.proofs.lemmas.List.{take_all, take_more}
 use Rattle.std.proofs.lemmas.List.Elements.{All-push}
-use Rattle.calls.specs.Asked.{IsHeld}
+use Rattle.rustc_abi.specs.Coroutines.{IsHeld}
 use Rattle.calls.proofs.coroutines.are_held.Goals as goal
 
 pub loop-state-preserved : goal.loop-state-preserved

@@ -1,6 +1,6 @@
 -- Those before the index are held.
 use Rattle.std.proofs.Common.{All, take}
-use Rattle.calls.specs.Asked.{IsHeld}
+use Rattle.rustc_abi.specs.Coroutines.{IsHeld}
 use Rattle.calls.proofs.coroutines.are_held.Given as goal
 
 abbrev pub invariant-loop-state : goal.invariant-loop-state

@@ -1,6 +1,6 @@
 use Rattle.std.proofs.Common.{◌≡◌, Ok, Result, Some, ap, arith, length, subst, sym, true, ◌∙◌}
 use Rattle.abi_laid.specs.Tree.{tree_of}
-use Rattle.rustc_abi.specs.Clash.{AreClashingApart, HaveOneOffset}
+use Rattle.rustc_abi.specs.Clash.{AreClashingLocalsApart, HaveLocalsOneOffset}
 use Rattle.rustc_abi.specs.Count.{HasNodes}
 use Rattle.abi_laid.specs.Laid.{node_count_of, placed_of, typed_of}
 use Rattle.abi_laid.specs.Placed.{Placed, layout_of}
@@ -100,12 +100,12 @@ returns-clause-placed c =
 pub returns-clause-clash : goal.returns-clause-clash
 returns-clause-clash c =
     let law = c.is_lawful.ensures.0 c.if-not-is_lawful.false in
-    everywhere c.args.dl.now law AreClashingApart (laid_clash c.args.dl.now law) (tree_of c.args.tree.now) _ (laid_root _ _ _ _ _ _ c.in_ok-_root.ensures.ok c.new.ensures.placed)
+    everywhere c.args.dl.now law AreClashingLocalsApart (laid_clash c.args.dl.now law) (tree_of c.args.tree.now) _ (laid_root _ _ _ _ _ _ c.in_ok-_root.ensures.ok c.new.ensures.placed)
 
 pub returns-clause-one_offset : goal.returns-clause-one_offset
 returns-clause-one_offset c =
     let law = c.is_lawful.ensures.0 c.if-not-is_lawful.false in
-    everywhere c.args.dl.now law HaveOneOffset (laid_one_offset c.args.dl.now law) (tree_of c.args.tree.now) _ (laid_root _ _ _ _ _ _ c.in_ok-_root.ensures.ok c.new.ensures.placed)
+    everywhere c.args.dl.now law HaveLocalsOneOffset (laid_one_offset c.args.dl.now law) (tree_of c.args.tree.now) _ (laid_root _ _ _ _ _ _ c.in_ok-_root.ensures.ok c.new.ensures.placed)
 
 pub returns-clause-parts : goal.returns-clause-parts
 returns-clause-parts c =

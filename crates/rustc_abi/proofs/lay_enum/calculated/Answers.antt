@@ -11,8 +11,8 @@ use Rattle.abi_calc.specs.Enums.Answer.{HasOneEach}
 use Rattle.abi_calc.specs.Enums.Discriminants.{IsAskedWith, counting_of, inhabited_of}
 use Rattle.abi_calc.specs.Enums.Path.{path_of}
 use Rattle.abi_calc.specs.Enums.Several.{AreLawfulTags, IsAskedFor, IsLawfulTag}
-use Rattle.abi_laid.specs.Placed.{Layout}
-use Rattle.rustc_abi.specs.Enums.{IsTagInteger, numbered_from}
+use Rattle.abi_scalar.specs.Layout.{Layout}
+use Rattle.rustc_abi.specs.Enums.{IsTagIntegerAnswer, numbered_from}
 use Rattle.rustc_abi.proofs.Enums.AddedEnumLemmas.{asked_otherwise, enumed_err, enumed_ok}
 use Rattle.rustc_abi.proofs.Trees.ListLemmas.{passed_on}
 use Rattle.rustc_abi.proofs.Enums.TagIntegerLemmas.{lawful_tags, one_each}
@@ -31,8 +31,8 @@ layout_of_struct_or_enum-answer-requires-clause-each g c p trigger from whole =
     let count : length numbers ≡ length hs = omega (arith, c.requires.each, ap length c.new-2.ensures) in
     let items : p.items ≡ numbered_from 0 numbers = search rules in
     let one : HasOneEach (λ i. i) (length hs) p.items = subst (HasOneEach (λ i. i) (length hs)) (sym items) (one_each numbers (length hs) count) in
-    let tag : (asked : Integer) (signed : Bool) → IsAskedFor dl repr (IsTagInteger dl repr) (counting_of (λ i. i) repr layouts p.items) asked signed → IsLawfulTag dl repr (inhabited_of (λ i. i) layouts p.items) asked =
-    subst (AreLawfulTags (λ i. i) dl repr (IsTagInteger dl repr) layouts) (sym items) (lawful_tags dl c.requires.data_layout repr numbers layouts c.requires.differ c.requires.narrow) in
+    let tag : (asked : Integer) (signed : Bool) → IsAskedFor dl repr (IsTagIntegerAnswer dl repr) (counting_of (λ i. i) repr layouts p.items) asked signed → IsLawfulTag dl repr (inhabited_of (λ i. i) layouts p.items) asked =
+    subst (AreLawfulTags (λ i. i) dl repr (IsTagIntegerAnswer dl repr) layouts) (sym items) (lawful_tags dl c.requires.data_layout repr numbers layouts c.requires.differ c.requires.narrow) in
     let same : c.new.result.cx.now ≡ dl = search rules in (
       one,
       λ asked signed h.
@@ -49,7 +49,7 @@ returns-in_err-answer-clause-err g c =
     let asks : RangeFrom ℤ → RangeToInclusive ℕ → Integer × Bool → Type 0 = λ least greatest answer. g.D.Fn.post c.args.discr_range_of_repr (least, (greatest, tt)) answer in
     let exact = rw c.new.ensures at c.in_err-answer.ensures.exact in
     let otherwise = asked_otherwise (λ r. r.now) dl repr hs asks _ (path_of true repr (map (map (λ r. r.now)) hs)) (Err c.in_err-answer.field-0.0) exact in
-    let own = otherwise (IsTagInteger dl repr) (λ items. items ≡ numbered_from 0 c.args.numbers.now)
+    let own = otherwise (IsTagIntegerAnswer dl repr) (λ items. items ≡ numbered_from 0 c.args.numbers.now)
     (λ items given. let all : items ≡ numbered_from 0 c.args.numbers.now = search rules in all)
     (λ least greatest answer h. c.requires.asked (record { start = least }) (record { last = greatest }) answer h) in
     passed_on _ _ _ c.from_residual-in_err-answer.ensures.1
@@ -63,7 +63,7 @@ returns-clause-ok g c all same =
     let asks : RangeFrom ℤ → RangeToInclusive ℕ → Integer × Bool → Type 0 = λ least greatest answer. g.D.Fn.post c.args.discr_range_of_repr (least, (greatest, tt)) answer in
     let exact = rw c.new.ensures at c.in_ok-answer.ensures.exact in
     let otherwise = asked_otherwise (λ r. r.now) dl repr hs asks _ (path_of true repr (map (map (λ r. r.now)) hs)) (Ok c.in_ok-answer.field-0) exact in
-    let own = otherwise (IsTagInteger dl repr) (λ items. items ≡ numbered_from 0 c.args.numbers.now)
+    let own = otherwise (IsTagIntegerAnswer dl repr) (λ items. items ≡ numbered_from 0 c.args.numbers.now)
     (λ items given. let all : items ≡ numbered_from 0 c.args.numbers.now = search rules in all)
     (λ least greatest answer h. c.requires.asked (record { start = least }) (record { last = greatest }) answer h) in
     enumed_ok (λ r. r.now) dl repr c.args.numbers.now hs all (ap (map (map (λ r. r.now))) c.new-2.ensures ∙ same) c.in_ok-answer.field-0 own

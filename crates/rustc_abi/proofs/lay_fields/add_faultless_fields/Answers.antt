@@ -3,7 +3,7 @@ use Rattle.std.proofs.lemmas.List.{length-map}
 use Rattle.std.proofs.lemmas.Result.{IfOk-weaker}
 use Rattle.abi_laid.specs.Placed.{layout_of}
 use Rattle.abi_laid.specs.Nodes.{placed_in, types_in}
-use Rattle.rustc_abi.specs.Laying.{IsListed}
+use Rattle.rustc_abi.specs.Laying.{IsLaidList}
 use Rattle.rustc_abi.specs.Error.{IsRefused}
 use Rattle.abi_laid.specs.Well.{all_at}
 use Rattle.rustc_abi.proofs.Trees.LayLemmas.{IsAdded-fields, faultless_few, faultless_aligns, kind_cases, fields_refused}
@@ -51,7 +51,7 @@ returns-clause-ok c =
     let as_many : length ps ≡ length c.args.children.items = length-map c.args.children.items (placed_in (types_in c.args.nodes.now.items)) in
     let kind = c.kind_of-kind.ensures ps (rw c.deref.ensures.value as_many) in
     let told = rw (c.deref-2.ensures.value, c.deref-3.ensures.value) at c.in_ok-layout.ensures.ok in
-    let listed = subst (λ k. IsListed dl c.args.repr.now k (map layout_of ps) (Ok c.in_ok-layout.layout)) kind told in
+    let listed = subst (λ k. IsLaidList dl c.args.repr.now k (map layout_of ps) (Ok c.in_ok-layout.layout)) kind told in
     let apart = rw (c.deref-2.ensures.value, c.deref-3.ensures.value) at c.in_ok-layout.ensures.apart in
     let niche = rw (c.deref-2.ensures.value, c.deref-3.ensures.value) at c.in_ok-layout.ensures.niche in
     IfOk-weaker c.add.result _ _
@@ -65,7 +65,7 @@ returns-in_err-layout-clause-err c =
     let as_many : length ps ≡ length c.args.children.items = length-map c.args.children.items (placed_in (types_in c.args.nodes.now.items)) in
     let kind = c.kind_of-kind.ensures ps (rw c.deref.ensures.value as_many) in
     let told = rw (c.deref-2.ensures.value, c.deref-3.ensures.value) at c.in_err-layout.ensures.err in
-    let refused = subst (λ k. IsRefused (IsListed dl c.args.repr.now k (map layout_of ps)) c.in_err-layout.field-0.0) kind told in
+    let refused = subst (λ k. IsRefused (IsLaidList dl c.args.repr.now k (map layout_of ps)) c.in_err-layout.field-0.0) kind told in
     passed_on _ _ _ c.from_residual.ensures.1 (fields_refused dl c.args.repr.now c.args.always_sized ps _ c.requires.faultless refused)
 
 pub returns-clause-own : goal.returns-clause-own

@@ -6,7 +6,8 @@ use Rattle.abi_base.specs.DataLayout.{size_bound}
 use Rattle.abi_scalar.specs.declared.error.LayoutCalculatorError.TheVariants.{SizeOverflow}
 use Rattle.abi_lists.specs.Array.{array_answer, elements_layout}
 use Rattle.abi_lists.specs.Simd.{simd_answer}
-use Rattle.abi_laid.specs.Placed.{Layout, layout_of}
+use Rattle.abi_laid.specs.Placed.{layout_of}
+use Rattle.abi_scalar.specs.Layout.{Layout}
 use Rattle.rustc_abi.specs.declared.error.LayError.{LayError}
 use Rattle.rustc_abi.specs.Error.{named}
 use Rattle.abi_laid.specs.Nodes.{placed_at, types_in}

@@ -2,7 +2,7 @@
 use Rattle.std.proofs.Common.{List, ℕ, ap, subst, sym, ◌∙◌}
 use Rattle.abi_scalar.specs.Shape.{listed_offsets}
 use Rattle.abi_laid.specs.Laid.{placed_of}
-use Rattle.abi_laid.specs.Placed.{Layout}
+use Rattle.abi_scalar.specs.Layout.{Layout}
 use Rattle.abi_laid.specs.Tree.{tree_of}
 use Rattle.uses.specs.InC.{LieAsInC}
 use Rattle.uses.proofs.Ordered.{offsets_listed, struct_in_c}

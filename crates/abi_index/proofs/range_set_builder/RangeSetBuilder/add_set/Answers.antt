@@ -2,7 +2,7 @@ use Rattle.std.proofs.Common.{arith, ap, ◌∙◌}
 use Rattle.std.specs.Prelude.{◌||◌}
 use Rattle.std.proofs.lemmas.List.{take_all}
 use Rattle.abi_index.specs.RangeSet.{is_in_ranges}
-use Rattle.abi_index.specs.Runs.{moved}
+use Rattle.abi_index.specs.Runs.{moved_to}
 use Rattle.abi_index.proofs.RunsLemmas.{adds_next, extends_twice}
 use Rattle.abi_index.proofs.range_set_builder.RangeSetBuilder.add_set.Goals as goal
 
@@ -17,4 +17,4 @@ pub returns-clause-bytes : goal.returns-clause-bytes
 returns-clause-bytes c = λ k.
     let runs = c.as_slice-run-items.result.now in
     c.loop-run.invariant.bytes k
-    ∙ ap (λ rs. is_in_ranges c.args.self.now k || moved c.args.offset (is_in_ranges rs) k) (take_all c.loop-run.run-index runs (omega arith) ∙ c.as_slice-run-items.ensures.runs)
+    ∙ ap (λ rs. is_in_ranges c.args.self.now k || moved_to c.args.offset (is_in_ranges rs) k) (take_all c.loop-run.run-index runs (omega arith) ∙ c.as_slice-run-items.ensures.runs)

@@ -5,12 +5,13 @@ use Rattle.abi_index.specs.RangeSet.{is_in_ranges}
 use Rattle.abi_scalar.specs.Shape.{listed_offsets}
 use Rattle.abi_scalar.specs.declared.variants.TagEncoding.TheVariants.{Direct}
 use Rattle.abi_laid.specs.Holding.{HoldEach, Holds}
-use Rattle.abi_laid.specs.Bytes.{AreBytes, place_count}
+use Rattle.abi_laid.specs.Bytes.{AreBytes, count_picked}
 use Rattle.abi_laid.specs.Covering.{is_covered}
 use Rattle.abi_laid.specs.Deciding.{arm_for, arm_values, covering_value, each_value, place_in}
 use Rattle.abi_laid.specs.Needed.{is_among, named_by}
 use Rattle.abi_laid.specs.Nodes.{arms_in, encoding_of, parts_at, parts_at_0, placed_at, state_tag_offset, tag_offset, types_in}
-use Rattle.abi_laid.specs.Placed.{Placed, Layout, Parts, nothing, size_of, union}
+use Rattle.abi_laid.specs.Placed.{Placed, Parts, nothing, size_of, union}
+use Rattle.abi_scalar.specs.Layout.{Layout}
 use Rattle.abi_laid.specs.Places.{is_data_place}
 use Rattle.abi_laid.specs.Typed.{variant_nodes}
 use Rattle.abi_laid.specs.Well.{all_at}
@@ -234,7 +235,7 @@ put_node-returns-in-Union-clause-put t c =
     λ k. ap (λ rs. is_in_ranges rs k) (c.as_slice.ensures.runs ∙ c.set_at.ensures) ∙ made.1 k ∙ ap (λ p. is_data_place p k) facts.1 in
     subst (Covered c.args.cover.order c.args.at c.args.bytes.now new c.args.place) (sym facts.1)
     (λ b all held.
-    union_put c.args.cover.order layout c.args.at b c.args.bytes.now new u _ (place_count (is_data_place u) 0 layout.size) refl
+    union_put c.args.cover.order layout c.args.at b c.args.bytes.now new u _ (count_picked (is_data_place u) 0 layout.size) refl
     (λ long zeros.
     put_like (is_in_ranges c.as_slice.result.now) (is_data_place u) c.args.at b c.args.bytes.now new same (c.put_zeros.ensures.put b (long ∙ sym c.bytes-size.ensures) (λ k place. zeros k (sym (same k) ∙ place))))
     held.0 held.1)

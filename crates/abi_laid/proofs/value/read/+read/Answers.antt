@@ -6,11 +6,12 @@ use Rattle.abi_scalar.specs.Shape.{listed_offsets}
 use Rattle.abi_scalar.specs.declared.variants.TagEncoding.TheVariants.{Direct}
 use Rattle.abi_laid.specs.declared.value.Value.{Union as UnionKept}
 use Rattle.abi_laid.specs.Value.{Value, number, value_count, value_of, values_of}
-use Rattle.abi_laid.specs.Bytes.{picked}
-use Rattle.abi_laid.specs.Placed.{Placed, Layout, Parts, Arms, elements, fields, single, tagged, pair, nothing, size_of}
+use Rattle.abi_laid.specs.Bytes.{picked_bytes}
+use Rattle.abi_laid.specs.Placed.{Placed, Parts, Arms, elements, fields, single, tagged, pair, nothing, size_of}
+use Rattle.abi_scalar.specs.Layout.{Layout}
 use Rattle.abi_laid.specs.Places.{is_data_place}
 use Rattle.abi_laid.specs.Tag.{Names}
-use Rattle.abi_laid.specs.Nodes.{arms_in, encoding_of, index_of, own_fields, parts_at, parts_at_0, placed_at, state_tag_offset, states_in, tag_offset, types_in}
+use Rattle.abi_laid.specs.Nodes.{arms_in, encoding_of, variant_left, own_fields, parts_at, parts_at_0, placed_at, state_tag_offset, states_in, tag_offset, types_in}
 use Rattle.abi_laid.specs.Well.{all_at}
 use Rattle.abi_laid.specs.Room.{arms_have_room, has_room, have_room}
 use Rattle.abi_laid.specs.Holding.{HoldArm, HoldEach, HoldParts, Holds, IsAt}
@@ -124,7 +125,7 @@ read_node-returns-in_ok-read_union-in-Union t c =
     let parts : Parts = parts_at_0 (all_at ns c.in-Union.field-1.items) in
     subst (λ x. Holds c.args.walk.order x b (value_of (UnionKept c.in_ok-read_union-in-Union.field-0))) (sym facts.1)
     (to_union c.args.walk.order layout c.in-Union.field-0 parts b c.in_ok-read_union-in-Union.field-0 (c.if-bytes.false ∙ c.bytes.ensures)
-    (c.in_ok-read_union-in-Union.ensures ∙ ap (λ x. picked (is_data_place x) 0 b) facts.1))
+    (c.in_ok-read_union-in-Union.ensures ∙ ap (λ x. picked_bytes (is_data_place x) 0 b) facts.1))
 
 pub read_node-read_part-requires : goal.read_node-read_part-requires
 read_node-read_part-requires t c =
@@ -159,8 +160,8 @@ read_node-returns-in_ok-found-in-Single t c =
     subst (λ cs. FindsEach (HoldParts c.args.walk.order (parts_at (listed_offsets layout.fields) (all_at ns cs)) b) c.in_ok-found-in-Single.found) c.deref-in-Single.ensures.value
     (subst (λ os. FindsEach (HoldParts c.args.walk.order (parts_at os (all_at ns c.deref-in-Single.result.now)) b) c.in_ok-found-in-Single.found) c.offsets-in-Single.ensures c.in_ok-found-in-Single.ensures) in
     subst (λ x. Finds (Holds c.args.walk.order x b) c.as_variant.result) (sym facts.1)
-    (finds_variant (Holds c.args.walk.order (single layout c.in-Single.field-0 (index_of layout.variants) parts) b) (HoldParts c.args.walk.order parts b) c.index_left.result c.in_ok-found-in-Single.found c.as_variant.result
-    c.as_variant.ensures found (λ vs h. (long, c.index_left.ensures, h)) (from_single c.args.walk.order layout b c.in-Single.field-0 (index_of layout.variants) parts))
+    (finds_variant (Holds c.args.walk.order (single layout c.in-Single.field-0 (variant_left layout.variants) parts) b) (HoldParts c.args.walk.order parts b) c.index_left.result c.in_ok-found-in-Single.found c.as_variant.result
+    c.as_variant.ensures found (λ vs h. (long, c.index_left.ensures, h)) (from_single c.args.walk.order layout b c.in-Single.field-0 (variant_left layout.variants) parts))
 
 pub read_node-read_variant-requires : goal.read_node-read_variant-requires
 read_node-read_variant-requires t c =

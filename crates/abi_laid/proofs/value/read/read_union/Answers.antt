@@ -1,7 +1,7 @@
 use Rattle.std.proofs.Common.{◌≡◌, ℕ, ◌+◌, ◌≤◌, All, arith, ap, ◌∙◌}
 use Rattle.std.proofs.lemmas.Result.{IfOk-weaker}
 use Rattle.abi_index.specs.RangeSet.{is_in_ranges}
-use Rattle.abi_laid.specs.Bytes.{picked}
+use Rattle.abi_laid.specs.Bytes.{picked_bytes}
 use Rattle.abi_laid.specs.Placed.{Placed, size_of}
 use Rattle.abi_laid.specs.Places.{is_data_place}
 use Rattle.abi_laid.specs.Nodes.{placed_at}
@@ -18,5 +18,5 @@ read_places-requires-clause-inside c =
 pub returns : goal.returns
 returns c =
     IfOk-weaker c.read_places.result _ _
-    (λ content is. is ∙ ap (λ rs. picked (is_in_ranges rs) 0 c.args.bytes.now) c.as_slice.ensures.runs ∙ ap (λ p. picked p 0 c.args.bytes.now) (λ i k. (c.in_ok-places.ensures k ∙ ap (λ ns. is_data_place (placed_at ns c.args.node) k) c.new.ensures.nodes) i))
+    (λ content is. is ∙ ap (λ rs. picked_bytes (is_in_ranges rs) 0 c.args.bytes.now) c.as_slice.ensures.runs ∙ ap (λ p. picked_bytes p 0 c.args.bytes.now) (λ i k. (c.in_ok-places.ensures k ∙ ap (λ ns. is_data_place (placed_at ns c.args.node) k) c.new.ensures.nodes) i))
     c.read_places.ensures

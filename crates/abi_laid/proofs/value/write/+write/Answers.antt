@@ -6,10 +6,11 @@ use Rattle.abi_scalar.specs.Shape.{listed_offsets}
 use Rattle.abi_scalar.specs.declared.variants.TagEncoding.TheVariants.{Direct}
 use Rattle.abi_laid.specs.declared.value.Value.{Value as Kept}
 use Rattle.abi_laid.specs.Value.{Value, Values, value_of, values_of}
-use Rattle.abi_laid.specs.Bytes.{AreBytes, picked}
-use Rattle.abi_laid.specs.Placed.{Placed, Layout, Parts, Arms, nothing, size_of, tagged}
+use Rattle.abi_laid.specs.Bytes.{AreBytes, picked_bytes}
+use Rattle.abi_laid.specs.Placed.{Placed, Parts, Arms, nothing, size_of, tagged}
+use Rattle.abi_scalar.specs.Layout.{Layout}
 use Rattle.abi_laid.specs.Places.{is_data_place}
-use Rattle.abi_laid.specs.Nodes.{arms_in, encoding_of, index_of, own_fields, parts_at, parts_at_0, placed_at, placed_in, state_tag_offset, states_in, tag_offset, types_in}
+use Rattle.abi_laid.specs.Nodes.{arms_in, encoding_of, variant_left, own_fields, parts_at, parts_at_0, placed_at, placed_in, state_tag_offset, states_in, tag_offset, types_in}
 use Rattle.abi_laid.specs.Well.{all_at}
 use Rattle.abi_laid.specs.Room.{arms_have_room, have_room}
 use Rattle.abi_laid.specs.Holding.{HoldParts, Holds}
@@ -133,7 +134,7 @@ write_node-returns-in-Union-clause-put t c =
     (put_union c.args.walk.order layout c.args.at b c.args.bytes.now new c.in-Union.field-0 parts v c.union.result.now c.union.ensures
     (λ long content.
     subst (λ x. IsPutOver (is_data_place x) c.args.at b c.args.bytes.now new) facts.1
-    (put b (long ∙ sym size) (content ∙ ap (λ x. picked (is_data_place x) 0 b) (sym facts.1))))
+    (put b (long ∙ sym size) (content ∙ ap (λ x. picked_bytes (is_data_place x) 0 b) (sym facts.1))))
     (subst (λ x. Holds c.args.walk.order x b v) facts.1 held)))
     c.write_union.ensures.put
 
@@ -182,7 +183,7 @@ write_node-returns-in-Single-clause-put t c =
     on_ok_weaker c.write_fields-in-Single.result
     (λ put b all held.
     subst (λ p. IsPutOver (is_covered p v) c.args.at b c.args.bytes.now new) (sym facts.1)
-    (put_single c.args.walk.order layout c.args.at b c.args.bytes.now new c.in-Single.field-0 (index_of layout.variants) parts v c.variant-index.result.0 us c.variant-index.ensures (put b all)
+    (put_single c.args.walk.order layout c.args.at b c.args.bytes.now new c.in-Single.field-0 (variant_left layout.variants) parts v c.variant-index.result.0 us c.variant-index.ensures (put b all)
     (subst (λ p. Holds c.args.walk.order p b v) facts.1 held)))
     (subst (λ cs. PartsPut c.args.walk.order c.args.at c.args.bytes.now new (parts_at (listed_offsets layout.fields) (all_at ns cs)) us c.write_fields-in-Single.result) c.deref-in-Single.ensures.value
     c.write_fields-in-Single.ensures.put)

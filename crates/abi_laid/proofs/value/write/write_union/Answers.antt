@@ -1,5 +1,5 @@
 use Rattle.std.proofs.Common.{◌≡◌, ℕ, ◌+◌, ◌≤◌, All, arith, sym, ap, ◌∙◌, subst}
-use Rattle.abi_laid.specs.Bytes.{picked}
+use Rattle.abi_laid.specs.Bytes.{picked_bytes}
 use Rattle.abi_laid.specs.Placed.{Placed, size_of}
 use Rattle.abi_laid.specs.Places.{is_data_place}
 use Rattle.abi_laid.specs.Nodes.{placed_at}
@@ -27,4 +27,4 @@ returns-clause-put c = λ b long content.
     let size : c.bytes-size.result ≡ size_of p = rw c.bytes-size.ensures (ap (λ l. l.size) c.read_layout.ensures) in
     let places : is_in_ranges c.as_slice.result.now ≡ is_data_place p = ap is_in_ranges c.as_slice.ensures.runs ∙ (λ i k. (c.in_ok-places.ensures k ∙ ap (λ ns. is_data_place (placed_at ns c.args.node) k) c.new.ensures.nodes) i) in
     subst (λ q. IsPutOver q c.args.at b c.args.bytes.now c.put_places.new.bytes) places
-    (c.put_places.ensures.put b (long ∙ sym size) (content ∙ ap (λ q. picked q 0 b) (sym places)))
+    (c.put_places.ensures.put b (long ∙ sym size) (content ∙ ap (λ q. picked_bytes q 0 b) (sym places)))

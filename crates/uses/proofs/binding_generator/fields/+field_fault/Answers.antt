@@ -1,6 +1,6 @@
 -- Lists of fields and of variants are as long as they are in the program.
 use Rattle.std.proofs.Common.{◌≡◌, ap, arith, length, sym, ◌∙◌}
-use Rattle.uses.specs.FieldOfC.{enum_fault, list_fault}
+use Rattle.uses.specs.FieldOfC.{c_enum_fault, list_fault}
 use Rattle.uses.proofs.FaultsOfC.{fault-Enum, fault-Struct, fault-Union}
 use Rattle.uses.proofs.binding_generator.fields.+field_fault.Goals as goal
 
@@ -17,4 +17,4 @@ returns-in-Union t c =
 pub returns-in-Enum : goal.returns-in-Enum
 returns-in-Enum t c =
     let many : c.len-in-Enum.result ≡ length c.in-Enum.variants.items = omega (arith, c.in-Enum.variants.ok.0, c.len-in-Enum.ensures) in
-    c.enum_fault.ensures ∙ ap (enum_fault c.in-Enum.repr) many ∙ sym (fault-Enum c.args.tree.now c.in-Enum.repr c.in-Enum.variants c.in-Enum.is)
+    c.enum_fault.ensures ∙ ap (c_enum_fault c.in-Enum.repr) many ∙ sym (fault-Enum c.args.tree.now c.in-Enum.repr c.in-Enum.variants c.in-Enum.is)

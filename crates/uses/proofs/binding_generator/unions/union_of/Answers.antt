@@ -1,7 +1,7 @@
 -- The union that was laid out, from its exact layout.
 use Rattle.std.proofs.Common.{ap, sym}
 use Rattle.abi_laid.specs.Laid.{placed_of}
-use Rattle.abi_laid.specs.Placed.{Layout}
+use Rattle.abi_scalar.specs.Layout.{Layout}
 use Rattle.abi_laid.specs.Tree.{tree_of}
 use Rattle.uses.proofs.United.{union_in_c}
 use Rattle.uses.proofs.binding_generator.unions.union_of.Goals as goal

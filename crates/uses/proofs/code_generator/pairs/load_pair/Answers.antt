@@ -3,7 +3,8 @@ use Rattle.std.proofs.Common.{◌≡◌, ap, sym, ◌∙◌, subst}
 use Rattle.abi_scalar.specs.declared.backend_repr.BackendRepr.TheVariants.{ScalarPair}
 use Rattle.abi_scalar.specs.declared.scalar.Scalar.{Scalar}
 use Rattle.abi_laid.specs.Laid.{placed_of}
-use Rattle.abi_laid.specs.Placed.{Layout, layout_of}
+use Rattle.abi_laid.specs.Placed.{layout_of}
+use Rattle.abi_scalar.specs.Layout.{Layout}
 use Rattle.abi_laid.specs.Tree.{tree_of}
 use Rattle.uses.specs.Loaded.{IsNumberAt, IsSeenAsPair}
 use Rattle.uses.proofs.Seen.{first_inside, first_lawful, first_number, held_here, second_inside, second_lawful, second_number, seen_pair_here}

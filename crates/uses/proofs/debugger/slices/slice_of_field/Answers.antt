@@ -6,7 +6,7 @@ use Rattle.abi_laid.specs.Laid.{endian_of, placed_of}
 use Rattle.abi_laid.specs.Handles.{tree_type}
 use Rattle.abi_laid.specs.Placed.{Placed, size_of}
 use Rattle.abi_laid.specs.Value.{Value, Values, list}
-use Rattle.uses.specs.Field.{HasField, value_at}
+use Rattle.uses.specs.Field.{HasFieldAt, value_at}
 use Rattle.uses.proofs.Fields.{each_slice, field_fits, field_inside, field_there, held_field, no_slice}
 use Rattle.uses.proofs.debugger.slices.slice_of_field.Goals as goal
 use Rattle.uses.proofs.debugger.slices.slice_of_field.Goals.{After-bytes_from}
@@ -17,7 +17,7 @@ offset-offset-requires-clause-fits c =
     let inside = field_inside (tree_type c.root-root.result) c.layout-layout.result.now c.args.index c.root-root.ensures.valid.lawful is (omega arith) in
     omega (arith, inside)
 
-there : (c : After-bytes_from) (offset : ℕ) (field : Placed) → HasField (placed_of c.args.laid.now) c.args.index offset field →
+there : (c : After-bytes_from) (offset : ℕ) (field : Placed) → HasFieldAt (placed_of c.args.laid.now) c.args.index offset field →
     (c.bytes.result ≡ offset) × (c.bytes-2.result ≡ size_of field)
 there c offset field h =
     field_there (tree_type c.root-root.result) (tree_type c.field-field.result) (placed_of c.args.laid.now) c.layout-layout.result.now c.field-field.result.layout.0.now c.args.index c.bytes.result c.bytes-2.result
@@ -26,13 +26,13 @@ there c offset field h =
 pub returns-clause-slice : goal.returns-clause-slice
 returns-clause-slice c =
     each_slice c.args.bytes.now c.bytes.result c.bytes-2.result c.bytes_from.result
-    (λ slice. (offset : ℕ) (field : Placed) → HasField (placed_of c.args.laid.now) c.args.index offset field → slice ≡ bytes_at c.args.bytes.now offset (size_of field)) c.bytes_from.ensures
+    (λ slice. (offset : ℕ) (field : Placed) → HasFieldAt (placed_of c.args.laid.now) c.args.index offset field → slice ≡ bytes_at c.args.bytes.now offset (size_of field)) c.bytes_from.ensures
     (λ offset field h. let at = there c offset field h in ap₂ (λ o n. bytes_at c.args.bytes.now o n) at.0 at.1)
 
 pub returns-clause-holds : goal.returns-clause-holds
 returns-clause-holds c =
     each_slice c.args.bytes.now c.bytes.result c.bytes-2.result c.bytes_from.result
-    (λ slice. (offset : ℕ) (field : Placed) → HasField (placed_of c.args.laid.now) c.args.index offset field → (vs : Values) (v : Value) →
+    (λ slice. (offset : ℕ) (field : Placed) → HasFieldAt (placed_of c.args.laid.now) c.args.index offset field → (vs : Values) (v : Value) →
     Holds (endian_of c.args.laid.now) (placed_of c.args.laid.now) c.args.bytes.now (list vs) → value_at vs c.args.index ≡ Some v → Holds (endian_of c.args.laid.now) field slice v) c.bytes_from.ensures
     (λ offset field h vs v held e.
     let at = there c offset field h in
