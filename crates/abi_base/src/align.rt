@@ -110,7 +110,8 @@ impl Align {
     pub fn max_for_target(tdl: &TargetDataLayout) -> Align
         requires some { 1 ≤ tdl.now.default_address_space_pointer_spec.pointer_size }
         requires most { tdl.now.default_address_space_pointer_spec.pointer_size * 8 ≤ 255 }
-        ensures { result ≡ min (tdl.now.default_address_space_pointer_spec.pointer_size * 8 - 1) max_exponent }
+        ensures { result
+            ≡ min (tdl.now.default_address_space_pointer_spec.pointer_size * 8 - 1) max_exponent }
     {
         let pow2 = (tdl.pointer_size().bits() - 1) as u8;
         if pow2 < Align::MAX.pow2 {
@@ -135,7 +136,8 @@ impl Align {
         ensures zero { bytes ≡ 0 → result ≡ Ok 0 }
         ensures power { (k : ℕ) → bytes ≡ 2 ^ k →
             result ≡ (if nat_lt max_exponent k then Err (TooLarge bytes) else Ok k) }
-        ensures not_power { 0 < bytes → ((k : ℕ) → bytes ≢ 2 ^ k) → result ≡ Err (NotPowerOfTwo bytes) }
+        ensures not_power { 0 < bytes → ((k : ℕ) → bytes ≢ 2 ^ k) →
+            result ≡ Err (NotPowerOfTwo bytes) }
     {
         if bytes == 0 {
             return Ok(Align::ONE);

@@ -159,8 +159,10 @@ impl TargetDataLayout {
     /// The integer as wide as an index.
     pub fn ptr_sized_integer(&self) -> Integer
         requires { IsPointerWidth self.now.default_address_space_pointer_spec.pointer_offset }
-        ensures value { result ≡ index_integer self.now.default_address_space_pointer_spec.pointer_offset }
-        ensures size { integer_size result ≡ self.now.default_address_space_pointer_spec.pointer_offset }
+        ensures value { result
+            ≡ index_integer self.now.default_address_space_pointer_spec.pointer_offset }
+        ensures size { integer_size result
+            ≡ self.now.default_address_space_pointer_spec.pointer_offset }
     {
         integer_of(self.pointer_offset())
     }
@@ -225,8 +227,10 @@ impl TargetDataLayout {
     pub fn rust_vector_align(&self, size: Size) -> Align
         requires { listed_align self.now.vector_align size ≡ None → size ≤ 2 ^ 29 }
         ensures value { result ≡ vector_align_of self.now size }
-        ensures listed { (align : ℕ) → listed_align self.now.vector_align size ≡ Some align → result ≡ align }
-        ensures unlisted { listed_align self.now.vector_align size ≡ None → IsLeastPower size result }
+        ensures listed { (align : ℕ) →
+            listed_align self.now.vector_align size ≡ Some align → result ≡ align }
+        ensures unlisted { listed_align self.now.vector_align size ≡ None →
+            IsLeastPower size result }
     {
         match self.vector_align.get(size) {
             Some(align) => align,

@@ -184,7 +184,8 @@ impl Integer {
     /// The greatest integer up to 64 bits whose alignment and size both are at most so many bytes,
     /// and `I8` where none is.
     pub fn approximate_align<C: HasDataLayout>(cx: &C, wanted: Align) -> Integer
-        ensures { result ≡ unwrap_or (find (is_within_align (C.target cx.now) wanted) tag_integers) I8 }
+        ensures { result
+            ≡ unwrap_or (find (is_within_align (C.target cx.now) wanted) tag_integers) I8 }
     {
         let integers = [Integer::I64, Integer::I32, Integer::I16];
         first_within_align(cx, wanted, &integers).unwrap_or(Integer::I8)
@@ -194,7 +195,8 @@ impl Integer {
     /// there is none.
     pub fn from_size(size: Size) -> Result<Integer, NoSuchInteger>
         requires { size * 8 < 2 ^ 64 }
-        ensures { result ≡ ok_or (find (λ i. integer_size i == size) integers) (record { 0 = size * 8 }) }
+        ensures { result
+            ≡ ok_or (find (λ i. integer_size i == size) integers) (record { 0 = size * 8 }) }
     {
         match size.bytes() {
             1 => Ok(Integer::I8),

@@ -117,9 +117,10 @@ impl<K: PartialEq + Copy, V: Copy> KeyedList<K, V> {
 
     /// Where the first entry of the key is, if there is one.
     fn place(&self, key: K) -> Option<usize>
-        ensures { MatchOption result ((value : V) → put_entry K.eq key value self.now ≡ self.now ++ ((key, value) ∷ []))
-            (λ index. (index < length self.now)
-            × ((value : V) → put_entry K.eq key value self.now ≡ slice_set self.now index (key, value))) }
+        ensures { MatchOption result
+            ((value : V) → put_entry K.eq key value self.now ≡ self.now ++ ((key, value) ∷ []))
+            (λ index. (index < length self.now) × ((value : V) →
+            put_entry K.eq key value self.now ≡ slice_set self.now index (key, value))) }
     {
         for (index, (listed, _)) in self.entries.iter().enumerate() {
             if *listed == key {

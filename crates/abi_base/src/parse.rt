@@ -95,8 +95,8 @@ impl Reading {
     /// One spec more.
     fn set(&mut self, setting: Setting) -> Result<(), AllocError>
         requires { IsWidthOfLong self.old.widest }
-        ensures one_more { OnOk result ((ss : List Setting) →
-            with_settings self.new.dl self.new.widest ss ≡ with_settings self.old.dl self.old.widest (setting ∷ ss)) }
+        ensures one_more { OnOk result ((ss : List Setting) → with_settings self.new.dl
+            self.new.widest ss ≡ with_settings self.old.dl self.old.widest (setting ∷ ss)) }
         ensures wide { OnOk result (IsWidthOfLong self.new.widest) }
         ensures err { OnErr result (self.new ≡ self.old) }
     {

@@ -41,7 +41,8 @@ fn size<'a>(text: &'a str, cause: &'a str) -> Result<Size, TargetDataLayoutError
 
 /// An alignment, written in bits: that of the first of the parts.
 fn alignment<'a>(parts: Option<&'a str>, cause: &'a str) -> Result<Align, TargetDataLayoutError<'a>>
-    ensures { IsReading (alignment_in (spec_parts_left 58 (option_copied parts.entry)) cause.now) result }
+    ensures { IsReading (alignment_in (spec_parts_left 58 (option_copied parts.entry)) cause.now)
+        result }
 {
     let Some(parts) = parts else {
         return Err(TargetDataLayoutError::MissingAlignment { cause });
@@ -108,7 +109,8 @@ fn pointers<'a>(
     bytes: &'a str,
     parts: Option<&'a str>,
 ) -> Result<Setting, TargetDataLayoutError<'a>>
-    ensures { IsReading (pointers_in is_fat space.now bytes.now (spec_parts_left 58 (option_copied parts.entry))) result }
+    ensures { IsReading (pointers_in is_fat space.now bytes.now
+        (spec_parts_left 58 (option_copied parts.entry))) result }
 {
     let space = pointer_space(space)?;
     let pointer_size = size(bytes, "p-")?;
@@ -137,7 +139,8 @@ fn pointer_spec<'a>(
     rest: &'a str,
     parts: Option<&'a str>,
 ) -> Result<Setting, TargetDataLayoutError<'a>>
-    ensures { IsReading (pointer_setting rest.now (spec_parts_left 58 (option_copied parts.entry))) result }
+    ensures { IsReading (pointer_setting rest.now (spec_parts_left 58 (option_copied parts.entry)))
+        result }
 {
     let Some(parts) = parts else {
         return Ok(Setting::Nothing);
@@ -183,7 +186,8 @@ fn aligned<'a>(
     word: &'a str,
     parts: Option<&'a str>,
 ) -> Result<Setting, TargetDataLayoutError<'a>>
-    ensures { IsReading (setting_in (aligned named word.now (spec_parts_left 58 (option_copied parts.entry)))) result }
+    ensures { IsReading (setting_in
+        (aligned named word.now (spec_parts_left 58 (option_copied parts.entry)))) result }
 {
     let align = alignment(parts, word)?;
     Ok(Setting::Aligned(named, align))
@@ -193,7 +197,8 @@ fn aligned<'a>(
 #[tactic(auto, using(crate::proofs::SpecFaults::width_told, crate::proofs::SpecFaults::integer_told, crate::proofs::SpecFaults::integer_read))]
 fn integer<'a>(word: &'a str, parts: Option<&'a str>) -> Result<Setting, TargetDataLayoutError<'a>>
     requires { slice_index word.now 0 ≡ 105 }
-    ensures { IsReading (setting_in (integer word.now (spec_parts_left 58 (option_copied parts.entry)))) result }
+    ensures { IsReading
+        (setting_in (integer word.now (spec_parts_left 58 (option_copied parts.entry)))) result }
 {
     let bits = bits("size", tail(word), "i")?;
     let align = alignment(parts, word)?;
@@ -204,7 +209,8 @@ fn integer<'a>(word: &'a str, parts: Option<&'a str>) -> Result<Setting, TargetD
 #[tactic(auto, using(crate::proofs::SpecFaults::vector_size_told, crate::proofs::SpecFaults::vector_told, crate::proofs::SpecFaults::vector_read))]
 fn vector<'a>(word: &'a str, parts: Option<&'a str>) -> Result<Setting, TargetDataLayoutError<'a>>
     requires { slice_index word.now 0 ≡ 118 }
-    ensures { IsReading (setting_in (vector word.now (spec_parts_left 58 (option_copied parts.entry)))) result }
+    ensures { IsReading
+        (setting_in (vector word.now (spec_parts_left 58 (option_copied parts.entry)))) result }
 {
     let size = size(tail(word), "v")?;
     let align = alignment(parts, word)?;
@@ -213,7 +219,8 @@ fn vector<'a>(word: &'a str, parts: Option<&'a str>) -> Result<Setting, TargetDa
 
 /// A spec whose first part is no word of its own.
 fn lettered<'a>(word: &'a str, parts: Option<&'a str>) -> Result<Setting, TargetDataLayoutError<'a>>
-    ensures { IsReading (setting_in (lettered_row word.now (spec_parts_left 58 (option_copied parts.entry)))) result }
+    ensures { IsReading (setting_in
+        (lettered_row word.now (spec_parts_left 58 (option_copied parts.entry)))) result }
 {
     if begins(word, 'p') & has_parts(parts) {
         pointer_spec(tail(word), parts)

@@ -9,7 +9,8 @@ use unicode::properties::is_alphabetic;
 /// A text's first part, up to the mark, and those that follow it, if there are any.
 pub(crate) fn cut(text: &str, mark: char) -> (&str, Option<&str>)
     requires { mark < 128 }
-    ensures parts { spec_parts mark text.now ≡ result.0.now ∷ spec_parts_left mark (option_copied result.1) }
+    ensures parts { spec_parts mark text.now
+        ≡ result.0.now ∷ spec_parts_left mark (option_copied result.1) }
     ensures shorter { IfSome result.1 (λ rest. length rest.now < length text.now) }
 {
     match text.split_once(mark) {

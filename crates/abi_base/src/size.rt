@@ -174,7 +174,8 @@ impl Size {
 
     /// The sum of both, if it is below the data layout's bound.
     pub fn checked_add<C: HasDataLayout>(self, offset: Size, cx: &C) -> Option<Size>
-        requires { IsPointerWidth (C.target cx.now).default_address_space_pointer_spec.pointer_size }
+        requires { IsPointerWidth
+            (C.target cx.now).default_address_space_pointer_spec.pointer_size }
         ensures { SomeIff result (self + offset < size_bound (C.target cx.now)) (self + offset) }
     {
         let bound = cx.data_layout().obj_size_bound();
@@ -186,7 +187,8 @@ impl Size {
 
     /// So many times as much, if it is below the data layout's bound.
     pub fn checked_mul<C: HasDataLayout>(self, count: u64, cx: &C) -> Option<Size>
-        requires { IsPointerWidth (C.target cx.now).default_address_space_pointer_spec.pointer_size }
+        requires { IsPointerWidth
+            (C.target cx.now).default_address_space_pointer_spec.pointer_size }
         ensures { SomeIff result (self * count < size_bound (C.target cx.now)) (self * count) }
     {
         let bound = cx.data_layout().obj_size_bound();

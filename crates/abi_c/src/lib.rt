@@ -43,9 +43,11 @@ pub extern "C" fn abi_c_layout(
     output: &mut [u8],
     needed: &mut usize,
 ) -> u8
-    ensures answered { IsLentAnswer (IsOutputOf TellsLayout input.now) result output.old output.new needed.new }
+    ensures answered { IsLentAnswer (IsOutputOf TellsLayout input.now) result
+        output.old output.new needed.new }
     ensures some { (all : List ℕ) → (o : Output) × IsOutputOf TellsLayout all o }
-    ensures one { (all : List ℕ) (a b : Output) → IsOutputOf TellsLayout all a → IsOutputOf TellsLayout all b → a ≡ b }
+    ensures one { (all : List ℕ) (a b : Output) → IsOutputOf TellsLayout all a →
+        IsOutputOf TellsLayout all b → a ≡ b }
 {
     tell::<LayoutText>(alloc, input, output, needed)
 }
@@ -58,9 +60,11 @@ pub extern "C" fn abi_c_map(
     output: &mut [u8],
     needed: &mut usize,
 ) -> u8
-    ensures answered { IsLentAnswer (IsOutputOf TellsMap input.now) result output.old output.new needed.new }
+    ensures answered { IsLentAnswer (IsOutputOf TellsMap input.now) result
+        output.old output.new needed.new }
     ensures some { (all : List ℕ) → (o : Output) × IsOutputOf TellsMap all o }
-    ensures one { (all : List ℕ) (a b : Output) → IsOutputOf TellsMap all a → IsOutputOf TellsMap all b → a ≡ b }
+    ensures one { (all : List ℕ) (a b : Output) → IsOutputOf TellsMap all a →
+        IsOutputOf TellsMap all b → a ≡ b }
 {
     tell::<MapText>(alloc, input, output, needed)
 }

@@ -16,8 +16,8 @@ pub(crate) fn add_run(
 ) -> Result<(), AllocError>
     requires some { from < to }
     requires maximal { AreMaximalRuns 0 runs.old.items }
-    ensures bytes { OnOk result ((k : ℕ) →
-        is_in_ranges runs.new.items k ≡ (is_in_run k (from, to - from) || is_in_ranges runs.old.items k)) }
+    ensures bytes { OnOk result ((k : ℕ) → is_in_ranges runs.new.items k
+        ≡ (is_in_run k (from, to - from) || is_in_ranges runs.old.items k)) }
     ensures maximal { AreMaximalRuns 0 runs.new.items }
     ensures err { OnErr result (runs.new.items ≡ runs.old.items) }
 {
@@ -40,9 +40,10 @@ pub(crate) fn add_run(
 fn push_run(runs: &mut Vec<(u64, u64)>, from: u64, to: u64) -> Result<(), AllocError>
     requires some { from < to }
     requires maximal { AreMaximalRuns 0 runs.old.items }
-    requires behind { IfSome (slice_get runs.old.items (length runs.old.items - 1)) (λ last. last.0 + last.1 < from) }
-    ensures bytes { OnOk result ((k : ℕ) →
-        is_in_ranges runs.new.items k ≡ (is_in_run k (from, to - from) || is_in_ranges runs.old.items k)) }
+    requires behind { IfSome (slice_get runs.old.items (length runs.old.items - 1)) (λ last.
+        last.0 + last.1 < from) }
+    ensures bytes { OnOk result ((k : ℕ) → is_in_ranges runs.new.items k
+        ≡ (is_in_run k (from, to - from) || is_in_ranges runs.old.items k)) }
     ensures maximal { AreMaximalRuns 0 runs.new.items }
     ensures err { OnErr result (runs.new.items ≡ runs.old.items) }
 {
@@ -54,8 +55,8 @@ fn push_run(runs: &mut Vec<(u64, u64)>, from: u64, to: u64) -> Result<(), AllocE
 fn lengthen_last(runs: &mut Vec<(u64, u64)>, from: u64, to: u64)
     requires some { from < to }
     requires maximal { AreMaximalRuns 0 runs.old.items }
-    requires meets { IsSomeAnd (slice_get runs.old.items (length runs.old.items - 1)) (λ last. (last.0 ≤ from) ×
-        (from ≤ last.0 + last.1)) }
+    requires meets { IsSomeAnd (slice_get runs.old.items (length runs.old.items - 1)) (λ last.
+        (last.0 ≤ from) × (from ≤ last.0 + last.1)) }
     ensures bytes { (k : ℕ) → is_in_ranges runs.new.items k ≡
         (is_in_run k (from, to - from) || is_in_ranges runs.old.items k) }
     ensures maximal { AreMaximalRuns 0 runs.new.items }

@@ -81,7 +81,8 @@ impl Ascending {
     #[tactic(auto, using(crate::proofs::AscendingLemmas::inserted))]
     pub(crate) fn insert(&mut self, number: u32) -> Result<bool, AllocError>
         ensures is_new { IfOk result (λ is_new. is_new ≡ not (has_number self.old number)) }
-        ensures numbers { OnOk result ((k : ℕ) → has_number self.new k ≡ (k == number || has_number self.old k)) }
+        ensures numbers { OnOk result ((k : ℕ) →
+            has_number self.new k ≡ (k == number || has_number self.old k)) }
         ensures there { has_number self.old number ≡ true → IsOk result }
         ensures err { OnErr result (self.new ≡ self.old) }
     {

@@ -85,7 +85,8 @@ impl<R: Idx, C: Idx> BitMatrix<R, C> {
     pub fn insert(&mut self, row: R, column: C) -> Result<bool, AllocError>
         requires row { R.number row < row_count self.old }
         requires column { C.number column < column_count self.old }
-        ensures is_new { IfOk result (λ is_new. is_new ≡ not (is_entry self.old (R.number row) (C.number column))) }
+        ensures is_new { IfOk result (λ is_new.
+            is_new ≡ not (is_entry self.old (R.number row) (C.number column))) }
         ensures entries { OnOk result ((r c : ℕ) → is_entry self.new r c
             ≡ ((r == R.number row && c == C.number column) || is_entry self.old r c)) }
         ensures rows { row_count self.new ≡ row_count self.old }

@@ -72,7 +72,8 @@ impl<I: Idx> DenseBitSet<I> {
     pub fn insert(&mut self, item: I) -> bool
         requires { I.number item < domain_size self.old }
         ensures is_new { result ≡ not (is_member self.old (I.number item)) }
-        ensures members { (k : ℕ) → is_member self.new k ≡ (is_member self.old k || k == I.number item) }
+        ensures members { (k : ℕ) →
+            is_member self.new k ≡ (is_member self.old k || k == I.number item) }
         ensures size { domain_size self.new ≡ domain_size self.old }
     {
         let place = item.index();

@@ -122,7 +122,8 @@ impl<T> Few<T> {
     /// list itself, and isn't asked for.
     pub(crate) fn with_capacity(alloc: Global, capacity: usize) -> Result<Self, AllocError>
         ensures ok { IfOk result (λ list. list.items ≡ []) }
-        ensures room { IfOk result (λ list. list.room ≡ (if nat_le capacity 2 then 0 else capacity)) }
+        ensures room { IfOk result (λ list.
+            list.room ≡ (if nat_le capacity 2 then 0 else capacity)) }
         ensures inline { capacity ≤ 2 → IsOk result }
     {
         let rest = if capacity <= 2 {
@@ -176,7 +177,8 @@ impl<T> Few<T> {
         T: Drop,
         ensures ok { OnOk result (self.new.items ≡ self.old.items ++ item ∷ []) }
         ensures err { OnErr result (self.new ≡ self.old) }
-        ensures inline { TwoFit T.row → length self.old.items < 2 → IsOk result × (self.new.room ≡ self.old.room) }
+        ensures inline { TwoFit T.row → length self.old.items < 2 →
+            IsOk result × (self.new.room ≡ self.old.room) }
         ensures reserved { length self.old.items < self.old.room → IsOk result }
         ensures kept { self.old.room ≤ self.new.room }
     {

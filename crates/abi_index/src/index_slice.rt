@@ -112,7 +112,8 @@ impl<'a, I: Idx, T> IndexSlice<'a, I, T> {
 
     /// The indices of the items, in order.
     pub fn indices(self) -> Indices<I>
-        ensures { indices_left I.at result ≡ map I.at (range_with_len 0 (length (items_of self.entry))) }
+        ensures { indices_left I.at result
+            ≡ map I.at (range_with_len 0 (length (items_of self.entry))) }
     {
         Indices::below(self.raw.len())
     }

@@ -109,7 +109,8 @@ impl RangeSet {
     /// The bytes of this set before byte `end`. `AllocError` where memory is refused.
     #[tactic(auto, using(crate::proofs::UncutLemmas::first_bytes))]
     pub fn before(&self, alloc: Global, end: u64) -> Result<RangeSet, AllocError>
-        ensures bytes { IfOk result (λ set. (k : ℕ) → is_in_ranges set k ≡ (nat_lt k end && is_in_ranges self.now k)) }
+        ensures bytes { IfOk result (λ set. (k : ℕ) →
+            is_in_ranges set k ≡ (nat_lt k end && is_in_ranges self.now k)) }
     {
         let mut beyond = RangeSet::new(alloc);
         beyond.add_range(end, u64::MAX - end)?;

@@ -41,7 +41,8 @@ impl RangeSetBuilder {
     #[tactic(auto, using(crate::proofs::RunsLemmas::adds_run, crate::proofs::RunsLemmas::extends_by))]
     pub fn add_range(&mut self, offset: u64, size: u64) -> Result<(), AllocError>
         requires { offset + size < 2 ^ 64 }
-        ensures bytes { OnOk result (Adds self.old self.new (moved_to offset (λ k. nat_lt k size))) }
+        ensures bytes { OnOk result (Adds self.old self.new (moved_to offset (λ k.
+            nat_lt k size))) }
         ensures kept { Extends self.old self.new }
         ensures none { size ≡ 0 → IsOk result }
         ensures err { OnErr result (self.new ≡ self.old) }
@@ -57,7 +58,8 @@ impl RangeSetBuilder {
     #[tactic(auto, using(crate::proofs::RunsLemmas::adds_none, crate::proofs::RunsLemmas::adds_next, crate::proofs::RunsLemmas::extends_twice))]
     pub fn add_set(&mut self, set: &RangeSet, offset: u64) -> Result<(), AllocError>
         requires { All (λ run. offset + (run.0 + run.1) < 2 ^ 64) set.now }
-        ensures bytes { OnOk result (Adds self.old self.new (moved_to offset (is_in_ranges set.now))) }
+        ensures bytes { OnOk result (Adds self.old self.new
+            (moved_to offset (is_in_ranges set.now))) }
         ensures kept { Extends self.old self.new }
     {
         for run in set.as_slice() {
@@ -78,7 +80,8 @@ impl RangeSetBuilder {
     ) -> Result<(), AllocError>
         requires some { 0 < stride }
         requires inside { All (λ run. run.0 + run.1 ≤ stride) set.now }
-        requires fits { All (λ run. offset + stride * (count - 1) + (run.0 + run.1) < 2 ^ 64) set.now }
+        requires fits { All (λ run.
+            offset + stride * (count - 1) + (run.0 + run.1) < 2 ^ 64) set.now }
         ensures bytes { OnOk result (Adds self.old self.new
             (moved_to offset (repeated stride count (is_in_ranges set.now)))) }
         ensures kept { Extends self.old self.new }

@@ -22,11 +22,12 @@ pub(crate) fn add_uncut(
     requires place { first ≤ length cuts.now }
     requires passed { EndBy from (take first cuts.now) }
     ensures bytes { OnOk result ((k : ℕ) →
-        is_in_ranges made.new k ≡ ((is_in_run k (from, to - from) && not (is_in_ranges cuts.now k)) || is_in_ranges
-        made.old k)) }
+        is_in_ranges made.new k ≡ ((is_in_run k (from, to - from) && not (is_in_ranges cuts.now k))
+        || is_in_ranges made.old k)) }
     ensures place { IfOk result (λ next. next ≤ length cuts.now) }
     ensures passed { IfOk result (λ next. EndBy to (take next cuts.now)) }
-    ensures behind { IfOk result (λ next. IfSome (slice_get cuts.now next) (λ cut. to < cut.0 + cut.1)) }
+    ensures behind { IfOk result (λ next.
+        IfSome (slice_get cuts.now next) (λ cut. to < cut.0 + cut.1)) }
 {
     let mut start = from;
     for next in first..cuts.len() {

@@ -117,7 +117,8 @@ impl Laid {
         ensures told { tree_type result ≡ typed_of self.now }
         ensures seen { Sees (tree_type result) (placed_of self.now) }
         ensures layout { result.layout.0.now ≡ layout_of (placed_of self.now) }
-        ensures within { (k : ℕ) → is_data_place (placed_of self.now) k ≡ true → k < size_of (placed_of self.now) }
+        ensures within { (k : ℕ) → is_data_place (placed_of self.now) k ≡ true →
+            k < size_of (placed_of self.now) }
     {
         handle_at(self, self.nodes().len() - 1)
     }
@@ -134,8 +135,10 @@ impl Laid {
     /// how many nodes were read to tell: each of those that its data places rest on, once. `AllocError` where memory is
     /// refused.
     pub fn padding(&self, alloc: Global) -> Result<(RangeSet, usize), AllocError>
-        ensures ranges { IfOk result (λ r. (k : ℕ) → is_in_ranges r.0 k ≡ is_padding_of (placed_of self.now) k) }
-        ensures visits { IfOk result (λ r. AreVisits self.now.nodes (node_count_of self.now - 1) r.1) }
+        ensures ranges { IfOk result (λ r. (k : ℕ) →
+            is_in_ranges r.0 k ≡ is_padding_of (placed_of self.now) k) }
+        ensures visits { IfOk result (λ r.
+            AreVisits self.now.nodes (node_count_of self.now - 1) r.1) }
         ensures few { IfOk result (λ r. r.1 ≤ node_count_of self.now) }
     {
         padding(alloc, Counted::new(&self.nodes), self.nodes.len() - 1)
@@ -164,13 +167,14 @@ impl Laid {
     ) -> Result<Option<(Vec<u8>, Vec<u8>)>, AllocError>
         // Where there is an answer.
         ensures only { IfOk result (λ found. IfSome found (λ pair.
-            (all_inhabited_of self.now ≡ true) × (is_data_place (placed_of self.now) place ≡ true))) }
+            (all_inhabited_of self.now ≡ true)
+            × (is_data_place (placed_of self.now) place ≡ true))) }
         ensures none { IfOk result (λ found. found ≡ None →
             (all_inhabited_of self.now && is_data_place (placed_of self.now) place) ≡ false) }
 
         // What it is, for each tree whose places the layout keeps.
-        ensures decides { IfOk result (λ found. IfSome found (λ pair. (dl : TargetDataLayout) (tree : Tree) →
-            KeepsPlaces dl tree self.now →
+        ensures decides { IfOk result (λ found. IfSome found (λ pair.
+            (dl : TargetDataLayout) (tree : Tree) → KeepsPlaces dl tree self.now →
             Decide (endian_of self.now) (placed_of self.now) place pair.0.items pair.1.items)) }
     {
         if self.all_inhabited() {

@@ -37,8 +37,10 @@ fn put_parts(
 ) -> Result<(), AllocError>
     requires made { All (IsSet done.now) children.now }
     requires fits { (i : ℕ) → i < length offsets.now → i < length children.now →
-        All (λ run. get_or offsets.now i 0 + (run.0 + run.1) < 2 ^ 64) (get_or done.now (get_or children.now i 0) []) }
-    ensures { OnOk result (Adds runs.old runs.new (parts_cover offsets.now (sets_at done.now children.now))) }
+        All (λ run. get_or offsets.now i 0 + (run.0 + run.1) < 2 ^ 64) (get_or done.now
+        (get_or children.now i 0) []) }
+    ensures { OnOk result (Adds runs.old runs.new (parts_cover offsets.now
+        (sets_at done.now children.now))) }
 {
     for i in 0..offsets.len().min(children.len()) {
         runs.add_set(set_at(done, children[i]), offsets[i].bytes())?;
@@ -68,7 +70,8 @@ fn put_variants(
     done: &[RangeSet],
 ) -> Result<(), AllocError>
     requires made { All (IsSet done.now) (map (λ v. v.1) variants.now) }
-    ensures { OnOk result (Adds runs.old runs.new (some_covers (sets_at done.now (map (λ v. v.1) variants.now)))) }
+    ensures { OnOk result (Adds runs.old runs.new (some_covers (sets_at done.now
+        (map (λ v. v.1) variants.now)))) }
 {
     for variant in variants {
         runs.add_set(set_at(done, variant.1), 0)?;
@@ -103,7 +106,8 @@ fn put_elements(
     element: &RangeSet,
 ) -> Result<(), AllocError>
     requires some { 0 < size }
-    requires inside { (stride : ℕ) × (size ≡ stride * count) × All (λ run. run.0 + run.1 ≤ stride) element.now }
+    requires inside { (stride : ℕ) × (size ≡ stride * count)
+        × All (λ run. run.0 + run.1 ≤ stride) element.now }
     ensures { OnOk result ((stride : ℕ) → size ≡ stride * count →
         Adds runs.old runs.new (repeated stride count (is_in_ranges element.now))) }
 {
@@ -159,8 +163,9 @@ fn put_places(runs: &mut RangeSetBuilder, node: &Node, done: &[RangeSet]) -> Res
 /// The runs of a node's data places, made from those of the nodes before it whose data places are its own.
 fn runs_of(alloc: Global, node: &Node, done: &[RangeSet]) -> Result<RangeSet, AllocError>
     requires { (types : List Placed) × IsMadeOf types node.now done.now }
-    ensures { IfOk result (λ set. (types : List Placed) → IsMadeOf types node.now done.now →
-        (k : ℕ) → is_in_ranges set k ≡ is_data_place (meaning types node.now.layout node.now.shape) k) }
+    ensures { IfOk result (λ set. (types : List Placed) →
+        IsMadeOf types node.now done.now → (k : ℕ) →
+        is_in_ranges set k ≡ is_data_place (meaning types node.now.layout node.now.shape) k) }
 {
     if node.layout.size == Size::ZERO {
         return Ok(RangeSet::new(alloc));
@@ -173,8 +178,9 @@ fn runs_of(alloc: Global, node: &Node, done: &[RangeSet]) -> Result<RangeSet, Al
 /// The runs of a node's data places, where it is kept.
 fn next_set(alloc: Global, kept: Option<&Node>, done: &[RangeSet]) -> Result<RangeSet, AllocError>
     requires { IfSome kept (λ node. (types : List Placed) × IsMadeOf types node.now done.now) }
-    ensures { IfOk result (λ set. IfSome kept.entry (λ node. (types : List Placed) → IsMadeOf types node.now done.now →
-        (k : ℕ) → is_in_ranges set k ≡ is_data_place (meaning types node.now.layout node.now.shape) k)) }
+    ensures { IfOk result (λ set. IfSome kept.entry (λ node. (types : List Placed) →
+        IsMadeOf types node.now done.now → (k : ℕ) →
+        is_in_ranges set k ≡ is_data_place (meaning types node.now.layout node.now.shape) k)) }
 {
     match kept {
         Some(node) => runs_of(alloc, node, done),

@@ -80,8 +80,8 @@ fn is_allowed<FieldIdx: Idx>(
     count: usize,
 ) -> Result<bool, AllocError>
     requires { IsNonEmptyIfUnsized kind count }
-    ensures { IfOk result (λ allowed. IsTrue allowed ↔ IsPermutation (source_order count) (map FieldIdx.number order.now)
-        × KeepsTail kind count (map FieldIdx.number order.now)) }
+    ensures { IfOk result (λ allowed. IsTrue allowed ↔ IsPermutation (source_order count)
+        (map FieldIdx.number order.now) × KeepsTail kind count (map FieldIdx.number order.now)) }
 {
     if !names_each(alloc, order, count)? {
         return Ok(false);

@@ -45,7 +45,8 @@ impl<'a, FieldIdx: Idx, VariantIdx: Idx> LentList<'a, FieldIdx, VariantIdx> {
     /// The fields as they follow one another in memory.
     pub fn in_memory_order(&self) -> &[FieldIdx]
         ensures order { result.now ≡ listed_order self.now.fields }
-        ensures places { map FieldIdx.number result.now ≡ indices_by_offset FieldIdx.number self.now.fields }
+        ensures places { map FieldIdx.number result.now
+            ≡ indices_by_offset FieldIdx.number self.now.fields }
     {
         self.variant.in_memory_order()
     }

@@ -109,22 +109,25 @@ pub(crate) fn list_of_placed<FieldIdx: Idx, VariantIdx: Idx, F: LayoutHandle<Fie
     requires prefix { IsLawfulPrefix list.now.kind (size_bound dl.now) }
     requires tail { IsNonEmptyIfUnsized list.now.kind (length fields.now) }
     requires count { length fields.now ≤ FieldIdx.MAX_INDEX + 1 }
-    requires placed { IsInOrder dl.now list.now (parts_of dl.now (map F.layout_of fields.now)) placed.order
-        placed.offsets.items placed.size placed.align placed.largest_niche }
+    requires placed { IsInOrder dl.now list.now (parts_of dl.now (map F.layout_of fields.now))
+        placed.order placed.offsets.items placed.size placed.align placed.largest_niche }
     requires fits { placed.size < size_bound dl.now }
     ensures size { result.size ≡ placed.size }
     ensures align { result.align.abi ≡ placed.align }
     ensures niche { result.largest_niche ≡ placed.largest_niche }
     ensures shape { result.fields ≡ Arbitrary placed.offsets.items (map FieldIdx.at placed.order) }
     ensures variants { result.variants ≡ Single (VariantIdx.at 0) }
-    ensures view { result.backend_repr ≡ list_view dl.now (is_abi_fixed repr.now) result.size result.align.abi
-        (parts_of dl.now (map F.layout_of fields.now)) placed.offsets.items }
-    ensures uninhabited { result.uninhabited ≡ list_any (λ f. f.uninhabited) (map F.layout_of fields.now) }
-    ensures max_repr_align { result.max_repr_align ≡ greatest_repr_align repr.now.align (map F.layout_of fields.now) }
-    ensures unadjusted { result.unadjusted_abi_align ≡ unadjusted_of dl.now repr.now list.now.kind result.size
-        result.align.abi (parts_of dl.now (map F.layout_of fields.now)) }
+    ensures view { result.backend_repr ≡ list_view dl.now (is_abi_fixed repr.now) result.size
+        result.align.abi (parts_of dl.now (map F.layout_of fields.now)) placed.offsets.items }
+    ensures uninhabited { result.uninhabited
+        ≡ list_any (λ f. f.uninhabited) (map F.layout_of fields.now) }
+    ensures max_repr_align { result.max_repr_align
+        ≡ greatest_repr_align repr.now.align (map F.layout_of fields.now) }
+    ensures unadjusted { result.unadjusted_abi_align ≡ unadjusted_of dl.now repr.now list.now.kind
+        result.size result.align.abi (parts_of dl.now (map F.layout_of fields.now)) }
     ensures repr_c { result.repr_c ≡ lies_as_in_c repr.now (map F.layout_of fields.now) }
-    ensures seed { result.randomization_seed ≡ list_seed repr.now list.now.kind (map F.layout_of fields.now) }
+    ensures seed { result.randomization_seed
+        ≡ list_seed repr.now list.now.kind (map F.layout_of fields.now) }
     ensures lawful { IsLawfulLayout dl.now result }
 {
     let PlacedList {

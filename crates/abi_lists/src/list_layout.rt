@@ -74,7 +74,8 @@ impl<FieldIdx: Idx, VariantIdx: Idx> ListLayout<FieldIdx, VariantIdx> {
     /// The fields as they follow one another in memory.
     pub fn in_memory_order(&self) -> &[FieldIdx]
         ensures order { result.now ≡ listed_order self.now.fields }
-        ensures places { map FieldIdx.number result.now ≡ indices_by_offset FieldIdx.number self.now.fields }
+        ensures places { map FieldIdx.number result.now
+            ≡ indices_by_offset FieldIdx.number self.now.fields }
     {
         self.in_memory_order.as_slice().as_raw()
     }

@@ -45,8 +45,8 @@ impl GreatestNiche {
         requires { IfSome part.now.largest_niche (λ niche. offset + niche.offset < 2 ^ 64) }
         ensures first { result.first ≡ (if nat_lt self.free part.now.free then niche_of_part offset
             part.now.largest_niche else self.first) }
-        ensures last { result.last ≡ (if nat_lt part.now.free self.free then self.last else niche_of_part offset
-            part.now.largest_niche) }
+        ensures last { result.last ≡ (if nat_lt part.now.free self.free then self.last
+            else niche_of_part offset part.now.largest_niche) }
         ensures free { result.free ≡ max self.free part.now.free }
     {
         if part.free < self.free {

@@ -177,7 +177,8 @@ fn bulky_view<FieldIdx: Idx, VariantIdx: Idx, F: LayoutHandle<FieldIdx, VariantI
     requires parts { All (IsLawfulPart dl.now) parts.now }
     requires count { length offsets.now ≡ length parts.now }
     requires bulk { bulk ≡ bulk_of (bulky_parts parts.now) }
-    ensures { result ≡ bulky_view dl.now fixed size align parts.now offsets.now (bulky_parts parts.now) }
+    ensures { result
+        ≡ bulky_view dl.now fixed size align parts.now offsets.now (bulky_parts parts.now) }
 {
     match bulk {
         Bulk::One(i) => one_view(fixed, size, align, offsets[i], &parts.at(i)),

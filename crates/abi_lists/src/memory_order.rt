@@ -88,7 +88,8 @@ impl<FieldIdx: Idx> MemoryOrder<FieldIdx> {
         ensures permutes { IsPermutation self.old self.new }
         ensures sorted { OnOk result
             (IsSortedByKey (key_at (map (sort_key rule.now) parts.now)) compare_keys self.new) }
-        ensures stable { IsStableByKey (key_at (map (sort_key rule.now) parts.now)) compare_keys self.old self.new }
+        ensures stable { IsStableByKey (key_at (map (sort_key rule.now) parts.now))
+            compare_keys self.old self.new }
     {
         self.fields.sort_by_key(
             |field|

@@ -183,8 +183,8 @@ fn sort_fields<FieldIdx: Idx, VariantIdx: Idx, F: LayoutHandle<FieldIdx, Variant
     ensures permutes { OnOk result (IsPermutation order.old order.new) }
     ensures sorted { OnOk result
         (IsSortedByKey (key_at (map (sort_key rule.now) parts.now)) compare_keys order.new) }
-    ensures stable { OnOk result
-        (IsStableByKey (key_at (map (sort_key rule.now) parts.now)) compare_keys order.old order.new) }
+    ensures stable { OnOk result (IsStableByKey (key_at (map (sort_key rule.now) parts.now))
+        compare_keys order.old order.new) }
 {
     if parts.len() > KEPT_KEYS {
         return order.sort(parts, rule);

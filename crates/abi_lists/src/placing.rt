@@ -122,15 +122,15 @@ pub(crate) fn place<FieldIdx: Idx, VariantIdx: Idx, F: LayoutHandle<FieldIdx, Va
     ensures offsets { IfOk result (λ placed.
         map (slice_index placed.offsets.items) order.now ≡ offsets_from repr.now.pack
         (start_of repr.now.pack repr.now.kind) (in_order parts.now order.now)) }
-    ensures end { IfOk result (λ placed.
-        placed.end ≡ end_from repr.now.pack (start_of repr.now.pack repr.now.kind) (in_order parts.now order.now)) }
+    ensures end { IfOk result (λ placed. placed.end ≡ end_from repr.now.pack
+        (start_of repr.now.pack repr.now.kind) (in_order parts.now order.now)) }
     ensures first { IfOk result (λ placed.
         placed.niche.first ≡ niche_in dl.now repr.now NicheBias.Start parts.now order.now) }
     ensures last { IfOk result (λ placed.
         placed.niche.last ≡ niche_in dl.now repr.now NicheBias.End parts.now order.now) }
     ensures small { IfOk result (λ placed. placed.end < size_bound dl.now + 2 ^ max_align) }
-    ensures faultless { IfOk result (λ placed.
-        fault_from repr.now (size_bound dl.now) parts.now (start_of repr.now.pack repr.now.kind) order.now ≡ None) }
+    ensures faultless { IfOk result (λ placed. fault_from repr.now (size_bound dl.now) parts.now
+        (start_of repr.now.pack repr.now.kind) order.now ≡ None) }
     ensures fault { IfErr result (λ fault.
         (fault_from repr.now (size_bound dl.now) parts.now
         (start_of repr.now.pack repr.now.kind) order.now ≡ Some fault) ⊎ (fault ≡ OutOfMemory)) }

@@ -59,10 +59,12 @@ pub(crate) fn placed_in<FieldIdx: Idx, VariantIdx: Idx, F: LayoutHandle<FieldIdx
     ensures last { IfOk result (λ list.
         list.last_niche ≡ niche_in dl.now repr.now NicheBias.End parts.now order) }
     ensures readable { IfOk result (λ list. IfSome list.largest_niche (IsReadableNiche dl.now)) }
-    ensures inside { IfOk result (λ list. IfSome list.largest_niche (IsLawfulNiche dl.now list.size)) }
+    ensures inside { IfOk result (λ list.
+        IfSome list.largest_niche (IsLawfulNiche dl.now list.size)) }
     ensures fits { IfOk result (λ list. list.size < size_bound dl.now) }
     ensures fault { IfErr result (λ fault.
-        (fault_in repr.now (size_bound dl.now) parts.now order ≡ Some fault) ⊎ (fault ≡ OutOfMemory)) }
+        (fault_in repr.now (size_bound dl.now) parts.now order ≡ Some fault)
+        ⊎ (fault ≡ OutOfMemory)) }
 {
     let Placement {
         offsets,
@@ -106,7 +108,8 @@ fn run<FieldIdx: Idx, VariantIdx: Idx, F: LayoutHandle<FieldIdx, VariantIdx>>(
     ensures last { IfOk result (λ list.
         list.last_niche ≡ niche_in dl.now repr.now NicheBias.End parts.now list.order) }
     ensures readable { IfOk result (λ list. IfSome list.largest_niche (IsReadableNiche dl.now)) }
-    ensures inside { IfOk result (λ list. IfSome list.largest_niche (IsLawfulNiche dl.now list.size)) }
+    ensures inside { IfOk result (λ list.
+        IfSome list.largest_niche (IsLawfulNiche dl.now list.size)) }
     ensures fits { IfOk result (λ list. list.size < size_bound dl.now) }
     ensures fault { IfErr result (IsFaultOf dl.now repr.now bias parts.now) }
 {
@@ -133,8 +136,8 @@ fn space_wanted<FieldIdx: Idx>(
 ) -> Option<Size>
     requires readable { IfSome first.now.largest_niche (IsReadableNiche dl.now) }
     requires inside { IfSome first.now.largest_niche (IsLawfulNiche dl.now first.now.size) }
-    ensures { result ≡ (if may_move repr.now.kind count then space_beside dl.now first.now.size first.now.largest_niche
-        else None) }
+    ensures { result ≡ (if may_move repr.now.kind count then space_beside dl.now first.now.size
+        first.now.largest_niche else None) }
 {
     if !may_move(repr.kind, count) {
         return None;
@@ -154,8 +157,8 @@ fn begins_after(niche: &Option<Niche>, space: Size) -> bool
 
 /// The list with the last of its greatest niches, where that begins after so many bytes, else as it is.
 fn with_last_niche<FieldIdx: Idx>(list: PlacedList<FieldIdx>, space: Size) -> PlacedList<FieldIdx>
-    ensures same { (result.offsets ≡ list.offsets) × (result.order ≡ list.order) × (result.size ≡ list.size) ×
-        (result.align ≡ list.align) }
+    ensures same { (result.offsets ≡ list.offsets) × (result.order ≡ list.order)
+        × (result.size ≡ list.size) × (result.align ≡ list.align) }
     ensures niche { result.largest_niche ≡
         (if begins_after space list.last_niche then list.last_niche else list.largest_niche) }
 {

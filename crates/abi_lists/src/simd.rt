@@ -86,8 +86,8 @@ fn layout_of_vectors<FieldIdx: Idx, VariantIdx: Idx, F>(
     requires data_layout { IsLawfulDataLayout dl.now }
     requires small { bytes < 2 ^ 62 }
     requires limit { align ≤ 29 }
-    ensures { result ≡ if_below (size_bound dl.now)
-        (vector_layout (VariantIdx.at 0) (FieldIdx.at 0) element.now backend_repr bytes align count) }
+    ensures { result ≡ if_below (size_bound dl.now) (vector_layout (VariantIdx.at 0)
+        (FieldIdx.at 0) element.now backend_repr bytes align count) }
 {
     let size = bytes.align_to(align);
     if size.bytes() >= dl.obj_size_bound() {
@@ -156,8 +156,8 @@ pub fn layout_of_simd<FieldIdx: Idx, VariantIdx: Idx, F: LayoutHandle<FieldIdx, 
 ) -> Result<LayoutData<FieldIdx, VariantIdx>, LayoutCalculatorError<F>>
     requires data_layout { IsLawfulDataLayout dl.now }
     requires element { IsLawfulLayout dl.now (F.layout_of element) }
-    ensures exact { result ≡ simd_answer F.layout_of (VariantIdx.at 0) (FieldIdx.at 0) dl.now element count
-        repr_packed }
+    ensures exact { result ≡ simd_answer F.layout_of (VariantIdx.at 0)
+        (FieldIdx.at 0) dl.now element count repr_packed }
     ensures tight { IsTrue (is_tight repr_packed count)
         → IfOk result (λ l. l.size ≡ (F.layout_of element).size * count) }
     ensures lawful { IfOk result (IsLawfulLayout dl.now) }
@@ -196,8 +196,8 @@ pub fn layout_of_scalable<
 ) -> Result<LayoutData<FieldIdx, VariantIdx>, LayoutCalculatorError<F>>
     requires data_layout { IsLawfulDataLayout dl.now }
     requires element { IsLawfulLayout dl.now (F.layout_of element) }
-    ensures exact { result ≡ scalable_answer F.layout_of (VariantIdx.at 0) (FieldIdx.at 0) dl.now element count
-        number_of_vectors }
+    ensures exact { result ≡ scalable_answer F.layout_of (VariantIdx.at 0)
+        (FieldIdx.at 0) dl.now element count number_of_vectors }
     ensures lawful { number_of_vectors.0 ≢ 0 → IfOk result (IsLawfulLayout dl.now) }
 {
     let lanes = lanes_of(dl, element, count)?;

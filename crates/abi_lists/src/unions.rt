@@ -73,8 +73,8 @@ fn all_agree<FieldIdx: Idx, VariantIdx: Idx, F: LayoutHandle<FieldIdx, VariantId
     fields: &[F],
     first: &LayoutData<FieldIdx, VariantIdx>,
 ) -> bool
-    ensures { IsTrue result ↔ All (λ h. CountsForView (F.layout_of h)
-        → HasView (union_view first.now.backend_repr) first.now.align.abi (F.layout_of h)) fields.now }
+    ensures { IsTrue result ↔ All (λ h. CountsForView (F.layout_of h) → HasView
+        (union_view first.now.backend_repr) first.now.align.abi (F.layout_of h)) fields.now }
 {
     for field in fields {
         if !agrees(field.layout(), first) {
@@ -88,7 +88,8 @@ fn all_agree<FieldIdx: Idx, VariantIdx: Idx, F: LayoutHandle<FieldIdx, VariantId
 fn common_view<FieldIdx: Idx, VariantIdx: Idx, F: LayoutHandle<FieldIdx, VariantIdx> + Copy>(
     fields: &[F],
 ) -> Option<BackendRepr>
-    ensures some { IfSome result (λ view. (align : ℕ) × IsCommonView (map F.layout_of fields.now) view align) }
+    ensures some { IfSome result (λ view. (align : ℕ)
+        × IsCommonView (map F.layout_of fields.now) view align) }
     ensures none { result ≡ None → (view : BackendRepr) (align : ℕ) →
         IsCommonView (map F.layout_of fields.now) view align → ⊥ }
 {

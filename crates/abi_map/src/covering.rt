@@ -29,7 +29,8 @@ fn put_run(
     requires ascend { AreAscending starts.now }
     requires fits { run.0 + run.1 < 2 ^ 64 }
     requires same { length names.old.items ≡ length starts.now }
-    ensures { OnOk result (PutsNames starts.now names.old.items names.new.items (name_in name run)) }
+    ensures { OnOk result
+        (PutsNames starts.now names.old.items names.new.items (name_in name run)) }
 {
     let end = run.0 + run.1;
     for s in first_from(starts, run.0)..starts.len() {
@@ -45,7 +46,8 @@ fn put_run(
 fn put_part(starts: &[u64], names: &mut Vec<Vec<Name>>, part: &PartBytes) -> Result<(), AllocError>
     requires ascend { AreAscending starts.now }
     requires same { length names.old.items ≡ length starts.now }
-    ensures { OnOk result (PutsNames starts.now names.old.items names.new.items (name_of (part_told part.now))) }
+    ensures { OnOk result (PutsNames starts.now names.old.items names.new.items
+        (name_of (part_told part.now))) }
 {
     for run in part.bytes.as_slice() {
         put_run(starts, names, part.name, *run)?;

@@ -27,7 +27,8 @@ pub(crate) type Handle<'a> = TyAndLayout<'a, TreeTy<'a>>;
 fn places_of(alloc: Global, this: Handle<'_>) -> Result<RangeSet, AllocError>
     requires valid { IsHandle this }
     requires sized { HasSize (tree_type this) }
-    ensures { IfOk result (λ set. (k : ℕ) → is_in_ranges set k ≡ is_place (tree_type this.entry) k) }
+    ensures { IfOk result (λ set. (k : ℕ) →
+        is_in_ranges set k ≡ is_place (tree_type this.entry) k) }
 {
     let padding = this.variant_independent_padding_ranges(alloc, &())?;
     let mut whole = RangeSet::new(alloc);

@@ -77,7 +77,8 @@ pub(crate) fn write_bytes(
 ) -> Result<(), AllocError>
     requires valid { IsHandle root }
     requires sized { ArePartsSized (tree_type root) }
-    ensures { OnOk result (string_bytes out.new ≡ string_bytes out.old ++ bytes_text (tree_type root.entry)) }
+    ensures { OnOk result (string_bytes out.new
+        ≡ string_bytes out.old ++ bytes_text (tree_type root.entry)) }
 {
     let size = root.data().size.bytes();
     if size > MOST_DRAWN {

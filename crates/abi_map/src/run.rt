@@ -15,7 +15,8 @@ pub fn run_map<R: Read, W: Write>(alloc: Global, input: &mut R, output: &mut W) 
     ensures answered { IfSome (R.remaining input.old) (λ all.
         Answered (W.contents output.old) (W.contents output.new) (IsOutputOf TellsMap all) result) }
     ensures some { (all : List ℕ) → (output : Output) × IsOutputOf TellsMap all output }
-    ensures one { (all : List ℕ) (a b : Output) → IsOutputOf TellsMap all a → IsOutputOf TellsMap all b → a ≡ b }
+    ensures one { (all : List ℕ) (a b : Output) → IsOutputOf TellsMap all a →
+        IsOutputOf TellsMap all b → a ≡ b }
     ensures runs { RunsFollow }
     ensures padding { PaddingHasNoName }
 {

@@ -63,7 +63,8 @@ pub(crate) fn starts_of(
     size: u64,
 ) -> Result<Vec<u64>, AllocError>
     requires { size ≤ 65536 }
-    ensures starts { IfOk result (λ starts. starts.items ≡ starts_of (map part_told parts.now) size) }
+    ensures starts { IfOk result (λ starts.
+        starts.items ≡ starts_of (map part_told parts.now) size) }
     ensures ascend { IfOk result (λ starts. AreAscending starts.items) }
 {
     let set = start_set(alloc, parts, size)?;

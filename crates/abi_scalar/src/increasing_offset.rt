@@ -54,7 +54,8 @@ impl<FieldIdx: Idx> FieldsShape<FieldIdx> {
     /// Asked of a shape whose listed fields have as many places in memory order as offsets.
     pub fn index_by_increasing_offset(&self) -> IncreasingOffset<'_, FieldIdx>
         requires { HasPlaceForEach self.now }
-        ensures items { places_left FieldIdx.number result ≡ indices_by_offset FieldIdx.number self.now }
+        ensures items { places_left FieldIdx.number result
+            ≡ indices_by_offset FieldIdx.number self.now }
         ensures count { length (places_left FieldIdx.number result) ≡ place_count self.now }
         ensures ascending { IsAscending FieldIdx.number self.now →
             NeverStepsBack self.now (places_left FieldIdx.number result) }
@@ -96,9 +97,12 @@ impl<'a, FieldIdx: Idx> Iterator for IncreasingOffset<'a, FieldIdx> {
 
     /// The number of places that are still to come, twice.
     fn size_hint(&self) -> (usize, Option<usize>)
-        ensures lower { IsWithinCount result.0 (at_most (length (places_left FieldIdx.number self.now))) }
-        ensures upper { IfSome result.1 (UpTo (at_most (length (places_left FieldIdx.number self.now)))) }
-        ensures exact { result ≡ (length (places_left FieldIdx.number self.now), Some (length (places_left FieldIdx.number self.now))) }
+        ensures lower { IsWithinCount result.0
+            (at_most (length (places_left FieldIdx.number self.now))) }
+        ensures upper { IfSome result.1
+            (UpTo (at_most (length (places_left FieldIdx.number self.now)))) }
+        ensures exact { let left = length (places_left FieldIdx.number self.now) in
+            result ≡ (left, Some left) }
     {
         let left = self.len();
         (left, Some(left))

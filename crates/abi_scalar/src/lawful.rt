@@ -138,7 +138,8 @@ impl<FieldIdx: Idx, VariantIdx: Idx> LayoutData<FieldIdx, VariantIdx> {
 
     /// Whether the niche, if there is one, is lawful and agrees with the view.
     fn has_lawful_niche(&self, dl: &TargetDataLayout) -> bool
-        ensures { IsTrue result ↔ (IfSome self.now.largest_niche (IsLawfulNiche dl.now self.now.size)
+        ensures { IsTrue result
+            ↔ (IfSome self.now.largest_niche (IsLawfulNiche dl.now self.now.size)
             × IfSome self.now.largest_niche (IsNicheOfView self.now.backend_repr)) }
     {
         match &self.largest_niche {

@@ -97,7 +97,8 @@ impl<FieldIdx: Idx, VariantIdx: Idx> LayoutData<FieldIdx, VariantIdx> {
 
     /// Whether the variant has no value: one beside the only one, one that is marked, or none at all.
     pub fn is_variant_uninhabited(&self, variant: VariantIdx) -> bool
-        ensures { IsTrue result ↔ IsVariantUninhabited VariantIdx.number self.now (VariantIdx.number variant) }
+        ensures { IsTrue result
+            ↔ IsVariantUninhabited VariantIdx.number self.now (VariantIdx.number variant) }
     {
         match &self.variants {
             Variants::Empty => true,

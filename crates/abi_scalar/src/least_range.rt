@@ -184,8 +184,8 @@ impl WrappingRange {
         requires most { size ≤ 16 }
         requires ends { (items : I.IntoIter) → I.into_iter_gives values items
             → I.IntoIter.can_next items × IsFinite (I.IntoIter.remaining items) }
-        requires within { (items : I.IntoIter) → I.into_iter_gives values items
-            → EachRunFrom I.IntoIter.next_gives items (λ p. All (λ v. v < numbers_of size) p.items) }
+        requires within { (items : I.IntoIter) → I.into_iter_gives values items →
+            EachRunFrom I.IntoIter.next_gives items (λ p. All (λ v. v < numbers_of size) p.items) }
         ensures { IfOk result (λ found. (items : I.IntoIter) × I.into_iter_gives values items
             × WholeRun I.IntoIter.next_gives items (λ p. IsSmallestOf size p.items found)) }
     {

@@ -51,7 +51,8 @@ impl Niche {
     pub fn available<C: HasDataLayout>(&self, cx: &C) -> u128
         requires { IsReadableNiche (C.target cx.now) self.now }
         ensures exact { result ≡ available_in (C.target cx.now) self.now }
-        ensures count { AreSoMany (IsFree (niche_size (C.target cx.now) self.now) self.now.valid_range) result }
+        ensures count { AreSoMany
+            (IsFree (niche_size (C.target cx.now) self.now) self.now.valid_range) result }
     {
         self.valid_range.free(self.value.size(cx))
     }

@@ -85,7 +85,8 @@ impl<FieldIdx: Idx, VariantIdx: Idx> LayoutData<FieldIdx, VariantIdx> {
         requires data_layout { IsLawfulDataLayout (C.target cx.now) }
         requires first { IsReadable (C.target cx.now) a }
         requires second { IsReadable (C.target cx.now) b }
-        ensures exact { result ≡ pair_layout (VariantIdx.at 0) (FieldIdx.at 0) (FieldIdx.at 1) (C.target cx.now) a b }
+        ensures exact { result
+            ≡ pair_layout (VariantIdx.at 0) (FieldIdx.at 0) (FieldIdx.at 1) (C.target cx.now) a b }
         // Where the size is below the data layout's bound.
         ensures lawful { IsLawfulScalar (C.target cx.now) a → IsLawfulScalar (C.target cx.now) b
             → pair_size (C.target cx.now) a b < size_bound (C.target cx.now)

@@ -110,10 +110,11 @@ impl Niche {
         requires readable { IsReadableNiche (C.target cx.now) self.now }
         requires some { 1 ≤ count }
         ensures room { IsSome result ↔ (count ≤ available_in (C.target cx.now) self.now) }
-        ensures side { IfSome result (λ handed. handed ≡ reserved (C.target cx.now) self.now count) }
+        ensures side { IfSome result (λ handed.
+            handed ≡ reserved (C.target cx.now) self.now count) }
         ensures primitive { IfSome result (λ handed. primitive_of handed.1 ≡ self.now.value) }
-        ensures set { IfSome result (λ handed. HandsOut (niche_size (C.target cx.now) self.now) self.now.valid_range
-            (range_of (C.target cx.now) handed.1) handed.0 count) }
+        ensures set { IfSome result (λ handed. HandsOut (niche_size (C.target cx.now) self.now)
+            self.now.valid_range (range_of (C.target cx.now) handed.1) handed.0 count) }
     {
         let size = self.value.size(cx);
         let range = self.valid_range;

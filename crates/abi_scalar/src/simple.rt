@@ -53,7 +53,8 @@ impl<FieldIdx: Idx, VariantIdx: Idx> LayoutData<FieldIdx, VariantIdx> {
     /// beforehand. It takes no memory.
     pub fn unit<C: HasDataLayout>(alloc: Global, cx: &C, sized: bool) -> Self
         ensures exact { result ≡ unit_layout (VariantIdx.at 0) (C.target cx.now) sized }
-        ensures lawful { IsLawfulDataLayout (C.target cx.now) → IsLawfulLayout (C.target cx.now) result }
+        ensures lawful { IsLawfulDataLayout (C.target cx.now) →
+            IsLawfulLayout (C.target cx.now) result }
         ensures order { HasOrder FieldIdx.number result.fields }
     {
         let align = cx.data_layout().i8_align;
@@ -80,7 +81,8 @@ impl<FieldIdx: Idx, VariantIdx: Idx> LayoutData<FieldIdx, VariantIdx> {
     /// The layout of a type with no values: no bytes, aligned as an `i8`, and no variants.
     pub fn never_type<C: HasDataLayout>(cx: &C) -> Self
         ensures exact { result ≡ never_layout (C.target cx.now) }
-        ensures lawful { IsLawfulDataLayout (C.target cx.now) → IsLawfulLayout (C.target cx.now) result }
+        ensures lawful { IsLawfulDataLayout (C.target cx.now) →
+            IsLawfulLayout (C.target cx.now) result }
         ensures order { HasOrder FieldIdx.number result.fields }
     {
         let align = cx.data_layout().i8_align;
@@ -108,7 +110,8 @@ impl<FieldIdx: Idx, VariantIdx: Idx> LayoutData<FieldIdx, VariantIdx> {
         fields: usize,
     ) -> Self
         ensures exact { result ≡ uninhabited_layout index (C.target cx.now) fields }
-        ensures lawful { IsLawfulDataLayout (C.target cx.now) → IsLawfulLayout (C.target cx.now) result }
+        ensures lawful { IsLawfulDataLayout (C.target cx.now) →
+            IsLawfulLayout (C.target cx.now) result }
         ensures order { HasOrder FieldIdx.number result.fields }
     {
         let align = cx.data_layout().i8_align;
@@ -138,8 +141,8 @@ impl<FieldIdx: Idx, VariantIdx: Idx> LayoutData<FieldIdx, VariantIdx> {
     pub fn scalar<C: HasDataLayout>(cx: &C, scalar: Scalar) -> Self
         requires { IsReadable (C.target cx.now) scalar }
         ensures exact { result ≡ scalar_layout (VariantIdx.at 0) (C.target cx.now) scalar }
-        ensures lawful { IsLawfulDataLayout (C.target cx.now) → IsLawfulScalar (C.target cx.now) scalar
-            → IsLawfulLayout (C.target cx.now) result }
+        ensures lawful { IsLawfulDataLayout (C.target cx.now) →
+            IsLawfulScalar (C.target cx.now) scalar → IsLawfulLayout (C.target cx.now) result }
         ensures order { HasOrder FieldIdx.number result.fields }
     {
         let align = scalar.default_align(cx);

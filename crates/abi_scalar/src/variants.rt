@@ -100,7 +100,8 @@ impl<FieldIdx: Idx> VariantLayout<FieldIdx> {
     pub fn from_layout<V: Idx>(layout: LayoutData<FieldIdx, V>) -> Self
         requires { IsListed layout.fields }
         ensures exact { result ≡ variant_of layout }
-        ensures order { HasOrder FieldIdx.number layout.fields → IsOrderedVariant FieldIdx.number result }
+        ensures order { HasOrder FieldIdx.number layout.fields →
+            IsOrderedVariant FieldIdx.number result }
     {
         let LayoutData {
             fields,

@@ -131,7 +131,8 @@ impl WrappingRange {
         requires most { size ≤ 16 }
         requires within { AreWithin size self.now }
         ensures full { IsErr result ↔ IsFull size self.now }
-        ensures gap { IfOk result (λ answer. IsTrue answer ↔ HasNoGap unsigned_place size self.now) }
+        ensures gap { IfOk result (λ answer. IsTrue answer
+            ↔ HasNoGap unsigned_place size self.now) }
     {
         if self.is_full_for(size) {
             Err(RangeFull)

@@ -55,7 +55,8 @@ fn unreadable(alloc: Global, number: u64) -> Result<Answer, AllocError>
 
 /// The answer to a text that can't be read; want of memory has none.
 fn answer_fault(alloc: Global, fault: Fault) -> Result<Answer, AllocError>
-    ensures { IfOk result (λ a. (fault ≢ Fault.OutOfMemory) × (answered_by a ≡ output_of_fault fault)) }
+    ensures { IfOk result (λ a. (fault ≢ Fault.OutOfMemory)
+        × (answered_by a ≡ output_of_fault fault)) }
 {
     match fault {
         Fault::Unreadable(number) => unreadable(alloc, number),
@@ -66,7 +67,8 @@ fn answer_fault(alloc: Global, fault: Fault) -> Result<Answer, AllocError>
 
 /// The answer to a type that has no layout; want of memory has none.
 fn answer_error(alloc: Global, error: LayError) -> Result<Answer, AllocError>
-    ensures { IfOk result (λ a. (error ≢ LayError.OutOfMemory) × (answered_by a ≡ refused (error_name error))) }
+    ensures { IfOk result (λ a. (error ≢ LayError.OutOfMemory)
+        × (answered_by a ≡ refused (error_name error))) }
 {
     match error {
         LayError::OutOfMemory => Err(AllocError),
@@ -119,7 +121,8 @@ fn answer_type<T: Telling>(
     dl: &TargetDataLayout,
     line: &[u8],
 ) -> Result<Answer, AllocError>
-    ensures { IfOk result (λ a. IsOutputOfType T.tells dl.now (read dl.now (words_of line.now)) (answered_by a)) }
+    ensures { IfOk result (λ a.
+        IsOutputOfType T.tells dl.now (read dl.now (words_of line.now)) (answered_by a)) }
 {
     match read_type(alloc, dl, line) {
         Ok(tree) => answer_tree::<T>(alloc, dl, &tree),
@@ -129,7 +132,8 @@ fn answer_type<T: Telling>(
 
 /// The answer to the two lines of a text: a data layout, and a type.
 fn answer_text<T: Telling>(alloc: Global, first: &str, second: &[u8]) -> Result<Answer, AllocError>
-    ensures { IfOk result (λ a. IsOutputUnder T.tells (data_layout_of first.now) second.now (answered_by a)) }
+    ensures { IfOk result (λ a.
+        IsOutputUnder T.tells (data_layout_of first.now) second.now (answered_by a)) }
 {
     match read_data_layout(alloc, first) {
         Ok(dl) => answer_type::<T>(alloc, &dl, second),

@@ -28,10 +28,11 @@ impl Telling for LayoutText {
 /// Reads an input whole, writes the layout of its type, and answers the status: 0 for a type with a layout, 1 for one
 /// that is refused, 2 for a text that can't be read. The errors of devices are those of `run`.
 pub fn run_layout<R: Read, W: Write>(alloc: Global, input: &mut R, output: &mut W) -> u8
-    ensures answered { IfSome (R.remaining input.old) (λ all.
-        Answered (W.contents output.old) (W.contents output.new) (IsOutputOf TellsLayout all) result) }
+    ensures answered { IfSome (R.remaining input.old) (λ all. Answered (W.contents output.old)
+        (W.contents output.new) (IsOutputOf TellsLayout all) result) }
     ensures some { (all : List ℕ) → (output : Output) × IsOutputOf TellsLayout all output }
-    ensures one { (all : List ℕ) (a b : Output) → IsOutputOf TellsLayout all a → IsOutputOf TellsLayout all b → a ≡ b }
+    ensures one { (all : List ℕ) (a b : Output) → IsOutputOf TellsLayout all a →
+        IsOutputOf TellsLayout all b → a ≡ b }
 {
     run::<LayoutText, R, W>(alloc, input, output)
 }

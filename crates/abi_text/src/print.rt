@@ -35,7 +35,8 @@ pub fn write_size(
 
 /// Writes whether the type has no values.
 fn write_uninhabited(out: &mut String, uninhabited: bool) -> Result<(), AllocError>
-    ensures { OnOk result (string_bytes out.new ≡ string_bytes out.old ++ uninhabited_line uninhabited) }
+    ensures { OnOk result (string_bytes out.new
+        ≡ string_bytes out.old ++ uninhabited_line uninhabited) }
 {
     if uninhabited {
         out.push_str("uninhabited\n")
@@ -46,7 +47,8 @@ fn write_uninhabited(out: &mut String, uninhabited: bool) -> Result<(), AllocErr
 
 /// Writes the offset of each field.
 pub(crate) fn write_fields(out: &mut String, offsets: &[Size]) -> Result<(), AllocError>
-    ensures { OnOk result (string_bytes out.new ≡ string_bytes out.old ++ field_lines 0 offsets.now) }
+    ensures { OnOk result (string_bytes out.new
+        ≡ string_bytes out.old ++ field_lines 0 offsets.now) }
 {
     for (index, offset) in offsets.iter().enumerate() {
         let offset = offset.bytes();
@@ -57,7 +59,8 @@ pub(crate) fn write_fields(out: &mut String, offsets: &[Size]) -> Result<(), All
 
 /// Writes the offset of each of so many fields of a union.
 fn write_union_fields(out: &mut String, count: usize) -> Result<(), AllocError>
-    ensures { OnOk result (string_bytes out.new ≡ string_bytes out.old ++ field_lines 0 (replicate count 0)) }
+    ensures { OnOk result (string_bytes out.new
+        ≡ string_bytes out.old ++ field_lines 0 (replicate count 0)) }
 {
     let offset = 0u64;
     for index in 0..count {
@@ -99,7 +102,8 @@ fn integer_text(integer: Integer, signed: bool) -> &'static str
 /// Writes a primitive's name: `i8` to `u128` with the sign, `f32` and its like, `pointer` in the default address space
 /// and `pointer(AddressSpace(N))` in another. An error comes where a growth of memory was refused.
 pub fn write_primitive(out: &mut String, primitive: Primitive) -> Result<(), AllocError>
-    ensures { OnOk result (string_bytes out.new ≡ string_bytes out.old ++ primitive_text primitive) }
+    ensures { OnOk result (string_bytes out.new
+        ≡ string_bytes out.old ++ primitive_text primitive) }
 {
     match primitive {
         Primitive::Int(integer, signed) => out.push_str(integer_text(integer, signed)),
@@ -151,7 +155,8 @@ pub(crate) fn write_ranges(
     runs: &[(u64, u64)],
 ) -> Result<(), AllocError>
     requires { AreMaximalRuns 0 runs.now }
-    ensures { OnOk result (string_bytes out.new ≡ string_bytes out.old ++ range_lines word.now runs.now) }
+    ensures { OnOk result (string_bytes out.new
+        ≡ string_bytes out.old ++ range_lines word.now runs.now) }
 {
     for run in runs {
         let (start, size) = *run;
@@ -163,7 +168,8 @@ pub(crate) fn write_ranges(
 
 /// Writes the runs of padding.
 fn write_padding(alloc: Global, out: &mut String, laid: &Laid) -> Result<(), AllocError>
-    ensures { OnOk result (string_bytes out.new ≡ string_bytes out.old ++ padding_lines (placed_of laid.now)) }
+    ensures { OnOk result (string_bytes out.new
+        ≡ string_bytes out.old ++ padding_lines (placed_of laid.now)) }
 {
     if laid.layout().size.bytes() > MOST_LISTED {
         return out.push_str("padding not listed\n");
@@ -182,7 +188,8 @@ fn write_padding(alloc: Global, out: &mut String, laid: &Laid) -> Result<(), All
 pub fn write_type(alloc: Global, out: &mut String, laid: &Laid) -> Result<(), AllocError>
     requires align { (layout_of (placed_of laid.now)).align.abi < 64 }
     requires told { TellsBytes laid.now }
-    ensures { OnOk result (string_bytes out.new ≡ string_bytes out.old ++ type_text (placed_of laid.now)) }
+    ensures { OnOk result (string_bytes out.new
+        ≡ string_bytes out.old ++ type_text (placed_of laid.now)) }
 {
     write_layout(out, laid.layout())?;
     write_variants(alloc, out, laid)?;

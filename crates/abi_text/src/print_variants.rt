@@ -51,8 +51,8 @@ fn write_variant(
     unused: &[(u64, u64)],
 ) -> Result<(), AllocError>
     requires { AreMaximalRuns 0 unused.now }
-    ensures { OnOk result (string_bytes out.new ≡ string_bytes out.old ++ variant_lines variant offsets.now
-        (range_lines (codes "unused") unused.now)) }
+    ensures { OnOk result (string_bytes out.new ≡ string_bytes out.old
+        ++ variant_lines variant offsets.now (range_lines (codes "unused") unused.now)) }
 {
     let index = variant.as_u32();
     write!(out, "variant {index}\n")?;
@@ -69,7 +69,8 @@ fn write_each_variant(
 ) -> Result<(), AllocError>
     requires told { TellsBytes laid.now }
     requires most { length variants.now ≤ greatest_place + 1 }
-    requires variants { (i : ℕ) → i < length variants.now → IsVariantOfSeveral (layout_of (placed_of laid.now)).variants i }
+    requires variants { (i : ℕ) → i < length variants.now →
+        IsVariantOfSeveral (layout_of (placed_of laid.now)).variants i }
     ensures { OnOk result (string_bytes out.new ≡ string_bytes out.old ++ lines_of_variants
         (placed_of laid.now) 0 variants.now) }
 {
@@ -102,7 +103,8 @@ fn write_named(
     named: RangeInclusive<VariantIdx>,
     start: u128,
 ) -> Result<(), AllocError>
-    ensures { OnOk result (string_bytes out.new ≡ string_bytes out.old ++ named_text untagged named start) }
+    ensures { OnOk result (string_bytes out.new
+        ≡ string_bytes out.old ++ named_text untagged named start) }
 {
     let untagged = untagged.as_u32();
     let first = named.start.as_u32();
@@ -120,7 +122,8 @@ fn write_tag(
     tag: Scalar,
     encoding: TagEncoding<VariantIdx>,
 ) -> Result<(), AllocError>
-    ensures { OnOk result (string_bytes out.new ≡ string_bytes out.old ++ tag_line field tag encoding) }
+    ensures { OnOk result (string_bytes out.new
+        ≡ string_bytes out.old ++ tag_line field tag encoding) }
 {
     let field = field.as_u32();
     match encoding {

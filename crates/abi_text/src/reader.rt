@@ -79,7 +79,8 @@ fn read_type_word(
 
 /// Reads an array's count.
 fn read_count(number: u64, begun: Vec<Open>, word: &[u8]) -> Result<Reader, Fault>
-    ensures { Agrees state_of (at_count number (begun_in begun.items) (number_of_bits 64 word.now)) result }
+    ensures { Agrees state_of
+        (at_count number (begun_in begun.items) (number_of_bits 64 word.now)) result }
 {
     let mut begun = begun;
     match decimal(word) {
@@ -93,7 +94,8 @@ fn read_count(number: u64, begun: Vec<Open>, word: &[u8]) -> Result<Reader, Faul
 
 /// Reads how many lanes a vector has.
 fn read_lanes(number: u64, packed: bool, begun: Vec<Open>, word: &[u8]) -> Result<Reader, Fault>
-    ensures { Agrees state_of (at_lanes number packed (begun_in begun.items) (number_of_bits 64 word.now)) result }
+    ensures { Agrees state_of
+        (at_lanes number packed (begun_in begun.items) (number_of_bits 64 word.now)) result }
 {
     let mut begun = begun;
     match decimal(word) {
@@ -107,7 +109,8 @@ fn read_lanes(number: u64, packed: bool, begun: Vec<Open>, word: &[u8]) -> Resul
 
 /// Reads a struct's repr.
 fn read_repr(number: u64, begun: Vec<Open>, word: &[u8]) -> Result<Reader, Fault>
-    ensures { Agrees state_of (at_repr number (begun_in begun.items) (struct_repr word.now)) result }
+    ensures { Agrees state_of
+        (at_repr number (begun_in begun.items) (struct_repr word.now)) result }
 {
     match struct_repr(word) {
         Some(asked) => Ok(waiting(Want::Opening(asked), begun)),
@@ -117,7 +120,8 @@ fn read_repr(number: u64, begun: Vec<Open>, word: &[u8]) -> Result<Reader, Fault
 
 /// Reads a union's repr.
 fn read_union_repr(number: u64, begun: Vec<Open>, word: &[u8]) -> Result<Reader, Fault>
-    ensures { Agrees state_of (at_union_repr number (begun_in begun.items) (union_repr word.now)) result }
+    ensures { Agrees state_of
+        (at_union_repr number (begun_in begun.items) (union_repr word.now)) result }
 {
     match union_repr(word) {
         Some(repr) => Ok(waiting(Want::UnionOpening(repr), begun)),
@@ -127,7 +131,8 @@ fn read_union_repr(number: u64, begun: Vec<Open>, word: &[u8]) -> Result<Reader,
 
 /// Reads an enum's repr.
 fn read_enum_repr(number: u64, begun: Vec<Open>, word: &[u8]) -> Result<Reader, Fault>
-    ensures { Agrees state_of (at_enum_repr number (begun_in begun.items) (union_repr word.now)) result }
+    ensures { Agrees state_of
+        (at_enum_repr number (begun_in begun.items) (union_repr word.now)) result }
 {
     match union_repr(word) {
         Some(repr) => Ok(waiting(Want::EnumOpening(repr), begun)),
@@ -143,7 +148,8 @@ fn read_opening(
     begun: Vec<Open>,
     word: &[u8],
 ) -> Result<Reader, Fault>
-    ensures { Agrees state_of (at_opening number asked (begun_in begun.items) (bytes_eq word.now (codes "("))) result }
+    ensures { Agrees state_of
+        (at_opening number asked (begun_in begun.items) (bytes_eq word.now (codes "("))) result }
 {
     let mut begun = begun;
     if word == b"(".as_slice() {
@@ -201,7 +207,8 @@ fn read_discriminant(
     begun: Vec<Open>,
     word: &[u8],
 ) -> Result<Reader, Fault>
-    ensures { Agrees state_of (at_discriminant number (bytes_eq word.now (codes ")")) (begun_in begun.items)
+    ensures { Agrees state_of
+        (at_discriminant number (bytes_eq word.now (codes ")")) (begun_in begun.items)
         (discriminant_in word.now)) result }
 {
     if word == b")".as_slice() {
@@ -312,8 +319,8 @@ fn read_words(alloc: Global, dl: &TargetDataLayout, line: &[u8]) -> Result<TypeT
 /// follows isn't read. `OutOfMemory` comes where a growth of memory was refused.
 pub fn read_type(alloc: Global, dl: &TargetDataLayout, line: &[u8]) -> Result<TypeTree, Fault>
     ensures exact { Agrees tree_of (read dl.now (words_of line.now)) result }
-    ensures written { (t : Tree) → (words : List (List ℕ)) → IsWrittenAs dl.now t words → nesting t ≤ 200 →
-        IsLineOf words line.now →
+    ensures written { (t : Tree) → (words : List (List ℕ)) →
+        IsWrittenAs dl.now t words → nesting t ≤ 200 → IsLineOf words line.now →
         MatchResult result (λ tree. tree_of tree ≡ t) (λ fault. fault ≡ Fault.OutOfMemory) }
 {
     read_words(alloc, dl, line)

@@ -55,7 +55,8 @@ fn first_length(line: &[u8]) -> usize
 /// The line's first word, and what follows it. None where only spaces are left. Spaces part words, and each parenthesis
 /// is a word of its own.
 pub fn next_word(line: &[u8]) -> Option<(&[u8], &[u8])>
-    ensures words { MatchOption result (words_of line.now ≡ []) (λ p. words_of line.now ≡ p.0.now ∷ words_of p.1.now) }
+    ensures words { MatchOption result (words_of line.now ≡ []) (λ p.
+        words_of line.now ≡ p.0.now ∷ words_of p.1.now) }
     ensures shorter { IfSome result (λ p. length p.1.now < length line.now) }
 {
     let line = after_spaces(line);

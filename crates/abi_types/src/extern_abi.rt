@@ -251,7 +251,8 @@ fn row_by(
 /// The names of all conventions, in the order of `ALL_VARIANTS`. `AllocError` where there is no
 /// memory for the list.
 pub fn all_names(alloc: Global) -> Result<Vec<&'static str>, AllocError>
-    ensures names { IfOk result (λ names. map (λ name. name.now) names.items ≡ map abi_name ExternAbi.ALL_VARIANTS.now) }
+    ensures names { IfOk result (λ names.
+        map (λ name. name.now) names.items ≡ map abi_name ExternAbi.ALL_VARIANTS.now) }
     ensures count { IfOk result (λ names. vec_len names ≡ 40) }
 {
     names_of(alloc, ExternAbi::ALL_VARIANTS)
@@ -259,7 +260,8 @@ pub fn all_names(alloc: Global) -> Result<Vec<&'static str>, AllocError>
 
 /// The names of the conventions. `AllocError` where there is no memory for the list.
 fn names_of(alloc: Global, abis: &[ExternAbi]) -> Result<Vec<&'static str>, AllocError>
-    ensures names { IfOk result (λ names. map (λ name. name.now) names.items ≡ map abi_name abis.now) }
+    ensures names { IfOk result (λ names.
+        map (λ name. name.now) names.items ≡ map abi_name abis.now) }
     ensures count { IfOk result (λ names. vec_len names ≡ length abis.now) }
 {
     let mut names = Vec::with_capacity(alloc, abis.len())?;

@@ -73,8 +73,10 @@ fn has_no_value(fields: &[&Layout]) -> bool
 /// The discriminants, each with the index of its variant.
 fn numbered(alloc: Global, discriminants: &[u128]) -> Result<Vec<(VariantIdx, u128)>, AllocError>
     requires { length discriminants.now ≤ 4096 }
-    ensures each { IfOk result (λ items. map (λ item. item.0) items.items ≡ source_order (length discriminants.now)) }
-    ensures named { IfOk result (λ items. All (λ item. item.0 < length discriminants.now) items.items) }
+    ensures each { IfOk result (λ items.
+        map (λ item. item.0) items.items ≡ source_order (length discriminants.now)) }
+    ensures named { IfOk result (λ items.
+        All (λ item. item.0 < length discriminants.now) items.items) }
 {
     let mut items = Vec::with_capacity(alloc, discriminants.len())?;
     for at in 0..discriminants.len() {
@@ -127,7 +129,8 @@ fn is_new(width: Size, cut: u128, values: &[u128]) -> bool
 /// Whether these differ, cut to so many bytes.
 fn differ(width: Size, values: &[u128]) -> bool
     requires { width ≤ 16 }
-    ensures { IsTrue result → AllPairs (λ v w. v % numbers_of width ≢ w % numbers_of width) values.now }
+    ensures { IsTrue result →
+        AllPairs (λ v w. v % numbers_of width ≢ w % numbers_of width) values.now }
 {
     for at in 0..values.len() {
         if !is_new(width, width.truncate(values[at]), &values[..at]) {

@@ -189,9 +189,11 @@ fn field_keeps_laws(nodes: &[Node], depth: u64, node: &Node, i: usize) -> bool
 /// Whether a variant lies inside, and keeps the laws.
 #[cycle(laws)]
 fn variant_keeps_laws(nodes: &[Node], depth: u64, node: &Node, i: usize) -> bool
-    ensures kept { IsTrue result → IsLawfulType (typed_in nodes.now depth (place_at node.now.variants i)) }
-    ensures inside { IsTrue result → (layout_in (typed_in nodes.now depth (place_at node.now.variants i))).size ≤
-        node.now.layout.size }
+    ensures kept { IsTrue result →
+        IsLawfulType (typed_in nodes.now depth (place_at node.now.variants i)) }
+    ensures inside { IsTrue result →
+        (layout_in (typed_in nodes.now depth (place_at node.now.variants i))).size
+        ≤ node.now.layout.size }
 {
     let place = place_at(&node.variants, i);
     size_in(nodes, depth, place) <= node.layout.size.bytes() && keeps_laws(nodes, depth, place)

@@ -33,14 +33,16 @@ pub fn lay_out_as_documented(
     // Which layout it is, and when it is refused, as `lay_out` says.
     ensures laid { IfOk result (λ laid. IsLaying dl.now (tree_of tree.now) (Ok (placed_of laid))) }
     ensures refused { IfErr result (IsRefusedFor dl.now (tree_of tree.now)) }
-    ensures overflow { IfErr result (λ e. e ≡ LayError.SizeOverflow → IsTooLarge dl.now (tree_of tree.now)) }
+    ensures overflow { IfErr result (λ e. e ≡ LayError.SizeOverflow →
+        IsTooLarge dl.now (tree_of tree.now)) }
     ensures too_large { IsLawfulDataLayout dl.now → IsTooLarge dl.now (tree_of tree.now) →
         IsErrAnd result (λ e. (e ≡ LayError.SizeOverflow) ⊎ (e ≡ LayError.OutOfMemory)) }
 
     // Size and alignment.
     ensures properties_align { IfOk result (λ laid.
         Everywhere dl.now HasPowerAlign (tree_of tree.now) (placed_of laid)) }
-    ensures properties_size { IfOk result (λ laid. Everywhere dl.now IsWhole (tree_of tree.now) (placed_of laid)) }
+    ensures properties_size { IfOk result (λ laid.
+        Everywhere dl.now IsWhole (tree_of tree.now) (placed_of laid)) }
 
     // Primitive types, pointers, arrays and unit.
     ensures primitive_size { IfOk result (λ laid.
@@ -55,8 +57,10 @@ pub fn lay_out_as_documented(
         (IsThin dl.now (λ t p. IsLaying dl.now t (Ok p))) (tree_of tree.now) (placed_of laid)) }
     ensures pointer_unsized { IfOk result (λ laid. Everywhere dl.now
         (IsWide (λ t p. IsLaying dl.now t (Ok p))) (tree_of tree.now) (placed_of laid)) }
-    ensures array { IfOk result (λ laid. Everywhere dl.now IsArray (tree_of tree.now) (placed_of laid)) }
-    ensures tuple_unit { IfOk result (λ laid. Everywhere dl.now IsUnit (tree_of tree.now) (placed_of laid)) }
+    ensures array { IfOk result (λ laid.
+        Everywhere dl.now IsArray (tree_of tree.now) (placed_of laid)) }
+    ensures tuple_unit { IfOk result (λ laid.
+        Everywhere dl.now IsUnit (tree_of tree.now) (placed_of laid)) }
 
     // The Rust representation.
     ensures repr_inter_field { IfOk result (λ laid. Everywhere dl.now
@@ -81,7 +85,8 @@ pub fn lay_out_as_documented(
     // `align` and `packed`.
     ensures repr_alignment_align { IfOk result (λ laid. Everywhere dl.now
         (IsRaised (λ t p. IsLaying dl.now t (Ok p))) (tree_of tree.now) (placed_of laid)) }
-    ensures repr_alignment_packed { IfOk result (λ laid. dl.now.aggregate_align ≡ 0 → Everywhere dl.now
+    ensures repr_alignment_packed { IfOk result (λ laid. dl.now.aggregate_align ≡ 0 →
+        Everywhere dl.now
         (IsPackedWide (λ t p. IsLaying dl.now t (Ok p))) (tree_of tree.now) (placed_of laid)) }
     ensures repr_alignment_packed_fields { IfOk result (λ laid.
         Everywhere dl.now IsPackedC (tree_of tree.now) (placed_of laid)) }

@@ -59,7 +59,8 @@ fn has_unknown_local(locals: u64, states: &[Vec<u64>]) -> bool
 /// them stand behind the others.
 fn put_numbers(numbers: &mut Vec<u128>, indices: &[u64]) -> Result<(), AllocError>
     ensures ok { OnOk result (numbers.new.items ≡ numbers.old.items ++ indices.now) }
-    ensures err { OnErr result ((count : ℕ) × (numbers.new.items ≡ numbers.old.items ++ take count indices.now)) }
+    ensures err { OnErr result ((count : ℕ)
+        × (numbers.new.items ≡ numbers.old.items ++ take count indices.now)) }
 {
     for index in indices {
         numbers.push(*index as u128)?;
@@ -78,7 +79,8 @@ fn is_one_twice(alloc: Global, numbers: &mut Vec<u128>, indices: &[u64]) -> Resu
 
 /// Whether a state holds a local twice.
 fn holds_twice(alloc: Global, states: &[Vec<u64>]) -> Result<bool, AllocError>
-    ensures { IfOk result (λ twice. twice ≡ list_any has_equal (map (λ state. state.items) states.now)) }
+    ensures { IfOk result (λ twice.
+        twice ≡ list_any has_equal (map (λ state. state.items) states.now)) }
 {
     let mut numbers = Vec::new(alloc);
     for state in states {

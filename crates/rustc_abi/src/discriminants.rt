@@ -19,7 +19,8 @@ pub(crate) fn discriminants(
     alloc: Global,
     all: &[(u128, Vec<TypeTree>)],
 ) -> Result<Vec<u128>, AllocError>
-    ensures { IfOk result (λ numbers. numbers.items ≡ discriminants_of (trees_of_variants all.now)) }
+    ensures { IfOk result (λ numbers.
+        numbers.items ≡ discriminants_of (trees_of_variants all.now)) }
 {
     let mut numbers = Vec::with_capacity(alloc, all.len())?;
     for variant in all {

@@ -56,7 +56,8 @@ pub(crate) fn add_elements(
         Fits dl.now t (placed_at nodes.old.items element) →
         IsAdded dl.now nodes.old.items nodes.new.items i (array count t)) }
     ensures own { IfOk result (IsOwnPut nodes.old.items nodes.new.items) }
-    ensures err { IfErr result (IsRefusal (elements_answer dl.now count (placed_at nodes.old.items element))) }
+    ensures err { IfErr result (IsRefusal (elements_answer dl.now count
+        (placed_at nodes.old.items element))) }
     ensures kept { OnErr result (nodes.new.items ≡ nodes.old.items) }
     ensures behind { AreStillThere nodes.old.items nodes.new.items }
 {

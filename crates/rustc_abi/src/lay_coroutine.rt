@@ -73,8 +73,8 @@ fn picked_each(
     states: &[Vec<u64>],
 ) -> Result<Vec<Vec<usize>>, AllocError>
     requires { All (λ ks. All (λ k. k < length locals.now) ks.items) states.now }
-    ensures { IfOk result (λ children.
-        map (λ c. c.items) children.items ≡ map (λ ks. map (λ k. get_or locals.now k 0) ks.items) states.now) }
+    ensures { IfOk result (λ children. map (λ c. c.items) children.items
+        ≡ map (λ ks. map (λ k. get_or locals.now k 0) ks.items) states.now) }
 {
     let mut children = Vec::with_capacity(alloc, states.len())?;
     for indices in states {
@@ -94,14 +94,16 @@ fn add_each_state(
     requires each { length (variants_of layout.now.variants) ≡ length children.now }
     requires few { length children.now ≤ most_fields }
     requires few_each { All (λ fields. length fields.items ≤ most_fields) children.now }
-    requires there { All (λ fields. All (λ child. child < vec_len nodes.old) fields.items) children.now }
+    requires there { All (λ fields. All (λ child. child < vec_len nodes.old) fields.items)
+        children.now }
     requires inside { VariantsInside layout.now.size (variants_of layout.now.variants)
         (variants_in nodes.old.items children.now) }
-    ensures ok { IfOk result (λ states.
-        AreArms nodes.old.items nodes.new.items (map (λ l. l.size) (variants_of layout.now.variants)) states.items
-        (arms_at layout.now Mark.Plain 0 (variants_of layout.now.variants) (source_order (length children.now))
-        (variants_in nodes.old.items children.now))) }
-    ensures count { IfOk result (λ states. HasMore (length states.items) false nodes.old.items nodes.new.items) }
+    ensures ok { IfOk result (λ states. AreArms nodes.old.items nodes.new.items
+        (map (λ l. l.size) (variants_of layout.now.variants)) states.items
+        (arms_at layout.now Mark.Plain 0 (variants_of layout.now.variants)
+        (source_order (length children.now)) (variants_in nodes.old.items children.now))) }
+    ensures count { IfOk result (λ states.
+        HasMore (length states.items) false nodes.old.items nodes.new.items) }
     ensures err { IfErr result (λ e. e ≡ LayError.OutOfMemory) }
     ensures behind { AreStillThere nodes.old.items nodes.new.items }
 {
@@ -128,12 +130,13 @@ fn add_states(
     requires there { All (λ child. child < vec_len nodes.old) saved.locals.now }
     requires known { All (λ ks. All (λ k. k < length saved.locals.now) ks.items) saved.states.now }
     requires places { have_places layout.size layout.fields
-        (map size_of (all_at nodes.old.items prefix.items) ++ size_of (one_scalar dl.now tag) ∷ []) ≡ true }
-    requires inside { VariantsInside layout.size (variants_of layout.variants)
-        (map (λ ks. map (placed_in (all_at nodes.old.items saved.locals.now)) ks.items) saved.states.now) }
-    ensures ok { IfOk result (λ i. IsPut nodes.old.items nodes.new.items i
-        (placed_coroutine dl.now (all_at nodes.old.items prefix.items) tag
-        (all_at nodes.old.items saved.entry.locals.now) (map (λ state. state.items) saved.entry.states.now) layout)) }
+        (map size_of (all_at nodes.old.items prefix.items) ++ size_of (one_scalar dl.now tag) ∷ [])
+        ≡ true }
+    requires inside { VariantsInside layout.size (variants_of layout.variants) (map (λ ks.
+        map (placed_in (all_at nodes.old.items saved.locals.now)) ks.items) saved.states.now) }
+    ensures ok { IfOk result (λ i. IsPut nodes.old.items nodes.new.items i (placed_coroutine dl.now
+        (all_at nodes.old.items prefix.items) tag (all_at nodes.old.items saved.entry.locals.now)
+        (map (λ state. state.items) saved.entry.states.now) layout)) }
     ensures own { IfOk result (IsOwnPut nodes.old.items nodes.new.items) }
     ensures err { IfErr result (λ e. e ≡ LayError.OutOfMemory) }
     ensures behind { AreStillThere nodes.old.items nodes.new.items }
@@ -214,13 +217,14 @@ fn coroutine_layout(
     requires before { All (λ child. child < length nodes.now) prefix.now }
     requires there { All (λ child. child < length nodes.now) saved.locals.now }
     requires prefix { All (λ p. IsLawfulLayout dl.now (layout_of p)) (all_at nodes.now prefix.now) }
-    requires locals { All (λ p. IsLawfulLayout dl.now (layout_of p)) (all_at nodes.now saved.locals.now) }
-    ensures ok { IfOk result (λ l. IsCoroutined dl.now (all_at nodes.now prefix.now) tag (one_scalar dl.now tag)
-        (all_at nodes.now saved.entry.locals.now) (map (λ state. state.items) saved.entry.states.now) pairs.now
-        (Ok l)) }
-    ensures err { IfErr result (IsRefused
-        (IsCoroutined dl.now (all_at nodes.now prefix.now) tag (one_scalar dl.now tag)
-        (all_at nodes.now saved.entry.locals.now) (map (λ state. state.items) saved.entry.states.now) pairs.now)) }
+    requires locals { All (λ p. IsLawfulLayout dl.now (layout_of p))
+        (all_at nodes.now saved.locals.now) }
+    ensures ok { IfOk result (λ l. IsCoroutined dl.now (all_at nodes.now prefix.now) tag
+        (one_scalar dl.now tag) (all_at nodes.now saved.entry.locals.now)
+        (map (λ state. state.items) saved.entry.states.now) pairs.now (Ok l)) }
+    ensures err { IfErr result (IsRefused (IsCoroutined dl.now (all_at nodes.now prefix.now) tag
+        (one_scalar dl.now tag) (all_at nodes.now saved.entry.locals.now)
+        (map (λ state. state.items) saved.entry.states.now) pairs.now)) }
 {
     let relation = conflicts(alloc, saved.locals.len(), pairs)?;
     let states = named_each(alloc, saved.states)?;
@@ -252,8 +256,10 @@ fn add_faultless_coroutine(
         (map (λ state. state.items) states.now) pairs.now ≡ None }
     requires before { All (λ child. child < vec_len nodes.old) prefix.items }
     requires there { All (λ child. child < vec_len nodes.old) locals.now }
-    requires prefix { All (λ p. IsLawfulLayout dl.now (layout_of p)) (all_at nodes.old.items prefix.items) }
-    requires locals { All (λ p. IsLawfulLayout dl.now (layout_of p)) (all_at nodes.old.items locals.now) }
+    requires prefix { All (λ p. IsLawfulLayout dl.now (layout_of p))
+        (all_at nodes.old.items prefix.items) }
+    requires locals { All (λ p. IsLawfulLayout dl.now (layout_of p))
+        (all_at nodes.old.items locals.now) }
     ensures ok { IfOk result
         (λ i. (pres ts : Trees) → AreLaying dl.now pres (Ok (all_at nodes.old.items prefix.items)) →
         AreLaying dl.now ts (Ok (all_at nodes.old.items locals.now)) →
@@ -262,8 +268,8 @@ fn add_faultless_coroutine(
         IsAdded dl.now nodes.old.items nodes.new.items i
         (coroutine pres ts (map (λ state. state.items) states.now) pairs.now)) }
     ensures own { IfOk result (IsOwnPut nodes.old.items nodes.new.items) }
-    ensures err { IfErr result (IsRefused
-        (IsCoroutineOf dl.now (all_at nodes.old.items prefix.items) (all_at nodes.old.items locals.now)
+    ensures err { IfErr result (IsRefused (IsCoroutineOf dl.now
+        (all_at nodes.old.items prefix.items) (all_at nodes.old.items locals.now)
         (map (λ state. state.items) states.now) pairs.now)) }
     ensures behind { AreStillThere nodes.old.items nodes.new.items }
 {
@@ -286,8 +292,10 @@ pub(crate) fn add_coroutine(
     requires data_layout { IsLawfulDataLayout dl.now }
     requires before { All (λ child. child < vec_len nodes.old) prefix.items }
     requires there { All (λ child. child < vec_len nodes.old) locals.now }
-    requires prefix { All (λ p. IsLawfulLayout dl.now (layout_of p)) (all_at nodes.old.items prefix.items) }
-    requires locals { All (λ p. IsLawfulLayout dl.now (layout_of p)) (all_at nodes.old.items locals.now) }
+    requires prefix { All (λ p. IsLawfulLayout dl.now (layout_of p))
+        (all_at nodes.old.items prefix.items) }
+    requires locals { All (λ p. IsLawfulLayout dl.now (layout_of p))
+        (all_at nodes.old.items locals.now) }
     ensures ok { IfOk result
         (λ i. (pres ts : Trees) → AreLaying dl.now pres (Ok (all_at nodes.old.items prefix.items)) →
         AreLaying dl.now ts (Ok (all_at nodes.old.items locals.now)) →
@@ -296,8 +304,8 @@ pub(crate) fn add_coroutine(
         IsAdded dl.now nodes.old.items nodes.new.items i
         (coroutine pres ts (map (λ state. state.items) states.now) pairs.now)) }
     ensures own { IfOk result (IsOwnPut nodes.old.items nodes.new.items) }
-    ensures err { IfErr result (IsRefused
-        (IsCoroutineOf dl.now (all_at nodes.old.items prefix.items) (all_at nodes.old.items locals.now)
+    ensures err { IfErr result (IsRefused (IsCoroutineOf dl.now
+        (all_at nodes.old.items prefix.items) (all_at nodes.old.items locals.now)
         (map (λ state. state.items) states.now) pairs.now)) }
     ensures behind { AreStillThere nodes.old.items nodes.new.items }
 {

@@ -80,9 +80,10 @@ fn variant_layouts<'a>(
     children: &[Vec<usize>],
 ) -> Result<Vec<IndexVec<FieldIdx, &'a LayoutData<FieldIdx, VariantIdx>>>, AllocError>
     requires count { All (λ fields. length fields.items ≤ most_fields) children.now }
-    requires there { All (λ fields. All (λ child. child < length nodes.now) fields.items) children.now }
-    ensures { IfOk result (λ layouts.
-        map (map (λ lent. lent.now)) layouts.items ≡ layouts_of (variants_in nodes.now children.now)) }
+    requires there { All (λ fields. All (λ child. child < length nodes.now) fields.items)
+        children.now }
+    ensures { IfOk result (λ layouts. map (map (λ lent. lent.now)) layouts.items
+        ≡ layouts_of (variants_in nodes.now children.now)) }
 {
     let mut layouts = Vec::with_capacity(alloc, children.len())?;
     for fields in children {
@@ -114,7 +115,8 @@ where
     requires asked { (from : _) (to : _) (answer : _) → D.post discr_range_of_repr from to answer →
         IsTagIntegerAnswer dl.now repr.now from to answer }
     ensures ok { IfOk result (λ l. (all : List (List Placed)) →
-        map (map (λ lent. lent.now)) variants.now ≡ layouts_of all → IsEnumed dl.now repr.now numbers.now all (Ok l)) }
+        map (map (λ lent. lent.now)) variants.now ≡ layouts_of all →
+        IsEnumed dl.now repr.now numbers.now all (Ok l)) }
     ensures err { IfErr result (λ e. (all : List (List Placed)) →
         map (map (λ lent. lent.now)) variants.now ≡ layouts_of all →
         IsRefused (IsEnumed dl.now repr.now numbers.now all) e) }
@@ -144,12 +146,17 @@ fn enum_layout(
     children: &[Vec<usize>],
 ) -> Result<LayoutData<FieldIdx, VariantIdx>, LayError>
     requires data_layout { IsLawfulDataLayout dl.now }
-    requires faultless { enum_fault dl.now repr.now numbers.now (variants_in nodes.now children.now) ≡ None }
+    requires faultless { enum_fault dl.now repr.now numbers.now
+        (variants_in nodes.now children.now) ≡ None }
     requires each { length numbers.now ≡ length children.now }
-    requires there { All (λ fields. All (λ child. child < length nodes.now) fields.items) children.now }
-    requires lawful { All (All (λ p. IsLawfulLayout dl.now (layout_of p))) (variants_in nodes.now children.now) }
-    ensures ok { IfOk result (λ l. IsEnumed dl.now repr.now numbers.now (variants_in nodes.now children.now) (Ok l)) }
-    ensures err { IfErr result (IsRefused (IsEnumed dl.now repr.now numbers.now (variants_in nodes.now children.now))) }
+    requires there { All (λ fields. All (λ child. child < length nodes.now) fields.items)
+        children.now }
+    requires lawful { All (All (λ p. IsLawfulLayout dl.now (layout_of p)))
+        (variants_in nodes.now children.now) }
+    ensures ok { IfOk result (λ l.
+        IsEnumed dl.now repr.now numbers.now (variants_in nodes.now children.now) (Ok l)) }
+    ensures err { IfErr result (IsRefused (IsEnumed dl.now repr.now numbers.now
+        (variants_in nodes.now children.now))) }
 {
     let variants = variant_layouts(alloc, nodes, children)?;
     calculated(
@@ -171,8 +178,8 @@ fn own_node(
     fields: Vec<usize>,
 ) -> Result<Node, AllocError>
     requires { index < length (variants_of whole.now.variants) }
-    ensures layout { IfOk result (λ node. Some node.layout
-        ≡ option_map (variant_layout whole.now index) (slice_get (variants_of whole.now.variants) index)) }
+    ensures layout { IfOk result (λ node. Some node.layout ≡ option_map
+        (variant_layout whole.now index) (slice_get (variants_of whole.now.variants) index)) }
     ensures shape { IfOk result (λ node. node.shape ≡ Shape.Fields mark fields) }
 {
     let layout = LayoutData::for_variant(alloc, whole, index)?;
@@ -196,14 +203,16 @@ pub(crate) fn add_variants(
     requires each { length numbers.now ≡ length children.now }
     requires few { length children.now ≤ most_fields }
     requires few_each { All (λ fields. length fields.items ≤ most_fields) children.now }
-    requires there { All (λ fields. All (λ child. child < vec_len nodes.old) fields.items) children.now }
+    requires there { All (λ fields. All (λ child. child < vec_len nodes.old) fields.items)
+        children.now }
     requires inside { VariantsInside layout.now.size (variants_of layout.now.variants)
         (variants_in nodes.old.items children.now) }
-    ensures ok { IfOk result (λ variants.
-        AreArms nodes.old.items nodes.new.items (map (λ l. l.size) (variants_of layout.now.variants)) variants.items
+    ensures ok { IfOk result (λ variants. AreArms nodes.old.items nodes.new.items
+        (map (λ l. l.size) (variants_of layout.now.variants)) variants.items
         (arms_at layout.now mark 0 (variants_of layout.now.variants) numbers.now
         (variants_in nodes.old.items children.now))) }
-    ensures count { IfOk result (λ variants. HasMore (length variants.items) false nodes.old.items nodes.new.items) }
+    ensures count { IfOk result (λ variants.
+        HasMore (length variants.items) false nodes.old.items nodes.new.items) }
     ensures err { IfErr result (λ e. e ≡ LayError.OutOfMemory) }
     ensures behind { AreStillThere nodes.old.items nodes.new.items }
 {
@@ -240,12 +249,14 @@ fn add_tagged(
     requires each { length told.numbers.now ≡ length told.children.now }
     requires few { length told.children.now ≤ most_fields }
     requires few_each { All (λ fields. length fields.items ≤ most_fields) told.children.now }
-    requires there { All (λ fields. All (λ child. child < vec_len nodes.old) fields.items) told.children.now }
-    requires places { have_places layout.size layout.fields (size_of (one_scalar dl.now tag) ∷ []) ≡ true }
+    requires there { All (λ fields. All (λ child. child < vec_len nodes.old) fields.items)
+        told.children.now }
+    requires places { have_places layout.size layout.fields
+        (size_of (one_scalar dl.now tag) ∷ []) ≡ true }
     requires inside { VariantsInside layout.size (variants_of layout.variants)
         (variants_in nodes.old.items told.children.now) }
-    ensures ok { IfOk result (λ i. IsPut nodes.old.items nodes.new.items i
-        (tagged layout mark (tag_offset layout) (one_scalar dl.now tag) (encoding_of layout.variants)
+    ensures ok { IfOk result (λ i. IsPut nodes.old.items nodes.new.items i (tagged layout mark
+        (tag_offset layout) (one_scalar dl.now tag) (encoding_of layout.variants)
         (arms_at layout mark 0 (variants_of layout.variants) told.entry.numbers.now
         (variants_in nodes.old.items told.entry.children.now)))) }
     ensures own { IfOk result (IsOwnPut nodes.old.items nodes.new.items) }
@@ -280,10 +291,12 @@ fn add_placed(
     requires each { length numbers.now ≡ length children.now }
     requires few { length children.now ≤ most_fields }
     requires few_each { All (λ fields. length fields.items ≤ most_fields) children.now }
-    requires there { All (λ fields. All (λ child. child < vec_len nodes.old) fields.items) children.now }
-    requires places { HavePlaces dl.now layout (variants_in nodes.old.items children.now) layout.variants }
-    ensures ok { IfOk result (λ i. IsPut nodes.old.items nodes.new.items i
-        (placed_enum dl.now repr.now numbers.now (variants_in nodes.old.items children.now) layout)) }
+    requires there { All (λ fields. All (λ child. child < vec_len nodes.old) fields.items)
+        children.now }
+    requires places { HavePlaces dl.now layout
+        (variants_in nodes.old.items children.now) layout.variants }
+    ensures ok { IfOk result (λ i. IsPut nodes.old.items nodes.new.items i (placed_enum dl.now
+        repr.now numbers.now (variants_in nodes.old.items children.now) layout)) }
     ensures own { IfOk result (IsOwnPut nodes.old.items nodes.new.items) }
     ensures err { IfErr result (λ e. e ≡ LayError.OutOfMemory) }
     ensures behind { AreStillThere nodes.old.items nodes.new.items }
@@ -312,10 +325,13 @@ fn add_faultless_enum(
     children: &[Vec<usize>],
 ) -> Result<usize, LayError>
     requires data_layout { IsLawfulDataLayout dl.now }
-    requires faultless { enum_fault dl.now repr.now numbers.now (variants_in nodes.old.items children.now) ≡ None }
+    requires faultless { enum_fault dl.now repr.now numbers.now
+        (variants_in nodes.old.items children.now) ≡ None }
     requires each { length numbers.now ≡ length children.now }
-    requires there { All (λ fields. All (λ child. child < vec_len nodes.old) fields.items) children.now }
-    requires lawful { All (All (λ p. IsLawfulLayout dl.now (layout_of p))) (variants_in nodes.old.items children.now) }
+    requires there { All (λ fields. All (λ child. child < vec_len nodes.old) fields.items)
+        children.now }
+    requires lawful { All (All (λ p. IsLawfulLayout dl.now (layout_of p)))
+        (variants_in nodes.old.items children.now) }
     ensures ok { IfOk result
         (λ i. (all : VariantTrees) → numbers.now ≡ discriminants_of all →
         VariantsLaying dl.now all (Ok (variants_in nodes.old.items children.now)) →
@@ -341,8 +357,10 @@ pub(crate) fn add_enum(
 ) -> Result<usize, LayError>
     requires data_layout { IsLawfulDataLayout dl.now }
     requires each { length numbers.now ≡ length children.now }
-    requires there { All (λ fields. All (λ child. child < vec_len nodes.old) fields.items) children.now }
-    requires lawful { All (All (λ p. IsLawfulLayout dl.now (layout_of p))) (variants_in nodes.old.items children.now) }
+    requires there { All (λ fields. All (λ child. child < vec_len nodes.old) fields.items)
+        children.now }
+    requires lawful { All (All (λ p. IsLawfulLayout dl.now (layout_of p)))
+        (variants_in nodes.old.items children.now) }
     ensures ok { IfOk result
         (λ i. (all : VariantTrees) → numbers.now ≡ discriminants_of all →
         VariantsLaying dl.now all (Ok (variants_in nodes.old.items children.now)) →

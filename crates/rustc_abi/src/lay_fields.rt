@@ -47,8 +47,8 @@ pub(crate) fn has_bad_align(repr: &ReprOptions) -> bool
 /// Whether there are more lists, or more items in one, than an index can name.
 pub(crate) fn has_bad_index<T>(lists: &[Vec<T>]) -> bool
     ensures items { result ≡ has_bad_index (map (λ list. list.items) lists.now) }
-    ensures types { (all : List (List Placed)) → map length all ≡ map (λ list. length list.items) lists.now →
-        result ≡ has_bad_index all }
+    ensures types { (all : List (List Placed)) →
+        map length all ≡ map (λ list. length list.items) lists.now → result ≡ has_bad_index all }
 {
     if lists.len() > MOST_FIELDS {
         return true;
@@ -63,7 +63,8 @@ pub(crate) fn has_bad_index<T>(lists: &[Vec<T>]) -> bool
 
 /// The own fault of a struct or union, if it has one.
 pub(crate) fn fields_fault(repr: &ReprOptions, children: &[usize]) -> Option<LayError>
-    ensures { (ps : List Placed) → length ps ≡ length children.now → result ≡ fields_fault repr.now ps }
+    ensures { (ps : List Placed) → length ps ≡ length children.now →
+        result ≡ fields_fault repr.now ps }
 {
     if children.len() > MOST_FIELDS {
         return Some(LayError::BadIndex);
@@ -76,7 +77,8 @@ pub(crate) fn fields_fault(repr: &ReprOptions, children: &[usize]) -> Option<Lay
 
 /// Whether the list is always sized: where the struct says so, and where it has no fields.
 pub(crate) fn kind_of(always_sized: bool, children: &[usize]) -> StructKind
-    ensures { (ps : List Placed) → length ps ≡ length children.now → result ≡ kind_of always_sized ps }
+    ensures { (ps : List Placed) → length ps ≡ length children.now →
+        result ≡ kind_of always_sized ps }
 {
     if always_sized || children.is_empty() {
         StructKind::AlwaysSized
@@ -94,12 +96,14 @@ fn fields_layout(
     kind: StructKind,
     children: &[usize],
 ) -> Result<LayoutData<FieldIdx, VariantIdx>, LayError>
-    requires kind { (kind ≡ StructKind.AlwaysSized) ⊎ ((kind ≡ StructKind.MaybeUnsized) × (0 < length children.now)) }
+    requires kind { (kind ≡ StructKind.AlwaysSized) ⊎ ((kind ≡ StructKind.MaybeUnsized)
+        × (0 < length children.now)) }
     requires aligns { HasLawfulAligns repr.now }
     requires count { length children.now ≤ most_fields }
     requires data_layout { IsLawfulDataLayout dl.now }
     requires there { All (λ child. child < length nodes.now) children.now }
-    requires lawful { All (λ p. IsLawfulLayout dl.now (layout_of p)) (all_at nodes.now children.now) }
+    requires lawful { All (λ p. IsLawfulLayout dl.now (layout_of p))
+        (all_at nodes.now children.now) }
     ensures ok { IfOk result (λ l. IsLaidList dl.now repr.now kind
         (map layout_of (all_at nodes.now children.now)) (Ok l)) }
     ensures err { IfErr result (IsRefused
@@ -132,7 +136,8 @@ fn add_faultless_fields(
 ) -> Result<usize, LayError>
     requires data_layout { IsLawfulDataLayout dl.now }
     requires there { All (λ child. child < vec_len nodes.old) children.items }
-    requires lawful { All (λ p. IsLawfulLayout dl.now (layout_of p)) (all_at nodes.old.items children.items) }
+    requires lawful { All (λ p. IsLawfulLayout dl.now (layout_of p))
+        (all_at nodes.old.items children.items) }
     requires faultless { fields_fault repr.now (all_at nodes.old.items children.items) ≡ None }
     ensures ok { IfOk result
         (λ i. (ts : Trees) → AreLaying dl.now ts (Ok (all_at nodes.old.items children.items)) →
@@ -164,7 +169,8 @@ pub(crate) fn add_fields(
 ) -> Result<usize, LayError>
     requires data_layout { IsLawfulDataLayout dl.now }
     requires there { All (λ child. child < vec_len nodes.old) children.items }
-    requires lawful { All (λ p. IsLawfulLayout dl.now (layout_of p)) (all_at nodes.old.items children.items) }
+    requires lawful { All (λ p. IsLawfulLayout dl.now (layout_of p))
+        (all_at nodes.old.items children.items) }
     ensures ok { IfOk result
         (λ i. (ts : Trees) → AreLaying dl.now ts (Ok (all_at nodes.old.items children.items)) →
         EachFits dl.now ts (all_at nodes.old.items children.items) →

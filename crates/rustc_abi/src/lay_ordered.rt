@@ -39,7 +39,8 @@ fn randomized(repr: &ReprOptions) -> ReprOptions
 
 /// The own fault of a struct whose order is handed in, if it has one.
 fn ordered_fault(repr: &ReprOptions, children: &[usize]) -> Option<LayError>
-    ensures { (ps : List Placed) → length ps ≡ length children.now → result ≡ ordered_fault repr.now ps }
+    ensures { (ps : List Placed) → length ps ≡ length children.now →
+        result ≡ ordered_fault repr.now ps }
 {
     match fields_fault(repr, children) {
         Some(fault) => Some(fault),
@@ -52,7 +53,8 @@ fn ordered_fault(repr: &ReprOptions, children: &[usize]) -> Option<LayError>
 fn fields_named(alloc: Global, order: &[u64], count: usize) -> Result<Vec<FieldIdx>, LayError>
     requires { count ≤ most_fields }
     ensures ok { IfOk result (λ fields. fields.items ≡ order.now) }
-    ensures err { IfErr result (λ e. (e ≡ OutOfMemory) ⊎ ((e ≡ BadOrder) × (All (λ i. i < count) order.now → ⊥))) }
+    ensures err { IfErr result (λ e. (e ≡ OutOfMemory) ⊎ ((e ≡ BadOrder)
+        × (All (λ i. i < count) order.now → ⊥))) }
 {
     let mut fields = Vec::with_capacity(alloc, order.len())?;
     for &index in order {
@@ -74,17 +76,19 @@ fn ordered_layout(
     order: &[u64],
     children: &[usize],
 ) -> Result<LayoutData<FieldIdx, VariantIdx>, LayError>
-    requires kind { (kind ≡ StructKind.AlwaysSized) ⊎ ((kind ≡ StructKind.MaybeUnsized) × (0 < length children.now)) }
+    requires kind { (kind ≡ StructKind.AlwaysSized) ⊎ ((kind ≡ StructKind.MaybeUnsized)
+        × (0 < length children.now)) }
     requires aligns { HasLawfulAligns repr.now }
     requires free { IsTrue (may_randomize repr.now) }
     requires count { length children.now ≤ most_fields }
     requires data_layout { IsLawfulDataLayout dl.now }
     requires there { All (λ child. child < length nodes.now) children.now }
-    requires lawful { All (λ p. IsLawfulLayout dl.now (layout_of p)) (all_at nodes.now children.now) }
-    ensures ok { IfOk result (λ l.
-        IsListedInOrder dl.now repr.now kind order.now (map layout_of (all_at nodes.now children.now)) (Ok l)) }
-    ensures err { IfErr result (IsRefused
-        (IsListedInOrder dl.now repr.now kind order.now (map layout_of (all_at nodes.now children.now)))) }
+    requires lawful { All (λ p. IsLawfulLayout dl.now (layout_of p))
+        (all_at nodes.now children.now) }
+    ensures ok { IfOk result (λ l. IsListedInOrder dl.now repr.now kind order.now
+        (map layout_of (all_at nodes.now children.now)) (Ok l)) }
+    ensures err { IfErr result (IsRefused (IsListedInOrder dl.now repr.now kind order.now
+        (map layout_of (all_at nodes.now children.now)))) }
     ensures lawful { IfOk result (IsLawfulLayout dl.now) }
     ensures apart { IfOk result (λ l.
         AreApart l.size (listed_offsets l.fields) (map size_of (all_at nodes.now children.now))) }
@@ -115,15 +119,16 @@ fn add_faultless_ordered(
 ) -> Result<usize, LayError>
     requires data_layout { IsLawfulDataLayout dl.now }
     requires there { All (λ child. child < vec_len nodes.old) children.items }
-    requires lawful { All (λ p. IsLawfulLayout dl.now (layout_of p)) (all_at nodes.old.items children.items) }
+    requires lawful { All (λ p. IsLawfulLayout dl.now (layout_of p))
+        (all_at nodes.old.items children.items) }
     requires faultless { ordered_fault repr.now (all_at nodes.old.items children.items) ≡ None }
-    ensures ok { IfOk result
-        (λ i. (ts : Trees) → AreLaying dl.now ts (Ok (all_at nodes.old.items children.items)) →
-        EachFits dl.now ts (all_at nodes.old.items children.items) →
-        IsAdded dl.now nodes.old.items nodes.new.items i (struct repr.now always_sized (Some order.now) ts)) }
+    ensures ok { IfOk result (λ i. (ts : Trees) →
+        AreLaying dl.now ts (Ok (all_at nodes.old.items children.items)) →
+        EachFits dl.now ts (all_at nodes.old.items children.items) → IsAdded dl.now nodes.old.items
+        nodes.new.items i (struct repr.now always_sized (Some order.now) ts)) }
     ensures own { IfOk result (IsOwnPut nodes.old.items nodes.new.items) }
-    ensures err { IfErr result (IsRefused
-        (IsOrderedFieldsAnswer dl.now repr.now always_sized order.now (all_at nodes.old.items children.items))) }
+    ensures err { IfErr result (IsRefused (IsOrderedFieldsAnswer dl.now repr.now always_sized
+        order.now (all_at nodes.old.items children.items))) }
     ensures kept { OnErr result (nodes.new.items ≡ nodes.old.items) }
     ensures behind { AreStillThere nodes.old.items nodes.new.items }
 {
@@ -148,14 +153,15 @@ pub(crate) fn add_ordered(
 ) -> Result<usize, LayError>
     requires data_layout { IsLawfulDataLayout dl.now }
     requires there { All (λ child. child < vec_len nodes.old) children.items }
-    requires lawful { All (λ p. IsLawfulLayout dl.now (layout_of p)) (all_at nodes.old.items children.items) }
-    ensures ok { IfOk result
-        (λ i. (ts : Trees) → AreLaying dl.now ts (Ok (all_at nodes.old.items children.items)) →
-        EachFits dl.now ts (all_at nodes.old.items children.items) →
-        IsAdded dl.now nodes.old.items nodes.new.items i (struct repr.now always_sized (Some order.now) ts)) }
+    requires lawful { All (λ p. IsLawfulLayout dl.now (layout_of p))
+        (all_at nodes.old.items children.items) }
+    ensures ok { IfOk result (λ i. (ts : Trees) →
+        AreLaying dl.now ts (Ok (all_at nodes.old.items children.items)) →
+        EachFits dl.now ts (all_at nodes.old.items children.items) → IsAdded dl.now nodes.old.items
+        nodes.new.items i (struct repr.now always_sized (Some order.now) ts)) }
     ensures own { IfOk result (IsOwnPut nodes.old.items nodes.new.items) }
-    ensures err { IfErr result (IsRefused
-        (IsOrderedFieldsAnswer dl.now repr.now always_sized order.now (all_at nodes.old.items children.items))) }
+    ensures err { IfErr result (IsRefused (IsOrderedFieldsAnswer dl.now repr.now always_sized
+        order.now (all_at nodes.old.items children.items))) }
     ensures kept { OnErr result (nodes.new.items ≡ nodes.old.items) }
     ensures behind { AreStillThere nodes.old.items nodes.new.items }
 {

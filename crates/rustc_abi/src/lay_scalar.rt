@@ -68,7 +68,8 @@ fn add_lawful(
 ) -> Result<usize, LayError>
     requires data_layout { IsLawfulDataLayout dl.now }
     requires faultless { scalar_fault dl.now value ≡ None }
-    ensures ok { IfOk result (λ i. IsPut nodes.old.items nodes.new.items i (one_scalar dl.now value)) }
+    ensures ok { IfOk result (λ i.
+        IsPut nodes.old.items nodes.new.items i (one_scalar dl.now value)) }
     ensures lawful { IsLawfulLayout dl.now (layout_of (one_scalar dl.now value)) }
     ensures count { IfOk result (λ i. HasMore 1 false nodes.old.items nodes.new.items) }
     ensures err { IfErr result (λ e. e ≡ LayError.OutOfMemory) }
@@ -85,7 +86,8 @@ pub(crate) fn add_scalar(
     value: Scalar,
 ) -> Result<usize, LayError>
     requires { IsLawfulDataLayout dl.now }
-    ensures ok { IfOk result (λ i. IsAdded dl.now nodes.old.items nodes.new.items i (scalar value)) }
+    ensures ok { IfOk result (λ i.
+        IsAdded dl.now nodes.old.items nodes.new.items i (scalar value)) }
     ensures own { IfOk result (IsOwnPut nodes.old.items nodes.new.items) }
     ensures err { IfErr result (IsRefusal (scalar_answer dl.now value)) }
     ensures fault { (e : LayError) → scalar_answer dl.now value ≡ Err e → result ≡ Err e }

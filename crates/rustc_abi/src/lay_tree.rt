@@ -32,8 +32,10 @@ pub(crate) fn lay_tree(
     tree: &TypeTree,
 ) -> Result<usize, LayError>
     requires { IsLawfulDataLayout dl.now }
-    ensures ok { IfOk result (λ i. IsAdded dl.now nodes.old.items nodes.new.items i (tree_of tree.now)) }
-    ensures counted { IfOk result (λ i. IsCounted dl.now nodes.old.items nodes.new.items (tree_of tree.now)) }
+    ensures ok { IfOk result (λ i.
+        IsAdded dl.now nodes.old.items nodes.new.items i (tree_of tree.now)) }
+    ensures counted { IfOk result (λ i.
+        IsCounted dl.now nodes.old.items nodes.new.items (tree_of tree.now)) }
     ensures err { IfErr result (IsRefused (IsLaying dl.now (tree_of tree.now))) }
     ensures behind { AreStillThere nodes.old.items nodes.new.items }
 {
@@ -92,11 +94,13 @@ fn lay_struct(
 ) -> Result<usize, LayError>
     requires { IsLawfulDataLayout dl.now }
     ensures ok { IfOk result (λ i. IsAdded dl.now nodes.old.items nodes.new.items i
-        (struct repr.now always_sized (option_map (λ o. o.now.items) order.entry) (trees (map tree_of fields.now)))) }
+        (struct repr.now always_sized (option_map (λ o. o.now.items) order.entry)
+        (trees (map tree_of fields.now)))) }
     ensures counted { IfOk result (λ i. IsCounted dl.now nodes.old.items nodes.new.items
-        (struct repr.now always_sized (option_map (λ o. o.now.items) order.entry) (trees (map tree_of fields.now)))) }
-    ensures err { IfErr result (IsRefused (IsLaying dl.now
-        (struct repr.now always_sized (option_map (λ o. o.now.items) order.entry) (trees (map tree_of fields.now))))) }
+        (struct repr.now always_sized (option_map (λ o. o.now.items) order.entry)
+        (trees (map tree_of fields.now)))) }
+    ensures err { IfErr result (IsRefused (IsLaying dl.now (struct repr.now always_sized
+        (option_map (λ o. o.now.items) order.entry) (trees (map tree_of fields.now))))) }
     ensures behind { AreStillThere nodes.old.items nodes.new.items }
 {
     let children = lay_each(alloc, dl, nodes, fields)?;
@@ -116,11 +120,12 @@ fn lay_enum(
     variants: &[(u128, Vec<TypeTree>)],
 ) -> Result<usize, LayError>
     requires { IsLawfulDataLayout dl.now }
-    ensures ok { IfOk result (λ i.
-        IsAdded dl.now nodes.old.items nodes.new.items i (enum repr.now (trees_of_variants variants.now))) }
-    ensures counted { IfOk result (λ i.
-        IsCounted dl.now nodes.old.items nodes.new.items (enum repr.now (trees_of_variants variants.now))) }
-    ensures err { IfErr result (IsRefused (IsLaying dl.now (enum repr.now (trees_of_variants variants.now)))) }
+    ensures ok { IfOk result (λ i. IsAdded dl.now nodes.old.items nodes.new.items i (enum repr.now
+        (trees_of_variants variants.now))) }
+    ensures counted { IfOk result (λ i. IsCounted dl.now nodes.old.items nodes.new.items
+        (enum repr.now (trees_of_variants variants.now))) }
+    ensures err { IfErr result (IsRefused (IsLaying dl.now (enum repr.now
+        (trees_of_variants variants.now)))) }
     ensures behind { AreStillThere nodes.old.items nodes.new.items }
 {
     let numbers = discriminants(alloc, variants)?;
@@ -189,8 +194,8 @@ fn lay_variants(
     all: &[(u128, Vec<TypeTree>)],
 ) -> Result<Vec<Vec<usize>>, LayError>
     requires { IsLawfulDataLayout dl.now }
-    ensures ok { IfOk result (λ children.
-        AreVariantsAdded dl.now nodes.old.items nodes.new.items children.items (trees_of_variants all.now)) }
+    ensures ok { IfOk result (λ children. AreVariantsAdded dl.now nodes.old.items nodes.new.items
+        children.items (trees_of_variants all.now)) }
     ensures counted { IfOk result (λ children.
         AreVariantsCounted dl.now nodes.old.items nodes.new.items (trees_of_variants all.now)) }
     ensures err { IfErr result (IsRefused (VariantsLaying dl.now (trees_of_variants all.now))) }

@@ -34,9 +34,12 @@ fn union_layout(
     requires count { length children.now ≤ most_fields }
     requires data_layout { IsLawfulDataLayout dl.now }
     requires there { All (λ child. child < length nodes.now) children.now }
-    requires lawful { All (λ p. IsLawfulLayout dl.now (layout_of p)) (all_at nodes.now children.now) }
-    ensures ok { IfOk result (λ l. IsUnited dl.now repr.now (map layout_of (all_at nodes.now children.now)) (Ok l)) }
-    ensures err { IfErr result (IsRefused (IsUnited dl.now repr.now (map layout_of (all_at nodes.now children.now)))) }
+    requires lawful { All (λ p. IsLawfulLayout dl.now (layout_of p))
+        (all_at nodes.now children.now) }
+    ensures ok { IfOk result (λ l.
+        IsUnited dl.now repr.now (map layout_of (all_at nodes.now children.now)) (Ok l)) }
+    ensures err { IfErr result (IsRefused (IsUnited dl.now repr.now (map layout_of
+        (all_at nodes.now children.now)))) }
     ensures lawful { IfOk result (IsLawfulLayout dl.now) }
 {
     let variants = [layouts_at(alloc, nodes, children)?];
@@ -54,14 +57,16 @@ fn add_faultless_union(
 ) -> Result<usize, LayError>
     requires data_layout { IsLawfulDataLayout dl.now }
     requires there { All (λ child. child < vec_len nodes.old) children.items }
-    requires lawful { All (λ p. IsLawfulLayout dl.now (layout_of p)) (all_at nodes.old.items children.items) }
+    requires lawful { All (λ p. IsLawfulLayout dl.now (layout_of p))
+        (all_at nodes.old.items children.items) }
     requires faultless { fields_fault repr.now (all_at nodes.old.items children.items) ≡ None }
     ensures ok { IfOk result
         (λ i. (ts : Trees) → AreLaying dl.now ts (Ok (all_at nodes.old.items children.items)) →
         EachFits dl.now ts (all_at nodes.old.items children.items) →
         IsAdded dl.now nodes.old.items nodes.new.items i (union repr.now ts)) }
     ensures own { IfOk result (IsOwnPut nodes.old.items nodes.new.items) }
-    ensures err { IfErr result (IsRefused (IsUnionOf dl.now repr.now (all_at nodes.old.items children.items))) }
+    ensures err { IfErr result (IsRefused (IsUnionOf dl.now repr.now
+        (all_at nodes.old.items children.items))) }
     ensures kept { OnErr result (nodes.new.items ≡ nodes.old.items) }
     ensures behind { AreStillThere nodes.old.items nodes.new.items }
 {
@@ -79,13 +84,15 @@ pub(crate) fn add_union(
 ) -> Result<usize, LayError>
     requires data_layout { IsLawfulDataLayout dl.now }
     requires there { All (λ child. child < vec_len nodes.old) children.items }
-    requires lawful { All (λ p. IsLawfulLayout dl.now (layout_of p)) (all_at nodes.old.items children.items) }
+    requires lawful { All (λ p. IsLawfulLayout dl.now (layout_of p))
+        (all_at nodes.old.items children.items) }
     ensures ok { IfOk result
         (λ i. (ts : Trees) → AreLaying dl.now ts (Ok (all_at nodes.old.items children.items)) →
         EachFits dl.now ts (all_at nodes.old.items children.items) →
         IsAdded dl.now nodes.old.items nodes.new.items i (union repr.now ts)) }
     ensures own { IfOk result (IsOwnPut nodes.old.items nodes.new.items) }
-    ensures err { IfErr result (IsRefused (IsUnionOf dl.now repr.now (all_at nodes.old.items children.items))) }
+    ensures err { IfErr result (IsRefused (IsUnionOf dl.now repr.now
+        (all_at nodes.old.items children.items))) }
     ensures kept { OnErr result (nodes.new.items ≡ nodes.old.items) }
     ensures behind { AreStillThere nodes.old.items nodes.new.items }
 {

@@ -36,9 +36,10 @@ fn vector_layout(
     requires there { element < length nodes.now }
     requires lawful { IsLawfulLayout dl.now (layout_of (placed_at nodes.now element)) }
     ensures ok { IfOk result (λ l. named
-        (simd_answer (λ h. h) 0 0 dl.now (layout_of (placed_at nodes.now element)) lanes packed) ≡ Ok l) }
-    ensures err { IfErr result (IsRefusal
-        (named (simd_answer (λ h. h) 0 0 dl.now (layout_of (placed_at nodes.now element)) lanes packed))) }
+        (simd_answer (λ h. h) 0 0 dl.now (layout_of (placed_at nodes.now element)) lanes packed)
+        ≡ Ok l) }
+    ensures err { IfErr result (IsRefusal (named (simd_answer (λ h. h) 0 0 dl.now
+        (layout_of (placed_at nodes.now element)) lanes packed))) }
     ensures lawful { IfOk result (IsLawfulLayout dl.now) }
 {
     let answer = LayoutCalculator::new(dl).layout_of_simd_type(
@@ -67,7 +68,8 @@ pub(crate) fn add_vector(
         Fits dl.now t (placed_at nodes.old.items element) →
         IsAdded dl.now nodes.old.items nodes.new.items i (vector lanes packed t)) }
     ensures own { IfOk result (IsOwnPut nodes.old.items nodes.new.items) }
-    ensures err { IfErr result (IsRefusal (vector_answer dl.now lanes packed (placed_at nodes.old.items element))) }
+    ensures err { IfErr result (IsRefusal (vector_answer dl.now lanes packed
+        (placed_at nodes.old.items element))) }
     ensures behind { AreStillThere nodes.old.items nodes.new.items }
 {
     let layout = vector_layout(alloc, dl, nodes, lanes, packed, element)?;

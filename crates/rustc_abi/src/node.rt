@@ -27,7 +27,8 @@ pub(crate) fn add(
     requires widths { has_width (types_in nodes.old.items) layout shape ≡ true }
     ensures ok { IfOk result (λ i. IsPut nodes.old.items nodes.new.items i
         (meaning (types_in nodes.old.items) layout shape)) }
-    ensures count { IfOk result (λ i. HasMore 1 layout.uninhabited nodes.old.items nodes.new.items) }
+    ensures count { IfOk result (λ i.
+        HasMore 1 layout.uninhabited nodes.old.items nodes.new.items) }
     ensures err { IfErr result (λ e. e ≡ LayError.OutOfMemory) }
     ensures kept { OnErr result (nodes.new.items ≡ nodes.old.items) }
     ensures behind { AreStillThere nodes.old.items nodes.new.items }
@@ -45,7 +46,8 @@ pub(crate) fn layouts_at<'a>(
 ) -> Result<IndexVec<FieldIdx, &'a LayoutData<FieldIdx, VariantIdx>>, AllocError>
     requires count { length children.now ≤ most_fields }
     requires there { All (λ child. child < length nodes.now) children.now }
-    ensures { IfOk result (λ layouts. map (λ lent. lent.now) layouts ≡ map layout_of (all_at nodes.now children.now)) }
+    ensures { IfOk result (λ layouts.
+        map (λ lent. lent.now) layouts ≡ map layout_of (all_at nodes.now children.now)) }
 {
     let mut layouts = IndexVec::new(alloc);
     for child in children {

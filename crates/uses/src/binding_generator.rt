@@ -48,7 +48,8 @@ fn struct_of(alloc: Global, dl: &TargetDataLayout, tree: &TypeTree) -> Result<CS
     ensures placed { IfOk result (λ c. (fields : Trees) → IsInC (tree_of tree.now) fields →
         (placed : List Placed) × AreLaying dl.now fields (Ok placed) ×
         LieAsInC dl.now.aggregate_align placed c.offsets c.size c.align) }
-    ensures laid { IfOk result (λ c. IsLaidOutAs dl.now (tree_of tree.now) c.offsets c.size c.align) }
+    ensures laid { IfOk result (λ c.
+        IsLaidOutAs dl.now (tree_of tree.now) c.offsets c.size c.align) }
     ensures refused { IfErr result (IsRefusedFor dl.now (tree_of tree.now)) }
 {
     let laid = lay_out(alloc, dl, tree)?;

@@ -79,7 +79,8 @@ pub fn load(
     requires locals { LocalsHaveValues dl.now (tree_of tree.now) }
 
     // What is loaded, and when.
-    ensures seen { IfOk result (λ found. IfSome found (λ loaded. IsSeenAs dl.now (tree_of tree.now) loaded.scalar)) }
+    ensures seen { IfOk result (λ found. IfSome found (λ loaded.
+        IsSeenAs dl.now (tree_of tree.now) loaded.scalar)) }
     ensures number { IfOk result (λ found. IfSome found (λ loaded.
         loaded.number ≡ number_of dl.now.endian bytes.now)) }
     ensures held { IfOk result (λ found. IfSome found (λ _. (placed : Placed) × (v : Meant) ×

@@ -74,8 +74,8 @@ pub fn field_of(
     ensures field { IfOk result (λ found.
         (vs : Values) → Holds (endian_of laid.now) (placed_of laid.now) bytes.now (list vs) →
         IsValueFound found (value_at vs index)) }
-    ensures none { IfOk result (λ found.
-        ((vs : Values) → Holds (endian_of laid.now) (placed_of laid.now) bytes.now (list vs) → ⊥) → found ≡ None) }
+    ensures none { IfOk result (λ found. ((vs : Values) →
+        Holds (endian_of laid.now) (placed_of laid.now) bytes.now (list vs) → ⊥) → found ≡ None) }
 {
     match read_value(alloc, laid, bytes)? {
         Some(Value::List(values)) => Ok(taken(values, index)),

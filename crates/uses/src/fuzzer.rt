@@ -31,7 +31,8 @@ fn is_in(ranges: &RangeSet, place: u64) -> bool
 
 /// Puts a byte at the place, where it is in one of the ranges and there is a byte.
 fn put_in(ranges: &RangeSet, bytes: &mut [u8], place: usize, byte: u8)
-    ensures { bytes.new ≡ (if is_in_ranges ranges.now place then slice_set bytes.old place byte else bytes.old) }
+    ensures { bytes.new
+        ≡ (if is_in_ranges ranges.now place then slice_set bytes.old place byte else bytes.old) }
 {
     if place < bytes.len() && is_in(ranges, place as u64) {
         bytes[place] = byte;
@@ -52,12 +53,14 @@ pub fn ignore(
     requires laid { IsOfTree laid.now }
 
     // What is read is what the bytes held before, and they hold it still.
-    ensures reads { IfOk result (Finds (Holds (endian_of laid.now) (placed_of laid.now) bytes.old)) }
+    ensures reads { IfOk result (Finds (Holds (endian_of laid.now)
+        (placed_of laid.now) bytes.old)) }
     ensures holds { (v : Meant) → Holds (endian_of laid.now) (placed_of laid.now) bytes.old v ↔
         Holds (endian_of laid.now) (placed_of laid.now) bytes.new v }
 
     // Which byte was changed: where memory is wanting this one, or none.
-    ensures changed { IfOk result (λ _. bytes.new ≡ with_padding (placed_of laid.now) bytes.old place byte) }
+    ensures changed { IfOk result (λ _.
+        bytes.new ≡ with_padding (placed_of laid.now) bytes.old place byte) }
     ensures no_other { IfErr result (λ _. (bytes.new ≡ bytes.old) ⊎
         (bytes.new ≡ with_padding (placed_of laid.now) bytes.old place byte)) }
 {
@@ -86,7 +89,8 @@ pub fn flip(alloc: Global, laid: &Laid, place: u64) -> Result<Option<Flipped>, A
     requires laid { IsOfTree laid.now }
 
     // What the byte lists are.
-    ensures differ { IfOk result (λ found. IfSome found (λ f. DifferAt place f.first.items f.second.items)) }
+    ensures differ { IfOk result (λ found. IfSome found (λ f.
+        DifferAt place f.first.items f.second.items)) }
     ensures reads { IfOk result (λ found. IfSome found (λ f.
         Holds (endian_of laid.now) (placed_of laid.now) f.first.items (value_of f.value))) }
     ensures other { IfOk result (λ found. IfSome found (λ f.

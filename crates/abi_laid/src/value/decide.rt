@@ -121,7 +121,8 @@ fn first_with(cover: Cover<'_>, variants: &[(u128, usize)], k: u64, otherwise: u
     requires sets { HaveSets cover.nodes.now cover.kept.now cover.sets.now }
     requires kept { All (λ v. IsKept cover.kept.now v.1) variants.now }
     requires listed { have_lists (types_in cover.nodes.now) (map (λ v. v.1) variants.now) ≡ true }
-    ensures { result ≡ first_with (arms_in (types_in cover.entry.nodes.now) variants.now) k 0 otherwise }
+    ensures { result
+        ≡ first_with (arms_in (types_in cover.entry.nodes.now) variants.now) k 0 otherwise }
 {
     for i in 0..variants.len() {
         if has_byte(set_at(cover.sets, variants[i].1), k) {
@@ -254,7 +255,8 @@ fn put_variant(
     requires fits { at + size_of (placed_at cover.nodes.now node) ≤ length bytes.old }
     requires here { here.now ≡ get_or cover.nodes.now node here.now }
     requires some { 0 < here.now.layout.size }
-    requires tagged { (mark : Mark) × (tag : ℕ) × (all : _) × (here.now.shape ≡ Shape.Tagged mark tag all) }
+    requires tagged { (mark : Mark) × (tag : ℕ) × (all : _)
+        × (here.now.shape ≡ Shape.Tagged mark tag all) }
     ensures long { length bytes.new ≡ length bytes.old }
     ensures put { (b : List ℕ) → AreBytes b →
         let p = placed_at cover.entry.nodes.now node in
@@ -288,7 +290,8 @@ fn put_state(
     requires fits { at + size_of (placed_at cover.nodes.now node) ≤ length bytes.old }
     requires here { here.now ≡ get_or cover.nodes.now node here.now }
     requires some { 0 < here.now.layout.size }
-    requires states { (prefix : _) × (tag : ℕ) × (all : _) × (here.now.shape ≡ Shape.States prefix tag all) }
+    requires states { (prefix : _) × (tag : ℕ) × (all : _)
+        × (here.now.shape ≡ Shape.States prefix tag all) }
     ensures long { length bytes.new ≡ length bytes.old }
     ensures put { (b : List ℕ) → AreBytes b →
         let p = placed_at cover.entry.nodes.now node in
@@ -356,9 +359,9 @@ fn put_parts(
     bytes: &mut [u8],
 )
     requires sets { HaveSets cover.nodes.now cover.kept.now cover.sets.now }
-    requires parts { (i : ℕ) → i < length offsets.now → i < length children.now →
-        IsPartAt cover.nodes.now cover.kept.now node (length bytes.old) (at + get_or offsets.now i 0)
-        (get_or children.now i 0) }
+    requires parts { (i : ℕ) → i < length offsets.now →
+        i < length children.now → IsPartAt cover.nodes.now cover.kept.now node (length bytes.old)
+        (at + get_or offsets.now i 0) (get_or children.now i 0) }
     ensures long { length bytes.new ≡ length bytes.old }
     ensures put { (b : List ℕ) → AreBytes b →
         let parts = parts_at offsets.now (all_at cover.entry.nodes.now children.now) in
@@ -389,8 +392,10 @@ fn put_arm(
     requires kept { All (λ v. IsKept cover.kept.now v.1) told.arms.now }
     requires listed { have_lists (types_in cover.nodes.now) (map (λ v. v.1) told.arms.now) ≡ true }
     requires width { size_of (placed_at cover.nodes.now told.tag) ≤ 16 }
-    requires inside { at + (told.offset + size_of (placed_at cover.nodes.now told.tag)) ≤ length bytes.old }
-    requires fits { All (λ v. at + size_of (placed_at cover.nodes.now v.1) ≤ length bytes.old) told.arms.now }
+    requires inside { at + (told.offset + size_of (placed_at cover.nodes.now told.tag))
+        ≤ length bytes.old }
+    requires fits { All (λ v. at + size_of (placed_at cover.nodes.now v.1) ≤ length bytes.old)
+        told.arms.now }
     ensures long { length bytes.new ≡ length bytes.old }
     ensures put { (b : List ℕ) → AreBytes b →
         All (λ v. size_of (placed_at cover.entry.nodes.now v.1) ≤ length b) told.entry.arms.now →
@@ -413,11 +418,14 @@ fn put_arm(
 
 /// The bytes of a value that covers the place, where it is a data place; `None` elsewhere.
 fn covering_bytes(alloc: Global, laid: &Laid, place: u64) -> Result<Option<Vec<u8>>, AllocError>
-    ensures some { IfOk result (λ found. IfSome found (λ bytes. is_data_place (placed_of laid.now) place ≡ true)) }
-    ensures none { IfOk result (λ found. found ≡ None → is_data_place (placed_of laid.now) place ≡ false) }
-    ensures long { IfOk result (λ found. IfSome found (λ bytes. length bytes.items ≡ size_of (placed_of laid.now))) }
-    ensures put { IfOk result (λ found. IfSome found (λ bytes. (old : List ℕ) × ((b : List ℕ) → AreBytes b →
-        let v = covering_value (placed_of laid.now) (Some place) in
+    ensures some { IfOk result (λ found. IfSome found (λ bytes.
+        is_data_place (placed_of laid.now) place ≡ true)) }
+    ensures none { IfOk result (λ found. found ≡ None →
+        is_data_place (placed_of laid.now) place ≡ false) }
+    ensures long { IfOk result (λ found. IfSome found (λ bytes.
+        length bytes.items ≡ size_of (placed_of laid.now))) }
+    ensures put { IfOk result (λ found. IfSome found (λ bytes. (old : List ℕ) × ((b : List ℕ) →
+        AreBytes b → let v = covering_value (placed_of laid.now) (Some place) in
         Holds (endian_of laid.now) (placed_of laid.now) b v →
         IsPutOver (is_covered (placed_of laid.now) v) 0 b old bytes.items))) }
 {
@@ -459,10 +467,12 @@ pub(crate) fn decider(
     laid: &Laid,
     place: u64,
 ) -> Result<Option<(Vec<u8>, Vec<u8>)>, AllocError>
-    ensures some { IfOk result (λ found. IfSome found (λ pair. is_data_place (placed_of laid.now) place ≡ true)) }
-    ensures none { IfOk result (λ found. found ≡ None → is_data_place (placed_of laid.now) place ≡ false) }
-    ensures decides { IfOk result (λ found. IfSome found (λ pair. (dl : TargetDataLayout) (tree : Tree) →
-        KeepsPlaces dl tree laid.now →
+    ensures some { IfOk result (λ found. IfSome found (λ pair.
+        is_data_place (placed_of laid.now) place ≡ true)) }
+    ensures none { IfOk result (λ found. found ≡ None →
+        is_data_place (placed_of laid.now) place ≡ false) }
+    ensures decides { IfOk result (λ found.
+        IfSome found (λ pair. (dl : TargetDataLayout) (tree : Tree) → KeepsPlaces dl tree laid.now →
         Decide (endian_of laid.now) (placed_of laid.now) place pair.0.items pair.1.items)) }
 {
     match covering_bytes(alloc, laid, place)? {

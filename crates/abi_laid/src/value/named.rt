@@ -27,7 +27,8 @@ pub(crate) fn encoding_of(layout: &LayoutData<FieldIdx, VariantIdx>) -> TagEncod
 pub(crate) fn own_parts(nodes: &Nodes, variant: usize) -> (&[Size], &[usize])
     requires there { variant < length nodes.now }
     requires well { are_nodes 0 nodes.now ≡ true }
-    ensures parts { own_fields (placed_at nodes.now variant) ≡ parts_at result.0.now (all_at nodes.now result.1.now) }
+    ensures parts { own_fields (placed_at nodes.now variant)
+        ≡ parts_at result.0.now (all_at nodes.now result.1.now) }
     ensures before { All (λ child. child < variant) result.1.now }
 {
     let here = read_one(nodes, variant);

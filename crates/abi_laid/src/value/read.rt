@@ -62,8 +62,8 @@ fn scalar_number(scalar: &Scalar, order: Endian, bytes: &[u8]) -> Option<u128>
 /// The number that these bytes hold as those of a node, where it is a scalar.
 fn read_number(walk: Walk<'_>, node: usize, bytes: &[u8]) -> Option<u128>
     requires there { node < length walk.nodes.now }
-    ensures { FindsNumber (λ n. Holds walk.entry.order (placed_at walk.entry.nodes.now node) bytes.now
-        (number n)) result }
+    ensures { FindsNumber (λ n.
+        Holds walk.entry.order (placed_at walk.entry.nodes.now node) bytes.now (number n)) result }
 {
     let nodes = walk.nodes;
     let here = read_one(nodes, node);
@@ -80,7 +80,8 @@ fn read_number(walk: Walk<'_>, node: usize, bytes: &[u8]) -> Option<u128>
 fn read_number_at(walk: Walk<'_>, node: usize, offset: u64, bytes: &[u8]) -> Option<u128>
     requires there { node < length walk.nodes.now }
     ensures { FindsNumber (λ n. IsAt offset (size_of (placed_at walk.entry.nodes.now node))
-        (λ slice. Holds walk.entry.order (placed_at walk.entry.nodes.now node) slice (number n)) bytes.now) result }
+        (λ slice. Holds walk.entry.order (placed_at walk.entry.nodes.now node) slice (number n))
+        bytes.now) result }
 {
     let part = part_of(bytes, offset, read_layout(walk.nodes, node).size.bytes())?;
     read_number(walk, node, part)
@@ -97,7 +98,8 @@ fn read_pair(
     requires first { first < length walk.nodes.now }
     requires second { second < length walk.nodes.now }
     ensures { Finds (HoldsTwo walk.entry.order
-        (parts_at offsets.now (all_at walk.entry.nodes.now (first ∷ second ∷ []))) bytes.now) result }
+        (parts_at offsets.now (all_at walk.entry.nodes.now (first ∷ second ∷ []))) bytes.now)
+        result }
 {
     match offsets {
         [a, b, ..] => {
@@ -113,7 +115,8 @@ fn read_pair(
 fn read_places(alloc: Global, runs: &[(u64, u64)], bytes: &[u8]) -> Result<Vec<u8>, AllocError>
     requires maximal { AreMaximalRuns 0 runs.now }
     requires inside { All (λ run. run.0 + run.1 ≤ length bytes.now) runs.now }
-    ensures { IfOk result (λ content. content.items ≡ picked_bytes (is_in_ranges runs.now) 0 bytes.now) }
+    ensures { IfOk result (λ content.
+        content.items ≡ picked_bytes (is_in_ranges runs.now) 0 bytes.now) }
 {
     let mut content = Vec::new(alloc);
     for run in runs {
@@ -130,8 +133,8 @@ fn read_union(walk: Walk<'_>, node: usize, bytes: &[u8]) -> Result<Vec<u8>, Allo
     requires there { node < length walk.nodes.now }
     requires room { has_room (placed_at walk.nodes.now node) ≡ true }
     requires size { length bytes.now ≡ size_of (placed_at walk.nodes.now node) }
-    ensures { IfOk result (λ content.
-        content.items ≡ picked_bytes (is_data_place (placed_at walk.entry.nodes.now node)) 0 bytes.now) }
+    ensures { IfOk result (λ content. content.items
+        ≡ picked_bytes (is_data_place (placed_at walk.entry.nodes.now node)) 0 bytes.now) }
 {
     let places = data_places(walk.alloc, Counted::new(walk.nodes), node)?;
     read_places(walk.alloc, places.as_slice(), bytes)
@@ -204,7 +207,8 @@ pub(crate) fn read_node(
 ) -> Result<Option<Value>, AllocError>
     requires there { node < length walk.nodes.now }
     requires room { has_room (placed_at walk.nodes.now node) ≡ true }
-    ensures { IfOk result (Finds (Holds walk.entry.order (placed_at walk.entry.nodes.now node) bytes.now)) }
+    ensures { IfOk result (Finds (Holds walk.entry.order
+        (placed_at walk.entry.nodes.now node) bytes.now)) }
 {
     let nodes = walk.nodes;
     let here = read_one(nodes, node);
@@ -259,7 +263,8 @@ fn read_part(
     requires there { node < length walk.nodes.now }
     requires room { has_room (placed_at walk.nodes.now node) ≡ true }
     ensures { IfOk result (Finds (λ v. IsAt offset (size_of (placed_at walk.entry.nodes.now node))
-        (λ slice. Holds walk.entry.order (placed_at walk.entry.nodes.now node) slice v) bytes.now)) }
+        (λ slice. Holds walk.entry.order (placed_at walk.entry.nodes.now node) slice v)
+        bytes.now)) }
 {
     match part_of(bytes, offset, read_layout(walk.nodes, node).size.bytes()) {
         Some(part) => read_node(walk, node, part),
@@ -304,7 +309,8 @@ fn read_parts(
 ) -> Result<Option<Vec<Value>>, AllocError>
     requires there { node < length walk.nodes.now }
     requires before { All (λ child. child < node) children.now }
-    requires room { have_room (length bytes.now) (parts_at offsets.now (all_at walk.nodes.now children.now)) ≡ true }
+    requires room { have_room (length bytes.now)
+        (parts_at offsets.now (all_at walk.nodes.now children.now)) ≡ true }
     ensures { IfOk result (FindsEach (HoldParts walk.entry.order
         (parts_at offsets.now (all_at walk.entry.nodes.now children.now)) bytes.now)) }
 {
@@ -334,9 +340,10 @@ fn read_named(
     requires first { tag < node }
     requires before { All (λ v. v.1 < node) variants.now }
     requires width { size_of (placed_at walk.nodes.now tag) ≤ 16 }
-    requires room { arms_have_room (length bytes.now) (arms_in (types_in walk.nodes.now) variants.now) ≡ true }
-    ensures { IfOk result (FindsNamed
-        (IsNamedIn walk.entry.order bytes.now encoding.now offset (placed_at walk.entry.nodes.now tag)
+    requires room { arms_have_room (length bytes.now)
+        (arms_in (types_in walk.nodes.now) variants.now) ≡ true }
+    ensures { IfOk result (FindsNamed (IsNamedIn walk.entry.order bytes.now encoding.now offset
+        (placed_at walk.entry.nodes.now tag)
         (arms_in (types_in walk.entry.nodes.now) variants.now))) }
 {
     let width = read_layout(walk.nodes, tag).size;
@@ -363,10 +370,11 @@ fn read_arm(
     requires there { node < length walk.nodes.now }
     requires before { All (λ v. v.1 < node) variants.now }
     requires width { width ≤ 16 }
-    requires room { arms_have_room (length bytes.now) (arms_in (types_in walk.nodes.now) variants.now) ≡ true }
-    ensures { IfOk result (FindsNamed (λ i vs.
-        Names encoding.now width (arms_in (types_in walk.entry.nodes.now) variants.now) tag i
-        × HoldArm walk.entry.order (arms_in (types_in walk.entry.nodes.now) variants.now) i bytes.now vs)) }
+    requires room { arms_have_room (length bytes.now)
+        (arms_in (types_in walk.nodes.now) variants.now) ≡ true }
+    ensures { IfOk result (FindsNamed (λ i vs. Names encoding.now width
+        (arms_in (types_in walk.entry.nodes.now) variants.now) tag i × HoldArm walk.entry.order
+        (arms_in (types_in walk.entry.nodes.now) variants.now) i bytes.now vs)) }
 {
     for i in 0..variants.len() {
         if is_named(walk.nodes, encoding, width, variants, i, tag) {
@@ -382,7 +390,8 @@ fn read_arm(
 #[cycle(read)]
 fn read_own(walk: Walk<'_>, variant: usize, bytes: &[u8]) -> Result<Option<Vec<Value>>, AllocError>
     requires there { variant < length walk.nodes.now }
-    requires room { have_room (length bytes.now) (own_fields (placed_at walk.nodes.now variant)) ≡ true }
+    requires room { have_room (length bytes.now)
+        (own_fields (placed_at walk.nodes.now variant)) ≡ true }
     ensures { IfOk result (FindsEach (HoldParts walk.entry.order
         (own_fields (placed_at walk.entry.nodes.now variant)) bytes.now)) }
 {
@@ -405,7 +414,8 @@ fn read_variant(
     requires before { All (λ v. v.1 < node) variants.now }
     requires width { size_of (placed_at walk.nodes.now tag) ≤ 16 }
     requires size { length bytes.now ≡ layout.now.size }
-    requires room { arms_have_room layout.now.size (arms_in (types_in walk.nodes.now) variants.now) ≡ true }
+    requires room { arms_have_room layout.now.size
+        (arms_in (types_in walk.nodes.now) variants.now) ≡ true }
     ensures { IfOk result (λ found. (mark : Mark) →
         Finds (Holds walk.entry.order (tagged layout.now mark (tag_offset layout.now)
         (placed_at walk.entry.nodes.now tag) (encoding_of layout.now.variants)
@@ -434,9 +444,10 @@ fn read_state(
     requires before { All (λ v. v.1 < node) states.now }
     requires width { size_of (placed_at walk.nodes.now tag) ≤ 16 }
     requires size { length bytes.now ≡ layout.now.size }
-    requires room { has_room (states_in (types_in walk.nodes.now) layout.now prefix.now tag states.now) ≡ true }
-    ensures { IfOk result (Finds (Holds walk.entry.order
-        (states_in (types_in walk.entry.nodes.now) layout.now prefix.now tag states.now) bytes.now)) }
+    requires room { has_room
+        (states_in (types_in walk.nodes.now) layout.now prefix.now tag states.now) ≡ true }
+    ensures { IfOk result (Finds (Holds walk.entry.order (states_in (types_in walk.entry.nodes.now)
+        layout.now prefix.now tag states.now) bytes.now)) }
 {
     let offset = state_tag_offset(layout, prefix.len());
     let shared = match read_parts(walk, node, offsets(layout), prefix, bytes)? {
@@ -458,15 +469,16 @@ fn read_state(
 /// as many as the type is large. `AllocError` where a growth of memory was refused.
 pub fn read_value(alloc: Global, laid: &Laid, bytes: &[u8]) -> Result<Option<Value>, AllocError>
     // What is answered: the value that they hold, and None where they hold none.
-    ensures finds { IfOk result (Finds (Holds (endian_of laid.now) (placed_of laid.now) bytes.now)) }
+    ensures finds { IfOk result (Finds (Holds (endian_of laid.now)
+        (placed_of laid.now) bytes.now)) }
 
     // For each tree whose values the layout keeps, it is one of them, and the only one that they hold.
     ensures value { IfOk result (λ found.
         IfSome found (λ v. (dl : TargetDataLayout) (tree : Tree) → KeepsValues dl tree laid.now →
         IsValueOf dl tree (placed_of laid.now) (value_of v))) }
-    ensures one { IfOk result (λ found.
-        IfSome found (λ v. (dl : TargetDataLayout) (tree : Tree) → KeepsValues dl tree laid.now →
-        (other : Meant) → Holds (endian_of laid.now) (placed_of laid.now) bytes.now other → other ≡ value_of v)) }
+    ensures one { IfOk result (λ found. IfSome found (λ v. (dl : TargetDataLayout) (tree : Tree) →
+        KeepsValues dl tree laid.now → (other : Meant) →
+        Holds (endian_of laid.now) (placed_of laid.now) bytes.now other → other ≡ value_of v)) }
 {
     let nodes = laid.nodes();
     let walk = Walk {

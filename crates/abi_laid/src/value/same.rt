@@ -49,7 +49,8 @@ pub(crate) fn is_same(a: &Value, b: &Value) -> bool
 /// Whether both lists have the same values.
 #[cycle(same)]
 fn are_same(xs: &[Value], ys: &[Value]) -> bool
-    ensures { MatchBool result (values_of xs.now ≡ values_of ys.now) (values_of xs.now ≢ values_of ys.now) }
+    ensures { MatchBool result (values_of xs.now ≡ values_of ys.now)
+        (values_of xs.now ≢ values_of ys.now) }
 {
     if xs.len() != ys.len() {
         return false;

@@ -42,7 +42,8 @@ use std::alloc::{AllocError, Global};
 fn byte_at(order: Endian, number: u128, width: usize, i: usize) -> u8
     requires width { width ≤ 16 }
     requires index { i < width }
-    ensures { (b : List ℕ) → AreBytes b → length b ≡ width → number ≡ number_of order b → result ≡ get_or b i 0 }
+    ensures { (b : List ℕ) → AreBytes b → length b ≡ width →
+        number ≡ number_of order b → result ≡ get_or b i 0 }
 {
     let place = match order {
         Endian::Little => i,
@@ -70,7 +71,8 @@ fn put_places(runs: &[(u64, u64)], content: &[u8], at: usize, size: usize, bytes
     requires inside { All (λ run. run.0 + run.1 ≤ size) runs.now }
     requires fits { at + size ≤ length bytes.old }
     ensures long { length bytes.new ≡ length bytes.old }
-    ensures put { (b : List ℕ) → length b ≡ size → content.now ≡ picked_bytes (is_in_ranges runs.now) 0 b →
+    ensures put { (b : List ℕ) →
+        length b ≡ size → content.now ≡ picked_bytes (is_in_ranges runs.now) 0 b →
         IsPutOver (is_in_ranges runs.now) at b bytes.old bytes.new }
 {
     let mut next = 0;
@@ -147,8 +149,8 @@ fn tag_number(
 ) -> u128
     requires width { width ≤ 16 }
     requires index { i < length variants.now }
-    ensures { (done : List Placed) (tag : ℕ) → Names encoding.now width (arms_in done variants.now) tag i →
-        is_told encoding.now i ≡ true → result ≡ tag }
+    ensures { (done : List Placed) (tag : ℕ) → Names encoding.now width
+        (arms_in done variants.now) tag i → is_told encoding.now i ≡ true → result ≡ tag }
 {
     match encoding {
         TagEncoding::Direct => width.truncate(variants[i].0),
@@ -193,11 +195,10 @@ pub(crate) fn write_tag(
     requires index { i < length told.arms.now }
     requires fits { at + (told.offset + width) ≤ length bytes.old }
     ensures long { length bytes.new ≡ length bytes.old }
-    ensures put { (b : List ℕ) (done : List Placed) → AreBytes b → told.entry.offset + width ≤ length b →
-        Names told.entry.encoding.now width (arms_in done told.entry.arms.now)
-        (tag_at order b told.entry.offset width) i →
-        IsPutOver (λ k. is_told told.entry.encoding.now i && is_byte_at told.entry.offset width k) at b
-        bytes.old bytes.new }
+    ensures put { (b : List ℕ) (done : List Placed) → AreBytes b → told.entry.offset + width
+        ≤ length b → Names told.entry.encoding.now width (arms_in done told.entry.arms.now)
+        (tag_at order b told.entry.offset width) i → IsPutOver (λ k. is_told told.entry.encoding.now
+        i && is_byte_at told.entry.offset width k) at b bytes.old bytes.new }
 {
     if is_told(told.encoding, i) {
         let number = tag_number(told.encoding, width, told.arms, i);
@@ -223,7 +224,8 @@ fn write_union(
     requires room { has_room (placed_at walk.nodes.now node) ≡ true }
     requires fits { at + size_of (placed_at walk.nodes.now node) ≤ length bytes.old }
     ensures long { length bytes.new ≡ length bytes.old }
-    ensures put { OnOk result ((b : List ℕ) → length b ≡ size_of (placed_at walk.entry.nodes.now node) →
+    ensures put { OnOk result ((b : List ℕ) →
+        length b ≡ size_of (placed_at walk.entry.nodes.now node) →
         content.now ≡ picked_bytes (is_data_place (placed_at walk.entry.nodes.now node)) 0 b →
         IsPutOver (is_data_place (placed_at walk.entry.nodes.now node)) at b bytes.old bytes.new) }
 {
@@ -249,7 +251,8 @@ pub(crate) fn write_node(
     ensures long { length bytes.new ≡ length bytes.old }
     ensures put { OnOk result ((b : List ℕ) → AreBytes b →
         Holds walk.entry.order (placed_at walk.entry.nodes.now node) b (value_of value.now) →
-        IsPutOver (is_covered (placed_at walk.entry.nodes.now node) (value_of value.now)) at b bytes.old bytes.new) }
+        IsPutOver (is_covered (placed_at walk.entry.nodes.now node) (value_of value.now))
+        at b bytes.old bytes.new) }
 {
     let nodes = walk.nodes;
     let here = read_one(nodes, node);
@@ -329,7 +332,8 @@ fn write_parts(
 ) -> Result<(), AllocError>
     requires there { node < length walk.nodes.now }
     requires before { All (λ child. child < node) parts.1.now }
-    requires room { have_room size (parts_at parts.0.now (all_at walk.nodes.now parts.1.now)) ≡ true }
+    requires room { have_room size
+        (parts_at parts.0.now (all_at walk.nodes.now parts.1.now)) ≡ true }
     requires fits { at + size ≤ length bytes.old }
     ensures long { length bytes.new ≡ length bytes.old }
     ensures put { OnOk result ((b : List ℕ) → AreBytes b →
@@ -362,8 +366,8 @@ fn write_fields(
         (parts_at (listed_offsets layout.now.fields) (all_at walk.nodes.now children.now)) ≡ true }
     requires fits { at + layout.now.size ≤ length bytes.old }
     ensures long { length bytes.new ≡ length bytes.old }
-    ensures put { OnOk result ((b : List ℕ) → AreBytes b →
-        let parts = parts_at (listed_offsets layout.now.fields) (all_at walk.entry.nodes.now children.now) in
+    ensures put { OnOk result ((b : List ℕ) → AreBytes b → let parts = parts_at
+        (listed_offsets layout.now.fields) (all_at walk.entry.nodes.now children.now) in
         HoldParts walk.entry.order parts b (values_of values.now) →
         IsPutOver (are_covered parts (values_of values.now)) at b bytes.old bytes.new) }
 {
@@ -387,8 +391,10 @@ fn write_variant(
     requires first { beside.tag < node }
     requires before { All (λ v. v.1 < node) beside.arms.now }
     requires width { size_of (placed_at walk.nodes.now beside.tag) ≤ 16 }
-    requires inside { tag_offset layout.now + size_of (placed_at walk.nodes.now beside.tag) ≤ layout.now.size }
-    requires room { arms_have_room layout.now.size (arms_in (types_in walk.nodes.now) beside.arms.now) ≡ true }
+    requires inside { tag_offset layout.now + size_of (placed_at walk.nodes.now beside.tag)
+        ≤ layout.now.size }
+    requires room { arms_have_room layout.now.size
+        (arms_in (types_in walk.nodes.now) beside.arms.now) ≡ true }
     requires fits { at + layout.now.size ≤ length bytes.old }
     ensures long { length bytes.new ≡ length bytes.old }
     ensures put { OnOk result ((b : List ℕ) → AreBytes b → (mark : Mark) →
@@ -426,14 +432,13 @@ fn write_state(
     requires first { beside.tag < node }
     requires before { All (λ v. v.1 < node) beside.arms.now }
     requires width { size_of (placed_at walk.nodes.now beside.tag) ≤ 16 }
-    requires room { has_room
-        (states_in (types_in walk.nodes.now) layout.now beside.prefix.now beside.tag beside.arms.now) ≡ true }
+    requires room { has_room (states_in (types_in walk.nodes.now) layout.now beside.prefix.now
+        beside.tag beside.arms.now) ≡ true }
     requires fits { at + layout.now.size ≤ length bytes.old }
     ensures long { length bytes.new ≡ length bytes.old }
-    ensures put { OnOk result ((b : List ℕ) → AreBytes b →
-        let p = states_in (types_in walk.entry.nodes.now) layout.now beside.entry.prefix.now beside.entry.tag
-        beside.entry.arms.now in
-        Holds walk.entry.order p b (value_of value.now) →
+    ensures put { OnOk result ((b : List ℕ) → AreBytes b → let p = states_in
+        (types_in walk.entry.nodes.now) layout.now beside.entry.prefix.now beside.entry.tag
+        beside.entry.arms.now in Holds walk.entry.order p b (value_of value.now) →
         IsPutOver (is_covered p (value_of value.now)) at b bytes.old bytes.new) }
 {
     let direct = TagEncoding::Direct;
@@ -465,7 +470,8 @@ fn write_arm(
     requires before { All (λ v. v.1 < node) told.arms.now }
     requires width { size_of (placed_at walk.nodes.now told.tag) ≤ 16 }
     requires inside { told.offset + size_of (placed_at walk.nodes.now told.tag) ≤ told.size }
-    requires room { arms_have_room told.size (arms_in (types_in walk.nodes.now) told.arms.now) ≡ true }
+    requires room { arms_have_room told.size
+        (arms_in (types_in walk.nodes.now) told.arms.now) ≡ true }
     requires fits { at + told.size ≤ length bytes.old }
     ensures long { length bytes.new ≡ length bytes.old }
     ensures put { OnOk result ((b : List ℕ) → AreBytes b →
@@ -497,10 +503,10 @@ fn write_own(
     requires room { have_room size (own_fields (placed_at walk.nodes.now variant)) ≡ true }
     requires fits { at + size ≤ length bytes.old }
     ensures long { length bytes.new ≡ length bytes.old }
-    ensures put { OnOk result ((b : List ℕ) → AreBytes b →
-        HoldParts walk.entry.order (own_fields (placed_at walk.entry.nodes.now variant)) b (values_of values.now) →
-        IsPutOver (are_covered (own_fields (placed_at walk.entry.nodes.now variant)) (values_of values.now)) at b
-        bytes.old bytes.new) }
+    ensures put { OnOk result ((b : List ℕ) → AreBytes b → HoldParts walk.entry.order
+        (own_fields (placed_at walk.entry.nodes.now variant)) b (values_of values.now) →
+        IsPutOver (are_covered (own_fields (placed_at walk.entry.nodes.now variant))
+        (values_of values.now)) at b bytes.old bytes.new) }
 {
     let parts = own_parts(walk.nodes, variant);
     write_parts(walk, variant, parts, values, at, size, bytes)
@@ -534,14 +540,15 @@ pub fn write_value(alloc: Global, laid: &Laid, value: &Value) -> Result<Vec<u8>,
     // What is answered.
     ensures holds { IfOk result (λ bytes.
         Holds (endian_of laid.now) (placed_of laid.now) bytes.items (value_of value.now)) }
-    ensures zero { IfOk result (λ bytes. (k : ℕ) → is_covered (placed_of laid.now) (value_of value.now) k ≡ false →
-        get_or bytes.items k 0 ≡ 0) }
+    ensures zero { IfOk result (λ bytes. (k : ℕ) → is_covered (placed_of laid.now)
+        (value_of value.now) k ≡ false → get_or bytes.items k 0 ≡ 0) }
 
     // When, for each tree whose values the layout keeps.
-    ensures value { IfOk result (λ _. (dl : TargetDataLayout) (tree : Tree) → KeepsValues dl tree laid.now →
-        IsValueOf dl tree (placed_of laid.now) (value_of value.now)) }
-    ensures not_a_value { IfErr result (λ e. e ≡ ValueError.NotAValue → (dl : TargetDataLayout) (tree : Tree) →
+    ensures value { IfOk result (λ _. (dl : TargetDataLayout) (tree : Tree) →
         KeepsValues dl tree laid.now →
+        IsValueOf dl tree (placed_of laid.now) (value_of value.now)) }
+    ensures not_a_value { IfErr result (λ e. e ≡ ValueError.NotAValue →
+        (dl : TargetDataLayout) (tree : Tree) → KeepsValues dl tree laid.now →
         IsValueOf dl tree (placed_of laid.now) (value_of value.now) → ⊥) }
 {
     let nodes = laid.nodes();

@@ -164,7 +164,8 @@ pub(crate) fn waiting(want: Want, begun: Vec<Open>) -> Reader
 
 /// Waits for something within these types, and within one type more.
 pub(crate) fn waiting_in(want: Want, top: Open, begun: Vec<Open>) -> Result<Reader, Fault>
-    ensures ok { IfOk result (λ reader. state_of reader ≡ waiting want (begun_by top ∷ begun_in begun.items)) }
+    ensures ok { IfOk result (λ reader.
+        state_of reader ≡ waiting want (begun_by top ∷ begun_in begun.items)) }
     ensures err { IfErr result (λ fault. fault ≡ Fault.OutOfMemory) }
 {
     let mut begun = begun;
@@ -178,8 +179,8 @@ pub(crate) fn waiting_for(
     parts: CoroutineParts,
     begun: Vec<Open>,
 ) -> Result<Reader, Fault>
-    ensures ok { IfOk result (λ reader.
-        state_of reader ≡ waiting (Want.Coroutine part) (coroutine_with (parts_by parts) ∷ begun_in begun.items)) }
+    ensures ok { IfOk result (λ reader. state_of reader
+        ≡ waiting (Want.Coroutine part) (coroutine_with (parts_by parts) ∷ begun_in begun.items)) }
     ensures err { IfErr result (λ fault. fault ≡ Fault.OutOfMemory) }
 {
     waiting_in(Want::Coroutine(part), Open::Coroutine(parts), begun)
@@ -248,7 +249,8 @@ fn with_member(tree: TypeTree, top: Open) -> Result<Open, Fault>
 
 /// Puts a complete type into the innermost type that is begun.
 pub(crate) fn put(alloc: Global, tree: TypeTree, begun: Vec<Open>) -> Result<Reader, Fault>
-    ensures ok { IfOk result (λ reader. state_of reader ≡ put (tree_of tree) (begun_in begun.items)) }
+    ensures ok { IfOk result (λ reader.
+        state_of reader ≡ put (tree_of tree) (begun_in begun.items)) }
     ensures err { IfErr result (λ fault. fault ≡ Fault.OutOfMemory) }
 {
     let mut tree = tree;
@@ -274,7 +276,8 @@ pub(crate) fn put_scalar(
     place: ScalarPlace,
     begun: Vec<Open>,
 ) -> Result<Reader, Fault>
-    ensures ok { IfOk result (λ reader. state_of reader ≡ put_scalar scalar place (begun_in begun.items)) }
+    ensures ok { IfOk result (λ reader.
+        state_of reader ≡ put_scalar scalar place (begun_in begun.items)) }
     ensures err { IfErr result (λ fault. fault ≡ Fault.OutOfMemory) }
 {
     match place {

@@ -41,8 +41,8 @@ fn whole_coroutine(
     states: Vec<Vec<u64>>,
     conflicts: Vec<(u64, u64)>,
 ) -> TypeTree
-    ensures { tree_of result ≡ coroutine (trees (map tree_of prefix.items)) (trees (map tree_of locals.items))
-        (map indices_by states.items) conflicts.items }
+    ensures { tree_of result ≡ coroutine (trees (map tree_of prefix.items))
+        (trees (map tree_of locals.items)) (map indices_by states.items) conflicts.items }
 {
     TypeTree::Coroutine {
         prefix,
@@ -54,7 +54,8 @@ fn whole_coroutine(
 
 /// Ends a part of a coroutine; the conflicts are the last, and end the coroutine.
 fn close_part(alloc: Global, parts: CoroutineParts, begun: Vec<Open>) -> Result<Reader, Fault>
-    ensures ok { IfOk result (λ reader. state_of reader ≡ part_closed (parts_by parts) (begun_in begun.items)) }
+    ensures ok { IfOk result (λ reader.
+        state_of reader ≡ part_closed (parts_by parts) (begun_in begun.items)) }
     ensures err { IfErr result (λ fault. fault ≡ Fault.OutOfMemory) }
 {
     match parts {

@@ -72,7 +72,8 @@ fn read_state(alloc: Global, number: u64, begun: Vec<Open>, word: &[u8]) -> Resu
 
 /// Reads the index of a state's next local, or the parenthesis that ends the state.
 fn read_local(alloc: Global, number: u64, begun: Vec<Open>, word: &[u8]) -> Result<Reader, Fault>
-    ensures { Agrees state_of (at_local number (bytes_eq word.now (codes ")")) (begun_in begun.items)
+    ensures { Agrees state_of
+        (at_local number (bytes_eq word.now (codes ")")) (begun_in begun.items)
         (number_of_bits 64 word.now)) result }
 {
     if word == b")".as_slice() {
@@ -108,7 +109,8 @@ fn read_row(alloc: Global, number: u64, begun: Vec<Open>, word: &[u8]) -> Result
 
 /// Reads the column of a conflict with this row.
 fn read_column(number: u64, row: u64, begun: Vec<Open>, word: &[u8]) -> Result<Reader, Fault>
-    ensures { Agrees state_of (at_column number row (begun_in begun.items) (number_of_bits 64 word.now)) result }
+    ensures { Agrees state_of
+        (at_column number row (begun_in begun.items) (number_of_bits 64 word.now)) result }
 {
     let mut begun = begun;
     match (begun.pop(), decimal(word)) {
@@ -132,7 +134,8 @@ pub(crate) fn read_coroutine_word(
     begun: Vec<Open>,
     word: &[u8],
 ) -> Result<Reader, Fault>
-    ensures { Agrees state_of (next_in_coroutine number (begun_in begun.items) word.now want) result }
+    ensures { Agrees state_of
+        (next_in_coroutine number (begun_in begun.items) word.now want) result }
 {
     match want {
         CoroutineWant::TypesOpening => read_part_opening(number, Want::Tree, begun, word),

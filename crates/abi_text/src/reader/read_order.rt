@@ -15,7 +15,8 @@ use std::alloc::Global;
 
 /// Reads the repr.
 fn read_order_repr(number: u64, begun: Vec<Open>, word: &[u8]) -> Result<Reader, Fault>
-    ensures { Agrees state_of (at_order_repr number (begun_in begun.items) (struct_repr word.now)) result }
+    ensures { Agrees state_of
+        (at_order_repr number (begun_in begun.items) (struct_repr word.now)) result }
 {
     match struct_repr(word) {
         Some(asked) => Ok(waiting(Want::Order(OrderWant::Opening(asked)), begun)),
@@ -44,7 +45,8 @@ fn read_order_opening(
 
 /// Reads the order's next index, or the parenthesis that ends the order.
 fn read_index(alloc: Global, number: u64, begun: Vec<Open>, word: &[u8]) -> Result<Reader, Fault>
-    ensures { Agrees state_of (at_index number (bytes_eq word.now (codes ")")) (begun_in begun.items)
+    ensures { Agrees state_of
+        (at_index number (bytes_eq word.now (codes ")")) (begun_in begun.items)
         (number_of_bits 64 word.now)) result }
 {
     if word == b")".as_slice() {
@@ -68,7 +70,8 @@ fn read_fields_opening(
     begun: Vec<Open>,
     word: &[u8],
 ) -> Result<Reader, Fault>
-    ensures { Agrees state_of (at_fields_opening number (begun_in begun.items) (bytes_eq word.now (codes "("))) result }
+    ensures { Agrees state_of
+        (at_fields_opening number (begun_in begun.items) (bytes_eq word.now (codes "("))) result }
 {
     let mut begun = begun;
     match (begun.pop(), word == b"(".as_slice()) {

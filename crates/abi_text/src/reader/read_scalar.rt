@@ -25,7 +25,8 @@ pub(crate) fn begin_scalar(
     begun: Vec<Open>,
     word: ScalarWord,
 ) -> Result<Reader, Fault>
-    ensures ok { IfOk result (λ reader. state_of reader ≡ begin_scalar dl.now form place (begun_in begun.items) word) }
+    ensures ok { IfOk result (λ reader.
+        state_of reader ≡ begin_scalar dl.now form place (begun_in begun.items) word) }
     ensures err { IfErr result (λ fault. fault ≡ Fault.OutOfMemory) }
 {
     match word {
@@ -78,7 +79,8 @@ pub(crate) fn read_scalar(
     begun: Vec<Open>,
     word: &[u8],
 ) -> Result<Reader, Fault>
-    ensures { Agrees state_of (at_scalar dl.now number place (begun_in begun.items) (scalar_word word.now)) result }
+    ensures { Agrees state_of
+        (at_scalar dl.now number place (begun_in begun.items) (scalar_word word.now)) result }
 {
     match scalar_word(word) {
         Some(scalar) => begin_scalar(alloc, dl, ScalarForm::Full, place, begun, scalar),
@@ -139,7 +141,8 @@ pub(crate) fn read_start(
     begun: Vec<Open>,
     word: &[u8],
 ) -> Result<Reader, Fault>
-    ensures { Agrees state_of (at_start number value place (begun_in begun.items) (number_of_bits 128 word.now)) result }
+    ensures { Agrees state_of
+        (at_start number value place (begun_in begun.items) (number_of_bits 128 word.now)) result }
 {
     match wide(word) {
         Some(start) => Ok(waiting(Want::RangeEnd(value, start, place), begun)),
@@ -157,7 +160,8 @@ pub(crate) fn read_end(
     begun: Vec<Open>,
     word: &[u8],
 ) -> Result<Reader, Fault>
-    ensures { Agrees state_of (at_end number value start place (begun_in begun.items) (number_of_bits 128 word.now)) result }
+    ensures { Agrees state_of (at_end number value start place (begun_in begun.items)
+        (number_of_bits 128 word.now)) result }
 {
     match wide(word) {
         Some(end) => {

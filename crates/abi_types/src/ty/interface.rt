@@ -75,7 +75,8 @@ pub trait TyAbiInterface<'a, C>: Sized + Debug + Display {
         requires named { NamesVariant (layout_in (typed_of this)).variants variant_index }
         ensures valid { is_valid result }
         ensures variant { typed_of result ≡ at_variant (typed_of this.entry) variant_index }
-        ensures falls { DepthFalls (layout_in (typed_of this.entry)).variants (depth_of result) (depth_of this.entry) };
+        ensures falls { DepthFalls (layout_in (typed_of this.entry)).variants
+            (depth_of result) (depth_of this.entry) };
 
     /// The type of a field.
     fn ty_and_layout_field(this: TyAndLayout<'a, Self>, cx: &C, i: usize) -> TyAndLayout<'a, Self>
@@ -163,8 +164,8 @@ impl<'a, Ty> TyAndLayout<'a, Ty> {
         requires named { NamesVariant (layout_in (Ty.typed_of self)).variants variant_index }
         ensures valid { Ty.is_valid result }
         ensures variant { Ty.typed_of result ≡ at_variant (Ty.typed_of self.entry) variant_index }
-        ensures falls { DepthFalls (layout_in (Ty.typed_of self.entry)).variants (Ty.depth_of result)
-            (Ty.depth_of self.entry) }
+        ensures falls { DepthFalls (layout_in (Ty.typed_of self.entry)).variants
+            (Ty.depth_of result) (Ty.depth_of self.entry) }
     {
         Ty::ty_and_layout_for_variant(self, cx, variant_index)
     }

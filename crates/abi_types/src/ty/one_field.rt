@@ -39,7 +39,8 @@ impl NoBytes {
 #[tactic(auto, using(crate::proofs::OneFieldLemmas::one_field_steps))]
 pub(crate) fn only_field<W: Walk>(this: W, kind: NoBytes) -> Option<usize>
     requires { W.is_valid this }
-    ensures index { result ≡ only_field (has_no_bytes kind) (layout_in (W.typed_of this)) (field_in (W.typed_of this)) }
+    ensures index { result ≡ only_field (has_no_bytes kind) (layout_in (W.typed_of this))
+        (field_in (W.typed_of this)) }
     ensures within { IfSome result (λ i. i < field_count (layout_in (W.typed_of this)).fields) }
 {
     let fields = &this.layout().fields;
@@ -64,9 +65,10 @@ pub(crate) fn only_field<W: Walk>(this: W, kind: NoBytes) -> Option<usize>
 #[tactic(auto, using(crate::proofs::OneFieldLemmas::can_be_named))]
 fn only_field_of<W: Walk>(this: W, kind: NoBytes) -> Option<(FieldIdx, W)>
     requires { W.is_valid this }
-    ensures index { option_map (λ found. found.0) result ≡ only_field (has_no_bytes kind) (layout_in (W.typed_of this))
-        (field_in (W.typed_of this)) }
-    ensures field { IfSome result (λ found. W.typed_of found.1 ≡ field_in (W.typed_of this) found.0) }
+    ensures index { option_map (λ found. found.0) result ≡ only_field (has_no_bytes kind)
+        (layout_in (W.typed_of this)) (field_in (W.typed_of this)) }
+    ensures field { IfSome result (λ found.
+        W.typed_of found.1 ≡ field_in (W.typed_of this) found.0) }
     ensures valid { IfSome result (λ found. W.is_valid found.1) }
 {
     let i = only_field(this, kind)?;
@@ -80,8 +82,10 @@ impl<'a, Ty> TyAndLayout<'a, Ty> {
     where
         Ty: TyAbiInterface<'a, C> + Copy,
         requires { Ty.is_valid self.now }
-        ensures index { option_map (λ found. found.0) result ≡ non_1zst_field (Ty.typed_of self.now) }
-        ensures field { IfSome result (λ found. Ty.typed_of found.1 ≡ field_in (Ty.typed_of self.now) found.0) }
+        ensures index { option_map (λ found. found.0) result
+            ≡ non_1zst_field (Ty.typed_of self.now) }
+        ensures field { IfSome result (λ found.
+            Ty.typed_of found.1 ≡ field_in (Ty.typed_of self.now) found.0) }
         ensures valid { IfSome result (λ found. Ty.is_valid found.1) }
     {
         let at = At {
@@ -101,8 +105,10 @@ impl<'a, Ty> TyAndLayout<'a, Ty> {
     where
         Ty: TyAbiInterface<'a, C> + Copy,
         requires { Ty.is_valid self.now }
-        ensures index { option_map (λ found. found.0) result ≡ non_zst_field (Ty.typed_of self.now) }
-        ensures field { IfSome result (λ found. Ty.typed_of found.1 ≡ field_in (Ty.typed_of self.now) found.0) }
+        ensures index { option_map (λ found. found.0) result
+            ≡ non_zst_field (Ty.typed_of self.now) }
+        ensures field { IfSome result (λ found.
+            Ty.typed_of found.1 ≡ field_in (Ty.typed_of self.now) found.0) }
         ensures valid { IfSome result (λ found. Ty.is_valid found.1) }
     {
         let at = At {

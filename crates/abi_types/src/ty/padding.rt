@@ -29,8 +29,8 @@ fn padding<W: Walk>(alloc: Global, this: W) -> Result<RangeSet, AllocError>
 /// The bytes that some part covers, and no field that all variants have.
 fn beside_shared<W: Walk>(alloc: Global, this: W) -> Result<RangeSet, AllocError>
     requires { W.is_valid this }
-    ensures { IfOk result (λ set. (k : ℕ) →
-        is_in_ranges set k ≡ (is_place (W.typed_of this) k && not (is_shared_place (W.typed_of this) k))) }
+    ensures { IfOk result (λ set. (k : ℕ) → is_in_ranges set k
+        ≡ (is_place (W.typed_of this) k && not (is_shared_place (W.typed_of this) k))) }
 {
     // It is a number of 64 bits, which the walks ask for.
     let _size = this.layout().size.bytes();
@@ -52,7 +52,8 @@ fn unused_of<W: Walk>(
     requires variant { IsVariantOfSeveral (layout_in (W.typed_of this)).variants variant }
     requires beside { (k : ℕ) → is_in_ranges beside.now k ≡
         (is_place (W.typed_of this) k && not (is_shared_place (W.typed_of this) k)) }
-    ensures { IfOk result (λ set. (k : ℕ) → is_in_ranges set k ≡ is_unused (W.typed_of this) variant k) }
+    ensures { IfOk result (λ set. (k : ℕ) →
+        is_in_ranges set k ≡ is_unused (W.typed_of this) variant k) }
 {
     let _size = this.layout().size.bytes();
     let own = places_of(alloc, this.variant(variant))?;
@@ -63,7 +64,8 @@ fn unused_of<W: Walk>(
 fn unused<W: Walk>(alloc: Global, this: W, variant: VariantIdx) -> Result<RangeSet, AllocError>
     requires valid { W.is_valid this }
     requires variant { IsVariantIndex (layout_in (W.typed_of this)).variants variant }
-    ensures { IfOk result (λ set. (k : ℕ) → is_in_ranges set k ≡ is_unused (W.typed_of this) variant k) }
+    ensures { IfOk result (λ set. (k : ℕ) →
+        is_in_ranges set k ≡ is_unused (W.typed_of this) variant k) }
 {
     match &this.layout().variants {
         Variants::Multiple {
@@ -87,7 +89,8 @@ fn unused_of_each<W: Walk>(
     count: usize,
 ) -> Result<IndexVec<VariantIdx, RangeSet>, AllocError>
     requires valid { W.is_valid this }
-    requires several { (v : ℕ) → v < count → IsVariantOfSeveral (layout_in (W.typed_of this)).variants v }
+    requires several { (v : ℕ) → v < count →
+        IsVariantOfSeveral (layout_in (W.typed_of this)).variants v }
     requires few { count ≤ greatest_place + 1 }
     ensures { IfOk result (λ sets. AreUnusedOf (W.typed_of this) count sets) }
 {
@@ -130,7 +133,8 @@ impl<'a, Ty> TyAndLayout<'a, Ty> {
         Ty: TyAbiInterface<'a, C> + Copy,
         requires valid { Ty.is_valid self.now }
         requires sized { is_sized (layout_in (Ty.typed_of self.now)).backend_repr ≡ true }
-        ensures { IfOk result (λ set. (k : ℕ) → is_in_ranges set k ≡ is_padding (Ty.typed_of self.now) k) }
+        ensures { IfOk result (λ set. (k : ℕ) →
+            is_in_ranges set k ≡ is_padding (Ty.typed_of self.now) k) }
     {
         padding(
             alloc,
@@ -154,8 +158,10 @@ impl<'a, Ty> TyAndLayout<'a, Ty> {
     where
         Ty: TyAbiInterface<'a, C> + Copy,
         requires valid { Ty.is_valid self.now }
-        requires variant { IsVariantIndex (layout_in (Ty.typed_of self.now)).variants variant_index }
-        ensures { IfOk result (λ set. (k : ℕ) → is_in_ranges set k ≡ is_unused (Ty.typed_of self.now) variant_index k) }
+        requires variant { IsVariantIndex (layout_in (Ty.typed_of self.now)).variants
+            variant_index }
+        ensures { IfOk result (λ set. (k : ℕ) →
+            is_in_ranges set k ≡ is_unused (Ty.typed_of self.now) variant_index k) }
     {
         unused(
             alloc,

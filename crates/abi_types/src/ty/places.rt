@@ -46,7 +46,8 @@ pub(crate) fn put_fields<W: Walk>(
 ) -> Result<(), AllocError>
     requires valid { W.is_valid this }
     requires fits { offset + (layout_in (W.typed_of this)).size < 2 ^ 64 }
-    ensures { OnOk result (Adds all.old all.new (moved_to offset (is_shared_place (W.typed_of this)))) }
+    ensures { OnOk result (Adds all.old all.new (moved_to offset
+        (is_shared_place (W.typed_of this)))) }
 {
     match &this.layout().fields {
         FieldsShape::Primitive => all.add_range(offset, this.layout().size.bytes()),
@@ -77,7 +78,8 @@ fn put_listed<W: Walk>(
     requires valid { W.is_valid this }
     requires within { count ≤ field_count (layout_in (W.typed_of this)).fields }
     requires fits { offset + (layout_in (W.typed_of this)).size < 2 ^ 64 }
-    ensures { OnOk result (Adds all.old all.new (moved_to offset (first_cover (W.typed_of this) count))) }
+    ensures { OnOk result (Adds all.old all.new (moved_to offset
+        (first_cover (W.typed_of this) count))) }
 {
     for i in 0..count {
         let place = offset + this.layout().fields.offset(i).bytes();
@@ -100,7 +102,8 @@ fn put_elements<W: Walk>(
     requires valid { W.is_valid element }
     requires some { 0 < count }
     requires fits { offset + stride * (count - 1) + (layout_in (W.typed_of element)).size < 2 ^ 64 }
-    ensures { OnOk result (Adds all.old all.new (moved_to offset (elements_cover (W.typed_of element) stride count))) }
+    ensures { OnOk result (Adds all.old all.new (moved_to offset
+        (elements_cover (W.typed_of element) stride count))) }
 {
     let one = element_places(alloc, element)?;
     if stride == 0 {
@@ -115,8 +118,8 @@ fn put_elements<W: Walk>(
 fn element_places<W: Walk>(alloc: Global, element: W) -> Result<RangeSet, AllocError>
     requires valid { W.is_valid element }
     requires fits { (layout_in (W.typed_of element)).size < 2 ^ 64 }
-    ensures { IfOk result (λ set. (k : ℕ) →
-        is_in_ranges set k ≡ covers_element (layout_in (W.typed_of element)) (is_place (W.typed_of element)) k) }
+    ensures { IfOk result (λ set. (k : ℕ) → is_in_ranges set k
+        ≡ covers_element (layout_in (W.typed_of element)) (is_place (W.typed_of element)) k) }
 {
     if element.layout().backend_repr.is_scalar() {
         let mut set = RangeSet::new(alloc);

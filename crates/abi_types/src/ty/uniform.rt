@@ -180,8 +180,10 @@ impl<'a, Ty> TyAndLayout<'a, Ty> {
     where
         Ty: TyAbiInterface<'a, C> + Copy,
         requires { Ty.is_valid self.now }
-        ensures uniform { IfOk result (λ found. IsUniform (Ty.typed_of self.now) (register_of found)) }
-        ensures heterogeneous { IfErr result (λ _. (r : Option Reg) → IsUniform (Ty.typed_of self.now) r → ⊥) }
+        ensures uniform { IfOk result (λ found.
+            IsUniform (Ty.typed_of self.now) (register_of found)) }
+        ensures heterogeneous { IfErr result (λ _. (r : Option Reg) →
+            IsUniform (Ty.typed_of self.now) r → ⊥) }
         ensures only { (r : Option Reg) → IsUniform (Ty.typed_of self.now) r →
             IfOk result (λ found. r ≡ register_of found) × IsOk result }
     {

@@ -43,7 +43,8 @@ pub(crate) trait Walk: Copy {
         requires named { NamesVariant (layout_in (typed_of self)).variants index }
         ensures valid { is_valid result }
         ensures variant { typed_of result ≡ at_variant (typed_of self) index }
-        ensures falls { DepthFalls (layout_in (typed_of self)).variants (depth_of result) (depth_of self) };
+        ensures falls { DepthFalls (layout_in (typed_of self)).variants
+            (depth_of result) (depth_of self) };
 
     /// Whether it is laid out as its one field that isn't of no bytes and no alignment.
     fn is_transparent(self) -> bool

@@ -117,8 +117,8 @@ pub fn c_struct(
     fields: Vec<TypeTree>,
 ) -> Result<CStruct, CRefusal>
     // A field is refused exactly where it is the first that C hasn't.
-    ensures field { (i : ℕ) (fault : CFault) →
-        first_fault 0 (trees (map tree_of fields.items)) ≡ Some (i, fault) → result ≡ Err (CRefusal.Field i fault) }
+    ensures field { (i : ℕ) (fault : CFault) → first_fault 0 (trees (map tree_of fields.items))
+        ≡ Some (i, fault) → result ≡ Err (CRefusal.Field i fault) }
     ensures only { IfErr result (λ e. (i : ℕ) (fault : CFault) → e ≡ CRefusal.Field i fault →
         first_fault 0 (trees (map tree_of fields.items)) ≡ Some (i, fault)) }
     ensures fields { IfOk result (λ _. first_fault 0 (trees (map tree_of fields.items)) ≡ None) }

@@ -34,7 +34,8 @@ pub fn variant_named(alloc: Global, laid: &Laid, bytes: &[u8]) -> Result<Option<
     ensures variant { IfOk result (λ found. (i : ℕ) (vs : Values) →
         Holds (endian_of laid.now) (placed_of laid.now) bytes.now (variant i vs) → found ≡ Some i) }
     ensures none { IfOk result (λ found. ((i : ℕ) (vs : Values) →
-        Holds (endian_of laid.now) (placed_of laid.now) bytes.now (variant i vs) → ⊥) → found ≡ None) }
+        Holds (endian_of laid.now) (placed_of laid.now) bytes.now (variant i vs) → ⊥) →
+        found ≡ None) }
 {
     match read_value(alloc, laid, bytes)? {
         Some(value) => Ok(index_of(&value)),

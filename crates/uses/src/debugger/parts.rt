@@ -60,12 +60,11 @@ pub fn field_of_variant(
     index: usize,
 ) -> Result<Option<Value>, AllocError>
     requires laid { IsOfTree laid.now }
-    ensures field { IfOk result (λ found.
-        (vs : Values) → Holds (endian_of laid.now) (placed_of laid.now) bytes.now (variant wanted vs) →
+    ensures field { IfOk result (λ found. (vs : Values) →
+        Holds (endian_of laid.now) (placed_of laid.now) bytes.now (variant wanted vs) →
         IsValueFound found (value_at vs index)) }
-    ensures none { IfOk result (λ found.
-        ((vs : Values) → Holds (endian_of laid.now) (placed_of laid.now) bytes.now (variant wanted vs) → ⊥) →
-        found ≡ None) }
+    ensures none { IfOk result (λ found. ((vs : Values) → Holds (endian_of laid.now)
+        (placed_of laid.now) bytes.now (variant wanted vs) → ⊥) → found ≡ None) }
 {
     let Some(value) = read_value(alloc, laid, bytes)? else {
         return Ok(None);
@@ -88,12 +87,11 @@ pub fn local_of_state(
     index: usize,
 ) -> Result<Option<Value>, AllocError>
     requires laid { IsOfTree laid.now }
-    ensures local { IfOk result (λ found.
-        (ps vs : Values) → Holds (endian_of laid.now) (placed_of laid.now) bytes.now (state wanted ps vs) →
+    ensures local { IfOk result (λ found. (ps vs : Values) →
+        Holds (endian_of laid.now) (placed_of laid.now) bytes.now (state wanted ps vs) →
         IsValueFound found (value_at vs index)) }
-    ensures none { IfOk result (λ found.
-        ((ps vs : Values) → Holds (endian_of laid.now) (placed_of laid.now) bytes.now (state wanted ps vs) → ⊥) →
-        found ≡ None) }
+    ensures none { IfOk result (λ found. ((ps vs : Values) → Holds (endian_of laid.now)
+        (placed_of laid.now) bytes.now (state wanted ps vs) → ⊥) → found ≡ None) }
 {
     let Some(value) = read_value(alloc, laid, bytes)? else {
         return Ok(None);
@@ -113,10 +111,10 @@ pub fn numbers_of(
     bytes: &[u8],
 ) -> Result<Option<(u128, u128)>, AllocError>
     requires laid { IsOfTree laid.now }
-    ensures numbers { IfOk result (λ found.
-        (n m : ℕ) → Holds (endian_of laid.now) (placed_of laid.now) bytes.now (two n m) → found ≡ Some (n, m)) }
-    ensures none { IfOk result (λ found.
-        ((n m : ℕ) → Holds (endian_of laid.now) (placed_of laid.now) bytes.now (two n m) → ⊥) → found ≡ None) }
+    ensures numbers { IfOk result (λ found. (n m : ℕ) →
+        Holds (endian_of laid.now) (placed_of laid.now) bytes.now (two n m) → found ≡ Some (n, m)) }
+    ensures none { IfOk result (λ found. ((n m : ℕ) →
+        Holds (endian_of laid.now) (placed_of laid.now) bytes.now (two n m) → ⊥) → found ≡ None) }
 {
     match read_value(alloc, laid, bytes)? {
         Some(value) => Ok(both_of(&value)),

@@ -22,10 +22,11 @@ use std::alloc::Global;
 /// has. `None` where the layout has no field of this index, and where the bytes end before it does.
 pub fn slice_of_field<'a>(laid: &Laid, bytes: &'a [u8], index: usize) -> Option<&'a [u8]>
     ensures slice { IfSome result (λ slice. (offset : ℕ) (field : Placed) →
-        HasFieldAt (placed_of laid.now) index offset field → slice.now ≡ bytes_at bytes.now offset (size_of field)) }
-    ensures holds { IfSome result (λ slice. (offset : ℕ) (field : Placed) →
         HasFieldAt (placed_of laid.now) index offset field →
-        (vs : Values) (v : Meant) → Holds (endian_of laid.now) (placed_of laid.now) bytes.now (of_list vs) →
+        slice.now ≡ bytes_at bytes.now offset (size_of field)) }
+    ensures holds { IfSome result (λ slice. (offset : ℕ) (field : Placed) →
+        HasFieldAt (placed_of laid.now) index offset field → (vs : Values) (v : Meant) →
+        Holds (endian_of laid.now) (placed_of laid.now) bytes.now (of_list vs) →
         value_at vs index ≡ Some v → Holds (endian_of laid.now) field slice.now v) }
     ensures none { result ≡ None → index < field_count (layout_of (placed_of laid.now)).fields →
         (offset : ℕ) (field : Placed) → HasFieldAt (placed_of laid.now) index offset field →
@@ -79,13 +80,14 @@ pub fn put_field(
     requires laid { IsOfTree laid.now }
     ensures put { IfOk result (λ put. IfSome put (λ written. (vs : Values) →
         Holds (endian_of laid.now) (placed_of laid.now) bytes.now (of_list vs) →
-        Holds (endian_of laid.now) (placed_of laid.now) written.items (of_list (with_value vs index (value_of value))))) }
-    ensures none { IfOk result (λ put. put ≡ None → (vs : Values) →
-        Holds (endian_of laid.now) (placed_of laid.now) bytes.now (of_list vs) → value_at vs index ≡ None) }
-    ensures not_a_value { IfErr result (λ e. e ≡ ValueError.NotAValue → (vs : Values) →
-        Holds (endian_of laid.now) (placed_of laid.now) bytes.now (of_list vs) →
-        (dl : Target) (tree : Tree) → KeepsValues dl tree laid.now →
-        IsValueOf dl tree (placed_of laid.now) (of_list (with_value vs index (value_of value))) → ⊥) }
+        Holds (endian_of laid.now) (placed_of laid.now) written.items
+        (of_list (with_value vs index (value_of value))))) }
+    ensures none { IfOk result (λ put. put ≡ None → (vs : Values) → Holds (endian_of laid.now)
+        (placed_of laid.now) bytes.now (of_list vs) → value_at vs index ≡ None) }
+    ensures not_a_value { IfErr result (λ e. e ≡ ValueError.NotAValue →
+        (vs : Values) → Holds (endian_of laid.now) (placed_of laid.now) bytes.now (of_list vs) →
+        (dl : Target) (tree : Tree) → KeepsValues dl tree laid.now → IsValueOf dl tree
+        (placed_of laid.now) (of_list (with_value vs index (value_of value))) → ⊥) }
 {
     let Some(held) = read_value(alloc, laid, bytes)? else {
         return Ok(None);

@@ -38,7 +38,8 @@ pub fn vary(
     ensures holds { (v : Meant) → Holds (endian_of laid.now) (placed_of laid.now) bytes.old v →
         is_covered (placed_of laid.now) v place ≡ false →
         Holds (endian_of laid.now) (placed_of laid.now) bytes.new v }
-    ensures finds { IfOk result (Finds (Holds (endian_of laid.now) (placed_of laid.now) bytes.new)) }
+    ensures finds { IfOk result (Finds (Holds (endian_of laid.now)
+        (placed_of laid.now) bytes.new)) }
     ensures reads { IfOk result (λ found. (v : Meant) →
         Holds (endian_of laid.now) (placed_of laid.now) bytes.old v →
         is_covered (placed_of laid.now) v place ≡ false → IsValueFound found (Some v)) }
