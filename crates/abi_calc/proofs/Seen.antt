@@ -17,7 +17,7 @@ use Rattle.abi_lists.specs.List.{IsListLayout, parts_of}
 use Rattle.abi_lists.specs.ListView.{list_view}
 use Rattle.abi_lists.specs.Placement.{IsNonEmptyIfUnsized}
 use Rattle.abi_lists.specs.Union.{IsUnionAnswer, IsUnionView, union_align}
-use Rattle.abi_lists.proofs.LeastLemmas.{has_greatest_niche, has_own_niche}
+use Rattle.abi_lists.proofs.Promised.LeastLemmas.{has_greatest_niche, has_own_niche}
 use Rattle.abi_calc.specs.Enums.Single.{IsSingleAnswer, single_layout, widened_view}
 use Rattle.abi_calc.specs.Marks.{HasListMarks, HasUnionMarks}
 use Rattle.abi_calc.specs.Seen.{IsSeenAsList, view_of_fields}

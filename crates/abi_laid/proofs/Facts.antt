@@ -27,7 +27,7 @@ use Rattle.abi_laid.specs.Needed.{AreMadeFrom, AreVisits, IsClosed, RestsOn, is_
 use Rattle.abi_laid.specs.Tree.{Tree, Trees, coroutine, layer_tree, more_trees, no_trees, scalar, struct, tree_of, trees}
 use Rattle.abi_laid.specs.Typed.{marks_in}
 use Rattle.abi_laid.specs.Value.{two, value_of}
-use Rattle.abi_laid.proofs.ValueLemmas.{value_of-Pair}
+use Rattle.abi_laid.proofs.Found.ValueLemmas.{value_of-Pair}
 
 -- what a repr asks for that has these flags and asks for nothing else
 abbrev with_flags : ℕ → ReprOptions

@@ -1,41 +1,14 @@
--- bytes, and what they hold
-pub mod BytesLemmas
-pub mod HoldLemmas
--- nodes, and handles of them
-pub mod NodesLemmas
-mod WidthLemmas
-mod TypedLemmas
-mod HandleLemmas
-pub mod SeenLemmas
--- padding as maximal runs, and the nodes that it rests on
-pub mod MaximalLemmas
-pub mod RoomLemmas
-mod DataPlacesLemmas
-mod NeededLemmas
-mod MadeLemmas
+-- bytes, and what they hold: numbers, bytes picked, taken and put
+pub mod Bytes
+-- nodes, what they mean, and handles of them
+pub mod Nodes
+-- data places, as runs, and the nodes that they rest on
+pub mod Places
 -- values read
-pub mod PickedLemmas
-mod ValueLemmas
-mod ReadLemmas
-mod FoundLemmas
-mod NamedLemmas
-mod TakenLemmas
-mod NumberLemmas
-mod DecidedLemmas
-mod SameLemmas
+mod Found
 -- values written
-mod PutOverLemmas
-mod WriteLemmas
-mod PutPlacesLemmas
-mod TagNumberLemmas
-mod WrittenLemmas
+mod Written
 -- bytes that decide
-mod KeptLemmas
-mod InhabitedLemmas
-mod CoverLemmas
-mod CopyLemmas
-mod ChosenLemmas
-pub mod CoverableLemmas
-pub mod AgreeLemmas
-pub mod DecideLemmas
+pub mod Deciding
+-- worked facts
 mod Facts

@@ -10,9 +10,9 @@ use Rattle.abi_lists.specs.declared.list_repr.ListRepr.{ListRepr}
 use Rattle.abi_scalar.specs.declared.backend_repr.BackendRepr.TheVariants.{Memory}
 use Rattle.abi_lists.specs.declared.part.Part.{Part}
 use Rattle.abi_lists.specs.Placement.{IsAllowed, IsNonEmptyIfUnsized, KeepsTail, size_in, source_order}
-use Rattle.abi_lists.proofs.Orders.{least_order}
-use Rattle.abi_lists.proofs.PlacingLemmas.{order_differs}
-use Rattle.abi_lists.proofs.Sorting.{within_order}
+use Rattle.abi_lists.proofs.Sorted.Orders.{least_order}
+use Rattle.abi_lists.proofs.Placed.PlacingLemmas.{order_differs}
+use Rattle.abi_lists.proofs.Sorted.Sorting.{within_order}
 
 -- ---- source order is always allowed
 

@@ -1,45 +1,16 @@
--- places: rounding, groups, steps
-pub mod Rounding
-pub mod Ends
-pub mod Groups
-pub mod Steps
-pub mod ByNumber
--- orders: sorted, tight, least
-pub mod Sorting
-pub mod Tight
-pub mod Least
--- niches and views
-pub mod NicheLemmas
-pub mod Lawful
-pub mod ViewLemmas
+-- places: rounding, ends, groups, steps, fields by number
+pub mod Offsets
+-- orders: sorted, tight, allowed, least, in memory
+pub mod Sorted
+-- niches and views, and that they are lawful
+pub mod Views
 -- fields placed, faults, runs
-pub mod PlacingLemmas
-pub mod Orders
-pub mod FaultLemmas
-pub mod RunLemmas
-pub mod SourceLemmas
--- layouts of lists: one, some, allowed
-pub mod ListLemmas
-pub mod PartsLemmas
-pub mod OneOrder
-pub mod NamesEach
-pub mod SomeOrder
-pub mod Allowed
-pub mod SomeView
--- the deeper clauses, and orders that are handed in
-pub mod OrderedLemmas
-pub mod DeepLemmas
-pub mod MemoryOrder
-pub mod LeastLemmas
-pub mod InOrderLemmas
-pub mod Prefixes
-pub mod LawfulList
+pub mod Placed
+-- layouts of lists: one, some, and lists that are to be variants
+pub mod Layouts
+-- what is promised of a list, and of one in an order that is handed in
+pub mod Promised
+-- unions and vectors
+pub mod UnionsVectors
 -- worked facts
 pub mod Facts
--- unions and vectors
-pub mod UnionLemmas
-pub mod UnionLawful
-pub mod VectorLemmas
--- lists that are too large; lists that are to be variants
-pub mod TooLarge
-pub mod ListLayoutsLemmas

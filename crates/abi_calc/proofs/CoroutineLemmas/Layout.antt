@@ -16,7 +16,7 @@ use Rattle.abi_scalar.specs.Lawful.{IsLawfulLayout}
 use Rattle.abi_scalar.specs.Shape.{listed_order}
 use Rattle.abi_lists.specs.Fields.{greatest_align, greatest_size}
 use Rattle.abi_lists.specs.Placement.{source_order}
-use Rattle.abi_lists.proofs.Sorting.{within_order}
+use Rattle.abi_lists.proofs.Sorted.Sorting.{within_order}
 use Rattle.abi_calc.specs.Coroutine.Layout.{whole_align}
 use Rattle.abi_calc.specs.Coroutine.States.{HasFields, ranks_of, state_layout, state_layouts}
 use Rattle.abi_calc.proofs.AtIndex.{left_at}

@@ -33,10 +33,10 @@ use Rattle.abi_scalar.specs.Variant.{IsOrderedVariant}
 use Rattle.abi_lists.specs.Apart.{AreApart}
 use Rattle.abi_lists.specs.List.{IsListAnswer}
 use Rattle.abi_lists.specs.Placement.{IsNonEmptyIfUnsized, list_repr, source_order, start_of}
-use Rattle.abi_lists.proofs.Least.{allowed_permutes}
-use Rattle.abi_lists.proofs.LeastLemmas.{keeps_apart, lies_after, lies_in_order}
-use Rattle.abi_lists.proofs.Rounding.{rounded_to}
-use Rattle.abi_lists.proofs.Sorting.{within_order}
+use Rattle.abi_lists.proofs.Sorted.Least.{allowed_permutes}
+use Rattle.abi_lists.proofs.Promised.LeastLemmas.{keeps_apart, lies_after, lies_in_order}
+use Rattle.abi_lists.proofs.Offsets.Rounding.{rounded_to}
+use Rattle.abi_lists.proofs.Sorted.Sorting.{within_order}
 use Rattle.abi_calc.specs.Coroutine.Answer.{IsCoroutineAnswer}
 use Rattle.abi_calc.specs.Coroutine.Lists.{AreOwnLists, behind, default_repr, first_list, own_list, own_of}
 use Rattle.abi_calc.specs.Coroutine.Promotion.{promoted_of}

@@ -27,10 +27,10 @@ use Rattle.abi_lists.specs.Least.{IsEachOrderTooLarge, align_by}
 use Rattle.abi_lists.specs.List.{AreSized, IsListError}
 use Rattle.abi_lists.specs.Part.{is_unsized}
 use Rattle.abi_lists.specs.Placement.{list_repr, source_order}
-use Rattle.abi_lists.proofs.Least.{allowed_permutes}
-use Rattle.abi_lists.proofs.Sorting.{within_order}
-use Rattle.abi_lists.proofs.LeastLemmas.{large_in_each, sized_error}
-use Rattle.abi_lists.proofs.Rounding.{rounded_to}
+use Rattle.abi_lists.proofs.Sorted.Least.{allowed_permutes}
+use Rattle.abi_lists.proofs.Sorted.Sorting.{within_order}
+use Rattle.abi_lists.proofs.Promised.LeastLemmas.{large_in_each, sized_error}
+use Rattle.abi_lists.proofs.Offsets.Rounding.{rounded_to}
 use Rattle.abi_calc.specs.Coroutine.Answer.{IsPromotedAnswer}
 use Rattle.abi_calc.specs.Coroutine.Layout.{IsStateTag, coroutine_layout, whole_align, whole_size}
 use Rattle.abi_calc.specs.Coroutine.Lists.{AreOwnLists, IsFirstOwnError, behind, default_repr, first_list, own_list, own_of, picked}

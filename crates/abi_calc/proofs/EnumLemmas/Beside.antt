@@ -27,7 +27,7 @@ use Rattle.abi_lists.specs.Apart.{AreApart, IsBeside}
 use Rattle.abi_lists.specs.Fields.{greatest_size}
 use Rattle.abi_lists.specs.ListNiche.{IsNicheOfPart}
 use Rattle.abi_lists.specs.Placement.{source_order}
-use Rattle.abi_lists.proofs.Rounding.{rounded_to}
+use Rattle.abi_lists.proofs.Offsets.Rounding.{rounded_to}
 use Rattle.abi_calc.specs.declared.enums.niche.Room.{Room}
 use Rattle.abi_calc.specs.Enums.Beside.{AreApartBeside, AreNumbersInNiche, HasTagAt, IsToldByNiche}
 use Rattle.abi_calc.specs.Enums.Lists.{AreGoodLists, IsGoodList}

@@ -24,11 +24,11 @@ use Rattle.abi_lists.specs.List.{AreSized, IsListError, parts_of}
 use Rattle.abi_lists.specs.Order.{IsNamedOrder}
 use Rattle.abi_lists.specs.Part.{is_unsized}
 use Rattle.abi_lists.specs.Placement.{IsNonEmptyIfUnsized, in_order, list_repr, no_part, source_order, start_of}
-use Rattle.abi_lists.proofs.FaultLemmas.{IsSizedAt, clear_of, memory_in, sized_of_faultless}
-use Rattle.abi_lists.proofs.Least.{allowed_permutes, named_allowed}
-use Rattle.abi_lists.proofs.LeastLemmas.{large_in_each, sized_error}
-use Rattle.abi_lists.proofs.Prefixes.{align_of-grows, round_lower, size_by-prefixed}
-use Rattle.abi_lists.proofs.Sorting.{in_order-permutation}
+use Rattle.abi_lists.proofs.Placed.FaultLemmas.{IsSizedAt, clear_of, memory_in, sized_of_faultless}
+use Rattle.abi_lists.proofs.Sorted.Least.{allowed_permutes, named_allowed}
+use Rattle.abi_lists.proofs.Promised.LeastLemmas.{large_in_each, sized_error}
+use Rattle.abi_lists.proofs.Sorted.Prefixes.{align_of-grows, round_lower, size_by-prefixed}
+use Rattle.abi_lists.proofs.Sorted.Sorting.{in_order-permutation}
 use Rattle.abi_calc.specs.Enums.Lists.{AreGoodLists, IsFirstListError, IsGoodList}
 use Rattle.abi_calc.specs.Enums.Sizes.{AreLeastSizes, IsTaggedSize}
 

@@ -22,8 +22,8 @@ use Rattle.abi_lists.specs.declared.placing.ListFault.TheVariants.{Unsized, TooL
 use Rattle.abi_lists.specs.Fault.{IsErrorOf, fault_in}
 use Rattle.abi_lists.specs.List.{IsListAnswer, IsListError, parts_of}
 use Rattle.abi_lists.specs.Placement.{IsNonEmptyIfUnsized, IsSized, list_repr}
-use Rattle.abi_lists.proofs.ListLemmas.{length-parts}
-use Rattle.abi_lists.proofs.OneOrder.{never_refused, one_layout, one_named}
+use Rattle.abi_lists.proofs.Layouts.ListLemmas.{length-parts}
+use Rattle.abi_lists.proofs.Layouts.OneOrder.{never_refused, one_layout, one_named}
 use Rattle.abi_calc.specs.declared.enums.path.Path.{Path}
 use Rattle.abi_calc.specs.declared.enums.path.Path.TheVariants.{NoValue, OneList, Several}
 use Rattle.abi_calc.specs.Enums.Lists.{AreListLayouts, IsFirstListError, behind_tag}

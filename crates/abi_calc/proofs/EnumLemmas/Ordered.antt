@@ -24,11 +24,11 @@ use Rattle.abi_lists.specs.declared.part.Part.{Part}
 use Rattle.abi_lists.specs.Apart.{AreAligned}
 use Rattle.abi_lists.specs.List.{IsListAnswer, parts_of}
 use Rattle.abi_lists.specs.Placement.{IsNonEmptyIfUnsized, IsSized, cut, list_repr, prefix_align}
-use Rattle.abi_lists.proofs.LeastLemmas.{ascends, biased, has_places, lies_aligned, lies_in_order}
-use Rattle.abi_lists.proofs.Least.{allowed_permutes}
-use Rattle.abi_lists.proofs.Rounding.{pow_dvd, rounded_to}
-use Rattle.abi_lists.proofs.Sorting.{within_order}
-use Rattle.abi_lists.proofs.Tight.{greatest_above}
+use Rattle.abi_lists.proofs.Promised.LeastLemmas.{ascends, biased, has_places, lies_aligned, lies_in_order}
+use Rattle.abi_lists.proofs.Sorted.Least.{allowed_permutes}
+use Rattle.abi_lists.proofs.Offsets.Rounding.{pow_dvd, rounded_to}
+use Rattle.abi_lists.proofs.Sorted.Sorting.{within_order}
+use Rattle.abi_lists.proofs.Sorted.Tight.{greatest_above}
 use Rattle.abi_calc.specs.Enums.Growth.{moved}
 use Rattle.abi_calc.specs.Enums.Lists.{AreListLayouts}
 use Rattle.abi_calc.specs.Enums.Made.{AreBehindTag, AreBesideNiche, AreVariantsAligned, IsBesideNiche, IsMovedBy}

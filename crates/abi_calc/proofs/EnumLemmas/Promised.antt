@@ -14,7 +14,7 @@ use Rattle.abi_scalar.specs.declared.wrapping_range.WrappingRange.{WrappingRange
 use Rattle.abi_scalar.specs.LeastRange.{IsSmallestOf}
 use Rattle.abi_scalar.specs.Range.{IsIn, numbers_of}
 use Rattle.abi_scalar.specs.Scalar.{IsLawfulScalar}
-use Rattle.abi_lists.proofs.Rounding.{pow_dvd, rounded_to}
+use Rattle.abi_lists.proofs.Offsets.Rounding.{pow_dvd, rounded_to}
 use Rattle.abi_lists.specs.Answer.{IsAnswer}
 use Rattle.abi_lists.specs.List.{AreSized}
 use Rattle.abi_lists.specs.Placement.{IsSized}

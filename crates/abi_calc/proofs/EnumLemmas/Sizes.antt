@@ -17,8 +17,8 @@ use Rattle.abi_lists.specs.Fields.{greatest, greatest_size}
 use Rattle.abi_lists.specs.Least.{IsEachOrderTooLarge, IsLeastSize, align_by, size_by}
 use Rattle.abi_lists.specs.List.{AreSized, parts_of}
 use Rattle.abi_lists.specs.Placement.{IsNonEmptyIfUnsized, IsSized, cut, list_repr, own_align, prefix_align}
-use Rattle.abi_lists.proofs.LeastLemmas.{large_in_each, sized_error}
-use Rattle.abi_lists.proofs.Tight.{greatest_from}
+use Rattle.abi_lists.proofs.Promised.LeastLemmas.{large_in_each, sized_error}
+use Rattle.abi_lists.proofs.Sorted.Tight.{greatest_from}
 use Rattle.abi_calc.specs.Enums.Lists.{AreGoodLists, IsFirstListError, IsGoodList}
 use Rattle.abi_calc.specs.Enums.Sizes.{AreLeastSizes, IsTaggedSize, IsTaggedTooLarge}
 use Rattle.abi_calc.specs.Enums.Tagged.{lists_align, lists_size}

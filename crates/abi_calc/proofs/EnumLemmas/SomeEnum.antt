@@ -34,9 +34,9 @@ use Rattle.abi_lists.specs.ListView.{list_view}
 use Rattle.abi_lists.specs.Order.{IsNamedOrder}
 use Rattle.abi_lists.specs.Placement.{IsNonEmptyIfUnsized, list_repr}
 use Rattle.abi_lists.specs.Run.{IsNamedLayout}
-use Rattle.abi_lists.proofs.FaultLemmas.{memory_in}
-use Rattle.abi_lists.proofs.ListLemmas.{fault_named, length-parts, parts_lawful}
-use Rattle.abi_lists.proofs.SomeOrder.{some_layout}
+use Rattle.abi_lists.proofs.Placed.FaultLemmas.{memory_in}
+use Rattle.abi_lists.proofs.Layouts.ListLemmas.{fault_named, length-parts, parts_lawful}
+use Rattle.abi_lists.proofs.Layouts.SomeOrder.{some_layout}
 use Rattle.abi_calc.specs.declared.enums.path.Path.{Path}
 use Rattle.abi_calc.specs.declared.enums.path.Path.TheVariants.{NoValue, OneList, Several}
 use Rattle.abi_calc.specs.Enums.Answer.{IsTypeAnswer, kind_at}

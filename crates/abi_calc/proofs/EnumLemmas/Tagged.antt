@@ -27,8 +27,8 @@ use Rattle.abi_scalar.specs.declared.error.LayoutCalculatorError.TheVariants.{Ou
 use Rattle.abi_scalar.specs.declared.layout_data.LayoutData.{LayoutData}
 use Rattle.abi_scalar.specs.Lawful.{IsLawfulLayout}
 use Rattle.abi_lists.specs.Fields.{greatest_align, greatest_size}
-use Rattle.abi_lists.proofs.Lawful.{aggregate_small}
-use Rattle.abi_lists.proofs.UnionLawful.{greatest_size_small}
+use Rattle.abi_lists.proofs.Views.Lawful.{aggregate_small}
+use Rattle.abi_lists.proofs.UnionsVectors.UnionLawful.{greatest_size_small}
 use Rattle.abi_calc.specs.Enums.Tagged.{IsTaggedAnswer, IsTaggedBy, layout_seen_as, lists_align, lists_size, payloads_of, tagged_layout}
 use Rattle.abi_calc.proofs.EnumLemmas.Lists.{align_small}
 

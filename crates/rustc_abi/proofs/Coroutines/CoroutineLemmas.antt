@@ -34,7 +34,7 @@ use Rattle.rustc_abi.proofs.Values.FieldsLemmas.{common_each, room_of, together,
 use Rattle.rustc_abi.proofs.Values.FlagLemmas.{HaveSome, each_flag, flags_true}
 use Rattle.rustc_abi.proofs.Values.AnywhereLemmas.{value_anywhere}
 use Rattle.rustc_abi.proofs.Enums.TaggedLemmas.{unflagged}
-use Rattle.abi_laid.proofs.RoomLemmas.{within_room}
+use Rattle.abi_laid.proofs.Places.RoomLemmas.{within_room}
 use Rattle.rustc_abi.proofs.Enums.EnumLemmas.{some_niche}
 use Rattle.rustc_abi.proofs.Coroutines.StateArmsLemmas.{StatesFit, few_states, tree_at, value_at}
 use Rattle.rustc_abi.proofs.Coroutines.StatesLemmas.{states_exists, states_only, states_padding, states_unique}

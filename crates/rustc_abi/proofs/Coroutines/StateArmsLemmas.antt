@@ -17,8 +17,8 @@ use Rattle.abi_laid.specs.Tag.{NamesDirectly}
 use Rattle.abi_laid.specs.Values.{EachAt, IsValueOf, AreValuesOf, IsValueAt}
 use Rattle.abi_laid.specs.Holding.{Holds, HoldParts, HoldArm, tag_at}
 use Rattle.abi_laid.specs.Faithful.{IsFaithful}
-use Rattle.abi_laid.proofs.BytesLemmas.{put, length-put, bytes_at-put, AreBytes-put, spelled_in, length-spelled_in, number_of-spelled_in, AreBytes-spelled_in}
-use Rattle.abi_laid.proofs.HoldLemmas.{length-Holds}
+use Rattle.abi_laid.proofs.Bytes.BytesLemmas.{put, length-put, bytes_at-put, AreBytes-put, spelled_in, length-spelled_in, number_of-spelled_in, AreBytes-spelled_in}
+use Rattle.abi_laid.proofs.Bytes.HoldLemmas.{length-Holds}
 use Rattle.rustc_abi.proofs.Values.PartsLemmas.{LieBeside, FitTogether, HoldParts-beside, exist, only, unique, padding}
 use Rattle.rustc_abi.proofs.Enums.TaggedLemmas.{HaveNumbers, IsNoNumber, NumbersDiffer, none_flagged}
 use Rattle.rustc_abi.proofs.Enums.EnumLemmas.{in_below}

@@ -19,8 +19,8 @@ use Rattle.abi_laid.specs.Values.{IsValueOf}
 use Rattle.abi_laid.specs.Holding.{Holds, HoldArm, tag_at}
 use Rattle.abi_laid.specs.Faithful.{AgreeOn}
 use Rattle.rustc_abi.specs.Laying.{one_scalar}
-use Rattle.abi_laid.proofs.BytesLemmas.{same_bytes}
-use Rattle.abi_laid.proofs.HoldLemmas.{length-bytes_at, AgreeOn-bytes_at}
+use Rattle.abi_laid.proofs.Bytes.BytesLemmas.{same_bytes}
+use Rattle.abi_laid.proofs.Bytes.HoldLemmas.{length-bytes_at, AgreeOn-bytes_at}
 use Rattle.rustc_abi.proofs.Values.PartsLemmas.{only, unique, padding}
 use Rattle.rustc_abi.proofs.Enums.TaggedLemmas.{names_one, names_number}
 use Rattle.rustc_abi.proofs.Coroutines.StateArmsLemmas.{StatesFit, InState, states_numbers, states_differ, state_only, state_unique, state_padding, in_state}

@@ -46,7 +46,7 @@ use Rattle.rustc_abi.proofs.Values.ViewLemmas.{true_in}
 use Rattle.rustc_abi.proofs.Values.PartsLemmas.{FitTogether}
 use Rattle.rustc_abi.proofs.Enums.TaggedLemmas.{ArmsFit, open_numbers, have_numbers, numbers_differ, HaveNumbers, NumbersDiffer, tagged_number, tagged_exists, tagged_only, tagged_unique, tagged_padding}
 use Rattle.rustc_abi.proofs.Enums.ArmsLemmas.{apart_behind, arms_room, open_as, flag_arms, arms_flag, arms_fit, arms_common, arms_untagged}
-use Rattle.abi_laid.proofs.RoomLemmas.{within_room}
+use Rattle.abi_laid.proofs.Places.RoomLemmas.{within_room}
 use Rattle.rustc_abi.proofs.Enums.TagViewLemmas.{in_full, tag_true, tag_niche_true, tag_niche_inside}
 
 -- ---- the second scalar of a view that begins with a tag

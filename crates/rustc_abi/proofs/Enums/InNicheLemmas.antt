@@ -26,8 +26,8 @@ use Rattle.abi_laid.specs.Values.{IsValueOf, AreValuesOfVariant}
 use Rattle.abi_laid.specs.Holding.{Holds, HoldArm, tag_at}
 use Rattle.abi_laid.specs.Faithful.{AgreeOn}
 use Rattle.abi_laid.specs.Untagged.{NamesItself}
-use Rattle.abi_laid.proofs.BytesLemmas.{put, length-put, bytes_at-put, AreBytes-put, same_bytes, spelled_in, length-spelled_in, number_of-spelled_in, AreBytes-spelled_in}
-use Rattle.abi_laid.proofs.HoldLemmas.{length-bytes_at, AgreeOn-bytes_at}
+use Rattle.abi_laid.proofs.Bytes.BytesLemmas.{put, length-put, bytes_at-put, AreBytes-put, same_bytes, spelled_in, length-spelled_in, number_of-spelled_in, AreBytes-spelled_in}
+use Rattle.abi_laid.proofs.Bytes.HoldLemmas.{length-bytes_at, AgreeOn-bytes_at}
 use Rattle.rustc_abi.proofs.Values.PartsLemmas.{LieBeside, FitTogether, HoldParts-beside, exist, only, unique, padding}
 use Rattle.rustc_abi.proofs.Values.FieldsLemmas.{IsPartNiche, part_niche}
 use Rattle.rustc_abi.proofs.Enums.TaggedLemmas.{none_flagged}

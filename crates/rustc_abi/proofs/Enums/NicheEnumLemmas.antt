@@ -44,7 +44,7 @@ use Rattle.rustc_abi.proofs.Values.FieldsLemmas.{IsPartNiche, part_of_list}
 use Rattle.rustc_abi.proofs.Enums.InNicheLemmas.{IsThere, AreSpanned, ArmsBeside, in_niche_number, names_itself, in_niche_exists, in_niche_only, in_niche_unique, in_niche_padding}
 use Rattle.rustc_abi.proofs.Enums.EnumLemmas.{in_below, numbers_long, some_niche}
 use Rattle.rustc_abi.proofs.Trees.LayLemmas.{VariantsFit-lawful}
-use Rattle.abi_laid.proofs.RoomLemmas.{within_room}
+use Rattle.abi_laid.proofs.Places.RoomLemmas.{within_room}
 use Rattle.rustc_abi.proofs.Enums.TagViewLemmas.{tag_niche_true, tag_niche_inside, tag_view_niche}
 
 -- an arm has the fields of its variant at the offsets of its layout: a niche of these is the arm's

@@ -25,8 +25,8 @@ use Rattle.abi_laid.specs.Values.{IsValueOf, AreValuesOf, AreValuesOfVariant, Ve
 use Rattle.abi_laid.specs.Holding.{Holds, HoldArm, tag_at}
 use Rattle.abi_laid.specs.Faithful.{AgreeOn, IsFaithful}
 use Rattle.rustc_abi.specs.Laying.{one_scalar}
-use Rattle.abi_laid.proofs.BytesLemmas.{put, length-put, bytes_at-put, AreBytes-put, same_bytes, spelled_in, length-spelled_in, number_of-spelled_in, AreBytes-spelled_in}
-use Rattle.abi_laid.proofs.HoldLemmas.{length-bytes_at, AgreeOn-bytes_at}
+use Rattle.abi_laid.proofs.Bytes.BytesLemmas.{put, length-put, bytes_at-put, AreBytes-put, same_bytes, spelled_in, length-spelled_in, number_of-spelled_in, AreBytes-spelled_in}
+use Rattle.abi_laid.proofs.Bytes.HoldLemmas.{length-bytes_at, AgreeOn-bytes_at}
 use Rattle.rustc_abi.proofs.Values.PartsLemmas.{LieBeside, FitTogether, HoldParts-beside, exist, only, unique, padding}
 
 -- each arm has its variant's number and fields, which fit together, beside a tag of w bytes at the offset

@@ -44,7 +44,7 @@ use Rattle.abi_laid.specs.Value.{Value, value_count, Each}
 use Rattle.abi_laid.specs.Values.{AreValuesOf, AreValuesOfVariant, EachAt, HaveValues, IsValueAt, IsValueOf, LocalsHaveValues, LocalsOfEach, LocalsOfVariants}
 use Rattle.abi_laid.specs.Nodes.{parts_at, parts_at_0, placed_in, state_tag_offset, tag_offset}
 use Rattle.abi_laid.specs.Deciding.{arm_for, arm_values, covering_value, covering_values, each_value, first_told, first_with, place_in, some_number}
-use Rattle.abi_laid.proofs.CoverableLemmas.{ArmsCover, Covers, PartsCover, covers_elements, covers_fields, covers_pair, covers_scalar, covers_single, covers_states, covers_tagged, covers_union, covers_vector}
+use Rattle.abi_laid.proofs.Deciding.CoverableLemmas.{ArmsCover, Covers, PartsCover, covers_elements, covers_fields, covers_pair, covers_scalar, covers_single, covers_states, covers_tagged, covers_union, covers_vector}
 use Rattle.rustc_abi.specs.Count.{arm_count}
 use Rattle.rustc_abi.specs.Coroutines.{IsStated}
 use Rattle.rustc_abi.specs.Enums.{IsEnumed, IsTagIntegerAnswer, arms_at, discriminants_of, layouts_of, numbered_from}

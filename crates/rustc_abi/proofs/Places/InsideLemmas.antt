@@ -30,8 +30,8 @@ use Rattle.abi_lists.specs.Apart.{AreApart}
 use Rattle.abi_lists.specs.Fields.{greatest_size}
 use Rattle.abi_lists.specs.List.{HasLawfulAligns, IsListAnswer, parts_of}
 use Rattle.abi_lists.specs.Placement.{IsLawfulPrefix, IsSized, align_of, cut, end_from, in_order, list_repr, start_of}
-use Rattle.abi_lists.proofs.Ends.{end_from-above}
-use Rattle.abi_lists.proofs.Rounding.{rounded_to}
+use Rattle.abi_lists.proofs.Offsets.Ends.{end_from-above}
+use Rattle.abi_lists.proofs.Offsets.Rounding.{rounded_to}
 use Rattle.abi_calc.specs.declared.enums.niche.Room.{Room}
 use Rattle.abi_calc.specs.declared.enums.path.Path.{Path}
 use Rattle.abi_calc.specs.declared.enums.path.Path.TheVariants.{NoValue, OneList, Several}

@@ -44,13 +44,13 @@ use Rattle.abi_laid.specs.Nodes.{parts_at, parts_at_0}
 use Rattle.rustc_abi.specs.Enums.{arms_at}
 use Rattle.abi_laid.specs.Runs.{is_padding_of, is_place_of_variant}
 use Rattle.abi_index.specs.RangeSet.{AreMaximalRuns, is_in_ranges}
-use Rattle.abi_laid.proofs.MaximalLemmas.{padding_listed, padding_told}
+use Rattle.abi_laid.proofs.Places.MaximalLemmas.{padding_listed, padding_told}
 use Rattle.abi_types.specs.Ty.Runs.{IsVariantIndex}
 use Rattle.abi_laid.specs.Seen.{HasOffset, IsListOf, Sees, SeesArms, SeesParts, SeesTypes, last_field}
 use Rattle.rustc_abi.proofs.Places.CoveredLemmas.{HasOneWhole, IsCovered, IsNoScalar, covered_parts, memory_none}
 use Rattle.rustc_abi.proofs.Trees.KindsLemmas.{AreBeside, AreFields, IsKept, IsTagWhole, laid_kept}
 use Rattle.rustc_abi.proofs.Places.LawsLemmas.{lengths_in}
-use Rattle.abi_laid.proofs.SeenLemmas.{count_at, seen_at}
+use Rattle.abi_laid.proofs.Nodes.SeenLemmas.{count_at, seen_at}
 
 -- handles of the type tell its data places
 abbrev pub TellsPlaces : Placed → Type 0

@@ -20,7 +20,7 @@ use Rattle.abi_scalar.specs.Simple.{never_layout}
 use Rattle.abi_lists.specs.Answer.{IsAnswer}
 use Rattle.abi_lists.specs.Apart.{AreApart}
 use Rattle.abi_lists.specs.List.{AreSized}
-use Rattle.abi_lists.proofs.LeastLemmas.{answer_large, answer_refused, never_large as listed_never_large}
+use Rattle.abi_lists.proofs.Promised.LeastLemmas.{answer_large, answer_refused, never_large as listed_never_large}
 use Rattle.abi_lists.specs.Least.{IsLeastSize}
 use Rattle.abi_calc.specs.declared.enums.path.Path.{Path}
 use Rattle.abi_calc.specs.declared.enums.path.Path.TheVariants.{NoValue, OneList, Several}

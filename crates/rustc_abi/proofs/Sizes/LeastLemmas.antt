@@ -23,14 +23,14 @@ use Rattle.abi_lists.specs.List.{AreSized, parts_of as asked_of}
 use Rattle.abi_lists.specs.Order.{IsNamedOrder}
 use Rattle.abi_lists.specs.Simd.{simd_answer, IsVectorTooLarge}
 use Rattle.abi_lists.specs.Placement.{IsAllowed, IsNonEmptyIfUnsized, list_repr, size_in}
-use Rattle.abi_lists.proofs.DeepLemmas.{sized_fault, sized_in_order}
-use Rattle.abi_lists.proofs.FaultLemmas.{clear_of, large_in, memory_in}
-use Rattle.abi_lists.proofs.Least.{all_too_large}
+use Rattle.abi_lists.proofs.Promised.DeepLemmas.{sized_fault, sized_in_order}
+use Rattle.abi_lists.proofs.Placed.FaultLemmas.{clear_of, large_in, memory_in}
+use Rattle.abi_lists.proofs.Sorted.Least.{all_too_large}
 use Rattle.abi_lists.specs.Least.{IsOrderOf, size_by}
 use Rattle.abi_lists.specs.Union.{IsUnionTooLarge}
-use Rattle.abi_lists.proofs.LeastLemmas.{has_least, never_large as listed_never_large}
-use Rattle.abi_lists.proofs.RunLemmas.{biased_of}
-use Rattle.abi_lists.proofs.TooLarge.{tells_size, union_large, union_refused}
+use Rattle.abi_lists.proofs.Promised.LeastLemmas.{has_least, never_large as listed_never_large}
+use Rattle.abi_lists.proofs.Placed.RunLemmas.{biased_of}
+use Rattle.abi_lists.proofs.UnionsVectors.TooLarge.{tells_size, union_large, union_refused}
 use Rattle.abi_lists.specs.Answer.{IsAnswer}
 use Rattle.abi_calc.specs.Coroutine.Layout.{IsStateTag}
 use Rattle.abi_calc.specs.Coroutine.Promotion.{promoted_of}

@@ -26,7 +26,7 @@ use Rattle.abi_calc.specs.Enums.Path.{path_of}
 use Rattle.abi_lists.specs.Least.{IsLeastSize, places_by, size_by}
 use Rattle.abi_calc.proofs.EnumLemmas.Tagged.{integer_some}
 use Rattle.abi_calc.proofs.CoroutineLemmas.OneCoroutine.{one_tag}
-use Rattle.abi_lists.proofs.Sorting.{within_order}
+use Rattle.abi_lists.proofs.Sorted.Sorting.{within_order}
 use Rattle.abi_lists.proofs.Facts.{IsOneOfSix, order_021, order_102, six_orders}
 use Rattle.abi_calc.specs.declared.enums.path.Path.TheVariants.{Several}
 use Rattle.abi_laid.specs.declared.mark.Mark.{Mark}

@@ -14,7 +14,7 @@ use Rattle.abi_lists.specs.Array.{elements_layout}
 use Rattle.abi_lists.specs.Simd.{lanes_align, lanes_answer, simd_align, simd_answer, simd_view, vector_layout}
 use Rattle.abi_lists.specs.Simd.{vector_size}
 use Rattle.abi_lists.specs.Union.{union_size}
-use Rattle.abi_lists.proofs.VectorLemmas.{lanes_are}
+use Rattle.abi_lists.proofs.UnionsVectors.VectorLemmas.{lanes_are}
 use Rattle.abi_laid.specs.Tree.{Tree, scalar, pair, never, unit, array, vector, union, Trees}
 use Rattle.abi_laid.specs.declared.mark.Mark.TheVariants.{Never, Unit}
 use Rattle.abi_laid.specs.Placed.{Placed, layout_of, size_of, elements, fields, no_parts, never as placed_never}

@@ -35,17 +35,17 @@ use Rattle.abi_lists.specs.Part.{IsAlignedPart, IsLawfulPart, is_unsized, part_o
 use Rattle.abi_lists.specs.Placement.{IsLawfulPrefix, IsNonEmptyIfUnsized, align_of, end_from, in_order, list_repr, size_in, start_of}
 use Rattle.abi_lists.specs.Simd.{if_below, is_tight, lanes_answer, simd_align, simd_answer, simd_view, vector_layout}
 use Rattle.abi_lists.specs.Union.{CountsForView, HasView, IsUnionView, fault_before, first_unsized, sized_fault, union_size}
-use Rattle.abi_lists.proofs.DeepLemmas.{in_order_of}
-use Rattle.abi_lists.proofs.OrderedLemmas.{ordered_index, ordered_inside}
-use Rattle.abi_lists.proofs.FaultLemmas.{clear_of}
-use Rattle.abi_lists.proofs.LawfulList.{made_lawful}
-use Rattle.abi_lists.proofs.Lawful.{array_lawful}
-use Rattle.abi_lists.proofs.Least.{align_small}
-use Rattle.abi_lists.proofs.ListLemmas.{parts_lawful, repr_lawful}
-use Rattle.abi_lists.proofs.RunLemmas.{aligned_parts, biased_of}
+use Rattle.abi_lists.proofs.Promised.DeepLemmas.{in_order_of}
+use Rattle.abi_lists.proofs.Promised.OrderedLemmas.{ordered_index, ordered_inside}
+use Rattle.abi_lists.proofs.Placed.FaultLemmas.{clear_of}
+use Rattle.abi_lists.proofs.Views.LawfulList.{made_lawful}
+use Rattle.abi_lists.proofs.Views.Lawful.{array_lawful}
+use Rattle.abi_lists.proofs.Sorted.Least.{align_small}
+use Rattle.abi_lists.proofs.Layouts.ListLemmas.{parts_lawful, repr_lawful}
+use Rattle.abi_lists.proofs.Placed.RunLemmas.{aligned_parts, biased_of}
 use Rattle.abi_lists.specs.Run.{IsInOrder}
-use Rattle.abi_lists.proofs.UnionLawful.{union_is_lawful}
-use Rattle.abi_lists.proofs.VectorLemmas.{factor_small, lanes_are, lanes_bounded, simd_of_view, simd_viewed, vector_small, vectors_lawful}
+use Rattle.abi_lists.proofs.UnionsVectors.UnionLawful.{union_is_lawful}
+use Rattle.abi_lists.proofs.UnionsVectors.VectorLemmas.{factor_small, lanes_are, lanes_bounded, simd_of_view, simd_viewed, vector_small, vectors_lawful}
 use Rattle.abi_calc.specs.declared.enums.path.Path.{Path}
 use Rattle.abi_calc.specs.declared.enums.path.Path.TheVariants.{NoValue, OneList, Several}
 use Rattle.abi_calc.specs.Coroutine.Layout.{IsStateTag}

@@ -18,8 +18,8 @@ use Rattle.abi_lists.specs.List.{IsListError, parts_of}
 use Rattle.abi_lists.specs.Order.{IsNamedOrder}
 use Rattle.abi_lists.specs.Placement.{IsNonEmptyIfUnsized, list_repr}
 use Rattle.abi_lists.specs.Union.{union_fault, union_layout}
-use Rattle.abi_lists.proofs.UnionLemmas.{one_union_view}
-use Rattle.abi_lists.proofs.OneOrder.{one_in_order, one_layout, one_named, never_refused}
+use Rattle.abi_lists.proofs.UnionsVectors.UnionLemmas.{one_union_view}
+use Rattle.abi_lists.proofs.Layouts.OneOrder.{one_in_order, one_layout, one_named, never_refused}
 use Rattle.abi_calc.proofs.EnumLemmas.OneEnum.{one_type, IsMade}
 use Rattle.abi_calc.proofs.CoroutineLemmas.OneCoroutine.{one_coroutine, one_tag}
 use Rattle.abi_calc.specs.Enums.Path.{path_of}

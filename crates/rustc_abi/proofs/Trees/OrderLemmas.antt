@@ -15,9 +15,9 @@ use Rattle.abi_lists.specs.Part.{part_of}
 use Rattle.abi_base.specs.declared.struct_kind.StructKind.TheVariants.{AlwaysSized, MaybeUnsized}
 use Rattle.abi_lists.specs.Placement.{IsAllowed, IsNonEmptyIfUnsized, list_repr}
 use Rattle.abi_scalar.specs.declared.error.LayoutCalculatorError.TheVariants as calculator
-use Rattle.abi_lists.proofs.Least.{allowed_permutes}
+use Rattle.abi_lists.proofs.Sorted.Least.{allowed_permutes}
 use Rattle.abi_lists.specs.Run.{IsInOrder}
-use Rattle.abi_lists.proofs.Sorting.{within_order}
+use Rattle.abi_lists.proofs.Sorted.Sorting.{within_order}
 use Rattle.rustc_abi.specs.declared.error.LayError.TheVariants.{BadAlign, BadIndex, BadOrder}
 use Rattle.abi_laid.specs.Placed.{Placed, layout_of}
 use Rattle.abi_scalar.specs.Layout.{Layout}

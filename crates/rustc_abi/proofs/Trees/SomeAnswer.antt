@@ -34,10 +34,10 @@ use Rattle.abi_base.specs.declared.struct_kind.StructKind.{StructKind}
 use Rattle.abi_lists.specs.Placement.{IsNonEmptyIfUnsized, KeepsTail, list_repr, source_order}
 use Rattle.abi_lists.specs.Run.{IsNamedLayout}
 use Rattle.abi_lists.specs.Union.{union_fault, union_layout}
-use Rattle.abi_lists.proofs.DeepLemmas.{sized_fault, sized_in_order}
-use Rattle.abi_lists.proofs.FaultLemmas.{memory_in}
-use Rattle.abi_lists.proofs.SomeOrder.{some_layout, some_placed}
-use Rattle.abi_lists.proofs.SomeView.{some_union_view}
+use Rattle.abi_lists.proofs.Promised.DeepLemmas.{sized_fault, sized_in_order}
+use Rattle.abi_lists.proofs.Placed.FaultLemmas.{memory_in}
+use Rattle.abi_lists.proofs.Layouts.SomeOrder.{some_layout, some_placed}
+use Rattle.abi_lists.proofs.Views.SomeView.{some_union_view}
 use Rattle.abi_calc.specs.Coroutine.Layout.{IsStateTag}
 use Rattle.abi_calc.proofs.CoroutineLemmas.SomeCoroutine.{some_coroutine}
 use Rattle.abi_calc.proofs.EnumLemmas.SomeEnum.{some_type}
@@ -50,7 +50,7 @@ use Rattle.abi_scalar.specs.Layout.{Layout}
 use Rattle.rustc_abi.specs.Error.{Follows, lay_error}
 use Rattle.rustc_abi.specs.Laying.{IsListedInOrder, IsOrderedFieldsAnswer, ordered_fault, randomized}
 use Rattle.rustc_abi.proofs.Trees.OrderLemmas.{allowed_parts, ordered_faultless, reorderable}
-use Rattle.abi_lists.proofs.Allowed.{keeps_or_not, permutes_or_not}
+use Rattle.abi_lists.proofs.Sorted.Allowed.{keeps_or_not, permutes_or_not}
 use Rattle.rustc_abi.specs.Laying.{AreLaying, IsFieldsAnswer, IsLaying, IsLaidList, IsCoroutineOf, IsUnionOf, IsUnited, VariantsLaying, elements_answer, fields_fault, kind_of, placed_fields, placed_together, vector_answer, IsEnumOf, enum_fault, placed_enum, coroutine_fault, most_fields, one_scalar, placed_coroutine}
 use Rattle.rustc_abi.specs.Coroutines.{IsCoroutined, IsStated, conflicts_of}
 use Rattle.rustc_abi.specs.Enums.{IsCalculated, IsEnumed, IsTagIntegerAnswer, numbered_from, layouts_of, discriminants_of}

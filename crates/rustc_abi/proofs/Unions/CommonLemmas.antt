@@ -15,8 +15,8 @@ use Rattle.abi_laid.specs.Places.{is_data_place, is_place_of_part}
 use Rattle.abi_laid.specs.Room.{has_room, have_room, arms_have_room}
 use Rattle.abi_laid.specs.Faithful.{PaddingDecidesNothing}
 use Rattle.abi_laid.specs.Unions.{Begins, IsCommon, EachPart, InUnions, InUnionsOf, InUnionsOfArms}
-use Rattle.abi_laid.proofs.HoldLemmas.{length-Holds, length-bytes_at, AgreeOn-bytes_at}
-use Rattle.abi_laid.proofs.PickedLemmas.{picked-agree}
+use Rattle.abi_laid.proofs.Bytes.HoldLemmas.{length-Holds, length-bytes_at, AgreeOn-bytes_at}
+use Rattle.abi_laid.proofs.Bytes.PickedLemmas.{picked-agree}
 
 -- ---- bytes of a field begin bytes of the union
 

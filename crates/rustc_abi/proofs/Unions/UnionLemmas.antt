@@ -29,8 +29,8 @@ use Rattle.abi_laid.specs.Fits.{Fits}
 use Rattle.abi_laid.specs.Room.{have_room}
 use Rattle.abi_laid.specs.Nodes.{parts_at_0}
 use Rattle.rustc_abi.specs.Adding.{EachFits}
-use Rattle.abi_laid.proofs.PickedLemmas.{AreBytes-picked, length-picked, picked-same, spread, length-spread, AreBytes-spread, picked-spread}
-use Rattle.abi_laid.proofs.RoomLemmas.{within_room}
+use Rattle.abi_laid.proofs.Bytes.PickedLemmas.{AreBytes-picked, length-picked, picked-same, spread, length-spread, AreBytes-spread, picked-spread}
+use Rattle.abi_laid.proofs.Places.RoomLemmas.{within_room}
 use Rattle.rustc_abi.proofs.Values.PartsLemmas.{place_here, place_later}
 use Rattle.rustc_abi.proofs.Values.FieldsLemmas.{common_each, untagged_each}
 use Rattle.rustc_abi.proofs.Unions.CommonLemmas.{common_field}

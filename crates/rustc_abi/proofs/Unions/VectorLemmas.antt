@@ -20,8 +20,8 @@ use Rattle.abi_laid.specs.Values.{IsValueOf, HasValue, VectorsHaveValues}
 use Rattle.abi_laid.specs.Holding.{Holds}
 use Rattle.abi_laid.specs.Faithful.{AgreeOn, IsFaithful, IsTrueOf}
 use Rattle.abi_laid.specs.Fits.{Fits}
-use Rattle.abi_laid.proofs.BytesLemmas.{put, length-put, bytes_at-put, AreBytes-put, AreBytes-bytes_at}
-use Rattle.abi_laid.proofs.HoldLemmas.{length-Holds, length-bytes_at, AgreeOn-bytes_at, IsNicheAt, niche_in_part, niche_in_whole}
+use Rattle.abi_laid.proofs.Bytes.BytesLemmas.{put, length-put, bytes_at-put, AreBytes-put, AreBytes-bytes_at}
+use Rattle.abi_laid.proofs.Bytes.HoldLemmas.{length-Holds, length-bytes_at, AgreeOn-bytes_at, IsNicheAt, niche_in_part, niche_in_whole}
 use Rattle.rustc_abi.proofs.Values.FlagLemmas.{alike}
 use Rattle.rustc_abi.proofs.Values.AnywhereLemmas.{value_anywhere}
 

@@ -23,10 +23,10 @@ use Rattle.abi_laid.specs.Holding.{Holds, HoldEach}
 use Rattle.abi_laid.specs.Faithful.{AgreeOn, IsFaithful}
 use Rattle.abi_laid.specs.Fits.{Fits}
 use Rattle.abi_scalar.specs.declared.backend_repr.BackendRepr.TheVariants.{Memory}
-use Rattle.abi_laid.proofs.RoomLemmas.{within_elements}
+use Rattle.abi_laid.proofs.Places.RoomLemmas.{within_elements}
 use Rattle.rustc_abi.proofs.Values.FlagLemmas.{flag-elements}
-use Rattle.abi_laid.proofs.BytesLemmas.{put, length-put, bytes_at-put, drop-put_after, AreBytes-put, AreBytes-bytes_at}
-use Rattle.abi_laid.proofs.HoldLemmas.{length-Holds, length-bytes_at, drop_later, AgreeOn-bytes_at, IsNicheAt, niche_in_part, niche_in_whole}
+use Rattle.abi_laid.proofs.Bytes.BytesLemmas.{put, length-put, bytes_at-put, drop-put_after, AreBytes-put, AreBytes-bytes_at}
+use Rattle.abi_laid.proofs.Bytes.HoldLemmas.{length-Holds, length-bytes_at, drop_later, AgreeOn-bytes_at, IsNicheAt, niche_in_part, niche_in_whole}
 
 -- the niche, if there is one, is the first element's
 abbrev pub IsElementNiche : (count : ℕ) → Placed → Niche → Type 0

@@ -32,7 +32,7 @@ use Rattle.abi_lists.specs.List.{parts_of}
 use Rattle.abi_lists.specs.ListView.{list_view}
 use Rattle.rustc_abi.proofs.Values.FlagLemmas.{flag-fields}
 use Rattle.rustc_abi.proofs.Values.ViewLemmas.{part_true, list_view_true}
-use Rattle.abi_laid.proofs.HoldLemmas.{IsNicheAt, niche_in_part, niche_in_whole}
+use Rattle.abi_laid.proofs.Bytes.HoldLemmas.{IsNicheAt, niche_in_part, niche_in_whole}
 use Rattle.rustc_abi.proofs.Values.PartsLemmas.{LieBeside, FitTogether, LieInside, exist, only, unique, padding, within_parts}
 
 -- the niche is some part's

@@ -25,7 +25,7 @@ use Rattle.abi_laid.specs.Holding.{Holds}
 use Rattle.abi_laid.specs.Faithful.{AgreeOn, IsFaithful, IsScalarTrue, IsTrueOf}
 use Rattle.abi_laid.specs.Fits.{Fits}
 use Rattle.rustc_abi.specs.Laying.{one_scalar, two_scalars}
-use Rattle.abi_laid.proofs.HoldLemmas.{IsNicheAt, bytes_at-bytes_at}
+use Rattle.abi_laid.proofs.Bytes.HoldLemmas.{IsNicheAt, bytes_at-bytes_at}
 use Rattle.rustc_abi.proofs.Values.ScalarLemmas.{Fits-scalar, held_true, some_number}
 use Rattle.rustc_abi.proofs.Values.PartsLemmas.{FitTogether, LieInside, exist, only, unique, padding, within_parts}
 use Rattle.rustc_abi.proofs.Values.FieldsLemmas.{IsPartNiche, part_niche, part_niche_inside}

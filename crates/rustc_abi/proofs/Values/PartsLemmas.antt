@@ -15,8 +15,8 @@ use Rattle.abi_laid.specs.Places.{is_data_place, is_place_of_part}
 use Rattle.abi_laid.specs.Values.{AreValuesOf}
 use Rattle.abi_laid.specs.Holding.{Holds, HoldParts}
 use Rattle.abi_laid.specs.Faithful.{IsFaithful}
-use Rattle.abi_laid.proofs.BytesLemmas.{put, length-put, bytes_at-put, bytes_at-put_other, AreBytes-put, AreBytes-bytes_at}
-use Rattle.abi_laid.proofs.HoldLemmas.{length-Holds, length-bytes_at, AgreeOn-bytes_at}
+use Rattle.abi_laid.proofs.Bytes.BytesLemmas.{put, length-put, bytes_at-put, bytes_at-put_other, AreBytes-put, AreBytes-bytes_at}
+use Rattle.abi_laid.proofs.Bytes.HoldLemmas.{length-Holds, length-bytes_at, AgreeOn-bytes_at}
 
 -- n bytes at the offset lie before or after each part
 abbrev pub LieBeside : (offset n : ℕ) → Parts → Type 0

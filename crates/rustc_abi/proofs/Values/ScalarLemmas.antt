@@ -28,7 +28,7 @@ use Rattle.abi_laid.specs.Fits.{Fits}
 use Rattle.rustc_abi.specs.Laying.{one_scalar}
 use Rattle.abi_scalar.specs.declared.backend_repr.BackendRepr.TheVariants.{Scalar as OneScalar}
 use Rattle.abi_scalar.specs.Simple.{scalar_layout}
-use Rattle.abi_laid.proofs.BytesLemmas.{same_bytes, spelled_in, length-spelled_in, number_of-spelled_in, AreBytes-spelled_in}
+use Rattle.abi_laid.proofs.Bytes.BytesLemmas.{same_bytes, spelled_in, length-spelled_in, number_of-spelled_in, AreBytes-spelled_in}
 
 -- a scalar's number is one of its width
 in_width : (width : ℕ) (s : Scalar) (n : ℕ) → IsNumberOf width s n → n < numbers_of width

@@ -25,7 +25,7 @@ use Rattle.abi_laid.specs.Placed.{Placed, layout_of, size_of, nothing}
 use Rattle.abi_laid.specs.Holding.{HoldParts}
 use Rattle.abi_laid.specs.Faithful.{IsScalarTrue, IsTrueOf}
 use Rattle.abi_laid.specs.Nodes.{parts_at}
-use Rattle.abi_laid.proofs.HoldLemmas.{bytes_at-bytes_at}
+use Rattle.abi_laid.proofs.Bytes.HoldLemmas.{bytes_at-bytes_at}
 use Rattle.rustc_abi.proofs.Values.PartsLemmas.{FitTogether}
 
 -- what is true of a scalar in a part is true of it in the whole

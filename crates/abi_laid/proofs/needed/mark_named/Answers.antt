@@ -1,7 +1,7 @@
 use Rattle.std.proofs.Common.{ℕ, ◌<◌, List, [], ◌∷◌, ◌++◌, All, ap, arith, length, map, subst, sym, ◌∙◌}
 use Rattle.std.proofs.lemmas.List.Elements.{All-nil, All-cons, All-head, All-tail}
 use Rattle.abi_laid.specs.Needed.{MarksPlaces, named_by, placed_nodes}
-use Rattle.abi_laid.proofs.NeededLemmas.{All-left, All-right, marks_both}
+use Rattle.abi_laid.proofs.Places.NeededLemmas.{All-left, All-right, marks_both}
 use Rattle.abi_laid.proofs.needed.mark_named.Goals as goal
 
 pub mark_variants-requires : goal.mark_variants-requires

@@ -1,6 +1,6 @@
 use Rattle.std.proofs.Common.{arith}
 use Rattle.std.proofs.lemmas.List.{get_or-map, length-map}
-use Rattle.abi_laid.proofs.NeededLemmas.{marks_variant}
+use Rattle.abi_laid.proofs.Places.NeededLemmas.{marks_variant}
 use Rattle.abi_laid.proofs.needed.mark_variants.Goals as goal
 
 pub bounds-needed-variant : goal.bounds-needed-variant

@@ -2,7 +2,7 @@ use Rattle.std.proofs.Common.{◌≡◌, ◌+◌, ◌-◌, ◌<◌, ℕ, List, B
 use Rattle.std.proofs.lemmas.List.{get_or_default, take_at}
 use Rattle.abi_laid.specs.declared.node.Node.{Node}
 use Rattle.abi_laid.specs.Needed.{MarksPlaces, named_by}
-use Rattle.abi_laid.proofs.NeededLemmas.{AreRead, named_first, read_all, read_bare, read_first, read_more, read_skip}
+use Rattle.abi_laid.proofs.Places.NeededLemmas.{AreRead, named_first, read_all, read_bare, read_first, read_more, read_skip}
 use Rattle.abi_laid.proofs.needed.needed_nodes.Goals.{then-bytes-gt0, else-bytes-gt0}
 use Rattle.abi_laid.proofs.needed.needed_nodes.Goals as goal
 

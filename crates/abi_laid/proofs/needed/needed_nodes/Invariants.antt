@@ -1,5 +1,5 @@
 use Rattle.std.proofs.Common.{◌≡◌}
-use Rattle.abi_laid.proofs.NeededLemmas.{AreRead}
+use Rattle.abi_laid.proofs.Places.NeededLemmas.{AreRead}
 use Rattle.abi_laid.proofs.needed.needed_nodes.Given as goal
 
 abbrev pub invariant-loop-at : goal.invariant-loop-at

@@ -1,5 +1,5 @@
 use Rattle.std.proofs.Common.{arith, length, rules}
-use Rattle.abi_laid.proofs.MadeLemmas.{last_made}
+use Rattle.abi_laid.proofs.Places.MadeLemmas.{last_made}
 use Rattle.abi_laid.proofs.runs_of.joined_runs.Goals as goal
 
 pub returns-in-Some : goal.returns-in-Some

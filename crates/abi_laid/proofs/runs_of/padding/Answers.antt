@@ -4,7 +4,7 @@ use Rattle.abi_laid.specs.Nodes.{placed_at}
 use Rattle.abi_laid.specs.Placed.{Placed, size_of}
 use Rattle.abi_laid.specs.Places.{is_data_place}
 use Rattle.abi_laid.specs.Needed.{AreNeeded}
-use Rattle.abi_laid.proofs.MadeLemmas.{kept_size_is, padding_bytes}
+use Rattle.abi_laid.proofs.Places.MadeLemmas.{kept_size_is, padding_bytes}
 use Rattle.abi_laid.proofs.runs_of.padding.Goals as goal
 
 pub returns-clause-ranges : goal.returns-clause-ranges

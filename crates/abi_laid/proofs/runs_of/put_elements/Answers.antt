@@ -1,6 +1,6 @@
 use Rattle.std.proofs.Common.{arith}
 use Rattle.std.proofs.lemmas.Result.{on_ok_weaker}
-use Rattle.abi_laid.proofs.MadeLemmas.{element_stride, elements_end, put_repeated, stride_some}
+use Rattle.abi_laid.proofs.Places.MadeLemmas.{element_stride, elements_end, put_repeated, stride_some}
 use Rattle.abi_laid.proofs.runs_of.put_elements.Goals as goal
 
 pub add_repeated-requires-clause-some : goal.add_repeated-requires-clause-some

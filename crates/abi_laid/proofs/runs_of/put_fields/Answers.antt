@@ -1,7 +1,7 @@
 use Rattle.std.proofs.Common.{subst}
 use Rattle.abi_index.specs.RangeSet.{is_in_ranges}
 use Rattle.abi_index.specs.Runs.{Adds, moved_to}
-use Rattle.abi_laid.proofs.MadeLemmas.{maximal_fits, stacked_next}
+use Rattle.abi_laid.proofs.Places.MadeLemmas.{maximal_fits, stacked_next}
 use Rattle.abi_laid.proofs.runs_of.put_fields.Goals as goal
 
 pub set_at-requires : goal.set_at-requires

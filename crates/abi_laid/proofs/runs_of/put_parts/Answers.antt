@@ -4,7 +4,7 @@ use Rattle.std.proofs.lemmas.List.{get_or_default, length-map}
 use Rattle.abi_index.specs.RangeSet.{is_in_ranges}
 use Rattle.abi_index.specs.Runs.{Adds, moved_to}
 use Rattle.abi_laid.specs.Needed.{sets_at}
-use Rattle.abi_laid.proofs.MadeLemmas.{parts_all, parts_next}
+use Rattle.abi_laid.proofs.Places.MadeLemmas.{parts_all, parts_next}
 use Rattle.abi_laid.proofs.runs_of.put_parts.Goals as goal
 
 pub set_at-requires : goal.set_at-requires

@@ -7,7 +7,7 @@ use Rattle.abi_laid.specs.declared.node.Node.{Node}
 use Rattle.abi_laid.specs.Nodes.{placed_in, state_tag_offset}
 use Rattle.abi_laid.specs.Placed.{size_of}
 use Rattle.abi_laid.specs.Needed.{placed_nodes}
-use Rattle.abi_laid.proofs.MadeLemmas.{beside_fits, beside_tagged, elements_of, listed_fields, listed_fit, listed_pair, listed_single, maximal_fits, put_elements, put_fields, put_pair, put_single, put_states, put_tagged, put_union, put_vector, states_parts, union_sets, vector_set}
+use Rattle.abi_laid.proofs.Places.MadeLemmas.{beside_fits, beside_tagged, elements_of, listed_fields, listed_fit, listed_pair, listed_single, maximal_fits, put_elements, put_fields, put_pair, put_single, put_states, put_tagged, put_union, put_vector, states_parts, union_sets, vector_set}
 use Rattle.abi_laid.proofs.runs_of.put_places.Goals as goal
 
 pub put_parts-requires-clause-made : goal.put_parts-requires-clause-made

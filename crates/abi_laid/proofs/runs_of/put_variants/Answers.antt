@@ -3,7 +3,7 @@ use Rattle.std.proofs.lemmas.List.{get_or-map, length-map}
 use Rattle.abi_index.specs.RangeSet.{is_in_ranges}
 use Rattle.abi_index.specs.Runs.{Adds, moved_to}
 use Rattle.abi_laid.specs.Needed.{IsSet}
-use Rattle.abi_laid.proofs.MadeLemmas.{maximal_fits, variant_next}
+use Rattle.abi_laid.proofs.Places.MadeLemmas.{maximal_fits, variant_next}
 use Rattle.abi_laid.proofs.runs_of.put_variants.Goals as goal
 
 pub set_at-requires : goal.set_at-requires

@@ -4,7 +4,7 @@ use Rattle.abi_index.specs.RangeSet.{is_in_ranges}
 use Rattle.std.specs.Prelude.{◌||◌}
 use Rattle.abi_laid.specs.Nodes.{meaning}
 use Rattle.abi_laid.specs.Places.{is_data_place}
-use Rattle.abi_laid.proofs.MadeLemmas.{nothing_made}
+use Rattle.abi_laid.proofs.Places.MadeLemmas.{nothing_made}
 use Rattle.abi_laid.proofs.runs_of.runs_of.Goals as goal
 
 pub returns-then-eq : goal.returns-then-eq

@@ -7,7 +7,7 @@ use Rattle.abi_laid.specs.Nodes.{meaning}
 use Rattle.abi_laid.specs.Places.{is_data_place}
 use Rattle.abi_laid.specs.Placed.{Placed}
 use Rattle.abi_laid.specs.Needed.{IsMadeOf}
-use Rattle.abi_laid.proofs.MadeLemmas.{entry_made, made_next}
+use Rattle.abi_laid.proofs.Places.MadeLemmas.{entry_made, made_next}
 use Rattle.abi_laid.proofs.runs_of.sets_of.Goals as goal
 
 pub next_set-requires : goal.next_set-requires

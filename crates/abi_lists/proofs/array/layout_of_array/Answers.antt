@@ -1,5 +1,5 @@
 use Rattle.std.proofs.Common.{rules, arith, refl, inl, inr}
-use Rattle.abi_lists.proofs.Lawful.{array_lawful}
+use Rattle.abi_lists.proofs.Views.Lawful.{array_lawful}
 use Rattle.abi_lists.proofs.array.layout_of_array.Goals as goal
 use Rattle.abi_lists.proofs.array.layout_of_array.Goals.{then-count-eq0, else-count-eq0}
 

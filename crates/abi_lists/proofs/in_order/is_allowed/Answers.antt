@@ -2,7 +2,7 @@ use Rattle.std.proofs.Common.{◌≡◌, ◌∙◌, ℕ, length, map, subst, sym
 use Rattle.std.specs.Prelude.{◌↔◌, IsTrue}
 use Rattle.std.proofs.lemmas.List.{length-map}
 use Rattle.abi_lists.specs.Placement.{KeepsTail}
-use Rattle.abi_lists.proofs.NamesEach.{allowed_by, count_of_each}
+use Rattle.abi_lists.proofs.Sorted.NamesEach.{allowed_by, count_of_each}
 use Rattle.abi_lists.proofs.in_order.is_allowed.Goals as goal
 
 pub keeps_tail-requires : goal.keeps_tail-requires

@@ -1,5 +1,5 @@
 use Rattle.std.proofs.Common.{arith}
-use Rattle.abi_lists.proofs.NamesEach.{is_source, too_short, other_at}
+use Rattle.abi_lists.proofs.Sorted.NamesEach.{is_source, too_short, other_at}
 use Rattle.abi_lists.proofs.in_order.is_source_order.Goals as goal
 
 pub returns-then-numbers-count : goal.returns-then-numbers-count

@@ -1,5 +1,5 @@
 use Rattle.std.proofs.Common.{length}
-use Rattle.abi_lists.proofs.NamesEach.{few_allowed}
+use Rattle.abi_lists.proofs.Sorted.NamesEach.{few_allowed}
 use Rattle.abi_lists.proofs.in_order.layout_of_fields_in_order.Goals as goal
 
 pub of-requires-clause-few : goal.of-requires-clause-few

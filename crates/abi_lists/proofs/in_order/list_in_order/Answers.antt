@@ -12,9 +12,9 @@ use Rattle.abi_scalar.specs.declared.niche.Niche.{Niche}
 use Rattle.abi_lists.specs.List.{parts_of}
 use Rattle.abi_lists.specs.Placement.{IsAllowed, IsLawfulRepr, source_order}
 use Rattle.abi_lists.specs.Run.{IsInOrder, IsPlacedIn}
-use Rattle.abi_lists.proofs.InOrderLemmas.{error_in_order, fault_placed}
-use Rattle.abi_lists.proofs.Least.{allowed_permutes}
-use Rattle.abi_lists.proofs.ListLemmas.{length-parts, parts_lawful, repr_lawful}
+use Rattle.abi_lists.proofs.Promised.InOrderLemmas.{error_in_order, fault_placed}
+use Rattle.abi_lists.proofs.Sorted.Least.{allowed_permutes}
+use Rattle.abi_lists.proofs.Layouts.ListLemmas.{length-parts, parts_lawful, repr_lawful}
 use Rattle.abi_lists.proofs.in_order.list_in_order.Goals as goal
 
 -- a list that was laid out in an allowed order lies in it

@@ -1,7 +1,7 @@
 use Rattle.std.proofs.Common.{◌≡◌, ℕ, List, map, sym, subst, ◌∙◌}
 use Rattle.std.specs.Prelude.{IsPermutation}
 use Rattle.std.proofs.lemmas.List.Sorted.{IsNonDecreasingBy-from_sort}
-use Rattle.abi_lists.proofs.NamesEach.{each_of_sorted, sorted_of_each}
+use Rattle.abi_lists.proofs.Sorted.NamesEach.{each_of_sorted, sorted_of_each}
 use Rattle.abi_lists.proofs.in_order.names_each.Goals as goal
 
 pub returns : goal.returns

@@ -5,11 +5,11 @@ use Rattle.abi_scalar.specs.declared.fields_shape.FieldsShape.TheVariants.{Arbit
 use Rattle.abi_lists.specs.declared.list_repr.ListRepr.{ListRepr}
 use Rattle.abi_lists.specs.List.{parts_of, unadjusted_of}
 use Rattle.abi_lists.specs.Placement.{IsLawfulRepr, IsNonEmptyIfUnsized, align_of, end_from, in_order, start_of}
-use Rattle.abi_lists.proofs.LawfulList.{made_lawful}
-use Rattle.abi_lists.proofs.Least.{align_small}
-use Rattle.abi_lists.proofs.ListLemmas.{seed_same, view_same, length-parts, parts_lawful, repr_lawful}
-use Rattle.abi_lists.proofs.OrderedLemmas.{ordered_index, ordered_inside}
-use Rattle.abi_lists.proofs.RunLemmas.{aligned_parts}
+use Rattle.abi_lists.proofs.Views.LawfulList.{made_lawful}
+use Rattle.abi_lists.proofs.Sorted.Least.{align_small}
+use Rattle.abi_lists.proofs.Layouts.ListLemmas.{seed_same, view_same, length-parts, parts_lawful, repr_lawful}
+use Rattle.abi_lists.proofs.Promised.OrderedLemmas.{ordered_index, ordered_inside}
+use Rattle.abi_lists.proofs.Placed.RunLemmas.{aligned_parts}
 use Rattle.abi_lists.proofs.list.list_of_placed.Goals as goal
 
 pub list_view-view-requires-clause-parts : goal.list_view-view-requires-clause-parts

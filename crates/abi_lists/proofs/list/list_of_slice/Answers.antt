@@ -9,9 +9,9 @@ use Rattle.abi_scalar.specs.declared.niche.Niche.{Niche}
 use Rattle.abi_lists.specs.List.{parts_of}
 use Rattle.abi_lists.specs.Placement.{IsLawfulRepr, IsNonEmptyIfUnsized}
 use Rattle.abi_lists.specs.Run.{IsFaultOf, IsInOrder, IsNamedLayout}
-use Rattle.abi_lists.proofs.DeepLemmas.{in_order_of}
-use Rattle.abi_lists.proofs.ListLemmas.{error_exact, fault_named, length-parts, parts_lawful, repr_lawful}
-use Rattle.abi_lists.proofs.RunLemmas.{biased_of}
+use Rattle.abi_lists.proofs.Promised.DeepLemmas.{in_order_of}
+use Rattle.abi_lists.proofs.Layouts.ListLemmas.{error_exact, fault_named, length-parts, parts_lawful, repr_lawful}
+use Rattle.abi_lists.proofs.Placed.RunLemmas.{biased_of}
 use Rattle.abi_lists.proofs.list.list_of_slice.Goals as goal
 
 -- a list that was laid out in a named order lies in an allowed one

@@ -1,7 +1,7 @@
 use Rattle.std.proofs.Common.{◌≡◌, ℕ, ◌+◌, ◌-◌, Bool, arith, filter, length, sym, ap, ◌∙◌}
 use Rattle.abi_lists.specs.ListView.{bulk_of, is_bulky, part_at}
 use Rattle.abi_lists.specs.Placement.{source_order}
-use Rattle.abi_lists.proofs.ViewLemmas.{bulk_else, bulk_stays, bulk_then}
+use Rattle.abi_lists.proofs.Views.ViewLemmas.{bulk_else, bulk_stays, bulk_then}
 use Rattle.abi_lists.proofs.list_view.bulk_of.Goals as goal
 use Rattle.abi_lists.proofs.list_view.bulk_of.Goals.{then-is_bulky, else-is_bulky}
 

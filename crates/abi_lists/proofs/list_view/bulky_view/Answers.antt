@@ -1,7 +1,7 @@
 use Rattle.std.proofs.Common.{rules, arith, ◌<◌, ◌∙◌, length, sym}
 use Rattle.std.proofs.lemmas.List.{get_or_default}
 use Rattle.abi_lists.specs.Placement.{no_part}
-use Rattle.abi_lists.proofs.ViewLemmas.{one_read, one_within, two_read, two_within}
+use Rattle.abi_lists.proofs.Views.ViewLemmas.{one_read, one_within, two_read, two_within}
 use Rattle.abi_lists.proofs.list_view.bulky_view.Goals as goal
 
 pub offset_bounds-offsets-i : goal.offset_bounds-offsets-i

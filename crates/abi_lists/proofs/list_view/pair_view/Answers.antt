@@ -1,8 +1,8 @@
 use Rattle.std.proofs.Common.{rules, arith, ◌≡◌, ◌≤◌, ◌<◌, ◌+◌, ◌^◌, max}
 use Rattle.std.specs.Int.{next_multiple_of}
-use Rattle.abi_lists.proofs.Lawful.{aggregate_small}
-use Rattle.abi_lists.proofs.Rounding.{round_below, round_fits}
-use Rattle.abi_lists.proofs.ViewLemmas.{scalar_small}
+use Rattle.abi_lists.proofs.Views.Lawful.{aggregate_small}
+use Rattle.abi_lists.proofs.Offsets.Rounding.{round_below, round_fits}
+use Rattle.abi_lists.proofs.Views.ViewLemmas.{scalar_small}
 use Rattle.abi_lists.proofs.list_view.pair_view.Goals as goal
 
 pub align_to-b_offset-requires-clause-shift : goal.align_to-b_offset-requires-clause-shift

@@ -1,5 +1,5 @@
 use Rattle.std.proofs.Common.{◌∙◌, sym}
-use Rattle.abi_lists.proofs.ViewLemmas.{one_within}
+use Rattle.abi_lists.proofs.Views.ViewLemmas.{one_within}
 use Rattle.abi_lists.proofs.list_view.transparent_align.Goals as goal
 
 pub at-requires : goal.at-requires

@@ -4,8 +4,8 @@ use Rattle.std.proofs.lemmas.List.{length-map}
 use Rattle.abi_lists.specs.Order.{IsSortedBefore, movable, sort_key}
 use Rattle.abi_lists.specs.Part.{IsAlignedPart}
 use Rattle.abi_lists.specs.Placement.{source_order}
-use Rattle.abi_lists.proofs.Orders.{order_length}
-use Rattle.abi_lists.proofs.Sorting.{few_named, items_have, movable_all, tail_of_all, tail_of_front}
+use Rattle.abi_lists.proofs.Sorted.Orders.{order_length}
+use Rattle.abi_lists.proofs.Sorted.Sorting.{few_named, items_have, movable_all, tail_of_all, tail_of_front}
 use Rattle.abi_lists.proofs.order.sorted_before.Goals as goal
 use Rattle.abi_lists.proofs.order.sorted_before.Goals.{then-len+in_ok-push, else-len}
 

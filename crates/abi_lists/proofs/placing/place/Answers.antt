@@ -1,9 +1,9 @@
 use Rattle.std.proofs.Common.{rules, arith, ◌<◌, length, inl, sym, ◌∙◌}
 use Rattle.abi_lists.specs.Part.{IsLawfulPart}
 use Rattle.abi_lists.specs.Placement.{start_of}
-use Rattle.abi_lists.proofs.NicheLemmas.{part_fits}
-use Rattle.abi_lists.proofs.Sorting.{within_order}
-use Rattle.abi_lists.proofs.PlacingLemmas.{part_lawful_at, placed_followed, placed_large, placed_more, placed_unsized}
+use Rattle.abi_lists.proofs.Views.NicheLemmas.{part_fits}
+use Rattle.abi_lists.proofs.Sorted.Sorting.{within_order}
+use Rattle.abi_lists.proofs.Placed.PlacingLemmas.{part_lawful_at, placed_followed, placed_large, placed_more, placed_unsized}
 use Rattle.abi_lists.proofs.placing.place.Goals as goal
 
 pub at-part-requires : goal.at-part-requires

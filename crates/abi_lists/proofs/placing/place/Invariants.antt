@@ -3,7 +3,7 @@ use Rattle.std.proofs.Common.{◌+◌, ◌^◌, ◌<◌}
 use Rattle.abi_base.specs.DataLayout.{size_bound}
 use Rattle.abi_lists.specs.Part.{max_align}
 use Rattle.abi_lists.specs.Placement.{start_of}
-use Rattle.abi_lists.proofs.PlacingLemmas.{IsPlaced}
+use Rattle.abi_lists.proofs.Placed.PlacingLemmas.{IsPlaced}
 use Rattle.abi_lists.proofs.placing.place.Given as goal
 
 abbrev pub invariant-loop-at : goal.invariant-loop-at

@@ -2,7 +2,7 @@ use Rattle.std.proofs.Common.{◌≡◌, ◌∙◌, None, Some, ap, length, sym}
 use Rattle.std.specs.Prelude.{if◌then◌else◌}
 use Rattle.abi_lists.specs.ListNiche.{space_beside}
 use Rattle.abi_lists.specs.Run.{may_move}
-use Rattle.abi_lists.proofs.RunLemmas.{named_fixed, named_second, named_still, second_never}
+use Rattle.abi_lists.proofs.Placed.RunLemmas.{named_fixed, named_second, named_still, second_never}
 use Rattle.abi_lists.proofs.run.layout_of_parts.Goals as goal
 
 pub returns-in-Err-clause-fault : goal.returns-in-Err-clause-fault

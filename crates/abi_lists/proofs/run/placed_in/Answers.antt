@@ -4,9 +4,9 @@ use Rattle.abi_scalar.specs.Lawful.{IsLawfulNiche}
 use Rattle.abi_lists.specs.declared.order.NicheBias.TheVariants.{Start, End}
 use Rattle.abi_lists.specs.Placement.{size_in}
 use Rattle.abi_lists.specs.ListNiche.{niche_in}
-use Rattle.abi_lists.proofs.Least.{align_small}
-use Rattle.abi_lists.proofs.NicheLemmas.{lawful_readable}
-use Rattle.abi_lists.proofs.RunLemmas.{aligned_parts, biased_is, niche_inside}
+use Rattle.abi_lists.proofs.Sorted.Least.{align_small}
+use Rattle.abi_lists.proofs.Views.NicheLemmas.{lawful_readable}
+use Rattle.abi_lists.proofs.Placed.RunLemmas.{aligned_parts, biased_is, niche_inside}
 use Rattle.abi_lists.proofs.run.placed_in.Given.{Over}
 use Rattle.abi_lists.proofs.run.placed_in.Goals as goal
 

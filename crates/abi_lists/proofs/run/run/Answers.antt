@@ -1,5 +1,5 @@
 use Rattle.std.proofs.Common.{length}
-use Rattle.abi_lists.proofs.Least.{named_allowed, allowed_permutes}
+use Rattle.abi_lists.proofs.Sorted.Least.{named_allowed, allowed_permutes}
 use Rattle.abi_lists.proofs.run.run.Goals as goal
 
 pub placed_in-requires-clause-order : goal.placed_in-requires-clause-order

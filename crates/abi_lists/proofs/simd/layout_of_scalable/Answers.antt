@@ -1,7 +1,7 @@
 use Rattle.std.proofs.Common.{rules, ap, ◌≡◌, ◌≤◌, ◌*◌, ◌∙◌, arith}
 use Rattle.abi_base.specs.DataLayout.{size_bound}
 use Rattle.std.proofs.Math.Nat.{mul-le-mul_left}
-use Rattle.abi_lists.proofs.VectorLemmas.{lanes_are, lanes_bounded, vectors_lawful}
+use Rattle.abi_lists.proofs.UnionsVectors.VectorLemmas.{lanes_are, lanes_bounded, vectors_lawful}
 use Rattle.abi_lists.proofs.simd.layout_of_scalable.Goals as goal
 
 pub mul-bytes-requires : goal.mul-bytes-requires

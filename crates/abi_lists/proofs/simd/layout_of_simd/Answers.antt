@@ -3,8 +3,8 @@ use Rattle.std.specs.Int.{◌∣◌}
 use Rattle.abi_base.specs.DataLayout.{size_bound}
 use Rattle.abi_scalar.specs.Lawful.{IsLawfulView, IsNicheOfView}
 use Rattle.abi_lists.specs.Simd.{is_tight}
-use Rattle.abi_lists.proofs.Rounding.{round_multiple}
-use Rattle.abi_lists.proofs.VectorLemmas.{below_ok, lanes_are, lanes_bounded, simd_of_view, simd_viewed, vectors_lawful}
+use Rattle.abi_lists.proofs.Offsets.Rounding.{round_multiple}
+use Rattle.abi_lists.proofs.UnionsVectors.VectorLemmas.{below_ok, lanes_are, lanes_bounded, simd_of_view, simd_viewed, vectors_lawful}
 use Rattle.abi_lists.proofs.simd.layout_of_simd.Goals as goal
 
 pub simd_align-align-requires-clause-some : goal.simd_align-align-requires-clause-some

@@ -1,4 +1,4 @@
-use Rattle.abi_lists.proofs.VectorLemmas.{factor_small}
+use Rattle.abi_lists.proofs.UnionsVectors.VectorLemmas.{factor_small}
 use Rattle.abi_lists.proofs.simd.simd_align.Goals as goal
 
 pub returns-then-is_tight-clause-limit : goal.returns-then-is_tight-clause-limit

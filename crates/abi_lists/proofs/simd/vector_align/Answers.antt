@@ -1,4 +1,4 @@
-use Rattle.abi_lists.proofs.VectorLemmas.{vector_small}
+use Rattle.abi_lists.proofs.UnionsVectors.VectorLemmas.{vector_small}
 use Rattle.abi_lists.proofs.simd.vector_align.Goals as goal
 
 pub returns-clause-limit : goal.returns-clause-limit

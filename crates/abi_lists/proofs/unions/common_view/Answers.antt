@@ -1,7 +1,7 @@
 use Rattle.std.proofs.Common.{rules, refl, ◌≡◌}
 use Rattle.std.proofs.lemmas.Bool.{false≢true}
 use Rattle.abi_scalar.specs.View.{union_view}
-use Rattle.abi_lists.proofs.UnionLemmas.{no_view, some_view, same_view}
+use Rattle.abi_lists.proofs.UnionsVectors.UnionLemmas.{no_view, some_view, same_view}
 use Rattle.abi_lists.proofs.unions.common_view.Goals as goal
 
 pub returns-in_err-first-clause-none : goal.returns-in_err-first-clause-none

@@ -1,7 +1,7 @@
 use Rattle.std.proofs.Common.{rules, refl, map, ◌≡◌, arith}
 use Rattle.abi_lists.specs.Union.{union_align}
-use Rattle.abi_lists.proofs.Rounding.{round_fits}
-use Rattle.abi_lists.proofs.UnionLawful.{greatest_size_small, union_align_small, union_is_lawful}
+use Rattle.abi_lists.proofs.Offsets.Rounding.{round_fits}
+use Rattle.abi_lists.proofs.UnionsVectors.UnionLawful.{greatest_size_small, union_align_small, union_is_lawful}
 use Rattle.abi_lists.proofs.unions.layout_of_union.Goals as goal
 
 pub align_to-size-requires-clause-shift : goal.align_to-size-requires-clause-shift

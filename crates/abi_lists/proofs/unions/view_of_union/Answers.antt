@@ -1,7 +1,7 @@
 use Rattle.std.proofs.Common.{refl, sym, subst, map, inr}
 use Rattle.std.proofs.lemmas.Bool.{false≢true}
 use Rattle.abi_lists.specs.Union.{IsAlignedFor}
-use Rattle.abi_lists.proofs.UnionLemmas.{knows_common, not_aligned, not_common, not_free}
+use Rattle.abi_lists.proofs.UnionsVectors.UnionLemmas.{knows_common, not_aligned, not_common, not_free}
 use Rattle.abi_lists.proofs.unions.view_of_union.Goals as goal
 use Rattle.abi_lists.proofs.unions.view_of_union.Goals.{then-not-inhibits_union_abi_opt+in-Some+else-is_aligned_for, then-not-inhibits_union_abi_opt+in_default, else-not-inhibits_union_abi_opt}
 

@@ -6,7 +6,7 @@ use Rattle.abi_index.specs.RangeSet.{is_in_ranges}
 use Rattle.abi_laid.specs.Laid.{placed_of}
 use Rattle.abi_laid.specs.Placed.{Placed, size_of}
 use Rattle.abi_laid.specs.Runs.{padding_of}
-use Rattle.abi_laid.proofs.MaximalLemmas.{padding_listed}
+use Rattle.abi_laid.proofs.Places.MaximalLemmas.{padding_listed}
 use Rattle.abi_text.specs.Printing.{padding_lines, range_lines}
 use Rattle.abi_text.proofs.print.write_padding.Goals as goal
 

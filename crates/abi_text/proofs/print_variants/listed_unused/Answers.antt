@@ -9,7 +9,7 @@ use Rattle.abi_laid.specs.Handles.{tree_type}
 use Rattle.abi_laid.specs.Laid.{placed_of}
 use Rattle.abi_laid.specs.Placed.{Placed, layout_of, size_of}
 use Rattle.abi_laid.specs.Runs.{unused_of}
-use Rattle.abi_laid.proofs.MaximalLemmas.{unused_listed}
+use Rattle.abi_laid.proofs.Places.MaximalLemmas.{unused_listed}
 use Rattle.abi_types.proofs.PlacesLemmas.{beside_counted, beside_index}
 use Rattle.abi_text.specs.Printing.{range_lines}
 use Rattle.abi_text.proofs.print_variants.listed_unused.Goals as goal

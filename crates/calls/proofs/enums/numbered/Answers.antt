@@ -2,7 +2,7 @@ use Rattle.std.proofs.Common.{ℕ, ◌<◌, ◌∙◌, ◌∷◌, [], ◌++◌, 
 use Rattle.std.proofs.lemmas.List.{map-append}
 use Rattle.std.proofs.lemmas.List.Elements.{All-push}
 use Rattle.abi_index.specs.declared.idx.VariantIdx.{VariantIdx}
-use Rattle.abi_lists.proofs.Steps.{source_more}
+use Rattle.abi_lists.proofs.Offsets.Steps.{source_more}
 use Rattle.calls.proofs.enums.numbered.Goals as goal
 
 pub loop-at-preserved : goal.loop-at-preserved

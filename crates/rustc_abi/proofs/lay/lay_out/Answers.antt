@@ -7,8 +7,8 @@ use Rattle.abi_laid.specs.Placed.{Placed, layout_of}
 use Rattle.abi_scalar.specs.Lawful.{IsLawfulLayout}
 use Rattle.abi_laid.specs.Deciding.{are_inhabited, covering_value}
 use Rattle.abi_laid.specs.Room.{has_room}
-use Rattle.abi_laid.proofs.DecideLemmas.{each_decides}
-use Rattle.abi_laid.proofs.RoomLemmas.{within_room}
+use Rattle.abi_laid.proofs.Deciding.DecideLemmas.{each_decides}
+use Rattle.abi_laid.proofs.Places.RoomLemmas.{within_room}
 use Rattle.rustc_abi.proofs.Places.DecidingLemmas.{coverable}
 use Rattle.rustc_abi.proofs.Places.HaveLemmas.{each_inhabited}
 use Rattle.rustc_abi.specs.Least.{HasOverlapSize, IsLeast}
@@ -17,7 +17,7 @@ use Rattle.rustc_abi.specs.Orders.{LiesAsAsked}
 use Rattle.rustc_abi.proofs.Coroutines.ClashLemmas.{laid_clash, laid_one_offset}
 use Rattle.rustc_abi.proofs.Sizes.EachListLemmas.{laid_lists}
 use Rattle.rustc_abi.proofs.Sizes.PlacedLemmas.{laid_as_asked}
-use Rattle.abi_laid.proofs.AgreeLemmas.{covered_decides}
+use Rattle.abi_laid.proofs.Deciding.AgreeLemmas.{covered_decides}
 use Rattle.rustc_abi.proofs.Trees.EverywhereLemmas.{everywhere}
 use Rattle.rustc_abi.proofs.Trees.LaidLemmas.{laid_sized, laid_whole}
 use Rattle.rustc_abi.specs.declared.error.LayError.{LayError}

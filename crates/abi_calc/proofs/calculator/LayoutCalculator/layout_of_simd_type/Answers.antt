@@ -4,8 +4,8 @@ use Rattle.abi_scalar.specs.declared.backend_repr.BackendRepr.TheVariants.{Memor
 use Rattle.abi_scalar.specs.declared.scalar.Scalar.{Scalar}
 use Rattle.abi_scalar.specs.Order.{HasPlaceForEach, IsAscending}
 use Rattle.abi_lists.specs.Simd.{lanes_align}
-use Rattle.abi_lists.proofs.TooLarge.{vector_large, vector_refused}
-use Rattle.abi_lists.proofs.VectorLemmas.{simd_ok, simd_size}
+use Rattle.abi_lists.proofs.UnionsVectors.TooLarge.{vector_large, vector_refused}
+use Rattle.abi_lists.proofs.UnionsVectors.VectorLemmas.{simd_ok, simd_size}
 use Rattle.abi_calc.proofs.calculator.LayoutCalculator.layout_of_simd_type.Goals as goal
 
 -- a view that is one scalar is of no other

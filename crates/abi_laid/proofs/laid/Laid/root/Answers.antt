@@ -5,9 +5,9 @@ use Rattle.abi_laid.specs.Handles.{tree_type}
 use Rattle.abi_laid.specs.Laid.{placed_of, typed_of}
 use Rattle.abi_laid.specs.Seen.{Sees}
 use Rattle.abi_laid.specs.Typed.{typed_at}
-use Rattle.abi_laid.proofs.RoomLemmas.{within_room}
-use Rattle.abi_laid.proofs.SeenLemmas.{seen_at}
-use Rattle.abi_laid.proofs.TypedLemmas.{layout-placed}
+use Rattle.abi_laid.proofs.Places.RoomLemmas.{within_room}
+use Rattle.abi_laid.proofs.Nodes.SeenLemmas.{seen_at}
+use Rattle.abi_laid.proofs.Nodes.TypedLemmas.{layout-placed}
 use Rattle.abi_laid.proofs.laid.Laid.root.Goals as goal
 
 pub returns-clause-seen : goal.returns-clause-seen

@@ -16,17 +16,17 @@ use Rattle.abi_laid.specs.Places.{is_data_place}
 use Rattle.abi_laid.specs.Typed.{variant_nodes}
 use Rattle.abi_laid.specs.Well.{all_at}
 use Rattle.abi_laid.specs.Writing.{IsCopied, IsPutOver}
-use Rattle.abi_laid.proofs.ChosenLemmas.{all_kept, list_at, among_one, among_prefix, among_states, among_tagged, kept_named, kept_parts, kept_room, kept_set, kept_there, kept_variants, variant_sizes}
-use Rattle.abi_laid.proofs.CopyLemmas.{copy_put}
-use Rattle.abi_laid.proofs.CoverLemmas.{AreCovered, ArmCovered, Covered, ElementsPut, arm_put, states_put, elements_end, elements_first, elements_more, elements_next, fields_end, fields_first, fields_more, pair_put, put_bare, union_put}
-use Rattle.abi_laid.proofs.DataPlacesLemmas.{elements_node, fields_node, never_node, pair_node, runs_inside, scalar_node, single_node, states_node, tagged_node, union_node, vector_node}
-use Rattle.abi_laid.proofs.FoundLemmas.{node_size, states_rooms}
-use Rattle.abi_laid.proofs.HoldLemmas.{length-Holds}
-use Rattle.abi_laid.proofs.NamedLemmas.{child_is, count_children}
-use Rattle.abi_laid.proofs.PutOverLemmas.{put_like}
-use Rattle.abi_laid.proofs.ReadLemmas.{from_arm}
-use Rattle.abi_laid.proofs.WidthLemmas.{scalar_width_at, state_tag_width_at, tag_width_at}
-use Rattle.abi_laid.proofs.WriteLemmas.{TagPut, put_slice, put_vector, vector_room}
+use Rattle.abi_laid.proofs.Deciding.ChosenLemmas.{all_kept, list_at, among_one, among_prefix, among_states, among_tagged, kept_named, kept_parts, kept_room, kept_set, kept_there, kept_variants, variant_sizes}
+use Rattle.abi_laid.proofs.Deciding.CopyLemmas.{copy_put}
+use Rattle.abi_laid.proofs.Deciding.CoverLemmas.{AreCovered, ArmCovered, Covered, ElementsPut, arm_put, states_put, elements_end, elements_first, elements_more, elements_next, fields_end, fields_first, fields_more, pair_put, put_bare, union_put}
+use Rattle.abi_laid.proofs.Places.DataPlacesLemmas.{elements_node, fields_node, never_node, pair_node, runs_inside, scalar_node, single_node, states_node, tagged_node, union_node, vector_node}
+use Rattle.abi_laid.proofs.Found.FoundLemmas.{node_size, states_rooms}
+use Rattle.abi_laid.proofs.Bytes.HoldLemmas.{length-Holds}
+use Rattle.abi_laid.proofs.Found.NamedLemmas.{child_is, count_children}
+use Rattle.abi_laid.proofs.Bytes.PutOverLemmas.{put_like}
+use Rattle.abi_laid.proofs.Found.ReadLemmas.{from_arm}
+use Rattle.abi_laid.proofs.Nodes.WidthLemmas.{scalar_width_at, state_tag_width_at, tag_width_at}
+use Rattle.abi_laid.proofs.Written.WriteLemmas.{TagPut, put_slice, put_vector, vector_room}
 use Rattle.abi_laid.proofs.value.decide.+cover.Goals.{put_elements-then-may_copy, put_elements-else-may_copy}
 use Rattle.abi_laid.proofs.value.decide.+cover.Goals as goal
 

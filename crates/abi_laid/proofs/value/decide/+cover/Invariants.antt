@@ -5,7 +5,7 @@ use Rattle.abi_laid.specs.Placed.{size_of}
 use Rattle.abi_laid.specs.Nodes.{parts_at, placed_at}
 use Rattle.abi_laid.specs.Well.{all_at}
 use Rattle.abi_laid.specs.Holding.{HoldEach, HoldParts, Holds}
-use Rattle.abi_laid.proofs.CoverLemmas.{ElementsPut, FieldsPut}
+use Rattle.abi_laid.proofs.Deciding.CoverLemmas.{ElementsPut, FieldsPut}
 use Rattle.abi_laid.proofs.value.decide.+cover.Given as goal
 
 abbrev pub decreases-put_parts : goal.decreases-put_parts

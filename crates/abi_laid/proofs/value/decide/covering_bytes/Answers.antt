@@ -4,7 +4,7 @@ use Rattle.abi_laid.specs.declared.laid.Laid.{Laid}
 use Rattle.abi_laid.specs.Placed.{Placed}
 use Rattle.abi_laid.specs.Nodes.{placed_at}
 use Rattle.abi_laid.specs.Laid.{endian_of, placed_of}
-use Rattle.abi_laid.proofs.CoverLemmas.{Covered}
+use Rattle.abi_laid.proofs.Deciding.CoverLemmas.{Covered}
 use Rattle.abi_laid.proofs.value.decide.covering_bytes.Goals as goal
 
 pub returns-clause-put : goal.returns-clause-put

@@ -5,8 +5,8 @@ use Rattle.abi_laid.specs.Deciding.{DifferAt}
 use Rattle.abi_laid.specs.Laid.{placed_of}
 use Rattle.abi_laid.specs.Placed.{size_of}
 use Rattle.abi_laid.specs.Places.{is_data_place}
-use Rattle.abi_laid.proofs.DecideLemmas.{put_decides}
-use Rattle.abi_laid.proofs.RoomLemmas.{within_room}
+use Rattle.abi_laid.proofs.Deciding.DecideLemmas.{put_decides}
+use Rattle.abi_laid.proofs.Places.RoomLemmas.{within_room}
 use Rattle.abi_laid.proofs.value.decide.decider.Goals as goal
 
 pub with_next-requires : goal.with_next-requires

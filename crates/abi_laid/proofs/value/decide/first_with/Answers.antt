@@ -1,8 +1,8 @@
 use Rattle.std.proofs.Common.{sym, ap, ◌∙◌}
 use Rattle.abi_index.specs.RangeSet.{is_in_ranges}
 use Rattle.abi_laid.specs.Nodes.{types_in}
-use Rattle.abi_laid.proofs.ChosenLemmas.{kept_set, variant_set}
-use Rattle.abi_laid.proofs.CoverLemmas.{with_later, with_this}
+use Rattle.abi_laid.proofs.Deciding.ChosenLemmas.{kept_set, variant_set}
+use Rattle.abi_laid.proofs.Deciding.CoverLemmas.{with_later, with_this}
 use Rattle.abi_laid.proofs.value.decide.first_with.Goals as goal
 
 pub set_at-requires : goal.set_at-requires

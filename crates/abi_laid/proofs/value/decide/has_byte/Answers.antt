@@ -1,7 +1,7 @@
 use Rattle.std.proofs.Common.{ℕ, List, arith, sym, ap, ◌∙◌}
 use Rattle.std.proofs.lemmas.List.{drop_all}
 use Rattle.abi_index.specs.RangeSet.{is_in_ranges}
-use Rattle.abi_laid.proofs.CoverLemmas.{in_this_run, past_this_run}
+use Rattle.abi_laid.proofs.Deciding.CoverLemmas.{in_this_run, past_this_run}
 use Rattle.abi_laid.proofs.value.decide.has_byte.Goals as goal
 
 pub loop-run-preserved : goal.loop-run-preserved

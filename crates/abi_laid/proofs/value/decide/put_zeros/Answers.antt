@@ -1,8 +1,8 @@
 use Rattle.std.proofs.Common.{◌≡◌, ℕ, ◌+◌, ◌<◌, ◌≤◌, length, get_or, true, arith, refl, subst}
 use Rattle.std.proofs.lemmas.List.{get_or-set_same, get_or-set_other, length-set}
 use Rattle.abi_index.specs.RangeSet.{is_in_ranges}
-use Rattle.abi_laid.proofs.CoverLemmas.{ZerosBefore, zeros_all, zeros_first, zeros_more, zeros_skip}
-use Rattle.abi_laid.proofs.PutPlacesLemmas.{left-before, left-free, left-covered, AreLeft-more, left-none}
+use Rattle.abi_laid.proofs.Deciding.CoverLemmas.{ZerosBefore, zeros_all, zeros_first, zeros_more, zeros_skip}
+use Rattle.abi_laid.proofs.Bytes.PutPlacesLemmas.{left-before, left-free, left-covered, AreLeft-more, left-none}
 use Rattle.abi_laid.proofs.value.decide.put_zeros.Goals as goal
 
 pub loop-run-init : goal.loop-run-init

@@ -1,7 +1,7 @@
 use Rattle.std.proofs.Common.{ℕ}
 use Rattle.abi_index.specs.RangeSet.{is_in_ranges}
-use Rattle.abi_laid.proofs.CoverLemmas.{ZerosBefore}
-use Rattle.abi_laid.proofs.PutPlacesLemmas.{AreLeft}
+use Rattle.abi_laid.proofs.Deciding.CoverLemmas.{ZerosBefore}
+use Rattle.abi_laid.proofs.Bytes.PutPlacesLemmas.{AreLeft}
 use Rattle.abi_laid.proofs.value.decide.put_zeros.Given as goal
 
 abbrev pub invariant-loop-k : goal.invariant-loop-k

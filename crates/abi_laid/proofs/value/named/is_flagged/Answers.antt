@@ -3,7 +3,7 @@ use Rattle.std.specs.Prelude.{◌||◌}
 use Rattle.abi_laid.specs.Placed.{Placed, is_flagged, layout_of, nothing}
 use Rattle.abi_laid.specs.Nodes.{parts_at}
 use Rattle.abi_laid.specs.Well.{all_at}
-use Rattle.abi_laid.proofs.NamedLemmas.{child_is, count_children, flagged_end, flagged_from}
+use Rattle.abi_laid.proofs.Found.NamedLemmas.{child_is, count_children, flagged_end, flagged_from}
 use Rattle.abi_laid.proofs.value.named.is_flagged.Goals.{else-i-offsets-via-then-i-offsets+else-read_layout, else-i-offsets-via-else-i-offsets}
 use Rattle.abi_laid.proofs.value.named.is_flagged.Goals as goal
 

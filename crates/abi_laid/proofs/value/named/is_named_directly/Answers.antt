@@ -1,6 +1,6 @@
 use Rattle.std.proofs.Common.{sym, ◌∙◌}
 use Rattle.abi_laid.specs.Nodes.{types_in}
-use Rattle.abi_laid.proofs.NamedLemmas.{cut_width, told_by_flag, told_by_number}
+use Rattle.abi_laid.proofs.Found.NamedLemmas.{cut_width, told_by_flag, told_by_number}
 use Rattle.abi_laid.proofs.value.named.is_named_directly.Goals as goal
 
 pub returns-then-truncate-tag : goal.returns-then-truncate-tag

@@ -1,7 +1,7 @@
 use Rattle.std.proofs.Common.{◌≡◌, ◌<◌, ◌≤◌, arith, sym, ap, ◌∙◌, ⊎_elim}
 use Rattle.std.proofs.lemmas.Bool.{cases_lt}
 use Rattle.abi_laid.specs.Tag.{IsSpanned, niche_number}
-use Rattle.abi_laid.proofs.NamedLemmas.{none_but_last, none_untagged, told_by_same}
+use Rattle.abi_laid.proofs.Found.NamedLemmas.{none_but_last, none_untagged, told_by_same}
 use Rattle.abi_laid.proofs.value.named.is_of_spanned.Goals.{else-i-untagged-via-then-i-untagged+else-tag-niche_number, else-i-untagged-via-else-i-untagged, else-first-last-via-then-first-last+else-last-untagged, else-first-last-via-else-first-last}
 use Rattle.abi_laid.proofs.value.named.is_of_spanned.Goals as goal
 

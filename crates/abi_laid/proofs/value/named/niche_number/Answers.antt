@@ -1,5 +1,5 @@
 use Rattle.std.proofs.Common.{◌+◌, ◌-◌, ◌∙◌}
-use Rattle.abi_laid.proofs.NamedLemmas.{cut_twice}
+use Rattle.abi_laid.proofs.Found.NamedLemmas.{cut_twice}
 use Rattle.abi_laid.proofs.value.named.niche_number.Goals as goal
 
 pub returns : goal.returns

@@ -1,5 +1,5 @@
 use Rattle.std.proofs.Common.{arith}
-use Rattle.abi_laid.proofs.DataPlacesLemmas.{own_fields_node, own_fields_other}
+use Rattle.abi_laid.proofs.Places.DataPlacesLemmas.{own_fields_node, own_fields_other}
 use Rattle.abi_laid.proofs.value.named.own_parts.Goals as goal
 
 pub returns-in-Fields-clause-parts : goal.returns-in-Fields-clause-parts

@@ -1,5 +1,5 @@
 use Rattle.std.proofs.Common.{◌-◌, ◌<◌, length, arith, length-take}
-use Rattle.abi_laid.proofs.NumberLemmas.{more_fits}
+use Rattle.abi_laid.proofs.Bytes.NumberLemmas.{more_fits}
 use Rattle.abi_laid.proofs.value.number.+big_number.Goals as goal
 
 pub overflow_mul-result : goal.overflow_mul-result

@@ -5,7 +5,7 @@ use Rattle.abi_laid.specs.Tag.{Names}
 use Rattle.abi_laid.specs.Nodes.{arms_in, placed_at, types_in}
 use Rattle.abi_laid.specs.Well.{all_at}
 use Rattle.abi_laid.specs.Holding.{HoldArm, Holds}
-use Rattle.abi_laid.proofs.ReadLemmas.{AreRead, HoldAll, HoldFrom, IsRead}
+use Rattle.abi_laid.proofs.Found.ReadLemmas.{AreRead, HoldAll, HoldFrom, IsRead}
 use Rattle.abi_laid.proofs.value.read.+read.Given as goal
 
 abbrev pub decreases-read_arm : goal.decreases-read_arm

@@ -1,7 +1,7 @@
 use Rattle.std.proofs.Common.{◌≡◌, ap}
 use Rattle.abi_laid.specs.Placed.{size_of}
 use Rattle.abi_laid.specs.Nodes.{placed_at}
-use Rattle.abi_laid.proofs.FoundLemmas.{number_at}
+use Rattle.abi_laid.proofs.Found.FoundLemmas.{number_at}
 use Rattle.abi_laid.proofs.value.read.read_number_at.Goals as goal
 
 pub returns : goal.returns

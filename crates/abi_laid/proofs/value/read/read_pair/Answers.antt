@@ -3,7 +3,7 @@ use Rattle.std.proofs.lemmas.List.{get_or_default}
 use Rattle.abi_laid.specs.Reading.{Finds, HoldsTwo}
 use Rattle.abi_laid.specs.Placed.{Placed}
 use Rattle.abi_laid.specs.Nodes.{parts_at, placed_at}
-use Rattle.abi_laid.proofs.FoundLemmas.{NumberAt, from_two, no_pair, to_two}
+use Rattle.abi_laid.proofs.Found.FoundLemmas.{NumberAt, from_two, no_pair, to_two}
 use Rattle.abi_laid.proofs.value.read.read_pair.Goals as goal
 
 pub returns-in_err-one-in-len2-up : goal.returns-in_err-one-in-len2-up

@@ -1,6 +1,6 @@
 use Rattle.std.proofs.Common.{ℕ, List, ◌++◌, take, arith, sym, ap, ◌∙◌}
 use Rattle.std.proofs.lemmas.List.{take_all}
-use Rattle.abi_laid.proofs.TakenLemmas.{taken, taken_more, taken-picked}
+use Rattle.abi_laid.proofs.Bytes.TakenLemmas.{taken, taken_more, taken-picked}
 use Rattle.abi_laid.proofs.value.read.read_places.Goals as goal
 
 pub returns-in-None : goal.returns-in-None

@@ -1,5 +1,5 @@
 use Rattle.std.proofs.Common.{◌≡◌, take}
-use Rattle.abi_laid.proofs.TakenLemmas.{taken}
+use Rattle.abi_laid.proofs.Bytes.TakenLemmas.{taken}
 use Rattle.abi_laid.proofs.value.read.read_places.Given as goal
 
 abbrev pub invariant-loop-run : goal.invariant-loop-run

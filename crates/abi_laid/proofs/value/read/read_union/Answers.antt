@@ -5,7 +5,7 @@ use Rattle.abi_laid.specs.Bytes.{picked_bytes}
 use Rattle.abi_laid.specs.Placed.{Placed, size_of}
 use Rattle.abi_laid.specs.Places.{is_data_place}
 use Rattle.abi_laid.specs.Nodes.{placed_at}
-use Rattle.abi_laid.proofs.DataPlacesLemmas.{runs_inside}
+use Rattle.abi_laid.proofs.Places.DataPlacesLemmas.{runs_inside}
 use Rattle.abi_laid.proofs.value.read.read_union.Goals as goal
 
 pub read_places-requires-clause-inside : goal.read_places-requires-clause-inside

@@ -2,7 +2,7 @@ use Rattle.std.proofs.Common.{◌-◌, ◌<◌, ap, arith}
 use Rattle.std.proofs.lemmas.List.Elements.{All-from_get_or}
 use Rattle.std.proofs.lemmas.Result.{IfOk-weaker}
 use Rattle.abi_laid.specs.Bytes.{AreBytes}
-use Rattle.abi_laid.proofs.KeptLemmas.{found_alone, found_laid, found_value}
+use Rattle.abi_laid.proofs.Found.KeptLemmas.{found_alone, found_laid, found_value}
 use Rattle.abi_laid.proofs.value.read.read_value.Goals as goal
 
 pub returns-clause-value : goal.returns-clause-value

@@ -1,6 +1,6 @@
 use Rattle.std.proofs.Common.{◌≡◌, get_or, arith, ap, sym, ◌∙◌}
 use Rattle.abi_laid.specs.Value.{value_of}
-use Rattle.abi_laid.proofs.SameLemmas.{same_length, same_at, same_from, same_end}
+use Rattle.abi_laid.proofs.Found.SameLemmas.{same_length, same_at, same_from, same_end}
 use Rattle.abi_laid.proofs.value.same.+same.Goals as goal
 
 pub are_same-returns-then-xs-ys : goal.are_same-returns-then-xs-ys

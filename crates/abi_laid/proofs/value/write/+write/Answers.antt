@@ -16,13 +16,13 @@ use Rattle.abi_laid.specs.Room.{arms_have_room, have_room}
 use Rattle.abi_laid.specs.Holding.{HoldParts, Holds}
 use Rattle.abi_laid.specs.Covering.{are_covered, is_arm_covered, is_byte_at, is_covered, is_told}
 use Rattle.abi_laid.specs.Writing.{IsPutOver}
-use Rattle.abi_laid.proofs.DataPlacesLemmas.{arm_room, elements_node, field_at, fields_node, never_node, pair_node, scalar_node, single_node, states_node, tagged_node, union_node, vector_node}
-use Rattle.abi_laid.proofs.WidthLemmas.{scalar_width_at, state_tag_width_at, tag_width_at}
-use Rattle.abi_laid.proofs.NamedLemmas.{child_is, count_children}
-use Rattle.abi_laid.proofs.ReadLemmas.{from_arm}
-use Rattle.abi_laid.proofs.FoundLemmas.{node_size, states_rooms}
-use Rattle.abi_laid.proofs.PutOverLemmas.{put_both, put_like}
-use Rattle.abi_laid.proofs.WriteLemmas.{arm_covers, ArmPut, NodePut, PartsPut, TagPut, elements_begin, elements_done, elements_next, parts_all, parts_more, put_elements, put_fields, put_never, put_pair, put_scalar, put_single, put_slice, put_states, put_tagged, put_union, put_vector, vector_room, written_none}
+use Rattle.abi_laid.proofs.Places.DataPlacesLemmas.{arm_room, elements_node, field_at, fields_node, never_node, pair_node, scalar_node, single_node, states_node, tagged_node, union_node, vector_node}
+use Rattle.abi_laid.proofs.Nodes.WidthLemmas.{scalar_width_at, state_tag_width_at, tag_width_at}
+use Rattle.abi_laid.proofs.Found.NamedLemmas.{child_is, count_children}
+use Rattle.abi_laid.proofs.Found.ReadLemmas.{from_arm}
+use Rattle.abi_laid.proofs.Found.FoundLemmas.{node_size, states_rooms}
+use Rattle.abi_laid.proofs.Bytes.PutOverLemmas.{put_both, put_like}
+use Rattle.abi_laid.proofs.Written.WriteLemmas.{arm_covers, ArmPut, NodePut, PartsPut, TagPut, elements_begin, elements_done, elements_next, parts_all, parts_more, put_elements, put_fields, put_never, put_pair, put_scalar, put_single, put_slice, put_states, put_tagged, put_union, put_vector, vector_room, written_none}
 use Rattle.abi_laid.proofs.value.write.+write.Goals as goal
 
 -- ---- the node itself

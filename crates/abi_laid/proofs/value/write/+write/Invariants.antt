@@ -5,7 +5,7 @@ use Rattle.abi_laid.specs.Placed.{size_of}
 use Rattle.abi_laid.specs.Nodes.{parts_at, placed_at}
 use Rattle.abi_laid.specs.Well.{all_at}
 use Rattle.abi_laid.specs.Holding.{HoldEach, HoldParts, Holds}
-use Rattle.abi_laid.proofs.WriteLemmas.{AreWritten, WrittenElements}
+use Rattle.abi_laid.proofs.Written.WriteLemmas.{AreWritten, WrittenElements}
 use Rattle.abi_laid.proofs.value.write.+write.Given as goal
 
 abbrev pub decreases-write_parts : goal.decreases-write_parts

@@ -1,7 +1,7 @@
 use Rattle.std.proofs.Common.{◌≡◌, ◌-◌, ◌*◌, ◌/◌, ◌%◌, ◌^◌, length, arith, ap, ◌∙◌}
 use Rattle.abi_base.specs.declared.endian.Endian.TheVariants.{Big, Little}
 use Rattle.abi_laid.specs.Bytes.{number_of}
-use Rattle.abi_laid.proofs.NumberLemmas.{little-byte, big-byte}
+use Rattle.abi_laid.proofs.Bytes.NumberLemmas.{little-byte, big-byte}
 use Rattle.abi_laid.proofs.value.write.byte_at.Goals as goal
 use Rattle.abi_laid.proofs.value.write.byte_at.Goals.{in-Little, in-Big}
 

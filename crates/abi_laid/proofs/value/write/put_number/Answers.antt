@@ -2,7 +2,7 @@ use Rattle.std.proofs.Common.{◌≡◌, ◌+◌, ◌<◌, length, arith, sym, a
 use Rattle.std.specs.Prelude.{false, nat_lt}
 use Rattle.std.proofs.lemmas.Bool.{le-ltb}
 use Rattle.std.proofs.lemmas.List.{get_or-set_same, get_or-set_other, length-set}
-use Rattle.abi_laid.proofs.PutOverLemmas.{put_none, put_like, put_one, lt-more}
+use Rattle.abi_laid.proofs.Bytes.PutOverLemmas.{put_none, put_like, put_one, lt-more}
 use Rattle.abi_laid.proofs.value.write.put_number.Goals as goal
 
 pub loop-i-init : goal.loop-i-init

@@ -1,7 +1,7 @@
 use Rattle.std.proofs.Common.{◌≡◌, ℕ, ◌+◌, ◌<◌, ◌≤◌, length, get_or, true, arith, refl, sym, ap, ◌∙◌, subst}
 use Rattle.std.proofs.lemmas.List.{get_or-set_same, get_or-set_other}
 use Rattle.abi_index.specs.RangeSet.{is_in_ranges}
-use Rattle.abi_laid.proofs.PutPlacesLemmas.{PutBefore, PutBefore-first, PutBefore-skip, PutBefore-more, PutBefore-there, PutBefore-all, left-before, left-free, left-covered, AreLeft-more, left-none}
+use Rattle.abi_laid.proofs.Bytes.PutPlacesLemmas.{PutBefore, PutBefore-first, PutBefore-skip, PutBefore-more, PutBefore-there, PutBefore-all, left-before, left-free, left-covered, AreLeft-more, left-none}
 use Rattle.abi_laid.proofs.value.write.put_places.Goals as goal
 use Rattle.abi_laid.proofs.value.write.put_places.Goals.{then-next-content, else-next-content}
 

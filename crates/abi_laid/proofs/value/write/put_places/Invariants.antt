@@ -1,6 +1,6 @@
 use Rattle.std.proofs.Common.{ℕ}
 use Rattle.abi_index.specs.RangeSet.{is_in_ranges}
-use Rattle.abi_laid.proofs.PutPlacesLemmas.{AreLeft, PutBefore}
+use Rattle.abi_laid.proofs.Bytes.PutPlacesLemmas.{AreLeft, PutBefore}
 use Rattle.abi_laid.proofs.value.write.put_places.Given as goal
 
 abbrev pub invariant-loop-k : goal.invariant-loop-k

@@ -1,5 +1,5 @@
 use Rattle.std.proofs.Common.{◌∙◌}
-use Rattle.abi_laid.proofs.TagNumberLemmas.{direct_number}
+use Rattle.abi_laid.proofs.Written.TagNumberLemmas.{direct_number}
 use Rattle.abi_laid.proofs.value.write.tag_number.Goals as goal
 
 pub returns-in-Direct : goal.returns-in-Direct

@@ -2,9 +2,9 @@ use Rattle.std.proofs.Common.{◌≡◌, List, ℕ, length, true, arith, sym, �
 use Rattle.abi_laid.specs.Bytes.{bytes_at}
 use Rattle.abi_laid.specs.Covering.{is_told}
 use Rattle.abi_laid.specs.Holding.{tag_at}
-use Rattle.abi_laid.proofs.BytesLemmas.{AreBytes-bytes_at}
-use Rattle.abi_laid.proofs.HoldLemmas.{length-bytes_at}
-use Rattle.abi_laid.proofs.TagNumberLemmas.{put_tag}
+use Rattle.abi_laid.proofs.Bytes.BytesLemmas.{AreBytes-bytes_at}
+use Rattle.abi_laid.proofs.Bytes.HoldLemmas.{length-bytes_at}
+use Rattle.abi_laid.proofs.Written.TagNumberLemmas.{put_tag}
 use Rattle.abi_laid.proofs.value.write.write_tag.Goals as goal
 
 pub returns-then-is_told-clause-put : goal.returns-then-is_told-clause-put

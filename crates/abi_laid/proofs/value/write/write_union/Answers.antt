@@ -5,7 +5,7 @@ use Rattle.abi_laid.specs.Places.{is_data_place}
 use Rattle.abi_laid.specs.Nodes.{placed_at}
 use Rattle.abi_index.specs.RangeSet.{is_in_ranges}
 use Rattle.abi_laid.specs.Writing.{IsPutOver}
-use Rattle.abi_laid.proofs.DataPlacesLemmas.{runs_inside}
+use Rattle.abi_laid.proofs.Places.DataPlacesLemmas.{runs_inside}
 use Rattle.abi_laid.proofs.value.write.write_union.Goals as goal
 
 pub put_places-requires-clause-inside : goal.put_places-requires-clause-inside

@@ -8,8 +8,8 @@ use Rattle.abi_laid.specs.Placed.{Placed, size_of}
 use Rattle.abi_laid.specs.Nodes.{placed_at}
 use Rattle.abi_laid.specs.Laid.{endian_of, placed_of}
 use Rattle.abi_laid.specs.Holding.{Holds}
-use Rattle.abi_laid.proofs.WriteLemmas.{NodePut}
-use Rattle.abi_laid.proofs.WrittenLemmas.{held_once, held_value, value_held, zero_beside, zeros_at}
+use Rattle.abi_laid.proofs.Written.WriteLemmas.{NodePut}
+use Rattle.abi_laid.proofs.Written.WrittenLemmas.{held_once, held_value, value_held, zero_beside, zeros_at}
 use Rattle.abi_laid.proofs.value.write.write_value.Goals as goal
 
 pub returns-then-branch-clause-holds : goal.returns-then-branch-clause-holds

@@ -1,6 +1,6 @@
 use Rattle.std.proofs.Common.{◌∙◌, ap, arith, length, sym}
 use Rattle.std.specs.Prelude.{Some, slice_get}
-use Rattle.abi_lists.proofs.ListLayoutsLemmas.{list_there, lists_count}
+use Rattle.abi_lists.proofs.Layouts.ListLayoutsLemmas.{list_there, lists_count}
 use Rattle.abi_lists.proofs.list_layouts.ListLayouts.at.Goals as goal
 
 pub index-requires : goal.index-requires

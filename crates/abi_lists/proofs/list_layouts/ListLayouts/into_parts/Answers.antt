@@ -1,6 +1,6 @@
 use Rattle.std.proofs.Common.{◌∙◌, ap, map}
 use Rattle.abi_scalar.specs.Variant.{variant_of}
-use Rattle.abi_lists.proofs.ListLayoutsLemmas.{kept_aligns, kept_variants}
+use Rattle.abi_lists.proofs.Layouts.ListLayoutsLemmas.{kept_aligns, kept_variants}
 use Rattle.abi_lists.proofs.list_layouts.ListLayouts.into_parts.Goals as goal
 
 pub returns-clause-variants : goal.returns-clause-variants

@@ -1,5 +1,5 @@
 use Rattle.std.proofs.Common.{ap, arith, length}
-use Rattle.abi_lists.proofs.ListLayoutsLemmas.{lists_count}
+use Rattle.abi_lists.proofs.Layouts.ListLayoutsLemmas.{lists_count}
 use Rattle.abi_lists.proofs.list_layouts.ListLayouts.len.Goals as goal
 
 pub returns : goal.returns

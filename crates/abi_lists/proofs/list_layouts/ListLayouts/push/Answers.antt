@@ -1,6 +1,6 @@
 use Rattle.std.proofs.Common.{◌++◌, ◌∷◌, [], ◌∙◌, ap, ap₂}
 use Rattle.abi_lists.specs.ListLayouts.{lists_of}
-use Rattle.abi_lists.proofs.ListLayoutsLemmas.{list_more}
+use Rattle.abi_lists.proofs.Layouts.ListLayoutsLemmas.{list_more}
 use Rattle.abi_lists.proofs.list_layouts.ListLayouts.push.Goals as goal
 
 pub returns : goal.returns

@@ -1,5 +1,5 @@
 use Rattle.std.proofs.Common.{◌∙◌, ap, map, sym}
-use Rattle.abi_lists.proofs.ByNumber.{named_again}
+use Rattle.abi_lists.proofs.Offsets.ByNumber.{named_again}
 use Rattle.abi_lists.proofs.memory_order.MemoryOrder.into_fields.Goals as goal
 
 pub returns : goal.returns

@@ -8,8 +8,8 @@ use Rattle.std.proofs.lemmas.List.Sorted.{IsPermutation-map, ranks_by}
 use Rattle.std.proofs.lemmas.Map.Views.{All-map-IsPermutation}
 use Rattle.std.proofs.lemmas.Result.{on_ok_weaker}
 use Rattle.abi_lists.specs.Order.{compare_keys, key_at}
-use Rattle.abi_lists.proofs.ByNumber.{numbers_sorted, numbers_stable}
-use Rattle.abi_lists.proofs.OneOrder.{keys_total}
+use Rattle.abi_lists.proofs.Offsets.ByNumber.{numbers_sorted, numbers_stable}
+use Rattle.abi_lists.proofs.Layouts.OneOrder.{keys_total}
 use Rattle.abi_lists.proofs.memory_order.MemoryOrder.sort_by_keys.Goals as goal
 
 pub invariant_of-self : goal.invariant_of-self

@@ -1,6 +1,6 @@
 use Rattle.std.proofs.Common.{◌≤◌, ◌∙◌, ap, arith, sym, subst}
 use Rattle.std.specs.Prelude.{All}
-use Rattle.abi_lists.proofs.ByNumber.{as_many, numbers_more, source_within}
+use Rattle.abi_lists.proofs.Offsets.ByNumber.{as_many, numbers_more, source_within}
 use Rattle.abi_lists.proofs.memory_order.MemoryOrder.source.Goals as goal
 
 pub loop-index-preserved : goal.loop-index-preserved

@@ -1,5 +1,5 @@
 use Rattle.std.proofs.Common.{arith}
-use Rattle.abi_lists.proofs.Tight.{greatest_limit}
+use Rattle.abi_lists.proofs.Sorted.Tight.{greatest_limit}
 use Rattle.abi_lists.proofs.order.SortRule.new.Goals as goal
 
 pub exponent_of-requires : goal.exponent_of-requires

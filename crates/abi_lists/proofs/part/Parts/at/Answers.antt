@@ -2,8 +2,8 @@ use Rattle.std.proofs.Common.{rules, arith, ◌<◌, ◌∙◌, ap, length, subs
 use Rattle.abi_scalar.specs.Lawful.{IsLawfulLayout}
 use Rattle.abi_lists.specs.ListView.{part_at}
 use Rattle.abi_lists.specs.Part.{part_of}
-use Rattle.abi_lists.proofs.ListLemmas.{length-parts}
-use Rattle.abi_lists.proofs.PartsLemmas.{part_told}
+use Rattle.abi_lists.proofs.Layouts.ListLemmas.{length-parts}
+use Rattle.abi_lists.proofs.Layouts.PartsLemmas.{part_told}
 use Rattle.abi_lists.proofs.part.Parts.at.Goals as goal
 
 pub bounds-self-inside-index : goal.bounds-self-inside-index

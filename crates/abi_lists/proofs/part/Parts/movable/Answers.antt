@@ -3,8 +3,8 @@ use Rattle.std.specs.Prelude.{All}
 use Rattle.abi_scalar.specs.Lawful.{IsLawfulLayout}
 use Rattle.abi_lists.specs.Order.{movable}
 use Rattle.abi_lists.specs.Part.{part_of}
-use Rattle.abi_lists.proofs.ListLemmas.{movable-map}
-use Rattle.abi_lists.proofs.Sorting.{movable_all}
+use Rattle.abi_lists.proofs.Layouts.ListLemmas.{movable-map}
+use Rattle.abi_lists.proofs.Sorted.Sorting.{movable_all}
 use Rattle.abi_lists.proofs.part.Parts.movable.Goals as goal
 
 pub invariant_of-result : goal.invariant_of-result

@@ -1,0 +1,5 @@
+-- Values written.
+
+mod WriteLemmas
+mod TagNumberLemmas
+mod WrittenLemmas

@@ -1,0 +1,6 @@
+-- Fields placed, faults, runs.
+
+pub mod PlacingLemmas
+pub mod FaultLemmas
+pub mod RunLemmas
+pub mod SourceLemmas
