@@ -35,6 +35,7 @@ pub mod Runs
 pub mod Needed
 -- what errors say
 pub mod ErrorText
--- bytes that decide
+-- bytes that decide, and values put over bytes
 pub mod Deciding
+pub mod Putting
 pub mod OfTree

@@ -1,5 +1,5 @@
 -- What it means to read a value out of bytes.
-use Rattle.std.specs.Prelude.{◌≡◌, ℕ, ◌+◌, ◌≤◌, List, length, Option, MatchOption, Vec, ⊤}
+use Rattle.std.specs.Prelude.{◌≡◌, ℕ, ◌+◌, ◌≤◌, Bool, List, length, MatchBool, Option, MatchOption, Vec, ⊤}
 use Rattle.std.specs.declared.alloc.Global.{Global}
 use Rattle.abi_base.specs.declared.data_layout.TargetDataLayout.{TargetDataLayout}
 use Rattle.abi_base.specs.declared.endian.Endian.{Endian}
@@ -13,7 +13,7 @@ use Rattle.abi_laid.specs.Tree.{Tree}
 use Rattle.abi_laid.specs.Laid.{endian_of, placed_of}
 use Rattle.abi_laid.specs.Faithful.{EachValueIsHeld, OnlyValuesAreHeld, NoBytesHoldTwo}
 use Rattle.abi_laid.specs.Untagged.{UntaggedNamed}
-use Rattle.abi_laid.specs.Holding.{HoldArm, HoldParts, tag_at}
+use Rattle.abi_laid.specs.Holding.{HoldArm, HoldParts, Holds, tag_at}
 
 -- the number of which P holds, or None where it holds of none
 abbrev pub FindsNumber : (ℕ → Type 0) → Option ℕ → Type 0
@@ -35,6 +35,14 @@ FindsNamed P found = MatchOption found ((i : ℕ) (vs : Values) → P i vs → �
 abbrev pub HoldsTwo : Endian → Parts → List ℕ → Value → Type 0
 HoldsTwo order parts b (two n m) = HoldParts order parts b (more_values (number n) (more_values (number m) no_values))
 HoldsTwo order parts b _ = ⊥
+
+-- the bytes hold at most one value
+abbrev pub HoldOne : Endian → Placed → List ℕ → Type 0
+HoldOne order p b = (u w : Value) → Holds order p b u → Holds order p b w → u ≡ w
+
+-- whether the bytes hold the value, where they hold at most one
+abbrev pub TellsHeld : Endian → Placed → List ℕ → Value → Bool → Type 0
+TellsHeld order p b v yes = MatchBool yes (Holds order p b v) (HoldOne order p b → Holds order p b v → ⊥)
 
 -- it is a list
 abbrev pub IsList : Value → Type 0

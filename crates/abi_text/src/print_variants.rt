@@ -148,8 +148,8 @@ fn write_tag(
 /// Writes the variants of a type that has several, and the tag that tells them apart.
 pub(crate) fn write_variants(alloc: Global, out: &mut String, laid: &Laid) -> Result<(), AllocError>
     requires { TellsBytes laid.now }
-    ensures { let placed = placed_of laid.now in
-        OnOk result (string_bytes out.new ≡ string_bytes out.old ++ variants_lines placed (layout_of placed).variants) }
+    ensures { let placed = placed_of laid.now in OnOk result (string_bytes out.new
+        ≡ string_bytes out.old ++ variants_lines placed (layout_of placed).variants) }
 {
     match &laid.layout().variants {
         Variants::Multiple {

@@ -170,9 +170,9 @@ fn offset_of(node: &Node, i: usize) -> Option<u64>
 fn field_keeps_laws(nodes: &[Node], depth: u64, node: &Node, i: usize) -> bool
     ensures kept { IsTrue result → IsLawfulType
         (typed_in nodes.now depth (place_by node.now.layout.fields node.now.fields i)) }
-    ensures inside { IsTrue result → field_offset node.now.layout.fields i
-        + (layout_in (typed_in nodes.now depth (place_by node.now.layout.fields node.now.fields i))).size ≤
-        node.now.layout.size }
+    ensures inside { let place = place_by node.now.layout.fields node.now.fields i in
+        IsTrue result → field_offset node.now.layout.fields i
+        + (layout_in (typed_in nodes.now depth place)).size ≤ node.now.layout.size }
 {
     let place = field_place(node, i);
     match offset_of(node, i) {

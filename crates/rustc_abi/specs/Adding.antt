@@ -4,12 +4,14 @@ use Rattle.std.specs.declared.alloc.Global.{Global}
 use Rattle.abi_base.specs.declared.data_layout.TargetDataLayout.{TargetDataLayout}
 use Rattle.abi_scalar.specs.declared.variants.Variants.{Variants as LayoutVariants}
 use Rattle.abi_scalar.specs.declared.variants.Variants.TheVariants.{Empty, Single as OneVariant, Multiple}
+use Rattle.abi_scalar.specs.declared.repr.ReprOptions.{ReprOptions}
+use Rattle.abi_scalar.specs.Lawful.{IsLawfulLayout}
 use Rattle.abi_scalar.specs.Scalar.{IsReadable}
 use Rattle.rustc_abi.specs.declared.error.LayError.{LayError}
 use Rattle.rustc_abi.specs.declared.error.LayError.TheVariants.{OutOfMemory}
 use Rattle.abi_laid.specs.declared.node.Node.{Node}
 use Rattle.abi_laid.specs.Tree.{Tree, array, vector, struct, union, enum, coroutine, Trees, no_trees, more_trees, trees, Variants, no_variants, more_variants}
-use Rattle.abi_laid.specs.Placed.{Placed, size_of, Arms}
+use Rattle.abi_laid.specs.Placed.{Placed, layout_of, size_of, Arms}
 use Rattle.abi_scalar.specs.Layout.{Layout}
 use Rattle.abi_laid.specs.Fits.{Fits}
 use Rattle.abi_laid.specs.Nodes.{types_in, placed_at, arms_in, Keeps}
@@ -17,6 +19,7 @@ use Rattle.abi_laid.specs.Well.{AreWell, all_at}
 use Rattle.rustc_abi.specs.Inside.{VariantsInside}
 use Rattle.abi_calc.specs.Enums.Path.{variant_at}
 use Rattle.abi_laid.specs.Laws.{have_lists, have_places, sizes_at}
+use Rattle.rustc_abi.specs.Enums.{discriminants_of}
 use Rattle.rustc_abi.specs.Laying.{one_scalar, IsLaying, AreLaying, VariantsLaying}
 
 -- memory aside, this is the refusal
@@ -47,9 +50,37 @@ VariantsFit dl no_variants [] = ⊤
 VariantsFit dl (more_variants discriminant ts others) (ps ∷ rest) = EachFits dl ts ps × VariantsFit dl others rest
 VariantsFit dl _ _ = ⊥
 
+-- each of these children is one of so many nodes
+abbrev pub AreThere : (count : ℕ) → (children : List ℕ) → Type 0
+AreThere count children = All (λ child. child < count) children
+
+-- and so is each child of each variant
+abbrev pub AreEachThere : (count : ℕ) → (children : List (Vec ℕ Global)) → Type 0
+AreEachThere count children = All (λ fields. AreThere count fields.items) children
+
+-- each of these types has a lawful layout
+abbrev pub HaveLawfulLayouts : TargetDataLayout → List Placed → Type 0
+HaveLawfulLayouts dl ps = All (λ p. IsLawfulLayout dl (layout_of p)) ps
+
 -- what the nodes of variants' fields mean
 abbrev pub variants_in : List Node → List (Vec ℕ Global) → List (List Placed)
 variants_in ns children = map (λ fields. all_at ns fields.items) children
+
+-- a node was put for a type that is made of fields of these types: for each such tree, where they fit it
+abbrev pub IsTypeAdded : TargetDataLayout → (old new : List Node) → (make : Trees → Tree) → List Placed → (i : ℕ) → Type 0
+IsTypeAdded dl old new make fields i = (ts : Trees) → AreLaying dl ts (Ok fields) → EachFits dl ts fields → IsAdded dl old new i (make ts)
+
+-- a node was put for an enum of these discriminants, whose variants have these types: for each such tree, where they fit it
+abbrev pub IsEnumAdded : TargetDataLayout → (old new : List Node) → ReprOptions → (numbers : List ℕ) → List (List Placed) → (i : ℕ) → Type 0
+IsEnumAdded dl old new repr numbers variants i =
+    (all : Variants) → numbers ≡ discriminants_of all → VariantsLaying dl all (Ok variants) → VariantsFit dl all variants →
+    IsAdded dl old new i (enum repr all)
+
+-- a node was put for a coroutine whose prefix fields and locals have these types: for each such tree, where they fit it
+abbrev pub IsCoroutineAdded : TargetDataLayout → (old new : List Node) → (prefix locals : List Placed) → (states : List (List ℕ)) → (conflicts : List (ℕ × ℕ)) → (i : ℕ) → Type 0
+IsCoroutineAdded dl old new prefix locals states conflicts i =
+    (pres ts : Trees) → AreLaying dl pres (Ok prefix) → AreLaying dl ts (Ok locals) → EachFits dl pres prefix → EachFits dl ts locals →
+    IsAdded dl old new i (coroutine pres ts states conflicts)
 
 -- Nodes for the trees were put, and each node that was there kept.
 pub record AreAdded (dl : TargetDataLayout) (old new : List Node) (children : List ℕ) (ts : List Tree) : Type 0 where

@@ -2,7 +2,7 @@
 use Rattle.std.specs.Prelude.{◌≡◌, ◌≢◌, ℕ, ◌==◌, ◌<◌, ◌&&◌, ◌||◌, All, Bool, List, filter, length, map, nat_le, Result, Ok, Err}
 use Rattle.std.specs.List.{AllPairs, list_any}
 use Rattle.abi_base.specs.declared.data_layout.TargetDataLayout.{TargetDataLayout}
-use Rattle.abi_index.specs.Relation.{Relation}
+use Rattle.abi_index.specs.Relation.{Relation, is_entry}
 use Rattle.abi_scalar.specs.declared.error.LayoutCalculatorError.{LayoutCalculatorError}
 use Rattle.abi_scalar.specs.declared.error.LayoutCalculatorError.TheVariants.{OutOfMemory}
 use Rattle.abi_scalar.specs.declared.scalar.Scalar.{Scalar}
@@ -41,3 +41,15 @@ abbrev pub IsCoroutined : TargetDataLayout → (prefix : List Placed) → (tag :
 IsCoroutined dl prefix tag field locals states conflicts (Ok layout) = IsStated dl prefix tag field locals states conflicts (Ok layout)
 IsCoroutined dl prefix tag field locals states conflicts (Err e) =
     (error : LayoutCalculatorError Placed) × IsStated dl prefix tag field locals states conflicts (Err error) × (error ≡ OutOfMemory → ⊥) × (e ≡ lay_error error)
+
+-- the relation has a conflict for each pair, from its first local to its second, and no other
+abbrev pub AreConflicts : Relation → (pairs : List (ℕ × ℕ)) → Type 0
+AreConflicts conflicts pairs =
+    (row column : ℕ) → is_entry conflicts row column ≡ list_any (λ pair. (row == pair.0) && (column == pair.1)) pairs
+
+-- of the calculator's answer to a coroutine P holds, whatever types have these layouts and whatever pairs name these conflicts
+abbrev pub IsCoroutinedAs : TargetDataLayout → (prefix : List Layout) → (tag : Scalar) → (field : Placed) → (locals : List Layout) → (states : List (List ℕ)) → Relation
+    → (P : (Result Layout LayError → Type 0) → Type 0) → Type 0
+IsCoroutinedAs dl prefix tag field locals states conflicts P =
+    (pres ps : List Placed) (pairs : List (ℕ × ℕ)) → prefix ≡ map layout_of pres → locals ≡ map layout_of ps → AreConflicts conflicts pairs
+    → P (IsCoroutined dl pres tag field ps states pairs)

@@ -1,25 +1,23 @@
 //! How coroutines are laid out, once their prefix fields and their locals are.
 
-ghost use Rattle.std.specs.Prelude.{◌≡◌, ◌≢◌, ℕ, ◌+◌, ◌++◌, ◌∷◌, [], true, ◌<◌, ◌≤◌, ◌==◌, ◌&&◌, All, Err, IfErr, IfOk, List, None, Ok, false, get_or, length, map, vec_len};
-ghost use Rattle.std.specs.List.{AllPairs, list_any};
+ghost use Rattle.std.specs.Prelude.{◌≡◌, ◌≢◌, ◌+◌, ◌++◌, ◌∷◌, [], true, ◌<◌, ◌≤◌, All, Err, IfErr, IfOk, None, Ok, false, get_or, length, map, vec_len};
+ghost use Rattle.std.specs.List.{AllPairs};
 ghost use Rattle.abi_base.specs.DataLayout.{IsLawfulDataLayout};
-ghost use Rattle.abi_index.specs.Relation.{column_count, is_entry, row_count};
+ghost use Rattle.abi_index.specs.Relation.{column_count, row_count};
 ghost use Rattle.abi_scalar.specs.Lawful.{IsLawfulLayout};
 ghost use Rattle.abi_scalar.specs.Scalar.{IsReadable};
-ghost use Rattle.abi_scalar.specs.Simple.{scalar_layout};
 ghost use Rattle.abi_scalar.specs.Variant.{variants_of};
 ghost use Rattle.abi_lists.specs.Placement.{source_order};
 ghost use Rattle.abi_calc.specs.Coroutine.Layout.{IsStateTag};
-ghost use Rattle.abi_laid.specs.Tree.{Trees, coroutine};
-ghost use Rattle.abi_laid.specs.Placed.{Placed, layout_of, size_of};
+ghost use Rattle.abi_laid.specs.Placed.{size_of};
 ghost use Rattle.rustc_abi.specs.Inside.{VariantsInside};
 ghost use Rattle.abi_laid.specs.Laws.{have_places};
 ghost use Rattle.abi_laid.specs.Nodes.{placed_in};
-ghost use Rattle.rustc_abi.specs.Coroutines.{IsCoroutined};
-ghost use Rattle.rustc_abi.specs.Laying.{AreLaying, IsCoroutineOf, coroutine_fault, most_fields, one_scalar, placed_coroutine};
+ghost use Rattle.rustc_abi.specs.Coroutines.{IsCoroutined, IsCoroutinedAs};
+ghost use Rattle.rustc_abi.specs.Laying.{IsCoroutineOf, coroutine_fault, most_fields, one_scalar, placed_coroutine};
 ghost use Rattle.rustc_abi.specs.Error.{IsRefused};
 ghost use Rattle.abi_laid.specs.Well.{IsPut, all_at};
-ghost use Rattle.rustc_abi.specs.Adding.{AreArms, AreStillThere, EachFits, IsAdded, variants_in};
+ghost use Rattle.rustc_abi.specs.Adding.{AreArms, AreEachThere, AreStillThere, AreThere, HaveLawfulLayouts, IsCoroutineAdded, variants_in};
 ghost use Rattle.rustc_abi.specs.Enums.{arms_at};
 ghost use Rattle.rustc_abi.specs.Count.{HasMore, IsOwnPut};
 
@@ -94,8 +92,7 @@ fn add_each_state(
     requires each { length (variants_of layout.now.variants) ≡ length children.now }
     requires few { length children.now ≤ most_fields }
     requires few_each { All (λ fields. length fields.items ≤ most_fields) children.now }
-    requires there { All (λ fields. All (λ child. child < vec_len nodes.old) fields.items)
-        children.now }
+    requires there { AreEachThere (vec_len nodes.old) children.now }
     requires inside { VariantsInside layout.now.size (variants_of layout.now.variants)
         (variants_in nodes.old.items children.now) }
     ensures ok { IfOk result (λ states. AreArms nodes.old.items nodes.new.items
@@ -126,8 +123,8 @@ fn add_states(
     requires each { length (variants_of layout.variants) ≡ length saved.states.now }
     requires few { length saved.states.now ≤ most_fields }
     requires few_each { All (λ ks. length ks.items ≤ most_fields) saved.states.now }
-    requires prefix { All (λ child. child < vec_len nodes.old) prefix.items }
-    requires there { All (λ child. child < vec_len nodes.old) saved.locals.now }
+    requires prefix { AreThere (vec_len nodes.old) prefix.items }
+    requires there { AreThere (vec_len nodes.old) saved.locals.now }
     requires known { All (λ ks. All (λ k. k < length saved.locals.now) ks.items) saved.states.now }
     requires places { have_places layout.size layout.fields
         (map size_of (all_at nodes.old.items prefix.items) ++ size_of (one_scalar dl.now tag) ∷ [])
@@ -176,16 +173,12 @@ fn calculated(
     requires once { All (AllPairs (λ a b. a ≢ b)) states.now }
     requires rows { row_count conflicts.now ≡ length locals.now }
     requires columns { column_count conflicts.now ≡ length locals.now }
-    ensures ok { IfOk result (λ l. (pres ps : List Placed) (pairs : List (ℕ × ℕ)) →
-        map (λ lent. lent.now) prefix.entry ≡ map layout_of pres → map (λ lent. lent.now) locals.now ≡ map layout_of ps
-        → ((row column : ℕ) → is_entry conflicts.now row column ≡ list_any (λ pair.
-        (row == pair.0) && (column == pair.1)) pairs)
-        → IsCoroutined dl.now pres tag (one_scalar dl.now tag) ps states.now pairs (Ok l)) }
-    ensures err { IfErr result (λ e. (pres ps : List Placed) (pairs : List (ℕ × ℕ)) →
-        map (λ lent. lent.now) prefix.entry ≡ map layout_of pres → map (λ lent. lent.now) locals.now ≡ map layout_of ps
-        → ((row column : ℕ) → is_entry conflicts.now row column ≡ list_any (λ pair.
-        (row == pair.0) && (column == pair.1)) pairs)
-        → IsRefused (IsCoroutined dl.now pres tag (one_scalar dl.now tag) ps states.now pairs) e) }
+    ensures ok { IfOk result (λ l. IsCoroutinedAs dl.now (map (λ lent. lent.now) prefix.entry)
+        tag (one_scalar dl.now tag) (map (λ lent. lent.now) locals.now) states.now
+        conflicts.now (λ answers. answers (Ok l))) }
+    ensures err { IfErr result (λ e. IsCoroutinedAs dl.now (map (λ lent. lent.now) prefix.entry)
+        tag (one_scalar dl.now tag) (map (λ lent. lent.now) locals.now) states.now
+        conflicts.now (λ answers. IsRefused answers e)) }
 {
     let field = LayoutData::scalar(&dl, tag);
     let answer = LayoutCalculator::new(dl).layout_of_coroutine(
@@ -214,11 +207,10 @@ fn coroutine_layout(
     requires faultless { coroutine_fault (length prefix.now) (length saved.locals.now)
         (map (λ state. state.items) saved.states.now) pairs.now ≡ None }
     requires tag { IsStateTag (length saved.states.now) tag }
-    requires before { All (λ child. child < length nodes.now) prefix.now }
-    requires there { All (λ child. child < length nodes.now) saved.locals.now }
-    requires prefix { All (λ p. IsLawfulLayout dl.now (layout_of p)) (all_at nodes.now prefix.now) }
-    requires locals { All (λ p. IsLawfulLayout dl.now (layout_of p))
-        (all_at nodes.now saved.locals.now) }
+    requires before { AreThere (length nodes.now) prefix.now }
+    requires there { AreThere (length nodes.now) saved.locals.now }
+    requires prefix { HaveLawfulLayouts dl.now (all_at nodes.now prefix.now) }
+    requires locals { HaveLawfulLayouts dl.now (all_at nodes.now saved.locals.now) }
     ensures ok { IfOk result (λ l. IsCoroutined dl.now (all_at nodes.now prefix.now) tag
         (one_scalar dl.now tag) (all_at nodes.now saved.entry.locals.now)
         (map (λ state. state.items) saved.entry.states.now) pairs.now (Ok l)) }
@@ -254,19 +246,13 @@ fn add_faultless_coroutine(
     requires data_layout { IsLawfulDataLayout dl.now }
     requires faultless { coroutine_fault (length prefix.items) (length locals.now)
         (map (λ state. state.items) states.now) pairs.now ≡ None }
-    requires before { All (λ child. child < vec_len nodes.old) prefix.items }
-    requires there { All (λ child. child < vec_len nodes.old) locals.now }
-    requires prefix { All (λ p. IsLawfulLayout dl.now (layout_of p))
-        (all_at nodes.old.items prefix.items) }
-    requires locals { All (λ p. IsLawfulLayout dl.now (layout_of p))
-        (all_at nodes.old.items locals.now) }
-    ensures ok { IfOk result
-        (λ i. (pres ts : Trees) → AreLaying dl.now pres (Ok (all_at nodes.old.items prefix.items)) →
-        AreLaying dl.now ts (Ok (all_at nodes.old.items locals.now)) →
-        EachFits dl.now pres (all_at nodes.old.items prefix.items) →
-        EachFits dl.now ts (all_at nodes.old.items locals.now) →
-        IsAdded dl.now nodes.old.items nodes.new.items i
-        (coroutine pres ts (map (λ state. state.items) states.now) pairs.now)) }
+    requires before { AreThere (vec_len nodes.old) prefix.items }
+    requires there { AreThere (vec_len nodes.old) locals.now }
+    requires prefix { HaveLawfulLayouts dl.now (all_at nodes.old.items prefix.items) }
+    requires locals { HaveLawfulLayouts dl.now (all_at nodes.old.items locals.now) }
+    ensures ok { IfOk result (IsCoroutineAdded dl.now nodes.old.items nodes.new.items
+        (all_at nodes.old.items prefix.items) (all_at nodes.old.items locals.now)
+        (map (λ state. state.items) states.now) pairs.now) }
     ensures own { IfOk result (IsOwnPut nodes.old.items nodes.new.items) }
     ensures err { IfErr result (IsRefused (IsCoroutineOf dl.now
         (all_at nodes.old.items prefix.items) (all_at nodes.old.items locals.now)
@@ -290,19 +276,13 @@ pub(crate) fn add_coroutine(
     pairs: &[(u64, u64)],
 ) -> Result<usize, LayError>
     requires data_layout { IsLawfulDataLayout dl.now }
-    requires before { All (λ child. child < vec_len nodes.old) prefix.items }
-    requires there { All (λ child. child < vec_len nodes.old) locals.now }
-    requires prefix { All (λ p. IsLawfulLayout dl.now (layout_of p))
-        (all_at nodes.old.items prefix.items) }
-    requires locals { All (λ p. IsLawfulLayout dl.now (layout_of p))
-        (all_at nodes.old.items locals.now) }
-    ensures ok { IfOk result
-        (λ i. (pres ts : Trees) → AreLaying dl.now pres (Ok (all_at nodes.old.items prefix.items)) →
-        AreLaying dl.now ts (Ok (all_at nodes.old.items locals.now)) →
-        EachFits dl.now pres (all_at nodes.old.items prefix.items) →
-        EachFits dl.now ts (all_at nodes.old.items locals.now) →
-        IsAdded dl.now nodes.old.items nodes.new.items i
-        (coroutine pres ts (map (λ state. state.items) states.now) pairs.now)) }
+    requires before { AreThere (vec_len nodes.old) prefix.items }
+    requires there { AreThere (vec_len nodes.old) locals.now }
+    requires prefix { HaveLawfulLayouts dl.now (all_at nodes.old.items prefix.items) }
+    requires locals { HaveLawfulLayouts dl.now (all_at nodes.old.items locals.now) }
+    ensures ok { IfOk result (IsCoroutineAdded dl.now nodes.old.items nodes.new.items
+        (all_at nodes.old.items prefix.items) (all_at nodes.old.items locals.now)
+        (map (λ state. state.items) states.now) pairs.now) }
     ensures own { IfOk result (IsOwnPut nodes.old.items nodes.new.items) }
     ensures err { IfErr result (IsRefused (IsCoroutineOf dl.now
         (all_at nodes.old.items prefix.items) (all_at nodes.old.items locals.now)

@@ -1,23 +1,21 @@
 //! How enums are laid out, once the fields of their variants are.
 
-ghost use Rattle.std.specs.Prelude.{◌≡◌, ◌+◌, ◌<◌, ◌≤◌, ◌∷◌, [], List, IfOk, IfErr, Ok, None, Some, length, map, option_map, slice_get, vec_len, All, false, true};
+ghost use Rattle.std.specs.Prelude.{◌≡◌, ◌<◌, ◌≤◌, ◌∷◌, [], List, IfOk, IfErr, Ok, None, Some, length, map, option_map, slice_get, vec_len, All, false, true};
 ghost use Rattle.std.specs.List.{list_all};
 ghost use Rattle.abi_base.specs.DataLayout.{IsLawfulDataLayout};
 ghost use Rattle.abi_scalar.specs.Lawful.{IsLawfulLayout};
 ghost use Rattle.abi_scalar.specs.Scalar.{IsReadable};
 ghost use Rattle.abi_scalar.specs.Variant.{variant_layout, variants_of};
 ghost use Rattle.abi_lists.specs.List.{HasLawfulAligns};
-ghost use Rattle.abi_laid.specs.Tree.{Variants as VariantTrees, enum};
-ghost use Rattle.abi_laid.specs.Placed.{Placed, layout_of, size_of, tagged};
+ghost use Rattle.abi_laid.specs.Placed.{Placed, size_of, tagged};
 ghost use Rattle.abi_laid.specs.Nodes.{encoding_of, tag_offset};
-ghost use Rattle.rustc_abi.specs.Enums.{IsEnumed, IsTagIntegerAnswer, arms_at, discriminants_of, has_equal, is_discriminant, layouts_of};
-ghost use Rattle.rustc_abi.specs.Laying.{IsEnumOf, VariantsLaying, enum_fault, most_fields, one_scalar, placed_enum};
+ghost use Rattle.rustc_abi.specs.Enums.{IsEnumed, IsTagIntegerAnswer, arms_at, has_equal, is_discriminant, layouts_of};
+ghost use Rattle.rustc_abi.specs.Laying.{IsEnumOf, enum_fault, most_fields, one_scalar, placed_enum};
 ghost use Rattle.rustc_abi.specs.Inside.{VariantsInside};
 ghost use Rattle.abi_laid.specs.Laws.{have_places};
-ghost use Rattle.rustc_abi.specs.Adding.{HavePlaces};
 ghost use Rattle.rustc_abi.specs.Error.{IsRefused};
 ghost use Rattle.abi_laid.specs.Well.{IsPut};
-ghost use Rattle.rustc_abi.specs.Adding.{AreArms, AreStillThere, HasReadableTag, HasVariants, IsAdded, VariantsFit, variants_in};
+ghost use Rattle.rustc_abi.specs.Adding.{AreArms, AreEachThere, AreStillThere, HasReadableTag, HasVariants, HaveLawfulLayouts, HavePlaces, IsEnumAdded, variants_in};
 ghost use Rattle.rustc_abi.specs.Count.{HasMore, IsOwnPut};
 
 use crate::discriminants::{has_equal, is_discriminant, numbered};
@@ -80,8 +78,7 @@ fn variant_layouts<'a>(
     children: &[Vec<usize>],
 ) -> Result<Vec<IndexVec<FieldIdx, &'a LayoutData<FieldIdx, VariantIdx>>>, AllocError>
     requires count { All (λ fields. length fields.items ≤ most_fields) children.now }
-    requires there { All (λ fields. All (λ child. child < length nodes.now) fields.items)
-        children.now }
+    requires there { AreEachThere (length nodes.now) children.now }
     ensures { IfOk result (λ layouts. map (map (λ lent. lent.now)) layouts.items
         ≡ layouts_of (variants_in nodes.now children.now)) }
 {
@@ -149,10 +146,8 @@ fn enum_layout(
     requires faultless { enum_fault dl.now repr.now numbers.now
         (variants_in nodes.now children.now) ≡ None }
     requires each { length numbers.now ≡ length children.now }
-    requires there { All (λ fields. All (λ child. child < length nodes.now) fields.items)
-        children.now }
-    requires lawful { All (All (λ p. IsLawfulLayout dl.now (layout_of p)))
-        (variants_in nodes.now children.now) }
+    requires there { AreEachThere (length nodes.now) children.now }
+    requires lawful { All (HaveLawfulLayouts dl.now) (variants_in nodes.now children.now) }
     ensures ok { IfOk result (λ l.
         IsEnumed dl.now repr.now numbers.now (variants_in nodes.now children.now) (Ok l)) }
     ensures err { IfErr result (IsRefused (IsEnumed dl.now repr.now numbers.now
@@ -203,8 +198,7 @@ pub(crate) fn add_variants(
     requires each { length numbers.now ≡ length children.now }
     requires few { length children.now ≤ most_fields }
     requires few_each { All (λ fields. length fields.items ≤ most_fields) children.now }
-    requires there { All (λ fields. All (λ child. child < vec_len nodes.old) fields.items)
-        children.now }
+    requires there { AreEachThere (vec_len nodes.old) children.now }
     requires inside { VariantsInside layout.now.size (variants_of layout.now.variants)
         (variants_in nodes.old.items children.now) }
     ensures ok { IfOk result (λ variants. AreArms nodes.old.items nodes.new.items
@@ -249,8 +243,7 @@ fn add_tagged(
     requires each { length told.numbers.now ≡ length told.children.now }
     requires few { length told.children.now ≤ most_fields }
     requires few_each { All (λ fields. length fields.items ≤ most_fields) told.children.now }
-    requires there { All (λ fields. All (λ child. child < vec_len nodes.old) fields.items)
-        told.children.now }
+    requires there { AreEachThere (vec_len nodes.old) told.children.now }
     requires places { have_places layout.size layout.fields
         (size_of (one_scalar dl.now tag) ∷ []) ≡ true }
     requires inside { VariantsInside layout.size (variants_of layout.variants)
@@ -291,8 +284,7 @@ fn add_placed(
     requires each { length numbers.now ≡ length children.now }
     requires few { length children.now ≤ most_fields }
     requires few_each { All (λ fields. length fields.items ≤ most_fields) children.now }
-    requires there { All (λ fields. All (λ child. child < vec_len nodes.old) fields.items)
-        children.now }
+    requires there { AreEachThere (vec_len nodes.old) children.now }
     requires places { HavePlaces dl.now layout
         (variants_in nodes.old.items children.now) layout.variants }
     ensures ok { IfOk result (λ i. IsPut nodes.old.items nodes.new.items i (placed_enum dl.now
@@ -328,15 +320,10 @@ fn add_faultless_enum(
     requires faultless { enum_fault dl.now repr.now numbers.now
         (variants_in nodes.old.items children.now) ≡ None }
     requires each { length numbers.now ≡ length children.now }
-    requires there { All (λ fields. All (λ child. child < vec_len nodes.old) fields.items)
-        children.now }
-    requires lawful { All (All (λ p. IsLawfulLayout dl.now (layout_of p)))
-        (variants_in nodes.old.items children.now) }
-    ensures ok { IfOk result
-        (λ i. (all : VariantTrees) → numbers.now ≡ discriminants_of all →
-        VariantsLaying dl.now all (Ok (variants_in nodes.old.items children.now)) →
-        VariantsFit dl.now all (variants_in nodes.old.items children.now) →
-        IsAdded dl.now nodes.old.items nodes.new.items i (enum repr.now all)) }
+    requires there { AreEachThere (vec_len nodes.old) children.now }
+    requires lawful { All (HaveLawfulLayouts dl.now) (variants_in nodes.old.items children.now) }
+    ensures ok { IfOk result (IsEnumAdded dl.now nodes.old.items nodes.new.items
+        repr.now numbers.now (variants_in nodes.old.items children.now)) }
     ensures own { IfOk result (IsOwnPut nodes.old.items nodes.new.items) }
     ensures err { IfErr result (IsRefused
         (IsEnumOf dl.now repr.now numbers.now (variants_in nodes.old.items children.now))) }
@@ -357,15 +344,10 @@ pub(crate) fn add_enum(
 ) -> Result<usize, LayError>
     requires data_layout { IsLawfulDataLayout dl.now }
     requires each { length numbers.now ≡ length children.now }
-    requires there { All (λ fields. All (λ child. child < vec_len nodes.old) fields.items)
-        children.now }
-    requires lawful { All (All (λ p. IsLawfulLayout dl.now (layout_of p)))
-        (variants_in nodes.old.items children.now) }
-    ensures ok { IfOk result
-        (λ i. (all : VariantTrees) → numbers.now ≡ discriminants_of all →
-        VariantsLaying dl.now all (Ok (variants_in nodes.old.items children.now)) →
-        VariantsFit dl.now all (variants_in nodes.old.items children.now) →
-        IsAdded dl.now nodes.old.items nodes.new.items i (enum repr.now all)) }
+    requires there { AreEachThere (vec_len nodes.old) children.now }
+    requires lawful { All (HaveLawfulLayouts dl.now) (variants_in nodes.old.items children.now) }
+    ensures ok { IfOk result (IsEnumAdded dl.now nodes.old.items nodes.new.items
+        repr.now numbers.now (variants_in nodes.old.items children.now)) }
     ensures own { IfOk result (IsOwnPut nodes.old.items nodes.new.items) }
     ensures err { IfErr result (IsRefused
         (IsEnumOf dl.now repr.now numbers.now (variants_in nodes.old.items children.now))) }

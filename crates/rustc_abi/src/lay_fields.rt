@@ -1,18 +1,18 @@
 //! How structs are laid out, once their fields are.
 
-ghost use Rattle.std.specs.Prelude.{◌≡◌, ◌<◌, ◌≤◌, ◌⊎◌, List, IfOk, IfErr, IfSome, Ok, None, length, vec_len, All, OnErr, map};
+ghost use Rattle.std.specs.Prelude.{◌≡◌, ◌<◌, ◌≤◌, ◌⊎◌, List, IfOk, IfErr, IfSome, Ok, None, length, vec_len, OnErr, map};
 ghost use Rattle.abi_base.specs.DataLayout.{IsLawfulDataLayout};
 ghost use Rattle.abi_scalar.specs.Lawful.{IsLawfulLayout};
 ghost use Rattle.abi_scalar.specs.Shape.{listed_offsets};
 ghost use Rattle.abi_lists.specs.Apart.{AreApart};
 ghost use Rattle.abi_lists.specs.List.{HasLawfulAligns};
 ghost use Rattle.abi_lists.specs.ListNiche.{IsNicheOfPart};
-ghost use Rattle.abi_laid.specs.Tree.{Trees, struct};
+ghost use Rattle.abi_laid.specs.Tree.{struct};
 ghost use Rattle.abi_laid.specs.Placed.{Placed, layout_of, size_of};
-ghost use Rattle.rustc_abi.specs.Laying.{AreLaying, IsFieldsAnswer, IsLaidList, fields_fault, has_bad_align, has_bad_index, is_above_limit, kind_of, most_fields};
+ghost use Rattle.rustc_abi.specs.Laying.{IsFieldsAnswer, IsLaidList, fields_fault, has_bad_align, has_bad_index, is_above_limit, kind_of, most_fields};
 ghost use Rattle.rustc_abi.specs.Error.{IsRefused};
 ghost use Rattle.abi_laid.specs.Well.{all_at};
-ghost use Rattle.rustc_abi.specs.Adding.{AreStillThere, EachFits, IsAdded};
+ghost use Rattle.rustc_abi.specs.Adding.{AreStillThere, AreThere, HaveLawfulLayouts, IsTypeAdded};
 ghost use Rattle.rustc_abi.specs.Count.{IsOwnPut};
 
 use crate::error::LayError;
@@ -101,9 +101,8 @@ fn fields_layout(
     requires aligns { HasLawfulAligns repr.now }
     requires count { length children.now ≤ most_fields }
     requires data_layout { IsLawfulDataLayout dl.now }
-    requires there { All (λ child. child < length nodes.now) children.now }
-    requires lawful { All (λ p. IsLawfulLayout dl.now (layout_of p))
-        (all_at nodes.now children.now) }
+    requires there { AreThere (length nodes.now) children.now }
+    requires lawful { HaveLawfulLayouts dl.now (all_at nodes.now children.now) }
     ensures ok { IfOk result (λ l. IsLaidList dl.now repr.now kind
         (map layout_of (all_at nodes.now children.now)) (Ok l)) }
     ensures err { IfErr result (IsRefused
@@ -135,14 +134,11 @@ fn add_faultless_fields(
     children: Vec<usize>,
 ) -> Result<usize, LayError>
     requires data_layout { IsLawfulDataLayout dl.now }
-    requires there { All (λ child. child < vec_len nodes.old) children.items }
-    requires lawful { All (λ p. IsLawfulLayout dl.now (layout_of p))
-        (all_at nodes.old.items children.items) }
+    requires there { AreThere (vec_len nodes.old) children.items }
+    requires lawful { HaveLawfulLayouts dl.now (all_at nodes.old.items children.items) }
     requires faultless { fields_fault repr.now (all_at nodes.old.items children.items) ≡ None }
-    ensures ok { IfOk result
-        (λ i. (ts : Trees) → AreLaying dl.now ts (Ok (all_at nodes.old.items children.items)) →
-        EachFits dl.now ts (all_at nodes.old.items children.items) →
-        IsAdded dl.now nodes.old.items nodes.new.items i (struct repr.now always_sized None ts)) }
+    ensures ok { IfOk result (IsTypeAdded dl.now nodes.old.items nodes.new.items
+        (struct repr.now always_sized None) (all_at nodes.old.items children.items)) }
     ensures own { IfOk result (IsOwnPut nodes.old.items nodes.new.items) }
     ensures err { IfErr result (IsRefused
         (IsFieldsAnswer dl.now repr.now always_sized (all_at nodes.old.items children.items))) }
@@ -168,13 +164,10 @@ pub(crate) fn add_fields(
     children: Vec<usize>,
 ) -> Result<usize, LayError>
     requires data_layout { IsLawfulDataLayout dl.now }
-    requires there { All (λ child. child < vec_len nodes.old) children.items }
-    requires lawful { All (λ p. IsLawfulLayout dl.now (layout_of p))
-        (all_at nodes.old.items children.items) }
-    ensures ok { IfOk result
-        (λ i. (ts : Trees) → AreLaying dl.now ts (Ok (all_at nodes.old.items children.items)) →
-        EachFits dl.now ts (all_at nodes.old.items children.items) →
-        IsAdded dl.now nodes.old.items nodes.new.items i (struct repr.now always_sized None ts)) }
+    requires there { AreThere (vec_len nodes.old) children.items }
+    requires lawful { HaveLawfulLayouts dl.now (all_at nodes.old.items children.items) }
+    ensures ok { IfOk result (IsTypeAdded dl.now nodes.old.items nodes.new.items
+        (struct repr.now always_sized None) (all_at nodes.old.items children.items)) }
     ensures own { IfOk result (IsOwnPut nodes.old.items nodes.new.items) }
     ensures err { IfErr result (IsRefused
         (IsFieldsAnswer dl.now repr.now always_sized (all_at nodes.old.items children.items))) }

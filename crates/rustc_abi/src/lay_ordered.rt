@@ -8,13 +8,13 @@ ghost use Rattle.abi_scalar.specs.Shape.{listed_offsets};
 ghost use Rattle.abi_lists.specs.Apart.{AreApart};
 ghost use Rattle.abi_lists.specs.List.{HasLawfulAligns};
 ghost use Rattle.abi_lists.specs.ListNiche.{IsNicheOfPart};
-ghost use Rattle.abi_laid.specs.Tree.{Trees, struct};
+ghost use Rattle.abi_laid.specs.Tree.{struct};
 ghost use Rattle.abi_laid.specs.Placed.{Placed, layout_of, size_of};
 ghost use Rattle.abi_laid.specs.Well.{all_at};
-ghost use Rattle.rustc_abi.specs.Adding.{AreStillThere, EachFits, IsAdded};
+ghost use Rattle.rustc_abi.specs.Adding.{AreStillThere, AreThere, HaveLawfulLayouts, IsTypeAdded};
 ghost use Rattle.rustc_abi.specs.Count.{IsOwnPut};
 ghost use Rattle.rustc_abi.specs.Error.{IsRefused};
-ghost use Rattle.rustc_abi.specs.Laying.{AreLaying, IsListedInOrder, IsOrderedFieldsAnswer, most_fields, ordered_fault, randomized};
+ghost use Rattle.rustc_abi.specs.Laying.{IsListedInOrder, IsOrderedFieldsAnswer, most_fields, ordered_fault, randomized};
 ghost use Rattle.rustc_abi.specs.declared.error.LayError.TheVariants.{BadOrder, OutOfMemory};
 
 use crate::error::LayError;
@@ -82,9 +82,8 @@ fn ordered_layout(
     requires free { IsTrue (may_randomize repr.now) }
     requires count { length children.now ≤ most_fields }
     requires data_layout { IsLawfulDataLayout dl.now }
-    requires there { All (λ child. child < length nodes.now) children.now }
-    requires lawful { All (λ p. IsLawfulLayout dl.now (layout_of p))
-        (all_at nodes.now children.now) }
+    requires there { AreThere (length nodes.now) children.now }
+    requires lawful { HaveLawfulLayouts dl.now (all_at nodes.now children.now) }
     ensures ok { IfOk result (λ l. IsListedInOrder dl.now repr.now kind order.now
         (map layout_of (all_at nodes.now children.now)) (Ok l)) }
     ensures err { IfErr result (IsRefused (IsListedInOrder dl.now repr.now kind order.now
@@ -118,14 +117,11 @@ fn add_faultless_ordered(
     children: Vec<usize>,
 ) -> Result<usize, LayError>
     requires data_layout { IsLawfulDataLayout dl.now }
-    requires there { All (λ child. child < vec_len nodes.old) children.items }
-    requires lawful { All (λ p. IsLawfulLayout dl.now (layout_of p))
-        (all_at nodes.old.items children.items) }
+    requires there { AreThere (vec_len nodes.old) children.items }
+    requires lawful { HaveLawfulLayouts dl.now (all_at nodes.old.items children.items) }
     requires faultless { ordered_fault repr.now (all_at nodes.old.items children.items) ≡ None }
-    ensures ok { IfOk result (λ i. (ts : Trees) →
-        AreLaying dl.now ts (Ok (all_at nodes.old.items children.items)) →
-        EachFits dl.now ts (all_at nodes.old.items children.items) → IsAdded dl.now nodes.old.items
-        nodes.new.items i (struct repr.now always_sized (Some order.now) ts)) }
+    ensures ok { IfOk result (IsTypeAdded dl.now nodes.old.items nodes.new.items
+        (struct repr.now always_sized (Some order.now)) (all_at nodes.old.items children.items)) }
     ensures own { IfOk result (IsOwnPut nodes.old.items nodes.new.items) }
     ensures err { IfErr result (IsRefused (IsOrderedFieldsAnswer dl.now repr.now always_sized
         order.now (all_at nodes.old.items children.items))) }
@@ -152,13 +148,10 @@ pub(crate) fn add_ordered(
     children: Vec<usize>,
 ) -> Result<usize, LayError>
     requires data_layout { IsLawfulDataLayout dl.now }
-    requires there { All (λ child. child < vec_len nodes.old) children.items }
-    requires lawful { All (λ p. IsLawfulLayout dl.now (layout_of p))
-        (all_at nodes.old.items children.items) }
-    ensures ok { IfOk result (λ i. (ts : Trees) →
-        AreLaying dl.now ts (Ok (all_at nodes.old.items children.items)) →
-        EachFits dl.now ts (all_at nodes.old.items children.items) → IsAdded dl.now nodes.old.items
-        nodes.new.items i (struct repr.now always_sized (Some order.now) ts)) }
+    requires there { AreThere (vec_len nodes.old) children.items }
+    requires lawful { HaveLawfulLayouts dl.now (all_at nodes.old.items children.items) }
+    ensures ok { IfOk result (IsTypeAdded dl.now nodes.old.items nodes.new.items
+        (struct repr.now always_sized (Some order.now)) (all_at nodes.old.items children.items)) }
     ensures own { IfOk result (IsOwnPut nodes.old.items nodes.new.items) }
     ensures err { IfErr result (IsRefused (IsOrderedFieldsAnswer dl.now repr.now always_sized
         order.now (all_at nodes.old.items children.items))) }

@@ -1,15 +1,15 @@
 //! How unions are laid out, once their fields are.
 
-ghost use Rattle.std.specs.Prelude.{◌≡◌, ◌<◌, ◌≤◌, IfOk, IfErr, Ok, None, length, vec_len, All, OnErr, map};
+ghost use Rattle.std.specs.Prelude.{◌≡◌, ◌<◌, ◌≤◌, IfOk, IfErr, Ok, None, length, vec_len, OnErr, map};
 ghost use Rattle.abi_base.specs.DataLayout.{IsLawfulDataLayout};
 ghost use Rattle.abi_scalar.specs.Lawful.{IsLawfulLayout};
 ghost use Rattle.abi_lists.specs.List.{HasLawfulAligns};
-ghost use Rattle.abi_laid.specs.Tree.{Trees, union};
+ghost use Rattle.abi_laid.specs.Tree.{union};
 ghost use Rattle.abi_laid.specs.Placed.{layout_of};
-ghost use Rattle.rustc_abi.specs.Laying.{AreLaying, IsUnionOf, IsUnited, fields_fault, most_fields};
+ghost use Rattle.rustc_abi.specs.Laying.{IsUnionOf, IsUnited, fields_fault, most_fields};
 ghost use Rattle.rustc_abi.specs.Error.{IsRefused};
 ghost use Rattle.abi_laid.specs.Well.{all_at};
-ghost use Rattle.rustc_abi.specs.Adding.{AreStillThere, EachFits, IsAdded};
+ghost use Rattle.rustc_abi.specs.Adding.{AreStillThere, AreThere, HaveLawfulLayouts, IsTypeAdded};
 ghost use Rattle.rustc_abi.specs.Count.{IsOwnPut};
 
 use crate::error::LayError;
@@ -33,9 +33,8 @@ fn union_layout(
     requires aligns { HasLawfulAligns repr.now }
     requires count { length children.now ≤ most_fields }
     requires data_layout { IsLawfulDataLayout dl.now }
-    requires there { All (λ child. child < length nodes.now) children.now }
-    requires lawful { All (λ p. IsLawfulLayout dl.now (layout_of p))
-        (all_at nodes.now children.now) }
+    requires there { AreThere (length nodes.now) children.now }
+    requires lawful { HaveLawfulLayouts dl.now (all_at nodes.now children.now) }
     ensures ok { IfOk result (λ l.
         IsUnited dl.now repr.now (map layout_of (all_at nodes.now children.now)) (Ok l)) }
     ensures err { IfErr result (IsRefused (IsUnited dl.now repr.now (map layout_of
@@ -56,14 +55,11 @@ fn add_faultless_union(
     children: Vec<usize>,
 ) -> Result<usize, LayError>
     requires data_layout { IsLawfulDataLayout dl.now }
-    requires there { All (λ child. child < vec_len nodes.old) children.items }
-    requires lawful { All (λ p. IsLawfulLayout dl.now (layout_of p))
-        (all_at nodes.old.items children.items) }
+    requires there { AreThere (vec_len nodes.old) children.items }
+    requires lawful { HaveLawfulLayouts dl.now (all_at nodes.old.items children.items) }
     requires faultless { fields_fault repr.now (all_at nodes.old.items children.items) ≡ None }
-    ensures ok { IfOk result
-        (λ i. (ts : Trees) → AreLaying dl.now ts (Ok (all_at nodes.old.items children.items)) →
-        EachFits dl.now ts (all_at nodes.old.items children.items) →
-        IsAdded dl.now nodes.old.items nodes.new.items i (union repr.now ts)) }
+    ensures ok { IfOk result (IsTypeAdded dl.now nodes.old.items nodes.new.items
+        (union repr.now) (all_at nodes.old.items children.items)) }
     ensures own { IfOk result (IsOwnPut nodes.old.items nodes.new.items) }
     ensures err { IfErr result (IsRefused (IsUnionOf dl.now repr.now
         (all_at nodes.old.items children.items))) }
@@ -83,13 +79,10 @@ pub(crate) fn add_union(
     children: Vec<usize>,
 ) -> Result<usize, LayError>
     requires data_layout { IsLawfulDataLayout dl.now }
-    requires there { All (λ child. child < vec_len nodes.old) children.items }
-    requires lawful { All (λ p. IsLawfulLayout dl.now (layout_of p))
-        (all_at nodes.old.items children.items) }
-    ensures ok { IfOk result
-        (λ i. (ts : Trees) → AreLaying dl.now ts (Ok (all_at nodes.old.items children.items)) →
-        EachFits dl.now ts (all_at nodes.old.items children.items) →
-        IsAdded dl.now nodes.old.items nodes.new.items i (union repr.now ts)) }
+    requires there { AreThere (vec_len nodes.old) children.items }
+    requires lawful { HaveLawfulLayouts dl.now (all_at nodes.old.items children.items) }
+    ensures ok { IfOk result (IsTypeAdded dl.now nodes.old.items nodes.new.items
+        (union repr.now) (all_at nodes.old.items children.items)) }
     ensures own { IfOk result (IsOwnPut nodes.old.items nodes.new.items) }
     ensures err { IfErr result (IsRefused (IsUnionOf dl.now repr.now
         (all_at nodes.old.items children.items))) }

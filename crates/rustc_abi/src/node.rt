@@ -1,13 +1,13 @@
 //! Nodes that are put behind others.
 
-ghost use Rattle.std.specs.Prelude.{◌≡◌, ◌+◌, ◌<◌, ◌≤◌, All, IfErr, IfOk, OnErr, length, map, true, vec_len};
+ghost use Rattle.std.specs.Prelude.{◌≡◌, ◌<◌, ◌≤◌, IfErr, IfOk, OnErr, length, map, true, vec_len};
 ghost use Rattle.abi_laid.specs.Placed.{layout_of};
 ghost use Rattle.abi_laid.specs.Nodes.{types_in, meaning};
 ghost use Rattle.abi_laid.specs.Laws.{keeps_laws};
 ghost use Rattle.abi_laid.specs.Widths.{has_width};
 ghost use Rattle.abi_laid.specs.Well.{all_at, is_node, IsPut};
 ghost use Rattle.rustc_abi.specs.Count.{HasMore};
-ghost use Rattle.rustc_abi.specs.Adding.{AreStillThere};
+ghost use Rattle.rustc_abi.specs.Adding.{AreStillThere, AreThere};
 ghost use Rattle.rustc_abi.specs.Laying.{most_fields};
 
 use crate::error::LayError;
@@ -45,7 +45,7 @@ pub(crate) fn layouts_at<'a>(
     children: &[usize],
 ) -> Result<IndexVec<FieldIdx, &'a LayoutData<FieldIdx, VariantIdx>>, AllocError>
     requires count { length children.now ≤ most_fields }
-    requires there { All (λ child. child < length nodes.now) children.now }
+    requires there { AreThere (length nodes.now) children.now }
     ensures { IfOk result (λ layouts.
         map (λ lent. lent.now) layouts ≡ map layout_of (all_at nodes.now children.now)) }
 {

@@ -1,5 +1,5 @@
 -- How the bytes of a value that covers a place are put from those of its parts.
-use Rattle.std.proofs.Common.{◌≡◌, ℕ, zero, suc, ◌+◌, ◌-◌, ◌*◌, ◌<◌, ◌≤◌, List, [], ◌∷◌, Bool, true, false, Option, length, get_or, drop, min, All, arith, refl, sym, ap, ◌∙◌, subst, ⊎_elim}
+use Rattle.std.proofs.Common.{◌≡◌, ℕ, zero, suc, ◌+◌, ◌-◌, ◌*◌, ◌<◌, ◌≤◌, List, [], ◌∷◌, Bool, true, false, Option, length, get_or, drop, min, arith, refl, sym, ap, ◌∙◌, subst, ⊎_elim}
 use Rattle.std.specs.Prelude.{◌&&◌, ◌||◌, ◌==◌, ◌≢◌, nat_le, nat_lt, replicate, if◌then◌else◌}
 use Rattle.std.proofs.lemmas.Bool.{and_parts, and_right, cases_Bool, cases_lt, le-leb, leb-true, lt-ltb, ltb-true, le-ltb, or_cases, true≢false}
 use Rattle.std.specs.Cmp.Derive.{both_true}
@@ -22,23 +22,14 @@ use Rattle.abi_laid.specs.Covering.{are_covered, each_covered, is_arm_covered, i
 use Rattle.abi_laid.specs.Deciding.{arm_for, arm_values, covering_value, covering_values, each_value, first_with, place_in, two_of}
 use Rattle.abi_laid.specs.Reading.{IsNamedIn}
 use Rattle.abi_laid.specs.Writing.{IsPutOver}
+use Rattle.abi_laid.specs.Putting.{PutsCovering, PutsCoveringArm, PutsTag}
 use Rattle.abi_laid.proofs.Bytes.BytesLemmas.{AreBytes-bytes_at}
 use Rattle.abi_laid.proofs.Bytes.HoldLemmas.{bytes_at-bytes_at, length-bytes_at}
 use Rattle.abi_laid.proofs.Bytes.PutOverLemmas.{put_both, put_like, put_none, put_one, put_part}
 use Rattle.abi_laid.proofs.Bytes.PutPlacesLemmas.{before_all_left, before_more, before_skip, picked-at}
 use Rattle.abi_laid.proofs.Found.ReadLemmas.{from_arm, parts_end, parts_from}
-use Rattle.abi_laid.proofs.Written.WriteLemmas.{IsWritten, TagPut, arm_covers, put_slice, written_all, written_more, written_none}
+use Rattle.abi_laid.proofs.Written.WriteLemmas.{IsWritten, arm_covers, put_slice, written_all, written_more, written_none}
 use Rattle.abi_laid.proofs.Written.WrittenLemmas.{zeros_at}
-
--- where bytes hold a value that covers the place, it is put over them
-abbrev pub Covered : Endian → (at : ℕ) → (old new : List ℕ) → Option ℕ → Placed → Type 0
-Covered order at old new place p = (b : List ℕ) → AreBytes b → Holds order p b (covering_value p place) →
-    IsPutOver (is_covered p (covering_value p place)) at b old new
-
--- and so with parts
-abbrev pub AreCovered : Endian → (at : ℕ) → (old new : List ℕ) → Option ℕ → Parts → Type 0
-AreCovered order at old new place parts = (b : List ℕ) → AreBytes b → HoldParts order parts b (covering_values parts place) →
-    IsPutOver (are_covered parts (covering_values parts place)) at b old new
 
 -- of no bytes none is put
 pub put_bare : (p : ℕ → Bool) (at : ℕ) (b old : List ℕ) → length b ≡ 0 → IsPutOver p at b old old
@@ -134,7 +125,7 @@ module _ (order : Endian) (p : Placed) (place : Option ℕ) (count at : ℕ) (b 
       (each_covered (is_covered p) (size_of p) (o + size_of p) (elements_from (o + size_of p) left))
       (HoldEach (Holds order p) (size_of p) o b (elements_from o (suc left))) (HoldEach (Holds order p) (size_of p) (o + size_of p) b (elements_from (o + size_of p) left)) at b old now new h put h.held.1
 
-  one_more : (o left : ℕ) (now new : List ℕ) → AreBytes b → ElementsLeft o (suc left) now → Covered order (at + o) now new (place_in place o (size_of p)) p → ElementsLeft (o + size_of p) left new
+  one_more : (o left : ℕ) (now new : List ℕ) → AreBytes b → ElementsLeft o (suc left) now → PutsCovering order (at + o) now new (place_in place o (size_of p)) p → ElementsLeft (o + size_of p) left new
   one_more o left now new all h put =
       one_next o left now new h (put_slice order p (covering_value p (place_in place o (size_of p))) at o b now new all h.held.0 put)
 
@@ -147,7 +138,7 @@ module _ (order : Endian) (p : Placed) (place : Option ℕ) (count at : ℕ) (b 
       let rest : ElementsLeft (i * size_of p) (suc (count - (i + 1))) now = subst (λ n. ElementsLeft (i * size_of p) n now) left h in
       subst (λ o. ElementsLeft o (count - (i + 1)) new) next (one_next (i * size_of p) (count - (i + 1)) now new rest put)
 
-  pub elements_more : (i : ℕ) (now new : List ℕ) → i < count → AreBytes b → ElementsPut i now → Covered order (at + i * size_of p) now new (place_in place (i * size_of p) (size_of p)) p → ElementsPut (i + 1) new
+  pub elements_more : (i : ℕ) (now new : List ℕ) → i < count → AreBytes b → ElementsPut i now → PutsCovering order (at + i * size_of p) now new (place_in place (i * size_of p) (size_of p)) p → ElementsPut (i + 1) new
   elements_more i now new lt all h put =
       let left : count - i ≡ suc (count - (i + 1)) = omega (arith, lt) in
       let next : i * size_of p + size_of p ≡ (i + 1) * size_of p = omega arith in
@@ -176,7 +167,7 @@ module _ (order : Endian) (os : List ℕ) (ps : List Placed) (place : Option ℕ
   pub fields_first : HoldParts order (parts_at os ps) b (covering_values (parts_at os ps) place) → FieldsPut 0 old
   fields_first h = written_none (are_covered (parts_at os ps) (covering_values (parts_at os ps) place)) (HoldParts order (parts_at os ps) b (covering_values (parts_at os ps) place)) at b old h
 
-  one_field : (o : ℕ) (p : Placed) (parts : Parts) (now new : List ℕ) → AreBytes b → FieldsLeft (part o p parts) now → Covered order (at + o) now new (place_in place o (size_of p)) p → FieldsLeft parts new
+  one_field : (o : ℕ) (p : Placed) (parts : Parts) (now new : List ℕ) → AreBytes b → FieldsLeft (part o p parts) now → PutsCovering order (at + o) now new (place_in place o (size_of p)) p → FieldsLeft parts new
   one_field o p parts now new all h put =
       let v : Value = covering_value p (place_in place o (size_of p)) in
       written_more (are_covered (parts_at os ps) (covering_values (parts_at os ps) place)) (λ k. is_byte_at o (size_of p) k && is_covered p v (k - o)) (are_covered parts (covering_values parts place))
@@ -184,7 +175,7 @@ module _ (order : Endian) (os : List ℕ) (ps : List Placed) (place : Option ℕ
       (put_slice order p v at o b now new all h.held.0 put) h.held.1
 
   pub fields_more : (i : ℕ) (now new : List ℕ) → i < length os → i < length ps → AreBytes b → FieldsPut i now →
-      Covered order (at + get_or os i 0) now new (place_in place (get_or os i 0) (size_of (get_or ps i nothing))) (get_or ps i nothing) → FieldsPut (i + 1) new
+      PutsCovering order (at + get_or os i 0) now new (place_in place (get_or os i 0) (size_of (get_or ps i nothing))) (get_or ps i nothing) → FieldsPut (i + 1) new
   fields_more i now new lt below all h put =
       one_field (get_or os i 0) (get_or ps i nothing) (parts_at (drop (i + 1) os) (drop (i + 1) ps)) now new all (subst (λ parts. FieldsLeft parts now) (parts_from os ps i lt below) h) put
 
@@ -237,7 +228,7 @@ own_like n parts vs room k =
     (cases_Bool (are_covered parts vs k))
 
 -- as the whole of its own node, and as the fields of an arm
-pub variant_put : (order : Endian) (p : Placed) (place : Option ℕ) (at : ℕ) (old new : List ℕ) → has_list p ≡ true → has_room p ≡ true → Covered order at old new place p →
+pub variant_put : (order : Endian) (p : Placed) (place : Option ℕ) (at : ℕ) (old new : List ℕ) → has_list p ≡ true → has_room p ≡ true → PutsCovering order at old new place p →
     (b : List ℕ) → AreBytes b → size_of p ≤ length b → HoldParts order (own_fields p) b (covering_values (own_fields p) place) →
     IsPutOver (are_covered (own_fields p) (covering_values (own_fields p) place)) at b old new
 variant_put order (scalar layout s) place at old new listed room put b all le held = absurd (cc)
@@ -265,14 +256,6 @@ arm_values_own done [] i d place lt = absurd (omega arith)
 arm_values_own done (v ∷ vs) zero d place lt = refl
 arm_values_own done (v ∷ vs) (suc i) d place lt = arm_values_own done vs i d place (omega arith)
 
--- where bytes hold the variant of which a value covers the place, its tag and its fields are put over them
-abbrev pub ArmCovered : Endian → (at : ℕ) → (old new : List ℕ) → Option ℕ → TagEncoding ℕ → (offset : ℕ) → (tag : Placed) → List Placed → List (ℕ × ℕ) → Type 0
-ArmCovered order at old new place encoding offset tag done vs =
-    (b : List ℕ) → AreBytes b → All (λ v. size_of (placed_in done v.1) ≤ length b) vs →
-    IsNamedIn order b encoding offset tag (arms_in done vs) (arm_for encoding (arms_in done vs) place) (arm_values (arms_in done vs) (arm_for encoding (arms_in done vs) place) place) →
-    IsPutOver (λ k. (is_told encoding (arm_for encoding (arms_in done vs) place) && is_byte_at offset (size_of tag) k)
-    || is_arm_covered (arms_in done vs) (arm_for encoding (arms_in done vs) place) (arm_values (arms_in done vs) (arm_for encoding (arms_in done vs) place) place) k) at b old new
-
 module _ (order : Endian) (done : List Placed) (place : Option ℕ) (at : ℕ) (old mid new : List ℕ) (encoding : TagEncoding ℕ) (offset : ℕ) (tag : Placed) (vs : List (ℕ × ℕ)) (i : ℕ) (lt : i < length vs) where
   abbrev own_node : Placed
   own_node = placed_in done (get_or vs i (0, 0)).1
@@ -282,8 +265,8 @@ module _ (order : Endian) (done : List Placed) (place : Option ℕ) (at : ℕ) (
       IsPutOver (λ k. (is_told encoding j && is_byte_at offset (size_of tag) k) || is_arm_covered (arms_in done vs) j (arm_values (arms_in done vs) j place) k) at b old new
 
   -- the tag, and then the variant's own node
-  pub arm_put : i ≡ arm_for encoding (arms_in done vs) place → has_list own_node ≡ true → has_room own_node ≡ true → TagPut order at old mid encoding offset (size_of tag) vs i → Covered order at mid new place own_node →
-      ArmCovered order at old new place encoding offset tag done vs
+  pub arm_put : i ≡ arm_for encoding (arms_in done vs) place → has_list own_node ≡ true → has_room own_node ≡ true → PutsTag order at old mid encoding offset (size_of tag) vs i → PutsCovering order at mid new place own_node →
+      PutsCoveringArm order at old new place encoding offset tag done vs
   arm_put is listed room front own = λ b all sizes. subst (ThisCovered b) is (this b all (sizes i (0, 0) lt))
     where
       this : (b : List ℕ) → AreBytes b → size_of own_node ≤ length b → ThisCovered b i

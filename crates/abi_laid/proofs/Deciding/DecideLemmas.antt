@@ -15,8 +15,8 @@ use Rattle.abi_laid.specs.Holding.{Holds}
 use Rattle.abi_laid.specs.Laid.{endian_of, placed_of}
 use Rattle.abi_laid.specs.Covering.{is_covered}
 use Rattle.abi_laid.specs.Deciding.{Decide, DifferAt, KeepsPlaces, covering_value}
+use Rattle.abi_laid.specs.Putting.{PutsCovering}
 use Rattle.abi_laid.proofs.Deciding.AgreeLemmas.{covered_decides}
-use Rattle.abi_laid.proofs.Deciding.CoverLemmas.{Covered}
 use Rattle.abi_laid.proofs.Bytes.HoldLemmas.{length-Holds}
 use Rattle.abi_laid.proofs.Written.WrittenLemmas.{value_held}
 
@@ -26,7 +26,7 @@ decide_at order p v k a b of_a of_b held covered differ = (v, held, differ, cove
 
 -- what was put of the value that is chosen for a data place holds it
 pub put_decides : (dl : TargetDataLayout) (tree : Tree) (laid : Laid) → KeepsPlaces dl tree laid → (k : ℕ) → is_data_place (placed_of laid) k ≡ true → (old a b : List ℕ) → length a ≡ size_of (placed_of laid) →
-    AreBytes a → AreBytes b → Covered (endian_of laid) 0 old a (Some k) (placed_of laid) → DifferAt k a b → Decide (endian_of laid) (placed_of laid) k a b
+    AreBytes a → AreBytes b → PutsCovering (endian_of laid) 0 old a (Some k) (placed_of laid) → DifferAt k a b → Decide (endian_of laid) (placed_of laid) k a b
 put_decides dl tree laid keeps k place old a b long of_a of_b put differ =
     let v : Value = covering_value (placed_of laid) (Some k) in
     decide_at (endian_of laid) (placed_of laid) v k a b of_a of_b (value_held dl tree laid keeps.values v old a long (keeps.value k place) put) (keeps.covers k place) differ

@@ -19,11 +19,11 @@ use Rattle.abi_laid.specs.Places.{is_data_place}
 use Rattle.abi_laid.specs.Nodes.{arms_in, own_fields, parts_at, placed_at, placed_in}
 use Rattle.abi_laid.specs.declared.node.Node.{Node}
 use Rattle.abi_laid.specs.Room.{has_room}
-use Rattle.abi_laid.specs.Tag.{Names}
-use Rattle.abi_laid.specs.Holding.{HoldEach, HoldParts, Holds, IsAt, tag_at}
+use Rattle.abi_laid.specs.Holding.{HoldEach, HoldParts, Holds, IsAt}
 use Rattle.abi_laid.specs.Reading.{IsNamedIn}
 use Rattle.abi_laid.specs.Covering.{are_covered, each_covered, is_arm_covered, is_byte_at, is_covered, is_told}
 use Rattle.abi_laid.specs.Writing.{IsPutOver}
+use Rattle.abi_laid.specs.Putting.{PutsArm, PutsParts}
 use Rattle.abi_laid.proofs.Bytes.BytesLemmas.{AreBytes-bytes_at}
 use Rattle.abi_laid.proofs.Places.DataPlacesLemmas.{or_shift}
 use Rattle.abi_laid.proofs.Bytes.PutOverLemmas.{put_both, put_like, put_none, put_part}
@@ -258,22 +258,11 @@ arm_covers done (v ∷ vs) (suc i) d ws k lt = arm_covers done vs i d ws k (omeg
 -- ---- what calls promise
 
 -- where bytes hold the value, it is put over them
-abbrev pub NodePut : Endian → (at : ℕ) → (old new : List ℕ) → Placed → Value → Type 0
-NodePut order at old new p v = (b : List ℕ) → AreBytes b → Holds order p b v → IsPutOver (is_covered p v) at b old new
-
-abbrev pub AllPut : Endian → (at : ℕ) → (old new : List ℕ) → Parts → Values → Type 0
-AllPut order at old new parts vs = (b : List ℕ) → AreBytes b → HoldParts order parts b vs → IsPutOver (are_covered parts vs) at b old new
-
 abbrev pub PartsPut : Endian → (at : ℕ) → (old new : List ℕ) → Parts → Values → {T E : Type 0} → Result T E → Type 0
-PartsPut order at old new parts vs result = OnOk result (AllPut order at old new parts vs)
+PartsPut order at old new parts vs result = OnOk result (PutsParts order at old new parts vs)
 
 abbrev pub ArmPut : Endian → (at : ℕ) → (old new : List ℕ) → TagEncoding ℕ → (offset : ℕ) → (tag : Placed) → Arms → (index : ℕ) → Values → {T E : Type 0} → Result T E → Type 0
-ArmPut order at old new encoding offset tag arms i vs result = OnOk result ((b : List ℕ) → AreBytes b → IsNamedIn order b encoding offset tag arms i vs →
-    IsPutOver (λ k. (is_told encoding i && is_byte_at offset (size_of tag) k) || is_arm_covered arms i vs k) at b old new)
-
-abbrev pub TagPut : Endian → (at : ℕ) → (old new : List ℕ) → TagEncoding ℕ → (offset width : ℕ) → List (ℕ × ℕ) → (index : ℕ) → Type 0
-TagPut order at old new encoding offset width vs i = (b : List ℕ) (done : List Placed) → AreBytes b → offset + width ≤ length b →
-    Names encoding width (arms_in done vs) (tag_at order b offset width) i → IsPutOver (λ k. is_told encoding i && is_byte_at offset width k) at b old new
+ArmPut order at old new encoding offset tag arms i vs result = OnOk result (PutsArm order at old new encoding offset tag arms i vs)
 
 -- a vector's lanes end inside it
 pub vector_room : (ns : List Node) (i lanes : ℕ) (layout : Layout) → placed_at ns i ≡ vector layout (placed_at ns lanes) → has_room (placed_at ns i) ≡ true → size_of (placed_at ns lanes) ≤ layout.size

@@ -1,24 +1,21 @@
 //! The bytes of a value that covers a place.
 
-ghost use Rattle.std.specs.Prelude.{◌≡◌, ℕ, ◌+◌, ◌*◌, ◌<◌, ◌≤◌, ◌&&◌, ◌||◌, [], All, IfOk, IfSome, IsTrue, List, None, Some, false, get_or, length, map, true};
+ghost use Rattle.std.specs.Prelude.{◌≡◌, ℕ, ◌+◌, ◌*◌, ◌<◌, ◌≤◌, ◌&&◌, [], All, IfOk, IfSome, IsTrue, List, None, Some, false, get_or, length, map, true};
 ghost use Rattle.abi_base.specs.declared.data_layout.TargetDataLayout.{TargetDataLayout};
 ghost use Rattle.abi_index.specs.RangeSet.{AreMaximalRuns, is_in_ranges, is_in_run};
-ghost use Rattle.abi_scalar.specs.Shape.{listed_offsets};
 ghost use Rattle.abi_laid.specs.Bytes.{AreBytes};
-ghost use Rattle.abi_laid.specs.Covering.{are_covered, each_covered, is_arm_covered, is_byte_at, is_covered, is_told};
-ghost use Rattle.abi_laid.specs.Deciding.{Decide, DifferAt, KeepsPlaces, arm_for, arm_values, covering_value};
-ghost use Rattle.abi_laid.specs.Deciding.{covering_values, each_value, first_told, first_with, place_in, some_number};
-ghost use Rattle.abi_laid.specs.Holding.{HoldEach, HoldParts, Holds};
+ghost use Rattle.abi_laid.specs.Deciding.{Decide, DifferAt, KeepsPlaces, arm_for};
+ghost use Rattle.abi_laid.specs.Deciding.{first_told, first_with, place_in, some_number};
 ghost use Rattle.abi_laid.specs.Laid.{endian_of, placed_of};
 ghost use Rattle.abi_laid.specs.Laws.{have_lists};
 ghost use Rattle.abi_laid.specs.Needed.{HaveSets, IsKept, IsPartAt};
 ghost use Rattle.abi_laid.specs.Nodes.{arms_in, parts_at, placed_at, types_in};
 ghost use Rattle.abi_laid.specs.Placed.{size_of};
 ghost use Rattle.abi_laid.specs.Places.{is_data_place};
-ghost use Rattle.abi_laid.specs.Reading.{IsNamedIn};
 ghost use Rattle.abi_laid.specs.Tree.{Tree};
-ghost use Rattle.abi_laid.specs.Well.{all_at, are_nodes};
+ghost use Rattle.abi_laid.specs.Well.{all_at};
 ghost use Rattle.abi_laid.specs.Widths.{have_widths};
+ghost use Rattle.abi_laid.specs.Putting.{PutsCovering, PutsCoveringArm, PutsCoveringEach, PutsCoveringParts};
 ghost use Rattle.abi_laid.specs.Writing.{IsCopied, IsPutOver};
 ghost use Rattle.abi_laid.specs.declared.mark.Mark.{Mark};
 
@@ -211,10 +208,8 @@ fn put_node(cover: Cover<'_>, node: usize, place: Option<u64>, at: usize, bytes:
     requires kept { IsKept cover.kept.now node }
     requires fits { at + size_of (placed_at cover.nodes.now node) ≤ length bytes.old }
     ensures long { length bytes.new ≡ length bytes.old }
-    ensures put { (b : List ℕ) → AreBytes b →
-        let p = placed_at cover.entry.nodes.now node in
-        Holds cover.entry.order p b (covering_value p place) →
-        IsPutOver (is_covered p (covering_value p place)) at b bytes.old bytes.new }
+    ensures put { PutsCovering cover.entry.order at bytes.old bytes.new place
+        (placed_at cover.entry.nodes.now node) }
 {
     let here = read_one(cover.nodes, node);
     let list = offsets(&here.layout);
@@ -258,10 +253,8 @@ fn put_variant(
     requires tagged { (mark : Mark) × (tag : ℕ) × (all : _)
         × (here.now.shape ≡ Shape.Tagged mark tag all) }
     ensures long { length bytes.new ≡ length bytes.old }
-    ensures put { (b : List ℕ) → AreBytes b →
-        let p = placed_at cover.entry.nodes.now node in
-        Holds cover.entry.order p b (covering_value p place) →
-        IsPutOver (is_covered p (covering_value p place)) at b bytes.old bytes.new }
+    ensures put { PutsCovering cover.entry.order at bytes.old bytes.new place
+        (placed_at cover.entry.nodes.now node) }
 {
     let beside = arms_of(&here.shape);
     let encoding = encoding_of(&here.layout);
@@ -293,10 +286,8 @@ fn put_state(
     requires states { (prefix : _) × (tag : ℕ) × (all : _)
         × (here.now.shape ≡ Shape.States prefix tag all) }
     ensures long { length bytes.new ≡ length bytes.old }
-    ensures put { (b : List ℕ) → AreBytes b →
-        let p = placed_at cover.entry.nodes.now node in
-        Holds cover.entry.order p b (covering_value p place) →
-        IsPutOver (is_covered p (covering_value p place)) at b bytes.old bytes.new }
+    ensures put { PutsCovering cover.entry.order at bytes.old bytes.new place
+        (placed_at cover.entry.nodes.now node) }
 {
     let beside = arms_of(&here.shape);
     let direct = TagEncoding::Direct;
@@ -327,11 +318,8 @@ fn put_elements(
     requires kept { IsKept cover.kept.now element }
     requires fits { at + size_of (placed_at cover.nodes.now element) * count ≤ length bytes.old }
     ensures long { length bytes.new ≡ length bytes.old }
-    ensures put { (b : List ℕ) → AreBytes b →
-        let p = placed_at cover.entry.nodes.now element in
-        let vs = each_value (covering_value p) (size_of p) 0 count place in
-        HoldEach (Holds cover.entry.order p) (size_of p) 0 b vs →
-        IsPutOver (each_covered (is_covered p) (size_of p) 0 vs) at b bytes.old bytes.new }
+    ensures put { PutsCoveringEach cover.entry.order at bytes.old bytes.new place
+        (placed_at cover.entry.nodes.now element) count }
 {
     let size = read_layout(cover.nodes, element).size.bytes();
     let blank = are_zeros(bytes, at, (size * count) as usize);
@@ -363,10 +351,8 @@ fn put_parts(
         i < length children.now → IsPartAt cover.nodes.now cover.kept.now node (length bytes.old)
         (at + get_or offsets.now i 0) (get_or children.now i 0) }
     ensures long { length bytes.new ≡ length bytes.old }
-    ensures put { (b : List ℕ) → AreBytes b →
-        let parts = parts_at offsets.now (all_at cover.entry.nodes.now children.now) in
-        HoldParts cover.entry.order parts b (covering_values parts place) →
-        IsPutOver (are_covered parts (covering_values parts place)) at b bytes.old bytes.new }
+    ensures put { PutsCoveringParts cover.entry.order at bytes.old bytes.new place
+        (parts_at offsets.now (all_at cover.entry.nodes.now children.now)) }
 {
     for i in 0..offsets.len().min(children.len()) {
         let offset = offsets[i].bytes();
@@ -397,15 +383,9 @@ fn put_arm(
     requires fits { All (λ v. at + size_of (placed_at cover.nodes.now v.1) ≤ length bytes.old)
         told.arms.now }
     ensures long { length bytes.new ≡ length bytes.old }
-    ensures put { (b : List ℕ) → AreBytes b →
-        All (λ v. size_of (placed_at cover.entry.nodes.now v.1) ≤ length b) told.entry.arms.now →
-        let arms = arms_in (types_in cover.entry.nodes.now) told.entry.arms.now in
-        let tag = placed_at cover.entry.nodes.now told.entry.tag in
-        let i = arm_for told.entry.encoding.now arms place in
-        IsNamedIn cover.entry.order b told.entry.encoding.now told.entry.offset tag arms i
-        (arm_values arms i place) →
-        IsPutOver (λ k. (is_told told.entry.encoding.now i && is_byte_at told.entry.offset (size_of tag) k)
-        || is_arm_covered arms i (arm_values arms i place) k) at b bytes.old bytes.new }
+    ensures put { PutsCoveringArm cover.entry.order at bytes.old bytes.new place
+        told.entry.encoding.now told.entry.offset (placed_at cover.entry.nodes.now told.entry.tag)
+        (types_in cover.entry.nodes.now) told.entry.arms.now }
 {
     let i = arm_for(cover, told, place);
     if i >= told.arms.len() {
@@ -424,10 +404,8 @@ fn covering_bytes(alloc: Global, laid: &Laid, place: u64) -> Result<Option<Vec<u
         is_data_place (placed_of laid.now) place ≡ false) }
     ensures long { IfOk result (λ found. IfSome found (λ bytes.
         length bytes.items ≡ size_of (placed_of laid.now))) }
-    ensures put { IfOk result (λ found. IfSome found (λ bytes. (old : List ℕ) × ((b : List ℕ) →
-        AreBytes b → let v = covering_value (placed_of laid.now) (Some place) in
-        Holds (endian_of laid.now) (placed_of laid.now) b v →
-        IsPutOver (is_covered (placed_of laid.now) v) 0 b old bytes.items))) }
+    ensures put { IfOk result (λ found. IfSome found (λ bytes. (old : List ℕ) ×
+        PutsCovering (endian_of laid.now) 0 old bytes.items (Some place) (placed_of laid.now))) }
 {
     let nodes = laid.nodes();
     let root = nodes.len() - 1;

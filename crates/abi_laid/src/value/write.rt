@@ -1,25 +1,26 @@
 //! The bytes of a value.
 
-ghost use Rattle.std.specs.Prelude.{◌≡◌, ℕ, ◌+◌, ◌*◌, ◌<◌, ◌≤◌, ◌&&◌, ◌||◌, All, IfErr, IfOk, List, MatchBool, OnOk, length, get_or, nat_lt, true, false};
+ghost use Rattle.std.specs.Prelude.{◌≡◌, ℕ, ◌+◌, ◌*◌, ◌<◌, ◌≤◌, All, IfErr, IfOk, List, OnOk, length, get_or, nat_lt, true, false};
 ghost use Rattle.abi_base.specs.declared.data_layout.TargetDataLayout.{TargetDataLayout};
 ghost use Rattle.abi_laid.specs.declared.value.error.ValueError.{ValueError};
 ghost use Rattle.abi_laid.specs.Tree.{Tree};
 ghost use Rattle.abi_laid.specs.Values.{IsValueOf};
 ghost use Rattle.abi_laid.specs.Laid.{endian_of, placed_of};
-ghost use Rattle.abi_laid.specs.Value.{Value as Meant, value_count, value_of, values_of};
+ghost use Rattle.abi_laid.specs.Value.{value_count, value_of, values_of};
 ghost use Rattle.abi_laid.specs.Bytes.{AreBytes, number_of, picked_bytes};
 ghost use Rattle.abi_laid.specs.declared.mark.Mark.{Mark};
 ghost use Rattle.abi_laid.specs.Placed.{Placed, size_of, tagged};
 ghost use Rattle.abi_laid.specs.Places.{is_data_place};
 ghost use Rattle.abi_scalar.specs.Shape.{listed_offsets};
 ghost use Rattle.abi_laid.specs.Tag.{Names};
-ghost use Rattle.abi_laid.specs.Holding.{HoldEach, HoldParts, Holds, tag_at};
+ghost use Rattle.abi_laid.specs.Holding.{Holds};
 ghost use Rattle.abi_laid.specs.Nodes.{arms_in, encoding_of, own_fields, parts_at, placed_at, states_in, tag_offset, types_in};
 ghost use Rattle.abi_laid.specs.Well.{all_at};
 ghost use Rattle.abi_laid.specs.Room.{arms_have_room, has_room, have_room};
 ghost use Rattle.abi_index.specs.RangeSet.{AreMaximalRuns, is_in_ranges};
-ghost use Rattle.abi_laid.specs.Reading.{IsNamedIn, KeepsValues};
-ghost use Rattle.abi_laid.specs.Covering.{are_covered, each_covered, is_arm_covered, is_byte_at, is_covered, is_told};
+ghost use Rattle.abi_laid.specs.Reading.{KeepsValues, TellsHeld};
+ghost use Rattle.abi_laid.specs.Covering.{is_covered, is_told};
+ghost use Rattle.abi_laid.specs.Putting.{PutsArm, PutsEach, PutsParts, PutsTag, PutsValue};
 ghost use Rattle.abi_laid.specs.Writing.{IsPutOver};
 
 use crate::counted::Counted;
@@ -195,10 +196,8 @@ pub(crate) fn write_tag(
     requires index { i < length told.arms.now }
     requires fits { at + (told.offset + width) ≤ length bytes.old }
     ensures long { length bytes.new ≡ length bytes.old }
-    ensures put { (b : List ℕ) (done : List Placed) → AreBytes b → told.entry.offset + width
-        ≤ length b → Names told.entry.encoding.now width (arms_in done told.entry.arms.now)
-        (tag_at order b told.entry.offset width) i → IsPutOver (λ k. is_told told.entry.encoding.now
-        i && is_byte_at told.entry.offset width k) at b bytes.old bytes.new }
+    ensures put { PutsTag order at bytes.old bytes.new told.entry.encoding.now
+        told.entry.offset width told.entry.arms.now i }
 {
     if is_told(told.encoding, i) {
         let number = tag_number(told.encoding, width, told.arms, i);
@@ -249,10 +248,8 @@ pub(crate) fn write_node(
     requires room { has_room (placed_at walk.nodes.now node) ≡ true }
     requires fits { at + size_of (placed_at walk.nodes.now node) ≤ length bytes.old }
     ensures long { length bytes.new ≡ length bytes.old }
-    ensures put { OnOk result ((b : List ℕ) → AreBytes b →
-        Holds walk.entry.order (placed_at walk.entry.nodes.now node) b (value_of value.now) →
-        IsPutOver (is_covered (placed_at walk.entry.nodes.now node) (value_of value.now))
-        at b bytes.old bytes.new) }
+    ensures put { OnOk result (PutsValue walk.entry.order at bytes.old bytes.new
+        (placed_at walk.entry.nodes.now node) (value_of value.now)) }
 {
     let nodes = walk.nodes;
     let here = read_one(nodes, node);
@@ -304,12 +301,9 @@ fn write_elements(
     requires room { has_room (placed_at walk.nodes.now element) ≡ true }
     requires fits { at + size_of (placed_at walk.nodes.now element) * count ≤ length bytes.old }
     ensures long { length bytes.new ≡ length bytes.old }
-    ensures put { OnOk result ((b : List ℕ) → AreBytes b → value_count (values_of values.now) ≡ count →
-        HoldEach (Holds walk.entry.order (placed_at walk.entry.nodes.now element))
-        (size_of (placed_at walk.entry.nodes.now element)) 0 b (values_of values.now) →
-        IsPutOver (each_covered (is_covered (placed_at walk.entry.nodes.now element))
-        (size_of (placed_at walk.entry.nodes.now element)) 0 (values_of values.now)) at b
-        bytes.old bytes.new) }
+    ensures put { OnOk result (value_count (values_of values.now) ≡ count →
+        PutsEach walk.entry.order at bytes.old bytes.new
+        (placed_at walk.entry.nodes.now element) (values_of values.now)) }
 {
     let size = read_layout(walk.nodes, element).size.bytes() as usize;
     for i in 0..values.len().min(count as usize) {
@@ -336,10 +330,9 @@ fn write_parts(
         (parts_at parts.0.now (all_at walk.nodes.now parts.1.now)) ≡ true }
     requires fits { at + size ≤ length bytes.old }
     ensures long { length bytes.new ≡ length bytes.old }
-    ensures put { OnOk result ((b : List ℕ) → AreBytes b →
-        let all = parts_at parts.entry.0.now (all_at walk.entry.nodes.now parts.entry.1.now) in
-        HoldParts walk.entry.order all b (values_of values.now) →
-        IsPutOver (are_covered all (values_of values.now)) at b bytes.old bytes.new) }
+    ensures put { OnOk result (PutsParts walk.entry.order at bytes.old bytes.new
+        (parts_at parts.entry.0.now (all_at walk.entry.nodes.now parts.entry.1.now))
+        (values_of values.now)) }
 {
     let (offsets, children) = parts;
     for i in 0..offsets.len().min(children.len()).min(values.len()) {
@@ -366,10 +359,9 @@ fn write_fields(
         (parts_at (listed_offsets layout.now.fields) (all_at walk.nodes.now children.now)) ≡ true }
     requires fits { at + layout.now.size ≤ length bytes.old }
     ensures long { length bytes.new ≡ length bytes.old }
-    ensures put { OnOk result ((b : List ℕ) → AreBytes b → let parts = parts_at
-        (listed_offsets layout.now.fields) (all_at walk.entry.nodes.now children.now) in
-        HoldParts walk.entry.order parts b (values_of values.now) →
-        IsPutOver (are_covered parts (values_of values.now)) at b bytes.old bytes.new) }
+    ensures put { OnOk result (PutsParts walk.entry.order at bytes.old bytes.new
+        (parts_at (listed_offsets layout.now.fields) (all_at walk.entry.nodes.now children.now))
+        (values_of values.now)) }
 {
     let size = layout.size.bytes() as usize;
     let parts = (offsets(layout), children);
@@ -397,12 +389,10 @@ fn write_variant(
         (arms_in (types_in walk.nodes.now) beside.arms.now) ≡ true }
     requires fits { at + layout.now.size ≤ length bytes.old }
     ensures long { length bytes.new ≡ length bytes.old }
-    ensures put { OnOk result ((b : List ℕ) → AreBytes b → (mark : Mark) →
-        let arms = arms_in (types_in walk.entry.nodes.now) beside.entry.arms.now in
-        let p = tagged layout.now mark (tag_offset layout.now) (placed_at walk.entry.nodes.now beside.entry.tag)
-        (encoding_of layout.now.variants) arms in
-        Holds walk.entry.order p b (value_of value.now) →
-        IsPutOver (is_covered p (value_of value.now)) at b bytes.old bytes.new) }
+    ensures put { OnOk result ((mark : Mark) → PutsValue walk.entry.order at bytes.old bytes.new
+        (tagged layout.now mark (tag_offset layout.now)
+        (placed_at walk.entry.nodes.now beside.entry.tag) (encoding_of layout.now.variants)
+        (arms_in (types_in walk.entry.nodes.now) beside.entry.arms.now)) (value_of value.now)) }
 {
     let encoding = encoding_of(layout);
     let told = Told {
@@ -436,10 +426,9 @@ fn write_state(
         beside.tag beside.arms.now) ≡ true }
     requires fits { at + layout.now.size ≤ length bytes.old }
     ensures long { length bytes.new ≡ length bytes.old }
-    ensures put { OnOk result ((b : List ℕ) → AreBytes b → let p = states_in
-        (types_in walk.entry.nodes.now) layout.now beside.entry.prefix.now beside.entry.tag
-        beside.entry.arms.now in Holds walk.entry.order p b (value_of value.now) →
-        IsPutOver (is_covered p (value_of value.now)) at b bytes.old bytes.new) }
+    ensures put { OnOk result (PutsValue walk.entry.order at bytes.old bytes.new
+        (states_in (types_in walk.entry.nodes.now) layout.now beside.entry.prefix.now
+        beside.entry.tag beside.entry.arms.now) (value_of value.now)) }
 {
     let direct = TagEncoding::Direct;
     let told = Told {
@@ -474,12 +463,10 @@ fn write_arm(
         (arms_in (types_in walk.nodes.now) told.arms.now) ≡ true }
     requires fits { at + told.size ≤ length bytes.old }
     ensures long { length bytes.new ≡ length bytes.old }
-    ensures put { OnOk result ((b : List ℕ) → AreBytes b →
-        let arms = arms_in (types_in walk.entry.nodes.now) told.entry.arms.now in
-        let tag = placed_at walk.entry.nodes.now told.entry.tag in
-        IsNamedIn walk.entry.order b told.entry.encoding.now told.entry.offset tag arms index (values_of values.now) →
-        IsPutOver (λ k. (is_told told.entry.encoding.now index && is_byte_at told.entry.offset (size_of tag) k)
-        || is_arm_covered arms index (values_of values.now) k) at b bytes.old bytes.new) }
+    ensures put { OnOk result (PutsArm walk.entry.order at bytes.old bytes.new
+        told.entry.encoding.now told.entry.offset (placed_at walk.entry.nodes.now told.entry.tag)
+        (arms_in (types_in walk.entry.nodes.now) told.entry.arms.now) index
+        (values_of values.now)) }
 {
     if index >= told.arms.len() {
         return Ok(());
@@ -503,10 +490,8 @@ fn write_own(
     requires room { have_room size (own_fields (placed_at walk.nodes.now variant)) ≡ true }
     requires fits { at + size ≤ length bytes.old }
     ensures long { length bytes.new ≡ length bytes.old }
-    ensures put { OnOk result ((b : List ℕ) → AreBytes b → HoldParts walk.entry.order
-        (own_fields (placed_at walk.entry.nodes.now variant)) b (values_of values.now) →
-        IsPutOver (are_covered (own_fields (placed_at walk.entry.nodes.now variant))
-        (values_of values.now)) at b bytes.old bytes.new) }
+    ensures put { OnOk result (PutsParts walk.entry.order at bytes.old bytes.new
+        (own_fields (placed_at walk.entry.nodes.now variant)) (values_of values.now)) }
 {
     let parts = own_parts(walk.nodes, variant);
     write_parts(walk, variant, parts, values, at, size, bytes)
@@ -517,11 +502,8 @@ fn holds(walk: Walk<'_>, node: usize, value: &Value, bytes: &[u8]) -> Result<boo
     requires there { node < length walk.nodes.now }
     requires room { has_room (placed_at walk.nodes.now node) ≡ true }
     ensures bytes { AreBytes bytes.now }
-    ensures held { IfOk result (λ yes. MatchBool yes
-        (Holds walk.entry.order (placed_at walk.entry.nodes.now node) bytes.now (value_of value.now))
-        (((u w : Meant) → Holds walk.entry.order (placed_at walk.entry.nodes.now node) bytes.now u →
-        Holds walk.entry.order (placed_at walk.entry.nodes.now node) bytes.now w → u ≡ w) →
-        Holds walk.entry.order (placed_at walk.entry.nodes.now node) bytes.now (value_of value.now) → ⊥)) }
+    ensures held { IfOk result (TellsHeld walk.entry.order
+        (placed_at walk.entry.nodes.now node) bytes.now (value_of value.now)) }
 {
     match read_node(walk, node, bytes)? {
         Some(found) => Ok(is_same(&found, value)),

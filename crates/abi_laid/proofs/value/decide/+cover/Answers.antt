@@ -16,9 +16,10 @@ use Rattle.abi_laid.specs.Places.{is_data_place}
 use Rattle.abi_laid.specs.Typed.{variant_nodes}
 use Rattle.abi_laid.specs.Well.{all_at}
 use Rattle.abi_laid.specs.Writing.{IsCopied, IsPutOver}
+use Rattle.abi_laid.specs.Putting.{PutsCovering, PutsCoveringArm, PutsCoveringParts, PutsTag}
 use Rattle.abi_laid.proofs.Deciding.ChosenLemmas.{all_kept, list_at, among_one, among_prefix, among_states, among_tagged, kept_named, kept_parts, kept_room, kept_set, kept_there, kept_variants, variant_sizes}
 use Rattle.abi_laid.proofs.Deciding.CopyLemmas.{copy_put}
-use Rattle.abi_laid.proofs.Deciding.CoverLemmas.{AreCovered, ArmCovered, Covered, ElementsPut, arm_put, states_put, elements_end, elements_first, elements_more, elements_next, fields_end, fields_first, fields_more, pair_put, put_bare, union_put}
+use Rattle.abi_laid.proofs.Deciding.CoverLemmas.{ElementsPut, arm_put, states_put, elements_end, elements_first, elements_more, elements_next, fields_end, fields_first, fields_more, pair_put, put_bare, union_put}
 use Rattle.abi_laid.proofs.Places.DataPlacesLemmas.{elements_node, fields_node, never_node, pair_node, runs_inside, scalar_node, single_node, states_node, tagged_node, union_node, vector_node}
 use Rattle.abi_laid.proofs.Found.FoundLemmas.{node_size, states_rooms}
 use Rattle.abi_laid.proofs.Bytes.HoldLemmas.{length-Holds}
@@ -26,7 +27,7 @@ use Rattle.abi_laid.proofs.Found.NamedLemmas.{child_is, count_children}
 use Rattle.abi_laid.proofs.Bytes.PutOverLemmas.{put_like}
 use Rattle.abi_laid.proofs.Found.ReadLemmas.{from_arm}
 use Rattle.abi_laid.proofs.Nodes.WidthLemmas.{scalar_width_at, state_tag_width_at, tag_width_at}
-use Rattle.abi_laid.proofs.Written.WriteLemmas.{TagPut, put_slice, put_vector, vector_room}
+use Rattle.abi_laid.proofs.Written.WriteLemmas.{put_slice, put_vector, vector_room}
 use Rattle.abi_laid.proofs.value.decide.+cover.Goals.{put_elements-then-may_copy, put_elements-else-may_copy}
 use Rattle.abi_laid.proofs.value.decide.+cover.Goals as goal
 
@@ -63,7 +64,7 @@ put_node-returns-in-Scalar-clause-put t c =
     let there = kept_there ns c.args.cover.kept.now c.args.cover.sets.now have c.args.node c.requires.kept in
     let room = kept_room ns c.args.cover.kept.now c.args.cover.sets.now have c.args.node c.requires.kept in
     let is = scalar_node ns have.needed.well c.args.node _ there c.read_one-here.ensures room c.in-Scalar.scalar c.in-Scalar.is in
-    subst (Covered c.args.cover.order c.args.at c.args.bytes.now c.put_number.new.bytes c.args.place) (sym is)
+    subst (PutsCovering c.args.cover.order c.args.at c.args.bytes.now c.put_number.new.bytes c.args.place) (sym is)
     (λ b all held.
     subst (λ w. IsPutOver (λ k. nat_lt k w) c.args.at b c.args.bytes.now c.put_number.new.bytes) c.bytes-size.ensures
     (c.put_number.ensures.put b all (held.0 ∙ sym c.bytes-size.ensures) (c.some_number.ensures ∙ held.1)))
@@ -98,9 +99,9 @@ put_node-returns-in-Pair-clause-put t c =
     let layout : Layout = c.read_one-here.result.now.layout in
     let facts = pair_node ns have.needed.well c.args.node _ there c.read_one-here.ensures room c.in-Pair.first c.in-Pair.second c.in-Pair.is in
     let parts : Parts = parts_at (listed_offsets layout.fields) (all_at ns cs) in
-    let put : AreCovered c.args.cover.order c.args.at c.args.bytes.now c.put_parts.new.bytes c.args.place parts =
-    subst (λ os. AreCovered c.args.cover.order c.args.at c.args.bytes.now c.put_parts.new.bytes c.args.place (parts_at os (all_at ns cs))) c.offsets-list.ensures c.put_parts.ensures.put in
-    subst (Covered c.args.cover.order c.args.at c.args.bytes.now c.put_parts.new.bytes c.args.place) (sym facts.1)
+    let put : PutsCoveringParts c.args.cover.order c.args.at c.args.bytes.now c.put_parts.new.bytes c.args.place parts =
+    subst (λ os. PutsCoveringParts c.args.cover.order c.args.at c.args.bytes.now c.put_parts.new.bytes c.args.place (parts_at os (all_at ns cs))) c.offsets-list.ensures c.put_parts.ensures.put in
+    subst (PutsCovering c.args.cover.order c.args.at c.args.bytes.now c.put_parts.new.bytes c.args.place) (sym facts.1)
     (λ b all held. pair_put c.args.cover.order layout c.args.place c.args.at b c.args.bytes.now c.put_parts.new.bytes parts (put b all) held)
 
 pub put_node-returns-in-Never-clause-put : goal.put_node-returns-in-Never-clause-put
@@ -110,7 +111,7 @@ put_node-returns-in-Never-clause-put t c =
     let there = kept_there ns c.args.cover.kept.now c.args.cover.sets.now have c.args.node c.requires.kept in
     let room = kept_room ns c.args.cover.kept.now c.args.cover.sets.now have c.args.node c.requires.kept in
     let is = never_node ns have.needed.well c.args.node _ there c.read_one-here.ensures room c.in-Never.field-0 c.in-Never.is in
-    subst (Covered c.args.cover.order c.args.at c.args.bytes.now c.args.bytes.now c.args.place) (sym is) (λ b all held. absurd held)
+    subst (PutsCovering c.args.cover.order c.args.at c.args.bytes.now c.args.bytes.now c.args.place) (sym is) (λ b all held. absurd held)
 
 pub put_node-put_elements-requires : goal.put_node-put_elements-requires
 put_node-put_elements-requires t c =
@@ -132,7 +133,7 @@ put_node-returns-in-Elements-clause-put t c =
     let there = kept_there ns c.args.cover.kept.now c.args.cover.sets.now have c.args.node c.requires.kept in
     let room = kept_room ns c.args.cover.kept.now c.args.cover.sets.now have c.args.node c.requires.kept in
     let facts = elements_node ns have.needed.well c.args.node _ there c.read_one-here.ensures room c.in-Elements.count c.in-Elements.element c.in-Elements.is in
-    subst (Covered c.args.cover.order c.args.at c.args.bytes.now c.put_elements.new.bytes c.args.place) (sym facts.1) (λ b all held. c.put_elements.ensures.put b all held.2)
+    subst (PutsCovering c.args.cover.order c.args.at c.args.bytes.now c.put_elements.new.bytes c.args.place) (sym facts.1) (λ b all held. c.put_elements.ensures.put b all held.2)
 
 pub put_node-put_parts-requires-in-Fields : goal.put_node-put_parts-requires-in-Fields
 put_node-put_parts-requires-in-Fields t c =
@@ -162,10 +163,10 @@ put_node-returns-in-Fields-clause-put t c =
     let there = kept_there ns c.args.cover.kept.now c.args.cover.sets.now have c.args.node c.requires.kept in
     let room = kept_room ns c.args.cover.kept.now c.args.cover.sets.now have c.args.node c.requires.kept in
     let facts = fields_node ns have.needed.well c.args.node _ there c.read_one-here.ensures room c.in-Fields.field-0 c.in-Fields.children c.in-Fields.is in
-    let put : AreCovered c.args.cover.order c.args.at c.args.bytes.now new c.args.place (parts_at (listed_offsets layout.fields) (all_at ns c.in-Fields.children.items)) =
-    subst (λ os. AreCovered c.args.cover.order c.args.at c.args.bytes.now new c.args.place (parts_at os (all_at ns c.in-Fields.children.items))) c.offsets-list.ensures
-    (subst (λ cs. AreCovered c.args.cover.order c.args.at c.args.bytes.now new c.args.place (parts_at c.offsets-list.result.now (all_at ns cs))) c.deref.ensures.value c.put_parts-in-Fields.ensures.put) in
-    subst (Covered c.args.cover.order c.args.at c.args.bytes.now new c.args.place) (sym facts.1) (λ b all held. put b all held.1)
+    let put : PutsCoveringParts c.args.cover.order c.args.at c.args.bytes.now new c.args.place (parts_at (listed_offsets layout.fields) (all_at ns c.in-Fields.children.items)) =
+    subst (λ os. PutsCoveringParts c.args.cover.order c.args.at c.args.bytes.now new c.args.place (parts_at os (all_at ns c.in-Fields.children.items))) c.offsets-list.ensures
+    (subst (λ cs. PutsCoveringParts c.args.cover.order c.args.at c.args.bytes.now new c.args.place (parts_at c.offsets-list.result.now (all_at ns cs))) c.deref.ensures.value c.put_parts-in-Fields.ensures.put) in
+    subst (PutsCovering c.args.cover.order c.args.at c.args.bytes.now new c.args.place) (sym facts.1) (λ b all held. put b all held.1)
 
 pub put_node-put_parts-requires-in-Single : goal.put_node-put_parts-requires-in-Single
 put_node-put_parts-requires-in-Single t c =
@@ -195,10 +196,10 @@ put_node-returns-in-Single-clause-put t c =
     let there = kept_there ns c.args.cover.kept.now c.args.cover.sets.now have c.args.node c.requires.kept in
     let room = kept_room ns c.args.cover.kept.now c.args.cover.sets.now have c.args.node c.requires.kept in
     let facts = single_node ns have.needed.well c.args.node _ there c.read_one-here.ensures room c.in-Single.field-0 c.in-Single.children c.in-Single.is in
-    let put : AreCovered c.args.cover.order c.args.at c.args.bytes.now new c.args.place (parts_at (listed_offsets layout.fields) (all_at ns c.in-Single.children.items)) =
-    subst (λ os. AreCovered c.args.cover.order c.args.at c.args.bytes.now new c.args.place (parts_at os (all_at ns c.in-Single.children.items))) c.offsets-list.ensures
-    (subst (λ cs. AreCovered c.args.cover.order c.args.at c.args.bytes.now new c.args.place (parts_at c.offsets-list.result.now (all_at ns cs))) c.deref-in-Single.ensures.value c.put_parts-in-Single.ensures.put) in
-    subst (Covered c.args.cover.order c.args.at c.args.bytes.now new c.args.place) (sym facts.1) (λ b all held. put b all held.2)
+    let put : PutsCoveringParts c.args.cover.order c.args.at c.args.bytes.now new c.args.place (parts_at (listed_offsets layout.fields) (all_at ns c.in-Single.children.items)) =
+    subst (λ os. PutsCoveringParts c.args.cover.order c.args.at c.args.bytes.now new c.args.place (parts_at os (all_at ns c.in-Single.children.items))) c.offsets-list.ensures
+    (subst (λ cs. PutsCoveringParts c.args.cover.order c.args.at c.args.bytes.now new c.args.place (parts_at c.offsets-list.result.now (all_at ns cs))) c.deref-in-Single.ensures.value c.put_parts-in-Single.ensures.put) in
+    subst (PutsCovering c.args.cover.order c.args.at c.args.bytes.now new c.args.place) (sym facts.1) (λ b all held. put b all held.2)
 
 pub put_node-put_zeros-requires-clause-inside : goal.put_node-put_zeros-requires-clause-inside
 put_node-put_zeros-requires-clause-inside t c =
@@ -233,7 +234,7 @@ put_node-returns-in-Union-clause-put t c =
     let u : Placed = union layout c.in-Union.field-0 (parts_at_0 (all_at ns c.in-Union.field-1.items)) in
     let same : (k : ℕ) → is_in_ranges c.as_slice.result.now k ≡ is_data_place u k =
     λ k. ap (λ rs. is_in_ranges rs k) (c.as_slice.ensures.runs ∙ c.set_at.ensures) ∙ made.1 k ∙ ap (λ p. is_data_place p k) facts.1 in
-    subst (Covered c.args.cover.order c.args.at c.args.bytes.now new c.args.place) (sym facts.1)
+    subst (PutsCovering c.args.cover.order c.args.at c.args.bytes.now new c.args.place) (sym facts.1)
     (λ b all held.
     union_put c.args.cover.order layout c.args.at b c.args.bytes.now new u _ (count_picked (is_data_place u) 0 layout.size) refl
     (λ long zeros.
@@ -264,7 +265,7 @@ put_node-returns-in-Vector-clause-put t c =
     let room = kept_room ns c.args.cover.kept.now c.args.cover.sets.now have c.args.node c.requires.kept in
     let facts = vector_node ns have.needed.well c.args.node _ there c.read_one-here.ensures room c.in-Vector.lanes c.in-Vector.is in
     let start : c.args.at ≡ c.args.at + 0 = omega arith in
-    subst (Covered c.args.cover.order c.args.at c.args.bytes.now new c.args.place) (sym facts.1)
+    subst (PutsCovering c.args.cover.order c.args.at c.args.bytes.now new c.args.place) (sym facts.1)
     (λ b all held.
     put_vector c.args.cover.order c.read_one-here.result.now.layout c.args.at b c.args.bytes.now new lanes (covering_value lanes c.args.place)
     (λ at. put_slice c.args.cover.order lanes (covering_value lanes c.args.place) c.args.at 0 b c.args.bytes.now new all at
@@ -332,13 +333,13 @@ put_variant-returns-clause-put t c =
     let facts = tagged_node ns have.needed.well c.args.node _ there c.requires.here room is.0 is.1 is.2 is.3 in
     let tag : Placed = placed_at ns is.1 in
     let sizes = variant_sizes ns c.args.cover.kept.now c.args.cover.sets.now have c.args.node c.requires.kept _ c.requires.here vs (ap variant_nodes is.3) in
-    let put : ArmCovered c.args.cover.order c.args.at c.args.bytes.now new c.args.place (encoding_of layout.variants) (tag_offset layout) tag (types_in ns) vs =
-    subst (λ e. ArmCovered c.args.cover.order c.args.at c.args.bytes.now new c.args.place e (tag_offset layout) tag (types_in ns) vs) c.encoding_of-encoding.ensures
-    (subst (λ o. ArmCovered c.args.cover.order c.args.at c.args.bytes.now new c.args.place c.encoding_of-encoding.result o tag (types_in ns) vs) c.tag_offset.ensures
-    (subst (λ ws. ArmCovered c.args.cover.order c.args.at c.args.bytes.now new c.args.place c.encoding_of-encoding.result c.tag_offset.result tag (types_in ns) ws) own.1
-    (subst (λ j. ArmCovered c.args.cover.order c.args.at c.args.bytes.now new c.args.place c.encoding_of-encoding.result c.tag_offset.result (placed_at ns j) (types_in ns) c.arms_of-beside.result.arms.now) own.0
+    let put : PutsCoveringArm c.args.cover.order c.args.at c.args.bytes.now new c.args.place (encoding_of layout.variants) (tag_offset layout) tag (types_in ns) vs =
+    subst (λ e. PutsCoveringArm c.args.cover.order c.args.at c.args.bytes.now new c.args.place e (tag_offset layout) tag (types_in ns) vs) c.encoding_of-encoding.ensures
+    (subst (λ o. PutsCoveringArm c.args.cover.order c.args.at c.args.bytes.now new c.args.place c.encoding_of-encoding.result o tag (types_in ns) vs) c.tag_offset.ensures
+    (subst (λ ws. PutsCoveringArm c.args.cover.order c.args.at c.args.bytes.now new c.args.place c.encoding_of-encoding.result c.tag_offset.result tag (types_in ns) ws) own.1
+    (subst (λ j. PutsCoveringArm c.args.cover.order c.args.at c.args.bytes.now new c.args.place c.encoding_of-encoding.result c.tag_offset.result (placed_at ns j) (types_in ns) c.arms_of-beside.result.arms.now) own.0
     c.put_arm.ensures.put))) in
-    subst (Covered c.args.cover.order c.args.at c.args.bytes.now new c.args.place) (sym facts.2) (λ b all held. put b all (λ k d lt. omega (arith, sizes k d lt, held.0)) (held.1, held.2, held.3))
+    subst (PutsCovering c.args.cover.order c.args.at c.args.bytes.now new c.args.place) (sym facts.2) (λ b all held. put b all (λ k d lt. omega (arith, sizes k d lt, held.0)) (held.1, held.2, held.3))
 
 pub put_state-put_parts-requires : goal.put_state-put_parts-requires
 put_state-put_parts-requires t c =
@@ -430,14 +431,14 @@ put_state-returns-clause-put t c =
     let tag : Placed = placed_at ns is.1 in
     let sizes = variant_sizes ns c.args.cover.kept.now c.args.cover.sets.now have c.args.node c.requires.kept _ c.requires.here vs (ap variant_nodes is.3) in
     let offset : c.state_tag_offset.result ≡ state_tag_offset layout (length prefix) = c.state_tag_offset.ensures ∙ ap (λ (ps : List ℕ). state_tag_offset layout (length ps)) own.0 in
-    let front : AreCovered c.args.cover.order c.args.at c.args.bytes.now mid c.args.place (parts_at (listed_offsets layout.fields) (all_at ns prefix)) =
-    subst (λ os. AreCovered c.args.cover.order c.args.at c.args.bytes.now mid c.args.place (parts_at os (all_at ns prefix))) c.offsets-list.ensures
-    (subst (λ cs. AreCovered c.args.cover.order c.args.at c.args.bytes.now mid c.args.place (parts_at c.offsets-list.result.now (all_at ns cs))) own.0 c.put_parts.ensures.put) in
-    let put : ArmCovered c.args.cover.order c.args.at mid new c.args.place Direct (state_tag_offset layout (length prefix)) tag (types_in ns) vs =
-    subst (λ o. ArmCovered c.args.cover.order c.args.at mid new c.args.place Direct o tag (types_in ns) vs) offset
-    (subst (λ ws. ArmCovered c.args.cover.order c.args.at mid new c.args.place Direct c.state_tag_offset.result tag (types_in ns) ws) own.2
-    (subst (λ j. ArmCovered c.args.cover.order c.args.at mid new c.args.place Direct c.state_tag_offset.result (placed_at ns j) (types_in ns) c.arms_of-beside.result.arms.now) own.1 c.put_arm.ensures.put)) in
-    subst (Covered c.args.cover.order c.args.at c.args.bytes.now new c.args.place) (sym facts.3)
+    let front : PutsCoveringParts c.args.cover.order c.args.at c.args.bytes.now mid c.args.place (parts_at (listed_offsets layout.fields) (all_at ns prefix)) =
+    subst (λ os. PutsCoveringParts c.args.cover.order c.args.at c.args.bytes.now mid c.args.place (parts_at os (all_at ns prefix))) c.offsets-list.ensures
+    (subst (λ cs. PutsCoveringParts c.args.cover.order c.args.at c.args.bytes.now mid c.args.place (parts_at c.offsets-list.result.now (all_at ns cs))) own.0 c.put_parts.ensures.put) in
+    let put : PutsCoveringArm c.args.cover.order c.args.at mid new c.args.place Direct (state_tag_offset layout (length prefix)) tag (types_in ns) vs =
+    subst (λ o. PutsCoveringArm c.args.cover.order c.args.at mid new c.args.place Direct o tag (types_in ns) vs) offset
+    (subst (λ ws. PutsCoveringArm c.args.cover.order c.args.at mid new c.args.place Direct c.state_tag_offset.result tag (types_in ns) ws) own.2
+    (subst (λ j. PutsCoveringArm c.args.cover.order c.args.at mid new c.args.place Direct c.state_tag_offset.result (placed_at ns j) (types_in ns) c.arms_of-beside.result.arms.now) own.1 c.put_arm.ensures.put)) in
+    subst (PutsCovering c.args.cover.order c.args.at c.args.bytes.now new c.args.place) (sym facts.3)
     (λ b all held. states_put c.args.cover.order layout c.args.place c.args.at b c.args.bytes.now mid new (parts_at (listed_offsets layout.fields) (all_at ns prefix)) (state_tag_offset layout (length prefix)) tag (arms_in (types_in ns) vs)
     (front b all) (put b all (λ k d lt. omega (arith, sizes k d lt, held.0))) held)
 
@@ -481,9 +482,9 @@ put_elements-loop-i-preserved t c =
           )
       | put_elements-else-may_copy w ↦
           let new : List ℕ = w.put_node.new.bytes in
-          let put : Covered c.args.cover.order (c.args.at + i * size_of p) now new (place_in c.args.place (i * size_of p) (size_of p)) p =
-          subst (λ n. Covered c.args.cover.order (c.args.at + i * n) now new (place_in c.args.place (i * n) n) p) size
-          (subst (λ x. Covered c.args.cover.order (c.args.at + i * c.bytes-size.result) now new x p) c.place_in-here.ensures w.put_node.ensures.put) in
+          let put : PutsCovering c.args.cover.order (c.args.at + i * size_of p) now new (place_in c.args.place (i * size_of p) (size_of p)) p =
+          subst (λ n. PutsCovering c.args.cover.order (c.args.at + i * n) now new (place_in c.args.place (i * n) n) p) size
+          (subst (λ x. PutsCovering c.args.cover.order (c.args.at + i * c.bytes-size.result) now new x p) c.place_in-here.ensures w.put_node.ensures.put) in
           subst Next (sym w.bytes-is) (
             w.put_node.ensures.long ∙ c.loop-i.invariant.long,
             λ b all held. elements_more c.args.cover.order p c.args.place c.args.count c.args.at b old i now new c.loop-i-test.true all (c.loop-i.invariant.put b all held) put,
@@ -517,11 +518,11 @@ put_parts-loop-i-preserved t c =
     let offset : c.bytes-offset.result ≡ get_or os i 0 = c.bytes-offset.ensures ∙ c.index-offsets-i.is ∙ get_or_default os i c.index-offsets-i.result 0 lt in
     let child : placed_at ns (get_or cs i 0) ≡ get_or ps i nothing = sym (child_is ns cs i below) in
     let size : c.bytes-size.result ≡ size_of (placed_at ns (get_or cs i 0)) = rw c.bytes-size.ensures (ap (λ l. l.size) c.read_layout.ensures) in
-    let put : Covered c.args.cover.order (c.args.at + get_or os i 0) c.loop-i.bytes new (place_in c.args.place (get_or os i 0) (size_of (get_or ps i nothing))) (get_or ps i nothing) =
-    subst (λ p. Covered c.args.cover.order (c.args.at + get_or os i 0) c.loop-i.bytes new (place_in c.args.place (get_or os i 0) (size_of p)) p) child
-    (subst (λ n. Covered c.args.cover.order (c.args.at + get_or os i 0) c.loop-i.bytes new (place_in c.args.place (get_or os i 0) n) (placed_at ns (get_or cs i 0))) size
-    (subst (λ o. Covered c.args.cover.order (c.args.at + o) c.loop-i.bytes new (place_in c.args.place o c.bytes-size.result) (placed_at ns (get_or cs i 0))) offset
-    (subst (λ x. Covered c.args.cover.order (c.args.at + c.bytes-offset.result) c.loop-i.bytes new x (placed_at ns (get_or cs i 0))) c.place_in-here.ensures c.put_node.ensures.put))) in
+    let put : PutsCovering c.args.cover.order (c.args.at + get_or os i 0) c.loop-i.bytes new (place_in c.args.place (get_or os i 0) (size_of (get_or ps i nothing))) (get_or ps i nothing) =
+    subst (λ p. PutsCovering c.args.cover.order (c.args.at + get_or os i 0) c.loop-i.bytes new (place_in c.args.place (get_or os i 0) (size_of p)) p) child
+    (subst (λ n. PutsCovering c.args.cover.order (c.args.at + get_or os i 0) c.loop-i.bytes new (place_in c.args.place (get_or os i 0) n) (placed_at ns (get_or cs i 0))) size
+    (subst (λ o. PutsCovering c.args.cover.order (c.args.at + o) c.loop-i.bytes new (place_in c.args.place o c.bytes-size.result) (placed_at ns (get_or cs i 0))) offset
+    (subst (λ x. PutsCovering c.args.cover.order (c.args.at + c.bytes-offset.result) c.loop-i.bytes new x (placed_at ns (get_or cs i 0))) c.place_in-here.ensures c.put_node.ensures.put))) in
     record {
       long = c.put_node.ensures.long ∙ c.loop-i.invariant.long;
       put = λ b all held. fields_more c.args.cover.order os ps c.args.place c.args.at b c.args.bytes.now i c.loop-i.bytes new lt (omega (arith, below, count_children ns cs)) all (c.loop-i.invariant.put b all held) put;
@@ -563,5 +564,5 @@ put_arm-returns-clause-put t c =
     let width : c.read_layout.result.now.size ≡ size_of tag = ap (λ l. l.size) c.read_layout.ensures in
     let room = kept_room ns c.args.cover.kept.now c.args.cover.sets.now c.requires.sets j (c.requires.kept i (0, 0) lt) in
     arm_put c.args.cover.order done c.args.place c.args.at old mid new c.args.told.encoding.now c.args.told.offset tag vs i lt c.arm_for-i.ensures
-    (list_at done vs i (0, 0) lt c.requires.listed) room (subst (λ w. TagPut c.args.cover.order c.args.at old mid c.args.told.encoding.now c.args.told.offset w vs i) width c.write_tag.ensures.put)
+    (list_at done vs i (0, 0) lt c.requires.listed) room (subst (λ w. PutsTag c.args.cover.order c.args.at old mid c.args.told.encoding.now c.args.told.offset w vs i) width c.write_tag.ensures.put)
     c.put_node.ensures.put

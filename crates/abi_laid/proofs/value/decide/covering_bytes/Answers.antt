@@ -4,7 +4,7 @@ use Rattle.abi_laid.specs.declared.laid.Laid.{Laid}
 use Rattle.abi_laid.specs.Placed.{Placed}
 use Rattle.abi_laid.specs.Nodes.{placed_at}
 use Rattle.abi_laid.specs.Laid.{endian_of, placed_of}
-use Rattle.abi_laid.proofs.Deciding.CoverLemmas.{Covered}
+use Rattle.abi_laid.specs.Putting.{PutsCovering}
 use Rattle.abi_laid.proofs.value.decide.covering_bytes.Goals as goal
 
 pub returns-clause-put : goal.returns-clause-put
@@ -16,7 +16,7 @@ returns-clause-put c =
     let new : List ℕ = c.put_node.new.bytes in
     let final = take_at new (drop (length new) c.in_ok-bytes.bytes.items) c.in_ok-bytes.bytes.len (c.put_node.ensures.long ∙ c.deref_mut.ensures.len) in (
       old,
-      subst (λ bytes. Covered (endian_of laid) 0 old bytes (Some c.args.place) (placed_of laid)) (sym final)
-          (subst (λ o. Covered o 0 old new (Some c.args.place) (placed_of laid)) c.endian.ensures
-          (subst (Covered c.endian.result 0 old new (Some c.args.place)) root c.put_node.ensures.put)),
+      subst (λ bytes. PutsCovering (endian_of laid) 0 old bytes (Some c.args.place) (placed_of laid)) (sym final)
+          (subst (λ o. PutsCovering o 0 old new (Some c.args.place) (placed_of laid)) c.endian.ensures
+          (subst (PutsCovering c.endian.result 0 old new (Some c.args.place)) root c.put_node.ensures.put)),
     )

@@ -16,13 +16,14 @@ use Rattle.abi_laid.specs.Room.{arms_have_room, have_room}
 use Rattle.abi_laid.specs.Holding.{HoldParts, Holds}
 use Rattle.abi_laid.specs.Covering.{are_covered, is_arm_covered, is_byte_at, is_covered, is_told}
 use Rattle.abi_laid.specs.Writing.{IsPutOver}
+use Rattle.abi_laid.specs.Putting.{PutsTag, PutsValue}
 use Rattle.abi_laid.proofs.Places.DataPlacesLemmas.{arm_room, elements_node, field_at, fields_node, never_node, pair_node, scalar_node, single_node, states_node, tagged_node, union_node, vector_node}
 use Rattle.abi_laid.proofs.Nodes.WidthLemmas.{scalar_width_at, state_tag_width_at, tag_width_at}
 use Rattle.abi_laid.proofs.Found.NamedLemmas.{child_is, count_children}
 use Rattle.abi_laid.proofs.Found.ReadLemmas.{from_arm}
 use Rattle.abi_laid.proofs.Found.FoundLemmas.{node_size, states_rooms}
 use Rattle.abi_laid.proofs.Bytes.PutOverLemmas.{put_both, put_like}
-use Rattle.abi_laid.proofs.Written.WriteLemmas.{arm_covers, ArmPut, NodePut, PartsPut, TagPut, elements_begin, elements_done, elements_next, parts_all, parts_more, put_elements, put_fields, put_never, put_pair, put_scalar, put_single, put_slice, put_states, put_tagged, put_union, put_vector, vector_room, written_none}
+use Rattle.abi_laid.proofs.Written.WriteLemmas.{arm_covers, ArmPut, PartsPut, elements_begin, elements_done, elements_next, parts_all, parts_more, put_elements, put_fields, put_never, put_pair, put_scalar, put_single, put_slice, put_states, put_tagged, put_union, put_vector, vector_room, written_none}
 use Rattle.abi_laid.proofs.value.write.+write.Goals as goal
 
 -- ---- the node itself
@@ -91,7 +92,7 @@ write_node-returns-in-Elements-clause-put t c =
     (λ put b all held.
     subst (λ p. IsPutOver (is_covered p v) c.args.at b c.args.bytes.now c.write_elements.new.bytes) (sym facts.1)
     (put_elements c.args.walk.order c.read_one-here.result.now.layout c.args.at b c.args.bytes.now c.write_elements.new.bytes c.in-Elements.count (placed_at ns c.in-Elements.element) v (values_of c.list.result.now)
-    c.list.ensures (put b all) (subst (λ p. Holds c.args.walk.order p b v) facts.1 held)))
+    c.list.ensures (λ many. put many b all) (subst (λ p. Holds c.args.walk.order p b v) facts.1 held)))
     c.write_elements.ensures.put
 
 pub write_node-write_fields-requires-in-Fields : goal.write_node-write_fields-requires-in-Fields
@@ -221,7 +222,7 @@ write_node-returns-in-Tagged-clause-put t c =
     ap (λ tag. whole tag c.arms_of.result.arms.now) named.0 ∙ ap (whole c.in-Tagged.tag) named.1 ∙ sym facts.2 in
     on_ok_weaker c.write_variant.result
     (λ put b all.
-    subst (λ p. Holds c.args.walk.order p b v → IsPutOver (is_covered p v) c.args.at b c.args.bytes.now new) is (put b all c.in-Tagged.mark))
+    subst (λ p. Holds c.args.walk.order p b v → IsPutOver (is_covered p v) c.args.at b c.args.bytes.now new) is (put c.in-Tagged.mark b all))
     c.write_variant.ensures.put
 
 pub write_node-write_state-requires : goal.write_node-write_state-requires
@@ -285,7 +286,7 @@ write_elements-loop-i-preserved t c =
     }
 
 pub write_elements-returns-clause-put : goal.write_elements-returns-clause-put
-write_elements-returns-clause-put t c = λ b all many held.
+write_elements-returns-clause-put t c = λ many b all held.
     elements_done c.args.walk.order (placed_at c.args.walk.nodes.now c.args.element) c.args.values.now c.args.at b c.args.bytes.now c.loop-i.i c.args.count c.loop-i.bytes many
     (omega (arith, c.loop-i-test.false, c.min-i-end.ensures)) (c.loop-i.invariant.put b all held)
 
@@ -340,9 +341,9 @@ write_parts-loop-i-preserved t c =
     let child : placed_at ns (get_or c.args.parts.1.now i 0) ≡ get_or ps i nothing = sym (child_is ns c.args.parts.1.now i below) in
     let put : (s : List ℕ) → AreBytes s → Holds c.args.walk.order (get_or ps i nothing) s (value_of (get_or vs i d)) →
     IsPutOver (is_covered (get_or ps i nothing) (value_of (get_or vs i d))) (c.args.at + get_or os i 0) s c.loop-i.bytes new =
-    subst (λ k. NodePut c.args.walk.order (c.args.at + get_or os i 0) c.loop-i.bytes new (get_or ps i nothing) (value_of k)) c.index-values-i.is
-    (subst (λ p. NodePut c.args.walk.order (c.args.at + get_or os i 0) c.loop-i.bytes new p (value_of d)) child
-    (subst (λ o. NodePut c.args.walk.order (c.args.at + o) c.loop-i.bytes new (placed_at ns (get_or c.args.parts.1.now i 0)) (value_of d)) offset c.in_ok-write_node.ensures.put)) in
+    subst (λ k. PutsValue c.args.walk.order (c.args.at + get_or os i 0) c.loop-i.bytes new (get_or ps i nothing) (value_of k)) c.index-values-i.is
+    (subst (λ p. PutsValue c.args.walk.order (c.args.at + get_or os i 0) c.loop-i.bytes new p (value_of d)) child
+    (subst (λ o. PutsValue c.args.walk.order (c.args.at + o) c.loop-i.bytes new (placed_at ns (get_or c.args.parts.1.now i 0)) (value_of d)) offset c.in_ok-write_node.ensures.put)) in
     record {
       long = c.in_ok-write_node.ensures.long ∙ c.loop-i.invariant.long;
       put = λ b all held.
@@ -393,7 +394,7 @@ write_variant-returns-clause-put t c =
     let tag : Placed = placed_at ns c.args.beside.tag in
     let arms : Arms = arms_in (types_in ns) c.args.beside.arms.now in
     on_ok_weaker c.write_arm.result
-    (λ put b all mark.
+    (λ put mark b all.
     put_tagged c.args.walk.order layout c.args.at b c.args.bytes.now new mark (tag_offset layout) tag (encoding_of layout.variants) arms (value_of c.args.value.now) i us c.variant-index.ensures (put b all))
     (subst (λ o. ArmPut c.args.walk.order c.args.at c.args.bytes.now new (encoding_of layout.variants) o tag arms i us c.write_arm.result) c.tag_offset.ensures
     (subst (λ e. ArmPut c.args.walk.order c.args.at c.args.bytes.now new e c.tag_offset.result tag arms i us c.write_arm.result) c.encoding_of-encoding.ensures
@@ -477,7 +478,7 @@ write_arm-returns-clause-put t c =
     on_ok_weaker c.write_own.result
     (λ put b all held.
     let at = from_arm c.args.walk.order done b vs i (0, 0) us held.2 in
-    let front = subst (λ w. TagPut c.args.walk.order c.args.at old mid c.args.told.encoding.now c.args.told.offset w vs i) width c.write_tag.ensures.put b done all held.0 held.1 in
+    let front = subst (λ w. PutsTag c.args.walk.order c.args.at old mid c.args.told.encoding.now c.args.told.offset w vs i) width c.write_tag.ensures.put b done all held.0 held.1 in
     put_both (λ k. is_told c.args.told.encoding.now i && is_byte_at c.args.told.offset (size_of tag) k) (λ k. is_arm_covered (arms_in done vs) i us k) c.args.at b old mid new front
     (put_like (are_covered (own_fields (placed_in done (get_or vs i (0, 0)).1)) us) (λ k. is_arm_covered (arms_in done vs) i us k) c.args.at b mid new
     (λ k. arm_covers done vs i (0, 0) us k at.0) (put b all at.1)))

@@ -8,7 +8,7 @@ use Rattle.abi_laid.specs.Placed.{Placed, size_of}
 use Rattle.abi_laid.specs.Nodes.{placed_at}
 use Rattle.abi_laid.specs.Laid.{endian_of, placed_of}
 use Rattle.abi_laid.specs.Holding.{Holds}
-use Rattle.abi_laid.proofs.Written.WriteLemmas.{NodePut}
+use Rattle.abi_laid.specs.Putting.{PutsValue}
 use Rattle.abi_laid.proofs.Written.WrittenLemmas.{held_once, held_value, value_held, zero_beside, zeros_at}
 use Rattle.abi_laid.proofs.value.write.write_value.Goals as goal
 
@@ -60,8 +60,8 @@ returns-else-branch-clause-not_a_value c = λ is dl tree keeps value.
     rw c.if-branch.false at c.in_ok-holds.ensures.held in
     let told : (u : Value) → Holds o p c.deref.result.now u → Holds (endian_of laid) (placed_of laid) c.deref.result.now u =
     λ u h. subst (λ x. Holds x (placed_of laid) c.deref.result.now u) c.endian-order.ensures (subst (λ x. Holds o x c.deref.result.now u) root h) in
-    let put : NodePut (endian_of laid) 0 old new (placed_of laid) v =
-    subst (λ x. NodePut x 0 old new (placed_of laid) v) c.endian-order.ensures (subst (λ x. NodePut o 0 old new x v) root c.in_ok-write_node.ensures.put) in
+    let put : PutsValue (endian_of laid) 0 old new (placed_of laid) v =
+    subst (λ x. PutsValue x 0 old new (placed_of laid) v) c.endian-order.ensures (subst (λ x. PutsValue o 0 old new x v) root c.in_ok-write_node.ensures.put) in
     let held = value_held dl tree laid keeps v old new whole value put in
     refused (λ u w hu hw. held_once dl tree laid keeps v c.deref.result.now u w (told u hu) (told w hw))
     (subst (λ b. Holds o p b v) (sym final)
