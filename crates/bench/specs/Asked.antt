@@ -7,6 +7,7 @@ use Rattle.abi_calc.specs.Enums.Discriminants.{inhabited_of}
 use Rattle.abi_calc.specs.Enums.Several.{IsLawfulTag}
 use Rattle.abi_index.specs.Relation.{column_count, row_count}
 use Rattle.abi_scalar.specs.Lawful.{IsLawfulLayout}
+use Rattle.rustc_abi.specs.Coroutines.{IsHeld}
 use Rattle.bench.specs.declared.coroutines.Coroutine.{Coroutine}
 use Rattle.bench.specs.declared.enums.Enum.{Enum}
 

@@ -5,6 +5,7 @@ use Rattle.abi_scalar.specs.declared.backend_repr.BackendRepr.TheVariants.{Memor
 use Rattle.abi_scalar.specs.declared.fields_shape.FieldsShape.TheVariants.{Primitive}
 use Rattle.abi_scalar.specs.declared.variants.Variants.{Variants}
 use Rattle.abi_scalar.specs.declared.variants.Variants.TheVariants.{Empty, Multiple}
+use Rattle.abi_scalar.specs.Layout.{Layout}
 
 -- What a type says of itself, beside its layout.
 pub record Marks : Type 0 where
