@@ -10,7 +10,7 @@ use std::fmt::Display;
 /// Why a text names no calling convention.
 #[derive(Clone, PartialEq, Eq, Debug, Drop)]
 pub enum AbiFromStrErr {
-    /// No convention has the name.
+    /// No convention has the text for its name: the one reason why a text isn't read.
     Unknown,
     /// The convention has no variant that unwinds.
     NoExplicitUnwind,

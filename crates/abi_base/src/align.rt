@@ -32,10 +32,10 @@ impl Model for Align {
 }
 
 impl Align {
-    /// One byte.
+    /// Of one byte: no offset is unfit for it.
     pub const ONE: Align = Align { pow2: 0 };
 
-    /// Four bytes.
+    /// Of four bytes.
     pub const FOUR: Align = Align { pow2: 2 };
 
     /// Eight bytes.
@@ -70,21 +70,21 @@ impl Align {
         self <= Align::MAX
     }
 
-    /// Whether the size is just so many bytes, whatever the exponent.
+    /// Whether the size has just as many bytes as this alignment, whatever the exponent.
     pub(crate) fn is_size(self, size: Size) -> bool
         ensures { result ≡ (size == 2 ^ self) }
     {
         u128::from(size.bytes()) == self.wide_bytes()
     }
 
-    /// Whether the size is at most so many bytes, whatever the exponent.
+    /// Whether the size has at most as many bytes as this alignment, whatever the exponent.
     pub(crate) fn holds(self, size: Size) -> bool
         ensures { result ≡ nat_le size (2 ^ self) }
     {
         u128::from(size.bytes()) <= self.wide_bytes()
     }
 
-    /// Whether so many bytes are a multiple of it, whatever the exponent.
+    /// Whether `bytes` bytes are a multiple of it, whatever the exponent.
     pub(crate) fn divides(self, bytes: u64) -> bool
         ensures { IsTrue result ↔ (2 ^ self ∣ bytes) }
     {
@@ -121,7 +121,7 @@ impl Align {
         }
     }
 
-    /// The alignment of so many bits, rounded up to whole bytes; 0 bits give one byte.
+    /// The alignment of `bits` bits, rounded up to whole bytes; 0 bits give one byte.
     /// `NotPowerOfTwo` and `TooLarge` as for [`Align::from_bytes`], with the number of bytes.
     pub fn from_bits(bits: u64) -> Result<Align, AlignFromBytesError>
         ensures { result ≡ align_of_bytes (div_ceil bits 8) }
@@ -129,7 +129,7 @@ impl Align {
         Align::from_bytes(Size::from_bits(bits).bytes())
     }
 
-    /// The alignment of so many bytes; 0 bytes give one byte. `NotPowerOfTwo` where the number is
+    /// The alignment of `bytes` bytes; 0 bytes give one byte. `NotPowerOfTwo` where the number is
     /// no power of two, `TooLarge` where it is one above 2^29.
     pub fn from_bytes(bytes: u64) -> Result<Align, AlignFromBytesError>
         ensures value { result ≡ align_of_bytes bytes }
@@ -154,7 +154,7 @@ impl Align {
         }
     }
 
-    /// The alignment in bytes.
+    /// The alignment in bytes, a power of two: what offsets and sizes are multiples of.
     pub fn bytes(self) -> u64
         requires { self < 64 }
         ensures { result ≡ 2 ^ self }
@@ -170,7 +170,7 @@ impl Align {
         self.bytes() as usize
     }
 
-    /// The alignment in bits.
+    /// The alignment in bits, 8 for each byte.
     pub fn bits(self) -> u64
         requires { self ≤ 60 }
         ensures { result ≡ 2 ^ self * 8 }
@@ -212,12 +212,12 @@ impl Align {
     }
 }
 
-/// Why a number is no alignment.
+/// Why a number of bytes is no alignment: it has to be a power of two, at most 2^29.
 #[derive(Clone, Copy, PartialEq, Eq)]
 pub enum AlignFromBytesError {
-    /// So many bytes are no power of two.
+    /// This many bytes, which are no power of two.
     NotPowerOfTwo(u64),
-    /// So many bytes are a power of two above 2^29.
+    /// This many bytes, a power of two above 2^29.
     TooLarge(u64),
 }
 
@@ -245,19 +245,19 @@ impl Error for AlignFromBytesError {}
 /// The alignment that an ABI asks of a type.
 #[derive(Clone, Copy, PartialEq, Eq, Hash)]
 pub struct AbiAlign {
-    /// The alignment.
+    /// The alignment that the ABI asks for.
     pub abi: Align,
 }
 
 impl AbiAlign {
-    /// This alignment, asked by an ABI.
+    /// This alignment, as one that an ABI asks for.
     pub fn new(align: Align) -> AbiAlign
         ensures { result.abi ≡ align }
     {
         AbiAlign { abi: align }
     }
 
-    /// The smaller of both.
+    /// The smaller of both, as where a pack cuts an alignment.
     pub fn min(self, other: AbiAlign) -> AbiAlign
         ensures { result.abi ≡ min self.abi other.abi }
     {
@@ -266,7 +266,7 @@ impl AbiAlign {
         }
     }
 
-    /// The greater of both.
+    /// The greater of both, as that of a type with two fields.
     pub fn max(self, other: AbiAlign) -> AbiAlign
         ensures { result.abi ≡ max self.abi other.abi }
     {
@@ -275,7 +275,7 @@ impl AbiAlign {
         }
     }
 
-    /// The alignment in bytes.
+    /// The alignment in bytes, a power of two: what offsets and sizes are multiples of.
     pub fn bytes(self) -> u64
         requires { self.abi < 64 }
         ensures { result ≡ 2 ^ self.abi }
@@ -283,7 +283,7 @@ impl AbiAlign {
         self.abi.bytes()
     }
 
-    /// The alignment in bits.
+    /// The alignment in bits, 8 for each byte.
     pub fn bits(self) -> u64
         requires { self.abi ≤ 60 }
         ensures { result ≡ 2 ^ self.abi * 8 }

@@ -24,27 +24,27 @@ pub type AddressSpaces = KeyedList<AddressSpace, PointerSpec>;
 /// What a target says of its types, as the data layout section of LLVM's LangRef has it.
 #[derive(Drop, PartialEq, Eq, Debug)]
 pub struct TargetDataLayout {
-    /// The order of a number's bytes.
+    /// The order in which a number's bytes lie in memory.
     pub endian: Endian,
-    /// The alignment of `bool`.
+    /// The alignment of a `bool`, which LLVM calls `i1`.
     pub i1_align: Align,
     /// The alignment of an integer of 8 bits.
     pub i8_align: Align,
-    /// Of 16 bits.
+    /// The alignment of an integer of 16 bits.
     pub i16_align: Align,
-    /// Of 32 bits.
+    /// The alignment of an integer of 32 bits.
     pub i32_align: Align,
-    /// Of 64 bits.
+    /// The alignment of an integer of 64 bits.
     pub i64_align: Align,
-    /// Of 128 bits.
+    /// The alignment of an integer of 128 bits.
     pub i128_align: Align,
     /// The alignment of a float of 16 bits.
     pub f16_align: Align,
-    /// Of 32 bits.
+    /// The alignment of a float of 32 bits.
     pub f32_align: Align,
-    /// Of 64 bits.
+    /// The alignment of a float of 64 bits.
     pub f64_align: Align,
-    /// Of 128 bits.
+    /// The alignment of a float of 128 bits.
     pub f128_align: Align,
     /// The least alignment of a list of fields.
     pub aggregate_align: Align,
@@ -52,11 +52,11 @@ pub struct TargetDataLayout {
     pub vector_align: VectorAligns,
     /// The space of data, where no other is named.
     pub default_address_space: AddressSpace,
-    /// How its pointers are represented.
+    /// The size, alignment and index size of the default space's pointers.
     pub default_address_space_pointer_spec: PointerSpec,
     /// How the pointers of the other spaces are represented.
     pub(crate) address_space_info: AddressSpaces,
-    /// The space of functions.
+    /// The address space that functions lie in.
     pub instruction_address_space: AddressSpace,
     /// The least size of the tag of a `repr(C)` enum.
     pub c_enum_min_size: Integer,
@@ -177,7 +177,7 @@ impl TargetDataLayout {
         integer_of(self.pointer_offset_in(space))
     }
 
-    /// How many bytes a pointer has.
+    /// How many bytes a pointer into the default address space has.
     pub fn pointer_size(&self) -> Size
         ensures { result ≡ self.now.default_address_space_pointer_spec.pointer_size }
     {
@@ -207,7 +207,7 @@ impl TargetDataLayout {
         self.known_spec_in(space).pointer_offset
     }
 
-    /// The alignment of a pointer.
+    /// The alignment of a pointer into the default address space.
     pub fn pointer_align(&self) -> Align
         ensures { result ≡ self.now.default_address_space_pointer_spec.pointer_align }
     {

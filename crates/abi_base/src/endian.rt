@@ -19,7 +19,7 @@ pub enum Endian {
 }
 
 impl Endian {
-    /// Its name: `little` or `big`.
+    /// Its name, which `from_str` reads back: `little` or `big`.
     pub fn as_str(&self) -> &'static str
         ensures { result.now ≡ endian_text self.now }
     {
@@ -57,7 +57,7 @@ impl FromStr for Endian {
     }
 }
 
-/// A text is no order's name.
+/// A text that was read as a byte order is neither `little` nor `big`.
 #[derive(Clone, Copy, PartialEq, Eq, Debug)]
 pub struct UnknownEndian;
 
@@ -71,10 +71,10 @@ impl Display for UnknownEndian {
 
 impl Error for UnknownEndian {}
 
-/// This text is no order's name.
+/// The same with the text, which the error tells when it is printed.
 #[derive(Clone, Copy, PartialEq, Eq, Debug)]
 pub struct UnknownEndianText<'a> {
-    /// The text.
+    /// The text that was read.
     pub text: &'a str,
 }
 

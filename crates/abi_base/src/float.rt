@@ -36,7 +36,7 @@ const _: () = prove!((Float::F64 as u8) < Float::F128 as u8);
 const _: () = prove!((Float::F128 as u8) < Float::PpcF128 as u8);
 
 impl Float {
-    /// How many bytes it has.
+    /// How many bytes a float of the format has: 2 to 16.
     pub fn size(self) -> Size
         ensures { result ≡ float_size self }
     {
@@ -48,7 +48,7 @@ impl Float {
         }
     }
 
-    /// Its alignment.
+    /// The alignment that the data layout has for floats of its width.
     pub fn align<C: HasDataLayout>(self, cx: &C) -> Align
         ensures { result ≡ float_align (C.target cx.now) self }
     {

@@ -40,7 +40,7 @@ const _: () = prove!((Integer::I32 as u8) < Integer::I64 as u8);
 const _: () = prove!((Integer::I64 as u8) < Integer::I128 as u8);
 
 impl Integer {
-    /// How many bytes it has.
+    /// How many bytes it has: 1 to 16, a power of two.
     pub fn size(self) -> Size
         ensures { result ≡ integer_size self }
     {
@@ -53,7 +53,7 @@ impl Integer {
         }
     }
 
-    /// Its alignment.
+    /// The alignment that the data layout has for integers of its width.
     pub fn align<C: HasDataLayout>(self, cx: &C) -> Align
         ensures { result ≡ integer_align (C.target cx.now) self }
     {
@@ -167,7 +167,7 @@ impl Integer {
         }
     }
 
-    /// The integer whose alignment and size both are so many bytes, if there is one.
+    /// The integer whose alignment and size both are the wanted bytes, if there is one.
     pub fn for_align<C: HasDataLayout>(cx: &C, wanted: Align) -> Option<Integer>
         ensures { result ≡ find (is_of_align (C.target cx.now) wanted) integers }
     {
@@ -181,7 +181,7 @@ impl Integer {
         first_of_align(cx, wanted, &integers)
     }
 
-    /// The greatest integer up to 64 bits whose alignment and size both are at most so many bytes,
+    /// The greatest integer up to 64 bits whose alignment and size both are at most the wanted bytes,
     /// and `I8` where none is.
     pub fn approximate_align<C: HasDataLayout>(cx: &C, wanted: Align) -> Integer
         ensures { result
@@ -209,7 +209,7 @@ impl Integer {
     }
 }
 
-/// The first whose alignment and size both are so many bytes, if there is one.
+/// The first whose alignment and size both are the wanted bytes, if there is one.
 fn first_of_align<C: HasDataLayout>(cx: &C, wanted: Align, integers: &[Integer]) -> Option<Integer>
     ensures { result ≡ find (is_of_align (C.target cx.now) wanted) integers.now }
 {
@@ -221,7 +221,7 @@ fn first_of_align<C: HasDataLayout>(cx: &C, wanted: Align, integers: &[Integer])
     None
 }
 
-/// The first whose alignment and size both are at most so many bytes, if there is one.
+/// The first whose alignment and size both are at most the wanted bytes, if there is one.
 fn first_within_align<C: HasDataLayout>(
     cx: &C,
     wanted: Align,
@@ -237,7 +237,7 @@ fn first_within_align<C: HasDataLayout>(
     None
 }
 
-/// No integer has so many bits.
+/// A number of bits that no integer type has. It prints with that number.
 #[derive(Clone, Copy, PartialEq, Eq, Debug)]
 pub struct NoSuchInteger(pub u64);
 
@@ -261,7 +261,7 @@ pub enum IntegerType {
 }
 
 impl IntegerType {
-    /// Whether it is signed.
+    /// Whether it is signed: of `isize`, or of a fixed integer that is.
     pub fn is_signed(&self) -> bool
         ensures { result ≡ is_signed_type self.now }
     {

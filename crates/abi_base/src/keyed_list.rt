@@ -62,7 +62,7 @@ impl<K, V> From<Vec<(K, V)>> for KeyedList<K, V> {
 }
 
 impl<K, V> KeyedList<K, V> {
-    /// No values.
+    /// A list without values, which asks for no memory yet.
     pub fn new(alloc: Global) -> Self
         ensures { result ≡ [] }
     {

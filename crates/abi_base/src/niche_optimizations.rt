@@ -3,8 +3,8 @@
 /// Whether a type's niches may be used for something else, which `UnsafeCell` forbids.
 #[derive(Clone, Copy, PartialEq, Eq, Debug)]
 pub enum NicheOptimizations {
-    /// They may.
+    /// They may, as those of every type without an `UnsafeCell`.
     Enabled,
-    /// They may not.
+    /// They may not: the type is laid out as one without niches.
     Disabled,
 }

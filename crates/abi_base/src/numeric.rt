@@ -10,7 +10,7 @@ use crate::primitive::Primitive;
 use crate::reg_kind::RegKind;
 use crate::size::Size;
 
-/// A primitive type of numbers.
+/// A primitive type that numbers have: an integer or a float, no pointer.
 #[derive(Clone, Copy, PartialEq, Eq, Hash, Debug)]
 pub enum Numeric {
     /// An integer, signed where the flag is set.
@@ -20,7 +20,7 @@ pub enum Numeric {
 }
 
 impl Numeric {
-    /// How many bytes it has.
+    /// How many bytes a number of the type has: 1 to 16.
     pub fn size(self) -> Size
         ensures { result ≡ numeric_size self }
     {

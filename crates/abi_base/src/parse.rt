@@ -46,7 +46,7 @@ impl Reading {
         }
     }
 
-    /// The alignment of integers of so many bits, but for that of 128 bits.
+    /// The alignment of integers of `bits` bits, but for that of 128 bits.
     fn set_width(&mut self, bits: u64, align: Align)
         ensures dl { self.new.dl ≡ with_integer self.old.dl bits align }
         ensures widest { self.new.widest ≡ self.old.widest }
@@ -61,7 +61,7 @@ impl Reading {
         }
     }
 
-    /// The alignment of integers of so many bits.
+    /// The alignment of integers of `bits` bits.
     fn set_integer(&mut self, bits: u64, align: Align)
         requires { IsWidthOfLong self.old.widest }
         ensures one_more { (ss : List Setting) →

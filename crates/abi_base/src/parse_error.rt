@@ -34,7 +34,7 @@ pub enum TargetDataLayoutError<'a> {
         /// Why it is no number.
         err: NumberError,
     },
-    /// A spec lacks its alignment.
+    /// A spec ends where its alignment should follow.
     MissingAlignment {
         /// Which spec it is.
         cause: &'a str,
@@ -70,7 +70,7 @@ pub enum TargetDataLayoutError<'a> {
         /// What follows the `p`, or the `pf` of fat pointers, up to the first `:`.
         err: &'a str,
     },
-    /// A growth of memory was refused.
+    /// A growth of memory was refused, which says nothing of the text.
     OutOfMemory,
 }
 

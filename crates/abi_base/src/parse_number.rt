@@ -14,11 +14,11 @@ use std::fmt::Display;
 /// plus.
 #[derive(Clone, Copy, PartialEq, Eq, Debug)]
 pub enum NumberError {
-    /// There is no text.
+    /// There is no text where a number should stand.
     Empty,
     /// The text is no number, as `+`, `-1` and `1x` are none.
     InvalidDigit,
-    /// The number has too many bits.
+    /// The number has more bits than are kept of it.
     PosOverflow,
 }
 

@@ -3,7 +3,7 @@
 use crate::align::Align;
 use crate::size::Size;
 
-/// Which safe pointer it is.
+/// Which safe pointer it is, by which optimisers know what it may share.
 #[derive(Clone, Copy, PartialEq, Eq, Debug)]
 pub enum PointerKind {
     /// A shared reference.

@@ -24,7 +24,7 @@ pub enum Primitive {
 }
 
 impl Primitive {
-    /// How many bytes it has.
+    /// How many bytes it has; a pointer by its address space, which the data layout has to know.
     pub fn size<C: HasDataLayout>(self, cx: &C) -> Size
         requires { KnowsPrimitive (C.target cx.now) self }
         ensures { result ≡ primitive_size (C.target cx.now) self }

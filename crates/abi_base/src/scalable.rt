@@ -30,7 +30,7 @@ impl NumScalableVectors {
 /// What a type that is marked as a scalable vector has in it.
 #[derive(Clone, Copy, PartialEq, Eq, Debug)]
 pub enum ScalableElt {
-    /// So many elements of the one scalar field.
+    /// A vector of this many elements of the one scalar field.
     ElementCount(u16),
     /// Scalable vectors.
     Container,

@@ -27,7 +27,7 @@ pub(crate) enum Setting {
     Aligned(AlignedWord, Align),
     /// The pointers of a space.
     Pointer(AddressSpace, PointerSpec),
-    /// The alignment of integers of so many bits.
+    /// The alignment of integers, by their width in bits.
     Integer(u64, Align),
     /// The alignment of vectors of a size.
     Vector(Size, Align),

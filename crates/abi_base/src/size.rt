@@ -14,7 +14,7 @@ use std::fmt::Debug;
 use std::marker::Model;
 use std::ops::{Add, AddAssign, Mul, Sub};
 
-/// A number of bytes.
+/// A number of bytes, of up to 64 bits: a size or an offset.
 #[derive(Clone, Copy, PartialEq, Eq, PartialOrd, Ord, Hash, Default)]
 pub struct Size {
     raw: u64,
@@ -36,17 +36,17 @@ impl Model for Size {
 const _: () = prove!(Size::ZERO.raw == 0);
 
 impl Size {
-    /// No bytes.
+    /// No bytes: the size of a type without data, and the first offset.
     pub const ZERO: Size = Size { raw: 0 };
 
-    /// So many bytes.
+    /// The size of `bytes` bytes, whatever their number.
     pub fn from_bytes(bytes: u64) -> Size
         ensures { result ≡ bytes }
     {
         Size { raw: bytes }
     }
 
-    /// So many bits, rounded up to whole bytes.
+    /// The size that has room for `bits` bits: whole bytes, rounded up.
     pub fn from_bits(bits: u64) -> Size
         ensures { result ≡ div_ceil bits 8 }
     {
@@ -55,7 +55,7 @@ impl Size {
         }
     }
 
-    /// The number of bytes.
+    /// The number of bytes, as a plain integer.
     pub fn bytes(self) -> u64
         ensures { result ≡ self }
     {
@@ -185,7 +185,7 @@ impl Size {
             .map(|raw| Size { raw })
     }
 
-    /// So many times as much, if it is below the data layout's bound.
+    /// `count` times as much; `None` where that isn't below the bound that the data layout has for sizes.
     pub fn checked_mul<C: HasDataLayout>(self, count: u64, cx: &C) -> Option<Size>
         requires { IsPointerWidth
             (C.target cx.now).default_address_space_pointer_spec.pointer_size }

@@ -65,7 +65,7 @@ impl<R: Idx, C: Idx> Debug for BitMatrix<R, C> {
 }
 
 impl<R: Idx, C: Idx> BitMatrix<R, C> {
-    /// The empty relation between so many rows and columns: no more than the index types can name.
+    /// The empty relation between `rows` rows and columns: no more than the index types can name.
     pub fn new(alloc: Global, rows: usize, columns: usize) -> Result<Self, AllocError>
         requires rows { rows ≤ R.MAX_INDEX + 1 }
         requires columns { columns ≤ C.MAX_INDEX + 1 }
@@ -117,7 +117,7 @@ impl<R: Idx, C: Idx> BitMatrix<R, C> {
         self.columns(row).len()
     }
 
-    /// The rows, ascending.
+    /// The indices of all rows, ascending, be they empty or not.
     pub fn rows(&self) -> Indices<R>
         ensures { indices_left R.at result ≡ map R.at (range_with_len 0 (row_count self.now)) }
     {
@@ -143,7 +143,7 @@ impl<R: Idx, C: Idx> BitMatrix<R, C> {
     }
 }
 
-/// So many rows without columns.
+/// `count` rows without columns.
 fn empty_rows(alloc: Global, count: usize) -> Result<Vec<Ascending>, AllocError>
     ensures { IfOk result (λ rows. rows.items ≡ replicate count []) }
 {

@@ -91,7 +91,7 @@ impl<I: Idx> DenseBitSet<I> {
         self.bits.as_mut_slice().fill(true);
     }
 
-    /// Whether an index is a member.
+    /// Whether an index is a member; none past the domain is one.
     pub fn contains(&self, item: I) -> bool
         requires { I.number item < domain_size self.now }
         ensures { result ≡ is_member self.now (I.number item) }
@@ -99,7 +99,7 @@ impl<I: Idx> DenseBitSet<I> {
         self.bits[item.index()]
     }
 
-    /// How many members there are.
+    /// How many members there are, at most as many as the domain has indices.
     #[tactic(auto, using(crate::proofs::BitSetLemmas::count_members))]
     pub fn count(&self) -> usize
         ensures { result ≡ length (members_of self.now) }
@@ -107,7 +107,7 @@ impl<I: Idx> DenseBitSet<I> {
         count_set(self.bits.as_slice())
     }
 
-    /// The members, ascending.
+    /// Goes over the members, ascending.
     pub fn iter(&self) -> BitSetIter<'_, I>
         ensures { members_left I.at result ≡ map I.at (members_of self.now) }
     {

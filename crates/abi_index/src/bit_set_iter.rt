@@ -7,7 +7,7 @@ use crate::first_member::first_from;
 use crate::idx::Idx;
 use std::marker::PhantomData;
 
-/// The members of a set, ascending.
+/// An iterator over the members of a set, ascending.
 #[derive(Drop, PartialEq, Eq, Debug)]
 pub struct BitSetIter<'a, I: Idx> {
     bits: &'a [bool],

@@ -118,8 +118,8 @@ impl<T> Few<T> {
         }
     }
 
-    /// An empty list with room for so many items. `AllocError` where the room is refused; room for at most two is in the
-    /// list itself, and isn't asked for.
+    /// An empty list with room for `capacity` items. `AllocError` where the room is refused; room for at most two is in
+    /// the list itself, and isn't asked for.
     pub(crate) fn with_capacity(alloc: Global, capacity: usize) -> Result<Self, AllocError>
         ensures ok { IfOk result (λ list. list.items ≡ []) }
         ensures room { IfOk result (λ list.

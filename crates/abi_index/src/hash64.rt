@@ -4,7 +4,7 @@ ghost use Rattle.std.specs.Prelude.{◌≡◌, ℕ, ◌+◌, ◌%◌, ◌^◌};
 
 use std::marker::Model;
 
-/// A hash of 64 bits.
+/// A hash of 64 bits, by which seeds of layouts are told apart.
 #[derive(Clone, Copy, PartialEq, Eq, PartialOrd, Ord, Hash, Debug, Default)]
 pub struct Hash64 {
     inner: u64,
@@ -24,7 +24,7 @@ impl Model for Hash64 {
 const _: () = prove!(Hash64::ZERO.inner == 0);
 
 impl Hash64 {
-    /// The hash of nothing.
+    /// The hash of nothing, whose number is 0.
     pub const ZERO: Hash64 = Hash64 { inner: 0 };
 
     /// The hash with this number.
@@ -34,7 +34,7 @@ impl Hash64 {
         Hash64 { inner: n }
     }
 
-    /// The hash's number.
+    /// The number that it was made with.
     pub fn as_u64(self) -> u64
         ensures { result ≡ self }
     {

@@ -32,7 +32,7 @@ pub trait Idx: Copy + Eq + Hash + Debug {
         ensures place { result ≡ number self }
         ensures within { result ≤ MAX_INDEX };
 
-    /// The index of the place that is so many places further on.
+    /// The index of the place that is `amount` places further on.
     fn plus(self, amount: usize) -> Self
         requires { number self + amount ≤ MAX_INDEX }
         ensures { result ≡ at (number self + amount) };
@@ -125,14 +125,14 @@ impl FieldIdx {
         FieldIdx { raw: value as u32 }
     }
 
-    /// The place that it names.
+    /// The place that it names, as a number of 32 bits.
     pub fn as_u32(self) -> u32
         ensures { result ≡ self }
     {
         self.raw
     }
 
-    /// The place that it names.
+    /// The place that it names, as slices are indexed.
     pub fn as_usize(self) -> usize
         ensures { result ≡ self }
     {
@@ -219,14 +219,14 @@ impl VariantIdx {
         VariantIdx { raw: value as u32 }
     }
 
-    /// The place that it names.
+    /// The place that it names, as a number of 32 bits.
     pub fn as_u32(self) -> u32
         ensures { result ≡ self }
     {
         self.raw
     }
 
-    /// The place that it names.
+    /// The place that it names, as slices are indexed.
     pub fn as_usize(self) -> usize
         ensures { result ≡ self }
     {

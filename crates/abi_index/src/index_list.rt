@@ -101,7 +101,7 @@ impl<I: Idx, T> IndexList<I, T> {
         self.raw.get(index.index())
     }
 
-    /// A view of the list.
+    /// The items as a view, which is indexed as the list is.
     pub fn as_slice(&self) -> IndexSlice<'_, I, T>
         ensures { items_of result ≡ self.now }
     {
@@ -115,7 +115,7 @@ impl<I: Idx, T> IndexList<I, T> {
         Indices::below(self.raw.len())
     }
 
-    /// The items, in order.
+    /// Goes over the items, in order.
     pub fn iter(&self) -> Iter<'_, T>
         ensures rest { iter_rest result ≡ self.now }
         ensures runs { IterYieldsInOrder T }

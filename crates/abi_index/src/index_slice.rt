@@ -94,7 +94,7 @@ impl<'a, I: Idx, T> IndexSlice<'a, I, T> {
         self.raw.get(index.index())
     }
 
-    /// The items themselves.
+    /// The items as a slice, without the index type.
     pub fn as_raw(self) -> &'a [T]
         ensures items { result.now ≡ items_of self.entry }
         ensures within { length result.now ≤ I.MAX_INDEX + 1 }
@@ -118,7 +118,7 @@ impl<'a, I: Idx, T> IndexSlice<'a, I, T> {
         Indices::below(self.raw.len())
     }
 
-    /// The items, in order.
+    /// Goes over the items, in order.
     pub fn iter(self) -> Iter<'a, T>
         ensures rest { iter_rest result ≡ (items_of self.entry) }
         ensures runs { IterYieldsInOrder T }

@@ -75,7 +75,7 @@ impl<I: Idx, T: Debug> Debug for IndexVec<I, T> {
 }
 
 impl<I: Idx, T> IndexVec<I, T> {
-    /// An empty list.
+    /// An empty list, which asks for no memory yet.
     pub fn new(alloc: Global) -> Self
         ensures { result ≡ [] }
     {
@@ -85,8 +85,8 @@ impl<I: Idx, T> IndexVec<I, T> {
         }
     }
 
-    /// An empty list with room for so many items, which are then put into it without a growth. `AllocError` where the
-    /// room is refused.
+    /// An empty list with room for `capacity` items, which are then put into it without a growth. `AllocError` where
+    /// the room is refused.
     pub fn with_capacity(alloc: Global, capacity: usize) -> Result<Self, AllocError>
         ensures ok { IfOk result (λ list. list ≡ []) }
         // Room for at most two items is in the list itself, and isn't asked for.
@@ -140,7 +140,7 @@ impl<I: Idx, T> IndexVec<I, T> {
         self.raw.as_slice().get(index.index())
     }
 
-    /// A view of the list.
+    /// The items as a view, which is indexed as the list is.
     pub fn as_slice(&self) -> IndexSlice<'_, I, T>
         ensures { items_of result ≡ self.now }
     {
@@ -162,7 +162,7 @@ impl<I: Idx, T> IndexVec<I, T> {
         Indices::below(self.raw.len())
     }
 
-    /// The items, in order.
+    /// Goes over the items, in order.
     pub fn iter(&self) -> Iter<'_, T>
         ensures rest { iter_rest result ≡ self.now }
         ensures runs { IterYieldsInOrder T }

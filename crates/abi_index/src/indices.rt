@@ -19,7 +19,7 @@ pub struct Indices<I: Idx> {
 impl<I: Idx> Indices<I> {
     ghost use Rattle.abi_index.specs.Indices.{indices_left};
 
-    /// The indices of so many places.
+    /// The indices of `count` places.
     pub(crate) fn below(count: usize) -> Self
         requires { count ≤ I.MAX_INDEX + 1 }
         ensures { indices_left I.at result ≡ map I.at (range_with_len 0 count) }

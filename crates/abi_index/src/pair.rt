@@ -2,7 +2,7 @@
 
 ghost use Rattle.std.specs.Prelude.{◌≡◌, [], ◌∷◌};
 
-/// Two items side by side.
+/// Two items side by side, which are lent as one slice.
 #[derive(Drop)]
 pub struct Pair<T> {
     pub first: T,

@@ -64,7 +64,7 @@ impl TryClone for RangeSet {
 }
 
 impl RangeSet {
-    /// The empty set.
+    /// The empty set, which asks for no memory.
     pub fn new(alloc: Global) -> Self
         ensures { result ≡ [] }
     {

@@ -27,7 +27,7 @@ impl Model for RangeSetBuilder {
 }
 
 impl RangeSetBuilder {
-    /// No runs.
+    /// A set without bytes yet, which asks for no memory.
     pub fn new(alloc: Global) -> Self
         ensures { result ≡ [] }
     {
@@ -68,7 +68,7 @@ impl RangeSetBuilder {
         Ok(())
     }
 
-    /// Puts in the bytes of so many elements, each with those of the set and `stride` bytes after the one before; the
+    /// Puts in the bytes of `count` elements, each with those of the set and `stride` bytes after the one before; the
     /// first lies at `offset`. Where the set covers an element whole, all of them are one run. `AllocError` where
     /// memory is refused: then what was there before is still there, in its order, and some of the elements may be.
     pub fn add_repeated(

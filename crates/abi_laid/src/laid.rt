@@ -103,7 +103,7 @@ impl Laid {
         &self.node_at(at).layout
     }
 
-    /// The layout of the type.
+    /// The layout of the whole type, as the calculator answered it.
     pub fn layout(&self) -> &LayoutData<FieldIdx, VariantIdx>
         ensures { result.now ≡ layout_of (placed_of self.now) }
     {

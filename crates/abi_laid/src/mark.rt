@@ -9,7 +9,7 @@ use bitflags::Flags;
 /// What a type is, as its node keeps it.
 #[derive(Clone, Copy, PartialEq, Eq)]
 pub enum Mark {
-    /// A state of a coroutine.
+    /// None of the others: a number, an array, a vector, a coroutine or a state of one.
     Plain,
     /// The type without a value.
     Never,

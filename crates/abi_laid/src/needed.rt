@@ -79,7 +79,7 @@ fn mark_named(needed: &mut [bool], node: &Node)
     }
 }
 
-/// So many places, at none of which a node is kept.
+/// `count` places, at none of which a node is kept.
 fn unread<'a>(alloc: Global, count: usize) -> Result<Vec<Option<&'a Node>>, AllocError>
     ensures { IfOk result (λ kept. kept.items ≡ replicate count None) }
 {
@@ -109,7 +109,7 @@ pub(crate) fn needed_nodes<'a>(
     ensures visits { IfOk result (λ r. AreVisits nodes.entry.nodes.now root r.1) }
     ensures few { IfOk result (λ r. r.1 ≤ root + 1) }
 {
-    // There are so many that a number of 64 bits can tell it.
+    // Their count fits a number of 64 bits.
     let _count = nodes.len();
     let mut needed = vec![in alloc; false; root + 1]?;
     needed[root] = true;

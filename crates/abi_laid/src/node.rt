@@ -24,7 +24,7 @@ pub enum Shape {
     },
     /// No value.
     Never(Mark),
-    /// So many elements, each as the child.
+    /// An array: how many elements there are, and the node that each is as.
     Elements {
         /// How many there are.
         count: u64,
@@ -61,12 +61,12 @@ pub enum Shape {
     },
 }
 
-/// A type that was laid out.
+/// A type that was laid out, as one of the nodes of a `Laid`.
 #[derive(Drop, PartialEq, Eq)]
 pub struct Node {
-    /// How it is laid out.
+    /// How it is laid out: its size, its alignment, its fields' offsets, its variants.
     pub layout: LayoutData<FieldIdx, VariantIdx>,
-    /// What it consists of.
+    /// What it consists of: a number, or parts by their places among the nodes.
     pub shape: Shape,
 }
 
@@ -101,7 +101,7 @@ pub(crate) fn tag_offset(layout: &LayoutData<FieldIdx, VariantIdx>) -> u64
     }
 }
 
-/// Where the tag of states lies, behind so many prefix fields.
+/// Where the tag of states lies, behind `prefix` prefix fields.
 pub(crate) fn state_tag_offset(layout: &LayoutData<FieldIdx, VariantIdx>, prefix: usize) -> u64
     ensures { result ≡ state_tag_offset layout.now prefix }
 {

@@ -98,7 +98,7 @@ fn put_tagged(
     put_variants(runs, variants, done)
 }
 
-/// Puts in the set of so many elements, which together have this size and are not without bytes.
+/// Puts in the set of `count` elements, which together have this size and are not without bytes.
 fn put_elements(
     runs: &mut RangeSetBuilder,
     size: u64,

@@ -5,17 +5,17 @@ use abi_scalar::{ReprOptions, Scalar};
 /// A type, as far as its layout depends on it.
 #[derive(Drop, Debug, PartialEq, Eq)]
 pub enum TypeTree {
-    /// A number.
+    /// A number of a primitive type, with the range of those that it may be.
     Scalar(Scalar),
     /// Two numbers, as a wide pointer has them.
     Pair(Scalar, Scalar),
-    /// A type with no value.
+    /// The type without a value, of no bytes.
     Never,
     /// A type with one value, which takes no bytes.
     Unit,
-    /// So many elements, each of this type.
+    /// An array: how many elements there are, and their type.
     Array(u64, Box<TypeTree>),
-    /// A vector of lanes.
+    /// A vector: its lanes lie one after another, and it has an alignment of its own.
     Vector {
         /// How many lanes there are.
         lanes: u64,
@@ -45,21 +45,21 @@ pub enum TypeTree {
         /// The fields, in source order.
         fields: Vec<TypeTree>,
     },
-    /// Fields that share their bytes.
+    /// A union: its fields all lie at offset 0.
     Union {
         /// What its `repr` asks for.
         repr: ReprOptions,
         /// The fields, in source order.
         fields: Vec<TypeTree>,
     },
-    /// One variant or another.
+    /// An enum: a value is one of its variants, each with fields of its own.
     Enum {
         /// What its `repr` asks for.
         repr: ReprOptions,
         /// Each variant's discriminant, a 128-bit two's complement number, and its fields, both in source order.
         variants: Vec<(u128, Vec<TypeTree>)>,
     },
-    /// A suspended computation.
+    /// A coroutine: a value is in one of its states, each of which keeps some of the locals.
     Coroutine {
         /// The fields that every state has.
         prefix: Vec<TypeTree>,

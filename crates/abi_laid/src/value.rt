@@ -18,9 +18,9 @@ ghost use Rattle.abi_laid.specs.Value.{Values, number, two, list, variant, state
 /// on its layout, too.
 #[derive(Drop, Debug, PartialEq, Eq)]
 pub enum Value {
-    /// A number.
+    /// A number of a scalar; a signed or a floating one by its bits.
     Num(u128),
-    /// Two numbers.
+    /// The two numbers of a pair of scalars, in the order of the type.
     Pair(u128, u128),
     /// One value for each element, lane or field, and none for unit.
     List(Vec<Value>),

@@ -9,7 +9,8 @@ use abi_base::{AbiAlign, TargetDataLayout};
 use abi_index::{Hash64, Idx};
 use abi_scalar::{BackendRepr, FieldsShape, LayoutCalculatorError, LayoutData, Variants};
 
-/// The layout of so many elements, one after another; without a count, that of a slice, which has a size of 0.
+/// The layout of an array of that many elements, one after another; without a count, that of a slice, which has a size
+/// of 0.
 ///
 /// Element `n` lies `n` times the element's size from the start (Rust Reference, "Array layout").
 ///

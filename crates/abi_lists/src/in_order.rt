@@ -47,7 +47,7 @@ fn is_source_order(numbers: &[usize], count: usize) -> bool
     true
 }
 
-/// Whether the order names each of so many fields once.
+/// Whether the order names each of `count` fields once.
 fn names_each<FieldIdx: Idx>(
     alloc: Global,
     order: &[FieldIdx],
@@ -72,7 +72,7 @@ fn keeps_tail<FieldIdx: Idx>(kind: StructKind, order: &[FieldIdx]) -> bool
     }
 }
 
-/// Whether so many fields may lie in this order, if they may be moved at all.
+/// Whether `count` fields may lie in this order, if they may be moved at all.
 fn is_allowed<FieldIdx: Idx>(
     alloc: Global,
     kind: StructKind,

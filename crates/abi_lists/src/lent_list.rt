@@ -65,14 +65,14 @@ impl<'a, FieldIdx: Idx, VariantIdx: Idx> LentList<'a, FieldIdx, VariantIdx> {
         self.variant.largest_niche()
     }
 
-    /// Whether no value can be.
+    /// Whether it is marked as having no value, as a list with such a field is.
     pub fn uninhabited(&self) -> bool
         ensures { result ≡ self.now.uninhabited }
     {
         self.variant.is_uninhabited()
     }
 
-    /// The alignment.
+    /// The alignment of the whole list.
     pub fn align(&self) -> Align
         ensures { result ≡ self.now.align.abi }
     {

@@ -28,7 +28,7 @@ use abi_index::{Idx, IndexSlice, IndexVec};
 use abi_scalar::{LayoutCalculatorError, LayoutData, LayoutHandle, ReprOptions};
 use std::alloc::{AllocError, Global};
 
-/// Whether some field has no values.
+/// Whether some field is marked as having no values, and so the list has none.
 pub fn any_uninhabited<FieldIdx: Idx, VariantIdx: Idx, F: LayoutHandle<FieldIdx, VariantIdx>>(
     fields: &[F],
 ) -> bool

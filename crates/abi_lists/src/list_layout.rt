@@ -80,14 +80,14 @@ impl<FieldIdx: Idx, VariantIdx: Idx> ListLayout<FieldIdx, VariantIdx> {
         self.in_memory_order.as_slice().as_raw()
     }
 
-    /// Whether no value can be.
+    /// Whether it is marked as having no value, as a list with such a field is.
     pub fn uninhabited(&self) -> bool
         ensures { result ≡ self.now.uninhabited }
     {
         self.uninhabited
     }
 
-    /// The alignment.
+    /// The alignment of the whole list.
     pub fn align(&self) -> Align
         ensures { result ≡ self.now.align.abi }
     {

@@ -29,7 +29,7 @@ pub struct Rest<VariantIdx> {
 }
 
 impl<VariantIdx> Rest<VariantIdx> {
-    /// The alignment.
+    /// The alignment of the whole list.
     pub fn align(&self) -> Align
         ensures { result ≡ self.now.align }
     {
@@ -58,7 +58,7 @@ impl<FieldIdx: Idx, VariantIdx: Idx> Model for ListLayouts<FieldIdx, VariantIdx>
 }
 
 impl<FieldIdx: Idx, VariantIdx: Idx> ListLayouts<FieldIdx, VariantIdx> {
-    /// None, with room for so many. `AllocError` where the room is refused.
+    /// An empty list of layouts, with room for `capacity` of them. `AllocError` where the room is refused.
     pub fn with_capacity(alloc: Global, capacity: usize) -> Result<Self, AllocError>
         ensures { IfOk result (λ lists. lists ≡ []) }
     {
@@ -68,14 +68,14 @@ impl<FieldIdx: Idx, VariantIdx: Idx> ListLayouts<FieldIdx, VariantIdx> {
         })
     }
 
-    /// How many there are.
+    /// How many lists there are.
     pub fn len(&self) -> usize
         ensures { result ≡ length self.now }
     {
         self.rests.len()
     }
 
-    /// The one at an index.
+    /// The list at an index, lent, as one layout.
     pub fn at(&self, index: usize) -> LentList<'_, FieldIdx, VariantIdx>
         requires { index < length self.now }
         ensures { slice_get self.now index ≡ Some result }

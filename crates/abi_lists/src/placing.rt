@@ -18,7 +18,7 @@ use abi_index::Idx;
 use abi_scalar::{BackendRepr, LayoutHandle};
 use std::alloc::{AllocError, AllocFailed, Global};
 
-/// Why a list has no layout.
+/// Why a list of fields has no layout.
 #[derive(Clone, Copy)]
 pub enum ListFault {
     /// The field of this index is unsized, and may not be.

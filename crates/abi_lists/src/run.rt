@@ -23,7 +23,7 @@ use abi_index::Idx;
 use abi_scalar::{LayoutHandle, Niche};
 use std::alloc::Global;
 
-/// A list laid out.
+/// A list whose fields have their places: offsets, order, size, alignment, niche.
 #[derive(Drop)]
 pub struct PlacedList<FieldIdx: Idx> {
     /// Where each field begins, in source order.
@@ -145,7 +145,7 @@ fn space_wanted<FieldIdx: Idx>(
     space_beside(dl, first.size, first.largest_niche.as_ref()?)
 }
 
-/// Whether the niche begins after so many bytes.
+/// Whether the niche begins after `space` bytes.
 fn begins_after(niche: &Option<Niche>, space: Size) -> bool
     ensures { result ≡ begins_after space niche.now }
 {
@@ -155,7 +155,7 @@ fn begins_after(niche: &Option<Niche>, space: Size) -> bool
     }
 }
 
-/// The list with the last of its greatest niches, where that begins after so many bytes, else as it is.
+/// The list with the last of its greatest niches, where that begins after `space` bytes, else as it is.
 fn with_last_niche<FieldIdx: Idx>(list: PlacedList<FieldIdx>, space: Size) -> PlacedList<FieldIdx>
     ensures same { (result.offsets ≡ list.offsets) × (result.order ≡ list.order)
         × (result.size ≡ list.size) × (result.align ≡ list.align) }

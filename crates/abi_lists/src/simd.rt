@@ -73,7 +73,7 @@ fn lanes_of<FieldIdx: Idx, VariantIdx: Idx, F: LayoutHandle<FieldIdx, VariantIdx
     }
 }
 
-/// The layout of an element's vectors with this view, so many bytes and this alignment.
+/// The layout of an element's vectors with this view, this size and this alignment.
 fn layout_of_vectors<FieldIdx: Idx, VariantIdx: Idx, F>(
     alloc: Global,
     dl: &TargetDataLayout,
@@ -141,7 +141,7 @@ fn simd_align(dl: &TargetDataLayout, lanes: &Lanes, repr_packed: bool) -> Align
     }
 }
 
-/// The layout of a vector of so many lanes: one field at offset 0, the array of its lanes, rounded up to the alignment
+/// The layout of a vector of `count` lanes: one field at offset 0, the array of its lanes, rounded up to the alignment
 /// of vectors of that size, or without padding where it is packed and its lanes are no power of two.
 ///
 /// Refused as `OversizedSimdType` for more than 32768 lanes and as `ZeroLengthSimdType` for none, else as
@@ -177,7 +177,7 @@ pub fn layout_of_simd<FieldIdx: Idx, VariantIdx: Idx, F: LayoutHandle<FieldIdx, 
     )
 }
 
-/// The layout of some vectors whose length the machine decides: their size here is that of so many lanes each, all of
+/// The layout of some vectors whose length the machine decides: their size here is that of `count` lanes each, all of
 /// them together rounded up to the alignment of vectors as large as one. They are one field at offset 0.
 ///
 /// Refused as `OversizedSimdType` for more than 32768 lanes and as `ZeroLengthSimdType` for none, else as

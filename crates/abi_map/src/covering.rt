@@ -55,7 +55,7 @@ fn put_part(starts: &[u64], names: &mut Vec<Vec<Name>>, part: &PartBytes) -> Res
     Ok(())
 }
 
-/// So many lists, each without a name.
+/// `count` lists, each without a name.
 fn no_names(alloc: Global, count: usize) -> Result<Vec<Vec<Name>>, AllocError>
     ensures long { IfOk result (λ names. length names.items ≡ count) }
     ensures none { IfOk result (λ names. (s : ℕ) → names_of names.items s ≡ []) }

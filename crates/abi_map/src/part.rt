@@ -11,7 +11,7 @@ pub(crate) enum Name {
     Elements,
     /// All lanes of a vector.
     Lanes,
-    /// The field with this index.
+    /// The field with this index in source order.
     Field(usize),
     /// The tag, which tells variants apart.
     Tag,

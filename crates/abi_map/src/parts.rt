@@ -104,7 +104,7 @@ fn field_name(variants: &Variants<FieldIdx, VariantIdx>, i: usize) -> Name
     }
 }
 
-/// Puts the first fields behind other parts, so many of them.
+/// Puts the first `count` fields behind other parts.
 fn put_fields(
     alloc: Global,
     parts: &mut Vec<PartBytes>,
@@ -138,7 +138,7 @@ fn is_alone(variants: &Variants<FieldIdx, VariantIdx>) -> bool
     }
 }
 
-/// Whether a type of so many fields, which are listed one by one, is a vector.
+/// Whether a type of `count` fields, which are listed one by one, is a vector.
 fn is_vector(this: Handle<'_>, count: usize) -> bool
     requires { IsHandle this }
     ensures { result ≡ is_vector (tree_type this.entry) count }

@@ -7,7 +7,7 @@ use abi_base::{NumScalableVectors, Size};
 /// How a code generator sees the values of a type.
 #[derive(Clone, Copy, PartialEq, Eq, Hash, Debug)]
 pub enum BackendRepr {
-    /// One scalar.
+    /// One scalar, which fills the type.
     Scalar(Scalar),
     /// Two scalars, the second at an offset.
     ScalarPair {
@@ -27,14 +27,14 @@ pub enum BackendRepr {
         /// How many vectors there are, one behind another.
         number_of_vectors: NumScalableVectors,
     },
-    /// A vector of so many lanes.
+    /// A vector of `count` lanes, each the scalar `element`.
     SimdVector {
         /// What each lane is.
         element: Scalar,
         /// How many lanes there are.
         count: BackendLaneCount,
     },
-    /// Bytes in memory.
+    /// Bytes in memory, which are passed by their address or copied.
     Memory {
         /// Whether the size is known beforehand.
         sized: bool,

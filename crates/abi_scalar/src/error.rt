@@ -16,11 +16,11 @@ pub enum LayoutCalculatorError<F> {
     UnexpectedUnsized(F),
     /// The size is not below the data layout's bound.
     SizeOverflow,
-    /// A union has no fields.
+    /// A union has no fields, of which the language asks for one.
     EmptyUnion,
-    /// An enum is packed.
+    /// An enum is packed, which the language doesn't have.
     ReprConflict,
-    /// A vector has no lane.
+    /// A vector has no lane, of which it needs one at least.
     ZeroLengthSimdType,
     /// A vector has more lanes than the greatest number.
     OversizedSimdType {
@@ -31,12 +31,12 @@ pub enum LayoutCalculatorError<F> {
     NonPrimitiveSimdType(F),
     /// An order that is handed in names a field twice or not at all, or moves a last field that may be unsized.
     BadOrder,
-    /// A growth of memory was refused.
+    /// A growth of memory was refused, which says nothing of the type.
     OutOfMemory,
 }
 
 impl<F> LayoutCalculatorError<F> {
-    /// The same without the field.
+    /// The same refusal without the field that it names, for messages and comparison.
     pub fn without_payload(&self) -> LayoutCalculatorError<()>
         ensures { result ≡ bare_error self.now }
     {

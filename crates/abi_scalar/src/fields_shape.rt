@@ -28,7 +28,7 @@ impl Model for FieldCount {
 }
 
 impl FieldCount {
-    /// So many fields; None for no fields.
+    /// The count of a union's fields, of which there is at least one; `None` for 0.
     pub fn new(count: usize) -> Option<FieldCount>
         ensures { SomeIff result (1 ≤ count) count }
     {
@@ -39,7 +39,7 @@ impl FieldCount {
         }
     }
 
-    /// How many fields there are.
+    /// The count as a number, which is at least 1.
     pub fn get(self) -> usize
         ensures { result ≡ self }
     {
@@ -52,7 +52,7 @@ impl FieldCount {
 pub enum FieldsShape<FieldIdx: Idx> {
     /// A scalar, or a type with no values: no fields.
     Primitive,
-    /// So many fields, each at offset 0.
+    /// A union: how many fields there are, each at offset 0.
     Union(FieldCount),
     /// `count` elements, each `stride` bytes after the one before.
     Array {
@@ -71,7 +71,7 @@ pub enum FieldsShape<FieldIdx: Idx> {
 }
 
 impl<FieldIdx: Idx> FieldsShape<FieldIdx> {
-    /// How many fields there are.
+    /// How many fields or elements there are; 0 for a primitive.
     pub fn count(&self) -> usize
         ensures { result ≡ field_count self.now }
     {

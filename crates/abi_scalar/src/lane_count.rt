@@ -28,7 +28,7 @@ impl Model for BackendLaneCount {
 }
 
 impl BackendLaneCount {
-    /// So many lanes. `OversizedSimdType` above 32768, `ZeroLengthSimdType` for 0.
+    /// The count of a vector's lanes, 1 to 32768. `OversizedSimdType` above that, `ZeroLengthSimdType` for 0.
     pub fn new<N>(count: u64) -> Result<BackendLaneCount, LayoutCalculatorError<N>>
         ensures { result ≡ lane_count count }
     {
@@ -52,14 +52,14 @@ impl BackendLaneCount {
         self.lanes.is_power_of_two()
     }
 
-    /// The number.
+    /// The number of lanes, 1 to 32768.
     pub fn as_u64(self) -> u64
         ensures { result ≡ self }
     {
         u64::from(self.lanes)
     }
 
-    /// The number.
+    /// The number of lanes, 1 to 32768, in 32 bits.
     pub fn as_u32(self) -> u32
         ensures { result ≡ self }
     {

@@ -29,7 +29,7 @@ fn is_lawful_primitive(dl: &TargetDataLayout, value: Primitive) -> bool
     }
 }
 
-/// Whether both ends are numbers of so many bytes.
+/// Whether both ends are numbers of `size` bytes.
 fn are_within(range: WrappingRange, size: Size) -> bool
     requires some { 1 ≤ size }
     requires most { size ≤ 16 }

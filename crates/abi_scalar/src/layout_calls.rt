@@ -40,7 +40,7 @@ impl<FieldIdx: Idx, VariantIdx: Idx> LayoutData<FieldIdx, VariantIdx> {
         self.backend_repr.is_unsized()
     }
 
-    /// Whether the size is known beforehand.
+    /// Whether the size is known beforehand, as it isn't of a slice.
     pub fn is_sized(&self) -> bool
         ensures { IsTrue result ↔ IsSizedView self.now.backend_repr }
     {

@@ -23,7 +23,7 @@ pub struct LayoutData<FieldIdx: Idx, VariantIdx: Idx> {
     pub largest_niche: Option<Niche>,
     /// Whether no value of the type can be.
     pub uninhabited: bool,
-    /// The alignment, in bytes.
+    /// The alignment of the whole, which its size is a multiple of.
     pub align: AbiAlign,
     /// How many bytes a value takes, with padding at its end; of an unsized type those before its tail.
     pub size: Size,

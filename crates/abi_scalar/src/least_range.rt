@@ -167,11 +167,11 @@ where
 }
 
 impl WrappingRange {
-    /// The least range of so many bytes that holds the values, which come in any order: the one with the fewest
-    /// numbers, of several such one that does not wrap round, else the one with the least end. None for no
+    /// The least range of numbers of `size` bytes that holds the values, which come in any order: the one with the
+    /// fewest numbers, of several such one that does not wrap round, else the one with the least end. None for no
     /// values.
     ///
-    /// Asked of values that end, each of them of so many bytes, and of 1 to 16 bytes. `AllocError` where memory
+    /// Asked of values that end, each a number of `size` bytes, and of 1 to 16 bytes. `AllocError` where memory
     /// for the values is refused.
     pub fn smallest_range_containing<I: IntoIterator<Item = u128>>(
         alloc: Global,

@@ -18,7 +18,7 @@ pub struct Niche {
     pub offset: Size,
     /// What it consists of, which tells its width.
     pub value: Primitive,
-    /// The numbers that it holds.
+    /// The numbers that the scalar there may hold; all others are free.
     pub valid_range: WrappingRange,
 }
 
@@ -46,7 +46,7 @@ impl Niche {
         }
     }
 
-    /// How many numbers are free.
+    /// How many numbers of its width are outside its range, free for variants.
     #[tactic(auto, using(crate::proofs::CountLemmas::free_counted))]
     pub fn available<C: HasDataLayout>(&self, cx: &C) -> u128
         requires { IsReadableNiche (C.target cx.now) self.now }

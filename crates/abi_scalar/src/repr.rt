@@ -64,7 +64,7 @@ impl Debug for ReprFlags {
 /// default it asks for nothing.
 #[derive(Clone, Copy, PartialEq, Eq, Debug, Default)]
 pub struct ReprOptions {
-    /// The integer of an enum's tag.
+    /// The integer that is asked for as an enum's tag, as by `repr(u8)`.
     pub int: Option<IntegerType>,
     /// The least alignment of the type, in bytes.
     pub align: Option<Align>,
@@ -79,14 +79,14 @@ pub struct ReprOptions {
 }
 
 impl ReprOptions {
-    /// Whether it is a vector.
+    /// Whether `repr(simd)` asks for a vector.
     pub fn simd(&self) -> bool
         ensures { result ≡ is_simd self.now }
     {
         self.flags.contains(ReprFlags::IS_SIMD)
     }
 
-    /// Whether it is a scalable vector.
+    /// Whether a vector is asked for whose length the machine decides.
     pub fn scalable(&self) -> bool
         ensures { result ≡ is_scalable self.now }
     {
@@ -149,7 +149,7 @@ impl ReprOptions {
         self.flags.intersects(ReprFlags::ABI_UNOPTIMIZABLE)
     }
 
-    /// Whether fields stay in source order.
+    /// Whether fields stay in source order, as `repr(C)` and `linear` ask, and an integer for the tag.
     pub fn inhibit_struct_field_reordering(&self) -> bool
         ensures { result ≡ has_fixed_order self.now }
     {

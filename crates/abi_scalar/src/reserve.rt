@@ -11,7 +11,7 @@ use crate::scalar::Scalar;
 use crate::wrapping_range::{WrappingRange, greatest_number};
 use abi_base::{HasDataLayout, Size};
 
-/// The number so many steps further on, in the width.
+/// The number `count` steps further on, in the width.
 fn step_on(n: u128, count: u128, size: Size) -> u128
     requires some { 1 ≤ size }
     requires most { size ≤ 16 }
@@ -27,7 +27,7 @@ fn step_on(n: u128, count: u128, size: Size) -> u128
     }
 }
 
-/// The number so many steps back, in the width.
+/// The number `count` steps back, in the width.
 fn step_back(n: u128, count: u128, size: Size) -> u128
     requires some { 1 ≤ size }
     requires most { size ≤ 16 }
@@ -103,7 +103,7 @@ fn moves_start(range: WrappingRange, count: u128, size: Size) -> bool
 }
 
 impl Niche {
-    /// Hands out so many free numbers: the first of them, and the scalar that holds them too. None where fewer
+    /// Hands out `count` free numbers: the first of them, and the scalar that holds them too. None where fewer
     /// are free.
     #[tactic(auto, using(crate::proofs::ReserveLemmas::reserved_hands_out, crate::proofs::ReserveLemmas::one_below))]
     pub fn reserve<C: HasDataLayout>(&self, cx: &C, count: u128) -> Option<(u128, Scalar)>

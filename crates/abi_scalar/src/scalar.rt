@@ -80,7 +80,7 @@ impl Scalar {
         self.primitive().default_align(cx)
     }
 
-    /// How many bytes it has.
+    /// How many bytes its primitive has under the data layout.
     pub fn size<C: HasDataLayout>(self, cx: &C) -> Size
         requires { KnowsPrimitive (C.target cx.now) (primitive_of self) }
         ensures { result ≡ scalar_size (C.target cx.now) self }
@@ -88,7 +88,7 @@ impl Scalar {
         self.primitive().size(cx)
     }
 
-    /// The same primitive, holding any number.
+    /// The same primitive as a union has it: it may hold any bytes.
     pub fn to_union(&self) -> Scalar
         ensures { result ≡ Union (primitive_of self.now) }
     {
@@ -150,7 +150,7 @@ impl Scalar {
         }
     }
 
-    /// Whether it is a signed integer.
+    /// Whether its primitive is a signed integer; no float or pointer is.
     pub fn is_signed(&self) -> bool
         ensures { IsTrue result ↔ IsSignedInteger (primitive_of self.now) }
     {

@@ -101,7 +101,7 @@ impl<FieldIdx: Idx, VariantIdx: Idx> LayoutData<FieldIdx, VariantIdx> {
         }
     }
 
-    /// The layout of a variant that no value has, with so many fields: no bytes, aligned as an `i8`. It takes no
+    /// The layout of a variant that no value has, with `fields` fields: no bytes, aligned as an `i8`. It takes no
     /// memory.
     pub fn uninhabited_variant<C: HasDataLayout>(
         alloc: Global,

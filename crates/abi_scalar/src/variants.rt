@@ -71,7 +71,7 @@ pub struct VariantLayout<FieldIdx: Idx> {
     pub(crate) uninhabited: bool,
 }
 
-/// The variants of a type.
+/// The variants of a type: none, the one that is left, or several beside a tag.
 #[derive(Drop, PartialEq, Eq, Hash, Debug)]
 pub enum Variants<FieldIdx: Idx, VariantIdx: Idx> {
     /// None: the type has no values.

@@ -18,7 +18,7 @@ impl BackendRepr {
         }
     }
 
-    /// Whether the size is known beforehand.
+    /// Whether the size is known beforehand: bytes in memory may be unsized.
     pub fn is_sized(&self) -> bool
         ensures { IsTrue result ↔ IsSizedView self.now }
     {
@@ -183,7 +183,7 @@ impl BackendRepr {
         }
     }
 
-    /// Whether it is a vector of so many lanes of this primitive.
+    /// Whether it is a vector of `lanes` lanes of this primitive.
     fn is_vector_of(&self, value: Primitive, lanes: BackendLaneCount) -> bool
         ensures { IsTrue result ↔ IsVectorOf value lanes self.now }
     {

@@ -19,7 +19,7 @@ pub struct WrappingRange {
     pub end: u128,
 }
 
-/// The greatest number of so many bytes.
+/// The greatest number of `size` bytes.
 pub(crate) fn greatest_number(size: Size) -> u128
     requires some { 1 ≤ size }
     requires most { size ≤ 16 }
@@ -39,7 +39,7 @@ fn is_between(start: u128, end: u128, n: u128) -> bool
     }
 }
 
-/// How many steps lead from one number of so many bytes to another, counting up.
+/// How many steps lead from one number of `size` bytes to another, counting up.
 pub(crate) fn steps(start: u128, end: u128, size: Size) -> u128
     requires some { 1 ≤ size }
     requires most { size ≤ 16 }
@@ -61,7 +61,7 @@ fn ascend(first: u128, last: u128, reach: u128) -> bool
     first <= last && last <= reach
 }
 
-/// How many numbers of so many bytes are below this one, where they are read as signed.
+/// How many numbers of `size` bytes are below this one, where they are read as signed.
 fn place(n: u128, size: Size) -> u128
     requires some { 1 ≤ size }
     requires most { size ≤ 16 }
@@ -77,7 +77,7 @@ fn place(n: u128, size: Size) -> u128
 pub struct RangeFull;
 
 impl WrappingRange {
-    /// Every number of so many bytes.
+    /// The range of every number of `size` bytes, from 0 on.
     pub fn full(size: Size) -> WrappingRange
         requires some { 1 ≤ size }
         requires most { size ≤ 16 }
@@ -114,7 +114,7 @@ impl WrappingRange {
         ascend(first, last, reach)
     }
 
-    /// Whether it has every number of so many bytes. Ranges other than that of `full` are full too.
+    /// Whether it has every number of `size` bytes. Ranges other than that of `full` are full too.
     #[tactic(auto, using(crate::proofs::RangeLemmas::none_free, crate::proofs::RangeLemmas::full_none))]
     pub fn is_full_for(&self, size: Size) -> bool
         requires some { 1 ≤ size }
@@ -156,7 +156,7 @@ impl WrappingRange {
         }
     }
 
-    /// How many numbers of so many bytes it doesn't have.
+    /// How many numbers of `size` bytes it doesn't have.
     pub(crate) fn free(&self, size: Size) -> u128
         requires some { 1 ≤ size }
         requires most { size ≤ 16 }
@@ -170,7 +170,7 @@ impl WrappingRange {
         }
     }
 
-    /// Whether some number of so many bytes is not in it.
+    /// Whether some number of `size` bytes is not in it.
     #[tactic(auto, using(crate::proofs::RangeLemmas::free_after, crate::proofs::RangeLemmas::none_free))]
     pub(crate) fn has_free(&self, size: Size) -> bool
         requires some { 1 ≤ size }

@@ -38,13 +38,13 @@ fn alignments_have_their_bytes(rt: HostRuntime) {
     assert!(rt; has_most_bits(of_most_bits()));
 }
 
-/// Whether so many bytes, at most 2^63, are rounded up to 2^63.
+/// Whether `bytes` bytes, at most 2^63, are rounded up to 2^63.
 fn is_rounded_up(bytes: u64) -> bool {
     let most = Align::max_aligned_factor(Size::from_bytes(1 << 63));
     bytes <= 1 << 63 && Size::from_bytes(bytes).align_to(most) == Size::from_bytes(1 << 63)
 }
 
-/// Whether so many bytes are a multiple of 2^63.
+/// Whether `bytes` bytes are a multiple of 2^63.
 fn is_multiple(bytes: u64) -> bool {
     let most = Align::max_aligned_factor(Size::from_bytes(1 << 63));
     Size::from_bytes(bytes).is_aligned(most)

@@ -77,7 +77,7 @@ enum Bare {
     /// Of a unit, sized or not.
     Unit(bool),
     Never,
-    /// Of a variant without values that has so many fields.
+    /// Of a variant without values, by the number of its fields.
     Uninhabited(usize),
 }
 
@@ -182,7 +182,7 @@ fn is_variant_copied(alloc: Global, variant: &VariantLayout<FieldIdx>) -> Result
     Ok(copy == *variant)
 }
 
-/// Whether the variant may have values, so many fields and so many bytes, and is equal to its copy.
+/// Whether the variant may have values, has `fields` fields and `bytes` bytes, and is equal to its copy.
 fn has_fields(
     alloc: Global,
     variant: &VariantLayout<FieldIdx>,
@@ -228,9 +228,9 @@ fn variants_have_what_their_layouts_have(rt: HostRuntime) -> Result<(), Fail> {
 #[derive(Clone, Copy)]
 enum Shape {
     Primitive,
-    /// So many fields of a union.
+    /// The fields of a union, by their number.
     Union(usize),
-    /// So many elements.
+    /// Elements, by their number.
     Elements(u64),
     /// Three fields: the second comes first in memory, and the first one last.
     Turned,

@@ -46,7 +46,7 @@ pub(crate) enum Shape {
     Valueless(&'static [u64], &'static [usize]),
     /// Fields that are seen as a vector of four `f32`, or of as many times four as the machine has.
     Lanes(bool, &'static [u64], &'static [usize]),
-    /// So many bytes from one element to the next, so many elements, and their type.
+    /// How many bytes lie from one element to the next, how many elements there are, and their type.
     Elements(u64, u64, &'static [usize]),
     /// Fields side by side.
     Union(&'static [usize]),

@@ -25,7 +25,7 @@ const WORD: Scalar = Scalar::Union {
     value: Primitive::Int(Integer::I32, false),
 };
 
-/// Whether the layout has so many bytes, is so aligned, and has fields at these offsets.
+/// Whether the layout has `bytes` bytes, this alignment, and fields at these offsets.
 fn has(layout: &Layout, bytes: u64, align: Align, wanted: &[Size]) -> bool {
     match &layout.fields {
         FieldsShape::Arbitrary { offsets, .. } => {

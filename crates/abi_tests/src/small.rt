@@ -147,7 +147,7 @@ fn alignments_above_the_limit_are_unlawful(rt: HostRuntime) -> Result<(), Fail> 
     Ok(())
 }
 
-/// Whether pointers into space 5, the default one, have so many bytes, and those into space 0 so many.
+/// Whether pointers into space 5, the default one, have `data` bytes, and those into space 0 `functions` bytes.
 fn has_data_in_five(alloc: Global, text: &str, data: u64, functions: u64) -> bool {
     let five = AddressSpace(5);
     let zero = AddressSpace::ZERO;

@@ -41,7 +41,7 @@ fn flagged(flags: ReprFlags) -> ReprOptions {
     }
 }
 
-/// As in C, with so many bytes as the least alignment, or as the greatest of fields.
+/// As in C, with `bytes` bytes as the least alignment, or as the greatest of fields.
 fn aligned(bytes: u64, packed: bool) -> ReprOptions {
     let align = Some(Align::max_aligned_factor(Size::from_bytes(bytes)));
     let in_c = flagged(ReprFlags::IS_C);

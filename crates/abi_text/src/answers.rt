@@ -27,7 +27,7 @@ use std::alloc::{AllocError, Global};
 /// What a program writes for an input, and the status that it ends with.
 #[derive(Drop)]
 pub struct Answer {
-    /// The text, whole.
+    /// All that is written, with the line ends.
     pub text: String,
     /// 0 for a type with a layout, 1 for one that is refused, 2 for a text that can't be read.
     pub status: u8,

@@ -2,14 +2,14 @@
 
 use std::alloc::{AllocError, AllocFailed};
 
-/// Why a text has no tree.
+/// Why the words of a line are no type.
 #[derive(Clone, Copy, PartialEq, Eq, Debug)]
 pub enum Fault {
     /// The word of this number doesn't fit; words are numbered from 1.
     Unreadable(u64),
     /// A type stands in more than 200 others.
     TooDeep,
-    /// A growth of memory was refused.
+    /// A growth of memory was refused, which says nothing of the text.
     OutOfMemory,
 }
 

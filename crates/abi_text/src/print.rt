@@ -57,7 +57,7 @@ pub(crate) fn write_fields(out: &mut String, offsets: &[Size]) -> Result<(), All
     Ok(())
 }
 
-/// Writes the offset of each of so many fields of a union.
+/// Writes the offset of each of `count` fields of a union.
 fn write_union_fields(out: &mut String, count: usize) -> Result<(), AllocError>
     ensures { OnOk result (string_bytes out.new
         ≡ string_bytes out.old ++ field_lines 0 (replicate count 0)) }

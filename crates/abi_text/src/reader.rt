@@ -36,7 +36,7 @@ use abi_laid::TypeTree;
 use abi_scalar::ReprOptions;
 use std::alloc::Global;
 
-/// A type is nested in at most so many others.
+/// How many types a type may be nested in.
 const MOST_NESTED: usize = 200;
 
 /// Reads a word where a type may begin.

@@ -3,9 +3,9 @@
 /// Whether functions of a calling convention may take argument lists without an end, as C's do.
 #[derive(PartialEq, Eq, Debug, Drop)]
 pub enum CVariadicStatus {
-    /// They may not.
+    /// No function of the convention takes variable arguments.
     NotSupported,
-    /// They may.
+    /// Functions of the convention may take them, in stable Rust.
     Stable,
     /// They may where a feature of the compiler is on.
     Unstable {

@@ -200,7 +200,7 @@ impl ExternAbi {
         self.row().1
     }
 
-    /// Its name.
+    /// Its name, as it stands in `extern ".."`, and as `from_str` reads it.
     pub fn name(self) -> &'static str
         ensures { result.now ≡ abi_name self }
     {

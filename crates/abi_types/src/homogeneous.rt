@@ -14,7 +14,7 @@ use std::fmt::Display;
 pub enum HomogeneousAggregate {
     /// Registers of this kind and size, one at least.
     Homogeneous(Reg),
-    /// No bytes.
+    /// There are no bytes, and so none to pass.
     NoData,
 }
 

@@ -8,7 +8,7 @@ use abi_base::{Align, Float, HasDataLayout, Integer, Primitive, RegKind, Size};
 /// A register, or as much of one as a value takes.
 #[derive(Clone, Copy, PartialEq, Eq, Hash, Debug)]
 pub struct Reg {
-    /// What kind of register it is.
+    /// Whether integers, floats or vectors are passed in it.
     pub kind: RegKind,
     /// How many bytes of it are used.
     pub size: Size,
@@ -105,7 +105,7 @@ impl Reg {
         }
     }
 
-    /// An integer of so many bytes.
+    /// An integer of `bytes` bytes.
     fn integer(bytes: u64) -> Reg
         ensures { result ≡ integer_reg bytes }
     {
@@ -115,7 +115,7 @@ impl Reg {
         }
     }
 
-    /// A float of so many bytes.
+    /// A float of `bytes` bytes.
     fn float(bytes: u64) -> Reg
         ensures { result ≡ float_reg bytes }
     {
@@ -126,7 +126,7 @@ impl Reg {
     }
 }
 
-/// The least integer that has room for so many bytes, of which there are 1 to 16.
+/// The least integer that has room for `size` bytes, of which there are 1 to 16.
 fn integer_holding(size: Size) -> Integer
     requires least { 1 ≤ size }
     requires most { size ≤ 16 }

@@ -34,7 +34,7 @@ fn neighbours(alloc: Global, from: u32) -> Result<State, AllocError>
     Ok(state)
 }
 
-/// So many states, each of eight of so many locals.
+/// `count` states, each of eight of `locals` locals.
 fn states_of(
     alloc: Global,
     numbers: &mut Numbers,
@@ -106,7 +106,7 @@ impl Timed for Coroutine<'_> {
     }
 }
 
-/// Times a coroutine of so many locals, and of 3 states for 8 locals.
+/// Times a coroutine of `count` locals, and of 3 states for 8 locals.
 fn time_coroutine(
     rt: &HostRuntime,
     dl: &TargetDataLayout,

@@ -49,7 +49,7 @@ impl Timed for Enum<'_> {
     }
 }
 
-/// The indices of so many variants, each with its place as discriminant.
+/// The indices of `count` variants, each with its place as discriminant.
 fn places(alloc: Global, count: usize) -> Result<Vec<(VariantIdx, u128)>, AllocError>
     requires { count ≤ 1_000_000 }
     ensures each { IfOk result (λ items. map (λ item. item.0) items.items ≡ source_order count) }
@@ -63,7 +63,7 @@ fn places(alloc: Global, count: usize) -> Result<Vec<(VariantIdx, u128)>, AllocE
     Ok(items)
 }
 
-/// So many variants without fields.
+/// `count` variants without fields.
 fn units<'a>(alloc: Global, count: u64) -> Result<Vec<Fields<'a>>, AllocError> {
     let mut variants = Vec::new(alloc);
     for _step in 0..count {
@@ -72,7 +72,7 @@ fn units<'a>(alloc: Global, count: u64) -> Result<Vec<Fields<'a>>, AllocError> {
     Ok(variants)
 }
 
-/// So many variants of ten fields.
+/// `count` variants of ten fields.
 fn of_ten_fields<'a>(
     alloc: Global,
     leaves: &'a [Laid],
@@ -97,7 +97,7 @@ fn before_a_char<'a>(alloc: Global, leaves: &'a [Laid]) -> Result<Fields<'a>, Al
     Ok(fields)
 }
 
-/// So many variants: the first has 200 fields and a `char`, each other a `u8`, beside the niche of the `char`.
+/// `count` variants: the first has 200 fields and a `char`, each other a `u8`, beside the niche of the `char`.
 fn beside_a_niche<'a>(
     alloc: Global,
     leaves: &'a [Laid],
@@ -113,7 +113,7 @@ fn beside_a_niche<'a>(
     Ok(variants)
 }
 
-/// So many variants of one field, a `u8` and a `u16` in turn, neither of which has a niche.
+/// `count` variants of one field, a `u8` and a `u16` in turn, neither of which has a niche.
 fn in_turn<'a>(alloc: Global, leaves: &'a [Laid], count: u64) -> Result<Vec<Fields<'a>>, AllocError>
     requires { length leaves.now ≡ 5 }
 {
@@ -158,7 +158,7 @@ fn time_enum(
     time(rt, name, count as u64, &call)
 }
 
-/// Times enums of so many variants, those of ten fields with a tenth as many.
+/// Times enums of `count` variants, those of ten fields with a tenth as many.
 fn time_enums(
     rt: &HostRuntime,
     words: &str,

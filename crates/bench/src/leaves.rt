@@ -64,7 +64,7 @@ pub(crate) fn leaves(alloc: Global, dl: &TargetDataLayout) -> Result<Vec<Laid>, 
     Ok(leaves)
 }
 
-/// So many of the leaves at random.
+/// `count` of the leaves at random.
 pub(crate) fn picked<'a>(
     alloc: Global,
     leaves: &'a [Laid],

@@ -72,7 +72,7 @@ impl Timed for Union<'_> {
     }
 }
 
-/// One list of so many fields.
+/// One list of `count` fields.
 fn one_list<'a>(
     alloc: Global,
     leaves: &'a [Laid],
@@ -145,7 +145,7 @@ fn time_union(
     time(rt, "union", size, &Union { dl, variant })
 }
 
-/// Times a list of so many fields, in free order and in source order, and a union of them.
+/// Times a list of `count` fields, in free order and in source order, and a union of them.
 fn time_fields(
     rt: &HostRuntime,
     words: &str,

@@ -10,7 +10,7 @@ use abi_scalar::WrappingRange;
 use std::alloc::{AllocError, Global};
 use std::io;
 
-/// So many numbers, multiples of this one.
+/// `count` multiples of this number.
 fn values_of(alloc: Global, count: u64, by: u64) -> Result<Vec<u128>, AllocError>
     requires { by ≤ 2 }
     ensures { IfOk result (λ values. All (λ v. v < 2 ^ 32) values.items) }
@@ -42,7 +42,7 @@ impl Timed for Values {
     }
 }
 
-/// Times the search for the least range of so many values, multiples of this number.
+/// Times the search for the least range of `count` values, multiples of this number.
 fn time_values(rt: &HostRuntime, words: &str, name: &str, count: u64, by: u64) -> io::Result<()>
     requires { by ≤ 2 }
 {

@@ -12,7 +12,7 @@ use std::io;
 /// The specs that texts are made of.
 const SPECS: [&str; 5] = ["i64:64", "v128:128", "m:e", "n8:16", "f64:64"];
 
-/// So many specs.
+/// A text of `count` specs.
 fn text_of(alloc: Global, count: u64) -> Result<String, AllocError> {
     let mut numbers = Numbers::from(5);
     let mut text = String::new(alloc);

@@ -85,7 +85,7 @@ impl Timed for Type<'_> {
     }
 }
 
-/// Times the layout of a tree of so many nodes or so deep.
+/// Times the layout of a tree with `size` nodes, or of that depth.
 fn time_tree(
     rt: &HostRuntime,
     dl: &TargetDataLayout,

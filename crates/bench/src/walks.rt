@@ -28,7 +28,7 @@ fn fields_of(alloc: Global, places: &[u64]) -> Result<Vec<TypeTree>, AllocError>
     Ok(fields)
 }
 
-/// A struct of so many fields, each a `u64`.
+/// A struct of `count` fields, each a `u64`.
 fn uniform(alloc: Global, count: u64) -> Result<TypeTree, AllocError> {
     let mut fields = Vec::new(alloc);
     for _step in 0..count {
@@ -37,7 +37,7 @@ fn uniform(alloc: Global, count: u64) -> Result<TypeTree, AllocError> {
     Ok(structure(fields))
 }
 
-/// An enum of so many variants, each of a `u64`, or of a `u16` and a `u8`, in turn.
+/// An enum of `count` variants, each of a `u64`, or of a `u16` and a `u8`, in turn.
 fn in_turn(alloc: Global, count: u64) -> Result<TypeTree, AllocError> {
     let mut variants = Vec::new(alloc);
     for step in 0..count {
@@ -106,7 +106,7 @@ enum Walk {
 }
 
 impl Walk {
-    /// The type that it goes over, of so many variants or fields.
+    /// The type that it goes over, of `size` variants or fields.
     fn tree(self, alloc: Global, size: u64) -> Result<TypeTree, AllocError> {
         match self {
             Walk::Unused => in_turn(alloc, size),

@@ -32,7 +32,7 @@ struct Parts<'a> {
     conflicts: &'a [(u32, u32)],
 }
 
-/// Whether each of these locals is one of so many.
+/// Whether each of these locals is one of `count`.
 fn are_within(locals: &[u32], count: usize) -> bool
     ensures { IsTrue result → All (λ local. local < count) locals.now }
 {
@@ -68,7 +68,7 @@ fn differ(locals: &[u32]) -> bool
     true
 }
 
-/// Whether these locals differ, each one of so many.
+/// Whether the locals of a state differ, each one of `count`.
 fn is_held(state: &State, count: usize) -> bool
     ensures { IsTrue result → IsHeld count state.now }
 {
@@ -76,7 +76,7 @@ fn is_held(state: &State, count: usize) -> bool
     are_within(locals, count) && differ(locals)
 }
 
-/// Whether each state holds different locals, each one of so many.
+/// Whether each state holds different locals, each one of `count`.
 fn are_held(states: &[State], count: usize) -> bool
     ensures { IsTrue result → All (IsHeld count) states.now }
 {
@@ -88,7 +88,7 @@ fn are_held(states: &[State], count: usize) -> bool
     true
 }
 
-/// The relation of these pairs between so many locals.
+/// The relation of these pairs between `count` locals.
 fn matrix(alloc: Global, count: usize, pairs: &[(u32, u32)]) -> Result<BitMatrix<u32, u32>, Stop>
     requires { count ≤ 4096 }
     ensures rows { IfOk result (λ m. row_count m ≡ count) }
@@ -241,7 +241,7 @@ fn coroutine_of(alloc: Global, dl: &TargetDataLayout, line: &mut Line<'_>) -> Re
     laid_made(alloc, dl, &prefix, &locals, &states, &conflicts)
 }
 
-/// `state-tag COUNT`: the tag of so many states
+/// `state-tag COUNT`: the tag of COUNT states
 fn write_tag(line: &mut Line<'_>, out: &mut Out) {
     let count = line.number();
     line.end();

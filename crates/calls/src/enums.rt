@@ -113,7 +113,7 @@ fn inhabited(
     Ok(values)
 }
 
-/// Whether none of these is this number, cut to so many bytes.
+/// Whether none of these is this number, cut to `width` bytes.
 fn is_new(width: Size, cut: u128, values: &[u128]) -> bool
     requires { width ≤ 16 }
     ensures { IsTrue result → All (λ v. v % numbers_of width ≢ cut) values.now }
@@ -126,7 +126,7 @@ fn is_new(width: Size, cut: u128, values: &[u128]) -> bool
     true
 }
 
-/// Whether these differ, cut to so many bytes.
+/// Whether these differ, cut to `width` bytes.
 fn differ(width: Size, values: &[u128]) -> bool
     requires { width ≤ 16 }
     ensures { IsTrue result →

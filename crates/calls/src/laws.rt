@@ -27,7 +27,7 @@ pub(crate) fn pair(alloc: Global, dl: &TargetDataLayout, line: &mut Line<'_>) ->
     BackendRepr::ScalarPair { a, b, b_offset }
 }
 
-/// The view of a vector of so many lanes.
+/// The view of the vector that is next: its lanes, and what they are.
 pub(crate) fn lanes(alloc: Global, dl: &TargetDataLayout, line: &mut Line<'_>) -> BackendRepr {
     let lanes = line.number();
     let element = line.scalar(alloc, dl);

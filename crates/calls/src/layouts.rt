@@ -67,7 +67,7 @@ pub(crate) fn calculated<F: Drop>(
     }
 }
 
-/// The array of so many of these, or the slice where there is no count.
+/// The array of `count` of these, or the slice where there is no count.
 pub(crate) fn array_of(
     dl: &TargetDataLayout,
     element: &Layout,
@@ -111,7 +111,7 @@ fn view_of_type(alloc: Global, dl: &TargetDataLayout, line: &mut Line<'_>) -> Ba
     or_unit(alloc, dl, line, made).backend_repr
 }
 
-/// The view of so many vectors of so many lanes each.
+/// The view of the scalable vectors that are next: how many lanes each has, and how many they are.
 fn scalable(alloc: Global, dl: &TargetDataLayout, line: &mut Line<'_>) -> BackendRepr {
     let lanes = line.number();
     let number_of_vectors = NumScalableVectors(line.byte());

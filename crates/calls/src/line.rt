@@ -216,7 +216,7 @@ impl<'a> Line<'a> {
         self.fits(struct_repr(word), plain)
     }
 
-    /// So many words, or all that are left, as they stand in the line.
+    /// The next `count` words, or all that are left, as they stand in the line.
     fn cut(&mut self, count: u64) -> &'a [u8] {
         let all = self.rest;
         for _ in 0..count {

@@ -59,7 +59,7 @@ fn is_lawful_prefix(dl: &TargetDataLayout, kind: &StructKind) -> bool
     }
 }
 
-/// Whether a list of so many fields has a last one where that may be unsized.
+/// Whether a list of `count` fields has a last one where that may be unsized.
 fn has_tail(kind: &StructKind, count: usize) -> bool
     ensures { IsTrue result → IsNonEmptyIfUnsized kind.now count }
 {
@@ -197,7 +197,7 @@ fn slice(alloc: Global, dl: &TargetDataLayout, line: &mut Line<'_>) -> Result<La
     array_of(dl, &element, None)
 }
 
-/// The vector of so many of these.
+/// The vector of `lanes` of these.
 fn vector_of(
     alloc: Global,
     dl: &TargetDataLayout,
@@ -227,7 +227,7 @@ fn simd(
     vector_of(alloc, dl, &element, lanes, is_packed)
 }
 
-/// So many scalable vectors of so many of these.
+/// Scalable vectors, `vectors` of them, each of `lanes` of these.
 fn scalable_of(
     alloc: Global,
     dl: &TargetDataLayout,

@@ -15,7 +15,7 @@ use abi_base::{Size, TargetDataLayout};
 use abi_scalar::{Niche, RangeFull, Scalar, WrappingRange};
 use std::alloc::{AllocError, Global};
 
-/// The range that is next, of numbers of so many bytes.
+/// The range that is next, of numbers of `size` bytes.
 fn range(line: &mut Line<'_>, size: Size) -> WrappingRange
     requires some { 1 ≤ size }
     requires most { size ≤ 16 }
@@ -30,7 +30,7 @@ fn range(line: &mut Line<'_>, size: Size) -> WrappingRange
     }
 }
 
-/// Whether it is a number of so many bytes.
+/// Whether it is a number of `size` bytes.
 fn is_within(number: u128, size: Size) -> bool
     requires some { 1 ≤ size }
     requires most { size ≤ 16 }
@@ -39,7 +39,7 @@ fn is_within(number: u128, size: Size) -> bool
     number <= size.unsigned_int_max()
 }
 
-/// Whether each of these is a number of so many bytes.
+/// Whether each of these is a number of `size` bytes.
 fn are_within(numbers: &[u128], size: Size) -> bool
     requires some { 1 ≤ size }
     requires most { size ≤ 16 }
@@ -65,7 +65,7 @@ fn numbers(alloc: Global, line: &mut Line<'_>) -> Result<Vec<u128>, AllocError> 
     Ok(all)
 }
 
-/// The least range of these numbers, which have to be of so many bytes.
+/// The least range of these numbers, which have to be of `size` bytes.
 fn least_range(alloc: Global, size: Size, all: Vec<u128>) -> Result<Option<WrappingRange>, Stop>
     requires some { 1 ≤ size }
     requires most { size ≤ 16 }
@@ -76,7 +76,7 @@ fn least_range(alloc: Global, size: Size, all: Vec<u128>) -> Result<Option<Wrapp
     Ok(WrappingRange::smallest_range_containing(alloc, all, size)?)
 }
 
-/// Writes the least range of the numbers of so many bytes that are next.
+/// Writes the least range of the numbers that are next, behind the bytes that each has.
 fn write_least(alloc: Global, line: &mut Line<'_>, out: &mut Out) -> Result<(), Stop> {
     let size = width(line);
     let all = numbers(alloc, line)?;
@@ -220,7 +220,7 @@ fn write_reserved(out: &mut Out, reserved: Option<(u128, Scalar)>) {
     }
 }
 
-/// Writes what is handed out of the free numbers of the scalar, where so many are asked for.
+/// Writes what is handed out of the free numbers of the scalar, where `count` are asked for.
 fn write_reserve(
     line: &mut Line<'_>,
     out: &mut Out,

@@ -96,7 +96,7 @@ fn bit_set(alloc: Global, line: &mut Line<'_>, out: &mut Out) -> Result<(), Stop
     Ok(())
 }
 
-/// Writes the columns of each of so many rows.
+/// Writes the columns of each of `rows` rows.
 fn write_rows(out: &mut Out, relation: &BitMatrix<u32, u32>, rows: usize)
     requires rows { row_count relation.now ≡ rows }
     requires few { rows ≤ 4096 }

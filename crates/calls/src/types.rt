@@ -138,7 +138,7 @@ fn write_unused(alloc: Global, out: &mut Out, it: Handle<'_>, index: u64) -> Res
     Ok(())
 }
 
-/// Writes whether a type is passed as one vector of so many bytes.
+/// Writes whether a type is passed as one vector of `bytes` bytes.
 fn write_single(out: &mut Out, it: Handle<'_>, bytes: u64)
     requires { IsHandle it }
 {

@@ -33,7 +33,7 @@ pub struct Node {
     pub variants: [usize; 2],
 }
 
-/// The type at a place, of at most so many that lie one in another.
+/// The type at a place, with the depth that types in it are followed to.
 #[derive(Clone, Copy)]
 pub struct Part<'a> {
     nodes: &'a [Node],

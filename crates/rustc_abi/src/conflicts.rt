@@ -37,7 +37,7 @@ pub(crate) fn named_each(
     Ok(each)
 }
 
-/// The conflicts between so many locals.
+/// The conflicts between `count` locals.
 pub(crate) fn conflicts(
     alloc: Global,
     count: usize,

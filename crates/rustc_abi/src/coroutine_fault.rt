@@ -19,7 +19,7 @@ fn has_long_list(prefix: usize, locals: usize, states: &[Vec<u64>]) -> bool
     prefix >= MOST_FIELDS || locals >= MOST_FIELDS - prefix || has_bad_index(states)
 }
 
-/// Whether some index names none of so many locals.
+/// Whether some index names none of `locals` locals.
 fn is_some_unknown(locals: u64, indices: &[u64]) -> bool
     ensures { result ≡ list_any (nat_le locals) indices.now }
 {
@@ -31,7 +31,7 @@ fn is_some_unknown(locals: u64, indices: &[u64]) -> bool
     false
 }
 
-/// Whether some conflict names none of so many locals.
+/// Whether some conflict names none of `locals` locals.
 fn has_unknown_conflict(locals: u64, conflicts: &[(u64, u64)]) -> bool
     ensures { result ≡ list_any (λ c. nat_le locals c.0 || nat_le locals c.1) conflicts.now }
 {
@@ -43,7 +43,7 @@ fn has_unknown_conflict(locals: u64, conflicts: &[(u64, u64)]) -> bool
     false
 }
 
-/// Whether some state names none of so many locals.
+/// Whether some state names none of `locals` locals.
 fn has_unknown_local(locals: u64, states: &[Vec<u64>]) -> bool
     ensures { result ≡ list_any (list_any (nat_le locals)) (map (λ state. state.items) states.now) }
 {
@@ -91,7 +91,7 @@ fn holds_twice(alloc: Global, states: &[Vec<u64>]) -> Result<bool, AllocError>
     Ok(false)
 }
 
-/// The own fault of a coroutine of so many prefix fields and locals, if it has one.
+/// The own fault of a coroutine of `prefix` prefix fields and `locals` locals, if it has one.
 pub(crate) fn coroutine_fault(
     alloc: Global,
     prefix: usize,

@@ -6,7 +6,7 @@ use std::error::Error;
 use std::fmt;
 use std::fmt::Display;
 
-/// Why a tree has no layout.
+/// Why `lay_out` answers no layout: the first fault of the tree, children first, or a want of memory.
 #[derive(Clone, Copy, PartialEq, Eq, Debug)]
 pub enum LayError {
     /// The data layout isn't lawful, so that no type has a layout under it.
@@ -24,7 +24,7 @@ pub enum LayError {
     DuplicateDiscriminant,
     /// A discriminant is no number of the type of the enum's discriminants.
     DiscriminantTooWide,
-    /// A coroutine has no state.
+    /// A coroutine has no state, of which it needs one at least.
     NoState,
     /// A state of a coroutine holds a local twice.
     LocalTwice,
@@ -32,20 +32,20 @@ pub enum LayError {
     UnexpectedUnsized,
     /// A size is not below the data layout's bound.
     SizeOverflow,
-    /// A union has no fields.
+    /// A union has no fields, of which the language asks for one.
     EmptyUnion,
-    /// An enum is packed.
+    /// An enum is packed, which the language doesn't have.
     ReprConflict,
-    /// A vector has no lane.
+    /// A vector has no lane, of which it needs one at least.
     ZeroLengthSimdType,
     /// A vector has more lanes than the greatest number.
     OversizedSimdType,
-    /// A vector's element is no scalar.
+    /// A vector's element isn't seen as one scalar.
     NonPrimitiveSimdType,
     /// An order that is handed in isn't one of the struct's fields, moves a last one that may lose its size, or stands
     /// beside a repr that fixes the order.
     BadOrder,
-    /// A growth of memory was refused.
+    /// A growth of memory was refused, which says nothing of the tree.
     OutOfMemory,
 }
 

@@ -21,7 +21,7 @@ use abi_index::{FieldIdx, VariantIdx};
 use abi_laid::{Node, Shape, layout_at};
 use abi_scalar::{LayoutCalculatorError, LayoutData};
 
-/// The layout of so many elements, each as the node `element`.
+/// The layout of `count` elements, each as the node `element`.
 pub(crate) fn elements_layout(
     dl: &TargetDataLayout,
     nodes: &[Node],
@@ -41,7 +41,7 @@ pub(crate) fn elements_layout(
     Ok(answer?)
 }
 
-/// A node for so many elements, each as the node `element`.
+/// A node for `count` elements, each as the node `element`.
 pub(crate) fn add_elements(
     dl: &TargetDataLayout,
     nodes: &mut Vec<Node>,

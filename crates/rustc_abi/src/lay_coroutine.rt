@@ -33,7 +33,7 @@ use abi_laid::{Mark, Node, Shape};
 use abi_scalar::{LayoutData, Scalar};
 use std::alloc::{AllocError, Global};
 
-/// The indices of so many states, as the numbers that name them.
+/// The indices of `count` states, as the numbers that name them.
 #[tactic(auto, using(crate::proofs::Coroutines::StateNodesLemmas::indices_more))]
 fn indices(alloc: Global, count: usize) -> Result<Vec<u128>, AllocError>
     ensures { IfOk result (λ indices. indices.items ≡ source_order count) }

@@ -24,7 +24,7 @@ use abi_laid::{Mark, Node, Shape};
 use abi_scalar::{LayoutData, ReprOptions};
 use std::alloc::Global;
 
-/// A list of fields has at most so many.
+/// How many fields a list may have.
 pub(crate) const MOST_FIELDS: usize = 0xFFFF_FF01;
 
 /// Whether an alignment that a repr names, if it does, is above 2^29 bytes.

@@ -49,7 +49,7 @@ fn ordered_fault(repr: &ReprOptions, children: &[usize]) -> Option<LayError>
     }
 }
 
-/// The fields that these numbers name, of so many; `BadOrder` where one names none.
+/// The fields that these numbers name, of `count` fields; `BadOrder` where one names none.
 fn fields_named(alloc: Global, order: &[u64], count: usize) -> Result<Vec<FieldIdx>, LayError>
     requires { count ≤ most_fields }
     ensures ok { IfOk result (λ fields. fields.items ≡ order.now) }

@@ -23,7 +23,7 @@ use abi_laid::{Node, Shape, layout_at};
 use abi_scalar::LayoutData;
 use std::alloc::Global;
 
-/// The layout of a vector of so many lanes, each as the node `element`.
+/// The layout of a vector of `lanes` lanes, each as the node `element`.
 fn vector_layout(
     alloc: Global,
     dl: &TargetDataLayout,
@@ -51,7 +51,7 @@ fn vector_layout(
     Ok(answer?)
 }
 
-/// A node for a vector of so many lanes, each as the node `element`, behind one for the array of the lanes.
+/// A node for a vector of `lanes` lanes, each as the node `element`, behind one for the array of the lanes.
 pub(crate) fn add_vector(
     alloc: Global,
     dl: &TargetDataLayout,

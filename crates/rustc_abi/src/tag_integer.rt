@@ -18,7 +18,7 @@ fn holds_both(integer: Integer, least: i128, greatest: u128) -> bool
     }
 }
 
-/// The least integer of at least so many bytes that holds both numbers.
+/// The least integer of at least `bytes` bytes that holds both numbers.
 fn least_integer(bytes: u64, least: i128, greatest: u128) -> Integer
     ensures { result ≡ least_integer bytes least greatest }
 {

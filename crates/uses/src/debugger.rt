@@ -49,7 +49,7 @@ pub fn read_back(alloc: Global, laid: &Laid, value: &Value) -> Result<ReadBack, 
     }
 }
 
-/// One of these values, if there are so many.
+/// The value with this index; `None` where there are fewer.
 pub(crate) fn taken(mut values: Vec<Value>, index: usize) -> Option<Value>
     ensures { result ≡ slice_get values.items index }
 {

@@ -3,7 +3,7 @@
 ghost use Rattle.std.specs.Prelude.{◌≡◌, ◌+◌, ◌≤◌, MatchOption, length};
 ghost use Rattle.abi_laid.specs.Bytes.{bytes_at};
 
-/// So many bytes from the offset on, where they are there.
+/// The `size` bytes from the offset on; `None` where there are fewer.
 pub(crate) fn bytes_from(bytes: &[u8], offset: u64, size: u64) -> Option<&[u8]>
     ensures { MatchOption result
         (offset + size ≤ length bytes.now → ⊥)

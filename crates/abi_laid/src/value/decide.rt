@@ -44,7 +44,7 @@ struct Cover<'a> {
     ghost widths: { have_widths [] nodes.now ≡ true },
 }
 
-/// The place, counted from the offset, where it is one of so many bytes from there on.
+/// The place, counted from the offset, where it is one of `size` bytes from there on.
 fn place_in(place: Option<u64>, offset: u64, size: u64) -> Option<u64>
     ensures { result ≡ place_in place offset size }
 {
@@ -73,7 +73,7 @@ fn some_number(scalar: &Scalar) -> u128
     }
 }
 
-/// Whether the byte is one of so many from a first one on.
+/// Whether byte `k` is in the run, which has a first byte and a length.
 fn is_in_run(run: (u64, u64), k: u64) -> bool
     ensures { result ≡ is_in_run k run }
 {
@@ -161,7 +161,7 @@ fn put_zeros(runs: &[(u64, u64)], at: usize, size: usize, bytes: &mut [u8])
     }
 }
 
-/// Whether so many bytes from a place on are 0.
+/// Whether the `count` bytes from a place on are 0.
 fn are_zeros(bytes: &[u8], at: usize, count: usize) -> bool
     requires { at + count ≤ length bytes.now }
     ensures { IsTrue result → (k : ℕ) → k < count → get_or bytes.now (at + k) 0 ≡ 0 }
@@ -174,7 +174,7 @@ fn are_zeros(bytes: &[u8], at: usize, count: usize) -> bool
     true
 }
 
-/// The index of the first element of so many bytes that doesn't have the place: at most one has it.
+/// The index of the first element of `size` bytes that doesn't have the place: at most one has it.
 fn first_without(place: Option<u64>, size: u64) -> u64
     ensures { place_in place (result * size) size ≡ None }
 {
@@ -192,7 +192,7 @@ fn may_copy(blank: bool, like: u64, i: u64, here: Option<u64>) -> bool
     blank && like < i && here.is_none()
 }
 
-/// Copies so many bytes to a place behind them.
+/// Copies `size` bytes to a place behind them.
 fn copy_bytes(bytes: &mut [u8], from: usize, to: usize, size: usize)
     requires behind { from + size ≤ to }
     requires fits { to + size ≤ length bytes.old }
@@ -303,7 +303,7 @@ fn put_state(
     put_arm(cover, node, told, place, at, bytes)
 }
 
-/// Puts so many elements over their bytes, one after another. Where these are all 0 yet, as they are where parts don't
+/// Puts `count` elements over their bytes, one after another. Where these are all 0 yet, as they are where parts don't
 /// overlap, the first that doesn't have the place is put, and the others that don't are copies of it.
 #[cycle(cover)]
 fn put_elements(

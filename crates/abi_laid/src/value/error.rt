@@ -8,12 +8,12 @@ use std::error::Error;
 use std::fmt;
 use std::fmt::Display;
 
-/// Why a value wasn't written.
+/// Why a value wasn't written to bytes.
 #[derive(Clone, Copy, PartialEq, Eq, Debug)]
 pub enum ValueError {
     /// The value is none of the type's.
     NotAValue,
-    /// A growth of memory was refused.
+    /// A growth of memory was refused, which says nothing of the value.
     OutOfMemory,
 }
 

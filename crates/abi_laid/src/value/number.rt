@@ -43,7 +43,7 @@ pub(crate) fn number_in(order: Endian, bytes: &[u8]) -> u128
     }
 }
 
-/// So many bytes from the offset on, where they are there.
+/// The `size` bytes from the offset on; `None` where there are fewer.
 pub(crate) fn part_of(bytes: &[u8], offset: u64, size: u64) -> Option<&[u8]>
     ensures { MatchOption result
         (offset + size ≤ length bytes.now → ⊥)

@@ -272,7 +272,7 @@ fn read_part(
     }
 }
 
-/// The values of so many elements, one after another.
+/// The values of `count` elements, one after another.
 #[cycle(read)]
 fn read_elements(
     walk: Walk<'_>,

@@ -39,7 +39,7 @@ use abi_index::{FieldIdx, Idx, VariantIdx};
 use abi_scalar::{LayoutData, TagEncoding};
 use std::alloc::{AllocError, Global};
 
-/// One byte of a number of so many bytes: the one with this index in memory.
+/// One byte of a number of `width` bytes: the one with this index in memory.
 fn byte_at(order: Endian, number: u128, width: usize, i: usize) -> u8
     requires width { width ≤ 16 }
     requires index { i < width }
@@ -53,7 +53,7 @@ fn byte_at(order: Endian, number: u128, width: usize, i: usize) -> u8
     ((number >> (8 * place)) % 256) as u8
 }
 
-/// Puts a number of so many bytes over those from a place on.
+/// Puts a number of `width` bytes over those from a place on.
 pub(crate) fn put_number(order: Endian, number: u128, width: usize, at: usize, bytes: &mut [u8])
     requires width { width ≤ 16 }
     requires fits { at + width ≤ length bytes.old }
@@ -287,7 +287,7 @@ pub(crate) fn write_node(
     }
 }
 
-/// Puts the values of so many elements over their bytes, one after another.
+/// Puts the values of `count` elements over their bytes, one after another.
 #[cycle(write)]
 fn write_elements(
     walk: Walk<'_>,

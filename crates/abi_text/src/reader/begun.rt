@@ -124,7 +124,7 @@ pub(crate) enum CoroutineParts {
 pub(crate) enum Open {
     /// An array, which waits for its element.
     Elements(u64),
-    /// A vector of so many lanes, packed or not, which waits for its element.
+    /// A vector, by its lanes and whether it is packed, which waits for its element.
     Lanes(u64, bool),
     /// A struct, with the fields so far.
     Fields(StructRepr, Vec<TypeTree>),
@@ -186,7 +186,7 @@ pub(crate) fn waiting_for(
     waiting_in(Want::Coroutine(part), Open::Coroutine(parts), begun)
 }
 
-/// A vector of so many lanes, packed or not.
+/// A vector of `lanes` lanes, packed or not.
 fn vector(
     alloc: Global,
     lanes: u64,

@@ -63,7 +63,7 @@ fn plain() -> StructRepr
     }
 }
 
-/// The alignment of so many bytes that the word says after this beginning.
+/// The alignment whose bytes the word has after this beginning.
 fn alignment_after(word: &[u8], name: &[u8]) -> Option<Align>
     ensures { result ≡ alignment_after name.now word.now }
 {

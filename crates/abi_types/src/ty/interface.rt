@@ -12,7 +12,7 @@ use abi_scalar::LayoutData;
 use std::fmt;
 use std::fmt::{Debug, Display};
 
-/// A type beside its layout.
+/// A type beside its layout, as walks and conventions take it.
 #[derive(Clone, Copy, PartialEq, Eq, Hash)]
 pub struct TyAndLayout<'a, Ty> {
     /// The type.
@@ -32,7 +32,7 @@ impl<'a, Ty: Display> Debug for TyAndLayout<'a, Ty> {
 }
 
 impl<'a, Ty> TyAndLayout<'a, Ty> {
-    /// The layout itself.
+    /// The layout itself, as it was laid out.
     pub fn data(&self) -> &'a LayoutData<FieldIdx, VariantIdx>
         ensures { result.now ≡ self.now.layout.0.now }
     {
@@ -170,7 +170,7 @@ impl<'a, Ty> TyAndLayout<'a, Ty> {
         Ty::ty_and_layout_for_variant(self, cx, variant_index)
     }
 
-    /// The type of a field.
+    /// The type of the field with this index, beside its layout.
     pub fn field<C>(self, cx: &C, i: usize) -> TyAndLayout<'a, Ty>
     where
         Ty: TyAbiInterface<'a, C>,

@@ -20,14 +20,14 @@ impl<'a> Debug for Layout<'a> {
 }
 
 impl<'a> Layout<'a> {
-    /// The layout itself.
+    /// The layout itself, which is lent.
     pub fn data(self) -> &'a LayoutData<FieldIdx, VariantIdx>
         ensures { result.now ≡ self.entry.0.now }
     {
         self.0
     }
 
-    /// Where the fields lie.
+    /// Where the fields lie: at their offsets, one after another, or all at 0.
     pub fn fields(self) -> &'a FieldsShape<FieldIdx>
         ensures { result.now ≡ self.entry.0.now.fields }
     {
@@ -55,14 +55,14 @@ impl<'a> Layout<'a> {
         self.0.largest_niche
     }
 
-    /// The alignment.
+    /// The alignment of the whole, which its size is a multiple of.
     pub fn align(self) -> Align
         ensures { result ≡ self.entry.0.now.align.abi }
     {
         self.0.align.abi
     }
 
-    /// How many bytes there are.
+    /// How many bytes a value has, padding at the end included.
     pub fn size(self) -> Size
         ensures { result ≡ self.entry.0.now.size }
     {

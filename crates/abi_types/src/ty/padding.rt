@@ -81,7 +81,7 @@ fn unused<W: Walk>(alloc: Global, this: W, variant: VariantIdx) -> Result<RangeS
     }
 }
 
-/// Of each of the first variants, so many, the bytes that some variant covers, and neither this one nor a field that
+/// Of each of the first `count` variants the bytes that some variant covers, and neither this one nor a field that
 /// all of them have.
 fn unused_of_each<W: Walk>(
     alloc: Global,

@@ -65,7 +65,7 @@ pub(crate) fn put_fields<W: Walk>(
     }
 }
 
-/// Puts the runs of what the first fields cover behind the others, so many of them, moved on by an offset.
+/// Puts the runs of what the first `count` fields cover behind the others, moved on by an offset.
 #[inline(always)]
 #[cycle(places)]
 fn put_listed<W: Walk>(
@@ -88,7 +88,7 @@ fn put_listed<W: Walk>(
     Ok(())
 }
 
-/// Puts the runs of what so many elements of one type cover behind the others, moved on by an offset. The runs of one
+/// Puts the runs of what `count` elements of one type cover behind the others, moved on by an offset. The runs of one
 /// of them are found once.
 #[cycle(places)]
 fn put_elements<W: Walk>(

@@ -37,7 +37,7 @@ fn write_rounded(out: &mut Out, size: u32, align: Align)
     out.number(Size::from_bytes(u64::from(size)).align_to(align).bytes());
 }
 
-/// Writes the alignment of a vector of so many bytes.
+/// Writes the alignment of a vector of `size` bytes.
 fn write_vector_align(line: &mut Line<'_>, out: &mut Out, dl: &TargetDataLayout, size: Size) {
     if dl.vector_align.get(size).is_some() || size.bytes() <= 1 << 29 {
         write_align(out, dl.rust_vector_align(size));

@@ -7,7 +7,7 @@ use std::alloc::{AllocError, Global};
 /// No type of which each place is asked for is larger, in bytes.
 pub(crate) const MOST_BYTES: u64 = 65_536;
 
-/// Whether both byte lists are of so many bytes, and differ at this place alone.
+/// Whether both byte lists are of `size` bytes, and differ at this place alone.
 fn differ_at(a: &[u8], b: &[u8], size: u64, place: u64) -> bool {
     if a.len() as u64 != size || b.len() as u64 != size || place >= size {
         return false;

@@ -45,7 +45,7 @@ fn order_fault(repr: &ReprOptions) -> Option<CFault>
     }
 }
 
-/// Why C hasn't so many fields under this `repr`.
+/// Why C hasn't `count` fields under this `repr`.
 fn list_fault(repr: &ReprOptions, count: usize) -> Option<CFault>
     ensures { result ≡ list_fault repr.now count }
 {
@@ -56,7 +56,7 @@ fn list_fault(repr: &ReprOptions, count: usize) -> Option<CFault>
     }
 }
 
-/// Why C has no enum of so many variants under this `repr`.
+/// Why C has no enum of `count` variants under this `repr`.
 fn enum_fault(repr: &ReprOptions, count: usize) -> Option<CFault>
     ensures { result ≡ c_enum_fault repr.now count }
 {

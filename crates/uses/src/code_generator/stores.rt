@@ -7,7 +7,7 @@ ghost use Rattle.abi_scalar.specs.Range.{numbers_of};
 use rustc_abi::Endian;
 use std::alloc::{AllocError, Global};
 
-/// So many bytes that make the number, the least byte first.
+/// The `size` bytes that make the number, the least byte first.
 fn little_bytes(alloc: Global, number: u128, size: usize) -> Result<Vec<u8>, AllocError>
     requires { number < numbers_of size }
     ensures length { IfOk result (λ bytes. length bytes.items ≡ size) }
@@ -22,7 +22,7 @@ fn little_bytes(alloc: Global, number: u128, size: usize) -> Result<Vec<u8>, All
     Ok(bytes)
 }
 
-/// So many bytes that make the number, which has to fit them: what is loaded of them is the number again.
+/// The `size` bytes that make the number, which has to fit them: what is loaded of them is the number again.
 ///
 /// `AllocError` where a growth of memory was refused.
 pub fn store(alloc: Global, order: Endian, number: u128, size: usize) -> Result<Vec<u8>, AllocError>
