@@ -127,6 +127,10 @@ fn mark_of(this: TyAndLayout<'_, TreeTy<'_>>) -> Mark
 
 /// A handle needs no context to answer, so any serves.
 impl<'a, C> TyAbiInterface<'a, C> for TreeTy<'a> {
+    ghost use Rattle.std.specs.Prelude.{◌≡◌, ◌<◌};
+    ghost use Rattle.abi_scalar.specs.Shape.{field_count};
+    ghost use Rattle.abi_types.specs.Ty.Typed.{at_variant, field_in, layout_in, marks_of};
+    ghost use Rattle.abi_types.specs.Ty.Lawful.{DepthFalls, NamesVariant};
     ghost use Rattle.abi_laid.specs.Handles.{IsHandle, tree_depth, tree_type};
 
     ghost is_valid = { IsHandle };
@@ -146,7 +150,14 @@ impl<'a, C> TyAbiInterface<'a, C> for TreeTy<'a> {
         this: TyAndLayout<'a, TreeTy<'a>>,
         _cx: &C,
         variant_index: VariantIdx,
-    ) -> TyAndLayout<'a, TreeTy<'a>> {
+    ) -> TyAndLayout<'a, TreeTy<'a>>
+        requires valid { IsHandle this }
+        requires named { NamesVariant (layout_in (tree_type this)).variants variant_index }
+        ensures valid { IsHandle result }
+        ensures variant { tree_type result ≡ at_variant (tree_type this.entry) variant_index }
+        ensures falls { DepthFalls (layout_in (tree_type this.entry)).variants (tree_depth result)
+            (tree_depth this.entry) }
+    {
         match &this.layout.0.variants {
             Variants::Multiple {
                 tag: _,
@@ -170,7 +181,13 @@ impl<'a, C> TyAbiInterface<'a, C> for TreeTy<'a> {
         this: TyAndLayout<'a, TreeTy<'a>>,
         _cx: &C,
         i: usize,
-    ) -> TyAndLayout<'a, TreeTy<'a>> {
+    ) -> TyAndLayout<'a, TreeTy<'a>>
+        requires valid { IsHandle this }
+        requires within { i < field_count (layout_in (tree_type this)).fields }
+        ensures valid { IsHandle result }
+        ensures field { tree_type result ≡ field_in (tree_type this.entry) i }
+        ensures falls { tree_depth result < tree_depth this.entry }
+    {
         let laid = this.ty.laid;
         let shape = &laid.node_at(this.ty.node).shape;
         handle_at(laid, field_node(shape, i))
@@ -181,12 +198,18 @@ impl<'a, C> TyAbiInterface<'a, C> for TreeTy<'a> {
         this: TyAndLayout<'a, TreeTy<'a>>,
         _cx: &C,
         _offset: Size,
-    ) -> Option<PointeeInfo> {
+    ) -> Option<PointeeInfo>
+        requires { IsHandle this }
+        ensures { result ≡ (marks_of (tree_type this.entry)).pointee _offset }
+    {
         None
     }
 
     /// So of a struct, a union and an enum, and of each variant of an enum.
-    fn is_adt(this: TyAndLayout<'a, TreeTy<'a>>) -> bool {
+    fn is_adt(this: TyAndLayout<'a, TreeTy<'a>>) -> bool
+        requires { IsHandle this }
+        ensures { result ≡ (marks_of (tree_type this.entry)).is_adt }
+    {
         match mark_of(this) {
             Mark::Adt {
                 is_enum: _,
@@ -198,7 +221,10 @@ impl<'a, C> TyAbiInterface<'a, C> for TreeTy<'a> {
     }
 
     /// So of an enum, and of each variant of one.
-    fn is_enum(this: TyAndLayout<'a, TreeTy<'a>>) -> bool {
+    fn is_enum(this: TyAndLayout<'a, TreeTy<'a>>) -> bool
+        requires { IsHandle this }
+        ensures { result ≡ (marks_of (tree_type this.entry)).is_enum }
+    {
         match mark_of(this) {
             Mark::Adt {
                 is_enum,
@@ -210,7 +236,10 @@ impl<'a, C> TyAbiInterface<'a, C> for TreeTy<'a> {
     }
 
     /// So of the tree of the type without a value alone, and not of other types that have none.
-    fn is_never(this: TyAndLayout<'a, TreeTy<'a>>) -> bool {
+    fn is_never(this: TyAndLayout<'a, TreeTy<'a>>) -> bool
+        requires { IsHandle this }
+        ensures { result ≡ (marks_of (tree_type this.entry)).is_never }
+    {
         match mark_of(this) {
             Mark::Never => true,
             _ => false,
@@ -218,7 +247,10 @@ impl<'a, C> TyAbiInterface<'a, C> for TreeTy<'a> {
     }
 
     /// So of the tuple of no types alone: trees have no other.
-    fn is_tuple(this: TyAndLayout<'a, TreeTy<'a>>) -> bool {
+    fn is_tuple(this: TyAndLayout<'a, TreeTy<'a>>) -> bool
+        requires { IsHandle this }
+        ensures { result ≡ (marks_of (tree_type this.entry)).is_tuple }
+    {
         match mark_of(this) {
             Mark::Unit => true,
             _ => false,
@@ -226,7 +258,10 @@ impl<'a, C> TyAbiInterface<'a, C> for TreeTy<'a> {
     }
 
     /// So of the tuple of no types.
-    fn is_unit(this: TyAndLayout<'a, TreeTy<'a>>) -> bool {
+    fn is_unit(this: TyAndLayout<'a, TreeTy<'a>>) -> bool
+        requires { IsHandle this }
+        ensures { result ≡ (marks_of (tree_type this.entry)).is_unit }
+    {
         match mark_of(this) {
             Mark::Unit => true,
             _ => false,
@@ -234,7 +269,10 @@ impl<'a, C> TyAbiInterface<'a, C> for TreeTy<'a> {
     }
 
     /// So where the `repr` is `transparent`.
-    fn is_transparent(this: TyAndLayout<'a, TreeTy<'a>>) -> bool {
+    fn is_transparent(this: TyAndLayout<'a, TreeTy<'a>>) -> bool
+        requires { IsHandle this }
+        ensures { result ≡ (marks_of (tree_type this.entry)).is_transparent }
+    {
         match mark_of(this) {
             Mark::Adt {
                 is_enum: _,
@@ -246,17 +284,26 @@ impl<'a, C> TyAbiInterface<'a, C> for TreeTy<'a> {
     }
 
     /// Never: no tree is one.
-    fn is_complex_number_lang_item(this: TyAndLayout<'a, TreeTy<'a>>, _cx: &C) -> bool {
+    fn is_complex_number_lang_item(this: TyAndLayout<'a, TreeTy<'a>>, _cx: &C) -> bool
+        requires { IsHandle this }
+        ensures { result ≡ (marks_of (tree_type this.entry)).is_complex }
+    {
         false
     }
 
     /// Never: no tree is one.
-    fn is_scalable_vector(this: TyAndLayout<'a, TreeTy<'a>>) -> bool {
+    fn is_scalable_vector(this: TyAndLayout<'a, TreeTy<'a>>) -> bool
+        requires { IsHandle this }
+        ensures { result ≡ (marks_of (tree_type this.entry)).is_scalable_vector }
+    {
         false
     }
 
     /// So where the `repr` has this flag.
-    fn is_pass_indirectly_in_non_rustic_abis_flag_set(this: TyAndLayout<'a, TreeTy<'a>>) -> bool {
+    fn is_pass_indirectly_in_non_rustic_abis_flag_set(this: TyAndLayout<'a, TreeTy<'a>>) -> bool
+        requires { IsHandle this }
+        ensures { result ≡ (marks_of (tree_type this.entry)).is_passed_indirectly }
+    {
         match mark_of(this) {
             Mark::Adt {
                 is_enum: _,
@@ -268,7 +315,10 @@ impl<'a, C> TyAbiInterface<'a, C> for TreeTy<'a> {
     }
 
     /// The number of its node.
-    fn depth(this: TyAndLayout<'a, TreeTy<'a>>) -> u64 {
+    fn depth(this: TyAndLayout<'a, TreeTy<'a>>) -> u64
+        requires { IsHandle this }
+        ensures { result ≡ tree_depth this.entry }
+    {
         this.ty.node as u64
     }
 }

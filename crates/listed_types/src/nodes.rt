@@ -1,11 +1,11 @@
 //! Types that stand in one list, each made of others by their places, and told by handles. Whether one keeps the laws
 //! is tested.
 
-ghost use Rattle.std.specs.Prelude.{◌≡◌, ◌+◌, ◌<◌, ◌≤◌, IfSome, IsTrue, length};
-ghost use Rattle.abi_scalar.specs.Shape.{field_offset};
+ghost use Rattle.std.specs.Prelude.{◌≡◌, ℕ, ◌+◌, ◌<◌, ◌≤◌, IfSome, IsTrue, length};
+ghost use Rattle.abi_scalar.specs.Shape.{field_count, field_offset};
 ghost use Rattle.abi_scalar.specs.Variant.{variants_of};
-ghost use Rattle.abi_types.specs.Ty.Typed.{layout_in, marks_of};
-ghost use Rattle.abi_types.specs.Ty.Lawful.{CanBeNamed, IsLawfulType};
+ghost use Rattle.abi_types.specs.Ty.Typed.{at_variant, field_in, layout_in, marks_of};
+ghost use Rattle.abi_types.specs.Ty.Lawful.{CanBeNamed, DepthFalls, IsLawfulType, NamesVariant};
 ghost use Rattle.listed_types.specs.Nodes.{HasParts, IsLawfulHandle, marks_of_marked, part_depth, part_type, place_at, place_by, typed_in};
 
 use abi_base::{PointeeInfo, Size};
@@ -225,6 +225,10 @@ pub fn keeps_laws(nodes: &[Node], depth: u64, at: usize) -> bool
 }
 
 impl<'a, C> TyAbiInterface<'a, C> for Part<'a> {
+    ghost use Rattle.std.specs.Prelude.{◌≡◌, ◌<◌};
+    ghost use Rattle.abi_scalar.specs.Shape.{field_count};
+    ghost use Rattle.abi_types.specs.Ty.Typed.{at_variant, field_in, layout_in, marks_of};
+    ghost use Rattle.abi_types.specs.Ty.Lawful.{DepthFalls, NamesVariant};
     ghost use Rattle.listed_types.specs.Nodes.{IsLawfulHandle, part_depth, part_type};
 
     ghost is_valid = { IsLawfulHandle };
@@ -241,7 +245,14 @@ impl<'a, C> TyAbiInterface<'a, C> for Part<'a> {
         this: TyAndLayout<'a, Part<'a>>,
         _cx: &C,
         variant_index: VariantIdx,
-    ) -> TyAndLayout<'a, Part<'a>> {
+    ) -> TyAndLayout<'a, Part<'a>>
+        requires valid { IsLawfulHandle this }
+        requires named { NamesVariant (layout_in (part_type this)).variants variant_index }
+        ensures valid { IsLawfulHandle result }
+        ensures variant { part_type result ≡ at_variant (part_type this.entry) variant_index }
+        ensures falls { DepthFalls (layout_in (part_type this.entry)).variants (part_depth result)
+            (part_depth this.entry) }
+    {
         let node = &this.ty.nodes[this.ty.at];
         match &node.layout.variants {
             Variants::Multiple {
@@ -262,7 +273,13 @@ impl<'a, C> TyAbiInterface<'a, C> for Part<'a> {
         this: TyAndLayout<'a, Part<'a>>,
         _cx: &C,
         i: usize,
-    ) -> TyAndLayout<'a, Part<'a>> {
+    ) -> TyAndLayout<'a, Part<'a>>
+        requires valid { IsLawfulHandle this }
+        requires within { i < field_count (layout_in (part_type this)).fields }
+        ensures valid { IsLawfulHandle result }
+        ensures field { part_type result ≡ field_in (part_type this.entry) i }
+        ensures falls { part_depth result < part_depth this.entry }
+    {
         let nodes = this.ty.nodes;
         let place = field_place(&nodes[this.ty.at], i);
         part_of(nodes, this.ty.depth - 1, place)
@@ -272,47 +289,80 @@ impl<'a, C> TyAbiInterface<'a, C> for Part<'a> {
         this: TyAndLayout<'a, Part<'a>>,
         _cx: &C,
         _offset: Size,
-    ) -> Option<PointeeInfo> {
+    ) -> Option<PointeeInfo>
+        requires { IsLawfulHandle this }
+        ensures { result ≡ (marks_of (part_type this.entry)).pointee _offset }
+    {
         None
     }
 
-    fn is_adt(this: TyAndLayout<'a, Part<'a>>) -> bool {
+    fn is_adt(this: TyAndLayout<'a, Part<'a>>) -> bool
+        requires { IsLawfulHandle this }
+        ensures { result ≡ (marks_of (part_type this.entry)).is_adt }
+    {
         false
     }
 
-    fn is_enum(this: TyAndLayout<'a, Part<'a>>) -> bool {
+    fn is_enum(this: TyAndLayout<'a, Part<'a>>) -> bool
+        requires { IsLawfulHandle this }
+        ensures { result ≡ (marks_of (part_type this.entry)).is_enum }
+    {
         false
     }
 
-    fn is_never(this: TyAndLayout<'a, Part<'a>>) -> bool {
+    fn is_never(this: TyAndLayout<'a, Part<'a>>) -> bool
+        requires { IsLawfulHandle this }
+        ensures { result ≡ (marks_of (part_type this.entry)).is_never }
+    {
         false
     }
 
-    fn is_tuple(this: TyAndLayout<'a, Part<'a>>) -> bool {
+    fn is_tuple(this: TyAndLayout<'a, Part<'a>>) -> bool
+        requires { IsLawfulHandle this }
+        ensures { result ≡ (marks_of (part_type this.entry)).is_tuple }
+    {
         false
     }
 
-    fn is_unit(this: TyAndLayout<'a, Part<'a>>) -> bool {
+    fn is_unit(this: TyAndLayout<'a, Part<'a>>) -> bool
+        requires { IsLawfulHandle this }
+        ensures { result ≡ (marks_of (part_type this.entry)).is_unit }
+    {
         false
     }
 
-    fn is_transparent(this: TyAndLayout<'a, Part<'a>>) -> bool {
+    fn is_transparent(this: TyAndLayout<'a, Part<'a>>) -> bool
+        requires { IsLawfulHandle this }
+        ensures { result ≡ (marks_of (part_type this.entry)).is_transparent }
+    {
         marked_in(this).transparent
     }
 
-    fn is_complex_number_lang_item(this: TyAndLayout<'a, Part<'a>>, _cx: &C) -> bool {
+    fn is_complex_number_lang_item(this: TyAndLayout<'a, Part<'a>>, _cx: &C) -> bool
+        requires { IsLawfulHandle this }
+        ensures { result ≡ (marks_of (part_type this.entry)).is_complex }
+    {
         marked_in(this).complex
     }
 
-    fn is_scalable_vector(this: TyAndLayout<'a, Part<'a>>) -> bool {
+    fn is_scalable_vector(this: TyAndLayout<'a, Part<'a>>) -> bool
+        requires { IsLawfulHandle this }
+        ensures { result ≡ (marks_of (part_type this.entry)).is_scalable_vector }
+    {
         false
     }
 
-    fn is_pass_indirectly_in_non_rustic_abis_flag_set(this: TyAndLayout<'a, Part<'a>>) -> bool {
+    fn is_pass_indirectly_in_non_rustic_abis_flag_set(this: TyAndLayout<'a, Part<'a>>) -> bool
+        requires { IsLawfulHandle this }
+        ensures { result ≡ (marks_of (part_type this.entry)).is_passed_indirectly }
+    {
         marked_in(this).indirect
     }
 
-    fn depth(this: TyAndLayout<'a, Part<'a>>) -> u64 {
+    fn depth(this: TyAndLayout<'a, Part<'a>>) -> u64
+        requires { IsLawfulHandle this }
+        ensures { result ≡ part_depth this.entry }
+    {
         this.ty.depth
     }
 }
