@@ -32,7 +32,7 @@ use Rattle.abi_scalar.specs.Layout.{Layout}
 use Rattle.abi_laid.specs.Nodes.{parts_at, parts_at_0, placed_in}
 use Rattle.abi_laid.specs.Seen.{Sees, SeesArms, SeesParts, SeesTypes, last_field, part_count}
 use Rattle.abi_laid.specs.Tree.{Tree, scalar, pair, never, unit, array, vector, struct, union, enum, coroutine}
-use Rattle.abi_laid.proofs.Nodes.SeenLemmas.{count_at}
+use Rattle.abi_laid.proofs.Meaning.SeenLemmas.{count_at}
 use Rattle.rustc_abi.specs.declared.error.LayError.TheVariants.{SizeOverflow}
 use Rattle.rustc_abi.specs.Enums.{IsEnumed, arms_at, discriminants_of}
 use Rattle.rustc_abi.specs.Error.{named}

@@ -19,7 +19,7 @@ use Rattle.abi_scalar.specs.Layout.{Layout}
 use Rattle.abi_laid.specs.Nodes.{parts_at}
 use Rattle.abi_laid.specs.Seen.{IsListOf, Sees, SeesArms, SeesParts, SeesTypes, SeesWhole, last_field}
 use Rattle.abi_laid.specs.Tree.{Tree}
-use Rattle.abi_laid.proofs.Nodes.SeenLemmas.{count_at}
+use Rattle.abi_laid.proofs.Meaning.SeenLemmas.{count_at}
 use Rattle.rustc_abi.specs.Enums.{arms_at}
 use Rattle.rustc_abi.specs.Inside.{EndInside, VariantsInside}
 use Rattle.rustc_abi.specs.Laying.{IsLaying, one_scalar}

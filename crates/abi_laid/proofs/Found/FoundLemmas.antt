@@ -27,7 +27,7 @@ use Rattle.abi_laid.specs.Reading.{Finds, FindsEach, FindsNamed, FindsNumber, Ho
 use Rattle.abi_laid.specs.Well.{all_at}
 use Rattle.abi_laid.proofs.Found.NamedLemmas.{child_is}
 use Rattle.abi_laid.proofs.Bytes.HoldLemmas.{length-Holds}
-use Rattle.abi_laid.proofs.Nodes.NodesLemmas.{layout_of-placed_at}
+use Rattle.abi_laid.proofs.Meaning.NodesLemmas.{layout_of-placed_at}
 use Rattle.abi_laid.proofs.Found.ValueLemmas.{value_of-Pair, value_of-Union}
 
 -- how large a node's type is

@@ -20,7 +20,7 @@ use Rattle.abi_laid.specs.Nodes.{parts_at, parts_at_0, placed_in, placed_at, typ
 use Rattle.abi_laid.specs.Room.{has_room, have_room, arms_have_room}
 use Rattle.abi_laid.specs.Well.{are_nodes, all_at}
 use Rattle.abi_index.specs.RangeSet.{AreMaximalRuns, is_in_ranges}
-use Rattle.abi_laid.proofs.Nodes.NodesLemmas.{placed_at-node, pair_before}
+use Rattle.abi_laid.proofs.Meaning.NodesLemmas.{placed_at-node, pair_before}
 use Rattle.abi_laid.proofs.Places.RoomLemmas.{within_room, room_at, ends_inside}
 
 pub all_before : (i : ℕ) (cs : List ℕ) → list_all (λ child. nat_lt child i) cs ≡ true → All (λ child. child < i) cs

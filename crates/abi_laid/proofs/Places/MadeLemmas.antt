@@ -26,7 +26,7 @@ use Rattle.abi_laid.specs.Room.{arms_have_room, has_room, have_room}
 use Rattle.abi_laid.specs.Runs.{is_padding_of}
 use Rattle.abi_laid.specs.Typed.{variant_nodes}
 use Rattle.abi_laid.specs.Needed.{AreMade, AreNeeded, IsKept, IsMade, IsMadeOf, IsSet, is_among, named_by, parts_cover, placed_nodes, sets_at, some_covers}
-use Rattle.abi_laid.proofs.Nodes.NodesLemmas.{layout_of-meaning, layout_of-placed_at, placed_at-node}
+use Rattle.abi_laid.proofs.Meaning.NodesLemmas.{layout_of-meaning, layout_of-placed_at, placed_at-node}
 use Rattle.abi_laid.proofs.Places.RoomLemmas.{room_at, within_room}
 use Rattle.abi_laid.proofs.Places.DataPlacesLemmas.{runs_inside}
 use Rattle.abi_laid.proofs.Places.NeededLemmas.{All-left, All-right, among_all, among_own, named_first, variants_listed}

@@ -24,8 +24,8 @@ use Rattle.abi_laid.specs.Typed.{variant_nodes}
 use Rattle.abi_laid.specs.Well.{all_at, are_nodes, is_node}
 use Rattle.abi_laid.specs.Bytes.{one_if, count_picked}
 use Rattle.abi_laid.specs.Needed.{AreNeeded, AreVisits, IsClosed, IsKept, MarksPlaces, RestsOn, is_among, named_by, placed_nodes}
-use Rattle.abi_laid.proofs.Nodes.NodesLemmas.{pair_before, placed_at-node}
-use Rattle.abi_laid.proofs.Nodes.TypedLemmas.{laws_at}
+use Rattle.abi_laid.proofs.Meaning.NodesLemmas.{pair_before, placed_at-node}
+use Rattle.abi_laid.proofs.Meaning.TypedLemmas.{laws_at}
 use Rattle.abi_laid.proofs.Places.DataPlacesLemmas.{all_before, variants_before, elements_node, fields_node, pair_node, single_node, states_node, tagged_node, union_node, vector_node}
 
 -- ---- places that are marked

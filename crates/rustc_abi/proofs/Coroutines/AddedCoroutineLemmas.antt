@@ -36,7 +36,7 @@ use Rattle.rustc_abi.proofs.Faults.CoroutineFaultLemmas.{conflict_rows, some_sta
 use Rattle.rustc_abi.proofs.Coroutines.CoroutineLemmas.{Fits-states, IsStatesLayout}
 use Rattle.rustc_abi.proofs.Trees.LayLemmas.{IsAdded-put, all_at-kept}
 use Rattle.rustc_abi.proofs.Trees.ListLemmas.{map_sizes}
-use Rattle.abi_laid.proofs.Nodes.NodesLemmas.{Keeps-trans, length-types_in}
+use Rattle.abi_laid.proofs.Meaning.NodesLemmas.{Keeps-trans, length-types_in}
 use Rattle.rustc_abi.proofs.Coroutines.StateFlagLemmas.{HaveOwnFlags, IsFlaggedBy, flagged_by, sizes_picked}
 use Rattle.rustc_abi.proofs.Coroutines.StatePlacesLemmas.{EachStateApart}
 

@@ -22,7 +22,7 @@ use Rattle.rustc_abi.specs.Inside.{VariantsInside}
 use Rattle.abi_laid.specs.Laws.{have_places, keeps_laws, sizes_at}
 use Rattle.abi_laid.specs.Well.{IsPut, all_at, is_node}
 use Rattle.rustc_abi.specs.Adding.{AreArms, variants_in}
-use Rattle.abi_laid.proofs.Nodes.NodesLemmas.{length-types_in, Keeps-trans}
+use Rattle.abi_laid.proofs.Meaning.NodesLemmas.{length-types_in, Keeps-trans}
 use Rattle.rustc_abi.proofs.Trees.ListLemmas.{all_below}
 use Rattle.rustc_abi.proofs.Trees.LayLemmas.{all_at-kept}
 use Rattle.rustc_abi.proofs.Enums.ArmNodesLemmas.{tagged_before}

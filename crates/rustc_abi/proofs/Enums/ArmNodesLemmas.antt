@@ -25,7 +25,7 @@ use Rattle.abi_laid.specs.Deciding.{are_inhabited}
 use Rattle.abi_laid.specs.Laws.{has_list, have_lists, have_places, is_listed, keeps_laws, sizes_at}
 use Rattle.abi_laid.specs.Well.{IsPut, all_at, is_node}
 use Rattle.rustc_abi.specs.Adding.{AreArms, variants_in}
-use Rattle.abi_laid.proofs.Nodes.NodesLemmas.{length-types_in, Keeps-trans}
+use Rattle.abi_laid.proofs.Meaning.NodesLemmas.{length-types_in, Keeps-trans}
 use Rattle.rustc_abi.proofs.Trees.ListLemmas.{all_below}
 use Rattle.rustc_abi.proofs.Trees.LayLemmas.{all_at-kept}
 use Rattle.rustc_abi.proofs.Places.LawsLemmas.{own_laws, several_laws}

@@ -17,7 +17,7 @@ use Rattle.abi_laid.specs.Well.{all_at}
 use Rattle.rustc_abi.specs.Adding.{AreAdded, AreVariantsAdded, EachFits, IsAdded, VariantsFit, variants_in}
 use Rattle.rustc_abi.proofs.Enums.ArmNodesLemmas.{variants_in-kept}
 use Rattle.rustc_abi.proofs.Trees.LaidLemmas.{numbers_for}
-use Rattle.abi_laid.proofs.Nodes.NodesLemmas.{Keeps-trans, length-types_in}
+use Rattle.abi_laid.proofs.Meaning.NodesLemmas.{Keeps-trans, length-types_in}
 
 abbrev Fields : Type 0
 Fields = ℕ × Vec TypeTree Global

@@ -50,7 +50,7 @@ use Rattle.abi_laid.specs.Seen.{HasOffset, IsListOf, Sees, SeesArms, SeesParts, 
 use Rattle.rustc_abi.proofs.Places.CoveredLemmas.{HasOneWhole, IsCovered, IsNoScalar, covered_parts, memory_none}
 use Rattle.rustc_abi.proofs.Trees.KindsLemmas.{AreBeside, AreFields, IsKept, IsTagWhole, laid_kept}
 use Rattle.rustc_abi.proofs.Places.LawsLemmas.{lengths_in}
-use Rattle.abi_laid.proofs.Nodes.SeenLemmas.{count_at, seen_at}
+use Rattle.abi_laid.proofs.Meaning.SeenLemmas.{count_at, seen_at}
 
 -- handles of the type tell its data places
 abbrev pub TellsPlaces : Placed → Type 0

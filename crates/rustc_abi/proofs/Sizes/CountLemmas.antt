@@ -17,7 +17,7 @@ use Rattle.abi_laid.specs.Tree.{Tree, array, vector, struct, union, enum, corout
 use Rattle.abi_laid.specs.Placed.{Placed, layout_of}
 use Rattle.abi_scalar.specs.Layout.{Layout}
 use Rattle.abi_laid.specs.Deciding.{are_inhabited}
-use Rattle.abi_laid.proofs.Nodes.NodesLemmas.{layout_of-placed_at}
+use Rattle.abi_laid.proofs.Meaning.NodesLemmas.{layout_of-placed_at}
 use Rattle.abi_laid.specs.Nodes.{arms_in, placed_at}
 use Rattle.abi_laid.specs.Well.{IsPut}
 use Rattle.rustc_abi.specs.Adding.{IsAdded}

@@ -47,7 +47,7 @@ use Rattle.abi_lists.specs.ListNiche.{IsNicheOfPart}
 use Rattle.std.proofs.lemmas.Option.{IfSome_then}
 use Rattle.abi_scalar.specs.Shape.{listed_offsets}
 use Rattle.rustc_abi.proofs.Trees.ListLemmas.{chosen}
-use Rattle.abi_laid.proofs.Nodes.NodesLemmas.{length-types_in, Keeps-trans}
+use Rattle.abi_laid.proofs.Meaning.NodesLemmas.{length-types_in, Keeps-trans}
 
 pub IsAdded-put : (dl : TargetDataLayout) (old new : List Node) (i : ℕ) (placed : Placed) (t : Tree) → IsPut old new i placed →
     IsLaying dl t (Ok placed) → Fits dl t placed → IsAdded dl old new i t

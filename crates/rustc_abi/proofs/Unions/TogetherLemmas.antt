@@ -22,7 +22,7 @@ use Rattle.rustc_abi.specs.Laying.{IsLaying, AreLaying, IsUnionOf, IsUnited, fie
 use Rattle.abi_laid.specs.Well.{IsPut}
 use Rattle.rustc_abi.specs.Adding.{IsAdded, EachFits}
 use Rattle.rustc_abi.proofs.Trees.ListLemmas.{chosen}
-use Rattle.abi_laid.proofs.Nodes.NodesLemmas.{Keeps-trans}
+use Rattle.abi_laid.proofs.Meaning.NodesLemmas.{Keeps-trans}
 use Rattle.rustc_abi.proofs.Trees.LayLemmas.{IsAdded-put, IsAdded-elements}
 use Rattle.rustc_abi.proofs.Unions.CalcLemmas.{united_layout, vector_made}
 use Rattle.rustc_abi.proofs.Unions.UnionLemmas.{Fits-union}

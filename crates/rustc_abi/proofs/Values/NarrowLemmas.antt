@@ -15,7 +15,7 @@ use Rattle.abi_scalar.specs.Layout.{Layout}
 use Rattle.abi_laid.specs.Nodes.{Keeps, placed_at, types_in}
 use Rattle.abi_laid.specs.Well.{IsPut}
 use Rattle.abi_laid.specs.Widths.{is_narrow}
-use Rattle.abi_laid.proofs.Nodes.NodesLemmas.{length-types_in}
+use Rattle.abi_laid.proofs.Meaning.NodesLemmas.{length-types_in}
 use Rattle.rustc_abi.specs.Laying.{one_scalar}
 
 readable_narrow : (dl : TargetDataLayout) (s : Scalar) → IsReadable dl s → is_narrow (scalar_size dl s) s ≡ true

@@ -1,6 +1,6 @@
 use Rattle.std.proofs.Common.{List, sym, ◌∙◌}
 use Rattle.abi_laid.specs.declared.node.Node.{Node}
-use Rattle.abi_laid.proofs.Nodes.TypedLemmas.{lawful_at, layout-placed}
+use Rattle.abi_laid.proofs.Meaning.TypedLemmas.{lawful_at, layout-placed}
 use Rattle.abi_laid.proofs.handle.handle_at.Goals as goal
 
 pub returns-clause-valid : goal.returns-clause-valid

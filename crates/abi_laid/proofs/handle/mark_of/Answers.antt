@@ -1,6 +1,6 @@
 use Rattle.std.proofs.Common.{◌≡◌, get_or, sym, ◌∙◌}
 use Rattle.abi_laid.specs.declared.node.Node.{Node}
-use Rattle.abi_laid.proofs.Nodes.HandleLemmas.{marks_at}
+use Rattle.abi_laid.proofs.Meaning.HandleLemmas.{marks_at}
 use Rattle.abi_laid.proofs.handle.mark_of.Goals as goal
 
 pub returns : goal.returns

@@ -1,6 +1,6 @@
 use Rattle.std.proofs.Common.{◌-◌, arith, length}
 use Rattle.abi_laid.specs.Laid.{placed_of, typed_of}
-use Rattle.abi_laid.proofs.Nodes.SeenLemmas.{seen_at}
+use Rattle.abi_laid.proofs.Meaning.SeenLemmas.{seen_at}
 use Rattle.abi_text.proofs.OneOutput.{one_output}
 use Rattle.abi_text.proofs.SomeOutput.{some_output}
 use Rattle.abi_map.specs.Map.{TellsMap}

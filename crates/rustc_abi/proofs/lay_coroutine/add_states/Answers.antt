@@ -13,7 +13,7 @@ use Rattle.rustc_abi.specs.Laying.{most_fields, one_scalar}
 use Rattle.abi_laid.specs.Well.{IsPut, all_at}
 use Rattle.rustc_abi.specs.Adding.{AreArms, variants_in}
 use Rattle.rustc_abi.specs.Count.{HasMore}
-use Rattle.abi_laid.proofs.Nodes.NodesLemmas.{length-types_in}
+use Rattle.abi_laid.proofs.Meaning.NodesLemmas.{length-types_in}
 use Rattle.rustc_abi.proofs.Enums.ArmNodesLemmas.{variants_in-kept}
 use Rattle.rustc_abi.proofs.Coroutines.StateNodesLemmas.{IsPut-states, as_many_each, each_few, each_means, each_there, states_keep, states_before, states_told}
 use Rattle.rustc_abi.proofs.Values.NarrowLemmas.{scalar_width, tag_width}

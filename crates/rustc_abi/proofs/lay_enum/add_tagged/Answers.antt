@@ -6,7 +6,7 @@ use Rattle.rustc_abi.specs.Enums.{arms_at}
 use Rattle.abi_laid.specs.Well.{IsPut}
 use Rattle.rustc_abi.specs.Adding.{AreArms}
 use Rattle.rustc_abi.specs.Count.{HasMore}
-use Rattle.abi_laid.proofs.Nodes.NodesLemmas.{length-types_in}
+use Rattle.abi_laid.proofs.Meaning.NodesLemmas.{length-types_in}
 use Rattle.rustc_abi.proofs.Enums.ArmNodesLemmas.{IsPut-tagged, tagged_before, tagged_keeps, there_within, variants_in-kept}
 use Rattle.rustc_abi.proofs.Values.NarrowLemmas.{scalar_width, tag_width}
 use Rattle.rustc_abi.proofs.Sizes.CountLemmas.{arms_listed, both_ok, more_arms, own_put}

@@ -9,7 +9,7 @@ use Rattle.abi_scalar.proofs.ReadableLemmas.{lawful_readable}
 use Rattle.abi_laid.specs.declared.node.Shape.TheVariants.{Pair}
 use Rattle.abi_laid.specs.Nodes.{meaning, types_in}
 use Rattle.abi_laid.specs.Well.{IsPut}
-use Rattle.abi_laid.proofs.Nodes.NodesLemmas.{length-types_in}
+use Rattle.abi_laid.proofs.Meaning.NodesLemmas.{length-types_in}
 use Rattle.rustc_abi.proofs.Faults.FaultLemmas.{faultless}
 use Rattle.rustc_abi.proofs.Places.LawsLemmas.{pair_laws}
 use Rattle.rustc_abi.proofs.Trees.LayLemmas.{IsAdded-pair}

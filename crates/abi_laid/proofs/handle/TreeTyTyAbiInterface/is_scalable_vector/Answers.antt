@@ -1,5 +1,5 @@
 use Rattle.std.proofs.Common.{sym}
-use Rattle.abi_laid.proofs.Nodes.HandleLemmas.{tells_no_more}
+use Rattle.abi_laid.proofs.Meaning.HandleLemmas.{tells_no_more}
 use Rattle.abi_laid.proofs.handle.TreeTyTyAbiInterface.is_scalable_vector.Goals as goal
 
 pub returns : goal.returns

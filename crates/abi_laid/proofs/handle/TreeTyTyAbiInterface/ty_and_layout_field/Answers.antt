@@ -1,7 +1,7 @@
 use Rattle.std.proofs.Common.{List, ap, arith, refl, ◌∙◌}
 use Rattle.abi_laid.specs.declared.node.Node.{Node}
 use Rattle.abi_laid.specs.Typed.{typed_at}
-use Rattle.abi_laid.proofs.Nodes.HandleLemmas.{field_here}
+use Rattle.abi_laid.proofs.Meaning.HandleLemmas.{field_here}
 use Rattle.abi_laid.proofs.handle.TreeTyTyAbiInterface.ty_and_layout_field.Goals as goal
 
 pub field_node-requires : goal.field_node-requires

@@ -4,7 +4,7 @@ use Rattle.abi_laid.specs.declared.node.Node.{Node}
 use Rattle.abi_laid.specs.Handles.{tree_depth, variant_place}
 use Rattle.abi_scalar.specs.Layout.{Layout}
 use Rattle.abi_laid.specs.Typed.{typed_at}
-use Rattle.abi_laid.proofs.Nodes.HandleLemmas.{several_at, several_falls, several_named, variant_here}
+use Rattle.abi_laid.proofs.Meaning.HandleLemmas.{several_at, several_falls, several_named, variant_here}
 use Rattle.abi_laid.proofs.handle.TreeTyTyAbiInterface.ty_and_layout_for_variant.Goals as goal
 
 pub variant_node-requires : goal.variant_node-requires

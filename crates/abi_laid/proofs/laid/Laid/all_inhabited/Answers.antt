@@ -2,7 +2,7 @@ use Rattle.std.proofs.Common.{List, arith, sym, ap, ◌∙◌}
 use Rattle.std.proofs.lemmas.List.{drop_all}
 use Rattle.abi_laid.specs.declared.node.Node.{Node}
 use Rattle.abi_laid.specs.Deciding.{are_inhabited}
-use Rattle.abi_laid.proofs.Nodes.InhabitedLemmas.{inhabited_from, flagged_from}
+use Rattle.abi_laid.proofs.Meaning.InhabitedLemmas.{inhabited_from, flagged_from}
 use Rattle.abi_laid.proofs.laid.Laid.all_inhabited.Goals as goal
 
 pub loop-i-preserved : goal.loop-i-preserved

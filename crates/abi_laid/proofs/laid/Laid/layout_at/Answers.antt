@@ -1,5 +1,5 @@
 use Rattle.std.proofs.Common.{ap, sym, ◌∙◌}
-use Rattle.abi_laid.proofs.Nodes.NodesLemmas.{layout_of-placed_at}
+use Rattle.abi_laid.proofs.Meaning.NodesLemmas.{layout_of-placed_at}
 use Rattle.abi_laid.proofs.laid.Laid.layout_at.Goals as goal
 
 pub returns : goal.returns

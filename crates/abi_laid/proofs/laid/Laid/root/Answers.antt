@@ -6,8 +6,8 @@ use Rattle.abi_laid.specs.Laid.{placed_of, typed_of}
 use Rattle.abi_laid.specs.Seen.{Sees}
 use Rattle.abi_laid.specs.Typed.{typed_at}
 use Rattle.abi_laid.proofs.Places.RoomLemmas.{within_room}
-use Rattle.abi_laid.proofs.Nodes.SeenLemmas.{seen_at}
-use Rattle.abi_laid.proofs.Nodes.TypedLemmas.{layout-placed}
+use Rattle.abi_laid.proofs.Meaning.SeenLemmas.{seen_at}
+use Rattle.abi_laid.proofs.Meaning.TypedLemmas.{layout-placed}
 use Rattle.abi_laid.proofs.laid.Laid.root.Goals as goal
 
 pub returns-clause-seen : goal.returns-clause-seen

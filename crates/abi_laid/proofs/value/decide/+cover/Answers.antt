@@ -26,7 +26,7 @@ use Rattle.abi_laid.proofs.Bytes.HoldLemmas.{length-Holds}
 use Rattle.abi_laid.proofs.Found.NamedLemmas.{child_is, count_children}
 use Rattle.abi_laid.proofs.Bytes.PutOverLemmas.{put_like}
 use Rattle.abi_laid.proofs.Found.ReadLemmas.{from_arm}
-use Rattle.abi_laid.proofs.Nodes.WidthLemmas.{scalar_width_at, state_tag_width_at, tag_width_at}
+use Rattle.abi_laid.proofs.Meaning.WidthLemmas.{scalar_width_at, state_tag_width_at, tag_width_at}
 use Rattle.abi_laid.proofs.Written.WriteLemmas.{put_slice, put_vector, vector_room}
 use Rattle.abi_laid.proofs.value.decide.+cover.Goals.{put_elements-then-may_copy, put_elements-else-may_copy}
 use Rattle.abi_laid.proofs.value.decide.+cover.Goals as goal

@@ -17,7 +17,7 @@ use Rattle.abi_laid.specs.Room.{arms_have_room, has_room, have_room}
 use Rattle.abi_laid.specs.Holding.{HoldArm, HoldEach, HoldParts, Holds, IsAt}
 use Rattle.abi_laid.specs.Reading.{Finds, FindsEach, FindsNamed, HoldsTwo, IsNamedIn}
 use Rattle.abi_laid.proofs.Places.DataPlacesLemmas.{arm_room, elements_node, field_at, fields_node, never_node, pair_node, scalar_node, single_node, states_node, tagged_node, union_node, vector_node}
-use Rattle.abi_laid.proofs.Nodes.WidthLemmas.{state_tag_width_at, tag_width_at}
+use Rattle.abi_laid.proofs.Meaning.WidthLemmas.{state_tag_width_at, tag_width_at}
 use Rattle.abi_laid.proofs.Found.NamedLemmas.{count_children}
 use Rattle.abi_laid.proofs.Found.ReadLemmas.{AreRead, HoldAll, HoldFrom, IsRead, elements_all, elements_more, elements_none, elements_stop, fields_all, fields_more, fields_stop, finds_list, finds_named, finds_number, finds_variant, from_arm, read_none, to_arm}
 use Rattle.abi_laid.proofs.Found.FoundLemmas.{finds_none, states_rooms, named_found, finds_like, found_at, found_vector, from_elements, from_fields, from_never, from_pair, from_scalar, from_single, from_states, from_tagged, node_size, none_of_length, part_found, to_pair, to_union}

@@ -5,8 +5,8 @@ use Rattle.abi_laid.specs.Holding.{Holds}
 use Rattle.abi_laid.specs.Reading.{FindsNumber}
 use Rattle.abi_laid.specs.Widths.{is_narrow}
 use Rattle.abi_laid.proofs.Found.FoundLemmas.{found_scalar, no_number, node_size, none_of_length}
-use Rattle.abi_laid.proofs.Nodes.NodesLemmas.{placed_at-node}
-use Rattle.abi_laid.proofs.Nodes.WidthLemmas.{narrow_at}
+use Rattle.abi_laid.proofs.Meaning.NodesLemmas.{placed_at-node}
+use Rattle.abi_laid.proofs.Meaning.WidthLemmas.{narrow_at}
 use Rattle.abi_laid.specs.declared.node.Shape.TheVariants.{Scalar as OneScalar}
 use Rattle.abi_laid.proofs.value.read.read_number.Goals as goal
 

@@ -18,7 +18,7 @@ use Rattle.abi_laid.specs.Covering.{are_covered, is_arm_covered, is_byte_at, is_
 use Rattle.abi_laid.specs.Writing.{IsPutOver}
 use Rattle.abi_laid.specs.Putting.{PutsTag, PutsValue}
 use Rattle.abi_laid.proofs.Places.DataPlacesLemmas.{arm_room, elements_node, field_at, fields_node, never_node, pair_node, scalar_node, single_node, states_node, tagged_node, union_node, vector_node}
-use Rattle.abi_laid.proofs.Nodes.WidthLemmas.{scalar_width_at, state_tag_width_at, tag_width_at}
+use Rattle.abi_laid.proofs.Meaning.WidthLemmas.{scalar_width_at, state_tag_width_at, tag_width_at}
 use Rattle.abi_laid.proofs.Found.NamedLemmas.{child_is, count_children}
 use Rattle.abi_laid.proofs.Found.ReadLemmas.{from_arm}
 use Rattle.abi_laid.proofs.Found.FoundLemmas.{node_size, states_rooms}

@@ -1,7 +1,7 @@
 use Rattle.std.proofs.Common.{◌-◌, arith, length}
 use Rattle.std.proofs.lemmas.Result.{IfOk-weaker}
 use Rattle.abi_laid.specs.Laid.{typed_of}
-use Rattle.abi_laid.proofs.Nodes.SeenLemmas.{seen_at}
+use Rattle.abi_laid.proofs.Meaning.SeenLemmas.{seen_at}
 use Rattle.abi_map.proofs.map_text.MapTextTelling.told.Goals as goal
 
 pub returns : goal.returns

@@ -23,8 +23,8 @@ use Rattle.abi_laid.specs.Well.{are_nodes, is_node}
 use Rattle.abi_laid.specs.Typed.{all_told, field_by, marks_in, typed_node, type_in, typed_at, variant_nodes}
 use Rattle.abi_laid.specs.Laws.{has_fields, has_variants, keep_laws, keeps_laws}
 use Rattle.abi_laid.specs.Handles.{HasField, field_place, variant_place}
-use Rattle.abi_laid.proofs.Nodes.NodesLemmas.{children_before, pair_before}
-use Rattle.abi_laid.proofs.Nodes.TypedLemmas.{TellsNoMore, field_count-nodes, fields_below, laws_at, layout-typed_at, place_below, shape_tells, type_by-place, typed_at-node, variant_count-nodes, variants_below}
+use Rattle.abi_laid.proofs.Meaning.NodesLemmas.{children_before, pair_before}
+use Rattle.abi_laid.proofs.Meaning.TypedLemmas.{TellsNoMore, field_count-nodes, fields_below, laws_at, layout-typed_at, place_below, shape_tells, type_by-place, typed_at-node, variant_count-nodes, variants_below}
 
 -- a field of the layout has a node
 has_field : (ps : List Placed) (layout : Layout) (shape : Shape) → has_fields ps layout shape ≡ true → (k : ℕ) → k < field_count layout.fields → HasField shape k

@@ -17,7 +17,7 @@ use Rattle.abi_scalar.specs.Layout.{Layout}
 use Rattle.abi_laid.specs.Nodes.{meaning, meanings, placed_at, placed_in, types_in}
 use Rattle.abi_laid.specs.Well.{are_nodes, is_node}
 use Rattle.abi_laid.specs.Widths.{has_width, have_widths, is_narrow}
-use Rattle.abi_laid.proofs.Nodes.NodesLemmas.{children_before, meanings-first}
+use Rattle.abi_laid.proofs.Meaning.NodesLemmas.{children_before, meanings-first}
 
 width-same : (xs ys : List Placed) (n : ℕ) → ((i : ℕ) → i < n → placed_in xs i ≡ placed_in ys i) → (layout : Layout) (shape : Shape) → is_node n shape ≡ true →
     has_width xs layout shape ≡ has_width ys layout shape

@@ -26,7 +26,7 @@ use Rattle.abi_laid.specs.Nodes.{meaning, meanings, placed_at, placed_in, types_
 use Rattle.abi_laid.specs.Well.{are_nodes, is_node}
 use Rattle.abi_laid.specs.Typed.{all_told, field_by, field_nodes, marks_in, typed_node, type_by, type_in, typed_at, variant_nodes}
 use Rattle.abi_laid.specs.Laws.{end_inside, has_elements, has_fields, has_list, has_variants, have_lists, have_places, keep_laws, keeps_laws, sizes_at}
-use Rattle.abi_laid.proofs.Nodes.NodesLemmas.{children_before, layout_of-placed_at, pair_before}
+use Rattle.abi_laid.proofs.Meaning.NodesLemmas.{children_before, layout_of-placed_at, pair_before}
 
 all_told-first : (done : List Typed) (ns : List Node) (i : ℕ) → i < length done → type_in (all_told done ns) i ≡ type_in done i
 all_told-first done [] i lt = refl

@@ -22,8 +22,8 @@ use Rattle.abi_laid.specs.Well.{are_nodes, is_node}
 use Rattle.abi_laid.specs.Typed.{all_told, typed_node, type_by, type_in, typed_at}
 use Rattle.abi_laid.specs.Laws.{has_fields, has_list, has_variants, have_lists, have_places, is_listed, keep_laws, sizes_at}
 use Rattle.abi_laid.specs.Seen.{HasOffset, IsListOf, Sees, SeesArms, SeesParts, SeesTypes, SeesWhole, last_field, part_count}
-use Rattle.abi_laid.proofs.Nodes.NodesLemmas.{children_before, pair_before, placed_at-node}
-use Rattle.abi_laid.proofs.Nodes.TypedLemmas.{field_count-nodes, fields_below, laws_at, place_below, type_by-place, typed_at-node, variant_count-nodes, variants_below, variants_listed}
+use Rattle.abi_laid.proofs.Meaning.NodesLemmas.{children_before, pair_before, placed_at-node}
+use Rattle.abi_laid.proofs.Meaning.TypedLemmas.{field_count-nodes, fields_below, laws_at, place_below, type_by-place, typed_at-node, variant_count-nodes, variants_below, variants_listed}
 
 -- what a variant has of its own is seen where the variant is
 own_seen : (t : Typed) (p : Placed) → Sees t p → SeesParts t 0 (own_fields p)

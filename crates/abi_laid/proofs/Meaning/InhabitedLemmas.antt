@@ -7,7 +7,7 @@ use Rattle.abi_laid.specs.Placed.{layout_of}
 use Rattle.abi_scalar.specs.Layout.{Layout}
 use Rattle.abi_laid.specs.Nodes.{placed_at}
 use Rattle.abi_laid.specs.Deciding.{are_inhabited}
-use Rattle.abi_laid.proofs.Nodes.NodesLemmas.{layout_of-placed_at}
+use Rattle.abi_laid.proofs.Meaning.NodesLemmas.{layout_of-placed_at}
 
 from_here : (ns : List Node) (i : ℕ) (d : Node) → i < length ns → are_inhabited (drop i ns) ≡ (not (layout_of (placed_at ns i)).uninhabited && are_inhabited (drop (i + 1) ns))
 from_here ns i d lt =
