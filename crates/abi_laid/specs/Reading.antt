@@ -42,7 +42,7 @@ HoldOne order p b = (u w : Value) → Holds order p b u → Holds order p b w �
 
 -- whether the bytes hold the value, where they hold at most one
 abbrev pub TellsHeld : Endian → Placed → List ℕ → Value → Bool → Type 0
-TellsHeld order p b v yes = MatchBool yes (Holds order p b v) (HoldOne order p b → Holds order p b v → ⊥)
+TellsHeld order p b v told = MatchBool told (Holds order p b v) (HoldOne order p b → Holds order p b v → ⊥)
 
 -- it is a list
 abbrev pub IsList : Value → Type 0
