@@ -2,8 +2,8 @@
 
 pub mod BytesLemmas
 pub mod HoldLemmas
-mod NumberLemmas
+pub mod NumberLemmas
 pub mod PickedLemmas
-mod TakenLemmas
-mod PutOverLemmas
-mod PutPlacesLemmas
+pub mod TakenLemmas
+pub mod PutOverLemmas
+pub mod PutPlacesLemmas

@@ -1,9 +1,9 @@
 -- Bytes that decide.
 
-mod DecidedLemmas
-mod CoverLemmas
-mod CopyLemmas
-mod ChosenLemmas
+pub mod DecidedLemmas
+pub mod CoverLemmas
+pub mod CopyLemmas
+pub mod ChosenLemmas
 pub mod CoverableLemmas
 pub mod AgreeLemmas
 pub mod DecideLemmas

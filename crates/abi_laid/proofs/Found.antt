@@ -1,8 +1,8 @@
 -- Values read.
 
-mod ValueLemmas
-mod ReadLemmas
-mod FoundLemmas
-mod NamedLemmas
-mod SameLemmas
-mod KeptLemmas
+pub mod ValueLemmas
+pub mod ReadLemmas
+pub mod FoundLemmas
+pub mod NamedLemmas
+pub mod SameLemmas
+pub mod KeptLemmas

@@ -1,8 +1,8 @@
 -- Nodes, what they mean, and handles of them.
 
 pub mod NodesLemmas
-mod WidthLemmas
-mod TypedLemmas
-mod HandleLemmas
+pub mod WidthLemmas
+pub mod TypedLemmas
+pub mod HandleLemmas
 pub mod SeenLemmas
-mod InhabitedLemmas
+pub mod InhabitedLemmas

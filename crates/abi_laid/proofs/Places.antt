@@ -2,6 +2,6 @@
 
 pub mod MaximalLemmas
 pub mod RoomLemmas
-mod DataPlacesLemmas
-mod NeededLemmas
-mod MadeLemmas
+pub mod DataPlacesLemmas
+pub mod NeededLemmas
+pub mod MadeLemmas

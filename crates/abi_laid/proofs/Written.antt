@@ -1,5 +1,5 @@
 -- Values written.
 
-mod WriteLemmas
-mod TagNumberLemmas
-mod WrittenLemmas
+pub mod WriteLemmas
+pub mod TagNumberLemmas
+pub mod WrittenLemmas
