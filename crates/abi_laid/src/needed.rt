@@ -93,7 +93,7 @@ fn unread<'a>(alloc: Global, count: usize) -> Result<Vec<Option<&'a Node>>, Allo
 /// The nodes that the data places of the node at `root` rest on, each at its place, and how many were read: each of
 /// those once, from the last to the first. Nothing below a node without bytes is needed, and an array of no elements
 /// has none.
-#[tactic(auto, using(crate::proofs::NeededLemmas::counted_all))]
+#[tactic(auto, using(crate::proofs::Places::NeededLemmas::counted_all))]
 pub(crate) fn needed_nodes<'a>(
     alloc: Global,
     mut nodes: Counted<'a>,

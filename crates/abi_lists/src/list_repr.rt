@@ -68,7 +68,7 @@ pub(crate) fn cut_to(align: Align, pack: Option<Align>) -> Align
 }
 
 /// The least multiple of the alignment that is no less.
-#[tactic(auto, using(crate::proofs::Rounding::round_below))]
+#[tactic(auto, using(crate::proofs::Offsets::Rounding::round_below))]
 pub fn rounded(offset: Size, align: Align) -> Size
     requires offset { offset < 2 ^ 63 }
     requires align { align ≤ max_align }

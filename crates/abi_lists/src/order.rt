@@ -44,7 +44,7 @@ pub struct SortKey {
 }
 
 /// The alignment's exponent.
-#[tactic(auto, using(crate::proofs::Groups::trailing_power))]
+#[tactic(auto, using(crate::proofs::Offsets::Groups::trailing_power))]
 fn exponent_of(align: Align) -> u32
     requires { align ≤ max_align }
     ensures { result ≡ align }

@@ -42,7 +42,7 @@ pub(crate) fn is_unsized(view: BackendRepr) -> bool
 }
 
 /// How many numbers the niche has free, 0 where there is none.
-#[tactic(auto, using(crate::proofs::NicheLemmas::lawful_readable))]
+#[tactic(auto, using(crate::proofs::Views::NicheLemmas::lawful_readable))]
 #[inline]
 pub fn free_numbers<C: HasDataLayout>(cx: &C, size: Size, niche: Option<Niche>) -> u128
     requires { IfSome niche (IsLawfulNiche (C.target cx.now) size) }

@@ -32,7 +32,7 @@ fn first_unsized<FieldIdx: Idx, VariantIdx: Idx, F: LayoutHandle<FieldIdx, Varia
 }
 
 /// Whether both views are the same, holding any numbers.
-#[tactic(auto, using(crate::proofs::UnionLemmas::same_union))]
+#[tactic(auto, using(crate::proofs::UnionsVectors::UnionLemmas::same_union))]
 fn is_same_view(view: &BackendRepr, other: &BackendRepr) -> bool
     ensures { IsTrue result ↔ (union_view view.now ≡ union_view other.now) }
 {
