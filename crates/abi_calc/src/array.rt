@@ -28,8 +28,10 @@ impl<Cx: HasDataLayout> LayoutCalculator<Cx> {
     ) -> Result<LayoutData<FieldIdx, VariantIdx>, LayoutCalculatorError<F>>
         requires data_layout { IsLawfulDataLayout (Cx.target self.now.cx) }
         requires element { IsLawfulLayout (Cx.target self.now.cx) element.now }
-        ensures exact { result ≡ array_answer (VariantIdx.at 0) (Cx.target self.now.cx) element.now count_if_sized }
-        ensures size { IfOk result (λ array. array.size ≡ element.now.size * unwrap_or count_if_sized 0) }
+        ensures exact { result ≡ array_answer (VariantIdx.at 0)
+            (Cx.target self.now.cx) element.now count_if_sized }
+        ensures size { IfOk result
+            (λ array. array.size ≡ element.now.size * unwrap_or count_if_sized 0) }
         ensures lawful { IfOk result (IsLawfulLayout (Cx.target self.now.cx)) }
 
         // It is aligned as the element is, is bytes in memory, and has the element's niche where there is an element.
@@ -37,13 +39,14 @@ impl<Cx: HasDataLayout> LayoutCalculator<Cx> {
         ensures view { IfOk result (λ array. array.backend_repr ≡ Memory (is_some count_if_sized)) }
         ensures niche { unwrap_or count_if_sized 0 ≢ 0 →
             IfOk result (λ array. array.largest_niche ≡ element.now.largest_niche) }
-        ensures no_niche { unwrap_or count_if_sized 0 ≡ 0 → IfOk result (λ array. array.largest_niche ≡ None) }
+        ensures no_niche { unwrap_or count_if_sized 0 ≡ 0 →
+            IfOk result (λ array. array.largest_niche ≡ None) }
 
         // It is refused for its size alone, and exactly where that isn't below the bound.
         ensures too_large { result ≡ Err LayoutCalculatorError.SizeOverflow →
             size_bound (Cx.target self.now.cx) ≤ element.now.size * unwrap_or count_if_sized 0 }
-        ensures refused { size_bound (Cx.target self.now.cx) ≤ element.now.size * unwrap_or count_if_sized 0 →
-            result ≡ Err LayoutCalculatorError.SizeOverflow }
+        ensures refused { size_bound (Cx.target self.now.cx) ≤ element.now.size * unwrap_or
+            count_if_sized 0 → result ≡ Err LayoutCalculatorError.SizeOverflow }
         ensures no_other { IfErr result (λ e. e ≡ LayoutCalculatorError.SizeOverflow) }
         ensures places { IfOk result (λ array. HasPlaceForEach array.fields) }
         ensures ascending { IfOk result (λ array. IsAscending FieldIdx.number array.fields) }

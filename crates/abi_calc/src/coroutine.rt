@@ -5,24 +5,20 @@ mod lists;
 mod promotion;
 mod states;
 
-ghost use Rattle.std.specs.Prelude.{◌≡◌, ◌≢◌, ◌+◌, ◌<◌, ◌≤◌, ◌⊎◌, All, Err, IfErr, IfOk, length, map};
+ghost use Rattle.std.specs.Prelude.{◌≡◌, ◌≢◌, ◌+◌, ◌<◌, ◌≤◌, All, IfOk, length, map};
 ghost use Rattle.std.specs.List.{AllPairs};
 ghost use Rattle.abi_base.specs.DataLayout.{IsLawfulDataLayout};
 ghost use Rattle.abi_index.specs.BitSet.{domain_size};
-ghost use Rattle.abi_index.specs.Relation.{Relation, column_count, row_count};
+ghost use Rattle.abi_index.specs.Relation.{Relation};
 ghost use Rattle.abi_index.specs.Slice.{items_of};
 ghost use Rattle.abi_scalar.specs.declared.scalar.Scalar.{Scalar};
 ghost use Rattle.abi_scalar.specs.Lawful.{IsLawfulLayout};
 ghost use Rattle.abi_scalar.specs.Simple.{scalar_layout};
-ghost use Rattle.abi_scalar.specs.Variant.{variants_of};
-ghost use Rattle.abi_lists.specs.Answer.{IsAnswer};
-ghost use Rattle.abi_lists.specs.List.{AreSized};
-ghost use Rattle.abi_calc.specs.Coroutine.Answer.{IsCoroutineAnswer, IsPromotedAnswer};
-ghost use Rattle.abi_calc.specs.Coroutine.Clash.{AreClashingApart, HaveOneOffset, IsToldByState};
+ghost use Rattle.abi_calc.specs.Coroutine.Answer.{IsPromotedAnswer, IsStatesAnswer};
+ghost use Rattle.abi_calc.specs.Coroutine.Asked.{AreStates, GivesTagLayout};
+ghost use Rattle.abi_calc.specs.Coroutine.Clash.{IsToldByState};
 ghost use Rattle.abi_calc.specs.Coroutine.Layout.{IsStateTag};
-ghost use Rattle.abi_calc.specs.Coroutine.Promised.{IsGoodCoroutine, IsSizedCoroutine};
-ghost use Rattle.abi_calc.specs.Coroutine.Promotion.{promoted_of};
-ghost use Rattle.abi_calc.specs.Coroutine.Sizes.{IsSizeWith, IsTooLargeWith};
+ghost use Rattle.abi_calc.specs.Coroutine.Promised.{ArePromotedBy, HasLocalsApart, IsGoodCoroutine, IsSizedCoroutine, IsSizedPromoted};
 
 use crate::calculator::LayoutCalculator;
 pub use crate::coroutine::layout::state_tag;
@@ -60,7 +56,8 @@ impl<Cx: HasDataLayout> LayoutCalculator<Cx> {
         requires locals { All (λ f. IsLawfulLayout (Cx.target self.now.cx) (F.layout_of f)) locals.now }
         requires prefix { All (λ f. IsLawfulLayout (Cx.target self.now.cx) (F.layout_of f)) prefix }
         requires tag { IsStateTag (length states.now) tag }
-        requires field { F.layout_of field ≡ scalar_layout (VariantIdx.at 0) (Cx.target self.now.cx) tag }
+        requires field { F.layout_of field ≡ scalar_layout (VariantIdx.at 0)
+            (Cx.target self.now.cx) tag }
         requires few { length states.now ≤ VariantIdx.MAX_INDEX + 1 }
         requires named { length locals.now ≤ LocalIdx.MAX_INDEX + 1 }
         requires within { All (All (λ l. LocalIdx.number l < length locals.now)) states.now }
@@ -71,42 +68,15 @@ impl<Cx: HasDataLayout> LayoutCalculator<Cx> {
             (Cx.target self.now.cx) prefix tag field locals.now
             (map (map LocalIdx.number) states.now) promoted.now result }
         ensures lawful { IfOk result (IsLawfulLayout (Cx.target self.now.cx)) }
-
-        // The tag and the prefix fields, and the locals of each state, share no byte; the states' numbers are the
-        // tag's.
-        ensures told { IfOk result (IsToldByState (Cx.target self.now.cx) FieldIdx.at (map F.layout_of prefix)
+        ensures told { IfOk result
+            (IsToldByState (Cx.target self.now.cx) FieldIdx.at (map F.layout_of prefix)
             (map F.layout_of locals.now) (map (map LocalIdx.number) states.now)) }
-
-        // Where the states and some conflicts tell which locals are promoted, those that clash share no byte, and each
-        // has one offset.
-        ensures clash { (conflicts : Relation) →
-            promoted.now ≡ promoted_of (map (map LocalIdx.number) states.now) conflicts →
-            column_count conflicts ≡ row_count conflicts → row_count conflicts ≡ length locals.now
-            → IfOk result (λ l. AreClashingApart (map (map LocalIdx.number) states.now) conflicts
-            (map F.layout_of locals.now) (variants_of l.variants)) }
-        ensures one_offset { (conflicts : Relation) →
-            promoted.now ≡ promoted_of (map (map LocalIdx.number) states.now) conflicts →
-            row_count conflicts ≡ length locals.now
-            → IfOk result (λ l. HaveOneOffset (map (map LocalIdx.number) states.now) (variants_of l.variants)) }
-
-        // The size is that of the first list and those behind it, each of its least size.
-        ensures size { IfOk result (λ l. IsSizeWith (Cx.target self.now.cx) (map F.layout_of prefix)
+        ensures apart { (conflicts : Relation) →
+            ArePromotedBy (length locals.now) (map (map LocalIdx.number) states.now) promoted.now conflicts →
+            IfOk result (HasLocalsApart (map (map LocalIdx.number) states.now) conflicts (map F.layout_of locals.now)) }
+        ensures sized { IsSizedPromoted (Cx.target self.now.cx) (map F.layout_of prefix)
             (scalar_layout (VariantIdx.at 0) (Cx.target self.now.cx) tag) (map F.layout_of locals.now)
-            (map (map LocalIdx.number) states.now) promoted.now l.size) }
-
-        // It is refused for its size only where a list is too large in each allowed order, or that size is, and sized
-        // fields always then; sized fields are refused by no other name.
-        ensures too_large { result ≡ Err LayoutCalculatorError.SizeOverflow →
-            IsTooLargeWith (Cx.target self.now.cx) (map F.layout_of prefix)
-            (scalar_layout (VariantIdx.at 0) (Cx.target self.now.cx) tag) (map F.layout_of locals.now)
-            (map (map LocalIdx.number) states.now) promoted.now }
-        ensures refused { AreSized (map F.layout_of prefix) → AreSized (map F.layout_of locals.now)
-            → IsTooLargeWith (Cx.target self.now.cx) (map F.layout_of prefix)
-            (scalar_layout (VariantIdx.at 0) (Cx.target self.now.cx) tag) (map F.layout_of locals.now)
-            (map (map LocalIdx.number) states.now) promoted.now
-            → IsAnswer (Err LayoutCalculatorError.SizeOverflow) result }
-        ensures no_other { AreSized (map F.layout_of prefix) → AreSized (map F.layout_of locals.now) →
-            IfErr result (λ e. (e ≡ LayoutCalculatorError.SizeOverflow) ⊎ (e ≡ LayoutCalculatorError.OutOfMemory)) }
+            (map (map LocalIdx.number) states.now) promoted.now result }
     {
         let count = prefix.len();
         let fields = first_fields(prefix, field, locals, promoted)?;
@@ -154,46 +124,26 @@ impl<Cx: HasDataLayout> LayoutCalculator<Cx> {
         requires data_layout { IsLawfulDataLayout (Cx.target self.now.cx) }
         requires locals { All (λ f. IsLawfulLayout (Cx.target self.now.cx) (F.layout_of f)) locals.now }
         requires prefix { All (λ f. IsLawfulLayout (Cx.target self.now.cx) (F.layout_of f)) prefix }
-        requires some { 0 < length states.now }
-        requires within { All (All (λ l. LocalIdx.number l < length locals.now)) states.now }
-        requires once { All (λ state. AllPairs (λ a b. a ≢ b) (map LocalIdx.number state)) states.now }
-        requires rows { row_count conflicts.now ≡ length locals.now }
-        requires columns { column_count conflicts.now ≡ length locals.now }
+        requires states { AreStates LocalIdx.number (length locals.now) states.now conflicts.now }
         requires count { length prefix + length locals.now ≤ FieldIdx.MAX_INDEX }
         requires callable { T.IsAlwaysCallable tag_to_layout }
-        requires tag { (tag : Scalar) (field : _) → IsStateTag (length states.now) tag →
-            T.post tag_to_layout tag field →
-            F.layout_of field ≡ scalar_layout (VariantIdx.at 0) (Cx.target self.now.cx) tag }
+        requires tag { GivesTagLayout F.layout_of (VariantIdx.at 0) (Cx.target self.now.cx)
+            (T.post tag_to_layout) (length states.now) }
         requires few { length states.now ≤ VariantIdx.MAX_INDEX + 1 }
         requires named { length locals.now ≤ LocalIdx.MAX_INDEX + 1 }
-        ensures exact { (tag : Scalar) × IsStateTag (length states.now) tag × (field : _) ×
-            T.post tag_to_layout tag field
-            × IsCoroutineAnswer F.layout_of FieldIdx.at FieldIdx.number (VariantIdx.at 0)
-            (Cx.target self.now.cx) prefix tag field locals.now
-            (map (map LocalIdx.number) states.now) conflicts.now result }
+        ensures exact { IsStatesAnswer F.layout_of FieldIdx.at FieldIdx.number
+            (VariantIdx.at 0) LocalIdx.number (Cx.target self.now.cx)
+            (T.post tag_to_layout) prefix locals.now states.now conflicts.now result }
         ensures lawful { IfOk result (IsLawfulLayout (Cx.target self.now.cx)) }
-
-        // The prefix fields, the tag and the locals of each state share no byte, and the tag may hold each state's
-        // index.
-        ensures told { IfOk result (IsToldByState (Cx.target self.now.cx) FieldIdx.at (map F.layout_of prefix)
+        ensures told { IfOk result
+            (IsToldByState (Cx.target self.now.cx) FieldIdx.at (map F.layout_of prefix)
             (map F.layout_of locals.now) (map (map LocalIdx.number) states.now)) }
-
-        // Different locals that one state holds, or that conflict in either direction, share no byte, and a local has
-        // one offset.
-        ensures clash { IfOk result (λ l.
-            AreClashingApart (map (map LocalIdx.number) states.now) conflicts.now (map F.layout_of locals.now)
-            (variants_of l.variants)) }
-        ensures one_offset { IfOk result (λ l.
-            HaveOneOffset (map (map LocalIdx.number) states.now) (variants_of l.variants)) }
-
+        ensures apart { IfOk result (HasLocalsApart
+            (map (map LocalIdx.number) states.now) conflicts.now (map F.layout_of locals.now)) }
         ensures sized { (tag : Scalar) → IsStateTag (length states.now) tag →
             IsSizedCoroutine (Cx.target self.now.cx) (map F.layout_of prefix)
             (scalar_layout (VariantIdx.at 0) (Cx.target self.now.cx) tag) (map F.layout_of locals.now)
             (map (map LocalIdx.number) states.now) conflicts.now result }
-
-        // Sized fields are refused by no other name.
-        ensures no_other { AreSized (map F.layout_of prefix) → AreSized (map F.layout_of locals.now) →
-            IfErr result (λ e. (e ≡ LayoutCalculatorError.SizeOverflow) ⊎ (e ≡ LayoutCalculatorError.OutOfMemory)) }
     {
         let tag = state_tag(states.len());
         let field = tag_to_layout(tag);
@@ -240,38 +190,27 @@ impl<Cx: HasDataLayout> LayoutCalculator<Cx> {
     where
         T: Drop,
         requires data_layout { IsLawfulDataLayout (Cx.target self.now.cx) }
-        requires locals { All (λ f. IsLawfulLayout (Cx.target self.now.cx) (F.layout_of f)) (items_of local_layouts) }
+        requires locals { All (λ f. IsLawfulLayout (Cx.target self.now.cx) (F.layout_of f))
+            (items_of local_layouts) }
         requires prefix { All (λ f. IsLawfulLayout (Cx.target self.now.cx) (F.layout_of f)) prefix_layouts }
-        requires some { 0 < length (items_of variant_fields) }
-        requires within { All (All (λ l. LocalIdx.number l < length (items_of local_layouts)))
-            (items_of variant_fields) }
-        requires once { All (λ state. AllPairs (λ a b. a ≢ b) (map LocalIdx.number state)) (items_of variant_fields) }
-        requires rows { row_count storage_conflicts.now ≡ length (items_of local_layouts) }
-        requires columns { column_count storage_conflicts.now ≡ length (items_of local_layouts) }
+        requires states { AreStates LocalIdx.number (length (items_of local_layouts))
+            (items_of variant_fields) storage_conflicts.now }
         requires count { length prefix_layouts + length (items_of local_layouts) ≤ FieldIdx.MAX_INDEX }
         requires callable { T.IsAlwaysCallable tag_to_layout }
-        requires tag { (tag : Scalar) (field : _) → IsStateTag (length (items_of variant_fields)) tag →
-            T.post tag_to_layout tag field →
-            F.layout_of field ≡ scalar_layout (VariantIdx.at 0) (Cx.target self.now.cx) tag }
-        ensures exact { (tag : Scalar) × IsStateTag (length (items_of variant_fields.entry)) tag × (field : _) ×
-            T.post tag_to_layout tag field
-            × IsCoroutineAnswer F.layout_of FieldIdx.at FieldIdx.number (VariantIdx.at 0)
-            (Cx.target self.now.cx) prefix_layouts tag field (items_of local_layouts.entry)
-            (map (map LocalIdx.number) (items_of variant_fields.entry)) storage_conflicts.now result }
+        requires tag { GivesTagLayout F.layout_of (VariantIdx.at 0) (Cx.target self.now.cx)
+            (T.post tag_to_layout) (length (items_of variant_fields)) }
+        ensures exact { IsStatesAnswer F.layout_of FieldIdx.at FieldIdx.number (VariantIdx.at 0)
+            LocalIdx.number (Cx.target self.now.cx) (T.post tag_to_layout) prefix_layouts
+            (items_of local_layouts.entry) (items_of variant_fields.entry) storage_conflicts.now result }
         ensures lawful { IfOk result (IsLawfulLayout (Cx.target self.now.cx)) }
-        ensures good { IfOk result (IsGoodCoroutine FieldIdx.at FieldIdx.number (VariantIdx.at 0)
-            (Cx.target self.now.cx) (map F.layout_of prefix_layouts) (map F.layout_of (items_of local_layouts.entry))
+        ensures good { IfOk result
+            (IsGoodCoroutine FieldIdx.at FieldIdx.number (VariantIdx.at 0) (Cx.target self.now.cx)
+            (map F.layout_of prefix_layouts) (map F.layout_of (items_of local_layouts.entry))
             (map (map LocalIdx.number) (items_of variant_fields.entry)) storage_conflicts.now) }
-        ensures sized { (tag : Scalar) → IsStateTag (length (items_of variant_fields.entry)) tag →
-            IsSizedCoroutine (Cx.target self.now.cx) (map F.layout_of prefix_layouts)
-            (scalar_layout (VariantIdx.at 0) (Cx.target self.now.cx) tag)
+        ensures sized { (tag : Scalar) → IsStateTag (length (items_of variant_fields.entry)) tag → IsSizedCoroutine
+            (Cx.target self.now.cx) (map F.layout_of prefix_layouts) (scalar_layout (VariantIdx.at 0) (Cx.target self.now.cx) tag)
             (map F.layout_of (items_of local_layouts.entry))
             (map (map LocalIdx.number) (items_of variant_fields.entry)) storage_conflicts.now result }
-
-        // Sized fields are refused by no other name.
-        ensures no_other { AreSized (map F.layout_of prefix_layouts) →
-            AreSized (map F.layout_of (items_of local_layouts.entry)) →
-            IfErr result (λ e. (e ≡ LayoutCalculatorError.SizeOverflow) ⊎ (e ≡ LayoutCalculatorError.OutOfMemory)) }
     {
         let locals = local_layouts.as_raw();
         let states = variant_fields.as_raw();

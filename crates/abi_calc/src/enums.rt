@@ -12,19 +12,17 @@ mod several;
 mod single;
 pub(crate) mod tagged;
 
-ghost use Rattle.std.specs.Prelude.{◌≡◌, All, IfOk, IsTrue, Ok, false, length, map};
+ghost use Rattle.std.specs.Prelude.{◌≡◌, All, IfOk, IsTrue, false, length, map};
 ghost use Rattle.std.specs.Iterator.{IsFinite};
 ghost use Rattle.std.specs.Iterator.Runs.{EachRunFrom, WholeRun};
 ghost use Rattle.abi_index.specs.Slice.{items_of};
 ghost use Rattle.abi_base.specs.DataLayout.{IsLawfulDataLayout};
 ghost use Rattle.abi_scalar.specs.Lawful.{IsLawfulLayout};
-ghost use Rattle.abi_scalar.specs.Simple.{never_layout};
 ghost use Rattle.abi_lists.specs.List.{HasLawfulAligns};
-ghost use Rattle.abi_calc.specs.Enums.Answer.{HasOneEach, IsTypeAnswer, kind_at};
-ghost use Rattle.abi_calc.specs.Enums.Path.{path_of, variant_at};
-ghost use Rattle.abi_calc.specs.Enums.Promised.{AreSeveralVariants, IsListedType};
+ghost use Rattle.abi_calc.specs.Enums.Answer.{HasOneEach, IsTypeAnswer};
+ghost use Rattle.abi_calc.specs.Enums.Path.{path_of};
+ghost use Rattle.abi_calc.specs.Enums.Promised.{IsStructOrEnum};
 ghost use Rattle.abi_calc.specs.Enums.Several.{AreLawfulTags};
-ghost use Rattle.abi_calc.specs.declared.enums.path.Path.TheVariants.{NoValue as HasNoValue, OneList as IsOneList, Several as AreSeveral};
 
 use crate::calculator::LayoutCalculator;
 use crate::enums::path::{Path, path_of};
@@ -80,32 +78,25 @@ impl<Cx: HasDataLayout> LayoutCalculator<Cx> {
         D: Drop,
         I: Drop,
         requires data_layout { IsLawfulDataLayout (Cx.target self.now.cx) }
-        requires fields { All (All (λ f. IsLawfulLayout (Cx.target self.now.cx) (F.layout_of f))) (items_of variants) }
+        requires fields { All (All (λ f. IsLawfulLayout (Cx.target self.now.cx)
+            (F.layout_of f))) (items_of variants) }
         requires repr { HasLawfulAligns repr.now }
         requires one { is_enum ≡ false → length (items_of variants) ≡ 1 }
         requires callable { D.IsAlwaysCallable discr_range_of_repr }
         requires can { I.can_next discriminants }
         requires ends { IsFinite (I.remaining discriminants) }
         requires each { EachRunFrom I.next_gives discriminants (λ run. IsTrue run.whole →
-            HasOneEach VariantIdx.number (length (items_of variants)) run.items
-            × AreLawfulTags VariantIdx.number (Cx.target self.now.cx) repr.now (D.post discr_range_of_repr)
-            (map (map F.layout_of) (items_of variants)) run.items) }
+            HasOneEach VariantIdx.number (length (items_of variants)) run.items ×
+            AreLawfulTags VariantIdx.number (Cx.target self.now.cx) repr.now
+            (D.post discr_range_of_repr) (map (map F.layout_of) (items_of variants)) run.items) }
         ensures exact { IsTypeAnswer F.layout_of FieldIdx.at FieldIdx.number VariantIdx.at VariantIdx.number
             (Cx.target self.now.cx) repr.now (items_of variants.entry) is_enum always_sized niche_optimizations
             (D.post discr_range_of_repr) (λ items. WholeRun I.next_gives discriminants (λ run. items ≡ run.items))
             (path_of is_enum repr.now (map (map F.layout_of) (items_of variants.entry))) result }
         ensures lawful { IfOk result (IsLawfulLayout (Cx.target self.now.cx)) }
-        ensures never { path_of is_enum repr.now (map (map F.layout_of) (items_of variants.entry)) ≡ HasNoValue
-            → result ≡ Ok (never_layout (Cx.target self.now.cx)) }
-        ensures listed { (i : _)
-            → path_of is_enum repr.now (map (map F.layout_of) (items_of variants.entry)) ≡ IsOneList i
-            → IsListedType F.layout_of FieldIdx.at FieldIdx.number (VariantIdx.at i) (Cx.target self.now.cx) repr.now
-            niche_optimizations (kind_at is_enum always_sized (items_of variants.entry) i)
-            (variant_at (items_of variants.entry) i) result }
-        ensures several { path_of is_enum repr.now (map (map F.layout_of) (items_of variants.entry)) ≡ AreSeveral
-            → AreSeveralVariants F.layout_of FieldIdx.at FieldIdx.number (VariantIdx.at 0) VariantIdx.number
-            (Cx.target self.now.cx) repr.now (D.post discr_range_of_repr) I.next_gives discriminants
-            (items_of variants.entry) result }
+        ensures told { IsStructOrEnum F.layout_of FieldIdx.at FieldIdx.number VariantIdx.at VariantIdx.number
+            (Cx.target self.now.cx) repr.now is_enum always_sized niche_optimizations
+            (D.post discr_range_of_repr) I.next_gives discriminants (items_of variants.entry) result }
     {
         let all = variants.as_raw();
         match path_of(is_enum, repr, all) {

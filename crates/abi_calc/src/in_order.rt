@@ -40,7 +40,8 @@ impl<Cx: HasDataLayout> LayoutCalculator<Cx> {
         order: &[FieldIdx],
     ) -> Result<LayoutData<FieldIdx, VariantIdx>, LayoutCalculatorError<F>>
         requires data_layout { IsLawfulDataLayout (Cx.target self.now.cx) }
-        requires fields { All (λ f. IsLawfulLayout (Cx.target self.now.cx) (F.layout_of f)) (items_of fields) }
+        requires fields { All (λ f. IsLawfulLayout (Cx.target self.now.cx)
+            (F.layout_of f)) (items_of fields) }
         requires repr { HasLawfulAligns repr.now }
         requires prefix { IsLawfulPrefix kind (size_bound (Cx.target self.now.cx)) }
         requires tail { IsNonEmptyIfUnsized kind (length (items_of fields)) }

@@ -42,12 +42,13 @@ impl<Cx: HasDataLayout> LayoutCalculator<Cx> {
         kind: StructKind,
     ) -> Result<LayoutData<FieldIdx, VariantIdx>, LayoutCalculatorError<F>>
         requires data_layout { IsLawfulDataLayout (Cx.target self.now.cx) }
-        requires fields { All (λ f. IsLawfulLayout (Cx.target self.now.cx) (F.layout_of f)) (items_of fields) }
+        requires fields { All (λ f. IsLawfulLayout (Cx.target self.now.cx)
+            (F.layout_of f)) (items_of fields) }
         requires repr { HasLawfulAligns repr.now }
         requires prefix { IsLawfulPrefix kind (size_bound (Cx.target self.now.cx)) }
         requires tail { IsNonEmptyIfUnsized kind (length (items_of fields)) }
-        ensures { IsUnivariant F.layout_of FieldIdx.at FieldIdx.number (VariantIdx.at 0) (Cx.target self.now.cx)
-            repr.now kind (items_of fields.entry) result }
+        ensures { IsUnivariant F.layout_of FieldIdx.at FieldIdx.number (VariantIdx.at 0)
+            (Cx.target self.now.cx) repr.now kind (items_of fields.entry) result }
     {
         layout_of_fields(alloc, self.cx.data_layout(), fields, repr, kind)
     }

@@ -1,13 +1,12 @@
 //! Vectors: lanes of one scalar.
 
-ghost use Rattle.std.specs.Prelude.{◌≡◌, ◌≢◌, ℕ, ◌*◌, ◌^◌, IfOk, IsTrue, Err, false, true};
-ghost use Rattle.std.specs.Int.{next_multiple_of};
+ghost use Rattle.std.specs.Prelude.{◌≡◌, ◌≢◌, ◌*◌, IfOk, IsTrue, false, true};
 ghost use Rattle.abi_base.specs.DataLayout.{IsLawfulDataLayout};
 ghost use Rattle.abi_scalar.specs.declared.backend_repr.BackendRepr.TheVariants.{Memory, Scalar as OneScalar, SimdVector};
 ghost use Rattle.abi_scalar.specs.declared.scalar.Scalar.{Scalar};
 ghost use Rattle.abi_scalar.specs.Lawful.{IsLawfulLayout};
 ghost use Rattle.abi_scalar.specs.Order.{HasPlaceForEach, IsAscending};
-ghost use Rattle.abi_lists.specs.Simd.{IsVectorTooLarge, is_tight, lanes_align, scalable_answer, simd_answer};
+ghost use Rattle.abi_lists.specs.Simd.{AreSizedVectors, IsSizedVector, is_tight, lanes_align, scalable_answer, simd_answer};
 
 use crate::calculator::LayoutCalculator;
 use abi_base::{HasDataLayout, NumScalableVectors};
@@ -37,25 +36,20 @@ impl<Cx: HasDataLayout> LayoutCalculator<Cx> {
     ) -> Result<LayoutData<FieldIdx, VariantIdx>, LayoutCalculatorError<F>>
         requires data_layout { IsLawfulDataLayout (Cx.target self.now.cx) }
         requires element { IsLawfulLayout (Cx.target self.now.cx) (F.layout_of element) }
-        ensures exact { result ≡ simd_answer F.layout_of (VariantIdx.at 0) (FieldIdx.at 0) (Cx.target self.now.cx)
-            element count repr_packed }
-        ensures size { IfOk result (λ l. l.size ≡ next_multiple_of ((F.layout_of element).size * count)
-            (2 ^ l.align.abi)) }
+        ensures exact { result ≡ simd_answer F.layout_of (VariantIdx.at 0) (FieldIdx.at 0)
+            (Cx.target self.now.cx) element count repr_packed }
+        ensures sized { IsSizedVector (Cx.target self.now.cx) (F.layout_of element) count repr_packed result }
         ensures tight { IsTrue (is_tight repr_packed count) →
             IfOk result (λ l. l.size ≡ (F.layout_of element).size * count) }
         ensures lawful { IfOk result (IsLawfulLayout (Cx.target self.now.cx)) }
-
-        // It is refused for its size exactly where so many of the elements make a vector and it is too large.
-        ensures too_large { result ≡ Err LayoutCalculatorError.SizeOverflow →
-            IsVectorTooLarge (Cx.target self.now.cx) (F.layout_of element) count repr_packed }
-        ensures refused { IsVectorTooLarge (Cx.target self.now.cx) (F.layout_of element) count repr_packed →
-            result ≡ Err LayoutCalculatorError.SizeOverflow }
         ensures niche { IfOk result (λ l. l.largest_niche ≡ (F.layout_of element).largest_niche) }
-        ensures alignment { IfOk result (λ l. l.align.abi ≡ lanes_align (Cx.target self.now.cx) repr_packed count
-            ((F.layout_of element).size * count)) }
+        ensures alignment { IfOk result (λ l. l.align.abi ≡ lanes_align
+            (Cx.target self.now.cx) repr_packed count ((F.layout_of element).size * count)) }
         ensures view { (scalar : Scalar) → (F.layout_of element).backend_repr ≡ OneScalar scalar →
-            is_tight repr_packed count ≡ false → IfOk result (λ l. l.backend_repr ≡ SimdVector scalar count) }
-        ensures tight_view { is_tight repr_packed count ≡ true → IfOk result (λ l. l.backend_repr ≡ Memory true) }
+            is_tight repr_packed count ≡ false →
+            IfOk result (λ l. l.backend_repr ≡ SimdVector scalar count) }
+        ensures tight_view { is_tight repr_packed count ≡ true →
+            IfOk result (λ l. l.backend_repr ≡ Memory true) }
         ensures places { IfOk result (λ l. HasPlaceForEach l.fields) }
         ensures ascending { IfOk result (λ l. IsAscending FieldIdx.number l.fields) }
     {
@@ -83,9 +77,9 @@ impl<Cx: HasDataLayout> LayoutCalculator<Cx> {
         requires element { IsLawfulLayout (Cx.target self.now.cx) (F.layout_of element) }
         ensures exact { result ≡ scalable_answer F.layout_of (VariantIdx.at 0) (FieldIdx.at 0)
             (Cx.target self.now.cx) element count number_of_vectors }
-        ensures size { IfOk result (λ l. l.size ≡ next_multiple_of
-            ((F.layout_of element).size * count * number_of_vectors.0) (2 ^ l.align.abi)) }
-        ensures lawful { number_of_vectors.0 ≢ 0 → IfOk result (IsLawfulLayout (Cx.target self.now.cx)) }
+        ensures sized { AreSizedVectors (Cx.target self.now.cx) (F.layout_of element) count number_of_vectors result }
+        ensures lawful { number_of_vectors.0 ≢ 0 →
+            IfOk result (IsLawfulLayout (Cx.target self.now.cx)) }
         ensures niche { IfOk result (λ l. l.largest_niche ≡ (F.layout_of element).largest_niche) }
         ensures places { IfOk result (λ l. HasPlaceForEach l.fields) }
         ensures ascending { IfOk result (λ l. IsAscending FieldIdx.number l.fields) }

@@ -1,15 +1,13 @@
 //! Unions: fields that share their bytes.
 
-ghost use Rattle.std.specs.Prelude.{◌≡◌, ◌+◌, ◌^◌, ◌≤◌, All, Err, IfOk, IfSome, None, false, length, map};
-ghost use Rattle.std.specs.Int.{next_multiple_of};
+ghost use Rattle.std.specs.Prelude.{◌≡◌, ◌+◌, ◌≤◌, All, IfOk, IfSome, None, false, length, map};
 ghost use Rattle.abi_index.specs.Slice.{items_of};
 ghost use Rattle.abi_base.specs.DataLayout.{IsLawfulDataLayout};
 ghost use Rattle.abi_scalar.specs.declared.fields_shape.FieldsShape.TheVariants.{Union};
 ghost use Rattle.abi_scalar.specs.declared.variants.Variants.TheVariants.{Single};
 ghost use Rattle.abi_scalar.specs.Lawful.{IsLawfulLayout};
 ghost use Rattle.abi_scalar.specs.Order.{HasPlaceForEach, IsAscending};
-ghost use Rattle.abi_lists.specs.Fields.{greatest_size};
-ghost use Rattle.abi_lists.specs.Union.{IsUnionAnswer, IsUnionTooLarge, IsUnionView, only_of, union_align};
+ghost use Rattle.abi_lists.specs.Union.{IsSizedUnion, IsUnionAnswer, IsUnionView, only_of, union_align};
 ghost use Rattle.abi_calc.specs.Marks.{HasUnionMarks};
 
 use crate::calculator::LayoutCalculator;
@@ -58,25 +56,19 @@ impl<Cx: HasDataLayout> LayoutCalculator<Cx> {
         requires align { IfSome repr.now.align (λ align. align ≤ 29) }
         ensures exact { IsUnionAnswer F.layout_of (VariantIdx.at 0) (Cx.target self.now.cx) repr.now
             (only_of (items_of variants.entry)) result }
-        ensures size { IfOk result (λ l. l.size ≡ next_multiple_of
-            (greatest_size (map F.layout_of (only_of (items_of variants.entry)))) (2 ^ l.align.abi)) }
+        ensures sized { IsSizedUnion (Cx.target self.now.cx) repr.now
+            (map F.layout_of (only_of (items_of variants.entry))) result }
         ensures lawful { IfOk result (IsLawfulLayout (Cx.target self.now.cx)) }
         ensures fields { IfOk result (λ l. l.fields ≡ Union (length (only_of (items_of variants.entry)))) }
         ensures niche { IfOk result (λ l. l.largest_niche ≡ None) }
         ensures inhabited { IfOk result (λ l. l.uninhabited ≡ false) }
         ensures single { IfOk result (λ l. l.variants ≡ Single (VariantIdx.at 0)) }
-        ensures alignment { IfOk result (λ l. l.align.abi ≡ union_align (Cx.target self.now.cx) repr.now
-            (map F.layout_of (only_of (items_of variants.entry)))) }
+        ensures alignment { IfOk result (λ l. l.align.abi ≡ union_align (Cx.target self.now.cx)
+            repr.now (map F.layout_of (only_of (items_of variants.entry)))) }
         ensures view { IfOk result (λ l. IsUnionView (Cx.target self.now.cx) repr.now
             (map F.layout_of (only_of (items_of variants.entry))) l.backend_repr) }
         ensures marks { IfOk result (HasUnionMarks (Cx.target self.now.cx) repr.now
             (map F.layout_of (only_of (items_of variants.entry)))) }
-
-        // It is refused for its size exactly where its fields are sized and it is too large.
-        ensures too_large { result ≡ Err LayoutCalculatorError.SizeOverflow →
-            IsUnionTooLarge (Cx.target self.now.cx) repr.now (map F.layout_of (only_of (items_of variants.entry))) }
-        ensures refused { IsUnionTooLarge (Cx.target self.now.cx) repr.now
-            (map F.layout_of (only_of (items_of variants.entry))) → result ≡ Err LayoutCalculatorError.SizeOverflow }
         ensures places { IfOk result (λ l. HasPlaceForEach l.fields) }
         ensures ascending { IfOk result (λ l. IsAscending FieldIdx.number l.fields) }
     {

@@ -1,5 +1,5 @@
 -- The layouts of vectors.
-use Rattle.std.specs.Prelude.{◌≡◌, ℕ, ◌+◌, ◌*◌, ◌%◌, ◌^◌, ◌≤◌, ◌&&◌, not, Bool, true, false, [], ◌∷◌, nat_lt, None, Result, Ok, Err, if◌then◌else◌}
+use Rattle.std.specs.Prelude.{◌≡◌, ℕ, ◌+◌, ◌*◌, ◌%◌, ◌^◌, ◌≤◌, ◌&&◌, ◌⊎◌, not, Bool, true, false, [], ◌∷◌, nat_lt, IfErr, IfOk, None, Result, Ok, Err, if◌then◌else◌}
 use Rattle.std.specs.Int.{is_power_of_two, next_multiple_of}
 use Rattle.abi_base.specs.declared.data_layout.TargetDataLayout.{TargetDataLayout}
 use Rattle.abi_base.specs.declared.scalable.NumScalableVectors.{NumScalableVectors}
@@ -82,6 +82,32 @@ MakesVector element count = ((scalar : Scalar) × (element.backend_repr ≡ OneS
 -- a vector that is too large
 abbrev pub IsVectorTooLarge : {F V : Type 0} → TargetDataLayout → LayoutData F V → (count : ℕ) → (packed : Bool) → Type 0
 IsVectorTooLarge dl element count packed = MakesVector element count × (size_bound dl ≤ vector_size dl element count packed)
+
+-- How large a vector is: its lanes' bytes, rounded up; and when it is refused for its size: exactly where so many of the elements make a
+-- vector and it is too large, and then by no other name.
+pub record IsSizedVector {F V H : Type 0} (dl : TargetDataLayout) (element : LayoutData F V) (count : ℕ) (packed : Bool)
+    (result : Result (LayoutData F V) (LayoutCalculatorError H)) : Type 0 where
+  pub size : IfOk result (λ l. l.size ≡ next_multiple_of (element.size * count) (2 ^ l.align.abi))
+  pub too_large : result ≡ Err SizeOverflow → IsVectorTooLarge dl element count packed
+  pub refused : IsVectorTooLarge dl element count packed → result ≡ Err SizeOverflow
+  pub no_other : MakesVector element count → IfErr result (λ e. e ≡ SizeOverflow)
+
+-- the bytes of vectors whose length the machine decides, all together
+abbrev pub vectors_size : {F V : Type 0} → TargetDataLayout → LayoutData F V → (count : ℕ) → NumScalableVectors → ℕ
+vectors_size dl element count vectors = next_multiple_of (element.size * count * vectors.0) (2 ^ vector_align_of dl (element.size * count))
+
+-- such vectors that are too large: one of them is, or all of them are
+abbrev pub AreVectorsTooLarge : {F V : Type 0} → TargetDataLayout → LayoutData F V → (count : ℕ) → NumScalableVectors → Type 0
+AreVectorsTooLarge dl element count vectors =
+    MakesVector element count × ((size_bound dl ≤ element.size * count) ⊎ (size_bound dl ≤ vectors_size dl element count vectors))
+
+-- The same of vectors whose length the machine decides.
+pub record AreSizedVectors {F V H : Type 0} (dl : TargetDataLayout) (element : LayoutData F V) (count : ℕ) (vectors : NumScalableVectors)
+    (result : Result (LayoutData F V) (LayoutCalculatorError H)) : Type 0 where
+  pub size : IfOk result (λ l. l.size ≡ next_multiple_of (element.size * count * vectors.0) (2 ^ l.align.abi))
+  pub too_large : result ≡ Err SizeOverflow → AreVectorsTooLarge dl element count vectors
+  pub refused : AreVectorsTooLarge dl element count vectors → result ≡ Err SizeOverflow
+  pub no_other : MakesVector element count → IfErr result (λ e. e ≡ SizeOverflow)
 
 -- the layout of a vector of so many lanes, or why it has none
 abbrev pub simd_answer : {F V H : Type 0} → (layout_of : H → LayoutData F V) → (first : V) → (field : F) → TargetDataLayout → H → (count : ℕ) → (packed : Bool)

@@ -1,5 +1,5 @@
 -- The layout of a union: all fields at offset 0.
-use Rattle.std.specs.Prelude.{◌≡◌, ℕ, ◌^◌, ◌≤◌, ◌==◌, ⊤, ◌⊎◌, All, Contains, true, false, List, [], ◌∷◌, length, map, max, nat_lt, Option, Some, None, Result, Ok, Err, if◌then◌else◌}
+use Rattle.std.specs.Prelude.{◌≡◌, ℕ, ◌^◌, ◌<◌, ◌≤◌, ◌==◌, ⊤, ◌⊎◌, All, Contains, IfErr, IfOk, true, false, List, [], ◌∷◌, length, map, max, nat_lt, Option, Some, None, Result, Ok, Err, if◌then◌else◌}
 use Rattle.std.specs.Int.{next_multiple_of}
 use Rattle.std.specs.List.{find}
 use Rattle.abi_base.specs.declared.data_layout.TargetDataLayout.{TargetDataLayout}
@@ -47,6 +47,15 @@ union_size dl repr fields = next_multiple_of (greatest_size fields) (2 ^ union_a
 -- a union of sized fields that are too large
 abbrev pub IsUnionTooLarge : {F V : Type 0} → TargetDataLayout → ReprOptions → List (LayoutData F V) → Type 0
 IsUnionTooLarge dl repr fields = AreSized fields × (size_bound dl ≤ union_size dl repr fields)
+
+-- How large a union is: the greatest of its fields, rounded up; and when it is refused for its size: exactly where its fields are sized and it
+-- is too large. Sized fields, where there is one, are refused by no other name.
+pub record IsSizedUnion {F V H : Type 0} (dl : TargetDataLayout) (repr : ReprOptions) (fields : List (LayoutData F V))
+    (result : Result (LayoutData F V) (LayoutCalculatorError H)) : Type 0 where
+  pub size : IfOk result (λ l. l.size ≡ next_multiple_of (greatest_size fields) (2 ^ l.align.abi))
+  pub too_large : result ≡ Err SizeOverflow → IsUnionTooLarge dl repr fields
+  pub refused : IsUnionTooLarge dl repr fields → result ≡ Err SizeOverflow
+  pub no_other : AreSized fields → 0 < length fields → IfErr result (λ e. e ≡ SizeOverflow)
 
 -- the field is no sized type without bytes
 abbrev pub CountsForView : {F V : Type 0} → LayoutData F V → Type 0

@@ -13,16 +13,17 @@ use Rattle.abi_scalar.specs.Lawful.{IsLawfulLayout}
 use Rattle.abi_scalar.specs.Variant.{variants_of}
 use Rattle.abi_lists.specs.List.{HasLawfulAligns}
 use Rattle.abi_calc.specs.Coroutine.Answer.{IsCoroutineAnswer}
-use Rattle.abi_calc.specs.Coroutine.Clash.{AreClashingApart, HaveOneOffset, IsToldByState}
+use Rattle.abi_calc.specs.Coroutine.Clash.{IsToldByState}
 use Rattle.abi_calc.specs.Coroutine.Layout.{whole_size}
 use Rattle.abi_calc.specs.Coroutine.Lists.{behind, default_repr, first_list}
+use Rattle.abi_calc.specs.Coroutine.Promised.{HasLocalsApart}
 use Rattle.abi_calc.specs.Coroutine.Promotion.{promoted_of}
 use Rattle.abi_calc.specs.Coroutine.Sizes.{own_lists}
 use Rattle.abi_calc.specs.Enums.Lists.{AreGoodLists, IsGoodList}
 use Rattle.abi_calc.proofs.CoroutineLemmas.Promised.{IsAsked, IsPromised, first_lawful, first_promised, memory_promised, own_all, own_promised, whole_promised}
 use Rattle.abi_calc.proofs.CoroutineLemmas.Apart.{told_promised}
 use Rattle.abi_calc.proofs.CoroutineLemmas.Promotion.{promoted_count}
-use Rattle.abi_calc.proofs.CoroutineLemmas.Shared.{clash_promised, offset_promised}
+use Rattle.abi_calc.proofs.CoroutineLemmas.Shared.{apart_promised}
 use Rattle.abi_calc.proofs.EnumLemmas.GoodLists.{good_list, good_lists}
 use Rattle.abi_calc.proofs.CoroutineLemmas.OneCoroutine.{AreOwn, IsFirst, error_own, lists_own}
 
@@ -74,14 +75,9 @@ module _ {H : Type 0} (layout_of : H → LayoutData ℕ ℕ) (dl : TargetDataLay
         told_promised layout_of (λ i. i) (λ i. i) 0 dl prefix tag field locals promoted asked.holds (promoted_count states conflicts ∙ rows) first good states lists (λ l. whole_size first lists < size_bound dl) (Ok layout)
         asked.tells within once (good_own first lists good.lawful hs) (below, is)
 
-    -- its locals that clash share no byte
-    pub coroutine_clash : column_count conflicts ≡ length locals → (layout : LayoutData ℕ ℕ) → Answers (Ok layout) → AreClashingApart states conflicts (map layout_of locals) (variants_of layout.variants)
-    coroutine_clash columns layout (first, h, lists, hs, below, is) =
+    -- its locals that clash share no byte, and each has one offset
+    pub coroutine_apart : All (AllPairs (λ a b. a ≢ b)) states → column_count conflicts ≡ length locals → (layout : LayoutData ℕ ℕ) → Answers (Ok layout) → HasLocalsApart states conflicts (map layout_of locals) layout
+    coroutine_apart once columns layout (first, h, lists, hs, below, is) =
         let good = good_first first h in
-        clash_promised layout_of (λ i. i) (λ i. i) 0 dl prefix tag field locals states conflicts first lists promoted refl rows within (columns ∙ sym rows) good (good_own first lists good.lawful hs)
-        (λ l. whole_size first lists < size_bound dl) (Ok layout) (below, is)
-
-    -- each of them has one offset
-    pub coroutine_one_offset : All (AllPairs (λ a b. a ≢ b)) states → (layout : LayoutData ℕ ℕ) → Answers (Ok layout) → HaveOneOffset states (variants_of layout.variants)
-    coroutine_one_offset once layout (first, h, lists, hs, below, is) =
-        offset_promised layout_of (λ i. i) (λ i. i) 0 dl prefix tag field locals states conflicts first lists promoted refl rows within once (λ l. whole_size first lists < size_bound dl) (Ok layout) (below, is)
+        apart_promised layout_of (λ i. i) (λ i. i) 0 dl prefix tag field locals states conflicts first lists promoted (record { by = refl; rows = rows; columns = columns }) within once good
+        (good_own first lists good.lawful hs) (λ l. whole_size first lists < size_bound dl) (Ok layout) (below, is)

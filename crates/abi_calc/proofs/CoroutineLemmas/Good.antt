@@ -5,10 +5,9 @@ use Rattle.abi_index.specs.Relation.{Relation}
 use Rattle.abi_scalar.specs.declared.backend_repr.BackendRepr.TheVariants.{Memory}
 use Rattle.abi_scalar.specs.declared.error.LayoutCalculatorError.{LayoutCalculatorError}
 use Rattle.abi_scalar.specs.declared.layout_data.LayoutData.{LayoutData}
-use Rattle.abi_scalar.specs.Variant.{variants_of}
-use Rattle.abi_calc.specs.Coroutine.Clash.{AreClashingApart, HaveOneOffset, IsToldByState}
+use Rattle.abi_calc.specs.Coroutine.Clash.{IsToldByState}
 use Rattle.abi_calc.specs.Coroutine.Made.{IsAlignedAsLists, IsMadeOfStates}
-use Rattle.abi_calc.specs.Coroutine.Promised.{IsGoodCoroutine}
+use Rattle.abi_calc.specs.Coroutine.Promised.{HasLocalsApart, IsGoodCoroutine}
 use Rattle.abi_calc.specs.Marks.{HasCoroutineMarks}
 use Rattle.abi_calc.specs.Ordered.{IsOrderedWhole}
 
@@ -17,7 +16,6 @@ module _ {F V H : Type 0} (at : ℕ → F) (number : F → ℕ) (zeroth : V) (dl
       → IfOk result (λ l. l.largest_niche ≡ None) → IfOk result (λ l. l.backend_repr ≡ Memory true)
       → IfOk result (IsAlignedAsLists zeroth dl prefix locals states conflicts) → IfOk result (HasCoroutineMarks prefix locals states conflicts)
       → IfOk result (IsOrderedWhole number) → IfOk result (IsMadeOfStates at number zeroth dl prefix locals states conflicts)
-      → IfOk result (IsToldByState dl at prefix locals states) → IfOk result (λ l. AreClashingApart states conflicts locals (variants_of l.variants))
-      → IfOk result (λ l. HaveOneOffset states (variants_of l.variants)) → IfOk result (IsGoodCoroutine at number zeroth dl prefix locals states conflicts)
-  coroutine_good (Ok l) n v a m o s t c p = record { niche = n; view = v; alignment = a; marks = m; ordered = o; made = s; told = t; clash = c; one_offset = p }
-  coroutine_good (Err e) n v a m o s t c p = tt
+      → IfOk result (IsToldByState dl at prefix locals states) → IfOk result (HasLocalsApart states conflicts locals) → IfOk result (IsGoodCoroutine at number zeroth dl prefix locals states conflicts)
+  coroutine_good (Ok l) n v a m o s t c = record { niche = n; view = v; alignment = a; marks = m; ordered = o; made = s; told = t; clash = c.clash; one_offset = c.one_offset }
+  coroutine_good (Err e) n v a m o s t c = tt

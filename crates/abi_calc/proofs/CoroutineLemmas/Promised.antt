@@ -8,6 +8,7 @@ use Rattle.std.proofs.lemmas.List.Elements.{All-append, All-cons, All-contains, 
 use Rattle.std.proofs.lemmas.Nat.{pow_pos}
 use Rattle.std.proofs.lemmas.Option.{slice_get-map}
 use Rattle.std.specs.Option.{option_map}
+use Rattle.std.specs.Result.{IsErrAnd}
 use Rattle.abi_base.specs.declared.data_layout.TargetDataLayout.{TargetDataLayout}
 use Rattle.abi_base.specs.declared.struct_kind.StructKind.{StructKind}
 use Rattle.abi_base.specs.declared.struct_kind.StructKind.TheVariants.{AlwaysSized, Prefixed}
@@ -34,6 +35,7 @@ use Rattle.abi_lists.proofs.Offsets.Rounding.{rounded_to}
 use Rattle.abi_calc.specs.Coroutine.Answer.{IsPromotedAnswer}
 use Rattle.abi_calc.specs.Coroutine.Layout.{IsStateTag, coroutine_layout, whole_align, whole_size}
 use Rattle.abi_calc.specs.Coroutine.Lists.{AreOwnLists, IsFirstOwnError, behind, default_repr, first_list, own_list, own_of, picked}
+use Rattle.abi_calc.specs.Coroutine.Promised.{IsSizedPromoted}
 use Rattle.abi_calc.specs.Coroutine.Sizes.{AreListsTooLarge, IsSizeOfLists, IsSizeWith, IsTooLargeWith, align_of_all, behind_first, own_lists}
 use Rattle.abi_calc.specs.Enums.Lists.{AreGoodLists, AreListLayouts, IsFirstListError, IsGoodList}
 use Rattle.abi_calc.specs.Enums.Sizes.{AreLeastSizes}
@@ -216,10 +218,7 @@ pub record IsPromised {F V H : Type 0} (layout_of : H → LayoutData F V) (at : 
     (r : Result (LayoutData F V) (LayoutCalculatorError H)) : Type 0 where
   pub exact : IsPromotedAnswer layout_of at number zeroth dl prefix tag field locals states promoted r
   pub lawful : IfOk r (IsLawfulLayout dl)
-  pub size : IfOk r (λ l. IsSizeWith dl (map layout_of prefix) (scalar_layout zeroth dl tag) (map layout_of locals) states promoted l.size)
-  pub too_large : r ≡ Err SizeOverflow → IsTooLargeWith dl (map layout_of prefix) (scalar_layout zeroth dl tag) (map layout_of locals) states promoted
-  pub refused : AreSized (map layout_of prefix) → AreSized (map layout_of locals) → IsTooLargeWith dl (map layout_of prefix) (scalar_layout zeroth dl tag) (map layout_of locals) states promoted → IsAnswer (Err SizeOverflow) r
-  pub no_other : AreSized (map layout_of prefix) → AreSized (map layout_of locals) → IfErr r (λ e. (e ≡ SizeOverflow) ⊎ (e ≡ OutOfMemory))
+  pub sized : IsSizedPromoted dl (map layout_of prefix) (scalar_layout zeroth dl tag) (map layout_of locals) states promoted r
 
 answer_of : {A H : Type 0} (e : LayoutCalculatorError H) → (e ≡ SizeOverflow) ⊎ (e ≡ OutOfMemory) → IsAnswer {A = A} (Err SizeOverflow) (Err e)
 answer_of e (inl is) = inl (ap (λ x. Err x) is)
@@ -266,10 +265,12 @@ module _ {F V H : Type 0} (layout_of : H → LayoutData F V) (at : ℕ → F) (n
   memory_promised e is = record {
     exact = inr (inr is);
     lawful = tt;
-    size = tt;
-    too_large = λ large. (let never : e ≡ SizeOverflow = error_is e SizeOverflow large in absurd (cc));
-    refused = λ before all large. inr (ap (λ x. Err x) is);
-    no_other = λ before all. inr is;
+    sized = record {
+      size = tt;
+      too_large = λ large. (let never : e ≡ SizeOverflow = error_is e SizeOverflow large in absurd (cc));
+      refused = λ before all large. inr (ap (λ x. Err x) is);
+      no_other = λ before all. inr is;
+    };
   }
 
   -- the first list has no layout
@@ -281,10 +282,12 @@ module _ {F V H : Type 0} (layout_of : H → LayoutData F V) (at : ℕ → F) (n
       record {
         exact = inl bad;
         lawful = tt;
-        size = tt;
-        too_large = λ large. told_of (AreListsTooLarge dl) (inl (large_in_each layout_of at zeroth dl default_repr AlwaysSized (first_list prefix field locals promoted) e first_lawful tt bad (error_is e SizeOverflow large)));
-        refused = λ before all large. answer_of e (other before all);
-        no_other = other;
+        sized = record {
+          size = tt;
+          too_large = λ large. told_of (AreListsTooLarge dl) (inl (large_in_each layout_of at zeroth dl default_repr AlwaysSized (first_list prefix field locals promoted) e first_lawful tt bad (error_is e SizeOverflow large)));
+          refused = λ before all large. answer_of e (other before all);
+          no_other = other;
+        };
       }
 
   module _ (first : LayoutData F V) (good : IsGoodList layout_of at zeroth dl default_repr AlwaysSized (first_list prefix field locals promoted) first) where
@@ -298,11 +301,13 @@ module _ {F V H : Type 0} (layout_of : H → LayoutData F V) (at : ℕ → F) (n
         record {
           exact = inr (inl (first, good.exact, inl (own_error layout_of at zeroth dl (behind first) locals promoted states e bad)));
           lawful = tt;
-          size = tt;
-          too_large = λ large. told_of (AreListsTooLarge dl) (own_large layout_of at zeroth dl (first_list prefix field locals promoted) (own_lists locals promoted states) first good e
-              (own_all (λ f. IsLawfulLayout dl (layout_of f)) locals promoted states asked.all) bad (error_is e SizeOverflow large));
-          refused = λ before all large. answer_of e (other before all);
-          no_other = other;
+          sized = record {
+            size = tt;
+            too_large = λ large. told_of (AreListsTooLarge dl) (own_large layout_of at zeroth dl (first_list prefix field locals promoted) (own_lists locals promoted states) first good e
+                (own_all (λ f. IsLawfulLayout dl (layout_of f)) locals promoted states asked.all) bad (error_is e SizeOverflow large));
+            refused = λ before all large. answer_of e (other before all);
+            no_other = other;
+          };
         }
 
     -- all lists have layouts
@@ -326,18 +331,33 @@ module _ {F V H : Type 0} (layout_of : H → LayoutData F V) (at : ℕ → F) (n
       whole_promised (Ok layout) laid fault = record {
         exact = (first, good.exact, lists, own_layouts layout_of at zeroth dl (behind first) locals promoted states lists (good_exact layout_of at zeroth dl default_repr (behind first) (own_lists locals promoted states) lists others), laid.0, laid.1);
         lawful = subst (IsLawfulLayout dl) (sym laid.1) (layout_lawful laid.0);
-        size = subst (λ l. IsSizeWith dl (map layout_of prefix) (scalar_layout zeroth dl tag) (map layout_of locals) states promoted l.size) (sym laid.1)
-            (told_of (λ x y. IsSizeOfLists dl x y (whole_size first lists)) (whole_is layout_of at zeroth dl (first_list prefix field locals promoted) (own_lists locals promoted states) first good lists others));
-        too_large = λ is. absurd (cc);
-        refused = λ before all large. absurd (not_too_large layout_of at zeroth dl (first_list prefix field locals promoted) (own_lists locals promoted states) first good lists others laid.0 (told_back (AreListsTooLarge dl) large));
-        no_other = λ before all. tt;
+        sized = record {
+          size = subst (λ l. IsSizeWith dl (map layout_of prefix) (scalar_layout zeroth dl tag) (map layout_of locals) states promoted l.size) (sym laid.1)
+              (told_of (λ x y. IsSizeOfLists dl x y (whole_size first lists)) (whole_is layout_of at zeroth dl (first_list prefix field locals promoted) (own_lists locals promoted states) first good lists others));
+          too_large = λ is. absurd (cc);
+          refused = λ before all large. absurd (not_too_large layout_of at zeroth dl (first_list prefix field locals promoted) (own_lists locals promoted states) first good lists others laid.0 (told_back (AreListsTooLarge dl) large));
+          no_other = λ before all. tt;
+        };
       }
       whole_promised (Err e) laid (inr is) = memory_promised e is
       whole_promised (Err e) laid (inl large) = record {
         exact = inr (inl (first, good.exact, inr (lists, own_layouts layout_of at zeroth dl (behind first) locals promoted states lists (good_exact layout_of at zeroth dl default_repr (behind first) (own_lists locals promoted states) lists others), large.0, large.1)));
         lawful = tt;
-        size = tt;
-        too_large = λ is. told_of (AreListsTooLarge dl) (inr (inr (whole_size first lists, whole_is layout_of at zeroth dl (first_list prefix field locals promoted) (own_lists locals promoted states) first good lists others, large.0)));
-        refused = λ before all is. inl (ap (λ x. Err x) large.1);
-        no_other = λ before all. inl large.1;
+        sized = record {
+          size = tt;
+          too_large = λ is. told_of (AreListsTooLarge dl) (inr (inr (whole_size first lists, whole_is layout_of at zeroth dl (first_list prefix field locals promoted) (own_lists locals promoted states) first good lists others, large.0)));
+          refused = λ before all is. inl (ap (λ x. Err x) large.1);
+          no_other = λ before all. inl large.1;
+        };
       }
+
+-- want of memory says nothing of a size
+module _ {F V H : Type 0} (dl : TargetDataLayout) (prefix : List (LayoutData F V)) (tag : LayoutData F V) (locals : List (LayoutData F V)) (states : List (List ℕ)) (promoted : List Bool) where
+  pub memory_sized : (r : Result (LayoutData F V) (LayoutCalculatorError H)) → IsErrAnd r (λ e. e ≡ OutOfMemory) → IsSizedPromoted dl prefix tag locals states promoted r
+  memory_sized (Ok l) told = absurd told
+  memory_sized (Err e) told = record {
+    size = tt;
+    too_large = λ is. absurd (cc);
+    refused = λ before all large. inr (ap (λ x. Err x) told);
+    no_other = λ before all. inr told;
+  }

@@ -1,20 +1,20 @@
 -- What a coroutine's locals share where the promoted ones are those that its states and its conflicts tell, and how large it is where
 -- none is promoted.
-use Rattle.std.proofs.Common.{◌≡◌, ◌≢◌, ℕ, ◌+◌, ◌<◌, Bool, false, List, [], ◌∷◌, ◌++◌, All, ap, ap₂, arith, inl, inr, length, map, refl, subst, sym}
+use Rattle.std.proofs.Common.{◌≡◌, ◌≢◌, ◌∙◌, ℕ, ◌+◌, ◌<◌, Bool, false, List, [], ◌∷◌, ◌++◌, All, ap, ap₂, arith, inl, inr, length, map, refl, subst, sym}
 use Rattle.std.specs.Prelude.{IfOk, Result, Ok, Err}
 use Rattle.std.specs.List.{AllPairs}
 use Rattle.std.proofs.lemmas.Bool.{cases_Bool}
 use Rattle.abi_base.specs.declared.data_layout.TargetDataLayout.{TargetDataLayout}
 use Rattle.abi_base.specs.declared.struct_kind.StructKind.TheVariants.{AlwaysSized}
 use Rattle.abi_index.specs.BitSet.{is_member, members_of}
-use Rattle.abi_index.specs.Relation.{Relation, column_count, row_count}
+use Rattle.abi_index.specs.Relation.{Relation, row_count}
 use Rattle.abi_scalar.specs.declared.error.LayoutCalculatorError.{LayoutCalculatorError}
 use Rattle.abi_scalar.specs.declared.layout_data.LayoutData.{LayoutData}
 use Rattle.abi_scalar.specs.declared.scalar.Scalar.{Scalar}
-use Rattle.abi_scalar.specs.Variant.{variants_of}
 use Rattle.abi_calc.specs.Coroutine.Clash.{AreClashingApart, HaveOneOffset}
 use Rattle.abi_calc.specs.Coroutine.Layout.{coroutine_layout}
 use Rattle.abi_calc.specs.Coroutine.Lists.{behind, default_repr, first_list, own_of, picked}
+use Rattle.abi_calc.specs.Coroutine.Promised.{ArePromotedBy, HasLocalsApart}
 use Rattle.abi_calc.specs.Coroutine.Promotion.{promoted_of}
 use Rattle.abi_calc.specs.Coroutine.Sizes.{IsOverlapSize, IsSizeOfLists, IsSizeWith, MayOverlap, own_lists}
 use Rattle.abi_calc.specs.Coroutine.States.{state_layouts}
@@ -24,7 +24,7 @@ use Rattle.abi_calc.proofs.CoroutineLemmas.Promotion.{none_is_promoted}
 use Rattle.abi_calc.proofs.CoroutineLemmas.States.{rank_member}
 
 module _ {F V H : Type 0} (layout_of : H → LayoutData F V) (at : ℕ → F) (number : F → ℕ) (zeroth : V) (dl : TargetDataLayout) (prefix : List H) (tag : Scalar) (field : H) (locals : List H)
-    (states : List (List ℕ)) (conflicts : Relation) (first : LayoutData F V) (lists : List (LayoutData F V)) (promoted : List Bool) (is : promoted ≡ promoted_of states conflicts) (count : row_count conflicts ≡ length locals)
+    (states : List (List ℕ)) (conflicts : Relation) (first : LayoutData F V) (lists : List (LayoutData F V)) (promoted : List Bool) (by : ArePromotedBy (length locals) states promoted conflicts)
     (within : All (All (λ l. l < length locals)) states) where
   -- what holds of the layout that the lists make holds of the one that is answered
   of_answer : (P Q : LayoutData F V → Type 0) (r : Result (LayoutData F V) (LayoutCalculatorError H)) → IfOk r (λ layout. P layout × (layout ≡ coroutine_layout at number (length prefix) tag promoted states first lists))
@@ -34,26 +34,23 @@ module _ {F V H : Type 0} (layout_of : H → LayoutData F V) (at : ℕ → F) (n
 
   -- each state's locals are rows of the conflicts
   in_rows : All (All (λ l. l < row_count conflicts)) states
-  in_rows = subst (λ n. All (All (λ l. l < n)) states) (sym count) within
+  in_rows = subst (λ n. All (All (λ l. l < n)) states) (sym by.rows) within
 
-  -- locals that clash share no byte
-  pub clash_promised : column_count conflicts ≡ row_count conflicts → IsGoodList layout_of at zeroth dl default_repr AlwaysSized (first_list prefix field locals promoted) first
+  -- locals that clash share no byte, and a local has one offset
+  pub apart_promised : All (AllPairs (λ a b. a ≢ b)) states → IsGoodList layout_of at zeroth dl default_repr AlwaysSized (first_list prefix field locals promoted) first
       → AreGoodLists layout_of at zeroth dl default_repr (behind first) (own_lists locals promoted states) lists → (P : LayoutData F V → Type 0) (r : Result (LayoutData F V) (LayoutCalculatorError H))
       → IfOk r (λ layout. P layout × (layout ≡ coroutine_layout at number (length prefix) tag promoted states first lists))
-      → IfOk r (λ l. AreClashingApart states conflicts (map layout_of locals) (variants_of l.variants))
-  clash_promised square good own P r laid =
-      of_answer P (λ l. AreClashingApart states conflicts (map layout_of locals) (variants_of l.variants)) r laid
-      (subst (λ p. AreClashingApart states conflicts (map layout_of locals) (state_layouts at number (length prefix + 1) p first states lists)) (sym is)
-      (clashing_apart layout_of at number zeroth dl prefix field locals states conflicts first lists square (sym count) in_rows
-      (subst (λ p. IsGoodList layout_of at zeroth dl default_repr AlwaysSized (first_list prefix field locals p) first) is good)
-      (subst (λ p. AreGoodLists layout_of at zeroth dl default_repr (behind first) (own_lists locals p states) lists) is own)))
-
-  -- a local has one offset
-  pub offset_promised : All (AllPairs (λ a b. a ≢ b)) states → (P : LayoutData F V → Type 0) (r : Result (LayoutData F V) (LayoutCalculatorError H))
-      → IfOk r (λ layout. P layout × (layout ≡ coroutine_layout at number (length prefix) tag promoted states first lists)) → IfOk r (λ l. HaveOneOffset states (variants_of l.variants))
-  offset_promised once P r laid =
-      of_answer P (λ l. HaveOneOffset states (variants_of l.variants)) r laid
-      (subst (λ p. HaveOneOffset states (state_layouts at number (length prefix + 1) p first states lists)) (sym is) (one_offset at number (length prefix + 1) states conflicts first lists in_rows once))
+      → IfOk r (HasLocalsApart states conflicts (map layout_of locals))
+  apart_promised once good own P r laid =
+      of_answer P (HasLocalsApart states conflicts (map layout_of locals)) r laid
+      (record {
+        clash = subst (λ p. AreClashingApart states conflicts (map layout_of locals) (state_layouts at number (length prefix + 1) p first states lists)) (sym by.by)
+            (clashing_apart layout_of at number zeroth dl prefix field locals states conflicts first lists (by.columns ∙ sym by.rows) (sym by.rows) in_rows
+            (subst (λ p. IsGoodList layout_of at zeroth dl default_repr AlwaysSized (first_list prefix field locals p) first) by.by good)
+            (subst (λ p. AreGoodLists layout_of at zeroth dl default_repr (behind first) (own_lists locals p states) lists) by.by own));
+        one_offset = subst (λ p. HaveOneOffset states (state_layouts at number (length prefix + 1) p first states lists)) (sym by.by)
+            (one_offset at number (length prefix + 1) states conflicts first lists in_rows once);
+      })
 
 -- ---- no local is promoted
 

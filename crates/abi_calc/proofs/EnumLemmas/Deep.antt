@@ -46,7 +46,7 @@ use Rattle.abi_calc.specs.Enums.Payload.{beside_tag, common_of, tagged_view}
 use Rattle.abi_calc.specs.Enums.Several.{AreLawfulTags, HasEnumSize, HasTaggedSize, IsAlwaysTooLarge, IsAskedAnswer, IsAskedFor, IsAskedTooLarge, IsEnumAnswer, IsSeveralAnswer, better_of}
 use Rattle.abi_calc.specs.Enums.Sizes.{IsTaggedTooLarge}
 use Rattle.abi_calc.specs.Enums.Tagged.{IsTaggedAnswer, IsTaggedBy, lists_align, lists_size, payloads_of}
-use Rattle.abi_calc.proofs.EnumLemmas.Promised.{HasGoodLists, by_apart, by_good, by_lawful, by_numbers, by_size, by_view}
+use Rattle.abi_calc.proofs.EnumLemmas.Promised.{HasGoodLists, by_good, by_lawful, by_size, placed_by}
 use Rattle.abi_calc.proofs.EnumLemmas.Lists.{good_exact, good_lawful}
 use Rattle.abi_calc.proofs.EnumLemmas.InNiche.{needing_others, needing_within, span_holds}
 use Rattle.abi_calc.proofs.EnumLemmas.NicheLawful.{niche_parts}
@@ -172,10 +172,8 @@ module _ {H : Type 0} (layout_of : H → LayoutData ℕ ℕ) (dl : TargetDataLay
   tagged_told : (asked : Integer) (signed : Bool) (t : LayoutData ℕ ℕ) → repr.pack ≡ None → IsAskedFor dl repr asks values asked signed → IsTagged asked signed (Ok t) → IsToldByTag dl (λ v. v) vs items t
   tagged_told asked signed t unpacked is h =
       told_by_tag layout_of (λ i. i) (λ i. i) 0 (λ v. v) dl repr asked signed variants items (Ok t) h
-      (by_apart layout_of (λ i. i) (λ i. i) 0 dl repr asked signed values (behind asked) variants h.0 (longest variants) (λ i le. refl) law refl (within variants (longest variants) (omega arith)) (Ok t)
+      (placed_by layout_of (λ i. i) (λ i. i) 0 dl repr asked signed values (behind asked) variants h.0 (longest variants) (λ i le. refl) law refl (within variants (longest variants) (omega arith)) (Ok t)
       (have_good asked signed h.0 unpacked h.1) h.2)
-      (by_numbers layout_of (λ i. i) (λ i. i) 0 dl repr asked signed values (behind asked) variants h.0 (Ok t) h.2)
-      (by_view layout_of (λ i. i) (λ i. i) 0 dl repr asked signed values (behind asked) variants h.0 (Ok t) h.2)
       (tags asked signed is).differ
 
   -- it has the tagged size

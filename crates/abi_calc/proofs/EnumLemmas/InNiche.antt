@@ -228,3 +228,13 @@ much_of o x count free e h = h.0 (subst IsSome (sym e) refl)
 pub ok_weaker : {A E : Type 0} (P Q : A → Type 0) (r : Result A E) → ((a : A) → P a → Q a) → IfOk r P → IfOk r Q
 ok_weaker P Q (Ok a) more h = more a h
 ok_weaker P Q (Err e) more h = tt
+
+-- ---- what is found at the untagged variant's place
+
+module _ {F V : Type 0} (lists : List (LayoutData F V)) (untagged : ℕ) (is : untagged ≡ untagged_of lists) where
+  pub known_niche : (niche : Option Niche) → niche ≡ niche_of_list (slice_get lists untagged) → niche_of_list (slice_get lists (untagged_of lists)) ≡ niche
+  known_niche niche told = sym (told ∙ ap (λ u. niche_of_list (slice_get lists u)) is)
+
+module _ {F V : Type 0} (variants : List (List (LayoutData F V))) (lists : List (LayoutData F V)) (untagged : ℕ) (is : untagged ≡ untagged_of lists) where
+  pub known_span : (span : Option (ℕ × ℕ)) → span ≡ span_of (needing_numbers untagged variants) → span_of (needing_numbers (untagged_of lists) variants) ≡ span
+  known_span span told = sym (told ∙ ap (λ u. span_of (needing_numbers u variants)) is)

@@ -1,10 +1,11 @@
 -- What an enum of several variants takes over from its lists, from the answer that the rules give it.
-use Rattle.std.proofs.Common.{◌≡◌, ℕ, suc, ◌+◌, ◌^◌, ◌==◌, ◌<◌, ◌≤◌, ◌∙◌, Bool, true, false, List, [], ◌∷◌, ap, arith, inl, inr, length, map, refl, subst, sym}
+use Rattle.std.proofs.Common.{◌≡◌, ℕ, suc, ◌+◌, ◌^◌, ◌==◌, ◌&&◌, ◌<◌, ◌≤◌, ◌∙◌, Bool, true, false, List, [], ◌∷◌, ap, arith, inl, inr, length, map, refl, subst, sym}
 use Rattle.std.specs.Prelude.{All, IfOk, ℤ, MatchBool, max, nat_le, nat_lt, None, Option, Some, Result, Ok, Err, if◌then◌else◌, slice_get}
 use Rattle.std.specs.Int.{next_multiple_of}
 use Rattle.std.specs.Iterator.Runs.{WholeRun}
 use Rattle.std.specs.List.{list_all}
 use Rattle.std.proofs.lemmas.Bool.{eqb-true, leb-true, ltb-false, ltb-true}
+use Rattle.std.proofs.lemmas.List.{length-map}
 use Rattle.std.proofs.lemmas.List.Elements.{All-cons, All-nil}
 use Rattle.std.proofs.lemmas.Option.{slice_get_within}
 use Rattle.abi_base.specs.declared.data_layout.TargetDataLayout.{TargetDataLayout}
@@ -15,6 +16,7 @@ use Rattle.abi_base.specs.declared.struct_kind.StructKind.TheVariants.{AlwaysSiz
 use Rattle.abi_base.specs.DataLayout.{IsLawfulDataLayout}
 use Rattle.abi_base.specs.Integer.{integer_size}
 use Rattle.abi_scalar.specs.declared.backend_repr.BackendRepr.{BackendRepr}
+use Rattle.abi_scalar.specs.declared.backend_repr.BackendRepr.TheVariants.{Memory}
 use Rattle.abi_scalar.specs.declared.error.LayoutCalculatorError.{LayoutCalculatorError}
 use Rattle.abi_scalar.specs.declared.layout_data.LayoutData.{LayoutData}
 use Rattle.abi_scalar.specs.declared.repr.ReprOptions.{ReprOptions}
@@ -35,10 +37,10 @@ use Rattle.abi_calc.specs.Enums.Choice.{IsNicheAnswer, better, takes_niche}
 use Rattle.abi_calc.specs.Enums.Discriminants.{counting_of}
 use Rattle.abi_calc.specs.Enums.Growth.{grown_tag, grown_variant, moved, start_align}
 use Rattle.abi_calc.specs.Enums.Lists.{AreGoodLists, AreListLayouts, behind_tag}
-use Rattle.abi_calc.specs.Enums.Made.{AreBehindTag, AreBesideNiche, AreVariantsAligned, HasLeastTag, IsBehindTag, IsBesideNiche, IsMadeOfLists, IsMovedBy}
-use Rattle.abi_calc.specs.Enums.Niche.{beside_niche, moved_on, niche_layout, place_after, room_beside, span_count, untagged_of, variants_from, with_first, without_niche}
+use Rattle.abi_calc.specs.Enums.Made.{AreBehindTag, AreBesideNiche, AreSeenBehindTag, AreVariantsAligned, HasLeastTag, IsBehindTag, IsBesideNiche, IsMadeOfLists, IsMovedBy, IsSeenBehindTag, takes_view}
+use Rattle.abi_calc.specs.Enums.Niche.{beside_niche, moved_on, niche_layout, niche_view, place_after, room_beside, span_count, untagged_of, variants_from, with_first, without_niche}
 use Rattle.abi_calc.specs.Enums.Path.{has_no_value}
-use Rattle.abi_calc.specs.Enums.Payload.{seen_as, tagged_view}
+use Rattle.abi_calc.specs.Enums.Payload.{is_memory, is_of_scalars, seen_as, tagged_view}
 use Rattle.abi_calc.specs.Enums.Promised.{IsGoodEnum}
 use Rattle.abi_calc.specs.Enums.Several.{IsAskedAnswer, IsAskedFor, IsEnumAnswer, IsSeveralAnswer, better_of}
 use Rattle.abi_calc.specs.Enums.Tagged.{IsTaggedBy, lists_align, lists_size, payloads_of}
@@ -113,6 +115,12 @@ stays old new same (o ∷ os) = rw (here (o == old) refl, stays old new same os)
     here true e = omega (arith, same, eqb-true o old e)
     here false e = refl
 
+-- by the test, how a variant is seen and what it takes
+view_by : {F : Type 0} (view : BackendRepr) (whole : ℕ) (b : Bool) (v : VariantLayout F) → (let w = if b then record v { backend_repr = view; size = max v.size whole } else v in
+    (b ≡ true → (w.backend_repr ≡ view) × (w.size ≡ max v.size whole)) × (b ≡ false → (w.backend_repr ≡ v.backend_repr) × (w.size ≡ v.size)))
+view_by view whole true v = (λ is. (refl, refl), λ is. absurd (cc))
+view_by view whole false v = (λ is. absurd (cc), λ is. (refl, refl))
+
 module _ {F V : Type 0} (old new : ℕ) (le : old ≤ new) (view : BackendRepr) (whole : ℕ) where
   seen_by : (b : Bool) (list : LayoutData F V) (v : VariantLayout F) → IsBehindTag old new whole list v → IsBehindTag old new whole list (if b then record v { backend_repr = view; size = max v.size whole } else v)
   seen_by true list v h = record { offsets = h.offsets; order = h.order; size = omega (arith, h.size); most = omega (arith, h.most); niche = h.niche; uninhabited = h.uninhabited }
@@ -127,6 +135,28 @@ module _ {F V : Type 0} (old new : ℕ) (le : old ≤ new) (view : BackendRepr) 
 
   pub one_behind : (list : LayoutData F V) → IsBehindTag old new whole list (seen_as view whole (grown_variant old new (variant_of list)))
   one_behind list = seen_by _ list (grown_variant old new (variant_of list)) (grown_by list (nat_lt old new) refl)
+
+  -- what the variant is before it is seen as its enum
+  taken_by : (list : LayoutData F V) (b : Bool) → (let w = if b then record (variant_of list) { size = max list.size new; field_offsets = map (moved old new) (listed_offsets list.fields) } else variant_of list in
+      (w.backend_repr ≡ list.backend_repr) × (w.size ≡ (if b then max list.size new else list.size)) × (length w.field_offsets ≡ length (listed_offsets list.fields)))
+  taken_by list true = (refl, refl, length-map (listed_offsets list.fields) (moved old new))
+  taken_by list false = (refl, refl, refl)
+
+  one_seen : (list : LayoutData F V) → IsSeenBehindTag old new whole view list (seen_as view whole (grown_variant old new (variant_of list)))
+  one_seen list =
+      let v = grown_variant old new (variant_of list) in
+      let t = taken_by list (nat_lt old new) in
+      let takes : (is_of_scalars view && is_memory v.backend_repr && nat_lt 0 (length v.field_offsets)) ≡ takes_view view list
+      = ap (λ r. is_of_scalars view && is_memory r && nat_lt 0 (length v.field_offsets)) t.0 ∙ ap (λ n. is_of_scalars view && is_memory list.backend_repr && nat_lt 0 n) t.2 in
+      let h = view_by view whole (is_of_scalars view && is_memory v.backend_repr && nat_lt 0 (length v.field_offsets)) v in
+      record {
+        as_enum = λ is. ((h.0 (takes ∙ is)).0, (h.0 (takes ∙ is)).1 ∙ ap (λ n. max n whole) t.1);
+        as_list = λ is. ((h.1 (takes ∙ is)).0 ∙ t.0, (h.1 (takes ∙ is)).1 ∙ t.1);
+      }
+
+  pub all_seen : (lists : List (LayoutData F V)) → AreSeenBehindTag old new whole view lists (map (λ list. seen_as view whole (grown_variant old new (variant_of list))) lists)
+  all_seen [] = tt
+  all_seen (l ∷ ls) = (one_seen l, all_seen ls)
 
   pub all_behind : (lists : List (LayoutData F V)) → AreBehindTag old new whole lists (map (λ list. seen_as view whole (grown_variant old new (variant_of list))) lists)
   all_behind [] = tt
@@ -155,8 +185,12 @@ module _ {F V : Type 0} (place width : ℕ) (room : Room) (before : room.before 
   after_niche list v true fits e =
       let same : moved_on (place_after room list.align.abi) (variant_of list) ≡ v = cc in
       let end : place_after room list.align.abi + list.size ≤ room.whole = leb-true (place_after room list.align.abi + list.size) room.whole fits in
-      inr (subst (λ n. (next_multiple_of n (2 ^ list.align.abi) + list.size ≤ room.whole) × IsMovedBy (next_multiple_of n (2 ^ list.align.abi)) list v) after
-      (end, subst (IsMovedBy (place_after room list.align.abi) list) same (record { offsets = refl; order = refl; size = refl; niche = refl; uninhabited = refl })))
+      inr (subst (λ n. (next_multiple_of n (2 ^ list.align.abi) + list.size ≤ room.whole) × IsMovedBy (next_multiple_of n (2 ^ list.align.abi)) list v
+      × (v.backend_repr ≡ (if list.uninhabited then list.backend_repr else Memory true))) after (
+        end,
+        subst (IsMovedBy (place_after room list.align.abi) list) same (record { offsets = refl; order = refl; size = refl; niche = refl; uninhabited = refl }),
+        ap (λ w. w.backend_repr) (sym same),
+      ))
   after_niche list v false fits e = absurd (cc)
 
   beside_by : (list : LayoutData F V) (v : VariantLayout F) (b : Bool) → nat_le list.size room.before ≡ b
@@ -166,7 +200,7 @@ module _ {F V : Type 0} (place width : ℕ) (room : Room) (before : room.before 
       let same : without_niche (variant_of list) ≡ v = cc in
       let end : list.size ≤ place = omega (arith, leb-true list.size room.before fits, before) in
       let none : list.size ≡ 0 + list.size = omega arith in
-      inl (end, subst (IsMovedBy 0 list) same (record { offsets = from_start (listed_offsets list.fields); order = refl; size = none; niche = refl; uninhabited = refl }))
+      inl (end, subst (IsMovedBy 0 list) same (record { offsets = from_start (listed_offsets list.fields); order = refl; size = none; niche = refl; uninhabited = refl }), ap (λ w. w.backend_repr) (sym same))
   beside_by list v false fits e = after_niche list v (nat_le (place_after room list.align.abi + list.size) room.whole) refl e
 
   own_by : (list : LayoutData F V) (v : VariantLayout F) (b : Bool) → (if b then Some (variant_of list) else beside_niche room list.align.abi (variant_of list)) ≡ Some v
@@ -247,7 +281,7 @@ module _ {F V H : Type 0} (layout_of : H → LayoutData F V) (at : ℕ → F) (n
   module _ (fields : All (All (λ f. IsLawfulLayout dl (layout_of f))) variants) where
     -- an enum with a tag is made of its lists
     pub tagged_made : OfTagged layout_of at number index place dl repr asks variants
-        (λ items l. IsMadeOfLists at place dl repr asks (counting_of place repr (map (map layout_of) variants) items) (map (map layout_of) variants) l)
+        (λ items l. IsMadeOfLists at number place dl repr asks (counting_of place repr (map (map layout_of) variants) items) (map (map layout_of) variants) l)
     tagged_made items asked signed lists t unpacked is are by =
         let grown = grown_tag dl repr asked (start_align number (map (map layout_of) variants) lists) in
         let tag : Scalar = Initialized (Int grown signed) by.ranged.0 in
@@ -270,6 +304,7 @@ module _ {F V H : Type 0} (layout_of : H → LayoutData F V) (at : ℕ → F) (n
           tag = tag;
           grown = grown;
           no_less = (grown_size dl repr asked (start_align number (map (map layout_of) variants) lists)).no_less;
+          grows = refl;
           holds = refl;
           field = at 0;
           layouts = map (λ list. seen_as view (lists_size dl lists) (grown_variant (integer_size asked) (integer_size grown) (variant_of list))) lists;
@@ -277,11 +312,15 @@ module _ {F V H : Type 0} (layout_of : H → LayoutData F V) (at : ℕ → F) (n
           places = subst (λ n. AreBehindTag (integer_size asked) (integer_size grown) n lists
               (map (λ list. seen_as view (lists_size dl lists) (grown_variant (integer_size asked) (integer_size grown) (variant_of list))) lists)) (sym (ap (λ m. m.size) same))
               (all_behind (integer_size asked) (integer_size grown) (grown_size dl repr asked (start_align number (map (map layout_of) variants) lists)).no_less view (lists_size dl lists) lists);
+          view = subst (λ (m : LayoutData F V). m.backend_repr ≡ tagged_view dl tag m.size m.align.abi (payloads_of dl (integer_size asked) (integer_size grown) (map (map layout_of) variants) lists)) (sym same) refl;
+          seen = subst (λ (m : LayoutData F V). AreSeenBehindTag (integer_size asked) (integer_size grown) m.size m.backend_repr lists
+              (map (λ list. seen_as view (lists_size dl lists) (grown_variant (integer_size asked) (integer_size grown) (variant_of list))) lists)) (sym same)
+              (all_seen (integer_size asked) (integer_size grown) (grown_size dl repr asked (start_align number (map (map layout_of) variants) lists)).no_less view (lists_size dl lists) lists);
         })
 
     -- and so is one with a niche
     pub niche_made : (most : ℕ) → ((i : ℕ) → i ≤ most → place (index i) ≡ i) → length variants ≤ most + 1 → OfNiche layout_of at number index place dl repr asks variants
-        (λ items l. IsMadeOfLists at place dl repr asks (counting_of place repr (map (map layout_of) variants) items) (map (map layout_of) variants) l)
+        (λ items l. IsMadeOfLists at number place dl repr asks (counting_of place repr (map (map layout_of) variants) items) (map (map layout_of) variants) l)
     niche_made most named few items lists t unpacked are is =
         let p = niche_parts (at 0) index dl repr (map (map layout_of) variants) lists t is in
         let same = p.is in
@@ -314,6 +353,9 @@ module _ {F V H : Type 0} (layout_of : H → LayoutData F V) (at : ℕ → F) (n
           places = subst (λ k. AreBesideNiche p.niche.offset (niche_size dl p.niche) t.size k 0 lists p.placed) (sym at_untagged)
               (subst (λ n. AreBesideNiche p.niche.offset (niche_size dl p.niche) n (untagged_of lists) 0 lists p.placed) (sym whole)
               (all_beside p.niche.offset (niche_size dl p.niche) (room_beside dl p.niche lists) refl refl (untagged_of lists) 0 lists p.placed p.beside));
+          view = subst (λ (m : LayoutData F V). m.backend_repr ≡ niche_view m.size m.align.abi (place (index (untagged_of lists))) p.list p.niche.offset (reserved dl p.niche (span_count p.span)).1 p.placed) (sym same)
+              (subst (λ k. niche_view (lists_size dl lists) (lists_align dl lists) (untagged_of lists) p.list p.niche.offset (reserved dl p.niche (span_count p.span)).1 p.placed
+              ≡ niche_view (lists_size dl lists) (lists_align dl lists) k p.list p.niche.offset (reserved dl p.niche (span_count p.span)).1 p.placed) (sym at_untagged) refl);
         })
 
   -- it has no values where none of its variants has

@@ -37,6 +37,7 @@ use Rattle.abi_scalar.specs.declared.layout_data.LayoutData.{LayoutData}
 use Rattle.abi_scalar.specs.declared.repr.ReprOptions.{ReprOptions}
 use Rattle.abi_scalar.specs.Lawful.{IsLawfulLayout}
 use Rattle.abi_calc.specs.Enums.Lists.{AreGoodLists, HaveGoodLists, IsFirstListError, behind_tag}
+use Rattle.abi_calc.specs.Enums.Promised.{IsPlacedByTag}
 use Rattle.abi_calc.specs.Enums.Sizes.{IsTaggedSize, IsTaggedTooLarge}
 use Rattle.abi_calc.specs.Enums.Tagged.{IsTaggedBy, lists_align, lists_size, payloads_of}
 use Rattle.abi_calc.proofs.EnumLemmas.Sizes.{error_large, error_sized, not_too_large, tagged_size, too_large_whole}
@@ -112,7 +113,7 @@ module _ {F V H : Type 0} (layout_of : H → LayoutData F V) (at : ℕ → F) (n
   by_no_other (Err e) (inr want) = inr want
 
   -- the tag and the fields of each variant share no byte
-  pub by_apart : (most : ℕ) → ((i : ℕ) → i ≤ most → number (at i) ≡ i) → IsLawfulDataLayout dl → kind ≡ behind_tag dl repr asked (map (map layout_of) variants) → All (λ fields. length fields ≤ most + 1) variants
+  by_apart : (most : ℕ) → ((i : ℕ) → i ≤ most → number (at i) ≡ i) → IsLawfulDataLayout dl → kind ≡ behind_tag dl repr asked (map (map layout_of) variants) → All (λ fields. length fields ≤ most + 1) variants
       → (r : Result (LayoutData F V) (LayoutCalculatorError H)) → HasGoodLists → IfOk r IsBy → IfOk r (λ l. AreApartAmong dl l.size (map (map layout_of) variants) l.variants)
   by_apart most law lawful is small (Ok l) h by =
       let good = subst (λ k. AreGoodLists layout_of at first dl repr k variants lists) is h.good in
@@ -145,7 +146,7 @@ module _ {F V H : Type 0} (layout_of : H → LayoutData F V) (at : ℕ → F) (n
   by_lawful most law lawful is small fields all (Err e) h by = tt
 
   -- its view is true of each variant
-  pub by_view : (r : Result (LayoutData F V) (LayoutCalculatorError H)) → IfOk r IsBy → IfOk r (HasViewOfTag dl)
+  by_view : (r : Result (LayoutData F V) (LayoutCalculatorError H)) → IfOk r IsBy → IfOk r (HasViewOfTag dl)
   by_view (Ok l) by =
       let vs = map (map layout_of) variants in
       let grown = grown_tag dl repr asked (start_align number vs lists) in
@@ -154,16 +155,27 @@ module _ {F V H : Type 0} (layout_of : H → LayoutData F V) (at : ℕ → F) (n
   by_view (Err e) by = tt
 
   -- each discriminant that counts is a number of the tag
-  pub by_numbers : (r : Result (LayoutData F V) (LayoutCalculatorError H)) → IfOk r IsBy → IfOk r (λ l. AreNumbersAmong dl values l.variants)
+  by_numbers : (r : Result (LayoutData F V) (LayoutCalculatorError H)) → IfOk r IsBy → IfOk r (λ l. AreNumbersAmong dl values l.variants)
   by_numbers (Ok l) by = subst (λ m. AreNumbersAmong dl values m.variants) (sym by.ranged.2) (values_in (integer_size (grown_tag dl repr asked (start_align number (map (map layout_of) variants) lists))) values by.ranged.0 by.ranged.1)
   by_numbers (Err e) by = tt
 
   -- those that differ by the integer that was asked for differ there
-  pub by_differ : (r : Result (LayoutData F V) (LayoutCalculatorError H)) → IfOk r IsBy → IfOk r (λ l. DifferAmong dl (integer_size asked) values l.variants)
+  by_differ : (r : Result (LayoutData F V) (LayoutCalculatorError H)) → IfOk r IsBy → IfOk r (λ l. DifferAmong dl (integer_size asked) values l.variants)
   by_differ (Ok l) by =
       subst (λ m. DifferAmong dl (integer_size asked) values m.variants) (sym by.ranged.2)
       (differ_wider (integer_size asked) (integer_size (grown_tag dl repr asked (start_align number (map (map layout_of) variants) lists))) values (grown_size dl repr asked (start_align number (map (map layout_of) variants) lists)).no_less)
   by_differ (Err e) by = tt
+
+  -- where the tag and the fields lie, and which numbers the tag has
+  pub placed_by : (most : ℕ) → ((i : ℕ) → i ≤ most → number (at i) ≡ i) → IsLawfulDataLayout dl → kind ≡ behind_tag dl repr asked (map (map layout_of) variants) → All (λ fields. length fields ≤ most + 1) variants
+      → (r : Result (LayoutData F V) (LayoutCalculatorError H)) → HasGoodLists → IfOk r IsBy → IfOk r (IsPlacedByTag dl asked values (map (map layout_of) variants))
+  placed_by most law lawful is small (Ok l) h by = record {
+    view = by_view (Ok l) by;
+    apart = by_apart most law lawful is small (Ok l) h by;
+    numbers = by_numbers (Ok l) by;
+    differ = by_differ (Ok l) by;
+  }
+  placed_by most law lawful is small (Err e) h by = tt
 
 -- the error of a list
 module _ {F V H : Type 0} (layout_of : H → LayoutData F V) (at : ℕ → F) (first : V) (dl : TargetDataLayout) (repr : ReprOptions) (kind : StructKind) (variants : List (List H)) (e : LayoutCalculatorError H) where

@@ -1,6 +1,7 @@
 -- What is promised of an enum of several variants, from its layouts with a niche and with a tag.
 use Rattle.std.proofs.Common.{◌≡◌, ℕ, ◌+◌, ◌<◌, ◌≤◌, ◌∙◌, Bool, true, false, List, ap, arith, inl, inr, length, map, refl, subst, sym}
 use Rattle.std.specs.Prelude.{◌==◌, ◌&&◌, ◌||◌, ◌⊎◌, All, IfSome, ℤ, Option, None, Some, Result, Ok, Err, if◌then◌else◌, nat_lt}
+use Rattle.std.specs.Result.{IsErrAnd}
 use Rattle.std.proofs.lemmas.Bool.{eqb-true, ltb-false, ltb-true}
 use Rattle.abi_base.specs.declared.data_layout.TargetDataLayout.{TargetDataLayout}
 use Rattle.abi_base.specs.declared.integer.Integer.{Integer}
@@ -23,6 +24,7 @@ use Rattle.abi_calc.specs.Enums.Discriminants.{counting_of}
 use Rattle.abi_calc.specs.Enums.Lists.{AreGoodLists, AreListLayouts, behind_tag, tag_align}
 use Rattle.abi_calc.specs.Enums.Niche.{niche_layout}
 use Rattle.abi_calc.specs.Enums.Path.{is_free}
+use Rattle.abi_calc.specs.Enums.Promised.{IsSizedEnum}
 use Rattle.abi_calc.specs.Enums.Room.{IsEnumSize}
 use Rattle.abi_calc.specs.Enums.Several.{HasEnumSize, HasTaggedSize, IsAskedAnswer, IsEnumAnswer, better_of}
 use Rattle.abi_calc.specs.Enums.Sizes.{IsTaggedSize}
@@ -169,3 +171,16 @@ module _ {F V H : Type 0} (layout_of : H → LayoutData F V) (at : ℕ → F) (i
 pub no_refusal : {A H : Type 0} (e : LayoutCalculatorError H) (a b : A) → IsAnswer {A = A} (Err e) (Ok a) → IsAnswer {A = A} (Err e) (Ok b)
 no_refusal e a b (inl is) = absurd (cc)
 no_refusal e a b (inr is) = absurd (cc)
+
+-- want of memory says nothing of a size
+module _ {F V H : Type 0} (layout_of : H → LayoutData F V)
+    (HasSize : TargetDataLayout → ReprOptions → (RangeFrom ℤ → RangeToInclusive ℕ → Integer × Bool → Type 0) → List ℕ → List (List H) → ℕ → Type 0)
+    (dl : TargetDataLayout) (repr : ReprOptions) (asks : RangeFrom ℤ → RangeToInclusive ℕ → Integer × Bool → Type 0) (values : List ℕ) (variants : List (List H)) where
+  pub memory_sized : (r : Result (LayoutData F V) (LayoutCalculatorError H)) → IsErrAnd r (λ e. e ≡ OutOfMemory) → IsSizedEnum layout_of HasSize dl repr asks values variants r
+  memory_sized (Ok l) told = absurd told
+  memory_sized (Err e) told = record {
+    size = tt;
+    too_large = λ is. absurd (cc);
+    refused = λ sized large. inr (ap (λ x. Err x) told);
+    no_other = λ sized. inr told;
+  }

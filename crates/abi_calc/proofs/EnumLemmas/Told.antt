@@ -24,6 +24,7 @@ use Rattle.abi_calc.specs.Enums.Filled.{IsFilled}
 use Rattle.abi_calc.specs.Enums.Growth.{grown_tag, grown_variant, start_align}
 use Rattle.abi_calc.specs.Enums.Lists.{HaveGoodLists, behind_tag}
 use Rattle.abi_calc.specs.Enums.Payload.{seen_as, tagged_view}
+use Rattle.abi_calc.specs.Enums.Promised.{IsPlacedByTag}
 use Rattle.abi_calc.specs.Enums.Several.{HasTaggedSize, IsAskedFor}
 use Rattle.abi_calc.specs.Enums.Sizes.{IsTaggedSize}
 use Rattle.abi_calc.specs.Enums.Path.{has_no_value, variant_at}
@@ -56,12 +57,10 @@ module _ {F V H : Type 0} (layout_of : H → LayoutData F V) (at : ℕ → F) (n
     (variants : List (List H)) (items : List (V × ℕ)) where
   -- what is promised of an enum with a tag says that it tells the variants apart
   pub told_by_tag : (r : Result (LayoutData F V) (LayoutCalculatorError H)) → IsTaggedAnswer layout_of at number first dl repr asked signed (counting_of place repr (map (map layout_of) variants) items) variants r
-      → IfOk r (λ l. AreApartAmong dl l.size (map (map layout_of) variants) l.variants)
-      → IfOk r (λ l. AreNumbersAmong dl (counting_of place repr (map (map layout_of) variants) items) l.variants)
-      → IfOk r (HasViewOfTag dl)
+      → IfOk r (IsPlacedByTag dl asked (counting_of place repr (map (map layout_of) variants) items) (map (map layout_of) variants))
       → AllPairs (λ v w. v % numbers_of (integer_size asked) ≢ w % numbers_of (integer_size asked)) (inhabited_of place (map (map layout_of) variants) items)
       → IfOk r (IsToldByTag dl place (map (map layout_of) variants) items)
-  told_by_tag (Ok l) exact apart numbers view differ =
+  told_by_tag (Ok l) exact placed differ =
       let vs = map (map layout_of) variants in
       let by = exact.2 in
       let grown = grown_tag dl repr asked (start_align number vs exact.0) in
@@ -73,16 +72,16 @@ module _ {F V H : Type 0} (layout_of : H → LayoutData F V) (at : ℕ → F) (n
         place = ap (λ m. m.fields) by.ranged.2;
         layouts = map (λ list. seen_as (tagged_view dl tag (lists_size dl exact.0) (lists_align dl exact.0) (payloads_of dl (integer_size asked) (integer_size grown) vs exact.0)) (lists_size dl exact.0) (grown_variant (integer_size asked) (integer_size grown) (variant_of list))) exact.0;
         told = told;
-        apart = subst (AreApartAmong dl l.size vs) told apart;
-        numbers = inhabited_count (λ v. IsNumberOf (scalar_size dl tag) tag (v % numbers_of (scalar_size dl tag))) place repr vs items (subst (AreNumbersAmong dl (counting_of place repr vs items)) told numbers);
+        apart = subst (AreApartAmong dl l.size vs) told placed.apart;
+        numbers = inhabited_count (λ v. IsNumberOf (scalar_size dl tag) tag (v % numbers_of (scalar_size dl tag))) place repr vs items (subst (AreNumbersAmong dl (counting_of place repr vs items)) told placed.numbers);
         differ = differ_wider (integer_size asked) (integer_size grown) (inhabited_of place vs items) (grown_size dl repr asked (start_align number vs exact.0)).no_less differ;
-        view = subst (λ v. BeginsWithTagOf dl v l.backend_repr) told view;
+        view = subst (λ v. BeginsWithTagOf dl v l.backend_repr) told placed.view;
         filled = subst (λ v. IsFilled dl l.backend_repr (variants_of v) vs) told
             (tagged_filled number (at 0) dl repr asked signed (counting_of place repr vs items) vs exact.0 l
             (listed_count layout_of at first dl repr (behind_tag dl repr asked vs) variants exact.0 exact.1) by);
         niche = ap (λ m. m.largest_niche) by.ranged.2;
       }
-  told_by_tag (Err e) exact apart numbers view differ = tt
+  told_by_tag (Err e) exact placed differ = tt
 
   -- the size, beside the integer that is asked for
   pub asked_sized : (asks : RangeFrom ℤ → RangeToInclusive ℕ → Integer × Bool → Type 0) (values : List ℕ) (r : Result (LayoutData F V) (LayoutCalculatorError H)) → IsAskedFor dl repr asks values asked signed

@@ -1,5 +1,5 @@
 -- The answer to a coroutine.
-use Rattle.std.specs.Prelude.{◌≡◌, ℕ, ◌<◌, ◌≤◌, ◌⊎◌, Bool, List, length, Result, Ok, Err}
+use Rattle.std.specs.Prelude.{◌≡◌, ℕ, ◌<◌, ◌≤◌, ◌⊎◌, Bool, List, length, map, Result, Ok, Err}
 use Rattle.abi_base.specs.declared.data_layout.TargetDataLayout.{TargetDataLayout}
 use Rattle.abi_base.specs.declared.struct_kind.StructKind.TheVariants.{AlwaysSized}
 use Rattle.abi_base.specs.DataLayout.{size_bound}
@@ -9,7 +9,7 @@ use Rattle.abi_scalar.specs.declared.error.LayoutCalculatorError.TheVariants.{Ou
 use Rattle.abi_scalar.specs.declared.layout_data.LayoutData.{LayoutData}
 use Rattle.abi_scalar.specs.declared.scalar.Scalar.{Scalar}
 use Rattle.abi_lists.specs.List.{IsListAnswer, IsListError}
-use Rattle.abi_calc.specs.Coroutine.Layout.{coroutine_layout, whole_size}
+use Rattle.abi_calc.specs.Coroutine.Layout.{IsStateTag, coroutine_layout, whole_size}
 use Rattle.abi_calc.specs.Coroutine.Lists.{AreOwnLists, IsFirstOwnError, behind, default_repr, first_list}
 use Rattle.abi_calc.specs.Coroutine.Promotion.{promoted_of}
 
@@ -34,3 +34,11 @@ abbrev pub IsCoroutineAnswer : {F V H : Type 0} → (layout_of : H → LayoutDat
     → (prefix : List H) → (tag : Scalar) → (field : H) → (locals : List H) → (states : List (List ℕ)) → Relation → Result (LayoutData F V) (LayoutCalculatorError H) → Type 0
 IsCoroutineAnswer layout_of at number zeroth dl prefix tag field locals states conflicts result =
     IsPromotedAnswer layout_of at number zeroth dl prefix tag field locals states (promoted_of states conflicts) result
+
+-- the answer to these states: with the least tag that has each state's number, in the field that is given for it; `place` tells the
+-- number of a local
+abbrev pub IsStatesAnswer : {F V H L : Type 0} → (layout_of : H → LayoutData F V) → (at : ℕ → F) → (number : F → ℕ) → (zeroth : V) → (place : L → ℕ) → TargetDataLayout
+    → (gives : Scalar → H → Type 0) → (prefix : List H) → (locals : List H) → (states : List (List L)) → Relation → Result (LayoutData F V) (LayoutCalculatorError H) → Type 0
+IsStatesAnswer layout_of at number zeroth place dl gives prefix locals states conflicts result =
+    (tag : Scalar) × IsStateTag (length states) tag × (field : _) × gives tag field
+    × IsCoroutineAnswer layout_of at number zeroth dl prefix tag field locals (map (map place) states) conflicts result

@@ -1,11 +1,13 @@
 -- What an enum of several variants takes over from the lists of its variants.
-use Rattle.std.specs.Prelude.{◌≡◌, ℕ, ◌+◌, ◌^◌, ◌≤◌, ◌==◌, ◌⊎◌, ⊤, Bool, ℤ, List, [], ◌∷◌, MatchBool, None, Some, map, max, slice_get}
+use Rattle.std.specs.Prelude.{◌≡◌, ℕ, ◌+◌, ◌^◌, ◌≤◌, ◌==◌, ◌&&◌, ◌⊎◌, ⊤, Bool, ℤ, List, [], ◌∷◌, MatchBool, None, Some, false, if◌then◌else◌, length, map, max, nat_lt, slice_get, true}
 use Rattle.std.specs.Int.{next_multiple_of}
 use Rattle.abi_base.specs.declared.data_layout.TargetDataLayout.{TargetDataLayout}
 use Rattle.abi_base.specs.declared.integer.Integer.{Integer}
 use Rattle.abi_base.specs.declared.primitive.Primitive.TheVariants.{Int}
 use Rattle.abi_base.specs.declared.struct_kind.StructKind.TheVariants.{AlwaysSized}
 use Rattle.abi_base.specs.Integer.{integer_size}
+use Rattle.abi_scalar.specs.declared.backend_repr.BackendRepr.{BackendRepr}
+use Rattle.abi_scalar.specs.declared.backend_repr.BackendRepr.TheVariants.{Memory}
 use Rattle.abi_scalar.specs.declared.layout_data.LayoutData.{LayoutData}
 use Rattle.abi_scalar.specs.declared.niche.Niche.{Niche}
 use Rattle.abi_scalar.specs.declared.repr.ReprOptions.{ReprOptions}
@@ -26,9 +28,12 @@ use Rattle.abi_scalar.specs.Variant.{variant_of}
 use Rattle.abi_lists.specs.Apart.{AreAligned}
 use Rattle.abi_lists.specs.Fields.{greatest_align}
 use Rattle.abi_calc.specs.Enums.Discriminants.{IsTagRange}
-use Rattle.abi_calc.specs.Enums.Growth.{moved}
+use Rattle.abi_calc.specs.Enums.Growth.{grown_tag, moved, start_align}
 use Rattle.abi_calc.specs.Enums.Lists.{behind_tag}
+use Rattle.abi_calc.specs.Enums.Niche.{niche_view}
+use Rattle.abi_calc.specs.Enums.Payload.{is_memory, is_of_scalars, tagged_view}
 use Rattle.abi_calc.specs.Enums.Several.{IsAskedFor}
+use Rattle.abi_calc.specs.Enums.Tagged.{payloads_of}
 use Rattle.abi_calc.specs.Made.{AreFieldLists}
 use Rattle.abi_calc.specs.Marks.{HasEnumMarks}
 
@@ -50,9 +55,26 @@ AreBehindTag old new whole [] [] = ⊤
 AreBehindTag old new whole (list ∷ lists) (layout ∷ layouts) = IsBehindTag old new whole list layout × AreBehindTag old new whole lists layouts
 AreBehindTag old new whole _ _ = ⊥
 
+-- a variant whose list is bytes in memory, and has fields, is seen as its enum is where that is seen as scalars
+abbrev pub takes_view : {F V : Type 0} → (view : BackendRepr) → (list : LayoutData F V) → Bool
+takes_view view list = is_of_scalars view && is_memory list.backend_repr && nat_lt 0 (length (listed_offsets list.fields))
+
+-- A variant beside a tag of so many bytes that grew to so many, in a whole of this size that is seen so: it takes what its list takes,
+-- and where the tag grew no less than the tag. Where it is seen as its enum is, it is no smaller than that.
+pub record IsSeenBehindTag {F V : Type 0} (old new whole : ℕ) (view : BackendRepr) (list : LayoutData F V) (layout : VariantLayout F) : Type 0 where
+  pub as_enum : takes_view view list ≡ true → (layout.backend_repr ≡ view) × (layout.size ≡ max (if nat_lt old new then max list.size new else list.size) whole)
+  pub as_list : takes_view view list ≡ false → (layout.backend_repr ≡ list.backend_repr) × (layout.size ≡ (if nat_lt old new then max list.size new else list.size))
+
+-- each variant from its list
+abbrev pub AreSeenBehindTag : {F V : Type 0} → (old new whole : ℕ) → (view : BackendRepr) → (lists : List (LayoutData F V)) → (layouts : List (VariantLayout F)) → Type 0
+AreSeenBehindTag old new whole view [] [] = ⊤
+AreSeenBehindTag old new whole view (list ∷ lists) (layout ∷ layouts) = IsSeenBehindTag old new whole view list layout × AreSeenBehindTag old new whole view lists layouts
+AreSeenBehindTag old new whole view _ _ = ⊥
+
 -- An enum with a tag is made of its variants' lists behind the integer that is asked for: it is aligned as the greatest of them,
--- and marked as they are. The tag is an integer that is no smaller, with the same sign.
-pub record IsMadeByTag {F V : Type 0} (at : ℕ → F) (dl : TargetDataLayout) (repr : ReprOptions) (asks : RangeFrom ℤ → RangeToInclusive ℕ → Integer × Bool → Type 0) (values : List ℕ)
+-- and marked as they are. The tag is an integer that is no smaller, with the same sign: where the layout is free, the larger one of the size
+-- and the alignment with which the variants' first fields begin. `number` tells the number of a field.
+pub record IsMadeByTag {F V : Type 0} (at : ℕ → F) (number : F → ℕ) (dl : TargetDataLayout) (repr : ReprOptions) (asks : RangeFrom ℤ → RangeToInclusive ℕ → Integer × Bool → Type 0) (values : List ℕ)
     (variants : List (List (LayoutData F V))) (layout : LayoutData F V) : Type 0 where
   pub asked : Integer
   pub signed : Bool
@@ -64,11 +86,17 @@ pub record IsMadeByTag {F V : Type 0} (at : ℕ → F) (dl : TargetDataLayout) (
   pub tag : Scalar
   pub grown : Integer
   pub no_less : integer_size asked ≤ integer_size grown
+  pub grows : grown ≡ grown_tag dl repr asked (start_align number variants lists)
   pub holds : primitive_of tag ≡ Int grown signed
   pub field : F
   pub layouts : List (VariantLayout F)
   pub told : layout.variants ≡ Multiple tag Direct field layouts
   pub places : AreBehindTag (integer_size asked) (integer_size grown) layout.size lists layouts
+  -- It is seen as the tag where that is all, else as the tag and the scalar that the variants have in common, where these lie as a pair
+  -- does, else as bytes in memory.
+  pub view : layout.backend_repr ≡
+      tagged_view dl tag layout.size layout.align.abi (payloads_of dl (integer_size asked) (integer_size grown) variants lists)
+  pub seen : AreSeenBehindTag (integer_size asked) (integer_size grown) layout.size layout.backend_repr lists layouts
 
 -- ---- beside a niche
 
@@ -80,12 +108,13 @@ pub record IsMovedBy {F V : Type 0} (by : ℕ) (list : LayoutData F V) (layout :
   pub niche : layout.largest_niche ≡ None
   pub uninhabited : layout.uninhabited ≡ list.uninhabited
 
--- a variant beside a niche of so many bytes at this place: it stays where it ends before the niche, or begins at the first
--- multiple of its alignment after it, and ends inside the whole
+-- a variant beside a niche of so many bytes at this place: it stays where it ends before the niche, and is seen as its list, or begins at
+-- the first multiple of its alignment after it, and ends inside the whole, as bytes in memory unless it has no values
 abbrev pub IsBesideNiche : {F V : Type 0} → (place width whole : ℕ) → LayoutData F V → VariantLayout F → Type 0
 IsBesideNiche place width whole list layout =
-    ((list.size ≤ place) × IsMovedBy 0 list layout)
-    ⊎ ((next_multiple_of (place + width) (2 ^ list.align.abi) + list.size ≤ whole) × IsMovedBy (next_multiple_of (place + width) (2 ^ list.align.abi)) list layout)
+    ((list.size ≤ place) × IsMovedBy 0 list layout × (layout.backend_repr ≡ list.backend_repr))
+    ⊎ ((next_multiple_of (place + width) (2 ^ list.align.abi) + list.size ≤ whole) × IsMovedBy (next_multiple_of (place + width) (2 ^ list.align.abi)) list layout
+    × (layout.backend_repr ≡ (if list.uninhabited then list.backend_repr else Memory true)))
 
 -- each variant, those from a place on: the untagged one is its list, the others lie beside the niche
 abbrev pub AreBesideNiche : {F V : Type 0} → (place width whole untagged from : ℕ) → (lists : List (LayoutData F V)) → (layouts : List (VariantLayout F)) → Type 0
@@ -114,11 +143,14 @@ pub record IsMadeInNiche {F V : Type 0} (at : ℕ → F) (number : V → ℕ) (d
   pub niche : Niche
   pub largest : list.largest_niche ≡ Some niche
   pub places : AreBesideNiche niche.offset (niche_size dl niche) layout.size (number untagged) 0 lists layouts
+  -- It is seen as the untagged variant that fills it, with the tag in place of the niche's scalar, where no other has bytes, else as bytes
+  -- in memory.
+  pub view : layout.backend_repr ≡ niche_view layout.size layout.align.abi (number untagged) list niche.offset tag layouts
 
 -- an enum is made of its variants' lists, behind a tag or beside a niche
-abbrev pub IsMadeOfLists : {F V : Type 0} → (at : ℕ → F) → (number : V → ℕ) → TargetDataLayout → ReprOptions → (asks : RangeFrom ℤ → RangeToInclusive ℕ → Integer × Bool → Type 0) → (values : List ℕ)
+abbrev pub IsMadeOfLists : {F V : Type 0} → (at : ℕ → F) → (number : F → ℕ) → (place : V → ℕ) → TargetDataLayout → ReprOptions → (asks : RangeFrom ℤ → RangeToInclusive ℕ → Integer × Bool → Type 0) → (values : List ℕ)
     → (variants : List (List (LayoutData F V))) → LayoutData F V → Type 0
-IsMadeOfLists at number dl repr asks values variants layout = IsMadeByTag at dl repr asks values variants layout ⊎ IsMadeInNiche at number dl repr variants layout
+IsMadeOfLists at number place dl repr asks values variants layout = IsMadeByTag at number dl repr asks values variants layout ⊎ IsMadeInNiche at place dl repr variants layout
 
 -- ---- the tag, and where fields lie
 

@@ -96,7 +96,8 @@ fn shared_order<FieldIdx: Idx>(
     order: &[FieldIdx],
 ) -> Result<IndexVec<u32, FieldIdx>, AllocError>
     requires { length order.now ≤ 0xFFFF_FFFF + 1 }
-    ensures { IfOk result (λ list. list ≡ filter (λ i. nat_lt (FieldIdx.number i) before) order.now) }
+    ensures { IfOk result (λ list. list ≡ filter
+        (λ i. nat_lt (FieldIdx.number i) before) order.now) }
 {
     let mut list = IndexVec::new(alloc);
     for index in order {
@@ -135,7 +136,8 @@ fn shared_fields<FieldIdx: Idx, VariantIdx: Idx>(
     requires within { before ≤ length (listed_offsets first.now.fields) }
     requires few { before ≤ FieldIdx.MAX_INDEX + 1 }
     requires order { length (listed_order first.now.fields) ≤ 0xFFFF_FFFF + 1 }
-    ensures { IfOk result (λ shape. shape ≡ Arbitrary (take before (listed_offsets first.now.fields))
+    ensures { IfOk result (λ shape. shape ≡ Arbitrary
+        (take before (listed_offsets first.now.fields))
         (filter (λ i. nat_lt (FieldIdx.number i) before) (listed_order first.now.fields))) }
 {
     let offsets = field_offsets(alloc, &first.offsets()[..before])?;
@@ -158,13 +160,14 @@ fn state_layouts<FieldIdx: Idx, VariantIdx: Idx, LocalIdx: Idx>(
     requires named { saved.count ≤ LocalIdx.MAX_INDEX + 1 }
     requires few { length saved.states.now ≤ VariantIdx.MAX_INDEX + 1 }
     requires within { All (All (λ l. LocalIdx.number l < saved.count)) saved.states.now }
-    requires once { All (λ state. AllPairs (λ a b. a ≢ b) (map LocalIdx.number state)) saved.states.now }
-    requires first { HasFields FieldIdx.number (before + length (members_of saved.promoted.now)) first.now }
-    requires lists { AllZip (λ state list.
-        HasFields FieldIdx.number (length (own_of saved.promoted.now (map LocalIdx.number state))) list)
-        saved.states.now lists }
-    ensures { IfOk result (λ layouts.
-        layouts ≡ state_layouts FieldIdx.at FieldIdx.number before saved.entry.promoted.now first.now
+    requires once { All (λ state. AllPairs (λ a b. a ≢ b)
+        (map LocalIdx.number state)) saved.states.now }
+    requires first { HasFields FieldIdx.number
+        (before + length (members_of saved.promoted.now)) first.now }
+    requires lists { AllZip (λ state list. HasFields FieldIdx.number (length
+        (own_of saved.promoted.now (map LocalIdx.number state))) list) saved.states.now lists }
+    ensures { IfOk result (λ layouts. layouts ≡ state_layouts FieldIdx.at
+        FieldIdx.number before saved.entry.promoted.now first.now
         (map (map LocalIdx.number) saved.entry.states.now) lists) }
 {
     let Saved {
@@ -202,15 +205,17 @@ fn layout_of_size<FieldIdx: Idx, VariantIdx: Idx, LocalIdx: Idx>(
     requires named { saved.count ≤ LocalIdx.MAX_INDEX + 1 }
     requires few { length saved.states.now ≤ VariantIdx.MAX_INDEX + 1 }
     requires within { All (All (λ l. LocalIdx.number l < saved.count)) saved.states.now }
-    requires once { All (λ state. AllPairs (λ a b. a ≢ b) (map LocalIdx.number state)) saved.states.now }
-    requires first { HasFields FieldIdx.number (prefix + 1 + length (members_of saved.promoted.now)) first }
-    requires lists { AllZip (λ state list.
-        HasFields FieldIdx.number (length (own_of saved.promoted.now (map LocalIdx.number state))) list)
-        saved.states.now lists }
+    requires once { All (λ state. AllPairs (λ a b. a ≢ b)
+        (map LocalIdx.number state)) saved.states.now }
+    requires first { HasFields FieldIdx.number
+        (prefix + 1 + length (members_of saved.promoted.now)) first }
+    requires lists { AllZip (λ state list. HasFields FieldIdx.number (length
+        (own_of saved.promoted.now (map LocalIdx.number state))) list) saved.states.now lists }
     requires align { extent.align ≡ whole_align first lists }
     requires size { extent.size ≡ whole_size first lists }
-    ensures { IfOk result (λ layout. layout ≡ coroutine_layout FieldIdx.at FieldIdx.number prefix tag
-        saved.entry.promoted.now (map (map LocalIdx.number) saved.entry.states.now) first lists) }
+    ensures { IfOk result (λ layout.
+        layout ≡ coroutine_layout FieldIdx.at FieldIdx.number prefix tag saved.entry.promoted.now
+        (map (map LocalIdx.number) saved.entry.states.now) first lists) }
 {
     let before = prefix + 1;
     let uninhabited = is_uninhabited(&first, &lists);
@@ -253,11 +258,12 @@ pub(crate) fn layout_of_lists<FieldIdx: Idx, VariantIdx: Idx, LocalIdx: Idx, F>(
     requires named { saved.count ≤ LocalIdx.MAX_INDEX + 1 }
     requires few { length saved.states.now ≤ VariantIdx.MAX_INDEX + 1 }
     requires within { All (All (λ l. LocalIdx.number l < saved.count)) saved.states.now }
-    requires once { All (λ state. AllPairs (λ a b. a ≢ b) (map LocalIdx.number state)) saved.states.now }
-    requires first { HasFields FieldIdx.number (prefix + 1 + length (members_of saved.promoted.now)) first }
-    requires lists { AllZip (λ state list.
-        HasFields FieldIdx.number (length (own_of saved.promoted.now (map LocalIdx.number state))) list)
-        saved.states.now lists }
+    requires once { All (λ state. AllPairs (λ a b. a ≢ b)
+        (map LocalIdx.number state)) saved.states.now }
+    requires first { HasFields FieldIdx.number
+        (prefix + 1 + length (members_of saved.promoted.now)) first }
+    requires lists { AllZip (λ state list. HasFields FieldIdx.number (length
+        (own_of saved.promoted.now (map LocalIdx.number state))) list) saved.states.now lists }
     requires lawful_first { IsLawfulLayout dl.now first }
     requires lawful { All (IsLawfulLayout dl.now) lists }
     ensures exact { IfOk result (λ layout. (whole_size first lists < size_bound dl.now)

@@ -64,7 +64,8 @@ fn own_fields<FieldIdx: Idx, LocalIdx: Idx, F: Copy>(
 ) -> Result<IndexVec<FieldIdx, F>, AllocError>
     requires within { All (λ l. LocalIdx.number l < length locals.now) state.now }
     requires same { domain_size promoted.now ≡ length locals.now }
-    ensures { IfOk result (λ own. own ≡ own_list locals.now promoted.now (map LocalIdx.number state.now)) }
+    ensures { IfOk result (λ own. own ≡ own_list locals.now promoted.now
+        (map LocalIdx.number state.now)) }
 {
     let mut own = IndexVec::new(alloc);
     for local in state.as_slice().as_raw() {
@@ -91,13 +92,14 @@ impl<Cx: HasDataLayout> LayoutCalculator<Cx> {
         kind: &StructKind,
     ) -> Result<ListLayout<FieldIdx, VariantIdx>, LayoutCalculatorError<F>>
         requires data_layout { IsLawfulDataLayout (Cx.target self.now.cx) }
-        requires locals { All (λ f. IsLawfulLayout (Cx.target self.now.cx) (F.layout_of f)) locals.now }
+        requires locals { All (λ f. IsLawfulLayout (Cx.target self.now.cx)
+            (F.layout_of f)) locals.now }
         requires within { All (λ l. LocalIdx.number l < length locals.now) state.now }
         requires same { domain_size promoted.now ≡ length locals.now }
         requires prefix { IsLawfulPrefix kind.now (size_bound (Cx.target self.now.cx)) }
         requires sized { IsSized kind.now }
-        ensures within { IfOk result (λ list.
-            length (own_list locals.now promoted.now (map LocalIdx.number state.now)) ≤ FieldIdx.MAX_INDEX + 1) }
+        ensures within { IfOk result (λ list. length (own_list locals.now promoted.now
+            (map LocalIdx.number state.now)) ≤ FieldIdx.MAX_INDEX + 1) }
         ensures good { IfOk result (IsGoodList F.layout_of FieldIdx.at (VariantIdx.at 0)
             (Cx.target self.now.cx) default_repr kind.now
             (own_list locals.now promoted.now (map LocalIdx.number state.now))) }
@@ -126,21 +128,21 @@ impl<Cx: HasDataLayout> LayoutCalculator<Cx> {
         kind: &StructKind,
     ) -> Result<ListLayouts<FieldIdx, VariantIdx>, LayoutCalculatorError<F>>
         requires data_layout { IsLawfulDataLayout (Cx.target self.now.cx) }
-        requires locals { All (λ f. IsLawfulLayout (Cx.target self.now.cx) (F.layout_of f)) locals.now }
+        requires locals { All (λ f. IsLawfulLayout (Cx.target self.now.cx)
+            (F.layout_of f)) locals.now }
         requires within { All (All (λ l. LocalIdx.number l < length locals.now)) states.now }
         requires same { domain_size promoted.now ≡ length locals.now }
         requires prefix { IsLawfulPrefix kind.now (size_bound (Cx.target self.now.cx)) }
         requires sized { IsSized kind.now }
-        ensures good { IfOk result (λ lists.
-            AreGoodLists F.layout_of FieldIdx.at (VariantIdx.at 0) (Cx.target self.now.cx) default_repr kind.now
+        ensures good { IfOk result (λ lists. AreGoodLists F.layout_of FieldIdx.at (VariantIdx.at 0)
+            (Cx.target self.now.cx) default_repr kind.now
             (own_lists locals.now promoted.now (map (map LocalIdx.number) states.now)) lists) }
         ensures within { IfOk result (λ lists.
             All (λ own. length own ≤ FieldIdx.MAX_INDEX + 1)
             (own_lists locals.now promoted.now (map (map LocalIdx.number) states.now))) }
-        ensures fault { IfErr result (λ e.
-            IsFirstListError F.layout_of FieldIdx.at (VariantIdx.at 0) (Cx.target self.now.cx) default_repr kind.now
-            (own_lists locals.now promoted.now (map (map LocalIdx.number) states.now)) e ⊎
-            (e ≡ LayoutCalculatorError.OutOfMemory)) }
+        ensures fault { IfErr result (λ e. IsFirstListError F.layout_of FieldIdx.at (VariantIdx.at
+            0) (Cx.target self.now.cx) default_repr kind.now (own_lists locals.now promoted.now
+            (map (map LocalIdx.number) states.now)) e ⊎ (e ≡ LayoutCalculatorError.OutOfMemory)) }
     {
         let mut lists = ListLayouts::with_capacity(alloc, states.len())?;
         for state in states {

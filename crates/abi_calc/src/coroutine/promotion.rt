@@ -14,8 +14,8 @@ use std::alloc::{AllocError, Global};
 /// Notes that the state at this place holds these locals.
 fn note_holder<LocalIdx: Idx>(holders: &mut [usize], state: &[LocalIdx], place: usize)
     requires { All (λ l. LocalIdx.number l < length holders.old) state.now }
-    ensures { (k : ℕ) → k < length holders.old → slice_index holders.new k
-        ≡ (if has_number (map LocalIdx.number state.now) k then place else slice_index holders.old k) }
+    ensures { (k : ℕ) → k < length holders.old → slice_index holders.new k ≡ (if has_number
+        (map LocalIdx.number state.now) k then place else slice_index holders.old k) }
 {
     for local in state {
         holders[local.index()] = place;
@@ -29,7 +29,8 @@ fn holders_of<FieldIdx: Idx, LocalIdx: Idx>(
     count: usize,
 ) -> Result<Vec<usize>, AllocError>
     requires { All (All (λ l. LocalIdx.number l < count)) states.now }
-    ensures { IfOk result (λ holders. holders.items ≡ holders_of (map (map LocalIdx.number) states.now) count) }
+    ensures { IfOk result (λ holders. holders.items ≡ holders_of
+        (map (map LocalIdx.number) states.now) count) }
 {
     let mut holders = Vec::with_capacity(alloc, count)?;
     holders.resize(count, states.len())?;
@@ -48,9 +49,8 @@ fn insert_later<LocalIdx: Idx>(
 )
     requires within { All (λ l. LocalIdx.number l < length holders.now) state.now }
     requires size { domain_size several.old ≡ length holders.now }
-    ensures members { (k : ℕ) → is_member several.new k
-        ≡ (is_member several.old k ||
-        (has_number (map LocalIdx.number state.now) k && not (slice_index holders.now k == place))) }
+    ensures members { (k : ℕ) → is_member several.new k ≡ (is_member several.old k || (has_number
+        (map LocalIdx.number state.now) k && not (slice_index holders.now k == place))) }
     ensures size { domain_size several.new ≡ domain_size several.old }
 {
     for local in state {
@@ -68,8 +68,10 @@ fn held_by_several<FieldIdx: Idx, LocalIdx: Idx>(
 ) -> Result<DenseBitSet<LocalIdx>, AllocError>
     requires count { length holders.now ≤ LocalIdx.MAX_INDEX + 1 }
     requires within { All (All (λ l. LocalIdx.number l < length holders.now)) states.now }
-    requires holders { holders.now ≡ holders_of (map (map LocalIdx.number) states.now) (length holders.now) }
-    ensures { IfOk result (λ set. set ≡ held_by_several (map (map LocalIdx.number) states.now) (length holders.now)) }
+    requires holders { holders.now ≡ holders_of
+        (map (map LocalIdx.number) states.now) (length holders.now) }
+    ensures { IfOk result (λ set. set ≡ held_by_several
+        (map (map LocalIdx.number) states.now) (length holders.now)) }
 {
     let mut several = DenseBitSet::new_empty(alloc, holders.len())?;
     for place in 0..states.len() {
@@ -119,7 +121,8 @@ fn given_up<LocalIdx: Idx>(
 ) -> LocalIdx
     requires row { LocalIdx.number row < row_count conflicts.now }
     requires column { LocalIdx.number column < row_count conflicts.now }
-    ensures { LocalIdx.number result ≡ given_up conflicts.now (LocalIdx.number row) (LocalIdx.number column) }
+    ensures { LocalIdx.number result ≡ given_up conflicts.now (LocalIdx.number row)
+        (LocalIdx.number column) }
 {
     if conflicts.count(row) > conflicts.count(column) {
         row
@@ -151,9 +154,9 @@ fn settle<LocalIdx: Idx>(
     requires row { LocalIdx.number row < row_count conflicts.now }
     requires column { LocalIdx.number column < row_count conflicts.now }
     ensures size { domain_size promoted.new ≡ row_count conflicts.now }
-    ensures settled { (states : List (List ℕ)) → holders.now ≡ holders_of states (row_count conflicts.now)
-        → promoted.new ≡ after_conflict states conflicts.now (LocalIdx.number row) promoted.old
-        (LocalIdx.number column) }
+    ensures settled { (states : List (List ℕ)) → holders.now ≡ holders_of states
+        (row_count conflicts.now) → promoted.new ≡ after_conflict states conflicts.now
+        (LocalIdx.number row) promoted.old (LocalIdx.number column) }
 {
     if !are_settled(holders, row, column, promoted) {
         promote(given_up(conflicts, row, column), promoted);
@@ -173,8 +176,9 @@ fn settle_row<LocalIdx: Idx>(
     requires size { domain_size promoted.old ≡ row_count conflicts.now }
     requires row { LocalIdx.number row < row_count conflicts.now }
     ensures size { domain_size promoted.new ≡ row_count conflicts.now }
-    ensures settled { (states : List (List ℕ)) → holders.now ≡ holders_of states (row_count conflicts.now)
-        → promoted.new ≡ after_row states conflicts.now promoted.old (LocalIdx.number row) }
+    ensures settled { (states : List (List ℕ)) →
+        holders.now ≡ holders_of states (row_count conflicts.now) →
+        promoted.new ≡ after_row states conflicts.now promoted.old (LocalIdx.number row) }
 {
     if promoted.contains(row) {
         return;
@@ -195,8 +199,9 @@ fn settle_rows<LocalIdx: Idx>(
     requires count { length holders.now ≡ row_count conflicts.now }
     requires size { domain_size promoted.old ≡ row_count conflicts.now }
     ensures size { domain_size promoted.new ≡ row_count conflicts.now }
-    ensures settled { (states : List (List ℕ)) → holders.now ≡ holders_of states (row_count conflicts.now)
-        → promoted.new ≡ fold (after_row states conflicts.now) promoted.old (source_order (row_count conflicts.now)) }
+    ensures settled { (states : List (List ℕ)) →
+        holders.now ≡ holders_of states (row_count conflicts.now) → promoted.new ≡ fold
+        (after_row states conflicts.now) promoted.old (source_order (row_count conflicts.now)) }
 {
     for row in conflicts.rows() {
         settle_row(holders, conflicts, row, promoted);
@@ -206,7 +211,8 @@ fn settle_rows<LocalIdx: Idx>(
 /// Whether a state holds a local that isn't promoted.
 fn is_used<LocalIdx: Idx>(state: &[LocalIdx], promoted: &DenseBitSet<LocalIdx>) -> bool
     requires { All (λ l. LocalIdx.number l < domain_size promoted.now) state.now }
-    ensures { result ≡ list_any (λ local. not (is_member promoted.now local)) (map LocalIdx.number state.now) }
+    ensures { result ≡ list_any (λ local. not (is_member promoted.now local))
+        (map LocalIdx.number state.now) }
 {
     for local in state {
         if !promoted.contains(*local) {
@@ -240,8 +246,8 @@ fn promote_if_few<FieldIdx: Idx, LocalIdx: Idx>(
     promoted: &mut DenseBitSet<LocalIdx>,
 )
     requires { All (All (λ l. LocalIdx.number l < domain_size promoted.old)) states.now }
-    ensures { promoted.new ≡ (if nat_lt (used_count (map (map LocalIdx.number) states.now) promoted.old) 2
-        then map (λ local. true) promoted.old else promoted.old) }
+    ensures { promoted.new ≡ (if nat_lt (used_count (map (map LocalIdx.number) states.now)
+        promoted.old) 2 then map (λ local. true) promoted.old else promoted.old) }
 {
     if used_count(states, promoted) < 2 {
         promoted.insert_all();
@@ -271,7 +277,8 @@ pub(crate) fn promoted_locals<FieldIdx: Idx, LocalIdx: Idx>(
 ) -> Result<DenseBitSet<LocalIdx>, AllocError>
     requires square { column_count conflicts.now ≡ row_count conflicts.now }
     requires within { All (All (λ l. LocalIdx.number l < row_count conflicts.now)) states.now }
-    ensures exact { IfOk result (λ set. set ≡ promoted_of (map (map LocalIdx.number) states.now) conflicts.now) }
+    ensures exact { IfOk result
+        (λ set. set ≡ promoted_of (map (map LocalIdx.number) states.now) conflicts.now) }
 {
     let holders = holders_of(alloc, states, local_count(conflicts))?;
     let mut promoted = held_by_several(alloc, states, &holders)?;

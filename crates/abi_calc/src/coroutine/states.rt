@@ -41,7 +41,8 @@ fn rank_in<LocalIdx: Idx>(
     below: &[usize],
     local: LocalIdx,
 ) -> usize
-    requires below { below.now ≡ map (rank_of promoted.now) (source_order (domain_size promoted.now)) }
+    requires below { below.now ≡ map (rank_of promoted.now)
+        (source_order (domain_size promoted.now)) }
     requires promoted { is_member promoted.now (LocalIdx.number local) ≡ true }
     ensures rank { result ≡ rank_of promoted.now (LocalIdx.number local) }
     ensures within { result < length (members_of promoted.now) }
@@ -61,7 +62,8 @@ fn state_offsets<FieldIdx: Idx, LocalIdx: Idx>(
 ) -> Result<IndexVec<FieldIdx, Size>, AllocError>
     requires few { length state.now ≤ FieldIdx.MAX_INDEX + 1 }
     requires within { All (λ l. LocalIdx.number l < domain_size promoted.now) state.now }
-    requires below { below.now ≡ map (rank_of promoted.now) (source_order (domain_size promoted.now)) }
+    requires below { below.now ≡ map (rank_of promoted.now)
+        (source_order (domain_size promoted.now)) }
     requires shared { length shared.now ≡ length (members_of promoted.now) }
     requires own { length own.now ≡ length (own_of promoted.now (map LocalIdx.number state.now)) }
     ensures { IfOk result (λ offsets.
@@ -93,13 +95,15 @@ fn held_places<LocalIdx: Idx>(
     requires few { length state.now ≤ 0xFFFF_FFFF + 1 }
     requires within { All (λ l. LocalIdx.number l < domain_size promoted.now) state.now }
     requires once { AllPairs (λ a b. a ≢ b) (map LocalIdx.number state.now) }
-    requires below { below.now ≡ map (rank_of promoted.now) (source_order (domain_size promoted.now)) }
+    requires below { below.now ≡ map (rank_of promoted.now)
+        (source_order (domain_size promoted.now)) }
     requires count { count ≡ length (members_of promoted.now) }
     ensures count { IfOk result (λ held. length held.items ≡ count) }
-    ensures within { IfOk result (λ held. All (λ found. IfSome found (λ place. place < length state.now)) held.items) }
-    ensures held { IfOk result (λ held. (rank : ℕ) → rank < count →
-        option_to_list (slice_index_or held.items rank None) ≡ places_with (map LocalIdx.number state.now)
-        (slice_index (members_of promoted.now) rank)) }
+    ensures within { IfOk result
+        (λ held. All (λ found. IfSome found (λ place. place < length state.now)) held.items) }
+    ensures held { IfOk result (λ held. (rank : ℕ) →
+        rank < count → option_to_list (slice_index_or held.items rank None) ≡ places_with
+        (map LocalIdx.number state.now) (slice_index (members_of promoted.now) rank)) }
 {
     let mut held = Vec::with_capacity(alloc, count)?;
     held.resize(count, None)?;
@@ -119,7 +123,8 @@ fn own_places<LocalIdx: Idx>(
 ) -> Result<Vec<usize>, AllocError>
     requires within { All (λ l. LocalIdx.number l < domain_size promoted.now) state.now }
     ensures within { IfOk result (λ places. All (λ place. place < length state.now) places.items) }
-    ensures places { IfOk result (λ places. places.items ≡ own_places promoted.now (map LocalIdx.number state.now)) }
+    ensures places { IfOk result
+        (λ places. places.items ≡ own_places promoted.now (map LocalIdx.number state.now)) }
 {
     let mut places = Vec::with_capacity(alloc, state.len())?;
     for (place, local) in state.iter().enumerate() {
@@ -172,13 +177,14 @@ fn state_order<FieldIdx: Idx, LocalIdx: Idx>(
     requires named { domain_size promoted.now ≤ LocalIdx.MAX_INDEX + 1 }
     requires within { All (λ l. LocalIdx.number l < domain_size promoted.now) state.now }
     requires once { AllPairs (λ a b. a ≢ b) (map LocalIdx.number state.now) }
-    requires below { below.now ≡ map (rank_of promoted.now) (source_order (domain_size promoted.now)) }
+    requires below { below.now ≡ map (rank_of promoted.now)
+        (source_order (domain_size promoted.now)) }
     requires ranks { length ranks.now ≡ length (members_of promoted.now) }
     requires each { All (λ rank. rank < length (members_of promoted.now)) ranks.now }
-    requires own { IsPermutation (source_order (length (own_of promoted.now (map LocalIdx.number state.now))))
-        (map FieldIdx.number own.now) }
-    ensures { IfOk result (λ list. list ≡ map FieldIdx.at
-        (state_order promoted.now ranks.now (map FieldIdx.number own.now) (map LocalIdx.number state.now))) }
+    requires own { IsPermutation (source_order (length (own_of promoted.now
+        (map LocalIdx.number state.now)))) (map FieldIdx.number own.now) }
+    ensures { IfOk result (λ list. list ≡ map FieldIdx.at (state_order promoted.now ranks.now
+        (map FieldIdx.number own.now) (map LocalIdx.number state.now))) }
 {
     let held = held_places(alloc, promoted, below, ranks.len(), state)?;
     let places = own_places(alloc, promoted, state)?;
@@ -203,15 +209,17 @@ pub(crate) fn place_state<FieldIdx: Idx, LocalIdx: Idx>(
     variant: &mut VariantLayout<FieldIdx>,
 ) -> Result<(), AllocError>
     requires named { domain_size promoted.locals.now ≤ LocalIdx.MAX_INDEX + 1 }
-    requires placed { ArePlaced promoted.locals.now promoted.below.now promoted.offsets.now promoted.ranks.now }
+    requires placed { ArePlaced promoted.locals.now promoted.below.now
+        promoted.offsets.now promoted.ranks.now }
     requires within { All (λ l. LocalIdx.number l < domain_size promoted.locals.now) state.now }
     requires once { AllPairs (λ a b. a ≢ b) (map LocalIdx.number state.now) }
     requires offsets { length variant.old.field_offsets ≡
         length (own_of promoted.locals.now (map LocalIdx.number state.now)) }
     requires order { IsPermutation (source_order (length (own_of promoted.locals.now
         (map LocalIdx.number state.now)))) (map FieldIdx.number variant.old.fields_in_memory_order) }
-    ensures { OnOk result (variant.new ≡ stitched FieldIdx.at FieldIdx.number promoted.entry.locals.now
-        promoted.entry.offsets.now promoted.entry.ranks.now (map LocalIdx.number state.now) variant.old) }
+    ensures { OnOk result (variant.new ≡ stitched FieldIdx.at FieldIdx.number
+        promoted.entry.locals.now promoted.entry.offsets.now promoted.entry.ranks.now
+        (map LocalIdx.number state.now) variant.old) }
 {
     let Promoted {
         locals,

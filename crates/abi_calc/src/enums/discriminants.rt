@@ -31,7 +31,8 @@ where
     I: Drop,
     requires can { I.can_next discriminants }
     requires ends { IsFinite (I.remaining discriminants) }
-    ensures { IfOk result (λ list. WholeRun I.next_gives discriminants (λ run. list.items ≡ run.items)) }
+    ensures { IfOk result (λ list. WholeRun I.next_gives discriminants
+        (λ run. list.items ≡ run.items)) }
 {
     let mut list = Vec::with_capacity(alloc, count)?;
     for item in discriminants {
@@ -87,10 +88,10 @@ fn greatest_of(values: &[u128]) -> u128
 /// The least and the greatest of 0 and what the discriminants stand for as signed integers of so many bytes.
 fn signed_ends(size: Size, values: &[u128]) -> Asked
     requires { size ≤ 16 }
-    ensures least { IsLeastOf (pos 0 ∷ map (λ v. signed_value (size * 8) (v % 2 ^ (size * 8))) values.now)
-        result.least }
-    ensures greatest { IsGreatestOf (pos 0 ∷ map (λ v. signed_value (size * 8) (v % 2 ^ (size * 8))) values.now)
-        (pos result.greatest) }
+    ensures least { IsLeastOf
+        (pos 0 ∷ map (λ v. signed_value (size * 8) (v % 2 ^ (size * 8))) values.now) result.least }
+    ensures greatest { IsGreatestOf (pos 0 ∷ map
+        (λ v. signed_value (size * 8) (v % 2 ^ (size * 8))) values.now) (pos result.greatest) }
 {
     let mut least: i128 = 0;
     let mut greatest: i128 = 0;

@@ -77,8 +77,8 @@ fn niche_view<FieldIdx: Idx, VariantIdx: Idx>(
     tag: Scalar,
     variants: &IndexList<VariantIdx, VariantLayout<FieldIdx>>,
 ) -> BackendRepr
-    ensures { result ≡ (if fills && others_empty untagged 0 variants.now then view_with offset tag own_view else
-        Memory true) }
+    ensures { result ≡ (if fills && others_empty untagged 0 variants.now then view_with offset tag
+        own_view else Memory true) }
 {
     if fills && others_empty(untagged, variants.as_slice().as_raw()) {
         view_with(offset, tag, own_view)
@@ -106,10 +106,10 @@ fn untagged_view<FieldIdx: Idx, VariantIdx: Idx>(
     align: Align,
 ) -> (bool, BackendRepr)
     requires { untagged < length lists.now }
-    ensures fills { (list : LayoutData FieldIdx VariantIdx) → slice_get lists.now untagged ≡ Some list →
-        result.0 ≡ ((size == list.size) && (align == list.align.abi)) }
-    ensures view { (list : LayoutData FieldIdx VariantIdx) → slice_get lists.now untagged ≡ Some list →
-        result.1 ≡ list.backend_repr }
+    ensures fills { (list : LayoutData FieldIdx VariantIdx) → slice_get lists.now untagged ≡ Some
+        list → result.0 ≡ ((size == list.size) && (align == list.align.abi)) }
+    ensures view { (list : LayoutData FieldIdx VariantIdx) →
+        slice_get lists.now untagged ≡ Some list → result.1 ≡ list.backend_repr }
 {
     let list = lists.at(untagged);
     (fills(&list, size, align), list.backend_repr())
@@ -145,8 +145,8 @@ fn layout_in_niche<FieldIdx: Idx, VariantIdx: Idx>(
     requires handed { handed ≡ reserved dl.now niche (span_count among.span) }
     requires tag { IsLawfulScalar dl.now handed.1 }
     ensures { IfOk result (λ found. (list : LayoutData FieldIdx VariantIdx) →
-        slice_get lists among.untagged ≡ Some list →
-        found ≡ if_placed (FieldIdx.at 0) VariantIdx.at dl.now repr.now among.untagged among.span lists list niche
+        slice_get lists among.untagged ≡ Some list → found ≡ if_placed
+        (FieldIdx.at 0) VariantIdx.at dl.now repr.now among.untagged among.span lists list niche
         (variants_from (room_beside dl.now niche lists) among.untagged 0 lists)) }
 {
     let untagged = among.untagged;
@@ -202,6 +202,14 @@ fn niche_at<FieldIdx: Idx, VariantIdx: Idx>(
     }
 }
 
+/// How many numbers the variants from the first of these places to the last take.
+fn span_count(span: (usize, usize)) -> u128
+    requires { span.0 ≤ span.1 }
+    ensures { result ≡ span_count span }
+{
+    (span.1 - span.0) as u128 + 1
+}
+
 /// The layout with a niche, where there is one, of variants whose fields have these layouts as always sized lists.
 pub(crate) fn niche_of_lists<FieldIdx: Idx, VariantIdx: Idx, F: LayoutHandle<FieldIdx, VariantIdx>>(
     alloc: Global,
@@ -215,8 +223,8 @@ pub(crate) fn niche_of_lists<FieldIdx: Idx, VariantIdx: Idx, F: LayoutHandle<Fie
     requires small { All IsSmallList lists }
     requires count { length lists ≤ VariantIdx.MAX_INDEX + 1 }
     requires each { length lists ≡ length variants.now }
-    ensures { IfOk result (λ found. found ≡ niche_layout (FieldIdx.at 0) VariantIdx.at dl.now repr.now
-        (map (map F.layout_of) variants.now) lists) }
+    ensures { IfOk result (λ found. found ≡ niche_layout
+        (FieldIdx.at 0) VariantIdx.at dl.now repr.now (map (map F.layout_of) variants.now) lists) }
 {
     let untagged = untagged_of(&lists);
     let Some(span) = span_of(untagged, variants) else {
@@ -225,8 +233,7 @@ pub(crate) fn niche_of_lists<FieldIdx: Idx, VariantIdx: Idx, F: LayoutHandle<Fie
     let Some(niche) = niche_at(&lists, untagged) else {
         return Ok(None);
     };
-    let count = (span.1 - span.0) as u128 + 1;
-    let Some(handed) = niche.reserve(dl, count) else {
+    let Some(handed) = niche.reserve(dl, span_count(span)) else {
         return Ok(None);
     };
     let among = Among { untagged, span };
@@ -284,11 +291,12 @@ impl<Cx: HasDataLayout> LayoutCalculator<Cx> {
         repr: &ReprOptions,
     ) -> Result<Option<LayoutData<FieldIdx, VariantIdx>>, LayoutCalculatorError<F>>
         requires data_layout { IsLawfulDataLayout (Cx.target self.now.cx) }
-        requires fields { All (All (λ f. IsLawfulLayout (Cx.target self.now.cx) (F.layout_of f))) variants.now }
+        requires fields { All (All (λ f. IsLawfulLayout (Cx.target self.now.cx)
+            (F.layout_of f))) variants.now }
         requires count { length variants.now ≤ VariantIdx.MAX_INDEX + 1 }
         requires repr { HasLawfulAligns repr.now }
-        ensures exact { IfOk result (IsNicheAnswer AreListLayouts F.layout_of FieldIdx.at VariantIdx.at
-            (Cx.target self.now.cx) repr.now variants.now) }
+        ensures exact { IfOk result (IsNicheAnswer AreListLayouts F.layout_of FieldIdx.at
+            VariantIdx.at (Cx.target self.now.cx) repr.now variants.now) }
         ensures good { IfOk result (IsNicheAnswer AreGoodLists F.layout_of FieldIdx.at VariantIdx.at
             (Cx.target self.now.cx) repr.now variants.now) }
         ensures memory { IfErr result (λ e. e ≡ LayoutCalculatorError.OutOfMemory) }

@@ -64,7 +64,8 @@ impl<Cx: HasDataLayout> LayoutCalculator<Cx> {
         kind: &StructKind,
     ) -> Result<ListLayout<FieldIdx, VariantIdx>, LayoutCalculatorError<F>>
         requires data_layout { IsLawfulDataLayout (Cx.target self.now.cx) }
-        requires fields { All (λ f. IsLawfulLayout (Cx.target self.now.cx) (F.layout_of f)) fields.now }
+        requires fields { All (λ f. IsLawfulLayout (Cx.target self.now.cx)
+            (F.layout_of f)) fields.now }
         requires repr { HasLawfulAligns repr.now }
         requires prefix { IsLawfulPrefix kind.now (size_bound (Cx.target self.now.cx)) }
         requires sized { IsSized kind.now }
@@ -92,7 +93,8 @@ impl<Cx: HasDataLayout> LayoutCalculator<Cx> {
         kind: &StructKind,
     ) -> Result<ListLayouts<FieldIdx, VariantIdx>, LayoutCalculatorError<F>>
         requires data_layout { IsLawfulDataLayout (Cx.target self.now.cx) }
-        requires fields { All (All (λ f. IsLawfulLayout (Cx.target self.now.cx) (F.layout_of f))) variants.now }
+        requires fields { All (All (λ f. IsLawfulLayout (Cx.target self.now.cx)
+            (F.layout_of f))) variants.now }
         requires repr { HasLawfulAligns repr.now }
         requires prefix { IsLawfulPrefix kind.now (size_bound (Cx.target self.now.cx)) }
         requires sized { IsSized kind.now }
@@ -102,12 +104,13 @@ impl<Cx: HasDataLayout> LayoutCalculator<Cx> {
         ensures good { IfOk result (λ lists.
             AreGoodLists F.layout_of FieldIdx.at (VariantIdx.at 0)
             (Cx.target self.now.cx) repr.now kind.now variants.now lists) }
-        ensures within { IfOk result (λ lists. All (λ fields. length fields ≤ FieldIdx.MAX_INDEX + 1) variants.now) }
+        ensures within { IfOk result
+            (λ lists. All (λ fields. length fields ≤ FieldIdx.MAX_INDEX + 1) variants.now) }
         ensures lists { IfOk result (λ lists. AreListsOf variants.now lists) }
         ensures lawful { IfOk result (λ lists. All (IsLawfulLayout (Cx.target self.now.cx)) lists) }
-        ensures fault { IfErr result (λ e.
-            IsFirstListError F.layout_of FieldIdx.at (VariantIdx.at 0)
-            (Cx.target self.now.cx) repr.now kind.now variants.now e ⊎ (e ≡ LayoutCalculatorError.OutOfMemory)) }
+        ensures fault { IfErr result (λ e. IsFirstListError F.layout_of FieldIdx.at
+            (VariantIdx.at 0) (Cx.target self.now.cx) repr.now kind.now variants.now e ⊎
+            (e ≡ LayoutCalculatorError.OutOfMemory)) }
     {
         let mut lists = ListLayouts::with_capacity(alloc, variants.len())?;
         for fields in variants {

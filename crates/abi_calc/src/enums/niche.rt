@@ -143,8 +143,8 @@ fn place_beside<FieldIdx: Idx>(
     requires align { align ≤ max_align }
     requires small { variant.old.size < 2 ^ 62 }
     requires inside { All (λ o. o ≤ variant.old.size) variant.old.field_offsets }
-    ensures { IfOk result (λ has_room. MatchOption (beside_niche room.now align variant.old) (has_room ≡ false)
-        (λ placed. (has_room ≡ true) × (variant.new ≡ placed))) }
+    ensures { IfOk result (λ has_room. MatchOption (beside_niche room.now align variant.old)
+        (has_room ≡ false) (λ placed. (has_room ≡ true) × (variant.new ≡ placed))) }
 {
     if variant.size <= room.before {
         forget_niche(variant);
@@ -173,8 +173,8 @@ fn place_at<FieldIdx: Idx>(
     requires small { variant.old.size < 2 ^ 62 }
     requires inside { All (λ o. o ≤ variant.old.size) variant.old.field_offsets }
     ensures { IfOk result (λ has_room. MatchOption
-        (if at == untagged then Some variant.old else beside_niche room.now align variant.old) (has_room ≡ false)
-        (λ placed. (has_room ≡ true) × (variant.new ≡ placed))) }
+        (if at == untagged then Some variant.old else beside_niche room.now align variant.old)
+        (has_room ≡ false) (λ placed. (has_room ≡ true) × (variant.new ≡ placed))) }
 {
     if at == untagged {
         return Ok(true);

@@ -75,8 +75,8 @@ fn present_from<FieldIdx: Idx, VariantIdx: Idx, F: LayoutHandle<FieldIdx, Varian
     variants: &[IndexVec<FieldIdx, F>],
     from: usize,
 ) -> Option<usize>
-    ensures { result ≡ find (λ i. is_present repr.now (variant_at (map (map F.layout_of) variants.now) i))
-        (range_with_len from (length variants.now - from)) }
+    ensures { result ≡ find (λ i. is_present repr.now (variant_at (map
+        (map F.layout_of) variants.now) i)) (range_with_len from (length variants.now - from)) }
 {
     for index in from..variants.len() {
         if is_present(repr, variants[index].as_slice().as_raw()) {

@@ -72,7 +72,8 @@ pub(crate) fn payload_of<FieldIdx: Idx, VariantIdx: Idx, F: LayoutHandle<FieldId
     requires data_layout { IsLawfulDataLayout dl.now }
     requires fields { All (λ f. IsLawfulLayout dl.now (F.layout_of f)) fields.now }
     requires count { length offsets.now ≡ length fields.now }
-    ensures value { result ≡ payload_of dl.now (map F.layout_of fields.now) (map (moved old new) offsets.now) }
+    ensures value { result ≡ payload_of dl.now (map F.layout_of fields.now)
+        (map (moved old new) offsets.now) }
     ensures lawful { IsLawfulPayload dl.now result }
 {
     let mut payload = Payload::Nothing;
@@ -231,8 +232,8 @@ fn variant_payload<FieldIdx: Idx, VariantIdx: Idx, F: LayoutHandle<FieldIdx, Var
     requires fields { All (All (λ f. IsLawfulLayout dl.now (F.layout_of f))) variants.now }
     requires lists { AreListsOf variants.now lists.now }
     requires within { index < length lists.now }
-    ensures value { slice_get (payloads_of dl.now old new (map (map F.layout_of) variants.now) lists.now) index ≡
-        Some result }
+    ensures value { slice_get (payloads_of dl.now old new
+        (map (map F.layout_of) variants.now) lists.now) index ≡ Some result }
     ensures lawful { IsLawfulPayload dl.now result }
 {
     let fields = variants[index].as_slice().as_raw();
@@ -304,8 +305,8 @@ pub(crate) fn tagged_view<FieldIdx: Idx, VariantIdx: Idx, F: LayoutHandle<FieldI
     requires tag { IsLawfulScalar dl.now tag }
     requires fields { All (All (λ f. IsLawfulLayout dl.now (F.layout_of f))) variants.now }
     requires lists { AreListsOf variants.now lists.now }
-    ensures { result ≡ tagged_view dl.now tag size align
-        (payloads_of dl.now old (scalar_size dl.now tag) (map (map F.layout_of) variants.now) lists.now) }
+    ensures { result ≡ tagged_view dl.now tag size align (payloads_of dl.now old
+        (scalar_size dl.now tag) (map (map F.layout_of) variants.now) lists.now) }
 {
     let new = tag.size(dl);
     if new == size {

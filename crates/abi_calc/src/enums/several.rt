@@ -1,16 +1,16 @@
 //! Enums of several variants: with a tag, or with a niche where that is the better layout.
 
-ghost use Rattle.std.specs.Prelude.{◌≡◌, ◌<◌, ◌≤◌, ◌+◌, ◌⊎◌, All, Err, IfErr, IfOk, IsSome, IsTrue, None, length, map};
+ghost use Rattle.std.specs.Prelude.{◌≡◌, ◌<◌, ◌≤◌, ◌+◌, ◌⊎◌, All, Err, IfOk, IsTrue, None, length, map};
 ghost use Rattle.std.specs.Iterator.{IsFinite};
 ghost use Rattle.std.specs.Iterator.Runs.{EachRunFrom, WholeRun};
 ghost use Rattle.abi_base.specs.DataLayout.{IsLawfulDataLayout};
 ghost use Rattle.abi_scalar.specs.Lawful.{IsLawfulLayout};
-ghost use Rattle.abi_lists.specs.Answer.{IsAnswer};
-ghost use Rattle.abi_lists.specs.List.{AreSized, HasLawfulAligns};
+ghost use Rattle.abi_lists.specs.List.{HasLawfulAligns};
 ghost use Rattle.abi_calc.specs.Enums.Beside.{AreToldApart, IsToldByTag};
 ghost use Rattle.abi_calc.specs.Enums.Answer.{HasOneEach};
 ghost use Rattle.abi_calc.specs.Enums.Discriminants.{counting_of};
-ghost use Rattle.abi_calc.specs.Enums.Several.{AreLawfulTags, HasEnumSize, HasTaggedSize, IsAlwaysTooLarge, IsAskedAnswer, IsAskedTooLarge, IsEnumAnswer, IsSeveralAnswer};
+ghost use Rattle.abi_calc.specs.Enums.Promised.{AreSizedVariants, IsSizedEnum};
+ghost use Rattle.abi_calc.specs.Enums.Several.{AreLawfulTags, HasEnumSize, HasTaggedSize, IsAskedAnswer, IsEnumAnswer, IsSeveralAnswer};
 
 use crate::calculator::LayoutCalculator;
 use crate::enums::choice::better;
@@ -41,37 +41,30 @@ impl<Cx: HasDataLayout> LayoutCalculator<Cx> {
     where
         D: Drop,
         requires data_layout { IsLawfulDataLayout (Cx.target self.now.cx) }
-        requires fields { All (All (λ f. IsLawfulLayout (Cx.target self.now.cx) (F.layout_of f))) variants.now }
+        requires fields { All (All (λ f. IsLawfulLayout (Cx.target self.now.cx)
+            (F.layout_of f))) variants.now }
         requires repr { HasLawfulAligns repr.now }
         requires unpacked { repr.now.pack ≡ None }
         requires count { length variants.now ≤ VariantIdx.MAX_INDEX + 1 }
         requires some { 0 < length variants.now }
-        requires named { All (λ item. VariantIdx.number item.0 < length variants.now) discriminants.now }
+        requires named { All (λ item.
+            VariantIdx.number item.0 < length variants.now) discriminants.now }
         requires callable { D.IsAlwaysCallable discr_range_of_repr }
-        requires tags { AreLawfulTags VariantIdx.number (Cx.target self.now.cx) repr.now (D.post discr_range_of_repr)
-            (map (map F.layout_of) variants.now) discriminants.now }
-        ensures exact { (result ≡ Err LayoutCalculatorError.OutOfMemory) ⊎
-            IsAskedAnswer F.layout_of FieldIdx.at FieldIdx.number (VariantIdx.at 0) (Cx.target self.now.cx) repr.now
+        requires tags { AreLawfulTags VariantIdx.number (Cx.target self.now.cx) repr.now
+            (D.post discr_range_of_repr) (map (map F.layout_of) variants.now) discriminants.now }
+        ensures exact { (result ≡ Err LayoutCalculatorError.OutOfMemory) ⊎ IsAskedAnswer F.layout_of
+            FieldIdx.at FieldIdx.number (VariantIdx.at 0) (Cx.target self.now.cx) repr.now
             (D.post discr_range_of_repr) (counting_of VariantIdx.number repr.now
             (map (map F.layout_of) variants.now) discriminants.now) variants.now result }
         ensures lawful { IfOk result (IsLawfulLayout (Cx.target self.now.cx)) }
-        ensures within { IfOk result (λ l. All (λ fields. length fields ≤ FieldIdx.MAX_INDEX + 1) variants.now) }
+        ensures within { IfOk result
+            (λ l. All (λ fields. length fields ≤ FieldIdx.MAX_INDEX + 1) variants.now) }
         ensures told { IfOk result (IsToldByTag (Cx.target self.now.cx) VariantIdx.number
             (map (map F.layout_of) variants.now) discriminants.now) }
-        ensures size { IfOk result (λ l. HasTaggedSize F.layout_of FieldIdx.at (VariantIdx.at 0)
-            (Cx.target self.now.cx) repr.now (D.post discr_range_of_repr)
-            (counting_of VariantIdx.number repr.now (map (map F.layout_of) variants.now) discriminants.now)
-            variants.now l.size) }
-        ensures too_large { result ≡ Err LayoutCalculatorError.SizeOverflow →
-            IsAskedTooLarge (Cx.target self.now.cx) repr.now (D.post discr_range_of_repr)
-            (counting_of VariantIdx.number repr.now (map (map F.layout_of) variants.now) discriminants.now)
-            (map (map F.layout_of) variants.now) }
-        ensures refused { All AreSized (map (map F.layout_of) variants.now) →
-            IsAlwaysTooLarge (Cx.target self.now.cx) repr.now (D.post discr_range_of_repr)
-            (counting_of VariantIdx.number repr.now (map (map F.layout_of) variants.now) discriminants.now)
-            (map (map F.layout_of) variants.now) → IsAnswer (Err LayoutCalculatorError.SizeOverflow) result }
-        ensures no_other { All AreSized (map (map F.layout_of) variants.now) →
-            IfErr result (λ e. (e ≡ LayoutCalculatorError.SizeOverflow) ⊎ (e ≡ LayoutCalculatorError.OutOfMemory)) }
+        ensures sized { IsSizedEnum F.layout_of (HasTaggedSize F.layout_of FieldIdx.at
+            (VariantIdx.at 0)) (Cx.target self.now.cx) repr.now
+            (D.post discr_range_of_repr) (counting_of VariantIdx.number repr.now
+            (map (map F.layout_of) variants.now) discriminants.now) variants.now result }
     {
         let values = counting_of(alloc, repr, variants, discriminants)?;
         let asked = asked_with(self.cx.data_layout(), repr, &values);
@@ -103,35 +96,29 @@ impl<Cx: HasDataLayout> LayoutCalculator<Cx> {
     where
         D: Drop,
         requires data_layout { IsLawfulDataLayout (Cx.target self.now.cx) }
-        requires fields { All (All (λ f. IsLawfulLayout (Cx.target self.now.cx) (F.layout_of f))) variants.now }
+        requires fields { All (All (λ f. IsLawfulLayout (Cx.target self.now.cx)
+            (F.layout_of f))) variants.now }
         requires repr { HasLawfulAligns repr.now }
         requires unpacked { repr.now.pack ≡ None }
         requires count { length variants.now ≤ VariantIdx.MAX_INDEX + 1 }
         requires some { 0 < length variants.now }
-        requires named { All (λ item. VariantIdx.number item.0 < length variants.now) discriminants.now }
+        requires named { All (λ item.
+            VariantIdx.number item.0 < length variants.now) discriminants.now }
         requires callable { D.IsAlwaysCallable discr_range_of_repr }
-        requires tags { AreLawfulTags VariantIdx.number (Cx.target self.now.cx) repr.now (D.post discr_range_of_repr)
-            (map (map F.layout_of) variants.now) discriminants.now }
-        ensures exact { IsEnumAnswer F.layout_of FieldIdx.at FieldIdx.number VariantIdx.at VariantIdx.number
-            (Cx.target self.now.cx) repr.now (D.post discr_range_of_repr) variants.now discriminants.now result }
+        requires tags { AreLawfulTags VariantIdx.number (Cx.target self.now.cx) repr.now
+            (D.post discr_range_of_repr) (map (map F.layout_of) variants.now) discriminants.now }
+        ensures exact { IsEnumAnswer F.layout_of FieldIdx.at
+            FieldIdx.number VariantIdx.at VariantIdx.number (Cx.target self.now.cx) repr.now
+            (D.post discr_range_of_repr) variants.now discriminants.now result }
         ensures lawful { IfOk result (IsLawfulLayout (Cx.target self.now.cx)) }
-        ensures within { IfOk result (λ l. All (λ fields. length fields ≤ FieldIdx.MAX_INDEX + 1) variants.now) }
+        ensures within { IfOk result
+            (λ l. All (λ fields. length fields ≤ FieldIdx.MAX_INDEX + 1) variants.now) }
         ensures told { IfOk result (AreToldApart (Cx.target self.now.cx) VariantIdx.number
             (map (map F.layout_of) variants.now) discriminants.now) }
-        ensures size { IfOk result (λ l. HasEnumSize F.layout_of FieldIdx.at (VariantIdx.at 0)
-            (Cx.target self.now.cx) repr.now (D.post discr_range_of_repr)
-            (counting_of VariantIdx.number repr.now (map (map F.layout_of) variants.now) discriminants.now)
-            variants.now l.size) }
-        ensures too_large { result ≡ Err LayoutCalculatorError.SizeOverflow →
-            IsAskedTooLarge (Cx.target self.now.cx) repr.now (D.post discr_range_of_repr)
-            (counting_of VariantIdx.number repr.now (map (map F.layout_of) variants.now) discriminants.now)
-            (map (map F.layout_of) variants.now) }
-        ensures refused { All AreSized (map (map F.layout_of) variants.now) →
-            IsAlwaysTooLarge (Cx.target self.now.cx) repr.now (D.post discr_range_of_repr)
-            (counting_of VariantIdx.number repr.now (map (map F.layout_of) variants.now) discriminants.now)
-            (map (map F.layout_of) variants.now) → IsAnswer (Err LayoutCalculatorError.SizeOverflow) result }
-        ensures no_other { All AreSized (map (map F.layout_of) variants.now) →
-            IfErr result (λ e. (e ≡ LayoutCalculatorError.SizeOverflow) ⊎ (e ≡ LayoutCalculatorError.OutOfMemory)) }
+        ensures sized { IsSizedEnum F.layout_of
+            (HasEnumSize F.layout_of FieldIdx.at (VariantIdx.at 0)) (Cx.target self.now.cx) repr.now
+            (D.post discr_range_of_repr) (counting_of VariantIdx.number repr.now
+            (map (map F.layout_of) variants.now) discriminants.now) variants.now result }
     {
         let niche = match self.layout_of_niche(alloc, variants, repr) {
             Ok(found) => found,
@@ -171,34 +158,20 @@ impl<Cx: HasDataLayout> LayoutCalculator<Cx> {
         requires can { I.can_next discriminants }
         requires ends { IsFinite (I.remaining discriminants) }
         requires each { EachRunFrom I.next_gives discriminants (λ run. IsTrue run.whole →
-            HasOneEach VariantIdx.number (length variants.now) run.items
-            × AreLawfulTags VariantIdx.number (Cx.target self.now.cx) repr.now (D.post discr_range_of_repr)
-            (map (map F.layout_of) variants.now) run.items) }
-        ensures exact { IsSeveralAnswer F.layout_of FieldIdx.at FieldIdx.number VariantIdx.at VariantIdx.number
-            (Cx.target self.now.cx) repr.now (D.post discr_range_of_repr) variants.now (λ items.
-            WholeRun I.next_gives discriminants (λ run. items ≡ run.items)) result }
+            HasOneEach VariantIdx.number (length variants.now) run.items ×
+            AreLawfulTags VariantIdx.number (Cx.target self.now.cx) repr.now
+            (D.post discr_range_of_repr) (map (map F.layout_of) variants.now) run.items) }
+        ensures exact { IsSeveralAnswer
+            F.layout_of FieldIdx.at FieldIdx.number VariantIdx.at VariantIdx.number
+            (Cx.target self.now.cx) repr.now (D.post discr_range_of_repr) variants.now
+            (λ items. WholeRun I.next_gives discriminants (λ run. items ≡ run.items)) result }
         ensures lawful { IfOk result (IsLawfulLayout (Cx.target self.now.cx)) }
         ensures within { IfOk result (λ l. All (λ fields. length fields ≤ FieldIdx.MAX_INDEX + 1) variants.now) }
-        ensures told { IfOk result (λ l. WholeRun I.next_gives discriminants (λ run.
-            AreToldApart (Cx.target self.now.cx) VariantIdx.number (map (map F.layout_of) variants.now) run.items l)) }
-        ensures size { IfOk result (λ l. WholeRun I.next_gives discriminants (λ run.
-            HasEnumSize F.layout_of FieldIdx.at (VariantIdx.at 0) (Cx.target self.now.cx) repr.now
-            (D.post discr_range_of_repr) (counting_of VariantIdx.number repr.now
-            (map (map F.layout_of) variants.now) run.items) variants.now l.size)) }
-        ensures packed { IsSome repr.now.pack → result ≡ Err LayoutCalculatorError.ReprConflict }
-        ensures too_large { result ≡ Err LayoutCalculatorError.SizeOverflow →
-            WholeRun I.next_gives discriminants (λ run.
-            IsAskedTooLarge (Cx.target self.now.cx) repr.now (D.post discr_range_of_repr)
-            (counting_of VariantIdx.number repr.now (map (map F.layout_of) variants.now) run.items)
-            (map (map F.layout_of) variants.now)) }
-        ensures refused { (repr.now.pack ≡ None) → All AreSized (map (map F.layout_of) variants.now)
-            → EachRunFrom I.next_gives discriminants (λ run. IsTrue run.whole →
-            IsAlwaysTooLarge (Cx.target self.now.cx) repr.now (D.post discr_range_of_repr)
-            (counting_of VariantIdx.number repr.now (map (map F.layout_of) variants.now) run.items)
-            (map (map F.layout_of) variants.now))
-            → IsAnswer (Err LayoutCalculatorError.SizeOverflow) result }
-        ensures no_other { (repr.now.pack ≡ None) → All AreSized (map (map F.layout_of) variants.now) →
-            IfErr result (λ e. (e ≡ LayoutCalculatorError.SizeOverflow) ⊎ (e ≡ LayoutCalculatorError.OutOfMemory)) }
+        ensures told { IfOk result (λ l. WholeRun I.next_gives discriminants (λ run. AreToldApart
+            (Cx.target self.now.cx) VariantIdx.number (map (map F.layout_of) variants.now) run.items l)) }
+        ensures sized { AreSizedVariants F.layout_of FieldIdx.at (VariantIdx.at 0) VariantIdx.number
+            (Cx.target self.now.cx) repr.now (D.post discr_range_of_repr) I.next_gives discriminants
+            variants.now result }
     {
         if repr.packed() {
             return Err(LayoutCalculatorError::ReprConflict);

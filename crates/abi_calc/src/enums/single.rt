@@ -123,26 +123,27 @@ impl<Cx: HasDataLayout> LayoutCalculator<Cx> {
         optimizations: NicheOptimizations,
     ) -> Result<LayoutData<FieldIdx, VariantIdx>, LayoutCalculatorError<F>>
         requires data_layout { IsLawfulDataLayout (Cx.target self.now.cx) }
-        requires fields { All (λ f. IsLawfulLayout (Cx.target self.now.cx) (F.layout_of f)) (items_of fields) }
+        requires fields { All (λ f. IsLawfulLayout (Cx.target self.now.cx)
+            (F.layout_of f)) (items_of fields) }
         requires repr { HasLawfulAligns repr.now }
         requires prefix { IsLawfulPrefix kind (size_bound (Cx.target self.now.cx)) }
         requires tail { IsNonEmptyIfUnsized kind (length (items_of fields)) }
         ensures exact { IsSingleAnswer F.layout_of FieldIdx.at (VariantIdx.at 0) index
             (Cx.target self.now.cx) repr.now kind optimizations (items_of fields.entry) result }
         ensures lawful { IfOk result (IsLawfulLayout (Cx.target self.now.cx)) }
-        ensures apart { IfOk result (λ l.
-            AreApart l.size (listed_offsets l.fields) (map (λ f. (F.layout_of f).size) (items_of fields.entry))) }
-        ensures placed { IfOk result (LiesInSomeOrder FieldIdx.at (Cx.target self.now.cx) repr.now kind
-            (map F.layout_of (items_of fields.entry))) }
-        ensures least { IfOk result (λ l.
-            IsLeastSize (Cx.target self.now.cx) repr.now kind (map F.layout_of (items_of fields.entry)) l.size) }
-        ensures too_large { result ≡ Err LayoutCalculatorError.SizeOverflow →
-            IsEachOrderTooLarge (Cx.target self.now.cx) repr.now kind (map F.layout_of (items_of fields.entry)) }
-        ensures refused { AreSized (map F.layout_of (items_of fields.entry)) →
-            IsEachOrderTooLarge (Cx.target self.now.cx) repr.now kind (map F.layout_of (items_of fields.entry)) →
+        ensures apart { IfOk result (λ l. AreApart l.size (listed_offsets l.fields)
+            (map (λ f. (F.layout_of f).size) (items_of fields.entry))) }
+        ensures placed { IfOk result (LiesInSomeOrder FieldIdx.at
+            (Cx.target self.now.cx) repr.now kind (map F.layout_of (items_of fields.entry))) }
+        ensures least { IfOk result (λ l. IsLeastSize (Cx.target self.now.cx) repr.now kind
+            (map F.layout_of (items_of fields.entry)) l.size) }
+        ensures too_large { result ≡ Err LayoutCalculatorError.SizeOverflow → IsEachOrderTooLarge
+            (Cx.target self.now.cx) repr.now kind (map F.layout_of (items_of fields.entry)) }
+        ensures refused { AreSized (map F.layout_of (items_of fields.entry)) → IsEachOrderTooLarge
+            (Cx.target self.now.cx) repr.now kind (map F.layout_of (items_of fields.entry)) →
             IsAnswer (Err LayoutCalculatorError.SizeOverflow) result }
-        ensures no_other { AreSized (map F.layout_of (items_of fields.entry)) →
-            IfErr result (λ e. (e ≡ LayoutCalculatorError.SizeOverflow) ⊎ (e ≡ LayoutCalculatorError.OutOfMemory)) }
+        ensures no_other { AreSized (map F.layout_of (items_of fields.entry)) → IfErr result (λ e.
+            (e ≡ LayoutCalculatorError.SizeOverflow) ⊎ (e ≡ LayoutCalculatorError.OutOfMemory)) }
         ensures places { IfOk result (λ l. HasPlaceForEach l.fields) }
         ensures ascending { IfOk result (λ l. IsAscending FieldIdx.number l.fields) }
     {

@@ -1,18 +1,16 @@
 //! The layout of an enum with a tag.
 
-ghost use Rattle.std.specs.Prelude.{◌≡◌, ◌≤◌, ◌<◌, ◌+◌, ◌⊎◌, All, Err, IfErr, IfOk, None, OnOk, length, map};
+ghost use Rattle.std.specs.Prelude.{◌≡◌, ◌≤◌, ◌<◌, ◌+◌, ◌⊎◌, All, Err, IfErr, IfOk, IfSome, None, OnOk, length, map};
 ghost use Rattle.abi_base.specs.DataLayout.{IsLawfulDataLayout, size_bound};
 ghost use Rattle.abi_base.specs.Integer.{integer_size};
 ghost use Rattle.abi_scalar.specs.Lawful.{IsLawfulLayout};
 ghost use Rattle.abi_scalar.specs.Scalar.{IsLawfulScalar, scalar_size};
 ghost use Rattle.abi_scalar.specs.Variant.{variant_of};
-ghost use Rattle.abi_lists.specs.Answer.{IsAnswer};
-ghost use Rattle.abi_lists.specs.List.{AreSized, HasLawfulAligns};
+ghost use Rattle.abi_lists.specs.List.{HasLawfulAligns};
 ghost use Rattle.abi_calc.specs.Enums.Growth.{grown_variant};
-ghost use Rattle.abi_calc.specs.Enums.Lists.{AreListsOf, HaveGoodLists, behind_tag};
+ghost use Rattle.abi_calc.specs.Enums.Lists.{AreListsOf, behind_tag};
 ghost use Rattle.abi_calc.specs.Enums.Payload.{seen_as};
-ghost use Rattle.abi_calc.specs.Enums.Places.{AreApartAmong, AreNumbersAmong, DifferAmong, HasViewOfTag};
-ghost use Rattle.abi_calc.specs.Enums.Sizes.{IsTaggedSize, IsTaggedTooLarge};
+ghost use Rattle.abi_calc.specs.Enums.Promised.{IsPlacedByTag, IsSizedByTag};
 ghost use Rattle.abi_calc.specs.Enums.Tagged.{IsTaggedAnswer, IsTaggedBy, layout_seen_as, lists_align, lists_size};
 
 use crate::calculator::LayoutCalculator;
@@ -47,6 +45,26 @@ pub(crate) fn lists_size<FieldIdx: Idx, VariantIdx: Idx>(
     rounded(greatest_size(lists), align)
 }
 
+/// That size, where it is below the data layout's bound.
+fn bounded_size<FieldIdx: Idx, VariantIdx: Idx>(
+    dl: &TargetDataLayout,
+    lists: &ListLayouts<FieldIdx, VariantIdx>,
+    align: Align,
+) -> Option<Size>
+    requires data_layout { IsLawfulDataLayout dl.now }
+    requires lists { All (IsLawfulLayout dl.now) lists.now }
+    requires align { align ≡ lists_align dl.now lists.now }
+    ensures some { IfSome result (λ size. (size ≡ lists_size dl.now lists.now) × (size < size_bound dl.now)) }
+    ensures none { result ≡ None → size_bound dl.now ≤ lists_size dl.now lists.now }
+{
+    let size = lists_size(dl, lists, align);
+    if size.bytes() >= dl.obj_size_bound() {
+        None
+    } else {
+        Some(size)
+    }
+}
+
 /// Makes a variant a part of an enum of this view and size, beside a tag that grew from the old size to the new one.
 fn settle_variant<FieldIdx: Idx>(
     alloc: Global,
@@ -56,7 +74,8 @@ fn settle_variant<FieldIdx: Idx>(
     size: Size,
     variant: &mut VariantLayout<FieldIdx>,
 ) -> Result<(), AllocError>
-    ensures { OnOk result (variant.new ≡ seen_as view.now size (grown_variant old new variant.old)) }
+    ensures { OnOk result (variant.new ≡ seen_as view.now size
+        (grown_variant old new variant.old)) }
 {
     grow_variant(alloc, old, new, variant)?;
     see_as(view, size, variant);
@@ -155,18 +174,17 @@ fn layout_of_lists<FieldIdx: Idx, VariantIdx: Idx, F: LayoutHandle<FieldIdx, Var
     requires lists { AreListsOf variants.now lists }
     requires lawful { All (IsLawfulLayout dl.now) lists }
     requires count { length variants.now ≤ VariantIdx.MAX_INDEX + 1 }
-    ensures exact { IfOk result (IsTaggedBy FieldIdx.number (FieldIdx.at 0) dl.now repr.now asked.0 asked.1 values.now
-        (map (map F.layout_of) variants.now) lists) }
+    ensures exact { IfOk result (IsTaggedBy FieldIdx.number (FieldIdx.at 0) dl.now repr.now asked.0
+        asked.1 values.now (map (map F.layout_of) variants.now) lists) }
     ensures fault { IfErr result (λ e.
         ((size_bound dl.now ≤ lists_size dl.now lists) × (e ≡ LayoutCalculatorError.SizeOverflow)) ⊎
         (e ≡ LayoutCalculatorError.OutOfMemory)) }
 {
     let (asked, signed) = asked;
     let align = greatest_align(dl.aggregate_align, &lists);
-    let size = lists_size(dl, &lists, align);
-    if size.bytes() >= dl.obj_size_bound() {
+    let Some(size) = bounded_size(dl, &lists, align) else {
         return Err(LayoutCalculatorError::SizeOverflow);
-    }
+    };
     let integer = grown_tag(dl, repr, asked, start_align(variants, &lists));
     let range = tag_range(alloc, integer.size(), values)?;
     let tag = Scalar::Initialized {
@@ -202,52 +220,21 @@ impl<Cx: HasDataLayout> LayoutCalculator<Cx> {
         values: &[u128],
     ) -> Result<LayoutData<FieldIdx, VariantIdx>, LayoutCalculatorError<F>>
         requires data_layout { IsLawfulDataLayout (Cx.target self.now.cx) }
-        requires fields { All (All (λ f. IsLawfulLayout (Cx.target self.now.cx) (F.layout_of f))) variants.now }
+        requires fields { All (All (λ f. IsLawfulLayout (Cx.target self.now.cx)
+            (F.layout_of f))) variants.now }
         requires count { length variants.now ≤ VariantIdx.MAX_INDEX + 1 }
         requires repr { HasLawfulAligns repr.now }
         requires unpacked { repr.now.pack ≡ None }
         requires some { 0 < length variants.now }
         ensures exact { IsTaggedAnswer F.layout_of FieldIdx.at FieldIdx.number (VariantIdx.at 0)
             (Cx.target self.now.cx) repr.now asked signed values.now variants.now result }
-        ensures good { IfOk result (λ l. HaveGoodLists F.layout_of FieldIdx.at (VariantIdx.at 0)
-            (Cx.target self.now.cx) repr.now
-            (behind_tag (Cx.target self.now.cx) repr.now asked (map (map F.layout_of) variants.now)) variants.now) }
-
-        // The size is the greatest least size of the variants' lists, rounded up to the greatest of their alignments.
-        ensures size { IfOk result (λ l. IsTaggedSize (Cx.target self.now.cx) repr.now
-            (behind_tag (Cx.target self.now.cx) repr.now asked (map (map F.layout_of) variants.now))
-            (map (map F.layout_of) variants.now) l.size) }
-
         ensures lawful { IfOk result (IsLawfulLayout (Cx.target self.now.cx)) }
-
-        // Each variant's fields can be named by their index type.
-        ensures within { IfOk result (λ l. All (λ fields. length fields ≤ FieldIdx.MAX_INDEX + 1) variants.now) }
-
-        // A view of scalars begins with the tag, and what stands beside it holds anything.
-        ensures view { IfOk result (λ l. HasViewOfTag (Cx.target self.now.cx) l) }
-
-        // The tag and the fields of each variant share no byte, and end inside.
-        ensures apart { IfOk result (λ l.
-            AreApartAmong (Cx.target self.now.cx) l.size (map (map F.layout_of) variants.now) l.variants) }
-
-        // Each discriminant that counts is a number of the tag, cut to its width, and those that differ by the integer
-        // that was asked for differ there too.
-        ensures numbers { IfOk result (λ l. AreNumbersAmong (Cx.target self.now.cx) values.now l.variants) }
-        ensures differ { IfOk result (λ l.
-            DifferAmong (Cx.target self.now.cx) (integer_size asked) values.now l.variants) }
-
-        // It is refused for its size only where every allowed order of some list is too large, or that size is, and
-        // sized fields always then; sized fields are refused by no other name.
-        ensures too_large { result ≡ Err LayoutCalculatorError.SizeOverflow →
-            IsTaggedTooLarge (Cx.target self.now.cx) repr.now
-            (behind_tag (Cx.target self.now.cx) repr.now asked (map (map F.layout_of) variants.now))
-            (map (map F.layout_of) variants.now) }
-        ensures refused { All AreSized (map (map F.layout_of) variants.now) →
-            IsTaggedTooLarge (Cx.target self.now.cx) repr.now
-            (behind_tag (Cx.target self.now.cx) repr.now asked (map (map F.layout_of) variants.now))
-            (map (map F.layout_of) variants.now) → IsAnswer (Err LayoutCalculatorError.SizeOverflow) result }
-        ensures no_other { All AreSized (map (map F.layout_of) variants.now) →
-            IfErr result (λ e. (e ≡ LayoutCalculatorError.SizeOverflow) ⊎ (e ≡ LayoutCalculatorError.OutOfMemory)) }
+        ensures within { IfOk result
+            (λ l. All (λ fields. length fields ≤ FieldIdx.MAX_INDEX + 1) variants.now) }
+        ensures placed { IfOk result (IsPlacedByTag (Cx.target self.now.cx) asked values.now
+            (map (map F.layout_of) variants.now)) }
+        ensures sized { IsSizedByTag F.layout_of FieldIdx.at (VariantIdx.at 0)
+            (Cx.target self.now.cx) repr.now asked variants.now result }
     {
         let dl = self.cx.data_layout();
         let kind = behind_tag(dl, repr, asked, variants);

@@ -30,7 +30,7 @@ fn write_made(out: &mut Out, made: Result<Align, AlignFromBytesError>) {
 }
 
 /// Writes the size, rounded up to the alignment.
-#[tactic(auto, using(abi_lists::proofs::Rounding::round_below))]
+#[tactic(auto, using(abi_lists::proofs::Offsets::Rounding::round_below))]
 fn write_rounded(out: &mut Out, size: u32, align: Align)
     requires { align ≤ 29 }
 {

@@ -9,7 +9,7 @@ use Rattle.abi_scalar.specs.Variant.{variants_of}
 use Rattle.abi_lists.specs.Placement.{source_order}
 use Rattle.abi_calc.specs.Coroutine.Clash.{HasLocalAt}
 use Rattle.abi_calc.specs.Coroutine.Clash as calculator
-use Rattle.abi_calc.proofs.CoroutineLemmas.Deep.{coroutine_clash, coroutine_one_offset}
+use Rattle.abi_calc.proofs.CoroutineLemmas.Deep.{coroutine_apart}
 use Rattle.abi_laid.specs.Tree.{Tree, scalar, pair, never, unit, array, vector, struct, union, enum, coroutine, Trees}
 use Rattle.abi_laid.specs.declared.mark.Mark.{Mark}
 use Rattle.abi_laid.specs.declared.mark.Mark.TheVariants.{Plain}
@@ -78,8 +78,8 @@ module _ (dl : TargetDataLayout) (law : IsLawfulDataLayout dl) where
         let asked = coroutine_asked dl law pres ps states conflicts (whole_lawful dl pres (all_whole dl law prefix pres before)) (whole_lawful dl ps (all_whole dl law locals ps there)) found.0 found.1 in
         let within = states_within (length pres) (length ps) states conflicts found.5 in
         let known = conflicts_within (length pres) (length ps) states conflicts found.5 in
-        let apart =
-        coroutine_clash layout_of dl pres found.0 (one_scalar dl found.0) ps states (conflicts_of (length ps) conflicts) asked within (conflict_rows (length ps) conflicts) (conflict_columns (length ps) conflicts) found.2 found.3 in
+        let once = states_once (length pres) (length ps) states conflicts found.5 in
+        let apart = (coroutine_apart layout_of dl pres found.0 (one_scalar dl found.0) ps states (conflicts_of (length ps) conflicts) asked within (conflict_rows (length ps) conflicts) once (conflict_columns (length ps) conflicts) found.2 found.3).clash in
         subst (AreClashingLocalsApart (coroutine prefix locals states conflicts)) found.4 (λ a b o q x y differ clash here also.
         (let one = has_local ps states (variants_of found.2.variants) (source_order (length states)) within found.2 Plain a o x here in
         let other = has_local ps states (variants_of found.2.variants) (source_order (length states)) within found.2 Plain b q y also in
@@ -91,7 +91,7 @@ module _ (dl : TargetDataLayout) (law : IsLawfulDataLayout dl) where
         let asked = coroutine_asked dl law pres ps states conflicts (whole_lawful dl pres (all_whole dl law prefix pres before)) (whole_lawful dl ps (all_whole dl law locals ps there)) found.0 found.1 in
         let within = states_within (length pres) (length ps) states conflicts found.5 in
         let once = states_once (length pres) (length ps) states conflicts found.5 in
-        let one = coroutine_one_offset layout_of dl pres found.0 (one_scalar dl found.0) ps states (conflicts_of (length ps) conflicts) asked within (conflict_rows (length ps) conflicts) once found.2 found.3 in
+        let one = (coroutine_apart layout_of dl pres found.0 (one_scalar dl found.0) ps states (conflicts_of (length ps) conflicts) asked within (conflict_rows (length ps) conflicts) once (conflict_columns (length ps) conflicts) found.2 found.3).one_offset in
         subst (HaveLocalsOneOffset (coroutine prefix locals states conflicts)) found.4 (λ local o q x y here also.
         one local o q (has_local ps states (variants_of found.2.variants) (source_order (length states)) within found.2 Plain local o x here).0
         (has_local ps states (variants_of found.2.variants) (source_order (length states)) within found.2 Plain local q y also).0)

@@ -30,9 +30,10 @@ use Rattle.abi_lists.specs.Least.{IsOrderOf, size_by}
 use Rattle.abi_lists.specs.Union.{IsUnionTooLarge}
 use Rattle.abi_lists.proofs.Promised.LeastLemmas.{has_least, never_large as listed_never_large}
 use Rattle.abi_lists.proofs.Placed.RunLemmas.{biased_of}
-use Rattle.abi_lists.proofs.UnionsVectors.TooLarge.{tells_size, union_large, union_refused}
+use Rattle.abi_lists.proofs.UnionsVectors.TooLarge.{union_sized, vector_sized}
 use Rattle.abi_lists.specs.Answer.{IsAnswer}
 use Rattle.abi_calc.specs.Coroutine.Layout.{IsStateTag}
+use Rattle.abi_calc.specs.Coroutine.Promised.{IsSizedPromoted}
 use Rattle.abi_calc.specs.Coroutine.Promotion.{promoted_of}
 use Rattle.abi_calc.specs.Coroutine.Sizes.{IsTooLargeWith, MayOverlap}
 use Rattle.abi_calc.proofs.CoroutineLemmas.Promised.{IsPromised}
@@ -351,11 +352,11 @@ module _ (dl : TargetDataLayout) (law : IsLawfulDataLayout dl) where
 
   large_vector : (lanes : ℕ) (packed : Bool) (p : Placed) → vector_answer dl lanes packed p ≡ Err SizeOverflow → IsVectorTooLarge dl (layout_of p) lanes packed
   large_vector lanes packed p e =
-      (tells_size (λ (l : Layout). l) 0 0 dl (layout_of p) lanes packed).0 (named_large (simd_answer (λ l. l) 0 0 dl (layout_of p) lanes packed) (λ layout. placed_vector layout (lanes_of lanes p)) e)
+      (vector_sized (λ (l : Layout). l) 0 0 dl (layout_of p) lanes packed (simd_answer (λ l. l) 0 0 dl (layout_of p) lanes packed) refl).too_large (named_large (simd_answer (λ l. l) 0 0 dl (layout_of p) lanes packed) (λ layout. placed_vector layout (lanes_of lanes p)) e)
 
   refused_vector : (lanes : ℕ) (packed : Bool) (p : Placed) → IsVectorTooLarge dl (layout_of p) lanes packed → vector_answer dl lanes packed p ≡ Err SizeOverflow
   refused_vector lanes packed p large =
-      ap (λ answer. placed_by (λ layout. placed_vector layout (lanes_of lanes p)) (named answer)) ((tells_size (λ (l : Layout). l) 0 0 dl (layout_of p) lanes packed).1 large)
+      ap (λ answer. placed_by (λ layout. placed_vector layout (lanes_of lanes p)) (named answer)) ((vector_sized (λ (l : Layout). l) 0 0 dl (layout_of p) lanes packed (simd_answer (λ l. l) 0 0 dl (layout_of p) lanes packed) refl).refused large)
 
   -- and so is a union
   module _ (repr : ReprOptions) (ps : List Placed) where
@@ -370,17 +371,17 @@ module _ (dl : TargetDataLayout) (law : IsLawfulDataLayout dl) where
         let same : SizeOverflow ≡ e = cc in
         let size : named {A = Layout} (Err error) ≡ Err SizeOverflow = ap (λ x. Err x) (sym name ∙ sym same) in
         let told : Err error ≡ Err calculator.SizeOverflow = named_large (Err error) (λ layout. placed_together repr ps layout) (ap (placed_by (placed_together repr ps)) size) in
-        (none, subst (IsUnionTooLarge dl repr) all_same (union_large (λ (l : Layout). l) 0 dl repr (map layout_of ps) (Err error) answer told))
+        (none, subst (IsUnionTooLarge dl repr) all_same ((union_sized (λ (l : Layout). l) 0 dl repr (map layout_of ps) (Err error) law answer).too_large told))
     large_union None none (inr (layout, united, is)) = absurd (cc)
     large_union (Some f) there e = absurd (not_fields _ _ (there ∙ cc))
 
     refused_union : (fault : Option LayError) (r : Result Placed LayError) → fault ≡ None → IsUnionTooLarge dl repr (map layout_of ps) → UnionAnswersBy fault r → r ≡ Err SizeOverflow
     refused_union None r none large (inl (e, (error, answer, name), is)) =
-        let told : Err error ≡ Err calculator.SizeOverflow = union_refused (λ (l : Layout). l) 0 dl repr (map layout_of ps) (Err error) law answer (subst (IsUnionTooLarge dl repr) (sym all_same) large) in
+        let told : Err error ≡ Err calculator.SizeOverflow = (union_sized (λ (l : Layout). l) 0 dl repr (map layout_of ps) (Err error) law answer).refused (subst (IsUnionTooLarge dl repr) (sym all_same) large) in
         let named_so : error ≡ calculator.SizeOverflow = cc in
         is ∙ ap (λ x. Err x) (name ∙ ap lay_error named_so)
     refused_union None r none large (inr (layout, united, is)) =
-        let told : Ok layout ≡ Err calculator.SizeOverflow = union_refused (λ (l : Layout). l) 0 dl repr (map layout_of ps) (Ok layout) law united (subst (IsUnionTooLarge dl repr) (sym all_same) large) in
+        let told : Ok layout ≡ Err calculator.SizeOverflow = (union_sized (λ (l : Layout). l) 0 dl repr (map layout_of ps) (Ok layout) law united).refused (subst (IsUnionTooLarge dl repr) (sym all_same) large) in
         absurd (cc)
     refused_union (Some f) r none large e = absurd (cc)
 
@@ -444,7 +445,7 @@ module _ (dl : TargetDataLayout) (law : IsLawfulDataLayout dl) where
           fields_back (listed_offsets layout.fields) pres (omega (arith, offsets))
 
       stated_sized : IsCoroutineSized dl pres ps states conflicts layout.size
-      stated_sized = (tag, tells, IsPromised.size (promised tag tells (Ok layout) stated))
+      stated_sized = (tag, tells, IsSizedPromoted.size (IsPromised.sized (promised tag tells (Ok layout) stated)))
 
     -- a coroutine has the size that its lists allow
     least_coroutine : (fault : Option LayError) → coroutine_fault (length pres) (length ps) states conflicts ≡ fault → (p : Placed) → CoroutineAnswersBy dl pres ps states conflicts fault (Ok p)
@@ -466,7 +467,7 @@ module _ (dl : TargetDataLayout) (law : IsLawfulDataLayout dl) where
     large_coroutine None none (tag, tells, inl (e, (error, stated, other, name), is)) =
         let same : SizeOverflow ≡ e = cc in
         let size : error ≡ calculator.SizeOverflow = size_error error (same ∙ name) in
-        (none, (tag, tells, IsPromised.too_large (promised tag tells (Err error) stated) (ap (λ x. Err x) size)))
+        (none, (tag, tells, IsSizedPromoted.too_large (IsPromised.sized (promised tag tells (Err error) stated)) (ap (λ x. Err x) size)))
     large_coroutine None none (tag, tells, inr (layout, stated, is)) = absurd (cc)
     large_coroutine (Some f) fault e =
         absurd (no_coroutine_size (nat_lt most_fields (length pres + 1 + length ps) || has_bad_index states) (nat_lt (length states) 1) (names_unknown (length ps) states conflicts) (list_any has_equal states) (fault ∙ cc))
@@ -490,7 +491,7 @@ module _ (dl : TargetDataLayout) (law : IsLawfulDataLayout dl) where
             subst (λ t. IsTooLargeWith dl (map layout_of pres) (layout_of (one_scalar dl t)) (map layout_of ps) states (promoted_of states (conflicts_of (length ps) conflicts))) same large
 
         told : (answer : Result Layout (LayoutCalculatorError Placed)) → IsStated dl pres tag (one_scalar dl tag) ps states conflicts answer → IsAnswer (Err calculator.SizeOverflow) answer
-        told answer h = IsPromised.refused (promised tag tells answer h) (asked_sized dl pres (all_whole dl law prefix pres before)) (asked_sized dl ps (all_whole dl law locals ps there)) here
+        told answer h = IsSizedPromoted.refused (IsPromised.sized (promised tag tells answer h)) (asked_sized dl pres (all_whole dl law prefix pres before)) (asked_sized dl ps (all_whole dl law locals ps there)) here
 
         by : Follows (IsCoroutined dl pres tag (one_scalar dl tag) ps states conflicts) (λ layout z. z ≡ Ok (placed_coroutine dl pres tag ps states layout)) r → r ≡ Err SizeOverflow
         by (inl (e, (error, stated, other, name), is)) = is ∙ ap (λ x. Err x) (size_or_memory e error (told (Err error) stated) other name)

@@ -1,4 +1,4 @@
-use Rattle.std.proofs.Common.{◌≢◌, map-id, subst, sym}
+use Rattle.std.proofs.Common.{◌≢◌, map-id, rules, subst, sym}
 use Rattle.std.specs.List.{AllPairs}
 use Rattle.calls.proofs.coroutines.laid.Goals as goal
 
@@ -9,10 +9,12 @@ pub layout_of_coroutine-requires-clause-prefix : goal.layout_of_coroutine-requir
 layout_of_coroutine-requires-clause-prefix c =
     rw (c.new.ensures, c.from_raw.ensures) (rw c.deref.ensures.value at c.in_ok-check_parts.ensures.prefix)
 
-pub layout_of_coroutine-requires-clause-within : goal.layout_of_coroutine-requires-clause-within
-layout_of_coroutine-requires-clause-within c =
-    rw (c.new-states.ensures, c.new-2.ensures) (λ k d below. (c.in_ok-check_parts.ensures.held k d below).0)
-
-pub layout_of_coroutine-requires-clause-once : goal.layout_of_coroutine-requires-clause-once
-layout_of_coroutine-requires-clause-once c =
-    rw c.new-states.ensures (λ k d below. subst (AllPairs (λ a b. a ≢ b)) (sym (map-id _)) (c.in_ok-check_parts.ensures.held k d below).1)
+pub layout_of_coroutine-requires-clause-states : goal.layout_of_coroutine-requires-clause-states
+layout_of_coroutine-requires-clause-states c =
+    rw (c.new-states.ensures, c.new-2.ensures) (record {
+      some = search rules;
+      within = λ k d below. (c.in_ok-check_parts.ensures.held k d below).0;
+      once = λ k d below. subst (AllPairs (λ a b. a ≢ b)) (sym (map-id _)) (c.in_ok-check_parts.ensures.held k d below).1;
+      rows = search rules;
+      columns = search rules;
+    })

@@ -1,5 +1,6 @@
 -- The tag that is asked for is the one whose layout is lent, and the answer to layouts that are lent is the answer to the types.
-use Rattle.std.proofs.Common.{◌≡◌, length, rules, subst, Ok, Err}
+use Rattle.std.proofs.Common.{◌≡◌, ◌≢◌, length, map-id, rules, subst, sym, Ok, Err}
+use Rattle.std.specs.List.{AllPairs}
 use Rattle.abi_scalar.specs.Simple.{scalar_layout}
 use Rattle.abi_calc.specs.Coroutine.Answer.{IsCoroutineAnswer}
 use Rattle.abi_calc.proofs.CoroutineLemmas.OneCoroutine.{one_tag}
@@ -9,6 +10,16 @@ use Rattle.rustc_abi.proofs.lay_coroutine.calculated.Goals as goal
 
 pub layout_of_coroutine-answer-requires-clause-locals : goal.layout_of_coroutine-answer-requires-clause-locals
 layout_of_coroutine-answer-requires-clause-locals c = rw (c.new.ensures, c.new-2.ensures) c.requires.locals
+
+pub layout_of_coroutine-answer-requires-clause-states : goal.layout_of_coroutine-answer-requires-clause-states
+layout_of_coroutine-answer-requires-clause-states c =
+    rw (c.new-2.ensures, c.new-3.ensures) (record {
+      some = c.requires.some;
+      within = c.requires.known;
+      once = λ k d below. subst (AllPairs (λ a b. a ≢ b)) (sym (map-id _)) (c.requires.once k d below);
+      rows = c.requires.rows;
+      columns = c.requires.columns;
+    })
 
 pub returns-in_err-answer-clause-err : goal.returns-in_err-answer-clause-err
 returns-in_err-answer-clause-err c =

@@ -19,25 +19,9 @@ pub layout_of_states-requires-clause-locals : goal.layout_of_states-requires-cla
 layout_of_states-requires-clause-locals g c =
     subst (All (λ f. IsLawfulLayout (g.Cx.HasDataLayout.target c.args.self.now.cx) (g.F.LayoutHandle.layout_of f))) (sym c.as_raw-locals.ensures.items) c.requires.locals
 
-pub layout_of_states-requires-clause-some : goal.layout_of_states-requires-clause-some
-layout_of_states-requires-clause-some g c =
-    subst (λ s. 0 < length s) (sym c.as_raw-states.ensures.items) c.requires.some
-
-pub layout_of_states-requires-clause-within : goal.layout_of_states-requires-clause-within
-layout_of_states-requires-clause-within g c =
-    subst (λ ls. All (All (λ l. g.LocalIdx.Idx.number l < length ls)) c.as_raw-states.result.now) (sym c.as_raw-locals.ensures.items) (subst (All (All (λ l. g.LocalIdx.Idx.number l < length (items_of c.args.local_layouts)))) (sym c.as_raw-states.ensures.items) c.requires.within)
-
-pub layout_of_states-requires-clause-once : goal.layout_of_states-requires-clause-once
-layout_of_states-requires-clause-once g c =
-    subst (All (λ state. AllPairs (λ a b. a ≢ b) (map g.LocalIdx.Idx.number state))) (sym c.as_raw-states.ensures.items) c.requires.once
-
-pub layout_of_states-requires-clause-rows : goal.layout_of_states-requires-clause-rows
-layout_of_states-requires-clause-rows g c =
-    c.requires.rows ∙ ap length (sym c.as_raw-locals.ensures.items)
-
-pub layout_of_states-requires-clause-columns : goal.layout_of_states-requires-clause-columns
-layout_of_states-requires-clause-columns g c =
-    c.requires.columns ∙ ap length (sym c.as_raw-locals.ensures.items)
+pub layout_of_states-requires-clause-states : goal.layout_of_states-requires-clause-states
+layout_of_states-requires-clause-states g c =
+    rw (c.as_raw-locals.ensures.items, c.as_raw-states.ensures.items) c.requires.states
 
 pub layout_of_states-requires-clause-count : goal.layout_of_states-requires-clause-count
 layout_of_states-requires-clause-count g c =
@@ -71,15 +55,13 @@ returns g c =
           (coroutine_view lo at number first dl c.args.prefix_layouts exact.0 exact.2 locals states conflicts result exact.4)
           (coroutine_align lo at number first dl c.args.prefix_layouts exact.0 exact.2 locals states conflicts holds tells result exact.4)
           (coroutine_marks lo at number first dl c.args.prefix_layouts exact.0 exact.2 locals states conflicts holds result exact.4)
-          (coroutine_ordered lo at number g.FieldIdx.Idx.MAX_INDEX g.met.FieldIdx.Idx.number_at first dl c.args.prefix_layouts exact.0 exact.2 locals states conflicts c.requires.rows c.requires.count
-          (All-map (AllPairs (λ a b. a ≢ b)) (map g.LocalIdx.Idx.number) (items_of c.args.variant_fields) c.requires.once)
+          (coroutine_ordered lo at number g.FieldIdx.Idx.MAX_INDEX g.met.FieldIdx.Idx.number_at first dl c.args.prefix_layouts exact.0 exact.2 locals states conflicts c.requires.states.rows c.requires.count
+          (All-map (AllPairs (λ a b. a ≢ b)) (map g.LocalIdx.Idx.number) (items_of c.args.variant_fields) c.requires.states.once)
           (All-map (All (λ l. l < length locals)) (map g.LocalIdx.Idx.number) (items_of c.args.variant_fields)
-          (λ k d short. All-map (λ l. l < length locals) g.LocalIdx.Idx.number (get_or (items_of c.args.variant_fields) k d) (c.requires.within k d short)))
+          (λ k d short. All-map (λ l. l < length locals) g.LocalIdx.Idx.number (get_or (items_of c.args.variant_fields) k d) (c.requires.states.within k d short)))
           result exact.4)
           (coroutine_made lo at number first dl c.args.prefix_layouts exact.0 exact.2 locals states conflicts holds asked result exact.4)
           (rw (sym c.as_raw-locals.ensures.items, sym c.as_raw-states.ensures.items) c.layout_of_states.ensures.told)
-          (rw (sym c.as_raw-locals.ensures.items, sym c.as_raw-states.ensures.items) c.layout_of_states.ensures.clash)
-          (rw (sym c.as_raw-states.ensures.items) c.layout_of_states.ensures.one_offset);
+          (rw (sym c.as_raw-locals.ensures.items, sym c.as_raw-states.ensures.items) c.layout_of_states.ensures.apart);
       sized = rw (sym c.as_raw-locals.ensures.items, sym c.as_raw-states.ensures.items) c.layout_of_states.ensures.sized;
-      no_other = rw (sym c.as_raw-locals.ensures.items) c.layout_of_states.ensures.no_other;
     }

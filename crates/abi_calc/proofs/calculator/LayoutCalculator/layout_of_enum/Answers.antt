@@ -31,15 +31,16 @@ returns-in-Ok-layout_with_tag-clause-told g c =
     g.VariantIdx.Idx.MAX_INDEX g.met.VariantIdx.Idx.number_at c.requires.count c.args.discriminants.now c.in-Ok-layout_with_tag.tagged c.in-Ok.found c.in-Ok.ensures.good
     c.in-Ok-layout_with_tag.ensures.told)
 
-pub returns-in-Ok-layout_with_tag-clause-size : goal.returns-in-Ok-layout_with_tag-clause-size
-returns-in-Ok-layout_with_tag-clause-size g c =
+pub returns-in-Ok-layout_with_tag-clause-sized : goal.returns-in-Ok-layout_with_tag-clause-sized
+returns-in-Ok-layout_with_tag-clause-sized g c =
     let asks : RangeFrom ℤ → RangeToInclusive ℕ → Integer × Bool → Type 0 = λ least greatest answer. g.D.Fn.post c.args.discr_range_of_repr (least, (greatest, tt)) answer in
-    rw (c.better.ensures, c.data_layout.ensures) (better_size g.F.LayoutHandle.layout_of g.FieldIdx.Idx.at g.VariantIdx.Idx.at g.VariantIdx.Idx.number (g.Cx.HasDataLayout.target c.args.self.now.cx) c.args.repr.now c.args.variants.now
-    asks (counting_of g.VariantIdx.Idx.number c.args.repr.now (map (map g.F.LayoutHandle.layout_of) c.args.variants.now) c.args.discriminants.now) c.in-Ok-layout_with_tag.tagged c.in-Ok.found c.requires.fields c.requires.some c.requires.unpacked c.in-Ok.ensures.good c.in-Ok-layout_with_tag.ensures.size)
-
-pub returns-in-Ok-layout_with_tag-clause-refused : goal.returns-in-Ok-layout_with_tag-clause-refused
-returns-in-Ok-layout_with_tag-clause-refused g c sized large =
-    no_refusal _ c.in-Ok-layout_with_tag.tagged c.better.result (c.in-Ok-layout_with_tag.ensures.refused sized large)
+    record {
+      size = rw (c.better.ensures, c.data_layout.ensures) (better_size g.F.LayoutHandle.layout_of g.FieldIdx.Idx.at g.VariantIdx.Idx.at g.VariantIdx.Idx.number (g.Cx.HasDataLayout.target c.args.self.now.cx) c.args.repr.now c.args.variants.now
+          asks (counting_of g.VariantIdx.Idx.number c.args.repr.now (map (map g.F.LayoutHandle.layout_of) c.args.variants.now) c.args.discriminants.now) c.in-Ok-layout_with_tag.tagged c.in-Ok.found c.requires.fields c.requires.some c.requires.unpacked c.in-Ok.ensures.good c.in-Ok-layout_with_tag.ensures.sized.size);
+      too_large = λ is. absurd (cc);
+      refused = λ sized large. no_refusal _ c.in-Ok-layout_with_tag.tagged c.better.result (c.in-Ok-layout_with_tag.ensures.sized.refused sized large);
+      no_other = λ sized. tt;
+    }
 
 pub returns-in-Err-layout_with_tag-clause-exact : goal.returns-in-Err-layout_with_tag-clause-exact
 returns-in-Err-layout_with_tag-clause-exact g c =

@@ -13,11 +13,11 @@ use Rattle.abi_calc.specs.Coroutine.Layout.{IsStateTag, coroutine_layout, whole_
 use Rattle.abi_calc.specs.Coroutine.Lists.{behind, default_repr, first_list}
 use Rattle.abi_calc.specs.Coroutine.Sizes.{own_lists}
 use Rattle.abi_calc.specs.Enums.Lists.{AreGoodLists, IsFirstListError, IsGoodList}
-use Rattle.abi_calc.proofs.CoroutineLemmas.Promised.{IsAsked, first_count, first_lawful, first_promised, good_fields, good_own_fields, own_promised, whole_promised}
+use Rattle.abi_calc.proofs.CoroutineLemmas.Promised.{IsAsked, first_count, first_lawful, first_promised, good_fields, good_own_fields, memory_sized, own_promised, whole_promised}
 use Rattle.abi_calc.proofs.CoroutineLemmas.States.{members_few}
 use Rattle.abi_calc.proofs.EnumLemmas.Lists.{good_lawful}
 use Rattle.abi_calc.proofs.CoroutineLemmas.Apart.{told_promised}
-use Rattle.abi_calc.proofs.CoroutineLemmas.Shared.{clash_promised, offset_promised}
+use Rattle.abi_calc.proofs.CoroutineLemmas.Shared.{apart_promised}
 use Rattle.abi_calc.proofs.calculator.LayoutCalculator.layout_of_promoted.Goals as goal
 
 pub list_of_variant-requires-clause-fields : goal.list_of_variant-requires-clause-fields
@@ -30,6 +30,9 @@ list_of_variant-requires-clause-fields g c =
       holds = c.requires.field;
     } in
     rw c.in_ok-fields.ensures (first_lawful g.F.LayoutHandle.layout_of g.FieldIdx.Idx.at g.FieldIdx.Idx.number (g.VariantIdx.Idx.at 0) (g.Cx.HasDataLayout.target c.args.self.now.cx) c.args.prefix c.args.tag c.args.field c.args.locals.now (map (map g.LocalIdx.Idx.number) c.args.states.now) c.args.promoted.now asked)
+
+pub returns-in_err-fields-clause-sized : goal.returns-in_err-fields-clause-sized
+returns-in_err-fields-clause-sized g c = memory_sized _ _ _ _ _ _ c.from_residual.result c.from_residual.ensures.1
 
 pub returns-in-Err : goal.returns-in-Err
 returns-in-Err g c =
@@ -48,12 +51,8 @@ returns-in-Err g c =
       exact = p.exact;
       lawful = p.lawful;
       told = tt;
-      clash = λ conflicts is square count. tt;
-      one_offset = λ conflicts is count. tt;
-      size = p.size;
-      too_large = p.too_large;
-      refused = p.refused;
-      no_other = p.no_other;
+      apart = λ conflicts by. tt;
+      sized = p.sized;
     }
 
 pub returns-in-Err-lists_of_own : goal.returns-in-Err-lists_of_own
@@ -75,12 +74,8 @@ returns-in-Err-lists_of_own g c =
       exact = p.exact;
       lawful = p.lawful;
       told = tt;
-      clash = λ conflicts is square count. tt;
-      one_offset = λ conflicts is count. tt;
-      size = p.size;
-      too_large = p.too_large;
-      refused = p.refused;
-      no_other = p.no_other;
+      apart = λ conflicts by. tt;
+      sized = p.sized;
     }
 
 pub layout_of_lists-requires-clause-prefix : goal.layout_of_lists-requires-clause-prefix
@@ -141,14 +136,8 @@ returns g c =
           c.requires.field c.requires.same c.in-Ok.first good (map (map g.LocalIdx.Idx.number) c.args.states.now) c.in-Ok-lists_of_own.lists
           (λ layout. whole_size c.in-Ok.first c.in-Ok-lists_of_own.lists < size_bound (g.Cx.HasDataLayout.target c.args.self.now.cx)) c.layout_of_lists.result asked.tells
           within once others laid;
-      clash = λ conflicts is square count. clash_promised g.F.LayoutHandle.layout_of g.FieldIdx.Idx.at g.FieldIdx.Idx.number (g.VariantIdx.Idx.at 0) (g.Cx.HasDataLayout.target c.args.self.now.cx) c.args.prefix c.args.tag c.args.field c.args.locals.now
-          states conflicts c.in-Ok.first c.in-Ok-lists_of_own.lists c.args.promoted.now is count within square good others
+      apart = λ conflicts by. apart_promised g.F.LayoutHandle.layout_of g.FieldIdx.Idx.at g.FieldIdx.Idx.number (g.VariantIdx.Idx.at 0) (g.Cx.HasDataLayout.target c.args.self.now.cx) c.args.prefix c.args.tag c.args.field c.args.locals.now
+          states conflicts c.in-Ok.first c.in-Ok-lists_of_own.lists c.args.promoted.now by within once good others
           (λ layout. whole_size c.in-Ok.first c.in-Ok-lists_of_own.lists < size_bound (g.Cx.HasDataLayout.target c.args.self.now.cx)) c.layout_of_lists.result laid;
-      one_offset = λ conflicts is count. offset_promised g.F.LayoutHandle.layout_of g.FieldIdx.Idx.at g.FieldIdx.Idx.number (g.VariantIdx.Idx.at 0) (g.Cx.HasDataLayout.target c.args.self.now.cx) c.args.prefix c.args.tag c.args.field c.args.locals.now
-          states conflicts c.in-Ok.first c.in-Ok-lists_of_own.lists c.args.promoted.now is count within once
-          (λ layout. whole_size c.in-Ok.first c.in-Ok-lists_of_own.lists < size_bound (g.Cx.HasDataLayout.target c.args.self.now.cx)) c.layout_of_lists.result laid;
-      size = p.size;
-      too_large = p.too_large;
-      refused = p.refused;
-      no_other = p.no_other;
+      sized = p.sized;
     }

@@ -1,6 +1,7 @@
 use Rattle.std.proofs.Common.{◌≡◌, refl, arith}
 use Rattle.abi_scalar.specs.Order.{HasPlaceForEach, IsAscending}
-use Rattle.abi_lists.proofs.UnionsVectors.VectorLemmas.{scalable_ok, scalable_size}
+use Rattle.abi_lists.proofs.UnionsVectors.TooLarge.{vectors_sized}
+use Rattle.abi_lists.proofs.UnionsVectors.VectorLemmas.{scalable_ok}
 use Rattle.abi_calc.proofs.calculator.LayoutCalculator.layout_of_scalable_vector_type.Goals as goal
 
 pub layout_of_scalable-requires-clause-element : goal.layout_of_scalable-requires-clause-element
@@ -8,11 +9,6 @@ layout_of_scalable-requires-clause-element g c = rw c.data_layout.ensures c.requ
 
 pub returns-clause-exact : goal.returns-clause-exact
 returns-clause-exact g c = rw c.data_layout.ensures at c.layout_of_scalable.ensures.exact
-
-pub returns-clause-size : goal.returns-clause-size
-returns-clause-size g c =
-    scalable_size g.F.LayoutHandle.layout_of (g.VariantIdx.Idx.at 0) (g.FieldIdx.Idx.at 0) c.data_layout.result.now
-    c.args.element c.args.count c.args.number_of_vectors c.layout_of_scalable.result c.layout_of_scalable.ensures.exact
 
 pub returns-clause-lawful : goal.returns-clause-lawful
 returns-clause-lawful g c = rw c.data_layout.ensures at c.layout_of_scalable.ensures.lawful
@@ -34,3 +30,10 @@ returns-clause-niche g c =
     scalable_ok g.F.LayoutHandle.layout_of (g.VariantIdx.Idx.at 0) (g.FieldIdx.Idx.at 0) c.data_layout.result.now
     c.args.element c.args.count (λ l. l.largest_niche ≡ (g.F.LayoutHandle.layout_of c.args.element).largest_niche) c.args.number_of_vectors
     c.layout_of_scalable.result c.layout_of_scalable.ensures.exact (λ lanes are. refl)
+
+pub returns-clause-sized : goal.returns-clause-sized
+returns-clause-sized g c =
+    let exact = rw c.data_layout.ensures at c.layout_of_scalable.ensures.exact in
+    vectors_sized g.F.LayoutHandle.layout_of (g.VariantIdx.Idx.at 0) (g.FieldIdx.Idx.at 0)
+    (g.Cx.HasDataLayout.target c.args.self.now.cx) c.args.element c.args.count c.args.number_of_vectors
+    c.layout_of_scalable.result exact

@@ -1,6 +1,7 @@
 -- The discriminants that are listed are those that a whole run gives.
-use Rattle.std.proofs.Common.{◌∙◌, inr, length, map, sym, ℕ}
-use Rattle.std.specs.Prelude.{Bool, ℤ}
+use Rattle.std.proofs.Common.{◌∙◌, inr, length, map, subst, sym, ℕ}
+use Rattle.std.specs.Prelude.{Bool, IsSome, ℤ}
+use Rattle.std.proofs.lemmas.Bool.{false≢true}
 use Rattle.abi_base.specs.declared.data_layout.TargetDataLayout.{TargetDataLayout}
 use Rattle.abi_base.specs.declared.integer.Integer.{Integer}
 use Rattle.abi_scalar.specs.declared.variants.RangeFrom.{RangeFrom}
@@ -41,26 +42,22 @@ returns-clause-told g c =
     whole_if_ok g.I.Iterator.next_gives c.args.discriminants c.deref.result.now c.in_ok-items.items.items c.deref.ensures.value c.in_ok-items.ensures
     (λ l items. AreToldApart dl g.VariantIdx.Idx.number vs items l) c.layout_of_enum.result c.layout_of_enum.ensures.told
 
-pub returns-clause-size : goal.returns-clause-size
-returns-clause-size g c =
+pub returns-clause-sized : goal.returns-clause-sized
+returns-clause-sized g c =
     let dl : TargetDataLayout = g.Cx.HasDataLayout.target c.args.self.now.cx in
+    let repr = c.args.repr.now in
     let asks : RangeFrom ℤ → RangeToInclusive ℕ → Integer × Bool → Type 0 = λ least greatest answer. g.D.Fn.post c.args.discr_range_of_repr (least, (greatest, tt)) answer in
     let vs = map (map g.F.LayoutHandle.layout_of) c.args.variants.now in
-    whole_if_ok g.I.Iterator.next_gives c.args.discriminants c.deref.result.now c.in_ok-items.items.items c.deref.ensures.value c.in_ok-items.ensures
-    (λ l items. HasEnumSize g.F.LayoutHandle.layout_of g.FieldIdx.Idx.at (g.VariantIdx.Idx.at 0) dl c.args.repr.now asks (counting_of g.VariantIdx.Idx.number c.args.repr.now vs items) c.args.variants.now l.size)
-    c.layout_of_enum.result c.layout_of_enum.ensures.size
-
-pub returns-clause-too_large : goal.returns-clause-too_large
-returns-clause-too_large g c is =
-    let asks : RangeFrom ℤ → RangeToInclusive ℕ → Integer × Bool → Type 0 = λ least greatest answer. g.D.Fn.post c.args.discr_range_of_repr (least, (greatest, tt)) answer in
-    let vs = map (map g.F.LayoutHandle.layout_of) c.args.variants.now in
-    whole_of_list g.I.Iterator.next_gives c.args.discriminants c.deref.result.now c.in_ok-items.items.items c.deref.ensures.value c.in_ok-items.ensures
-    (λ items. IsAskedTooLarge (g.Cx.HasDataLayout.target c.args.self.now.cx) c.args.repr.now asks (counting_of g.VariantIdx.Idx.number c.args.repr.now vs items) vs) (c.layout_of_enum.ensures.too_large is)
-
-pub returns-clause-refused : goal.returns-clause-refused
-returns-clause-refused g c free sized each =
-    let asks : RangeFrom ℤ → RangeToInclusive ℕ → Integer × Bool → Type 0 = λ least greatest answer. g.D.Fn.post c.args.discr_range_of_repr (least, (greatest, tt)) answer in
-    let vs = map (map g.F.LayoutHandle.layout_of) c.args.variants.now in
-    c.layout_of_enum.ensures.refused sized
-    (list_of_each g.I.Iterator.next_gives c.args.discriminants c.deref.result.now c.in_ok-items.items.items c.deref.ensures.value c.in_ok-items.ensures
-    (λ items. IsAlwaysTooLarge (g.Cx.HasDataLayout.target c.args.self.now.cx) c.args.repr.now asks (counting_of g.VariantIdx.Idx.number c.args.repr.now vs items) vs) each)
+    let sized = c.layout_of_enum.ensures.sized in
+    record {
+      size = whole_if_ok g.I.Iterator.next_gives c.args.discriminants c.deref.result.now c.in_ok-items.items.items c.deref.ensures.value c.in_ok-items.ensures
+          (λ l items. HasEnumSize g.F.LayoutHandle.layout_of g.FieldIdx.Idx.at (g.VariantIdx.Idx.at 0) dl repr asks (counting_of g.VariantIdx.Idx.number repr vs items) c.args.variants.now l.size)
+          c.layout_of_enum.result sized.size;
+      packed = λ some. absurd (false≢true (subst IsSome (none_there repr.pack (sym c.packed.ensures ∙ c.if-packed.false)) some));
+      too_large = λ is. whole_of_list g.I.Iterator.next_gives c.args.discriminants c.deref.result.now c.in_ok-items.items.items c.deref.ensures.value c.in_ok-items.ensures
+          (λ items. IsAskedTooLarge dl repr asks (counting_of g.VariantIdx.Idx.number repr vs items) vs) (sized.too_large is);
+      refused = λ free all each. sized.refused all
+          (list_of_each g.I.Iterator.next_gives c.args.discriminants c.deref.result.now c.in_ok-items.items.items c.deref.ensures.value c.in_ok-items.ensures
+          (λ items. IsAlwaysTooLarge dl repr asks (counting_of g.VariantIdx.Idx.number repr vs items) vs) each);
+      no_other = λ free. sized.no_other;
+    }

@@ -4,8 +4,8 @@ use Rattle.abi_scalar.specs.declared.backend_repr.BackendRepr.TheVariants.{Memor
 use Rattle.abi_scalar.specs.declared.scalar.Scalar.{Scalar}
 use Rattle.abi_scalar.specs.Order.{HasPlaceForEach, IsAscending}
 use Rattle.abi_lists.specs.Simd.{lanes_align}
-use Rattle.abi_lists.proofs.UnionsVectors.TooLarge.{vector_large, vector_refused}
-use Rattle.abi_lists.proofs.UnionsVectors.VectorLemmas.{simd_ok, simd_size}
+use Rattle.abi_lists.proofs.UnionsVectors.TooLarge.{vector_sized}
+use Rattle.abi_lists.proofs.UnionsVectors.VectorLemmas.{simd_ok}
 use Rattle.abi_calc.proofs.calculator.LayoutCalculator.layout_of_simd_type.Goals as goal
 
 -- a view that is one scalar is of no other
@@ -18,27 +18,8 @@ layout_of_simd-requires-clause-element g c = rw c.data_layout.ensures c.requires
 pub returns-clause-exact : goal.returns-clause-exact
 returns-clause-exact g c = rw c.data_layout.ensures at c.layout_of_simd.ensures.exact
 
-pub returns-clause-size : goal.returns-clause-size
-returns-clause-size g c =
-    simd_size g.F.LayoutHandle.layout_of (g.VariantIdx.Idx.at 0) (g.FieldIdx.Idx.at 0) c.data_layout.result.now
-    c.args.element c.args.count c.args.repr_packed c.layout_of_simd.result c.layout_of_simd.ensures.exact
-
 pub returns-clause-lawful : goal.returns-clause-lawful
 returns-clause-lawful g c = rw c.data_layout.ensures at c.layout_of_simd.ensures.lawful
-
-pub returns-clause-too_large : goal.returns-clause-too_large
-returns-clause-too_large g c =
-    let exact = rw c.data_layout.ensures at c.layout_of_simd.ensures.exact in
-    vector_large g.F.LayoutHandle.layout_of (g.VariantIdx.Idx.at 0) (g.FieldIdx.Idx.at 0)
-    (g.Cx.HasDataLayout.target c.args.self.now.cx) c.args.element c.args.count c.args.repr_packed
-    c.layout_of_simd.result exact
-
-pub returns-clause-refused : goal.returns-clause-refused
-returns-clause-refused g c =
-    let exact = rw c.data_layout.ensures at c.layout_of_simd.ensures.exact in
-    vector_refused g.F.LayoutHandle.layout_of (g.VariantIdx.Idx.at 0) (g.FieldIdx.Idx.at 0)
-    (g.Cx.HasDataLayout.target c.args.self.now.cx) c.args.element c.args.count c.args.repr_packed
-    c.layout_of_simd.result exact
 
 pub returns-clause-places : goal.returns-clause-places
 returns-clause-places g c =
@@ -81,3 +62,10 @@ returns-clause-tight_view g c tight =
     simd_ok g.F.LayoutHandle.layout_of (g.VariantIdx.Idx.at 0) (g.FieldIdx.Idx.at 0) dl
     c.args.element c.args.count (λ l. l.backend_repr ≡ Memory true) c.args.repr_packed
     c.layout_of_simd.result exact (λ lanes are. rw (are.count_is, tight) refl)
+
+pub returns-clause-sized : goal.returns-clause-sized
+returns-clause-sized g c =
+    let exact = rw c.data_layout.ensures at c.layout_of_simd.ensures.exact in
+    vector_sized g.F.LayoutHandle.layout_of (g.VariantIdx.Idx.at 0) (g.FieldIdx.Idx.at 0)
+    (g.Cx.HasDataLayout.target c.args.self.now.cx) c.args.element c.args.count c.args.repr_packed
+    c.layout_of_simd.result exact

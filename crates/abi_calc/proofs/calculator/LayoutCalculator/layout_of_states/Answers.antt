@@ -1,15 +1,14 @@
 -- The promoted locals are those that the states and the conflicts tell, and the tag is the one of so many states.
 use Rattle.std.proofs.Common.{◌≡◌, ◌∙◌, ℕ, List, ap, inr, length, map, refl, subst, sym}
 use Rattle.abi_base.specs.declared.data_layout.TargetDataLayout.{TargetDataLayout}
-use Rattle.std.specs.Prelude.{Err, IfOk, Ok, Result}
+use Rattle.std.specs.Prelude.{Err, Ok, Result}
 use Rattle.std.specs.Result.{IsErrAnd}
 use Rattle.abi_scalar.specs.declared.error.LayoutCalculatorError.{LayoutCalculatorError}
 use Rattle.abi_scalar.specs.declared.error.LayoutCalculatorError.TheVariants.{OutOfMemory}
 use Rattle.abi_scalar.specs.Simple.{scalar_layout}
 use Rattle.abi_calc.specs.Coroutine.Answer.{IsPromotedAnswer}
-use Rattle.abi_calc.specs.Coroutine.Promised.{IsSizedCoroutine}
+use Rattle.abi_calc.specs.Coroutine.Promised.{IsSizedCoroutine, IsSizedPromoted}
 use Rattle.abi_calc.specs.Coroutine.Promotion.{promoted_of}
-use Rattle.abi_calc.specs.Coroutine.Sizes.{IsSizeWith, IsTooLargeWith}
 use Rattle.abi_calc.proofs.CoroutineLemmas.OneCoroutine.{one_tag}
 use Rattle.abi_calc.proofs.CoroutineLemmas.Promotion.{promoted_count}
 use Rattle.abi_calc.proofs.CoroutineLemmas.Shared.{overlap_promised}
@@ -23,7 +22,7 @@ no_memory P (Ok a) told may = absurd told
 no_memory P (Err e) told may = subst (λ e. P (Err e)) (sym told) may
 
 pub layout_of_promoted-requires-clause-same : goal.layout_of_promoted-requires-clause-same
-layout_of_promoted-requires-clause-same g c = ap length c.in_ok-promoted.ensures.exact ∙ promoted_count (map (map g.LocalIdx.Idx.number) c.args.states.now) c.args.conflicts.now ∙ c.requires.rows
+layout_of_promoted-requires-clause-same g c = ap length c.in_ok-promoted.ensures.exact ∙ promoted_count (map (map g.LocalIdx.Idx.number) c.args.states.now) c.args.conflicts.now ∙ c.requires.states.rows
 
 pub layout_of_promoted-requires-clause-field : goal.layout_of_promoted-requires-clause-field
 layout_of_promoted-requires-clause-field g c =
@@ -42,7 +41,7 @@ returns-in_err-promoted-clause-sized g c tag is =
     let states : List (List ℕ) = map (map g.LocalIdx.Idx.number) c.args.states.now in
     no_memory (IsSizedCoroutine dl (map lo c.args.prefix) (scalar_layout (g.VariantIdx.Idx.at 0) dl tag) (map lo c.args.locals.now) states c.args.conflicts.now)
     c.from_residual.result c.from_residual.ensures.1
-    (record { size = tt; overlap = λ may. tt; too_large = λ large. absurd (cc); refused = λ front rest large. inr refl })
+    (record { size = tt; overlap = λ may. tt; too_large = λ large. absurd (cc); refused = λ front rest large. inr refl; no_other = λ front rest. inr refl })
 
 pub returns : goal.returns
 returns g c =
@@ -58,10 +57,10 @@ returns g c =
     let promoted = promoted_of states conflicts in
     let known = c.in_ok-promoted.ensures.exact in
     let same : (tag : Scalar) → IsStateTag (length c.args.states.now) tag → told ≡ tag = λ tag is. one_tag (length c.args.states.now) told tag c.state_tag-tag.ensures is in
-    let size : IfOk result (λ l. IsSizeWith dl before (scalar_layout first dl told) all states promoted l.size)
-    = subst (λ p. IfOk result (λ l. IsSizeWith dl before (scalar_layout first dl told) all states p l.size)) known c.layout_of_promoted.ensures.size in
-    let sized : (tag : Scalar) → IsStateTag (length c.args.states.now) tag → IfOk result (λ l. IsSizeWith dl before (scalar_layout first dl tag) all states promoted l.size)
-    = λ tag is. subst (λ t. IfOk result (λ l. IsSizeWith dl before (scalar_layout first dl t) all states promoted l.size)) (same tag is) size in
+    let sized : IsSizedPromoted dl before (scalar_layout first dl told) all states promoted result
+    = subst (λ p. IsSizedPromoted dl before (scalar_layout first dl told) all states p result) known c.layout_of_promoted.ensures.sized in
+    let by : (tag : Scalar) → IsStateTag (length c.args.states.now) tag → IsSizedPromoted dl before (scalar_layout first dl tag) all states promoted result
+    = λ tag is. subst (λ t. IsSizedPromoted dl before (scalar_layout first dl t) all states promoted result) (same tag is) sized in
     record {
       exact = (
         told,
@@ -72,15 +71,12 @@ returns g c =
       );
       lawful = c.layout_of_promoted.ensures.lawful;
       told = c.layout_of_promoted.ensures.told;
-      clash = c.layout_of_promoted.ensures.clash conflicts known (c.requires.columns ∙ sym c.requires.rows) c.requires.rows;
-      one_offset = c.layout_of_promoted.ensures.one_offset conflicts known c.requires.rows;
+      apart = c.layout_of_promoted.ensures.apart conflicts (record { by = known; rows = c.requires.states.rows; columns = c.requires.states.columns });
       sized = λ tag is. record {
-        size = sized tag is;
-        overlap = λ may. overlap_promised dl before (scalar_layout first dl tag) all states conflicts result may (sized tag is);
-        too_large = λ large. subst (λ t. IsTooLargeWith dl before (scalar_layout first dl t) all states promoted) (same tag is)
-            (subst (λ p. IsTooLargeWith dl before (scalar_layout first dl told) all states p) known (c.layout_of_promoted.ensures.too_large large));
-        refused = λ front rest large. c.layout_of_promoted.ensures.refused front rest
-            (subst (λ p. IsTooLargeWith dl before (scalar_layout first dl told) all states p) (sym known) (subst (λ t. IsTooLargeWith dl before (scalar_layout first dl t) all states promoted) (sym (same tag is)) large));
+        size = (by tag is).size;
+        overlap = λ may. overlap_promised dl before (scalar_layout first dl tag) all states conflicts result may (by tag is).size;
+        too_large = (by tag is).too_large;
+        refused = (by tag is).refused;
+        no_other = (by tag is).no_other;
       };
-      no_other = c.layout_of_promoted.ensures.no_other;
     }

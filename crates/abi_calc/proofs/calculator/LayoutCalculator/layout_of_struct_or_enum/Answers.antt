@@ -1,6 +1,6 @@
 -- The type is laid out by the way that its variants tell: as one list, or as several variants.
 use Rattle.std.proofs.Common.{◌≡◌, ◌+◌, ◌∙◌, ◌<◌, ◌≤◌, ℕ, ap, arith, length, map, subst, sym}
-use Rattle.std.specs.Prelude.{◌⊎◌, All, Bool, Err, IfErr, IfOk, IsTrue, None, ℤ}
+use Rattle.std.specs.Prelude.{◌⊎◌, All, Bool, Err, IfErr, IfOk, IsTrue, Ok, ℤ}
 use Rattle.std.specs.Iterator.Runs.{EachRunFrom, WholeRun}
 use Rattle.abi_base.specs.declared.data_layout.TargetDataLayout.{TargetDataLayout}
 use Rattle.abi_base.specs.declared.integer.Integer.{Integer}
@@ -16,13 +16,37 @@ use Rattle.abi_lists.specs.Placement.{IsNonEmptyIfUnsized}
 use Rattle.abi_calc.specs.Enums.Answer.{HasOneEach, IsGoodSingle}
 use Rattle.abi_calc.specs.Enums.Discriminants.{counting_of}
 use Rattle.abi_calc.specs.Enums.Made.{HasLeastTag, IsMadeOfLists}
+use Rattle.abi_calc.specs.declared.enums.path.Path.TheVariants.{NoValue, OneList, Several}
 use Rattle.abi_calc.specs.Enums.Path.{path_of}
-use Rattle.abi_calc.specs.Enums.Several.{AreLawfulTags, HasEnumSize, IsAlwaysTooLarge, IsAskedTooLarge, IsSeveralAnswer}
+use Rattle.abi_calc.specs.Enums.Promised.{AreSizedVariants}
+use Rattle.abi_calc.specs.Enums.Several.{AreLawfulTags, IsSeveralAnswer}
 use Rattle.abi_calc.proofs.EnumLemmas.Made.{niche_least, niche_made, several_good, several_run, tagged_least, tagged_made}
 use Rattle.abi_calc.proofs.EnumLemmas.Seen.{seen_at}
 use Rattle.abi_calc.proofs.EnumLemmas.Whole.{IsReadAt, at_listed, fields_hold, good_single, index_within, read_at, several_exact, several_some, single_exact}
 use Rattle.abi_calc.proofs.calculator.LayoutCalculator.layout_of_struct_or_enum.Given as given
 use Rattle.abi_calc.proofs.calculator.LayoutCalculator.layout_of_struct_or_enum.Goals as goal
+
+-- a type goes one way
+one_or_none : (i : ℕ) → OneList i ≡ NoValue → ⊥
+one_or_none i is = cc
+
+one_or_several : (i : ℕ) → OneList i ≡ Several → ⊥
+one_or_several i is = cc
+
+none_or_several : NoValue ≡ Several → ⊥
+none_or_several is = cc
+
+-- ---- no value
+
+pub returns-in-NoValue-clause-told : goal.returns-in-NoValue-clause-told
+returns-in-NoValue-clause-told g c =
+    let way : path_of c.args.is_enum c.args.repr.now (map (map g.F.LayoutHandle.layout_of) (items_of c.args.variants)) ≡ NoValue
+    = ap (λ vs. path_of c.args.is_enum c.args.repr.now (map (map g.F.LayoutHandle.layout_of) vs)) (sym c.as_raw-all.ensures.items) ∙ sym c.path_of.ensures ∙ c.in-NoValue.is in
+    record {
+      never = λ none. ap (λ l. Ok l) c.never_type.ensures.exact;
+      listed = λ i is. absurd (one_or_none i (sym is ∙ way));
+      several = λ are. absurd (none_or_several (sym way ∙ are));
+    }
 
 -- ---- one list
 
@@ -73,8 +97,8 @@ returns-in-OneList-clause-exact g c =
     c.args.niche_optimizations asks (λ items. WholeRun g.I.Iterator.next_gives c.args.discriminants (λ run. items ≡ run.items)) (path_of c.args.is_enum c.args.repr.now (map (map g.F.LayoutHandle.layout_of) vs))
     c.layout_of_single.result c.in-OneList.index c.single_kind-kind.result (items_of c.as_slice.result) c.new.result (read g c) c.new.ensures c.layout_of_single.ensures.exact
 
-pub returns-in-OneList-clause-listed : goal.returns-in-OneList-clause-listed
-returns-in-OneList-clause-listed g c i is =
+pub returns-in-OneList-clause-told : goal.returns-in-OneList-clause-told
+returns-in-OneList-clause-told g c =
     let lo = g.F.LayoutHandle.layout_of in
     let dl : TargetDataLayout = g.Cx.HasDataLayout.target c.args.self.now.cx in
     let repr = c.args.repr.now in
@@ -84,18 +108,23 @@ returns-in-OneList-clause-listed g c i is =
     let fields = items_of c.as_slice.result in
     let result = c.layout_of_single.result in
     let count : c.len.result ≡ length fields = c.len.ensures.count ∙ ap length (sym c.as_slice.ensures) in
+    let way : path ≡ OneList c.in-OneList.index = (read g c).way in
     record {
-      good = at_listed (λ k fs. IfOk result (IsGoodSingle lo g.FieldIdx.Idx.at g.FieldIdx.Idx.number dl repr k fs)) c.args.is_enum c.args.always_sized vs path c.in-OneList.index kind fields (read g c)
-          (good_single lo g.FieldIdx.Idx.at g.FieldIdx.Idx.number dl repr kind fields result
-          c.layout_of_single.ensures.apart c.layout_of_single.ensures.placed c.layout_of_single.ensures.least c.layout_of_single.ensures.places c.layout_of_single.ensures.ascending) i is;
-      seen = seen_at lo g.FieldIdx.Idx.at g.VariantIdx.Idx.at dl repr vs c.args.is_enum c.args.always_sized c.args.niche_optimizations path result c.in-OneList.index kind fields c.new.result (read g c) c.new.ensures
-          (subst (IsNonEmptyIfUnsized kind) count c.single_kind-kind.ensures.tail) c.layout_of_single.ensures.exact i is;
-      too_large = at_listed (λ k fs. result ≡ Err SizeOverflow → IsEachOrderTooLarge dl repr k (map lo fs)) c.args.is_enum c.args.always_sized vs path c.in-OneList.index kind fields (read g c)
-          c.layout_of_single.ensures.too_large i is;
-      refused = at_listed (λ k fs. AreSized (map lo fs) → IsEachOrderTooLarge dl repr k (map lo fs) → IsAnswer (Err SizeOverflow) result) c.args.is_enum c.args.always_sized vs path c.in-OneList.index kind fields (read g c)
-          c.layout_of_single.ensures.refused i is;
-      no_other = at_listed (λ k fs. AreSized (map lo fs) → IfErr result (λ e. (e ≡ SizeOverflow) ⊎ (e ≡ OutOfMemory))) c.args.is_enum c.args.always_sized vs path c.in-OneList.index kind fields (read g c)
-          c.layout_of_single.ensures.no_other i is;
+      never = λ none. absurd (one_or_none c.in-OneList.index (sym way ∙ none));
+      listed = λ i is. record {
+        good = at_listed (λ k fs. IfOk result (IsGoodSingle lo g.FieldIdx.Idx.at g.FieldIdx.Idx.number dl repr k fs)) c.args.is_enum c.args.always_sized vs path c.in-OneList.index kind fields (read g c)
+            (good_single lo g.FieldIdx.Idx.at g.FieldIdx.Idx.number dl repr kind fields result
+            c.layout_of_single.ensures.apart c.layout_of_single.ensures.placed c.layout_of_single.ensures.least c.layout_of_single.ensures.places c.layout_of_single.ensures.ascending) i is;
+        seen = seen_at lo g.FieldIdx.Idx.at g.VariantIdx.Idx.at dl repr vs c.args.is_enum c.args.always_sized c.args.niche_optimizations path result c.in-OneList.index kind fields c.new.result (read g c) c.new.ensures
+            (subst (IsNonEmptyIfUnsized kind) count c.single_kind-kind.ensures.tail) c.layout_of_single.ensures.exact i is;
+        too_large = at_listed (λ k fs. result ≡ Err SizeOverflow → IsEachOrderTooLarge dl repr k (map lo fs)) c.args.is_enum c.args.always_sized vs path c.in-OneList.index kind fields (read g c)
+            c.layout_of_single.ensures.too_large i is;
+        refused = at_listed (λ k fs. AreSized (map lo fs) → IsEachOrderTooLarge dl repr k (map lo fs) → IsAnswer (Err SizeOverflow) result) c.args.is_enum c.args.always_sized vs path c.in-OneList.index kind fields (read g c)
+            c.layout_of_single.ensures.refused i is;
+        no_other = at_listed (λ k fs. AreSized (map lo fs) → IfErr result (λ e. (e ≡ SizeOverflow) ⊎ (e ≡ OutOfMemory))) c.args.is_enum c.args.always_sized vs path c.in-OneList.index kind fields (read g c)
+            c.layout_of_single.ensures.no_other i is;
+      };
+      several = λ are. absurd (one_or_several c.in-OneList.index (sym way ∙ are));
     }
 
 -- ---- several variants
@@ -124,8 +153,8 @@ returns-in-Several-clause-exact g c =
     c.args.niche_optimizations asks (λ items. WholeRun g.I.Iterator.next_gives c.args.discriminants (λ run. items ≡ run.items)) (path_of c.args.is_enum c.args.repr.now (map (map g.F.LayoutHandle.layout_of) vs))
     c.layout_of_several.result c.as_raw-all.result.now way c.as_raw-all.ensures.items c.layout_of_several.ensures.exact
 
-pub returns-in-Several-clause-several : goal.returns-in-Several-clause-several
-returns-in-Several-clause-several g c way =
+pub returns-in-Several-clause-told : goal.returns-in-Several-clause-told
+returns-in-Several-clause-told g c =
     let lo = g.F.LayoutHandle.layout_of in
     let at = g.FieldIdx.Idx.at in
     let number = g.FieldIdx.Idx.number in
@@ -143,22 +172,20 @@ returns-in-Several-clause-several g c way =
     = subst (λ vs. IsSeveralAnswer lo at number index place dl repr asks vs (λ items. WholeRun gives given (λ run. items ≡ run.items)) result) same c.layout_of_several.ensures.exact in
     let few : length vs ≤ g.VariantIdx.Idx.MAX_INDEX + 1 = subst (λ vs. length vs ≤ g.VariantIdx.Idx.MAX_INDEX + 1) same c.as_raw-all.ensures.within in
     let first : number (at 0) ≡ 0 = g.met.FieldIdx.Idx.number_at 0 (omega arith) in
+    let path = path_of c.args.is_enum repr (map (map lo) vs) in
+    let way : path ≡ Several = ap (λ vs. path_of c.args.is_enum repr (map (map lo) vs)) (sym same) ∙ sym c.path_of.ensures ∙ c.in-Several.is in
     record {
-      good = several_good lo at number index place dl repr asks vs g.FieldIdx.Idx.MAX_INDEX g.met.FieldIdx.Idx.number_at first c.requires.data_layout c.requires.fields c.requires.repr (λ items. WholeRun gives given (λ run. items ≡ run.items)) result exact
-          (subst (λ vs. IfOk result (λ l. All (λ fields. length fields ≤ g.FieldIdx.Idx.MAX_INDEX + 1) vs)) same c.layout_of_several.ensures.within);
-      told = rw same at c.layout_of_several.ensures.told;
-      made = several_run lo at number index place dl repr asks vs (λ items l. IsMadeOfLists at place dl repr asks (counting_of place repr (map (map lo) vs) items) (map (map lo) vs) l)
-          (tagged_made lo at number index place dl repr asks vs c.requires.fields) (niche_made lo at number index place dl repr asks vs c.requires.fields g.VariantIdx.Idx.MAX_INDEX g.met.VariantIdx.Idx.number_at few)
-          gives given result exact;
-      tag = several_run lo at number index place dl repr asks vs (λ items l. HasLeastTag (counting_of place repr (map (map lo) vs) items) l.variants)
-          (tagged_least lo at number index place dl repr asks vs) (niche_least lo at number index place dl repr asks vs) gives given result exact;
-      size = subst (λ vs. IfOk result (λ l. WholeRun gives given (λ run. HasEnumSize lo at (index 0) dl repr asks (counting_of place repr (map (map lo) vs) run.items) vs l.size)))
-          same c.layout_of_several.ensures.size;
-      packed = c.layout_of_several.ensures.packed;
-      too_large = subst (λ vs. result ≡ Err SizeOverflow → WholeRun gives given (λ run. IsAskedTooLarge dl repr asks (counting_of place repr (map (map lo) vs) run.items) (map (map lo) vs)))
-          same c.layout_of_several.ensures.too_large;
-      refused = subst (λ vs. repr.pack ≡ None → All AreSized (map (map lo) vs)
-          → EachRunFrom gives given (λ run. IsTrue run.whole → IsAlwaysTooLarge dl repr asks (counting_of place repr (map (map lo) vs) run.items) (map (map lo) vs)) → IsAnswer (Err SizeOverflow) result)
-          same c.layout_of_several.ensures.refused;
-      no_other = rw same at c.layout_of_several.ensures.no_other;
+      never = λ none. absurd (none_or_several (sym none ∙ way));
+      listed = λ i is. absurd (one_or_several i (sym is ∙ way));
+      several = λ are. record {
+        good = several_good lo at number index place dl repr asks vs g.FieldIdx.Idx.MAX_INDEX g.met.FieldIdx.Idx.number_at first c.requires.data_layout c.requires.fields c.requires.repr (λ items. WholeRun gives given (λ run. items ≡ run.items)) result exact
+            (subst (λ vs. IfOk result (λ l. All (λ fields. length fields ≤ g.FieldIdx.Idx.MAX_INDEX + 1) vs)) same c.layout_of_several.ensures.within);
+        told = rw same at c.layout_of_several.ensures.told;
+        made = several_run lo at number index place dl repr asks vs (λ items l. IsMadeOfLists at number place dl repr asks (counting_of place repr (map (map lo) vs) items) (map (map lo) vs) l)
+            (tagged_made lo at number index place dl repr asks vs c.requires.fields) (niche_made lo at number index place dl repr asks vs c.requires.fields g.VariantIdx.Idx.MAX_INDEX g.met.VariantIdx.Idx.number_at few)
+            gives given result exact;
+        tag = several_run lo at number index place dl repr asks vs (λ items l. HasLeastTag (counting_of place repr (map (map lo) vs) items) l.variants)
+            (tagged_least lo at number index place dl repr asks vs) (niche_least lo at number index place dl repr asks vs) gives given result exact;
+        sized = subst (λ vs. AreSizedVariants lo at (index 0) place dl repr asks gives given vs result) same c.layout_of_several.ensures.sized;
+      };
     }

@@ -5,7 +5,7 @@ use Rattle.abi_base.specs.declared.data_layout.TargetDataLayout.{TargetDataLayou
 use Rattle.abi_base.specs.declared.struct_kind.StructKind.{StructKind}
 use Rattle.abi_scalar.specs.declared.error.LayoutCalculatorError.TheVariants.{OutOfMemory}
 use Rattle.abi_calc.specs.Enums.Lists.{AreGoodLists, IsFirstListError, behind_tag}
-use Rattle.abi_calc.proofs.EnumLemmas.Promised.{HasGoodLists, IsBy, IsWholeFault, by_apart, by_differ, by_good, by_lawful, by_no_other, by_numbers, by_refused, by_size, by_too_large, by_view, list_no_other, list_refused, list_too_large}
+use Rattle.abi_calc.proofs.EnumLemmas.Promised.{HasGoodLists, IsBy, IsWholeFault, by_good, by_lawful, by_no_other, by_refused, by_size, by_too_large, list_no_other, list_refused, list_too_large, placed_by}
 use Rattle.abi_calc.proofs.EnumLemmas.Ordered.{if_any}
 use Rattle.abi_calc.proofs.EnumLemmas.Tagged.{tagged_answer}
 use Rattle.abi_calc.proofs.calculator.LayoutCalculator.layout_of_tagged.Goals as goal
@@ -40,45 +40,35 @@ returns-in-Ok g c =
     record {
       exact = tagged_answer layout_of at number first dl told c.args.repr.now c.args.asked c.args.signed c.args.values.now c.args.variants.now c.behind_tag-kind.result c.in-Ok.lists c.layout_of_lists.result
           same c.behind_tag-kind.ensures.kind c.in-Ok.ensures.exact c.layout_of_lists.ensures.exact c.layout_of_lists.ensures.fault;
-      good = by_good layout_of at number first dl c.args.repr.now c.args.asked c.args.signed c.args.values.now behind c.args.variants.now c.in-Ok.lists c.layout_of_lists.result h;
-      size = by_size layout_of at number first dl c.args.repr.now c.args.asked c.args.signed c.args.values.now behind c.args.variants.now c.in-Ok.lists c.layout_of_lists.result h by;
       lawful = by_lawful layout_of at number first dl c.args.repr.now c.args.asked c.args.signed c.args.values.now behind c.args.variants.now c.in-Ok.lists g.FieldIdx.Idx.MAX_INDEX g.met.FieldIdx.Idx.number_at c.requires.data_layout refl c.in-Ok.ensures.within c.requires.fields c.in-Ok.ensures.lawful c.layout_of_lists.result h by;
       within = if_any (All (λ fields. length fields ≤ g.FieldIdx.Idx.MAX_INDEX + 1) c.args.variants.now) c.layout_of_lists.result c.in-Ok.ensures.within;
-      view = by_view layout_of at number first dl c.args.repr.now c.args.asked c.args.signed c.args.values.now behind c.args.variants.now c.in-Ok.lists c.layout_of_lists.result by;
-      apart = by_apart layout_of at number first dl c.args.repr.now c.args.asked c.args.signed c.args.values.now behind c.args.variants.now c.in-Ok.lists g.FieldIdx.Idx.MAX_INDEX g.met.FieldIdx.Idx.number_at c.requires.data_layout refl c.in-Ok.ensures.within c.layout_of_lists.result h by;
-      numbers = by_numbers layout_of at number first dl c.args.repr.now c.args.asked c.args.signed c.args.values.now behind c.args.variants.now c.in-Ok.lists c.layout_of_lists.result by;
-      differ = by_differ layout_of at number first dl c.args.repr.now c.args.asked c.args.signed c.args.values.now behind c.args.variants.now c.in-Ok.lists c.layout_of_lists.result by;
-      too_large = by_too_large layout_of at number first dl c.args.repr.now c.args.asked c.args.signed c.args.values.now behind c.args.variants.now c.in-Ok.lists c.layout_of_lists.result h fault;
-      refused = λ sized large. by_refused layout_of at number first dl c.args.repr.now c.args.asked c.args.signed c.args.values.now behind c.args.variants.now c.in-Ok.lists c.layout_of_lists.result h by fault large;
-      no_other = λ sized. by_no_other layout_of at number first dl c.args.repr.now c.args.asked c.args.signed c.args.values.now behind c.args.variants.now c.in-Ok.lists c.layout_of_lists.result fault;
+      placed = placed_by layout_of at number first dl c.args.repr.now c.args.asked c.args.signed c.args.values.now behind c.args.variants.now c.in-Ok.lists g.FieldIdx.Idx.MAX_INDEX g.met.FieldIdx.Idx.number_at c.requires.data_layout refl c.in-Ok.ensures.within c.layout_of_lists.result h by;
+      sized = record {
+        good = by_good layout_of at number first dl c.args.repr.now c.args.asked c.args.signed c.args.values.now behind c.args.variants.now c.in-Ok.lists c.layout_of_lists.result h;
+        size = by_size layout_of at number first dl c.args.repr.now c.args.asked c.args.signed c.args.values.now behind c.args.variants.now c.in-Ok.lists c.layout_of_lists.result h by;
+        too_large = by_too_large layout_of at number first dl c.args.repr.now c.args.asked c.args.signed c.args.values.now behind c.args.variants.now c.in-Ok.lists c.layout_of_lists.result h fault;
+        refused = λ sized large. by_refused layout_of at number first dl c.args.repr.now c.args.asked c.args.signed c.args.values.now behind c.args.variants.now c.in-Ok.lists c.layout_of_lists.result h by fault large;
+        no_other = λ sized. by_no_other layout_of at number first dl c.args.repr.now c.args.asked c.args.signed c.args.values.now behind c.args.variants.now c.in-Ok.lists c.layout_of_lists.result fault;
+      };
     }
 
-pub returns-in-Err-clause-too_large : goal.returns-in-Err-clause-too_large
-returns-in-Err-clause-too_large g c is =
+pub returns-in-Err-clause-sized : goal.returns-in-Err-clause-sized
+returns-in-Err-clause-sized g c =
+    let lo = g.F.LayoutHandle.layout_of in
+    let at = g.FieldIdx.Idx.at in
+    let first = g.VariantIdx.Idx.at 0 in
     let dl : TargetDataLayout = g.Cx.HasDataLayout.target c.args.self.now.cx in
     let told : TargetDataLayout = c.data_layout-dl.result.now in
-    let vs = map (map g.F.LayoutHandle.layout_of) c.args.variants.now in
-    let kind : c.behind_tag-kind.result ≡ behind_tag dl c.args.repr.now c.args.asked vs
-    = ◌∙◌ {b = behind_tag told c.args.repr.now c.args.asked vs} c.behind_tag-kind.ensures.kind (ap (λ d. behind_tag d c.args.repr.now c.args.asked vs) c.data_layout-dl.ensures) in
-    let fault = subst (λ k. IsFirstListError g.F.LayoutHandle.layout_of g.FieldIdx.Idx.at (g.VariantIdx.Idx.at 0) dl c.args.repr.now k c.args.variants.now c.in-Err.error ⊎ (c.in-Err.error ≡ OutOfMemory)) kind c.in-Err.ensures.fault in
-    list_too_large g.F.LayoutHandle.layout_of g.FieldIdx.Idx.at (g.VariantIdx.Idx.at 0) dl c.args.repr.now (behind_tag dl c.args.repr.now c.args.asked vs) c.args.variants.now c.in-Err.error c.requires.fields tt fault is
-
-pub returns-in-Err-clause-refused : goal.returns-in-Err-clause-refused
-returns-in-Err-clause-refused g c all large =
-    let dl : TargetDataLayout = g.Cx.HasDataLayout.target c.args.self.now.cx in
-    let told : TargetDataLayout = c.data_layout-dl.result.now in
-    let vs = map (map g.F.LayoutHandle.layout_of) c.args.variants.now in
-    let kind : c.behind_tag-kind.result ≡ behind_tag dl c.args.repr.now c.args.asked vs
-    = ◌∙◌ {b = behind_tag told c.args.repr.now c.args.asked vs} c.behind_tag-kind.ensures.kind (ap (λ d. behind_tag d c.args.repr.now c.args.asked vs) c.data_layout-dl.ensures) in
-    let fault = subst (λ k. IsFirstListError g.F.LayoutHandle.layout_of g.FieldIdx.Idx.at (g.VariantIdx.Idx.at 0) dl c.args.repr.now k c.args.variants.now c.in-Err.error ⊎ (c.in-Err.error ≡ OutOfMemory)) kind c.in-Err.ensures.fault in
-    list_refused g.F.LayoutHandle.layout_of g.FieldIdx.Idx.at (g.VariantIdx.Idx.at 0) dl c.args.repr.now (behind_tag dl c.args.repr.now c.args.asked vs) c.args.variants.now c.in-Err.error all tt fault
-
-pub returns-in-Err-clause-no_other : goal.returns-in-Err-clause-no_other
-returns-in-Err-clause-no_other g c all =
-    let dl : TargetDataLayout = g.Cx.HasDataLayout.target c.args.self.now.cx in
-    let told : TargetDataLayout = c.data_layout-dl.result.now in
-    let vs = map (map g.F.LayoutHandle.layout_of) c.args.variants.now in
-    let kind : c.behind_tag-kind.result ≡ behind_tag dl c.args.repr.now c.args.asked vs
-    = ◌∙◌ {b = behind_tag told c.args.repr.now c.args.asked vs} c.behind_tag-kind.ensures.kind (ap (λ d. behind_tag d c.args.repr.now c.args.asked vs) c.data_layout-dl.ensures) in
-    let fault = subst (λ k. IsFirstListError g.F.LayoutHandle.layout_of g.FieldIdx.Idx.at (g.VariantIdx.Idx.at 0) dl c.args.repr.now k c.args.variants.now c.in-Err.error ⊎ (c.in-Err.error ≡ OutOfMemory)) kind c.in-Err.ensures.fault in
-    list_no_other g.F.LayoutHandle.layout_of g.FieldIdx.Idx.at (g.VariantIdx.Idx.at 0) dl c.args.repr.now (behind_tag dl c.args.repr.now c.args.asked vs) c.args.variants.now c.in-Err.error all tt fault
+    let repr = c.args.repr.now in
+    let variants = c.args.variants.now in
+    let vs = map (map lo) variants in
+    let behind : StructKind = behind_tag dl repr c.args.asked vs in
+    let kind : c.behind_tag-kind.result ≡ behind = ◌∙◌ {b = behind_tag told repr c.args.asked vs} c.behind_tag-kind.ensures.kind (ap (λ d. behind_tag d repr c.args.asked vs) c.data_layout-dl.ensures) in
+    let fault = subst (λ k. IsFirstListError lo at first dl repr k variants c.in-Err.error ⊎ (c.in-Err.error ≡ OutOfMemory)) kind c.in-Err.ensures.fault in
+    record {
+      good = tt;
+      size = tt;
+      too_large = list_too_large lo at first dl repr behind variants c.in-Err.error c.requires.fields tt fault;
+      refused = λ all large. list_refused lo at first dl repr behind variants c.in-Err.error all tt fault;
+      no_other = λ all. list_no_other lo at first dl repr behind variants c.in-Err.error all tt fault;
+    }

@@ -1,6 +1,6 @@
 use Rattle.abi_index.specs.Slice.{items_of}
 use Rattle.abi_lists.specs.Union.{only_of}
-use Rattle.abi_lists.proofs.UnionsVectors.TooLarge.{union_large, union_refused}
+use Rattle.abi_lists.proofs.UnionsVectors.TooLarge.{union_sized}
 use Rattle.abi_calc.proofs.Seen.{union_aligned, union_fields, union_marks, union_single, union_viewed}
 use Rattle.abi_calc.proofs.calculator.LayoutCalculator.layout_of_union.Goals as goal
 
@@ -12,18 +12,6 @@ returns-clause-exact g c = rw (c.only_fields-fields.ensures, c.data_layout.ensur
 
 pub returns-clause-lawful : goal.returns-clause-lawful
 returns-clause-lawful g c = rw c.data_layout.ensures at c.layout_of_union.ensures.lawful
-
-pub returns-clause-too_large : goal.returns-clause-too_large
-returns-clause-too_large g c =
-    let exact = rw (c.only_fields-fields.ensures, c.data_layout.ensures) at c.layout_of_union.ensures.exact in
-    union_large g.F.LayoutHandle.layout_of _ (g.Cx.HasDataLayout.target c.args.self.now.cx) c.args.repr.now _
-    c.layout_of_union.result exact
-
-pub returns-clause-refused : goal.returns-clause-refused
-returns-clause-refused g c =
-    let exact = rw (c.only_fields-fields.ensures, c.data_layout.ensures) at c.layout_of_union.ensures.exact in
-    union_refused g.F.LayoutHandle.layout_of _ (g.Cx.HasDataLayout.target c.args.self.now.cx) c.args.repr.now _
-    c.layout_of_union.result c.requires.data_layout exact
 
 pub returns-clause-marks : goal.returns-clause-marks
 returns-clause-marks g c =
@@ -54,3 +42,9 @@ returns-clause-fields g c =
     let exact = rw (c.only_fields-fields.ensures, c.data_layout.ensures) at c.layout_of_union.ensures.exact in
     union_fields g.F.LayoutHandle.layout_of (g.VariantIdx.Idx.at 0) (g.Cx.HasDataLayout.target c.args.self.now.cx)
     c.args.repr.now (only_of (items_of c.args.variants)) c.layout_of_union.result exact
+
+pub returns-clause-sized : goal.returns-clause-sized
+returns-clause-sized g c =
+    let exact = rw (c.only_fields-fields.ensures, c.data_layout.ensures) at c.layout_of_union.ensures.exact in
+    union_sized g.F.LayoutHandle.layout_of (g.VariantIdx.Idx.at 0) (g.Cx.HasDataLayout.target c.args.self.now.cx)
+    c.args.repr.now (only_of (items_of c.args.variants)) c.layout_of_union.result c.requires.data_layout exact

@@ -8,9 +8,10 @@ use Rattle.abi_base.specs.declared.integer.Integer.{Integer}
 use Rattle.abi_scalar.specs.declared.variants.RangeFrom.{RangeFrom}
 use Rattle.abi_scalar.specs.declared.variants.RangeToInclusive.{RangeToInclusive}
 use Rattle.abi_calc.specs.Enums.Discriminants.{IsAskedWith, counting_of}
-use Rattle.abi_calc.specs.Enums.Places.{AreNumbersAmong}
+use Rattle.abi_calc.specs.Enums.Promised.{IsPlacedByTag}
 use Rattle.abi_calc.specs.Enums.Several.{IsAskedFor}
 use Rattle.abi_calc.specs.Enums.Tagged.{IsTaggedAnswer}
+use Rattle.abi_calc.proofs.EnumLemmas.Several.{memory_sized}
 use Rattle.abi_calc.proofs.EnumLemmas.Told.{asked_sized, told_by_tag}
 use Rattle.abi_calc.proofs.calculator.LayoutCalculator.layout_with_tag.Goals as goal
 
@@ -37,12 +38,18 @@ returns g c =
       lawful = c.layout_of_tagged.ensures.lawful;
       within = c.layout_of_tagged.ensures.within;
       told = told_by_tag layout_of g.FieldIdx.Idx.at g.FieldIdx.Idx.number (g.VariantIdx.Idx.at 0) g.VariantIdx.Idx.number dl c.args.repr.now c.discr_range_of_repr-integer.result.0 c.discr_range_of_repr-integer.result.1
-          c.args.variants.now c.args.discriminants.now c.layout_of_tagged.result exact c.layout_of_tagged.ensures.apart
-          (subst (λ (ns : List ℕ). IfOk c.layout_of_tagged.result (λ l. AreNumbersAmong dl ns l.variants)) same c.layout_of_tagged.ensures.numbers) c.layout_of_tagged.ensures.view
+          c.args.variants.now c.args.discriminants.now c.layout_of_tagged.result exact
+          (subst (λ (ns : List ℕ). IfOk c.layout_of_tagged.result (IsPlacedByTag dl c.discr_range_of_repr-integer.result.0 ns vs)) same c.layout_of_tagged.ensures.placed)
           (c.requires.tags c.discr_range_of_repr-integer.result.0 c.discr_range_of_repr-integer.result.1 asked).differ;
-      size = asked_sized layout_of g.FieldIdx.Idx.at g.FieldIdx.Idx.number (g.VariantIdx.Idx.at 0) g.VariantIdx.Idx.number dl c.args.repr.now c.discr_range_of_repr-integer.result.0 c.discr_range_of_repr-integer.result.1
-          c.args.variants.now c.args.discriminants.now asks values c.layout_of_tagged.result asked c.layout_of_tagged.ensures.size c.layout_of_tagged.ensures.good;
-      too_large = λ is. (c.discr_range_of_repr-integer.result.0, c.discr_range_of_repr-integer.result.1, asked, c.layout_of_tagged.ensures.too_large is);
-      refused = λ sized large. c.layout_of_tagged.ensures.refused sized (large c.discr_range_of_repr-integer.result.0 c.discr_range_of_repr-integer.result.1 asked);
-      no_other = c.layout_of_tagged.ensures.no_other;
+      sized = record {
+        size = asked_sized layout_of g.FieldIdx.Idx.at g.FieldIdx.Idx.number (g.VariantIdx.Idx.at 0) g.VariantIdx.Idx.number dl c.args.repr.now c.discr_range_of_repr-integer.result.0 c.discr_range_of_repr-integer.result.1
+            c.args.variants.now c.args.discriminants.now asks values c.layout_of_tagged.result asked c.layout_of_tagged.ensures.sized.size c.layout_of_tagged.ensures.sized.good;
+        too_large = λ is. (c.discr_range_of_repr-integer.result.0, c.discr_range_of_repr-integer.result.1, asked, c.layout_of_tagged.ensures.sized.too_large is);
+        refused = λ sized large. c.layout_of_tagged.ensures.sized.refused sized (large c.discr_range_of_repr-integer.result.0 c.discr_range_of_repr-integer.result.1 asked);
+        no_other = c.layout_of_tagged.ensures.sized.no_other;
+      };
     }
+
+pub returns-in_err-values-clause-sized : goal.returns-in_err-values-clause-sized
+returns-in_err-values-clause-sized g c =
+    memory_sized g.F.LayoutHandle.layout_of _ _ _ _ _ _ c.from_residual.result c.from_residual.ensures.1

@@ -13,8 +13,3 @@ rounded-requires-clause-offset g c =
 
 pub rounded-requires-clause-align : goal.rounded-requires-clause-align
 rounded-requires-clause-align g c = rw c.requires.align (whole_align_small c.args.dl.now c.args.first.now c.args.lists.now c.requires.first c.requires.lists)
-
-pub returns : goal.returns
-returns g c =
-    let read : c.greater_size.result ≡ greatest_size (c.args.first.now ∷ c.args.lists.now) = c.greater_size.ensures ∙ ap₂ max c.size.ensures c.greatest_size.ensures in
-    c.rounded.ensures.value ∙ ap₂ (λ s a. next_multiple_of s (2 ^ a)) read c.requires.align

@@ -6,133 +6,102 @@ use Rattle.abi_scalar.specs.Niche.{available_in}
 use Rattle.abi_lists.proofs.Views.Lawful.{bound_small}
 use Rattle.abi_lists.proofs.Views.NicheLemmas.{lawful_readable}
 use Rattle.abi_calc.specs.Enums.Niche.{if_placed, needing_numbers, niche_layout, niche_of_list, room_beside, span_count, variants_from, span_of, untagged_of}
-use Rattle.abi_calc.proofs.EnumLemmas.InNiche.{enough, few_of, handed_lawful, much_of, ok_weaker, needing_ascends, needing_within, niche_known, niche_there, no_niche, no_span, span_ascends, span_holds, too_few}
+use Rattle.abi_calc.proofs.EnumLemmas.InNiche.{enough, few_of, handed_lawful, known_niche, known_span, much_of, ok_weaker, needing_ascends, needing_within, niche_known, niche_there, no_niche, no_span, span_ascends, span_holds, too_few}
 use Rattle.abi_calc.proofs.enums.in_niche.niche_of_lists.Goals as goal
 
 pub returns-in_default : goal.returns-in_default
 returns-in_default g c =
     let vs = map (map g.F.LayoutHandle.layout_of) c.args.variants.now in
-    let lists = c.args.lists in
-    let untagged : c.untagged_of-untagged.result ≡ untagged_of lists = c.untagged_of-untagged.ensures in
-    let span : span_of (needing_numbers (untagged_of lists) vs) ≡ c.span_of.result = sym (c.span_of.ensures ∙ ap (λ u. span_of (needing_numbers u vs)) untagged) in
-    no_span (g.FieldIdx.Idx.at 0) g.VariantIdx.Idx.at c.args.dl.now c.args.repr.now vs lists (span ∙ c.in_default.is)
+    let span = known_span vs c.args.lists c.untagged_of-untagged.result c.untagged_of-untagged.ensures c.span_of.result c.span_of.ensures in
+    no_span (g.FieldIdx.Idx.at 0) g.VariantIdx.Idx.at c.args.dl.now c.args.repr.now vs c.args.lists (span ∙ c.in_default.is)
 
 pub returns-in_default-niche_at : goal.returns-in_default-niche_at
 returns-in_default-niche_at g c =
     let vs = map (map g.F.LayoutHandle.layout_of) c.args.variants.now in
-    let lists = c.args.lists in
-    let untagged : c.untagged_of-untagged.result ≡ untagged_of lists = c.untagged_of-untagged.ensures in
-    let span : span_of (needing_numbers (untagged_of lists) vs) ≡ c.span_of.result = sym (c.span_of.ensures ∙ ap (λ u. span_of (needing_numbers u vs)) untagged) in
-    let found : niche_of_list (slice_get lists (untagged_of lists)) ≡ c.niche_at.result
-    = sym (c.niche_at.ensures ∙ ap (λ u. niche_of_list (slice_get lists u)) untagged) in
-    no_niche (g.FieldIdx.Idx.at 0) g.VariantIdx.Idx.at c.args.dl.now c.args.repr.now vs lists c.in-Some.span (span ∙ c.in-Some.is) (found ∙ c.in_default-niche_at.is)
+    let span = known_span vs c.args.lists c.untagged_of-untagged.result c.untagged_of-untagged.ensures c.span_of.result c.span_of.ensures in
+    let found = known_niche c.args.lists c.untagged_of-untagged.result c.untagged_of-untagged.ensures c.niche_at.result c.niche_at.ensures in
+    no_niche (g.FieldIdx.Idx.at 0) g.VariantIdx.Idx.at c.args.dl.now c.args.repr.now vs c.args.lists c.in-Some.span (span ∙ c.in-Some.is) (found ∙ c.in_default-niche_at.is)
 
-pub overflow_sub-count : goal.overflow_sub-count
-overflow_sub-count g c =
+pub span_count-requires : goal.span_count-requires
+span_count-requires g c =
     let vs = map (map g.F.LayoutHandle.layout_of) c.args.variants.now in
-    let lists = c.args.lists in
-    let untagged : c.untagged_of-untagged.result ≡ untagged_of lists = c.untagged_of-untagged.ensures in
-    let span : span_of (needing_numbers (untagged_of lists) vs) ≡ c.span_of.result = sym (c.span_of.ensures ∙ ap (λ u. span_of (needing_numbers u vs)) untagged) in
-    span_ascends (needing_numbers (untagged_of lists) vs) c.in-Some.span (span ∙ c.in-Some.is) (needing_ascends (untagged_of lists) vs)
+    let span = known_span vs c.args.lists c.untagged_of-untagged.result c.untagged_of-untagged.ensures c.span_of.result c.span_of.ensures in
+    span_ascends (needing_numbers (untagged_of c.args.lists) vs) c.in-Some.span (span ∙ c.in-Some.is) (needing_ascends (untagged_of c.args.lists) vs)
 
 pub reserve-requires-clause-readable : goal.reserve-requires-clause-readable
 reserve-requires-clause-readable g c =
     let vs = map (map g.F.LayoutHandle.layout_of) c.args.variants.now in
-    let lists = c.args.lists in
-    let untagged : c.untagged_of-untagged.result ≡ untagged_of lists = c.untagged_of-untagged.ensures in
-    let span : span_of (needing_numbers (untagged_of lists) vs) ≡ c.span_of.result = sym (c.span_of.ensures ∙ ap (λ u. span_of (needing_numbers u vs)) untagged) in
-    let found : niche_of_list (slice_get lists (untagged_of lists)) ≡ c.niche_at.result
-    = sym (c.niche_at.ensures ∙ ap (λ u. niche_of_list (slice_get lists u)) untagged) in
-    let there = niche_there c.args.dl.now lists (untagged_of lists) c.in-Some-niche_at.niche c.requires.lawful (found ∙ c.in-Some-niche_at.is) in
+    let span = known_span vs c.args.lists c.untagged_of-untagged.result c.untagged_of-untagged.ensures c.span_of.result c.span_of.ensures in
+    let found = known_niche c.args.lists c.untagged_of-untagged.result c.untagged_of-untagged.ensures c.niche_at.result c.niche_at.ensures in
+    let there = niche_there c.args.dl.now c.args.lists (untagged_of c.args.lists) c.in-Some-niche_at.niche c.requires.lawful (found ∙ c.in-Some-niche_at.is) in
     lawful_readable c.args.dl.now there.0 (Some c.in-Some-niche_at.niche) there.1
 
 pub returns-in_default-reserve : goal.returns-in_default-reserve
 returns-in_default-reserve g c =
     let vs = map (map g.F.LayoutHandle.layout_of) c.args.variants.now in
-    let lists = c.args.lists in
-    let untagged : c.untagged_of-untagged.result ≡ untagged_of lists = c.untagged_of-untagged.ensures in
-    let span : span_of (needing_numbers (untagged_of lists) vs) ≡ c.span_of.result = sym (c.span_of.ensures ∙ ap (λ u. span_of (needing_numbers u vs)) untagged) in
-    let found : niche_of_list (slice_get lists (untagged_of lists)) ≡ c.niche_at.result
-    = sym (c.niche_at.ensures ∙ ap (λ u. niche_of_list (slice_get lists u)) untagged) in
-    let known = niche_known (slice_get lists (untagged_of lists)) c.in-Some-niche_at.niche (found ∙ c.in-Some-niche_at.is) in
-    too_few (g.FieldIdx.Idx.at 0) g.VariantIdx.Idx.at c.args.dl.now c.args.repr.now vs lists c.in-Some.span known.0 c.in-Some-niche_at.niche (span ∙ c.in-Some.is) known.1 known.2 (few_of c.reserve.result (span_count c.in-Some.span) (available_in c.args.dl.now c.in-Some-niche_at.niche) c.in_default-reserve.is c.reserve.ensures.room)
+    let span = known_span vs c.args.lists c.untagged_of-untagged.result c.untagged_of-untagged.ensures c.span_of.result c.span_of.ensures in
+    let found = known_niche c.args.lists c.untagged_of-untagged.result c.untagged_of-untagged.ensures c.niche_at.result c.niche_at.ensures in
+    let known = niche_known (slice_get c.args.lists (untagged_of c.args.lists)) c.in-Some-niche_at.niche (found ∙ c.in-Some-niche_at.is) in
+    too_few (g.FieldIdx.Idx.at 0) g.VariantIdx.Idx.at c.args.dl.now c.args.repr.now vs c.args.lists c.in-Some.span known.0 c.in-Some-niche_at.niche (span ∙ c.in-Some.is) known.1 known.2 (few_of c.reserve.result (span_count c.in-Some.span) (available_in c.args.dl.now c.in-Some-niche_at.niche) c.in_default-reserve.is (rw c.span_count.ensures at c.reserve.ensures.room))
 
 pub layout_in_niche-requires-clause-untagged : goal.layout_in_niche-requires-clause-untagged
 layout_in_niche-requires-clause-untagged g c =
     let vs = map (map g.F.LayoutHandle.layout_of) c.args.variants.now in
-    let lists = c.args.lists in
-    let untagged : c.untagged_of-untagged.result ≡ untagged_of lists = c.untagged_of-untagged.ensures in
-    let span : span_of (needing_numbers (untagged_of lists) vs) ≡ c.span_of.result = sym (c.span_of.ensures ∙ ap (λ u. span_of (needing_numbers u vs)) untagged) in
-    let found : niche_of_list (slice_get lists (untagged_of lists)) ≡ c.niche_at.result
-    = sym (c.niche_at.ensures ∙ ap (λ u. niche_of_list (slice_get lists u)) untagged) in
-    let there = niche_there c.args.dl.now lists (untagged_of lists) c.in-Some-niche_at.niche c.requires.lawful (found ∙ c.in-Some-niche_at.is) in
-    omega (arith, untagged, there.3)
+    let span = known_span vs c.args.lists c.untagged_of-untagged.result c.untagged_of-untagged.ensures c.span_of.result c.span_of.ensures in
+    let found = known_niche c.args.lists c.untagged_of-untagged.result c.untagged_of-untagged.ensures c.niche_at.result c.niche_at.ensures in
+    let there = niche_there c.args.dl.now c.args.lists (untagged_of c.args.lists) c.in-Some-niche_at.niche c.requires.lawful (found ∙ c.in-Some-niche_at.is) in
+    omega (arith, c.untagged_of-untagged.ensures, there.3)
 
 pub layout_in_niche-requires-clause-first : goal.layout_in_niche-requires-clause-first
 layout_in_niche-requires-clause-first g c =
     let vs = map (map g.F.LayoutHandle.layout_of) c.args.variants.now in
-    let lists = c.args.lists in
-    let untagged : c.untagged_of-untagged.result ≡ untagged_of lists = c.untagged_of-untagged.ensures in
-    let span : span_of (needing_numbers (untagged_of lists) vs) ≡ c.span_of.result = sym (c.span_of.ensures ∙ ap (λ u. span_of (needing_numbers u vs)) untagged) in
-    let within = (span_holds (λ i. i < length vs) (needing_numbers (untagged_of lists) vs) c.in-Some.span (span ∙ c.in-Some.is) (needing_within (untagged_of lists) vs)).0 in
+    let span = known_span vs c.args.lists c.untagged_of-untagged.result c.untagged_of-untagged.ensures c.span_of.result c.span_of.ensures in
+    let within = (span_holds (λ i. i < length vs) (needing_numbers (untagged_of c.args.lists) vs) c.in-Some.span (span ∙ c.in-Some.is) (needing_within (untagged_of c.args.lists) vs)).0 in
     omega (arith, within, length-map c.args.variants.now (map g.F.LayoutHandle.layout_of), c.requires.each, c.requires.count)
 
 pub layout_in_niche-requires-clause-last : goal.layout_in_niche-requires-clause-last
 layout_in_niche-requires-clause-last g c =
     let vs = map (map g.F.LayoutHandle.layout_of) c.args.variants.now in
-    let lists = c.args.lists in
-    let untagged : c.untagged_of-untagged.result ≡ untagged_of lists = c.untagged_of-untagged.ensures in
-    let span : span_of (needing_numbers (untagged_of lists) vs) ≡ c.span_of.result = sym (c.span_of.ensures ∙ ap (λ u. span_of (needing_numbers u vs)) untagged) in
-    let within = (span_holds (λ i. i < length vs) (needing_numbers (untagged_of lists) vs) c.in-Some.span (span ∙ c.in-Some.is) (needing_within (untagged_of lists) vs)).1 in
+    let span = known_span vs c.args.lists c.untagged_of-untagged.result c.untagged_of-untagged.ensures c.span_of.result c.span_of.ensures in
+    let within = (span_holds (λ i. i < length vs) (needing_numbers (untagged_of c.args.lists) vs) c.in-Some.span (span ∙ c.in-Some.is) (needing_within (untagged_of c.args.lists) vs)).1 in
     omega (arith, within, length-map c.args.variants.now (map g.F.LayoutHandle.layout_of), c.requires.each, c.requires.count)
 
 pub layout_in_niche-requires-clause-readable : goal.layout_in_niche-requires-clause-readable
 layout_in_niche-requires-clause-readable g c =
     let vs = map (map g.F.LayoutHandle.layout_of) c.args.variants.now in
-    let lists = c.args.lists in
-    let untagged : c.untagged_of-untagged.result ≡ untagged_of lists = c.untagged_of-untagged.ensures in
-    let span : span_of (needing_numbers (untagged_of lists) vs) ≡ c.span_of.result = sym (c.span_of.ensures ∙ ap (λ u. span_of (needing_numbers u vs)) untagged) in
-    let found : niche_of_list (slice_get lists (untagged_of lists)) ≡ c.niche_at.result
-    = sym (c.niche_at.ensures ∙ ap (λ u. niche_of_list (slice_get lists u)) untagged) in
-    let there = niche_there c.args.dl.now lists (untagged_of lists) c.in-Some-niche_at.niche c.requires.lawful (found ∙ c.in-Some-niche_at.is) in
+    let span = known_span vs c.args.lists c.untagged_of-untagged.result c.untagged_of-untagged.ensures c.span_of.result c.span_of.ensures in
+    let found = known_niche c.args.lists c.untagged_of-untagged.result c.untagged_of-untagged.ensures c.niche_at.result c.niche_at.ensures in
+    let there = niche_there c.args.dl.now c.args.lists (untagged_of c.args.lists) c.in-Some-niche_at.niche c.requires.lawful (found ∙ c.in-Some-niche_at.is) in
     lawful_readable c.args.dl.now there.0 (Some c.in-Some-niche_at.niche) there.1
 
 pub layout_in_niche-requires-clause-offset : goal.layout_in_niche-requires-clause-offset
 layout_in_niche-requires-clause-offset g c =
     let vs = map (map g.F.LayoutHandle.layout_of) c.args.variants.now in
-    let lists = c.args.lists in
-    let untagged : c.untagged_of-untagged.result ≡ untagged_of lists = c.untagged_of-untagged.ensures in
-    let span : span_of (needing_numbers (untagged_of lists) vs) ≡ c.span_of.result = sym (c.span_of.ensures ∙ ap (λ u. span_of (needing_numbers u vs)) untagged) in
-    let found : niche_of_list (slice_get lists (untagged_of lists)) ≡ c.niche_at.result
-    = sym (c.niche_at.ensures ∙ ap (λ u. niche_of_list (slice_get lists u)) untagged) in
-    let there = niche_there c.args.dl.now lists (untagged_of lists) c.in-Some-niche_at.niche c.requires.lawful (found ∙ c.in-Some-niche_at.is) in
+    let span = known_span vs c.args.lists c.untagged_of-untagged.result c.untagged_of-untagged.ensures c.span_of.result c.span_of.ensures in
+    let found = known_niche c.args.lists c.untagged_of-untagged.result c.untagged_of-untagged.ensures c.niche_at.result c.niche_at.ensures in
+    let there = niche_there c.args.dl.now c.args.lists (untagged_of c.args.lists) c.in-Some-niche_at.niche c.requires.lawful (found ∙ c.in-Some-niche_at.is) in
     omega (arith, there.1.inside, there.2, bound_small c.args.dl.now c.requires.data_layout)
 
 pub layout_in_niche-requires-clause-tag : goal.layout_in_niche-requires-clause-tag
 layout_in_niche-requires-clause-tag g c =
     let vs = map (map g.F.LayoutHandle.layout_of) c.args.variants.now in
-    let lists = c.args.lists in
-    let untagged : c.untagged_of-untagged.result ≡ untagged_of lists = c.untagged_of-untagged.ensures in
-    let span : span_of (needing_numbers (untagged_of lists) vs) ≡ c.span_of.result = sym (c.span_of.ensures ∙ ap (λ u. span_of (needing_numbers u vs)) untagged) in
-    let found : niche_of_list (slice_get lists (untagged_of lists)) ≡ c.niche_at.result
-    = sym (c.niche_at.ensures ∙ ap (λ u. niche_of_list (slice_get lists u)) untagged) in
-    let there = niche_there c.args.dl.now lists (untagged_of lists) c.in-Some-niche_at.niche c.requires.lawful (found ∙ c.in-Some-niche_at.is) in
-    handed_lawful c.args.dl.now c.in-Some-niche_at.niche c.in-Some-reserve.handed (span_count c.in-Some.span) c.in-Some-reserve.ensures.side there.1.pointer c.in-Some-reserve.ensures.set.within
+    let span = known_span vs c.args.lists c.untagged_of-untagged.result c.untagged_of-untagged.ensures c.span_of.result c.span_of.ensures in
+    let found = known_niche c.args.lists c.untagged_of-untagged.result c.untagged_of-untagged.ensures c.niche_at.result c.niche_at.ensures in
+    let there = niche_there c.args.dl.now c.args.lists (untagged_of c.args.lists) c.in-Some-niche_at.niche c.requires.lawful (found ∙ c.in-Some-niche_at.is) in
+    handed_lawful c.args.dl.now c.in-Some-niche_at.niche c.in-Some-reserve.handed c.span_count.result c.in-Some-reserve.ensures.side there.1.pointer c.in-Some-reserve.ensures.set.within
 
 pub returns : goal.returns
 returns g c =
     let vs = map (map g.F.LayoutHandle.layout_of) c.args.variants.now in
-    let lists = c.args.lists in
     let first = g.FieldIdx.Idx.at 0 in
     let index = g.VariantIdx.Idx.at in
-    let untagged : c.untagged_of-untagged.result ≡ untagged_of lists = c.untagged_of-untagged.ensures in
-    let span : span_of (needing_numbers (untagged_of lists) vs) ≡ c.span_of.result = sym (c.span_of.ensures ∙ ap (λ u. span_of (needing_numbers u vs)) untagged) in
-    let found : niche_of_list (slice_get lists (untagged_of lists)) ≡ c.niche_at.result
-    = sym (c.niche_at.ensures ∙ ap (λ u. niche_of_list (slice_get lists u)) untagged) in
-    let known = niche_known (slice_get lists (untagged_of lists)) c.in-Some-niche_at.niche (found ∙ c.in-Some-niche_at.is) in
-    let much = much_of c.reserve.result c.in-Some-reserve.handed (span_count c.in-Some.span) (available_in c.args.dl.now c.in-Some-niche_at.niche) c.in-Some-reserve.is c.reserve.ensures.room in
-    let whole = enough first index c.args.dl.now c.args.repr.now vs lists c.in-Some.span known.0 c.in-Some-niche_at.niche (span ∙ c.in-Some.is) known.1 known.2 much in
-    ok_weaker _ (λ found. found ≡ niche_layout first index c.args.dl.now c.args.repr.now vs lists) c.layout_in_niche.result
-    (λ layout is. is known.0 (ap (slice_get lists) untagged ∙ known.1)
-    ∙ (λ i. if_placed first index c.args.dl.now c.args.repr.now (untagged i) c.in-Some.span lists known.0 c.in-Some-niche_at.niche (variants_from (room_beside c.args.dl.now c.in-Some-niche_at.niche lists) (untagged i) 0 lists)) ∙ whole)
+    let untagged : c.untagged_of-untagged.result ≡ untagged_of c.args.lists = c.untagged_of-untagged.ensures in
+    let span = known_span vs c.args.lists c.untagged_of-untagged.result c.untagged_of-untagged.ensures c.span_of.result c.span_of.ensures in
+    let found = known_niche c.args.lists c.untagged_of-untagged.result c.untagged_of-untagged.ensures c.niche_at.result c.niche_at.ensures in
+    let known = niche_known (slice_get c.args.lists (untagged_of c.args.lists)) c.in-Some-niche_at.niche (found ∙ c.in-Some-niche_at.is) in
+    let much = much_of c.reserve.result c.in-Some-reserve.handed (span_count c.in-Some.span) (available_in c.args.dl.now c.in-Some-niche_at.niche) c.in-Some-reserve.is (rw c.span_count.ensures at c.reserve.ensures.room) in
+    let whole = enough first index c.args.dl.now c.args.repr.now vs c.args.lists c.in-Some.span known.0 c.in-Some-niche_at.niche (span ∙ c.in-Some.is) known.1 known.2 much in
+    ok_weaker _ (λ found. found ≡ niche_layout first index c.args.dl.now c.args.repr.now vs c.args.lists) c.layout_in_niche.result
+    (λ layout is. is known.0 (ap (slice_get c.args.lists) untagged ∙ known.1)
+    ∙ (λ i. if_placed first index c.args.dl.now c.args.repr.now (untagged i) c.in-Some.span c.args.lists known.0 c.in-Some-niche_at.niche (variants_from (room_beside c.args.dl.now c.in-Some-niche_at.niche c.args.lists) (untagged i) 0 c.args.lists)) ∙ whole)
     c.layout_in_niche.ensures

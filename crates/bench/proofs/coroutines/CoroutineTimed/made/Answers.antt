@@ -1,4 +1,4 @@
-use Rattle.std.proofs.Common.{Bor, [], ◌≢◌, map-id, subst, sym}
+use Rattle.std.proofs.Common.{Bor, [], ◌≢◌, map-id, rules, subst, sym}
 use Rattle.std.specs.List.{AllPairs}
 use Rattle.std.proofs.lemmas.List.Elements.{All-cons, All-nil}
 use Rattle.abi_index.specs.declared.idx.FieldIdx.{FieldIdx}
@@ -15,10 +15,12 @@ layout_of_coroutine-requires-clause-prefix c =
     let P = λ (f : Bor (LayoutData FieldIdx VariantIdx)). IsLawfulLayout c.args.self.now.dl.now f.now in
     rw (c.new.ensures, c.in-Ok.ensures) (All-cons P c.args.self.now.prefix [] c.requires.prefix (All-nil P))
 
-pub layout_of_coroutine-requires-clause-within : goal.layout_of_coroutine-requires-clause-within
-layout_of_coroutine-requires-clause-within c =
-    rw (c.new-states.ensures, c.deref.ensures.value, c.new-2.ensures, c.as_raw.ensures.items, c.as_slice.ensures) (λ k d below. (c.requires.held k d below).0)
-
-pub layout_of_coroutine-requires-clause-once : goal.layout_of_coroutine-requires-clause-once
-layout_of_coroutine-requires-clause-once c =
-    rw (c.new-states.ensures, c.deref.ensures.value) (λ k d below. subst (AllPairs (λ a b. a ≢ b)) (sym (map-id _)) (c.requires.held k d below).1)
+pub layout_of_coroutine-requires-clause-states : goal.layout_of_coroutine-requires-clause-states
+layout_of_coroutine-requires-clause-states c =
+    rw (c.new-states.ensures, c.deref.ensures.value, c.new-2.ensures, c.as_raw.ensures.items, c.as_slice.ensures) (record {
+      some = search rules;
+      within = λ k d below. (c.requires.held k d below).0;
+      once = λ k d below. subst (AllPairs (λ a b. a ≢ b)) (sym (map-id _)) (c.requires.held k d below).1;
+      rows = search rules;
+      columns = search rules;
+    })
