@@ -34,11 +34,11 @@ use Rattle.reference.specs.Words.{align_in_bytes, extent_of, most_aligned}
 use Rattle.reference.specs.Modifiers.{IsForeign, unaligned}
 use Rattle.reference.proofs.Answers.{laid_by}
 use Rattle.reference.proofs.CEnums.{c_is_asked}
-use Rattle.reference.proofs.EnumLists.{AreListsFrom, IsTaggedBehind, LieFrom, is_several, lie_from, lists_are, seen_from, tagged_by}
+use Rattle.reference.proofs.EnumLists.{AreListsFrom, IsTaggedBehind, LieFrom, is_several, lie_from, lists_are, none_left, seen_from, tagged_by}
 use Rattle.reference.proofs.Everywhere.{IsOnly, same_fields}
 use Rattle.reference.proofs.Lists.{c_is_fixed, extents_for, pow_max}
 use Rattle.reference.proofs.Over.{least_align, struct_laid}
-use Rattle.reference.proofs.PrimitiveEnums.{named_is_asked, named_is_fixed, none_left}
+use Rattle.reference.proofs.PrimitiveEnums.{named_is_asked, named_is_fixed}
 use Rattle.reference.proofs.Variants.{several_above}
 
 -- ---- the repr

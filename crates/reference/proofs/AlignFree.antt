@@ -360,7 +360,7 @@ module _ (dl : TargetDataLayout) where
 -- ---- the rule
 
 -- what a whole is aligned to, whichever way it is laid out
-whole_align : (dl : TargetDataLayout) (repr : ReprOptions) (numbers : List ℕ) (variants : List (List Placed)) (layout : Layout) (vs : LayoutVariants ℕ ℕ)
+pub whole_align : (dl : TargetDataLayout) (repr : ReprOptions) (numbers : List ℕ) (variants : List (List Placed)) (layout : Layout) (vs : LayoutVariants ℕ ℕ)
     → align_in_bytes (placed_variants dl repr numbers variants layout vs) ≡ 2 ^ layout.align.abi
 whole_align dl repr numbers variants layout Empty = refl
 whole_align dl repr numbers variants layout (Single i) = refl

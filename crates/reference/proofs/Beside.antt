@@ -100,7 +100,7 @@ module _ (dl : TargetDataLayout) where
 
   -- ---- wide ones
 
-  two_faultless : (a b : Scalar) (p : Placed) (first second : Option LayError) (fits : Bool)
+  pub two_faultless : (a b : Scalar) (p : Placed) (first second : Option LayError) (fits : Bool)
       → Ok p ≡ unless first (unless second (if fits then Ok (two_scalars dl a b) else Err SizeOverflow)) → p ≡ two_scalars dl a b
   two_faultless a b p None None true e = inj-Ok p (two_scalars dl a b) e
   two_faultless a b p None None false e = absurd (no_error p _ e)

@@ -1,5 +1,5 @@
 -- Each `repr(C)` enum that was laid out is one as the Reference has it.
-use Rattle.std.proofs.Common.{◌≡◌, ℕ, ◌+◌, ◌^◌, ◌<◌, ◌≤◌, Bool, true, false, List, [], ◌∷◌, Option, None, length, map, refl, sym, ap, ap₂, ◌∙◌, subst, arith, inl, inr, Ok, Result, ⊎_elim}
+use Rattle.std.proofs.Common.{◌≡◌, ℕ, ◌+◌, ◌^◌, ◌<◌, ◌≤◌, Bool, true, false, List, [], ◌∷◌, Option, None, length, map, refl, sym, ap, ap₂, ◌∙◌, subst, arith, Ok, ⊎_elim}
 use Rattle.std.specs.Prelude.{max, not, is_some, unwrap_or, ◌||◌, if◌then◌else◌}
 use Rattle.std.specs.Int.{◌∣◌, next_multiple_of}
 use Rattle.std.proofs.Math.Nat.{dvd_trans}
@@ -14,12 +14,6 @@ use Rattle.abi_scalar.specs.declared.repr.ReprOptions.{ReprOptions}
 use Rattle.abi_scalar.specs.declared.scalar.Scalar.TheVariants.{Initialized}
 use Rattle.abi_scalar.specs.declared.variants.VariantLayout.{VariantLayout}
 use Rattle.abi_scalar.specs.Repr.{is_c}
-use Rattle.abi_scalar.specs.declared.error.LayoutCalculatorError.{LayoutCalculatorError}
-use Rattle.abi_scalar.specs.Simple.{never_layout}
-use Rattle.abi_base.specs.declared.niche_optimizations.NicheOptimizations.TheVariants.{Enabled}
-use Rattle.abi_calc.specs.declared.enums.path.Path.{Path}
-use Rattle.abi_calc.specs.Enums.Answer.{IsTypeAnswer}
-use Rattle.rustc_abi.specs.Enums.{IsTagIntegerAnswer as IsAsking, numbered_from}
 use Rattle.abi_lists.specs.Fields.{greatest, greatest_size}
 use Rattle.abi_lists.specs.Placement.{cut, own_align, prefix_align, start_of}
 use Rattle.reference.proofs.Rounding.{pow_dvd, round_add, round_mono, round_multiple, round_round, rounded_to}
@@ -31,17 +25,17 @@ use Rattle.abi_laid.specs.declared.mark.Mark.{Mark}
 use Rattle.abi_laid.specs.Placed.{Placed, layout_of, scalar as one_number, pair as two, never as nowhere, elements, vector as lanes_of, fields, union as together, single, tagged, states}
 use Rattle.abi_scalar.specs.Layout.{Layout}
 use Rattle.abi_laid.specs.Tree.{Tree, Variants, scalar, pair, never, unit, array, vector, struct, union, enum, coroutine}
-use Rattle.rustc_abi.specs.Enums.{IsEnumed, arms_at, discriminants_of, layouts_of}
+use Rattle.rustc_abi.specs.Enums.{arms_at, discriminants_of, layouts_of}
 use Rattle.rustc_abi.specs.Laying.{IsLaying, VariantsLaying, enum_fault, placed_enum}
-use Rattle.reference.proofs.Answers.{laid_by, numbers_for}
+use Rattle.reference.proofs.Answers.{numbers_for}
 use Rattle.reference.specs.Words.{Extent, align_in_bytes, extents_of, extent_of, largest, most_aligned, padding_needed_for, rounded_up}
 use Rattle.rustc_abi.specs.Lists.{offsets_of}
 use Rattle.reference.specs.CStruct.{IsPlainC, c_end, c_offsets, c_struct}
 use Rattle.reference.specs.Tags.{integer_extent}
 use Rattle.reference.specs.FieldEnums.{EachVariant, IsCEnum, LieInPayload, c_enum, payload, variant_fields, with_fields}
 use Rattle.reference.proofs.Lists.{aligned_some, c_is_fixed, extents_for, extents_of-parts_at, offsets_of-parts_at, pow_max, rounded}
-use Rattle.reference.proofs.PrimitiveEnums.{end_behind, named_tag, none_left, offsets_behind}
-use Rattle.reference.proofs.EnumLists.{AreListsFrom, IsTaggedBehind, LieFrom, ListsFrom, arm_fields, arm_for_each, is_several, lie_from, lists_are, seen_from, tagged_by}
+use Rattle.reference.proofs.PrimitiveEnums.{end_behind, named_tag, offsets_behind}
+use Rattle.reference.proofs.EnumLists.{AreListsFrom, IsTaggedBehind, LieFrom, ListsFrom, arm_fields, arm_for_each, lie_from, lists_are, of_tagged, seen_from}
 
 -- ---- rounding
 
@@ -260,12 +254,6 @@ module _ (size a : ℕ) (fits : 2 ^ a ∣ size) where
 
 -- ---- the rule
 
-abbrev ok : Layout → Result Layout (LayoutCalculatorError Placed)
-ok l = Ok l
-
-pub inj-layout : (a b : Layout) → ok a ≡ ok b → a ≡ b
-inj-layout a b e = cc
-
 true_or : (b c : Bool) → b ≡ true → (b || c) ≡ true
 true_or true c e = refl
 true_or false c e = absurd (cc)
@@ -289,9 +277,9 @@ module _ (dl : TargetDataLayout) (law : IsLawfulDataLayout dl) (byte : dl.aggreg
   abbrev numbers : List ℕ
   numbers = discriminants_of all
 
-  tagged_lies : (v : List Placed) (vs : List (List Placed)) (layout : Layout) → VariantsLaying dl all (Ok (v ∷ vs))
+  tagged_lies : (v : List Placed) (vs : List (List Placed)) (layout : Layout) → VariantsLaying dl all (Ok (v ∷ vs)) → enum_fault dl repr numbers (v ∷ vs) ≡ None
       → IsTaggedBehind dl repr numbers (v ∷ vs) layout → IsCEnum dl (enum repr all) (placed_enum dl repr numbers (v ∷ vs) layout)
-  tagged_lies v vs layout there b =
+  tagged_lies v vs layout there faultless b =
       let size : ℕ = integer_size b.asked in
       let a : ℕ = integer_align dl b.asked in
       let fits : 2 ^ a ∣ size = law.integers b.asked in
@@ -334,23 +322,11 @@ module _ (dl : TargetDataLayout) (law : IsLawfulDataLayout dl) (byte : dl.aggreg
             (each_in_payload size a fits whole (mark_of true repr) (v ∷ vs) 0 numbers (v ∷ vs) layouts (omega arith) long lie),
       ))
 
-  enum_lies : (free : Bool) → is_free repr ≡ free → (variants : List (List Placed)) (layout : Layout) → VariantsLaying dl all (Ok variants)
-      → IsEnumed dl repr numbers variants (Ok layout) → IsCEnum dl (enum repr all) (placed_enum dl repr numbers variants layout)
-  enum_lies true is variants layout there h =
-      not_plain dl repr all (λ plain. let no : true ≡ false = sym is ∙ c_is_asked repr plain.0 in absurd (cc)) (placed_enum dl repr numbers variants layout)
-  enum_lies false is [] layout there h =
-      subst (λ (l : Layout). IsCEnum dl (enum repr all) (placed_enum dl repr numbers [] l)) (sym (inj-layout layout (never_layout dl) h))
-      (λ plain. none_left dl all there)
-  enum_lies false is (v ∷ vs) layout there h =
-      tagged_lies v vs layout there (tagged_by dl repr numbers (v ∷ vs) layout is
-      (subst (λ (path : Path). IsTypeAnswer layout_of (λ i. i) (λ i. i) (λ i. i) (λ i. i) dl repr (v ∷ vs) true true Enabled (IsAsking dl repr)
-      (λ items. items ≡ numbered_from 0 numbers) path (Ok layout)) (is_several repr v vs is) h))
-
   pub enum_in_c : (p : Placed) → IsLaying dl (enum repr all) (Ok p) → IsCEnum dl (enum repr all) p
-  enum_in_c p (inl f) = absurd (cc f.2)
-  enum_in_c p (inr (variants, there, answer)) =
-      let found = laid_by (enum_fault dl repr numbers variants) (IsEnumed dl repr numbers variants) (placed_enum dl repr numbers variants) p answer in
-      subst (IsCEnum dl (enum repr all)) found.2 (enum_lies (is_free repr) refl variants found.0 there found.1)
+  enum_in_c =
+      of_tagged dl repr all (IsCEnum dl (enum repr all))
+      (λ free. not_plain dl repr all (λ plain. let no : true ≡ false = sym free ∙ c_is_asked repr plain.0 in absurd (cc)))
+      (λ none plain. none) tagged_lies
 
 pub laid_c_enum : (dl : TargetDataLayout) → dl.aggregate_align ≡ 0 → IsLawfulDataLayout dl → (t : Tree) (p : Placed) → IsLaying dl t (Ok p)
     → IsCEnum dl t p

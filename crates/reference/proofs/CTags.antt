@@ -17,26 +17,21 @@ use Rattle.abi_base.specs.IntegerType.{integer_of_type, is_signed_type}
 use Rattle.abi_base.specs.Size.{signed_value}
 use Rattle.abi_scalar.specs.declared.repr.ReprOptions.{ReprOptions}
 use Rattle.abi_scalar.specs.Repr.{discr_type_of, is_c}
-use Rattle.abi_base.specs.declared.niche_optimizations.NicheOptimizations.TheVariants.{Enabled}
-use Rattle.abi_scalar.specs.Simple.{never_layout}
-use Rattle.abi_calc.specs.declared.enums.path.Path.{Path}
-use Rattle.abi_calc.specs.Enums.Answer.{IsTypeAnswer}
-use Rattle.abi_calc.specs.Enums.Path.{has_no_value, is_free, variant_at}
+use Rattle.abi_calc.specs.Enums.Path.{has_no_value, variant_at}
 use Rattle.abi_calc.specs.Enums.Discriminants.{IsAskedWith, IsGreatestOf, IsLeastOf, counts, meant_by}
-use Rattle.abi_laid.specs.Placed.{Placed, layout_of, scalar as one_number, pair as two, never as nowhere, elements, vector as lanes_of, fields, union as together, single, tagged, states}
+use Rattle.abi_laid.specs.Placed.{Placed, scalar as one_number, pair as two, never as nowhere, elements, vector as lanes_of, fields, union as together, single, tagged, states}
 use Rattle.abi_scalar.specs.Layout.{Layout}
 use Rattle.abi_laid.specs.Tree.{Tree, Variants, no_variants, more_variants, scalar, pair, never, unit, array, vector, struct, union, enum, coroutine}
 use Rattle.rustc_abi.specs.declared.error.LayError.{LayError}
 use Rattle.rustc_abi.specs.declared.error.LayError.TheVariants.{BadAlign, BadIndex, DiscriminantTooWide, DuplicateDiscriminant}
-use Rattle.rustc_abi.specs.Enums.{IsEnumed, IsTagIntegerAnswer as IsAsking, counted, discriminants_of, has_equal, holds_both, is_discriminant, is_negative, layouts_of, least_integer, least_tag, numbered_from, tag_integer}
-use Rattle.rustc_abi.specs.Laying.{IsLaying, enum_fault, has_bad_align, has_bad_index, placed_enum}
+use Rattle.rustc_abi.specs.Enums.{counted, discriminants_of, has_equal, holds_both, is_discriminant, is_negative, layouts_of, least_integer, least_tag, numbered_from, tag_integer}
+use Rattle.rustc_abi.specs.Laying.{IsLaying, VariantsLaying, enum_fault, has_bad_align, has_bad_index, placed_enum}
 use Rattle.reference.specs.CStruct.{IsPlainC}
 use Rattle.reference.specs.FieldEnums.{IsCTag}
 use Rattle.reference.specs.Tags.{HasEnumsOfIndex, HoldsEach, IsCEnumInteger, IsOf, IsTagInteger, discriminants}
-use Rattle.reference.proofs.Answers.{laid_by}
 use Rattle.reference.proofs.Beside.{index_size}
-use Rattle.reference.proofs.CEnums.{c_is_asked, inj-layout}
-use Rattle.reference.proofs.EnumLists.{IsTaggedBehind, is_several, tagged_by}
+use Rattle.reference.proofs.CEnums.{c_is_asked}
+use Rattle.reference.proofs.EnumLists.{IsTaggedBehind, of_tagged}
 use Rattle.reference.proofs.PrimitiveEnums.{named_tag}
 
 -- ---- what a number of 128 bits stands for
@@ -393,9 +388,9 @@ module _ (dl : TargetDataLayout) (law : IsLawfulDataLayout dl) (enough : HasEnum
       subst (λ o. IsTagInteger dl o numbers b.signed b.asked) (sym is)
       (subst (λ (x : Integer × Bool). IsCEnumInteger dl x.1 numbers x.0) (sym same) own)
 
-  tag_lies : (v : List Placed) (vs : List (List Placed)) (layout : Layout) → enum_fault dl repr numbers (v ∷ vs) ≡ None
+  tag_lies : (v : List Placed) (vs : List (List Placed)) (layout : Layout) → VariantsLaying dl all (Ok (v ∷ vs)) → enum_fault dl repr numbers (v ∷ vs) ≡ None
       → IsTaggedBehind dl repr numbers (v ∷ vs) layout → IsCTag dl (enum repr all) (placed_enum dl repr numbers (v ∷ vs) layout)
-  tag_lies v vs layout none b =
+  tag_lies v vs layout there none b =
       let fits : list_all (is_discriminant dl repr) numbers ≡ true =
       fitting (has_bad_index (v ∷ vs)) (has_bad_align repr) (has_equal numbers) (list_all (is_discriminant dl repr) numbers) none in
       subst (λ (l : Layout). IsCTag dl (enum repr all) (placed_enum dl repr numbers (v ∷ vs) l)) (sym b.is) (λ plain. (
@@ -406,22 +401,10 @@ module _ (dl : TargetDataLayout) (law : IsLawfulDataLayout dl) (enough : HasEnum
         (refl, refl),
       ))
 
-  enum_lies : (free : Bool) → is_free repr ≡ free → (variants : List (List Placed)) (layout : Layout) → enum_fault dl repr numbers variants ≡ None
-      → IsEnumed dl repr numbers variants (Ok layout) → IsCTag dl (enum repr all) (placed_enum dl repr numbers variants layout)
-  enum_lies true is variants layout none h =
-      not_plain dl repr all (λ plain. let no : true ≡ false = sym is ∙ c_is_asked repr plain.0 in absurd (cc)) (placed_enum dl repr numbers variants layout)
-  enum_lies false is [] layout none h =
-      subst (λ (l : Layout). IsCTag dl (enum repr all) (placed_enum dl repr numbers [] l)) (sym (inj-layout layout (never_layout dl) h)) tt
-  enum_lies false is (v ∷ vs) layout none h =
-      tag_lies v vs layout none (tagged_by dl repr numbers (v ∷ vs) layout is
-      (subst (λ (path : Path). IsTypeAnswer layout_of (λ i. i) (λ i. i) (λ i. i) (λ i. i) dl repr (v ∷ vs) true true Enabled (IsAsking dl repr)
-      (λ items. items ≡ numbered_from 0 numbers) path (Ok layout)) (is_several repr v vs is) h))
-
   pub enum_tag : (p : Placed) → IsLaying dl (enum repr all) (Ok p) → IsCTag dl (enum repr all) p
-  enum_tag p (inl f) = absurd (cc f.2)
-  enum_tag p (inr (variants, there, answer)) =
-      let found = laid_by (enum_fault dl repr numbers variants) (IsEnumed dl repr numbers variants) (placed_enum dl repr numbers variants) p answer in
-      subst (IsCTag dl (enum repr all)) found.2 (enum_lies (is_free repr) refl variants found.0 found.3 found.1)
+  enum_tag =
+      of_tagged dl repr all (IsCTag dl (enum repr all))
+      (λ free. not_plain dl repr all (λ plain. let no : true ≡ false = sym free ∙ c_is_asked repr plain.0 in absurd (cc))) (λ none. tt) tag_lies
 
 pub laid_c_tag : (dl : TargetDataLayout) → HasEnumsOfIndex dl → IsLawfulDataLayout dl → (t : Tree) (p : Placed) → IsLaying dl t (Ok p) → IsCTag dl t p
 laid_c_tag dl enough law (enum repr all) p h = enum_tag dl law enough repr all p h

@@ -2,6 +2,7 @@
 -- layout that the type has.
 use Rattle.std.proofs.Common.{◌≡◌, ℕ, ◌^◌, ◌≤◌, Bool, true, false, List, [], ◌∷◌, None, Some, ◌++◌, get_or, length, map, refl, sym, ap, ap₂, ◌∙◌, subst, arith, lit≤, inl, inr, ⊎_elim, Ok}
 use Rattle.std.specs.Prelude.{◌⊎◌, ◌+◌, All, IsPermutation, max, sum_by, ℤ, pos}
+use Rattle.std.proofs.Math.Pow.{pow_mono}
 use Rattle.std.specs.Int.Count.{count_trailing_zeros}
 use Rattle.std.specs.List.Sorted.{IsSortedByKey}
 use Rattle.std.proofs.lemmas.List.Elements.{All-cons, All-contains, All-head, All-nil}
@@ -48,11 +49,13 @@ use Rattle.reference.specs.CUnion.{IsCUnion}
 use Rattle.reference.specs.FieldEnums.{IsCEnum, IsCTag, payload, variant_fields, with_fields}
 use Rattle.reference.specs.Modifiers.{unaligned}
 use Rattle.reference.specs.Transparent.{IsAsLargeAs, IsTransparent, others, unit_extent}
+use Rattle.reference.proofs.AlignEnums.{around_is}
 use Rattle.reference.proofs.Answers.{faultless, inj-Ok, laid_by}
 use Rattle.reference.proofs.Over.{list_count, struct_laid}
 use Rattle.reference.proofs.CStructs.{listed_in_c, struct_has}
 use Rattle.reference.proofs.EnumLists.{IsTaggedBehind, seen_from, tagged_by}
 use Rattle.reference.proofs.Lists.{extents_for, extents_of-parts_at, pow_max}
+use Rattle.reference.proofs.Wide.{halved, halved_align, plain_align, wide, wide_has}
 
 abbrev c : ReprOptions
 c = record default_repr { flags = record { 0 = 1 } }
@@ -128,7 +131,7 @@ transparent_departs p h lies =
     let own : IsTransparent around_nothing whole = subst (IsTransparent around_nothing) (sym s.is) lies in
     let none : others (parts_at (listed_offsets s.layout.fields) s.fields) ≡ [] =
     nothing_counts (listed_offsets s.layout.fields) s.fields (nothing_there s.fields s.are) s.count in
-    let unit_like : extent_of whole ≡ unit_extent = subst (λ list. IsAsLargeAs list whole) none (own (refl, refl, refl)) in
+    let unit_like : extent_of whole ≡ unit_extent = subst (λ list. IsAsLargeAs list whole) none (own (refl, refl, refl)).0 in
     let low : align_in_bytes p ≡ 1 = ap align_in_bytes (sym s.is) ∙ ap (λ (e : Extent). e.align) unit_like in
     let high : align_in_bytes p ≡ max 8 (most_aligned (extents_for None s.fields)) = s.align in
     absurd (omega (arith, low, high))
@@ -255,6 +258,21 @@ enum_align_departs p wrapped own outer same =
     struct_has default_data_layout around true (more_trees (absent (unaligned raised)) no_trees) (λ q. 16 ≤ align_in_bytes q)
     (λ ps layout are listed. around_is_raised ps layout listed) wrapped outer in
     absurd (omega arith)
+
+-- ---- `align(2)` on an enum whose discriminants ask for a tag of four bytes
+
+-- the rule promises that both are aligned alike
+pub wide_departs : (p wrapped : Placed) → IsLaying default_data_layout (enum halved wide) (Ok p)
+    → IsLaying default_data_layout (struct halved true None (more_trees (enum (unaligned halved) wide) no_trees)) (Ok wrapped)
+    → align_in_bytes p ≡ align_in_bytes wrapped → ⊥
+wide_departs p wrapped own outer same =
+    let high = wide_has halved (λ a. 2 ≤ a) halved_align p own in
+    let inner = around_is default_data_layout halved (enum (unaligned halved) wide) 1 wrapped refl refl outer in
+    let low = wide_has default_repr (λ a. a ≡ 0) plain_align inner.0 inner.1 in
+    let one : align_in_bytes inner.0 ≡ 1 = low.2 ∙ ap (λ a. 2 ^ a) low.1 in
+    let around : align_in_bytes wrapped ≡ max 2 (max (align_in_bytes inner.0) 1) = inner.2 in
+    let up : 2 ^ 2 ≤ 2 ^ high.0 = pow_mono {i = 2} {j = high.0} high.1 in
+    absurd (omega (arith, up, high.2, around, one, same))
 
 -- ---- C enums where an index is narrower than the least C enum
 

@@ -6,6 +6,7 @@ use Rattle.std.proofs.lemmas.List.{length-map}
 use Rattle.abi_base.specs.declared.data_layout.TargetDataLayout.{TargetDataLayout}
 use Rattle.abi_base.specs.declared.integer.Integer.{Integer}
 use Rattle.abi_base.specs.declared.primitive.Primitive.TheVariants.{Int}
+use Rattle.abi_base.specs.declared.niche_optimizations.NicheOptimizations.TheVariants.{Enabled}
 use Rattle.abi_base.specs.declared.struct_kind.StructKind.{StructKind}
 use Rattle.abi_base.specs.Integer.{integer_size}
 use Rattle.abi_scalar.specs.declared.backend_repr.BackendRepr.{BackendRepr}
@@ -16,12 +17,15 @@ use Rattle.abi_scalar.specs.declared.variants.VariantLayout.{VariantLayout}
 use Rattle.abi_scalar.specs.declared.wrapping_range.WrappingRange.{WrappingRange}
 use Rattle.abi_scalar.specs.Repr.{has_fixed_order}
 use Rattle.abi_scalar.specs.Shape.{listed_offsets}
+use Rattle.abi_scalar.specs.Simple.{never_layout}
 use Rattle.abi_scalar.specs.Variant.{variant_of}
 use Rattle.abi_lists.specs.declared.part.Part.{Part}
 use Rattle.abi_lists.specs.List.{parts_of}
 use Rattle.abi_lists.specs.Part.{part_of}
 use Rattle.abi_lists.specs.Placement.{end_from, list_repr, own_align, prefix_align, start_of}
+use Rattle.abi_calc.specs.declared.enums.path.Path.{Path}
 use Rattle.abi_calc.specs.declared.enums.path.Path.TheVariants.{Several}
+use Rattle.abi_calc.specs.Enums.Answer.{IsTypeAnswer}
 use Rattle.abi_calc.specs.Enums.Growth.{grown_tag, grown_variant}
 use Rattle.abi_calc.specs.Enums.Lists.{AreListLayouts, behind_tag}
 use Rattle.abi_calc.specs.Enums.Path.{is_free, path_among, path_of}
@@ -33,11 +37,13 @@ use Rattle.abi_calc.specs.Enums.Payload.{tagged_view}
 use Rattle.abi_lists.specs.List.{IsListAnswer}
 use Rattle.abi_laid.specs.Nodes.{parts_at}
 use Rattle.abi_laid.specs.declared.mark.Mark.{Mark}
-use Rattle.abi_laid.specs.Placed.{Placed, layout_of}
+use Rattle.abi_laid.specs.Mark.{mark_of}
+use Rattle.abi_laid.specs.Placed.{Placed, layout_of, never as nowhere}
 use Rattle.abi_scalar.specs.Layout.{Layout}
-use Rattle.abi_laid.specs.Tree.{Variants, no_variants, more_variants}
-use Rattle.rustc_abi.specs.Enums.{IsTagIntegerAnswer, arms_at, counted, discriminants_of, layouts_of, numbered_from}
-use Rattle.rustc_abi.specs.Laying.{AreLaying, VariantsLaying}
+use Rattle.abi_laid.specs.Tree.{Variants, no_variants, more_variants, enum}
+use Rattle.rustc_abi.specs.Enums.{IsEnumed, IsTagIntegerAnswer, arms_at, counted, discriminants_of, layouts_of, numbered_from}
+use Rattle.rustc_abi.specs.Laying.{AreLaying, IsLaying, VariantsLaying, enum_fault, placed_enum}
+use Rattle.reference.proofs.Answers.{laid_by}
 use Rattle.reference.specs.Words.{Extent, HasArmForEach, extent_of, extents_of, most_aligned, rounded_up}
 use Rattle.rustc_abi.specs.Lists.{offsets_of}
 use Rattle.reference.specs.CStruct.{c_end, c_offsets}
@@ -240,3 +246,34 @@ module _ (dl : TargetDataLayout) (whole : Layout) (mark : Mark) (from : ℕ) whe
             (subst (λ es. P es (c_offsets from (map extent_of ps))) (sym (extents_of-parts_at l.field_offsets ps lie.0)) (each (map extent_of ps))),
         each_arm P each (i + 1) numbers variants layouts (omega (arith, e)) lie.2,
       )
+
+-- ---- what holds of each such enum
+
+pub none_left : (dl : TargetDataLayout) (all : Variants) → VariantsLaying dl all (Ok []) → all ≡ no_variants
+none_left dl no_variants h = refl
+none_left dl (more_variants d ts others) (inl f) = absurd (cc f.2)
+none_left dl (more_variants d ts others) (inr (ps, here, inl f)) = absurd (cc f.2)
+none_left dl (more_variants d ts others) (inr (ps, here, inr (rest, later, is))) = absurd (cc)
+
+-- what says nothing where the layout is free, and holds without variants and of each enum with a tag
+module _ (dl : TargetDataLayout) (repr : ReprOptions) (all : Variants) (Rule : Placed → Type 0) (vacuous : is_free repr ≡ true → (p : Placed) → Rule p)
+    (empty : all ≡ no_variants → Rule (nowhere (never_layout dl) (mark_of true repr)))
+    (tagged : (v : List Placed) (vs : List (List Placed)) (layout : Layout) → VariantsLaying dl all (Ok (v ∷ vs)) → enum_fault dl repr (discriminants_of all) (v ∷ vs) ≡ None
+    → IsTaggedBehind dl repr (discriminants_of all) (v ∷ vs) layout → Rule (placed_enum dl repr (discriminants_of all) (v ∷ vs) layout)) where
+  by_free : (free : Bool) → is_free repr ≡ free → (variants : List (List Placed)) (layout : Layout) → VariantsLaying dl all (Ok variants)
+      → enum_fault dl repr (discriminants_of all) variants ≡ None → IsEnumed dl repr (discriminants_of all) variants (Ok layout)
+      → Rule (placed_enum dl repr (discriminants_of all) variants layout)
+  by_free true is variants layout there none h = vacuous is (placed_enum dl repr (discriminants_of all) variants layout)
+  by_free false is [] layout there none h =
+      subst (λ (l : Layout). Rule (placed_enum dl repr (discriminants_of all) [] l)) (sym (inj-Ok layout (never_layout dl) h)) (empty (none_left dl all there))
+  by_free false is (v ∷ vs) layout there none h =
+      tagged v vs layout there none (tagged_by dl repr (discriminants_of all) (v ∷ vs) layout is
+      (subst (λ (path : Path). IsTypeAnswer layout_of (λ i. i) (λ i. i) (λ i. i) (λ i. i) dl repr (v ∷ vs) true true Enabled (IsTagIntegerAnswer dl repr)
+      (λ items. items ≡ numbered_from 0 (discriminants_of all)) path (Ok layout)) (is_several repr v vs is) h))
+
+  pub of_tagged : (p : Placed) → IsLaying dl (enum repr all) (Ok p) → Rule p
+  of_tagged p (inl f) = absurd (cc f.2)
+  of_tagged p (inr (variants, there, answer)) =
+      let found = laid_by (enum_fault dl repr (discriminants_of all) variants) (IsEnumed dl repr (discriminants_of all) variants)
+      (placed_enum dl repr (discriminants_of all) variants) p answer in
+      subst Rule found.2 (by_free (is_free repr) refl variants found.0 there found.3 found.1)

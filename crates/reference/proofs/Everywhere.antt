@@ -194,6 +194,10 @@ IsKnown dl t p = IsOrdered dl t p × HasLeastLists dl t p
 abbrev pub IsWholeKnown : TargetDataLayout → Tree → Placed → Type 0
 IsWholeKnown dl t p = IsKnown dl t p × IsLawfulLayout dl (layout_of p)
 
+-- that a type has one layout, which is lawful
+abbrev pub IsInner : TargetDataLayout → Tree → Placed → Type 0
+IsInner dl t p = IsOnly dl t p × IsLawfulLayout dl (layout_of p)
+
 -- ---- of an answer
 
 module _ (dl : TargetDataLayout) (tree : Tree) where
@@ -279,3 +283,13 @@ module _ (dl : TargetDataLayout) (tree : Tree) where
       tree (placed_of laid)
       (both dl (IsKnown dl) (λ t p. IsLawfulLayout dl (layout_of p)) (λ t p h. h.0.0.0) tree (placed_of laid) known lawful)
   each_lawful_if A Q each (Err e) law known lawful = known
+
+  -- a rule that is kept by what lies in a type, under a premise
+  pub each_inner_if : (A : Type 0) (Q : Tree → Placed → Type 0) → (A → (t : Tree) (p : Placed) → IsLaying dl t (Ok p) → Within dl (IsInner dl) t p → Q t p)
+      → (r : Result Laid LayError) → IfOk r (λ laid. Everywhere dl (IsOnly dl) tree (placed_of laid))
+      → IfOk r (λ laid. Everywhere dl (λ t p. IsLawfulLayout dl (layout_of p)) tree (placed_of laid))
+      → IfOk r (λ laid. A → Everywhere dl Q tree (placed_of laid))
+  each_inner_if A Q each (Ok laid) only lawful = λ a.
+      weaker dl (IsInner dl) Q (λ t p h inside. each a t p h.0.1 inside) tree (placed_of laid)
+      (both dl (IsOnly dl) (λ t p. IsLawfulLayout dl (layout_of p)) (λ t p h. h.0) tree (placed_of laid) only lawful)
+  each_inner_if A Q each (Err e) only lawful = only

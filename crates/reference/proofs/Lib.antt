@@ -19,12 +19,28 @@ mod EnumLists
 mod PrimitiveEnums
 mod CEnums
 mod CTags
--- `align`, `packed` and `transparent`
+-- `align` and `packed`
 mod Align
 mod AlignEnums
 mod AlignFree
+-- lists of one field, and enums of two variants
+mod Lone
+mod Several
+-- `transparent`: how types are seen, and their niches
+mod Views
+mod PlainViews
+mod SeenAs
+mod Niches
+mod OneField
 mod Transparents
+-- `Option`
+mod ZeroOut
+mod InNiche
+mod OptionLists
+mod Options
 -- worked facts, and departures
 mod Facts
 mod PlainFacts
+mod OptionFacts
+mod Wide
 mod Departures

@@ -35,11 +35,11 @@ use Rattle.reference.proofs.Lists.{align_same, cut_to, extents_for, part_for_eac
 
 -- ---- the run that is taken
 
-either : (C A B : Type 0) (b : Bool) → (A → C) → (B → C) → MatchBool b A B → C
+pub either : (C A B : Type 0) (b : Bool) → (A → C) → (B → C) → MatchBool b A B → C
 either C A B true f g h = f h
 either C A B false f g h = g h
 
-perhaps : (C A : Type 0) (P : ℕ → Type 0) (o : Option ℕ) → (A → C) → ((s : ℕ) → P s → C) → MatchOption o A P → C
+pub perhaps : (C A : Type 0) (P : ℕ → Type 0) (o : Option ℕ) → (A → C) → ((s : ℕ) → P s → C) → MatchOption o A P → C
 perhaps C A P None f g h = f h
 perhaps C A P (Some s) f g h = g s h
 

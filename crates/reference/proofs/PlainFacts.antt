@@ -1,6 +1,6 @@
 -- Worked facts on primitive types, the Rust representation and the modifiers: a right layout meets the rule, and the nearest
 -- wrong one doesn't.
-use Rattle.std.proofs.Common.{◌≡◌, ℕ, ◌+◌, ◌-◌, ◌^◌, ◌≤◌, true, false, List, [], ◌∷◌, None, Some, length, refl, sym, ap, ap₂, ◌∙◌, subst, arith, lit≤, inl, inr}
+use Rattle.std.proofs.Common.{◌≡◌, ℕ, ◌+◌, ◌-◌, ◌^◌, ◌≤◌, true, false, List, [], ◌∷◌, Option, None, Some, length, refl, sym, ap, ap₂, ◌∙◌, subst, arith, lit≤, inl, inr}
 use Rattle.std.specs.Prelude.{◌%◌, ◌<◌, All, IsPermutation, max, nat_lt, sum_by, if◌then◌else◌}
 use Rattle.std.proofs.Math.Nat.{dvd-mul_right}
 use Rattle.std.proofs.Math.Pow.{pow_mono}
@@ -9,8 +9,9 @@ use Rattle.std.proofs.lemmas.List.Sorted.{All-permutation, IsPermutation-refl, I
 use Rattle.std.proofs.lemmas.List.Sums.{sum_by-cons}
 use Rattle.std.proofs.lemmas.Nat.Gcd.{dvd-zero, mod-eq-zero_of_dvd}
 use Rattle.abi_base.specs.DataLayout.{default_data_layout}
-use Rattle.abi_base.specs.declared.integer.Integer.TheVariants.{I16, I32, I64}
+use Rattle.abi_base.specs.declared.integer.Integer.TheVariants.{I8, I16, I32, I64}
 use Rattle.abi_base.specs.declared.primitive.Primitive.TheVariants.{Int, Pointer}
+use Rattle.abi_scalar.specs.declared.niche.Niche.{Niche}
 use Rattle.abi_scalar.specs.declared.repr.ReprOptions.{ReprOptions}
 use Rattle.abi_scalar.specs.declared.scalar.Scalar.{Scalar}
 use Rattle.abi_scalar.specs.declared.scalar.Scalar.TheVariants.{Initialized}
@@ -18,7 +19,9 @@ use Rattle.abi_scalar.specs.Range.{full_range}
 use Rattle.abi_calc.specs.Coroutine.Lists.{default_repr}
 use Rattle.abi_laid.specs.declared.mark.Mark.TheVariants.{Plain}
 use Rattle.abi_laid.specs.Tree.{Tree, struct, unit, never, pair as two_numbers, scalar as number_type, no_variants, more_variants, enum, no_trees, more_trees}
-use Rattle.abi_laid.specs.Placed.{Placed, scalar, pair, fields, single, never as nowhere, no_parts, part, size_of}
+use Rattle.abi_laid.specs.Placed.{Placed, scalar, pair, fields, single, never as nowhere, no_parts, part, layout_of, niche_of, size_of}
+use Rattle.abi_scalar.specs.Layout.{Layout}
+use Rattle.rustc_abi.specs.Laying.{one_scalar}
 use Rattle.reference.specs.Words.{Extent, align_in_bytes, extent_of, padding_needed_for, rounded_up}
 use Rattle.reference.specs.Modifiers.{IsPacked, IsPackedWide, IsRaisable, IsRaised, IsRaisedEnum, LieClosely, LiePacked, positioned}
 use Rattle.reference.specs.Primitive.{HasPowerAlign, HoldsAddresses, IsAlignedBySize, IsSignless, IsSizedByTable, IsThin, IsUnit, IsWhole, IsWide}
@@ -255,22 +258,47 @@ transparent = record default_repr { flags = record { 0 = 4 } }
 abbrev word_and_unit : Tree
 word_and_unit = struct transparent true None (more_trees unit (more_trees word_type no_trees))
 
+-- seen as the word is
+abbrev seen_as_word : (size align : ℕ) → Layout
+seen_as_word size align = record (sized size align) { backend_repr = (layout_of u32).backend_repr }
+
 abbrev around_word : (size align : ℕ) → Placed
-around_word size align = fields (sized size align) Plain (part 4 (fields (sized 0 0) Plain no_parts) (part 0 u32 no_parts))
+around_word size align = fields (seen_as_word size align) Plain (part 4 (fields (sized 0 0) Plain no_parts) (part 0 u32 no_parts))
 
 transparent_right : IsTransparent word_and_unit (around_word 4 2)
-transparent_right = λ plain. refl
+transparent_right = λ plain. (refl, refl, λ c simd. refl)
 
 transparent_of_twice_the_size : IsTransparent word_and_unit (around_word 8 2) → ⊥
 transparent_of_twice_the_size h =
-    let size : 8 ≡ 4 = ap (λ (e : Extent). e.size) (h (refl, refl, refl)) in absurd (omega (arith, size))
+    let size : 8 ≡ 4 = ap (λ (e : Extent). e.size) (h (refl, refl, refl)).0 in absurd (omega (arith, size))
+
+-- as bytes in memory, and not as the word
+transparent_seen_as_bytes : IsTransparent word_and_unit (fields (sized 4 2) Plain (part 4 (fields (sized 0 0) Plain no_parts) (part 0 u32 no_parts))) → ⊥
+transparent_seen_as_bytes h =
+    let view : (sized 4 2).backend_repr ≡ (layout_of u32).backend_repr = (h (refl, refl, refl)).2 refl refl in absurd (cc)
+
+-- a `bool`, whose free numbers the whole has, too
+abbrev flag : Scalar
+flag = Initialized (Int I8 false) (record { start = 0; end = 1 })
+
+abbrev a_flag : Placed
+a_flag = one_scalar default_data_layout flag
+
+abbrev around_flag : Option Niche → Placed
+around_flag niche = fields (record (layout_of a_flag) { largest_niche = niche }) Plain (part 0 a_flag no_parts)
+
+transparent_with_its_niche : IsTransparent (struct transparent true None (more_trees (number_type flag) no_trees)) (around_flag (niche_of a_flag))
+transparent_with_its_niche = λ plain. (refl, refl, λ c simd. refl)
+
+transparent_without_its_niche : IsTransparent (struct transparent true None (more_trees (number_type flag) no_trees)) (around_flag None) → ⊥
+transparent_without_its_niche h = absurd (let niche : None ≡ niche_of a_flag = (h (refl, refl, refl)).1 in cc)
 
 transparent_over_nothing : IsTransparent (struct transparent true None no_trees) (fields (sized 0 0) Plain no_parts)
-transparent_over_nothing = λ plain. refl
+transparent_over_nothing = λ plain. (refl, refl, λ c simd. refl)
 
 transparent_over_nothing_raised : IsTransparent (struct transparent true None no_trees) (fields (sized 0 3) Plain no_parts) → ⊥
 transparent_over_nothing_raised h =
-    let align : 8 ≡ 1 = ap (λ (e : Extent). e.align) (h (refl, refl, refl)) in absurd (omega (arith, align))
+    let align : 8 ≡ 1 = ap (λ (e : Extent). e.align) (h (refl, refl, refl)).0 in absurd (omega (arith, align))
 
 -- an enum of one variant, and one whose variant is absent
 abbrev one_word : Tree
@@ -278,21 +306,21 @@ one_word = enum transparent (more_variants 0 (more_trees unit (more_trees word_t
 
 abbrev one_around_word : (size align : ℕ) → Placed
 one_around_word size align =
-    single (sized size align) Plain 0 (part 4 (fields (sized 0 0) Plain no_parts) (part 0 u32 no_parts))
+    single (seen_as_word size align) Plain 0 (part 4 (fields (sized 0 0) Plain no_parts) (part 0 u32 no_parts))
 
 transparent_enum_right : IsTransparent one_word (one_around_word 4 2)
-transparent_enum_right = λ plain alone. refl
+transparent_enum_right = λ plain alone. (refl, refl, λ c simd. refl)
 
 transparent_enum_of_twice_the_size : IsTransparent one_word (one_around_word 8 2) → ⊥
 transparent_enum_of_twice_the_size h =
-    let size : 8 ≡ 4 = ap (λ (e : Extent). e.size) (h (refl, refl, refl) (refl, refl)) in absurd (omega (arith, size))
+    let size : 8 ≡ 4 = ap (λ (e : Extent). e.size) (h (refl, refl, refl) (refl, refl)).0 in absurd (omega (arith, size))
 
 abbrev one_never : Tree
 one_never = enum transparent (more_variants 0 (more_trees never no_trees) no_variants)
 
 transparent_absent_right : IsTransparent one_never (nowhere (sized 0 0) Plain)
-transparent_absent_right = λ plain alone. refl
+transparent_absent_right = λ plain alone. (refl, refl, λ c simd. refl)
 
 transparent_absent_of_a_byte : IsTransparent one_never (nowhere (sized 1 0) Plain) → ⊥
 transparent_absent_of_a_byte h =
-    let size : 1 ≡ 0 = ap (λ (e : Extent). e.size) (h (refl, refl, refl) (refl, refl)) in absurd (omega (arith, size))
+    let size : 1 ≡ 0 = ap (λ (e : Extent). e.size) (h (refl, refl, refl) (refl, refl)).0 in absurd (omega (arith, size))

@@ -1,5 +1,5 @@
 -- Each enum with a named integer alone that was laid out is one as the Reference has it.
-use Rattle.std.proofs.Common.{◌≡◌, ℕ, ◌+◌, ◌-◌, ◌%◌, ◌^◌, ◌<◌, ◌≤◌, Bool, true, false, List, [], ◌∷◌, Option, None, Some, length, map, refl, sym, ap, ap₂, ◌∙◌, subst, arith, inl, inr, Ok, Result}
+use Rattle.std.proofs.Common.{◌≡◌, ℕ, ◌+◌, ◌-◌, ◌%◌, ◌^◌, ◌<◌, ◌≤◌, Bool, true, false, List, [], ◌∷◌, Option, None, Some, length, map, refl, sym, ap, ap₂, ◌∙◌, subst, arith, Ok}
 use Rattle.std.specs.Prelude.{max, not, is_some, unwrap_or, ◌||◌, ⊤, nat_lt, IsSome, if◌then◌else◌}
 use Rattle.std.specs.Option.{option_map}
 use Rattle.std.specs.Int.{◌∣◌, next_multiple_of}
@@ -16,12 +16,6 @@ use Rattle.abi_scalar.specs.declared.repr.ReprOptions.{ReprOptions}
 use Rattle.abi_scalar.specs.declared.scalar.Scalar.TheVariants.{Initialized}
 use Rattle.abi_scalar.specs.declared.variants.VariantLayout.{VariantLayout}
 use Rattle.abi_scalar.specs.Repr.{has_fixed_order, is_c}
-use Rattle.abi_scalar.specs.declared.error.LayoutCalculatorError.{LayoutCalculatorError}
-use Rattle.abi_scalar.specs.Simple.{never_layout}
-use Rattle.abi_base.specs.declared.niche_optimizations.NicheOptimizations.TheVariants.{Enabled}
-use Rattle.abi_calc.specs.declared.enums.path.Path.{Path}
-use Rattle.abi_calc.specs.Enums.Answer.{IsTypeAnswer}
-use Rattle.rustc_abi.specs.Enums.{IsTagIntegerAnswer as IsAsking, numbered_from}
 use Rattle.abi_lists.specs.Fields.{greatest, greatest_size}
 use Rattle.abi_lists.specs.Placement.{cut, own_align, prefix_align, start_of}
 use Rattle.reference.proofs.Rounding.{round_multiple}
@@ -29,19 +23,19 @@ use Rattle.abi_calc.specs.Enums.Lists.{align_with_all, behind_tag, tag_align}
 use Rattle.abi_calc.specs.Enums.Path.{is_free}
 use Rattle.abi_calc.specs.Enums.Tagged.{layout_seen_as, lists_align, lists_size}
 use Rattle.abi_laid.specs.Mark.{mark_of}
-use Rattle.abi_laid.specs.Placed.{Placed, layout_of, scalar as one_number, pair as two, never as nowhere, elements, vector as lanes_of, fields, union as together, single, tagged, states}
+use Rattle.abi_laid.specs.Placed.{Placed, scalar as one_number, pair as two, never as nowhere, elements, vector as lanes_of, fields, union as together, single, tagged, states}
 use Rattle.abi_scalar.specs.Layout.{Layout}
-use Rattle.abi_laid.specs.Tree.{Tree, Variants, no_variants, more_variants, scalar, pair, never, unit, array, vector, struct, union, enum, coroutine}
-use Rattle.rustc_abi.specs.Enums.{IsEnumed, arms_at, discriminants_of, layouts_of}
+use Rattle.abi_laid.specs.Tree.{Tree, Variants, scalar, pair, never, unit, array, vector, struct, union, enum, coroutine}
+use Rattle.rustc_abi.specs.Enums.{arms_at, discriminants_of, layouts_of}
 use Rattle.rustc_abi.specs.Laying.{IsLaying, VariantsLaying, enum_fault, placed_enum}
-use Rattle.reference.proofs.Answers.{laid_by, numbers_for}
+use Rattle.reference.proofs.Answers.{numbers_for}
 use Rattle.reference.specs.Words.{Extent, extent_of, largest, most_aligned, padding_needed_for, rounded_up}
 use Rattle.reference.specs.CStruct.{c_end, c_offsets, c_struct}
 use Rattle.reference.specs.CUnion.{c_union}
 use Rattle.reference.specs.Tags.{IsTagInteger, integer_extent}
 use Rattle.reference.specs.FieldEnums.{IsPlainPrimitive, IsPrimitiveEnum, LieBehindTag, primitive_enum, variant_fields, with_fields}
 use Rattle.reference.proofs.Lists.{extents_for, pow_max, rounded}
-use Rattle.reference.proofs.EnumLists.{AreListsFrom, IsTaggedBehind, LieFrom, arm_fields, arm_for_each, each_arm, is_several, lie_from, lists_are, seen_from, tagged_by}
+use Rattle.reference.proofs.EnumLists.{AreListsFrom, IsTaggedBehind, LieFrom, arm_fields, arm_for_each, each_arm, lie_from, lists_are, of_tagged, seen_from}
 
 -- ---- the C algorithm behind a tag
 
@@ -187,12 +181,6 @@ named_tag dl None numbers asked signed other some e = absurd (cc)
 
 -- ---- the rule
 
-abbrev ok : Layout → Result Layout (LayoutCalculatorError Placed)
-ok l = Ok l
-
-inj-Ok : (a b : Layout) → ok a ≡ ok b → a ≡ b
-inj-Ok a b e = cc
-
 not_plain : (dl : TargetDataLayout) (repr : ReprOptions) (all : Variants) → (IsPlainPrimitive repr → ⊥) → (p : Placed) → IsPrimitiveEnum dl (enum repr all) p
 not_plain dl repr all isnt (tagged layout mark offset number encoding arms) = λ plain. absurd (isnt plain)
 not_plain dl repr all isnt (one_number layout s) = λ plain. absurd (isnt plain)
@@ -205,19 +193,13 @@ not_plain dl repr all isnt (together layout mark parts) = λ plain. absurd (isnt
 not_plain dl repr all isnt (single layout mark index parts) = λ plain. absurd (isnt plain)
 not_plain dl repr all isnt (states layout prefix offset number arms) = λ plain. absurd (isnt plain)
 
-pub none_left : (dl : TargetDataLayout) (all : Variants) → VariantsLaying dl all (Ok []) → all ≡ no_variants
-none_left dl no_variants h = refl
-none_left dl (more_variants d ts others) (inl f) = absurd (cc f.2)
-none_left dl (more_variants d ts others) (inr (ps, here, inl f)) = absurd (cc f.2)
-none_left dl (more_variants d ts others) (inr (ps, here, inr (rest, later, is))) = absurd (cc)
-
 module _ (dl : TargetDataLayout) (law : IsLawfulDataLayout dl) (byte : dl.aggregate_align ≡ 0) (repr : ReprOptions) (all : Variants) where
   abbrev numbers : List ℕ
   numbers = discriminants_of all
 
-  tagged_lies : (v : List Placed) (vs : List (List Placed)) (layout : Layout) → VariantsLaying dl all (Ok (v ∷ vs))
+  tagged_lies : (v : List Placed) (vs : List (List Placed)) (layout : Layout) → VariantsLaying dl all (Ok (v ∷ vs)) → enum_fault dl repr numbers (v ∷ vs) ≡ None
       → IsTaggedBehind dl repr numbers (v ∷ vs) layout → IsPrimitiveEnum dl (enum repr all) (placed_enum dl repr numbers (v ∷ vs) layout)
-  tagged_lies v vs layout there b =
+  tagged_lies v vs layout there faultless b =
       let size : ℕ = integer_size b.asked in
       let align : ℕ = integer_align dl b.asked in
       let fits : 2 ^ align ∣ size = law.integers b.asked in
@@ -251,23 +233,11 @@ module _ (dl : TargetDataLayout) (law : IsLawfulDataLayout dl) (byte : dl.aggreg
             (λ es. offsets_behind (integer_extent dl b.asked) es) 0 numbers (v ∷ vs) layouts long lie,
       ))
 
-  enum_lies : (free : Bool) → is_free repr ≡ free → (variants : List (List Placed)) (layout : Layout) → VariantsLaying dl all (Ok variants)
-      → IsEnumed dl repr numbers variants (Ok layout) → IsPrimitiveEnum dl (enum repr all) (placed_enum dl repr numbers variants layout)
-  enum_lies true is variants layout there h =
-      not_plain dl repr all (λ plain. let no : true ≡ false = sym is ∙ named_is_asked repr plain.1 in absurd (cc)) (placed_enum dl repr numbers variants layout)
-  enum_lies false is [] layout there h =
-      subst (λ (l : Layout). IsPrimitiveEnum dl (enum repr all) (placed_enum dl repr numbers [] l)) (sym (inj-Ok layout (never_layout dl) h))
-      (λ plain. none_left dl all there)
-  enum_lies false is (v ∷ vs) layout there h =
-      tagged_lies v vs layout there (tagged_by dl repr numbers (v ∷ vs) layout is
-      (subst (λ (path : Path). IsTypeAnswer layout_of (λ i. i) (λ i. i) (λ i. i) (λ i. i) dl repr (v ∷ vs) true true Enabled (IsAsking dl repr)
-      (λ items. items ≡ numbered_from 0 numbers) path (Ok layout)) (is_several repr v vs is) h))
-
   pub enum_primitive : (p : Placed) → IsLaying dl (enum repr all) (Ok p) → IsPrimitiveEnum dl (enum repr all) p
-  enum_primitive p (inl f) = absurd (cc f.2)
-  enum_primitive p (inr (variants, there, answer)) =
-      let found = laid_by (enum_fault dl repr numbers variants) (IsEnumed dl repr numbers variants) (placed_enum dl repr numbers variants) p answer in
-      subst (IsPrimitiveEnum dl (enum repr all)) found.2 (enum_lies (is_free repr) refl variants found.0 there found.1)
+  enum_primitive =
+      of_tagged dl repr all (IsPrimitiveEnum dl (enum repr all))
+      (λ free. not_plain dl repr all (λ plain. let no : true ≡ false = sym free ∙ named_is_asked repr plain.1 in absurd (cc)))
+      (λ none plain. none) tagged_lies
 
 pub laid_primitive_enum : (dl : TargetDataLayout) → dl.aggregate_align ≡ 0 → IsLawfulDataLayout dl → (t : Tree) (p : Placed) → IsLaying dl t (Ok p)
     → IsPrimitiveEnum dl t p

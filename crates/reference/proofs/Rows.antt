@@ -35,7 +35,7 @@ allowed_cases true n P order h = h.0
 allowed_cases false n P order is = subst (λ o. IsPermutation (source_order n) o) (sym is) (IsPermutation-refl (source_order n))
 
 -- an allowed order has each index once
-permutes : (repr : ListRepr) (n : ℕ) (order : List ℕ) → IsAllowed repr n order → IsPermutation (source_order n) order
+pub permutes : (repr : ListRepr) (n : ℕ) (order : List ℕ) → IsAllowed repr n order → IsPermutation (source_order n) order
 permutes repr n order h = allowed_cases repr.reorderable n (KeepsTail repr.kind n order) order h
 
 module _ (dl : TargetDataLayout) where
@@ -44,23 +44,23 @@ module _ (dl : TargetDataLayout) where
   with_places no_parts = []
   with_places (part offset placed parts) = (offset, part_of dl (layout_of placed)) ∷ with_places parts
 
-  abbrev asked : Parts → List Part
+  abbrev pub asked : Parts → List Part
   asked parts = parts_of dl (types_of parts)
 
   -- those of the part with this index
-  abbrev at_index : Parts → ℕ → ℕ × Part
+  abbrev pub at_index : Parts → ℕ → ℕ × Part
   at_index parts i = (get_or (offsets_of parts) i 0, get_or (asked parts) i no_part)
 
-  read_at : (parts : Parts) (i : ℕ) → i < length (with_places parts) → get_or (with_places parts) i (0, no_part) ≡ at_index parts i
+  pub read_at : (parts : Parts) (i : ℕ) → i < length (with_places parts) → get_or (with_places parts) i (0, no_part) ≡ at_index parts i
   read_at no_parts i lt = absurd (omega arith)
   read_at (part offset placed parts) zero lt = refl
   read_at (part offset placed parts) (suc i) lt = read_at parts i (omega arith)
 
-  count_of : (parts : Parts) → length (with_places parts) ≡ length (types_of parts)
+  pub count_of : (parts : Parts) → length (with_places parts) ≡ length (types_of parts)
   count_of no_parts = refl
   count_of (part offset placed parts) = ap suc (count_of parts)
 
-  in_source_order : (parts : Parts) → map (at_index parts) (source_order (length (types_of parts))) ≡ with_places parts
+  pub in_source_order : (parts : Parts) → map (at_index parts) (source_order (length (types_of parts))) ≡ with_places parts
   in_source_order parts =
       let n : ℕ = length (types_of parts) in
       let many : length (map (at_index parts) (source_order n)) ≡ n = length-map-range_with_len (at_index parts) 0 n in

@@ -260,7 +260,7 @@ types_of-parts_at [] (p ∷ ps) e = absurd (omega arith)
 types_of-parts_at (o ∷ os) [] e = absurd (omega arith)
 types_of-parts_at (o ∷ os) (p ∷ ps) e = ap (λ ls. layout_of p ∷ ls) (types_of-parts_at os ps (omega arith))
 
-offsets_of-parts_at : (os : List ℕ) (ps : List Placed) → length os ≡ length ps → offsets_of (parts_at os ps) ≡ os
+pub offsets_of-parts_at : (os : List ℕ) (ps : List Placed) → length os ≡ length ps → offsets_of (parts_at os ps) ≡ os
 offsets_of-parts_at [] [] e = refl
 offsets_of-parts_at [] (p ∷ ps) e = absurd (omega arith)
 offsets_of-parts_at (o ∷ os) [] e = absurd (omega arith)

@@ -13,3 +13,5 @@ pub mod FieldEnums
 -- `align`, `packed` and `transparent`
 pub mod Modifiers
 pub mod Transparent
+-- `Option`, by its own documentation
+pub mod Option

@@ -8,6 +8,7 @@ use Rattle.reference.specs.CStruct.{IsCStruct}
 use Rattle.reference.specs.CUnion.{IsCUnion}
 use Rattle.reference.specs.FieldEnums.{IsCEnum, IsCTag, IsPrimitiveEnum}
 use Rattle.reference.specs.Modifiers.{IsPacked, IsPackedC, IsPackedWide, IsRaised, IsRaisedEnum}
+use Rattle.reference.specs.Option.{IsAsLarge, IsNoneZero, IsSomeAlike, OfOption}
 use Rattle.reference.specs.Primitive.{HasPointersOfIndex, HasPowerAlign, HasWideIndex, HoldsAddresses}
 use Rattle.reference.specs.Primitive.{IsAlignedBySize, IsSignless, IsSizedByTable, IsThin, IsUnit, IsWhole, IsWide}
 use Rattle.reference.specs.RustLayout.{IsAligned, IsApart}
@@ -20,7 +21,8 @@ use Rattle.reference.proofs.Beside.{laid_addresses, laid_signless, laid_thin, la
 use Rattle.reference.proofs.CEnums.{laid_c_enum}
 use Rattle.reference.proofs.CStructs.{laid_c_struct, laid_packed_c}
 use Rattle.reference.proofs.CTags.{laid_c_tag}
-use Rattle.reference.proofs.Everywhere.{each_beside, each_beside_if, each_known, each_laid, each_laid_if, each_lawful, each_lawful_if, each_only, each_ordered}
+use Rattle.reference.proofs.Everywhere.{each_beside, each_beside_if, each_inner_if, each_known, each_laid, each_laid_if, each_lawful, each_lawful_if, each_only, each_ordered}
+use Rattle.reference.proofs.Options.{known_none, known_size, known_some}
 use Rattle.reference.proofs.PrimitiveEnums.{laid_primitive_enum}
 use Rattle.reference.proofs.Rust.{known_apart, known_packed}
 use Rattle.reference.proofs.Transparents.{known_transparent}
@@ -144,3 +146,21 @@ returns-clause-repr_transparent_layout_abi c =
     (each_known c.args.dl.now (tree_of c.args.tree.now) c.lay_out.result
     (each_only c.args.dl.now (tree_of c.args.tree.now) c.lay_out.result c.lay_out.ensures.one_each c.lay_out.ensures.parts)
     c.lay_out.ensures.placed c.lay_out.ensures.each_list) c.lay_out.ensures.each_layout
+
+pub returns-clause-option_size : goal.returns-clause-option_size
+returns-clause-option_size c =
+    each_inner_if c.args.dl.now (tree_of c.args.tree.now) (c.args.dl.now.aggregate_align ≡ 0) (OfOption c.args.dl.now (λ t p. IsLaying c.args.dl.now t (Ok p)) IsAsLarge)
+    (known_size c.args.dl.now) c.lay_out.result
+    (each_only c.args.dl.now (tree_of c.args.tree.now) c.lay_out.result c.lay_out.ensures.one_each c.lay_out.ensures.parts) c.lay_out.ensures.each_layout
+
+pub returns-clause-option_none_is_zero : goal.returns-clause-option_none_is_zero
+returns-clause-option_none_is_zero c =
+    each_inner_if c.args.dl.now (tree_of c.args.tree.now) (c.args.dl.now.aggregate_align ≡ 0) (OfOption c.args.dl.now (λ t p. IsLaying c.args.dl.now t (Ok p)) (IsNoneZero c.args.dl.now))
+    (known_none c.args.dl.now) c.lay_out.result
+    (each_only c.args.dl.now (tree_of c.args.tree.now) c.lay_out.result c.lay_out.ensures.one_each c.lay_out.ensures.parts) c.lay_out.ensures.each_layout
+
+pub returns-clause-option_some_is_its_value : goal.returns-clause-option_some_is_its_value
+returns-clause-option_some_is_its_value c =
+    each_inner_if c.args.dl.now (tree_of c.args.tree.now) (c.args.dl.now.aggregate_align ≡ 0) (OfOption c.args.dl.now (λ t p. IsLaying c.args.dl.now t (Ok p)) (IsSomeAlike c.args.dl.now))
+    (known_some c.args.dl.now) c.lay_out.result
+    (each_only c.args.dl.now (tree_of c.args.tree.now) c.lay_out.result c.lay_out.ensures.one_each c.lay_out.ensures.parts) c.lay_out.ensures.each_layout
