@@ -1,11 +1,12 @@
-/* Type layouts: the calculator of `./layout` and `./map` as two calls, text in and text out. docs/EMBEDDING.md has how
-   it is linked, docs/FORMATS.md the format of inputs and answers.
+/* Type layouts: the calculator of `./layout` and `./map` as two calls, text in and text out, and one by numbers.
+   docs/EMBEDDING.md has how it is linked, docs/FORMATS.md the format of inputs and answers, docs/NUMBERS.md the numbers.
 
-   Of both calls:
-   - The input is two lines, a data layout string and a type. It is any bytes, needs no 0 at its end, and is only read.
+   Of all calls:
+   - Of those over text the input is two lines, a data layout string and a type. It is any bytes, needs no 0 at its end,
+     and is only read.
    - The caller owns all memory, before and after. A call keeps no pointer, and frees what it takes for itself.
-   - No pointer may be null, even beside a length of 0. `output` may overlap neither `input` nor `needed`, nor `needed`
-     the input.
+   - No pointer may be null, even beside a length of 0. What is written, `output` or `layout` and `needed`, may overlap
+     nothing else that is handed in.
    - Calls share nothing: threads may call at once, each with an `output` and a `needed` of its own. No call is made
      from a signal handler. Memory is from malloc, realloc and free. A call wants stack, more for a deeper type: 2 MB were
      enough for types nested as deep as can be. */
@@ -25,7 +26,89 @@ enum {
     RUSTC_ABI_REFUSED = 1,   /* it has none, as for a type nested too deep, or memory was wanting; the text is
                                 `refused NAME`, and `refused OutOfMemory` of memory alone */
     RUSTC_ABI_UNREADABLE = 2 /* a text can't be read; the text is `unreadable word N`, of the type's line, and of 0
-                                where one of the two lines isn't UTF-8 */
+                                where one of the two lines isn't UTF-8; or numbers can't be */
+};
+
+/* The first number of a type: what it is. What follows is told in docs/NUMBERS.md. */
+enum {
+    RUSTC_ABI_SCALAR = 0,
+    RUSTC_ABI_PAIR = 1,
+    RUSTC_ABI_NEVER = 2,
+    RUSTC_ABI_UNIT = 3,
+    RUSTC_ABI_ARRAY = 4,   /* count, type */
+    RUSTC_ABI_VECTOR = 5,  /* lanes, packed, type */
+    RUSTC_ABI_STRUCT = 6,  /* repr, always sized, count, types */
+    RUSTC_ABI_ORDERED = 7, /* repr, always sized, count, order, count, types */
+    RUSTC_ABI_UNION = 8,   /* repr, count, types */
+    RUSTC_ABI_ENUM = 9,    /* repr, count, and for each variant its discriminant, count, types */
+    RUSTC_ABI_COROUTINE = 10
+};
+
+/* The number that is lent beside `RUSTC_ABI_REFUSED`: why a type has no layout, or what is wrong with a string. */
+enum {
+    RUSTC_ABI_OUT_OF_MEMORY = 0,
+    RUSTC_ABI_UNLAWFUL_DATA_LAYOUT = 1,
+    RUSTC_ABI_BAD_INDEX = 2,
+    RUSTC_ABI_UNKNOWN_SPACE = 3,
+    RUSTC_ABI_BAD_RANGE = 4,
+    RUSTC_ABI_BAD_ALIGN = 5,
+    RUSTC_ABI_DUPLICATE_DISCRIMINANT = 6,
+    RUSTC_ABI_DISCRIMINANT_TOO_WIDE = 7,
+    RUSTC_ABI_NO_STATE = 8,
+    RUSTC_ABI_LOCAL_TWICE = 9,
+    RUSTC_ABI_UNEXPECTED_UNSIZED = 10,
+    RUSTC_ABI_SIZE_OVERFLOW = 11,
+    RUSTC_ABI_EMPTY_UNION = 12,
+    RUSTC_ABI_REPR_CONFLICT = 13,
+    RUSTC_ABI_ZERO_LENGTH_SIMD_TYPE = 14,
+    RUSTC_ABI_OVERSIZED_SIMD_TYPE = 15,
+    RUSTC_ABI_NON_PRIMITIVE_SIMD_TYPE = 16,
+    RUSTC_ABI_BAD_ORDER = 17,
+    RUSTC_ABI_INVALID_ADDRESS_SPACE = 32,
+    RUSTC_ABI_INVALID_BITS = 33,
+    RUSTC_ABI_MISSING_ALIGNMENT = 34,
+    RUSTC_ABI_INVALID_ALIGNMENT = 35,
+    RUSTC_ABI_UNKNOWN_POINTER_SPECIFICATION = 36
+};
+
+/* The number that is lent beside `RUSTC_ABI_UNREADABLE`. */
+enum {
+    RUSTC_ABI_NOT_UTF8 = 0, /* the data layout string isn't UTF-8 */
+    RUSTC_ABI_NO_TYPE = 1   /* no type has the numbers that is nested in at most 200 others */
+};
+
+/* A scalar in a layout. A number of 128 bits is two, low half first. */
+struct rustc_abi_scalar {
+    uint64_t form;             /* 0 for none, 1 for one with a range, 2 for a union's */
+    uint64_t kind;             /* 0 for an integer, 1 for a float, 2 for a pointer */
+    uint64_t which;            /* an integer's number, 0 for 8 bits to 4 for 128; a float's, 0 to 5 for f16, f32, f64,
+                                  f128, f16b, ppcf128; a pointer's address space */
+    uint64_t is_signed;
+    uint64_t start[2], end[2]; /* the range's ends, both in it */
+};
+
+/* The first numbers of a layout. Behind them stand: where `fields_kind` is 3, `field_count` offsets in source order and
+   as many indices of fields in the order of memory; for each of `variant_count` variants its size, whether it has no
+   values, how many fields it has, and these two lists of its own; and for each of `padding_count` runs of padding its
+   first byte and how many it has. All sizes are in bytes. */
+struct rustc_abi_head {
+    uint64_t size, align, is_uninhabited;
+    uint64_t fields_kind; /* 0 for no fields, 1 for a union's, 2 for elements, 3 for listed ones */
+    uint64_t field_count, stride;
+    uint64_t variants_kind; /* 0 for none, 1 for one, 2 for several beside a tag */
+    uint64_t variant;       /* of one, which it is; of several, the field that the tag is */
+    uint64_t variant_count; /* of several alone */
+    struct rustc_abi_scalar tag;
+    uint64_t is_in_niche; /* whether the tag is a niche, and then: */
+    uint64_t untagged_variant, first_variant, last_variant, niche_start[2];
+    uint64_t view_kind;  /* 0 for bytes in memory, 1 for a scalar, 2 for two, 3 for a vector, 4 for a scalable one */
+    uint64_t view_first; /* whether bytes are sized; the second scalar's offset; how many lanes */
+    uint64_t view_vectors;
+    struct rustc_abi_scalar view_a, view_b;
+    uint64_t niche_offset;
+    struct rustc_abi_scalar niche; /* of the largest niche, if there is one */
+    uint64_t is_padding_listed;    /* 0 for a type of more than 65,536 bytes */
+    uint64_t padding_count;
 };
 
 /* Asks for the size, the alignment, the fields' offsets, the variants, the niche and the padding of a type. Answers the
@@ -39,6 +122,16 @@ uint8_t abi_c_layout(const uint8_t *input, size_t input_len, uint8_t *output, si
 
 /* Asks which parts of a type have each of its bytes, and else is as `abi_c_layout`. */
 uint8_t abi_c_map(const uint8_t *input, size_t input_len, uint8_t *output, size_t output_len, size_t *needed);
+
+/* Lays out the type that has these numbers under a data layout string. Answers the status. What is lent are the numbers
+   of the layout, the first as `struct rustc_abi_head`; beside `RUSTC_ABI_REFUSED` and `RUSTC_ABI_UNREADABLE` it is one
+   number, which of them.
+
+   `*needed` gets how many numbers there are. Where it is at most `layout_len`, they stand at the front of `layout`, and
+   nothing behind them changed. Where it is greater, nothing in `layout` changed, and a second call with room for
+   `*needed` numbers gets them. */
+uint8_t abi_c_lay_out(const uint8_t *data_layout, size_t data_layout_len, const uint64_t *type, size_t type_len,
+                      uint64_t *layout, size_t layout_len, size_t *needed);
 
 #ifdef __cplusplus
 }

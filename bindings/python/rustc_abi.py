@@ -1,18 +1,22 @@
-"""Type layouts: the calculator of `./layout` and `./map`, text in and text out, over the shared library.
+"""Type layouts: the calculator of `./layout` and `./map` over the shared library, by text and by objects.
 
     import rustc_abi
+    from rustc_abi import Type, U8, U32
 
     layouts = rustc_abi.load("target/librustc_abi.so")
     answer = layouts.layout("e-p:64:64-i64:64", "struct - ( u8 u32 )")
     print(answer.status, answer.text)
+    layout = layouts.lay_out("e-p:64:64-i64:64", Type.struct([U8, U32]))
+    print(layout.size, layout.fields.offsets, layout.padding)
 
-docs/FORMATS.md has the format of types and of answers.
+docs/FORMATS.md has the format of types and of answers, docs/NUMBERS.md the numbers behind the objects.
 """
 
 from __future__ import annotations
 
 import ctypes
-from typing import Any, NamedTuple
+from dataclasses import dataclass
+from typing import Any, Iterable, NamedTuple, Optional, Sequence, Union
 
 # A room that is enough for most answers, in bytes.
 ROOM = 4096
@@ -50,6 +54,10 @@ class Layouts:
         library = ctypes.CDLL(path)
         self._layout = _declared(library.abi_c_layout)
         self._map = _declared(library.abi_c_map)
+        self._lay_out = library.abi_c_lay_out
+        self._lay_out.restype = ctypes.c_uint8
+        self._lay_out.argtypes = [ctypes.c_char_p, ctypes.c_size_t, ctypes.c_void_p, ctypes.c_size_t, ctypes.c_void_p, ctypes.c_size_t,
+                                  ctypes.POINTER(ctypes.c_size_t)]
 
     def layout(self, data_layout: str, type: str) -> Answer:
         """The size, the alignment, the offsets, the variants, the niche and the padding of a type.
@@ -70,6 +78,335 @@ class Layouts:
     def map_of_input(self, input: bytes) -> Answer:
         """The answer of `map_of` to a whole input, of which the first two lines are read."""
         return _asked(self._map, input)
+
+    def lay_out(self, data_layout: Union[str, bytes], type: Type) -> Layout:
+        """The layout of a type. `Refused` where it has none, `Unreadable` where the string isn't UTF-8, or the type is nested in more than 200
+        others or has a number that is none of its kind's."""
+        status, numbers = self.lay_out_numbers(data_layout.encode() if isinstance(data_layout, str) else data_layout, type.numbers)
+        if status == 1:
+            raise Refused(numbers[0])
+        if status == 2:
+            raise Unreadable(("the data layout string isn't UTF-8", "no type has these numbers")[numbers[0]])
+        return _layout_of(numbers)
+
+    def lay_out_numbers(self, data_layout: bytes, numbers: Sequence[int]) -> tuple[int, list[int]]:
+        """The status and the numbers that are answered to a data layout string and the numbers of a type, as docs/NUMBERS.md tells them.
+        `ValueError` where a number has more than 64 bits."""
+        for it in numbers:
+            if not 0 <= it < 1 << 64:
+                raise ValueError(f"{it} has more than 64 bits")
+        asked, room, needed = (ctypes.c_uint64 * max(1, len(numbers)))(*numbers), 256, ctypes.c_size_t()
+        while True:
+            output = (ctypes.c_uint64 * room)()
+            status = self._lay_out(data_layout, len(data_layout), asked, len(numbers), output, room, ctypes.byref(needed))
+            if needed.value <= room:
+                return status, output[: needed.value]
+            # (nothing was written: once more, with room for all)
+            room = needed.value
+
+
+# ---- types
+
+#: The names of refusals, by their numbers.
+REFUSALS = {
+    0: "OutOfMemory", 1: "UnlawfulDataLayout", 2: "BadIndex", 3: "UnknownSpace", 4: "BadRange", 5: "BadAlign", 6: "DuplicateDiscriminant",
+    7: "DiscriminantTooWide", 8: "NoState", 9: "LocalTwice", 10: "UnexpectedUnsized", 11: "SizeOverflow", 12: "EmptyUnion", 13: "ReprConflict",
+    14: "ZeroLengthSimdType", 15: "OversizedSimdType", 16: "NonPrimitiveSimdType", 17: "BadOrder",
+    32: "InvalidAddressSpace", 33: "InvalidBits", 34: "MissingAlignment", 35: "InvalidAlignment", 36: "UnknownPointerSpecification",
+}
+
+
+class Refused(Exception):
+    """The type has no layout, or the data layout string is refused."""
+
+    def __init__(self, number: int) -> None:
+        super().__init__(REFUSALS.get(number, str(number)))
+        #: The number of the refusal.
+        self.number = number
+        #: Its name.
+        self.name = REFUSALS.get(number, str(number))
+
+
+class Unreadable(Exception):
+    """The string or the numbers can't be read."""
+
+
+@dataclass(frozen=True)
+class Primitive:
+    """What a scalar consists of."""
+
+    #: 0 for an integer, 1 for a float, 2 for a pointer.
+    kind: int
+    #: An integer's number (0 for 8 bits, to 4 for 128), a float's (f16, f32, f64, f128, f16b, ppcf128), or a pointer's address space.
+    which: int
+    #: Whether an integer is signed.
+    signed: bool = False
+
+    @property
+    def name(self) -> str:
+        """As answers write it: `u8`, `f32`, `pointer`, `pointer(AddressSpace(5))`."""
+        if self.kind == 0:
+            return f"{'i' if self.signed else 'u'}{8 << self.which}"
+        if self.kind == 1:
+            return ("f16", "f32", "f64", "f128", "f16b", "ppcf128")[self.which]
+        return "pointer" if self.which == 0 else f"pointer(AddressSpace({self.which}))"
+
+
+@dataclass(frozen=True)
+class Scalar:
+    """A primitive, and the numbers that it may hold: those met counting from `start` to `end`; any bytes, as in a union, where it has none."""
+
+    primitive: Primitive
+    start: Optional[int] = None
+    end: Optional[int] = None
+
+    @property
+    def is_union(self) -> bool:
+        """Whether it may be uninitialised."""
+        return self.start is None
+
+
+@dataclass(frozen=True)
+class Repr:
+    """What a `repr` attribute asks for."""
+
+    #: The integer of an enum's tag: `"usize"`, `"isize"`, `"u8"` to `"i128"`.
+    int: Optional[str] = None
+    #: The least alignment of the type, in bytes.
+    align: Optional[int] = None
+    #: The greatest alignment of each field, in bytes.
+    packed: Optional[int] = None
+    c: bool = False
+    transparent: bool = False
+    linear: bool = False
+    #: Further flags, as bits: 2 `simd`, 16 that a struct's order may be any, 64 a scalable vector.
+    flags: int = 0
+    #: The count of elements of a scalable vector, or -1 for a vector of vectors.
+    scalable: Optional[int] = None
+    seed: int = 0
+
+    @property
+    def numbers(self) -> tuple[int, ...]:
+        """Its six numbers."""
+        ints = (None, "usize", "isize", "u8", "i8", "u16", "i16", "u32", "i32", "u64", "i64", "u128", "i128")
+        scalable = 0 if self.scalable is None else self.scalable + 2
+        flags = self.flags | self.c | self.transparent << 2 | self.linear << 3
+        return ints.index(self.int), self.align or 0, self.packed or 0, flags, scalable, self.seed
+
+
+@dataclass(frozen=True)
+class Type:
+    """A type, as its numbers."""
+
+    numbers: tuple[int, ...]
+
+    @staticmethod
+    def scalar(scalar: Scalar) -> Type:
+        """A number."""
+        return Type((0, *_scalar_numbers(scalar)))
+
+    @staticmethod
+    def pair(first: Scalar, second: Scalar) -> Type:
+        """Two numbers, as a wide pointer has them."""
+        return Type((1, *_scalar_numbers(first), *_scalar_numbers(second)))
+
+    @staticmethod
+    def never() -> Type:
+        """A type with no value."""
+        return Type((2,))
+
+    @staticmethod
+    def unit() -> Type:
+        """A type with one value, which takes no bytes."""
+        return Type((3,))
+
+    @staticmethod
+    def array(count: int, element: Type) -> Type:
+        """So many elements."""
+        return Type((4, count, *element.numbers))
+
+    @staticmethod
+    def vector(lanes: int, element: Type, packed: bool = False) -> Type:
+        """A vector of lanes; a packed one has no bytes behind them."""
+        return Type((5, lanes, int(packed), *element.numbers))
+
+    @staticmethod
+    def struct(fields: Iterable[Type], repr: Repr = Repr(), always_sized: bool = True, order: Optional[Sequence[int]] = None) -> Type:
+        """Fields in source order; `order` has the index of each as they are to lie in memory, where that is handed in."""
+        head = (7, *repr.numbers, int(always_sized), len(order), *order) if order is not None else (6, *repr.numbers, int(always_sized))
+        return Type((*head, *_types(fields)))
+
+    @staticmethod
+    def union(fields: Iterable[Type], repr: Repr = Repr()) -> Type:
+        """Fields that share their bytes."""
+        return Type((8, *repr.numbers, *_types(fields)))
+
+    @staticmethod
+    def enum(variants: Iterable[tuple[int, Iterable[Type]]], repr: Repr = Repr()) -> Type:
+        """Each variant's discriminant, a number of 128 bits or a negative one of 127, and its fields."""
+        all = [(*_wide(discriminant % (1 << 128)), *_types(fields)) for discriminant, fields in variants]
+        return Type((9, *repr.numbers, len(all), *(n for it in all for n in it)))
+
+    @staticmethod
+    def coroutine(prefix: Iterable[Type], locals: Iterable[Type], states: Iterable[Sequence[int]], conflicts: Iterable[tuple[int, int]] = ()) -> Type:
+        """Prefix fields, locals, for each state the indices of its locals, and pairs of locals that may not share bytes."""
+        states, conflicts = list(states), list(conflicts)
+        kept = [n for it in states for n in (len(it), *it)]
+        return Type((10, *_types(prefix), *_types(locals), len(states), *kept, len(conflicts), *(n for it in conflicts for n in it)))
+
+
+def _wide(number: int) -> tuple[int, int]:
+    return number % (1 << 64), number >> 64
+
+
+def _scalar_numbers(scalar: Scalar) -> tuple[int, ...]:
+    it = scalar.primitive
+    primitive = (it.kind, it.which, int(it.signed))
+    if scalar.start is None or scalar.end is None:
+        return (1, *primitive)
+    return (0, *primitive, *_wide(scalar.start), *_wide(scalar.end))
+
+
+def _types(types: Iterable[Type]) -> tuple[int, ...]:
+    all = list(types)
+    return (len(all), *(n for it in all for n in it.numbers))
+
+
+def integer(bits: int, signed: bool = False) -> Type:
+    """An integer of so many bits with every number of its width."""
+    return Type.scalar(Scalar(Primitive(0, (8, 16, 32, 64, 128).index(bits), signed), 0, (1 << bits) - 1))
+
+
+U8, U16, U32, U64, U128 = (integer(8 << it) for it in range(5))
+I8, I16, I32, I64, I128 = (integer(8 << it, True) for it in range(5))
+F32 = Type.scalar(Scalar(Primitive(1, 1), 0, (1 << 32) - 1))
+F64 = Type.scalar(Scalar(Primitive(1, 2), 0, (1 << 64) - 1))
+BOOL = Type.scalar(Scalar(Primitive(0, 0), 0, 1))
+CHAR = Type.scalar(Scalar(Primitive(0, 2), 0, 0x10FFFF))
+
+
+# ---- layouts
+
+@dataclass(frozen=True)
+class Fields:
+    """Where fields lie."""
+
+    #: 0 for no fields, 1 for a union's, 2 for elements, 3 for listed ones.
+    kind: int
+    count: int
+    #: How far an element begins behind the one before, in bytes.
+    stride: int
+    #: The offset of each listed field, in bytes, in source order.
+    offsets: tuple[int, ...]
+    #: The listed fields as they lie in memory.
+    memory_order: tuple[int, ...]
+
+
+@dataclass(frozen=True)
+class VariantLayout:
+    """What a variant beside a tag has of its own."""
+
+    size: int
+    is_uninhabited: bool
+    offsets: tuple[int, ...]
+    memory_order: tuple[int, ...]
+
+
+@dataclass(frozen=True)
+class Niche:
+    """The place with the most free numbers, and those that it holds."""
+
+    offset: int
+    scalar: Scalar
+
+
+@dataclass(frozen=True)
+class Variants:
+    """The variants of a type."""
+
+    #: 0 for none, 1 for one, 2 for several beside a tag.
+    kind: int
+    #: Of one, which it is; of several, the field that the tag is.
+    index: int
+    tag: Optional[Scalar]
+    #: How the tag names one by a niche: the untagged variant, the first and the last of the span, and the number of the first.
+    niche: Optional[tuple[int, int, int, int]]
+    all: tuple[VariantLayout, ...]
+
+
+@dataclass(frozen=True)
+class View:
+    """How a code generator sees the values."""
+
+    #: 0 for bytes in memory, 1 for a scalar, 2 for two, 3 for a vector, 4 for a scalable vector.
+    kind: int
+    #: Of bytes whether they are sized, of two the second one's offset, of a vector its lanes.
+    first: int
+    #: How many scalable vectors there are.
+    vectors: int
+    a: Optional[Scalar]
+    b: Optional[Scalar]
+
+
+@dataclass(frozen=True)
+class Layout:
+    """The layout of a type."""
+
+    #: In bytes.
+    size: int
+    #: In bytes.
+    align: int
+    is_uninhabited: bool
+    fields: Fields
+    variants: Variants
+    view: View
+    largest_niche: Optional[Niche]
+    #: Each run of padding, its first byte and how many it has; `None` of a type of more than 65,536 bytes.
+    padding: Optional[tuple[tuple[int, int], ...]]
+
+
+def _layout_of(numbers: Sequence[int]) -> Layout:
+    at = 0
+
+    def take(count: int) -> tuple[int, ...]:
+        nonlocal at
+        at += count
+        return tuple(numbers[at - count : at])
+
+    def wide() -> int:
+        low, high = take(2)
+        return low + (high << 64)
+
+    def scalar() -> Optional[Scalar]:
+        form, kind, which, signed = take(4)
+        start, end = wide(), wide()
+        primitive = Primitive(kind, which, signed == 1)
+        return None if form == 0 else Scalar(primitive, start, end) if form == 1 else Scalar(primitive)
+
+    size, align, uninhabited = take(3)
+    kind, count, stride = take(3)
+    variants, index, variant_count = take(3)
+    tag = scalar()
+    encoding, untagged, first, last = take(4)
+    niche_start = wide()
+    view, number, vectors = take(3)
+    a, b = scalar(), scalar()
+    (niche_offset,) = take(1)
+    niche = scalar()
+    is_listed, run_count = take(2)
+    listed = count if kind == 3 else 0
+    fields = Fields(kind, count, stride, take(listed), take(listed))
+    all = []
+    for _ in range(variant_count):
+        own_size, own_uninhabited, own_count = take(3)
+        all.append(VariantLayout(own_size, own_uninhabited == 1, take(own_count), take(own_count)))
+    runs = tuple(take(2) for _ in range(run_count))
+    return Layout(
+        size, align, uninhabited == 1, fields,
+        Variants(variants, index, tag, (untagged, first, last, niche_start) if encoding == 1 else None, tuple(all)),
+        View(view, number, vectors, a, b), None if niche is None else Niche(niche_offset, niche),
+        runs if is_listed == 1 else None,
+    )
 
 
 def load(path: str) -> Layouts:

@@ -5,10 +5,22 @@ use crate::Answer;
 /// A room that is enough for most answers, in bytes.
 const ROOM: usize = 4096;
 
+/// A room that is enough for most layouts, in numbers.
+const NUMBERS: usize = 256;
+
 // As `rustc_abi.h` declares them, which nothing checks.
 extern "C" {
     fn abi_c_layout(input: *const u8, input_len: usize, output: *mut u8, output_len: usize, needed: *mut usize) -> u8;
     fn abi_c_map(input: *const u8, input_len: usize, output: *mut u8, output_len: usize, needed: *mut usize) -> u8;
+    fn abi_c_lay_out(
+        data_layout: *const u8,
+        data_layout_len: usize,
+        ty: *const u64,
+        ty_len: usize,
+        layout: *mut u64,
+        layout_len: usize,
+        needed: *mut usize,
+    ) -> u8;
 }
 
 /// A call: what is asked, where the answer goes if it fits, and its status with its length.
@@ -43,5 +55,22 @@ pub(crate) fn asked(call: Call, input: &[u8]) -> Answer {
         }
         // (nothing was written: once more, with room for all)
         output.resize(needed, 0);
+    }
+}
+
+/// The status and the numbers that are answered to the numbers of a type.
+pub(crate) fn lay_out(data_layout: &[u8], ty: &[u64]) -> (u8, Vec<u64>) {
+    let (mut layout, mut needed) = (vec![0; NUMBERS], 0);
+    loop {
+        // SAFETY: as in `layout`; no slice overlaps another, and `layout` alone is written, inside it.
+        let status = unsafe {
+            abi_c_lay_out(data_layout.as_ptr(), data_layout.len(), ty.as_ptr(), ty.len(), layout.as_mut_ptr(), layout.len(), &mut needed)
+        };
+        if needed <= layout.len() {
+            layout.truncate(needed);
+            return (status, layout);
+        }
+        // (nothing was written: once more, with room for all)
+        layout.resize(needed, 0);
     }
 }

@@ -1,4 +1,5 @@
-//! Type layouts: the calculator of `./layout` and `./map`, text in and text out, over the archive `librustc_abi.a`.
+//! Type layouts: the calculator of `./layout` and `./map` over the archive `librustc_abi.a`, text in and text out, and
+//! [`lay_out`], by values of Rust.
 //!
 //! ```
 //! let answer = rustc_abi_text::layout("e-p:64:64-i64:64", "struct C ( u8 u32 )");
@@ -11,6 +12,11 @@
 #![deny(unsafe_op_in_unsafe_fn)]
 
 mod call;
+mod layouts;
+mod types;
+
+pub use layouts::{lay_out, BackendRepr, DataLayout, Error, Fields, Layout, Niche, TagEncoding, VariantLayout, Variants};
+pub use types::{Float, Integer, IntegerType, Primitive, Repr, ScalableElt, Scalar, Type, WrappingRange};
 
 use std::fmt;
 

@@ -1,0 +1,2 @@
+-- what is told of a type
+pub mod Telling

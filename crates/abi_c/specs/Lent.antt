@@ -2,8 +2,8 @@
 use Rattle.std.specs.Prelude.{◌≡◌, ℕ, ◌<◌, ◌≤◌, ◌++◌, ◌⊎◌, List, drop, length}
 use Rattle.abi_text.specs.Output.{Output, out_of_memory}
 
--- The text at the front and what was there behind it, or all as it was where the text is longer; and its length either way.
-pub record Lent (old new text : List ℕ) (needed : ℕ) : Type 0 where
+-- The text, or numbers, at the front and what was there behind it, or all as it was where they are longer; and their length either way.
+pub record Lent {A : Type 0} (old new text : List A) (needed : ℕ) : Type 0 where
   pub needs : needed ≡ length text
   pub written : length text ≤ length old → new ≡ text ++ drop (length text) old
   pub kept : length old < length text → new ≡ old

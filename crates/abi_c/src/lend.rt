@@ -1,9 +1,9 @@
-//! Texts in memory that a caller lends.
+//! Texts and numbers in memory that a caller lends.
 
 ghost use Rattle.abi_c.specs.Lent.{Lent};
 
-/// Writes a text to the front of what the caller lent, where it fits, and tells its length.
-pub(crate) fn lend(text: &[u8], output: &mut [u8], needed: &mut usize)
+/// Writes a text, or numbers, to the front of what the caller lent, where they fit, and tells how many there are.
+pub(crate) fn lend<T: Copy>(text: &[T], output: &mut [T], needed: &mut usize)
     ensures { Lent output.old output.new text.now needed.new }
 {
     *needed = text.len();

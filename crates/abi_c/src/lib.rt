@@ -1,15 +1,20 @@
 //! Type layouts, for C and for what calls as C does. `docs/EMBEDDING.md` has how to link it.
 #![tactic(auto)]
 
-// Texts in memory that a caller lends.
+// Texts and numbers in memory that a caller lends.
 mod lend;
+
+// Layouts as numbers.
+mod flat;
 
 ghost use Rattle.std.specs.Prelude.{◌≡◌, ℕ, List};
 ghost use Rattle.abi_text.specs.Output.{IsOutputOf, Output};
 ghost use Rattle.abi_text.specs.Telling.{TellsLayout};
 ghost use Rattle.abi_map.specs.Map.{TellsMap};
+ghost use Rattle.abi_c.specs.Flat.{IsLayoutTold, IsLentTold};
 ghost use Rattle.abi_c.specs.Lent.{IsLentAnswer};
 
+use crate::flat::answer_numbers;
 use crate::lend::lend;
 use abi_map::MapText;
 use abi_text::{LayoutText, Telling, answer_input};
@@ -43,11 +48,9 @@ pub extern "C" fn abi_c_layout(
     output: &mut [u8],
     needed: &mut usize,
 ) -> u8
-    ensures answered { IsLentAnswer (IsOutputOf TellsLayout input.now) result
-        output.old output.new needed.new }
+    ensures answered { IsLentAnswer (IsOutputOf TellsLayout input.now) result output.old output.new needed.new }
     ensures some { (all : List ℕ) → (o : Output) × IsOutputOf TellsLayout all o }
-    ensures one { (all : List ℕ) (a b : Output) → IsOutputOf TellsLayout all a →
-        IsOutputOf TellsLayout all b → a ≡ b }
+    ensures one { (all : List ℕ) (a b : Output) → IsOutputOf TellsLayout all a → IsOutputOf TellsLayout all b → a ≡ b }
 {
     tell::<LayoutText>(alloc, input, output, needed)
 }
@@ -60,11 +63,38 @@ pub extern "C" fn abi_c_map(
     output: &mut [u8],
     needed: &mut usize,
 ) -> u8
-    ensures answered { IsLentAnswer (IsOutputOf TellsMap input.now) result
-        output.old output.new needed.new }
+    ensures answered { IsLentAnswer (IsOutputOf TellsMap input.now) result output.old output.new needed.new }
     ensures some { (all : List ℕ) → (o : Output) × IsOutputOf TellsMap all o }
-    ensures one { (all : List ℕ) (a b : Output) → IsOutputOf TellsMap all a →
-        IsOutputOf TellsMap all b → a ≡ b }
+    ensures one { (all : List ℕ) (a b : Output) → IsOutputOf TellsMap all a → IsOutputOf TellsMap all b → a ≡ b }
 {
     tell::<MapText>(alloc, input, output, needed)
+}
+
+/// Lays out the type that has these numbers under the data layout of a string, and answers the status: 0 where it has a
+/// layout, and then the numbers of that are lent; 1 where it has none, and then one number, which refusal, is lent; 2
+/// where the string isn't UTF-8 or the numbers are no type's, and then one number, 0 or 1 of these two, is lent.
+/// `docs/NUMBERS.md` has all numbers.
+///
+/// `needed` is how many numbers there are. They stand at the front of `layout` where they fit, and nothing behind them
+/// changes; else `layout` stays as it was. Where memory is wanting the status is 1, and the number 0.
+#[unsafe(no_mangle)]
+pub extern "C" fn abi_c_lay_out(
+    alloc: Global,
+    data_layout: &[u8],
+    tree: &[u64],
+    layout: &mut [u64],
+    needed: &mut usize,
+) -> u8
+    ensures { IsLentTold (IsLayoutTold data_layout.now tree.now) result layout.old layout.new needed.new }
+{
+    match answer_numbers(alloc, data_layout, tree) {
+        Ok(answer) => {
+            lend(answer.numbers.as_slice(), layout, needed);
+            answer.status
+        }
+        Err(_) => {
+            lend(&[0u64], layout, needed);
+            1
+        }
+    }
 }
