@@ -14,4 +14,6 @@ pub mod Named
 pub mod Rounded
 pub mod Ordered
 pub mod United
+pub mod Integers
+pub mod Enumed
 pub mod FaultsOfC

@@ -21,6 +21,7 @@ use Rattle.abi_lists.specs.ListNiche.{begins_after, niche_in}
 use Rattle.abi_lists.specs.Order.{IsNamedOrder}
 use Rattle.abi_lists.specs.Part.{part_of}
 use Rattle.abi_lists.specs.Placement.{IsAllowed, align_of as list_align, cut, end_from, in_order, list_repr, no_part, offsets_from, own_align, place_of, source_order}
+use Rattle.abi_lists.specs.Union.{raised_to}
 use Rattle.abi_lists.specs.Run.{IsPlacedIn, IsRun, space_wanted}
 use Rattle.abi_laid.specs.Nodes.{parts_at}
 use Rattle.abi_laid.specs.Placed.{Parts, Placed, layout_of, size_of}
@@ -33,7 +34,7 @@ use Rattle.rustc_abi.specs.Laying.{AreLaying, IsLaying, IsLaidList, fields_fault
 use Rattle.rustc_abi.specs.Least.{fields_of}
 use Rattle.rustc_abi.specs.Lists.{offsets_of, types_of}
 use Rattle.rustc_abi.specs.Orders.{LiesAsAsked}
-use Rattle.uses.specs.InC.{FollowEachOther, IsGreatestAlign, IsInC, IsLeastMultiple, LieAsInC, align_exponent}
+use Rattle.uses.specs.InC.{FollowEachOther, IsGreatestAlign, IsInC, IsLeastMultiple, LieAsInC, field_align, least_align}
 use Rattle.uses.proofs.Rounded.{rounded_up}
 
 -- ---- lists in source order
@@ -46,37 +47,43 @@ each_in_order d xs =
     (λ i lt. get_or-map-range_with_len (λ j. get_or xs j d) 0 (length xs) i i d (omega (arith, many)) (omega arith))
 
 -- fields one after another
-follow_from : (dl : TargetDataLayout) (from : ℕ) (ps : List Placed) →
-    FollowEachOther from ps (offsets_from None from (parts_of dl (map layout_of ps))) (end_from None from (parts_of dl (map layout_of ps)))
-follow_from dl from [] = refl
-follow_from dl from (p ∷ ps) = (rounded_up (align_exponent p) from, follow_from dl (place_of None from (part_of dl (layout_of p)) + size_of p) ps)
+follow_from : (dl : TargetDataLayout) (pack : Option ℕ) (from : ℕ) (ps : List Placed) →
+    FollowEachOther pack from ps (offsets_from pack from (parts_of dl (map layout_of ps))) (end_from pack from (parts_of dl (map layout_of ps)))
+follow_from dl pack from [] = refl
+follow_from dl pack from (p ∷ ps) = (rounded_up (field_align pack p) from, follow_from dl pack (place_of pack from (part_of dl (layout_of p)) + size_of p) ps)
 
 -- the greatest alignment isn't below that of each field
-first_below : (least : ℕ) (ps : List Part) → least ≤ fold (λ most (part : Part). max most part.align) least ps
-first_below least [] = omega arith
-first_below least (p ∷ ps) = omega (arith, first_below (max least p.align) ps)
+module _ (dl : TargetDataLayout) (pack : Option ℕ) where
+  abbrev greatest_of : (least : ℕ) → List Part → ℕ
+  greatest_of least parts = fold (λ most (part : Part). max most (cut pack part.align)) least parts
 
-each_below : (dl : TargetDataLayout) (least : ℕ) (ps : List Placed) →
-    All (λ p. align_exponent p ≤ fold (λ most (part : Part). max most part.align) least (parts_of dl (map layout_of ps))) ps
-each_below dl least [] k d lt = absurd (omega arith)
-each_below dl least (p ∷ ps) zero d lt = omega (arith, first_below (max least (align_exponent p)) (parts_of dl (map layout_of ps)))
-each_below dl least (p ∷ ps) (suc k) d lt = each_below dl (max least (align_exponent p)) ps k d (omega arith)
+  first_below : (least : ℕ) (ps : List Part) → least ≤ greatest_of least ps
+  first_below least [] = omega arith
+  first_below least (p ∷ ps) = let more = first_below (max least (cut pack p.align)) ps in omega (arith, more)
 
--- nor above each number that is none of these
-none_above : (dl : TargetDataLayout) (least other : ℕ) (ps : List Placed) → least ≤ other → All (λ p. align_exponent p ≤ other) ps →
-    fold (λ most (part : Part). max most part.align) least (parts_of dl (map layout_of ps)) ≤ other
-none_above dl least other [] low all = low
-none_above dl least other (p ∷ ps) low all =
-    let first : align_exponent p ≤ other = all 0 p (omega arith) in
-    none_above dl (max least (align_exponent p)) other ps (omega arith) (λ k d lt. all (suc k) d (omega arith))
+  each_below : (least : ℕ) (ps : List Placed) → All (λ p. field_align pack p ≤ greatest_of least (parts_of dl (map layout_of ps))) ps
+  each_below least [] k d lt = absurd (omega arith)
+  each_below least (p ∷ ps) zero d lt = let more = first_below (max least (field_align pack p)) (parts_of dl (map layout_of ps)) in omega (arith, more)
+  each_below least (p ∷ ps) (suc k) d lt = each_below (max least (field_align pack p)) ps k d (omega arith)
 
-greatest_align : (dl : TargetDataLayout) (least : ℕ) (ps : List Placed) →
-    IsGreatestAlign least ps (fold (λ most (part : Part). max most part.align) least (parts_of dl (map layout_of ps)))
-greatest_align dl least ps = record {
-  above = first_below least (parts_of dl (map layout_of ps));
-  each = each_below dl least ps;
-  no_greater = λ other low all. none_above dl least other ps low all;
-}
+  -- nor above each number that is none of these
+  none_above : (least other : ℕ) (ps : List Placed) → least ≤ other → All (λ p. field_align pack p ≤ other) ps → greatest_of least (parts_of dl (map layout_of ps)) ≤ other
+  none_above least other [] low all = low
+  none_above least other (p ∷ ps) low all =
+      let first : field_align pack p ≤ other = all 0 p (omega arith) in
+      none_above (max least (field_align pack p)) other ps (omega (arith, first, low)) (λ k d lt. all (suc k) d (omega arith))
+
+  greatest_align : (least : ℕ) (ps : List Placed) → IsGreatestAlign pack least ps (greatest_of least (parts_of dl (map layout_of ps)))
+  greatest_align least ps = record {
+    above = first_below least (parts_of dl (map layout_of ps));
+    each = each_below least ps;
+    no_greater = λ other low all. none_above least other ps low all;
+  }
+
+-- what the list's own alignment is
+least_is : (raised : Option ℕ) (own : ℕ) → max (max own (unwrap_or raised 0)) 0 ≡ raised_to raised own
+least_is None own = omega arith
+least_is (Some least) own = omega arith
 
 -- ---- parts at offsets
 
@@ -177,10 +184,10 @@ kind_sized (p ∷ ps) = refl
 fixed : (repr : ListRepr) (count : ℕ) (order : List ℕ) → repr.reorderable ≡ false → IsAllowed repr count order → order ≡ source_order count
 fixed repr count order is allowed = MatchBool-at_false _ _ is allowed
 
--- fields of an always sized list that is neither packed nor may be moved lie as in C
-pub placed_in_c : (dl : TargetDataLayout) (repr : ReprOptions) (ps : List Placed) (order os : List ℕ) (size align : ℕ) → repr.pack ≡ None → repr.align ≡ None → has_fixed_order repr ≡ true →
-    length os ≡ length ps → IsPlacedBy dl repr AlwaysSized (map layout_of ps) order os size align → LieAsInC dl.aggregate_align ps os size align
-placed_in_c dl repr ps order os size align loose unraised stays many placed =
+-- fields of an always sized list that may not be moved lie as in C
+pub placed_in_c : (dl : TargetDataLayout) (repr : ReprOptions) (pack raised : Option ℕ) (ps : List Placed) (order os : List ℕ) (size align : ℕ) → repr.pack ≡ pack → repr.align ≡ raised →
+    has_fixed_order repr ≡ true → length os ≡ length ps → IsPlacedBy dl repr AlwaysSized (map layout_of ps) order os size align → LieAsInC pack (least_align dl pack raised) ps os size align
+placed_in_c dl repr pack raised ps order os size align packed asked stays many placed =
     let parts = parts_of dl (map layout_of ps) in
     let count : length parts ≡ length ps = length-map (map layout_of ps) (λ f. part_of dl f) ∙ length-map ps layout_of in
     let source : order ≡ source_order (length (map layout_of ps)) =
@@ -189,23 +196,24 @@ placed_in_c dl repr ps order os size align loose unraised stays many placed =
     let to_offsets : order ≡ source_order (length os) = source ∙ ap source_order (length-map ps layout_of ∙ sym many) in
     let in_memory : in_order parts order ≡ parts = ap (in_order parts) to_parts ∙ each_in_order no_part parts in
     let told : map (slice_index os) order ≡ os = ap (map (slice_index os)) to_offsets ∙ each_in_order 0 os in
-    let at : os ≡ offsets_from None 0 parts = sym told ∙ placed.places ∙ ap₂ (λ pack fs. offsets_from pack 0 fs) loose in_memory in
-    let large : size ≡ next_multiple_of (end_from None 0 parts) (2 ^ align) =
-    placed.extent ∙ ap₂ (λ pack fs. next_multiple_of (end_from pack 0 fs) (2 ^ list_align (list_repr dl repr AlwaysSized) parts)) loose in_memory
-    ∙ ap (λ a. next_multiple_of (end_from None 0 parts) (2 ^ a)) (sym placed.alignment) in
-    let least : max (max (own_align dl repr) (unwrap_or repr.align 0)) 0 ≡ dl.aggregate_align =
-    ap₂ (λ (pack raised : Option ℕ). max (max (if is_some pack then dl.i8_align else dl.aggregate_align) (unwrap_or raised 0)) 0) loose unraised ∙ omega arith in
-    let greatest : align ≡ fold (λ most (part : Part). max most part.align) dl.aggregate_align parts =
-    placed.alignment ∙ ap₂ (λ pack first. fold (λ most (part : Part). max most (cut pack part.align)) first parts) loose least in
+    let at : os ≡ offsets_from pack 0 parts = sym told ∙ placed.places ∙ ap₂ (λ p fs. offsets_from p 0 fs) packed in_memory in
+    let large : size ≡ next_multiple_of (end_from pack 0 parts) (2 ^ align) =
+    placed.extent ∙ ap₂ (λ p fs. next_multiple_of (end_from p 0 fs) (2 ^ list_align (list_repr dl repr AlwaysSized) parts)) packed in_memory
+    ∙ ap (λ a. next_multiple_of (end_from pack 0 parts) (2 ^ a)) (sym placed.alignment) in
+    let least : max (max (own_align dl repr) (unwrap_or repr.align 0)) 0 ≡ least_align dl pack raised =
+    ap₂ (λ (p r : Option ℕ). max (max (if is_some p then dl.i8_align else dl.aggregate_align) (unwrap_or r 0)) 0) packed asked
+    ∙ least_is raised (if is_some pack then dl.i8_align else dl.aggregate_align) in
+    let greatest : align ≡ greatest_of dl pack (least_align dl pack raised) parts =
+    placed.alignment ∙ ap₂ (λ p first. fold (λ most (part : Part). max most (cut p part.align)) first parts) packed least in
     record {
-      end = end_from None 0 parts;
-      follow = subst (λ xs. FollowEachOther 0 ps xs (end_from None 0 parts)) (sym at) (follow_from dl 0 ps);
-      rounded = subst (IsLeastMultiple align (end_from None 0 parts)) (sym large) (rounded_up align (end_from None 0 parts));
-      aligned = subst (IsGreatestAlign dl.aggregate_align ps) (sym greatest) (greatest_align dl dl.aggregate_align ps);
+      end = end_from pack 0 parts;
+      follow = subst (λ xs. FollowEachOther pack 0 ps xs (end_from pack 0 parts)) (sym at) (follow_from dl pack 0 ps);
+      rounded = subst (IsLeastMultiple align (end_from pack 0 parts)) (sym large) (rounded_up align (end_from pack 0 parts));
+      aligned = subst (IsGreatestAlign pack (least_align dl pack raised) ps) (sym greatest) (greatest_align dl pack (least_align dl pack raised) ps);
     }
 
 -- A struct under such a repr lies as in C, at the offsets that its layout has.
-module _ (dl : TargetDataLayout) (tree : Tree) (ts : Trees) (placed : Placed) (in_c : IsInC tree ts) (laid : IsLaying dl tree (Ok placed)) where
+module _ (dl : TargetDataLayout) (pack raised : Option ℕ) (tree : Tree) (ts : Trees) (placed : Placed) (in_c : IsInC pack raised tree ts) (laid : IsLaying dl tree (Ok placed)) where
   laid_in_c : IsStruct dl in_c.0 ts placed
   laid_in_c = struct_laid dl in_c.0 ts placed (subst (λ t. IsLaying dl t (Ok placed)) in_c.1 laid)
 
@@ -217,7 +225,7 @@ module _ (dl : TargetDataLayout) (tree : Tree) (ts : Trees) (placed : Placed) (i
       other (listed_offsets s.layout.fields) s.order (ap (λ (l : Layout). l.fields) (is ∙ ap layout_of s.is) ∙ s.shape)
 
   pub struct_in_c : (layout : Layout) (os in_memory : List ℕ) → Everywhere dl (LiesAsAsked dl) tree placed → layout ≡ layout_of placed →
-      layout.fields ≡ Arbitrary os in_memory → (ps : List Placed) × AreLaying dl ts (Ok ps) × LieAsInC dl.aggregate_align ps os layout.size layout.align.abi
+      layout.fields ≡ Arbitrary os in_memory → (ps : List Placed) × AreLaying dl ts (Ok ps) × LieAsInC pack (least_align dl pack raised) ps os layout.size layout.align.abi
   struct_in_c layout os in_memory every is shape =
       let repr = in_c.0 in
       let s = laid_in_c in
@@ -229,9 +237,9 @@ module _ (dl : TargetDataLayout) (tree : Tree) (ts : Trees) (placed : Placed) (i
       let by_offsets = subst (λ ns. IsPlacedBy dl repr AlwaysSized (map layout_of s.fields) told.0 ns s.layout.size s.layout.align.abi) (offsets_of-parts_at own s.fields s.count) by_types in
       let same : layout ≡ s.layout = is ∙ ap layout_of s.is in
       let at : own ≡ os = sym (ap (λ (l : Layout). listed_offsets l.fields) same) ∙ ap listed_offsets shape in
-      let lie = placed_in_c dl repr s.fields told.0 own s.layout.size s.layout.align.abi in_c.3 in_c.4 in_c.2 s.count by_offsets in (
+      let lie = placed_in_c dl repr pack raised s.fields told.0 own s.layout.size s.layout.align.abi in_c.3 in_c.4 in_c.2 s.count by_offsets in (
         s.fields,
         s.are,
-        subst (λ ns. LieAsInC dl.aggregate_align s.fields ns layout.size layout.align.abi) at
-            (subst (λ (l : Layout). LieAsInC dl.aggregate_align s.fields own l.size l.align.abi) (sym same) lie),
+        subst (λ ns. LieAsInC pack (least_align dl pack raised) s.fields ns layout.size layout.align.abi) at
+            (subst (λ (l : Layout). LieAsInC pack (least_align dl pack raised) s.fields own l.size l.align.abi) (sym same) lie),
       )

@@ -48,7 +48,7 @@ aligns_least other (p ∷ ps) all =
     let first : align_exponent p ≤ other = all 0 p (omega arith) in
     omega (arith, first, aligns_least other ps (λ k d lt. all (suc k) d (omega arith)))
 
-greatest_of_all : (least : ℕ) (ps : List Placed) → IsGreatestAlign least ps (max least (greatest_of ps))
+greatest_of_all : (least : ℕ) (ps : List Placed) → IsGreatestAlign None least ps (max least (greatest_of ps))
 greatest_of_all least ps = record {
   above = omega arith;
   each = λ k d lt. omega (arith, aligns_below ps k d lt);
@@ -98,7 +98,7 @@ union_in_c dl tree ts placed in_c laid layout is =
         end = greatest_size (handed u.fields);
         each = sizes_below u.fields;
         no_less = λ other all. sizes_least other u.fields all;
-        aligned = subst (IsGreatestAlign dl.aggregate_align u.fields) (sym align) (greatest_of_all dl.aggregate_align u.fields);
+        aligned = subst (IsGreatestAlign None dl.aggregate_align u.fields) (sym align) (greatest_of_all dl.aggregate_align u.fields);
         rounded = subst (IsLeastMultiple layout.align.abi (greatest_size (handed u.fields))) (sym size) (rounded_up layout.align.abi (greatest_size (handed u.fields)));
       },
     )

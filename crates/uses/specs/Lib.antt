@@ -3,6 +3,7 @@ pub mod Field
 -- bytes that decide nothing
 pub mod Ignored
 -- what C has
+pub mod EnumInC
 pub mod FieldOfC
 pub mod InC
 -- what is loaded

@@ -12,7 +12,9 @@ mod fuzzer;
 mod each_call;
 mod slice;
 
-pub use binding_generator::{CFault, CRefusal, CStruct, CUnion, c_offsets, c_struct, c_union};
+pub use binding_generator::{
+    CExtent, CFault, CRefusal, CStruct, c_enum, c_offsets, c_struct, c_struct_with, c_union,
+};
 pub use code_generator::{Loaded, LoadedPair, load, load_at, load_pair, store, variant_named};
 pub use debugger::{
     ReadBack, field_of, field_of_variant, local_of_state, numbers_of, put_field, read_back,

@@ -126,9 +126,9 @@ pub fn c_struct(
     // Of the fields as they are laid out by themselves.
     ensures placed { IfOk result (λ c. (placed : List Placed) ×
         AreLaying dl.now (trees (map tree_of fields.items)) (Ok placed) ×
-        LieAsInC dl.now.aggregate_align placed c.offsets c.size c.align) }
+        LieAsInC None dl.now.aggregate_align placed c.offsets c.size c.align) }
     ensures refused { IfErr result (λ r. (e : LayError) → r ≡ CRefusal.Layout e → (tree : Tree) ×
-        IsInC tree (trees (map tree_of fields.items)) × IsRefusedFor dl.now tree e) }
+        IsInC None None tree (trees (map tree_of fields.items)) × IsRefusedFor dl.now tree e) }
 {
     match first_fault(&fields) {
         Some((i, fault)) => Err(CRefusal::Field(i, fault)),

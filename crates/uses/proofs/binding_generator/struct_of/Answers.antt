@@ -4,20 +4,20 @@ use Rattle.abi_scalar.specs.Shape.{listed_offsets}
 use Rattle.abi_laid.specs.Laid.{placed_of}
 use Rattle.abi_scalar.specs.Layout.{Layout}
 use Rattle.abi_laid.specs.Tree.{tree_of}
-use Rattle.uses.specs.InC.{LieAsInC}
+use Rattle.uses.specs.InC.{LieAsInC, least_align}
 use Rattle.uses.proofs.Ordered.{offsets_listed, struct_in_c}
 use Rattle.uses.proofs.binding_generator.struct_of.Goals as goal
 
 pub unreachable-requires : goal.unreachable-requires
 unreachable-requires c =
-    offsets_listed c.args.dl.now (tree_of c.args.tree.now) c.requires.0 (placed_of c.in_ok-laid.laid) c.requires.1 c.in_ok-laid.ensures.laid c.layout-layout.result.now c.layout-layout.ensures
+    offsets_listed c.args.dl.now c.requires.0 c.requires.1 (tree_of c.args.tree.now) c.requires.2 (placed_of c.in_ok-laid.laid) c.requires.3 c.in_ok-laid.ensures.laid c.layout-layout.result.now c.layout-layout.ensures
     c.in_default.not-Arbitrary
 
 pub returns-clause-placed : goal.returns-clause-placed
-returns-clause-placed c = λ fields is.
-    let in_c = struct_in_c c.args.dl.now (tree_of c.args.tree.now) fields (placed_of c.in_ok-laid.laid) is c.in_ok-laid.ensures.laid c.layout-layout.result.now
+returns-clause-placed c = λ pack raised fields is.
+    let in_c = struct_in_c c.args.dl.now pack raised (tree_of c.args.tree.now) fields (placed_of c.in_ok-laid.laid) is c.in_ok-laid.ensures.laid c.layout-layout.result.now
     c.in-Arbitrary.offsets c.in-Arbitrary.in_memory_order c.in_ok-laid.ensures.placed c.layout-layout.ensures c.in-Arbitrary.is in
-    (in_c.0, in_c.1, subst (λ (os : List ℕ). LieAsInC c.args.dl.now.aggregate_align in_c.0 os c.layout-layout.result.now.size c.layout-layout.result.now.align.abi) (sym c.in_ok-try_clone-in-Arbitrary.ensures.ok) in_c.2)
+    (in_c.0, in_c.1, subst (λ (os : List ℕ). LieAsInC pack (least_align c.args.dl.now pack raised) in_c.0 os c.layout-layout.result.now.size c.layout-layout.result.now.align.abi) (sym c.in_ok-try_clone-in-Arbitrary.ensures.ok) in_c.2)
 
 pub returns-clause-laid : goal.returns-clause-laid
 returns-clause-laid c = (
