@@ -1,13 +1,14 @@
 #!/usr/bin/env python3
 """structured.py LIBRARY [COUNT [SEED]]: tries the calls by numbers of the shared library at LIBRARY against its texts: of COUNT types at random
 (20,000, where it isn't told) it asks for the layout of the same type by text and by numbers, and writes the lines of the text anew from the
-numbers. Prints the first that differs, or how many agreed; the status is 0 where all did."""
+numbers. Of the values that bytes at random hold each has to be read as the same from what is written of it, and some have bytes as C and Rust
+have them. Prints the first that differs, or how many agreed; the status is 0 where all did."""
 import os, random, struct, sys
 
 sys.dont_write_bytecode = True
 sys.path.insert(0, os.path.join(os.path.dirname(os.path.dirname(os.path.abspath(__file__))), "bindings/python"))
 import rustc_abi
-from rustc_abi import Primitive, Repr, Scalar, Type
+from rustc_abi import BOOL, F32, I32, U8, U16, U32, U64, U128, Many, Number, Primitive, Repr, Scalar, Shared, State, Two, Type, Variant
 
 STRINGS = [
     "", "e-p:64:64-i64:64-i128:128", "E-p:32:32-i64:32-i128:64-f64:32", "e-p:16:16-i32:16-p1:32:32", "e-p:64:64:64:32-p5:32:32-a:8:16", "e-p:64",
@@ -169,6 +170,88 @@ def structured(layouts, string, it):
         return 1, [f"refused {refused.name}"]
 
 
+# ---- values
+
+LITTLE, BIG = "e-p:64:64-i64:64-i128:128", "E-p:64:64-i64:64-i128:128"
+C = Repr(c=True)
+REFERENCE = Type.scalar(Scalar(Primitive(2, 0), 1, (1 << 64) - 1))
+
+#: Values with their bytes as the processor, a C compiler and rustc have them.
+WORKED = [
+    (LITTLE, U32, Number(0x01020304), struct.pack("<I", 0x01020304)),
+    (BIG, U32, Number(0x01020304), struct.pack(">I", 0x01020304)),
+    (LITTLE, I32, Number((1 << 32) - 5), struct.pack("<i", -5)),
+    (LITTLE, F32, Number(0x3FC00000), struct.pack("<f", 1.5)),
+    (LITTLE, U128, Number((7 << 64) + 9), struct.pack("<QQ", 9, 7)),
+    (BIG, U128, Number((7 << 64) + 9), struct.pack(">QQ", 7, 9)),
+    (LITTLE, Type.unit(), Many(()), b""),
+    (LITTLE, Type.array(3, U16), Many((Number(1), Number(2), Number(0xABCD))), struct.pack("<3H", 1, 2, 0xABCD)),
+    (LITTLE, Type.struct([U8, U32, U16], C), Many((Number(7), Number(8), Number(9))), struct.pack("<BxxxIHxx", 7, 8, 9)),
+    (BIG, Type.struct([U8, U32, U16], C), Many((Number(7), Number(8), Number(9))), struct.pack(">BxxxIHxx", 7, 8, 9)),
+    (LITTLE, Type.pair(Scalar(Primitive(0, 0), 0, 255), Scalar(Primitive(0, 2), 0, (1 << 32) - 1)), Two(1, 2), struct.pack("<BxxxI", 1, 2)),
+    (LITTLE, Type.enum([(3, []), (200, [])], Repr(int="u8")), Variant(1, ()), b"\xc8"),
+    (LITTLE, Type.enum([(0, []), (1, [U32])], C), Variant(1, (Number(5),)), struct.pack("<II", 1, 5)),
+    # (`Option<bool>`: `Some(true)` and `None`)
+    (LITTLE, Type.enum([(0, []), (1, [BOOL])]), Variant(1, (Number(1),)), b"\x01"),
+    (LITTLE, Type.enum([(0, []), (1, [BOOL])]), Variant(0, ()), b"\x02"),
+    # (`Option<&T>`: `None`)
+    (LITTLE, Type.enum([(0, []), (1, [REFERENCE])]), Variant(0, ()), bytes(8)),
+    (LITTLE, Type.union([U8, U16], C), Shared(b"\x01\x02"), b"\x01\x02"),
+]
+
+#: A type, and what is no value of it.
+NONE = [
+    (BOOL, Number(2)), (U8, Number(256)), (U8, Many(())), (REFERENCE, Number(0)), (Type.never(), Many(())), (Type.array(2, U8), Many((Number(1),))),
+    (Type.enum([(0, []), (1, [U64])]), Variant(2, ())), (Type.union([U8], C), Shared(b"")), (Type.struct([U8]), State(0, (), ())),
+]
+
+
+def worked_values(layouts):
+    """What is wrong with the values whose bytes are known, and with what is none."""
+    for string, it, value, content in WORKED:
+        if layouts.write_value(string, it, value) != content or layouts.read_value(string, it, content) != value:
+            return f"{value} of {it} isn't {content} under {string!r}"
+        if layouts.read_value(string, it, content + b"\0") is not None:
+            return f"{it} is read from a byte more than it has"
+        if layouts.write_value_numbers(string.encode(), it.numbers, (*value.numbers, 0)) != (2, [2]):
+            return f"{value} is written with a number more"
+    for it, value in NONE:
+        if layouts.write_value_numbers(LITTLE.encode(), it.numbers, value.numbers) != (3, []):
+            return f"{value} of {it} is written"
+    refusals = [((b"\xff", U8), (2, [0])), ((b"", Type((11,))), (2, [1])), ((b"e-p:7:8", U8), (1, [1])), ((b"e-i128:x", U8), (1, [33]))]
+    for (string, it), wanted in refusals:
+        found = layouts.write_value_numbers(string, it.numbers, Number(0).numbers), layouts.read_value_numbers(string, it.numbers, b"\0")
+        if found != (wanted, wanted):
+            return f"{found} is answered for {it} under {string!r}"
+    return None
+
+
+def read_back(layouts, dice, string, text, it):
+    """How many values were read from bytes at random, and what is wrong with one of these. (A value is a list of its elements, also of those
+    that take no bytes, and for too many there is no room.)"""
+    layout = layouts.lay_out(string, it)
+    if layout.size > 256 or any(many in text for many in (f"array {1 << 40} ", f"array {(1 << 64) - 1} ", "array 300 array 300 ")):
+        return 0, None
+    found = 0
+    for among in ([0], [0, 1], range(256)):
+        content = bytes(dice.choice(among) for _ in range(layout.size))
+        value = layouts.read_value(string, it, content)
+        if value is None:
+            continue
+        found += 1
+        written = layouts.write_value(string, it, value)
+        if len(written) != layout.size or layouts.read_value(string, it, written) != value:
+            return found, f"{value}, read from {content}, isn't read from {written}, which is written of it"
+        unpadded = bytearray(content)
+        for at, size in layout.padding:
+            unpadded[at : at + size] = dice.randbytes(size)
+            if any(written[at : at + size]):
+                return found, f"{written}, written of {value}, isn't 0 in the padding at {at}"
+        if layouts.read_value(string, it, bytes(unpadded)) != value:
+            return found, f"{value}, read from {content}, isn't read from {bytes(unpadded)}, other in padding alone"
+    return found, None
+
+
 def write_asked(path, count, seed=0):
     """Writes what scripts/numbers.c asks: types at random, cut ones, and one nested in as many others as can be and in one more."""
     dice = random.Random(seed)
@@ -186,7 +269,11 @@ def main():
     library = sys.argv[1]
     count = int(sys.argv[2]) if len(sys.argv) > 2 else 20000
     seed = int(sys.argv[3]) if len(sys.argv) > 3 else 0
-    layouts, dice, statuses = rustc_abi.load(library), random.Random(seed), {}
+    layouts, dice, statuses, values = rustc_abi.load(library), random.Random(seed), {}, 0
+    wrong = worked_values(layouts)
+    if wrong:
+        print(f"structured: {wrong}")
+        return 1
     for number in range(count):
         string = dice.choice(STRINGS[:4]) if dice.random() < 0.9 else dice.choice(STRINGS)
         text, it = random_type(dice, dice.randrange(4))
@@ -201,10 +288,16 @@ def main():
                 print(f"structured: {text} with a number more or less is laid out: {behind}")
                 return 1
         statuses[answer.status] = statuses.get(answer.status, 0) + 1
-    if count >= 1000 and min(statuses.get(0, 0), statuses.get(1, 0)) * 20 < count:
-        print(f"structured: too few of a kind: {statuses}")
+        held, wrong = read_back(layouts, dice, string, text, it) if answer.status == 0 else (0, None)
+        if wrong:
+            print(f"structured: {string!r}, {text}: {wrong}")
+            return 1
+        values += held
+    if count >= 1000 and min(statuses.get(0, 0), statuses.get(1, 0), values) * 20 < count:
+        print(f"structured: too few of a kind: {statuses}, and {values} values")
         return 1
-    print(f"structured: {count} types have one layout by text and by numbers: {statuses.get(0, 0)} laid out, {statuses.get(1, 0)} refused")
+    print(f"structured: {count} types have one layout by text and by numbers: {statuses.get(0, 0)} laid out, {statuses.get(1, 0)} refused; "
+          f"{values} values were read from what was written of them")
     return 0
 
 

@@ -1,12 +1,13 @@
-/* Type layouts: the calculator of `./layout` and `./map` as two calls, text in and text out, and one by numbers.
+/* Type layouts: the calculator of `./layout` and `./map` as two calls, text in and text out, and three by numbers: of
+   layouts, and of values and their bytes.
    docs/EMBEDDING.md has how it is linked, docs/FORMATS.md the format of inputs and answers, docs/NUMBERS.md the numbers.
 
    Of all calls:
    - Of those over text the input is two lines, a data layout string and a type. It is any bytes, needs no 0 at its end,
      and is only read.
    - The caller owns all memory, before and after. A call keeps no pointer, and frees what it takes for itself.
-   - No pointer may be null, even beside a length of 0. What is written, `output` or `layout` and `needed`, may overlap
-     nothing else that is handed in.
+   - No pointer may be null, even beside a length of 0. What is written, `needed` and the room before it (`output`, `layout`,
+     `bytes` or `value`), may overlap nothing else that is handed in.
    - Calls share nothing: threads may call at once, each with an `output` and a `needed` of its own. No call is made
      from a signal handler. Memory is from malloc, realloc and free. A call wants stack, more for a deeper type: 2 MB were
      enough for types nested as deep as can be. */
@@ -22,11 +23,12 @@ extern "C" {
 
 /* The status of an answer. */
 enum {
-    RUSTC_ABI_LAID_OUT = 0,  /* the type has a layout, and the text tells it */
-    RUSTC_ABI_REFUSED = 1,   /* it has none, as for a type nested too deep, or memory was wanting; the text is
-                                `refused NAME`, and `refused OutOfMemory` of memory alone */
-    RUSTC_ABI_UNREADABLE = 2 /* a text can't be read; the text is `unreadable word N`, of the type's line, and of 0
-                                where one of the two lines isn't UTF-8; or numbers can't be */
+    RUSTC_ABI_LAID_OUT = 0,   /* the type has a layout, and the text tells it; or a value was written or read */
+    RUSTC_ABI_REFUSED = 1,    /* it has none, as for a type nested too deep, or memory was wanting; the text is
+                                 `refused NAME`, and `refused OutOfMemory` of memory alone */
+    RUSTC_ABI_UNREADABLE = 2, /* a text can't be read; the text is `unreadable word N`, of the type's line, and of 0
+                                 where one of the two lines isn't UTF-8; or numbers can't be */
+    RUSTC_ABI_NO_VALUE = 3    /* the value is none of the type's, or the bytes hold none of them */
 };
 
 /* The first number of a type: what it is. What follows is told in docs/NUMBERS.md. */
@@ -42,6 +44,16 @@ enum {
     RUSTC_ABI_UNION = 8,   /* repr, count, types */
     RUSTC_ABI_ENUM = 9,    /* repr, count, and for each variant its discriminant, count, types */
     RUSTC_ABI_COROUTINE = 10
+};
+
+/* The first number of a value: what it is. */
+enum {
+    RUSTC_ABI_NUMBER = 0,  /* a number, in two, low half first */
+    RUSTC_ABI_TWO = 1,     /* two numbers, in two each */
+    RUSTC_ABI_LIST = 2,    /* count, values: elements, lanes or fields */
+    RUSTC_ABI_VARIANT = 3, /* index, count, values */
+    RUSTC_ABI_STATE = 4,   /* index, count, prefix fields, count, locals */
+    RUSTC_ABI_BYTES = 5    /* of a union: count, bytes, each a number */
 };
 
 /* The number that is lent beside `RUSTC_ABI_REFUSED`: why a type has no layout, or what is wrong with a string. */
@@ -73,8 +85,9 @@ enum {
 
 /* The number that is lent beside `RUSTC_ABI_UNREADABLE`. */
 enum {
-    RUSTC_ABI_NOT_UTF8 = 0, /* the data layout string isn't UTF-8 */
-    RUSTC_ABI_NO_TYPE = 1   /* no type has the numbers that is nested in at most 200 others */
+    RUSTC_ABI_NOT_UTF8 = 0,  /* the data layout string isn't UTF-8 */
+    RUSTC_ABI_NO_TYPE = 1,   /* no type has the numbers that is nested in at most 200 others */
+    RUSTC_ABI_NOT_VALUED = 2 /* no value has the numbers that is nested in at most 200 others */
 };
 
 /* A scalar in a layout. A number of 128 bits is two, low half first. */
@@ -132,6 +145,22 @@ uint8_t abi_c_map(const uint8_t *input, size_t input_len, uint8_t *output, size_
    `*needed` numbers gets them. */
 uint8_t abi_c_lay_out(const uint8_t *data_layout, size_t data_layout_len, const uint64_t *type, size_t type_len,
                       uint64_t *layout, size_t layout_len, size_t *needed);
+
+/* Writes the value that has these numbers, of the type that has these. Answers the status. What is lent are the bytes
+   that hold the value, as many as the type is large, with 0 wherever no part of it covers one; beside
+   `RUSTC_ABI_NO_VALUE` it is nothing, beside `RUSTC_ABI_REFUSED` and `RUSTC_ABI_UNREADABLE` one byte, which of them.
+
+   `*needed` and `bytes` are as `*needed` and `layout` of `abi_c_lay_out`, in bytes. */
+uint8_t abi_c_write_value(const uint8_t *data_layout, size_t data_layout_len, const uint64_t *type, size_t type_len,
+                          const uint64_t *value, size_t value_len, uint8_t *bytes, size_t bytes_len, size_t *needed);
+
+/* Reads the value that these bytes hold, of the type that has these numbers. Answers the status. What is lent are the
+   value's numbers; beside `RUSTC_ABI_NO_VALUE`, as of bytes that aren't as many as the type is large, it is nothing,
+   beside `RUSTC_ABI_REFUSED` and `RUSTC_ABI_UNREADABLE` one number, which of them.
+
+   `*needed` and `value` are as `*needed` and `layout` of `abi_c_lay_out`. */
+uint8_t abi_c_read_value(const uint8_t *data_layout, size_t data_layout_len, const uint64_t *type, size_t type_len,
+                         const uint8_t *bytes, size_t bytes_len, uint64_t *value, size_t value_len, size_t *needed);
 
 #ifdef __cplusplus
 }

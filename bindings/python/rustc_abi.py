@@ -1,13 +1,14 @@
 """Type layouts: the calculator of `./layout` and `./map` over the shared library, by text and by objects.
 
     import rustc_abi
-    from rustc_abi import Type, U8, U32
+    from rustc_abi import Many, Number, Type, U8, U32
 
     layouts = rustc_abi.load("target/librustc_abi.so")
     answer = layouts.layout("e-p:64:64-i64:64", "struct - ( u8 u32 )")
     print(answer.status, answer.text)
     layout = layouts.lay_out("e-p:64:64-i64:64", Type.struct([U8, U32]))
     print(layout.size, layout.fields.offsets, layout.padding)
+    written = layouts.write_value("e-p:64:64-i64:64", Type.struct([U8, U32]), Many((Number(7), Number(8))))
 
 docs/FORMATS.md has the format of types and of answers, docs/NUMBERS.md the numbers behind the objects.
 """
@@ -54,10 +55,9 @@ class Layouts:
         library = ctypes.CDLL(path)
         self._layout = _declared(library.abi_c_layout)
         self._map = _declared(library.abi_c_map)
-        self._lay_out = library.abi_c_lay_out
-        self._lay_out.restype = ctypes.c_uint8
-        self._lay_out.argtypes = [ctypes.c_char_p, ctypes.c_size_t, ctypes.c_void_p, ctypes.c_size_t, ctypes.c_void_p, ctypes.c_size_t,
-                                  ctypes.POINTER(ctypes.c_size_t)]
+        self._lay_out = _declared(library.abi_c_lay_out, 2)
+        self._write_value = _declared(library.abi_c_write_value, 3)
+        self._read_value = _declared(library.abi_c_read_value, 3)
 
     def layout(self, data_layout: str, type: str) -> Answer:
         """The size, the alignment, the offsets, the variants, the niche and the padding of a type.
@@ -82,27 +82,40 @@ class Layouts:
     def lay_out(self, data_layout: Union[str, bytes], type: Type) -> Layout:
         """The layout of a type. `Refused` where it has none, `Unreadable` where the string isn't UTF-8, or the type is nested in more than 200
         others or has a number that is none of its kind's."""
-        status, numbers = self.lay_out_numbers(data_layout.encode() if isinstance(data_layout, str) else data_layout, type.numbers)
-        if status == 1:
-            raise Refused(numbers[0])
-        if status == 2:
-            raise Unreadable(("the data layout string isn't UTF-8", "no type has these numbers")[numbers[0]])
+        status, numbers = self.lay_out_numbers(_encoded(data_layout), type.numbers)
+        _raise_for(status, numbers)
         return _layout_of(numbers)
+
+    def write_value(self, data_layout: Union[str, bytes], type: Type, value: Value) -> bytes:
+        """The bytes that hold a value of a type, with 0 wherever no part of it covers one. `NotAValue` where it is none of the type's; else as
+        `lay_out`, and `Unreadable` of a value that is nested in more than 200 others, too."""
+        status, numbers = self.write_value_numbers(_encoded(data_layout), type.numbers, value.numbers)
+        if status == 3:
+            raise NotAValue("the value is none of the type's")
+        _raise_for(status, numbers)
+        return bytes(numbers)
+
+    def read_value(self, data_layout: Union[str, bytes], type: Type, content: bytes) -> Optional[Value]:
+        """The value of a type that the bytes hold; `None` where they hold none, as where they aren't as many as the type is large. Else as
+        `lay_out`."""
+        status, numbers = self.read_value_numbers(_encoded(data_layout), type.numbers, content)
+        if status == 3:
+            return None
+        _raise_for(status, numbers)
+        return _value_of(numbers)
 
     def lay_out_numbers(self, data_layout: bytes, numbers: Sequence[int]) -> tuple[int, list[int]]:
         """The status and the numbers that are answered to a data layout string and the numbers of a type, as docs/NUMBERS.md tells them.
         `ValueError` where a number has more than 64 bits."""
-        for it in numbers:
-            if not 0 <= it < 1 << 64:
-                raise ValueError(f"{it} has more than 64 bits")
-        asked, room, needed = (ctypes.c_uint64 * max(1, len(numbers)))(*numbers), 256, ctypes.c_size_t()
-        while True:
-            output = (ctypes.c_uint64 * room)()
-            status = self._lay_out(data_layout, len(data_layout), asked, len(numbers), output, room, ctypes.byref(needed))
-            if needed.value <= room:
-                return status, output[: needed.value]
-            # (nothing was written: once more, with room for all)
-            room = needed.value
+        return _lent(self._lay_out, ctypes.c_uint64, data_layout, _words(numbers))
+
+    def write_value_numbers(self, data_layout: bytes, numbers: Sequence[int], value: Sequence[int]) -> tuple[int, list[int]]:
+        """The same of a value, by its numbers: the status, and its bytes."""
+        return _lent(self._write_value, ctypes.c_uint8, data_layout, _words(numbers), _words(value))
+
+    def read_value_numbers(self, data_layout: bytes, numbers: Sequence[int], content: bytes) -> tuple[int, list[int]]:
+        """The same of bytes: the status, and the numbers of the value that they hold."""
+        return _lent(self._read_value, ctypes.c_uint64, data_layout, _words(numbers), (ctypes.c_uint8 * len(content))(*content))
 
 
 # ---- types
@@ -129,6 +142,10 @@ class Refused(Exception):
 
 class Unreadable(Exception):
     """The string or the numbers can't be read."""
+
+
+class NotAValue(Exception):
+    """The value is none of the type's."""
 
 
 @dataclass(frozen=True)
@@ -285,6 +302,113 @@ BOOL = Type.scalar(Scalar(Primitive(0, 0), 0, 1))
 CHAR = Type.scalar(Scalar(Primitive(0, 2), 0, 0x10FFFF))
 
 
+# ---- values
+
+@dataclass(frozen=True)
+class Number:
+    """A number of a scalar."""
+
+    number: int
+
+    @property
+    def numbers(self) -> tuple[int, ...]:
+        return (0, *_wide(self.number))
+
+
+@dataclass(frozen=True)
+class Two:
+    """The numbers of two scalars."""
+
+    first: int
+    second: int
+
+    @property
+    def numbers(self) -> tuple[int, ...]:
+        return (1, *_wide(self.first), *_wide(self.second))
+
+
+@dataclass(frozen=True)
+class Many:
+    """Values of elements, lanes or fields."""
+
+    values: tuple[Value, ...]
+
+    @property
+    def numbers(self) -> tuple[int, ...]:
+        return (2, *_values(self.values))
+
+
+@dataclass(frozen=True)
+class Variant:
+    """A variant of an enum, by its index, with the values of its fields."""
+
+    index: int
+    values: tuple[Value, ...]
+
+    @property
+    def numbers(self) -> tuple[int, ...]:
+        return (3, self.index, *_values(self.values))
+
+
+@dataclass(frozen=True)
+class State:
+    """A state of a coroutine, by its index, with the values of the prefix fields and of the state's locals."""
+
+    index: int
+    prefix: tuple[Value, ...]
+    locals: tuple[Value, ...]
+
+    @property
+    def numbers(self) -> tuple[int, ...]:
+        return (4, self.index, *_values(self.prefix), *_values(self.locals))
+
+
+@dataclass(frozen=True)
+class Shared:
+    """The data bytes of a union."""
+
+    content: bytes
+
+    @property
+    def numbers(self) -> tuple[int, ...]:
+        return (5, len(self.content), *self.content)
+
+
+Value = Union[Number, Two, Many, Variant, State, Shared]
+
+
+def _values(values: Iterable[Value]) -> tuple[int, ...]:
+    all = list(values)
+    return (len(all), *(n for it in all for n in it.numbers))
+
+
+def _value_of(numbers: Sequence[int]) -> Value:
+    rest = iter(numbers)
+
+    def wide() -> int:
+        low = next(rest)
+        return low + (next(rest) << 64)
+
+    def many() -> tuple[Value, ...]:
+        return tuple(one() for _ in range(next(rest)))
+
+    def one() -> Value:
+        kind = next(rest)
+        if kind == 0:
+            return Number(wide())
+        if kind == 1:
+            return Two(wide(), wide())
+        if kind == 2:
+            return Many(many())
+        if kind == 3:
+            return Variant(next(rest), many())
+        if kind == 4:
+            return State(next(rest), many(), many())
+        return Shared(bytes(next(rest) for _ in range(next(rest))))
+
+    return one()
+
+
 # ---- layouts
 
 @dataclass(frozen=True)
@@ -414,12 +538,43 @@ def load(path: str) -> Layouts:
     return Layouts(path)
 
 
-def _declared(call: Any) -> Any:
-    """A call of the library with the types that `rustc_abi.h` declares."""
+def _declared(call: Any, given: int = 1) -> Any:
+    """A call of the library with the types that `rustc_abi.h` declares: so many lists that are read, and one that is written."""
     call.restype = ctypes.c_uint8
     # (of bytes an empty one is no null pointer, too)
-    call.argtypes = [ctypes.c_char_p, ctypes.c_size_t, ctypes.c_void_p, ctypes.c_size_t, ctypes.POINTER(ctypes.c_size_t)]
+    call.argtypes = [ctypes.c_char_p, ctypes.c_size_t, *(ctypes.c_void_p, ctypes.c_size_t) * given, ctypes.POINTER(ctypes.c_size_t)]
     return call
+
+
+def _encoded(data_layout: Union[str, bytes]) -> bytes:
+    return data_layout.encode() if isinstance(data_layout, str) else data_layout
+
+
+def _words(numbers: Sequence[int]) -> Any:
+    for it in numbers:
+        if not 0 <= it < 1 << 64:
+            raise ValueError(f"{it} has more than 64 bits")
+    return (ctypes.c_uint64 * len(numbers))(*numbers)
+
+
+def _lent(call: Any, lent: Any, data_layout: bytes, *given: Any) -> tuple[int, list[int]]:
+    """The status, and what a call lends."""
+    room, needed = 256, ctypes.c_size_t()
+    asked = [it for list in given for it in (list, len(list))]
+    while True:
+        output = (lent * room)()
+        status = call(data_layout, len(data_layout), *asked, output, room, ctypes.byref(needed))
+        if needed.value <= room:
+            return status, output[: needed.value]
+        # (nothing was written: once more, with room for all)
+        room = needed.value
+
+
+def _raise_for(status: int, numbers: Sequence[int]) -> None:
+    if status == 1:
+        raise Refused(numbers[0])
+    if status == 2:
+        raise Unreadable(("the data layout string isn't UTF-8", "no type has these numbers", "no value has these numbers")[numbers[0]])
 
 
 def _input(data_layout: str, type: str) -> bytes:

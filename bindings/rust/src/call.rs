@@ -5,7 +5,7 @@ use crate::Answer;
 /// A room that is enough for most answers, in bytes.
 const ROOM: usize = 4096;
 
-/// A room that is enough for most layouts, in numbers.
+/// A room that is enough for most layouts and values, in numbers, or bytes of a value.
 const NUMBERS: usize = 256;
 
 // As `rustc_abi.h` declares them, which nothing checks.
@@ -19,6 +19,28 @@ extern "C" {
         ty_len: usize,
         layout: *mut u64,
         layout_len: usize,
+        needed: *mut usize,
+    ) -> u8;
+    fn abi_c_write_value(
+        data_layout: *const u8,
+        data_layout_len: usize,
+        ty: *const u64,
+        ty_len: usize,
+        value: *const u64,
+        value_len: usize,
+        bytes: *mut u8,
+        bytes_len: usize,
+        needed: *mut usize,
+    ) -> u8;
+    fn abi_c_read_value(
+        data_layout: *const u8,
+        data_layout_len: usize,
+        ty: *const u64,
+        ty_len: usize,
+        bytes: *const u8,
+        bytes_len: usize,
+        value: *mut u64,
+        value_len: usize,
         needed: *mut usize,
     ) -> u8;
 }
@@ -58,19 +80,49 @@ pub(crate) fn asked(call: Call, input: &[u8]) -> Answer {
     }
 }
 
-/// The status and the numbers that are answered to the numbers of a type.
-pub(crate) fn lay_out(data_layout: &[u8], ty: &[u64]) -> (u8, Vec<u64>) {
-    let (mut layout, mut needed) = (vec![0; NUMBERS], 0);
+/// The status and what a call lends: the call is handed the room, and where it tells how much there is.
+fn lent<T: Copy + Default>(call: impl Fn(&mut [T], &mut usize) -> u8) -> (u8, Vec<T>) {
+    let (mut room, mut needed) = (vec![T::default(); NUMBERS], 0);
     loop {
-        // SAFETY: as in `layout`; no slice overlaps another, and `layout` alone is written, inside it.
-        let status = unsafe {
-            abi_c_lay_out(data_layout.as_ptr(), data_layout.len(), ty.as_ptr(), ty.len(), layout.as_mut_ptr(), layout.len(), &mut needed)
-        };
-        if needed <= layout.len() {
-            layout.truncate(needed);
-            return (status, layout);
+        let status = call(&mut room, &mut needed);
+        if needed <= room.len() {
+            room.truncate(needed);
+            return (status, room);
         }
         // (nothing was written: once more, with room for all)
-        layout.resize(needed, 0);
+        room.resize(needed, T::default());
     }
+}
+
+/// The status and the numbers that are answered to the numbers of a type.
+pub(crate) fn lay_out(data_layout: &[u8], ty: &[u64]) -> (u8, Vec<u64>) {
+    lent(|room: &mut [u64], needed| {
+        let string = data_layout;
+        // SAFETY: as in `layout`; no slice overlaps another, and `room` alone is written, inside it.
+        unsafe { abi_c_lay_out(string.as_ptr(), string.len(), ty.as_ptr(), ty.len(), room.as_mut_ptr(), room.len(), needed) }
+    })
+}
+
+/// The status and the bytes that are answered to the numbers of a type and of a value.
+pub(crate) fn write_value(data_layout: &[u8], ty: &[u64], value: &[u64]) -> (u8, Vec<u8>) {
+    lent(|room: &mut [u8], needed| {
+        let string = data_layout;
+        // SAFETY: as in `lay_out`.
+        unsafe {
+            let (value, count) = (value.as_ptr(), value.len());
+            abi_c_write_value(string.as_ptr(), string.len(), ty.as_ptr(), ty.len(), value, count, room.as_mut_ptr(), room.len(), needed)
+        }
+    })
+}
+
+/// The status and the numbers of a value that are answered to the numbers of a type and to bytes.
+pub(crate) fn read_value(data_layout: &[u8], ty: &[u64], bytes: &[u8]) -> (u8, Vec<u64>) {
+    lent(|room: &mut [u64], needed| {
+        let string = data_layout;
+        // SAFETY: as in `lay_out`.
+        unsafe {
+            let (bytes, count) = (bytes.as_ptr(), bytes.len());
+            abi_c_read_value(string.as_ptr(), string.len(), ty.as_ptr(), ty.len(), bytes, count, room.as_mut_ptr(), room.len(), needed)
+        }
+    })
 }

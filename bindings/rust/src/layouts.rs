@@ -13,14 +13,16 @@ impl DataLayout {
     }
 }
 
-/// Why a type has no layout.
+/// Why a type has no layout, or a value no bytes.
 #[derive(Clone, Copy, Debug, PartialEq, Eq)]
 pub enum Error {
     /// It is refused, or the data layout string is, by the name that `refused NAME` has.
     Refused(&'static str),
     /// No type nested in at most 200 others has the numbers: it is nested too deep, or an alignment is no power of two up
-    /// to 2^29.
+    /// to 2^29; or a value is.
     Unreadable,
+    /// The value is none of the type's.
+    NotAValue,
 }
 
 impl fmt::Display for Error {
@@ -28,6 +30,7 @@ impl fmt::Display for Error {
         match self {
             Error::Refused(name) => write!(f, "refused {name}"),
             Error::Unreadable => f.write_str("unreadable"),
+            Error::NotAValue => f.write_str("not a value"),
         }
     }
 }
@@ -168,8 +171,15 @@ pub fn lay_out(data_layout: &DataLayout, ty: &Type) -> Result<Layout, Error> {
     let (status, numbers) = crate::call::lay_out(data_layout.0.as_bytes(), &ty.numbers());
     match status {
         0 => Ok(Numbers(numbers.iter()).layout()),
-        1 => Err(Error::Refused(refusal(numbers[0]))),
-        _ => Err(Error::Unreadable),
+        _ => Err(failed(status, numbers[0])),
+    }
+}
+
+/// What is told by the status of a type without a layout, and the number beside it.
+pub(crate) fn failed(status: u8, number: u64) -> Error {
+    match status {
+        1 => Error::Refused(refusal(number)),
+        _ => Error::Unreadable,
     }
 }
 
@@ -178,15 +188,15 @@ fn refusal(number: u64) -> &'static str {
     REFUSED.get(number).or_else(|| FLAWED.get(number.wrapping_sub(32))).copied().unwrap_or("")
 }
 
-/// The numbers of a layout that are left.
-struct Numbers<'a>(slice::Iter<'a, u64>);
+/// The numbers of a layout, or of a value, that are left.
+pub(crate) struct Numbers<'a>(pub(crate) slice::Iter<'a, u64>);
 
 impl Numbers<'_> {
-    fn one(&mut self) -> u64 {
-        *self.0.next().expect("a layout has all its numbers")
+    pub(crate) fn one(&mut self) -> u64 {
+        *self.0.next().expect("an answer has all its numbers")
     }
 
-    fn wide(&mut self) -> u128 {
+    pub(crate) fn wide(&mut self) -> u128 {
         u128::from(self.one()) + (u128::from(self.one()) << 64)
     }
 

@@ -1,5 +1,5 @@
 //! Type layouts: the calculator of `./layout` and `./map` over the archive `librustc_abi.a`, text in and text out, and
-//! [`lay_out`], by values of Rust.
+//! [`lay_out`], [`write_value`] and [`read_value`], by values of Rust.
 //!
 //! ```
 //! let answer = rustc_abi_text::layout("e-p:64:64-i64:64", "struct C ( u8 u32 )");
@@ -14,9 +14,11 @@
 mod call;
 mod layouts;
 mod types;
+mod values;
 
 pub use layouts::{lay_out, BackendRepr, DataLayout, Error, Fields, Layout, Niche, TagEncoding, VariantLayout, Variants};
 pub use types::{Float, Integer, IntegerType, Primitive, Repr, ScalableElt, Scalar, Type, WrappingRange};
+pub use values::{read_value, write_value, Value};
 
 use std::fmt;
 

@@ -143,7 +143,7 @@ impl Type {
     }
 }
 
-fn add_wide(out: &mut Vec<u64>, number: u128) {
+pub(crate) fn add_wide(out: &mut Vec<u64>, number: u128) {
     out.extend([number as u64, (number >> 64) as u64]);
 }
 

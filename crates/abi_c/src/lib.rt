@@ -4,18 +4,22 @@
 // Texts and numbers in memory that a caller lends.
 mod lend;
 
-// Layouts as numbers.
+// Layouts as numbers, and values.
 mod flat;
+mod laid_type;
+mod values;
 
 ghost use Rattle.std.specs.Prelude.{◌≡◌, ℕ, List};
 ghost use Rattle.abi_text.specs.Output.{IsOutputOf, Output};
 ghost use Rattle.abi_text.specs.Telling.{TellsLayout};
 ghost use Rattle.abi_map.specs.Map.{TellsMap};
 ghost use Rattle.abi_c.specs.Flat.{IsLayoutTold, IsLentTold};
+ghost use Rattle.abi_c.specs.FlatValues.{IsReadOf, IsToldOfLaid, IsWrittenOf};
 ghost use Rattle.abi_c.specs.Lent.{IsLentAnswer};
 
 use crate::flat::answer_numbers;
 use crate::lend::lend;
+use crate::values::{answer_read, answer_write};
 use abi_map::MapText;
 use abi_text::{LayoutText, Telling, answer_input};
 use std::alloc::Global;
@@ -94,6 +98,66 @@ pub extern "C" fn abi_c_lay_out(
         }
         Err(_) => {
             lend(&[0u64], layout, needed);
+            1
+        }
+    }
+}
+
+/// Writes the value with these numbers, of the type with these, and answers the status: 0 where the value is one of the
+/// type's, and then the bytes that hold it are lent; 3 where it is none, and then nothing is; 2 with the byte 2 where no
+/// value has the numbers; and else the status of `abi_c_lay_out`, with its number as a byte.
+///
+/// `needed` is how many bytes there are. They stand at the front of `bytes` where they fit, and nothing behind them
+/// changes; else `bytes` stays as it was. Where memory is wanting the status is 1, and the byte 0.
+#[unsafe(no_mangle)]
+pub extern "C" fn abi_c_write_value(
+    alloc: Global,
+    data_layout: &[u8],
+    tree: &[u64],
+    value: &[u64],
+    bytes: &mut [u8],
+    needed: &mut usize,
+) -> u8
+    ensures { IsLentTold (IsToldOfLaid (IsWrittenOf value.now) data_layout.now tree.now)
+        result bytes.old bytes.new needed.new }
+{
+    match answer_write(alloc, data_layout, tree, value) {
+        Ok(answer) => {
+            lend(answer.bytes.as_slice(), bytes, needed);
+            answer.status
+        }
+        Err(_) => {
+            lend(&[0u8], bytes, needed);
+            1
+        }
+    }
+}
+
+/// Reads the value that these bytes hold, of the type with these numbers, and answers the status: 0 where they hold one,
+/// and then its numbers are lent; 3 where they hold none, and then nothing is; and else the status of `abi_c_lay_out`,
+/// with its number.
+///
+/// `needed` is how many numbers there are. They stand at the front of `value` where they fit, and nothing behind them
+/// changes; else `value` stays as it was. Where memory is wanting the status is 1, and the number 0.
+#[unsafe(no_mangle)]
+pub extern "C" fn abi_c_read_value(
+    alloc: Global,
+    data_layout: &[u8],
+    tree: &[u64],
+    bytes: &[u8],
+    value: &mut [u64],
+    needed: &mut usize,
+) -> u8
+    ensures { IsLentTold (IsToldOfLaid (IsReadOf bytes.now) data_layout.now tree.now)
+        result value.old value.new needed.new }
+{
+    match answer_read(alloc, data_layout, tree, bytes) {
+        Ok(answer) => {
+            lend(answer.numbers.as_slice(), value, needed);
+            answer.status
+        }
+        Err(_) => {
+            lend(&[0u64], value, needed);
             1
         }
     }

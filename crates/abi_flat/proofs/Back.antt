@@ -24,8 +24,8 @@ use Rattle.abi_scalar.specs.declared.scalar.Scalar.TheVariants.{Initialized, Uni
 use Rattle.abi_laid.specs.Tree.{Tree, scalar, pair, never, unit, array, vector, struct, union, enum, coroutine, trees, Trees, no_trees, more_trees, Variants, no_variants, more_variants}
 use Rattle.abi_flat.specs.Pieces.{◌>>=◌, Front, flat_bool, flat_wide, bool_numbered, front_as, front_list, front_many, front_two, front_wide, front_word, front_words, halves}
 use Rattle.abi_flat.specs.FlatScalar.{IsPrimitive, IsScalar, flat_primitive, flat_scalar, front_primitive, front_range, front_scalar}
-use Rattle.abi_flat.specs.FlatTree.{AreReadable, AreReadableVariants, IsReadable, flat_each, flat_pairs, flat_tree, flat_trees, flat_variants, tree_count, variant_count}
-use Rattle.abi_flat.specs.FrontTree.{front_node, front_tree, front_variant, variants_in}
+use Rattle.abi_flat.specs.FlatTree.{AreReadable, AreReadableVariants, IsReadable, flat_each, flat_pairs, flat_tree, flat_trees, flat_variants, count_of_trees, count_of_variants}
+use Rattle.abi_flat.specs.FrontTree.{front_node, front_tree, front_variant, variants_of_items}
 use Rattle.abi_flat.specs.FlatRepr.{IsAlign, IsRepr, IsScalable, align_numbered, flags_numbered, flat_align, flat_int, flat_repr, flat_scalable, front_repr, int_numbered, scalable_numbered, some_align}
 
 pub bool_back : (b : Bool) → bool_numbered (flat_bool b) ≡ Some b
@@ -197,18 +197,18 @@ abbrev pub listed_variants : Variants → List (ℕ × List Tree)
 listed_variants no_variants = []
 listed_variants (more_variants d ts vs) = (d, listed ts) ∷ listed_variants vs
 
-pub variants_listed : (vs : Variants) → variants_in (listed_variants vs) ≡ vs
+pub variants_listed : (vs : Variants) → variants_of_items (listed_variants vs) ≡ vs
 variants_listed no_variants = refl
-variants_listed (more_variants d ts vs) = ap (λ l. more_variants d l (variants_in (listed_variants vs))) (trees_listed ts) ∙ ap (more_variants d ts) (variants_listed vs)
+variants_listed (more_variants d ts vs) = ap (λ l. more_variants d l (variants_of_items (listed_variants vs))) (trees_listed ts) ∙ ap (more_variants d ts) (variants_listed vs)
 
 module _ (inner : Front Tree) where
   -- such types stand before the rest
   abbrev pub AreBefore : Trees → (rest : List ℕ) → Type 0
-  AreBefore ts rest = front_many inner (tree_count ts) (flat_trees ts ++ rest) ≡ Some (listed ts, rest)
+  AreBefore ts rest = front_many inner (count_of_trees ts) (flat_trees ts ++ rest) ≡ Some (listed ts, rest)
 
   -- such variants do
   abbrev pub AreVariantsBefore : Variants → (rest : List ℕ) → Type 0
-  AreVariantsBefore vs rest = front_many (front_variant inner) (variant_count vs) (flat_variants vs ++ rest) ≡ Some (listed_variants vs, rest)
+  AreVariantsBefore vs rest = front_many (front_variant inner) (count_of_variants vs) (flat_variants vs ++ rest) ≡ Some (listed_variants vs, rest)
 
   pair_back : (a b : Scalar) → IsScalar a → IsScalar b → (rest : List ℕ) → front_node inner (flat_tree (pair a b) ++ rest) ≡ Some (pair a b, rest)
   pair_back a b ha hb rest =
@@ -227,8 +227,8 @@ module _ (inner : Front Tree) where
       → front_node inner (flat_tree (struct repr sized None ts) ++ rest) ≡ Some (struct repr sized None ts, rest)
   struct_back repr sized ts rest h e =
       ap (λ o. o >>= λ r. front_as bool_numbered r.1 >>= λ s. front_list inner s.1 >>= λ us. Some (struct r.0 s.0 None (trees us.0), us.1))
-      (repr_back repr h (flat_bool sized ∷ tree_count ts ∷ (flat_trees ts ++ rest)))
-      ∙ ap (λ o. o >>= λ s. front_list inner s.1 >>= λ us. Some (struct repr s.0 None (trees us.0), us.1)) (as_back bool_numbered (flat_bool sized) sized (tree_count ts ∷ (flat_trees ts ++ rest)) (bool_back sized))
+      (repr_back repr h (flat_bool sized ∷ count_of_trees ts ∷ (flat_trees ts ++ rest)))
+      ∙ ap (λ o. o >>= λ s. front_list inner s.1 >>= λ us. Some (struct repr s.0 None (trees us.0), us.1)) (as_back bool_numbered (flat_bool sized) sized (count_of_trees ts ∷ (flat_trees ts ++ rest)) (bool_back sized))
       ∙ ap (λ o. o >>= λ us. Some (struct repr sized None (trees us.0), us.1)) e
       ∙ ap (λ us. Some (struct repr sized None us, rest)) (trees_listed ts)
 
@@ -236,25 +236,25 @@ module _ (inner : Front Tree) where
       → front_node inner (flat_tree (struct repr sized (Some order) ts) ++ rest) ≡ Some (struct repr sized (Some order) ts, rest)
   ordered_back repr sized order ts rest h e =
       ap (λ o. o >>= λ r. front_as bool_numbered r.1 >>= λ s. front_words s.1 >>= λ os. front_list inner os.1 >>= λ us. Some (struct r.0 s.0 (Some os.0) (trees us.0), us.1))
-      (repr_back repr h (flat_bool sized ∷ length order ∷ (order ++ tree_count ts ∷ flat_trees ts ++ rest)))
-      ∙ ap (λ o. o >>= λ s. front_words s.1 >>= λ os. front_list inner os.1 >>= λ us. Some (struct repr s.0 (Some os.0) (trees us.0), us.1)) (as_back bool_numbered (flat_bool sized) sized (length order ∷ (order ++ tree_count ts ∷ flat_trees ts ++ rest)) (bool_back sized))
-      ∙ ap (λ l. front_many front_word (length order) l >>= λ os. front_list inner os.1 >>= λ us. Some (struct repr sized (Some os.0) (trees us.0), us.1)) (append_assoc order (tree_count ts ∷ flat_trees ts) rest)
-      ∙ ap (λ o. o >>= λ os. front_list inner os.1 >>= λ us. Some (struct repr sized (Some os.0) (trees us.0), us.1)) (words_back order (tree_count ts ∷ (flat_trees ts ++ rest)))
+      (repr_back repr h (flat_bool sized ∷ length order ∷ (order ++ count_of_trees ts ∷ flat_trees ts ++ rest)))
+      ∙ ap (λ o. o >>= λ s. front_words s.1 >>= λ os. front_list inner os.1 >>= λ us. Some (struct repr s.0 (Some os.0) (trees us.0), us.1)) (as_back bool_numbered (flat_bool sized) sized (length order ∷ (order ++ count_of_trees ts ∷ flat_trees ts ++ rest)) (bool_back sized))
+      ∙ ap (λ l. front_many front_word (length order) l >>= λ os. front_list inner os.1 >>= λ us. Some (struct repr sized (Some os.0) (trees us.0), us.1)) (append_assoc order (count_of_trees ts ∷ flat_trees ts) rest)
+      ∙ ap (λ o. o >>= λ os. front_list inner os.1 >>= λ us. Some (struct repr sized (Some os.0) (trees us.0), us.1)) (words_back order (count_of_trees ts ∷ (flat_trees ts ++ rest)))
       ∙ ap (λ o. o >>= λ us. Some (struct repr sized (Some order) (trees us.0), us.1)) e
       ∙ ap (λ us. Some (struct repr sized (Some order) us, rest)) (trees_listed ts)
 
   union_back : (repr : ReprOptions) (ts : Trees) (rest : List ℕ) → IsRepr repr → AreBefore ts rest
       → front_node inner (flat_tree (union repr ts) ++ rest) ≡ Some (union repr ts, rest)
   union_back repr ts rest h e =
-      ap (λ o. o >>= λ r. front_list inner r.1 >>= λ us. Some (union r.0 (trees us.0), us.1)) (repr_back repr h (tree_count ts ∷ (flat_trees ts ++ rest)))
+      ap (λ o. o >>= λ r. front_list inner r.1 >>= λ us. Some (union r.0 (trees us.0), us.1)) (repr_back repr h (count_of_trees ts ∷ (flat_trees ts ++ rest)))
       ∙ ap (λ o. o >>= λ us. Some (union repr (trees us.0), us.1)) e
       ∙ ap (λ us. Some (union repr us, rest)) (trees_listed ts)
 
   enum_back : (repr : ReprOptions) (vs : Variants) (rest : List ℕ) → IsRepr repr → AreVariantsBefore vs rest
       → front_node inner (flat_tree (enum repr vs) ++ rest) ≡ Some (enum repr vs, rest)
   enum_back repr vs rest h e =
-      ap (λ o. o >>= λ r. front_list (front_variant inner) r.1 >>= λ us. Some (enum r.0 (variants_in us.0), us.1)) (repr_back repr h (variant_count vs ∷ (flat_variants vs ++ rest)))
-      ∙ ap (λ o. o >>= λ us. Some (enum repr (variants_in us.0), us.1)) e
+      ap (λ o. o >>= λ r. front_list (front_variant inner) r.1 >>= λ us. Some (enum r.0 (variants_of_items us.0), us.1)) (repr_back repr h (count_of_variants vs ∷ (flat_variants vs ++ rest)))
+      ∙ ap (λ o. o >>= λ us. Some (enum repr (variants_of_items us.0), us.1)) e
       ∙ ap (λ us. Some (enum repr us, rest)) (variants_listed vs)
 
   coroutine_back : (prefix locals : Trees) (states : List (List ℕ)) (conflicts : List (ℕ × ℕ)) (rest : List ℕ)
@@ -263,12 +263,12 @@ module _ (inner : Front Tree) where
   coroutine_back prefix locals states conflicts rest hp hl =
       let c : List ℕ = length conflicts ∷ (flat_pairs conflicts ++ rest) in
       let s : List ℕ = length states ∷ (flat_each states ++ c) in
-      let l : List ℕ = tree_count locals ∷ (flat_trees locals ++ s) in
-      ap (λ ns. front_many inner (tree_count prefix) ns >>= λ ps. front_list inner ps.1 >>= λ ls. front_list front_words ls.1 >>= λ ss. front_list (front_two front_word front_word) ss.1 >>= λ cs. Some (coroutine (trees ps.0) (trees ls.0) ss.0 cs.0, cs.1))
+      let l : List ℕ = count_of_trees locals ∷ (flat_trees locals ++ s) in
+      ap (λ ns. front_many inner (count_of_trees prefix) ns >>= λ ps. front_list inner ps.1 >>= λ ls. front_list front_words ls.1 >>= λ ss. front_list (front_two front_word front_word) ss.1 >>= λ cs. Some (coroutine (trees ps.0) (trees ls.0) ss.0 cs.0, cs.1))
       (
-      append_assoc (flat_trees prefix ++ tree_count locals ∷ flat_trees locals ++ length states ∷ flat_each states) (length conflicts ∷ flat_pairs conflicts) rest
-      ∙ append_assoc (flat_trees prefix ++ tree_count locals ∷ flat_trees locals) (length states ∷ flat_each states) c
-      ∙ append_assoc (flat_trees prefix) (tree_count locals ∷ flat_trees locals) s
+      append_assoc (flat_trees prefix ++ count_of_trees locals ∷ flat_trees locals ++ length states ∷ flat_each states) (length conflicts ∷ flat_pairs conflicts) rest
+      ∙ append_assoc (flat_trees prefix ++ count_of_trees locals ∷ flat_trees locals) (length states ∷ flat_each states) c
+      ∙ append_assoc (flat_trees prefix) (count_of_trees locals ∷ flat_trees locals) s
       )
       ∙ ap (λ o. o >>= λ ps. front_list inner ps.1 >>= λ ls. front_list front_words ls.1 >>= λ ss. front_list (front_two front_word front_word) ss.1 >>= λ cs. Some (coroutine (trees ps.0) (trees ls.0) ss.0 cs.0, cs.1)) (hp l)
       ∙ ap (λ o. o >>= λ ls. front_list front_words ls.1 >>= λ ss. front_list (front_two front_word front_word) ss.1 >>= λ cs. Some (coroutine (trees (listed prefix)) (trees ls.0) ss.0 cs.0, cs.1)) (hl s)
@@ -279,15 +279,15 @@ module _ (inner : Front Tree) where
 
   fields_back : (t : Tree) (ts : Trees) (rest : List ℕ) → ((after : List ℕ) → inner (flat_tree t ++ after) ≡ Some (t, after)) → AreBefore ts rest → AreBefore (more_trees t ts) rest
   fields_back t ts rest e f =
-      more_back inner (tree_count ts) (flat_trees (more_trees t ts) ++ rest) (flat_trees ts ++ rest) rest t (listed ts)
+      more_back inner (count_of_trees ts) (flat_trees (more_trees t ts) ++ rest) (flat_trees ts ++ rest) rest t (listed ts)
       (ap inner (append_assoc (flat_tree t) (flat_trees ts) rest) ∙ e (flat_trees ts ++ rest)) f
 
   variant_back : (d : ℕ) (ts : Trees) (vs : Variants) (rest : List ℕ) → ((after : List ℕ) → AreBefore ts after) → AreVariantsBefore vs rest → AreVariantsBefore (more_variants d ts vs) rest
   variant_back d ts vs rest e f =
-      more_back (front_variant inner) (variant_count vs) (flat_variants (more_variants d ts vs) ++ rest) (flat_variants vs ++ rest) rest (d, listed ts) (listed_variants vs)
+      more_back (front_variant inner) (count_of_variants vs) (flat_variants (more_variants d ts vs) ++ rest) (flat_variants vs ++ rest) rest (d, listed ts) (listed_variants vs)
       (
-      ap (λ o. o >>= λ n. front_list inner n.1 >>= λ us. Some ((n.0, us.0), us.1)) (wide_back d (tree_count ts ∷ (flat_trees ts ++ flat_variants vs ++ rest)))
-      ∙ ap (λ l. front_many inner (tree_count ts) l >>= λ us. Some ((d, us.0), us.1)) (append_assoc (flat_trees ts) (flat_variants vs) rest)
+      ap (λ o. o >>= λ n. front_list inner n.1 >>= λ us. Some ((n.0, us.0), us.1)) (wide_back d (count_of_trees ts ∷ (flat_trees ts ++ flat_variants vs ++ rest)))
+      ∙ ap (λ l. front_many inner (count_of_trees ts) l >>= λ us. Some ((d, us.0), us.1)) (append_assoc (flat_trees ts) (flat_variants vs) rest)
       ∙ ap (λ o. o >>= λ us. Some ((d, us.0), us.1)) (e (flat_variants vs ++ rest))
       )
       f

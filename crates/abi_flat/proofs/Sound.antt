@@ -18,10 +18,10 @@ use Rattle.abi_flat.specs.declared.kind.Kind.{Kind}
 use Rattle.abi_flat.specs.declared.kind.Kind.TheVariants as kind
 use Rattle.abi_flat.specs.Kinds.{kind_numbered, kinds}
 use Rattle.abi_flat.specs.Pieces.{Front, flat_bool, flat_wide, bool_numbered, bools, front_as, front_list, front_many, front_two, front_wide, front_word, front_words, halves}
-use Rattle.abi_flat.specs.FlatScalar.{flat_primitive, flat_scalar, float_number, float_numbered, floats, front_primitive, front_range, front_scalar, integer_number, integer_numbered, integers, primitive_numbered}
+use Rattle.abi_flat.specs.FlatScalar.{flat_primitive, flat_scalar, float_number, float_numbered, floats, front_primitive, front_range, front_scalar, integer_number, integer_numbered, integers_by_number, primitive_numbered}
 use Rattle.abi_flat.specs.FlatRepr.{align_numbered, flags_numbered, flat_align, flat_int, flat_repr, flat_scalable, front_repr, int_numbered, int_types, scalable_numbered, some_align}
-use Rattle.abi_flat.specs.FlatTree.{flat_each, flat_pairs, flat_tree, flat_trees, flat_variants, flat_words, tree_count, variant_count}
-use Rattle.abi_flat.specs.FrontTree.{front_array, front_coroutine, front_enum, front_node, front_of_kind, front_ordered, front_struct, front_tree, front_union, front_variant, front_vector, variants_in}
+use Rattle.abi_flat.specs.FlatTree.{flat_each, flat_pairs, flat_tree, flat_trees, flat_variants, flat_words, count_of_trees, count_of_variants}
+use Rattle.abi_flat.specs.FrontTree.{front_array, front_coroutine, front_enum, front_node, front_of_kind, front_ordered, front_struct, front_tree, front_union, front_variant, front_vector, variants_of_items}
 
 -- what `Some` holds
 pub same_some : {A : Type 0} (a b : A) → Some a ≡ Some b → a ≡ b
@@ -75,7 +75,7 @@ bool_means : Means bool_numbered flat_bool
 bool_means n a e = omega (arith, table_means flat_bool bools 0 n a (refl, (refl, tt)) e)
 
 integer_means : Means integer_numbered integer_number
-integer_means n a e = omega (arith, table_means integer_number integers 0 n a (refl, (refl, (refl, (refl, (refl, tt))))) e)
+integer_means n a e = omega (arith, table_means integer_number integers_by_number 0 n a (refl, (refl, (refl, (refl, (refl, tt))))) e)
 
 float_means : Means float_numbered float_number
 float_means n a e = omega (arith, table_means float_number floats 0 n a (refl, (refl, (refl, (refl, (refl, (refl, tt)))))) e)
@@ -308,7 +308,7 @@ pairs_items (p ∷ ps) = ap (λ l. p.0 ∷ p.1 ∷ l) (pairs_items ps)
 
 -- ---- types
 
-counted_trees : (ts : List Tree) → length ts ≡ tree_count (trees ts)
+counted_trees : (ts : List Tree) → length ts ≡ count_of_trees (trees ts)
 counted_trees [] = refl
 counted_trees (t ∷ ts) = ap suc (counted_trees ts)
 
@@ -318,20 +318,20 @@ trees_items (t ∷ ts) = ap (λ l. flat_tree t ++ l) (trees_items ts)
 
 -- a list of types, as its numbers are
 abbrev flat_types : List Tree → List ℕ
-flat_types ts = tree_count (trees ts) ∷ flat_trees (trees ts)
+flat_types ts = count_of_trees (trees ts) ∷ flat_trees (trees ts)
 
 types_items : (ts : List Tree) → flat_list flat_tree ts ≡ flat_types ts
-types_items ts = ap (λ k. k ∷ flat_items flat_tree ts) (counted_trees ts) ∙ ap (λ l. tree_count (trees ts) ∷ l) (trees_items ts)
+types_items ts = ap (λ k. k ∷ flat_items flat_tree ts) (counted_trees ts) ∙ ap (λ l. count_of_trees (trees ts) ∷ l) (trees_items ts)
 
 -- a variant
 abbrev flat_variant : ℕ × List Tree → List ℕ
 flat_variant v = flat_wide v.0 ++ flat_types v.1
 
-counted_variants : (vs : List (ℕ × List Tree)) → length vs ≡ variant_count (variants_in vs)
+counted_variants : (vs : List (ℕ × List Tree)) → length vs ≡ count_of_variants (variants_of_items vs)
 counted_variants [] = refl
 counted_variants (v ∷ vs) = ap suc (counted_variants vs)
 
-variants_items : (vs : List (ℕ × List Tree)) → flat_items flat_variant vs ≡ flat_variants (variants_in vs)
+variants_items : (vs : List (ℕ × List Tree)) → flat_items flat_variant vs ≡ flat_variants (variants_of_items vs)
 variants_items [] = refl
 variants_items (v ∷ vs) = ap (λ l. flat_variant v ++ l) (variants_items vs)
 
@@ -391,12 +391,12 @@ module _ (inner : Front Tree) (sound : Sound inner flat_tree) where
   enum_sound ns p e =
       option_and_then_some _ (front_repr ns) p e
       (λ r r_is then. option_and_then_some _ (front_list (front_variant inner) r.1) p then
-      (λ vs vs_is done. last flat_tree (9 ∷ ns) (enum r.0 (variants_in vs.0), vs.1) p done
+      (λ vs vs_is done. last flat_tree (9 ∷ ns) (enum r.0 (variants_of_items vs.0), vs.1) p done
       (ap (λ l. 9 ∷ l)
       (repr_sound ns r r_is
       ∙ ap (λ l. flat_repr r.0 ++ l) (list_sound (front_variant inner) flat_variant variant_sound r.1 vs vs_is
       ∙ ap (λ k. k ∷ (flat_items flat_variant vs.0 ++ vs.1)) (counted_variants vs.0)
-      ∙ ap (λ l. variant_count (variants_in vs.0) ∷ (l ++ vs.1)) (variants_items vs.0))))))
+      ∙ ap (λ l. count_of_variants (variants_of_items vs.0) ∷ (l ++ vs.1)) (variants_items vs.0))))))
 
   coroutine_sound : (ns : List ℕ) (p : Tree × List ℕ) → front_coroutine inner ns ≡ Some p → 10 ∷ ns ≡ flat_tree p.0 ++ p.1
   coroutine_sound ns p e =

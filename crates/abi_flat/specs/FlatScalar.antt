@@ -19,12 +19,12 @@ integer_number I64 = 3
 integer_number I128 = 4
 
 -- all integers, by their numbers
-abbrev pub integers : List Integer
-integers = I8 ∷ I16 ∷ I32 ∷ I64 ∷ I128 ∷ []
+abbrev pub integers_by_number : List Integer
+integers_by_number = I8 ∷ I16 ∷ I32 ∷ I64 ∷ I128 ∷ []
 
 -- the integer with the number
 abbrev pub integer_numbered : ℕ → Option Integer
-integer_numbered n = slice_get integers n
+integer_numbered n = slice_get integers_by_number n
 
 -- a float's number
 abbrev pub float_number : AFloat → ℕ

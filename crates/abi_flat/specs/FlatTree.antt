@@ -6,14 +6,14 @@ use Rattle.abi_flat.specs.FlatScalar.{flat_scalar, IsScalar}
 use Rattle.abi_flat.specs.FlatRepr.{flat_repr, IsRepr}
 
 -- how many types there are
-abbrev pub tree_count : Trees → ℕ
-tree_count no_trees = 0
-tree_count (more_trees t ts) = suc (tree_count ts)
+abbrev pub count_of_trees : Trees → ℕ
+count_of_trees no_trees = 0
+count_of_trees (more_trees t ts) = suc (count_of_trees ts)
 
 -- how many variants there are
-abbrev pub variant_count : Variants → ℕ
-variant_count no_variants = 0
-variant_count (more_variants discriminant ts vs) = suc (variant_count vs)
+abbrev pub count_of_variants : Variants → ℕ
+count_of_variants no_variants = 0
+count_of_variants (more_variants discriminant ts vs) = suc (count_of_variants vs)
 
 -- a list of numbers behind its count
 abbrev pub flat_words : List ℕ → List ℕ
@@ -38,13 +38,13 @@ abbrev mutual
   flat_tree unit = 3 ∷ []
   flat_tree (array count t) = 4 ∷ count ∷ flat_tree t
   flat_tree (vector lanes packed t) = 5 ∷ lanes ∷ flat_bool packed ∷ flat_tree t
-  flat_tree (struct repr sized None ts) = 6 ∷ flat_repr repr ++ flat_bool sized ∷ tree_count ts ∷ flat_trees ts
+  flat_tree (struct repr sized None ts) = 6 ∷ flat_repr repr ++ flat_bool sized ∷ count_of_trees ts ∷ flat_trees ts
   flat_tree (struct repr sized (Some order) ts) =
-      7 ∷ flat_repr repr ++ flat_bool sized ∷ flat_words order ++ tree_count ts ∷ flat_trees ts
-  flat_tree (union repr ts) = 8 ∷ flat_repr repr ++ tree_count ts ∷ flat_trees ts
-  flat_tree (enum repr vs) = 9 ∷ flat_repr repr ++ variant_count vs ∷ flat_variants vs
+      7 ∷ flat_repr repr ++ flat_bool sized ∷ flat_words order ++ count_of_trees ts ∷ flat_trees ts
+  flat_tree (union repr ts) = 8 ∷ flat_repr repr ++ count_of_trees ts ∷ flat_trees ts
+  flat_tree (enum repr vs) = 9 ∷ flat_repr repr ++ count_of_variants vs ∷ flat_variants vs
   flat_tree (coroutine prefix locals states conflicts) =
-      10 ∷ tree_count prefix ∷ flat_trees prefix ++ tree_count locals ∷ flat_trees locals
+      10 ∷ count_of_trees prefix ∷ flat_trees prefix ++ count_of_trees locals ∷ flat_trees locals
       ++ length states ∷ flat_each states ++ length conflicts ∷ flat_pairs conflicts
 
   -- the numbers of types, one after another
@@ -55,7 +55,7 @@ abbrev mutual
   -- the numbers of variants: each one's discriminant, and its fields
   pub flat_variants : Variants → List ℕ
   flat_variants no_variants = []
-  flat_variants (more_variants discriminant ts vs) = flat_wide discriminant ++ tree_count ts ∷ flat_trees ts ++ flat_variants vs
+  flat_variants (more_variants discriminant ts vs) = flat_wide discriminant ++ count_of_trees ts ∷ flat_trees ts ++ flat_variants vs
 
 abbrev mutual
   -- The type stands for one that the program can hold: no type in it is nested in as many others, and its address spaces,

@@ -11,13 +11,13 @@ use Rattle.abi_flat.specs.FlatScalar.{front_scalar}
 use Rattle.abi_flat.specs.FlatRepr.{front_repr}
 
 -- the variants of a list of discriminants and fields
-abbrev pub variants_in : List (ℕ × List Tree) → Variants
-variants_in [] = no_variants
-variants_in (v ∷ vs) = more_variants v.0 (trees v.1) (variants_in vs)
+abbrev pub variants_of_items : List (ℕ × List Tree) → Variants
+variants_of_items [] = no_variants
+variants_of_items (v ∷ vs) = more_variants v.0 (trees v.1) (variants_of_items vs)
 
 -- what the program keeps of a variant
-abbrev pub variant_by : ℕ × Vec TypeTree Global → ℕ × List Tree
-variant_by v = (v.0, map tree_of v.1.items)
+abbrev pub variant_kept : ℕ × Vec TypeTree Global → ℕ × List Tree
+variant_kept v = (v.0, map tree_of v.1.items)
 
 module _ (inner : Front Tree) where
   -- elements
@@ -68,7 +68,7 @@ module _ (inner : Front Tree) where
   front_enum ns = do
     repr ← front_repr ns
     vs ← front_list front_variant repr.1
-    Some (enum repr.0 (variants_in vs.0), vs.1)
+    Some (enum repr.0 (variants_of_items vs.0), vs.1)
 
   -- a suspended computation
   abbrev pub front_coroutine : Front Tree

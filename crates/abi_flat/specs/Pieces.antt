@@ -79,8 +79,8 @@ abbrev pub front_words : Front (List ℕ)
 front_words = front_list front_word
 
 -- what the program keeps of a list of numbers
-abbrev pub indices_by : Vec ℕ Global → List ℕ
-indices_by s = s.items
+abbrev pub list_kept : Vec ℕ Global → List ℕ
+list_kept s = s.items
 
 -- there is no answer, or memory was wanting
 abbrev pub Fails : {A : Type 0} → Option A → ReadError → Type 0

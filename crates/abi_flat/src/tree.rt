@@ -4,7 +4,7 @@ ghost use Rattle.std.specs.Prelude.{◌≡◌, ◌≤◌, ℕ, [], ◌++◌, IfE
 ghost use Rattle.abi_laid.specs.Tree.{Tree, tree_of};
 ghost use Rattle.abi_flat.specs.Pieces.{Fails, front_list};
 ghost use Rattle.abi_flat.specs.FlatTree.{flat_tree, IsReadable};
-ghost use Rattle.abi_flat.specs.FrontTree.{front_array, front_coroutine, front_enum, front_of_kind, front_ordered, front_struct, front_tree, front_union, front_variant, front_vector, variant_by};
+ghost use Rattle.abi_flat.specs.FrontTree.{front_array, front_coroutine, front_enum, front_of_kind, front_ordered, front_struct, front_tree, front_union, front_variant, front_vector, variant_kept};
 
 use crate::error::ReadError;
 use crate::kind::{Kind, read_kind};
@@ -150,7 +150,7 @@ fn read_variant(
     at: &mut usize,
 ) -> Result<(u128, Vec<TypeTree>), ReadError>
     ensures ok { IfOk result (λ a. front_variant (front_tree left) (drop at.old numbers.now) ≡
-        Some (variant_by a, drop at.new numbers.now)) }
+        Some (variant_kept a, drop at.new numbers.now)) }
     ensures err { IfErr result (Fails (front_variant (front_tree left) (drop at.old numbers.now))) }
 {
     let discriminant = read_wide(numbers, at)?;
@@ -168,7 +168,7 @@ fn read_variants(
 ) -> Result<Vec<(u128, Vec<TypeTree>)>, ReadError>
     ensures ok { IfOk result (λ a.
         front_list (front_variant (front_tree left)) (drop at.old numbers.now) ≡
-        Some (map variant_by a.items, drop at.new numbers.now)) }
+        Some (map variant_kept a.items, drop at.new numbers.now)) }
     ensures err { IfErr result (Fails (front_list (front_variant (front_tree left)) (drop at.old numbers.now))) }
 {
     let count = read_word(numbers, at)?;

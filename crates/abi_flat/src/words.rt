@@ -1,7 +1,7 @@
 //! Numbers out of a list, from a place on.
 
 ghost use Rattle.std.specs.Prelude.{◌≡◌, IfErr, IfOk, Some, drop, map, slice_get};
-ghost use Rattle.abi_flat.specs.Pieces.{Fails, bool_numbered, front_as, front_list, front_two, front_wide, front_word, front_words, indices_by};
+ghost use Rattle.abi_flat.specs.Pieces.{Fails, bool_numbered, front_as, front_list, front_two, front_wide, front_word, front_words, list_kept};
 
 use crate::error::ReadError;
 use std::alloc::Global;
@@ -79,7 +79,7 @@ pub(crate) fn read_lists(
     at: &mut usize,
 ) -> Result<Vec<Vec<u64>>, ReadError>
     ensures ok { IfOk result (λ a. front_list front_words (drop at.old numbers.now) ≡
-        Some (map indices_by a.items, drop at.new numbers.now)) }
+        Some (map list_kept a.items, drop at.new numbers.now)) }
     ensures err { IfErr result (Fails (front_list front_words (drop at.old numbers.now))) }
 {
     let count = read_word(numbers, at)?;

@@ -1,19 +1,21 @@
-use Rattle.std.proofs.Common.{sym}
 use Rattle.std.proofs.lemmas.Result.{IfOk-weaker}
-use Rattle.std.proofs.lemmas.Str.{is_utf8-from_IsUtf8}
-use Rattle.abi_text.proofs.Utf8.{no_utf8}
-use Rattle.abi_c.specs.Flat.{IsLaidTold, IsToldOf, told_by}
-use Rattle.abi_c.proofs.Telling.{under_none, under_text}
+use Rattle.abi_laid.specs.Laid.{placed_of}
+use Rattle.abi_c.specs.Flat.{IsLayoutTold, told_by}
+use Rattle.abi_c.proofs.Telling.{laid_told, told_failure}
 use Rattle.abi_c.proofs.flat.answer_numbers.Goals as goal
+
+pub laid_numbers-requires : goal.laid_numbers-requires
+laid_numbers-requires c = let laid = c.in-Ok.ensures.ok in laid.3.aligned
 
 pub returns-in-Ok : goal.returns-in-Ok
 returns-in-Ok c =
-    IfOk-weaker c.lay_under.result _ _
-    (λ a is. under_text (λ dl. IsToldOf (IsLaidTold dl) c.args.tree.now) c.args.string.now c.in-Ok.text.now (told_by a) (is_utf8-from_IsUtf8 c.args.string.now c.in-Ok.ensures.cases.1) c.in-Ok.ensures.cases.0 is)
-    c.lay_under.ensures
+    let laid = c.in-Ok.ensures.ok in
+    IfOk-weaker c.laid_numbers.result _ _
+    (λ a is. laid_told c.args.string.now c.args.tree.now laid.0 laid.1 (placed_of c.in-Ok.laid) (told_by a) laid.2 is)
+    c.laid_numbers.ensures
 
-pub returns-in-Err : goal.returns-in-Err
-returns-in-Err c =
+pub returns-in-Err-Refused : goal.returns-in-Err-Refused
+returns-in-Err-Refused c =
     IfOk-weaker c.one_number.result _ _
-    (λ a is. under_none (λ dl. IsToldOf (IsLaidTold dl) c.args.tree.now) c.args.string.now (told_by a) (sym (no_utf8 c.args.string.now c.in-Err.ensures.cases.0)) is)
+    (λ a is. (told_failure (IsLayoutTold c.args.string.now c.args.tree.now) c.in-Err-Refused.field-0 c.in-Err-Refused.status c.in-Err-Refused.number (told_by a) c.in-Err-Refused.field-0-is c.in-Err-Refused.ensures.err is).0)
     c.one_number.ensures

@@ -3,7 +3,7 @@ use Rattle.std.proofs.lemmas.List.{map-append}
 use Rattle.std.proofs.lemmas.Result.{IfOk-weaker}
 use Rattle.abi_laid.specs.Tree.{tree_of, enum}
 use Rattle.abi_flat.specs.Pieces.{◌>>=◌, front_list}
-use Rattle.abi_flat.specs.FrontTree.{front_of_kind, front_tree, front_variant, variant_by, variants_in}
+use Rattle.abi_flat.specs.FrontTree.{front_of_kind, front_tree, front_variant, variant_kept, variants_of_items}
 use Rattle.abi_flat.proofs.Many.{passed, so_far-more, so_far-none}
 use Rattle.abi_flat.proofs.Trees.{enum_tree, front_tree-step}
 use Rattle.abi_flat.proofs.tree.+read.Goals as goal
@@ -25,13 +25,13 @@ read_variants-returns-in_err-variant-clause-err t c =
 
 pub read_variants-loop-preserved : goal.read_variants-loop-preserved
 read_variants-loop-preserved t c =
-    rw (c.in_ok-push.ensures.items, map-append variant_by)
-    (so_far-more (front_variant (front_tree c.args.left)) c.in_ok-count.count c.loop.counter _ _ _ (map variant_by c.loop.variants.items) (variant_by c.in_ok-variant.variant) c.loop.invariant c.loop-test.true c.in_ok-variant.ensures.ok)
+    rw (c.in_ok-push.ensures.items, map-append variant_kept)
+    (so_far-more (front_variant (front_tree c.args.left)) c.in_ok-count.count c.loop.counter _ _ _ (map variant_kept c.loop.variants.items) (variant_kept c.in_ok-variant.variant) c.loop.invariant c.loop-test.true c.in_ok-variant.ensures.ok)
 
 pub read_enum-returns-clause-ok : goal.read_enum-returns-clause-ok
 read_enum-returns-clause-ok t c =
-    ap (λ o. o >>= λ repr. front_list (front_variant (front_tree c.args.left)) repr.1 >>= λ vs. Some (enum repr.0 (variants_in vs.0), vs.1)) c.in_ok-repr.ensures.ok
-    ∙ ap (λ o. o >>= λ vs. Some (enum c.in_ok-repr.repr (variants_in vs.0), vs.1)) c.in_ok-variants.ensures.ok
+    ap (λ o. o >>= λ repr. front_list (front_variant (front_tree c.args.left)) repr.1 >>= λ vs. Some (enum repr.0 (variants_of_items vs.0), vs.1)) c.in_ok-repr.ensures.ok
+    ∙ ap (λ o. o >>= λ vs. Some (enum c.in_ok-repr.repr (variants_of_items vs.0), vs.1)) c.in_ok-variants.ensures.ok
     ∙ ap (λ made. Some (made, drop c.read_variants.new.at c.args.numbers.now)) (sym (enum_tree c.in_ok-repr.repr c.in_ok-variants.variants))
 
 pub read_node-returns-clause-ok : goal.read_node-returns-clause-ok

@@ -1,6 +1,6 @@
 use Rattle.std.proofs.Common.{◌+◌, ◌*◌, drop, map}
 use Rattle.abi_laid.specs.Tree.{tree_of}
-use Rattle.abi_flat.specs.FrontTree.{front_tree, front_variant, variant_by}
+use Rattle.abi_flat.specs.FrontTree.{front_tree, front_variant, variant_kept}
 use Rattle.abi_flat.proofs.Many.{SoFar}
 use Rattle.abi_flat.proofs.tree.+read.Given as goal
 
@@ -9,7 +9,7 @@ invariant-read_each-loop l = SoFar _ (front_tree l.left) l.count l.counter (drop
 
 abbrev pub invariant-read_variants-loop : goal.invariant-read_variants-loop
 invariant-read_variants-loop l =
-    SoFar _ (front_variant (front_tree l.left)) l.count l.counter (drop l.initial.at l.numbers) (drop l.at l.numbers) (map variant_by l.variants.items)
+    SoFar _ (front_variant (front_tree l.left)) l.count l.counter (drop l.initial.at l.numbers) (drop l.at l.numbers) (map variant_kept l.variants.items)
 
 abbrev pub decreases-read_node : goal.decreases-read_node
 decreases-read_node l = 6 * l.left

@@ -1,6 +1,6 @@
 use Rattle.std.proofs.Common.{drop, map}
 use Rattle.std.proofs.lemmas.List.{map-append}
-use Rattle.abi_flat.specs.Pieces.{front_words, indices_by}
+use Rattle.abi_flat.specs.Pieces.{front_words, list_kept}
 use Rattle.abi_flat.proofs.Many.{passed, so_far-more, so_far-none}
 use Rattle.abi_flat.proofs.words.read_lists.Goals as goal
 
@@ -11,5 +11,5 @@ returns-in_err-list-clause-err c =
 
 pub loop-preserved : goal.loop-preserved
 loop-preserved c =
-    rw (c.in_ok-push.ensures.items, map-append indices_by)
-    (so_far-more front_words c.in_ok-count.count c.loop.counter _ _ _ (map indices_by c.loop.lists.items) c.in_ok-list.list.items c.loop.invariant c.loop-test.true c.in_ok-list.ensures.ok)
+    rw (c.in_ok-push.ensures.items, map-append list_kept)
+    (so_far-more front_words c.in_ok-count.count c.loop.counter _ _ _ (map list_kept c.loop.lists.items) c.in_ok-list.list.items c.loop.invariant c.loop-test.true c.in_ok-list.ensures.ok)

@@ -1,0 +1,64 @@
+-- What is answered to a value, or to bytes, of the type with the numbers.
+use Rattle.std.specs.Prelude.{◌≡◌, ℕ, ◌<◌, ◌⊎◌, false, List, [], ◌∷◌, get_or}
+use Rattle.abi_base.specs.declared.data_layout.TargetDataLayout.{TargetDataLayout}
+use Rattle.abi_laid.specs.Covering.{is_covered}
+use Rattle.abi_laid.specs.Holding.{Holds}
+use Rattle.abi_laid.specs.Placed.{Placed}
+use Rattle.abi_laid.specs.Tree.{Tree}
+use Rattle.abi_laid.specs.Value.{Value}
+use Rattle.abi_laid.specs.Values.{IsValueOf, LocalsHaveValues}
+use Rattle.abi_flat.specs.FlatValue.{flat_value, IsReadableValue}
+use Rattle.abi_c.specs.declared.values.BytesAnswer.{BytesAnswer}
+use Rattle.abi_c.specs.Flat.{IsLayoutTold, Told}
+use Rattle.abi_c.specs.LaidType.{IsLaidType}
+
+-- The numbers are the value's, and no other's that can be read.
+pub record AreValueNumbers (numbers : List ℕ) (v : Value) : Type 0 where
+  pub whole : numbers ≡ flat_value v
+  pub only : (u : Value) → IsReadableValue 201 u → numbers ≡ flat_value u → u ≡ v
+
+-- no value that can be read has the numbers
+abbrev pub AreNoValueNumbers : List ℕ → Type 0
+AreNoValueNumbers numbers = (v : Value) → IsReadableValue 201 v → numbers ≡ flat_value v → ⊥
+
+-- The bytes hold the value, and are 0 wherever no part of it covers one. It is a value of the type, where each local of a
+-- coroutine in that has one.
+pub record AreBytesOf (dl : TargetDataLayout) (t : Tree) (placed : Placed) (v : Value) (b : List ℕ) : Type 0 where
+  pub holds : Holds dl.endian placed b v
+  pub uncovered : (k : ℕ) → is_covered placed v k ≡ false → get_or b k 0 ≡ 0
+  pub value : LocalsHaveValues dl t → IsValueOf dl t placed v
+
+-- The bytes hold the value. It is one of the type's and the only one that they hold, where each local of a coroutine in
+-- that has one.
+pub record IsValueIn (dl : TargetDataLayout) (t : Tree) (placed : Placed) (b : List ℕ) (v : Value) : Type 0 where
+  pub holds : Holds dl.endian placed b v
+  pub value : LocalsHaveValues dl t → IsValueOf dl t placed v
+  pub only : LocalsHaveValues dl t → (u : Value) → Holds dl.endian placed b u → u ≡ v
+
+-- the bytes of the value; or it is none of the type's, where each local of a coroutine in that has one
+abbrev pub IsWritten : TargetDataLayout → Tree → Placed → Value → Told → Type 0
+IsWritten dl t placed v told =
+    ((told.status ≡ 0) × AreBytesOf dl t placed v told.numbers)
+    ⊎ ((told ≡ record { status = 3; numbers = [] }) × (LocalsHaveValues dl t → IsValueOf dl t placed v → ⊥))
+
+-- the same of the value with these numbers; or no value has them
+abbrev pub IsWrittenOf : (value : List ℕ) → TargetDataLayout → Tree → Placed → Told → Type 0
+IsWrittenOf value dl t placed told =
+    ((v : Value) × AreValueNumbers value v × IsWritten dl t placed v told)
+    ⊎ (AreNoValueNumbers value × (told ≡ record { status = 2; numbers = 2 ∷ [] }))
+
+-- the numbers of the value that the bytes hold; or they hold none
+abbrev pub IsReadOf : (b : List ℕ) → TargetDataLayout → Tree → Placed → Told → Type 0
+IsReadOf b dl t placed told =
+    ((v : Value) × IsValueIn dl t placed b v × (told ≡ record { status = 0; numbers = flat_value v }))
+    ⊎ (((v : Value) → Holds dl.endian placed b v → ⊥) × (told ≡ record { status = 3; numbers = [] }))
+
+-- so much of the laid-out type; or what is told of a type without a layout
+abbrev pub IsToldOfLaid : (TargetDataLayout → Tree → Placed → Told → Type 0) → (string numbers : List ℕ) → Told → Type 0
+IsToldOfLaid P string numbers told =
+    ((dl : TargetDataLayout) × (t : Tree) × (placed : Placed) × IsLaidType string numbers dl t placed × P dl t placed told)
+    ⊎ (IsLayoutTold string numbers told × (0 < told.status))
+
+-- an answer in bytes, as the definitions see it
+abbrev pub bytes_told_by : BytesAnswer → Told
+bytes_told_by answer = record { status = answer.status; numbers = answer.bytes.items }

@@ -1,0 +1,149 @@
+//! Types laid out from numbers.
+
+ghost use Rattle.std.specs.Prelude.{◌≡◌, ◌≢◌, ◌∷◌, [], IfErr, IfOk, Ok};
+ghost use Rattle.abi_base.specs.declared.data_layout.TargetDataLayout.{TargetDataLayout as Target};
+ghost use Rattle.abi_laid.specs.Laid.{placed_of};
+ghost use Rattle.abi_laid.specs.Tree.{Tree, tree_of};
+ghost use Rattle.abi_text.specs.DataLayoutLine.{data_layout_of};
+ghost use Rattle.rustc_abi.specs.declared.error.LayError.{LayError};
+ghost use Rattle.abi_c.specs.Flat.{AreNumbersOf, IsLaidTold, IsLayoutTold, IsToldIn, IsToldOf, data_layout_error_number, refusal_number};
+ghost use Rattle.abi_c.specs.LaidType.{FailsAs, IsKept, IsLaidType};
+
+use abi_base::{TargetDataLayout, TargetDataLayoutError};
+use abi_flat::{ReadError, read_tree};
+use abi_laid::{Laid, TypeTree};
+use abi_text::read_data_layout;
+use rustc_abi::{LayError, lay_out};
+use std::alloc::Global;
+
+/// Why there is no laid-out type.
+#[derive(Clone, Copy)]
+pub(crate) enum Failure {
+    /// A status, and a number beside it.
+    Refused { status: u8, number: u8 },
+    /// A growth of memory was refused.
+    OutOfMemory,
+}
+
+/// The number of why a type has no layout.
+fn refusal_number(error: LayError) -> u8
+    ensures { result ≡ refusal_number error }
+{
+    match error {
+        LayError::OutOfMemory => 0,
+        LayError::UnlawfulDataLayout => 1,
+        LayError::BadIndex => 2,
+        LayError::UnknownSpace => 3,
+        LayError::BadRange => 4,
+        LayError::BadAlign => 5,
+        LayError::DuplicateDiscriminant => 6,
+        LayError::DiscriminantTooWide => 7,
+        LayError::NoState => 8,
+        LayError::LocalTwice => 9,
+        LayError::UnexpectedUnsized => 10,
+        LayError::SizeOverflow => 11,
+        LayError::EmptyUnion => 12,
+        LayError::ReprConflict => 13,
+        LayError::ZeroLengthSimdType => 14,
+        LayError::OversizedSimdType => 15,
+        LayError::NonPrimitiveSimdType => 16,
+        LayError::BadOrder => 17,
+    }
+}
+
+/// The number of what is wrong with a data layout string.
+fn data_layout_error_number(error: &TargetDataLayoutError<'_>) -> u8
+    ensures { result ≡ data_layout_error_number error.now }
+{
+    match error {
+        TargetDataLayoutError::InvalidAddressSpace { .. } => 32,
+        TargetDataLayoutError::InvalidBits { .. } => 33,
+        TargetDataLayoutError::MissingAlignment { .. } => 34,
+        TargetDataLayoutError::InvalidAlignment { .. } => 35,
+        TargetDataLayoutError::UnknownPointerSpecification { .. } => 36,
+        TargetDataLayoutError::OutOfMemory => 0,
+        _ => 37,
+    }
+}
+
+/// Why a type that was refused has no layout.
+fn refused(error: LayError) -> Failure
+    ensures { FailsAs (λ told. (error ≢ LayError.OutOfMemory) ×
+        (told ≡ record { status = 1; numbers = refusal_number error ∷ [] })) result }
+{
+    match error {
+        LayError::OutOfMemory => Failure::OutOfMemory,
+        _ => Failure::Refused {
+            status: 1,
+            number: refusal_number(error),
+        },
+    }
+}
+
+/// Why no type has a layout under a data layout string that has a fault.
+fn flawed(error: &TargetDataLayoutError<'_>) -> Failure
+    ensures { FailsAs (λ told. (error.now ≢ TargetDataLayoutError.OutOfMemory) ×
+        (told ≡ record { status = 1; numbers = data_layout_error_number error.now ∷ [] })) result }
+{
+    match error {
+        TargetDataLayoutError::OutOfMemory => Failure::OutOfMemory,
+        _ => Failure::Refused {
+            status: 1,
+            number: data_layout_error_number(error),
+        },
+    }
+}
+
+/// Lays out a type.
+fn lay_tree(alloc: Global, dl: &TargetDataLayout, tree: &TypeTree) -> Result<Laid, Failure>
+    ensures ok { IfOk result (IsKept dl.now (tree_of tree.now)) }
+    ensures err { IfErr result (FailsAs (IsLaidTold dl.now (tree_of tree.now))) }
+{
+    match lay_out(alloc, dl, tree) {
+        Ok(laid) => Ok(laid),
+        Err(error) => Err(refused(error)),
+    }
+}
+
+/// Lays out the type with these numbers.
+fn lay_numbers(alloc: Global, dl: &TargetDataLayout, tree: &[u64]) -> Result<Laid, Failure>
+    ensures ok { IfOk result (λ laid. (t : Tree) × AreNumbersOf tree.now t × IsKept dl.now t laid) }
+    ensures err { IfErr result (FailsAs (IsToldOf (IsLaidTold dl.now) tree.now)) }
+{
+    match read_tree(alloc, tree) {
+        Ok(tree) => lay_tree(alloc, dl, &tree),
+        Err(ReadError::Unreadable) => Err(Failure::Refused {
+            status: 2,
+            number: 1,
+        }),
+        Err(ReadError::OutOfMemory) => Err(Failure::OutOfMemory),
+    }
+}
+
+/// Lays out the type with these numbers under the data layout of a text.
+fn lay_under(alloc: Global, string: &str, tree: &[u64]) -> Result<Laid, Failure>
+    ensures ok { IfOk result (λ laid. (dl : Target) × (t : Tree) ×
+        (data_layout_of string.now ≡ Ok dl) × AreNumbersOf tree.now t × IsKept dl t laid) }
+    ensures err { IfErr result (FailsAs (IsToldIn (λ dl. IsToldOf (IsLaidTold dl) tree.now)
+        (data_layout_of string.now))) }
+{
+    match read_data_layout(alloc, string) {
+        Ok(dl) => lay_numbers(alloc, &dl, tree),
+        Err(error) => Err(flawed(&error)),
+    }
+}
+
+/// Lays out the type with these numbers under the data layout of a string.
+pub(crate) fn lay_type(alloc: Global, string: &[u8], tree: &[u64]) -> Result<Laid, Failure>
+    ensures ok { IfOk result (λ laid. (dl : Target) × (t : Tree) ×
+        IsLaidType string.now tree.now dl t (placed_of laid) × IsKept dl t laid) }
+    ensures err { IfErr result (FailsAs (IsLayoutTold string.now tree.now)) }
+{
+    match std::str::from_utf8(string) {
+        Ok(text) => lay_under(alloc, text, tree),
+        Err(_) => Err(Failure::Refused {
+            status: 2,
+            number: 0,
+        }),
+    }
+}

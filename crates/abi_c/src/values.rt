@@ -1,0 +1,121 @@
+//! Values written to bytes and read from them, as numbers.
+
+ghost use Rattle.std.specs.Prelude.{◌≡◌, ◌∷◌, [], IfOk};
+ghost use Rattle.abi_base.specs.declared.data_layout.TargetDataLayout.{TargetDataLayout as Target};
+ghost use Rattle.abi_laid.specs.Laid.{placed_of};
+ghost use Rattle.abi_laid.specs.Tree.{Tree};
+ghost use Rattle.abi_laid.specs.Value.{value_of};
+ghost use Rattle.abi_flat.specs.FlatValue.{flat_value};
+ghost use Rattle.abi_c.specs.Flat.{told_by};
+ghost use Rattle.abi_c.specs.FlatValues.{IsReadOf, IsToldOfLaid, IsWritten, IsWrittenOf, bytes_told_by};
+ghost use Rattle.abi_c.specs.LaidType.{IsKept};
+
+use crate::flat::{FlatAnswer, one_number};
+use crate::laid_type::{Failure, lay_type};
+use abi_flat::{ReadError, read_flat_value, write_flat_value};
+use abi_laid::{Laid, Value, ValueError, read_value, write_value};
+use std::alloc::{AllocError, Global};
+
+/// A status, and the bytes beside it.
+#[derive(Drop)]
+pub(crate) struct BytesAnswer {
+    /// 0 for an answer, 1 for a refusal, 2 for numbers or a string that can't be read, 3 for no value of the type.
+    pub(crate) status: u8,
+    /// The bytes.
+    pub(crate) bytes: Vec<u8>,
+}
+
+/// A status with one byte.
+fn one_byte(alloc: Global, status: u8, byte: u8) -> Result<BytesAnswer, AllocError>
+    ensures { IfOk result (λ a. bytes_told_by a ≡ record { status = status; numbers = byte ∷ [] }) }
+{
+    let mut bytes = Vec::new(alloc);
+    bytes.push(byte)?;
+    Ok(BytesAnswer { status, bytes })
+}
+
+/// The answer to a value of a laid-out type.
+fn written(alloc: Global, laid: &Laid, value: &Value) -> Result<BytesAnswer, AllocError>
+    ensures { IfOk result (λ a. (dl : Target) (t : Tree) → IsKept dl t laid.now →
+        IsWritten dl t (placed_of laid.now) (value_of value.now) (bytes_told_by a)) }
+{
+    match write_value(alloc, laid, value) {
+        Ok(bytes) => Ok(BytesAnswer { status: 0, bytes }),
+        Err(ValueError::NotAValue) => Ok(BytesAnswer {
+            status: 3,
+            bytes: Vec::new(alloc),
+        }),
+        Err(ValueError::OutOfMemory) => Err(AllocError),
+    }
+}
+
+/// The answer to the numbers of a value of a laid-out type.
+fn written_of(alloc: Global, laid: &Laid, value: &[u64]) -> Result<BytesAnswer, AllocError>
+    ensures { IfOk result (λ a. (dl : Target) (t : Tree) → IsKept dl t laid.now →
+        IsWrittenOf value.now dl t (placed_of laid.now) (bytes_told_by a)) }
+{
+    match read_flat_value(alloc, value) {
+        Ok(value) => written(alloc, laid, &value),
+        Err(ReadError::Unreadable) => one_byte(alloc, 2, 2),
+        Err(ReadError::OutOfMemory) => Err(AllocError),
+    }
+}
+
+/// The answer to the numbers of a value of the type with these numbers. `AllocError` where a growth of memory was
+/// refused.
+pub(crate) fn answer_write(
+    alloc: Global,
+    string: &[u8],
+    tree: &[u64],
+    value: &[u64],
+) -> Result<BytesAnswer, AllocError>
+    ensures { IfOk result (λ a.
+        IsToldOfLaid (IsWrittenOf value.now) string.now tree.now (bytes_told_by a)) }
+{
+    match lay_type(alloc, string, tree) {
+        Ok(laid) => written_of(alloc, &laid, value),
+        Err(Failure::Refused { status, number }) => one_byte(alloc, status, number),
+        Err(Failure::OutOfMemory) => Err(AllocError),
+    }
+}
+
+/// The answer to bytes that hold a value.
+fn value_numbers(alloc: Global, value: &Value) -> Result<FlatAnswer, AllocError>
+    ensures { IfOk result (λ a. told_by a ≡
+        record { status = 0; numbers = flat_value (value_of value.now) }) }
+{
+    Ok(FlatAnswer {
+        status: 0,
+        numbers: write_flat_value(alloc, value)?,
+    })
+}
+
+/// The answer to bytes of a laid-out type.
+fn read_of(alloc: Global, laid: &Laid, bytes: &[u8]) -> Result<FlatAnswer, AllocError>
+    ensures { IfOk result (λ a. (dl : Target) (t : Tree) → IsKept dl t laid.now →
+        IsReadOf bytes.now dl t (placed_of laid.now) (told_by a)) }
+{
+    match read_value(alloc, laid, bytes)? {
+        Some(value) => value_numbers(alloc, &value),
+        None => Ok(FlatAnswer {
+            status: 3,
+            numbers: Vec::new(alloc),
+        }),
+    }
+}
+
+/// The answer to bytes of the type with these numbers. `AllocError` where a growth of memory was refused.
+pub(crate) fn answer_read(
+    alloc: Global,
+    string: &[u8],
+    tree: &[u64],
+    bytes: &[u8],
+) -> Result<FlatAnswer, AllocError>
+    ensures { IfOk result (λ a. IsToldOfLaid (IsReadOf bytes.now) string.now tree.now (told_by a)) }
+{
+    match lay_type(alloc, string, tree) {
+        Ok(laid) => read_of(alloc, &laid, bytes),
+        Err(Failure::Refused { status, number }) => one_number(alloc, status, number),
+        Err(Failure::OutOfMemory) => Err(AllocError),
+    }
+}
