@@ -38,4 +38,6 @@ pub mod ErrorText
 -- bytes that decide, and values put over bytes
 pub mod Deciding
 pub mod Putting
+-- which bytes values keep to
+pub mod Unused
 pub mod OfTree

@@ -7,15 +7,19 @@ use Rattle.abi_laid.specs.Faithful.{PaddingDecidesNothing}
 use Rattle.abi_laid.specs.Laid.{endian_of, placed_of}
 use Rattle.abi_laid.specs.Reading.{KeepsValues}
 use Rattle.abi_laid.specs.Tree.{Tree}
+use Rattle.abi_laid.specs.Unused.{KeepsToPlaces, TellsUnused}
 use Rattle.abi_laid.specs.Values.{LocalsHaveValues}
 
 -- The laid-out type keeps the data layout's byte order; the tree's values, and padding decides nothing, where each local of each
--- coroutine in the tree has a value; and its data places, where each type in it has values.
+-- coroutine in the tree has a value; and its data places, where each type in it has values. Values keep to their places, and handles tell
+-- what variants leave unused.
 pub record KeepsTree (dl : TargetDataLayout) (tree : Tree) (laid : Laid) : Type 0 where
   pub order : endian_of laid ≡ dl.endian
   pub values : LocalsHaveValues dl tree → KeepsValues dl tree laid
   pub padding : LocalsHaveValues dl tree → PaddingDecidesNothing dl (placed_of laid)
   pub places : all_inhabited_of laid ≡ true → KeepsPlaces dl tree laid
+  pub own_places : KeepsToPlaces dl.endian (placed_of laid)
+  pub unused : TellsUnused laid
 
 -- The laid-out type is one of some tree, under some data layout: it keeps the tree, in which each local of each coroutine has a value.
 pub record IsOfTree (laid : Laid) : Type 0 where

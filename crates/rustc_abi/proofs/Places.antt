@@ -12,3 +12,5 @@ pub mod SeenPlacesLemmas
 pub mod DecidingLemmas
 -- no layout is flagged, where each type in the tree has a value
 pub mod HaveLemmas
+-- values keep to data places, and those of a variant or state to the places of that one
+pub mod OwnPlacesLemmas

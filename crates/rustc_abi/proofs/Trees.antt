@@ -18,5 +18,7 @@ pub mod OneAnswer
 pub mod SomeAnswer
 -- what holds of each type that is laid out holds everywhere in it
 pub mod EverywhereLemmas
+-- what each type that is laid out takes over from its parts
+pub mod TakenLemmas
 -- what each kind of type has where its parts have it, each type that is laid out has
 pub mod KindsLemmas

@@ -1,6 +1,8 @@
 -- What holds of a type and of each type in it.
 use Rattle.std.specs.Prelude.{◌≡◌, ℕ, zero, suc, List, [], ◌∷◌, Ok, map, ⊤}
 use Rattle.abi_base.specs.declared.data_layout.TargetDataLayout.{TargetDataLayout}
+use Rattle.abi_laid.specs.declared.laid.Laid.{Laid}
+use Rattle.abi_laid.specs.Laid.{placed_of}
 use Rattle.abi_laid.specs.Tree.{Tree, scalar, pair, never, unit, array, vector, struct, union, enum, coroutine}
 use Rattle.abi_laid.specs.Tree.{Trees, no_trees, more_trees, Variants, no_variants, more_variants}
 use Rattle.abi_laid.specs.Placed.{Placed, never as nowhere, single, tagged, states as placed_states, Parts, Arms}
@@ -70,3 +72,7 @@ module _ (dl : TargetDataLayout) (P : Tree → Placed → Type 0) where
   -- the fact holds of the type, and of each in it
   abbrev pub Everywhere : Tree → Placed → Type 0
   Everywhere t placed = P t placed × Within t placed
+
+-- the fact holds of the type that was laid out from the tree, and of each in it
+abbrev pub EachIn : TargetDataLayout → Tree → (P : Tree → Placed → Type 0) → Laid → Type 0
+EachIn dl tree P laid = Everywhere dl P tree (placed_of laid)

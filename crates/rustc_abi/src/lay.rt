@@ -1,6 +1,6 @@
 //! The layout of a tree.
 
-ghost use Rattle.std.specs.Prelude.{◌≡◌, ◌↔◌, ◌⊎◌, ◌&&◌, IfOk, IfErr, Err, Ok, Result, not, true, ℕ};
+ghost use Rattle.std.specs.Prelude.{◌≡◌, ◌↔◌, ◌⊎◌, IfOk, IfErr, Err, Ok, Result, true, ℕ};
 ghost use Rattle.std.specs.Result.{IsErrAnd};
 ghost use Rattle.abi_base.specs.DataLayout.{IsLawfulDataLayout};
 ghost use Rattle.abi_laid.specs.Tree.{tree_of};
@@ -10,19 +10,21 @@ ghost use Rattle.abi_laid.specs.Faithful.{EachValueIsHeld, OnlyValuesAreHeld, No
 ghost use Rattle.abi_scalar.specs.Lawful.{IsLawfulLayout};
 ghost use Rattle.rustc_abi.specs.declared.error.LayError.{LayError};
 ghost use Rattle.abi_laid.specs.Placed.{Placed, layout_of};
-ghost use Rattle.abi_types.specs.Ty.Places.{is_place, is_unused};
+ghost use Rattle.abi_types.specs.Ty.Places.{is_place};
 ghost use Rattle.abi_laid.specs.Laid.{placed_of, endian_of, node_count_of, typed_of};
 ghost use Rattle.rustc_abi.specs.Laying.{IsLaying};
 ghost use Rattle.abi_laid.specs.Places.{is_data_place};
-ghost use Rattle.abi_laid.specs.Runs.{is_place_of_variant};
-ghost use Rattle.abi_types.specs.Ty.Runs.{IsVariantIndex};
+ghost use Rattle.abi_laid.specs.Unused.{KeepsToPlaces, TellsUnused};
 ghost use Rattle.abi_types.specs.Ty.Walks.{is_sized};
 ghost use Rattle.rustc_abi.specs.Clash.{AreClashingLocalsApart, HaveLocalsOneOffset};
 ghost use Rattle.rustc_abi.specs.Count.{HasNodes};
-ghost use Rattle.rustc_abi.specs.Everywhere.{Everywhere};
+ghost use Rattle.rustc_abi.specs.Aligns.{HasAlignOfParts};
+ghost use Rattle.rustc_abi.specs.Everywhere.{EachIn};
 ghost use Rattle.rustc_abi.specs.Inhabited.{EachHasValue, EachInhabited};
 ghost use Rattle.rustc_abi.specs.Least.{HasOverlapSize, IsLeast, IsTooLarge};
 ghost use Rattle.rustc_abi.specs.Lists.{HasLeastLists};
+ghost use Rattle.rustc_abi.specs.Marks.{HasMarksOfParts};
+ghost use Rattle.rustc_abi.specs.Niches.{HasNicheOfParts};
 ghost use Rattle.rustc_abi.specs.Orders.{LiesAsAsked};
 ghost use Rattle.abi_laid.specs.Unions.{Begins, IsCommon, InUnions};
 ghost use Rattle.abi_laid.specs.Untagged.{UntaggedNamed};
@@ -64,38 +66,39 @@ pub fn lay_out(alloc: Global, dl: &TargetDataLayout, tree: &TypeTree) -> Result<
     ensures laid { IfOk result (λ laid. IsLaying dl.now (tree_of tree.now) (Ok (placed_of laid))) }
     ensures layout { IfOk result (λ laid. IsLawfulLayout dl.now (layout_of (placed_of laid))) }
     ensures order { IfOk result (λ laid. endian_of laid ≡ dl.now.endian) }
-    ensures parts { IfOk result (λ laid.
-        Everywhere dl.now (λ t p. IsLaying dl.now t (Ok p)) (tree_of tree.now) (placed_of laid)) }
-    ensures one_each { IfOk result (λ laid. Everywhere dl.now (λ t p. (q : Placed) → IsLaying dl.now t (Ok q) → q ≡ p)
-        (tree_of tree.now) (placed_of laid)) }
-    ensures each_layout { IfOk result (λ laid.
-        Everywhere dl.now (λ t p. IsLawfulLayout dl.now (layout_of p)) (tree_of tree.now) (placed_of laid)) }
+    ensures parts { IfOk result (EachIn dl.now (tree_of tree.now) (λ t p. IsLaying dl.now t (Ok p))) }
+    ensures one_each { IfOk result (EachIn dl.now (tree_of tree.now)
+        (λ t p. (q : Placed) → IsLaying dl.now t (Ok q) → q ≡ p)) }
+    ensures each_layout { IfOk result (EachIn dl.now (tree_of tree.now)
+        (λ t p. IsLawfulLayout dl.now (layout_of p))) }
 
     // How large it is, in which orders lists of fields lie, and which sizes are refused.
-    ensures least { IfOk result (λ laid. Everywhere dl.now (IsLeast dl.now) (tree_of tree.now) (placed_of laid)) }
-    ensures overlap { IfOk result (λ laid.
-        Everywhere dl.now (HasOverlapSize dl.now) (tree_of tree.now) (placed_of laid)) }
-    ensures each_list { IfOk result (λ laid.
-        Everywhere dl.now (HasLeastLists dl.now) (tree_of tree.now) (placed_of laid)) }
-    ensures placed { IfOk result (λ laid. Everywhere dl.now (LiesAsAsked dl.now) (tree_of tree.now) (placed_of laid)) }
+    ensures least { IfOk result (EachIn dl.now (tree_of tree.now) (IsLeast dl.now)) }
+    ensures overlap { IfOk result (EachIn dl.now (tree_of tree.now) (HasOverlapSize dl.now)) }
+    ensures each_list { IfOk result (EachIn dl.now (tree_of tree.now) (HasLeastLists dl.now)) }
+    ensures placed { IfOk result (EachIn dl.now (tree_of tree.now) (LiesAsAsked dl.now)) }
     ensures overflow { IfErr result (λ e. e ≡ LayError.SizeOverflow → IsTooLarge dl.now (tree_of tree.now)) }
     ensures too_large { IsLawfulDataLayout dl.now → IsTooLarge dl.now (tree_of tree.now) →
         IsErrAnd result (λ e. (e ≡ LayError.SizeOverflow) ⊎ (e ≡ LayError.OutOfMemory)) }
 
+    // Which niche each type in it has, how it is aligned, and what it tells of itself, from its parts.
+    ensures best_niche { IfOk result (EachIn dl.now (tree_of tree.now) (HasNicheOfParts dl.now)) }
+    ensures alignment { IfOk result (EachIn dl.now (tree_of tree.now) (HasAlignOfParts dl.now)) }
+    ensures marks { IfOk result (EachIn dl.now (tree_of tree.now) (HasMarksOfParts dl.now)) }
+
     // What the locals of each coroutine in it share, and with how many nodes it is laid out.
-    ensures clash { IfOk result (λ laid. Everywhere dl.now AreClashingLocalsApart (tree_of tree.now) (placed_of laid)) }
-    ensures one_offset { IfOk result (λ laid. Everywhere dl.now HaveLocalsOneOffset (tree_of tree.now) (placed_of laid)) }
+    ensures clash { IfOk result (EachIn dl.now (tree_of tree.now) AreClashingLocalsApart) }
+    ensures one_offset { IfOk result (EachIn dl.now (tree_of tree.now) HaveLocalsOneOffset) }
     ensures counted { IfOk result (λ laid. HasNodes dl.now (tree_of tree.now) (node_count_of laid)) }
 
-    // Whether each type in it has values, that it is sized, and which bytes are data places, as its handle tells.
+    // Whether each type in it has values, that it is sized, and which bytes are data places, to which values keep.
     ensures inhabited { IfOk result (λ laid.
         (all_inhabited_of laid ≡ true) ↔ EachInhabited dl.now (tree_of tree.now)) }
     ensures all_have { IfOk result (λ laid. EachHasValue dl.now (tree_of tree.now) → all_inhabited_of laid ≡ true) }
     ensures sized { IfOk result (λ laid. is_sized (layout_of (placed_of laid)).backend_repr ≡ true) }
     ensures places { IfOk result (λ laid. (k : ℕ) → is_place (typed_of laid) k ≡ is_data_place (placed_of laid) k) }
-    ensures unused { IfOk result (λ laid. (i k : ℕ) → IsVariantIndex (layout_of (placed_of laid)).variants i →
-        is_unused (typed_of laid) i k ≡
-        (is_data_place (placed_of laid) k && not (is_place_of_variant (placed_of laid) i k))) }
+    ensures unused { IfOk result TellsUnused }
+    ensures own_places { IfOk result (λ laid. KeepsToPlaces dl.now.endian (placed_of laid)) }
 
     // What it keeps of the values, where each local of a coroutine has one.
     ensures exists { IfOk result (λ laid. LocalsHaveValues dl.now (tree_of tree.now) →

@@ -2,9 +2,10 @@
 pub mod Held
 pub mod Trees
 pub mod Fields
--- bytes that decide nothing, and those that a value doesn't cover
+-- bytes that decide nothing, and those that a value doesn't cover, or its variant leaves unused
 pub mod Padded
 pub mod Uncovered
+pub mod Spared
 -- numbers, types that are seen as numbers, and variants that are named
 pub mod Numbers
 pub mod Seen

@@ -1,7 +1,8 @@
 -- fields and values of lists
 pub mod Field
--- bytes that decide nothing
+-- bytes that decide nothing, and those that the present variant leaves unused
 pub mod Ignored
+pub mod Spared
 -- what C has
 pub mod EnumInC
 pub mod FieldOfC

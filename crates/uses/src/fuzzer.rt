@@ -1,6 +1,7 @@
 //! A fuzzer: bytes of a value, changed at will.
 
 mod spare;
+mod unused;
 
 ghost use Rattle.std.specs.Prelude.{◌≡◌, ◌↔◌, ◌&&◌, ◌⊎◌, IfErr, IfOk, IfSome, None, false, true, if◌then◌else◌, slice_set};
 ghost use Rattle.abi_index.specs.RangeSet.{is_in_ranges};
@@ -16,6 +17,7 @@ ghost use Rattle.uses.specs.Ignored.{DecidesNothing, with_padding};
 use rustc_abi::{Laid, RangeSet, Value, read_value};
 pub use spare::vary;
 use std::alloc::{AllocError, Global};
+pub use unused::vary_unused;
 
 /// Whether the byte with this number is in one of the ranges.
 fn is_in(ranges: &RangeSet, place: u64) -> bool

@@ -20,4 +20,4 @@ pub use debugger::{
     ReadBack, field_of, field_of_variant, local_of_state, numbers_of, put_field, read_back,
     slice_of_field,
 };
-pub use fuzzer::{Flipped, flip, ignore, vary};
+pub use fuzzer::{Flipped, flip, ignore, vary, vary_unused};

@@ -11,8 +11,12 @@ use Rattle.abi_laid.proofs.Deciding.DecideLemmas.{each_decides}
 use Rattle.abi_laid.proofs.Places.RoomLemmas.{within_room}
 use Rattle.rustc_abi.proofs.Places.DecidingLemmas.{coverable}
 use Rattle.rustc_abi.proofs.Places.HaveLemmas.{each_inhabited}
+use Rattle.rustc_abi.proofs.Places.OwnPlacesLemmas.{laid_own_places}
 use Rattle.rustc_abi.specs.Least.{HasOverlapSize, IsLeast}
 use Rattle.rustc_abi.specs.Lists.{HasLeastLists}
+use Rattle.rustc_abi.specs.Aligns.{HasAlignOfParts}
+use Rattle.rustc_abi.specs.Marks.{HasMarksOfParts}
+use Rattle.rustc_abi.specs.Niches.{HasNicheOfParts}
 use Rattle.rustc_abi.specs.Orders.{LiesAsAsked}
 use Rattle.rustc_abi.proofs.Coroutines.ClashLemmas.{laid_clash, laid_one_offset}
 use Rattle.rustc_abi.proofs.Sizes.EachListLemmas.{laid_lists}
@@ -20,6 +24,7 @@ use Rattle.rustc_abi.proofs.Sizes.PlacedLemmas.{laid_as_asked}
 use Rattle.abi_laid.proofs.Deciding.AgreeLemmas.{covered_decides}
 use Rattle.rustc_abi.proofs.Trees.EverywhereLemmas.{everywhere}
 use Rattle.rustc_abi.proofs.Trees.LaidLemmas.{laid_sized, laid_whole}
+use Rattle.rustc_abi.proofs.Trees.TakenLemmas.{laid_taken}
 use Rattle.rustc_abi.specs.declared.error.LayError.{LayError}
 use Rattle.rustc_abi.specs.Laying.{IsLaying}
 use Rattle.rustc_abi.proofs.Trees.LayLemmas.{begins_root, common_root, faithful_root, laid_root, lawful_root, room_root, untagged_root}
@@ -97,6 +102,24 @@ returns-clause-placed c =
     everywhere c.args.dl.now law (LiesAsAsked c.args.dl.now) (laid_as_asked c.args.dl.now law)
     (tree_of c.args.tree.now) _ (laid_root _ _ _ _ _ _ c.in_ok-_root.ensures.ok c.new.ensures.placed)
 
+pub returns-clause-best_niche : goal.returns-clause-best_niche
+returns-clause-best_niche c =
+    let law = c.is_lawful.ensures.0 c.if-not-is_lawful.false in
+    everywhere c.args.dl.now law (HasNicheOfParts c.args.dl.now) (λ t p h. (laid_taken c.args.dl.now law t p h).0)
+    (tree_of c.args.tree.now) _ (laid_root _ _ _ _ _ _ c.in_ok-_root.ensures.ok c.new.ensures.placed)
+
+pub returns-clause-alignment : goal.returns-clause-alignment
+returns-clause-alignment c =
+    let law = c.is_lawful.ensures.0 c.if-not-is_lawful.false in
+    everywhere c.args.dl.now law (HasAlignOfParts c.args.dl.now) (λ t p h. (laid_taken c.args.dl.now law t p h).1)
+    (tree_of c.args.tree.now) _ (laid_root _ _ _ _ _ _ c.in_ok-_root.ensures.ok c.new.ensures.placed)
+
+pub returns-clause-marks : goal.returns-clause-marks
+returns-clause-marks c =
+    let law = c.is_lawful.ensures.0 c.if-not-is_lawful.false in
+    everywhere c.args.dl.now law (HasMarksOfParts c.args.dl.now) (λ t p h. (laid_taken c.args.dl.now law t p h).2)
+    (tree_of c.args.tree.now) _ (laid_root _ _ _ _ _ _ c.in_ok-_root.ensures.ok c.new.ensures.placed)
+
 pub returns-clause-clash : goal.returns-clause-clash
 returns-clause-clash c =
     let law = c.is_lawful.ensures.0 c.if-not-is_lawful.false in
@@ -169,12 +192,25 @@ returns-clause-covers c = λ all.
       covers = λ k place. own.covers (room_root _ _ _ _ _ _ c.in_ok-_root.ensures.ok c.new.ensures.placed) k place;
     }
 
+pub returns-clause-own_places : goal.returns-clause-own_places
+returns-clause-own_places c =
+    let law = c.is_lawful.ensures.0 c.if-not-is_lawful.false in
+    laid_own_places c.args.dl.now.endian c.args.dl.now law (tree_of c.args.tree.now) _ (laid_root _ _ _ _ _ _ c.in_ok-_root.ensures.ok c.new.ensures.placed)
+
+pub returns-clause-unused : goal.returns-clause-unused
+returns-clause-unused c i k index =
+    let law = c.is_lawful.ensures.0 c.if-not-is_lawful.false in
+    let told = laid_told c.args.dl.now law (tree_of c.args.tree.now) _ (laid_root _ _ _ _ _ _ c.in_ok-_root.ensures.ok c.new.ensures.placed) in
+    told.unused (typed_of c.new.result) (seen_root c.new.result) i k index
+
 pub returns-clause-of_tree : goal.returns-clause-of_tree
 returns-clause-of_tree c = record {
   order = c.new.ensures.endian;
   values = returns-clause-keeps c;
   padding = returns-clause-padding c;
   places = returns-clause-covers c;
+  own_places = returns-clause-own_places c;
+  unused = returns-clause-unused c;
 }
 
 pub returns-clause-decides : goal.returns-clause-decides
@@ -193,12 +229,6 @@ returns-clause-places c k =
     let law = c.is_lawful.ensures.0 c.if-not-is_lawful.false in
     let told = laid_told c.args.dl.now law (tree_of c.args.tree.now) _ (laid_root _ _ _ _ _ _ c.in_ok-_root.ensures.ok c.new.ensures.placed) in
     told.places (typed_of c.new.result) (seen_root c.new.result) k
-
-pub returns-clause-unused : goal.returns-clause-unused
-returns-clause-unused c i k index =
-    let law = c.is_lawful.ensures.0 c.if-not-is_lawful.false in
-    let told = laid_told c.args.dl.now law (tree_of c.args.tree.now) _ (laid_root _ _ _ _ _ _ c.in_ok-_root.ensures.ok c.new.ensures.placed) in
-    told.unused (typed_of c.new.result) (seen_root c.new.result) i k index
 
 pub returns-clause-too_large : goal.returns-clause-too_large
 returns-clause-too_large c law large =

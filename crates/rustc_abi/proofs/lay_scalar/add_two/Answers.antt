@@ -1,10 +1,8 @@
-use Rattle.std.proofs.Common.{false, ◌≡◌, ◌<◌, ◌∙◌, arith, ap, subst}
+use Rattle.std.proofs.Common.{false, ◌∙◌, arith, subst}
 use Rattle.std.specs.Cmp.Derive.{both_true}
 use Rattle.std.proofs.lemmas.Bool.{lt-ltb}
 use Rattle.std.proofs.lemmas.Result.{IfOk-weaker}
-use Rattle.abi_base.specs.DataLayout.{size_bound}
 use Rattle.abi_scalar.specs.Lawful.{IsLawfulLayout}
-use Rattle.abi_scalar.specs.Pair.{pair_size}
 use Rattle.abi_scalar.proofs.ReadableLemmas.{lawful_readable}
 use Rattle.abi_laid.specs.declared.node.Shape.TheVariants.{Pair}
 use Rattle.abi_laid.specs.Nodes.{meaning, types_in}
