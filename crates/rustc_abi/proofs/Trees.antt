@@ -20,5 +20,7 @@ pub mod SomeAnswer
 pub mod EverywhereLemmas
 -- what each type that is laid out takes over from its parts
 pub mod TakenLemmas
+-- worked facts: what the clauses on these refuse of small types
+pub mod TakenFacts
 -- what each kind of type has where its parts have it, each type that is laid out has
 pub mod KindsLemmas
