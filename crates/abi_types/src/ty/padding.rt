@@ -83,6 +83,7 @@ fn unused<W: Walk>(alloc: Global, this: W, variant: VariantIdx) -> Result<RangeS
 
 /// Of each of the first `count` variants the bytes that some variant covers, and neither this one nor a field that
 /// all of them have.
+#[tactic(auto, using(crate::proofs::PlacesLemmas::unused_more))]
 fn unused_of_each<W: Walk>(
     alloc: Global,
     this: W,
