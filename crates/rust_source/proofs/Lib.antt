@@ -1,0 +1,4 @@
+mod Growth
+mod NameTexts
+mod Steps
+mod TokenSteps

@@ -1,0 +1,173 @@
+//! Items as they are written.
+
+use crate::place::{Place, Symbol};
+use crate::syntax::{Expr, IntegerKind, Type};
+
+/// What `repr` attributes ask for, those of an item together.
+#[derive(Clone, Copy, PartialEq, Eq)]
+pub struct Repr {
+    /// Where the first of them stands, where there is one.
+    pub at: Option<Place>,
+    /// `C`
+    pub c: bool,
+    /// `Rust`
+    pub rust: bool,
+    /// `transparent`
+    pub transparent: bool,
+    /// `simd`
+    pub simd: bool,
+    /// An integer type.
+    pub integer: Option<IntegerKind>,
+    /// `packed(N)`, in bytes, and 1 for `packed`; the least of several.
+    pub packed: Option<u64>,
+    /// `align(N)`, in bytes; the largest of several.
+    pub align: Option<u64>,
+}
+
+/// The name of a field.
+#[derive(Clone, Copy, PartialEq, Eq)]
+pub enum FieldName {
+    /// As it is written.
+    Named(Symbol),
+    /// Its number among the fields of a tuple.
+    Numbered(u32),
+}
+
+/// A field.
+#[derive(Drop)]
+pub struct Field {
+    /// Its name.
+    pub name: FieldName,
+    /// Where its name stands, or its type where it has none.
+    pub at: Place,
+    /// Its type.
+    pub ty: Type,
+    /// Where its type begins.
+    pub start: Place,
+    /// Where its type ends: the place behind its last byte.
+    pub end: Place,
+}
+
+/// The fields of a struct, a union or a variant, in the order of the source; those that a `cfg` takes out are left out.
+#[derive(Drop)]
+pub struct Fields {
+    /// Whether they stand in parentheses.
+    pub is_tuple: bool,
+    pub all: Vec<Field>,
+}
+
+/// A variant of an enum.
+#[derive(Drop)]
+pub struct Variant {
+    pub name: Symbol,
+    pub at: Place,
+    pub fields: Fields,
+    /// The discriminant, where it is written.
+    pub discriminant: Option<Expr>,
+}
+
+/// What kind of parameter a generic item has.
+#[derive(Drop)]
+pub enum ParameterKind {
+    /// A type, and its default.
+    Type(Option<Type>),
+    /// A constant of a type, and its default.
+    Const(Type, Option<Expr>),
+}
+
+/// A parameter of a generic item. Lifetimes are left out.
+#[derive(Drop)]
+pub struct Parameter {
+    pub name: Symbol,
+    pub at: Place,
+    /// Whether `?Sized` is among its bounds, where they stand or behind `where`.
+    pub may_be_unsized: bool,
+    pub kind: ParameterKind,
+}
+
+/// An enum's variants, in the order of the source; those that a `cfg` takes out are left out.
+#[derive(Drop)]
+pub struct Enum {
+    pub variants: Vec<Variant>,
+}
+
+/// A constant's type and value.
+#[derive(Drop)]
+pub struct Const {
+    pub ty: Type,
+    /// Its value, where it has one.
+    pub value: Option<Expr>,
+}
+
+/// What an item is.
+#[derive(Drop)]
+pub enum ItemKind {
+    Struct(Fields),
+    Enum(Enum),
+    Union(Fields),
+    /// Another name of a type.
+    Alias(Type),
+    Const(Const),
+}
+
+/// An item that makes a type or is a constant, outside of bodies.
+#[derive(Drop)]
+pub struct Item {
+    pub name: Symbol,
+    /// Where its name stands.
+    pub at: Place,
+    /// The module that it is in, by its number.
+    pub module: u32,
+    /// Its parameters, lifetimes left out.
+    pub parameters: Vec<Parameter>,
+    pub repr: Repr,
+    /// The first and the last number that the scalar of its first field may be, as the standard library's own types
+    /// ask for.
+    pub valid_range: Option<(u128, u128)>,
+    pub kind: ItemKind,
+}
+
+/// A name that a path of a `use` has.
+#[derive(Clone, Copy, PartialEq, Eq)]
+pub struct UsedName {
+    pub name: Symbol,
+    pub at: Place,
+}
+
+/// What a `use` brings in: one path of its groups.
+#[derive(Drop)]
+pub struct Use {
+    /// The module that it stands in, by its number.
+    pub module: u32,
+    /// Whether its path begins with `::`.
+    pub is_global: bool,
+    /// The names of the path. Of `use a::b::{self}` they are `a`, `b`.
+    pub path: Vec<UsedName>,
+    /// The name that it is brought in as; none where it is all of a module's names (`*`) or none (`as _`).
+    pub name: Option<Symbol>,
+    /// Whether it is all of a module's names.
+    pub is_glob: bool,
+}
+
+/// A module.
+#[derive(Clone, Copy, PartialEq, Eq)]
+pub struct Module {
+    /// Its name; of a source's root that of the source.
+    pub name: Symbol,
+    /// The module that it is in, by its number; a root has none.
+    pub parent: Option<u32>,
+}
+
+/// What sources have, in the order in which they were read.
+#[derive(Drop)]
+pub struct Items {
+    /// The modules, by their numbers. A module stands behind the one that it is in.
+    pub modules: Vec<Module>,
+    /// The items, in the order of the source.
+    pub items: Vec<Item>,
+    pub uses: Vec<Use>,
+    /// How many items were passed over.
+    pub passed_over: u64,
+    /// Names of `cfg` that aren't known here, and count as false, each once.
+    pub unknown_cfgs: Vec<Symbol>,
+}

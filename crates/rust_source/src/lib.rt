@@ -1,0 +1,26 @@
+//! Rust source as items: its tokens, and of its items those that make types, with their generics, attributes and
+//! expressions as they are written. What names mean is found by the crates above.
+#![tactic(auto)]
+
+// What a source is made of.
+mod fault;
+mod item;
+mod names;
+mod place;
+mod syntax;
+mod target;
+
+// A source read.
+mod reader;
+mod tokens;
+
+pub use fault::{SourceFault, SourceFaultKind};
+pub use item::{
+    Const, Enum, Field, FieldName, Fields, Item, ItemKind, Items, Module, Parameter, ParameterKind,
+    Repr, Use, UsedName, Variant,
+};
+pub use names::Names;
+pub use place::{Place, Symbol};
+pub use reader::{Source, read_items, read_type};
+pub use syntax::{Argument, Binary, Expr, IntegerKind, Path, Segment, Type, Unary, Unevaluated};
+pub use target::{CfgTarget, Family};

@@ -1,0 +1,82 @@
+//! The names of sources, each once.
+
+ghost use Rattle.std.specs.Prelude.{◌≡◌, IfOk, IfSome};
+ghost use Rattle.rust_source.specs.Growth.{BeginsWith};
+ghost use Rattle.rust_source.specs.Names.{text_of};
+
+use crate::place::Symbol;
+use indexmap::IndexSet;
+use std::alloc::{AllocError, Global};
+
+/// The words that readers ask for by their numbers, in that order.
+static WORDS: [&str; 5] = ["crate", "self", "super", "Self", "_"];
+
+impl Symbol {
+    /// `crate`
+    pub const CRATE: Symbol = Symbol(0);
+    /// `self`
+    pub const SELF: Symbol = Symbol(1);
+    /// `super`
+    pub const SUPER: Symbol = Symbol(2);
+    /// `Self`
+    pub const SELF_TYPE: Symbol = Symbol(3);
+    /// `_`
+    pub const UNDERSCORE: Symbol = Symbol(4);
+}
+
+/// The names of sources, each once, by their numbers.
+#[derive(Drop)]
+pub struct Names {
+    known: IndexSet<String>,
+}
+
+impl Names {
+    /// The names that each source may have: `crate`, `self`, `super`, `Self` and `_`. An error comes where a growth of
+    /// memory was refused.
+    pub fn new(alloc: Global) -> Result<Names, AllocError> {
+        let mut names = Names {
+            known: IndexSet::new(alloc),
+        };
+        for word in &WORDS {
+            let _ = names.add(alloc, word)?;
+        }
+        Ok(names)
+    }
+
+    /// The number of a name, which it gets where it has none. An error comes where a growth of memory was refused, or
+    /// where 2^32 names have numbers. Names that have numbers keep them.
+    pub fn add(&mut self, alloc: Global, text: &str) -> Result<Symbol, AllocError>
+        ensures named { IfOk result (λ name. text_of self.new name.0 ≡ text.now) }
+        ensures kept { BeginsWith self.new.known.keys self.old.known.keys }
+    {
+        if let Some(found) = self.find(text) {
+            return Ok(found);
+        }
+        let (number, _is_new) = self.known.insert_full(String::from_str(alloc, text)?)?;
+        match u32::try_from(number) {
+            Ok(number) => Ok(Symbol(number)),
+            Err(_) => Err(AllocError),
+        }
+    }
+
+    /// The number of a name, where it has one.
+    pub fn find(&self, text: &str) -> Option<Symbol>
+        ensures { IfSome result (λ name. text_of self.now name.0 ≡ text.now) }
+    {
+        let number = self.known.get_index_of(text)?;
+        match u32::try_from(number) {
+            Ok(number) => Some(Symbol(number)),
+            Err(_) => None,
+        }
+    }
+
+    /// The text of a name, which is empty where no name has the number.
+    pub fn text(&self, name: Symbol) -> &str
+        ensures { result.now ≡ text_of self.now name.0 }
+    {
+        match self.known.get_index(name.0 as usize) {
+            Some(text) => text.as_str(),
+            None => "",
+        }
+    }
+}

@@ -1,0 +1,129 @@
+//! Sources and single types, read.
+
+mod attributes;
+mod cfg;
+mod cursor;
+mod expressions;
+mod fields;
+mod generics;
+mod items;
+mod literals;
+mod naming;
+mod operators;
+mod passing;
+mod paths;
+mod repeated;
+mod repr;
+mod room;
+mod types;
+mod uses;
+
+ghost use Rattle.std.specs.Prelude.{◌≡◌, [], IfOk, length};
+ghost use Rattle.rust_source.specs.Growth.{Keeps};
+
+use crate::fault::{SourceFault, SourceFaultKind};
+use crate::item::Items;
+use crate::names::Names;
+use crate::place::{Place, Symbol};
+use crate::reader::attributes::Rules;
+use crate::reader::cursor::{Cursor, fault, is_done};
+use crate::reader::items::read_root;
+use crate::reader::room::MOST_NESTED;
+use crate::syntax::Type;
+use crate::target::CfgTarget;
+use crate::tokens::token::Token;
+use crate::tokens::tokens;
+use std::alloc::Global;
+
+/// A source, and how it is read.
+#[derive(Clone, Copy)]
+pub struct Source<'a> {
+    /// Its text.
+    pub text: &'a str,
+    /// The place of its first byte, among all sources that are read together.
+    pub start: Place,
+    /// The name of its root module.
+    pub root: Symbol,
+    /// Whether it may use what only the standard library's own sources may.
+    pub is_trusted: bool,
+}
+
+impl Items {
+    /// Nothing read.
+    pub fn new(alloc: Global) -> Items
+        ensures modules { result.modules.items ≡ [] }
+        ensures items { result.items.items ≡ [] }
+        ensures uses { result.uses.items ≡ [] }
+    {
+        Items {
+            modules: Vec::new(alloc),
+            items: Vec::new(alloc),
+            uses: Vec::new(alloc),
+            passed_over: 0,
+            unknown_cfgs: Vec::new(alloc),
+        }
+    }
+}
+
+/// The tokens of a text whose first byte has this place.
+fn tokens_at(alloc: Global, text: &str, start: Place) -> Result<Vec<Token>, SourceFault> {
+    match tokens(alloc, text.as_bytes()) {
+        Ok(found) => Ok(found),
+        Err(fault) => Err(SourceFault {
+            at: Place(start.0.saturating_add(fault.at.0)),
+            kind: fault.kind,
+        }),
+    }
+}
+
+/// A cursor at the first token.
+fn beginning<'a>(text: &'a str, start: Place, tokens: &'a [Token]) -> Cursor<'a> {
+    Cursor {
+        text,
+        tokens,
+        start: start.0,
+        at: 0,
+        end: tokens.len(),
+    }
+}
+
+/// Reads a source. Its items go behind those that are there, in a new root module of its name, whose number is the
+/// answer. What `cfg` takes out is left out. The modules, the items and the uses that are there stay in front.
+///
+/// The first fault is told, at its place; what was read before it may be among the items then. `OutOfMemory` comes
+/// where a growth of memory was refused.
+pub fn read_items(
+    alloc: Global,
+    target: &CfgTarget<'_>,
+    names: &mut Names,
+    items: &mut Items,
+    source: Source<'_>,
+) -> Result<u32, SourceFault>
+    ensures { Keeps items.old items.new }
+{
+    let found = tokens_at(alloc, source.text, source.start)?;
+    let mut cursor = beginning(source.text, source.start, &found);
+    let rules = Rules {
+        target: *target,
+        is_trusted: source.is_trusted,
+    };
+    read_root(alloc, &rules, names, items, source.root, &mut cursor)
+}
+
+/// Reads a type, which is all of the text, as `Option<Header>`. The first fault is told, at its place, the text's first
+/// byte having the place `start`. `OutOfMemory` comes where a growth of memory was refused.
+pub fn read_type(
+    alloc: Global,
+    names: &mut Names,
+    text: &str,
+    start: Place,
+) -> Result<Type, SourceFault> {
+    let found = tokens_at(alloc, text, start)?;
+    let mut cursor = beginning(text, start, &found);
+    let ty = crate::reader::types::read_type(alloc, names, &mut cursor, MOST_NESTED)?;
+    if is_done(&cursor) {
+        Ok(ty)
+    } else {
+        Err(fault(&cursor, SourceFaultKind::ExpectedType))
+    }
+}

@@ -1,0 +1,19 @@
+//! How deep a source may nest.
+
+ghost use Rattle.std.specs.Prelude.{◌≡◌, ◌+◌, IfOk};
+
+use crate::fault::{SourceFault, SourceFaultKind};
+use crate::reader::cursor::{Cursor, fault};
+
+/// How many others a type, an expression, an attribute or a module may stand in.
+pub(crate) const MOST_NESTED: u32 = 200;
+
+/// The room that is left within what begins at the next token.
+pub(crate) fn less(cursor: &Cursor<'_>, room: u32) -> Result<u32, SourceFault>
+    ensures { IfOk result (λ left. left + 1 ≡ room) }
+{
+    match room.checked_sub(1) {
+        Some(less) => Ok(less),
+        None => Err(fault(cursor, SourceFaultKind::TooDeep)),
+    }
+}

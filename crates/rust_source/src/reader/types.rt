@@ -1,0 +1,245 @@
+//! Types.
+
+use crate::fault::{SourceFault, SourceFaultKind};
+use crate::names::Names;
+use crate::place::Place;
+use crate::reader::cursor::{
+    Cursor, expect, expect_comma, fault, is_done, is_next, is_pair, next_kind, pass, pass_tree,
+    place, take, take_group, take_pair, take_word,
+};
+use crate::reader::expressions::read_whole;
+use crate::reader::naming::is_path_name;
+use crate::reader::passing::{pass_angles, pass_bounds};
+use crate::reader::paths::read_path;
+use crate::reader::room::{MOST_NESTED, less};
+use crate::syntax::{Path, Type, Unevaluated};
+use crate::tokens::keyword::Keyword;
+use crate::tokens::token::{Bracket, TokenKind};
+use std::alloc::Global;
+
+/// What stands before the type that it points to.
+#[derive(Clone, Copy)]
+enum Pointing {
+    /// `&`
+    Reference,
+    /// `*`
+    Pointer,
+}
+
+/// Passes over a lifetime, where one is next.
+fn pass_lifetime(cursor: &mut Cursor<'_>) {
+    if next_kind(cursor) == Some(TokenKind::Lifetime) {
+        pass(cursor, 1);
+    }
+}
+
+/// The `&` or `*` that is next, which is passed over with what belongs to it. None where neither is next.
+fn take_pointing(cursor: &mut Cursor<'_>) -> Result<Option<Pointing>, SourceFault> {
+    if take(cursor, b'&') {
+        pass_lifetime(cursor);
+        let _ = take_word(cursor, Keyword::Mut);
+        return Ok(Some(Pointing::Reference));
+    }
+    if !take(cursor, b'*') {
+        return Ok(None);
+    }
+    if take_word(cursor, Keyword::Mut) || take_word(cursor, Keyword::Const) {
+        Ok(Some(Pointing::Pointer))
+    } else {
+        Err(fault(cursor, SourceFaultKind::ExpectedType))
+    }
+}
+
+/// What stands before a type, which is passed over.
+fn take_all_pointing(alloc: Global, cursor: &mut Cursor<'_>) -> Result<Vec<Pointing>, SourceFault> {
+    let mut all = Vec::new(alloc);
+    for _ in 0..MOST_NESTED {
+        match take_pointing(cursor)? {
+            Some(one) => all.push(one)?,
+            None => return Ok(all),
+        }
+    }
+    Err(fault(cursor, SourceFaultKind::TooDeep))
+}
+
+/// The type with what stands before it, of which the last is the nearest.
+fn pointed(alloc: Global, target: Type, pointing: Vec<Pointing>) -> Result<Type, SourceFault> {
+    let mut pointing = pointing;
+    let mut whole = target;
+    for _ in 0..pointing.len() {
+        match pointing.pop() {
+            Some(Pointing::Reference) => whole = Type::Reference(Box::new(alloc, whole)?),
+            Some(Pointing::Pointer) => whole = Type::Pointer(Box::new(alloc, whole)?),
+            None => {}
+        }
+    }
+    Ok(whole)
+}
+
+/// Passes over a type in angle brackets, as `<T as Trait>::Name`.
+fn pass_associated(cursor: &mut Cursor<'_>) -> Type {
+    let at = place(cursor);
+    pass_angles(cursor);
+    for _ in cursor.at..cursor.end {
+        if !take_pair(cursor, b':', b':') {
+            break;
+        }
+        if !is_next(cursor, b'<') {
+            pass(cursor, 1);
+        }
+        pass_angles(cursor);
+    }
+    Type::Unevaluated(Unevaluated::Associated, at)
+}
+
+/// Whether a function pointer's `fn` follows what may stand before it, which is passed over.
+fn takes_function(cursor: &mut Cursor<'_>) -> bool {
+    if take_word(cursor, Keyword::For) {
+        pass_angles(cursor);
+    }
+    let _ = take_word(cursor, Keyword::Unsafe);
+    if take_word(cursor, Keyword::Extern) && next_kind(cursor) == Some(TokenKind::Text) {
+        pass(cursor, 1);
+    }
+    take_word(cursor, Keyword::Fn)
+}
+
+/// A function pointer, or a trait behind `for<'a>`. What it gives is passed over.
+fn take_function(cursor: &mut Cursor<'_>) -> Result<Type, SourceFault> {
+    if !takes_function(cursor) {
+        let _ = pass_bounds(cursor);
+        return Ok(Type::Dyn);
+    }
+    if take_group(cursor, Bracket::Round).is_none() {
+        return Err(fault(cursor, SourceFaultKind::ExpectedType));
+    }
+    if take_pair(cursor, b'-', b'>') {
+        let _ = pass_bounds(cursor);
+    }
+    Ok(Type::Function)
+}
+
+/// A type that begins with this keyword, and is no path.
+fn take_worded(cursor: &mut Cursor<'_>, first: Keyword) -> Result<Type, SourceFault> {
+    let at = place(cursor);
+    match first {
+        Keyword::Fn | Keyword::For | Keyword::Unsafe | Keyword::Extern => take_function(cursor),
+        Keyword::Dyn => {
+            let _ = pass_bounds(cursor);
+            Ok(Type::Dyn)
+        }
+        Keyword::Impl => {
+            let _ = pass_bounds(cursor);
+            Ok(Type::Unevaluated(Unevaluated::Impl, at))
+        }
+        Keyword::Underscore => {
+            pass(cursor, 1);
+            Ok(Type::Unevaluated(Unevaluated::Inferred, at))
+        }
+        _ => Err(fault(cursor, SourceFaultKind::ExpectedType)),
+    }
+}
+
+/// A type that has no types within it that are read, and is no path.
+fn take_simple(cursor: &mut Cursor<'_>) -> Result<Type, SourceFault> {
+    match next_kind(cursor) {
+        Some(TokenKind::Punct(b'!')) => {
+            pass(cursor, 1);
+            Ok(Type::Never)
+        }
+        Some(TokenKind::Punct(b'<')) => Ok(pass_associated(cursor)),
+        Some(TokenKind::Keyword(first)) => take_worded(cursor, first),
+        _ => Err(fault(cursor, SourceFaultKind::ExpectedType)),
+    }
+}
+
+/// The type that a path is, or the call of the macro that it names.
+fn after_path(cursor: &mut Cursor<'_>, path: Path, at: Place) -> Type {
+    if take(cursor, b'!') {
+        pass_tree(cursor);
+        Type::Unevaluated(Unevaluated::Macro, at)
+    } else {
+        Type::Path(path)
+    }
+}
+
+/// Whether a path is next.
+fn begins_path(cursor: &Cursor<'_>) -> bool {
+    is_pair(cursor, b':', b':') || is_path_name(cursor)
+}
+
+/// A type. Types and expressions may stand in `room` others here.
+#[cycle(terms)]
+pub(crate) fn read_type(
+    alloc: Global,
+    names: &mut Names,
+    cursor: &mut Cursor<'_>,
+    room: u32,
+) -> Result<Type, SourceFault> {
+    let room = less(cursor, room)?;
+    let pointing = take_all_pointing(alloc, cursor)?;
+    let target = read_target(alloc, names, cursor, room)?;
+    pointed(alloc, target, pointing)
+}
+
+/// A type that no `&` or `*` stands before.
+#[cycle(terms)]
+fn read_target(
+    alloc: Global,
+    names: &mut Names,
+    cursor: &mut Cursor<'_>,
+    room: u32,
+) -> Result<Type, SourceFault> {
+    if let Some(mut inside) = take_group(cursor, Bracket::Round) {
+        return read_tuple(alloc, names, &mut inside, room);
+    }
+    if let Some(mut inside) = take_group(cursor, Bracket::Square) {
+        return read_list(alloc, names, &mut inside, room);
+    }
+    if !begins_path(cursor) {
+        return take_simple(cursor);
+    }
+    let at = place(cursor);
+    let path = read_path(alloc, names, cursor, true, room)?;
+    Ok(after_path(cursor, path, at))
+}
+
+/// The type that stands in parentheses.
+#[cycle(terms)]
+fn read_tuple(
+    alloc: Global,
+    names: &mut Names,
+    inside: &mut Cursor<'_>,
+    room: u32,
+) -> Result<Type, SourceFault> {
+    let mut types = Vec::new(alloc);
+    for _ in inside.at..inside.end {
+        if is_done(inside) {
+            break;
+        }
+        let one = read_type(alloc, names, inside, room)?;
+        if types.is_empty() && is_done(inside) {
+            return Ok(one);
+        }
+        types.push(one)?;
+        expect_comma(inside)?;
+    }
+    Ok(Type::Tuple(types))
+}
+
+/// The array's or the slice's type that stands in square brackets.
+#[cycle(terms)]
+fn read_list(
+    alloc: Global,
+    names: &mut Names,
+    inside: &mut Cursor<'_>,
+    room: u32,
+) -> Result<Type, SourceFault> {
+    let element = Box::new(alloc, read_type(alloc, names, inside, room)?)?;
+    if is_done(inside) {
+        return Ok(Type::Slice(element));
+    }
+    expect(inside, b';', SourceFaultKind::ExpectedSemicolon)?;
+    let count = Box::new(alloc, read_whole(alloc, names, inside, room)?)?;
+    Ok(Type::Array(element, count))
+}

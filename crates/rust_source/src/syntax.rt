@@ -1,0 +1,156 @@
+//! Types, paths and expressions as they are written. Parentheses, lifetimes and comments are gone.
+
+use crate::place::{Place, Symbol};
+
+/// The integer types of the language, which a literal's suffix names.
+#[derive(Clone, Copy, PartialEq, Eq)]
+pub enum IntegerKind {
+    I8,
+    I16,
+    I32,
+    I64,
+    I128,
+    Isize,
+    U8,
+    U16,
+    U32,
+    U64,
+    U128,
+    Usize,
+}
+
+/// What this reader doesn't evaluate.
+#[derive(Clone, Copy, PartialEq, Eq)]
+pub enum Unevaluated {
+    /// A macro's call.
+    Macro,
+    /// `impl Trait`.
+    Impl,
+    /// `<T as Trait>::Name`, or what else stands in angle brackets before a path.
+    Associated,
+    /// `_`.
+    Inferred,
+    /// A string, a float, a block of statements, a `match`, a closure, a method's call, a field, an index, a list, or
+    /// what else is no constant that is read here.
+    Expression,
+}
+
+/// A type, as it is written.
+#[cycle(syntax)]
+#[derive(Drop)]
+pub enum Type {
+    /// `!`
+    Never,
+    /// `()`, `(A,)`, `(A, B)`
+    Tuple(Vec<Type>),
+    /// `[T; N]`
+    Array(Box<Type>, Box<Expr>),
+    /// `[T]`
+    Slice(Box<Type>),
+    /// `&T`, `&mut T`
+    Reference(Box<Type>),
+    /// `*const T`, `*mut T`
+    Pointer(Box<Type>),
+    /// `fn(A) -> B`
+    Function,
+    /// `dyn Trait`
+    Dyn,
+    /// A name, with the modules before it and the arguments behind.
+    Path(Path),
+    /// One that isn't evaluated, and where it begins.
+    Unevaluated(Unevaluated, Place),
+}
+
+/// A path, as it is written: `std::vec::Vec<u8>`, `self::A`, `Self`.
+#[cycle(syntax)]
+#[derive(Drop)]
+pub struct Path {
+    /// Whether it begins with `::`.
+    pub is_global: bool,
+    /// Its names, at least one: `crate`, `self`, `super` and `Self` too.
+    pub segments: Vec<Segment>,
+}
+
+/// A name of a path.
+#[cycle(syntax)]
+#[derive(Drop)]
+pub struct Segment {
+    /// The name.
+    pub name: Symbol,
+    /// Where it stands.
+    pub at: Place,
+    /// What stands in angle brackets behind it, lifetimes left out.
+    pub arguments: Vec<Argument>,
+}
+
+/// What a parameter is given.
+#[cycle(syntax)]
+#[derive(Drop)]
+pub enum Argument {
+    /// A type. A name alone may be a constant's.
+    Type(Type),
+    /// A literal, or an expression in braces.
+    Const(Expr),
+    /// `Name = Type`, which isn't evaluated, and where it stands.
+    Binding(Place),
+}
+
+/// An operator before its operand.
+#[derive(Clone, Copy, PartialEq, Eq)]
+pub enum Unary {
+    /// `-`
+    Minus,
+    /// `!`
+    Not,
+}
+
+/// An operator between its operands.
+#[derive(Clone, Copy, PartialEq, Eq)]
+pub enum Binary {
+    Add,
+    Sub,
+    Mul,
+    Div,
+    Rem,
+    Shl,
+    Shr,
+    BitAnd,
+    BitOr,
+    BitXor,
+    Equal,
+    NotEqual,
+    Less,
+    LessOrEqual,
+    Greater,
+    GreaterOrEqual,
+    /// `&&`
+    And,
+    /// `||`
+    Or,
+}
+
+/// An expression, as it is written.
+#[cycle(syntax)]
+#[derive(Drop)]
+pub enum Expr {
+    /// An integer, the type that its suffix names, and where it stands. `b'a'` is a `u8`.
+    Integer(u128, Option<IntegerKind>, Place),
+    /// A character's code, and where it stands.
+    Char(u32, Place),
+    /// `true` or `false`, and where it stands.
+    Bool(bool, Place),
+    /// A constant, or one of a type, as `u8::MAX`.
+    Path(Path),
+    /// A call of what a path names, its arguments, and where it begins.
+    Call(Path, Vec<Expr>, Place),
+    /// An operator before its operand, and where the operator stands.
+    Unary(Unary, Box<Expr>, Place),
+    /// An operator between its operands, and where the operator stands.
+    Binary(Binary, Box<Expr>, Box<Expr>, Place),
+    /// `A as T`, and where `as` stands.
+    Cast(Box<Expr>, Box<Type>, Place),
+    /// `if A { B } else { C }`, and where `if` stands.
+    If(Box<Expr>, Box<Expr>, Box<Expr>, Place),
+    /// One that isn't evaluated, and where it begins.
+    Unevaluated(Unevaluated, Place),
+}
