@@ -27,30 +27,30 @@ name_text (Field i) = codes "field " ++ decimal i
 name_text Tag = codes "tag"
 name_text (VariantField v i) = codes "variant " ++ decimal v ++ codes " field " ++ decimal i
 
--- names behind others
-abbrev pub more_names : List Name → List ℕ
-more_names [] = []
-more_names (n ∷ names) = codes " | " ++ name_text n ++ more_names names
+-- names behind others, each part called so
+abbrev pub more_names : (called : Name → List ℕ) → List Name → List ℕ
+more_names called [] = []
+more_names called (n ∷ names) = codes " | " ++ called n ++ more_names called names
 
 -- names in a row; what has none is padding
-abbrev pub names_text : List Name → List ℕ
-names_text [] = codes "padding"
-names_text (n ∷ names) = name_text n ++ more_names names
+abbrev pub names_text : (called : Name → List ℕ) → List Name → List ℕ
+names_text called [] = codes "padding"
+names_text called (n ∷ names) = called n ++ more_names called names
 
 -- a run from a byte on up to another and without it
-abbrev pub run_line : (start end : ℕ) → List Name → List ℕ
-run_line start end names = decimal start ++ codes ".." ++ decimal end ++ codes " " ++ names_text names ++ codes "\n"
+abbrev pub run_line : (called : Name → List ℕ) → (start end : ℕ) → List Name → List ℕ
+run_line called start end names = decimal start ++ codes ".." ++ decimal end ++ codes " " ++ names_text called names ++ codes "\n"
 
 -- the runs that begin at these bytes: each ends where the next begins, and the last at the size
-abbrev pub run_lines : List Part → (size : ℕ) → (starts : List ℕ) → List ℕ
-run_lines parts size [] = []
-run_lines parts size (start ∷ starts) = run_line start (get_or starts 0 size) (names_at parts start) ++ run_lines parts size starts
+abbrev pub run_lines : (called : Name → List ℕ) → List Part → (size : ℕ) → (starts : List ℕ) → List ℕ
+run_lines called parts size [] = []
+run_lines called parts size (start ∷ starts) = run_line called start (get_or starts 0 size) (names_at parts start) ++ run_lines called parts size starts
 
 -- all runs, of a type of at most 2 ^ 16 bytes
-abbrev pub bytes_text : Typed → List ℕ
-bytes_text t =
+abbrev pub bytes_text : (called : Name → List ℕ) → Typed → List ℕ
+bytes_text called t =
     if nat_lt 65536 (layout_in t).size then codes "not drawn\n"
-    else run_lines (all_parts t) (layout_in t).size (starts_of (all_parts t) (layout_in t).size)
+    else run_lines called (all_parts t) (layout_in t).size (starts_of (all_parts t) (layout_in t).size)
 
 -- the bytes of the largest niche, and how many numbers it has free
 abbrev pub niche_text : TargetDataLayout → Option Niche → List ℕ
@@ -58,10 +58,10 @@ niche_text dl None = codes "niche none\n"
 niche_text dl (Some n) =
     codes "niche " ++ decimal n.offset ++ codes ".." ++ decimal (n.offset + niche_size dl n) ++ codes " " ++ decimal (available_in dl n) ++ codes " free\n"
 
--- all that is told of a type
-abbrev pub map_text : TargetDataLayout → Typed → List ℕ
-map_text dl t = size_line (layout_in t) ++ bytes_text t ++ niche_text dl (layout_in t).largest_niche
+-- all that is told of a type whose parts are called so
+abbrev pub map_text : (called : Name → List ℕ) → TargetDataLayout → Typed → List ℕ
+map_text called dl t = size_line (layout_in t) ++ bytes_text called t ++ niche_text dl (layout_in t).largest_niche
 
--- the text is the map of the type, as handles see it
+-- the text is the map of the type, as handles see it, with its parts called by their indices
 abbrev pub TellsMap : TargetDataLayout → Placed → (text : List ℕ) → Type 0
-TellsMap dl placed text = (t : Typed) × Sees t placed × (text ≡ map_text dl t)
+TellsMap dl placed text = (t : Typed) × Sees t placed × (text ≡ map_text name_text dl t)

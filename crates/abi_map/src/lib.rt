@@ -1,7 +1,8 @@
 //! Maps of types: which parts of a type have each of its bytes, as lines of text. `docs/FORMATS.md` has the format.
 #![tactic(auto)]
 
-// Parts of a type, and where runs of their bytes begin.
+// Parts of a type, what they are called, and where runs of their bytes begin.
+mod called;
 mod covering;
 mod part;
 mod parts;
@@ -12,5 +13,7 @@ mod map_text;
 mod print;
 mod run;
 
-pub use map_text::MapText;
+pub use called::{ByIndex, Called};
+pub use map_text::{MapText, map_of};
+pub use part::Name;
 pub use run::run_map;

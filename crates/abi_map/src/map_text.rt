@@ -5,6 +5,7 @@ ghost use Rattle.abi_laid.specs.Laid.{typed_of};
 ghost use Rattle.abi_text.specs.LaidOut.{IsLaidOut};
 ghost use Rattle.abi_map.specs.Map.{map_text};
 
+use crate::called::{ByIndex, Called};
 use crate::print::{write_bytes, write_niche};
 use abi_base::TargetDataLayout;
 use abi_laid::Laid;
@@ -20,20 +21,28 @@ impl Telling for MapText {
     ghost tells = { TellsMap };
 
     fn told(alloc: Global, dl: &TargetDataLayout, laid: &Laid) -> Result<String, AllocError> {
-        map_of(alloc, dl, laid)
+        map_of(alloc, dl, &ByIndex, laid)
     }
 }
 
-/// The lines that tell what each byte of a type holds. `AllocError` where memory is refused.
-fn map_of(alloc: Global, dl: &TargetDataLayout, laid: &Laid) -> Result<String, AllocError>
+/// The lines that tell what each byte of a type holds: its size and its alignment, the runs of bytes that the same parts
+/// have, and the largest niche, all in bytes. What it asks holds of each type that `lay_out` answers under the data
+/// layout. `AllocError` where memory is refused.
+pub fn map_of<C: Called>(
+    alloc: Global,
+    dl: &TargetDataLayout,
+    called: &C,
+    laid: &Laid,
+) -> Result<String, AllocError>
     requires { IsLaidOut dl.now laid.now }
-    ensures { IfOk result (λ text. string_bytes text ≡ map_text dl.now (typed_of laid.now)) }
+    ensures { IfOk result (λ text.
+        string_bytes text ≡ map_text (C.called called.now) dl.now (typed_of laid.now)) }
 {
     let root = laid.root();
     let layout = root.data();
     let mut text = String::new(alloc);
     write_size(&mut text, layout)?;
-    write_bytes(alloc, &mut text, root)?;
+    write_bytes(alloc, &mut text, called, root)?;
     write_niche(&mut text, dl, layout.largest_niche)?;
     Ok(text)
 }

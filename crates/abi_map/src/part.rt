@@ -2,9 +2,9 @@
 
 use abi_index::RangeSet;
 
-/// What a part is called.
+/// A part of a type, for which `Called` has a name.
 #[derive(Clone, Copy)]
-pub(crate) enum Name {
+pub enum Name {
     /// The one number that the type is.
     Number,
     /// All elements of an array.

@@ -4,10 +4,11 @@ ghost use Rattle.std.specs.Prelude.{◌≡◌, ℕ, ◌<◌, ◌++◌, ◌^◌, 
 ghost use Rattle.abi_laid.specs.Handles.{IsHandle, tree_type};
 ghost use Rattle.abi_scalar.specs.Lawful.{IsLawfulNiche};
 ghost use Rattle.abi_map.specs.Covering.{HaveNames};
-ghost use Rattle.abi_map.specs.Map.{bytes_text, name_text, names_text, niche_text, run_lines};
+ghost use Rattle.abi_map.specs.Map.{bytes_text, names_text, niche_text, run_lines};
 ghost use Rattle.abi_map.specs.Parts.{Part};
 ghost use Rattle.abi_map.specs.Sized.{ArePartsSized};
 
+use crate::called::Called;
 use crate::covering::names_at;
 use crate::part::Name;
 use crate::parts::{Handle, parts_of};
@@ -19,66 +20,56 @@ use std::alloc::{AllocError, Global};
 /// The bytes of a larger type aren't drawn. In bytes.
 const MOST_DRAWN: u64 = 65_536;
 
-/// Writes what a part is called.
-fn write_name(out: &mut String, name: Name) -> Result<(), AllocError>
-    ensures { OnOk result (string_bytes out.new ≡ string_bytes out.old ++ name_text name) }
-{
-    match name {
-        Name::Number => out.push_str("number"),
-        Name::Elements => out.push_str("elements"),
-        Name::Lanes => out.push_str("lanes"),
-        Name::Field(i) => write!(out, "field {i}"),
-        Name::Tag => out.push_str("tag"),
-        Name::VariantField(v, i) => write!(out, "variant {v} field {i}"),
-    }
-}
-
 /// Writes names in a row.
-fn write_names(out: &mut String, names: &[Name]) -> Result<(), AllocError>
-    ensures { OnOk result (string_bytes out.new ≡ string_bytes out.old ++ names_text names.now) }
+fn write_names<C: Called>(out: &mut String, called: &C, names: &[Name]) -> Result<(), AllocError>
+    ensures { OnOk result (string_bytes out.new
+        ≡ string_bytes out.old ++ names_text (C.called called.now) names.now) }
 {
     let Some((first, rest)) = names.split_first() else {
         return out.push_str("padding");
     };
-    write_name(out, *first)?;
+    called.write_name(out, *first)?;
     for name in rest {
         out.push_str(" | ")?;
-        write_name(out, *name)?;
+        called.write_name(out, *name)?;
     }
     Ok(())
 }
 
 /// Writes the run that begins at each of these bytes, with the names of the parts that have it.
-fn write_runs(
+fn write_runs<C: Called>(
     out: &mut String,
+    called: &C,
     starts: &[u64],
     names: &[Vec<Name>],
     size: u64,
 ) -> Result<(), AllocError>
     requires { length names.now ≡ length starts.now }
     ensures { OnOk result ((parts : List Part) → HaveNames parts starts.now names.now →
-        string_bytes out.new ≡ string_bytes out.old ++ run_lines parts size starts.now) }
+        string_bytes out.new ≡ string_bytes out.old
+        ++ run_lines (C.called called.now) parts size starts.now) }
 {
     for s in 0..starts.len() {
         let start = starts[s];
         let end = starts.get(s + 1).copied().unwrap_or(size);
         write!(out, "{start}..{end} ")?;
-        write_names(out, &names[s])?;
+        write_names(out, called, &names[s])?;
         out.push_str("\n")?;
     }
     Ok(())
 }
 
 /// Writes the runs of bytes that the same parts have, or that the type has too many bytes.
-pub(crate) fn write_bytes(
+pub(crate) fn write_bytes<C: Called>(
     alloc: Global,
     out: &mut String,
+    called: &C,
     root: Handle<'_>,
 ) -> Result<(), AllocError>
     requires valid { IsHandle root }
     requires sized { ArePartsSized (tree_type root) }
     ensures { OnOk result (string_bytes out.new
-        ≡ string_bytes out.old ++ bytes_text (tree_type root.entry)) }
+        ≡ string_bytes out.old ++ bytes_text (C.called called.now) (tree_type root.entry)) }
 {
     let size = root.data().size.bytes();
     if size > MOST_DRAWN {
@@ -87,7 +78,7 @@ pub(crate) fn write_bytes(
     let parts = parts_of(alloc, root)?;
     let starts = starts_of(alloc, &parts, size)?;
     let names = names_at(alloc, &parts, &starts)?;
-    write_runs(out, &starts, &names, size)
+    write_runs(out, called, &starts, &names, size)
 }
 
 /// Writes the bytes of a niche, and how many numbers it has free.

@@ -31,7 +31,11 @@ pub use layout_text::{LayoutText, run_layout};
 pub use names::{data_layout_error_name, error_name};
 pub use number::{decimal, discriminant, short, wide};
 pub use pieces::cut;
-pub use print::{write_primitive, write_size, write_type};
+pub use print::{
+    write_niche, write_padding, write_primitive, write_ranges, write_size, write_type,
+    write_uninhabited,
+};
+pub use print_variants::{listed_unused, runs_of, write_scalar};
 pub use reader::read_type;
 pub use reader::repr_text::{StructRepr, struct_repr};
 pub use running::run;

@@ -33,8 +33,8 @@ pub fn write_size(
     write!(out, "size {size} align {align}\n")
 }
 
-/// Writes whether the type has no values.
-fn write_uninhabited(out: &mut String, uninhabited: bool) -> Result<(), AllocError>
+/// Writes a line where the type has no values. An error comes where a growth of memory was refused.
+pub fn write_uninhabited(out: &mut String, uninhabited: bool) -> Result<(), AllocError>
     ensures { OnOk result (string_bytes out.new
         ≡ string_bytes out.old ++ uninhabited_line uninhabited) }
 {
@@ -119,8 +119,9 @@ pub fn write_primitive(out: &mut String, primitive: Primitive) -> Result<(), All
     }
 }
 
-/// Writes the place with the most free numbers.
-fn write_niche(out: &mut String, niche: Option<Niche>) -> Result<(), AllocError>
+/// Writes the place with the most free numbers: its offset in bytes, its primitive and its range. An error comes where a
+/// growth of memory was refused.
+pub fn write_niche(out: &mut String, niche: Option<Niche>) -> Result<(), AllocError>
     ensures { OnOk result (string_bytes out.new ≡ string_bytes out.old ++ niche_line niche) }
 {
     match niche {
@@ -148,12 +149,9 @@ fn write_layout(
     write_shape(out, &layout.fields)
 }
 
-/// Writes each run of bytes, its first byte and how many, behind this word, with the byte after its last.
-pub(crate) fn write_ranges(
-    out: &mut String,
-    word: &str,
-    runs: &[(u64, u64)],
-) -> Result<(), AllocError>
+/// Writes each run of bytes, its first byte and how many, behind this word, with the byte after its last. An error comes
+/// where a growth of memory was refused.
+pub fn write_ranges(out: &mut String, word: &str, runs: &[(u64, u64)]) -> Result<(), AllocError>
     requires { AreMaximalRuns 0 runs.now }
     ensures { OnOk result (string_bytes out.new
         ≡ string_bytes out.old ++ range_lines word.now runs.now) }
@@ -166,8 +164,9 @@ pub(crate) fn write_ranges(
     Ok(())
 }
 
-/// Writes the runs of padding.
-fn write_padding(alloc: Global, out: &mut String, laid: &Laid) -> Result<(), AllocError>
+/// Writes the runs of padding, in bytes; of a type of more than 65,536 bytes that they aren't listed. An error comes where
+/// a growth of memory was refused.
+pub fn write_padding(alloc: Global, out: &mut String, laid: &Laid) -> Result<(), AllocError>
     ensures { OnOk result (string_bytes out.new
         ≡ string_bytes out.old ++ padding_lines (placed_of laid.now)) }
 {

@@ -17,8 +17,11 @@ use abi_scalar::{RangeInclusive, Scalar, TagEncoding, VariantLayout, Variants};
 use std::alloc::{AllocError, Global};
 
 /// Of each variant that a tag tells apart the bytes that it doesn't use though another one may; none where the type has
-/// more bytes than are listed.
-fn listed_unused(alloc: Global, laid: &Laid) -> Result<IndexVec<VariantIdx, RangeSet>, AllocError>
+/// more than 65,536 bytes. An error comes where a growth of memory was refused.
+pub fn listed_unused(
+    alloc: Global,
+    laid: &Laid,
+) -> Result<IndexVec<VariantIdx, RangeSet>, AllocError>
     requires { TellsBytes laid.now }
     ensures { IfOk result (λ sets. (i : ℕ) (runs : List (ℕ × ℕ)) →
         IsVariantOfSeveral (layout_of (placed_of laid.now)).variants i →
@@ -32,8 +35,11 @@ fn listed_unused(alloc: Global, laid: &Laid) -> Result<IndexVec<VariantIdx, Rang
         .each_variant_dependent_padding_ranges(alloc, &())
 }
 
-/// The runs of the set of a variant, where there is one.
-fn runs_of<'a>(sets: &'a IndexVec<VariantIdx, RangeSet>, variant: VariantIdx) -> &'a [(u64, u64)]
+/// The runs of the set of a variant, each its first byte and how many; none where it has no set.
+pub fn runs_of<'a>(
+    sets: &'a IndexVec<VariantIdx, RangeSet>,
+    variant: VariantIdx,
+) -> &'a [(u64, u64)]
     ensures runs { result.now ≡ get_or sets.now variant [] }
     ensures maximal { AreMaximalRuns 0 result.now }
 {
@@ -83,8 +89,8 @@ fn write_each_variant(
     Ok(())
 }
 
-/// Writes the primitive of a scalar, and its range where it has one.
-fn write_scalar(out: &mut String, scalar: Scalar) -> Result<(), AllocError>
+/// Writes the primitive of a scalar, and its range where it has one. An error comes where a growth of memory was refused.
+pub fn write_scalar(out: &mut String, scalar: Scalar) -> Result<(), AllocError>
     ensures { OnOk result (string_bytes out.new ≡ string_bytes out.old ++ printed_scalar scalar) }
 {
     match scalar {

@@ -1,0 +1,38 @@
+//! What the parts of a type are called.
+
+use crate::part::Name;
+use std::alloc::AllocError;
+
+/// What the parts of a type are called in a map.
+pub trait Called {
+    ghost use Rattle.std.specs.Prelude.{◌≡◌, ◌++◌, ℕ, List, OnOk, string_bytes};
+    ghost use Rattle.abi_map.specs.declared.part.Name.{Name};
+
+    /// What a part is called, as text.
+    ghost called: { Self → Name → List ℕ };
+
+    /// Writes what a part is called. An error comes where a growth of memory was refused.
+    fn write_name(&self, out: &mut String, name: Name) -> Result<(), AllocError>
+        ensures { OnOk result (string_bytes out.new ≡ string_bytes out.old ++ called self.now name) };
+}
+
+/// Fields and variants are called by their indices, as `field 0` and `variant 1 field 0`.
+#[derive(Clone, Copy)]
+pub struct ByIndex;
+
+impl Called for ByIndex {
+    ghost use Rattle.abi_map.specs.Map.{name_text};
+
+    ghost called = { λ _ name. name_text name };
+
+    fn write_name(&self, out: &mut String, name: Name) -> Result<(), AllocError> {
+        match name {
+            Name::Number => out.push_str("number"),
+            Name::Elements => out.push_str("elements"),
+            Name::Lanes => out.push_str("lanes"),
+            Name::Field(i) => write!(out, "field {i}"),
+            Name::Tag => out.push_str("tag"),
+            Name::VariantField(v, i) => write!(out, "variant {v} field {i}"),
+        }
+    }
+}
