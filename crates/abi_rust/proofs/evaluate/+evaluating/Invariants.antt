@@ -1,0 +1,24 @@
+-- Each of these evaluates within less room, or within the same room what stands lower.
+use Rattle.std.proofs.Common.{◌+◌, ◌*◌}
+use Rattle.abi_rust.proofs.evaluate.+evaluating.Given as goal
+
+abbrev pub decreases-evaluate : goal.decreases-evaluate
+decreases-evaluate l = 8 * l.room
+
+abbrev pub decreases-evaluate_unary : goal.decreases-evaluate_unary
+decreases-evaluate_unary l = 8 * l.room + 1
+
+abbrev pub decreases-evaluate_binary : goal.decreases-evaluate_binary
+decreases-evaluate_binary l = 8 * l.room + 1
+
+abbrev pub decreases-evaluate_cast : goal.decreases-evaluate_cast
+decreases-evaluate_cast l = 8 * l.room + 2
+
+abbrev pub decreases-discriminant : goal.decreases-discriminant
+decreases-discriminant l = 8 * l.room + 1
+
+abbrev pub decreases-evaluate_path : goal.decreases-evaluate_path
+decreases-evaluate_path l = 8 * l.room + 2
+
+abbrev pub decreases-constant : goal.decreases-constant
+decreases-constant l = 8 * l.room + 1

@@ -1,0 +1,4 @@
+pub mod Int
+pub mod Reprs
+pub mod Scalars
+pub mod Values

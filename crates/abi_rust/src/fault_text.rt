@@ -1,0 +1,175 @@
+//! What a user reads of a fault.
+
+use crate::fault::{Fault, FaultKind};
+use crate::sources::Sources;
+use rust_source::{IntegerKind, ItemKind, Symbol, Unevaluated};
+use std::alloc::{AllocError, Global};
+use std::fmt::Write;
+use strsim::levenshtein;
+
+impl Fault {
+    /// Writes what is wrong, in lower case and without a full stop, with the nearest name that is known where a name
+    /// isn't.
+    pub fn write_text(
+        &self,
+        alloc: Global,
+        out: &mut String,
+        sources: &Sources,
+    ) -> Result<(), AllocError> {
+        match self.kind {
+            FaultKind::Source(kind) => out.push_str(kind.text()),
+            FaultKind::Layout(error) => write!(out, "{error}"),
+            FaultKind::RepeatedType(name) => quoted(out, "two types are called ", sources, name),
+            FaultKind::RepeatedConstant(name) => {
+                quoted(out, "two constants are called ", sources, name)
+            }
+            FaultKind::UnknownType(name) => {
+                quoted(out, "no type is called ", sources, name)?;
+                suggest(alloc, out, sources, name, true)
+            }
+            FaultKind::UnknownConstant(name) => {
+                quoted(out, "no constant is called ", sources, name)?;
+                suggest(alloc, out, sources, name, false)
+            }
+            FaultKind::NotAType(name) => quoted(
+                out,
+                "no type, but something else is called ",
+                sources,
+                name,
+            ),
+            FaultKind::WrongArguments(name) => {
+                quoted(
+                    out,
+                    "another number of arguments than the parameters of ",
+                    sources,
+                    name,
+                )
+            }
+            FaultKind::Recursive(name) => {
+                quoted(
+                    out,
+                    "without a pointer a type contains itself: ",
+                    sources,
+                    name,
+                )
+            }
+            FaultKind::Overflow(kind) => {
+                out.push_str("a value doesn't fit ")?;
+                out.push_str(integer_name(kind))
+            }
+            FaultKind::Unevaluated(what) => out.push_str(unevaluated_text(what)),
+            kind => out.push_str(plain_text(kind)),
+        }
+    }
+}
+
+/// What a user reads of a fault that names nothing.
+fn plain_text(kind: FaultKind) -> &'static str {
+    match kind {
+        FaultKind::OutOfMemory => "out of memory",
+        FaultKind::WrongKindOfArgument =>
+            "a type is given where a constant is wanted, or a constant for a type",
+        FaultKind::Binding => "an associated type is given, which isn't evaluated here",
+        FaultKind::TooDeep => "types or constants need one another more than 200 deep",
+        FaultKind::TooLarge => "more types and constants have to be looked at than the bound",
+        FaultKind::Unsized => "the size isn't known where it has to be",
+        FaultKind::WrongType => "a value isn't of the type that is wanted",
+        FaultKind::DivisionByZero => "a division by zero",
+        FaultKind::BadAlignment => "an alignment has to be a power of two, and at most 2^29",
+        FaultKind::TransparentBeside => "`transparent` stands alone",
+        FaultKind::TransparentFields =>
+            "`transparent` wants one field that takes room, or one variant",
+        FaultKind::PackedAndAligned => "`packed` doesn't go with `align`",
+        FaultKind::PackedEnum => "an enum can't be `packed`",
+        FaultKind::IntegerRepr => "an integer is a repr of enums alone",
+        FaultKind::ReprWithoutVariants => "an enum without variants has no repr",
+        FaultKind::AlignedInPacked => "a packed type contains one with `align`",
+        FaultKind::RustBeside => "`Rust` doesn't go with `C` or an integer",
+        FaultKind::DiscriminantWithoutRepr =>
+            "discriminants beside variants with fields want an integer as the repr",
+        FaultKind::Simd => "`simd` isn't read here",
+        FaultKind::EmptyUnion => "a union has no fields",
+        _ => "",
+    }
+}
+
+/// What a user reads of what isn't evaluated.
+fn unevaluated_text(what: Unevaluated) -> &'static str {
+    match what {
+        Unevaluated::Macro => "a macro's call isn't evaluated here",
+        Unevaluated::Impl => "`impl` isn't a type that is evaluated here",
+        Unevaluated::Associated => "an associated type or constant isn't evaluated here",
+        Unevaluated::Inferred => "`_` isn't a type that is evaluated here",
+        Unevaluated::Expression => "this expression isn't evaluated here",
+    }
+}
+
+/// An integer type's name.
+fn integer_name(kind: IntegerKind) -> &'static str {
+    match kind {
+        IntegerKind::I8 => "`i8`",
+        IntegerKind::I16 => "`i16`",
+        IntegerKind::I32 => "`i32`",
+        IntegerKind::I64 => "`i64`",
+        IntegerKind::I128 => "`i128`",
+        IntegerKind::Isize => "`isize`",
+        IntegerKind::U8 => "`u8`",
+        IntegerKind::U16 => "`u16`",
+        IntegerKind::U32 => "`u32`",
+        IntegerKind::U64 => "`u64`",
+        IntegerKind::U128 => "`u128`",
+        IntegerKind::Usize => "`usize`",
+    }
+}
+
+/// Writes a text and a name in quotes.
+fn quoted(out: &mut String, text: &str, sources: &Sources, name: Symbol) -> Result<(), AllocError> {
+    out.push_str(text)?;
+    out.push_str("`")?;
+    out.push_str(sources.names().text(name))?;
+    out.push_str("`")
+}
+
+/// Writes which name may be meant.
+fn suggest(
+    alloc: Global,
+    out: &mut String,
+    sources: &Sources,
+    name: Symbol,
+    is_type: bool,
+) -> Result<(), AllocError> {
+    match nearest(alloc, sources, name, is_type)? {
+        Some(found) => {
+            quoted(out, "; did you mean ", sources, found)?;
+            out.push_str("?")
+        }
+        None => Ok(()),
+    }
+}
+
+/// The name of a type, or of a constant, that is nearest to a name: at most a third of its bytes are other ones.
+fn nearest(
+    alloc: Global,
+    sources: &Sources,
+    name: Symbol,
+    is_type: bool,
+) -> Result<Option<Symbol>, AllocError> {
+    let text = sources.names().text(name);
+    let mut least = text.len() / 3;
+    let mut found = None;
+    for item in &sources.items().items {
+        let is_constant = match item.kind {
+            ItemKind::Const(_) => true,
+            _ => false,
+        };
+        if is_constant == is_type {
+            continue;
+        }
+        let edits = levenshtein(alloc, text, sources.names().text(item.name))?;
+        if edits < least || (edits == least && found.is_none()) {
+            least = edits;
+            found = Some(item.name);
+        }
+    }
+    Ok(found)
+}

@@ -1,0 +1,256 @@
+//! Integers, and what operators make of them.
+
+ghost use Rattle.std.specs.Prelude.{◌≡◌, ◌↔◌, ◌+◌, ◌-◌, ◌*◌, ◌%◌, ◌^◌, ◌≤◌, ◌<◌, IsTrue, IfSome, IfNone, IsNone, IsSome, ◌+ℤ◌, ◌*ℤ◌, ◌-ℤ◌, ◌<ℤ◌, neg_ℤ, pos, cond};
+ghost use Rattle.std.specs.Int.{cast_unsigned, int_div_euclid, w128};
+ghost use Rattle.std.specs.Int.RustNames.{int_div, int_rem, unsigned_abs};
+
+use rust_source::IntegerKind;
+
+/// An integer of at most 128 bits: the number `magnitude`, or minus it. Zero isn't negative.
+#[derive(Clone, Copy, PartialEq, Eq)]
+pub(crate) struct Int {
+    pub(crate) is_negative: bool,
+    pub(crate) magnitude: u128,
+    ghost normal: { IsTrue is_negative → 1 ≤ magnitude },
+}
+
+/// How wide an integer type is, and whether it has negative numbers.
+#[derive(Clone, Copy, PartialEq, Eq)]
+pub(crate) struct Width {
+    /// How many bits it has, 1 to 128.
+    pub(crate) bits: u32,
+    pub(crate) is_signed: bool,
+    ghost some: { 1 ≤ bits },
+    ghost most: { bits ≤ 128 },
+}
+
+impl Width {
+    ghost use Rattle.abi_rust.specs.Int.{Has, wrapped, number_of};
+
+    /// The width of an integer type, under pointers of this many bits, of which 1 to 128 count.
+    pub(crate) fn of(kind: IntegerKind, pointer_bits: u32) -> Width {
+        let (bits, is_signed) = match kind {
+            IntegerKind::I8 => (8, true),
+            IntegerKind::I16 => (16, true),
+            IntegerKind::I32 => (32, true),
+            IntegerKind::I64 => (64, true),
+            IntegerKind::I128 => (128, true),
+            IntegerKind::Isize => (pointer_bits, true),
+            IntegerKind::U8 => (8, false),
+            IntegerKind::U16 => (16, false),
+            IntegerKind::U32 => (32, false),
+            IntegerKind::U64 => (64, false),
+            IntegerKind::U128 => (128, false),
+            IntegerKind::Usize => (pointer_bits, false),
+        };
+        Width {
+            bits: bits.max(1).min(128),
+            is_signed,
+        }
+    }
+
+    /// The greatest number of as many bits.
+    pub(crate) fn mask(self) -> u128
+        ensures { result ≡ 2 ^ self.bits - 1 }
+    {
+        if self.bits < 128 {
+            (1 << self.bits) - 1
+        } else {
+            u128::MAX
+        }
+    }
+
+    /// The number of the highest bit alone.
+    fn top(self) -> u128
+        ensures { result ≡ 2 ^ (self.bits - 1) }
+    {
+        1 << (self.bits - 1)
+    }
+
+    /// The type's greatest number.
+    pub(crate) fn max(self) -> Int
+        ensures { number_of result ≡ pos (cond self.is_signed (2 ^ (self.bits - 1) - 1) (2 ^ self.bits - 1)) }
+    {
+        if self.is_signed {
+            Int::positive(self.top() - 1)
+        } else {
+            Int::positive(self.mask())
+        }
+    }
+
+    /// The type's least number.
+    pub(crate) fn min(self) -> Int
+        ensures { number_of result ≡ cond self.is_signed (neg_ℤ (pos (2 ^ (self.bits - 1)))) (pos 0) }
+    {
+        if self.is_signed {
+            Int::new(true, self.top())
+        } else {
+            Int::positive(0)
+        }
+    }
+
+    /// Whether the type has the number.
+    pub(crate) fn has(self, int: Int) -> bool
+        ensures { IsTrue result ↔ Has self (number_of int) }
+    {
+        if self.is_signed {
+            if int.is_negative {
+                int.magnitude <= self.top()
+            } else {
+                int.magnitude < self.top()
+            }
+        } else {
+            !int.is_negative && int.magnitude <= self.mask()
+        }
+    }
+
+    /// The lowest of these bits, as many as the type has.
+    #[tactic(auto, using(crate::proofs::Bits::and_mask))]
+    fn low(self, bits: u128) -> u128
+        ensures { result ≡ bits % 2 ^ self.bits }
+    {
+        bits & self.mask()
+    }
+
+    /// The number of the type that has these lowest bits.
+    pub(crate) fn wrap(self, bits: u128) -> Int
+        ensures { number_of result ≡ wrapped self.is_signed self.bits bits }
+    {
+        let low = self.low(bits);
+        if !self.is_signed || low < self.top() {
+            return Int::positive(low);
+        }
+        Int::new(true, self.mask() - low + 1)
+    }
+}
+
+impl Int {
+    ghost use Rattle.abi_rust.specs.Int.{IsShift, number_of, signed, wrapped};
+
+    /// The number, or minus it.
+    pub(crate) fn new(is_negative: bool, magnitude: u128) -> Int
+        ensures { number_of result ≡ signed is_negative magnitude }
+    {
+        Int {
+            is_negative: is_negative && magnitude != 0,
+            magnitude,
+        }
+    }
+
+    /// A number that isn't negative.
+    pub(crate) fn positive(magnitude: u128) -> Int
+        ensures { number_of result ≡ pos magnitude }
+    {
+        Int {
+            is_negative: false,
+            magnitude,
+        }
+    }
+
+    /// Its lowest 128 bits in two's complement.
+    pub(crate) fn bits(self) -> u128
+        ensures { result ≡ cast_unsigned w128 (number_of self) }
+    {
+        if self.is_negative {
+            u128::MAX - self.magnitude + 1
+        } else {
+            self.magnitude
+        }
+    }
+
+    /// Minus the number.
+    pub(crate) fn negated(self) -> Int
+        ensures { number_of result ≡ neg_ℤ (number_of self) }
+    {
+        Int::new(!self.is_negative, self.magnitude)
+    }
+
+    /// The sum, or none where it has more than 128 bits.
+    pub(crate) fn plus(self, other: Int) -> Option<Int>
+        ensures some { IfSome result (λ sum. number_of sum ≡ number_of self +ℤ number_of other) }
+        ensures none { IfNone result (2 ^ 128 ≤ unsigned_abs (number_of self +ℤ number_of other)) }
+    {
+        if self.is_negative == other.is_negative {
+            let magnitude = self.magnitude.checked_add(other.magnitude)?;
+            return Some(Int::new(self.is_negative, magnitude));
+        }
+        if self.magnitude >= other.magnitude {
+            Some(Int::new(self.is_negative, self.magnitude - other.magnitude))
+        } else {
+            Some(Int::new(other.is_negative, other.magnitude - self.magnitude))
+        }
+    }
+
+    /// The product, or none where it has more than 128 bits.
+    pub(crate) fn times(self, other: Int) -> Option<Int>
+        ensures some { IfSome result (λ product. number_of product ≡ number_of self *ℤ number_of other) }
+        ensures none { IfNone result (2 ^ 128 ≤ unsigned_abs (number_of self *ℤ number_of other)) }
+    {
+        let magnitude = self.magnitude.checked_mul(other.magnitude)?;
+        Some(Int::new(self.is_negative != other.is_negative, magnitude))
+    }
+
+    /// The quotient, cut towards zero, or none for a divisor that is zero.
+    pub(crate) fn over(self, other: Int) -> Option<Int>
+        ensures some { IfSome result (λ quotient. number_of quotient ≡ int_div (number_of self) (number_of other)) }
+        ensures none { IsNone result ↔ (number_of other ≡ pos 0) }
+    {
+        let magnitude = self.magnitude.checked_div(other.magnitude)?;
+        Some(Int::new(self.is_negative != other.is_negative, magnitude))
+    }
+
+    /// What the quotient leaves, of the sign of the dividend, or none for a divisor that is zero.
+    pub(crate) fn left_over(self, other: Int) -> Option<Int>
+        ensures some { IfSome result (λ rest. number_of rest ≡ int_rem (number_of self) (number_of other)) }
+        ensures none { IsNone result ↔ (number_of other ≡ pos 0) }
+    {
+        let magnitude = self.magnitude.checked_rem(other.magnitude)?;
+        Some(Int::new(self.is_negative, magnitude))
+    }
+
+    /// The number times two to the power, in the lowest bits of a type, or none for a power that the type hasn't.
+    pub(crate) fn shifted_left(self, width: Width, by: Int) -> Option<Int>
+        ensures some { IfSome result (λ shifted. number_of shifted ≡ wrapped width.is_signed width.bits
+            (cast_unsigned w128 (number_of self) * 2 ^ unsigned_abs (number_of by) % 2 ^ 128)) }
+        ensures none { IsSome result ↔ IsShift width (number_of by) }
+    {
+        let by = by.shift(width)?;
+        Some(width.wrap(self.bits() << by))
+    }
+
+    /// The number over two to the power, cut downwards, or none for a power that the type hasn't.
+    pub(crate) fn shifted_right(self, width: Width, by: Int) -> Option<Int>
+        ensures some { IfSome result (λ shifted. number_of shifted
+            ≡ int_div_euclid (number_of self) (pos (2 ^ unsigned_abs (number_of by)))) }
+        ensures none { IsSome result ↔ IsShift width (number_of by) }
+    {
+        let by = by.shift(width)?;
+        if self.is_negative {
+            return Some(Int::new(true, ((self.magnitude - 1) >> by) + 1));
+        }
+        Some(Int::positive(self.magnitude >> by))
+    }
+
+    /// Whether it is below the other.
+    pub(crate) fn is_below(self, other: Int) -> bool
+        ensures { IsTrue result ↔ (number_of self <ℤ number_of other) }
+    {
+        match (self.is_negative, other.is_negative) {
+            (true, true) => self.magnitude > other.magnitude,
+            (true, false) => true,
+            (false, true) => false,
+            (false, false) => self.magnitude < other.magnitude,
+        }
+    }
+
+    /// By how many bits it shifts a number of the type: fewer than that has, or none.
+    fn shift(self, width: Width) -> Option<u32>
+        ensures some { IfSome result (λ n. (number_of self ≡ pos n) × (n < width.bits)) }
+        ensures none { IsSome result ↔ IsShift width (number_of self) }
+    {
+        if self.is_negative || self.magnitude >= u128::from(width.bits) {
+            return None;
+        }
+        Some(self.magnitude as u32)
+    }
+}

@@ -1,0 +1,48 @@
+//! What the types of Rust source are: trees with the names of their parts. The names of items are resolved, with those
+//! of the standard library, whose types are read from a source of their own; constants are evaluated; and each type
+//! without parameters becomes a tree, which the crates below lay out.
+#![tactic(auto)]
+
+// What is asked, and what is answered.
+mod fault;
+mod fault_text;
+mod sources;
+mod targets;
+mod told;
+
+// The standard library's types.
+mod std_source;
+
+// Names.
+mod paths;
+mod scope;
+mod words;
+
+// Types whose names are resolved.
+mod kind;
+mod owned;
+mod resolve;
+mod tail;
+mod ty;
+mod work;
+
+// Constants.
+mod discriminants;
+mod evaluate;
+mod int;
+mod limits;
+mod literals;
+mod operators;
+mod places;
+mod sizes;
+
+// Trees.
+mod repr;
+mod repr_fields;
+mod scalars;
+mod tree;
+
+pub use fault::{Fault, FaultKind, FaultPlace};
+pub use sources::Sources;
+pub use targets::{TARGETS, Target, target_named};
+pub use told::{Label, Shape, Told, VariantLabels};

@@ -1,0 +1,37 @@
+//! Where expressions stand, and faults in them.
+
+use crate::fault::{FaultKind, Stop, stop_at};
+use crate::ty::Value;
+use rust_source::{Expr, Path, Place};
+
+/// Where an expression stands.
+pub(crate) fn place_of(expr: &Expr) -> Place {
+    match expr {
+        Expr::Integer(_, _, at) => *at,
+        Expr::Char(_, at) => *at,
+        Expr::Bool(_, at) => *at,
+        Expr::Path(path) => place_of_path(path),
+        Expr::Call(_, _, at) => *at,
+        Expr::Unary(_, _, at) => *at,
+        Expr::Binary(_, _, _, at) => *at,
+        Expr::Cast(_, _, at) => *at,
+        Expr::If(_, _, _, at) => *at,
+        Expr::Unevaluated(_, at) => *at,
+    }
+}
+
+/// Where a path's last name stands.
+pub(crate) fn place_of_path(path: &Path) -> Place {
+    match path.segments.last() {
+        Some(segment) => segment.at,
+        None => Place(0),
+    }
+}
+
+/// A fault at a place, where there is one.
+pub(crate) fn at_place(at: Place, found: Result<Value, FaultKind>) -> Result<Value, Stop> {
+    match found {
+        Ok(value) => Ok(value),
+        Err(kind) => Err(stop_at(at, kind)),
+    }
+}

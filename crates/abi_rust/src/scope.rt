@@ -1,0 +1,224 @@
+//! The names that each module has.
+
+use crate::fault::{FaultKind, Stop, stop_at};
+use crate::paths::{Found, Space, target_of};
+use crate::words::{Word, Words};
+use indexmap::IndexMap;
+use rust_source::{Item, ItemKind, Items, Symbol};
+use std::alloc::Global;
+
+/// How often globs are followed that are found through others.
+const MOST_ROUNDS: usize = 8;
+
+/// How many modules a module's globs may lead to.
+const MOST_REACHED: usize = 256;
+
+/// A name in a module: the module's number, and the name's.
+type Key = (u32, u32);
+
+/// The names that each module has.
+#[derive(Drop)]
+pub(crate) struct Scope {
+    pub(crate) words: Words,
+    /// The module that holds the standard library's types.
+    pub(crate) std_root: u32,
+    /// The module whose names are everywhere.
+    prelude: Option<u32>,
+    /// Modules.
+    modules: IndexMap<Key, u32>,
+    /// Structs, enums, unions and aliases.
+    types: IndexMap<Key, u32>,
+    /// Constants.
+    values: IndexMap<Key, u32>,
+    /// Uses that bring in a name.
+    uses: IndexMap<Key, u32>,
+    /// For each module those that its globs lead to.
+    reached: Vec<Vec<u32>>,
+}
+
+/// The number of what stands at an index: there are fewer than 2^32 of each kind, since each is written somewhere.
+fn numbered(index: usize) -> u32 {
+    u32::try_from(index).unwrap_or(u32::MAX)
+}
+
+/// A name in a module.
+fn key(module: u32, name: Symbol) -> Key {
+    (module, name.0)
+}
+
+impl Scope {
+    /// The names of modules. `RepeatedType` and `RepeatedConstant` where a module has two types or two constants of one
+    /// name, or a type and a module.
+    pub(crate) fn new(
+        alloc: Global,
+        words: Words,
+        items: &Items,
+        std_root: u32,
+    ) -> Result<Scope, Stop> {
+        let mut scope = Scope {
+            words,
+            std_root,
+            prelude: None,
+            modules: IndexMap::new(alloc),
+            types: IndexMap::new(alloc),
+            values: IndexMap::new(alloc),
+            uses: IndexMap::new(alloc),
+            reached: Vec::new(alloc),
+        };
+        scope.fill(alloc, items)?;
+        Ok(scope)
+    }
+
+    /// Adds the names of modules.
+    fn fill(&mut self, alloc: Global, items: &Items) -> Result<(), Stop> {
+        self.add_modules(items)?;
+        for (number, item) in items.items.iter().enumerate() {
+            self.add_item(numbered(number), item)?;
+        }
+        self.add_uses(items)?;
+        self.prelude = self.module(self.std_root, self.words.symbol(Word::Prelude));
+        self.follow_globs(alloc, items)
+    }
+
+    /// Adds the modules' names.
+    fn add_modules(&mut self, items: &Items) -> Result<(), Stop> {
+        for (number, module) in items.modules.iter().enumerate() {
+            if let Some(parent) = module.parent {
+                let _ = self
+                    .modules
+                    .insert(key(parent, module.name), numbered(number))?;
+            }
+        }
+        Ok(())
+    }
+
+    /// Adds an item's name.
+    fn add_item(&mut self, number: u32, item: &Item) -> Result<(), Stop> {
+        let key = key(item.module, item.name);
+        match item.kind {
+            ItemKind::Const(_) => {
+                if self.values.insert(key, number)?.is_some() {
+                    return Err(stop_at(item.at, FaultKind::RepeatedConstant(item.name)));
+                }
+            }
+            _ => {
+                if self.types.insert(key, number)?.is_some() || self.modules.get(&key).is_some() {
+                    return Err(stop_at(item.at, FaultKind::RepeatedType(item.name)));
+                }
+            }
+        }
+        Ok(())
+    }
+
+    /// Adds the names that uses bring in, of two of one name the first.
+    fn add_uses(&mut self, items: &Items) -> Result<(), Stop> {
+        for (number, used) in items.uses.iter().enumerate() {
+            if let Some(name) = used.name {
+                let key = key(used.module, name);
+                if self.uses.get(&key).is_none() {
+                    let _ = self.uses.insert(key, numbered(number))?;
+                }
+            }
+        }
+        Ok(())
+    }
+
+    /// Finds the modules that globs lead to.
+    fn follow_globs(&mut self, alloc: Global, items: &Items) -> Result<(), Stop> {
+        let mut direct = Vec::new(alloc);
+        for _module in &items.modules {
+            direct.push(Vec::new(alloc))?;
+            self.reached.push(Vec::new(alloc))?;
+        }
+        for _round in 0..MOST_ROUNDS {
+            if !self.add_globs(items, &mut direct)? {
+                break;
+            }
+            self.reached = reached_through(alloc, &direct)?;
+        }
+        Ok(())
+    }
+
+    /// Adds to each module those that its own globs name, and tells whether one is new.
+    fn add_globs(&self, items: &Items, direct: &mut Vec<Vec<u32>>) -> Result<bool, Stop> {
+        let mut is_new = false;
+        for (number, used) in items.uses.iter().enumerate() {
+            if !used.is_glob {
+                continue;
+            }
+            let Some(Found::Module(target)) = target_of(items, self, numbered(number), Space::Types)
+            else {
+                continue;
+            };
+            if let Some(known) = direct.get_mut(used.module as usize) {
+                if target != used.module && !known.as_slice().contains(&target) {
+                    known.push(target)?;
+                    is_new = true;
+                }
+            }
+        }
+        Ok(is_new)
+    }
+
+    /// The module of this name that stands in a module.
+    pub(crate) fn module(&self, module: u32, name: Symbol) -> Option<u32> {
+        self.modules.get(&key(module, name)).copied()
+    }
+
+    /// The type of this name that stands in a module.
+    pub(crate) fn ty(&self, module: u32, name: Symbol) -> Option<u32> {
+        self.types.get(&key(module, name)).copied()
+    }
+
+    /// The constant of this name that stands in a module.
+    pub(crate) fn value(&self, module: u32, name: Symbol) -> Option<u32> {
+        self.values.get(&key(module, name)).copied()
+    }
+
+    /// The use that brings a name into a module.
+    pub(crate) fn used(&self, module: u32, name: Symbol) -> Option<u32> {
+        self.uses.get(&key(module, name)).copied()
+    }
+
+    /// The modules that a module's globs lead to.
+    pub(crate) fn reached(&self, module: u32) -> &[u32] {
+        match self.reached.get(module as usize) {
+            Some(reached) => reached.as_slice(),
+            None => &[],
+        }
+    }
+
+    /// The module whose names are everywhere.
+    pub(crate) fn prelude(&self) -> Option<u32> {
+        self.prelude
+    }
+}
+
+/// For each module those that its globs lead to, by the globs of those too.
+fn reached_through(alloc: Global, direct: &Vec<Vec<u32>>) -> Result<Vec<Vec<u32>>, Stop> {
+    let mut all = Vec::new(alloc);
+    for own in direct {
+        let mut reached = Vec::new(alloc);
+        add_new(&mut reached, own)?;
+        for index in 0..MOST_REACHED {
+            let Some(next) = reached.get(index).copied() else {
+                break;
+            };
+            if let Some(more) = direct.get(next as usize) {
+                add_new(&mut reached, more)?;
+            }
+        }
+        all.push(reached)?;
+    }
+    Ok(all)
+}
+
+/// Adds the modules that aren't there.
+fn add_new(reached: &mut Vec<u32>, more: &[u32]) -> Result<(), Stop> {
+    for module in more {
+        if !reached.as_slice().contains(module) {
+            reached.push(*module)?;
+        }
+    }
+    Ok(())
+}

@@ -1,0 +1,258 @@
+//! A file of Rust source, and what its types are.
+
+use crate::fault::{Fault, FaultKind, FaultPlace, Stop};
+use crate::scope::Scope;
+use crate::std_source::STD_SOURCES;
+use crate::told::{Subject, Told, tell};
+use crate::words::Words;
+use crate::work::Context;
+use abi_base::TargetDataLayout;
+use rust_source::{
+    CfgTarget, ItemKind, Items, Names, ParameterKind, Place, Source, Symbol, read_items, read_type,
+};
+use std::alloc::{AllocError, Global};
+
+/// The standard library's types, a file of Rust source, and the names of both.
+#[derive(Drop)]
+pub struct Sources {
+    names: Names,
+    words: Words,
+    items: Items,
+    scope: Option<Scope>,
+    /// How many bytes of sources stand before the file's.
+    file: Place,
+    /// How many bytes of sources stand before the text that writes a type.
+    argument: Place,
+    /// The module of the file's items that stand in no other.
+    root: u32,
+    /// How many items are the standard library's.
+    first: usize,
+    /// How many items of the standard library were passed over.
+    passed_over: u64,
+}
+
+impl Sources {
+    /// No source. An error comes where a growth of memory was refused.
+    pub fn new(alloc: Global) -> Result<Sources, AllocError> {
+        let mut names = Names::new(alloc)?;
+        let words = Words::new(alloc, &mut names)?;
+        Ok(Sources {
+            names,
+            words,
+            items: Items::new(alloc),
+            scope: None,
+            file: Place(0),
+            argument: Place(0),
+            root: 0,
+            first: 0,
+            passed_over: 0,
+        })
+    }
+
+    /// Reads the standard library's types, and then the file. It is called once. After a fault there are no types.
+    pub fn read(&mut self, alloc: Global, target: &CfgTarget<'_>, text: &str) -> Result<(), Fault> {
+        match self.read_both(alloc, target, text) {
+            Ok(()) => Ok(()),
+            Err(stop) => Err(self.fault(stop)),
+        }
+    }
+
+    /// Reads the standard library's types, and then the file.
+    fn read_both(&mut self, alloc: Global, target: &CfgTarget<'_>, text: &str) -> Result<(), Stop> {
+        let std_root = self.read_std(alloc, target)?;
+        self.first = self.items.items.len();
+        self.passed_over = self.items.passed_over;
+        let source = Source {
+            text,
+            start: self.file,
+            root: Symbol::CRATE,
+            is_trusted: false,
+        };
+        self.argument = behind(self.file, text);
+        self.root = read_items(alloc, target, &mut self.names, &mut self.items, source)?;
+        self.scope = Some(Scope::new(alloc, self.words, &self.items, std_root)?);
+        Ok(())
+    }
+
+    /// Reads the standard library's types.
+    fn read_std(&mut self, alloc: Global, target: &CfgTarget<'_>) -> Result<u32, Stop> {
+        let source = Source {
+            text: STD_SOURCES,
+            start: Place(0),
+            root: Symbol::CRATE,
+            is_trusted: true,
+        };
+        self.file = behind(Place(0), STD_SOURCES);
+        Ok(read_items(alloc, target, &mut self.names, &mut self.items, source)?)
+    }
+
+    /// A fault as it is told.
+    fn fault(&self, stop: Stop) -> Fault {
+        let (at, kind) = match stop {
+            Stop::Fault(at, kind) => (at, kind),
+            Stop::Size => (None, FaultKind::TooDeep),
+        };
+        Fault {
+            at: self.place(at),
+            kind,
+        }
+    }
+
+    /// Where a place of the sources is.
+    fn place(&self, at: Option<Place>) -> FaultPlace {
+        let Some(Place(at)) = at else {
+            return FaultPlace::Nowhere;
+        };
+        if at >= self.argument.0 {
+            FaultPlace::Argument(at - self.argument.0)
+        } else if at >= self.file.0 {
+            FaultPlace::File(at - self.file.0)
+        } else {
+            FaultPlace::Nowhere
+        }
+    }
+
+    /// How many items there are: the standard library's, and then the file's.
+    pub fn item_count(&self) -> usize {
+        self.items.items.len()
+    }
+
+    /// Whether the item is told of by itself: a struct, an enum, a union or an alias of the file that has no type and
+    /// no constant as a parameter.
+    pub fn is_told(&self, item: usize) -> bool {
+        if item < self.first {
+            return false;
+        }
+        match self.items.items.get(item) {
+            Some(found) => {
+                let is_type = match found.kind {
+                    ItemKind::Const(_) => false,
+                    _ => true,
+                };
+                is_type && found.parameters.is_empty()
+            }
+            None => false,
+        }
+    }
+
+    /// Where the item's name stands.
+    pub fn place_of(&self, item: usize) -> FaultPlace {
+        match self.items.items.get(item) {
+            Some(found) => self.place(Some(found.at)),
+            None => FaultPlace::Nowhere,
+        }
+    }
+
+    /// Writes the item's name with the modules of the file that it is in, as `module::Name`.
+    pub fn write_name(&self, out: &mut String, item: usize) -> Result<(), AllocError> {
+        let Some(found) = self.items.items.get(item) else {
+            return Ok(());
+        };
+        self.write_modules(out, found.module, MOST_MODULES)?;
+        out.push_str(self.names.text(found.name))
+    }
+
+    /// Writes the names of the modules that a module is in, outermost first, and its own, each with `::` behind.
+    fn write_modules(&self, out: &mut String, module: u32, room: u32) -> Result<(), AllocError> {
+        let Some(room) = room.checked_sub(1) else {
+            return Ok(());
+        };
+        let Some(found) = self.items.modules.get(module as usize) else {
+            return Ok(());
+        };
+        let Some(parent) = found.parent else {
+            return Ok(());
+        };
+        self.write_modules(out, parent, room)?;
+        out.push_str(self.names.text(found.name))?;
+        out.push_str("::")
+    }
+
+    /// How many items of the file were passed over, since they are no types and no constants.
+    pub fn passed_over(&self) -> u64 {
+        self.items.passed_over.saturating_sub(self.passed_over)
+    }
+
+    /// The names of `cfg` that aren't known and count as false, each once.
+    pub fn unknown_cfgs(&self) -> &[Symbol] {
+        self.items.unknown_cfgs.as_slice()
+    }
+
+    /// The names.
+    pub fn names(&self) -> &Names {
+        &self.names
+    }
+
+    /// The items.
+    pub(crate) fn items(&self) -> &Items {
+        &self.items
+    }
+
+    /// The type that an item is. None where its size isn't known by itself.
+    pub fn type_of(
+        &self,
+        alloc: Global,
+        dl: &TargetDataLayout,
+        item: usize,
+    ) -> Result<Option<Told>, Fault> {
+        let Ok(number) = u32::try_from(item) else {
+            return Ok(None);
+        };
+        self.told(alloc, dl, Subject::Item(number))
+    }
+
+    /// The type that a text writes, with the names of the file's root. None where its size isn't known.
+    pub fn type_written(
+        &mut self,
+        alloc: Global,
+        dl: &TargetDataLayout,
+        text: &str,
+    ) -> Result<Option<Told>, Fault> {
+        let ty = match read_type(alloc, &mut self.names, text, self.argument) {
+            Ok(ty) => ty,
+            Err(fault) => return Err(self.fault(Stop::from(fault))),
+        };
+        self.told(alloc, dl, Subject::Written(self.root, &ty))
+    }
+
+    /// Tells of a subject.
+    fn told<'a>(
+        &'a self,
+        alloc: Global,
+        dl: &'a TargetDataLayout,
+        subject: Subject<'a>,
+    ) -> Result<Option<Told>, Fault> {
+        let Some(scope) = &self.scope else {
+            return Ok(None);
+        };
+        let cx = Context {
+            alloc,
+            items: &self.items,
+            scope,
+            dl,
+            pointer_bits: pointer_bits(dl),
+        };
+        match tell(&cx, subject, self.file) {
+            Ok(found) => Ok(found),
+            Err(stop) => Err(self.fault(stop)),
+        }
+    }
+}
+
+/// How many modules a module may be in.
+const MOST_MODULES: u32 = 256;
+
+/// The place behind a text.
+fn behind(start: Place, text: &str) -> Place {
+    let len = u32::try_from(text.len()).unwrap_or(u32::MAX);
+    Place(start.0.saturating_add(len).saturating_add(1))
+}
+
+/// How many bits `usize` has: 64 where a pointer's index has none of the widths that are known.
+fn pointer_bits(dl: &TargetDataLayout) -> u32 {
+    match dl.pointer_offset().bytes() {
+        2 => 16,
+        4 => 32,
+        _ => 64,
+    }
+}

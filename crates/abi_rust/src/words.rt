@@ -1,0 +1,108 @@
+//! The names that have a meaning of their own.
+
+use crate::ty::Primitive;
+use abi_base::Float;
+use rust_source::{IntegerKind, Names, Symbol};
+use std::alloc::{AllocError, Global};
+
+/// The names of primitive types, and then others, in the order of their numbers.
+static WORDS: [&str; 43] = [
+    "bool", "char", "str", "i8", "i16", "i32", "i64", "i128", "isize", "u8", "u16", "u32", "u64",
+    "u128", "usize", "f16", "f32", "f64", "f128", "std", "core", "alloc", "MAX", "MIN", "BITS",
+    "mem", "size_of", "align_of", "prelude", "borrow", "Owned", "string", "String", "vec", "Vec",
+    "ffi", "CStr", "CString", "OsStr", "OsString", "path", "Path", "PathBuf",
+];
+
+/// The names that have a meaning of their own, by how far they stand behind the first of them.
+#[derive(Clone, Copy)]
+pub(crate) struct Words {
+    first: u32,
+}
+
+/// A name that has a meaning of its own, but for those of primitive types.
+#[derive(Clone, Copy, PartialEq, Eq)]
+pub(crate) enum Word {
+    Std = 19,
+    Core = 20,
+    Alloc = 21,
+    Max = 22,
+    Min = 23,
+    Bits = 24,
+    Mem = 25,
+    SizeOf = 26,
+    AlignOf = 27,
+    Prelude = 28,
+    Borrow = 29,
+    Owned = 30,
+    StringModule = 31,
+    String = 32,
+    VecModule = 33,
+    Vec = 34,
+    Ffi = 35,
+    CStr = 36,
+    CString = 37,
+    OsStr = 38,
+    OsString = 39,
+    PathModule = 40,
+    Path = 41,
+    PathBuf = 42,
+}
+
+impl Words {
+    /// Numbers the names, of which none may have a number before.
+    pub(crate) fn new(alloc: Global, names: &mut Names) -> Result<Words, AllocError> {
+        let first = names.add(alloc, "bool")?.0;
+        for word in &WORDS {
+            let _ = names.add(alloc, word)?;
+        }
+        Ok(Words { first })
+    }
+
+    /// The number of a name.
+    pub(crate) fn symbol(self, word: Word) -> Symbol {
+        Symbol(self.first.wrapping_add(word as u32))
+    }
+
+    /// Whether it is this name.
+    pub(crate) fn is(self, name: Symbol, word: Word) -> bool {
+        name == self.symbol(word)
+    }
+
+    /// The primitive type of this name, if there is one.
+    pub(crate) fn primitive(self, name: Symbol) -> Option<Primitive> {
+        match name.0.wrapping_sub(self.first) {
+            0 => Some(Primitive::Bool),
+            1 => Some(Primitive::Char),
+            2 => Some(Primitive::Str),
+            15 => Some(Primitive::Float(Float::F16)),
+            16 => Some(Primitive::Float(Float::F32)),
+            17 => Some(Primitive::Float(Float::F64)),
+            18 => Some(Primitive::Float(Float::F128)),
+            number => Some(Primitive::Integer(integer_numbered(number)?)),
+        }
+    }
+
+    /// Whether it is the name of the standard library: `std`, `core` or `alloc`.
+    pub(crate) fn is_std(self, name: Symbol) -> bool {
+        self.is(name, Word::Std) || self.is(name, Word::Core) || self.is(name, Word::Alloc)
+    }
+}
+
+/// The integer type whose name has this number.
+fn integer_numbered(number: u32) -> Option<IntegerKind> {
+    match number {
+        3 => Some(IntegerKind::I8),
+        4 => Some(IntegerKind::I16),
+        5 => Some(IntegerKind::I32),
+        6 => Some(IntegerKind::I64),
+        7 => Some(IntegerKind::I128),
+        8 => Some(IntegerKind::Isize),
+        9 => Some(IntegerKind::U8),
+        10 => Some(IntegerKind::U16),
+        11 => Some(IntegerKind::U32),
+        12 => Some(IntegerKind::U64),
+        13 => Some(IntegerKind::U128),
+        14 => Some(IntegerKind::Usize),
+        _ => None,
+    }
+}
