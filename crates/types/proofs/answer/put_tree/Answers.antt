@@ -1,0 +1,10 @@
+use Rattle.abi_laid.specs.Tree.{tree_of}
+use Rattle.types.proofs.answer.put_tree.Goals as goal
+
+pub put_laid-requires : goal.put_laid-requires
+put_laid-requires c = record {
+  target = c.in_ok-laid.ensures.lawful;
+  laying = (tree_of c.args.told.now.tree, c.in_ok-laid.ensures.laid);
+  lawful = c.in_ok-laid.ensures.layout;
+  tells = record { sized = c.in_ok-laid.ensures.sized; places = c.in_ok-laid.ensures.places; unused = c.in_ok-laid.ensures.unused };
+}

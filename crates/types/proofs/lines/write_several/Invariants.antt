@@ -1,0 +1,10 @@
+-- The variants that are left go on from those that are written.
+use Rattle.std.proofs.Common.{◌≡◌, ◌++◌, drop, string_bytes}
+use Rattle.abi_laid.specs.Laid.{placed_of}
+use Rattle.types.specs.Lines.{several_lines}
+use Rattle.types.proofs.lines.write_several.Given as goal
+
+abbrev pub invariant-loop-index : goal.invariant-loop-index
+invariant-loop-index l =
+    string_bytes l.out ++ several_lines l.names l.labels (placed_of l.laid) l.index (drop l.index l.layouts)
+    ≡ string_bytes l.initial.out ++ several_lines l.names l.labels (placed_of l.laid) 0 l.layouts

@@ -1,0 +1,4 @@
+-- what fields, variants and parts are called
+pub mod Labels
+-- a type as lines
+pub mod Lines

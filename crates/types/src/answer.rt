@@ -1,0 +1,330 @@
+//! The answer to a source: what is told of its types, and what is noted beside.
+
+ghost use Rattle.abi_text.specs.LaidOut.{IsLaidOut};
+
+use crate::json::{Telling, put_text, type_value};
+use crate::lines::write_lines;
+use crate::mapped::by_name;
+use crate::options::{Form, Options};
+use abi_base::TargetDataLayout;
+use abi_laid::Laid;
+use abi_map::map_of;
+use abi_rust::{Fault, FaultPlace, Sources, Target, Told};
+use abi_text::read_data_layout;
+use rust_source::Names;
+use rustc_abi::{LayError, lay_out};
+use serde_json::Value;
+use std::alloc::{AllocError, Global};
+
+/// What is told of types, and what is noted beside.
+#[derive(Drop)]
+pub(crate) struct Answer {
+    /// The lines, where types are told of by lines.
+    pub(crate) text: String,
+    /// The types, where they are told of by JSON.
+    pub(crate) values: Vec<Value>,
+    /// Lines for standard error.
+    pub(crate) notes: String,
+}
+
+impl Answer {
+    /// Nothing yet.
+    pub(crate) fn new(alloc: Global) -> Answer {
+        Answer {
+            text: String::new(alloc),
+            values: Vec::new(alloc),
+            notes: String::new(alloc),
+        }
+    }
+}
+
+/// Why nothing is told.
+#[derive(Drop)]
+pub(crate) enum Failure {
+    OutOfMemory,
+    /// The source, or a type that was asked for, has a fault: where it stands, and what it is.
+    Fault(FaultPlace, String),
+    /// A type has no layout: where its name stands, and why.
+    Refused(FaultPlace, String),
+}
+
+impl From<AllocError> for Failure {
+    fn from(_error: AllocError) -> Self {
+        Failure::OutOfMemory
+    }
+}
+
+/// A fault as it is told.
+fn faulty(alloc: Global, sources: &Sources, fault: &Fault) -> Failure {
+    if fault.is_out_of_memory() {
+        return Failure::OutOfMemory;
+    }
+    let mut text = String::new(alloc);
+    match fault.write_text(alloc, &mut text, sources) {
+        Ok(()) => Failure::Fault(fault.at, text),
+        Err(_) => Failure::OutOfMemory,
+    }
+}
+
+/// A refusal as it is told.
+fn refused(alloc: Global, name: &str, at: FaultPlace, error: LayError) -> Failure {
+    if let LayError::OutOfMemory = error {
+        return Failure::OutOfMemory;
+    }
+    match format!(in alloc; "{name} has no layout: {error}") {
+        Ok(text) => Failure::Refused(at, text),
+        Err(_) => Failure::OutOfMemory,
+    }
+}
+
+/// What all types under one target are told with.
+#[derive(Clone, Copy)]
+struct Under<'a> {
+    form: Form,
+    dl: &'a TargetDataLayout,
+    source: &'a str,
+    /// The target's name, where several were asked for.
+    triple: Option<&'static str>,
+}
+
+/// A laid-out type as a JSON object, with its target where several are asked for.
+fn object_of(
+    alloc: Global,
+    under: Under<'_>,
+    names: &Names,
+    name: &str,
+    told: &Told,
+    laid: &Laid,
+) -> Result<Value, LayError>
+    requires { IsLaidOut under.dl.now laid.now }
+{
+    let telling = Telling {
+        dl: under.dl,
+        names,
+        source: under.source,
+    };
+    let mut object = type_value(alloc, telling, name, &told.shape, &told.tree, laid)?;
+    if let Some(triple) = under.triple {
+        put_text(alloc, &mut object, "target", triple)?;
+    }
+    Ok(Value::Object(object))
+}
+
+/// Puts a laid-out type behind what is told, in the form that is asked for.
+fn put_laid(
+    alloc: Global,
+    answer: &mut Answer,
+    under: Under<'_>,
+    names: &Names,
+    name: &str,
+    told: &Told,
+    laid: &Laid,
+) -> Result<(), LayError>
+    requires { IsLaidOut under.dl.now laid.now }
+{
+    match under.form {
+        Form::Lines => {
+            write!(answer.text, "type {name}\n")?;
+            write_lines(alloc, &mut answer.text, names, &told.shape, laid)?;
+        }
+        Form::Map => {
+            let called = by_name(names, &told.shape, laid);
+            let map = map_of(alloc, under.dl, &called, laid)?;
+            write!(answer.text, "type {name}\n{map}")?;
+        }
+        Form::Json => {
+            let object = object_of(alloc, under, names, name, told, laid)?;
+            answer.values.push(object)?;
+        }
+    }
+    Ok(())
+}
+
+/// Lays out a type, and puts it behind what is told.
+fn put_tree(
+    alloc: Global,
+    answer: &mut Answer,
+    under: Under<'_>,
+    names: &Names,
+    name: &str,
+    told: &Told,
+) -> Result<(), LayError> {
+    let laid = lay_out(alloc, under.dl, &told.tree)?;
+    put_laid(alloc, answer, under, names, name, told, &laid)
+}
+
+/// Tells of a type; that it has no size of its own is noted.
+fn tell_type(
+    alloc: Global,
+    answer: &mut Answer,
+    under: Under<'_>,
+    names: &Names,
+    name: &str,
+    told: Option<&Told>,
+    at: FaultPlace,
+) -> Result<(), Failure> {
+    let Some(told) = told else {
+        return Ok(write!(
+            answer.notes,
+            "types: {name} has no size of its own, and is passed over\n"
+        )?);
+    };
+    match put_tree(alloc, answer, under, names, name, told) {
+        Ok(()) => Ok(()),
+        Err(error) => Err(refused(alloc, name, at, error)),
+    }
+}
+
+/// Tells of what a type was read as, or of its fault.
+fn tell_found(
+    alloc: Global,
+    answer: &mut Answer,
+    under: Under<'_>,
+    sources: &Sources,
+    name: &str,
+    found: Result<Option<Told>, Fault>,
+    at: FaultPlace,
+) -> Result<(), Failure> {
+    match found {
+        Ok(told) => {
+            let names = sources.names();
+            tell_type(alloc, answer, under, names, name, told.as_ref(), at)
+        }
+        Err(fault) => Err(faulty(alloc, sources, &fault)),
+    }
+}
+
+/// Tells of each type of the source.
+fn tell_all(
+    alloc: Global,
+    answer: &mut Answer,
+    under: Under<'_>,
+    sources: &Sources,
+) -> Result<(), Failure> {
+    let mut name = String::new(alloc);
+    for item in 0..sources.item_count() {
+        if sources.is_told(item) {
+            name.clear();
+            sources.write_name(&mut name, item)?;
+            let found = sources.type_of(alloc, under.dl, item);
+            let at = sources.place_of(item);
+            tell_found(alloc, answer, under, sources, name.as_str(), found, at)?;
+        }
+    }
+    Ok(())
+}
+
+/// Tells of the types that are asked for.
+fn tell_asked(
+    alloc: Global,
+    answer: &mut Answer,
+    under: Under<'_>,
+    sources: &mut Sources,
+    types: &[&str],
+) -> Result<(), Failure> {
+    for name in types {
+        let found = sources.type_written(alloc, under.dl, name);
+        let at = FaultPlace::Argument(0);
+        tell_found(alloc, answer, under, sources, name, found, at)?;
+    }
+    Ok(())
+}
+
+/// Notes what was passed over, and which names of `cfg` count as false.
+fn note(notes: &mut String, sources: &Sources) -> Result<(), AllocError> {
+    let count = sources.passed_over();
+    if count > 0 {
+        write!(
+            notes,
+            "types: {count} items that define no type are passed over\n"
+        )?;
+    }
+    let unknown = sources.unknown_cfgs();
+    if !unknown.is_empty() {
+        notes.push_str("types: of cfg these names count as false:")?;
+        for name in unknown {
+            let text = sources.names().text(*name);
+            write!(notes, " {text}")?;
+        }
+        notes.push_str("\n")?;
+    }
+    Ok(())
+}
+
+/// Reads the source, and tells of its types.
+fn tell_read(
+    alloc: Global,
+    answer: &mut Answer,
+    options: &Options<'_>,
+    under: Under<'_>,
+    target: &Target,
+    sources: &mut Sources,
+) -> Result<(), Failure> {
+    if let Err(fault) = sources.read(alloc, &target.cfg, under.source) {
+        return Err(faulty(alloc, sources, &fault));
+    }
+    note(&mut answer.notes, sources)?;
+    if options.types.is_empty() {
+        tell_all(alloc, answer, under, sources)
+    } else {
+        tell_asked(alloc, answer, under, sources, &options.types)
+    }
+}
+
+/// Tells of types under a target, whose name is told where several are asked for.
+fn tell_under(
+    alloc: Global,
+    answer: &mut Answer,
+    options: &Options<'_>,
+    target: &Target,
+    dl: &TargetDataLayout,
+    source: &str,
+) -> Result<(), Failure> {
+    let is_one = options.targets.len() == 1;
+    let triple = if is_one { None } else { Some(target.triple) };
+    if let Some(triple) = triple {
+        write!(answer.text, "target {triple}\n")?;
+    }
+    let under = Under {
+        form: options.form,
+        dl,
+        source,
+        triple,
+    };
+    let mut sources = Sources::new(alloc)?;
+    tell_read(alloc, answer, options, under, target, &mut sources)
+}
+
+/// Tells of types under each target that is asked for.
+fn tell_targets(
+    alloc: Global,
+    answer: &mut Answer,
+    options: &Options<'_>,
+    source: &str,
+) -> Result<(), Failure> {
+    if !options.names_target {
+        answer.notes.push_str(
+            "types: laid out for x86_64-unknown-linux-gnu; --target names another target\n",
+        )?;
+    }
+    for target in &options.targets {
+        match read_data_layout(alloc, target.data_layout) {
+            Ok(dl) => tell_under(alloc, answer, options, target, &dl, source)?,
+            Err(_) => return Err(Failure::OutOfMemory),
+        }
+    }
+    Ok(())
+}
+
+/// Tells of the types of a source under each target that is asked for.
+pub(crate) fn tell_source(
+    alloc: Global,
+    options: &Options<'_>,
+    source: &str,
+) -> Result<Answer, Failure> {
+    let mut answer = Answer::new(alloc);
+    match tell_targets(alloc, &mut answer, options, source) {
+        Ok(()) => Ok(answer),
+        Err(failure) => Err(failure),
+    }
+}

@@ -1,0 +1,331 @@
+//! A type as JSON.
+
+ghost use Rattle.std.specs.Prelude.{◌<◌};
+ghost use Rattle.abi_laid.specs.Laid.{placed_of};
+ghost use Rattle.abi_laid.specs.Placed.{layout_of};
+
+use crate::labels::{offset_at, offsets_of, write_field_name};
+use abi_base::{Size, TargetDataLayout};
+use abi_laid::{Laid, TypeTree};
+use abi_rust::{Label, Shape, VariantLabels};
+use abi_scalar::{Niche, Scalar, TagEncoding, Variants};
+use abi_text::write_scalar;
+use rust_source::Names;
+use rustc_abi::{LayError, lay_out};
+use serde_json::{Map, Value};
+use std::alloc::{AllocError, Global};
+
+/// The bytes of a larger type aren't listed. In bytes.
+const MOST_LISTED: u64 = 65_536;
+
+/// What types are told with.
+#[derive(Clone, Copy)]
+pub(crate) struct Telling<'a> {
+    pub(crate) dl: &'a TargetDataLayout,
+    pub(crate) names: &'a Names,
+    /// The file, of which types are cut out as they are written.
+    pub(crate) source: &'a str,
+}
+
+/// Puts a member into an object.
+fn put(
+    alloc: Global,
+    object: &mut Map<String, Value>,
+    key: &str,
+    value: Value,
+) -> Result<(), AllocError> {
+    object.insert(String::from_str(alloc, key)?, value)?;
+    Ok(())
+}
+
+/// Puts a text into an object.
+pub(crate) fn put_text(
+    alloc: Global,
+    object: &mut Map<String, Value>,
+    key: &str,
+    text: &str,
+) -> Result<(), AllocError> {
+    let text = String::from_str(alloc, text)?;
+    put(alloc, object, key, Value::String(text))
+}
+
+/// Puts a number into an object.
+fn put_number(
+    alloc: Global,
+    object: &mut Map<String, Value>,
+    key: &str,
+    number: u64,
+) -> Result<(), AllocError> {
+    put(alloc, object, key, Value::from(number))
+}
+
+/// The size of a type, in bytes.
+fn size_of_tree(alloc: Global, dl: &TargetDataLayout, tree: &TypeTree) -> Result<u64, LayError> {
+    let laid = lay_out(alloc, dl, tree)?;
+    Ok(laid.layout().size.bytes())
+}
+
+/// A field: its name, its type as it is written, its offset and its size.
+fn field_value(
+    alloc: Global,
+    telling: Telling<'_>,
+    label: &Label,
+    offset: u64,
+    tree: &TypeTree,
+) -> Result<Value, LayError> {
+    let mut object = Map::new(alloc);
+    let mut name = String::new(alloc);
+    write_field_name(&mut name, telling.names, label.name)?;
+    put(alloc, &mut object, "name", Value::String(name))?;
+    let written = telling
+        .source
+        .get(label.start.0 as usize..label.end.0 as usize);
+    put_text(alloc, &mut object, "type", written.unwrap_or(""))?;
+    put_number(alloc, &mut object, "offset", offset)?;
+    put_number(
+        alloc,
+        &mut object,
+        "size",
+        size_of_tree(alloc, telling.dl, tree)?,
+    )?;
+    Ok(Value::Object(object))
+}
+
+/// Fields, in source order.
+fn fields_value(
+    alloc: Global,
+    telling: Telling<'_>,
+    labels: &[Label],
+    offsets: &[Size],
+    trees: &[TypeTree],
+) -> Result<Value, LayError> {
+    let mut all = Vec::new(alloc);
+    for (index, label) in labels.iter().enumerate() {
+        if let Some(tree) = trees.get(index) {
+            let offset = offset_at(offsets, index);
+            all.push(field_value(alloc, telling, label, offset, tree)?)?;
+        }
+    }
+    Ok(Value::Array(all))
+}
+
+/// The offsets of the fields of the variant with this index; none where they all lie at 0.
+fn variant_offsets(laid: &Laid, variant: usize) -> &[Size] {
+    let layout = laid.layout();
+    match &layout.variants {
+        Variants::Empty => &[],
+        Variants::Single { index } => {
+            if index.as_usize() == variant {
+                offsets_of(layout)
+            } else {
+                &[]
+            }
+        }
+        Variants::Multiple {
+            tag: _,
+            tag_encoding: _,
+            tag_field: _,
+            variants,
+        } => match variants.as_slice().as_raw().get(variant) {
+            Some(layout) => layout.field_offsets.as_slice().as_raw(),
+            None => &[],
+        },
+    }
+}
+
+/// The variants of an enum, each with its name and its fields.
+fn variants_value(
+    alloc: Global,
+    telling: Telling<'_>,
+    labels: &[VariantLabels],
+    laid: &Laid,
+    trees: &[(u128, Vec<TypeTree>)],
+) -> Result<Value, LayError> {
+    let mut all = Vec::new(alloc);
+    for (index, label) in labels.iter().enumerate() {
+        if let Some((_, fields)) = trees.get(index) {
+            let mut object = Map::new(alloc);
+            put_text(alloc, &mut object, "name", telling.names.text(label.name))?;
+            let offsets = variant_offsets(laid, index);
+            let fields = fields_value(alloc, telling, &label.fields, offsets, fields)?;
+            put(alloc, &mut object, "fields", fields)?;
+            all.push(Value::Object(object))?;
+        }
+    }
+    Ok(Value::Array(all))
+}
+
+/// Puts the primitive and the range of a scalar, as lines have them.
+fn put_scalar(
+    alloc: Global,
+    object: &mut Map<String, Value>,
+    scalar: Scalar,
+) -> Result<(), AllocError> {
+    let mut text = String::new(alloc);
+    write_scalar(&mut text, scalar)?;
+    match text.as_str().split_once(' ') {
+        Some((primitive, range)) => {
+            put_text(alloc, object, "primitive", primitive)?;
+            put_text(alloc, object, "range", range)
+        }
+        None => put_text(alloc, object, "primitive", text.as_str()),
+    }
+}
+
+/// The name of the variant with this index.
+fn variant_name<'a>(telling: Telling<'a>, labels: &[VariantLabels], variant: usize) -> &'a str {
+    match labels.get(variant) {
+        Some(label) => telling.names.text(label.name),
+        None => "",
+    }
+}
+
+/// The tag of an enum: where it lies, what it holds, and how it names a variant; null where it has none.
+fn tag_value(
+    alloc: Global,
+    telling: Telling<'_>,
+    labels: &[VariantLabels],
+    laid: &Laid,
+) -> Result<Value, AllocError> {
+    let layout = laid.layout();
+    let Variants::Multiple {
+        tag,
+        tag_encoding,
+        tag_field,
+        variants: _,
+    } = &layout.variants
+    else {
+        return Ok(Value::Null);
+    };
+    let mut object = Map::new(alloc);
+    let offset = offset_at(offsets_of(layout), tag_field.as_usize());
+    put_number(alloc, &mut object, "offset", offset)?;
+    put_scalar(alloc, &mut object, *tag)?;
+    match *tag_encoding {
+        TagEncoding::Direct => put_text(alloc, &mut object, "encoding", "direct")?,
+        TagEncoding::Niche {
+            untagged_variant,
+            niche_variants,
+            niche_start,
+        } => {
+            let untagged = variant_name(telling, labels, untagged_variant.as_usize());
+            let first = variant_name(telling, labels, niche_variants.start.as_usize());
+            let last = variant_name(telling, labels, niche_variants.last.as_usize());
+            let start = format!(in alloc; "{niche_start}")?;
+            put_text(alloc, &mut object, "encoding", "niche")?;
+            put_text(alloc, &mut object, "untagged", untagged)?;
+            put_text(alloc, &mut object, "first", first)?;
+            put_text(alloc, &mut object, "last", last)?;
+            put_text(alloc, &mut object, "start", start.as_str())?;
+        }
+    }
+    Ok(Value::Object(object))
+}
+
+/// The largest niche: where it lies, in bytes, and what it holds; null where there is none.
+fn niche_value(alloc: Global, niche: Option<Niche>) -> Result<Value, AllocError> {
+    let Some(niche) = niche else {
+        return Ok(Value::Null);
+    };
+    let mut object = Map::new(alloc);
+    put_number(alloc, &mut object, "offset", niche.offset.bytes())?;
+    let scalar = Scalar::Initialized {
+        value: niche.value,
+        valid_range: niche.valid_range,
+    };
+    put_scalar(alloc, &mut object, scalar)?;
+    Ok(Value::Object(object))
+}
+
+/// Two numbers.
+fn pair_value(alloc: Global, first: u64, second: u64) -> Result<Value, AllocError> {
+    let mut both = Vec::new(alloc);
+    both.push(Value::from(first))?;
+    both.push(Value::from(second))?;
+    Ok(Value::Array(both))
+}
+
+/// The runs of padding, each its first byte and the one behind its last; null where they aren't listed.
+fn padding_value(alloc: Global, laid: &Laid) -> Result<Value, AllocError> {
+    if laid.layout().size.bytes() > MOST_LISTED {
+        return Ok(Value::Null);
+    }
+    let (bytes, _visits) = laid.padding(alloc)?;
+    let mut all = Vec::new(alloc);
+    for run in bytes.as_slice() {
+        let (start, size) = *run;
+        all.push(pair_value(alloc, start, start.saturating_add(size))?)?;
+    }
+    Ok(Value::Array(all))
+}
+
+/// Puts the fields of a struct, a union or an enum's variants, as its shape has them.
+fn put_parts(
+    alloc: Global,
+    object: &mut Map<String, Value>,
+    telling: Telling<'_>,
+    shape: &Shape,
+    tree: &TypeTree,
+    laid: &Laid,
+) -> Result<(), LayError> {
+    match (shape, tree) {
+        (
+            Shape::Struct(labels),
+            TypeTree::Struct {
+                repr: _,
+                always_sized: _,
+                fields,
+            },
+        ) => {
+            let offsets = offsets_of(laid.layout());
+            let fields = fields_value(alloc, telling, labels, offsets, fields)?;
+            put(alloc, object, "fields", fields)?;
+        }
+        (Shape::Union(labels), TypeTree::Union { repr: _, fields }) => {
+            let fields = fields_value(alloc, telling, labels, &[], fields)?;
+            put(alloc, object, "fields", fields)?;
+        }
+        (Shape::Enum(labels), TypeTree::Enum { repr: _, variants }) => {
+            let all = variants_value(alloc, telling, labels, laid, variants)?;
+            put(alloc, object, "variants", all)?;
+            put(
+                alloc,
+                object,
+                "tag",
+                tag_value(alloc, telling, labels, laid)?,
+            )?;
+        }
+        _ => {}
+    }
+    Ok(())
+}
+
+/// A type as a JSON object: its name, size and alignment in bytes; and of a type with fields or variants these, the tag,
+/// the largest niche and the padding.
+pub(crate) fn type_value(
+    alloc: Global,
+    telling: Telling<'_>,
+    name: &str,
+    shape: &Shape,
+    tree: &TypeTree,
+    laid: &Laid,
+) -> Result<Map<String, Value>, LayError>
+    requires { (layout_of (placed_of laid.now)).align.abi < 64 }
+{
+    let layout = laid.layout();
+    let mut object = Map::new(alloc);
+    put_text(alloc, &mut object, "name", name)?;
+    put_number(alloc, &mut object, "size", layout.size.bytes())?;
+    put_number(alloc, &mut object, "align", layout.align.abi.bytes())?;
+    if !matches!(shape, Shape::Plain) {
+        put_parts(alloc, &mut object, telling, shape, tree, laid)?;
+        put(
+            alloc,
+            &mut object,
+            "niche",
+            niche_value(alloc, layout.largest_niche)?,
+        )?;
+        put(alloc, &mut object, "padding", padding_value(alloc, laid)?)?;
+    }
+    Ok(object)
+}

@@ -1,0 +1,303 @@
+//! A type as lines, with the names of its fields and variants.
+
+ghost use Rattle.std.specs.Prelude.{◌≡◌, ℕ, ◌<◌, ◌≤◌, ◌+◌, ◌++◌, OnOk, length, slice_get, string_bytes};
+ghost use Rattle.abi_index.specs.Idx.{greatest_place};
+ghost use Rattle.abi_laid.specs.Laid.{placed_of};
+ghost use Rattle.abi_laid.specs.Placed.{layout_of};
+ghost use Rattle.abi_text.specs.Told.{TellsBytes};
+ghost use Rattle.abi_types.specs.Ty.Runs.{IsVariantOfSeveral};
+ghost use Rattle.types.specs.Lines.{field_lines, named_text, offsets_in, own_offsets, parts_lines, range_text, rest_lines, several_lines, single_lines, tag_line, type_lines, variant_lines, variants_lines};
+
+use crate::labels::{offset_at, offsets_of, write_field_name};
+use crate::mapped::write_variant;
+use abi_base::Size;
+use abi_index::{FieldIdx, VariantIdx};
+use abi_laid::Laid;
+use abi_rust::{Label, Shape, VariantLabels};
+use abi_scalar::{RangeInclusive, Scalar, TagEncoding, VariantLayout, Variants};
+use abi_text::{
+    listed_unused, runs_of, write_niche, write_padding, write_ranges, write_scalar, write_size,
+    write_uninhabited,
+};
+use rust_source::Names;
+use std::alloc::{AllocError, Global};
+
+/// Writes a line for each field: its name and its offset in bytes.
+fn write_fields(
+    out: &mut String,
+    names: &Names,
+    labels: &[Label],
+    offsets: &[Size],
+) -> Result<(), AllocError>
+    ensures { OnOk result (string_bytes out.new
+        ≡ string_bytes out.old ++ field_lines names.now 0 labels.now offsets.now) }
+{
+    for (index, label) in labels.iter().enumerate() {
+        let offset = offset_at(offsets, index);
+        out.push_str("field ")?;
+        write_field_name(out, names, label.name)?;
+        write!(out, " offset {offset}\n")?;
+    }
+    Ok(())
+}
+
+/// The offsets, where they are those of the variant with this index; none else.
+fn own_offsets(single: Option<usize>, index: usize, offsets: &[Size]) -> &[Size]
+    ensures { result.now ≡ own_offsets single index offsets.now }
+{
+    match single {
+        Some(single) if single == index => offsets,
+        _ => &[],
+    }
+}
+
+/// Writes a variant, and the offsets of its fields.
+fn write_one(
+    out: &mut String,
+    names: &Names,
+    variant: &VariantLabels,
+    offsets: &[Size],
+) -> Result<(), AllocError>
+    ensures { OnOk result (string_bytes out.new
+        ≡ string_bytes out.old ++ variant_lines names.now (Some variant.now) offsets.now) }
+{
+    out.push_str("variant ")?;
+    out.push_str(names.text(variant.name))?;
+    out.push_str("\n")?;
+    write_fields(out, names, &variant.fields, offsets)
+}
+
+/// Writes the variant with this index, and the offsets of its fields.
+fn write_one_of(
+    out: &mut String,
+    names: &Names,
+    labels: &[VariantLabels],
+    index: usize,
+    offsets: &[Size],
+) -> Result<(), AllocError>
+    ensures { OnOk result (string_bytes out.new ≡ string_bytes out.old
+        ++ variant_lines names.now (slice_get labels.now index) offsets.now) }
+{
+    match labels.get(index) {
+        Some(variant) => write_one(out, names, variant, offsets),
+        None => out.push_str("variant \n"),
+    }
+}
+
+/// Writes the variants of an enum that is laid out as the one with this index, or as none of them; the fields of the
+/// others lie at 0.
+fn write_single(
+    out: &mut String,
+    names: &Names,
+    labels: &[VariantLabels],
+    single: Option<usize>,
+    offsets: &[Size],
+) -> Result<(), AllocError>
+    ensures { OnOk result (string_bytes out.new
+        ≡ string_bytes out.old ++ single_lines names.now single 0 labels.now offsets.now) }
+{
+    for (index, variant) in labels.iter().enumerate() {
+        write_one(out, names, variant, own_offsets(single, index, offsets))?;
+    }
+    Ok(())
+}
+
+/// Writes each of the variants that a tag tells apart, the first of which has the index 0.
+fn write_several(
+    alloc: Global,
+    out: &mut String,
+    names: &Names,
+    labels: &[VariantLabels],
+    laid: &Laid,
+    layouts: &[VariantLayout<FieldIdx>],
+) -> Result<(), AllocError>
+    requires told { TellsBytes laid.now }
+    requires most { length layouts.now ≤ greatest_place + 1 }
+    requires variants { (i : ℕ) → i < length layouts.now →
+        IsVariantOfSeveral (layout_of (placed_of laid.now)).variants i }
+    ensures { OnOk result (string_bytes out.new ≡ string_bytes out.old
+        ++ several_lines names.now labels.now (placed_of laid.now) 0 layouts.now) }
+{
+    let unused = listed_unused(alloc, laid)?;
+    for (index, layout) in layouts.iter().enumerate() {
+        let offsets = layout.field_offsets.as_slice().as_raw();
+        write_one_of(out, names, labels, index, offsets)?;
+        write_ranges(
+            out,
+            "unused",
+            runs_of(&unused, VariantIdx::from_usize(index)),
+        )?;
+    }
+    Ok(())
+}
+
+/// Writes the first and the last of the variants that a niche names.
+fn write_range(
+    out: &mut String,
+    names: &Names,
+    labels: &[VariantLabels],
+    named: RangeInclusive<VariantIdx>,
+) -> Result<(), AllocError>
+    ensures { OnOk result (string_bytes out.new
+        ≡ string_bytes out.old ++ range_text names.now labels.now named) }
+{
+    out.push_str(" variants ")?;
+    write_variant(out, names, labels, named.start.as_usize())?;
+    out.push_str("..=")?;
+    write_variant(out, names, labels, named.last.as_usize())
+}
+
+/// Writes which variants a niche names, and from which number on.
+fn write_named(
+    out: &mut String,
+    names: &Names,
+    labels: &[VariantLabels],
+    untagged: VariantIdx,
+    named: RangeInclusive<VariantIdx>,
+    start: u128,
+) -> Result<(), AllocError>
+    ensures { OnOk result (string_bytes out.new
+        ≡ string_bytes out.old ++ named_text names.now labels.now untagged named start) }
+{
+    out.push_str(" untagged ")?;
+    write_variant(out, names, labels, untagged.as_usize())?;
+    write_range(out, names, labels, named)?;
+    write!(out, " start {start}")
+}
+
+/// Writes where the tag lies, in bytes, what it holds, and how it names a variant.
+fn write_tag(
+    out: &mut String,
+    names: &Names,
+    labels: &[VariantLabels],
+    offset: u64,
+    tag: Scalar,
+    encoding: TagEncoding<VariantIdx>,
+) -> Result<(), AllocError>
+    ensures { OnOk result (string_bytes out.new
+        ≡ string_bytes out.old ++ tag_line names.now labels.now offset tag encoding) }
+{
+    match encoding {
+        TagEncoding::Direct => {
+            write!(out, "tag offset {offset} direct ")?;
+            write_scalar(out, tag)?;
+            out.push_str("\n")
+        }
+        TagEncoding::Niche {
+            untagged_variant,
+            niche_variants,
+            niche_start,
+        } => {
+            write!(out, "tag offset {offset} niche ")?;
+            write_scalar(out, tag)?;
+            write_named(
+                out,
+                names,
+                labels,
+                untagged_variant,
+                niche_variants,
+                niche_start,
+            )?;
+            out.push_str("\n")
+        }
+    }
+}
+
+/// Writes the variants of an enum, and the tag where it has one.
+fn write_variants(
+    alloc: Global,
+    out: &mut String,
+    names: &Names,
+    labels: &[VariantLabels],
+    laid: &Laid,
+) -> Result<(), AllocError>
+    requires { TellsBytes laid.now }
+    ensures { let placed = placed_of laid.now in OnOk result (string_bytes out.new ≡ string_bytes out.old
+        ++ variants_lines names.now labels.now placed (offsets_in (layout_of placed).fields)
+        (layout_of placed).variants) }
+{
+    let layout = laid.layout();
+    let offsets = offsets_of(layout);
+    match &layout.variants {
+        Variants::Empty => write_single(out, names, labels, None, &[]),
+        Variants::Single { index } => {
+            write_single(out, names, labels, Some(index.as_usize()), offsets)
+        }
+        Variants::Multiple {
+            tag,
+            tag_encoding,
+            tag_field,
+            variants,
+        } => {
+            write_several(
+                alloc,
+                out,
+                names,
+                labels,
+                laid,
+                variants.as_slice().as_raw(),
+            )?;
+            let offset = offset_at(offsets, tag_field.as_usize());
+            write_tag(out, names, labels, offset, *tag, *tag_encoding)
+        }
+    }
+}
+
+/// Writes where the parts of a type lie, and whether it has no values.
+fn write_parts(
+    alloc: Global,
+    out: &mut String,
+    names: &Names,
+    shape: &Shape,
+    laid: &Laid,
+) -> Result<(), AllocError>
+    requires { TellsBytes laid.now }
+    ensures { let placed = placed_of laid.now in OnOk result (string_bytes out.new
+        ≡ string_bytes out.old ++ parts_lines names.now shape.now placed (layout_of placed)) }
+{
+    let layout = laid.layout();
+    match shape {
+        Shape::Plain => Ok(()),
+        Shape::Struct(labels) => {
+            write_uninhabited(out, layout.uninhabited)?;
+            write_fields(out, names, labels, offsets_of(layout))
+        }
+        Shape::Union(labels) => write_fields(out, names, labels, &[]),
+        Shape::Enum(labels) => {
+            write_uninhabited(out, layout.uninhabited)?;
+            write_variants(alloc, out, names, labels, laid)
+        }
+    }
+}
+
+/// Writes the largest niche and the padding of a type with named parts.
+fn write_rest(alloc: Global, out: &mut String, shape: &Shape, laid: &Laid) -> Result<(), AllocError>
+    ensures { OnOk result (string_bytes out.new
+        ≡ string_bytes out.old ++ rest_lines shape.now (placed_of laid.now)) }
+{
+    if let Shape::Plain = shape {
+        return Ok(());
+    }
+    write_niche(out, laid.layout().largest_niche)?;
+    write_padding(alloc, out, laid)
+}
+
+/// Writes the lines of a type behind its name: its size and alignment; and of a type with fields or variants whether it
+/// has no values, where they lie, its tag, its largest niche and its padding, all in bytes. An error comes where a growth
+/// of memory was refused; a beginning of the lines may then stand in the text.
+pub(crate) fn write_lines(
+    alloc: Global,
+    out: &mut String,
+    names: &Names,
+    shape: &Shape,
+    laid: &Laid,
+) -> Result<(), AllocError>
+    requires align { (layout_of (placed_of laid.now)).align.abi < 64 }
+    requires told { TellsBytes laid.now }
+    ensures { OnOk result (string_bytes out.new
+        ≡ string_bytes out.old ++ type_lines names.now shape.now (placed_of laid.now)) }
+{
+    write_size(out, laid.layout())?;
+    write_parts(alloc, out, names, shape, laid)?;
+    write_rest(alloc, out, shape, laid)
+}

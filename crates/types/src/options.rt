@@ -1,0 +1,172 @@
+//! What the command line asks for.
+
+use abi_rust::{Target, target_named};
+use clap::{Arg, ArgAction, ArgMatches, Command};
+use std::alloc::{AllocError, Global};
+
+/// The target whose types are told of where none is named.
+pub(crate) const DEFAULT_TARGET: &str = "x86_64-unknown-linux-gnu";
+
+/// The form in which types are told of.
+#[derive(Clone, Copy, PartialEq, Eq)]
+pub(crate) enum Form {
+    /// A line for each fact.
+    Lines,
+    /// One JSON document.
+    Json,
+    /// A line for each run of bytes that the same parts have.
+    Map,
+}
+
+/// What the command line asks for.
+#[derive(Drop)]
+pub(crate) struct Options<'a> {
+    /// The targets, in the order in which they were named; one where none was.
+    pub(crate) targets: Vec<Target>,
+    /// Whether a target was named.
+    pub(crate) names_target: bool,
+    /// The types that are asked for by name; all of the source where there is none.
+    pub(crate) types: Vec<&'a str>,
+    pub(crate) form: Form,
+    /// The file, where it isn't standard input.
+    pub(crate) file: Option<&'a str>,
+}
+
+/// The option that names a target.
+fn target_option<'a>(alloc: Global) -> Arg<'a> {
+    Arg::new(alloc, "target")
+        .long("target")
+        .value_name("TRIPLE")
+        .action(ArgAction::Append)
+        .help(
+            "lays types out for this target; more than one may be named [default: x86_64-unknown-linux-gnu]",
+        )
+}
+
+/// The option that names a type.
+fn type_option<'a>(alloc: Global) -> Arg<'a> {
+    Arg::new(alloc, "type")
+        .long("type")
+        .value_name("TYPE")
+        .action(ArgAction::Append)
+        .help("tells of this type alone, as 'Option<Header>'; more than one may be named")
+}
+
+/// An option that picks a form.
+fn form_option<'a>(alloc: Global, name: &'a str, help: &'a str) -> Arg<'a> {
+    Arg::new(alloc, name)
+        .long(name)
+        .action(ArgAction::SetTrue)
+        .help(help)
+}
+
+/// The file.
+fn file_argument<'a>(alloc: Global) -> Arg<'a> {
+    Arg::new(alloc, "file")
+        .value_name("FILE.rs")
+        .help("the source; standard input where none is named")
+}
+
+/// The command, with what it may be asked for.
+pub(crate) fn command<'a>(alloc: Global) -> Result<Command<'a>, AllocError> {
+    let json = form_option(alloc, "json", "tells them as one JSON document")
+        .conflicts_with("map")?
+        .conflicts_with("svg")?;
+    let map = form_option(alloc, "map", "tells which parts have each byte").conflicts_with("svg")?;
+    let svg = form_option(
+        alloc,
+        "svg",
+        "draws the map of one type, as a picture (SVG)",
+    );
+    let command = Command::new(alloc, "types")
+        .about("Lays out the types that a Rust source defines")
+        .arg(target_option(alloc))?
+        .arg(type_option(alloc))?
+        .arg(json)?
+        .arg(map)?
+        .arg(svg)?
+        .arg(file_argument(alloc))?;
+    Ok(command)
+}
+
+/// Why a command line can't be carried out.
+#[derive(Clone, Copy)]
+pub(crate) enum OptionFault<'a> {
+    OutOfMemory,
+    /// No target has this name.
+    UnknownTarget(&'a str),
+    /// A picture shows one type, and none was named, or more than one.
+    ManyTypes,
+}
+
+impl From<AllocError> for OptionFault<'_> {
+    fn from(_error: AllocError) -> Self {
+        OptionFault::OutOfMemory
+    }
+}
+
+/// The targets that were named.
+fn targets_of<'a>(alloc: Global, triples: &[&'a str]) -> Result<Vec<Target>, OptionFault<'a>> {
+    let mut targets = Vec::with_capacity(alloc, triples.len())?;
+    for triple in triples {
+        match target_named(triple) {
+            Some(known) => targets.push(*known).map_err(AllocError::from)?,
+            None => return Err(OptionFault::UnknownTarget(triple)),
+        }
+    }
+    Ok(targets)
+}
+
+/// The one target that there is where none was named.
+fn default_targets(alloc: Global) -> Result<Vec<Target>, AllocError> {
+    let mut targets = Vec::new(alloc);
+    if let Some(known) = target_named(DEFAULT_TARGET) {
+        targets.push(*known).map_err(AllocError::from)?;
+    }
+    Ok(targets)
+}
+
+/// The words, as they were named, in a list of their own.
+fn words_of<'a>(alloc: Global, words: &[&'a str]) -> Result<Vec<&'a str>, AllocError> {
+    let mut all = Vec::with_capacity(alloc, words.len())?;
+    for word in words {
+        all.push(*word)?;
+    }
+    Ok(all)
+}
+
+/// The form that was picked.
+fn form_of(matches: &ArgMatches<'_>) -> Form {
+    if matches.get_flag("json") {
+        Form::Json
+    } else if matches.get_flag("map") | matches.get_flag("svg") {
+        Form::Map
+    } else {
+        Form::Lines
+    }
+}
+
+/// What the matches ask for.
+pub(crate) fn options_of<'a>(
+    alloc: Global,
+    matches: &ArgMatches<'a>,
+) -> Result<Options<'a>, OptionFault<'a>> {
+    let types = words_of(alloc, matches.get_strs("type").unwrap_or(&[]))?;
+    if matches.get_flag("svg") && types.len() != 1 {
+        return Err(OptionFault::ManyTypes);
+    }
+    let named = matches.get_strs("target").unwrap_or(&[]);
+    let names_target = !named.is_empty();
+    let targets = if names_target {
+        targets_of(alloc, named)?
+    } else {
+        default_targets(alloc)?
+    };
+    Ok(Options {
+        targets,
+        names_target,
+        types,
+        form: form_of(matches),
+        file: matches.get_str("file"),
+    })
+}
