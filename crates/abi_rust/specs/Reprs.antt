@@ -6,7 +6,7 @@ use Rattle.rust_source.specs.declared.fault.SourceFaultKind.TheVariants.{OutOfMe
 use Rattle.rustc_abi.specs.declared.error.LayError.{LayError}
 use Rattle.rustc_abi.specs.declared.error.LayError.TheVariants.{OutOfMemory as LayOutOfMemory}
 use Rattle.abi_rust.specs.declared.fault.FaultKind.{FaultKind}
-use Rattle.abi_rust.specs.declared.fault.FaultKind.TheVariants.{OutOfMemory, Source, Layout, PackedEnum, ReprWithoutVariants, TransparentFields, IntegerRepr, PackedAndAligned}
+use Rattle.abi_rust.specs.declared.fault.FaultKind.TheVariants.{OutOfMemory, Source, Layout, PackedApart, PackedEnum, ReprWithoutVariants, TransparentFields, IntegerRepr, PackedAndAligned}
 
 -- it asks for something beside transparent
 abbrev pub asks_beside : Repr → Bool
@@ -23,7 +23,8 @@ enum_fault r variants =
 abbrev pub fields_fault : Repr → Option FaultKind
 fields_fault r =
     cond (is_some r.integer) (Some IntegerRepr)
-    (cond (is_some r.packed && is_some r.align) (Some PackedAndAligned) None)
+    (cond (is_some r.packed && is_some r.align) (Some PackedAndAligned)
+    (cond r.is_packed_apart (Some PackedApart) None))
 
 -- a growth of memory was refused
 abbrev pub is_memory : FaultKind → Bool

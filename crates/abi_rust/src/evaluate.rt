@@ -3,6 +3,7 @@
 ghost use Rattle.std.specs.Prelude.{◌≡◌, IfOk};
 ghost use Rattle.abi_rust.specs.Values.{IsOfKind};
 
+use crate::constants::{constant_named, inside_constant};
 use crate::discriminants::{discriminant_kind, variant_named, written_before};
 use crate::fault::{FaultKind, Stop, stop_at};
 use crate::int::{Int, Width};
@@ -12,7 +13,6 @@ use crate::kind::{
 use crate::limits::limit;
 use crate::literals::{inner_kind, literal};
 use crate::operators::{binary, cast, fitting, is_settled, unary};
-use crate::paths::{Found, Space, find};
 use crate::places::{at_place, place_of, place_of_path};
 use crate::sizes::call;
 use crate::ty::{Given, Kind, Value};
@@ -213,13 +213,7 @@ pub(crate) fn evaluate_path<'a>(
             return Ok(*value);
         }
     }
-    if let Some(Found::Item(number)) = find(
-        cx.items,
-        cx.scope,
-        setting.module,
-        path,
-        Space::Values,
-    ) {
+    if let Some(number) = constant_named(cx, setting, path) {
         return constant(cx, work, number, place_of_path(path), room);
     }
     limit(cx, setting, path)
@@ -241,13 +235,14 @@ fn constant<'a>(
     let ItemKind::Const(constant) = &item.kind else {
         return Err(stop_at(at, unevaluated));
     };
-    let kind = kind_written(cx, outside(item.module), &constant.ty);
+    let inside = inside_constant(cx, number, item);
+    let kind = kind_written(cx, inside, &constant.ty);
     match &constant.value {
         Some(value) => {
             if kind.is_none() {
                 return Err(stop_at(at, unevaluated));
             }
-            evaluate(cx, work, outside(item.module), value, kind, room)
+            evaluate(cx, work, inside, value, kind, room)
         }
         None => Err(stop_at(at, unevaluated)),
     }

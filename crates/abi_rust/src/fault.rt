@@ -65,6 +65,8 @@ pub enum FaultKind {
     TransparentFields,
     /// `packed` beside `align`.
     PackedAndAligned,
+    /// `packed` with several sizes.
+    PackedApart,
     /// `packed` on an enum.
     PackedEnum,
     /// An integer as the repr of a struct or a union.

@@ -80,6 +80,7 @@ fn plain_text(kind: FaultKind) -> &'static str {
         FaultKind::TransparentFields =>
             "`transparent` wants one field that takes room, or one variant",
         FaultKind::PackedAndAligned => "`packed` doesn't go with `align`",
+        FaultKind::PackedApart => "`packed` is asked for with two sizes",
         FaultKind::PackedEnum => "an enum can't be `packed`",
         FaultKind::IntegerRepr => "an integer is a repr of enums alone",
         FaultKind::ReprWithoutVariants => "an enum without variants has no repr",
@@ -147,7 +148,8 @@ fn suggest(
     }
 }
 
-/// The name of a type, or of a constant, that is nearest to a name: at most a third of its bytes are other ones.
+/// The name of a type, or of a constant, that is nearest to a name and isn't the same: at most a third of its bytes are
+/// other ones.
 fn nearest(
     alloc: Global,
     sources: &Sources,
@@ -162,7 +164,7 @@ fn nearest(
             ItemKind::Const(_) => true,
             _ => false,
         };
-        if is_constant == is_type {
+        if is_constant == is_type || item.name == name {
             continue;
         }
         let edits = levenshtein(alloc, text, sources.names().text(item.name))?;

@@ -1,13 +1,11 @@
 //! The type of a constant expression, found without its value.
 
-use crate::paths::{Found, Space, find, find_of};
+use crate::constants::{constant_named, inside_constant};
+use crate::paths::{Found, MOST_ALIASES, Space, find, find_of};
 use crate::ty::{Given, Kind, Primitive, Ty};
 use crate::words::Word;
 use crate::work::{Context, Setting};
 use rust_source::{Binary, Expr, IntegerKind, ItemKind, ParameterKind, Path, Symbol, Type};
-
-/// How many aliases may lead from one to another.
-const MOST_ALIASES: u32 = 64;
 
 /// The name of a path that is one name without arguments.
 pub(crate) fn single_name(path: &Path) -> Option<Symbol> {
@@ -148,16 +146,10 @@ fn kind_of_path(cx: &Context<'_>, setting: Setting<'_>, path: &Path) -> Option<K
             return kind_of_parameter(cx, setting, index);
         }
     }
-    if let Some(Found::Item(number)) = find(
-        cx.items,
-        cx.scope,
-        setting.module,
-        path,
-        Space::Values,
-    ) {
+    if let Some(number) = constant_named(cx, setting, path) {
         let item = cx.items.items.get(number as usize)?;
         if let ItemKind::Const(constant) = &item.kind {
-            return kind_written(cx, outside(item.module), &constant.ty);
+            return kind_written(cx, inside_constant(cx, number, item), &constant.ty);
         }
     }
     let count = path.segments.len().checked_sub(1)?;

@@ -27,6 +27,7 @@ mod ty;
 mod work;
 
 // Constants.
+mod constants;
 mod discriminants;
 mod evaluate;
 mod int;
@@ -37,6 +38,7 @@ mod places;
 mod sizes;
 
 // Trees.
+mod above;
 mod repr;
 mod repr_fields;
 mod scalars;

@@ -2,10 +2,13 @@
 
 use crate::scope::Scope;
 use crate::ty::Primitive;
-use rust_source::{Items, Path, Symbol};
+use rust_source::{ItemKind, Items, Path, Symbol, Type};
 
 /// How many uses may lead from one to another.
 const MOST_USES: u32 = 32;
+
+/// How many aliases may lead from one to another.
+pub(crate) const MOST_ALIASES: u32 = 64;
 
 /// What a path names.
 #[derive(Clone, Copy)]
@@ -84,6 +87,31 @@ pub(crate) fn find_of(
         }
     }
     beside_module(scope, path, count, space, found)
+}
+
+/// The struct, enum or union that the first names of a path name, so many of them, by aliases too.
+pub(crate) fn type_named(
+    items: &Items,
+    scope: &Scope,
+    module: u32,
+    path: &Path,
+    count: usize,
+) -> Option<u32> {
+    let mut found = find_of(items, scope, module, path, count, Space::Types)?;
+    for _alias in 0..MOST_ALIASES {
+        let Found::Item(number) = found else {
+            return None;
+        };
+        let item = items.items.get(number as usize)?;
+        match &item.kind {
+            ItemKind::Alias(Type::Path(path)) => {
+                found = find(items, scope, item.module, path, Space::Types)?;
+            }
+            ItemKind::Alias(_) => return None,
+            _ => return Some(number),
+        }
+    }
+    None
 }
 
 /// What is found, but a primitive type in place of a module of its name, which a type can't be.

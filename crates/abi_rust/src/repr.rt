@@ -114,5 +114,8 @@ fn fault_on_fields(repr: &Repr) -> Option<FaultKind>
     if repr.packed.is_some() && repr.align.is_some() {
         return Some(FaultKind::PackedAndAligned);
     }
+    if repr.is_packed_apart {
+        return Some(FaultKind::PackedApart);
+    }
     None
 }

@@ -1,10 +1,10 @@
 //! The names that each module has.
 
 use crate::fault::{FaultKind, Stop, stop_at};
-use crate::paths::{Found, Space, target_of};
+use crate::paths::{Found, Space, target_of, type_named};
 use crate::words::{Word, Words};
 use indexmap::IndexMap;
-use rust_source::{Item, ItemKind, Items, Symbol};
+use rust_source::{Const, Item, ItemKind, Items, Symbol};
 use std::alloc::Global;
 
 /// How often globs are followed that are found through others.
@@ -28,8 +28,12 @@ pub(crate) struct Scope {
     modules: IndexMap<Key, u32>,
     /// Structs, enums, unions and aliases.
     types: IndexMap<Key, u32>,
-    /// Constants.
+    /// Constants of modules.
     values: IndexMap<Key, u32>,
+    /// Constants of types: the type's number, and the constant's name.
+    own_constants: IndexMap<Key, u32>,
+    /// The types whose own they are, by the constants' numbers.
+    owners: IndexMap<u32, u32>,
     /// Uses that bring in a name.
     uses: IndexMap<Key, u32>,
     /// For each module those that its globs lead to.
@@ -62,6 +66,8 @@ impl Scope {
             modules: IndexMap::new(alloc),
             types: IndexMap::new(alloc),
             values: IndexMap::new(alloc),
+            own_constants: IndexMap::new(alloc),
+            owners: IndexMap::new(alloc),
             uses: IndexMap::new(alloc),
             reached: Vec::new(alloc),
         };
@@ -77,7 +83,8 @@ impl Scope {
         }
         self.add_uses(items)?;
         self.prelude = self.module(self.std_root, self.words.symbol(Word::Prelude));
-        self.follow_globs(alloc, items)
+        self.follow_globs(alloc, items)?;
+        self.add_own_constants(items)
     }
 
     /// Adds the modules' names.
@@ -95,7 +102,8 @@ impl Scope {
     /// Adds an item's name.
     fn add_item(&mut self, number: u32, item: &Item) -> Result<(), Stop> {
         let key = key(item.module, item.name);
-        match item.kind {
+        match &item.kind {
+            ItemKind::Const(Const { owner: Some(_), .. }) => {}
             ItemKind::Const(_) => {
                 if self.values.insert(key, number)?.is_some() {
                     return Err(stop_at(item.at, FaultKind::RepeatedConstant(item.name)));
@@ -104,6 +112,21 @@ impl Scope {
             _ => {
                 if self.types.insert(key, number)?.is_some() || self.modules.get(&key).is_some() {
                     return Err(stop_at(item.at, FaultKind::RepeatedType(item.name)));
+                }
+            }
+        }
+        Ok(())
+    }
+
+    /// Adds the constants of types, of two of one name the first. A type with parameters has none here, since what they
+    /// are may depend on what those are given.
+    fn add_own_constants(&mut self, items: &Items) -> Result<(), Stop> {
+        for (number, item) in items.items.iter().enumerate() {
+            if let Some(owner) = owner_of(items, self, item) {
+                let key = (owner, item.name.0);
+                let _ = self.owners.insert(numbered(number), owner)?;
+                if self.own_constants.get(&key).is_none() {
+                    let _ = self.own_constants.insert(key, numbered(number))?;
                 }
             }
         }
@@ -175,6 +198,16 @@ impl Scope {
         self.values.get(&key(module, name)).copied()
     }
 
+    /// The constant of this name that is the type's own, which has this number.
+    pub(crate) fn own_constant(&self, owner: u32, name: Symbol) -> Option<u32> {
+        self.own_constants.get(&(owner, name.0)).copied()
+    }
+
+    /// The type whose own the constant of this number is.
+    pub(crate) fn owner(&self, constant: u32) -> Option<u32> {
+        self.owners.get(&constant).copied()
+    }
+
     /// The use that brings a name into a module.
     pub(crate) fn used(&self, module: u32, name: Symbol) -> Option<u32> {
         self.uses.get(&key(module, name)).copied()
@@ -191,6 +224,20 @@ impl Scope {
     /// The module whose names are everywhere.
     pub(crate) fn prelude(&self) -> Option<u32> {
         self.prelude
+    }
+}
+
+/// The type without parameters whose own an item is, where it is a constant of one.
+fn owner_of(items: &Items, scope: &Scope, item: &Item) -> Option<u32> {
+    let ItemKind::Const(constant) = &item.kind else {
+        return None;
+    };
+    let path = items.owners.get(constant.owner? as usize)?;
+    let owner = type_named(items, scope, item.module, path, path.segments.len())?;
+    if items.items.get(owner as usize)?.parameters.is_empty() {
+        Some(owner)
+    } else {
+        None
     }
 }
 

@@ -1,6 +1,7 @@
 //! Whether a type's size is known, and else what a pointer to it tells.
 
-use crate::fault::Stop;
+use crate::above::{Above, stands_in};
+use crate::fault::{FaultKind, Stop, stop_at};
 use crate::int::Int;
 use crate::resolve::resolve;
 use crate::ty::{Given, Primitive, Ty, Value};
@@ -18,11 +19,21 @@ pub(crate) enum Tail {
     Table,
 }
 
-/// What a pointer to the type tells, by the type's last field.
-#[cycle(tails)]
-pub(crate) fn tail_of<'a>(
+/// What a pointer to the type tells.
+pub(crate) fn pointee_tail<'a>(
     cx: &Context<'a>,
     work: &mut Work<'a>,
+    ty: &Ty,
+) -> Result<Tail, Stop> {
+    tail_of(cx, work, &Above::Nothing, ty, MOST_DEEP)
+}
+
+/// What a pointer to the type tells, by the type's last field. `Recursive` where that stands in itself.
+#[cycle(tails)]
+fn tail_of<'a>(
+    cx: &Context<'a>,
+    work: &mut Work<'a>,
+    above: &Above<'_>,
     ty: &Ty,
     room: u32,
 ) -> Result<Tail, Stop> {
@@ -33,10 +44,10 @@ pub(crate) fn tail_of<'a>(
         Ty::Primitive(Primitive::Str) => Ok(Tail::Length),
         Ty::Dyn => Ok(Tail::Table),
         Ty::Tuple(parts) => match parts.last() {
-            Some(last) => tail_of(cx, work, last, room),
+            Some(last) => tail_of(cx, work, above, last, room),
             None => Ok(Tail::Sized),
         },
-        Ty::Adt(number, given) => tail_of_item(cx, work, *number, given.as_slice(), room),
+        Ty::Adt(number, given) => tail_of_item(cx, work, above, *number, given.as_slice(), room),
         _ => Ok(Tail::Sized),
     }
 }
@@ -46,6 +57,7 @@ pub(crate) fn tail_of<'a>(
 fn tail_of_item<'a>(
     cx: &Context<'a>,
     work: &mut Work<'a>,
+    above: &Above<'_>,
     number: u32,
     given: &[Given],
     room: u32,
@@ -57,13 +69,17 @@ fn tail_of_item<'a>(
     let Some(last) = last_field(item) else {
         return Ok(Tail::Sized);
     };
+    if stands_in(above, number, given) {
+        return Err(stop_at(item.at, FaultKind::Recursive(item.name)));
+    }
+    let own = Above::Type(number, given, &*above);
     let inside = Setting {
         module: item.module,
         item: Some(number),
         given,
     };
     let ty = resolve(cx, work, inside, &last.ty, MOST_DEEP)?;
-    tail_of(cx, work, &ty, room)
+    tail_of(cx, work, &own, &ty, room)
 }
 
 /// The last field of a struct or a union.
@@ -106,5 +122,6 @@ pub(crate) fn is_always_sized<'a>(
         };
         given.push(one)?;
     }
-    Ok(tail_of_item(cx, work, number, given.as_slice(), MOST_DEEP)? == Tail::Sized)
+    let above = Above::Nothing;
+    Ok(tail_of_item(cx, work, &above, number, given.as_slice(), MOST_DEEP)? == Tail::Sized)
 }

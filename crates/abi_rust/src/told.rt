@@ -2,8 +2,9 @@
 
 use crate::fault::{FaultKind, Stop};
 use crate::resolve::resolve;
-use crate::tail::{Tail, tail_of};
-use crate::tree::{Above, tree};
+use crate::above::Above;
+use crate::tail::{Tail, pointee_tail};
+use crate::tree::tree;
 use crate::ty::Ty;
 use crate::work::{Context, KnownSize, MOST_DEEP, Request, Setting, Work};
 use abi_laid::TypeTree;
@@ -99,7 +100,7 @@ fn sized_tree<'a>(
     work: &mut Work<'a>,
     ty: &Ty,
 ) -> Result<Option<TypeTree>, Stop> {
-    if tail_of(cx, work, ty, MOST_DEEP)? != Tail::Sized {
+    if pointee_tail(cx, work, ty)? != Tail::Sized {
         return Ok(None);
     }
     Ok(Some(tree(cx, work, &Above::Nothing, ty, MOST_DEEP)?))

@@ -3,6 +3,7 @@
 ghost use Rattle.std.specs.Prelude.{IfOk};
 ghost use Rattle.abi_rust.specs.Values.{FollowsOn};
 
+use crate::above::{Above, stands_in};
 use crate::discriminants::discriminant_kind;
 use crate::evaluate::evaluate;
 use crate::fault::{FaultKind, Stop, stop_at};
@@ -13,30 +14,11 @@ use crate::repr::{plain, repr_of};
 use crate::repr_fields::{check_discriminants, check_packed, check_transparent};
 use crate::resolve::resolve;
 use crate::scalars::{function, limited, named, pointer};
-use crate::tail::{is_always_sized, tail_of};
+use crate::tail::{is_always_sized, pointee_tail};
 use crate::ty::{Given, Kind, Ty, Value};
 use crate::work::{Context, MOST_DEEP, Setting, Work, less};
 use abi_laid::TypeTree;
 use rust_source::{Enum, Fields, Item, ItemKind, Variant};
-
-/// The types that a type stands in, each in the next.
-#[derive(Clone, Copy)]
-pub(crate) enum Above<'s> {
-    /// It stands alone.
-    Nothing,
-    /// It stands in the item of this number under what that is given, which stands in others.
-    Type(u32, &'s [Given], &'s Above<'s>),
-}
-
-/// Whether the item stands in itself under the same arguments.
-fn stands_in(above: &Above<'_>, number: u32, given: &[Given]) -> bool {
-    match above {
-        Above::Nothing => false,
-        Above::Type(other, arguments, next) => {
-            (*other == number && *arguments == given) || stands_in(next, number, given)
-        }
-    }
-}
 
 /// The tree of a type. `Stop::Size` where a type's size has to be known first.
 #[cycle(trees)]
@@ -58,8 +40,8 @@ pub(crate) fn tree<'a>(
         },
         Ty::Dyn => Err(Stop::Fault(None, FaultKind::Unsized)),
         Ty::Slice(_) => Err(Stop::Fault(None, FaultKind::Unsized)),
-        Ty::Reference(pointee) => Ok(pointer(cx.dl, tail_of(cx, work, pointee, MOST_DEEP)?, false)),
-        Ty::Pointer(pointee) => Ok(pointer(cx.dl, tail_of(cx, work, pointee, MOST_DEEP)?, true)),
+        Ty::Reference(pointee) => Ok(pointer(cx.dl, pointee_tail(cx, work, pointee)?, false)),
+        Ty::Pointer(pointee) => Ok(pointer(cx.dl, pointee_tail(cx, work, pointee)?, true)),
         Ty::Array(element, count) => {
             let element = tree(cx, work, above, element, room)?;
             Ok(TypeTree::Array(*count, Box::new(cx.alloc, element)?))

@@ -1,7 +1,7 @@
 //! Items as they are written.
 
 use crate::place::{Place, Symbol};
-use crate::syntax::{Expr, IntegerKind, Type};
+use crate::syntax::{Expr, IntegerKind, Path, Type};
 
 /// What `repr` attributes ask for, those of an item together.
 #[derive(Clone, Copy, PartialEq, Eq)]
@@ -20,6 +20,8 @@ pub struct Repr {
     pub integer: Option<IntegerKind>,
     /// `packed(N)`, in bytes, and 1 for `packed`; the least of several.
     pub packed: Option<u64>,
+    /// Whether `packed` was asked for by several sizes.
+    pub is_packed_apart: bool,
     /// `align(N)`, in bytes; the largest of several.
     pub align: Option<u64>,
 }
@@ -97,6 +99,8 @@ pub struct Const {
     pub ty: Type,
     /// Its value, where it has one.
     pub value: Option<Expr>,
+    /// The number of the type whose own it is among those of `Items::owners`; none where it is a module's.
+    pub owner: Option<u32>,
 }
 
 /// What an item is.
@@ -166,6 +170,8 @@ pub struct Items {
     /// The items, in the order of the source.
     pub items: Vec<Item>,
     pub uses: Vec<Use>,
+    /// Types that have constants of their own, as their `impl` blocks name them.
+    pub owners: Vec<Path>,
     /// How many items were passed over.
     pub passed_over: u64,
     /// Names of `cfg` that aren't known here, and count as false, each once.

@@ -2,6 +2,7 @@
 
 mod attributes;
 mod cfg;
+mod constants;
 mod cursor;
 mod expressions;
 mod fields;
@@ -59,6 +60,7 @@ impl Items {
             modules: Vec::new(alloc),
             items: Vec::new(alloc),
             uses: Vec::new(alloc),
+            owners: Vec::new(alloc),
             passed_over: 0,
             unknown_cfgs: Vec::new(alloc),
         }

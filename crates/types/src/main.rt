@@ -119,7 +119,12 @@ fn tell(rt: &HostRuntime, form: Form, answer: Answer) -> u8 {
     } else {
         text
     };
-    match rt.print(text.as_str()) {
+    let ended = if form == Form::Json {
+        rt.println(text.as_str())
+    } else {
+        rt.print(text.as_str())
+    };
+    match ended {
         Ok(()) => TOLD,
         Err(_) => REFUSED,
     }

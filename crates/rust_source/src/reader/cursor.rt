@@ -168,6 +168,14 @@ pub(crate) fn expect(
     }
 }
 
+/// Whether a name stands behind the next token.
+pub(crate) fn is_named_next(cursor: &Cursor<'_>) -> bool {
+    match nth(cursor, 1) {
+        Some(token) => token.kind == TokenKind::Name || token.kind == TokenKind::RawName,
+        None => false,
+    }
+}
+
 /// Whether a group in brackets of this kind is next.
 pub(crate) fn is_group(cursor: &Cursor<'_>, bracket: Bracket) -> bool {
     match nth(cursor, 0) {

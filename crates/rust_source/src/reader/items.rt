@@ -3,15 +3,15 @@
 ghost use Rattle.rust_source.specs.Growth.{Keeps};
 
 use crate::fault::{SourceFault, SourceFaultKind};
-use crate::item::{Const, Item, ItemKind, Items, Module, Parameter};
+use crate::item::{Item, ItemKind, Items, Module, Parameter};
 use crate::names::Names;
 use crate::place::{Place, Symbol};
 use crate::reader::attributes::{Attributes, Rules, read_attributes};
+use crate::reader::constants::{is_constant, read_const, read_own_constants};
 use crate::reader::cursor::{
-    Cursor, expect, fault, is_done, is_group, is_next, next_kind, nth, pass, place, take,
-    take_group, take_until, take_word,
+    Cursor, expect, fault, is_done, is_group, is_named_next, is_next, next_kind, nth, pass, take,
+    take_group, take_word,
 };
-use crate::reader::expressions::read_whole;
 use crate::reader::fields::{pass_visibility, read_fields, read_variants};
 use crate::reader::generics::{read_parameters, read_where};
 use crate::reader::naming::{is_named, is_path_name, take_name, word_text};
@@ -26,14 +26,14 @@ use std::alloc::Global;
 
 /// The name of an item, where it stands, and its parameters.
 #[derive(Drop)]
-struct Head {
+pub(crate) struct Head {
     name: Symbol,
     at: Place,
     parameters: Vec<Parameter>,
 }
 
 /// An item's name and parameters.
-fn read_head(
+pub(crate) fn read_head(
     alloc: Global,
     names: &mut Names,
     cursor: &mut Cursor<'_>,
@@ -48,7 +48,7 @@ fn read_head(
 }
 
 /// Puts an item behind the others.
-fn put_item(
+pub(crate) fn put_item(
     items: &mut Items,
     module: u32,
     said: &Attributes,
@@ -162,36 +162,6 @@ fn read_alias(
     put_item(items, module, said, head, ItemKind::Alias(ty))
 }
 
-/// Reads a constant, behind its `const`.
-fn read_const(
-    alloc: Global,
-    names: &mut Names,
-    items: &mut Items,
-    module: u32,
-    said: &Attributes,
-    cursor: &mut Cursor<'_>,
-) -> Result<(), SourceFault>
-    ensures { Keeps items.old items.new }
-{
-    let head = read_head(alloc, names, cursor)?;
-    expect(cursor, b':', SourceFaultKind::ExpectedColon)?;
-    let ty = read_type(alloc, names, cursor, MOST_NESTED)?;
-    let value = if take(cursor, b'=') {
-        let mut written = take_until(cursor, b';');
-        Some(read_whole(alloc, names, &mut written, MOST_NESTED)?)
-    } else {
-        None
-    };
-    expect(cursor, b';', SourceFaultKind::ExpectedSemicolon)?;
-    put_item(
-        items,
-        module,
-        said,
-        head,
-        ItemKind::Const(Const { ty, value }),
-    )
-}
-
 /// Reads what is brought in, behind `use`.
 fn read_use(
     alloc: Global,
@@ -218,17 +188,9 @@ fn read_use(
     expect(cursor, b';', SourceFaultKind::ExpectedSemicolon)
 }
 
-/// Whether a name is next that the constant behind `const` has.
-fn is_constant(cursor: &Cursor<'_>) -> bool {
-    match nth(cursor, 1) {
-        Some(token) => token.kind == TokenKind::Name || token.kind == TokenKind::RawName,
-        None => false,
-    }
-}
-
 /// Whether a union is next: the word, and then a name.
 fn is_union(cursor: &Cursor<'_>) -> bool {
-    is_named(cursor, "union") && is_constant(cursor)
+    is_named(cursor, "union") && is_named_next(cursor)
 }
 
 /// Passes over names of a path up to the `!` of a macro's call, and says whether one is there.
@@ -306,10 +268,11 @@ fn read_item(
     } else if is_union(cursor) {
         pass(cursor, 1);
         read_union(alloc, rules, names, items, module, said, cursor)
-    } else if next_kind(cursor) == Some(TokenKind::Keyword(Keyword::Const)) && is_constant(cursor) {
+    } else if is_constant(cursor) {
         pass(cursor, 1);
-        read_const(alloc, names, items, module, said, cursor)
+        read_const(alloc, names, items, module, said, None, cursor)
     } else {
+        read_own_constants(alloc, rules, names, items, module, cursor)?;
         pass_over(items, cursor)
     }
 }

@@ -18,6 +18,7 @@ pub(crate) const NOTHING: Repr = Repr {
     simd: false,
     integer: None,
     packed: None,
+    is_packed_apart: false,
     align: None,
 };
 
@@ -37,12 +38,17 @@ fn bytes_in(inside: &mut Cursor<'_>) -> Result<u64, SourceFault> {
     }
 }
 
-/// The lesser of two numbers, of which one may be missing.
-fn least(one: Option<u64>, other: u64) -> Option<u64> {
-    match one {
-        Some(one) => Some(one.min(other)),
-        None => Some(other),
+/// What is asked for with `packed` more, to so many bytes.
+fn with_packed(asked: Repr, bytes: u64) -> Repr {
+    let mut asked = asked;
+    match asked.packed {
+        Some(before) => {
+            asked.is_packed_apart = asked.is_packed_apart || before != bytes;
+            asked.packed = Some(before.min(bytes));
+        }
+        None => asked.packed = Some(bytes),
     }
+    asked
 }
 
 /// The greater of two numbers, of which one may be missing.
@@ -80,7 +86,7 @@ fn with_word(cursor: &Cursor<'_>, asked: Repr, word: &str) -> Result<Repr, Sourc
     } else if word == "simd" {
         asked.simd = true;
     } else if word == "packed" {
-        asked.packed = least(asked.packed, 1);
+        asked = with_packed(asked, 1);
     } else {
         return with_integer(cursor, asked, word);
     }
@@ -96,7 +102,7 @@ fn with_bytes(
 ) -> Result<Repr, SourceFault> {
     let mut asked = asked;
     if word == "packed" {
-        asked.packed = least(asked.packed, bytes);
+        asked = with_packed(asked, bytes);
     } else if word == "align" {
         asked.align = largest(asked.align, bytes);
     } else {

@@ -164,7 +164,7 @@ fn after_path(cursor: &mut Cursor<'_>, path: Path, at: Place) -> Type {
 }
 
 /// Whether a path is next.
-fn begins_path(cursor: &Cursor<'_>) -> bool {
+pub(crate) fn begins_path(cursor: &Cursor<'_>) -> bool {
     is_pair(cursor, b':', b':') || is_path_name(cursor)
 }
 
