@@ -35,7 +35,7 @@ use Rattle.abi_map.specs.Map.{TellsMap, map_text, name_text}
 use Rattle.abi_map.specs.Parts.{Part, parts_of_variants, field_name, field_parts, is_alone, is_vector, common_parts, all_parts, variant_parts, variants_parts, whole_part}
 use Rattle.abi_map.proofs.LaidLemmas.{none_beside}
 use Rattle.abi_map.proofs.PaddingLemmas.{alone_cover, any_same, place_by}
-use Rattle.abi_map.proofs.SizedLemmas.{fields_counted, front_counted, zeros_counted}
+use Rattle.abi_map.proofs.CountedLemmas.{fields_counted, front_counted, zeros_counted}
 
 -- ---- what handles tell alike
 

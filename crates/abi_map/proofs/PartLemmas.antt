@@ -1,18 +1,15 @@
 -- The parts of a type, as they are put behind one another.
-use Rattle.std.proofs.Common.{◌≡◌, ℕ, ◌+◌, ◌<◌, ◌≤◌, List, [], ◌∷◌, ◌++◌, Bool, true, false, All, append_assoc, append-nil, arith, inl, inr, map, refl, sym, ap, ◌∙◌}
-use Rattle.std.specs.Prelude.{◌&&◌, ◌||◌, ◌^◌, not, nat_le, nat_lt}
+use Rattle.std.proofs.Common.{◌≡◌, ℕ, ◌+◌, ◌<◌, ◌≤◌, List, [], ◌∷◌, ◌++◌, Bool, All, append_assoc, append-nil, arith, map, sym, ap, ◌∙◌}
+use Rattle.std.specs.Prelude.{◌^◌}
 use Rattle.std.specs.List.{flat_map, range_with_len}
 use Rattle.std.proofs.Math.Path.{fun_ext}
-use Rattle.std.proofs.lemmas.Bool.{cases_lt, le-leb, le-ltb, lt-ltb}
 use Rattle.std.proofs.lemmas.Grind.{flat_map-append}
 use Rattle.std.proofs.lemmas.List.{map-append, map-id}
 use Rattle.std.proofs.lemmas.List.FromFn.{map-range_with_len_more}
-use Rattle.std.specs.Cmp.Derive.{both_true}
-use Rattle.std.proofs.Math.Bool.{and-false}
-use Rattle.abi_index.specs.RangeSet.{AreMaximalRuns, is_in_ranges, is_in_run}
+use Rattle.abi_index.specs.RangeSet.{AreMaximalRuns, is_in_ranges}
 use Rattle.abi_scalar.specs.Shape.{field_count, field_offset}
 use Rattle.abi_types.specs.Ty.Lawful.{IsLawfulType}
-use Rattle.abi_types.specs.Ty.Places.{is_padding, is_place}
+use Rattle.abi_types.specs.Ty.Places.{is_place}
 use Rattle.abi_types.specs.Ty.Typed.{Typed, typed, no_type, field_in, layout_in, variant_in}
 use Rattle.abi_scalar.specs.Layout.{Layout}
 use Rattle.abi_types.proofs.PlacesLemmas.{place_inside}
@@ -23,25 +20,6 @@ use Rattle.abi_map.specs.Parts.{Part, parts_of_variants, field_part, part_told, 
 use Rattle.abi_map.proofs.StartLemmas.{ends_below}
 
 -- ---- the bytes of a type
-
--- without its padding a type is its data places
-pub places_told : (t : Typed) (size : ℕ) (none whole padding set : List (ℕ × ℕ)) → IsLawfulType t → size ≡ (layout_in t).size → none ≡ [] → ((k : ℕ) → is_in_ranges whole k ≡ (is_in_run k (0, size) || is_in_ranges none k))
-    → ((k : ℕ) → is_in_ranges padding k ≡ is_padding t k) → ((k : ℕ) → is_in_ranges set k ≡ (is_in_ranges whole k && not (is_in_ranges padding k))) → (k : ℕ) → is_in_ranges set k ≡ is_place t k
-places_told t size none whole padding set law same empty is_whole is_pad is_set k =
-    is_set k ∙ ap (λ b. b && not (is_in_ranges padding k)) (is_whole k ∙ ap (λ rs. is_in_run k (0, size) || is_in_ranges rs k) empty) ∙ ap (λ b. (is_in_run k (0, size) || false) && not b) (is_pad k)
-    ∙ elim (cases_lt k size) [
-      | inl below ↦
-          let in_whole : is_in_run k (0, size) ≡ true = both_true (le-leb 0 k (omega arith)) (lt-ltb k (0 + size) (omega (arith, below))) in
-          let in_type : nat_lt k (layout_in t).size ≡ true = lt-ltb k (layout_in t).size (omega (arith, below, same)) in
-          ap (λ b. (b || false) && not (nat_lt k (layout_in t).size && not (is_place t k))) in_whole ∙ ap (λ b. not (b && not (is_place t k))) in_type ∙ twice (is_place t k)
-      | inr past ↦
-          let out : is_in_run k (0, size) ≡ false = ap (λ b. nat_le 0 k && b) (le-ltb k (0 + size) (omega (arith, past))) ∙ and-false (nat_le 0 k) in
-          ap (λ b. (b || false) && not (is_padding t k)) out ∙ sym (place_inside t law k (omega (arith, past, same)))
-    ]
-  where
-    twice : (b : Bool) → not (not b) ≡ b
-    twice true = refl
-    twice false = refl
 
 field_inside : (t : Typed) (i : ℕ) → IsLawfulType t → i < field_count (layout_in t).fields → field_offset (layout_in t).fields i + (layout_in (field_in t i)).size ≤ (layout_in t).size
 field_inside (typed l m f v) i h lt = h.0.inside i lt

@@ -8,4 +8,3 @@ pub mod Map
 -- names of runs, and what these keep
 pub mod Covering
 pub mod Runs
-pub mod Sized

@@ -9,7 +9,6 @@ ghost use Rattle.abi_types.specs.Ty.Places.{is_place};
 ghost use Rattle.abi_types.specs.Ty.Typed.{field_in, layout_in, variant_in};
 ghost use Rattle.std.specs.List.{range_with_len};
 ghost use Rattle.abi_map.specs.declared.part.Name.TheVariants.{VariantField};
-ghost use Rattle.abi_map.specs.Sized.{AreFieldsSized, ArePartsSized, HasSize};
 ghost use Rattle.abi_map.specs.Parts.{parts_of_variants, field_name, field_part, field_parts, is_alone, is_vector};
 ghost use Rattle.abi_map.specs.Parts.{common_parts, part_told, all_parts, variant_parts, variants_parts, whole_part};
 
@@ -23,31 +22,17 @@ use std::alloc::{AllocError, Global};
 /// A laid-out type, or a part of one.
 pub(crate) type Handle<'a> = TyAndLayout<'a, TreeTy<'a>>;
 
-/// The data places of a type: its bytes without its padding.
-fn places_of(alloc: Global, this: Handle<'_>) -> Result<RangeSet, AllocError>
-    requires valid { IsHandle this }
-    requires sized { HasSize (tree_type this) }
-    ensures { IfOk result (λ set. (k : ℕ) →
-        is_in_ranges set k ≡ is_place (tree_type this.entry) k) }
-{
-    let padding = this.variant_independent_padding_ranges(alloc, &())?;
-    let mut whole = RangeSet::new(alloc);
-    whole.add_range(0, this.data().size.bytes())?;
-    whole.difference(alloc, &padding)
-}
-
 /// The data places of a field, at its offset.
 fn field_bytes(alloc: Global, this: Handle<'_>, i: usize) -> Result<RangeSet, AllocError>
     requires valid { IsHandle this }
     requires within { i < field_count (layout_in (tree_type this)).fields }
-    requires sized { HasSize (field_in (tree_type this) i) }
     ensures { IfOk result (λ set. (k : ℕ) → is_in_ranges set k ≡
         moved_to (field_offset (layout_in (tree_type this.entry)).fields i)
         (is_place (field_in (tree_type this.entry) i)) k) }
 {
     // It is a number of 64 bits, below which the field ends.
     let _size = this.data().size.bytes();
-    let places = places_of(alloc, this.field(&(), i))?;
+    let places = this.field(&(), i).data_ranges(alloc, &())?;
     let mut runs = RangeSetBuilder::new(alloc);
     runs.add_set(&places, this.data().fields.offset(i).bytes())?;
     runs.build(alloc)
@@ -61,11 +46,10 @@ fn put_whole(
     name: Name,
 ) -> Result<(), AllocError>
     requires valid { IsHandle this }
-    requires sized { HasSize (tree_type this) }
     ensures { OnOk result (map part_told parts.new.items ≡
         map part_told parts.old.items ++ whole_part name (tree_type this.entry) ∷ []) }
 {
-    let bytes = places_of(alloc, this)?;
+    let bytes = this.data_ranges(alloc, &())?;
     parts.push(PartBytes { name, bytes })?;
     Ok(())
 }
@@ -80,7 +64,6 @@ fn put_field(
 ) -> Result<(), AllocError>
     requires valid { IsHandle this }
     requires within { i < field_count (layout_in (tree_type this)).fields }
-    requires sized { HasSize (field_in (tree_type this) i) }
     ensures { OnOk result (map part_told parts.new.items ≡
         map part_told parts.old.items ++ field_part name (tree_type this.entry) i ∷ []) }
 {
@@ -113,7 +96,6 @@ fn put_fields(
 ) -> Result<(), AllocError>
     requires valid { IsHandle this }
     requires within { count ≤ field_count (layout_in (tree_type this)).fields }
-    requires sized { AreFieldsSized (tree_type this) }
     ensures { OnOk result (map part_told parts.new.items ≡
         map part_told parts.old.items ++ field_parts (tree_type this.entry) count) }
 {
@@ -149,7 +131,6 @@ fn is_vector(this: Handle<'_>, count: usize) -> bool
 /// Puts the parts that a type has whatever its variant behind others.
 fn put_own(alloc: Global, parts: &mut Vec<PartBytes>, this: Handle<'_>) -> Result<(), AllocError>
     requires valid { IsHandle this }
-    requires sized { ArePartsSized (tree_type this) }
     ensures { OnOk result (map part_told parts.new.items ≡
         map part_told parts.old.items ++ common_parts (tree_type this.entry)) }
 {
@@ -181,7 +162,6 @@ fn put_variant(
     v: usize,
 ) -> Result<(), AllocError>
     requires valid { IsHandle variant }
-    requires sized { AreFieldsSized (tree_type variant) }
     ensures { OnOk result (map part_told parts.new.items ≡ map part_told parts.old.items ++
         map (λ i. field_part (VariantField v i) (tree_type variant.entry) i)
         (range_with_len 0 (field_count (layout_in (tree_type variant.entry)).fields))) }
@@ -199,7 +179,6 @@ fn put_variants(
     this: Handle<'_>,
 ) -> Result<(), AllocError>
     requires valid { IsHandle this }
-    requires sized { ArePartsSized (tree_type this) }
     ensures { OnOk result (map part_told parts.new.items ≡
         map part_told parts.old.items ++ variants_parts (tree_type this.entry)) }
 {
@@ -223,7 +202,6 @@ fn put_variants(
 /// The parts of a type, in the order in which they are told.
 pub(crate) fn parts_of(alloc: Global, this: Handle<'_>) -> Result<Vec<PartBytes>, AllocError>
     requires valid { IsHandle this }
-    requires sized { ArePartsSized (tree_type this) }
     ensures { IfOk result (λ parts. map part_told parts.items ≡ all_parts (tree_type this.entry)) }
 {
     let mut parts = Vec::new(alloc);

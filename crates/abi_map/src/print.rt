@@ -6,7 +6,6 @@ ghost use Rattle.abi_scalar.specs.Lawful.{IsLawfulNiche};
 ghost use Rattle.abi_map.specs.Covering.{HaveNames};
 ghost use Rattle.abi_map.specs.Map.{bytes_text, names_text, niche_text, run_lines};
 ghost use Rattle.abi_map.specs.Parts.{Part};
-ghost use Rattle.abi_map.specs.Sized.{ArePartsSized};
 
 use crate::called::Called;
 use crate::covering::names_at;
@@ -67,7 +66,6 @@ pub(crate) fn write_bytes<C: Called>(
     root: Handle<'_>,
 ) -> Result<(), AllocError>
     requires valid { IsHandle root }
-    requires sized { ArePartsSized (tree_type root) }
     ensures { OnOk result (string_bytes out.new
         ≡ string_bytes out.old ++ bytes_text (C.called called.now) (tree_type root.entry)) }
 {

@@ -18,7 +18,8 @@ pub(crate) fn constant_named(cx: &Context<'_>, setting: Setting<'_>, path: &Path
     }
     let count = path.segments.len().checked_sub(1)?;
     let last = path.segments.get(count)?;
-    cx.scope.own_constant(owner_named(cx, setting, path, count)?, last.name)
+    cx.scope
+        .own_constant(owner_named(cx, setting, path, count)?, last.name)
 }
 
 /// The type that the first names of a path name, so many of them, where it may have constants of its own.

@@ -1,8 +1,8 @@
 //! Types as trees with the names of their parts.
 
+use crate::above::Above;
 use crate::fault::{FaultKind, Stop};
 use crate::resolve::resolve;
-use crate::above::Above;
 use crate::tail::{Tail, pointee_tail};
 use crate::tree::tree;
 use crate::ty::Ty;

@@ -1,4 +1,4 @@
-//! The padding of a type: the bytes that no part of it covers, in any variant or in one.
+//! The data places of a type, and its padding: the bytes that no part of it covers, in any variant or in one.
 
 ghost use Rattle.std.specs.Prelude.{◌≡◌, ℕ, ◌+◌, ◌<◌, ◌≤◌, ◌^◌, ◌&&◌, IfOk, not, true};
 ghost use Rattle.abi_index.specs.Idx.{greatest_place};
@@ -14,6 +14,16 @@ use crate::ty::walk::{At, Walk};
 use abi_index::{IndexVec, RangeSet, RangeSetBuilder, VariantIdx};
 use abi_scalar::Variants;
 use std::alloc::{AllocError, Global};
+
+/// The bytes that some part covers.
+fn data<W: Walk>(alloc: Global, this: W) -> Result<RangeSet, AllocError>
+    requires { W.is_valid this }
+    ensures { IfOk result (λ set. (k : ℕ) → is_in_ranges set k ≡ is_place (W.typed_of this) k) }
+{
+    // It is a number of 64 bits, which the walks ask for.
+    let _size = this.layout().size.bytes();
+    places_of(alloc, this)
+}
 
 /// The bytes below the size that no part covers.
 fn padding<W: Walk>(alloc: Global, this: W) -> Result<RangeSet, AllocError>
@@ -123,6 +133,24 @@ fn each_unused<W: Walk>(
 }
 
 impl<'a, Ty> TyAndLayout<'a, Ty> {
+    /// The type's data places: the bytes that some part covers, in any variant. `AllocError` where memory is refused.
+    pub fn data_ranges<C>(&self, alloc: Global, cx: &C) -> Result<RangeSet, AllocError>
+    where
+        Ty: TyAbiInterface<'a, C> + Copy,
+        requires { Ty.is_valid self.now }
+        ensures { IfOk result (λ set. (k : ℕ) →
+            is_in_ranges set k ≡ is_place (Ty.typed_of self.now) k) }
+    {
+        data(
+            alloc,
+            At {
+                ty: self.ty,
+                layout: self.layout,
+                cx,
+            },
+        )
+    }
+
     /// The bytes that decide nothing, whatever the value: those below the size that no part covers, in any variant.
     /// `AllocError` where memory is refused.
     pub fn variant_independent_padding_ranges<C>(
