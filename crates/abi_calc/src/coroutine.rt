@@ -103,54 +103,6 @@ impl<Cx: HasDataLayout> LayoutCalculator<Cx> {
         layout_of_lists(alloc, dl, count, tag, saved, first, lists)
     }
 
-    /// The layout of a coroutine of these states, whose promoted locals the states and the conflicts tell.
-    fn layout_of_states<
-        FieldIdx: Idx,
-        VariantIdx: Idx,
-        LocalIdx: Idx,
-        F: LayoutHandle<FieldIdx, VariantIdx> + Copy,
-        T: Fn(Scalar) -> F,
-    >(
-        &self,
-        alloc: Global,
-        locals: &[F],
-        prefix: IndexVec<FieldIdx, F>,
-        states: &[IndexVec<FieldIdx, LocalIdx>],
-        conflicts: &BitMatrix<LocalIdx, LocalIdx>,
-        tag_to_layout: T,
-    ) -> Result<LayoutData<FieldIdx, VariantIdx>, LayoutCalculatorError<F>>
-    where
-        T: Drop,
-        requires data_layout { IsLawfulDataLayout (Cx.target self.now.cx) }
-        requires locals { All (λ f. IsLawfulLayout (Cx.target self.now.cx) (F.layout_of f)) locals.now }
-        requires prefix { All (λ f. IsLawfulLayout (Cx.target self.now.cx) (F.layout_of f)) prefix }
-        requires states { AreStates LocalIdx.number (length locals.now) states.now conflicts.now }
-        requires count { length prefix + length locals.now ≤ FieldIdx.MAX_INDEX }
-        requires callable { T.IsAlwaysCallable tag_to_layout }
-        requires tag { GivesTagLayout F.layout_of (VariantIdx.at 0) (Cx.target self.now.cx)
-            (T.post tag_to_layout) (length states.now) }
-        requires few { length states.now ≤ VariantIdx.MAX_INDEX + 1 }
-        requires named { length locals.now ≤ LocalIdx.MAX_INDEX + 1 }
-        ensures exact { IsStatesAnswer F.layout_of FieldIdx.at FieldIdx.number
-            (VariantIdx.at 0) LocalIdx.number (Cx.target self.now.cx)
-            (T.post tag_to_layout) prefix locals.now states.now conflicts.now result }
-        ensures lawful { IfOk result (IsLawfulLayout (Cx.target self.now.cx)) }
-        ensures told { IfOk result
-            (IsToldByState (Cx.target self.now.cx) FieldIdx.at (map F.layout_of prefix)
-            (map F.layout_of locals.now) (map (map LocalIdx.number) states.now)) }
-        ensures apart { IfOk result (HasLocalsApart
-            (map (map LocalIdx.number) states.now) conflicts.now (map F.layout_of locals.now)) }
-        ensures sized { (tag : Scalar) → IsStateTag (length states.now) tag →
-            IsSizedCoroutine (Cx.target self.now.cx) (map F.layout_of prefix)
-            (scalar_layout (VariantIdx.at 0) (Cx.target self.now.cx) tag) (map F.layout_of locals.now)
-            (map (map LocalIdx.number) states.now) conflicts.now result }
-    {
-        let tag = state_tag(states.len());
-        let field = tag_to_layout(tag);
-        let promoted = promoted_locals(alloc, states, conflicts)?;
-        self.layout_of_promoted(alloc, locals, prefix, states, &promoted, tag, field)
-    }
-
     /// The layout of a coroutine, from those of its locals and of its prefix fields, and from the locals that live in
     /// each state.
     ///
@@ -214,13 +166,9 @@ impl<Cx: HasDataLayout> LayoutCalculator<Cx> {
     {
         let locals = local_layouts.as_raw();
         let states = variant_fields.as_raw();
-        self.layout_of_states(
-            alloc,
-            locals,
-            prefix_layouts,
-            states,
-            storage_conflicts,
-            tag_to_layout,
-        )
+        let tag = state_tag(states.len());
+        let field = tag_to_layout(tag);
+        let promoted = promoted_locals(alloc, states, storage_conflicts)?;
+        self.layout_of_promoted(alloc, locals, prefix_layouts, states, &promoted, tag, field)
     }
 }
