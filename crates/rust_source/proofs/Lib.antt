@@ -1,3 +1,4 @@
+mod Digits
 mod Growth
 mod NameTexts
 mod Steps
