@@ -9,3 +9,5 @@ pub mod Tokens
 pub mod Cursor
 pub mod Literals
 pub mod Slices
+pub mod Syntax
+pub mod Operators
