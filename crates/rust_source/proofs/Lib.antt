@@ -1,4 +1,6 @@
+mod Digits
 mod Growth
 mod NameTexts
+mod Operators
 mod Steps
 mod TokenSteps

@@ -6,3 +6,8 @@ pub mod Numerals
 pub mod Quoted
 pub mod Keywords
 pub mod Tokens
+pub mod Cursor
+pub mod Literals
+pub mod Slices
+pub mod Syntax
+pub mod Operators

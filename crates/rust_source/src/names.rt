@@ -1,8 +1,8 @@
 //! The names of sources, each once.
 
-ghost use Rattle.std.specs.Prelude.{◌≡◌, IfOk, IfSome};
+ghost use Rattle.std.specs.Prelude.{◌≡◌, [], IfOk, IfSome, map};
 ghost use Rattle.rust_source.specs.Growth.{BeginsWith};
-ghost use Rattle.rust_source.specs.Names.{text_of};
+ghost use Rattle.rust_source.specs.Names.{added, all_added, first_names, found, number_of, text_of, texts, word_of};
 
 use crate::place::Symbol;
 use indexmap::IndexSet;
@@ -33,14 +33,31 @@ pub struct Names {
 impl Names {
     /// The names that each source may have: `crate`, `self`, `super`, `Self` and `_`. An error comes where a growth of
     /// memory was refused.
-    pub fn new(alloc: Global) -> Result<Names, AllocError> {
-        let mut names = Names {
-            known: IndexSet::new(alloc),
-        };
-        for word in &WORDS {
-            let _ = names.add(alloc, word)?;
-        }
+    pub fn new(alloc: Global) -> Result<Names, AllocError>
+        ensures { IfOk result (λ names. texts names ≡ first_names) }
+    {
+        let mut names = Names::empty(alloc);
+        names.add_all(alloc, &WORDS)?;
         Ok(names)
+    }
+
+    /// No names.
+    fn empty(alloc: Global) -> Names
+        ensures { texts result ≡ [] }
+    {
+        Names {
+            known: IndexSet::new(alloc),
+        }
+    }
+
+    /// Gives numbers to names that have none, in their order.
+    fn add_all(&mut self, alloc: Global, words: &[&'static str]) -> Result<(), AllocError>
+        ensures { IfOk result (λ _. texts self.new ≡ all_added (texts self.old) (map word_of words.now)) }
+    {
+        for word in words {
+            let _ = self.add(alloc, word)?;
+        }
+        Ok(())
     }
 
     /// The number of a name, which it gets where it has none. An error comes where a growth of memory was refused, or
@@ -48,6 +65,8 @@ impl Names {
     pub fn add(&mut self, alloc: Global, text: &str) -> Result<Symbol, AllocError>
         ensures named { IfOk result (λ name. text_of self.new name.0 ≡ text.now) }
         ensures kept { BeginsWith self.new.known.keys self.old.known.keys }
+        ensures number { IfOk result (λ name. name.0 ≡ number_of (texts self.old) text.now) }
+        ensures names { IfOk result (λ _. texts self.new ≡ added (texts self.old) text.now) }
     {
         if let Some(found) = self.find(text) {
             return Ok(found);
@@ -61,7 +80,8 @@ impl Names {
 
     /// The number of a name, where it has one.
     pub fn find(&self, text: &str) -> Option<Symbol>
-        ensures { IfSome result (λ name. text_of self.now name.0 ≡ text.now) }
+        ensures named { IfSome result (λ name. text_of self.now name.0 ≡ text.now) }
+        ensures exact { result ≡ found (texts self.now) text.now }
     {
         let number = self.known.get_index_of(text)?;
         match u32::try_from(number) {

@@ -9,7 +9,7 @@ mod quoted;
 mod runs;
 pub(crate) mod token;
 
-ghost use Rattle.std.specs.Prelude.{◌≡◌, ◌+◌, ◌<◌, ◌≤◌, ◌^◌, IfOk, IfSome, length};
+ghost use Rattle.std.specs.Prelude.{◌≡◌, ◌+◌, ◌-◌, ◌<◌, ◌≤◌, ◌^◌, IfOk, IfSome, length, min};
 ghost use Rattle.rust_source.specs.Characters.{byte_at};
 ghost use Rattle.rust_source.specs.Quoted.{prefixed_token};
 ghost use Rattle.rust_source.specs.Tokens.{Agrees, fault_at, first_token, is_punctuation, next_token, prefixed_or, single_kind, single_or, token_at, tokens, word_kind, word_token};
@@ -18,7 +18,8 @@ use crate::fault::{SourceFault, SourceFaultKind};
 use crate::place::Place;
 use crate::tokens::blank::{blank_length, head_length};
 use crate::tokens::brackets::{Opened, close_all, put};
-use crate::tokens::characters::{after, byte_at, name_length};
+use crate::tokens::characters::name_length;
+pub(crate) use crate::tokens::characters::{after, byte_at, first_char};
 use crate::tokens::keyword::{Keyword, keyword_of};
 pub(crate) use crate::tokens::number::has_base;
 use crate::tokens::number::number_length;
@@ -31,7 +32,7 @@ const MOST_BYTES: usize = 1 << 30;
 
 /// A number of bytes of a source, as a place's number.
 pub(crate) fn as_place(bytes: usize) -> u32
-    ensures { bytes < 2 ^ 32 → result ≡ bytes }
+    ensures { result ≡ min bytes (2 ^ 32 - 1) }
 {
     match u32::try_from(bytes) {
         Ok(bytes) => bytes,

@@ -1,5 +1,8 @@
 //! Where a reader stands among the tokens of a group.
 
+ghost use Rattle.std.specs.Prelude.{◌≡◌, ◌+◌, ◌||◌, if◌then◌else◌};
+ghost use Rattle.rust_source.specs.Cursor.{behind, fault, inside, is_cut, is_done, is_group, is_next, is_nth, is_nth_pair, is_pair, is_punct, is_word, kind_of, next_kind, nth, passed, place, place_behind, place_of, text_of, touch, tree_passed};
+
 use crate::fault::{SourceFault, SourceFaultKind};
 use crate::place::Place;
 use crate::tokens::keyword::Keyword;
@@ -21,7 +24,10 @@ pub(crate) struct Cursor<'a> {
 }
 
 /// The token that this many stand before in the group, the next being 0.
-pub(crate) fn nth(cursor: &Cursor<'_>, before: usize) -> Option<Token> {
+#[tactic(auto, unfolding(crate::specs::Cursor::nth))]
+pub(crate) fn nth(cursor: &Cursor<'_>, before: usize) -> Option<Token>
+    ensures { result ≡ nth cursor.now before }
+{
     let index = cursor.at.saturating_add(before);
     if index >= cursor.end {
         return None;
@@ -33,7 +39,9 @@ pub(crate) fn nth(cursor: &Cursor<'_>, before: usize) -> Option<Token> {
 }
 
 /// The kind of the next token.
-pub(crate) fn next_kind(cursor: &Cursor<'_>) -> Option<TokenKind> {
+pub(crate) fn next_kind(cursor: &Cursor<'_>) -> Option<TokenKind>
+    ensures { result ≡ next_kind cursor.now }
+{
     match nth(cursor, 0) {
         Some(token) => Some(token.kind),
         None => None,
@@ -41,22 +49,33 @@ pub(crate) fn next_kind(cursor: &Cursor<'_>) -> Option<TokenKind> {
 }
 
 /// Whether nothing is left.
-pub(crate) fn is_done(cursor: &Cursor<'_>) -> bool {
+pub(crate) fn is_done(cursor: &Cursor<'_>) -> bool
+    ensures { result ≡ is_done cursor.now }
+{
     nth(cursor, 0).is_none()
 }
 
 /// Passes over this many tokens.
-pub(crate) fn pass(cursor: &mut Cursor<'_>, count: usize) {
+#[tactic(auto, unfolding(crate::specs::Cursor::passed))]
+pub(crate) fn pass(cursor: &mut Cursor<'_>, count: usize)
+    ensures { cursor.new ≡ passed cursor.old count }
+{
     cursor.at = cursor.at.saturating_add(count);
 }
 
 /// A number of bytes of the source as a place among all sources.
-pub(crate) fn place_of(cursor: &Cursor<'_>, bytes: u32) -> Place {
+#[tactic(auto, unfolding(crate::specs::Cursor::place_of))]
+pub(crate) fn place_of(cursor: &Cursor<'_>, bytes: u32) -> Place
+    ensures { result ≡ place_of cursor.now bytes }
+{
     Place(cursor.start.saturating_add(bytes))
 }
 
 /// Where the next token stands; behind the last token where none is left.
-pub(crate) fn place(cursor: &Cursor<'_>) -> Place {
+#[tactic(auto, unfolding(crate::specs::Cursor::place, crate::specs::Cursor::place_of))]
+pub(crate) fn place(cursor: &Cursor<'_>) -> Place
+    ensures { result ≡ place cursor.now }
+{
     match nth(cursor, 0) {
         Some(token) => place_of(cursor, token.start),
         None => match cursor.tokens.get(cursor.end) {
@@ -67,7 +86,10 @@ pub(crate) fn place(cursor: &Cursor<'_>) -> Place {
 }
 
 /// The place behind the token that was read last.
-pub(crate) fn place_behind(cursor: &Cursor<'_>) -> Place {
+#[tactic(auto, unfolding(crate::specs::Cursor::place_behind))]
+pub(crate) fn place_behind(cursor: &Cursor<'_>) -> Place
+    ensures { result ≡ place_behind cursor.now }
+{
     match cursor.tokens.get(cursor.at.saturating_sub(1)) {
         Some(token) => place_of(cursor, token.end),
         None => place_of(cursor, 0),
@@ -75,53 +97,101 @@ pub(crate) fn place_behind(cursor: &Cursor<'_>) -> Place {
 }
 
 /// The fault of this kind at the next token.
-pub(crate) fn fault(cursor: &Cursor<'_>, kind: SourceFaultKind) -> SourceFault {
+pub(crate) fn fault(cursor: &Cursor<'_>, kind: SourceFaultKind) -> SourceFault
+    ensures { result ≡ fault cursor.now kind }
+{
     SourceFault {
         at: place(cursor),
         kind,
     }
 }
 
+/// Whether a text may be cut here.
+fn is_cut(text: &str, at: usize) -> bool
+    ensures { result ≡ is_cut text.now at }
+{
+    text.is_char_boundary(at)
+}
+
 /// The text of a token.
-pub(crate) fn text_of<'a>(cursor: &Cursor<'a>, token: Token) -> &'a str {
-    match cursor.text.get(token.start as usize..token.end as usize) {
-        Some(text) => text,
-        None => "",
+#[tactic(auto, unfolding(crate::specs::Cursor::text_between))]
+pub(crate) fn text_of<'a>(cursor: &Cursor<'a>, token: Token) -> &'a str
+    ensures { result.now ≡ text_of cursor.now token }
+{
+    let from = token.start as usize;
+    let end = token.end as usize;
+    if from <= end && is_cut(cursor.text, from) && is_cut(cursor.text, end) {
+        &cursor.text[from..end]
+    } else {
+        ""
     }
 }
 
-/// Whether the token that this many stand before is this character.
-pub(crate) fn is_nth(cursor: &Cursor<'_>, before: usize, character: u8) -> bool {
-    match nth(cursor, before) {
+/// The token behind the one that this many stand before.
+#[tactic(auto, unfolding(crate::specs::Cursor::nth))]
+fn nth_behind(cursor: &Cursor<'_>, before: usize) -> Option<Token>
+    ensures { result ≡ nth cursor.now (before + 1) }
+{
+    nth(cursor, before.saturating_add(1))
+}
+
+/// Whether a token is this character.
+fn is_punct(token: Option<Token>, character: u8) -> bool
+    ensures { result ≡ is_punct character (kind_of token) }
+{
+    match token {
         Some(token) => token.kind == TokenKind::Punct(character),
         None => false,
     }
 }
 
-/// Whether the next token is this character.
-pub(crate) fn is_next(cursor: &Cursor<'_>, character: u8) -> bool {
-    is_nth(cursor, 0, character)
-}
-
-/// Whether the token that this many stand before, and the one behind it, are these characters with nothing between.
-pub(crate) fn is_nth_pair(cursor: &Cursor<'_>, before: usize, first: u8, second: u8) -> bool {
-    match (nth(cursor, before), nth(cursor, before.saturating_add(1))) {
-        (Some(one), Some(other)) => {
-            one.kind == TokenKind::Punct(first)
-                && other.kind == TokenKind::Punct(second)
-                && one.end == other.start
-        }
+/// Whether nothing stands between two tokens.
+fn touch(one: Option<Token>, other: Option<Token>) -> bool
+    ensures { result ≡ touch one other }
+{
+    match (one, other) {
+        (Some(one), Some(other)) => one.end == other.start,
         _ => false,
     }
 }
 
+/// Whether the token that this many stand before is this character.
+#[tactic(auto, unfolding(crate::specs::Cursor::is_nth))]
+pub(crate) fn is_nth(cursor: &Cursor<'_>, before: usize, character: u8) -> bool
+    ensures { result ≡ is_nth cursor.now before character }
+{
+    is_punct(nth(cursor, before), character)
+}
+
+/// Whether the next token is this character.
+pub(crate) fn is_next(cursor: &Cursor<'_>, character: u8) -> bool
+    ensures { result ≡ is_next cursor.now character }
+{
+    is_nth(cursor, 0, character)
+}
+
+/// Whether the token that this many stand before, and the one behind it, are these characters with nothing between.
+#[tactic(auto, unfolding(crate::specs::Cursor::is_nth_pair, crate::specs::Cursor::is_nth))]
+pub(crate) fn is_nth_pair(cursor: &Cursor<'_>, before: usize, first: u8, second: u8) -> bool
+    ensures { result ≡ is_nth_pair cursor.now before first second }
+{
+    let one = nth(cursor, before);
+    let other = nth_behind(cursor, before);
+    is_punct(one, first) && is_punct(other, second) && touch(one, other)
+}
+
 /// Whether the next two tokens are these characters with nothing between.
-pub(crate) fn is_pair(cursor: &Cursor<'_>, first: u8, second: u8) -> bool {
+pub(crate) fn is_pair(cursor: &Cursor<'_>, first: u8, second: u8) -> bool
+    ensures { result ≡ is_pair cursor.now first second }
+{
     is_nth_pair(cursor, 0, first, second)
 }
 
 /// Whether the next token is this keyword.
-pub(crate) fn is_word(cursor: &Cursor<'_>, keyword: Keyword) -> bool {
+#[tactic(auto, unfolding(crate::specs::Cursor::is_word))]
+pub(crate) fn is_word(cursor: &Cursor<'_>, keyword: Keyword) -> bool
+    ensures { result ≡ is_word cursor.now keyword }
+{
     match nth(cursor, 0) {
         Some(token) => token.kind == TokenKind::Keyword(keyword),
         None => false,
@@ -129,7 +199,10 @@ pub(crate) fn is_word(cursor: &Cursor<'_>, keyword: Keyword) -> bool {
 }
 
 /// Passes over the next token where it is this character, and says whether it is.
-pub(crate) fn take(cursor: &mut Cursor<'_>, character: u8) -> bool {
+pub(crate) fn take(cursor: &mut Cursor<'_>, character: u8) -> bool
+    ensures is { result ≡ is_next cursor.old character }
+    ensures passed { cursor.new ≡ (if is_next cursor.old character then passed cursor.old 1 else cursor.old) }
+{
     let is = is_next(cursor, character);
     if is {
         pass(cursor, 1);
@@ -138,7 +211,10 @@ pub(crate) fn take(cursor: &mut Cursor<'_>, character: u8) -> bool {
 }
 
 /// Passes over the next two tokens where they are these characters with nothing between, and says whether they are.
-pub(crate) fn take_pair(cursor: &mut Cursor<'_>, first: u8, second: u8) -> bool {
+pub(crate) fn take_pair(cursor: &mut Cursor<'_>, first: u8, second: u8) -> bool
+    ensures is { result ≡ is_pair cursor.old first second }
+    ensures passed { cursor.new ≡ (if is_pair cursor.old first second then passed cursor.old 2 else cursor.old) }
+{
     let is = is_pair(cursor, first, second);
     if is {
         pass(cursor, 2);
@@ -147,7 +223,10 @@ pub(crate) fn take_pair(cursor: &mut Cursor<'_>, first: u8, second: u8) -> bool 
 }
 
 /// Passes over the next token where it is this keyword, and says whether it is.
-pub(crate) fn take_word(cursor: &mut Cursor<'_>, keyword: Keyword) -> bool {
+pub(crate) fn take_word(cursor: &mut Cursor<'_>, keyword: Keyword) -> bool
+    ensures is { result ≡ is_word cursor.old keyword }
+    ensures passed { cursor.new ≡ (if is_word cursor.old keyword then passed cursor.old 1 else cursor.old) }
+{
     let is = is_word(cursor, keyword);
     if is {
         pass(cursor, 1);
@@ -160,7 +239,10 @@ pub(crate) fn expect(
     cursor: &mut Cursor<'_>,
     character: u8,
     kind: SourceFaultKind,
-) -> Result<(), SourceFault> {
+) -> Result<(), SourceFault>
+    ensures is { result ≡ (if is_next cursor.old character then Ok tt else Err (fault cursor.old kind)) }
+    ensures passed { cursor.new ≡ (if is_next cursor.old character then passed cursor.old 1 else cursor.old) }
+{
     if take(cursor, character) {
         Ok(())
     } else {
@@ -177,7 +259,10 @@ pub(crate) fn is_named_next(cursor: &Cursor<'_>) -> bool {
 }
 
 /// Whether a group in brackets of this kind is next.
-pub(crate) fn is_group(cursor: &Cursor<'_>, bracket: Bracket) -> bool {
+#[tactic(auto, unfolding(crate::specs::Cursor::is_group))]
+pub(crate) fn is_group(cursor: &Cursor<'_>, bracket: Bracket) -> bool
+    ensures { result ≡ is_group cursor.now bracket }
+{
     match nth(cursor, 0) {
         Some(token) => token.kind == TokenKind::Open(bracket),
         None => false,
@@ -185,7 +270,11 @@ pub(crate) fn is_group(cursor: &Cursor<'_>, bracket: Bracket) -> bool {
 }
 
 /// The tokens within brackets of this kind, where such a group is next; it is passed over.
-pub(crate) fn take_group<'a>(cursor: &mut Cursor<'a>, bracket: Bracket) -> Option<Cursor<'a>> {
+#[tactic(auto, unfolding(crate::specs::Cursor::is_group, crate::specs::Cursor::inside, crate::specs::Cursor::behind, crate::specs::Cursor::nth))]
+pub(crate) fn take_group<'a>(cursor: &mut Cursor<'a>, bracket: Bracket) -> Option<Cursor<'a>>
+    ensures inside { result ≡ inside cursor.old bracket }
+    ensures passed { cursor.new ≡ (if is_group cursor.old bracket then behind cursor.old else cursor.old) }
+{
     let token = nth(cursor, 0)?;
     if token.kind != TokenKind::Open(bracket) {
         return None;
@@ -198,7 +287,10 @@ pub(crate) fn take_group<'a>(cursor: &mut Cursor<'a>, bracket: Bracket) -> Optio
 }
 
 /// Passes over the next token, and the whole group where it opens one.
-pub(crate) fn pass_tree(cursor: &mut Cursor<'_>) {
+#[tactic(auto, unfolding(crate::specs::Cursor::tree_passed))]
+pub(crate) fn pass_tree(cursor: &mut Cursor<'_>)
+    ensures { cursor.new ≡ tree_passed cursor.old }
+{
     match nth(cursor, 0) {
         Some(token) => match token.kind {
             TokenKind::Open(_) => cursor.at = (token.partner as usize).saturating_add(1),
@@ -222,7 +314,12 @@ pub(crate) fn take_until<'a>(cursor: &mut Cursor<'a>, character: u8) -> Cursor<'
 }
 
 /// Passes over a `,`, unless nothing is left.
-pub(crate) fn expect_comma(cursor: &mut Cursor<'_>) -> Result<(), SourceFault> {
+#[tactic(auto, unfolding(crate::specs::Cursor::is_nth))]
+pub(crate) fn expect_comma(cursor: &mut Cursor<'_>) -> Result<(), SourceFault>
+    ensures is { result ≡ (if is_done cursor.old || is_next cursor.old 44 then Ok tt
+        else Err (fault cursor.old SourceFaultKind.ExpectedComma)) }
+    ensures passed { cursor.new ≡ (if is_next cursor.old 44 then passed cursor.old 1 else cursor.old) }
+{
     if is_done(cursor) || take(cursor, b',') {
         Ok(())
     } else {

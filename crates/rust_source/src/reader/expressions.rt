@@ -13,6 +13,7 @@ use crate::reader::paths::read_path;
 use crate::reader::room::{MOST_NESTED, less};
 use crate::reader::types::read_type;
 use crate::syntax::{Expr, IntegerKind, Unary, Unevaluated};
+use crate::tokens::after;
 use crate::tokens::keyword::Keyword;
 use crate::tokens::token::{Bracket, Token, TokenKind};
 use std::alloc::Global;
@@ -227,7 +228,7 @@ fn number_literal(cursor: &Cursor<'_>, token: Token, at: Place) -> Result<Expr, 
 
 /// The character that a token is.
 fn char_literal(cursor: &Cursor<'_>, token: Token, at: Place) -> Result<Expr, SourceFault> {
-    match char_code(text_of(cursor, token)) {
+    match char_code(text_of(cursor, token).as_bytes()) {
         Ok(code) => Ok(Expr::Char(code, at)),
         Err(kind) => Err(fault(cursor, kind)),
     }
@@ -235,11 +236,7 @@ fn char_literal(cursor: &Cursor<'_>, token: Token, at: Place) -> Result<Expr, So
 
 /// The byte that a token is.
 fn byte_literal(cursor: &Cursor<'_>, token: Token, at: Place) -> Result<Expr, SourceFault> {
-    let text = match text_of(cursor, token).get(1..) {
-        Some(text) => text,
-        None => "",
-    };
-    match char_code(text) {
+    match char_code(after(text_of(cursor, token).as_bytes(), 1)) {
         Ok(code) if code < 256 => Ok(Expr::Integer(u128::from(code), Some(IntegerKind::U8), at)),
         _ => Err(fault(cursor, SourceFaultKind::BadCharacter)),
     }

@@ -1,8 +1,13 @@
 //! The values of numbers and characters.
 
+ghost use Rattle.std.specs.Prelude.{◌≡◌, ◌≤◌, length, map};
+ghost use Rattle.rust_source.specs.Literals.{as_code, base_of, char_code, code_by, code_within, digit_value, digits_length, digits_value, entry, escape_by, escaped_code, hex_code, integer_kind, integer_kind_in, is_digit_in, is_float_tail, letter_code, number_in, number_of, suffixed, with_digit, within};
+ghost use Rattle.rust_source.specs.Characters.{first_char};
+ghost use Rattle.rust_source.specs.Slices.{now_of};
+
 use crate::fault::SourceFaultKind;
 use crate::syntax::IntegerKind;
-use crate::tokens::has_base;
+use crate::tokens::{after, byte_at, first_char, has_base};
 
 /// How many integer types there are.
 const KINDS: usize = 12;
@@ -23,14 +28,23 @@ static KIND_NAMES: [(&str, IntegerKind); KINDS] = [
     ("usize", IntegerKind::Usize),
 ];
 
-/// The integer type of this name.
-pub(crate) fn integer_kind(name: &[u8]) -> Option<IntegerKind> {
-    for (text, kind) in &KIND_NAMES {
+/// The first integer type of a table that has this name.
+fn integer_kind_in(table: &[(&'static str, IntegerKind)], name: &[u8]) -> Option<IntegerKind>
+    ensures { result ≡ integer_kind_in (map entry table.now) name.now }
+{
+    for (text, kind) in table {
         if text.as_bytes() == name {
             return Some(*kind);
         }
     }
     None
+}
+
+/// The integer type of this name.
+pub(crate) fn integer_kind(name: &[u8]) -> Option<IntegerKind>
+    ensures { result ≡ integer_kind name.now }
+{
+    integer_kind_in(&KIND_NAMES, name)
 }
 
 /// What a number in a source is.
@@ -45,7 +59,9 @@ pub(crate) enum Number {
 }
 
 /// The value of a digit, in bases up to sixteen. Greater than fifteen where it is none.
-fn digit_value(byte: u8) -> u8 {
+fn digit_value(byte: u8) -> u8
+    ensures { result ≡ digit_value byte }
+{
     match byte {
         b'0'..=b'9' => byte - b'0',
         b'a'..=b'f' => byte - b'a' + 10,
@@ -54,19 +70,40 @@ fn digit_value(byte: u8) -> u8 {
     }
 }
 
+/// Whether a byte is a digit of a base, or `_`.
+fn is_digit_in(byte: u8, base: u8) -> bool
+    ensures { result ≡ is_digit_in base byte }
+{
+    byte == b'_' || digit_value(byte) < base
+}
+
 /// How many digits of a base, and `_`, the bytes begin with.
-fn digits_length(digits: &[u8], base: u8) -> usize {
+#[tactic(auto, unfolding(crate::specs::Literals::digits_length))]
+fn digits_length(digits: &[u8], base: u8) -> usize
+    ensures { result ≡ digits_length base digits.now }
+{
     for (index, byte) in digits.iter().enumerate() {
-        if *byte != b'_' && digit_value(*byte) >= base {
+        if !is_digit_in(*byte, base) {
             return index;
         }
     }
     digits.len()
 }
 
+/// The number that a digit makes behind others. None where it doesn't fit 128 bits.
+fn with_digit(before: Option<u128>, base: u8, digit: u8) -> Option<u128>
+    ensures { result ≡ with_digit base before digit }
+{
+    let more = before.unwrap_or(0).checked_mul(u128::from(base))?;
+    more.checked_add(u128::from(digit))
+}
+
 /// The number that the digits of a base are, `_` aside. None where there is no digit, a digit is too great, or the
 /// number doesn't fit 128 bits.
-fn digits_value(digits: &[u8], base: u8) -> Option<u128> {
+#[tactic(auto, using(crate::proofs::Digits::digits_same))]
+fn digits_value(digits: &[u8], base: u8) -> Option<u128>
+    ensures { result ≡ digits_value base digits.now }
+{
     let mut value: Option<u128> = None;
     for byte in digits {
         if *byte == b'_' {
@@ -76,32 +113,44 @@ fn digits_value(digits: &[u8], base: u8) -> Option<u128> {
         if digit >= base {
             return None;
         }
-        let more = value.unwrap_or(0).checked_mul(u128::from(base))?;
-        value = Some(more.checked_add(u128::from(digit))?);
+        value = Some(with_digit(value, base, digit)?);
     }
     value
 }
 
-/// The number that digits of a base with a suffix are.
-fn with_suffix(digits: &[u8], suffix: &[u8], base: u8) -> Number {
-    let kind = integer_kind(suffix);
-    match digits_value(digits, base) {
-        Some(value) if kind.is_some() || suffix.is_empty() => Number::Integer(value, kind),
+/// The number that digits are worth with a suffix.
+fn suffixed(value: Option<u128>, kind: Option<IntegerKind>, is_bare: bool) -> Number
+    ensures { result ≡ suffixed value kind is_bare }
+{
+    match (value, kind) {
+        (Some(value), Some(kind)) => Number::Integer(value, Some(kind)),
+        (Some(value), None) if is_bare => Number::Integer(value, None),
         _ => Number::Bad,
     }
 }
 
 /// The number that digits of a base are, and what follows them.
-fn number_in(text: &[u8], base: u8) -> Number {
+#[tactic(auto, unfolding(crate::specs::Literals::number_in))]
+fn number_in(text: &[u8], base: u8) -> Number
+    ensures { result ≡ number_in base text.now }
+{
     let length = digits_length(text, base);
-    match (text.get(..length), text.get(length..)) {
-        (Some(digits), Some(suffix)) => with_suffix(digits, suffix, base),
-        _ => Number::Bad,
-    }
+    let suffix = after(text, length);
+    let digits = match text.get(..length) {
+        Some(digits) => digits,
+        None => text,
+    };
+    suffixed(
+        digits_value(digits, base),
+        integer_kind(suffix),
+        suffix.is_empty(),
+    )
 }
 
 /// Whether what follows a decimal number's digits makes it a float.
-fn is_float_tail(tail: &[u8]) -> bool {
+fn is_float_tail(tail: &[u8]) -> bool
+    ensures { result ≡ is_float_tail tail.now }
+{
     match tail.first() {
         Some(first) => *first == b'.' || *first == b'e' || *first == b'E' || *first == b'f',
         None => false,
@@ -109,30 +158,34 @@ fn is_float_tail(tail: &[u8]) -> bool {
 }
 
 /// The base that the letter behind a `0` names.
-fn base_of(text: &[u8]) -> u8 {
-    match text.get(1) {
-        Some(b'x') => 16,
-        Some(b'o') => 8,
+fn base_of(text: &[u8]) -> u8
+    ensures { result ≡ base_of text.now }
+{
+    match byte_at(text, 1) {
+        b'x' => 16,
+        b'o' => 8,
         _ => 2,
     }
 }
 
 /// What a number is that a source writes so.
-pub(crate) fn number_of(text: &[u8]) -> Number {
+#[tactic(auto, unfolding(crate::specs::Literals::number_of))]
+pub(crate) fn number_of(text: &[u8]) -> Number
+    ensures { result ≡ number_of text.now }
+{
     if has_base(text) {
-        return match text.get(2..) {
-            Some(digits) => number_in(digits, base_of(text)),
-            None => Number::Bad,
-        };
-    }
-    match text.get(digits_length(text, 10)..) {
-        Some(tail) if is_float_tail(tail) => Number::Float,
-        _ => number_in(text, 10),
+        number_in(after(text, 2), base_of(text))
+    } else if is_float_tail(after(text, digits_length(text, 10))) {
+        Number::Float
+    } else {
+        number_in(text, 10)
     }
 }
 
 /// The code of a character that an escape's letter names.
-fn letter_code(letter: char) -> Option<u32> {
+fn letter_code(letter: char) -> Option<u32>
+    ensures { result ≡ letter_code letter }
+{
     match letter {
         'n' => Some(10),
         'r' => Some(13),
@@ -143,8 +196,10 @@ fn letter_code(letter: char) -> Option<u32> {
     }
 }
 
-/// A number that fits the codes of characters.
-fn as_code(value: Option<u128>) -> Option<u32> {
+/// A number that is a character's code.
+fn as_code(value: Option<u128>) -> Option<u32>
+    ensures { result ≡ as_code value }
+{
     let code = u32::try_from(value?).ok()?;
     if char::from_u32(code).is_some() {
         Some(code)
@@ -153,31 +208,44 @@ fn as_code(value: Option<u128>) -> Option<u32> {
     }
 }
 
-/// The code that hexadecimal digits are, as in `\x41` and `\u{7b}`, whose letter isn't among them.
-fn escaped_code(letter: char, digits: &str) -> Option<u32> {
+/// The bytes between a first one and a last one.
+#[tactic(auto, unfolding(crate::specs::Literals::within))]
+fn within(bytes: &[u8], first: u8, last: u8) -> Option<&[u8]>
+    ensures { now_of result ≡ within first last bytes.now }
+{
+    let end = bytes.len();
+    if end >= 2 && bytes[0] == first && bytes[end - 1] == last {
+        Some(&bytes[1..end - 1])
+    } else {
+        None
+    }
+}
+
+/// The code that hexadecimal digits are.
+fn hex_code(digits: Option<&[u8]>) -> Option<u32>
+    ensures { result ≡ hex_code (now_of digits.entry) }
+{
+    as_code(digits_value(digits?, 16))
+}
+
+/// The code that the digits behind an escape's letter are, as in `\x41` and `\u{7b}`.
+#[tactic(auto, unfolding(crate::specs::Literals::escaped_code))]
+fn escaped_code(letter: char, digits: &[u8]) -> Option<u32>
+    ensures { result ≡ escaped_code letter digits.now }
+{
     match letter {
-        'x' => as_code(digits_value(digits.as_bytes(), 16)),
-        'u' => {
-            let inside = digits.strip_prefix("{")?.strip_suffix("}")?;
-            as_code(digits_value(inside.as_bytes(), 16))
-        }
+        'x' => hex_code(Some(digits)),
+        'u' => hex_code(within(digits, b'{', b'}')),
         _ => None,
     }
 }
 
-/// The code of the one character that stands between the quotes of a literal.
-fn code_between(inside: &str) -> Option<u32> {
-    let mut rest = inside.chars();
-    let first = rest.next()?;
-    if first != '\\' {
-        return if rest.next().is_none() {
-            Some(first as u32)
-        } else {
-            None
-        };
-    }
-    let letter = rest.next()?;
-    let digits = rest.as_str();
+/// The code of an escape, of which this stands behind the backslash.
+fn escape_code(rest: &[u8]) -> Option<u32>
+    ensures { result ≡ escape_by rest.now (first_char rest.now) }
+{
+    let (letter, length) = first_char(rest)?;
+    let digits = after(rest, length);
     if digits.is_empty() {
         letter_code(letter)
     } else {
@@ -185,14 +253,32 @@ fn code_between(inside: &str) -> Option<u32> {
     }
 }
 
+/// The code of the one character that stands between the quotes of a literal.
+fn code_between(inside: &[u8]) -> Option<u32>
+    ensures { result ≡ code_by inside.now (first_char inside.now) }
+{
+    let (first, length) = first_char(inside)?;
+    let rest = after(inside, length);
+    if first == '\\' {
+        escape_code(rest)
+    } else if rest.is_empty() {
+        Some(first as u32)
+    } else {
+        None
+    }
+}
+
 /// The code of a character literal, or of a byte's literal behind its `b`.
-pub(crate) fn char_code(text: &str) -> Result<u32, SourceFaultKind> {
-    let inside = match text.strip_prefix("'") {
-        Some(more) => more.strip_suffix("'"),
+#[tactic(auto, unfolding(crate::specs::Literals::char_code))]
+pub(crate) fn char_code(text: &[u8]) -> Result<u32, SourceFaultKind>
+    ensures { result ≡ char_code text.now }
+{
+    let code = match within(text, b'\'', b'\'') {
+        Some(inside) => code_between(inside),
         None => None,
     };
-    match inside {
-        Some(inside) => code_between(inside).ok_or(SourceFaultKind::BadCharacter),
+    match code {
+        Some(code) => Ok(code),
         None => Err(SourceFaultKind::BadCharacter),
     }
 }

@@ -1,8 +1,13 @@
 //! Operators between operands, and which bind tighter.
 
+ghost use Rattle.std.specs.Prelude.{◌≡◌, ◌+◌, IfErr, IfOk, reverse};
+ghost use Rattle.rust_source.specs.Operators.{all_joined, is_comparison, joined, joined_tighter, last_binds, last_compares, next_operator, of_one, operands_of, operator_put, pair_in, pairs, signed, stands_beside, tightness};
+ghost use Rattle.rust_source.specs.Syntax.{expr_of, unary};
+ghost use Rattle.rust_source.specs.Tokens.{Agrees};
+
 use crate::fault::{SourceFault, SourceFaultKind};
 use crate::place::Place;
-use crate::reader::cursor::{Cursor, fault, is_nth_pair, next_kind};
+use crate::reader::cursor::{Cursor, fault, is_pair, next_kind};
 use crate::syntax::{Binary, Expr, Unary};
 use crate::tokens::token::TokenKind;
 use std::alloc::Global;
@@ -23,7 +28,9 @@ static TWO: [(u8, u8, Binary); PAIRS] = [
 ];
 
 /// The operator of one character.
-fn of_one(character: u8) -> Option<Binary> {
+fn of_one(character: u8) -> Option<Binary>
+    ensures { result ≡ of_one character }
+{
     match character {
         b'+' => Some(Binary::Add),
         b'-' => Some(Binary::Sub),
@@ -39,12 +46,32 @@ fn of_one(character: u8) -> Option<Binary> {
     }
 }
 
-/// The operator that is next, and how many tokens it has.
-pub(crate) fn next_operator(cursor: &Cursor<'_>) -> Option<(Binary, usize)> {
-    for (first, second, operator) in &TWO {
-        if is_nth_pair(cursor, 0, *first, *second) {
-            return Some((*operator, 2));
+/// The first operator of a table that the next two tokens are.
+fn pair_in(table: &[(u8, u8, Binary)], cursor: &Cursor<'_>) -> Option<Binary>
+    ensures { result ≡ pair_in table.now cursor.now }
+{
+    for (first, second, operator) in table {
+        if is_pair(cursor, *first, *second) {
+            return Some(*operator);
         }
+    }
+    None
+}
+
+/// The operator of two characters that is next.
+fn next_pair(cursor: &Cursor<'_>) -> Option<Binary>
+    ensures { result ≡ pair_in pairs cursor.now }
+{
+    pair_in(&TWO, cursor)
+}
+
+/// The operator that is next, and how many tokens it has.
+#[tactic(auto, unfolding(crate::specs::Operators::next_operator))]
+pub(crate) fn next_operator(cursor: &Cursor<'_>) -> Option<(Binary, usize)>
+    ensures { result ≡ next_operator cursor.now }
+{
+    if let Some(operator) = next_pair(cursor) {
+        return Some((operator, 2));
     }
     match next_kind(cursor) {
         Some(TokenKind::Punct(character)) => Some((of_one(character)?, 1)),
@@ -53,7 +80,9 @@ pub(crate) fn next_operator(cursor: &Cursor<'_>) -> Option<(Binary, usize)> {
 }
 
 /// How tight an operator binds: the greater the tighter.
-fn tightness(operator: Binary) -> u8 {
+fn tightness(operator: Binary) -> u8
+    ensures { result ≡ tightness operator }
+{
     match operator {
         Binary::Mul | Binary::Div | Binary::Rem => 8,
         Binary::Add | Binary::Sub => 7,
@@ -73,7 +102,9 @@ fn tightness(operator: Binary) -> u8 {
 }
 
 /// Whether an operator is a comparison, which stands beside no other one without parentheses.
-fn is_comparison(operator: Binary) -> bool {
+fn is_comparison(operator: Binary) -> bool
+    ensures { result ≡ is_comparison operator }
+{
     tightness(operator) == 2
 }
 
@@ -85,8 +116,14 @@ pub(crate) struct Waiting {
 }
 
 /// Joins the last two operands by the operator between them.
-fn join(alloc: Global, operands: &mut Vec<Expr>, by: Waiting) -> Result<(), SourceFault> {
-    let (Some(right), Some(left)) = (operands.pop(), operands.pop()) else {
+fn join(alloc: Global, operands: &mut Vec<Expr>, by: Waiting) -> Result<(), SourceFault>
+    ensures ok { IfOk result (λ _. operands_of operands.new.items ≡ joined (operands_of operands.old.items) by) }
+    ensures err { IfErr result (λ fault. fault.kind ≡ SourceFaultKind.OutOfMemory) }
+{
+    let Some(right) = operands.pop() else {
+        return Ok(());
+    };
+    let Some(left) = operands.pop() else {
         return Ok(());
     };
     let left = Box::new(alloc, left)?;
@@ -95,18 +132,39 @@ fn join(alloc: Global, operands: &mut Vec<Expr>, by: Waiting) -> Result<(), Sour
     Ok(())
 }
 
+/// Whether the last of the operators that wait binds at least as tight as `least`.
+fn last_binds(waiting: &Vec<Waiting>, least: u8) -> bool
+    ensures { result ≡ last_binds least (reverse waiting.now.items) }
+{
+    match waiting.last() {
+        Some(by) => tightness(by.operator) >= least,
+        None => false,
+    }
+}
+
+/// Whether the last of the operators that wait is a comparison.
+fn last_compares(waiting: &Vec<Waiting>) -> bool
+    ensures { result ≡ last_compares (reverse waiting.now.items) }
+{
+    match waiting.last() {
+        Some(by) => is_comparison(by.operator),
+        None => false,
+    }
+}
+
 /// Joins the operands whose operators bind at least as tight as `least`.
+#[tactic(auto, using(crate::proofs::Operators::none_tighter, crate::proofs::Operators::one_tighter))]
 fn join_tighter(
     alloc: Global,
     operands: &mut Vec<Expr>,
     waiting: &mut Vec<Waiting>,
     least: u8,
-) -> Result<(), SourceFault> {
-    for _ in 0..waiting.len() {
-        match waiting.last() {
-            Some(by) if tightness(by.operator) >= least => {}
-            _ => break,
-        }
+) -> Result<(), SourceFault>
+    ensures ok { IfOk result (λ _. (operands_of operands.new.items, reverse waiting.new.items)
+        ≡ joined_tighter least (operands_of operands.old.items) (reverse waiting.old.items)) }
+    ensures err { IfErr result (λ fault. fault.kind ≡ SourceFaultKind.OutOfMemory) }
+{
+    'joining: while last_binds(waiting, least) {
         if let Some(by) = waiting.pop() {
             join(alloc, operands, by)?;
         }
@@ -114,37 +172,57 @@ fn join_tighter(
     Ok(())
 }
 
+/// Whether an operator would make two comparisons stand side by side. What binds tighter is joined before.
+#[tactic(auto, using(crate::proofs::Operators::tighter_twice))]
+fn is_beside(
+    alloc: Global,
+    operands: &mut Vec<Expr>,
+    waiting: &mut Vec<Waiting>,
+    by: Binary,
+) -> Result<bool, SourceFault>
+    ensures ok { IfOk result (λ beside. beside ≡ stands_beside by (operands_of operands.old.items) (reverse waiting.old.items)) }
+    ensures same { IfOk result (λ _. joined_tighter (tightness by) (operands_of operands.new.items) (reverse waiting.new.items)
+        ≡ joined_tighter (tightness by) (operands_of operands.old.items) (reverse waiting.old.items)) }
+    ensures err { IfErr result (λ fault. fault.kind ≡ SourceFaultKind.OutOfMemory) }
+{
+    if !is_comparison(by) {
+        return Ok(false);
+    }
+    join_tighter(alloc, operands, waiting, tightness(by) + 1)?;
+    Ok(last_compares(waiting))
+}
+
 /// Puts an operator behind the operands, once those before it that bind as tight are joined. Two comparisons side by
 /// side are no expression.
+#[tactic(auto, unfolding(crate::specs::Operators::operator_put))]
 pub(crate) fn put_operator(
     alloc: Global,
     cursor: &Cursor<'_>,
     operands: &mut Vec<Expr>,
     waiting: &mut Vec<Waiting>,
     by: Waiting,
-) -> Result<(), SourceFault> {
-    let least = tightness(by.operator);
-    if is_comparison(by.operator) {
-        join_tighter(alloc, operands, waiting, least.saturating_add(1))?;
-        if waiting
-            .last()
-            .is_some_and(|last| is_comparison(last.operator))
-        {
-            return Err(fault(cursor, SourceFaultKind::ExpectedExpression));
-        }
+) -> Result<(), SourceFault>
+    ensures { Agrees (λ _. (operands_of operands.new.items, reverse waiting.new.items))
+        (operator_put cursor.now (operands_of operands.old.items) (reverse waiting.old.items) by) result }
+{
+    if is_beside(alloc, operands, waiting, by.operator)? {
+        return Err(fault(cursor, SourceFaultKind::ExpectedExpression));
     }
-    join_tighter(alloc, operands, waiting, least)?;
+    join_tighter(alloc, operands, waiting, tightness(by.operator))?;
     waiting.push(by)?;
     Ok(())
 }
 
 /// The expression that the operands and the operators between them make.
+#[tactic(auto, unfolding(crate::specs::Operators::all_joined))]
 pub(crate) fn join_all(
     alloc: Global,
     cursor: &Cursor<'_>,
     operands: Vec<Expr>,
     waiting: Vec<Waiting>,
-) -> Result<Expr, SourceFault> {
+) -> Result<Expr, SourceFault>
+    ensures { Agrees expr_of (all_joined cursor.now (operands_of operands.items) (reverse waiting.items)) result }
+{
     let mut operands = operands;
     let mut waiting = waiting;
     join_tighter(alloc, &mut operands, &mut waiting, 0)?;
@@ -154,18 +232,28 @@ pub(crate) fn join_all(
     }
 }
 
+/// The operand with an operator before it.
+fn with_sign(alloc: Global, operand: Expr, sign: Unary, at: Place) -> Result<Expr, SourceFault>
+    ensures ok { IfOk result (λ whole. expr_of whole ≡ unary sign (expr_of operand) at) }
+    ensures err { IfErr result (λ fault. fault.kind ≡ SourceFaultKind.OutOfMemory) }
+{
+    Ok(Expr::Unary(sign, Box::new(alloc, operand)?, at))
+}
+
 /// The operand with the operators before it, of which the last is the nearest.
+#[tactic(auto, using(crate::proofs::Operators::signed_last))]
 pub(crate) fn with_signs(
     alloc: Global,
     operand: Expr,
     signs: Vec<(Unary, Place)>,
-) -> Result<Expr, SourceFault> {
+) -> Result<Expr, SourceFault>
+    ensures ok { IfOk result (λ whole. expr_of whole ≡ signed (expr_of operand) signs.items) }
+    ensures err { IfErr result (λ fault. fault.kind ≡ SourceFaultKind.OutOfMemory) }
+{
     let mut signs = signs;
     let mut operand = operand;
-    for _ in 0..signs.len() {
-        if let Some((sign, at)) = signs.pop() {
-            operand = Expr::Unary(sign, Box::new(alloc, operand)?, at);
-        }
+    while let Some((sign, at)) = signs.pop() {
+        operand = with_sign(alloc, operand, sign, at)?;
     }
     Ok(operand)
 }
