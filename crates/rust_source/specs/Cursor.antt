@@ -5,6 +5,7 @@ use Rattle.rust_source.specs.declared.fault.SourceFaultKind.{SourceFaultKind}
 use Rattle.rust_source.specs.declared.place.Place.{Place}
 use Rattle.rust_source.specs.declared.reader.cursor.Cursor.{Cursor}
 use Rattle.rust_source.specs.declared.tokens.keyword.Keyword.{Keyword}
+use Rattle.rust_source.specs.declared.tokens.keyword.Keyword.TheVariants as keyword
 use Rattle.rust_source.specs.Tokens.{is_same}
 use denote.Enum.Bare.{sameb}
 use Rattle.rust_source.specs.contracts.tokens.keyword.Keyword.{the_type}
@@ -118,6 +119,20 @@ is_keyword k _ = false
 -- the next token is this keyword
 unfoldable pub is_word : Cursor → Keyword → Bool
 is_word c k = is_keyword k (next_kind c)
+
+-- the token is a name
+abbrev pub is_name : Option TokenKind → Bool
+is_name (Some kind.Name) = true
+is_name (Some kind.RawName) = true
+is_name _ = false
+
+-- a name stands behind the next token
+unfoldable pub is_named_next : Cursor → Bool
+is_named_next c = is_name (kind_of (nth c 1))
+
+-- a constant with a name is next
+abbrev pub is_constant : Cursor → Bool
+is_constant c = is_word c keyword.Const && is_named_next c
 
 -- a token of this kind opens a group in brackets of the kind
 abbrev pub opens : Bracket → TokenKind → Bool

@@ -1,5 +1,7 @@
 //! Constants, of modules and of types.
 
+ghost use Rattle.std.specs.Prelude.{◌≡◌};
+ghost use Rattle.rust_source.specs.Cursor.{is_constant};
 ghost use Rattle.rust_source.specs.Growth.{Keeps};
 
 use crate::fault::{SourceFault, SourceFaultKind};
@@ -24,7 +26,9 @@ use crate::tokens::token::{Bracket, TokenKind};
 use std::alloc::Global;
 
 /// Whether a constant with a name is next.
-pub(crate) fn is_constant(cursor: &Cursor<'_>) -> bool {
+pub(crate) fn is_constant(cursor: &Cursor<'_>) -> bool
+    ensures { result ≡ is_constant cursor.now }
+{
     is_word(cursor, Keyword::Const) && is_named_next(cursor)
 }
 

@@ -1,7 +1,7 @@
 //! Where a reader stands among the tokens of a group.
 
 ghost use Rattle.std.specs.Prelude.{◌≡◌, ◌+◌, ◌||◌, if◌then◌else◌};
-ghost use Rattle.rust_source.specs.Cursor.{behind, fault, inside, is_cut, is_done, is_group, is_next, is_nth, is_nth_pair, is_pair, is_punct, is_word, kind_of, next_kind, nth, passed, place, place_behind, place_of, text_of, touch, tree_passed};
+ghost use Rattle.rust_source.specs.Cursor.{behind, fault, inside, is_cut, is_done, is_group, is_next, is_nth, is_named_next, is_nth_pair, is_pair, is_punct, is_word, kind_of, next_kind, nth, passed, place, place_behind, place_of, text_of, touch, tree_passed};
 
 use crate::fault::{SourceFault, SourceFaultKind};
 use crate::place::Place;
@@ -251,7 +251,9 @@ pub(crate) fn expect(
 }
 
 /// Whether a name stands behind the next token.
-pub(crate) fn is_named_next(cursor: &Cursor<'_>) -> bool {
+pub(crate) fn is_named_next(cursor: &Cursor<'_>) -> bool
+    ensures { result ≡ is_named_next cursor.now }
+{
     match nth(cursor, 1) {
         Some(token) => token.kind == TokenKind::Name || token.kind == TokenKind::RawName,
         None => false,

@@ -32,8 +32,8 @@ no_memory : {A H : Type 0} (P : Result A (LayoutCalculatorError H) → Type 0) (
 no_memory P (Ok a) told may = absurd told
 no_memory P (Err e) told may = subst (λ e. P (Err e)) (sym told) may
 
-pub state_tag-requires : goal.state_tag-requires
-state_tag-requires g c = rw c.as_raw-states.ensures.items c.requires.states.some
+pub state_tag-tag-requires : goal.state_tag-tag-requires
+state_tag-tag-requires g c = rw c.as_raw-states.ensures.items c.requires.states.some
 
 pub promoted_locals-requires-clause-within : goal.promoted_locals-requires-clause-within
 promoted_locals-requires-clause-within g c =
@@ -101,7 +101,7 @@ returns g c =
     let states : List (List ℕ) = map (map g.LocalIdx.Idx.number) (items_of c.args.variant_fields) in
     let promoted = promoted_of states conflicts in
     let fields = sym c.as_raw-locals.ensures.items in
-    let known = rw (sym c.as_raw-states.ensures.items) c.in_ok-promoted.ensures.exact in
+    let known = rw (c.as_raw-states.ensures.items) at c.in_ok-promoted.ensures.exact in
     let is : IsStateTag (length (items_of c.args.variant_fields)) tag = subst (λ s. IsStateTag (length s) tag) c.as_raw-states.ensures.items c.state_tag-tag.ensures in
     let answer : IsPromotedAnswer lo at number first dl c.args.prefix_layouts tag field locals states promoted result = rw (sym known, fields, sym c.as_raw-states.ensures.items) c.layout_of_promoted.ensures.exact in
     let sized : IsSizedPromoted dl before (scalar_layout first dl tag) all states promoted result = rw (sym known, fields, sym c.as_raw-states.ensures.items) c.layout_of_promoted.ensures.sized in
