@@ -21,6 +21,9 @@ use std::alloc::{AllocError, Global};
 /// The bytes of a larger type aren't listed. In bytes.
 const MOST_LISTED: u64 = 65_536;
 
+/// How many numbers a layout may have before more room is asked for.
+const FIRST_ROOM: usize = 128;
+
 /// Adds a number of 128 bits.
 pub(crate) fn write_wide(out: &mut Vec<u64>, number: u128) -> Result<(), AllocError>
     ensures { OnOk result (out.new.items ≡ out.old.items ++ flat_wide number) }
@@ -329,7 +332,7 @@ pub fn write_layout(alloc: Global, laid: &Laid) -> Result<Vec<u64>, AllocError>
     ensures { IfOk result (λ numbers. numbers.items ≡ flat_layout (placed_of laid.now)) }
 {
     let layout = laid.layout();
-    let mut out = Vec::with_capacity(alloc, 64)?;
+    let mut out = Vec::with_capacity(alloc, FIRST_ROOM)?;
     write_head(&mut out, layout)?;
     if layout.size.bytes() > MOST_LISTED {
         write_lists(&mut out, layout, None)?;

@@ -17,6 +17,9 @@ use std::alloc::Global;
 /// A type is nested in at most so many others, less one.
 const MOST_NESTED: u64 = 201;
 
+/// For how many types of a list room is asked for before they are read.
+const FIRST_ROOM: u64 = 8;
+
 /// Elements.
 #[cycle(read)]
 fn read_array(
@@ -70,7 +73,7 @@ fn read_each(
     ensures err { IfErr result (Fails (front_list (front_tree left) (drop at.old numbers.now))) }
 {
     let count = read_word(numbers, at)?;
-    let mut types = Vec::new(alloc);
+    let mut types = Vec::with_capacity(alloc, count.min(FIRST_ROOM) as usize)?;
     for _ in 0..count {
         let tree = read_node(alloc, left, numbers, at)?;
         types.push(tree)?;

@@ -16,6 +16,7 @@ mod reader;
 // Laid-out types printed, and the names of refusals.
 mod layout_text;
 mod names;
+mod numbered;
 mod print;
 mod print_variants;
 

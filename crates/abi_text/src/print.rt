@@ -9,6 +9,7 @@ ghost use Rattle.abi_text.specs.Told.{TellsBytes};
 ghost use Rattle.abi_laid.specs.Laid.{placed_of};
 ghost use Rattle.abi_laid.specs.Placed.{layout_of};
 
+use crate::numbered::write_two_numbered;
 use crate::print_variants::write_variants;
 use abi_base::{Integer, Primitive, Size};
 use abi_index::{FieldIdx, VariantIdx};
@@ -51,8 +52,7 @@ pub(crate) fn write_fields(out: &mut String, offsets: &[Size]) -> Result<(), All
         ≡ string_bytes out.old ++ field_lines 0 offsets.now) }
 {
     for (index, offset) in offsets.iter().enumerate() {
-        let offset = offset.bytes();
-        write!(out, "field {index} offset {offset}\n")?;
+        write_two_numbered(out, "field ", index as u64, " offset ", offset.bytes())?;
     }
     Ok(())
 }
@@ -62,9 +62,8 @@ fn write_union_fields(out: &mut String, count: usize) -> Result<(), AllocError>
     ensures { OnOk result (string_bytes out.new
         ≡ string_bytes out.old ++ field_lines 0 (replicate count 0)) }
 {
-    let offset = 0u64;
     for index in 0..count {
-        write!(out, "field {index} offset {offset}\n")?;
+        write_two_numbered(out, "field ", index as u64, " offset ", 0)?;
     }
     Ok(())
 }
@@ -158,8 +157,9 @@ pub fn write_ranges(out: &mut String, word: &str, runs: &[(u64, u64)]) -> Result
 {
     for run in runs {
         let (start, size) = *run;
+        out.push_str(word)?;
         let end = start + size;
-        write!(out, "{word} {start}..{end}\n")?;
+        write_two_numbered(out, " ", start, "..", end)?;
     }
     Ok(())
 }

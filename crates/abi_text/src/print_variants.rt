@@ -9,6 +9,7 @@ ghost use Rattle.abi_types.specs.Ty.Runs.{IsVariantOfSeveral};
 ghost use Rattle.abi_laid.specs.Laid.{placed_of};
 ghost use Rattle.abi_laid.specs.Placed.{layout_of};
 
+use crate::numbered::write_numbered;
 use crate::print::{MOST_LISTED, write_fields, write_primitive, write_ranges};
 use abi_base::Size;
 use abi_index::{FieldIdx, IndexVec, RangeSet, VariantIdx};
@@ -60,8 +61,7 @@ fn write_variant(
     ensures { OnOk result (string_bytes out.new ≡ string_bytes out.old
         ++ variant_lines variant offsets.now (range_lines (codes "unused") unused.now)) }
 {
-    let index = variant.as_u32();
-    write!(out, "variant {index}\n")?;
+    write_numbered(out, "variant ", u64::from(variant.as_u32()))?;
     write_fields(out, offsets)?;
     write_ranges(out, "unused", unused)
 }
