@@ -183,3 +183,8 @@ tree_passed_by c (Some t) = behind_kind c t t.kind
 -- the next token is passed over, and the whole group where it opens one
 unfoldable pub tree_passed : Cursor → Cursor
 tree_passed c = tree_passed_by c (nth c 0)
+
+-- a lifetime
+abbrev pub is_lifetime : Option TokenKind → Bool
+is_lifetime (Some kind.Lifetime) = true
+is_lifetime _ = false

@@ -11,3 +11,6 @@ pub mod Literals
 pub mod Slices
 pub mod Syntax
 pub mod Operators
+pub mod Passing
+pub mod Reading
+pub mod Simple

@@ -1,7 +1,7 @@
 //! Where a reader stands among the tokens of a group.
 
 ghost use Rattle.std.specs.Prelude.{◌≡◌, ◌+◌, ◌||◌, if◌then◌else◌};
-ghost use Rattle.rust_source.specs.Cursor.{behind, fault, inside, is_cut, is_done, is_group, is_next, is_nth, is_named_next, is_nth_pair, is_pair, is_punct, is_word, kind_of, next_kind, nth, passed, place, place_behind, place_of, text_of, touch, tree_passed};
+ghost use Rattle.rust_source.specs.Cursor.{behind, fault, inside, is_cut, is_done, is_group, is_lifetime, is_next, is_named_next, is_nth, is_nth_pair, is_pair, is_punct, is_word, kind_of, next_kind, nth, passed, place, place_behind, place_of, text_of, touch, tree_passed};
 
 use crate::fault::{SourceFault, SourceFaultKind};
 use crate::place::Place;
@@ -107,7 +107,7 @@ pub(crate) fn fault(cursor: &Cursor<'_>, kind: SourceFaultKind) -> SourceFault
 }
 
 /// Whether a text may be cut here.
-fn is_cut(text: &str, at: usize) -> bool
+pub(crate) fn is_cut(text: &str, at: usize) -> bool
     ensures { result ≡ is_cut text.now at }
 {
     text.is_char_boundary(at)
@@ -187,6 +187,16 @@ pub(crate) fn is_pair(cursor: &Cursor<'_>, first: u8, second: u8) -> bool
     is_nth_pair(cursor, 0, first, second)
 }
 
+/// Whether a lifetime is next.
+pub(crate) fn is_lifetime(cursor: &Cursor<'_>) -> bool
+    ensures { result ≡ is_lifetime (next_kind cursor.now) }
+{
+    match next_kind(cursor) {
+        Some(TokenKind::Lifetime) => true,
+        _ => false,
+    }
+}
+
 /// Whether the next token is this keyword.
 #[tactic(auto, unfolding(crate::specs::Cursor::is_word))]
 pub(crate) fn is_word(cursor: &Cursor<'_>, keyword: Keyword) -> bool
@@ -255,7 +265,10 @@ pub(crate) fn is_named_next(cursor: &Cursor<'_>) -> bool
     ensures { result ≡ is_named_next cursor.now }
 {
     match nth(cursor, 1) {
-        Some(token) => token.kind == TokenKind::Name || token.kind == TokenKind::RawName,
+        Some(token) => match token.kind {
+            TokenKind::Name | TokenKind::RawName => true,
+            _ => false,
+        },
         None => false,
     }
 }

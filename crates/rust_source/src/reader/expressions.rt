@@ -1,5 +1,13 @@
 //! Expressions that constants are.
 
+ghost use Rattle.std.specs.Prelude.{◌≡◌, drop};
+ghost use Rattle.rust_source.specs.Cursor.{next_kind, text_of};
+ghost use Rattle.rust_source.specs.Literals.{char_code, number_of};
+ghost use Rattle.rust_source.specs.Reading.{seen};
+ghost use Rattle.rust_source.specs.Simple.{byte_read, char_read, is_literal, literal, literal_of, number_read, sign_of, signed_literal, signs};
+ghost use Rattle.rust_source.specs.Syntax.{expr_of};
+ghost use Rattle.rust_source.specs.Tokens.{Agrees};
+
 use crate::fault::{SourceFault, SourceFaultKind};
 use crate::names::Names;
 use crate::place::Place;
@@ -10,7 +18,7 @@ use crate::reader::cursor::{
 use crate::reader::literals::{Number, char_code, number_of};
 use crate::reader::operators::{Waiting, join_all, next_operator, put_operator, with_signs};
 use crate::reader::paths::read_path;
-use crate::reader::room::{MOST_NESTED, less};
+use crate::reader::room::{less, most_nested};
 use crate::reader::types::read_type;
 use crate::syntax::{Expr, IntegerKind, Unary, Unevaluated};
 use crate::tokens::after;
@@ -58,7 +66,7 @@ fn read_expression(
     let room = less(cursor, room)?;
     let mut operands = Vec::new(alloc);
     let mut waiting: Vec<Waiting> = Vec::new(alloc);
-    for _ in 0..MOST_NESTED {
+    for _ in 0..most_nested() {
         let operand = read_operand(alloc, names, cursor, room)?;
         operands.push(operand)?;
         let at = place(cursor);
@@ -77,17 +85,30 @@ fn read_expression(
     Err(fault(cursor, SourceFaultKind::TooDeep))
 }
 
+/// The operator before an operand that is next.
+fn next_sign(cursor: &Cursor<'_>) -> Option<Unary>
+    ensures { result ≡ sign_of (next_kind cursor.now) }
+{
+    match next_kind(cursor) {
+        Some(TokenKind::Punct(b'-')) => Some(Unary::Minus),
+        Some(TokenKind::Punct(b'!')) => Some(Unary::Not),
+        _ => None,
+    }
+}
+
 /// The operators before an operand, which are passed over.
-fn take_signs(alloc: Global, cursor: &mut Cursor<'_>) -> Result<Vec<(Unary, Place)>, SourceFault> {
-    let mut signs = Vec::new(alloc);
-    for _ in 0..MOST_NESTED {
+#[tactic(auto, unfolding(crate::specs::Simple::signs), using(crate::proofs::Turns::signs_more, crate::proofs::Turns::signs_done))]
+fn take_signs(alloc: Global, cursor: &mut Cursor<'_>) -> Result<Vec<(Unary, Place)>, SourceFault>
+    ensures { Agrees (λ all. (all.items, cursor.new)) (signs cursor.old) result }
+{
+    let mut all = Vec::new(alloc);
+    let turns = most_nested();
+    for turn in 0..turns {
         let at = place(cursor);
-        let sign = match next_kind(cursor) {
-            Some(TokenKind::Punct(b'-')) => Unary::Minus,
-            Some(TokenKind::Punct(b'!')) => Unary::Not,
-            _ => return Ok(signs),
+        let Some(sign) = next_sign(cursor) else {
+            return Ok(all);
         };
-        signs.push((sign, at))?;
+        all.push((sign, at))?;
         pass(cursor, 1);
     }
     Err(fault(cursor, SourceFaultKind::TooDeep))
@@ -104,7 +125,7 @@ fn read_operand(
     let signs = take_signs(alloc, cursor)?;
     let first = read_primary(alloc, names, cursor, room)?;
     let mut operand = with_signs(alloc, first, signs)?;
-    for _ in 0..MOST_NESTED {
+    for _ in 0..most_nested() {
         let at = place(cursor);
         if !take_word(cursor, Keyword::As) {
             return Ok(operand);
@@ -209,16 +230,22 @@ fn read_value(
 }
 
 /// Whether a literal is next.
-pub(crate) fn is_literal(cursor: &Cursor<'_>) -> bool {
+#[tactic(auto, unfolding(crate::specs::Simple::is_literal))]
+pub(crate) fn is_literal(cursor: &Cursor<'_>) -> bool
+    ensures { result ≡ is_literal cursor.now }
+{
     match next_kind(cursor) {
         Some(TokenKind::Number | TokenKind::Char | TokenKind::Byte | TokenKind::Text) => true,
-        Some(TokenKind::Keyword(word)) => word == Keyword::True || word == Keyword::False,
+        Some(TokenKind::Keyword(Keyword::True | Keyword::False)) => true,
         _ => false,
     }
 }
 
-/// The number that a token is.
-fn number_literal(cursor: &Cursor<'_>, token: Token, at: Place) -> Result<Expr, SourceFault> {
+/// The number that the next token is.
+fn number_literal(cursor: &Cursor<'_>, token: Token) -> Result<Expr, SourceFault>
+    ensures { seen expr_of result ≡ number_read cursor.now (number_of (text_of cursor.now token)) }
+{
+    let at = place(cursor);
     match number_of(text_of(cursor, token).as_bytes()) {
         Number::Integer(value, kind) => Ok(Expr::Integer(value, kind, at)),
         Number::Float => Ok(Expr::Unevaluated(Unevaluated::Expression, at)),
@@ -226,41 +253,59 @@ fn number_literal(cursor: &Cursor<'_>, token: Token, at: Place) -> Result<Expr, 
     }
 }
 
-/// The character that a token is.
-fn char_literal(cursor: &Cursor<'_>, token: Token, at: Place) -> Result<Expr, SourceFault> {
+/// The character that the next token is.
+fn char_literal(cursor: &Cursor<'_>, token: Token) -> Result<Expr, SourceFault>
+    ensures { seen expr_of result ≡ char_read cursor.now (char_code (text_of cursor.now token)) }
+{
+    let at = place(cursor);
     match char_code(text_of(cursor, token).as_bytes()) {
         Ok(code) => Ok(Expr::Char(code, at)),
         Err(kind) => Err(fault(cursor, kind)),
     }
 }
 
-/// The byte that a token is.
-fn byte_literal(cursor: &Cursor<'_>, token: Token, at: Place) -> Result<Expr, SourceFault> {
+/// The byte that the next token is.
+fn byte_literal(cursor: &Cursor<'_>, token: Token) -> Result<Expr, SourceFault>
+    ensures { seen expr_of result ≡ byte_read cursor.now (char_code (drop 1 (text_of cursor.now token))) }
+{
+    let at = place(cursor);
     match char_code(after(text_of(cursor, token).as_bytes(), 1)) {
         Ok(code) if code < 256 => Ok(Expr::Integer(u128::from(code), Some(IntegerKind::U8), at)),
         _ => Err(fault(cursor, SourceFaultKind::BadCharacter)),
     }
 }
 
+/// The literal that the next token is.
+fn literal_of(cursor: &Cursor<'_>, token: Token) -> Result<Expr, SourceFault>
+    ensures { seen expr_of result ≡ literal_of cursor.now token token.kind }
+{
+    match token.kind {
+        TokenKind::Number => number_literal(cursor, token),
+        TokenKind::Char => char_literal(cursor, token),
+        TokenKind::Byte => byte_literal(cursor, token),
+        TokenKind::Keyword(word) => Ok(Expr::Bool(word == Keyword::True, place(cursor))),
+        _ => Ok(Expr::Unevaluated(Unevaluated::Expression, place(cursor))),
+    }
+}
+
 /// A literal.
-pub(crate) fn read_literal(cursor: &mut Cursor<'_>) -> Result<Expr, SourceFault> {
-    let at = place(cursor);
+#[tactic(auto, unfolding(crate::specs::Simple::literal))]
+pub(crate) fn read_literal(cursor: &mut Cursor<'_>) -> Result<Expr, SourceFault>
+    ensures { seen (λ whole. (expr_of whole, cursor.new)) result ≡ literal cursor.old }
+{
     let Some(token) = nth(cursor, 0) else {
         return Err(fault(cursor, SourceFaultKind::ExpectedExpression));
     };
-    let value = match token.kind {
-        TokenKind::Number => number_literal(cursor, token, at)?,
-        TokenKind::Char => char_literal(cursor, token, at)?,
-        TokenKind::Byte => byte_literal(cursor, token, at)?,
-        TokenKind::Keyword(word) => Expr::Bool(word == Keyword::True, at),
-        _ => Expr::Unevaluated(Unevaluated::Expression, at),
-    };
+    let value = literal_of(cursor, token)?;
     pass(cursor, 1);
     Ok(value)
 }
 
 /// A literal, with the operators before it.
-pub(crate) fn read_signed(alloc: Global, cursor: &mut Cursor<'_>) -> Result<Expr, SourceFault> {
+#[tactic(auto, unfolding(crate::specs::Simple::signed_literal))]
+pub(crate) fn read_signed(alloc: Global, cursor: &mut Cursor<'_>) -> Result<Expr, SourceFault>
+    ensures { Agrees (λ whole. (expr_of whole, cursor.new)) (signed_literal cursor.old) result }
+{
     let signs = take_signs(alloc, cursor)?;
     if !is_literal(cursor) {
         return Err(fault(cursor, SourceFaultKind::ExpectedExpression));

@@ -1,9 +1,14 @@
 //! Names of items, fields and paths.
 
+ghost use Rattle.std.specs.Prelude.{◌≡◌};
+ghost use Rattle.rust_source.specs.Cursor.{next_kind, nth, text_of};
+ghost use Rattle.rust_source.specs.Names.{texts};
+ghost use Rattle.rust_source.specs.Reading.{Reads, bare_or, bare_text, is_path_name, name, name_in, name_text, path_name, path_word, word_in};
+
 use crate::fault::{SourceFault, SourceFaultKind};
 use crate::names::Names;
 use crate::place::{Place, Symbol};
-use crate::reader::cursor::{Cursor, fault, nth, pass, place, text_of};
+use crate::reader::cursor::{Cursor, fault, is_cut, next_kind, nth, pass, place, text_of};
 use crate::tokens::keyword::{Keyword, keyword_of};
 use crate::tokens::token::{Token, TokenKind};
 use std::alloc::Global;
@@ -11,20 +16,36 @@ use std::alloc::Global;
 /// How many bytes `r#` has.
 const RAW_MARK: usize = 2;
 
-/// The text of a name, without its `r#` where it is no keyword.
-fn name_text<'a>(cursor: &Cursor<'a>, token: Token) -> &'a str {
-    let text = text_of(cursor, token);
-    if token.kind != TokenKind::RawName {
+/// The text of a raw name, without its `r#` where it is no keyword.
+#[tactic(auto, unfolding(crate::specs::Reading::bare_text))]
+fn bare_text(text: &str) -> &str
+    ensures { result.now ≡ bare_text text.now }
+{
+    if !is_cut(text, RAW_MARK) {
         return text;
     }
-    match text.get(RAW_MARK..) {
-        Some(bare) if keyword_of(bare.as_bytes()).is_none() => bare,
+    let bare = &text[RAW_MARK..];
+    match keyword_of(bare.as_bytes()) {
+        Some(_) => text,
+        None => bare,
+    }
+}
+
+/// The text of a name, without its `r#` where it is no keyword.
+fn name_text<'a>(cursor: &Cursor<'a>, token: Token) -> &'a str
+    ensures { result.now ≡ name_text (text_of cursor.now token) token.kind }
+{
+    let text = text_of(cursor, token);
+    match token.kind {
+        TokenKind::RawName => bare_text(text),
         _ => text,
     }
 }
 
 /// The next token, where it is a name.
-fn name_token(cursor: &Cursor<'_>) -> Option<Token> {
+fn name_token(cursor: &Cursor<'_>) -> Option<Token>
+    ensures { result ≡ name_in (nth cursor.now 0) }
+{
     let token = nth(cursor, 0)?;
     match token.kind {
         TokenKind::Name | TokenKind::RawName => Some(token),
@@ -52,22 +73,28 @@ pub(crate) fn word_text<'a>(cursor: &Cursor<'a>) -> &'a str {
 }
 
 /// A name, and where it stands. It may be no keyword.
+#[tactic(auto, unfolding(crate::specs::Reading::name))]
 pub(crate) fn take_name(
     alloc: Global,
     names: &mut Names,
     cursor: &mut Cursor<'_>,
-) -> Result<(Symbol, Place), SourceFault> {
+) -> Result<(Symbol, Place), SourceFault>
+    ensures { Reads (λ found. (found, cursor.new)) (name cursor.old (texts names.old)) (texts names.new) result }
+{
     let Some(token) = name_token(cursor) else {
         return Err(fault(cursor, SourceFaultKind::ExpectedName));
     };
     let at = place(cursor);
+    let text = name_text(cursor, token);
     pass(cursor, 1);
-    let name = names.add(alloc, name_text(cursor, token))?;
+    let name = names.add(alloc, text)?;
     Ok((name, at))
 }
 
 /// The name that a keyword is in a path.
-fn path_word(keyword: Keyword) -> Option<Symbol> {
+fn path_word(keyword: Keyword) -> Option<Symbol>
+    ensures { result ≡ path_word keyword }
+{
     match keyword {
         Keyword::Crate => Some(Symbol::CRATE),
         Keyword::SelfValue => Some(Symbol::SELF),
@@ -78,27 +105,32 @@ fn path_word(keyword: Keyword) -> Option<Symbol> {
 }
 
 /// The name that the next token is in a path, where it is a keyword.
-fn next_path_word(cursor: &Cursor<'_>) -> Option<Symbol> {
-    match nth(cursor, 0) {
-        Some(token) => match token.kind {
-            TokenKind::Keyword(keyword) => path_word(keyword),
-            _ => None,
-        },
-        None => None,
+fn next_path_word(cursor: &Cursor<'_>) -> Option<Symbol>
+    ensures { result ≡ word_in (next_kind cursor.now) }
+{
+    match next_kind(cursor) {
+        Some(TokenKind::Keyword(keyword)) => path_word(keyword),
+        _ => None,
     }
 }
 
 /// Whether a name of a path is next.
-pub(crate) fn is_path_name(cursor: &Cursor<'_>) -> bool {
+#[tactic(auto, unfolding(crate::specs::Reading::is_path_name))]
+pub(crate) fn is_path_name(cursor: &Cursor<'_>) -> bool
+    ensures { result ≡ is_path_name cursor.now }
+{
     name_token(cursor).is_some() || next_path_word(cursor).is_some()
 }
 
 /// A name of a path, and where it stands. It may be `crate`, `self`, `super` or `Self`.
+#[tactic(auto, unfolding(crate::specs::Reading::path_name))]
 pub(crate) fn take_path_name(
     alloc: Global,
     names: &mut Names,
     cursor: &mut Cursor<'_>,
-) -> Result<(Symbol, Place), SourceFault> {
+) -> Result<(Symbol, Place), SourceFault>
+    ensures { Reads (λ found. (found, cursor.new)) (path_name cursor.old (texts names.old)) (texts names.new) result }
+{
     match next_path_word(cursor) {
         Some(name) => {
             let at = place(cursor);

@@ -1,5 +1,8 @@
 //! What is passed over: bounds, angle brackets, and items that make no types.
 
+ghost use Rattle.std.specs.Prelude.{◌≡◌, ◌==◌, ◌&&◌, ◌||◌};
+ghost use Rattle.rust_source.specs.Passing.{angles_passed, bounds, ends_bounds, is_question, one_passed, open_behind};
+
 use crate::reader::cursor::{
     Cursor, is_done, is_next, is_pair, next_kind, nth, pass, pass_tree, take,
 };
@@ -7,61 +10,113 @@ use crate::tokens::keyword::Keyword;
 use crate::tokens::token::{Bracket, TokenKind};
 
 /// Whether the next token ends bounds that stand in no angle brackets.
-fn ends_bounds(kind: TokenKind) -> bool {
+fn ends_bounds(kind: TokenKind) -> bool
+    ensures { result ≡ ends_bounds kind }
+{
     match kind {
-        TokenKind::Punct(character) => b",;=>".contains(&character),
+        TokenKind::Punct(character) => {
+            character == b',' || character == b';' || character == b'=' || character == b'>'
+        }
         TokenKind::Open(Bracket::Curly) | TokenKind::Keyword(Keyword::Where) => true,
         _ => false,
     }
 }
 
-/// Passes over the next token or group, and is how many angle brackets are open behind it.
-fn pass_counting(cursor: &mut Cursor<'_>, open: u64) -> u64 {
+/// Whether a token is a `?`.
+fn is_question(kind: TokenKind) -> bool
+    ensures { result ≡ is_question kind }
+{
+    kind == TokenKind::Punct(b'?')
+}
+
+/// Whether bounds end at a token within so many angle brackets.
+fn ends_here(kind: TokenKind, depth: u64) -> bool
+    ensures { result ≡ ((depth == 0) && ends_bounds kind) }
+{
+    depth == 0 && ends_bounds(kind)
+}
+
+/// Whether a `?` has been met outside of angle brackets.
+fn asks_here(has_question: bool, kind: TokenKind, depth: u64) -> bool
+    ensures { result ≡ (has_question || ((depth == 0) && is_question kind)) }
+{
+    has_question || depth == 0 && is_question(kind)
+}
+
+/// How many angle brackets are open behind what is next.
+#[tactic(auto, unfolding(crate::specs::Passing::open_behind))]
+fn open_behind(cursor: &Cursor<'_>, depth: u64) -> u64
+    ensures { result ≡ open_behind cursor.now depth }
+{
+    if is_pair(cursor, b'-', b'>') {
+        depth
+    } else if is_next(cursor, b'<') {
+        depth.saturating_add(1)
+    } else if is_next(cursor, b'>') {
+        depth.saturating_sub(1)
+    } else {
+        depth
+    }
+}
+
+/// Passes over the next token or group, or a `->`.
+#[tactic(auto, unfolding(crate::specs::Passing::one_passed))]
+fn pass_one(cursor: &mut Cursor<'_>)
+    ensures { cursor.new ≡ one_passed cursor.old }
+{
     if is_pair(cursor, b'-', b'>') {
         pass(cursor, 2);
-        return open;
-    }
-    let after = if is_next(cursor, b'<') {
-        open.saturating_add(1)
-    } else if is_next(cursor, b'>') {
-        open.saturating_sub(1)
     } else {
-        open
-    };
-    pass_tree(cursor);
+        pass_tree(cursor);
+    }
+}
+
+/// Passes over the next token or group, and is how many angle brackets are open behind it.
+fn pass_counting(cursor: &mut Cursor<'_>, depth: u64) -> u64
+    ensures counted { result ≡ open_behind cursor.old depth }
+    ensures passed { cursor.new ≡ one_passed cursor.old }
+{
+    let after = open_behind(cursor, depth);
+    pass_one(cursor);
     after
 }
 
 /// Passes over bounds: up to a `,`, `;`, `=`, `>`, `{` or `where` that stands in no brackets. Says whether a `?` is
 /// among them, as in `?Sized`.
-pub(crate) fn pass_bounds(cursor: &mut Cursor<'_>) -> bool {
-    let mut open = 0u64;
+#[tactic(auto, unfolding(crate::specs::Passing::bounds), using(crate::proofs::Turns::bounds_more, crate::proofs::Turns::bounds_done))]
+pub(crate) fn pass_bounds(cursor: &mut Cursor<'_>) -> bool
+    ensures { (result, cursor.new) ≡ bounds cursor.old }
+{
+    let mut depth = 0u64;
     let mut has_question = false;
-    for _ in cursor.at..cursor.end {
+    let turns = cursor.end.saturating_sub(cursor.at);
+    for turn in 0..turns {
         let Some(kind) = next_kind(cursor) else {
-            break;
+            return has_question;
         };
-        if open == 0 {
-            if ends_bounds(kind) {
-                break;
-            }
-            has_question = has_question || kind == TokenKind::Punct(b'?');
+        if ends_here(kind, depth) {
+            return has_question;
         }
-        open = pass_counting(cursor, open);
+        has_question = asks_here(has_question, kind, depth);
+        depth = pass_counting(cursor, depth);
     }
     has_question
 }
 
 /// Passes over angle brackets and what they have, where they are next.
-pub(crate) fn pass_angles(cursor: &mut Cursor<'_>) {
+#[tactic(auto, unfolding(crate::specs::Passing::angles_passed), using(crate::proofs::Turns::angles_more, crate::proofs::Turns::angles_done))]
+pub(crate) fn pass_angles(cursor: &mut Cursor<'_>)
+    ensures { cursor.new ≡ angles_passed cursor.old }
+{
     if !is_next(cursor, b'<') {
         return;
     }
-    let mut open = 0u64;
-    for _ in cursor.at..cursor.end {
-        open = pass_counting(cursor, open);
-        if open == 0 {
-            break;
+    let mut depth = 0u64;
+    let turns = cursor.end.saturating_sub(cursor.at);
+    for turn in 0..turns {
+        depth = pass_counting(cursor, depth);
+        if depth == 0 {
+            return;
         }
     }
 }

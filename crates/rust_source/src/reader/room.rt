@@ -1,12 +1,21 @@
 //! How deep a source may nest.
 
 ghost use Rattle.std.specs.Prelude.{◌≡◌, ◌+◌, IfOk};
+ghost use Rattle.rust_source.specs.Simple.{most_nested};
 
 use crate::fault::{SourceFault, SourceFaultKind};
 use crate::reader::cursor::{Cursor, fault};
 
 /// How many others a type, an expression, an attribute or a module may stand in.
 pub(crate) const MOST_NESTED: u32 = 200;
+
+/// How many others a type or an expression may stand in.
+#[tactic(auto, unfolding(crate::specs::Simple::most_nested))]
+pub(crate) fn most_nested() -> u32
+    ensures { result ≡ most_nested }
+{
+    MOST_NESTED
+}
 
 /// The room that is left within what begins at the next token.
 pub(crate) fn less(cursor: &Cursor<'_>, room: u32) -> Result<u32, SourceFault>

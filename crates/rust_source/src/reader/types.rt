@@ -1,17 +1,24 @@
 //! Types.
 
+ghost use Rattle.std.specs.Prelude.{◌≡◌, IfErr, IfOk};
+ghost use Rattle.rust_source.specs.Reading.{seen};
+ghost use Rattle.rust_source.specs.Simple.{after_path, associated_passed, before_function, begins_path, function_behind, function_read, lifetime_passed, pointed, pointing, pointing_to, pointings, simple, worded};
+ghost use Rattle.rust_source.specs.Syntax.{other_type, path_of, type_of};
+ghost use Rattle.rust_source.specs.Tokens.{Agrees};
+ghost use Rattle.rust_source.specs.Cursor.{place};
+
 use crate::fault::{SourceFault, SourceFaultKind};
 use crate::names::Names;
 use crate::place::Place;
 use crate::reader::cursor::{
-    Cursor, expect, expect_comma, fault, is_done, is_next, is_pair, next_kind, pass, pass_tree,
-    place, take, take_group, take_pair, take_word,
+    Cursor, expect, expect_comma, fault, is_done, is_lifetime, is_next, is_pair, next_kind, pass,
+    pass_tree, place, take, take_group, take_pair, take_word,
 };
 use crate::reader::expressions::read_whole;
 use crate::reader::naming::is_path_name;
 use crate::reader::passing::{pass_angles, pass_bounds};
 use crate::reader::paths::read_path;
-use crate::reader::room::{MOST_NESTED, less};
+use crate::reader::room::{less, most_nested};
 use crate::syntax::{Path, Type, Unevaluated};
 use crate::tokens::keyword::Keyword;
 use crate::tokens::token::{Bracket, TokenKind};
@@ -27,14 +34,19 @@ enum Pointing {
 }
 
 /// Passes over a lifetime, where one is next.
-fn pass_lifetime(cursor: &mut Cursor<'_>) {
-    if next_kind(cursor) == Some(TokenKind::Lifetime) {
+fn pass_lifetime(cursor: &mut Cursor<'_>)
+    ensures { cursor.new ≡ lifetime_passed cursor.old }
+{
+    if is_lifetime(cursor) {
         pass(cursor, 1);
     }
 }
 
 /// The `&` or `*` that is next, which is passed over with what belongs to it. None where neither is next.
-fn take_pointing(cursor: &mut Cursor<'_>) -> Result<Option<Pointing>, SourceFault> {
+#[tactic(auto, unfolding(crate::specs::Simple::pointing))]
+fn take_pointing(cursor: &mut Cursor<'_>) -> Result<Option<Pointing>, SourceFault>
+    ensures { seen (λ found. (found, cursor.new)) result ≡ pointing cursor.old }
+{
     if take(cursor, b'&') {
         pass_lifetime(cursor);
         let _ = take_word(cursor, Keyword::Mut);
@@ -51,9 +63,13 @@ fn take_pointing(cursor: &mut Cursor<'_>) -> Result<Option<Pointing>, SourceFaul
 }
 
 /// What stands before a type, which is passed over.
-fn take_all_pointing(alloc: Global, cursor: &mut Cursor<'_>) -> Result<Vec<Pointing>, SourceFault> {
+#[tactic(auto, unfolding(crate::specs::Simple::pointings), using(crate::proofs::Turns::pointings_more, crate::proofs::Turns::pointings_done))]
+fn take_all_pointing(alloc: Global, cursor: &mut Cursor<'_>) -> Result<Vec<Pointing>, SourceFault>
+    ensures { Agrees (λ all. (all.items, cursor.new)) (pointings cursor.old) result }
+{
     let mut all = Vec::new(alloc);
-    for _ in 0..MOST_NESTED {
+    let turns = most_nested();
+    for turn in 0..turns {
         match take_pointing(cursor)? {
             Some(one) => all.push(one)?,
             None => return Ok(all),
@@ -62,54 +78,72 @@ fn take_all_pointing(alloc: Global, cursor: &mut Cursor<'_>) -> Result<Vec<Point
     Err(fault(cursor, SourceFaultKind::TooDeep))
 }
 
+/// The type that points to another one.
+fn pointing_to(alloc: Global, target: Type, pointing: Pointing) -> Result<Type, SourceFault>
+    ensures ok { IfOk result (λ whole. type_of whole ≡ pointing_to (type_of target) pointing) }
+    ensures err { IfErr result (λ fault. fault.kind ≡ SourceFaultKind.OutOfMemory) }
+{
+    let target = Box::new(alloc, target)?;
+    match pointing {
+        Pointing::Reference => Ok(Type::Reference(target)),
+        Pointing::Pointer => Ok(Type::Pointer(target)),
+    }
+}
+
 /// The type with what stands before it, of which the last is the nearest.
-fn pointed(alloc: Global, target: Type, pointing: Vec<Pointing>) -> Result<Type, SourceFault> {
+#[tactic(auto, using(crate::proofs::Pointed::pointed_last))]
+fn pointed(alloc: Global, target: Type, pointing: Vec<Pointing>) -> Result<Type, SourceFault>
+    ensures ok { IfOk result (λ whole. type_of whole ≡ pointed (type_of target) pointing.items) }
+    ensures err { IfErr result (λ fault. fault.kind ≡ SourceFaultKind.OutOfMemory) }
+{
     let mut pointing = pointing;
     let mut whole = target;
-    for _ in 0..pointing.len() {
-        match pointing.pop() {
-            Some(Pointing::Reference) => whole = Type::Reference(Box::new(alloc, whole)?),
-            Some(Pointing::Pointer) => whole = Type::Pointer(Box::new(alloc, whole)?),
-            None => {}
-        }
+    while let Some(nearest) = pointing.pop() {
+        whole = pointing_to(alloc, whole, nearest)?;
     }
     Ok(whole)
 }
 
 /// Passes over a type in angle brackets, as `<T as Trait>::Name`.
-fn pass_associated(cursor: &mut Cursor<'_>) -> Type {
-    let at = place(cursor);
+#[tactic(auto, unfolding(crate::specs::Simple::associated_passed), using(crate::proofs::Turns::names_more, crate::proofs::Turns::names_done))]
+fn pass_associated(cursor: &mut Cursor<'_>)
+    ensures { cursor.new ≡ associated_passed cursor.old }
+{
     pass_angles(cursor);
-    for _ in cursor.at..cursor.end {
+    let turns = cursor.end.saturating_sub(cursor.at);
+    for turn in 0..turns {
         if !take_pair(cursor, b':', b':') {
-            break;
+            return;
         }
         if !is_next(cursor, b'<') {
             pass(cursor, 1);
         }
         pass_angles(cursor);
     }
-    Type::Unevaluated(Unevaluated::Associated, at)
 }
 
-/// Whether a function pointer's `fn` follows what may stand before it, which is passed over.
-fn takes_function(cursor: &mut Cursor<'_>) -> bool {
+/// Passes over what may stand before a function pointer's `fn`.
+#[tactic(auto, unfolding(crate::specs::Simple::before_function))]
+fn pass_before_function(cursor: &mut Cursor<'_>)
+    ensures { cursor.new ≡ before_function cursor.old }
+{
     if take_word(cursor, Keyword::For) {
         pass_angles(cursor);
     }
     let _ = take_word(cursor, Keyword::Unsafe);
-    if take_word(cursor, Keyword::Extern) && next_kind(cursor) == Some(TokenKind::Text) {
-        pass(cursor, 1);
+    if take_word(cursor, Keyword::Extern) {
+        match next_kind(cursor) {
+            Some(TokenKind::Text) => pass(cursor, 1),
+            _ => {}
+        }
     }
-    take_word(cursor, Keyword::Fn)
 }
 
-/// A function pointer, or a trait behind `for<'a>`. What it gives is passed over.
-fn take_function(cursor: &mut Cursor<'_>) -> Result<Type, SourceFault> {
-    if !takes_function(cursor) {
-        let _ = pass_bounds(cursor);
-        return Ok(Type::Dyn);
-    }
+/// A function pointer, behind its `fn`. What it gives is passed over.
+#[tactic(auto, unfolding(crate::specs::Simple::function_behind, crate::specs::Cursor::is_group, crate::specs::Cursor::inside))]
+fn take_behind_fn(cursor: &mut Cursor<'_>) -> Result<Type, SourceFault>
+    ensures { seen (λ ty. (type_of ty, cursor.new)) result ≡ function_behind cursor.old }
+{
     if take_group(cursor, Bracket::Round).is_none() {
         return Err(fault(cursor, SourceFaultKind::ExpectedType));
     }
@@ -119,8 +153,23 @@ fn take_function(cursor: &mut Cursor<'_>) -> Result<Type, SourceFault> {
     Ok(Type::Function)
 }
 
+/// A function pointer, or a trait behind `for<'a>`. What it gives is passed over.
+#[tactic(auto, unfolding(crate::specs::Simple::function_read))]
+fn take_function(cursor: &mut Cursor<'_>) -> Result<Type, SourceFault>
+    ensures { seen (λ ty. (type_of ty, cursor.new)) result ≡ function_read cursor.old }
+{
+    pass_before_function(cursor);
+    if take_word(cursor, Keyword::Fn) {
+        return take_behind_fn(cursor);
+    }
+    let _ = pass_bounds(cursor);
+    Ok(Type::Dyn)
+}
+
 /// A type that begins with this keyword, and is no path.
-fn take_worded(cursor: &mut Cursor<'_>, first: Keyword) -> Result<Type, SourceFault> {
+fn take_worded(cursor: &mut Cursor<'_>, first: Keyword) -> Result<Type, SourceFault>
+    ensures { seen (λ ty. (type_of ty, cursor.new)) result ≡ worded cursor.old first }
+{
     let at = place(cursor);
     match first {
         Keyword::Fn | Keyword::For | Keyword::Unsafe | Keyword::Extern => take_function(cursor),
@@ -141,20 +190,30 @@ fn take_worded(cursor: &mut Cursor<'_>, first: Keyword) -> Result<Type, SourceFa
 }
 
 /// A type that has no types within it that are read, and is no path.
-fn take_simple(cursor: &mut Cursor<'_>) -> Result<Type, SourceFault> {
+#[tactic(auto, unfolding(crate::specs::Simple::simple))]
+fn take_simple(cursor: &mut Cursor<'_>) -> Result<Type, SourceFault>
+    ensures { seen (λ ty. (type_of ty, cursor.new)) result ≡ simple cursor.old }
+{
     match next_kind(cursor) {
         Some(TokenKind::Punct(b'!')) => {
             pass(cursor, 1);
             Ok(Type::Never)
         }
-        Some(TokenKind::Punct(b'<')) => Ok(pass_associated(cursor)),
+        Some(TokenKind::Punct(b'<')) => {
+            let at = place(cursor);
+            pass_associated(cursor);
+            Ok(Type::Unevaluated(Unevaluated::Associated, at))
+        }
         Some(TokenKind::Keyword(first)) => take_worded(cursor, first),
         _ => Err(fault(cursor, SourceFaultKind::ExpectedType)),
     }
 }
 
 /// The type that a path is, or the call of the macro that it names.
-fn after_path(cursor: &mut Cursor<'_>, path: Path, at: Place) -> Type {
+#[tactic(auto, unfolding(crate::specs::Simple::after_path))]
+fn after_path(cursor: &mut Cursor<'_>, path: Path, at: Place) -> Type
+    ensures { (type_of result, cursor.new) ≡ after_path cursor.old (path_of path) at }
+{
     if take(cursor, b'!') {
         pass_tree(cursor);
         Type::Unevaluated(Unevaluated::Macro, at)
@@ -164,7 +223,10 @@ fn after_path(cursor: &mut Cursor<'_>, path: Path, at: Place) -> Type {
 }
 
 /// Whether a path is next.
-pub(crate) fn begins_path(cursor: &Cursor<'_>) -> bool {
+#[tactic(auto, unfolding(crate::specs::Simple::begins_path))]
+pub(crate) fn begins_path(cursor: &Cursor<'_>) -> bool
+    ensures { result ≡ begins_path cursor.now }
+{
     is_pair(cursor, b':', b':') || is_path_name(cursor)
 }
 

@@ -1,0 +1,109 @@
+-- What reading gives: what is read or the first fault, and the names that have numbers then.
+use Rattle.std.specs.Prelude.{◌≡◌, ◌⊎◌, ◌||◌, ℕ, Bool, true, false, List, drop, Option, None, Some, Result, Ok, Err, if◌then◌else◌}
+use Rattle.rust_source.specs.declared.fault.SourceFault.{SourceFault}
+use Rattle.rust_source.specs.declared.fault.SourceFaultKind.TheVariants.{ExpectedName, OutOfMemory}
+use Rattle.rust_source.specs.declared.place.Place.{Place}
+use Rattle.rust_source.specs.declared.place.Symbol.{Symbol}
+use Rattle.rust_source.specs.declared.reader.cursor.Cursor.{Cursor}
+use Rattle.rust_source.specs.declared.tokens.keyword.Keyword.{Keyword}
+use Rattle.rust_source.specs.declared.tokens.keyword.Keyword.TheVariants as keyword
+use Rattle.rust_source.specs.declared.tokens.token.Token.{Token}
+use Rattle.rust_source.specs.declared.tokens.token.TokenKind.{TokenKind}
+use Rattle.rust_source.specs.declared.tokens.token.TokenKind.TheVariants as kind
+use Rattle.rust_source.specs.Cursor.{fault, is_cut, next_kind, nth, passed, place, text_of}
+use Rattle.rust_source.specs.Keywords.{keyword_of}
+use Rattle.rust_source.specs.Names.{added, number_of}
+
+-- what is read or the first fault, and the names behind it
+abbrev pub Reading : Type 0 → Type 0
+Reading A = Result A SourceFault × List (List ℕ)
+
+-- what follows where there is no fault
+abbrev pub after_by : {A B : Type 0} → (A → List (List ℕ) → Reading B) → Result A SourceFault → (names : List (List ℕ)) → Reading B
+after_by next (Ok a) names = next a names
+after_by next (Err e) names = (Err e, names)
+
+abbrev pub after : {A B : Type 0} → (A → List (List ℕ) → Reading B) → Reading A → Reading B
+after next r = after_by next r.0 r.1
+
+-- what was read, seen in another way
+abbrev pub seen : {A B : Type 0} → (A → B) → Result A SourceFault → Result B SourceFault
+seen view (Ok a) = Ok (view a)
+seen view (Err e) = Err e
+
+-- the answer and its names, want of memory aside: the same value, or the same fault
+abbrev pub Reads : {A B : Type 0} → (A → B) → (answer : Reading B) → (names : List (List ℕ)) → Result A SourceFault → Type 0
+Reads view answer names (Ok a) = answer ≡ (Ok (view a), names)
+Reads view answer names (Err e) = (answer ≡ (Err e, names)) ⊎ (e.kind ≡ OutOfMemory)
+
+-- the text behind a name's `r#`, or the whole where that is a keyword
+abbrev pub bare_or : (text : List ℕ) → Option Keyword → List ℕ
+bare_or text None = drop 2 text
+bare_or text (Some k) = text
+
+-- the text of a raw name, whose `r#` stays with a keyword alone
+unfoldable pub bare_text : (text : List ℕ) → List ℕ
+bare_text text = if is_cut text 2 then bare_or text (keyword_of (drop 2 text)) else text
+
+-- the text of a name of this kind
+abbrev pub name_text : (text : List ℕ) → TokenKind → List ℕ
+name_text text kind.RawName = bare_text text
+name_text text _ = text
+
+-- the token, where it is of the kind of a name
+abbrev pub as_name : Token → TokenKind → Option Token
+as_name t kind.Name = Some t
+as_name t kind.RawName = Some t
+as_name t _ = None
+
+abbrev pub name_in : Option Token → Option Token
+name_in None = None
+name_in (Some t) = as_name t t.kind
+
+-- the name that a keyword is in a path: `crate`, `self`, `super` and `Self` are the first names
+abbrev pub path_word : Keyword → Option Symbol
+path_word keyword.Crate = Some (record { 0 = 0 })
+path_word keyword.SelfValue = Some (record { 0 = 1 })
+path_word keyword.Super = Some (record { 0 = 2 })
+path_word keyword.SelfType = Some (record { 0 = 3 })
+path_word _ = None
+
+abbrev pub word_in : Option TokenKind → Option Symbol
+word_in (Some (kind.Keyword k)) = path_word k
+word_in _ = None
+
+-- a name, where it stands, and what follows it
+abbrev pub Named : Type 0
+Named = (Symbol × Place) × Cursor
+
+-- the name that this token is
+abbrev pub name_by : Cursor → (names : List (List ℕ)) → Option Token → Reading Named
+name_by c names None = (Err (fault c ExpectedName), names)
+name_by c names (Some t) =
+    let text = name_text (text_of c t) t.kind in
+    (Ok ((record { 0 = number_of names text }, place c), passed c 1), added names text)
+
+-- the name that is next, which is no keyword
+unfoldable pub name : Cursor → (names : List (List ℕ)) → Reading Named
+name c names = name_by c names (name_in (nth c 0))
+
+-- the name of a path that is this keyword, or that is next
+abbrev pub path_name_by : Cursor → (names : List (List ℕ)) → Option Symbol → Reading Named
+path_name_by c names (Some n) = (Ok ((n, place c), passed c 1), names)
+path_name_by c names None = name c names
+
+-- the name of a path that is next
+unfoldable pub path_name : Cursor → (names : List (List ℕ)) → Reading Named
+path_name c names = path_name_by c names (word_in (next_kind c))
+
+abbrev pub is_some_name : Option Token → Bool
+is_some_name None = false
+is_some_name (Some t) = true
+
+abbrev pub is_some_word : Option Symbol → Bool
+is_some_word None = false
+is_some_word (Some n) = true
+
+-- a name of a path is next
+unfoldable pub is_path_name : Cursor → Bool
+is_path_name c = is_some_name (name_in (nth c 0)) || is_some_word (word_in (next_kind c))
