@@ -127,7 +127,7 @@ is_name (Some kind.RawName) = true
 is_name _ = false
 
 -- a name stands behind the next token
-unfoldable pub is_named_next : Cursor → Bool
+abbrev pub is_named_next : Cursor → Bool
 is_named_next c = is_name (kind_of (nth c 1))
 
 -- a constant with a name is next
