@@ -28,8 +28,14 @@ pub mod Filled
 pub mod Told
 -- what is promised of an enum, by its layouts with a niche and with a tag
 pub mod Several
+-- the same by the integer that is asked for
+pub mod Asked
 -- what is promised of an enum of several variants, from the answer that the rules give it
 pub mod Deep
+-- sums of sizes behind a tag, and of parts that share no byte
+pub mod Sums
+-- where sums of sizes tell it, the layout with a niche is the better one
+pub mod Bounds
 -- what is promised of each way that a type is laid out
 pub mod Whole
 -- the tag and the variants' fields share no byte

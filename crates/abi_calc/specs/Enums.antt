@@ -12,6 +12,7 @@ pub mod Places
 pub mod Several
 pub mod Niche
 pub mod Choice
+pub mod Bounds
 pub mod Room
 pub mod Beside
 pub mod Answer

@@ -1,5 +1,6 @@
 //! Types with variants: which way they are laid out, and how a tag tells the variants apart.
 
+mod bounds;
 mod choice;
 mod discriminants;
 mod growth;

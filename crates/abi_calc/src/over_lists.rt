@@ -16,7 +16,7 @@ pub(crate) fn greater_size(a: Size, b: Size) -> Size
 }
 
 /// The greater of two alignments.
-fn greater_align(a: Align, b: Align) -> Align
+pub(crate) fn greater_align(a: Align, b: Align) -> Align
     ensures { result ≡ max a b }
 {
     a.max(b)

@@ -87,7 +87,7 @@ module _ {F V : Type 0} (dl : TargetDataLayout) (repr : ReprOptions) (size align
 -- ---- refusals
 
 -- parts that an order without a fault names are all sized
-parts_sized : (list : ListRepr) (bound : ℕ) (parts : List Part) (order : List ℕ) → IsNonEmptyIfUnsized list.kind (length parts) → is_maybe_unsized list.kind ≡ false → IsNamedOrder list Start parts order
+pub parts_sized : (list : ListRepr) (bound : ℕ) (parts : List Part) (order : List ℕ) → IsNonEmptyIfUnsized list.kind (length parts) → is_maybe_unsized list.kind ≡ false → IsNamedOrder list Start parts order
     → fault_in list bound parts order ≡ None → All (λ (p : Part). is_unsized p.view ≡ false) parts
 parts_sized list bound parts order tail always named clear =
     let sized : All (IsSizedAt parts) order = sized_of_faultless list bound parts (start_of list.pack list.kind) order (clear_of list bound parts order clear).0 always in
@@ -96,7 +96,7 @@ parts_sized list bound parts order tail always named clear =
     (All-map (λ (p : Part). is_unsized p.view ≡ false) (λ i. get_or parts i no_part) order sized)
 
 -- a field is sized where its part is
-fields_sized : {F V : Type 0} (dl : TargetDataLayout) (fields : List (LayoutData F V)) → All (λ (p : Part). is_unsized p.view ≡ false) (parts_of dl fields) → AreSized fields
+pub fields_sized : {F V : Type 0} (dl : TargetDataLayout) (fields : List (LayoutData F V)) → All (λ (p : Part). is_unsized p.view ≡ false) (parts_of dl fields) → AreSized fields
 fields_sized dl [] all = All-nil (λ f. is_unsized f.backend_repr ≡ false)
 fields_sized dl (f ∷ fs) all =
     All-cons (λ f. is_unsized f.backend_repr ≡ false) f fs (All-head (λ (p : Part). is_unsized p.view ≡ false) _ (parts_of dl fs) all)

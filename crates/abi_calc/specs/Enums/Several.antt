@@ -49,6 +49,13 @@ abbrev pub better_of : {F V H : Type 0} → TargetDataLayout → (tagged : Resul
 better_of dl (Ok tagged) niche = Ok (better dl tagged niche)
 better_of dl (Err error) niche = Err error
 
+-- the better of the answer with a tag that is asked for as this integer and of this layout with a niche
+abbrev pub IsBetterAnswer : {F V H : Type 0} → (layout_of : H → LayoutData F V) → (at : ℕ → F) → (number : F → ℕ) → (first : V) → TargetDataLayout → ReprOptions → (asked : Integer) → (signed : Bool)
+    → (values : List ℕ) → (variants : List (List H)) → (niche : Option (LayoutData F V)) → Result (LayoutData F V) (LayoutCalculatorError H) → Type 0
+IsBetterAnswer layout_of at number first dl repr asked signed values variants niche result =
+    (tagged : Result (LayoutData _ _) (LayoutCalculatorError _)) × IsTaggedAnswer layout_of at number first dl repr asked signed values variants tagged
+    × (result ≡ better_of dl tagged niche)
+
 -- the answer to an enum of several variants that isn't packed, memory aside: that with a tag, or the layout with a niche where that
 -- is the better one; `index` makes the index of a variant, and `place` tells its number
 abbrev pub IsEnumAnswer : {F V H : Type 0} → (layout_of : H → LayoutData F V) → (at : ℕ → F) → (number : F → ℕ) → (index : ℕ → V) → (place : V → ℕ) → TargetDataLayout → ReprOptions

@@ -1,6 +1,6 @@
 //! The choice between the layout of an enum with a tag and the one with a niche.
 
-ghost use Rattle.std.specs.Prelude.{◌≡◌, IfSome};
+ghost use Rattle.std.specs.Prelude.{◌≡◌, IfSome, Some};
 ghost use Rattle.abi_scalar.specs.Lawful.{IsLawfulNiche};
 ghost use Rattle.abi_calc.specs.Enums.Choice.{better, takes_niche};
 
@@ -25,24 +25,19 @@ fn takes_niche<FieldIdx: Idx, VariantIdx: Idx>(
                 < free_numbers(dl, niche.size, niche.largest_niche)
 }
 
-/// The better of both layouts, the tagged one where there is no other.
+/// The better of both layouts.
 pub(crate) fn better<FieldIdx: Idx, VariantIdx: Idx>(
     dl: &TargetDataLayout,
     tagged: LayoutData<FieldIdx, VariantIdx>,
-    niche: Option<LayoutData<FieldIdx, VariantIdx>>,
+    niche: LayoutData<FieldIdx, VariantIdx>,
 ) -> LayoutData<FieldIdx, VariantIdx>
     requires tagged { IfSome tagged.largest_niche (IsLawfulNiche dl.now tagged.size) }
-    requires niche { IfSome niche (λ l. IfSome l.largest_niche (IsLawfulNiche dl.now l.size)) }
-    ensures { result ≡ better dl.now tagged niche }
+    requires niche { IfSome niche.largest_niche (IsLawfulNiche dl.now niche.size) }
+    ensures { result ≡ better dl.now tagged (Some niche) }
 {
-    match niche {
-        Some(niche) => {
-            if takes_niche(dl, &tagged, &niche) {
-                niche
-            } else {
-                tagged
-            }
-        }
-        None => tagged,
+    if takes_niche(dl, &tagged, &niche) {
+        niche
+    } else {
+        tagged
     }
 }

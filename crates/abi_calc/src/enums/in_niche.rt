@@ -1,6 +1,6 @@
 //! Enums whose tag lies in a niche of one variant: whether there is such a layout, and which.
 
-ghost use Rattle.std.specs.Prelude.{◌≡◌, ◌+◌, ◌^◌, ◌<◌, ◌≤◌, ◌≢◌, ◌==◌, ◌&&◌, All, IfErr, IfOk, MatchBool, Some, true, length, map, slice_get, if◌then◌else◌};
+ghost use Rattle.std.specs.Prelude.{◌≡◌, ◌+◌, ◌^◌, ◌<◌, ◌≤◌, ◌≢◌, ◌==◌, ◌&&◌, All, IfErr, IfOk, IfSome, MatchBool, Some, true, length, map, slice_get, if◌then◌else◌};
 ghost use Rattle.abi_base.specs.DataLayout.{IsLawfulDataLayout};
 ghost use Rattle.abi_scalar.specs.Lawful.{IsLawfulLayout};
 ghost use Rattle.abi_scalar.specs.declared.backend_repr.BackendRepr.TheVariants.{Memory};
@@ -299,6 +299,8 @@ impl<Cx: HasDataLayout> LayoutCalculator<Cx> {
             VariantIdx.at (Cx.target self.now.cx) repr.now variants.now) }
         ensures good { IfOk result (IsNicheAnswer AreGoodLists F.layout_of FieldIdx.at VariantIdx.at
             (Cx.target self.now.cx) repr.now variants.now) }
+        ensures within { IfOk result (λ found. IfSome found
+            (λ l. All (λ fields. length fields ≤ FieldIdx.MAX_INDEX + 1) variants.now)) }
         ensures memory { IfErr result (λ e. e ≡ LayoutCalculatorError.OutOfMemory) }
     {
         if !is_free(repr) {

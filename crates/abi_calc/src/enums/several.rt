@@ -1,45 +1,65 @@
 //! Enums of several variants: with a tag, or with a niche where that is the better layout.
 
-ghost use Rattle.std.specs.Prelude.{◌≡◌, ◌<◌, ◌≤◌, ◌+◌, ◌⊎◌, All, Err, IfOk, IsTrue, None, length, map};
+ghost use Rattle.std.specs.Prelude.{◌≡◌, ◌<◌, ◌≤◌, ◌+◌, ◌⊎◌, All, Err, IfOk, IsTrue, None, Some, length, map};
 ghost use Rattle.std.specs.Iterator.{IsFinite};
 ghost use Rattle.std.specs.Iterator.Runs.{EachRunFrom, WholeRun};
 ghost use Rattle.abi_base.specs.DataLayout.{IsLawfulDataLayout};
 ghost use Rattle.abi_scalar.specs.Lawful.{IsLawfulLayout};
 ghost use Rattle.abi_lists.specs.List.{HasLawfulAligns};
-ghost use Rattle.abi_calc.specs.Enums.Beside.{AreToldApart, IsToldByTag};
+ghost use Rattle.abi_calc.specs.Enums.Beside.{AreToldApart};
 ghost use Rattle.abi_calc.specs.Enums.Answer.{HasOneEach};
+ghost use Rattle.abi_calc.specs.Enums.Choice.{IsNicheAnswer};
 ghost use Rattle.abi_calc.specs.Enums.Discriminants.{counting_of};
+ghost use Rattle.abi_calc.specs.Enums.Lists.{AreGoodLists};
 ghost use Rattle.abi_calc.specs.Enums.Promised.{AreSizedVariants, IsSizedEnum};
-ghost use Rattle.abi_calc.specs.Enums.Several.{AreLawfulTags, HasEnumSize, HasTaggedSize, IsAskedAnswer, IsEnumAnswer, IsSeveralAnswer};
+ghost use Rattle.abi_calc.specs.Enums.Several.{AreLawfulTags, HasEnumSize, IsAskedFor, IsBetterAnswer, IsEnumAnswer, IsSeveralAnswer};
 
 use crate::calculator::LayoutCalculator;
+use crate::enums::bounds::wins;
 use crate::enums::choice::better;
 use crate::enums::discriminants::{asked_with, counting_of, listed};
-use abi_base::{HasDataLayout, Integer};
+use abi_base::{HasDataLayout, Integer, TargetDataLayout};
 use abi_index::{Idx, IndexVec};
 use abi_scalar::{
     LayoutCalculatorError, LayoutData, LayoutHandle, RangeFrom, RangeToInclusive, ReprOptions,
 };
 use std::alloc::Global;
 
+/// The tag's integer, and whether it is signed, that is answered where it has to hold these discriminants.
+fn asked_for<D: Fn(RangeFrom<i128>, RangeToInclusive<u128>) -> (Integer, bool)>(
+    dl: &TargetDataLayout,
+    repr: &ReprOptions,
+    values: &[u128],
+    discr_range_of_repr: D,
+) -> (Integer, bool)
+where
+    D: Drop,
+    requires data_layout { IsLawfulDataLayout dl.now }
+    requires callable { D.IsAlwaysCallable discr_range_of_repr }
+    ensures { IsAskedFor dl.now repr.now (D.post discr_range_of_repr) values.now result.0 result.1 }
+{
+    let asked = asked_with(dl, repr, values);
+    discr_range_of_repr(
+        RangeFrom { start: asked.least },
+        RangeToInclusive {
+            last: asked.greatest,
+        },
+    )
+}
+
 impl<Cx: HasDataLayout> LayoutCalculator<Cx> {
-    /// The layout of an enum of several variants with a tag, from the discriminants of all. The tag's integer, and
-    /// whether it is signed, is asked for with the least and the greatest number that it has to hold.
-    fn layout_with_tag<
-        FieldIdx: Idx,
-        VariantIdx: Idx,
-        F: LayoutHandle<FieldIdx, VariantIdx> + Copy,
-        D: Fn(RangeFrom<i128>, RangeToInclusive<u128>) -> (Integer, bool),
-    >(
+    /// The better of this layout with a niche and of the one with a tag, which is asked for as this integer and holds
+    /// these discriminants. Where the one with a tag can't be the better one, it isn't made. Refused as it is, though
+    /// there be one with a niche.
+    fn layout_beside<FieldIdx: Idx, VariantIdx: Idx, F: LayoutHandle<FieldIdx, VariantIdx> + Copy>(
         &self,
         alloc: Global,
         repr: &ReprOptions,
         variants: &[IndexVec<FieldIdx, F>],
-        discr_range_of_repr: D,
-        discriminants: &[(VariantIdx, u128)],
+        asked: (Integer, bool),
+        values: &[u128],
+        niche: LayoutData<FieldIdx, VariantIdx>,
     ) -> Result<LayoutData<FieldIdx, VariantIdx>, LayoutCalculatorError<F>>
-    where
-        D: Drop,
         requires data_layout { IsLawfulDataLayout (Cx.target self.now.cx) }
         requires fields { All (All (λ f. IsLawfulLayout (Cx.target self.now.cx)
             (F.layout_of f))) variants.now }
@@ -47,34 +67,21 @@ impl<Cx: HasDataLayout> LayoutCalculator<Cx> {
         requires unpacked { repr.now.pack ≡ None }
         requires count { length variants.now ≤ VariantIdx.MAX_INDEX + 1 }
         requires some { 0 < length variants.now }
-        requires named { All (λ item.
-            VariantIdx.number item.0 < length variants.now) discriminants.now }
-        requires callable { D.IsAlwaysCallable discr_range_of_repr }
-        requires tags { AreLawfulTags VariantIdx.number (Cx.target self.now.cx) repr.now
-            (D.post discr_range_of_repr) (map (map F.layout_of) variants.now) discriminants.now }
-        ensures exact { (result ≡ Err LayoutCalculatorError.OutOfMemory) ⊎ IsAskedAnswer F.layout_of
-            FieldIdx.at FieldIdx.number (VariantIdx.at 0) (Cx.target self.now.cx) repr.now
-            (D.post discr_range_of_repr) (counting_of VariantIdx.number repr.now
-            (map (map F.layout_of) variants.now) discriminants.now) variants.now result }
-        ensures lawful { IfOk result (IsLawfulLayout (Cx.target self.now.cx)) }
-        ensures within { IfOk result
-            (λ l. All (λ fields. length fields ≤ FieldIdx.MAX_INDEX + 1) variants.now) }
-        ensures told { IfOk result (IsToldByTag (Cx.target self.now.cx) VariantIdx.number
-            (map (map F.layout_of) variants.now) discriminants.now) }
-        ensures sized { IsSizedEnum F.layout_of (HasTaggedSize F.layout_of FieldIdx.at
-            (VariantIdx.at 0)) (Cx.target self.now.cx) repr.now
-            (D.post discr_range_of_repr) (counting_of VariantIdx.number repr.now
-            (map (map F.layout_of) variants.now) discriminants.now) variants.now result }
+        requires niche { IsNicheAnswer AreGoodLists F.layout_of FieldIdx.at VariantIdx.at
+            (Cx.target self.now.cx) repr.now variants.now (Some niche) }
+        requires within { All (λ fields. length fields ≤ FieldIdx.MAX_INDEX + 1) variants.now }
+        ensures exact { (result ≡ Err LayoutCalculatorError.OutOfMemory) ⊎ IsBetterAnswer
+            F.layout_of FieldIdx.at FieldIdx.number (VariantIdx.at 0) (Cx.target self.now.cx) repr.now
+            asked.0 asked.1 values.now variants.now (Some niche) result }
     {
-        let values = counting_of(alloc, repr, variants, discriminants)?;
-        let asked = asked_with(self.cx.data_layout(), repr, &values);
-        let (integer, signed) = discr_range_of_repr(
-            RangeFrom { start: asked.least },
-            RangeToInclusive {
-                last: asked.greatest,
-            },
-        );
-        self.layout_of_tagged(alloc, variants, repr, integer, signed, &values)
+        let dl = self.cx.data_layout();
+        if wins(dl, asked.0, &niche, variants) {
+            return Ok(niche);
+        }
+        match self.layout_of_tagged(alloc, variants, repr, asked.0, asked.1, values) {
+            Ok(tagged) => Ok(better(dl, tagged, niche)),
+            Err(error) => Err(error),
+        }
     }
 
     /// The layout of an enum of several variants that isn't packed, from the discriminants of all: the better of the
@@ -120,13 +127,12 @@ impl<Cx: HasDataLayout> LayoutCalculator<Cx> {
             (D.post discr_range_of_repr) (counting_of VariantIdx.number repr.now
             (map (map F.layout_of) variants.now) discriminants.now) variants.now result }
     {
-        let niche = match self.layout_of_niche(alloc, variants, repr) {
-            Ok(found) => found,
-            Err(error) => return Err(error),
-        };
-        match self.layout_with_tag(alloc, repr, variants, discr_range_of_repr, discriminants) {
-            Ok(tagged) => Ok(better(self.cx.data_layout(), tagged, niche)),
-            Err(error) => Err(error),
+        let values = counting_of(alloc, repr, variants, discriminants)?;
+        let asked = asked_for(self.cx.data_layout(), repr, &values, discr_range_of_repr);
+        match self.layout_of_niche(alloc, variants, repr) {
+            Ok(Some(niche)) => self.layout_beside(alloc, repr, variants, asked, &values, niche),
+            Ok(None) => self.layout_of_tagged(alloc, variants, repr, asked.0, asked.1, &values),
+            Err(want) => Err(want),
         }
     }
 

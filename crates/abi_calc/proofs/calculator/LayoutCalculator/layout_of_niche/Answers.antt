@@ -1,9 +1,21 @@
 -- The lists are those of the variants, and lists that are good can be moved; where no field has a niche, no list has one.
-use Rattle.std.proofs.Common.{inr, sym, ◌∙◌}
+use Rattle.std.proofs.Common.{◌≡◌, Bool, false, inl, inr, refl, sym, true, ◌∙◌}
+use Rattle.std.specs.Prelude.{◌⊎◌, IfSome, MatchBool, None, Option, Some}
 use Rattle.abi_calc.proofs.EnumLemmas.Growth.{lists_count}
 use Rattle.abi_calc.proofs.EnumLemmas.InNiche.{small_lists}
 use Rattle.abi_calc.proofs.EnumLemmas.NoNiche.{no_layout}
 use Rattle.abi_calc.proofs.calculator.LayoutCalculator.layout_of_niche.Goals as goal
+
+-- what holds anyway holds of what is found
+holds : {A : Type 0} (P : Type 0) (o : Option A) → P → IfSome o (λ l. P)
+holds P None h = tt
+holds P (Some l) h = h
+
+-- a refusal that isn't want of memory is the other one
+other : {A B : Type 0} (b : Bool) → A ⊎ B → MatchBool b B (B → ⊥) → b ≡ false → A
+other true h told is = cc
+other false (inl a) told is = a
+other false (inr b) told is = absurd (told b)
 
 pub niche_of_lists-requires-clause-lawful : goal.niche_of_lists-requires-clause-lawful
 niche_of_lists-requires-clause-lawful g c = rw c.data_layout-dl.ensures c.in-Ok.ensures.lawful
@@ -35,3 +47,14 @@ returns-in-Ok-niche_of_lists-clause-exact g c =
 pub returns-in-Ok-niche_of_lists-clause-good : goal.returns-in-Ok-niche_of_lists-clause-good
 returns-in-Ok-niche_of_lists-clause-good g c =
     inr (inr (sym c.is_free.ensures ∙ c.if-not-is_free.false, c.in-Ok.lists, c.in-Ok.ensures.good, rw (← c.data_layout-dl.ensures) c.in-Ok-niche_of_lists.ensures))
+
+pub returns-in-Ok-niche_of_lists-clause-within : goal.returns-in-Ok-niche_of_lists-clause-within
+returns-in-Ok-niche_of_lists-clause-within g c = holds _ c.in-Ok-niche_of_lists.found c.in-Ok.ensures.within
+
+pub returns-else-wants_memory-clause-exact : goal.returns-else-wants_memory-clause-exact
+returns-else-wants_memory-clause-exact g c =
+    inr (inl (sym c.is_free.ensures ∙ c.if-not-is_free.false, c.in-Err.error, other c.wants_memory.result c.in-Err.ensures.fault c.wants_memory.ensures c.if-wants_memory.false, refl))
+
+pub returns-else-wants_memory-clause-good : goal.returns-else-wants_memory-clause-good
+returns-else-wants_memory-clause-good g c =
+    inr (inl (sym c.is_free.ensures ∙ c.if-not-is_free.false, c.in-Err.error, other c.wants_memory.result c.in-Err.ensures.fault c.wants_memory.ensures c.if-wants_memory.false, refl))

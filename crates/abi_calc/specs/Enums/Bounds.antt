@@ -1,0 +1,34 @@
+-- Sums of sizes that tell that no layout with a tag is as good as one with a niche, before there is one.
+use Rattle.std.specs.Prelude.{ℕ, ◌+◌, ◌-◌, ◌^◌, ◌&&◌, ◌||◌, Bool, List, fold, max, min, nat_le, nat_lt, sum_by}
+use Rattle.std.specs.Int.{next_multiple_of}
+use Rattle.abi_base.specs.declared.data_layout.TargetDataLayout.{TargetDataLayout}
+use Rattle.abi_base.specs.declared.integer.Integer.{Integer}
+use Rattle.abi_base.specs.DataLayout.{size_bound}
+use Rattle.abi_base.specs.Integer.{integer_align, integer_size}
+use Rattle.abi_scalar.specs.declared.layout_data.LayoutData.{LayoutData}
+use Rattle.abi_scalar.specs.Range.{numbers_of}
+use Rattle.abi_lists.specs.Part.{free_numbers}
+
+-- how many bytes a whole of this size has beside these fields, none where these are larger
+abbrev pub left_beside : {F V : Type 0} → (whole : ℕ) → List (LayoutData F V) → ℕ
+left_beside whole fields = whole - sum_by (λ f. f.size) fields
+
+-- the fewest bytes that it has beside the fields of some variant
+abbrev pub least_left : {F V : Type 0} → (whole : ℕ) → List (List (LayoutData F V)) → ℕ
+least_left whole variants = fold (λ least fields. min least (left_beside whole fields)) whole variants
+
+-- the tag and the whole behind it, each rounded up to the greater alignment of both, stay below the bound
+abbrev pub fits_behind : {F V : Type 0} → TargetDataLayout → (asked : Integer) → LayoutData F V → Bool
+fits_behind dl asked layout =
+    let align = max layout.align.abi (integer_align dl asked) in
+    nat_lt (next_multiple_of (integer_size asked) (2 ^ align) + next_multiple_of layout.size (2 ^ align)) (size_bound dl)
+
+-- so many bytes have no room for the tag, or have no more numbers than the layout's niche leaves free
+abbrev pub outdoes : {F V : Type 0} → TargetDataLayout → (asked : Integer) → LayoutData F V → (left : ℕ) → Bool
+outdoes dl asked layout left =
+    nat_lt left (integer_size asked) || nat_le (numbers_of left) (free_numbers dl layout.largest_niche)
+
+-- both, for the fewest bytes that the layout's size has beside the fields of some variant: then there is a layout with a tag of this
+-- integer, and the layout with a niche is the better one
+abbrev pub wins : {F V : Type 0} → TargetDataLayout → (asked : Integer) → LayoutData F V → (variants : List (List (LayoutData F V))) → Bool
+wins dl asked layout variants = fits_behind dl asked layout && outdoes dl asked layout (least_left layout.size variants)
