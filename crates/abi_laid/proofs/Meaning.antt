@@ -1,5 +1,6 @@
 -- Nodes, what they mean, and handles of them.
 
+pub mod EntriesLemmas
 pub mod NodesLemmas
 pub mod WidthLemmas
 pub mod TypedLemmas

@@ -21,6 +21,7 @@ pub mod Untagged
 pub mod Room
 pub mod Fits
 -- nodes, what they mean, and the laws that they keep
+pub mod Entries
 pub mod Nodes
 pub mod Typed
 pub mod Laws

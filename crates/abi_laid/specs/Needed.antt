@@ -1,6 +1,5 @@
 -- The nodes that a node's data places rest on, and the runs that are made of those of the nodes that it names.
 use Rattle.std.specs.Prelude.{◌≡◌, ◌↔◌, ℕ, ◌+◌, ◌-◌, ◌==◌, ◌<◌, ◌≤◌, ◌||◌, Bool, true, false, List, [], ◌∷◌, ◌++◌, None, Option, Some, get_or, length, map, take}
-use Rattle.std.specs.Borrow.{Bor}
 use Rattle.std.specs.List.{list_any}
 use Rattle.abi_index.specs.RangeSet.{AreMaximalRuns, is_in_ranges}
 use Rattle.abi_index.specs.Runs.{moved_to}
@@ -8,11 +7,12 @@ use Rattle.abi_scalar.specs.Shape.{listed_offsets}
 use Rattle.abi_laid.specs.declared.node.Shape.{Shape}
 use Rattle.abi_laid.specs.declared.node.Shape.TheVariants.{Scalar, Pair, Never, Elements, Fields, Union, Vector, Single, Tagged, States}
 use Rattle.abi_laid.specs.declared.node.Node.{Node}
+use Rattle.abi_laid.specs.declared.node.NodeRef.{NodeRef}
 use Rattle.abi_laid.specs.Bytes.{count_picked}
 use Rattle.abi_laid.specs.Placed.{Placed, size_of}
 use Rattle.abi_scalar.specs.Layout.{Layout}
 use Rattle.abi_laid.specs.Places.{is_data_place, is_place_of_part}
-use Rattle.abi_laid.specs.Nodes.{meaning, own_fields, placed_at, placed_in}
+use Rattle.abi_laid.specs.Nodes.{lent_node, meaning, own_fields, placed_at, placed_in}
 use Rattle.abi_laid.specs.Typed.{variant_nodes}
 use Rattle.abi_laid.specs.Laws.{keep_laws}
 use Rattle.abi_laid.specs.Room.{has_room}
@@ -44,8 +44,8 @@ abbrev pub MarksPlaces : (old new : List Bool) → (places : List ℕ) → Type 
 MarksPlaces old new places = (length new ≡ length old) × ((i : ℕ) → get_or new i false ≡ (get_or old i false || is_among places i))
 
 -- the node at this place is kept
-abbrev pub IsKept : List (Option (Bor Node)) → (place : ℕ) → Type 0
-IsKept kept i = (n : Bor Node) × (get_or kept i None ≡ Some n)
+abbrev pub IsKept : List (Option NodeRef) → (place : ℕ) → Type 0
+IsKept kept i = (n : NodeRef) × (get_or kept i None ≡ Some n)
 
 -- the data places of the node at the first place are made of those of the node at the second: it has bytes, and names it
 abbrev pub AreMadeFrom : List Node → (place other : ℕ) → Type 0
@@ -68,14 +68,14 @@ pub record AreVisits (ns : List Node) (root count : ℕ) : Type 0 where
   pub many : count ≡ count_picked nodes 0 (length ns)
 
 -- Nodes are kept at their own places: the last one, and with each that has bytes all whose data places are its own. Each has room.
-pub record AreNeeded (ns : List Node) (kept : List (Option (Bor Node))) : Type 0 where
+pub record AreNeeded (ns : List Node) (kept : List (Option NodeRef)) : Type 0 where
   pub well : are_nodes 0 ns ≡ true
   pub laws : keep_laws [] ns ≡ true
   pub some : 0 < length kept
   pub long : length kept ≤ length ns
   pub last : IsKept kept (length kept - 1)
-  pub own : (i : ℕ) (n : Bor Node) → get_or kept i None ≡ Some n → (n.now ≡ get_or ns i n.now) × (has_room (placed_at ns i) ≡ true)
-  pub named : (i : ℕ) (n : Bor Node) → get_or kept i None ≡ Some n → 0 < n.now.layout.size → (j : ℕ) → is_among (named_by n.now.layout n.now.shape) j ≡ true → IsKept kept j
+  pub own : (i : ℕ) (n : NodeRef) → get_or kept i None ≡ Some n → (lent_node n ≡ get_or ns i (lent_node n)) × (has_room (placed_at ns i) ≡ true)
+  pub named : (i : ℕ) (n : NodeRef) → get_or kept i None ≡ Some n → 0 < n.layout.now.size → (j : ℕ) → is_among (named_by n.layout.now n.shape.now) j ≡ true → IsKept kept j
 
 -- a set was made for this place
 abbrev pub IsSet : (done : List (List (ℕ × ℕ))) → (place : ℕ) → Type 0
@@ -86,17 +86,17 @@ abbrev pub IsMade : Placed → (done : List (List (ℕ × ℕ))) → (place : �
 IsMade placed done i = IsSet done i × ((k : ℕ) → is_in_ranges (get_or done i []) k ≡ is_data_place placed k)
 
 -- The kept nodes before a place have their sets.
-pub record AreMade (ns : List Node) (kept : List (Option (Bor Node))) (at : ℕ) (done : List (List (ℕ × ℕ))) : Type 0 where
+pub record AreMade (ns : List Node) (kept : List (Option NodeRef)) (at : ℕ) (done : List (List (ℕ × ℕ))) : Type 0 where
   pub long : length done ≡ at
   pub made : (j : ℕ) → j < at → IsKept kept j → IsMade (placed_at ns j) done j
 
 -- The data places of each kept node are at hand.
-pub record HaveSets (ns : List Node) (kept : List (Option (Bor Node))) (sets : List (List (ℕ × ℕ))) : Type 0 where
+pub record HaveSets (ns : List Node) (kept : List (Option NodeRef)) (sets : List (List (ℕ × ℕ))) : Type 0 where
   pub needed : AreNeeded ns kept
   pub made : AreMade ns kept (length kept) sets
 
 -- this node, put at a place, is a part of another that stands later: it is kept, and ends inside so many bytes
-abbrev pub IsPartAt : List Node → List (Option (Bor Node)) → (node whole place child : ℕ) → Type 0
+abbrev pub IsPartAt : List Node → List (Option NodeRef) → (node whole place child : ℕ) → Type 0
 IsPartAt ns kept node whole place child = (child < node) × IsKept kept child × (place + size_of (placed_at ns child) ≤ whole)
 
 -- A node has room after these types. If it has bytes, the sets of all nodes whose data places are its own are made, and its variants

@@ -12,6 +12,11 @@ use Rattle.abi_laid.specs.declared.mark.Mark.TheVariants.{Plain}
 use Rattle.abi_laid.specs.declared.node.Shape.{Shape}
 use Rattle.abi_laid.specs.declared.node.Shape.TheVariants.{Scalar, Pair, Never, Elements, Fields, Union, Vector, Single, Tagged, States}
 use Rattle.abi_laid.specs.declared.node.Node.{Node}
+use Rattle.abi_laid.specs.declared.node.NodeRef.{NodeRef}
+
+-- the node that is lent
+abbrev pub lent_node : NodeRef → Node
+lent_node lent = record { layout = lent.layout.now; shape = lent.shape.now }
 
 -- the type that stands at this place
 abbrev pub placed_in : List Placed → ℕ → Placed

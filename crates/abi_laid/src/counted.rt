@@ -1,8 +1,9 @@
 //! Nodes whose readings are counted.
 
 ghost use Rattle.std.specs.Prelude.{◌≡◌, ◌+◌, ◌-◌, ◌^◌, ◌<◌, get_or, length};
+ghost use Rattle.abi_laid.specs.Nodes.{lent_node};
 
-use crate::node::Node;
+use crate::node::NodeRef;
 use crate::nodes::Nodes;
 
 /// Nodes, and how many of them were read. What is lent these, and not the nodes, reads no node that isn't counted.
@@ -36,10 +37,10 @@ impl<'a> Counted<'a> {
     }
 
     /// The node at a place, which is counted.
-    pub(crate) fn read(&mut self, at: usize) -> &'a Node
+    pub(crate) fn read(&mut self, at: usize) -> NodeRef<'a>
         requires there { at < length self.old.nodes.now }
         requires few { self.old.visits < 2 ^ 64 - 1 }
-        ensures node { result.now ≡ get_or self.old.nodes.now at result.now }
+        ensures node { lent_node result ≡ get_or self.old.nodes.now at (lent_node result) }
         ensures same { self.new.nodes ≡ self.old.nodes }
         ensures visits { self.new.visits ≡ self.old.visits + 1 }
     {

@@ -1,7 +1,7 @@
 //! Types that were laid out.
 
 ghost use Rattle.std.specs.Prelude.{◌≡◌, ℕ, ◌-◌, ◌<◌, ◌≤◌, [], IfOk, get_or, length, true};
-ghost use Rattle.abi_laid.specs.Nodes.{root_of};
+ghost use Rattle.abi_laid.specs.Nodes.{lent_node, root_of};
 ghost use Rattle.abi_laid.specs.Well.{AreWell, are_nodes};
 ghost use Rattle.abi_laid.specs.Laws.{keep_laws};
 ghost use Rattle.abi_laid.specs.Widths.{have_widths};
@@ -9,7 +9,7 @@ ghost use Rattle.abi_laid.specs.Room.{has_room};
 
 use crate::counted::Counted;
 use crate::handle::{TreeTy, handle_at};
-use crate::node::Node;
+use crate::node::NodeRef;
 use crate::nodes::Nodes;
 use crate::runs_of::padding;
 use crate::value::decide::decider;
@@ -60,19 +60,16 @@ impl Laid {
     ghost use Rattle.abi_index.specs.RangeSet.{is_in_ranges};
 
     /// The type of the last node, as it was laid out. For `lay_out` alone, which makes the nodes.
-    pub fn new(nodes: Vec<Node>, endian: Endian) -> Laid
-        requires some { 0 < length nodes.items }
-        requires well { AreWell nodes.items }
-        requires room { has_room (root_of nodes.items) ≡ true }
-        ensures placed { placed_of result ≡ root_of nodes.items }
+    pub fn new(nodes: Nodes, endian: Endian) -> Laid
+        requires some { 0 < length nodes }
+        requires well { AreWell nodes }
+        requires room { has_room (root_of nodes) ≡ true }
+        ensures placed { placed_of result ≡ root_of nodes }
         ensures endian { endian_of result ≡ endian }
-        ensures count { node_count_of result ≡ length nodes.items }
-        ensures flags { all_inhabited_of result ≡ are_inhabited nodes.items }
+        ensures count { node_count_of result ≡ length nodes }
+        ensures flags { all_inhabited_of result ≡ are_inhabited nodes }
     {
-        Laid {
-            nodes: Nodes::new(nodes),
-            endian,
-        }
+        Laid { nodes, endian }
     }
 
     /// Its nodes, of which the last is the type's.
@@ -87,9 +84,9 @@ impl Laid {
     }
 
     /// The node at a place.
-    pub(crate) fn node_at(&self, at: usize) -> &Node
+    pub(crate) fn node_at(&self, at: usize) -> NodeRef<'_>
         requires { at < length self.now.nodes }
-        ensures { result.now ≡ get_or self.now.nodes at result.now }
+        ensures { lent_node result ≡ get_or self.now.nodes at (lent_node result) }
     {
         let mut visits = 0;
         self.nodes.read(at, &mut visits)
@@ -100,7 +97,7 @@ impl Laid {
         requires { at < length self.now.nodes }
         ensures { result.now ≡ layout_of (placed_at self.now.nodes at) }
     {
-        &self.node_at(at).layout
+        self.nodes.layout(at)
     }
 
     /// The layout of the whole type, as the calculator answered it.

@@ -6,6 +6,7 @@ mod laid;
 mod mark;
 mod node;
 mod nodes;
+mod same_layout;
 mod tree;
 
 // Their places, and their handles.
@@ -20,7 +21,8 @@ mod value;
 pub use handle::TreeTy;
 pub use laid::Laid;
 pub use mark::Mark;
-pub use node::{Node, Shape, layout_at};
+pub use node::{Node, Shape};
+pub use nodes::Nodes;
 pub use tree::TypeTree;
 pub use value::Value;
 pub use value::error::ValueError;

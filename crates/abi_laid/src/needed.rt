@@ -8,7 +8,7 @@ ghost use Rattle.abi_laid.specs.Room.{has_room};
 ghost use Rattle.abi_laid.specs.Well.{are_nodes};
 
 use crate::counted::Counted;
-use crate::node::{Node, Shape, offsets};
+use crate::node::{NodeRef, Shape, offsets};
 use abi_index::{FieldIdx, VariantIdx};
 use abi_scalar::LayoutData;
 use std::alloc::{AllocError, Global};
@@ -45,12 +45,13 @@ fn mark_variants(needed: &mut [bool], variants: &[(u128, usize)])
 }
 
 /// Marks the places of the nodes whose data places are a node's own.
-fn mark_named(needed: &mut [bool], node: &Node)
-    requires { All (λ i. i < length needed.old) (named_by node.now.layout node.now.shape) }
-    ensures { MarksPlaces needed.old needed.new (named_by node.now.layout node.now.shape) }
+fn mark_named(needed: &mut [bool], node: NodeRef<'_>)
+    requires { All (λ i. i < length needed.old) (named_by node.layout.now node.shape.now) }
+    ensures { MarksPlaces needed.old needed.new
+        (named_by node.entry.layout.now node.entry.shape.now) }
 {
-    let layout = &node.layout;
-    match &node.shape {
+    let layout = node.layout;
+    match node.shape {
         Shape::Scalar(_) => {}
         Shape::Never(_) => {}
         Shape::Pair { first, second } => mark(needed, placed(layout, &[*first, *second])),
@@ -80,7 +81,7 @@ fn mark_named(needed: &mut [bool], node: &Node)
 }
 
 /// `count` places, at none of which a node is kept.
-fn unread<'a>(alloc: Global, count: usize) -> Result<Vec<Option<&'a Node>>, AllocError>
+fn unread<'a>(alloc: Global, count: usize) -> Result<Vec<Option<NodeRef<'a>>>, AllocError>
     ensures { IfOk result (λ kept. kept.items ≡ replicate count None) }
 {
     let mut kept = Vec::new(alloc);
@@ -98,7 +99,7 @@ pub(crate) fn needed_nodes<'a>(
     alloc: Global,
     mut nodes: Counted<'a>,
     root: usize,
-) -> Result<(Vec<Option<&'a Node>>, usize), AllocError>
+) -> Result<(Vec<Option<NodeRef<'a>>>, usize), AllocError>
     requires none { nodes.visits ≡ 0 }
     requires there { root < length nodes.nodes.now }
     requires well { are_nodes 0 nodes.nodes.now ≡ true }

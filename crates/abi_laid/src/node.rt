@@ -1,8 +1,7 @@
 //! Types that were laid out, as nodes that name earlier ones by number.
 
-ghost use Rattle.std.specs.Prelude.{◌≡◌, ◌<◌, length};
-ghost use Rattle.abi_laid.specs.Placed.{layout_of};
-ghost use Rattle.abi_laid.specs.Nodes.{placed_at, state_tag_offset, tag_offset};
+ghost use Rattle.std.specs.Prelude.{◌≡◌};
+ghost use Rattle.abi_laid.specs.Nodes.{state_tag_offset, tag_offset};
 ghost use Rattle.abi_scalar.specs.Shape.{listed_offsets};
 
 use crate::mark::Mark;
@@ -61,7 +60,7 @@ pub enum Shape {
     },
 }
 
-/// A type that was laid out, as one of the nodes of a `Laid`.
+/// A type that was laid out, as one of the nodes of a `Laid`: what clauses see of it.
 #[derive(Drop, PartialEq, Eq)]
 pub struct Node {
     /// How it is laid out: its size, its alignment, its fields' offsets, its variants.
@@ -70,12 +69,11 @@ pub struct Node {
     pub shape: Shape,
 }
 
-/// The layout of the node at a place.
-pub fn layout_at(nodes: &[Node], node: usize) -> &LayoutData<FieldIdx, VariantIdx>
-    requires { node < length nodes.now }
-    ensures { result.now ≡ layout_of (placed_at nodes.now node) }
-{
-    &nodes[node].layout
+/// A node that is lent.
+#[derive(Clone, Copy)]
+pub(crate) struct NodeRef<'a> {
+    pub(crate) layout: &'a LayoutData<FieldIdx, VariantIdx>,
+    pub(crate) shape: &'a Shape,
 }
 
 /// The offsets of fields that are listed one by one.

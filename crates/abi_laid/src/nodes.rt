@@ -1,14 +1,34 @@
-//! The nodes of a type that was laid out.
+//! The nodes of a type that was laid out: equal layouts of nodes that were put near one another are kept once.
 
-ghost use Rattle.std.specs.Prelude.{◌≡◌, ◌+◌, ◌-◌, ◌<◌, ◌^◌, get_or, length};
+ghost use Rattle.std.specs.Prelude.{◌≡◌, ◌+◌, ◌-◌, ◌<◌, ◌^◌, ◌∷◌, ◌++◌, [], IfOk, IfSome, OnErr, OnOk, get_or, length};
+ghost use Rattle.abi_types.specs.Ty.Typed.{no_layout};
+ghost use Rattle.abi_laid.specs.Entries.{HasMore};
+ghost use Rattle.abi_laid.specs.Nodes.{lent_node, placed_at};
+ghost use Rattle.abi_laid.specs.Placed.{layout_of};
 
-use crate::node::Node;
+use crate::node::{Node, NodeRef, Shape};
+use crate::same_layout::is_same_layout;
+use abi_index::{FieldIdx, VariantIdx};
+use abi_scalar::LayoutData;
+use std::alloc::{AllocError, Global};
 use std::marker::Model;
 
-/// Nodes, each read by a call that counts.
+/// How many layouts, the newest ones, a further one is compared with.
+const RECENT: usize = 8;
+
+/// A node as it is kept: its layout by its place among those that are kept, and what it consists of.
 #[derive(Drop)]
-pub(crate) struct Nodes {
-    all: Vec<Node>,
+pub(crate) struct Entry {
+    layout: usize,
+    shape: Shape,
+}
+
+/// The nodes of a type that is laid out, in their order. A node that is put behind them, with the layout of one of
+/// those before it, keeps that layout, and no copy of it.
+#[derive(Drop)]
+pub struct Nodes {
+    layouts: Vec<LayoutData<FieldIdx, VariantIdx>>,
+    entries: Vec<Entry>,
 }
 
 impl Model for Nodes {
@@ -17,7 +37,18 @@ impl Model for Nodes {
 
     ghost Value = { List OneNode };
 
-    ghost view = { λ a. a.all.items };
+    ghost use Rattle.abi_laid.specs.Entries.{AreEntries, nodes_of};
+
+    ghost view = { λ a. nodes_of a.layouts.items a.entries.items };
+
+    ghost invariant = { λ a. AreEntries a.layouts.items a.entries.items };
+}
+
+/// Whether two nodes are equal.
+fn is_equal(a: NodeRef<'_>, b: NodeRef<'_>) -> bool
+    ensures { result ≡ ⟦<Node as PartialEq>⟧.eq (lent_node a.entry) (lent_node b.entry) }
+{
+    *a.layout == *b.layout && *a.shape == *b.shape
 }
 
 impl PartialEq for Nodes {
@@ -29,7 +60,15 @@ impl PartialEq for Nodes {
     ghost laws = { lists_per NodeLaws.laws-law };
 
     fn eq(&self, other: &Self) -> bool {
-        self.all == other.all
+        if self.len() != other.len() {
+            return false;
+        }
+        for at in 0..self.len() {
+            if !is_equal(self.node(at), other.node(at)) {
+                return false;
+            }
+        }
+        true
     }
 }
 
@@ -40,29 +79,104 @@ impl Eq for Nodes {
     ghost laws = { lists_equiv NodeLaws.laws-law };
 }
 
+/// The place of an equal layout among the newest of these, if there is one.
+fn recent_place(
+    layouts: &[LayoutData<FieldIdx, VariantIdx>],
+    layout: &LayoutData<FieldIdx, VariantIdx>,
+) -> Option<usize>
+    ensures there { IfSome result (λ at. at < length layouts.now) }
+    ensures same { IfSome result (λ at. get_or layouts.now at no_layout ≡ layout.now) }
+{
+    let count = layouts.len();
+    for at in (count.saturating_sub(RECENT)..count).rev() {
+        if is_same_layout(&layouts[at], layout) {
+            return Some(at);
+        }
+    }
+    None
+}
+
+/// The place of the layout among these, behind which it is put, unless one of the newest is equal.
+fn place_of(
+    layouts: &mut Vec<LayoutData<FieldIdx, VariantIdx>>,
+    layout: LayoutData<FieldIdx, VariantIdx>,
+) -> Result<usize, AllocError>
+    ensures there { IfOk result (λ at. at < length layouts.new.items) }
+    ensures same { IfOk result (λ at. get_or layouts.new.items at no_layout ≡ layout) }
+    ensures more { HasMore layouts.old.items layouts.new.items }
+{
+    if let Some(at) = recent_place(layouts, &layout) {
+        return Ok(at);
+    }
+    let at = layouts.len();
+    layouts.push(layout)?;
+    Ok(at)
+}
+
 impl Nodes {
-    /// These nodes, in their order.
-    pub(crate) fn new(all: Vec<Node>) -> Nodes
-        ensures { result ≡ all.items }
+    /// No nodes yet, for which no memory is asked.
+    pub fn new(alloc: Global) -> Nodes
+        ensures { result ≡ [] }
     {
-        Nodes { all }
+        Nodes {
+            layouts: Vec::new(alloc),
+            entries: Vec::new(alloc),
+        }
     }
 
     /// How many there are.
-    pub(crate) fn len(&self) -> usize
+    pub fn len(&self) -> usize
         ensures { result ≡ length self.now }
     {
-        self.all.len()
+        self.entries.len()
+    }
+
+    /// Puts a node behind the others. `AllocError` where memory is refused: then they are as they were.
+    pub fn push(
+        &mut self,
+        layout: LayoutData<FieldIdx, VariantIdx>,
+        shape: Shape,
+    ) -> Result<(), AllocError>
+        ensures ok { OnOk result
+            (self.new ≡ self.old ++ record { layout = layout; shape = shape } ∷ []) }
+        ensures err { OnErr result (self.new ≡ self.old) }
+    {
+        let place = place_of(&mut self.layouts, layout)?;
+        self.entries.push(Entry {
+            layout: place,
+            shape,
+        })?;
+        Ok(())
+    }
+
+    /// The node at a place.
+    fn node(&self, at: usize) -> NodeRef<'_>
+        requires { at < length self.now }
+        ensures { lent_node result ≡ get_or self.now at (lent_node result) }
+    {
+        let entry = &self.entries[at];
+        NodeRef {
+            layout: &self.layouts[entry.layout],
+            shape: &entry.shape,
+        }
+    }
+
+    /// The layout of the node at a place.
+    pub fn layout(&self, at: usize) -> &LayoutData<FieldIdx, VariantIdx>
+        requires { at < length self.now }
+        ensures { result.now ≡ layout_of (placed_at self.now at) }
+    {
+        self.node(at).layout
     }
 
     /// The node at a place. The counter says how many were read, this one with them.
-    pub(crate) fn read(&self, at: usize, visits: &mut usize) -> &Node
+    pub(crate) fn read(&self, at: usize, visits: &mut usize) -> NodeRef<'_>
         requires there { at < length self.now }
         requires few { visits.old < 2 ^ 64 - 1 }
-        ensures node { result.now ≡ get_or self.now at result.now }
+        ensures node { lent_node result ≡ get_or self.now at (lent_node result) }
         ensures visits { visits.new ≡ visits.old + 1 }
     {
         *visits += 1;
-        &self.all[at]
+        self.node(at)
     }
 }

@@ -6,7 +6,7 @@ ghost use Rattle.abi_index.specs.Runs.{Adds, moved_to, repeated};
 ghost use Rattle.abi_laid.specs.declared.node.Node.{Node as OneNode};
 ghost use Rattle.abi_laid.specs.Laws.{keep_laws};
 ghost use Rattle.abi_laid.specs.Needed.{AreMade, AreNeeded, AreVisits, IsMadeOf, IsSet, parts_cover, sets_at, some_covers};
-ghost use Rattle.abi_laid.specs.Nodes.{meaning, placed_at};
+ghost use Rattle.abi_laid.specs.Nodes.{lent_node, meaning, placed_at};
 ghost use Rattle.abi_laid.specs.Placed.{Placed};
 ghost use Rattle.abi_laid.specs.Places.{is_data_place};
 ghost use Rattle.abi_laid.specs.Room.{has_room};
@@ -15,7 +15,7 @@ ghost use Rattle.abi_laid.specs.Well.{are_nodes};
 
 use crate::counted::Counted;
 use crate::needed::{needed_nodes, placed};
-use crate::node::{Node, Shape, offsets, state_tag_offset, tag_offset};
+use crate::node::{NodeRef, Shape, offsets, state_tag_offset, tag_offset};
 use abi_base::Size;
 use abi_index::{RangeSet, RangeSetBuilder};
 use std::alloc::{AllocError, Global};
@@ -115,15 +115,19 @@ fn put_elements(
 }
 
 /// Puts in the runs of a node's data places, of which it has some.
-fn put_places(runs: &mut RangeSetBuilder, node: &Node, done: &[RangeSet]) -> Result<(), AllocError>
-    requires some { 0 < node.now.layout.size }
-    requires made { (types : List Placed) × IsMadeOf types node.now done.now }
-    ensures { OnOk result ((types : List Placed) → IsMadeOf types node.now done.now →
-        Adds runs.old runs.new (is_data_place (meaning types node.now.layout node.now.shape))) }
+fn put_places(
+    runs: &mut RangeSetBuilder,
+    node: NodeRef<'_>,
+    done: &[RangeSet],
+) -> Result<(), AllocError>
+    requires some { 0 < node.layout.now.size }
+    requires made { (types : List Placed) × IsMadeOf types (lent_node node) done.now }
+    ensures { OnOk result ((types : List Placed) → IsMadeOf types (lent_node node.entry) done.now →
+        Adds runs.old runs.new (is_data_place (meaning types node.entry.layout.now node.entry.shape.now))) }
 {
-    let layout = &node.layout;
+    let layout = node.layout;
     let size = layout.size.bytes();
-    match &node.shape {
+    match node.shape {
         Shape::Scalar(_) => runs.add_range(0, size),
         Shape::Never(_) => runs.add_range(0, size),
         Shape::Pair { first, second } => put_parts(
@@ -161,11 +165,11 @@ fn put_places(runs: &mut RangeSetBuilder, node: &Node, done: &[RangeSet]) -> Res
 }
 
 /// The runs of a node's data places, made from those of the nodes before it whose data places are its own.
-fn runs_of(alloc: Global, node: &Node, done: &[RangeSet]) -> Result<RangeSet, AllocError>
-    requires { (types : List Placed) × IsMadeOf types node.now done.now }
+fn runs_of(alloc: Global, node: NodeRef<'_>, done: &[RangeSet]) -> Result<RangeSet, AllocError>
+    requires { (types : List Placed) × IsMadeOf types (lent_node node) done.now }
     ensures { IfOk result (λ set. (types : List Placed) →
-        IsMadeOf types node.now done.now → (k : ℕ) →
-        is_in_ranges set k ≡ is_data_place (meaning types node.now.layout node.now.shape) k) }
+        IsMadeOf types (lent_node node.entry) done.now → (k : ℕ) →
+        is_in_ranges set k ≡ is_data_place (meaning types node.entry.layout.now node.entry.shape.now) k) }
 {
     if node.layout.size == Size::ZERO {
         return Ok(RangeSet::new(alloc));
@@ -176,11 +180,15 @@ fn runs_of(alloc: Global, node: &Node, done: &[RangeSet]) -> Result<RangeSet, Al
 }
 
 /// The runs of a node's data places, where it is kept.
-fn next_set(alloc: Global, kept: Option<&Node>, done: &[RangeSet]) -> Result<RangeSet, AllocError>
-    requires { IfSome kept (λ node. (types : List Placed) × IsMadeOf types node.now done.now) }
+fn next_set(
+    alloc: Global,
+    kept: Option<NodeRef<'_>>,
+    done: &[RangeSet],
+) -> Result<RangeSet, AllocError>
+    requires { IfSome kept (λ node. (types : List Placed) × IsMadeOf types (lent_node node) done.now) }
     ensures { IfOk result (λ set. IfSome kept.entry (λ node. (types : List Placed) →
-        IsMadeOf types node.now done.now → (k : ℕ) →
-        is_in_ranges set k ≡ is_data_place (meaning types node.now.layout node.now.shape) k)) }
+        IsMadeOf types (lent_node node) done.now → (k : ℕ) →
+        is_in_ranges set k ≡ is_data_place (meaning types node.layout.now node.shape.now) k)) }
 {
     match kept {
         Some(node) => runs_of(alloc, node, done),
@@ -189,7 +197,10 @@ fn next_set(alloc: Global, kept: Option<&Node>, done: &[RangeSet]) -> Result<Ran
 }
 
 /// The data places of each node that is kept, at its place.
-pub(crate) fn sets_of(alloc: Global, kept: &[Option<&Node>]) -> Result<Vec<RangeSet>, AllocError>
+pub(crate) fn sets_of(
+    alloc: Global,
+    kept: &[Option<NodeRef<'_>>],
+) -> Result<Vec<RangeSet>, AllocError>
     requires { (ns : List OneNode) × AreNeeded ns kept.now }
     ensures { IfOk result (λ sets. (ns : List OneNode) → AreNeeded ns kept.now →
         AreMade ns kept.now (length kept.now) sets.items) }
@@ -205,7 +216,7 @@ pub(crate) fn sets_of(alloc: Global, kept: &[Option<&Node>]) -> Result<Vec<Range
 }
 
 /// The data places of the last node that is kept, from those of the first on.
-fn joined_runs(alloc: Global, kept: &[Option<&Node>]) -> Result<RangeSet, AllocError>
+fn joined_runs(alloc: Global, kept: &[Option<NodeRef<'_>>]) -> Result<RangeSet, AllocError>
     requires { (ns : List OneNode) × AreNeeded ns kept.now }
     ensures { IfOk result (λ set. (ns : List OneNode) → AreNeeded ns kept.now →
         (k : ℕ) → is_in_ranges set k ≡ is_data_place (placed_at ns (length kept.now - 1)) k) }
@@ -218,9 +229,9 @@ fn joined_runs(alloc: Global, kept: &[Option<&Node>]) -> Result<RangeSet, AllocE
 }
 
 /// The size of a node that is kept.
-fn kept_size(kept: &[Option<&Node>], node: usize) -> u64
+fn kept_size(kept: &[Option<NodeRef<'_>>], node: usize) -> u64
     requires { node < length kept.now }
-    ensures { IfSome (get_or kept.now node None) (λ root. result ≡ root.now.layout.size) }
+    ensures { IfSome (get_or kept.now node None) (λ root. result ≡ root.layout.now.size) }
 {
     match kept[node] {
         Some(root) => root.layout.size.bytes(),

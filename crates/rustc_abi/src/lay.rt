@@ -35,7 +35,7 @@ ghost use Rattle.rustc_abi.specs.Fault.{IsRefusedFor};
 use crate::error::LayError;
 use crate::lay_tree::lay_tree;
 use abi_base::TargetDataLayout;
-use abi_laid::{Laid, TypeTree};
+use abi_laid::{Laid, Nodes, TypeTree};
 use std::alloc::Global;
 
 /// Lays out a tree under a data layout: children before parents, left to right.
@@ -136,7 +136,7 @@ pub fn lay_out(alloc: Global, dl: &TargetDataLayout, tree: &TypeTree) -> Result<
     if !dl.is_lawful() {
         return Err(LayError::UnlawfulDataLayout);
     }
-    let mut nodes = Vec::new(alloc);
+    let mut nodes = Nodes::new(alloc);
     let _root = lay_tree(alloc, dl, &mut nodes, tree)?;
     Ok(Laid::new(nodes, dl.endian))
 }

@@ -1,6 +1,6 @@
 //! How arrays are laid out, once their element is.
 
-ghost use Rattle.std.specs.Prelude.{◌≡◌, ◌<◌, ℕ, Some, IfOk, IfErr, Ok, OnErr, length, vec_len};
+ghost use Rattle.std.specs.Prelude.{◌≡◌, ◌<◌, ℕ, Some, IfOk, IfErr, Ok, OnErr, length};
 ghost use Rattle.abi_base.specs.DataLayout.{IsLawfulDataLayout};
 ghost use Rattle.abi_scalar.specs.Lawful.{IsLawfulLayout};
 ghost use Rattle.abi_lists.specs.Array.{array_answer};
@@ -18,13 +18,13 @@ use crate::node::add;
 use abi_base::TargetDataLayout;
 use abi_calc::LayoutCalculator;
 use abi_index::{FieldIdx, VariantIdx};
-use abi_laid::{Node, Shape, layout_at};
+use abi_laid::{Nodes, Shape};
 use abi_scalar::{LayoutCalculatorError, LayoutData};
 
 /// The layout of `count` elements, each as the node `element`.
 pub(crate) fn elements_layout(
     dl: &TargetDataLayout,
-    nodes: &[Node],
+    nodes: &Nodes,
     count: u64,
     element: usize,
 ) -> Result<LayoutData<FieldIdx, VariantIdx>, LayError>
@@ -37,29 +37,29 @@ pub(crate) fn elements_layout(
 {
     let answer: Result<_, LayoutCalculatorError<u32>> = LayoutCalculator::new(
         dl,
-    ).layout_of_array_like(layout_at(nodes, element), Some(count));
+    ).layout_of_array_like(nodes.layout(element), Some(count));
     Ok(answer?)
 }
 
 /// A node for `count` elements, each as the node `element`.
 pub(crate) fn add_elements(
     dl: &TargetDataLayout,
-    nodes: &mut Vec<Node>,
+    nodes: &mut Nodes,
     count: u64,
     element: usize,
 ) -> Result<usize, LayError>
     requires data_layout { IsLawfulDataLayout dl.now }
-    requires there { element < vec_len nodes.old }
-    requires lawful { IsLawfulLayout dl.now (layout_of (placed_at nodes.old.items element)) }
+    requires there { element < length nodes.old }
+    requires lawful { IsLawfulLayout dl.now (layout_of (placed_at nodes.old element)) }
     ensures ok { IfOk result
-        (λ i. (t : Tree) → IsLaying dl.now t (Ok (placed_at nodes.old.items element)) →
-        Fits dl.now t (placed_at nodes.old.items element) →
-        IsAdded dl.now nodes.old.items nodes.new.items i (array count t)) }
-    ensures own { IfOk result (IsOwnPut nodes.old.items nodes.new.items) }
+        (λ i. (t : Tree) → IsLaying dl.now t (Ok (placed_at nodes.old element)) →
+        Fits dl.now t (placed_at nodes.old element) →
+        IsAdded dl.now nodes.old nodes.new i (array count t)) }
+    ensures own { IfOk result (IsOwnPut nodes.old nodes.new) }
     ensures err { IfErr result (IsRefusal (elements_answer dl.now count
-        (placed_at nodes.old.items element))) }
-    ensures kept { OnErr result (nodes.new.items ≡ nodes.old.items) }
-    ensures behind { AreStillThere nodes.old.items nodes.new.items }
+        (placed_at nodes.old element))) }
+    ensures kept { OnErr result (nodes.new ≡ nodes.old) }
+    ensures behind { AreStillThere nodes.old nodes.new }
 {
     let layout = elements_layout(dl, nodes, count, element)?;
     add(nodes, layout, Shape::Elements { count, element })

@@ -1,6 +1,6 @@
 //! How coroutines are laid out, once their prefix fields and their locals are.
 
-ghost use Rattle.std.specs.Prelude.{◌≡◌, ◌≢◌, ◌+◌, ◌++◌, ◌∷◌, [], true, ◌<◌, ◌≤◌, All, Err, IfErr, IfOk, None, Ok, false, get_or, length, map, vec_len};
+ghost use Rattle.std.specs.Prelude.{◌≡◌, ◌≢◌, ◌+◌, ◌++◌, ◌∷◌, [], true, ◌<◌, ◌≤◌, All, Err, IfErr, IfOk, None, Ok, false, get_or, length, map};
 ghost use Rattle.std.specs.List.{AllPairs};
 ghost use Rattle.abi_base.specs.DataLayout.{IsLawfulDataLayout};
 ghost use Rattle.abi_index.specs.Relation.{column_count, row_count};
@@ -29,7 +29,7 @@ use crate::node::{add, layouts_at};
 use abi_base::TargetDataLayout;
 use abi_calc::{LayoutCalculator, state_tag};
 use abi_index::{BitMatrix, FieldIdx, IndexSlice, IndexVec, VariantIdx};
-use abi_laid::{Mark, Node, Shape};
+use abi_laid::{Mark, Nodes, Shape};
 use abi_scalar::{LayoutData, Scalar};
 use std::alloc::{AllocError, Global};
 
@@ -85,24 +85,24 @@ fn picked_each(
 /// enum, and tells nothing of itself.
 fn add_each_state(
     alloc: Global,
-    nodes: &mut Vec<Node>,
+    nodes: &mut Nodes,
     layout: &LayoutData<FieldIdx, VariantIdx>,
     children: &[Vec<usize>],
 ) -> Result<Vec<(u128, usize)>, LayError>
     requires each { length (variants_of layout.now.variants) ≡ length children.now }
     requires few { length children.now ≤ most_fields }
     requires few_each { All (λ fields. length fields.items ≤ most_fields) children.now }
-    requires there { AreEachThere (vec_len nodes.old) children.now }
+    requires there { AreEachThere (length nodes.old) children.now }
     requires inside { VariantsInside layout.now.size (variants_of layout.now.variants)
-        (variants_in nodes.old.items children.now) }
-    ensures ok { IfOk result (λ states. AreArms nodes.old.items nodes.new.items
+        (variants_in nodes.old children.now) }
+    ensures ok { IfOk result (λ states. AreArms nodes.old nodes.new
         (map (λ l. l.size) (variants_of layout.now.variants)) states.items
         (arms_at layout.now Mark.Plain 0 (variants_of layout.now.variants)
-        (source_order (length children.now)) (variants_in nodes.old.items children.now))) }
+        (source_order (length children.now)) (variants_in nodes.old children.now))) }
     ensures count { IfOk result (λ states.
-        HasMore (length states.items) false nodes.old.items nodes.new.items) }
+        HasMore (length states.items) false nodes.old nodes.new) }
     ensures err { IfErr result (λ e. e ≡ LayError.OutOfMemory) }
-    ensures behind { AreStillThere nodes.old.items nodes.new.items }
+    ensures behind { AreStillThere nodes.old nodes.new }
 {
     let numbers = indices(alloc, children.len())?;
     add_variants(alloc, nodes, layout, Mark::Plain, &numbers, children)
@@ -113,7 +113,7 @@ fn add_each_state(
 fn add_states(
     alloc: Global,
     dl: &TargetDataLayout,
-    nodes: &mut Vec<Node>,
+    nodes: &mut Nodes,
     layout: LayoutData<FieldIdx, VariantIdx>,
     tag: Scalar,
     prefix: Vec<usize>,
@@ -123,20 +123,20 @@ fn add_states(
     requires each { length (variants_of layout.variants) ≡ length saved.states.now }
     requires few { length saved.states.now ≤ most_fields }
     requires few_each { All (λ ks. length ks.items ≤ most_fields) saved.states.now }
-    requires prefix { AreThere (vec_len nodes.old) prefix.items }
-    requires there { AreThere (vec_len nodes.old) saved.locals.now }
+    requires prefix { AreThere (length nodes.old) prefix.items }
+    requires there { AreThere (length nodes.old) saved.locals.now }
     requires known { All (λ ks. All (λ k. k < length saved.locals.now) ks.items) saved.states.now }
     requires places { have_places layout.size layout.fields
-        (map size_of (all_at nodes.old.items prefix.items) ++ size_of (one_scalar dl.now tag) ∷ [])
+        (map size_of (all_at nodes.old prefix.items) ++ size_of (one_scalar dl.now tag) ∷ [])
         ≡ true }
     requires inside { VariantsInside layout.size (variants_of layout.variants) (map (λ ks.
-        map (placed_in (all_at nodes.old.items saved.locals.now)) ks.items) saved.states.now) }
-    ensures ok { IfOk result (λ i. IsPut nodes.old.items nodes.new.items i (placed_coroutine dl.now
-        (all_at nodes.old.items prefix.items) tag (all_at nodes.old.items saved.entry.locals.now)
+        map (placed_in (all_at nodes.old saved.locals.now)) ks.items) saved.states.now) }
+    ensures ok { IfOk result (λ i. IsPut nodes.old nodes.new i (placed_coroutine dl.now
+        (all_at nodes.old prefix.items) tag (all_at nodes.old saved.entry.locals.now)
         (map (λ state. state.items) saved.entry.states.now) layout)) }
-    ensures own { IfOk result (IsOwnPut nodes.old.items nodes.new.items) }
+    ensures own { IfOk result (IsOwnPut nodes.old nodes.new) }
     ensures err { IfErr result (λ e. e ≡ LayError.OutOfMemory) }
-    ensures behind { AreStillThere nodes.old.items nodes.new.items }
+    ensures behind { AreStillThere nodes.old nodes.new }
 {
     let children = picked_each(alloc, saved.locals, saved.states)?;
     let tag = add(nodes, LayoutData::scalar(&dl, tag), Shape::Scalar(tag))?;
@@ -197,7 +197,7 @@ fn calculated(
 fn coroutine_layout(
     alloc: Global,
     dl: &TargetDataLayout,
-    nodes: &[Node],
+    nodes: &Nodes,
     prefix: &[usize],
     tag: Scalar,
     saved: Saved<'_>,
@@ -237,7 +237,7 @@ fn coroutine_layout(
 fn add_faultless_coroutine(
     alloc: Global,
     dl: &TargetDataLayout,
-    nodes: &mut Vec<Node>,
+    nodes: &mut Nodes,
     prefix: Vec<usize>,
     locals: &[usize],
     states: &[Vec<u64>],
@@ -246,18 +246,18 @@ fn add_faultless_coroutine(
     requires data_layout { IsLawfulDataLayout dl.now }
     requires faultless { coroutine_fault (length prefix.items) (length locals.now)
         (map (λ state. state.items) states.now) pairs.now ≡ None }
-    requires before { AreThere (vec_len nodes.old) prefix.items }
-    requires there { AreThere (vec_len nodes.old) locals.now }
-    requires prefix { HaveLawfulLayouts dl.now (all_at nodes.old.items prefix.items) }
-    requires locals { HaveLawfulLayouts dl.now (all_at nodes.old.items locals.now) }
-    ensures ok { IfOk result (IsCoroutineAdded dl.now nodes.old.items nodes.new.items
-        (all_at nodes.old.items prefix.items) (all_at nodes.old.items locals.now)
+    requires before { AreThere (length nodes.old) prefix.items }
+    requires there { AreThere (length nodes.old) locals.now }
+    requires prefix { HaveLawfulLayouts dl.now (all_at nodes.old prefix.items) }
+    requires locals { HaveLawfulLayouts dl.now (all_at nodes.old locals.now) }
+    ensures ok { IfOk result (IsCoroutineAdded dl.now nodes.old nodes.new
+        (all_at nodes.old prefix.items) (all_at nodes.old locals.now)
         (map (λ state. state.items) states.now) pairs.now) }
-    ensures own { IfOk result (IsOwnPut nodes.old.items nodes.new.items) }
+    ensures own { IfOk result (IsOwnPut nodes.old nodes.new) }
     ensures err { IfErr result (IsRefused (IsCoroutineOf dl.now
-        (all_at nodes.old.items prefix.items) (all_at nodes.old.items locals.now)
+        (all_at nodes.old prefix.items) (all_at nodes.old locals.now)
         (map (λ state. state.items) states.now) pairs.now)) }
-    ensures behind { AreStillThere nodes.old.items nodes.new.items }
+    ensures behind { AreStillThere nodes.old nodes.new }
 {
     let tag = state_tag(states.len());
     let saved = Saved { locals, states };
@@ -269,25 +269,25 @@ fn add_faultless_coroutine(
 pub(crate) fn add_coroutine(
     alloc: Global,
     dl: &TargetDataLayout,
-    nodes: &mut Vec<Node>,
+    nodes: &mut Nodes,
     prefix: Vec<usize>,
     locals: &[usize],
     states: &[Vec<u64>],
     pairs: &[(u64, u64)],
 ) -> Result<usize, LayError>
     requires data_layout { IsLawfulDataLayout dl.now }
-    requires before { AreThere (vec_len nodes.old) prefix.items }
-    requires there { AreThere (vec_len nodes.old) locals.now }
-    requires prefix { HaveLawfulLayouts dl.now (all_at nodes.old.items prefix.items) }
-    requires locals { HaveLawfulLayouts dl.now (all_at nodes.old.items locals.now) }
-    ensures ok { IfOk result (IsCoroutineAdded dl.now nodes.old.items nodes.new.items
-        (all_at nodes.old.items prefix.items) (all_at nodes.old.items locals.now)
+    requires before { AreThere (length nodes.old) prefix.items }
+    requires there { AreThere (length nodes.old) locals.now }
+    requires prefix { HaveLawfulLayouts dl.now (all_at nodes.old prefix.items) }
+    requires locals { HaveLawfulLayouts dl.now (all_at nodes.old locals.now) }
+    ensures ok { IfOk result (IsCoroutineAdded dl.now nodes.old nodes.new
+        (all_at nodes.old prefix.items) (all_at nodes.old locals.now)
         (map (λ state. state.items) states.now) pairs.now) }
-    ensures own { IfOk result (IsOwnPut nodes.old.items nodes.new.items) }
+    ensures own { IfOk result (IsOwnPut nodes.old nodes.new) }
     ensures err { IfErr result (IsRefused (IsCoroutineOf dl.now
-        (all_at nodes.old.items prefix.items) (all_at nodes.old.items locals.now)
+        (all_at nodes.old prefix.items) (all_at nodes.old locals.now)
         (map (λ state. state.items) states.now) pairs.now)) }
-    ensures behind { AreStillThere nodes.old.items nodes.new.items }
+    ensures behind { AreStillThere nodes.old nodes.new }
 {
     match coroutine_fault(alloc, prefix.len(), locals.len(), states, pairs)? {
         Some(fault) => Err(fault),

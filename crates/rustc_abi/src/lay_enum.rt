@@ -1,6 +1,6 @@
 //! How enums are laid out, once the fields of their variants are.
 
-ghost use Rattle.std.specs.Prelude.{◌≡◌, ◌<◌, ◌≤◌, ◌∷◌, [], List, IfOk, IfErr, Ok, None, Some, length, map, option_map, slice_get, vec_len, All, false, true};
+ghost use Rattle.std.specs.Prelude.{◌≡◌, ◌<◌, ◌≤◌, ◌∷◌, [], List, IfOk, IfErr, Ok, None, Some, length, map, option_map, slice_get, All, false, true};
 ghost use Rattle.std.specs.List.{list_all};
 ghost use Rattle.abi_base.specs.DataLayout.{IsLawfulDataLayout};
 ghost use Rattle.abi_scalar.specs.Lawful.{IsLawfulLayout};
@@ -26,7 +26,7 @@ use crate::tag_integer::tag_integer;
 use abi_base::{Integer, NicheOptimizations, TargetDataLayout};
 use abi_calc::LayoutCalculator;
 use abi_index::{FieldIdx, IndexSlice, IndexVec, VariantIdx};
-use abi_laid::{Mark, Node, Shape};
+use abi_laid::{Mark, Node, Nodes, Shape};
 use abi_scalar::{LayoutData, RangeFrom, RangeToInclusive, ReprOptions, Scalar, Variants};
 use std::alloc::{AllocError, Global};
 
@@ -74,7 +74,7 @@ fn enum_fault(
 /// The layouts of the fields of variants, each as one of the nodes.
 fn variant_layouts<'a>(
     alloc: Global,
-    nodes: &'a [Node],
+    nodes: &'a Nodes,
     children: &[Vec<usize>],
 ) -> Result<Vec<IndexVec<FieldIdx, &'a LayoutData<FieldIdx, VariantIdx>>>, AllocError>
     requires count { All (λ fields. length fields.items ≤ most_fields) children.now }
@@ -137,7 +137,7 @@ where
 fn enum_layout(
     alloc: Global,
     dl: &TargetDataLayout,
-    nodes: &[Node],
+    nodes: &Nodes,
     repr: &ReprOptions,
     numbers: &[u128],
     children: &[Vec<usize>],
@@ -188,7 +188,7 @@ fn own_node(
 /// mark.
 pub(crate) fn add_variants(
     alloc: Global,
-    nodes: &mut Vec<Node>,
+    nodes: &mut Nodes,
     layout: &LayoutData<FieldIdx, VariantIdx>,
     mark: Mark,
     numbers: &[u128],
@@ -198,17 +198,17 @@ pub(crate) fn add_variants(
     requires each { length numbers.now ≡ length children.now }
     requires few { length children.now ≤ most_fields }
     requires few_each { All (λ fields. length fields.items ≤ most_fields) children.now }
-    requires there { AreEachThere (vec_len nodes.old) children.now }
+    requires there { AreEachThere (length nodes.old) children.now }
     requires inside { VariantsInside layout.now.size (variants_of layout.now.variants)
-        (variants_in nodes.old.items children.now) }
-    ensures ok { IfOk result (λ variants. AreArms nodes.old.items nodes.new.items
+        (variants_in nodes.old children.now) }
+    ensures ok { IfOk result (λ variants. AreArms nodes.old nodes.new
         (map (λ l. l.size) (variants_of layout.now.variants)) variants.items
         (arms_at layout.now mark 0 (variants_of layout.now.variants) numbers.now
-        (variants_in nodes.old.items children.now))) }
+        (variants_in nodes.old children.now))) }
     ensures count { IfOk result (λ variants.
-        HasMore (length variants.items) false nodes.old.items nodes.new.items) }
+        HasMore (length variants.items) false nodes.old nodes.new) }
     ensures err { IfErr result (λ e. e ≡ LayError.OutOfMemory) }
-    ensures behind { AreStillThere nodes.old.items nodes.new.items }
+    ensures behind { AreStillThere nodes.old nodes.new }
 {
     let mut variants = Vec::with_capacity(alloc, children.len())?;
     for at in 0..children.len() {
@@ -232,7 +232,7 @@ struct Told<'a> {
 fn add_tagged(
     alloc: Global,
     dl: &TargetDataLayout,
-    nodes: &mut Vec<Node>,
+    nodes: &mut Nodes,
     layout: LayoutData<FieldIdx, VariantIdx>,
     mark: Mark,
     tag: Scalar,
@@ -243,18 +243,18 @@ fn add_tagged(
     requires each { length told.numbers.now ≡ length told.children.now }
     requires few { length told.children.now ≤ most_fields }
     requires few_each { All (λ fields. length fields.items ≤ most_fields) told.children.now }
-    requires there { AreEachThere (vec_len nodes.old) told.children.now }
+    requires there { AreEachThere (length nodes.old) told.children.now }
     requires places { have_places layout.size layout.fields
         (size_of (one_scalar dl.now tag) ∷ []) ≡ true }
     requires inside { VariantsInside layout.size (variants_of layout.variants)
-        (variants_in nodes.old.items told.children.now) }
-    ensures ok { IfOk result (λ i. IsPut nodes.old.items nodes.new.items i (tagged layout mark
+        (variants_in nodes.old told.children.now) }
+    ensures ok { IfOk result (λ i. IsPut nodes.old nodes.new i (tagged layout mark
         (tag_offset layout) (one_scalar dl.now tag) (encoding_of layout.variants)
         (arms_at layout mark 0 (variants_of layout.variants) told.entry.numbers.now
-        (variants_in nodes.old.items told.entry.children.now)))) }
-    ensures own { IfOk result (IsOwnPut nodes.old.items nodes.new.items) }
+        (variants_in nodes.old told.entry.children.now)))) }
+    ensures own { IfOk result (IsOwnPut nodes.old nodes.new) }
     ensures err { IfErr result (λ e. e ≡ LayError.OutOfMemory) }
-    ensures behind { AreStillThere nodes.old.items nodes.new.items }
+    ensures behind { AreStillThere nodes.old nodes.new }
 {
     let tag = add(nodes, LayoutData::scalar(&dl, tag), Shape::Scalar(tag))?;
     let variants = add_variants(alloc, nodes, &layout, mark, told.numbers, told.children)?;
@@ -273,7 +273,7 @@ fn add_tagged(
 fn add_placed(
     alloc: Global,
     dl: &TargetDataLayout,
-    nodes: &mut Vec<Node>,
+    nodes: &mut Nodes,
     layout: LayoutData<FieldIdx, VariantIdx>,
     repr: &ReprOptions,
     numbers: &[u128],
@@ -284,14 +284,14 @@ fn add_placed(
     requires each { length numbers.now ≡ length children.now }
     requires few { length children.now ≤ most_fields }
     requires few_each { All (λ fields. length fields.items ≤ most_fields) children.now }
-    requires there { AreEachThere (vec_len nodes.old) children.now }
+    requires there { AreEachThere (length nodes.old) children.now }
     requires places { HavePlaces dl.now layout
-        (variants_in nodes.old.items children.now) layout.variants }
-    ensures ok { IfOk result (λ i. IsPut nodes.old.items nodes.new.items i (placed_enum dl.now
-        repr.now numbers.now (variants_in nodes.old.items children.now) layout)) }
-    ensures own { IfOk result (IsOwnPut nodes.old.items nodes.new.items) }
+        (variants_in nodes.old children.now) layout.variants }
+    ensures ok { IfOk result (λ i. IsPut nodes.old nodes.new i (placed_enum dl.now
+        repr.now numbers.now (variants_in nodes.old children.now) layout)) }
+    ensures own { IfOk result (IsOwnPut nodes.old nodes.new) }
     ensures err { IfErr result (λ e. e ≡ LayError.OutOfMemory) }
-    ensures behind { AreStillThere nodes.old.items nodes.new.items }
+    ensures behind { AreStillThere nodes.old nodes.new }
 {
     let mark = Mark::of(true, repr);
     match layout.variants {
@@ -311,23 +311,23 @@ fn add_placed(
 fn add_faultless_enum(
     alloc: Global,
     dl: &TargetDataLayout,
-    nodes: &mut Vec<Node>,
+    nodes: &mut Nodes,
     repr: &ReprOptions,
     numbers: &[u128],
     children: &[Vec<usize>],
 ) -> Result<usize, LayError>
     requires data_layout { IsLawfulDataLayout dl.now }
     requires faultless { enum_fault dl.now repr.now numbers.now
-        (variants_in nodes.old.items children.now) ≡ None }
+        (variants_in nodes.old children.now) ≡ None }
     requires each { length numbers.now ≡ length children.now }
-    requires there { AreEachThere (vec_len nodes.old) children.now }
-    requires lawful { All (HaveLawfulLayouts dl.now) (variants_in nodes.old.items children.now) }
-    ensures ok { IfOk result (IsEnumAdded dl.now nodes.old.items nodes.new.items
-        repr.now numbers.now (variants_in nodes.old.items children.now)) }
-    ensures own { IfOk result (IsOwnPut nodes.old.items nodes.new.items) }
+    requires there { AreEachThere (length nodes.old) children.now }
+    requires lawful { All (HaveLawfulLayouts dl.now) (variants_in nodes.old children.now) }
+    ensures ok { IfOk result (IsEnumAdded dl.now nodes.old nodes.new
+        repr.now numbers.now (variants_in nodes.old children.now)) }
+    ensures own { IfOk result (IsOwnPut nodes.old nodes.new) }
     ensures err { IfErr result (IsRefused
-        (IsEnumOf dl.now repr.now numbers.now (variants_in nodes.old.items children.now))) }
-    ensures behind { AreStillThere nodes.old.items nodes.new.items }
+        (IsEnumOf dl.now repr.now numbers.now (variants_in nodes.old children.now))) }
+    ensures behind { AreStillThere nodes.old nodes.new }
 {
     let layout = enum_layout(alloc, dl, nodes, repr, numbers, children)?;
     add_placed(alloc, dl, nodes, layout, repr, numbers, children)
@@ -337,21 +337,21 @@ fn add_faultless_enum(
 pub(crate) fn add_enum(
     alloc: Global,
     dl: &TargetDataLayout,
-    nodes: &mut Vec<Node>,
+    nodes: &mut Nodes,
     repr: &ReprOptions,
     numbers: &[u128],
     children: &[Vec<usize>],
 ) -> Result<usize, LayError>
     requires data_layout { IsLawfulDataLayout dl.now }
     requires each { length numbers.now ≡ length children.now }
-    requires there { AreEachThere (vec_len nodes.old) children.now }
-    requires lawful { All (HaveLawfulLayouts dl.now) (variants_in nodes.old.items children.now) }
-    ensures ok { IfOk result (IsEnumAdded dl.now nodes.old.items nodes.new.items
-        repr.now numbers.now (variants_in nodes.old.items children.now)) }
-    ensures own { IfOk result (IsOwnPut nodes.old.items nodes.new.items) }
+    requires there { AreEachThere (length nodes.old) children.now }
+    requires lawful { All (HaveLawfulLayouts dl.now) (variants_in nodes.old children.now) }
+    ensures ok { IfOk result (IsEnumAdded dl.now nodes.old nodes.new
+        repr.now numbers.now (variants_in nodes.old children.now)) }
+    ensures own { IfOk result (IsOwnPut nodes.old nodes.new) }
     ensures err { IfErr result (IsRefused
-        (IsEnumOf dl.now repr.now numbers.now (variants_in nodes.old.items children.now))) }
-    ensures behind { AreStillThere nodes.old.items nodes.new.items }
+        (IsEnumOf dl.now repr.now numbers.now (variants_in nodes.old children.now))) }
+    ensures behind { AreStillThere nodes.old nodes.new }
 {
     match enum_fault(alloc, dl, repr, numbers, children)? {
         Some(fault) => Err(fault),

@@ -1,6 +1,6 @@
 //! How structs are laid out, once their fields are.
 
-ghost use Rattle.std.specs.Prelude.{◌≡◌, ◌<◌, ◌≤◌, ◌⊎◌, List, IfOk, IfErr, IfSome, Ok, None, length, vec_len, OnErr, map};
+ghost use Rattle.std.specs.Prelude.{◌≡◌, ◌<◌, ◌≤◌, ◌⊎◌, List, IfOk, IfErr, IfSome, Ok, None, length, OnErr, map};
 ghost use Rattle.abi_base.specs.DataLayout.{IsLawfulDataLayout};
 ghost use Rattle.abi_scalar.specs.Lawful.{IsLawfulLayout};
 ghost use Rattle.abi_scalar.specs.Shape.{listed_offsets};
@@ -20,7 +20,7 @@ use crate::node::{add, layouts_at};
 use abi_base::{Align, StructKind, TargetDataLayout};
 use abi_calc::LayoutCalculator;
 use abi_index::{FieldIdx, VariantIdx};
-use abi_laid::{Mark, Node, Shape};
+use abi_laid::{Mark, Nodes, Shape};
 use abi_scalar::{LayoutData, ReprOptions};
 use std::alloc::Global;
 
@@ -91,7 +91,7 @@ pub(crate) fn kind_of(always_sized: bool, children: &[usize]) -> StructKind
 fn fields_layout(
     alloc: Global,
     dl: &TargetDataLayout,
-    nodes: &[Node],
+    nodes: &Nodes,
     repr: &ReprOptions,
     kind: StructKind,
     children: &[usize],
@@ -128,22 +128,22 @@ fn fields_layout(
 fn add_faultless_fields(
     alloc: Global,
     dl: &TargetDataLayout,
-    nodes: &mut Vec<Node>,
+    nodes: &mut Nodes,
     repr: &ReprOptions,
     always_sized: bool,
     children: Vec<usize>,
 ) -> Result<usize, LayError>
     requires data_layout { IsLawfulDataLayout dl.now }
-    requires there { AreThere (vec_len nodes.old) children.items }
-    requires lawful { HaveLawfulLayouts dl.now (all_at nodes.old.items children.items) }
-    requires faultless { fields_fault repr.now (all_at nodes.old.items children.items) ≡ None }
-    ensures ok { IfOk result (IsTypeAdded dl.now nodes.old.items nodes.new.items
-        (struct repr.now always_sized None) (all_at nodes.old.items children.items)) }
-    ensures own { IfOk result (IsOwnPut nodes.old.items nodes.new.items) }
+    requires there { AreThere (length nodes.old) children.items }
+    requires lawful { HaveLawfulLayouts dl.now (all_at nodes.old children.items) }
+    requires faultless { fields_fault repr.now (all_at nodes.old children.items) ≡ None }
+    ensures ok { IfOk result (IsTypeAdded dl.now nodes.old nodes.new
+        (struct repr.now always_sized None) (all_at nodes.old children.items)) }
+    ensures own { IfOk result (IsOwnPut nodes.old nodes.new) }
     ensures err { IfErr result (IsRefused
-        (IsFieldsAnswer dl.now repr.now always_sized (all_at nodes.old.items children.items))) }
-    ensures kept { OnErr result (nodes.new.items ≡ nodes.old.items) }
-    ensures behind { AreStillThere nodes.old.items nodes.new.items }
+        (IsFieldsAnswer dl.now repr.now always_sized (all_at nodes.old children.items))) }
+    ensures kept { OnErr result (nodes.new ≡ nodes.old) }
+    ensures behind { AreStillThere nodes.old nodes.new }
 {
     let kind = kind_of(always_sized, &children);
     let layout = fields_layout(alloc, dl, nodes, repr, kind, &children)?;
@@ -158,21 +158,21 @@ fn add_faultless_fields(
 pub(crate) fn add_fields(
     alloc: Global,
     dl: &TargetDataLayout,
-    nodes: &mut Vec<Node>,
+    nodes: &mut Nodes,
     repr: &ReprOptions,
     always_sized: bool,
     children: Vec<usize>,
 ) -> Result<usize, LayError>
     requires data_layout { IsLawfulDataLayout dl.now }
-    requires there { AreThere (vec_len nodes.old) children.items }
-    requires lawful { HaveLawfulLayouts dl.now (all_at nodes.old.items children.items) }
-    ensures ok { IfOk result (IsTypeAdded dl.now nodes.old.items nodes.new.items
-        (struct repr.now always_sized None) (all_at nodes.old.items children.items)) }
-    ensures own { IfOk result (IsOwnPut nodes.old.items nodes.new.items) }
+    requires there { AreThere (length nodes.old) children.items }
+    requires lawful { HaveLawfulLayouts dl.now (all_at nodes.old children.items) }
+    ensures ok { IfOk result (IsTypeAdded dl.now nodes.old nodes.new
+        (struct repr.now always_sized None) (all_at nodes.old children.items)) }
+    ensures own { IfOk result (IsOwnPut nodes.old nodes.new) }
     ensures err { IfErr result (IsRefused
-        (IsFieldsAnswer dl.now repr.now always_sized (all_at nodes.old.items children.items))) }
-    ensures kept { OnErr result (nodes.new.items ≡ nodes.old.items) }
-    ensures behind { AreStillThere nodes.old.items nodes.new.items }
+        (IsFieldsAnswer dl.now repr.now always_sized (all_at nodes.old children.items))) }
+    ensures kept { OnErr result (nodes.new ≡ nodes.old) }
+    ensures behind { AreStillThere nodes.old nodes.new }
 {
     match fields_fault(repr, &children) {
         Some(fault) => Err(fault),

@@ -1,6 +1,6 @@
 //! How structs are laid out in an order that is handed in, once their fields are.
 
-ghost use Rattle.std.specs.Prelude.{◌≡◌, ◌<◌, ◌≤◌, ◌⊎◌, List, IfOk, IfErr, IfSome, IsTrue, Ok, None, Some, length, vec_len, All, OnErr, map};
+ghost use Rattle.std.specs.Prelude.{◌≡◌, ◌<◌, ◌≤◌, ◌⊎◌, List, IfOk, IfErr, IfSome, IsTrue, Ok, None, Some, length, All, OnErr, map};
 ghost use Rattle.abi_base.specs.DataLayout.{IsLawfulDataLayout};
 ghost use Rattle.abi_scalar.specs.Lawful.{IsLawfulLayout};
 ghost use Rattle.abi_scalar.specs.Repr.{may_randomize};
@@ -23,7 +23,7 @@ use crate::node::{add, layouts_at};
 use abi_base::{StructKind, TargetDataLayout};
 use abi_calc::LayoutCalculator;
 use abi_index::{FieldIdx, VariantIdx};
-use abi_laid::{Mark, Node, Shape};
+use abi_laid::{Mark, Nodes, Shape};
 use abi_scalar::{LayoutData, ReprFlags, ReprOptions};
 use bitflags::Flags;
 use std::alloc::Global;
@@ -70,7 +70,7 @@ fn fields_named(alloc: Global, order: &[u64], count: usize) -> Result<Vec<FieldI
 fn ordered_layout(
     alloc: Global,
     dl: &TargetDataLayout,
-    nodes: &[Node],
+    nodes: &Nodes,
     repr: &ReprOptions,
     kind: StructKind,
     order: &[u64],
@@ -110,23 +110,23 @@ fn ordered_layout(
 fn add_faultless_ordered(
     alloc: Global,
     dl: &TargetDataLayout,
-    nodes: &mut Vec<Node>,
+    nodes: &mut Nodes,
     repr: &ReprOptions,
     always_sized: bool,
     order: &[u64],
     children: Vec<usize>,
 ) -> Result<usize, LayError>
     requires data_layout { IsLawfulDataLayout dl.now }
-    requires there { AreThere (vec_len nodes.old) children.items }
-    requires lawful { HaveLawfulLayouts dl.now (all_at nodes.old.items children.items) }
-    requires faultless { ordered_fault repr.now (all_at nodes.old.items children.items) ≡ None }
-    ensures ok { IfOk result (IsTypeAdded dl.now nodes.old.items nodes.new.items
-        (struct repr.now always_sized (Some order.now)) (all_at nodes.old.items children.items)) }
-    ensures own { IfOk result (IsOwnPut nodes.old.items nodes.new.items) }
+    requires there { AreThere (length nodes.old) children.items }
+    requires lawful { HaveLawfulLayouts dl.now (all_at nodes.old children.items) }
+    requires faultless { ordered_fault repr.now (all_at nodes.old children.items) ≡ None }
+    ensures ok { IfOk result (IsTypeAdded dl.now nodes.old nodes.new
+        (struct repr.now always_sized (Some order.now)) (all_at nodes.old children.items)) }
+    ensures own { IfOk result (IsOwnPut nodes.old nodes.new) }
     ensures err { IfErr result (IsRefused (IsOrderedFieldsAnswer dl.now repr.now always_sized
-        order.now (all_at nodes.old.items children.items))) }
-    ensures kept { OnErr result (nodes.new.items ≡ nodes.old.items) }
-    ensures behind { AreStillThere nodes.old.items nodes.new.items }
+        order.now (all_at nodes.old children.items))) }
+    ensures kept { OnErr result (nodes.new ≡ nodes.old) }
+    ensures behind { AreStillThere nodes.old nodes.new }
 {
     let kind = kind_of(always_sized, &children);
     let layout = ordered_layout(alloc, dl, nodes, &randomized(repr), kind, order, &children)?;
@@ -141,22 +141,22 @@ fn add_faultless_ordered(
 pub(crate) fn add_ordered(
     alloc: Global,
     dl: &TargetDataLayout,
-    nodes: &mut Vec<Node>,
+    nodes: &mut Nodes,
     repr: &ReprOptions,
     always_sized: bool,
     order: &[u64],
     children: Vec<usize>,
 ) -> Result<usize, LayError>
     requires data_layout { IsLawfulDataLayout dl.now }
-    requires there { AreThere (vec_len nodes.old) children.items }
-    requires lawful { HaveLawfulLayouts dl.now (all_at nodes.old.items children.items) }
-    ensures ok { IfOk result (IsTypeAdded dl.now nodes.old.items nodes.new.items
-        (struct repr.now always_sized (Some order.now)) (all_at nodes.old.items children.items)) }
-    ensures own { IfOk result (IsOwnPut nodes.old.items nodes.new.items) }
+    requires there { AreThere (length nodes.old) children.items }
+    requires lawful { HaveLawfulLayouts dl.now (all_at nodes.old children.items) }
+    ensures ok { IfOk result (IsTypeAdded dl.now nodes.old nodes.new
+        (struct repr.now always_sized (Some order.now)) (all_at nodes.old children.items)) }
+    ensures own { IfOk result (IsOwnPut nodes.old nodes.new) }
     ensures err { IfErr result (IsRefused (IsOrderedFieldsAnswer dl.now repr.now always_sized
-        order.now (all_at nodes.old.items children.items))) }
-    ensures kept { OnErr result (nodes.new.items ≡ nodes.old.items) }
-    ensures behind { AreStillThere nodes.old.items nodes.new.items }
+        order.now (all_at nodes.old children.items))) }
+    ensures kept { OnErr result (nodes.new ≡ nodes.old) }
+    ensures behind { AreStillThere nodes.old nodes.new }
 {
     match ordered_fault(repr, &children) {
         Some(fault) => Err(fault),

@@ -18,7 +18,7 @@ use crate::error::LayError;
 use crate::node::add;
 use abi_base::{Primitive, TargetDataLayout};
 use abi_index::{FieldIdx, VariantIdx};
-use abi_laid::{Mark, Node, Shape};
+use abi_laid::{Mark, Nodes, Shape};
 use abi_scalar::{LayoutData, Scalar};
 use std::alloc::Global;
 
@@ -61,20 +61,16 @@ fn scalar_fault(dl: &TargetDataLayout, value: Scalar) -> Option<LayError>
 }
 
 /// A node for a scalar without a fault.
-fn add_lawful(
-    dl: &TargetDataLayout,
-    nodes: &mut Vec<Node>,
-    value: Scalar,
-) -> Result<usize, LayError>
+fn add_lawful(dl: &TargetDataLayout, nodes: &mut Nodes, value: Scalar) -> Result<usize, LayError>
     requires data_layout { IsLawfulDataLayout dl.now }
     requires faultless { scalar_fault dl.now value ≡ None }
     ensures ok { IfOk result (λ i.
-        IsPut nodes.old.items nodes.new.items i (one_scalar dl.now value)) }
+        IsPut nodes.old nodes.new i (one_scalar dl.now value)) }
     ensures lawful { IsLawfulLayout dl.now (layout_of (one_scalar dl.now value)) }
-    ensures count { IfOk result (λ i. HasMore 1 false nodes.old.items nodes.new.items) }
+    ensures count { IfOk result (λ i. HasMore 1 false nodes.old nodes.new) }
     ensures err { IfErr result (λ e. e ≡ LayError.OutOfMemory) }
-    ensures kept { OnErr result (nodes.new.items ≡ nodes.old.items) }
-    ensures behind { AreStillThere nodes.old.items nodes.new.items }
+    ensures kept { OnErr result (nodes.new ≡ nodes.old) }
+    ensures behind { AreStillThere nodes.old nodes.new }
 {
     add(nodes, LayoutData::scalar(&dl, value), Shape::Scalar(value))
 }
@@ -82,17 +78,17 @@ fn add_lawful(
 /// A node for a scalar. Its fault is told before memory is asked for.
 pub(crate) fn add_scalar(
     dl: &TargetDataLayout,
-    nodes: &mut Vec<Node>,
+    nodes: &mut Nodes,
     value: Scalar,
 ) -> Result<usize, LayError>
     requires { IsLawfulDataLayout dl.now }
     ensures ok { IfOk result (λ i.
-        IsAdded dl.now nodes.old.items nodes.new.items i (scalar value)) }
-    ensures own { IfOk result (IsOwnPut nodes.old.items nodes.new.items) }
+        IsAdded dl.now nodes.old nodes.new i (scalar value)) }
+    ensures own { IfOk result (IsOwnPut nodes.old nodes.new) }
     ensures err { IfErr result (IsRefusal (scalar_answer dl.now value)) }
     ensures fault { (e : LayError) → scalar_answer dl.now value ≡ Err e → result ≡ Err e }
-    ensures kept { OnErr result (nodes.new.items ≡ nodes.old.items) }
-    ensures behind { AreStillThere nodes.old.items nodes.new.items }
+    ensures kept { OnErr result (nodes.new ≡ nodes.old) }
+    ensures behind { AreStillThere nodes.old nodes.new }
 {
     match scalar_fault(dl, value) {
         Some(fault) => Err(fault),
@@ -126,7 +122,7 @@ fn pair_fault(alloc: Global, dl: &TargetDataLayout, a: Scalar, b: Scalar) -> Opt
 fn add_two(
     alloc: Global,
     dl: &TargetDataLayout,
-    nodes: &mut Vec<Node>,
+    nodes: &mut Nodes,
     a: Scalar,
     b: Scalar,
 ) -> Result<usize, LayError>
@@ -134,10 +130,10 @@ fn add_two(
     requires first { scalar_fault dl.now a ≡ None }
     requires second { scalar_fault dl.now b ≡ None }
     requires below { pair_size dl.now a b < size_bound dl.now }
-    ensures ok { IfOk result (λ i. IsAdded dl.now nodes.old.items nodes.new.items i (pair a b)) }
-    ensures own { IfOk result (IsOwnPut nodes.old.items nodes.new.items) }
+    ensures ok { IfOk result (λ i. IsAdded dl.now nodes.old nodes.new i (pair a b)) }
+    ensures own { IfOk result (IsOwnPut nodes.old nodes.new) }
     ensures err { IfErr result (λ e. e ≡ LayError.OutOfMemory) }
-    ensures behind { AreStillThere nodes.old.items nodes.new.items }
+    ensures behind { AreStillThere nodes.old nodes.new }
 {
     let first = add_lawful(dl, nodes, a)?;
     let second = add_lawful(dl, nodes, b)?;
@@ -149,16 +145,16 @@ fn add_two(
 pub(crate) fn add_pair(
     alloc: Global,
     dl: &TargetDataLayout,
-    nodes: &mut Vec<Node>,
+    nodes: &mut Nodes,
     a: Scalar,
     b: Scalar,
 ) -> Result<usize, LayError>
     requires { IsLawfulDataLayout dl.now }
-    ensures ok { IfOk result (λ i. IsAdded dl.now nodes.old.items nodes.new.items i (pair a b)) }
-    ensures own { IfOk result (IsOwnPut nodes.old.items nodes.new.items) }
+    ensures ok { IfOk result (λ i. IsAdded dl.now nodes.old nodes.new i (pair a b)) }
+    ensures own { IfOk result (IsOwnPut nodes.old nodes.new) }
     ensures err { IfErr result (IsRefusal (pair_answer dl.now a b)) }
     ensures fault { (e : LayError) → pair_answer dl.now a b ≡ Err e → result ≡ Err e }
-    ensures behind { AreStillThere nodes.old.items nodes.new.items }
+    ensures behind { AreStillThere nodes.old nodes.new }
 {
     if let Some(fault) = pair_fault(alloc, dl, a, b) {
         return Err(fault);
@@ -167,13 +163,13 @@ pub(crate) fn add_pair(
 }
 
 /// A node for a type with no values.
-pub(crate) fn add_never(dl: &TargetDataLayout, nodes: &mut Vec<Node>) -> Result<usize, LayError>
+pub(crate) fn add_never(dl: &TargetDataLayout, nodes: &mut Nodes) -> Result<usize, LayError>
     requires { IsLawfulDataLayout dl.now }
-    ensures ok { IfOk result (λ i. IsAdded dl.now nodes.old.items nodes.new.items i never) }
-    ensures own { IfOk result (IsOwnPut nodes.old.items nodes.new.items) }
+    ensures ok { IfOk result (λ i. IsAdded dl.now nodes.old nodes.new i never) }
+    ensures own { IfOk result (IsOwnPut nodes.old nodes.new) }
     ensures err { IfErr result (λ e. e ≡ LayError.OutOfMemory) }
-    ensures kept { OnErr result (nodes.new.items ≡ nodes.old.items) }
-    ensures behind { AreStillThere nodes.old.items nodes.new.items }
+    ensures kept { OnErr result (nodes.new ≡ nodes.old) }
+    ensures behind { AreStillThere nodes.old nodes.new }
 {
     add(
         nodes,
@@ -186,14 +182,14 @@ pub(crate) fn add_never(dl: &TargetDataLayout, nodes: &mut Vec<Node>) -> Result<
 pub(crate) fn add_unit(
     alloc: Global,
     dl: &TargetDataLayout,
-    nodes: &mut Vec<Node>,
+    nodes: &mut Nodes,
 ) -> Result<usize, LayError>
     requires { IsLawfulDataLayout dl.now }
-    ensures ok { IfOk result (λ i. IsAdded dl.now nodes.old.items nodes.new.items i unit) }
-    ensures own { IfOk result (IsOwnPut nodes.old.items nodes.new.items) }
+    ensures ok { IfOk result (λ i. IsAdded dl.now nodes.old nodes.new i unit) }
+    ensures own { IfOk result (IsOwnPut nodes.old nodes.new) }
     ensures err { IfErr result (λ e. e ≡ LayError.OutOfMemory) }
-    ensures kept { OnErr result (nodes.new.items ≡ nodes.old.items) }
-    ensures behind { AreStillThere nodes.old.items nodes.new.items }
+    ensures kept { OnErr result (nodes.new ≡ nodes.old) }
+    ensures behind { AreStillThere nodes.old nodes.new }
 {
     add(
         nodes,

@@ -19,7 +19,7 @@ use crate::lay_scalar::{add_never, add_pair, add_scalar, add_unit};
 use crate::lay_union::add_union;
 use crate::lay_vector::add_vector;
 use abi_base::TargetDataLayout;
-use abi_laid::{Node, TypeTree};
+use abi_laid::{Nodes, TypeTree};
 use abi_scalar::ReprOptions;
 use std::alloc::Global;
 
@@ -28,16 +28,16 @@ use std::alloc::Global;
 pub(crate) fn lay_tree(
     alloc: Global,
     dl: &TargetDataLayout,
-    nodes: &mut Vec<Node>,
+    nodes: &mut Nodes,
     tree: &TypeTree,
 ) -> Result<usize, LayError>
     requires { IsLawfulDataLayout dl.now }
     ensures ok { IfOk result (λ i.
-        IsAdded dl.now nodes.old.items nodes.new.items i (tree_of tree.now)) }
+        IsAdded dl.now nodes.old nodes.new i (tree_of tree.now)) }
     ensures counted { IfOk result (λ i.
-        IsCounted dl.now nodes.old.items nodes.new.items (tree_of tree.now)) }
+        IsCounted dl.now nodes.old nodes.new (tree_of tree.now)) }
     ensures err { IfErr result (IsRefused (IsLaying dl.now (tree_of tree.now))) }
-    ensures behind { AreStillThere nodes.old.items nodes.new.items }
+    ensures behind { AreStillThere nodes.old nodes.new }
 {
     match tree {
         TypeTree::Scalar(value) => add_scalar(dl, nodes, *value),
@@ -86,22 +86,22 @@ pub(crate) fn lay_tree(
 fn lay_struct(
     alloc: Global,
     dl: &TargetDataLayout,
-    nodes: &mut Vec<Node>,
+    nodes: &mut Nodes,
     repr: &ReprOptions,
     always_sized: bool,
     order: Option<&Vec<u64>>,
     fields: &[TypeTree],
 ) -> Result<usize, LayError>
     requires { IsLawfulDataLayout dl.now }
-    ensures ok { IfOk result (λ i. IsAdded dl.now nodes.old.items nodes.new.items i
+    ensures ok { IfOk result (λ i. IsAdded dl.now nodes.old nodes.new i
         (struct repr.now always_sized (option_map (λ o. o.now.items) order.entry)
         (trees (map tree_of fields.now)))) }
-    ensures counted { IfOk result (λ i. IsCounted dl.now nodes.old.items nodes.new.items
+    ensures counted { IfOk result (λ i. IsCounted dl.now nodes.old nodes.new
         (struct repr.now always_sized (option_map (λ o. o.now.items) order.entry)
         (trees (map tree_of fields.now)))) }
     ensures err { IfErr result (IsRefused (IsLaying dl.now (struct repr.now always_sized
         (option_map (λ o. o.now.items) order.entry) (trees (map tree_of fields.now))))) }
-    ensures behind { AreStillThere nodes.old.items nodes.new.items }
+    ensures behind { AreStillThere nodes.old nodes.new }
 {
     let children = lay_each(alloc, dl, nodes, fields)?;
     match order {
@@ -115,18 +115,18 @@ fn lay_struct(
 fn lay_enum(
     alloc: Global,
     dl: &TargetDataLayout,
-    nodes: &mut Vec<Node>,
+    nodes: &mut Nodes,
     repr: &ReprOptions,
     variants: &[(u128, Vec<TypeTree>)],
 ) -> Result<usize, LayError>
     requires { IsLawfulDataLayout dl.now }
-    ensures ok { IfOk result (λ i. IsAdded dl.now nodes.old.items nodes.new.items i (enum repr.now
+    ensures ok { IfOk result (λ i. IsAdded dl.now nodes.old nodes.new i (enum repr.now
         (trees_of_variants variants.now))) }
-    ensures counted { IfOk result (λ i. IsCounted dl.now nodes.old.items nodes.new.items
+    ensures counted { IfOk result (λ i. IsCounted dl.now nodes.old nodes.new
         (enum repr.now (trees_of_variants variants.now))) }
     ensures err { IfErr result (IsRefused (IsLaying dl.now (enum repr.now
         (trees_of_variants variants.now)))) }
-    ensures behind { AreStillThere nodes.old.items nodes.new.items }
+    ensures behind { AreStillThere nodes.old nodes.new }
 {
     let numbers = discriminants(alloc, variants)?;
     let children = lay_variants(alloc, dl, nodes, variants)?;
@@ -138,23 +138,23 @@ fn lay_enum(
 fn lay_coroutine(
     alloc: Global,
     dl: &TargetDataLayout,
-    nodes: &mut Vec<Node>,
+    nodes: &mut Nodes,
     prefix: &[TypeTree],
     locals: &[TypeTree],
     states: &[Vec<u64>],
     conflicts: &[(u64, u64)],
 ) -> Result<usize, LayError>
     requires { IsLawfulDataLayout dl.now }
-    ensures ok { IfOk result (λ i. IsAdded dl.now nodes.old.items nodes.new.items i
+    ensures ok { IfOk result (λ i. IsAdded dl.now nodes.old nodes.new i
         (coroutine (trees (map tree_of prefix.now)) (trees (map tree_of locals.now))
         (map (λ state. state.items) states.now) conflicts.now)) }
-    ensures counted { IfOk result (λ i. IsCounted dl.now nodes.old.items nodes.new.items
+    ensures counted { IfOk result (λ i. IsCounted dl.now nodes.old nodes.new
         (coroutine (trees (map tree_of prefix.now)) (trees (map tree_of locals.now))
         (map (λ state. state.items) states.now) conflicts.now)) }
     ensures err { IfErr result (IsRefused (IsLaying dl.now
         (coroutine (trees (map tree_of prefix.now)) (trees (map tree_of locals.now))
         (map (λ state. state.items) states.now) conflicts.now))) }
-    ensures behind { AreStillThere nodes.old.items nodes.new.items }
+    ensures behind { AreStillThere nodes.old nodes.new }
 {
     let prefix = lay_each(alloc, dl, nodes, prefix)?;
     let locals = lay_each(alloc, dl, nodes, locals)?;
@@ -166,16 +166,16 @@ fn lay_coroutine(
 fn lay_each(
     alloc: Global,
     dl: &TargetDataLayout,
-    nodes: &mut Vec<Node>,
+    nodes: &mut Nodes,
     fields: &[TypeTree],
 ) -> Result<Vec<usize>, LayError>
     requires { IsLawfulDataLayout dl.now }
     ensures ok { IfOk result (λ children.
-        AreAdded dl.now nodes.old.items nodes.new.items children.items (map tree_of fields.now)) }
+        AreAdded dl.now nodes.old nodes.new children.items (map tree_of fields.now)) }
     ensures counted { IfOk result (λ children.
-        AreCounted dl.now nodes.old.items nodes.new.items (trees (map tree_of fields.now))) }
+        AreCounted dl.now nodes.old nodes.new (trees (map tree_of fields.now))) }
     ensures err { IfErr result (IsRefused (AreLaying dl.now (trees (map tree_of fields.now)))) }
-    ensures behind { AreStillThere nodes.old.items nodes.new.items }
+    ensures behind { AreStillThere nodes.old nodes.new }
 {
     let mut children = Vec::new(alloc);
     for field in fields {
@@ -190,16 +190,16 @@ fn lay_each(
 fn lay_variants(
     alloc: Global,
     dl: &TargetDataLayout,
-    nodes: &mut Vec<Node>,
+    nodes: &mut Nodes,
     all: &[(u128, Vec<TypeTree>)],
 ) -> Result<Vec<Vec<usize>>, LayError>
     requires { IsLawfulDataLayout dl.now }
-    ensures ok { IfOk result (λ children. AreVariantsAdded dl.now nodes.old.items nodes.new.items
+    ensures ok { IfOk result (λ children. AreVariantsAdded dl.now nodes.old nodes.new
         children.items (trees_of_variants all.now)) }
     ensures counted { IfOk result (λ children.
-        AreVariantsCounted dl.now nodes.old.items nodes.new.items (trees_of_variants all.now)) }
+        AreVariantsCounted dl.now nodes.old nodes.new (trees_of_variants all.now)) }
     ensures err { IfErr result (IsRefused (VariantsLaying dl.now (trees_of_variants all.now))) }
-    ensures behind { AreStillThere nodes.old.items nodes.new.items }
+    ensures behind { AreStillThere nodes.old nodes.new }
 {
     let mut children = Vec::with_capacity(alloc, all.len())?;
     for variant in all {

@@ -1,6 +1,6 @@
 //! How unions are laid out, once their fields are.
 
-ghost use Rattle.std.specs.Prelude.{◌≡◌, ◌<◌, ◌≤◌, IfOk, IfErr, Ok, None, length, vec_len, OnErr, map};
+ghost use Rattle.std.specs.Prelude.{◌≡◌, ◌<◌, ◌≤◌, IfOk, IfErr, Ok, None, length, OnErr, map};
 ghost use Rattle.abi_base.specs.DataLayout.{IsLawfulDataLayout};
 ghost use Rattle.abi_scalar.specs.Lawful.{IsLawfulLayout};
 ghost use Rattle.abi_lists.specs.List.{HasLawfulAligns};
@@ -18,7 +18,7 @@ use crate::node::{add, layouts_at};
 use abi_base::TargetDataLayout;
 use abi_calc::LayoutCalculator;
 use abi_index::{FieldIdx, IndexSlice, VariantIdx};
-use abi_laid::{Mark, Node, Shape};
+use abi_laid::{Mark, Nodes, Shape};
 use abi_scalar::{LayoutData, ReprOptions};
 use std::alloc::Global;
 
@@ -26,7 +26,7 @@ use std::alloc::Global;
 fn union_layout(
     alloc: Global,
     dl: &TargetDataLayout,
-    nodes: &[Node],
+    nodes: &Nodes,
     repr: &ReprOptions,
     children: &[usize],
 ) -> Result<LayoutData<FieldIdx, VariantIdx>, LayError>
@@ -50,21 +50,21 @@ fn union_layout(
 fn add_faultless_union(
     alloc: Global,
     dl: &TargetDataLayout,
-    nodes: &mut Vec<Node>,
+    nodes: &mut Nodes,
     repr: &ReprOptions,
     children: Vec<usize>,
 ) -> Result<usize, LayError>
     requires data_layout { IsLawfulDataLayout dl.now }
-    requires there { AreThere (vec_len nodes.old) children.items }
-    requires lawful { HaveLawfulLayouts dl.now (all_at nodes.old.items children.items) }
-    requires faultless { fields_fault repr.now (all_at nodes.old.items children.items) ≡ None }
-    ensures ok { IfOk result (IsTypeAdded dl.now nodes.old.items nodes.new.items
-        (union repr.now) (all_at nodes.old.items children.items)) }
-    ensures own { IfOk result (IsOwnPut nodes.old.items nodes.new.items) }
+    requires there { AreThere (length nodes.old) children.items }
+    requires lawful { HaveLawfulLayouts dl.now (all_at nodes.old children.items) }
+    requires faultless { fields_fault repr.now (all_at nodes.old children.items) ≡ None }
+    ensures ok { IfOk result (IsTypeAdded dl.now nodes.old nodes.new
+        (union repr.now) (all_at nodes.old children.items)) }
+    ensures own { IfOk result (IsOwnPut nodes.old nodes.new) }
     ensures err { IfErr result (IsRefused (IsUnionOf dl.now repr.now
-        (all_at nodes.old.items children.items))) }
-    ensures kept { OnErr result (nodes.new.items ≡ nodes.old.items) }
-    ensures behind { AreStillThere nodes.old.items nodes.new.items }
+        (all_at nodes.old children.items))) }
+    ensures kept { OnErr result (nodes.new ≡ nodes.old) }
+    ensures behind { AreStillThere nodes.old nodes.new }
 {
     let layout = union_layout(alloc, dl, nodes, repr, &children)?;
     add(nodes, layout, Shape::Union(Mark::of(false, repr), children))
@@ -74,20 +74,20 @@ fn add_faultless_union(
 pub(crate) fn add_union(
     alloc: Global,
     dl: &TargetDataLayout,
-    nodes: &mut Vec<Node>,
+    nodes: &mut Nodes,
     repr: &ReprOptions,
     children: Vec<usize>,
 ) -> Result<usize, LayError>
     requires data_layout { IsLawfulDataLayout dl.now }
-    requires there { AreThere (vec_len nodes.old) children.items }
-    requires lawful { HaveLawfulLayouts dl.now (all_at nodes.old.items children.items) }
-    ensures ok { IfOk result (IsTypeAdded dl.now nodes.old.items nodes.new.items
-        (union repr.now) (all_at nodes.old.items children.items)) }
-    ensures own { IfOk result (IsOwnPut nodes.old.items nodes.new.items) }
+    requires there { AreThere (length nodes.old) children.items }
+    requires lawful { HaveLawfulLayouts dl.now (all_at nodes.old children.items) }
+    ensures ok { IfOk result (IsTypeAdded dl.now nodes.old nodes.new
+        (union repr.now) (all_at nodes.old children.items)) }
+    ensures own { IfOk result (IsOwnPut nodes.old nodes.new) }
     ensures err { IfErr result (IsRefused (IsUnionOf dl.now repr.now
-        (all_at nodes.old.items children.items))) }
-    ensures kept { OnErr result (nodes.new.items ≡ nodes.old.items) }
-    ensures behind { AreStillThere nodes.old.items nodes.new.items }
+        (all_at nodes.old children.items))) }
+    ensures kept { OnErr result (nodes.new ≡ nodes.old) }
+    ensures behind { AreStillThere nodes.old nodes.new }
 {
     match fields_fault(repr, &children) {
         Some(fault) => Err(fault),

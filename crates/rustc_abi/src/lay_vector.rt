@@ -1,6 +1,6 @@
 //! How vectors are laid out, once their element is.
 
-ghost use Rattle.std.specs.Prelude.{◌≡◌, ◌<◌, IfOk, IfErr, Ok, length, vec_len};
+ghost use Rattle.std.specs.Prelude.{◌≡◌, ◌<◌, IfOk, IfErr, Ok, length};
 ghost use Rattle.abi_base.specs.DataLayout.{IsLawfulDataLayout};
 ghost use Rattle.abi_scalar.specs.Lawful.{IsLawfulLayout};
 ghost use Rattle.abi_lists.specs.Simd.{simd_answer};
@@ -19,7 +19,7 @@ use crate::node::add;
 use abi_base::TargetDataLayout;
 use abi_calc::LayoutCalculator;
 use abi_index::{FieldIdx, VariantIdx};
-use abi_laid::{Node, Shape, layout_at};
+use abi_laid::{Nodes, Shape};
 use abi_scalar::LayoutData;
 use std::alloc::Global;
 
@@ -27,7 +27,7 @@ use std::alloc::Global;
 fn vector_layout(
     alloc: Global,
     dl: &TargetDataLayout,
-    nodes: &[Node],
+    nodes: &Nodes,
     lanes: u64,
     packed: bool,
     element: usize,
@@ -44,7 +44,7 @@ fn vector_layout(
 {
     let answer = LayoutCalculator::new(dl).layout_of_simd_type(
         alloc,
-        layout_at(nodes, element),
+        nodes.layout(element),
         lanes,
         packed,
     );
@@ -55,22 +55,22 @@ fn vector_layout(
 pub(crate) fn add_vector(
     alloc: Global,
     dl: &TargetDataLayout,
-    nodes: &mut Vec<Node>,
+    nodes: &mut Nodes,
     lanes: u64,
     packed: bool,
     element: usize,
 ) -> Result<usize, LayError>
     requires data_layout { IsLawfulDataLayout dl.now }
-    requires there { element < vec_len nodes.old }
-    requires lawful { IsLawfulLayout dl.now (layout_of (placed_at nodes.old.items element)) }
+    requires there { element < length nodes.old }
+    requires lawful { IsLawfulLayout dl.now (layout_of (placed_at nodes.old element)) }
     ensures ok { IfOk result
-        (λ i. (t : Tree) → IsLaying dl.now t (Ok (placed_at nodes.old.items element)) →
-        Fits dl.now t (placed_at nodes.old.items element) →
-        IsAdded dl.now nodes.old.items nodes.new.items i (vector lanes packed t)) }
-    ensures own { IfOk result (IsOwnPut nodes.old.items nodes.new.items) }
+        (λ i. (t : Tree) → IsLaying dl.now t (Ok (placed_at nodes.old element)) →
+        Fits dl.now t (placed_at nodes.old element) →
+        IsAdded dl.now nodes.old nodes.new i (vector lanes packed t)) }
+    ensures own { IfOk result (IsOwnPut nodes.old nodes.new) }
     ensures err { IfErr result (IsRefusal (vector_answer dl.now lanes packed
-        (placed_at nodes.old.items element))) }
-    ensures behind { AreStillThere nodes.old.items nodes.new.items }
+        (placed_at nodes.old element))) }
+    ensures behind { AreStillThere nodes.old nodes.new }
 {
     let layout = vector_layout(alloc, dl, nodes, lanes, packed, element)?;
     let array = elements_layout(dl, nodes, lanes, element)?;

@@ -1,6 +1,6 @@
 //! Nodes that are put behind others.
 
-ghost use Rattle.std.specs.Prelude.{◌≡◌, ◌<◌, ◌≤◌, IfErr, IfOk, OnErr, length, map, true, vec_len};
+ghost use Rattle.std.specs.Prelude.{◌≡◌, ◌<◌, ◌≤◌, IfErr, IfOk, OnErr, length, map, true};
 ghost use Rattle.abi_laid.specs.Placed.{layout_of};
 ghost use Rattle.abi_laid.specs.Nodes.{types_in, meaning};
 ghost use Rattle.abi_laid.specs.Laws.{keeps_laws};
@@ -12,36 +12,36 @@ ghost use Rattle.rustc_abi.specs.Laying.{most_fields};
 
 use crate::error::LayError;
 use abi_index::{FieldIdx, IndexVec, VariantIdx};
-use abi_laid::{Node, Shape, layout_at};
+use abi_laid::{Nodes, Shape};
 use abi_scalar::LayoutData;
 use std::alloc::{AllocError, Global};
 
 /// Puts a node behind the others. `OutOfMemory` where memory is refused: then they are as they were.
 pub(crate) fn add(
-    nodes: &mut Vec<Node>,
+    nodes: &mut Nodes,
     layout: LayoutData<FieldIdx, VariantIdx>,
     shape: Shape,
 ) -> Result<usize, LayError>
-    requires earlier { is_node (vec_len nodes.old) shape ≡ true }
-    requires laws { keeps_laws (types_in nodes.old.items) layout shape ≡ true }
-    requires widths { has_width (types_in nodes.old.items) layout shape ≡ true }
-    ensures ok { IfOk result (λ i. IsPut nodes.old.items nodes.new.items i
-        (meaning (types_in nodes.old.items) layout shape)) }
+    requires earlier { is_node (length nodes.old) shape ≡ true }
+    requires laws { keeps_laws (types_in nodes.old) layout shape ≡ true }
+    requires widths { has_width (types_in nodes.old) layout shape ≡ true }
+    ensures ok { IfOk result (λ i. IsPut nodes.old nodes.new i
+        (meaning (types_in nodes.old) layout shape)) }
     ensures count { IfOk result (λ i.
-        HasMore 1 layout.uninhabited nodes.old.items nodes.new.items) }
+        HasMore 1 layout.uninhabited nodes.old nodes.new) }
     ensures err { IfErr result (λ e. e ≡ LayError.OutOfMemory) }
-    ensures kept { OnErr result (nodes.new.items ≡ nodes.old.items) }
-    ensures behind { AreStillThere nodes.old.items nodes.new.items }
+    ensures kept { OnErr result (nodes.new ≡ nodes.old) }
+    ensures behind { AreStillThere nodes.old nodes.new }
 {
     let node = nodes.len();
-    nodes.push(Node { layout, shape })?;
+    nodes.push(layout, shape)?;
     Ok(node)
 }
 
 /// The layouts of the nodes at these places, as those of fields.
 pub(crate) fn layouts_at<'a>(
     alloc: Global,
-    nodes: &'a [Node],
+    nodes: &'a Nodes,
     children: &[usize],
 ) -> Result<IndexVec<FieldIdx, &'a LayoutData<FieldIdx, VariantIdx>>, AllocError>
     requires count { length children.now ≤ most_fields }
@@ -51,7 +51,7 @@ pub(crate) fn layouts_at<'a>(
 {
     let mut layouts = IndexVec::new(alloc);
     for child in children {
-        let _field: FieldIdx = layouts.push(layout_at(nodes, *child))?;
+        let _field: FieldIdx = layouts.push(nodes.layout(*child))?;
     }
     Ok(layouts)
 }

@@ -1,7 +1,6 @@
 -- What a walk that puts a covering value knows of the nodes that it comes to.
 use Rattle.std.proofs.Common.{◌≡◌, ℕ, zero, suc, ◌+◌, ◌<◌, ◌≤◌, true, false, Option, Some, None, List, [], ◌∷◌, ◌++◌, length, get_or, map, take, All, arith, refl, sym, ◌∙◌, subst, ⊎_elim}
 use Rattle.std.specs.Prelude.{◌&&◌, ◌==◌, nat_le}
-use Rattle.std.specs.Borrow.{Bor}
 use Rattle.std.specs.List.{list_all}
 use Rattle.std.proofs.lemmas.Bool.{and_parts, cases_lt, eq-eqb, leb-true, or_cases, or_left, or_right}
 use Rattle.std.proofs.lemmas.List.{get_or_default, get_or_past, get_or-map, length-map}
@@ -10,10 +9,11 @@ use Rattle.abi_index.specs.RangeSet.{is_in_ranges}
 use Rattle.abi_scalar.specs.Shape.{listed_offsets}
 use Rattle.abi_scalar.specs.Variant.{variants_of}
 use Rattle.abi_laid.specs.declared.node.Node.{Node}
+use Rattle.abi_laid.specs.declared.node.NodeRef.{NodeRef}
 use Rattle.abi_laid.specs.Placed.{Placed, nothing, size_of}
 use Rattle.abi_scalar.specs.Layout.{Layout}
 use Rattle.abi_laid.specs.Places.{is_place_of_part}
-use Rattle.abi_laid.specs.Nodes.{own_fields, parts_at, placed_at, placed_in, types_in}
+use Rattle.abi_laid.specs.Nodes.{lent_node, own_fields, parts_at, placed_at, placed_in, types_in}
 use Rattle.abi_laid.specs.Needed.{HaveSets, IsKept, IsMade, IsPartAt, is_among, named_by, placed_nodes}
 use Rattle.abi_laid.specs.Typed.{variant_nodes}
 use Rattle.abi_laid.specs.Laws.{has_fields, has_list, has_variants, have_lists, sizes_at}
@@ -24,7 +24,7 @@ use Rattle.abi_laid.proofs.Places.NeededLemmas.{laws_here, variants_listed}
 use Rattle.abi_laid.proofs.Places.RoomLemmas.{room_at}
 
 -- what is kept stands in the list
-kept_below : (kept : List (Option (Bor Node))) (i : ℕ) → IsKept kept i → i < length kept
+kept_below : (kept : List (Option NodeRef)) (i : ℕ) → IsKept kept i → i < length kept
 kept_below kept i keeps =
     ⊎_elim (λ (lt : i < length kept). lt) (λ (past : length kept ≤ i). let clash : None ≡ Some keeps.0 = sym (get_or_past kept i None past) ∙ keeps.1 in absurd (cc)) (cases_lt i (length kept))
 
@@ -48,7 +48,7 @@ among_right : (xs ys : List ℕ) (j : ℕ) → is_among ys j ≡ true → is_amo
 among_right [] ys j h = h
 among_right (x ∷ xs) ys j h = or_right (x == j) (is_among (xs ++ ys) j) (among_right xs ys j h)
 
-module _ (ns : List Node) (kept : List (Option (Bor Node))) (sets : List (List (ℕ × ℕ))) (have : HaveSets ns kept sets) (i : ℕ) (keeps : IsKept kept i) where
+module _ (ns : List Node) (kept : List (Option NodeRef)) (sets : List (List (ℕ × ℕ))) (have : HaveSets ns kept sets) (i : ℕ) (keeps : IsKept kept i) where
   pub kept_there : i < length ns
   kept_there = omega (arith, kept_below kept i keeps, have.needed.long)
 
@@ -60,8 +60,8 @@ module _ (ns : List Node) (kept : List (Option (Bor Node))) (sets : List (List (
   kept_set = have.made.made i (kept_below kept i keeps) keeps
 
   module _ (n : Node) (at : n ≡ get_or ns i n) where
-    same_node : keeps.0.now ≡ n
-    same_node = (have.needed.own i keeps.0 keeps.1).0 ∙ get_or_default ns i keeps.0.now n kept_there ∙ sym at
+    same_node : lent_node keeps.0 ≡ n
+    same_node = (have.needed.own i keeps.0 keeps.1).0 ∙ get_or_default ns i (lent_node keeps.0) n kept_there ∙ sym at
 
     -- the nodes whose data places are its own are kept, where it has bytes
     pub kept_named : 0 < n.layout.size → (j : ℕ) → is_among (named_by n.layout n.shape) j ≡ true → IsKept kept j
@@ -100,7 +100,7 @@ module _ (ns : List Node) (kept : List (Option (Bor Node))) (sets : List (List (
         (before k 0 below, kept_named some (get_or cs k 0) (within (get_or cs k 0) (among_first cs (length os) k short below)), omega (arith, ends, fits))
 
 -- each variant of these is kept
-pub all_kept : (kept : List (Option (Bor Node))) (vs : List (ℕ × ℕ)) → ((j : ℕ) → is_among (map (λ v. v.1) vs) j ≡ true → IsKept kept j) → All (λ v. IsKept kept v.1) vs
+pub all_kept : (kept : List (Option NodeRef)) (vs : List (ℕ × ℕ)) → ((j : ℕ) → is_among (map (λ v. v.1) vs) j ≡ true → IsKept kept j) → All (λ v. IsKept kept v.1) vs
 all_kept kept vs h = λ k d lt. h (get_or vs k d).1 (among_variant vs k d lt)
   where
     among_variant : (ws : List (ℕ × ℕ)) (k : ℕ) (d : ℕ × ℕ) → k < length ws → is_among (map (λ v. v.1) ws) (get_or ws k d).1 ≡ true
@@ -127,7 +127,7 @@ list_at done (w ∷ ws) zero d lt h = (and_parts (has_list (placed_in done w.1))
 list_at done (w ∷ ws) (suc i) d lt h = list_at done ws i d (omega arith) (and_parts (has_list (placed_in done w.1)) (have_lists done (map (λ v. v.1) ws)) h).1
 
 -- the set of a variant's node has the places of its fields
-pub variant_set : (ns : List Node) (kept : List (Option (Bor Node))) (sets : List (List (ℕ × ℕ))) → HaveSets ns kept sets → (vs : List (ℕ × ℕ)) → All (λ v. IsKept kept v.1) vs → have_lists (types_in ns) (map (λ v. v.1) vs) ≡ true →
+pub variant_set : (ns : List Node) (kept : List (Option NodeRef)) (sets : List (List (ℕ × ℕ))) → HaveSets ns kept sets → (vs : List (ℕ × ℕ)) → All (λ v. IsKept kept v.1) vs → have_lists (types_in ns) (map (λ v. v.1) vs) ≡ true →
     (i : ℕ) (d : ℕ × ℕ) → i < length vs → (k : ℕ) → is_in_ranges (get_or sets (get_or vs i d).1 []) k ≡ is_place_of_part (own_fields (placed_in (types_in ns) (get_or vs i d).1)) k
 variant_set ns kept sets have vs keeps listed i d lt k =
     let j : ℕ = (get_or vs i d).1 in

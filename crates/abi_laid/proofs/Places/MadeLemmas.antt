@@ -1,5 +1,5 @@
 -- The runs of a node's data places, made from those of the nodes that it names.
-use Rattle.std.proofs.Common.{◌≡◌, ◌≢◌, ℕ, zero, suc, ◌+◌, ◌-◌, ◌*◌, ◌/◌, ◌%◌, ◌<◌, ◌≤◌, ⊎_elim, List, [], ◌∷◌, ◌++◌, Bool, true, false, Bor, None, Option, Some, IfSome, length, map, get_or, take, min, length-append, arith, refl, sym, ap, ◌∙◌, subst, All}
+use Rattle.std.proofs.Common.{◌≡◌, ◌≢◌, ℕ, zero, suc, ◌+◌, ◌-◌, ◌*◌, ◌/◌, ◌%◌, ◌<◌, ◌≤◌, ⊎_elim, List, [], ◌∷◌, ◌++◌, Bool, true, false, None, Option, Some, IfSome, length, map, get_or, take, min, length-append, arith, refl, sym, ap, ◌∙◌, subst, All}
 use Rattle.std.specs.Prelude.{◌==◌, ◌&&◌, ◌||◌, ◌^◌, nat_le, nat_lt, not}
 use Rattle.std.proofs.Math.Bool.{or-false}
 use Rattle.std.proofs.Math.Nat.{mul-div_cancel}
@@ -18,9 +18,10 @@ use Rattle.abi_laid.specs.declared.mark.Mark.{Mark}
 use Rattle.abi_laid.specs.declared.node.Shape.{Shape}
 use Rattle.abi_laid.specs.declared.node.Shape.TheVariants.{Scalar as Number, Pair, Never, Elements, Fields, Union, Vector, Single, Tagged, States}
 use Rattle.abi_laid.specs.declared.node.Node.{Node}
+use Rattle.abi_laid.specs.declared.node.NodeRef.{NodeRef}
 use Rattle.abi_laid.specs.Placed.{Placed, size_of, nothing, scalar, pair, never, elements, vector, fields, union, single, tagged, states}
 use Rattle.abi_laid.specs.Places.{is_data_place, is_place_of_part, is_place_of_arm}
-use Rattle.abi_laid.specs.Nodes.{arms_in, meaning, own_fields, parts_at, parts_at_0, placed_at, placed_in, state_tag_offset, tag_offset, types_in}
+use Rattle.abi_laid.specs.Nodes.{arms_in, lent_node, meaning, own_fields, parts_at, parts_at_0, placed_at, placed_in, state_tag_offset, tag_offset, types_in}
 use Rattle.abi_laid.specs.Laws.{has_list, have_lists}
 use Rattle.abi_laid.specs.Room.{arms_have_room, has_room, have_room}
 use Rattle.abi_laid.specs.Runs.{is_padding_of}
@@ -345,37 +346,37 @@ each_list types (c ∷ cs) listed =
     let both = and_parts (has_list (placed_in types c)) (have_lists types cs) listed in
     All-cons (λ j. has_list (placed_in types j) ≡ true) c cs both.0 (each_list types cs both.1)
 
-module _ (ns : List Node) (kept : List (Option (Bor Node))) (needed : AreNeeded ns kept) (at : ℕ) (done : List (List (ℕ × ℕ))) (made : AreMade ns kept at done) (lt : at < length kept) where
+module _ (ns : List Node) (kept : List (Option NodeRef)) (needed : AreNeeded ns kept) (at : ℕ) (done : List (List (ℕ × ℕ))) (made : AreMade ns kept at done) (lt : at < length kept) where
   made_before : (set : List (ℕ × ℕ)) (j : ℕ) → j < at → IsKept kept j → IsMade (placed_at ns j) (done ++ set ∷ []) j
   made_before set j below keeps =
       let old = made.made j below keeps in
       let read : get_or (done ++ set ∷ []) j [] ≡ get_or done j [] = get_or_append_left done (set ∷ []) [] j (omega (arith, below, made.long)) in
       ((omega (arith, length-append done (set ∷ []), made.long, below), subst (AreMaximalRuns 0) (sym read) old.0.1), λ k. ap (λ rs. is_in_ranges rs k) read ∙ old.1 k)
 
-  module _ (n : Bor Node) (here : get_or kept at None ≡ Some n) where
+  module _ (n : NodeRef) (here : get_or kept at None ≡ Some n) where
     in_nodes : at < length ns
     in_nodes = omega (arith, lt, needed.long)
 
-    own : (n.now ≡ get_or ns at n.now) × (has_room (placed_at ns at) ≡ true)
+    own : (lent_node n ≡ get_or ns at (lent_node n)) × (has_room (placed_at ns at) ≡ true)
     own = needed.own at n here
 
-    meant : placed_at ns at ≡ meaning (types_in ns) n.now.layout n.now.shape
-    meant = (placed_at-node ns needed.well at n.now n.now.shape in_nodes own.0 refl).1
+    meant : placed_at ns at ≡ meaning (types_in ns) n.layout.now n.shape.now
+    meant = (placed_at-node ns needed.well at (lent_node n) n.shape.now in_nodes own.0 refl).1
 
-    pub node_made : IsMadeOf (types_in ns) n.now done
+    pub node_made : IsMadeOf (types_in ns) (lent_node n) done
     node_made = record {
       room = ap has_room (sym meant) ∙ own.1;
       named = λ some j among.
-          made.made j (among_all (λ m. m < at) (named_by n.now.layout n.now.shape) j (named_first ns needed.well needed.laws at n.now in_nodes own.0) among) (needed.named at n here some j among);
+          made.made j (among_all (λ m. m < at) (named_by n.layout.now n.shape.now) j (named_first ns needed.well needed.laws at (lent_node n) in_nodes own.0) among) (needed.named at n here some j among);
       own = λ j among.
           listed_own (placed_at ns j)
-          (among_all (λ m. has_list (placed_at ns m) ≡ true) (variant_nodes n.now.shape) j
-          (each_list (types_in ns) (variant_nodes n.now.shape) (variants_listed ns needed.well needed.laws at n.now in_nodes own.0)) among);
+          (among_all (λ m. has_list (placed_at ns m) ≡ true) (variant_nodes n.shape.now) j
+          (each_list (types_in ns) (variant_nodes n.shape.now) (variants_listed ns needed.well needed.laws at (lent_node n) in_nodes own.0)) among);
     }
 
     -- with its set
     pub made_more : (set : List (ℕ × ℕ)) (new : List (List (ℕ × ℕ))) → new ≡ done ++ set ∷ [] → AreMaximalRuns 0 set →
-        ((k : ℕ) → is_in_ranges set k ≡ is_data_place (meaning (types_in ns) n.now.layout n.now.shape) k) → AreMade ns kept (at + 1) new
+        ((k : ℕ) → is_in_ranges set k ≡ is_data_place (meaning (types_in ns) n.layout.now n.shape.now) k) → AreMade ns kept (at + 1) new
     made_more set new is maximal same = subst (AreMade ns kept (at + 1)) (sym is) record {
       long = omega (arith, length-append done (set ∷ []), made.long);
       made = λ j below keeps.
@@ -403,18 +404,18 @@ module _ (ns : List Node) (kept : List (Option (Bor Node))) (needed : AreNeeded 
   }
 
   -- a set is asked for where one is kept
-  pub entry_made : (entry : Option (Bor Node)) → get_or kept at None ≡ entry → IfSome entry (λ n. (types : List Placed) × IsMadeOf types n.now done)
+  pub entry_made : (entry : Option NodeRef) → get_or kept at None ≡ entry → IfSome entry (λ n. (types : List Placed) × IsMadeOf types (lent_node n) done)
   entry_made None e = tt
   entry_made (Some n) e = (types_in ns, node_made n e)
 
   -- and is the next
-  pub made_next : (entry : Option (Bor Node)) → get_or kept at None ≡ entry → (set : List (ℕ × ℕ)) (new : List (List (ℕ × ℕ))) → new ≡ done ++ set ∷ [] → AreMaximalRuns 0 set →
-      IfSome entry (λ n. (types : List Placed) → IsMadeOf types n.now done → (k : ℕ) → is_in_ranges set k ≡ is_data_place (meaning types n.now.layout n.now.shape) k) → AreMade ns kept (at + 1) new
+  pub made_next : (entry : Option NodeRef) → get_or kept at None ≡ entry → (set : List (ℕ × ℕ)) (new : List (List (ℕ × ℕ))) → new ≡ done ++ set ∷ [] → AreMaximalRuns 0 set →
+      IfSome entry (λ n. (types : List Placed) → IsMadeOf types (lent_node n) done → (k : ℕ) → is_in_ranges set k ≡ is_data_place (meaning types n.layout.now n.shape.now) k) → AreMade ns kept (at + 1) new
   made_next None e set new is maximal same = made_past set new is e
   made_next (Some n) e set new is maximal same = made_more n e set new is maximal (same (types_in ns) (node_made n e))
 
 -- the last set
-pub last_made : (ns : List Node) (kept : List (Option (Bor Node))) → AreNeeded ns kept → (at : ℕ) (done : List (List (ℕ × ℕ))) → AreMade ns kept at done → length kept ≤ at → at ≤ length kept →
+pub last_made : (ns : List Node) (kept : List (Option NodeRef)) → AreNeeded ns kept → (at : ℕ) (done : List (List (ℕ × ℕ))) → AreMade ns kept at done → length kept ≤ at → at ≤ length kept →
     (rest : List (List (ℕ × ℕ))) (set : List (ℕ × ℕ)) → done ≡ rest ++ set ∷ [] → (k : ℕ) → is_in_ranges set k ≡ is_data_place (placed_at ns (length kept - 1)) k
 last_made ns kept needed at done made le ge rest set is k =
     let last : ℕ = length kept - 1 in
@@ -462,8 +463,8 @@ padding_bytes p size none whole places rest e empty all mine left k =
     ∙ ap (λ b. b && nat_lt k (0 + size)) (le-leb 0 k (omega arith)) ∙ ap (nat_lt k) (from_zero ∙ e))
 
 -- a kept node's size
-pub kept_size_is : (ns : List Node) (kept : List (Option (Bor Node))) → AreNeeded ns kept → (i size : ℕ) → i < length ns → i ≡ length kept - 1 → IfSome (get_or kept i None) (λ n. size ≡ n.now.layout.size) → size ≡ size_of (placed_at ns i)
+pub kept_size_is : (ns : List Node) (kept : List (Option NodeRef)) → AreNeeded ns kept → (i size : ℕ) → i < length ns → i ≡ length kept - 1 → IfSome (get_or kept i None) (λ n. size ≡ n.layout.now.size) → size ≡ size_of (placed_at ns i)
 kept_size_is ns kept needed i size lt last is =
     let root = subst (IsKept kept) (sym last) needed.last in
-    let here : size ≡ root.0.now.layout.size = subst (λ o. IfSome o (λ n. size ≡ n.now.layout.size)) root.1 is in
-    here ∙ ap (λ n. n.layout.size) (needed.own i root.0 root.1).0 ∙ sym (ap (λ l. l.size) (layout_of-placed_at ns i root.0.now lt))
+    let here : size ≡ root.0.layout.now.size = subst (λ o. IfSome o (λ n. size ≡ n.layout.now.size)) root.1 is in
+    here ∙ ap (λ (n : Node). n.layout.size) (needed.own i root.0 root.1).0 ∙ sym (ap (λ l. l.size) (layout_of-placed_at ns i (lent_node root.0) lt))

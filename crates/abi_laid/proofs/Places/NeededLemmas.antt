@@ -1,5 +1,5 @@
 -- The nodes that a node's data places rest on: they come before it, and have room where it has.
-use Rattle.std.proofs.Common.{◌≡◌, ◌≢◌, ℕ, zero, suc, ◌+◌, ◌-◌, ◌<◌, ◌≤◌, ⊎_elim, List, [], ◌∷◌, ◌++◌, Bool, true, false, Bor, None, Option, Some, length, map, get_or, set, take, length-set, arith, refl, sym, ap, ◌∙◌, subst, All}
+use Rattle.std.proofs.Common.{◌≡◌, ◌≢◌, ℕ, zero, suc, ◌+◌, ◌-◌, ◌<◌, ◌≤◌, ⊎_elim, List, [], ◌∷◌, ◌++◌, Bool, true, false, None, Option, Some, length, map, get_or, set, take, length-set, arith, refl, sym, ap, ◌∙◌, subst, All}
 use Rattle.std.specs.Prelude.{◌==◌, ◌&&◌, ◌||◌, nat_le, nat_lt, replicate}
 use Rattle.std.specs.List.{list_all}
 use Rattle.std.specs.Cmp.Derive.{both_true}
@@ -15,9 +15,10 @@ use Rattle.abi_scalar.specs.Variant.{variants_of}
 use Rattle.abi_laid.specs.declared.node.Shape.{Shape}
 use Rattle.abi_laid.specs.declared.node.Shape.TheVariants.{Scalar as Number, Pair, Never, Elements, Fields, Union, Vector, Single, Tagged, States}
 use Rattle.abi_laid.specs.declared.node.Node.{Node}
+use Rattle.abi_laid.specs.declared.node.NodeRef.{NodeRef}
 use Rattle.abi_laid.specs.Placed.{Placed, size_of}
 use Rattle.abi_scalar.specs.Layout.{Layout}
-use Rattle.abi_laid.specs.Nodes.{arms_in, meaning, own_fields, parts_at, parts_at_0, placed_at, placed_in, state_tag_offset, types_in}
+use Rattle.abi_laid.specs.Nodes.{arms_in, lent_node, meaning, own_fields, parts_at, parts_at_0, placed_at, placed_in, state_tag_offset, types_in}
 use Rattle.abi_laid.specs.Room.{has_room, have_room, arms_have_room}
 use Rattle.abi_laid.specs.Laws.{end_inside, has_fields, has_list, has_variants, have_lists, have_places, is_listed, keep_laws, keeps_laws, sizes_at}
 use Rattle.abi_laid.specs.Typed.{variant_nodes}
@@ -236,7 +237,7 @@ module _ (ns : List Node) (well : are_nodes 0 ns ≡ true) (laws : keep_laws [] 
 
 -- Of the nodes from a place on up to the root each that is marked is kept at its place, and what it names is marked; no more were read
 -- than there are. Each marked node is one up to the root, has room, and is one that the root's data places rest on.
-pub record AreRead (ns : List Node) (root at : ℕ) (needed : List Bool) (kept : List (Option (Bor Node))) (read : ℕ) : Type 0 where
+pub record AreRead (ns : List Node) (root at : ℕ) (needed : List Bool) (kept : List (Option NodeRef)) (read : ℕ) : Type 0 where
   pub marks : length needed ≡ root + 1
   pub long : length kept ≡ root + 1
   pub few : read + at ≤ root + 1
@@ -245,8 +246,8 @@ pub record AreRead (ns : List Node) (root at : ℕ) (needed : List Bool) (kept :
   pub first : get_or needed root false ≡ true
   pub room : (i : ℕ) → get_or needed i false ≡ true → HasRoom ns i
   pub stays : (i : ℕ) → at ≤ i → get_or needed i false ≡ true → IsKept kept i
-  pub own : (i : ℕ) (n : Bor Node) → get_or kept i None ≡ Some n → (n.now ≡ get_or ns i n.now) × (get_or needed i false ≡ true)
-  pub named : (i : ℕ) (n : Bor Node) → get_or kept i None ≡ Some n → 0 < n.now.layout.size → All (λ j. get_or needed j false ≡ true) (named_by n.now.layout n.now.shape)
+  pub own : (i : ℕ) (n : NodeRef) → get_or kept i None ≡ Some n → (lent_node n ≡ get_or ns i (lent_node n)) × (get_or needed i false ≡ true)
+  pub named : (i : ℕ) (n : NodeRef) → get_or kept i None ≡ Some n → 0 < n.layout.now.size → All (λ j. get_or needed j false ≡ true) (named_by n.layout.now n.shape.now)
 
 -- a test that picks none of these places picks none of them
 count_none : (p : ℕ → Bool) (k n : ℕ) → ((i : ℕ) → k ≤ i → p i ≡ false) → count_picked p k n ≡ 0
@@ -276,14 +277,14 @@ none_marked zero i = refl
 none_marked (suc n) zero = refl
 none_marked (suc n) (suc i) = none_marked n i
 
-none_kept : (n i : ℕ) → get_or {A = Option (Bor Node)} (replicate n None) i None ≡ None
+none_kept : (n i : ℕ) → get_or {A = Option NodeRef} (replicate n None) i None ≡ None
 none_kept zero i = refl
 none_kept (suc n) zero = refl
 none_kept (suc n) (suc i) = none_kept n i
 
 module _ (ns : List Node) (root : ℕ) where
   -- at first the root is marked
-  pub read_first : (needed : List Bool) (kept : List (Option (Bor Node))) (visits : ℕ) → visits ≡ 0 → needed ≡ replicate (root + 1) false → kept ≡ replicate (root + 1) None → HasRoom ns root →
+  pub read_first : (needed : List Bool) (kept : List (Option NodeRef)) (visits : ℕ) → visits ≡ 0 → needed ≡ replicate (root + 1) false → kept ≡ replicate (root + 1) None → HasRoom ns root →
       AreRead ns root (root + 1) (set needed root true) kept visits
   read_first needed kept visits unread unmarked empty room =
       let old : List Bool = replicate (root + 1) false in
@@ -291,7 +292,7 @@ module _ (ns : List Node) (root : ℕ) where
       ⊎_elim (λ (same : i ≡ root). same)
       (λ (other : i ≢ root). let clash : true ≡ false = sym h ∙ get_or-set_other old root i true false other ∙ none_marked (root + 1) i in absurd (cc)) (cases_eq i root) in
       let long : length old ≡ root + 1 = length-replicate (root + 1) false in
-      let absent : (i : ℕ) (n : Bor Node) → get_or kept i None ≡ Some n → ⊥ = λ i n h.
+      let absent : (i : ℕ) (n : NodeRef) → get_or kept i None ≡ Some n → ⊥ = λ i n h.
       let clash : Some n ≡ None = sym h ∙ ap (λ k. get_or k i None) empty ∙ none_kept (root + 1) i in cc in
       let later : (i : ℕ) → root + 1 ≤ i → get_or (set old root true) i false ≡ false = λ i le. false_from_ne_true (get_or (set old root true) i false) (λ h. absurd (omega (arith, le, only i h))) in
       subst (λ xs. AreRead ns root (root + 1) (set xs root true) kept visits) (sym unmarked) record {
@@ -307,9 +308,9 @@ module _ (ns : List Node) (root : ℕ) where
         named = λ i n h some. absurd (absent i n h);
       }
 
-  module _ (k : ℕ) (needed : List Bool) (kept : List (Option (Bor Node))) (visits : ℕ) (read : AreRead ns root (k + 1) needed kept visits) where
+  module _ (k : ℕ) (needed : List Bool) (kept : List (Option NodeRef)) (visits : ℕ) (read : AreRead ns root (k + 1) needed kept visits) where
     module _ (well : are_nodes 0 ns ≡ true) (laws : keep_laws [] ns ≡ true) (there : root < length ns) (marked : get_or needed k false ≡ true)
-        (n : Bor Node) (at : n.now ≡ get_or ns k n.now) (below : k < root + 1) where
+        (n : NodeRef) (at : lent_node n ≡ get_or ns k (lent_node n)) (below : k < root + 1) where
       in_nodes : k < length ns
       in_nodes = omega (arith, there, below)
 
@@ -318,7 +319,7 @@ module _ (ns : List Node) (root : ℕ) where
 
       -- it is kept, and no more is marked but what it names
       read_on : (new : List Bool) (now : ℕ) → now ≡ visits + 1 → length new ≡ length needed → ((i : ℕ) → IsMarked needed i → IsMarked new i) → ((i : ℕ) → k ≤ i → IsMarked new i → IsMarked needed i)
-          → ((i : ℕ) → IsMarked new i → HasRoom ns i) → ((i : ℕ) → IsMarked new i → RestsOn ns root i) → (0 < n.now.layout.size → All (IsMarked new) (named_by n.now.layout n.now.shape)) → AreRead ns root k new (set kept k (Some n)) now
+          → ((i : ℕ) → IsMarked new i → HasRoom ns i) → ((i : ℕ) → IsMarked new i → RestsOn ns root i) → (0 < n.layout.now.size → All (IsMarked new) (named_by n.layout.now n.shape.now)) → AreRead ns root k new (set kept k (Some n)) now
       read_on new now more long grows only room rests named = record {
         marks = long ∙ read.marks;
         long = length-set kept k (Some n) ∙ read.long;
@@ -336,7 +337,7 @@ module _ (ns : List Node) (root : ℕ) where
         own = λ i m h.
             ⊎_elim (λ (same : i ≡ k).
             let here : n ≡ m = here_is i m same h in
-            (subst (λ (x : Bor Node). x.now ≡ get_or ns i x.now) here (subst (λ j. n.now ≡ get_or ns j n.now) (sym same) at), subst (IsMarked new) (sym same) (grows k marked)))
+            (subst (λ (x : NodeRef). lent_node x ≡ get_or ns i (lent_node x)) here (subst (λ j. lent_node n ≡ get_or ns j (lent_node n)) (sym same) at), subst (IsMarked new) (sym same) (grows k marked)))
             (λ (other : i ≢ k).
             let old = read.own i m (sym (get_or-set_other kept k i (Some n) None other) ∙ h) in
             (old.0, grows i old.1))
@@ -344,7 +345,7 @@ module _ (ns : List Node) (root : ℕ) where
         named = λ i m h some.
             ⊎_elim (λ (same : i ≡ k).
             let here : n ≡ m = here_is i m same h in
-            subst (λ (x : Bor Node). All (IsMarked new) (named_by x.now.layout x.now.shape)) here (named (subst (λ (x : Bor Node). 0 < x.now.layout.size) (sym here) some)))
+            subst (λ (x : NodeRef). All (IsMarked new) (named_by x.layout.now x.shape.now)) here (named (subst (λ (x : NodeRef). 0 < x.layout.now.size) (sym here) some)))
             (λ (other : i ≢ k).
             let old = read.named i m (sym (get_or-set_other kept k i (Some n) None other) ∙ h) some in
             λ j d below. grows _ (old j d below))
@@ -365,34 +366,34 @@ module _ (ns : List Node) (root : ℕ) where
               let all : now ≡ one_if (p k) + count_picked p (k + 1) rest = omega (arith, more, read.count, same, one) in
               all ∙ ap (count_picked p k) (sym long)
 
-          here_is : (i : ℕ) (m : Bor Node) → i ≡ k → get_or (set kept k (Some n)) i None ≡ Some m → n ≡ m
+          here_is : (i : ℕ) (m : NodeRef) → i ≡ k → get_or (set kept k (Some n)) i None ≡ Some m → n ≡ m
           here_is i m same h =
               let both : Some n ≡ Some m = sym (get_or-set_same kept k (Some n) None within) ∙ ap (λ j. get_or (set kept k (Some n)) j None) (sym same) ∙ h in
               cc
 
       -- it has no bytes
-      pub read_bare : (now : ℕ) → now ≡ visits + 1 → (0 < n.now.layout.size → ⊥) → AreRead ns root k needed (set kept k (Some n)) now
+      pub read_bare : (now : ℕ) → now ≡ visits + 1 → (0 < n.layout.now.size → ⊥) → AreRead ns root k needed (set kept k (Some n)) now
       read_bare now more bare = read_on needed now more refl (λ i h. h) (λ i le h. h) read.room read.rests (λ some. absurd (bare some))
 
       -- it has bytes
-      pub read_more : (new : List Bool) (now : ℕ) → now ≡ visits + 1 → 0 < n.now.layout.size → MarksPlaces needed new (named_by n.now.layout n.now.shape) → AreRead ns root k new (set kept k (Some n)) now
+      pub read_more : (new : List Bool) (now : ℕ) → now ≡ visits + 1 → 0 < n.layout.now.size → MarksPlaces needed new (named_by n.layout.now n.shape.now) → AreRead ns root k new (set kept k (Some n)) now
       read_more new now more some marks =
-          let cs : List ℕ = named_by n.now.layout n.now.shape in
-          let before : All (λ j. j < k) cs = named_first ns well laws k n.now in_nodes at in
+          let cs : List ℕ = named_by n.layout.now n.shape.now in
+          let before : All (λ j. j < k) cs = named_first ns well laws k (lent_node n) in_nodes at in
           read_on new now more marks.0
           (λ i h. marks.1 i ∙ ap (λ b. b || is_among cs i) h)
           (λ i le h. ⊎_elim (λ (old : IsMarked needed i). old) (λ (new_one : is_among cs i ≡ true). absurd (omega (arith, le, among_all (λ j. j < k) cs i before new_one)))
           (or_cases (get_or needed i false) (is_among cs i) (sym (marks.1 i) ∙ h)))
           (λ i h. ⊎_elim (λ (old : IsMarked needed i). read.room i old)
-          (λ (new_one : is_among cs i ≡ true). among_all (HasRoom ns) cs i (named_room ns well laws k n.now in_nodes at (read.room k marked)) new_one)
+          (λ (new_one : is_among cs i ≡ true). among_all (HasRoom ns) cs i (named_room ns well laws k (lent_node n) in_nodes at (read.room k marked)) new_one)
           (or_cases (get_or needed i false) (is_among cs i) (sym (marks.1 i) ∙ h)))
           (λ i h. ⊎_elim (λ (old : IsMarked needed i). read.rests i old)
-          (λ (new_one : is_among cs i ≡ true). λ set closed. closed.step k i (read.rests k marked set closed) (n.now, in_nodes, at, some, new_one))
+          (λ (new_one : is_among cs i ≡ true). λ set closed. closed.step k i (read.rests k marked set closed) (lent_node n, in_nodes, at, some, new_one))
           (or_cases (get_or needed i false) (is_among cs i) (sym (marks.1 i) ∙ h)))
           (λ some j d lt. marks.1 (get_or cs j d) ∙ or_right (get_or needed (get_or cs j d) false) (is_among cs (get_or cs j d)) (among_own cs j d lt))
 
   -- a node that isn't needed isn't read
-  pub read_skip : (k : ℕ) (needed : List Bool) (kept : List (Option (Bor Node))) (visits : ℕ) → root < length ns → k < root + 1 → AreRead ns root (k + 1) needed kept visits → get_or needed k false ≡ false →
+  pub read_skip : (k : ℕ) (needed : List Bool) (kept : List (Option NodeRef)) (visits : ℕ) → root < length ns → k < root + 1 → AreRead ns root (k + 1) needed kept visits → get_or needed k false ≡ false →
       AreRead ns root k needed kept visits
   read_skip k needed kept visits there below read unmarked = record {
     marks = read.marks;
@@ -415,7 +416,7 @@ module _ (ns : List Node) (root : ℕ) where
   }
 
   -- all that were read are those that the root's data places rest on
-  read_counted : (needed : List Bool) (kept : List (Option (Bor Node))) (visits : ℕ) → AreRead ns root 0 needed kept visits → AreVisits ns root visits
+  read_counted : (needed : List Bool) (kept : List (Option NodeRef)) (visits : ℕ) → AreRead ns root 0 needed kept visits → AreVisits ns root visits
   read_counted needed kept visits read =
       let all : length ns - 0 ≡ length ns = omega arith in
       record {
@@ -430,18 +431,18 @@ module _ (ns : List Node) (root : ℕ) where
         step = λ i j marked from.
             let keeps = read.stays i (omega arith) marked in
             let own = read.own i keeps.0 keeps.1 in
-            let same : keeps.0.now ≡ from.0 = own.0 ∙ get_or_default ns i keeps.0.now from.0 from.1 ∙ sym from.2 in
-            let some : 0 < keeps.0.now.layout.size = subst (λ (m : Node). 0 < m.layout.size) (sym same) from.3 in
-            among_all (λ m. get_or needed m false ≡ true) (named_by keeps.0.now.layout keeps.0.now.shape) j (read.named i keeps.0 keeps.1 some)
+            let same : lent_node keeps.0 ≡ from.0 = own.0 ∙ get_or_default ns i (lent_node keeps.0) from.0 from.1 ∙ sym from.2 in
+            let some : 0 < keeps.0.layout.now.size = subst (λ (m : Node). 0 < m.layout.size) (sym same) from.3 in
+            among_all (λ m. get_or needed m false ≡ true) (named_by keeps.0.layout.now keeps.0.shape.now) j (read.named i keeps.0 keeps.1 some)
             (subst (λ (m : Node). is_among (named_by m.layout m.shape) j ≡ true) (sym same) from.4);
       }
 
-  pub counted_all : (at : ℕ) (needed : List Bool) (kept : List (Option (Bor Node))) (visits count : ℕ) → AreRead ns root at needed kept visits → at ≡ 0 → count ≡ visits → AreVisits ns root count
+  pub counted_all : (at : ℕ) (needed : List Bool) (kept : List (Option NodeRef)) (visits count : ℕ) → AreRead ns root at needed kept visits → at ≡ 0 → count ≡ visits → AreVisits ns root count
   counted_all at needed kept visits count read none same =
       subst (AreVisits ns root) (sym same) (read_counted needed kept visits (subst (λ i. AreRead ns root i needed kept visits) none read))
 
   -- all are read
-  pub read_all : (needed : List Bool) (kept : List (Option (Bor Node))) (visits : ℕ) → are_nodes 0 ns ≡ true → keep_laws [] ns ≡ true → root < length ns →
+  pub read_all : (needed : List Bool) (kept : List (Option NodeRef)) (visits : ℕ) → are_nodes 0 ns ≡ true → keep_laws [] ns ≡ true → root < length ns →
       AreRead ns root 0 needed kept visits → AreNeeded ns kept
   read_all needed kept visits well laws there read = record {
     well = well;
@@ -451,5 +452,5 @@ module _ (ns : List Node) (root : ℕ) where
     last = let at : length kept - 1 ≡ root = omega (arith, read.long) in subst (IsKept kept) (sym at) (read.stays root (omega arith) read.first);
     own = λ i n h. let own = read.own i n h in (own.0, read.room i own.1);
     named = λ i n h some j among.
-        read.stays j (omega arith) (among_all (λ m. get_or needed m false ≡ true) (named_by n.now.layout n.now.shape) j (read.named i n h some) among);
+        read.stays j (omega arith) (among_all (λ m. get_or needed m false ≡ true) (named_by n.layout.now n.shape.now) j (read.named i n h some) among);
   }

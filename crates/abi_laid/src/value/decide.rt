@@ -9,7 +9,7 @@ ghost use Rattle.abi_laid.specs.Deciding.{first_told, first_with, place_in, some
 ghost use Rattle.abi_laid.specs.Laid.{endian_of, placed_of};
 ghost use Rattle.abi_laid.specs.Laws.{have_lists};
 ghost use Rattle.abi_laid.specs.Needed.{HaveSets, IsKept, IsPartAt};
-ghost use Rattle.abi_laid.specs.Nodes.{arms_in, parts_at, placed_at, types_in};
+ghost use Rattle.abi_laid.specs.Nodes.{arms_in, lent_node, parts_at, placed_at, types_in};
 ghost use Rattle.abi_laid.specs.Placed.{size_of};
 ghost use Rattle.abi_laid.specs.Places.{is_data_place};
 ghost use Rattle.abi_laid.specs.Tree.{Tree};
@@ -22,7 +22,7 @@ ghost use Rattle.abi_laid.specs.declared.mark.Mark.{Mark};
 use crate::counted::Counted;
 use crate::laid::Laid;
 use crate::needed::needed_nodes;
-use crate::node::{Node, Shape, offsets, state_tag_offset, tag_offset};
+use crate::node::{NodeRef, Shape, offsets, state_tag_offset, tag_offset};
 use crate::nodes::Nodes;
 use crate::runs_of::{set_at, sets_of};
 use crate::value::named::encoding_of;
@@ -39,7 +39,7 @@ use std::alloc::{AllocError, Global};
 struct Cover<'a> {
     order: Endian,
     nodes: &'a Nodes,
-    kept: &'a [Option<&'a Node>],
+    kept: &'a [Option<NodeRef<'a>>],
     sets: &'a [RangeSet],
     ghost widths: { have_widths [] nodes.now ≡ true },
 }
@@ -212,12 +212,12 @@ fn put_node(cover: Cover<'_>, node: usize, place: Option<u64>, at: usize, bytes:
         (placed_at cover.entry.nodes.now node) }
 {
     let here = read_one(cover.nodes, node);
-    let list = offsets(&here.layout);
+    let list = offsets(here.layout);
     let size = here.layout.size.bytes() as usize;
     if size == 0 {
         return;
     }
-    match &here.shape {
+    match here.shape {
         Shape::Scalar(scalar) => put_number(cover.order, some_number(scalar), size, at, bytes),
         Shape::Pair { first, second } => {
             put_parts(cover, node, list, &[*first, *second], place, at, bytes)
@@ -240,7 +240,7 @@ fn put_node(cover: Cover<'_>, node: usize, place: Option<u64>, at: usize, bytes:
 fn put_variant(
     cover: Cover<'_>,
     node: usize,
-    here: &Node,
+    here: NodeRef<'_>,
     place: Option<u64>,
     at: usize,
     bytes: &mut [u8],
@@ -248,20 +248,20 @@ fn put_variant(
     requires sets { HaveSets cover.nodes.now cover.kept.now cover.sets.now }
     requires kept { IsKept cover.kept.now node }
     requires fits { at + size_of (placed_at cover.nodes.now node) ≤ length bytes.old }
-    requires here { here.now ≡ get_or cover.nodes.now node here.now }
-    requires some { 0 < here.now.layout.size }
+    requires here { lent_node here ≡ get_or cover.nodes.now node (lent_node here) }
+    requires some { 0 < here.layout.now.size }
     requires tagged { (mark : Mark) × (tag : ℕ) × (all : _)
-        × (here.now.shape ≡ Shape.Tagged mark tag all) }
+        × (here.shape.now ≡ Shape.Tagged mark tag all) }
     ensures long { length bytes.new ≡ length bytes.old }
     ensures put { PutsCovering cover.entry.order at bytes.old bytes.new place
         (placed_at cover.entry.nodes.now node) }
 {
-    let beside = arms_of(&here.shape);
-    let encoding = encoding_of(&here.layout);
+    let beside = arms_of(here.shape);
+    let encoding = encoding_of(here.layout);
     let told = Told {
         encoding: &encoding,
         tag: beside.tag,
-        offset: tag_offset(&here.layout),
+        offset: tag_offset(here.layout),
         arms: beside.arms,
         size: here.layout.size.bytes() as usize,
     };
@@ -273,7 +273,7 @@ fn put_variant(
 fn put_state(
     cover: Cover<'_>,
     node: usize,
-    here: &Node,
+    here: NodeRef<'_>,
     place: Option<u64>,
     at: usize,
     bytes: &mut [u8],
@@ -281,24 +281,24 @@ fn put_state(
     requires sets { HaveSets cover.nodes.now cover.kept.now cover.sets.now }
     requires kept { IsKept cover.kept.now node }
     requires fits { at + size_of (placed_at cover.nodes.now node) ≤ length bytes.old }
-    requires here { here.now ≡ get_or cover.nodes.now node here.now }
-    requires some { 0 < here.now.layout.size }
+    requires here { lent_node here ≡ get_or cover.nodes.now node (lent_node here) }
+    requires some { 0 < here.layout.now.size }
     requires states { (prefix : _) × (tag : ℕ) × (all : _)
-        × (here.now.shape ≡ Shape.States prefix tag all) }
+        × (here.shape.now ≡ Shape.States prefix tag all) }
     ensures long { length bytes.new ≡ length bytes.old }
     ensures put { PutsCovering cover.entry.order at bytes.old bytes.new place
         (placed_at cover.entry.nodes.now node) }
 {
-    let beside = arms_of(&here.shape);
+    let beside = arms_of(here.shape);
     let direct = TagEncoding::Direct;
     let told = Told {
         encoding: &direct,
         tag: beside.tag,
-        offset: state_tag_offset(&here.layout, beside.prefix.len()),
+        offset: state_tag_offset(here.layout, beside.prefix.len()),
         arms: beside.arms,
         size: here.layout.size.bytes() as usize,
     };
-    let list = offsets(&here.layout);
+    let list = offsets(here.layout);
     put_parts(cover, node, list, beside.prefix, place, at, bytes);
     put_arm(cover, node, told, place, at, bytes)
 }

@@ -32,8 +32,8 @@ pub(crate) fn own_parts(nodes: &Nodes, variant: usize) -> (&[Size], &[usize])
     ensures before { All (λ child. child < variant) result.1.now }
 {
     let here = read_one(nodes, variant);
-    match &here.shape {
-        Shape::Fields(_, children) => (offsets(&here.layout), children),
+    match here.shape {
+        Shape::Fields(_, children) => (offsets(here.layout), children),
         _ => (&[], &[]),
     }
 }

@@ -70,7 +70,7 @@ fn read_number(walk: Walk<'_>, node: usize, bytes: &[u8]) -> Option<u128>
     if bytes.len() as u64 != here.layout.size.bytes() {
         return None;
     }
-    match &here.shape {
+    match here.shape {
         Shape::Scalar(scalar) => scalar_number(scalar, walk.order, bytes),
         _ => None,
     }
@@ -212,11 +212,11 @@ pub(crate) fn read_node(
 {
     let nodes = walk.nodes;
     let here = read_one(nodes, node);
-    let layout = &here.layout;
+    let layout = here.layout;
     if bytes.len() as u64 != layout.size.bytes() {
         return Ok(None);
     }
-    match &here.shape {
+    match here.shape {
         Shape::Scalar(_) => Ok(as_number(read_number(walk, node, bytes))),
         Shape::Pair { first, second } => {
             Ok(read_pair(walk, offsets(layout), *first, *second, bytes))

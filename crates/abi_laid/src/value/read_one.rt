@@ -2,17 +2,17 @@
 
 ghost use Rattle.std.specs.Prelude.{◌≡◌, ◌<◌, get_or, length};
 ghost use Rattle.abi_laid.specs.Placed.{layout_of};
-ghost use Rattle.abi_laid.specs.Nodes.{placed_at};
+ghost use Rattle.abi_laid.specs.Nodes.{lent_node, placed_at};
 
-use crate::node::Node;
+use crate::node::NodeRef;
 use crate::nodes::Nodes;
 use abi_index::{FieldIdx, VariantIdx};
 use abi_scalar::LayoutData;
 
 /// The node at a place.
-pub(crate) fn read_one(nodes: &Nodes, at: usize) -> &Node
+pub(crate) fn read_one(nodes: &Nodes, at: usize) -> NodeRef<'_>
     requires { at < length nodes.now }
-    ensures { result.now ≡ get_or nodes.now at result.now }
+    ensures { lent_node result ≡ get_or nodes.now at (lent_node result) }
 {
     let mut visits = 0;
     nodes.read(at, &mut visits)
@@ -23,5 +23,5 @@ pub(crate) fn read_layout(nodes: &Nodes, at: usize) -> &LayoutData<FieldIdx, Var
     requires { at < length nodes.now }
     ensures { result.now ≡ layout_of (placed_at nodes.now at) }
 {
-    &read_one(nodes, at).layout
+    nodes.layout(at)
 }

@@ -253,8 +253,8 @@ pub(crate) fn write_node(
 {
     let nodes = walk.nodes;
     let here = read_one(nodes, node);
-    let layout = &here.layout;
-    match &here.shape {
+    let layout = here.layout;
+    match here.shape {
         Shape::Scalar(_) => {
             let size = layout.size.bytes() as usize;
             put_number(walk.order, value.number(), size, at, bytes);
@@ -279,10 +279,10 @@ pub(crate) fn write_node(
             write_fields(walk, node, layout, children, values, at, bytes)
         }
         Shape::Tagged { .. } => {
-            write_variant(walk, node, layout, arms_of(&here.shape), value, at, bytes)
+            write_variant(walk, node, layout, arms_of(here.shape), value, at, bytes)
         }
         Shape::States { .. } => {
-            write_state(walk, node, layout, arms_of(&here.shape), value, at, bytes)
+            write_state(walk, node, layout, arms_of(here.shape), value, at, bytes)
         }
     }
 }

@@ -165,7 +165,7 @@ returns-clause-covered c = covered_decides c.args.dl.now.endian (placed_of c.new
 pub returns-clause-inhabited : goal.returns-clause-inhabited
 returns-clause-inhabited c = (
   λ all. (c.in_ok-_root.ensures.counted.3.0 (sym c.new.ensures.flags ∙ all)).1,
-  λ each. c.new.ensures.flags ∙ c.in_ok-_root.ensures.counted.3.1 (ap are_inhabited c.new-nodes.ensures.items, each),
+  λ each. c.new.ensures.flags ∙ c.in_ok-_root.ensures.counted.3.1 (ap are_inhabited c.new-nodes.ensures, each),
 )
 
 pub returns-clause-all_have : goal.returns-clause-all_have
@@ -264,5 +264,5 @@ returns-then-not-is_lawful-clause-some c law = some_answer c.args.dl.now law (tr
 pub returns-clause-counted : goal.returns-clause-counted
 returns-clause-counted c =
     let counted = c.in_ok-_root.ensures.counted in
-    let all : counted.0 ≡ node_count_of c.new.result = omega (arith, counted.2, ap length c.new-nodes.ensures.items, c.new.ensures.count) in
+    let all : counted.0 ≡ node_count_of c.new.result = omega (arith, counted.2, ap length c.new-nodes.ensures, c.new.ensures.count) in
     subst (HasNodes c.args.dl.now (tree_of c.args.tree.now)) all counted.1

@@ -18,21 +18,18 @@ use Rattle.rustc_abi.proofs.Trees.ListLemmas.{All-from_map, passed_on}
 use Rattle.rustc_abi.proofs.lay_coroutine.add_faultless_coroutine.Goals as goal
 
 pub coroutine_layout-requires-clause-prefix : goal.coroutine_layout-requires-clause-prefix
-coroutine_layout-requires-clause-prefix c = rw (c.deref.ensures.value, c.deref-2.ensures.value) c.requires.prefix
-
-pub coroutine_layout-requires-clause-locals : goal.coroutine_layout-requires-clause-locals
-coroutine_layout-requires-clause-locals c = rw c.deref.ensures.value c.requires.locals
+coroutine_layout-requires-clause-prefix c = rw c.deref.ensures.value c.requires.prefix
 
 pub returns-in_err-layout-clause-err : goal.returns-in_err-layout-clause-err
 returns-in_err-layout-clause-err c =
-    let ns = c.args.nodes.now.items in
+    let ns = c.args.nodes.now in
     let pres = all_at ns c.args.prefix.items in
     let ps = all_at ns c.args.locals.now in
     let all = map (λ (state : Vec ℕ Global). state.items) c.args.states.now in
     let tag = c.state_tag-tag.result in
     let none = fault_of_nodes ns c.args.prefix.items c.args.locals.now all c.args.pairs.now ∙ c.requires.faultless in
     let tells : IsStateTag (length all) tag = subst (λ n. IsStateTag n tag) (sym (length-map c.args.states.now (λ (state : Vec ℕ Global). state.items))) c.state_tag-tag.ensures in
-    let refused = rw (c.deref.ensures.value, c.deref-2.ensures.value) at c.in_err-layout.ensures.err in
+    let refused = rw c.deref.ensures.value at c.in_err-layout.ensures.err in
     passed_on _ _ _ c.from_residual.ensures.1 (coroutine_refused c.args.dl.now c.requires.data_layout pres ps all c.args.pairs.now tag none tells c.requires.prefix c.requires.locals _ refused)
 
 pub add_states-requires-clause-tag : goal.add_states-requires-clause-tag
@@ -41,14 +38,14 @@ add_states-requires-clause-tag c =
 
 pub add_states-requires-clause-each : goal.add_states-requires-clause-each
 add_states-requires-clause-each c =
-    let ns = c.args.nodes.now.items in
+    let ns = c.args.nodes.now in
     let pres = all_at ns c.args.prefix.items in
     let ps = all_at ns c.args.locals.now in
     let all = map (λ (state : Vec ℕ Global). state.items) c.args.states.now in
     let tag = c.state_tag-tag.result in
     let none = fault_of_nodes ns c.args.prefix.items c.args.locals.now all c.args.pairs.now ∙ c.requires.faultless in
     let tells : IsStateTag (length all) tag = subst (λ n. IsStateTag n tag) (sym (length-map c.args.states.now (λ (state : Vec ℕ Global). state.items))) c.state_tag-tag.ensures in
-    let laid = rw (c.deref.ensures.value, c.deref-2.ensures.value) at c.in_ok-layout.ensures.ok in
+    let laid = rw c.deref.ensures.value at c.in_ok-layout.ensures.ok in
     coroutine_variants c.args.dl.now c.requires.data_layout pres ps all c.args.pairs.now tag none tells c.requires.prefix c.requires.locals c.in_ok-layout.layout laid
     ∙ length-map c.args.states.now (λ (state : Vec ℕ Global). state.items)
 
@@ -65,26 +62,26 @@ add_states-requires-clause-few_each c =
 
 pub add_states-requires-clause-places : goal.add_states-requires-clause-places
 add_states-requires-clause-places c =
-    let ns = c.args.nodes.now.items in
+    let ns = c.args.nodes.now in
     let pres = all_at ns c.args.prefix.items in
     let ps = all_at ns c.args.locals.now in
     let all = map (λ (state : Vec ℕ Global). state.items) c.args.states.now in
     let tag = c.state_tag-tag.result in
     let none = fault_of_nodes ns c.args.prefix.items c.args.locals.now all c.args.pairs.now ∙ c.requires.faultless in
     let tells : IsStateTag (length all) tag = subst (λ n. IsStateTag n tag) (sym (length-map c.args.states.now (λ (state : Vec ℕ Global). state.items))) c.state_tag-tag.ensures in
-    let laid = rw (c.deref.ensures.value, c.deref-2.ensures.value) at c.in_ok-layout.ensures.ok in
+    let laid = rw c.deref.ensures.value at c.in_ok-layout.ensures.ok in
     state_places c.args.dl.now c.requires.data_layout pres ps all c.args.pairs.now c.requires.prefix c.requires.locals none tag tells c.in_ok-layout.layout laid
 
 pub add_states-requires-clause-inside : goal.add_states-requires-clause-inside
 add_states-requires-clause-inside c =
-    let ns = c.args.nodes.now.items in
+    let ns = c.args.nodes.now in
     let pres = all_at ns c.args.prefix.items in
     let ps = all_at ns c.args.locals.now in
     let all = map (λ (state : Vec ℕ Global). state.items) c.args.states.now in
     let tag = c.state_tag-tag.result in
     let none = fault_of_nodes ns c.args.prefix.items c.args.locals.now all c.args.pairs.now ∙ c.requires.faultless in
     let tells : IsStateTag (length all) tag = subst (λ n. IsStateTag n tag) (sym (length-map c.args.states.now (λ (state : Vec ℕ Global). state.items))) c.state_tag-tag.ensures in
-    let laid = rw (c.deref.ensures.value, c.deref-2.ensures.value) at c.in_ok-layout.ensures.ok in
+    let laid = rw c.deref.ensures.value at c.in_ok-layout.ensures.ok in
     subst (VariantsInside c.in_ok-layout.layout.size (variants_of c.in_ok-layout.layout.variants)) (map-map (map (placed_in ps)) (λ (state : Vec ℕ Global). state.items) c.args.states.now)
     (inside_coroutine c.args.dl.now c.requires.data_layout pres ps all c.args.pairs.now c.requires.prefix c.requires.locals none tag tells c.in_ok-layout.layout laid)
 
@@ -95,15 +92,15 @@ add_states-requires-clause-known c =
 
 pub returns-clause-ok : goal.returns-clause-ok
 returns-clause-ok c =
-    let ns = c.args.nodes.now.items in
+    let ns = c.args.nodes.now in
     let pres = all_at ns c.args.prefix.items in
     let ps = all_at ns c.args.locals.now in
     let all = map (λ (state : Vec ℕ Global). state.items) c.args.states.now in
     let tag = c.state_tag-tag.result in
     let none = fault_of_nodes ns c.args.prefix.items c.args.locals.now all c.args.pairs.now ∙ c.requires.faultless in
     let tells : IsStateTag (length all) tag = subst (λ n. IsStateTag n tag) (sym (length-map c.args.states.now (λ (state : Vec ℕ Global). state.items))) c.state_tag-tag.ensures in
-    let laid = rw (c.deref.ensures.value, c.deref-2.ensures.value) at c.in_ok-layout.ensures.ok in
+    let laid = rw c.deref.ensures.value at c.in_ok-layout.ensures.ok in
     IfOk-weaker c.add_states.result _ _
     (λ i put first own told tell fits fit. IsAdded-coroutine c.args.dl.now c.requires.data_layout pres ps all c.args.pairs.now tag none tells c.requires.prefix c.requires.locals c.in_ok-layout.layout laid
-    ns c.add_states.new.nodes.items i first own put told tell fits fit)
+    ns c.add_states.new.nodes i first own put told tell fits fit)
     c.add_states.ensures.ok

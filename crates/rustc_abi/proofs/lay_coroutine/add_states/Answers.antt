@@ -40,9 +40,9 @@ add_each_state-requires-clause-there c =
     let one = c.add.new.nodes in
     let put = c.in_ok-tag.ensures.ok in
     let longer = put.kept.longer in
-    let there : All (λ child. child < one.len) c.args.saved.locals.now =
-    All-weaker (λ child. child < old.len) (λ child. child < one.len) (λ child lt. omega (arith, lt, longer, length-types_in old.items, length-types_in one.items)) c.args.saved.locals.now c.requires.there in
-    rw c.deref.ensures.value (each_there one.len c.args.saved.locals.now c.args.saved.states.now c.in_ok-children.children.items there c.requires.known c.in_ok-children.ensures)
+    let there : All (λ child. child < length one) c.args.saved.locals.now =
+    All-weaker (λ child. child < length old) (λ child. child < length one) (λ child lt. omega (arith, lt, longer, length-types_in old, length-types_in one)) c.args.saved.locals.now c.requires.there in
+    rw c.deref.ensures.value (each_there (length one) c.args.saved.locals.now c.args.saved.states.now c.in_ok-children.children.items there c.requires.known c.in_ok-children.ensures)
 
 pub add_each_state-requires-clause-few_each : goal.add_each_state-requires-clause-few_each
 add_each_state-requires-clause-few_each c =
@@ -50,11 +50,10 @@ add_each_state-requires-clause-few_each c =
 
 pub add_each_state-requires-clause-inside : goal.add_each_state-requires-clause-inside
 add_each_state-requires-clause-inside c =
-    let old = c.args.nodes.now.items in
-    let one = c.add.new.nodes.items in
+    let old = c.args.nodes.now in
+    let one = c.add.new.nodes in
     let children : List (Vec ℕ Global) = c.in_ok-children.children.items in
-    let there : All (λ child. child < length old) c.args.saved.locals.now =
-    All-weaker (λ child. child < c.args.nodes.now.len) (λ child. child < length old) (λ child lt. omega arith) c.args.saved.locals.now c.requires.there in
+    let there : All (λ child. child < length old) c.args.saved.locals.now = c.requires.there in
     let same =
     ap (variants_in one) c.deref.ensures.value ∙ variants_in-kept old one c.in_ok-tag.ensures.ok.kept children (each_there (length old) c.args.saved.locals.now c.args.saved.states.now children there c.requires.known c.in_ok-children.ensures)
     ∙ each_means old c.args.saved.locals.now c.args.saved.states.now children c.requires.known c.in_ok-children.ensures in
@@ -62,39 +61,35 @@ add_each_state-requires-clause-inside c =
 
 pub add-requires-2-clause-laws : goal.add-requires-2-clause-laws
 add-requires-2-clause-laws c =
-    let old = c.args.nodes.now.items in
-    let one = c.add.new.nodes.items in
-    let two = c.add_each_state.new.nodes.items in
+    let old = c.args.nodes.now in
+    let one = c.add.new.nodes in
+    let two = c.add_each_state.new.nodes in
     let put : IsPut old one c.in_ok-tag.tag (one_scalar c.args.dl.now c.args.tag) = rw c.scalar.ensures.exact at c.in_ok-tag.ensures.ok in
-    let prefix : All (λ child. child < length old) c.args.prefix.items =
-    All-weaker (λ child. child < c.args.nodes.now.len) (λ child. child < length old) (λ child lt. omega arith) c.args.prefix.items c.requires.prefix in
+    let prefix : All (λ child. child < length old) c.args.prefix.items = c.requires.prefix in
     states_keep old one two c.in_ok-tag.tag (one_scalar c.args.dl.now c.args.tag) c.args.prefix c.in_ok-states.states _ c.args.layout _ put c.in_ok-states.ensures.ok prefix c.requires.places c.requires.inside
 
 pub add-requires-2-clause-widths : goal.add-requires-2-clause-widths
 add-requires-2-clause-widths c =
-    let put : IsPut c.args.nodes.now.items c.add.new.nodes.items c.in_ok-tag.tag (one_scalar c.args.dl.now c.args.tag) = rw c.scalar.ensures.exact at c.in_ok-tag.ensures.ok in
-    tag_width c.args.dl.now c.args.tag c.args.nodes.now.items c.add.new.nodes.items c.add_each_state.new.nodes.items c.in_ok-tag.tag c.requires.tag put c.in_ok-states.ensures.ok.kept
+    let put : IsPut c.args.nodes.now c.add.new.nodes c.in_ok-tag.tag (one_scalar c.args.dl.now c.args.tag) = rw c.scalar.ensures.exact at c.in_ok-tag.ensures.ok in
+    tag_width c.args.dl.now c.args.tag c.args.nodes.now c.add.new.nodes c.add_each_state.new.nodes c.in_ok-tag.tag c.requires.tag put c.in_ok-states.ensures.ok.kept
 
 pub add-requires-2-clause-earlier : goal.add-requires-2-clause-earlier
 add-requires-2-clause-earlier c =
     let old = c.args.nodes.now in
-    let there : All (λ child. child < length old.items) c.args.prefix.items =
-    All-weaker (λ child. child < old.len) (λ child. child < length old.items) (λ child lt. omega arith) c.args.prefix.items c.requires.prefix in
-    states_before old.items c.add.new.nodes.items c.add_each_state.new.nodes.items c.in_ok-tag.tag _ _ c.args.prefix c.in_ok-states.states _ _ c.in_ok-tag.ensures.ok (omega arith) c.in_ok-states.ensures.ok there
+    let there : All (λ child. child < length old) c.args.prefix.items = c.requires.prefix in
+    states_before old c.add.new.nodes c.add_each_state.new.nodes c.in_ok-tag.tag _ _ c.args.prefix c.in_ok-states.states _ _ c.in_ok-tag.ensures.ok (omega arith) c.in_ok-states.ensures.ok there
 
 pub returns-clause-ok : goal.returns-clause-ok
 returns-clause-ok c =
-    let old = c.args.nodes.now.items in
-    let one = c.add.new.nodes.items in
-    let two = c.add_each_state.new.nodes.items in
+    let old = c.args.nodes.now in
+    let one = c.add.new.nodes in
+    let two = c.add_each_state.new.nodes in
     let locals : List ℕ = c.args.saved.locals.now in
     let all : List (Vec ℕ Global) = c.args.saved.states.now in
     let children : List (Vec ℕ Global) = c.in_ok-children.children.items in
     let put = c.in_ok-tag.ensures.ok in
-    let prefix : All (λ child. child < length old) c.args.prefix.items =
-    All-weaker (λ child. child < c.args.nodes.now.len) (λ child. child < length old) (λ child lt. omega arith) c.args.prefix.items c.requires.prefix in
-    let there : All (λ child. child < length old) locals =
-    All-weaker (λ child. child < c.args.nodes.now.len) (λ child. child < length old) (λ child lt. omega arith) locals c.requires.there in
+    let prefix : All (λ child. child < length old) c.args.prefix.items = c.requires.prefix in
+    let there : All (λ child. child < length old) locals = c.requires.there in
     let same : variants_in one c.deref.result.now ≡ map (λ ks. map (placed_in (all_at old locals)) ks.items) all =
     ap (variants_in one) c.deref.ensures.value ∙ variants_in-kept old one put.kept children (each_there (length old) locals all children there c.requires.known c.in_ok-children.ensures)
     ∙ each_means old locals all children c.requires.known c.in_ok-children.ensures in
@@ -115,17 +110,17 @@ returns-clause-ok c =
     let told = states_told c.args.layout (all_at old c.args.prefix.items) c.args.prefix.items (one_scalar c.args.dl.now c.args.tag) (variants_of c.args.layout.variants) (all_at old locals) all
     (length-map c.args.prefix.items (placed_in (types_in old))) in
     IfOk-weaker c.add-2.result _ _
-    (λ i last. subst (IsPut old c.add-2.new.nodes.items i) told
+    (λ i last. subst (IsPut old c.add-2.new.nodes i) told
     (IsPut-states old one two _ c.in_ok-tag.tag i (one_scalar c.args.dl.now c.args.tag) c.args.prefix c.in_ok-states.states _ _ c.args.layout tag arms last prefix))
     c.add-2.ensures.ok
 
 pub returns-clause-own : goal.returns-clause-own
 returns-clause-own c =
-    let two = c.add_each_state.new.nodes.items in
+    let two = c.add_each_state.new.nodes in
     let arms = arms_listed (types_in two) c.in_ok-states.states.items in
-    let tag : HasMore 1 false c.args.nodes.now.items c.add.new.nodes.items = rw c.scalar.ensures.exact at c.in_ok-tag.ensures.count in
+    let tag : HasMore 1 false c.args.nodes.now c.add.new.nodes = rw c.scalar.ensures.exact at c.in_ok-tag.ensures.count in
     both_ok c.add-2.result _ _ _ c.add-2.ensures.ok c.add-2.ensures.count
-    (λ i put count. own_put c.args.nodes.now.items two c.add-2.new.nodes.items i _ put (more_arms _ _ _ _ _ _ _ tag c.in_ok-states.ensures.count count arms))
+    (λ i put count. own_put c.args.nodes.now two c.add-2.new.nodes i _ put (more_arms _ _ _ _ _ _ _ tag c.in_ok-states.ensures.count count arms))
 
 pub returns-in_err-states-clause-behind : goal.returns-in_err-states-clause-behind
 returns-in_err-states-clause-behind c = still_after _ _ _ c.in_ok-tag.ensures.behind c.in_err-states.ensures.behind

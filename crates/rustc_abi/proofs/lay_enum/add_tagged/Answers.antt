@@ -20,36 +20,36 @@ add-requires-clause-widths c = scalar_width c.args.dl.now c.args.tag c.scalar.re
 pub add_variants-requires-clause-there : goal.add_variants-requires-clause-there
 add_variants-requires-clause-there c =
     let put = c.in_ok-tag.ensures.ok in
-    there_within c.args.nodes.now.len _ (omega (arith, put.kept.longer, length-types_in c.args.nodes.now.items, length-types_in c.add.new.nodes.items)) c.args.told.children.now c.requires.there
+    there_within (length c.args.nodes.now) _ (omega (arith, put.kept.longer, length-types_in c.args.nodes.now, length-types_in c.add.new.nodes)) c.args.told.children.now c.requires.there
 
 pub add_variants-requires-clause-inside : goal.add_variants-requires-clause-inside
 add_variants-requires-clause-inside c =
-    let there = there_within c.args.nodes.now.len (length c.args.nodes.now.items) (omega arith) c.args.told.children.now c.requires.there in
-    rw (variants_in-kept c.args.nodes.now.items c.add.new.nodes.items c.in_ok-tag.ensures.ok.kept c.args.told.children.now there) c.requires.inside
+    let there = c.requires.there in
+    rw (variants_in-kept c.args.nodes.now c.add.new.nodes c.in_ok-tag.ensures.ok.kept c.args.told.children.now there) c.requires.inside
 
 pub add-requires-2-clause-laws : goal.add-requires-2-clause-laws
 add-requires-2-clause-laws c =
-    let put : IsPut c.args.nodes.now.items c.add.new.nodes.items c.in_ok-tag.tag (one_scalar c.args.dl.now c.args.tag) = rw c.scalar.ensures.exact at c.in_ok-tag.ensures.ok in
-    tagged_keeps c.add.new.nodes.items c.add_variants.new.nodes.items c.in_ok-tag.tag (one_scalar c.args.dl.now c.args.tag) c.in_ok-variants.variants _ c.args.layout c.args.mark _
+    let put : IsPut c.args.nodes.now c.add.new.nodes c.in_ok-tag.tag (one_scalar c.args.dl.now c.args.tag) = rw c.scalar.ensures.exact at c.in_ok-tag.ensures.ok in
+    tagged_keeps c.add.new.nodes c.add_variants.new.nodes c.in_ok-tag.tag (one_scalar c.args.dl.now c.args.tag) c.in_ok-variants.variants _ c.args.layout c.args.mark _
     (omega (arith, put.last)) put.meant c.in_ok-variants.ensures.ok c.requires.places c.requires.inside
 
 pub add-requires-2-clause-widths : goal.add-requires-2-clause-widths
 add-requires-2-clause-widths c =
-    let put : IsPut c.args.nodes.now.items c.add.new.nodes.items c.in_ok-tag.tag (one_scalar c.args.dl.now c.args.tag) = rw c.scalar.ensures.exact at c.in_ok-tag.ensures.ok in
-    tag_width c.args.dl.now c.args.tag c.args.nodes.now.items c.add.new.nodes.items c.add_variants.new.nodes.items c.in_ok-tag.tag c.requires.tag put c.in_ok-variants.ensures.ok.kept
+    let put : IsPut c.args.nodes.now c.add.new.nodes c.in_ok-tag.tag (one_scalar c.args.dl.now c.args.tag) = rw c.scalar.ensures.exact at c.in_ok-tag.ensures.ok in
+    tag_width c.args.dl.now c.args.tag c.args.nodes.now c.add.new.nodes c.add_variants.new.nodes c.in_ok-tag.tag c.requires.tag put c.in_ok-variants.ensures.ok.kept
 
 pub add-requires-2-clause-earlier : goal.add-requires-2-clause-earlier
 add-requires-2-clause-earlier c =
     let put = c.in_ok-tag.ensures.ok in
-    tagged_before c.add.new.nodes.items c.add_variants.new.nodes.items c.in_ok-tag.tag _ c.in_ok-variants.variants _ _ c.args.mark (omega (arith, put.last)) (omega arith) c.in_ok-variants.ensures.ok
+    tagged_before c.add.new.nodes c.add_variants.new.nodes c.in_ok-tag.tag _ c.in_ok-variants.variants _ _ c.args.mark (omega (arith, put.last)) (omega arith) c.in_ok-variants.ensures.ok
 
 pub returns-clause-ok : goal.returns-clause-ok
 returns-clause-ok c =
-    let old = c.args.nodes.now.items in
-    let one = c.add.new.nodes.items in
-    let two = c.add_variants.new.nodes.items in
+    let old = c.args.nodes.now in
+    let one = c.add.new.nodes in
+    let two = c.add_variants.new.nodes in
     let put = c.in_ok-tag.ensures.ok in
-    let there = there_within c.args.nodes.now.len (length old) (omega arith) c.args.told.children.now c.requires.there in
+    let there = c.requires.there in
     let same = variants_in-kept old one put.kept c.args.told.children.now there in
     let layout = c.args.layout in
     let arms =
@@ -62,11 +62,11 @@ returns-clause-ok c =
 
 pub returns-clause-own : goal.returns-clause-own
 returns-clause-own c =
-    let two = c.add_variants.new.nodes.items in
+    let two = c.add_variants.new.nodes in
     let arms = arms_listed (types_in two) c.in_ok-variants.variants.items in
-    let tag : HasMore 1 false c.args.nodes.now.items c.add.new.nodes.items = rw c.scalar.ensures.exact at c.in_ok-tag.ensures.count in
+    let tag : HasMore 1 false c.args.nodes.now c.add.new.nodes = rw c.scalar.ensures.exact at c.in_ok-tag.ensures.count in
     both_ok c.add-2.result _ _ _ c.add-2.ensures.ok c.add-2.ensures.count
-    (λ i put count. own_put c.args.nodes.now.items two c.add-2.new.nodes.items i _ put (more_arms _ _ _ _ _ _ _ tag c.in_ok-variants.ensures.count count arms))
+    (λ i put count. own_put c.args.nodes.now two c.add-2.new.nodes i _ put (more_arms _ _ _ _ _ _ _ tag c.in_ok-variants.ensures.count count arms))
 
 pub returns-in_err-variants-clause-behind : goal.returns-in_err-variants-clause-behind
 returns-in_err-variants-clause-behind c = still_after _ _ _ c.in_ok-tag.ensures.behind c.in_err-variants.ensures.behind

@@ -9,8 +9,8 @@ use Rattle.rustc_abi.proofs.lay_enum.add_variants.Given as goal
 
 abbrev pub invariant-loop-at : goal.invariant-loop-at
 invariant-loop-at l =
-    AreArms l.fn.nodes.items l.nodes.items (map (λ v. v.size) (take l.at (variants_of l.layout.variants))) l.variants.items
+    AreArms l.fn.nodes l.nodes (map (λ v. v.size) (take l.at (variants_of l.layout.variants))) l.variants.items
     (arms_up_to l.layout l.mark l.at (variants_of l.layout.variants) l.numbers
-    (variants_in l.fn.nodes.items l.children))
-    × HasMore (length l.variants.items) false l.fn.nodes.items l.nodes.items
-    × AreStillThere l.fn.nodes.items l.nodes.items
+    (variants_in l.fn.nodes l.children))
+    × HasMore (length l.variants.items) false l.fn.nodes l.nodes
+    × AreStillThere l.fn.nodes l.nodes

@@ -15,10 +15,10 @@ use Rattle.rustc_abi.proofs.lay_ordered.add_faultless_ordered.Goals as goal
 
 pub ordered_layout-requires-clause-kind : goal.ordered_layout-requires-clause-kind
 ordered_layout-requires-clause-kind c =
-    let ps = all_at c.args.nodes.now.items c.args.children.items in
-    let as_many : length ps ≡ length c.args.children.items = length-map c.args.children.items (placed_in (types_in c.args.nodes.now.items)) in
+    let ps = all_at c.args.nodes.now c.args.children.items in
+    let as_many : length ps ≡ length c.args.children.items = length-map c.args.children.items (placed_in (types_in c.args.nodes.now)) in
     let kind = c.kind_of-kind.ensures ps (rw c.deref.ensures.value as_many) in
-    ⊎_elim (λ e. inl (kind ∙ e)) (λ h. inr (kind ∙ h.0, rw c.deref-3.ensures.value (omega (arith, h.1, as_many)))) (kind_cases c.args.always_sized ps)
+    ⊎_elim (λ e. inl (kind ∙ e)) (λ h. inr (kind ∙ h.0, rw c.deref-2.ensures.value (omega (arith, h.1, as_many)))) (kind_cases c.args.always_sized ps)
 
 pub ordered_layout-requires-clause-aligns : goal.ordered_layout-requires-clause-aligns
 ordered_layout-requires-clause-aligns c =
@@ -29,21 +29,21 @@ ordered_layout-requires-clause-free c = rw c.randomized.ensures (free_order c.ar
 
 pub ordered_layout-requires-clause-count : goal.ordered_layout-requires-clause-count
 ordered_layout-requires-clause-count c =
-    let ps = all_at c.args.nodes.now.items c.args.children.items in
-    let as_many : length ps ≡ length c.args.children.items = length-map c.args.children.items (placed_in (types_in c.args.nodes.now.items)) in
-    rw c.deref-3.ensures.value (omega (arith, faultless_few c.args.repr.now ps (ordered_faultless c.args.repr.now ps c.requires.faultless).0, as_many))
+    let ps = all_at c.args.nodes.now c.args.children.items in
+    let as_many : length ps ≡ length c.args.children.items = length-map c.args.children.items (placed_in (types_in c.args.nodes.now)) in
+    rw c.deref-2.ensures.value (omega (arith, faultless_few c.args.repr.now ps (ordered_faultless c.args.repr.now ps c.requires.faultless).0, as_many))
 
 pub ordered_layout-requires-clause-lawful : goal.ordered_layout-requires-clause-lawful
-ordered_layout-requires-clause-lawful c = rw (c.deref-2.ensures.value, c.deref-3.ensures.value) c.requires.lawful
+ordered_layout-requires-clause-lawful c = rw c.deref-2.ensures.value c.requires.lawful
 
 pub add-requires-clause-laws : goal.add-requires-clause-laws
 add-requires-clause-laws c =
     let dl = c.args.dl.now in
-    let ns = c.args.nodes.now.items in
+    let ns = c.args.nodes.now in
     let ps = all_at ns c.args.children.items in
     let as_many : length ps ≡ length c.args.children.items = length-map c.args.children.items (placed_in (types_in ns)) in
-    let told = rw (c.deref-2.ensures.value, c.deref-3.ensures.value) at c.in_ok-layout.ensures.ok in
-    let apart = rw (c.deref-2.ensures.value, c.deref-3.ensures.value) at c.in_ok-layout.ensures.apart in
+    let told = rw c.deref-2.ensures.value at c.in_ok-layout.ensures.ok in
+    let apart = rw c.deref-2.ensures.value at c.in_ok-layout.ensures.apart in
     list_places dl c.randomized.result _ (types_in ns) _ _ c.in_ok-layout.layout c.args.children.items told.1 apart
     (omega (arith, faultless_few c.args.repr.now ps (ordered_faultless c.args.repr.now ps c.requires.faultless).0, as_many))
 
@@ -53,14 +53,14 @@ add-requires-clause-earlier c = all_below _ c.args.children.items c.requires.the
 pub returns-clause-ok : goal.returns-clause-ok
 returns-clause-ok c =
     let dl = c.args.dl.now in
-    let ps = all_at c.args.nodes.now.items c.args.children.items in
-    let as_many : length ps ≡ length c.args.children.items = length-map c.args.children.items (placed_in (types_in c.args.nodes.now.items)) in
+    let ps = all_at c.args.nodes.now c.args.children.items in
+    let as_many : length ps ≡ length c.args.children.items = length-map c.args.children.items (placed_in (types_in c.args.nodes.now)) in
     let kind = c.kind_of-kind.ensures ps (rw c.deref.ensures.value as_many) in
-    let told = rw (c.deref-2.ensures.value, c.deref-3.ensures.value) at c.in_ok-layout.ensures.ok in
+    let told = rw c.deref-2.ensures.value at c.in_ok-layout.ensures.ok in
     let listed = subst (λ k. IsListedInOrder dl c.randomized.result k c.args.order.now (map layout_of ps) (Ok c.in_ok-layout.layout)) kind told in
     let listed_so = subst (λ r. IsListedInOrder dl r (kind_of c.args.always_sized ps) c.args.order.now (map layout_of ps) (Ok c.in_ok-layout.layout)) c.randomized.ensures listed in
-    let apart = rw (c.deref-2.ensures.value, c.deref-3.ensures.value) at c.in_ok-layout.ensures.apart in
-    let niche = rw (c.deref-2.ensures.value, c.deref-3.ensures.value) at c.in_ok-layout.ensures.niche in
+    let apart = rw c.deref-2.ensures.value at c.in_ok-layout.ensures.apart in
+    let niche = rw c.deref-2.ensures.value at c.in_ok-layout.ensures.niche in
     IfOk-weaker c.add.result _ _
     (λ i put ts laid fits. IsAdded-ordered dl _ _ i c.args.repr.now c.args.always_sized c.args.order.now ps _ ts c.requires.faultless listed_so c.in_ok-layout.ensures.lawful niche apart put laid fits)
     (rw c.of.ensures at c.add.ensures.ok)
@@ -68,10 +68,10 @@ returns-clause-ok c =
 pub returns-in_err-layout-clause-err : goal.returns-in_err-layout-clause-err
 returns-in_err-layout-clause-err c =
     let dl = c.args.dl.now in
-    let ps = all_at c.args.nodes.now.items c.args.children.items in
-    let as_many : length ps ≡ length c.args.children.items = length-map c.args.children.items (placed_in (types_in c.args.nodes.now.items)) in
+    let ps = all_at c.args.nodes.now c.args.children.items in
+    let as_many : length ps ≡ length c.args.children.items = length-map c.args.children.items (placed_in (types_in c.args.nodes.now)) in
     let kind = c.kind_of-kind.ensures ps (rw c.deref.ensures.value as_many) in
-    let told = rw (c.deref-2.ensures.value, c.deref-3.ensures.value) at c.in_err-layout.ensures.err in
+    let told = rw c.deref-2.ensures.value at c.in_err-layout.ensures.err in
     let refused = subst (λ k. IsRefused (IsListedInOrder dl c.randomized.result k c.args.order.now (map layout_of ps)) c.in_err-layout.field-0.0) kind told in
     let refused_so = subst (λ r. IsRefused (IsListedInOrder dl r (kind_of c.args.always_sized ps) c.args.order.now (map layout_of ps)) c.in_err-layout.field-0.0) c.randomized.ensures refused in
     passed_on _ _ _ c.from_residual.ensures.1 (ordered_refused dl c.args.repr.now c.args.always_sized c.args.order.now ps _ c.requires.faultless refused_so)
@@ -79,4 +79,4 @@ returns-in_err-layout-clause-err c =
 pub returns-clause-own : goal.returns-clause-own
 returns-clause-own c =
     both_ok c.add.result _ _ _ c.add.ensures.ok c.add.ensures.count
-    (λ i put count. own_put c.args.nodes.now.items c.args.nodes.now.items c.add.new.nodes.items i _ put count)
+    (λ i put count. own_put c.args.nodes.now c.args.nodes.now c.add.new.nodes i _ put count)

@@ -14,10 +14,10 @@ returns-clause-ok c =
     let dl = c.args.dl.now in
     let lawful = subst (IsLawfulLayout dl) c.never_type.ensures.exact (c.never_type.ensures.lawful c.requires) in
     IfOk-weaker c.add.result _ _
-    (λ i put. IsAdded-put dl _ _ i _ _ (subst (λ l. IsPut c.args.nodes.now.items c.add.new.nodes.items i (placed_never l Never)) c.never_type.ensures.exact put) refl (Fits-never dl lawful))
+    (λ i put. IsAdded-put dl _ _ i _ _ (subst (λ l. IsPut c.args.nodes.now c.add.new.nodes i (placed_never l Never)) c.never_type.ensures.exact put) refl (Fits-never dl lawful))
     c.add.ensures.ok
 
 pub returns-clause-own : goal.returns-clause-own
 returns-clause-own c =
     both_ok c.add.result _ _ _ c.add.ensures.ok c.add.ensures.count
-    (λ i put count. own_put c.args.nodes.now.items c.args.nodes.now.items c.add.new.nodes.items i _ put count)
+    (λ i put count. own_put c.args.nodes.now c.args.nodes.now c.add.new.nodes i _ put count)

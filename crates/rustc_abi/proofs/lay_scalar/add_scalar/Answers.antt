@@ -19,4 +19,4 @@ returns-in-None-clause-ok c =
 pub returns-in-None-clause-own : goal.returns-in-None-clause-own
 returns-in-None-clause-own c =
     both_ok c.add_lawful.result _ _ _ c.add_lawful.ensures.ok c.add_lawful.ensures.count
-    (λ i put count. own_put c.args.nodes.now.items c.args.nodes.now.items c.add_lawful.new.nodes.items i _ put count)
+    (λ i put count. own_put c.args.nodes.now c.args.nodes.now c.add_lawful.new.nodes i _ put count)

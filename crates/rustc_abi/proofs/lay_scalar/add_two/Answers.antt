@@ -31,14 +31,14 @@ add-requires-clause-laws c =
     let lawful = c.scalar_pair-layout.ensures.lawful (faultless dl a c.requires.first) (faultless dl b c.requires.second) below in
     let first = c.in_ok-first.ensures.ok in
     let second = c.in_ok-second.ensures.ok in
-    let one = second.kept.same c.in_ok-first.first (omega (arith, first.last, length-types_in c.add_lawful.new.nodes.items)) ∙ first.meant in
-    pair_laws dl (types_in c.add_lawful-2.new.nodes.items) c.in_ok-first.first c.in_ok-second.second a b c.scalar_pair-layout.result one second.meant made lawful
+    let one = second.kept.same c.in_ok-first.first (omega (arith, first.last, length-types_in c.add_lawful.new.nodes)) ∙ first.meant in
+    pair_laws dl (types_in c.add_lawful-2.new.nodes) c.in_ok-first.first c.in_ok-second.second a b c.scalar_pair-layout.result one second.meant made lawful
 
 pub add-requires-clause-earlier : goal.add-requires-clause-earlier
 add-requires-clause-earlier c =
     let first = c.in_ok-first.ensures.ok in
     let second = c.in_ok-second.ensures.ok in
-    both_true (lt-ltb c.in_ok-first.first _ (omega (arith, first.last, second.last, second.kept.longer, length-types_in c.add_lawful.new.nodes.items, length-types_in c.add_lawful-2.new.nodes.items)))
+    both_true (lt-ltb c.in_ok-first.first _ (omega (arith, first.last, second.last, second.kept.longer, length-types_in c.add_lawful.new.nodes, length-types_in c.add_lawful-2.new.nodes)))
     (lt-ltb c.in_ok-second.second _ (omega (arith, second.last)))
 
 pub returns-clause-ok : goal.returns-clause-ok
@@ -52,13 +52,13 @@ returns-clause-ok c =
     IfOk-weaker c.add.result _ _
     (λ i put. IsAdded-pair dl _ _ _ _ c.in_ok-first.first c.in_ok-second.second i a b c.requires.first c.requires.second below c.add_lawful.ensures.lawful c.add_lawful-2.ensures.lawful lawful
     c.in_ok-first.ensures.ok c.in_ok-second.ensures.ok
-    (subst (λ l. IsPut c.add_lawful-2.new.nodes.items c.add.new.nodes.items i (meaning (types_in c.add_lawful-2.new.nodes.items) l (Pair c.in_ok-first.first c.in_ok-second.second))) made put))
+    (subst (λ l. IsPut c.add_lawful-2.new.nodes c.add.new.nodes i (meaning (types_in c.add_lawful-2.new.nodes) l (Pair c.in_ok-first.first c.in_ok-second.second))) made put))
     c.add.ensures.ok
 
 pub returns-clause-own : goal.returns-clause-own
 returns-clause-own c =
     both_ok c.add.result _ _ _ c.add.ensures.ok c.add.ensures.count
-    (λ i put count. own_put c.args.nodes.now.items c.add_lawful-2.new.nodes.items c.add.new.nodes.items i _ put (more_both 2 1 false _ _ _ _ (more_both 1 1 false false _ _ _ c.in_ok-first.ensures.count c.in_ok-second.ensures.count) count))
+    (λ i put count. own_put c.args.nodes.now c.add_lawful-2.new.nodes c.add.new.nodes i _ put (more_both 2 1 false _ _ _ _ (more_both 1 1 false false _ _ _ c.in_ok-first.ensures.count c.in_ok-second.ensures.count) count))
 
 pub returns-in_err-second-clause-behind : goal.returns-in_err-second-clause-behind
 returns-in_err-second-clause-behind c = still_after _ _ _ c.in_ok-first.ensures.behind c.in_err-second.ensures.behind

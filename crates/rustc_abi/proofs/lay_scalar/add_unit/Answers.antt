@@ -17,10 +17,10 @@ returns-clause-ok c =
     let lawful = subst (IsLawfulLayout dl) c.unit.ensures.exact (c.unit.ensures.lawful c.requires) in
     IfOk-weaker c.add.result _ _
     (λ i put. IsAdded-put dl _ _ i _ _
-    (subst (λ l. IsPut c.args.nodes.now.items c.add.new.nodes.items i (fields l Unit (parts_at (listed_offsets l.fields) (all_at c.args.nodes.now.items c.new.result.items)))) c.unit.ensures.exact put) refl (Fits-unit dl lawful))
+    (subst (λ l. IsPut c.args.nodes.now c.add.new.nodes i (fields l Unit (parts_at (listed_offsets l.fields) (all_at c.args.nodes.now c.new.result.items)))) c.unit.ensures.exact put) refl (Fits-unit dl lawful))
     c.add.ensures.ok
 
 pub returns-clause-own : goal.returns-clause-own
 returns-clause-own c =
     both_ok c.add.result _ _ _ c.add.ensures.ok c.add.ensures.count
-    (λ i put count. own_put c.args.nodes.now.items c.args.nodes.now.items c.add.new.nodes.items i _ put count)
+    (λ i put count. own_put c.args.nodes.now c.args.nodes.now c.add.new.nodes i _ put count)

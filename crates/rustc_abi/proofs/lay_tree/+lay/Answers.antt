@@ -1,6 +1,5 @@
-use Rattle.std.proofs.Common.{◌≡◌, ◌+◌, ◌<◌, ◌++◌, ◌∷◌, [], arith, ap, sym, ◌∙◌, subst, take, map, length, get_or}
+use Rattle.std.proofs.Common.{◌≡◌, ◌+◌, ◌++◌, ◌∷◌, [], arith, ap, sym, ◌∙◌, subst, take, map, length, get_or}
 use Rattle.std.proofs.lemmas.List.{take_more, map-append}
-use Rattle.std.proofs.lemmas.List.Elements.{All-weaker}
 use Rattle.std.proofs.lemmas.Result.{IfOk-weaker, IfErr-weaker}
 use Rattle.abi_laid.specs.Tree.{tree_of, trees}
 use Rattle.rustc_abi.specs.Laying.{AreLaying}
@@ -337,8 +336,7 @@ lay_tree-returns-in-Coroutine-clause-err t c =
 pub lay_coroutine-add_coroutine-requires-clause-before : goal.lay_coroutine-add_coroutine-requires-clause-before
 lay_coroutine-add_coroutine-requires-clause-before t c =
     let first = AreAdded-later c.args.dl.now _ _ _ _ _ _ _ c.in_ok-prefix.ensures.ok c.in_ok-locals.ensures.ok in
-    let new = c.lay_each-2.new.nodes in
-    All-weaker (λ child. child < length new.items) (λ child. child < new.len) (λ child low. omega (arith, low, new.ok)) c.in_ok-prefix.prefix.items first.there
+    first.there
 
 pub lay_coroutine-add_coroutine-requires-clause-prefix : goal.lay_coroutine-add_coroutine-requires-clause-prefix
 lay_coroutine-add_coroutine-requires-clause-prefix t c =

@@ -6,15 +6,15 @@ use Rattle.rustc_abi.proofs.lay_tree.+lay.Given as goal
 
 abbrev pub invariant-lay_each-loop-field : goal.invariant-lay_each-loop-field
 invariant-lay_each-loop-field l =
-    AreAdded l.dl l.initial.nodes.items l.nodes.items l.children.items (map tree_of (take l.field-index l.fields))
-    × AreCounted l.dl l.initial.nodes.items l.nodes.items (trees (map tree_of (take l.field-index l.fields)))
-    × AreStillThere l.initial.nodes.items l.nodes.items
+    AreAdded l.dl l.initial.nodes l.nodes l.children.items (map tree_of (take l.field-index l.fields))
+    × AreCounted l.dl l.initial.nodes l.nodes (trees (map tree_of (take l.field-index l.fields)))
+    × AreStillThere l.initial.nodes l.nodes
 
 abbrev pub invariant-lay_variants-loop-variant : goal.invariant-lay_variants-loop-variant
 invariant-lay_variants-loop-variant l =
-    AreVariantsAdded l.dl l.initial.nodes.items l.nodes.items l.children.items (trees_of_variants (take l.variant-index l.all))
-    × AreVariantsCounted l.dl l.initial.nodes.items l.nodes.items (trees_of_variants (take l.variant-index l.all))
-    × AreStillThere l.initial.nodes.items l.nodes.items
+    AreVariantsAdded l.dl l.initial.nodes l.nodes l.children.items (trees_of_variants (take l.variant-index l.all))
+    × AreVariantsCounted l.dl l.initial.nodes l.nodes (trees_of_variants (take l.variant-index l.all))
+    × AreStillThere l.initial.nodes l.nodes
 
 abbrev pub decreases-lay_tree : goal.decreases-lay_tree
 decreases-lay_tree l = 4 * tree_size (tree_of l.tree.now)

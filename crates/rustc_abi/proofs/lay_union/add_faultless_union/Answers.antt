@@ -15,19 +15,19 @@ union_layout-requires-clause-aligns c = faultless_aligns c.args.repr.now _ c.req
 
 pub union_layout-requires-clause-count : goal.union_layout-requires-clause-count
 union_layout-requires-clause-count c =
-    let ps = all_at c.args.nodes.now.items c.args.children.items in
-    let as_many : length ps ≡ length c.args.children.items = length-map c.args.children.items (placed_in (types_in c.args.nodes.now.items)) in
-    rw c.deref-2.ensures.value (omega (arith, faultless_few c.args.repr.now ps c.requires.faultless, as_many))
+    let ps = all_at c.args.nodes.now c.args.children.items in
+    let as_many : length ps ≡ length c.args.children.items = length-map c.args.children.items (placed_in (types_in c.args.nodes.now)) in
+    rw c.deref.ensures.value (omega (arith, faultless_few c.args.repr.now ps c.requires.faultless, as_many))
 
 pub union_layout-requires-clause-lawful : goal.union_layout-requires-clause-lawful
-union_layout-requires-clause-lawful c = rw (c.deref.ensures.value, c.deref-2.ensures.value) c.requires.lawful
+union_layout-requires-clause-lawful c = rw c.deref.ensures.value c.requires.lawful
 
 pub add-requires-clause-laws : goal.add-requires-clause-laws
 add-requires-clause-laws c =
-    let ns = c.args.nodes.now.items in
+    let ns = c.args.nodes.now in
     let ps = all_at ns c.args.children.items in
     let as_many : length ps ≡ length c.args.children.items = length-map c.args.children.items (placed_in (types_in ns)) in
-    let united = rw (c.deref.ensures.value, c.deref-2.ensures.value) at c.in_ok-layout.ensures.ok in
+    let united = rw c.deref.ensures.value at c.in_ok-layout.ensures.ok in
     union_places c.args.dl.now c.args.repr.now (types_in ns) c.in_ok-layout.layout c.args.children.items united (omega (arith, faultless_few c.args.repr.now ps c.requires.faultless, as_many))
 
 pub add-requires-clause-earlier : goal.add-requires-clause-earlier
@@ -35,17 +35,17 @@ add-requires-clause-earlier c = all_below _ c.args.children.items c.requires.the
 
 pub returns-clause-ok : goal.returns-clause-ok
 returns-clause-ok c =
-    let united = rw (c.deref.ensures.value, c.deref-2.ensures.value) at c.in_ok-layout.ensures.ok in
+    let united = rw c.deref.ensures.value at c.in_ok-layout.ensures.ok in
     IfOk-weaker c.add.result _ _
     (λ i put ts laid fits. IsAdded-union c.args.dl.now _ _ i c.args.repr.now _ _ ts c.requires.faultless united c.in_ok-layout.ensures.lawful put laid fits)
     (rw c.of.ensures at c.add.ensures.ok)
 
 pub returns-in_err-layout-clause-err : goal.returns-in_err-layout-clause-err
 returns-in_err-layout-clause-err c =
-    let refused = rw (c.deref.ensures.value, c.deref-2.ensures.value) at c.in_err-layout.ensures.err in
+    let refused = rw c.deref.ensures.value at c.in_err-layout.ensures.err in
     passed_on _ _ _ c.from_residual.ensures.1 (union_refused c.args.dl.now c.args.repr.now _ _ c.requires.faultless refused)
 
 pub returns-clause-own : goal.returns-clause-own
 returns-clause-own c =
     both_ok c.add.result _ _ _ c.add.ensures.ok c.add.ensures.count
-    (λ i put count. own_put c.args.nodes.now.items c.args.nodes.now.items c.add.new.nodes.items i _ put count)
+    (λ i put count. own_put c.args.nodes.now c.args.nodes.now c.add.new.nodes i _ put count)

@@ -1,11 +1,10 @@
-use Rattle.std.proofs.Common.{◌≡◌, ◌<◌, ◌*◌, Bool, true, false, length, nat_lt, Some, Ok, Err, ℕ, ap, sym, subst, arith}
+use Rattle.std.proofs.Common.{◌≡◌, ◌<◌, ◌*◌, Bool, true, false, length, nat_lt, Ok, Err, ℕ, ap, sym, arith}
 use Rattle.std.specs.Prelude.{if◌then◌else◌}
 use Rattle.std.proofs.lemmas.Result.{IfOk-weaker}
 use Rattle.abi_base.specs.declared.data_layout.TargetDataLayout.{TargetDataLayout}
 use Rattle.abi_base.specs.DataLayout.{size_bound}
 use Rattle.abi_scalar.specs.declared.error.LayoutCalculatorError.TheVariants.{SizeOverflow}
-use Rattle.abi_lists.specs.Array.{array_answer, elements_layout}
-use Rattle.abi_lists.specs.Simd.{simd_answer}
+use Rattle.abi_lists.specs.Array.{elements_layout}
 use Rattle.abi_laid.specs.Placed.{layout_of}
 use Rattle.abi_scalar.specs.Layout.{Layout}
 use Rattle.rustc_abi.specs.declared.error.LayError.{LayError}
@@ -18,26 +17,17 @@ use Rattle.rustc_abi.proofs.Sizes.CountLemmas.{array_flagged, both_ok, flagged_t
 use Rattle.rustc_abi.proofs.Trees.StillLemmas.{still_after}
 use Rattle.rustc_abi.proofs.lay_vector.add_vector.Goals as goal
 
-pub vector_layout-requires-clause-lawful : goal.vector_layout-requires-clause-lawful
-vector_layout-requires-clause-lawful c = rw c.deref.ensures.value c.requires.lawful
-
-pub elements_layout-requires-clause-lawful : goal.elements_layout-requires-clause-lawful
-elements_layout-requires-clause-lawful c = rw c.deref-2.ensures.value c.requires.lawful
-
 pub add-requires-clause-laws : goal.add-requires-clause-laws
 add-requires-clause-laws c =
-    let listed =
-    subst (λ ns. Ok c.in_ok-array.array ≡ named {H = ℕ} (array_answer 0 c.args.dl.now (layout_of (placed_at ns c.args.element)) (Some c.args.lanes))) c.deref-2.ensures.value c.in_ok-array.ensures.exact in
-    elements_laws c.args.dl.now (types_in c.args.nodes.now.items) c.args.element c.args.lanes c.in_ok-array.array (sym listed)
+    let listed = c.in_ok-array.ensures.exact in
+    elements_laws c.args.dl.now (types_in c.args.nodes.now) c.args.element c.args.lanes c.in_ok-array.array (sym listed)
 
 pub add-requires-2-clause-laws : goal.add-requires-2-clause-laws
 add-requires-2-clause-laws c =
     let dl = c.args.dl.now in
-    let answer =
-    subst (λ ns. named (simd_answer (λ h. h) 0 0 dl (layout_of (placed_at ns c.args.element)) c.args.lanes c.args.packed) ≡ Ok c.in_ok-layout.layout) c.deref.ensures.value c.in_ok-layout.ensures.ok in
-    let listed =
-    subst (λ ns. Ok c.in_ok-array.array ≡ named {H = ℕ} (array_answer 0 dl (layout_of (placed_at ns c.args.element)) (Some c.args.lanes))) c.deref-2.ensures.value c.in_ok-array.ensures.exact in
-    vector_laws dl (types_in c.add.new.nodes.items) c.in_ok-node.node (layout_of (placed_at c.args.nodes.now.items c.args.element)) c.args.lanes c.args.packed c.in_ok-array.array c.in_ok-layout.layout
+    let answer = c.in_ok-layout.ensures.ok in
+    let listed = c.in_ok-array.ensures.exact in
+    vector_laws dl (types_in c.add.new.nodes) c.in_ok-node.node (layout_of (placed_at c.args.nodes.now c.args.element)) c.args.lanes c.args.packed c.in_ok-array.array c.in_ok-layout.layout
     (ap layout_of c.in_ok-node.ensures.ok.meant) answer (sym listed)
 
 -- where all lanes are below the bound, their array has a layout
@@ -48,35 +38,31 @@ never_refused dl element lanes e false is told = cc
 pub returns-in_err-array-clause-err : goal.returns-in_err-array-clause-err
 returns-in_err-array-clause-err c =
     let dl = c.args.dl.now in
-    let element = layout_of (placed_at c.args.nodes.now.items c.args.element) in
-    let answer =
-    subst (λ ns. named (simd_answer (λ h. h) 0 0 dl (layout_of (placed_at ns c.args.element)) c.args.lanes c.args.packed) ≡ Ok c.in_ok-layout.layout) c.deref.ensures.value c.in_ok-layout.ensures.ok in
+    let element = layout_of (placed_at c.args.nodes.now c.args.element) in
+    let answer = c.in_ok-layout.ensures.ok in
     let below = (vector_made dl element c.args.lanes c.args.packed c.in_ok-layout.layout answer).below in
-    let told = rw c.deref-2.ensures.value at c.in_err-array.ensures.exact in
+    let told = c.in_err-array.ensures.exact in
     absurd (never_refused dl element c.args.lanes _ (nat_lt (element.size * c.args.lanes) (size_bound dl)) below told)
 
 pub returns-clause-ok : goal.returns-clause-ok
 returns-clause-ok c =
     let dl = c.args.dl.now in
-    let answer =
-    subst (λ ns. named (simd_answer (λ h. h) 0 0 dl (layout_of (placed_at ns c.args.element)) c.args.lanes c.args.packed) ≡ Ok c.in_ok-layout.layout) c.deref.ensures.value c.in_ok-layout.ensures.ok in
-    let listed =
-    subst (λ ns. Ok c.in_ok-array.array ≡ named {H = ℕ} (array_answer 0 dl (layout_of (placed_at ns c.args.element)) (Some c.args.lanes))) c.deref-2.ensures.value c.in_ok-array.ensures.exact in
-    let element = placed_at c.args.nodes.now.items c.args.element in
+    let answer = c.in_ok-layout.ensures.ok in
+    let listed = c.in_ok-array.ensures.exact in
+    let element = placed_at c.args.nodes.now c.args.element in
     IfOk-weaker c.add-2.result _ _
     (λ j put t laid fits. IsAdded-vector dl _ _ _ _ j element c.args.lanes c.args.packed c.in_ok-array.array c.in_ok-layout.layout t answer c.in_ok-layout.ensures.lawful (sym listed) c.in_ok-array.ensures.lawful c.in_ok-node.ensures.ok put laid fits)
     c.add-2.ensures.ok
 
 pub returns-clause-own : goal.returns-clause-own
 returns-clause-own c =
-    let old = c.args.nodes.now.items in
-    let listed =
-    subst (λ ns. Ok c.in_ok-array.array ≡ named {H = ℕ} (array_answer 0 c.args.dl.now (layout_of (placed_at ns c.args.element)) (Some c.args.lanes))) c.deref-2.ensures.value c.in_ok-array.ensures.exact in
+    let old = c.args.nodes.now in
+    let listed = c.in_ok-array.ensures.exact in
     let here : c.args.element < length old = omega arith in
-    let array = more_absorbed 1 c.in_ok-array.array.uninhabited old c.add.new.nodes.items
+    let array = more_absorbed 1 c.in_ok-array.array.uninhabited old c.add.new.nodes
     (λ flag. flagged_there old c.args.element here (array_flagged c.args.dl.now (layout_of (placed_at old c.args.element)) c.in_ok-array.array c.args.lanes listed flag)) c.in_ok-node.ensures.count in
     both_ok c.add-2.result _ _ _ c.add-2.ensures.ok c.add-2.ensures.count
-    (λ i put count. own_put old c.add.new.nodes.items c.add-2.new.nodes.items i _ put (more_both 1 1 false _ _ _ _ array count))
+    (λ i put count. own_put old c.add.new.nodes c.add-2.new.nodes i _ put (more_both 1 1 false _ _ _ _ array count))
 
 pub returns-clause-behind : goal.returns-clause-behind
 returns-clause-behind c = still_after _ _ _ c.in_ok-node.ensures.behind c.add-2.ensures.behind

@@ -5,6 +5,7 @@ use Rattle.abi_laid.specs.Handles.{tree_depth, variant_place}
 use Rattle.abi_scalar.specs.Layout.{Layout}
 use Rattle.abi_laid.specs.Typed.{typed_at}
 use Rattle.abi_laid.proofs.Meaning.HandleLemmas.{several_at, several_falls, several_named, variant_here}
+use Rattle.abi_laid.specs.Nodes.{lent_node}
 use Rattle.abi_laid.proofs.handle.TreeTyTyAbiInterface.ty_and_layout_for_variant.Goals as goal
 
 pub variant_node-requires : goal.variant_node-requires
@@ -15,7 +16,7 @@ variant_node-requires g c =
     let several = ap (λ (layout : Layout). layout.variants) c.requires.valid.layout ∙ c.in-Multiple.is in
     let named = several_named (layout_in (typed_at ns this.node)).variants v _ _ _ _ several c.requires.named in
     let facts =
-    variant_here ns this.laid.now.earlier this.laid.now.laws ns refl this.node c.node_at.result.now c.requires.valid.there c.node_at.ensures v named
+    variant_here ns this.laid.now.earlier this.laid.now.laws ns refl this.node (lent_node c.node_at.result) c.requires.valid.there c.node_at.ensures v named
     in
     omega (arith, facts.has, c.as_usize.ensures)
 
@@ -27,7 +28,7 @@ handle_at-requires g c =
     let several = ap (λ (layout : Layout). layout.variants) c.requires.valid.layout ∙ c.in-Multiple.is in
     let named = several_named (layout_in (typed_at ns this.node)).variants v _ _ _ _ several c.requires.named in
     let facts =
-    variant_here ns this.laid.now.earlier this.laid.now.laws ns refl this.node c.node_at.result.now c.requires.valid.there c.node_at.ensures v named
+    variant_here ns this.laid.now.earlier this.laid.now.laws ns refl this.node (lent_node c.node_at.result) c.requires.valid.there c.node_at.ensures v named
     in
     let place = c.variant_node.ensures ∙ ap (variant_place _) c.as_usize.ensures in
     omega (arith, facts.before, place, c.requires.valid.there)
@@ -40,7 +41,7 @@ returns-in-Multiple-clause-variant g c =
     let several = ap (λ (layout : Layout). layout.variants) c.requires.valid.layout ∙ c.in-Multiple.is in
     let named = several_named (layout_in (typed_at ns this.node)).variants v _ _ _ _ several c.requires.named in
     let facts =
-    variant_here ns this.laid.now.earlier this.laid.now.laws ns refl this.node c.node_at.result.now c.requires.valid.there c.node_at.ensures v named
+    variant_here ns this.laid.now.earlier this.laid.now.laws ns refl this.node (lent_node c.node_at.result) c.requires.valid.there c.node_at.ensures v named
     in
     c.handle_at.ensures.told ∙ ap (typed_at ns) (c.variant_node.ensures ∙ ap (variant_place _) c.as_usize.ensures) ∙ facts.same
     ∙ sym (several_at (typed_at ns this.node) v _ _ _ _ several)
@@ -53,7 +54,7 @@ returns-in-Multiple-clause-falls g c =
     let several = ap (λ (layout : Layout). layout.variants) c.requires.valid.layout ∙ c.in-Multiple.is in
     let named = several_named (layout_in (typed_at ns this.node)).variants v _ _ _ _ several c.requires.named in
     let facts =
-    variant_here ns this.laid.now.earlier this.laid.now.laws ns refl this.node c.node_at.result.now c.requires.valid.there c.node_at.ensures v named
+    variant_here ns this.laid.now.earlier this.laid.now.laws ns refl this.node (lent_node c.node_at.result) c.requires.valid.there c.node_at.ensures v named
     in
     let place = c.variant_node.ensures ∙ ap (variant_place _) c.as_usize.ensures in
     several_falls (layout_in (typed_at ns this.node)).variants _ _ _ _ (tree_depth c.handle_at.result) this.node several (omega (arith, facts.before, place, c.handle_at.ensures.depth))

@@ -76,10 +76,10 @@ put_node-put_parts-requires t c =
     let cs : List ℕ = c.in-Pair.first ∷ c.in-Pair.second ∷ [] in
     let there = kept_there ns c.args.cover.kept.now c.args.cover.sets.now have c.args.node c.requires.kept in
     let room = kept_room ns c.args.cover.kept.now c.args.cover.sets.now have c.args.node c.requires.kept in
-    let layout : Layout = c.read_one-here.result.now.layout in
+    let layout : Layout = c.read_one-here.result.layout.now in
     let size = node_size ns c.args.node _ there c.read_one-here.ensures in
     let facts = pair_node ns have.needed.well c.args.node _ there c.read_one-here.ensures room c.in-Pair.first c.in-Pair.second c.in-Pair.is in
-    let named : (j : ℕ) → is_among _ j ≡ true → is_among (named_by layout c.read_one-here.result.now.shape) j ≡ true = λ j h. subst (λ s. is_among (named_by layout s) j ≡ true) (sym c.in-Pair.is) h in (
+    let named : (j : ℕ) → is_among _ j ≡ true → is_among (named_by layout c.read_one-here.result.shape.now) j ≡ true = λ j h. subst (λ s. is_among (named_by layout s) j ≡ true) (sym c.in-Pair.is) h in (
       omega (arith, c.decreases),
       (
         have,
@@ -96,7 +96,7 @@ put_node-returns-in-Pair-clause-put t c =
     let cs : List ℕ = c.in-Pair.first ∷ c.in-Pair.second ∷ [] in
     let there = kept_there ns c.args.cover.kept.now c.args.cover.sets.now have c.args.node c.requires.kept in
     let room = kept_room ns c.args.cover.kept.now c.args.cover.sets.now have c.args.node c.requires.kept in
-    let layout : Layout = c.read_one-here.result.now.layout in
+    let layout : Layout = c.read_one-here.result.layout.now in
     let facts = pair_node ns have.needed.well c.args.node _ there c.read_one-here.ensures room c.in-Pair.first c.in-Pair.second c.in-Pair.is in
     let parts : Parts = parts_at (listed_offsets layout.fields) (all_at ns cs) in
     let put : PutsCoveringParts c.args.cover.order c.args.at c.args.bytes.now c.put_parts.new.bytes c.args.place parts =
@@ -117,7 +117,7 @@ pub put_node-put_elements-requires : goal.put_node-put_elements-requires
 put_node-put_elements-requires t c =
     let ns = c.args.cover.nodes.now in
     let have = c.requires.sets in
-    let layout : Layout = c.read_one-here.result.now.layout in
+    let layout : Layout = c.read_one-here.result.layout.now in
     let there = kept_there ns c.args.cover.kept.now c.args.cover.sets.now have c.args.node c.requires.kept in
     let room = kept_room ns c.args.cover.kept.now c.args.cover.sets.now have c.args.node c.requires.kept in
     let size = node_size ns c.args.node _ there c.read_one-here.ensures in
@@ -139,12 +139,12 @@ pub put_node-put_parts-requires-in-Fields : goal.put_node-put_parts-requires-in-
 put_node-put_parts-requires-in-Fields t c =
     let ns = c.args.cover.nodes.now in
     let have = c.requires.sets in
-    let layout : Layout = c.read_one-here.result.now.layout in
+    let layout : Layout = c.read_one-here.result.layout.now in
     let there = kept_there ns c.args.cover.kept.now c.args.cover.sets.now have c.args.node c.requires.kept in
     let room = kept_room ns c.args.cover.kept.now c.args.cover.sets.now have c.args.node c.requires.kept in
     let size = node_size ns c.args.node _ there c.read_one-here.ensures in
     let facts = fields_node ns have.needed.well c.args.node _ there c.read_one-here.ensures room c.in-Fields.field-0 c.in-Fields.children c.in-Fields.is in
-    let named : (j : ℕ) → is_among _ j ≡ true → is_among (named_by layout c.read_one-here.result.now.shape) j ≡ true = λ j h. subst (λ s. is_among (named_by layout s) j ≡ true) (sym c.in-Fields.is) h in (
+    let named : (j : ℕ) → is_among _ j ≡ true → is_among (named_by layout c.read_one-here.result.shape.now) j ≡ true = λ j h. subst (λ s. is_among (named_by layout s) j ≡ true) (sym c.in-Fields.is) h in (
       omega (arith, c.decreases),
       (
         have,
@@ -158,7 +158,7 @@ pub put_node-returns-in-Fields-clause-put : goal.put_node-returns-in-Fields-clau
 put_node-returns-in-Fields-clause-put t c =
     let ns = c.args.cover.nodes.now in
     let have = c.requires.sets in
-    let layout : Layout = c.read_one-here.result.now.layout in
+    let layout : Layout = c.read_one-here.result.layout.now in
     let new : List ℕ = c.put_parts-in-Fields.new.bytes in
     let there = kept_there ns c.args.cover.kept.now c.args.cover.sets.now have c.args.node c.requires.kept in
     let room = kept_room ns c.args.cover.kept.now c.args.cover.sets.now have c.args.node c.requires.kept in
@@ -172,12 +172,12 @@ pub put_node-put_parts-requires-in-Single : goal.put_node-put_parts-requires-in-
 put_node-put_parts-requires-in-Single t c =
     let ns = c.args.cover.nodes.now in
     let have = c.requires.sets in
-    let layout : Layout = c.read_one-here.result.now.layout in
+    let layout : Layout = c.read_one-here.result.layout.now in
     let there = kept_there ns c.args.cover.kept.now c.args.cover.sets.now have c.args.node c.requires.kept in
     let room = kept_room ns c.args.cover.kept.now c.args.cover.sets.now have c.args.node c.requires.kept in
     let size = node_size ns c.args.node _ there c.read_one-here.ensures in
     let facts = single_node ns have.needed.well c.args.node _ there c.read_one-here.ensures room c.in-Single.field-0 c.in-Single.children c.in-Single.is in
-    let named : (j : ℕ) → is_among _ j ≡ true → is_among (named_by layout c.read_one-here.result.now.shape) j ≡ true = λ j h. subst (λ s. is_among (named_by layout s) j ≡ true) (sym c.in-Single.is) h in (
+    let named : (j : ℕ) → is_among _ j ≡ true → is_among (named_by layout c.read_one-here.result.shape.now) j ≡ true = λ j h. subst (λ s. is_among (named_by layout s) j ≡ true) (sym c.in-Single.is) h in (
       omega (arith, c.decreases),
       (
         have,
@@ -191,7 +191,7 @@ pub put_node-returns-in-Single-clause-put : goal.put_node-returns-in-Single-clau
 put_node-returns-in-Single-clause-put t c =
     let ns = c.args.cover.nodes.now in
     let have = c.requires.sets in
-    let layout : Layout = c.read_one-here.result.now.layout in
+    let layout : Layout = c.read_one-here.result.layout.now in
     let new : List ℕ = c.put_parts-in-Single.new.bytes in
     let there = kept_there ns c.args.cover.kept.now c.args.cover.sets.now have c.args.node c.requires.kept in
     let room = kept_room ns c.args.cover.kept.now c.args.cover.sets.now have c.args.node c.requires.kept in
@@ -225,7 +225,7 @@ pub put_node-returns-in-Union-clause-put : goal.put_node-returns-in-Union-clause
 put_node-returns-in-Union-clause-put t c =
     let ns = c.args.cover.nodes.now in
     let have = c.requires.sets in
-    let layout : Layout = c.read_one-here.result.now.layout in
+    let layout : Layout = c.read_one-here.result.layout.now in
     let new : List ℕ = c.put_zeros.new.bytes in
     let there = kept_there ns c.args.cover.kept.now c.args.cover.sets.now have c.args.node c.requires.kept in
     let room = kept_room ns c.args.cover.kept.now c.args.cover.sets.now have c.args.node c.requires.kept in
@@ -245,7 +245,7 @@ pub put_node-put_node-requires : goal.put_node-put_node-requires
 put_node-put_node-requires t c =
     let ns = c.args.cover.nodes.now in
     let have = c.requires.sets in
-    let layout : Layout = c.read_one-here.result.now.layout in
+    let layout : Layout = c.read_one-here.result.layout.now in
     let there = kept_there ns c.args.cover.kept.now c.args.cover.sets.now have c.args.node c.requires.kept in
     let room = kept_room ns c.args.cover.kept.now c.args.cover.sets.now have c.args.node c.requires.kept in
     let size = node_size ns c.args.node _ there c.read_one-here.ensures in
@@ -267,7 +267,7 @@ put_node-returns-in-Vector-clause-put t c =
     let start : c.args.at ≡ c.args.at + 0 = omega arith in
     subst (PutsCovering c.args.cover.order c.args.at c.args.bytes.now new c.args.place) (sym facts.1)
     (λ b all held.
-    put_vector c.args.cover.order c.read_one-here.result.now.layout c.args.at b c.args.bytes.now new lanes (covering_value lanes c.args.place)
+    put_vector c.args.cover.order c.read_one-here.result.layout.now c.args.at b c.args.bytes.now new lanes (covering_value lanes c.args.place)
     (λ at. put_slice c.args.cover.order lanes (covering_value lanes c.args.place) c.args.at 0 b c.args.bytes.now new all at
     (λ s each holds. subst (λ a. IsPutOver (is_covered lanes (covering_value lanes c.args.place)) a s c.args.bytes.now new) start (c.put_node.ensures.put s each holds)))
     held)
@@ -280,7 +280,7 @@ put_variant-put_arm-requires t c =
     let have = c.requires.sets in
     let kept = c.args.cover.kept.now in
     let sets = c.args.cover.sets.now in
-    let layout : Layout = c.args.here.now.layout in
+    let layout : Layout = c.args.here.layout.now in
     let vs : List (ℕ × ℕ) = is.2.items in
     let lent : c.arms_of-beside.result.arms.now ≡ vs = own.1 in
     let there = kept_there ns kept sets have c.args.node c.requires.kept in
@@ -289,7 +289,7 @@ put_variant-put_arm-requires t c =
     let size = node_size ns c.args.node _ there c.requires.here in
     let facts = tagged_node ns have.needed.well c.args.node _ there c.requires.here room is.0 is.1 is.2 is.3 in
     let width = tag_width_at ns have.needed.well c.args.cover.widths c.args.node _ there c.requires.here is.0 is.1 is.2 is.3 in
-    let nodes : variant_nodes c.args.here.now.shape ≡ map (λ v. v.1) vs = ap variant_nodes is.3 in
+    let nodes : variant_nodes c.args.here.shape.now ≡ map (λ v. v.1) vs = ap variant_nodes is.3 in
     let keeps = all_kept kept vs (λ j h.
     kept_named ns kept sets have c.args.node c.requires.kept _ c.requires.here some j (subst (λ s. is_among (named_by layout s) j ≡ true) (sym is.3) (among_tagged is.1 vs j h))) in
     let listed = kept_variants ns kept sets have c.args.node c.requires.kept _ c.requires.here vs nodes in
@@ -325,7 +325,7 @@ put_variant-returns-clause-put t c =
     let is = c.requires.tagged in
     let own = c.arms_of-beside.ensures.tagged is.0 is.1 is.2 is.3 in
     let have = c.requires.sets in
-    let layout : Layout = c.args.here.now.layout in
+    let layout : Layout = c.args.here.layout.now in
     let new : List ℕ = c.put_arm.new.bytes in
     let vs : List (ℕ × ℕ) = is.2.items in
     let there = kept_there ns c.args.cover.kept.now c.args.cover.sets.now have c.args.node c.requires.kept in
@@ -347,13 +347,13 @@ put_state-put_parts-requires t c =
     let is = c.requires.states in
     let own = c.arms_of-beside.ensures.states is.0 is.1 is.2 is.3 in
     let have = c.requires.sets in
-    let layout : Layout = c.args.here.now.layout in
+    let layout : Layout = c.args.here.layout.now in
     let there = kept_there ns c.args.cover.kept.now c.args.cover.sets.now have c.args.node c.requires.kept in
     let room = kept_room ns c.args.cover.kept.now c.args.cover.sets.now have c.args.node c.requires.kept in
     let size = node_size ns c.args.node _ there c.requires.here in
     let facts = states_node ns have.needed.well c.args.node _ there c.requires.here room is.0 is.1 is.2 is.3 in
     let rooms = states_rooms ns layout is.0.items is.1 is.2.items facts.4 in
-    let named : (j : ℕ) → is_among _ j ≡ true → is_among (named_by layout c.args.here.now.shape) j ≡ true =
+    let named : (j : ℕ) → is_among _ j ≡ true → is_among (named_by layout c.args.here.shape.now) j ≡ true =
     λ j h. subst (λ s. is_among (named_by layout s) j ≡ true) (sym is.3) (among_prefix layout is.0.items is.1 is.2.items j h) in (
       omega (arith, c.decreases),
       (
@@ -372,7 +372,7 @@ put_state-put_arm-requires t c =
     let have = c.requires.sets in
     let kept = c.args.cover.kept.now in
     let sets = c.args.cover.sets.now in
-    let layout : Layout = c.args.here.now.layout in
+    let layout : Layout = c.args.here.layout.now in
     let vs : List (ℕ × ℕ) = is.2.items in
     let lent : c.arms_of-beside.result.arms.now ≡ vs = own.2 in
     let there = kept_there ns kept sets have c.args.node c.requires.kept in
@@ -382,7 +382,7 @@ put_state-put_arm-requires t c =
     let facts = states_node ns have.needed.well c.args.node _ there c.requires.here room is.0 is.1 is.2 is.3 in
     let rooms = states_rooms ns layout is.0.items is.1 vs facts.4 in
     let width = state_tag_width_at ns have.needed.well c.args.cover.widths c.args.node _ there c.requires.here is.0 is.1 is.2 is.3 in
-    let nodes : variant_nodes c.args.here.now.shape ≡ map (λ v. v.1) vs = ap variant_nodes is.3 in
+    let nodes : variant_nodes c.args.here.shape.now ≡ map (λ v. v.1) vs = ap variant_nodes is.3 in
     let keeps = all_kept kept vs (λ j h.
     kept_named ns kept sets have c.args.node c.requires.kept _ c.requires.here some j
     (subst (λ s. is_among (named_by layout s) j ≡ true) (sym is.3) (among_states layout is.0.items is.1 vs j h))) in
@@ -420,7 +420,7 @@ put_state-returns-clause-put t c =
     let is = c.requires.states in
     let own = c.arms_of-beside.ensures.states is.0 is.1 is.2 is.3 in
     let have = c.requires.sets in
-    let layout : Layout = c.args.here.now.layout in
+    let layout : Layout = c.args.here.layout.now in
     let mid : List ℕ = c.put_parts.new.bytes in
     let new : List ℕ = c.put_arm.new.bytes in
     let prefix : List ℕ = is.0.items in

@@ -38,7 +38,7 @@ read_node-returns-in-Scalar t c =
     finds_number (Holds c.args.walk.order p c.args.bytes.now) (λ n. Holds c.args.walk.order p c.args.bytes.now (number n)) c.read_number.result c.as_number.result c.as_number.ensures c.read_number.ensures
     (λ n h. h)
     (subst (λ x. (v : Value) → Holds c.args.walk.order x c.args.bytes.now v → (n : ℕ) × Holds c.args.walk.order x c.args.bytes.now (number n)) (sym is)
-    (from_scalar c.args.walk.order c.read_one-here.result.now.layout c.args.bytes.now c.in-Scalar.field-0))
+    (from_scalar c.args.walk.order c.read_one-here.result.layout.now c.args.bytes.now c.in-Scalar.field-0))
 
 pub read_node-read_pair-requires-clause-first : goal.read_node-read_pair-requires-clause-first
 read_node-read_pair-requires-clause-first t c =
@@ -56,7 +56,7 @@ pub read_node-returns-in-Pair : goal.read_node-returns-in-Pair
 read_node-returns-in-Pair t c =
     let ns = c.args.walk.nodes.now in
     let b : List ℕ = c.args.bytes.now in
-    let layout : Layout = c.read_one-here.result.now.layout in
+    let layout : Layout = c.read_one-here.result.layout.now in
     let facts = pair_node ns c.args.walk.well c.args.node _ c.requires.there c.read_one-here.ensures c.requires.room c.in-Pair.first c.in-Pair.second c.in-Pair.is in
     let parts : Parts = parts_at (listed_offsets layout.fields) (all_at ns (c.in-Pair.first ∷ c.in-Pair.second ∷ [])) in
     let found : Finds (HoldsTwo c.args.walk.order parts b) c.read_pair.result =
@@ -68,7 +68,7 @@ read_node-returns-in-Pair t c =
 pub read_node-returns-in-Never : goal.read_node-returns-in-Never
 read_node-returns-in-Never t c =
     let is = never_node c.args.walk.nodes.now c.args.walk.well c.args.node _ c.requires.there c.read_one-here.ensures c.requires.room c.in-Never.field-0 c.in-Never.is in
-    subst (λ x. (v : Value) → Holds c.args.walk.order x c.args.bytes.now v → ⊥) (sym is) (from_never c.args.walk.order c.read_one-here.result.now.layout c.args.bytes.now c.in-Never.field-0)
+    subst (λ x. (v : Value) → Holds c.args.walk.order x c.args.bytes.now v → ⊥) (sym is) (from_never c.args.walk.order c.read_one-here.result.layout.now c.args.bytes.now c.in-Never.field-0)
 
 pub read_node-read_elements-requires : goal.read_node-read_elements-requires
 read_node-read_elements-requires t c =
@@ -81,7 +81,7 @@ pub read_node-returns-in_ok-found-in-Elements : goal.read_node-returns-in_ok-fou
 read_node-returns-in_ok-found-in-Elements t c =
     let ns = c.args.walk.nodes.now in
     let b : List ℕ = c.args.bytes.now in
-    let layout : Layout = c.read_one-here.result.now.layout in
+    let layout : Layout = c.read_one-here.result.layout.now in
     let long : length b ≡ layout.size = c.if-bytes.false ∙ c.bytes.ensures in
     let facts = elements_node ns c.args.walk.well c.args.node _ c.requires.there c.read_one-here.ensures c.requires.room c.in-Elements.count c.in-Elements.element c.in-Elements.is in
     let element : Placed = placed_at ns c.in-Elements.element in
@@ -102,7 +102,7 @@ pub read_node-returns-in_ok-found-in-Fields : goal.read_node-returns-in_ok-found
 read_node-returns-in_ok-found-in-Fields t c =
     let ns = c.args.walk.nodes.now in
     let b : List ℕ = c.args.bytes.now in
-    let layout : Layout = c.read_one-here.result.now.layout in
+    let layout : Layout = c.read_one-here.result.layout.now in
     let long : length b ≡ layout.size = c.if-bytes.false ∙ c.bytes.ensures in
     let facts = fields_node ns c.args.walk.well c.args.node _ c.requires.there c.read_one-here.ensures c.requires.room c.in-Fields.field-0 c.in-Fields.children c.in-Fields.is in
     let parts : Parts = parts_at (listed_offsets layout.fields) (all_at ns c.in-Fields.children.items) in
@@ -120,7 +120,7 @@ pub read_node-returns-in_ok-read_union-in-Union : goal.read_node-returns-in_ok-r
 read_node-returns-in_ok-read_union-in-Union t c =
     let ns = c.args.walk.nodes.now in
     let b : List ℕ = c.args.bytes.now in
-    let layout : Layout = c.read_one-here.result.now.layout in
+    let layout : Layout = c.read_one-here.result.layout.now in
     let facts = union_node ns c.args.walk.well c.args.node _ c.requires.there c.read_one-here.ensures c.requires.room c.in-Union.field-0 c.in-Union.field-1 c.in-Union.is in
     let parts : Parts = parts_at_0 (all_at ns c.in-Union.field-1.items) in
     subst (λ x. Holds c.args.walk.order x b (value_of (UnionKept c.in_ok-read_union-in-Union.field-0))) (sym facts.1)
@@ -135,7 +135,7 @@ read_node-read_part-requires t c =
 pub read_node-returns-in_ok-found-in-Vector : goal.read_node-returns-in_ok-found-in-Vector
 read_node-returns-in_ok-found-in-Vector t c =
     let b : List ℕ = c.args.bytes.now in
-    let layout : Layout = c.read_one-here.result.now.layout in
+    let layout : Layout = c.read_one-here.result.layout.now in
     let facts = vector_node c.args.walk.nodes.now c.args.walk.well c.args.node _ c.requires.there c.read_one-here.ensures c.requires.room c.in-Vector.lanes c.in-Vector.is in
     subst (λ x. Finds (Holds c.args.walk.order x b) c.only_list.result) (sym facts.1)
     (found_vector c.args.walk.order layout (placed_at c.args.walk.nodes.now c.in-Vector.lanes) b c.in_ok-found-in-Vector.found c.only_list.result (c.if-bytes.false ∙ c.bytes.ensures)
@@ -152,7 +152,7 @@ pub read_node-returns-in_ok-found-in-Single : goal.read_node-returns-in_ok-found
 read_node-returns-in_ok-found-in-Single t c =
     let ns = c.args.walk.nodes.now in
     let b : List ℕ = c.args.bytes.now in
-    let layout : Layout = c.read_one-here.result.now.layout in
+    let layout : Layout = c.read_one-here.result.layout.now in
     let long : length b ≡ layout.size = c.if-bytes.false ∙ c.bytes.ensures in
     let facts = single_node ns c.args.walk.well c.args.node _ c.requires.there c.read_one-here.ensures c.requires.room c.in-Single.field-0 c.in-Single.children c.in-Single.is in
     let parts : Parts = parts_at (listed_offsets layout.fields) (all_at ns c.in-Single.children.items) in
@@ -179,7 +179,7 @@ pub read_node-returns-in-Tagged : goal.read_node-returns-in-Tagged
 read_node-returns-in-Tagged t c =
     let ns = c.args.walk.nodes.now in
     let b : List ℕ = c.args.bytes.now in
-    let layout : Layout = c.read_one-here.result.now.layout in
+    let layout : Layout = c.read_one-here.result.layout.now in
     let facts = tagged_node ns c.args.walk.well c.args.node _ c.requires.there c.read_one-here.ensures c.requires.room c.in-Tagged.mark c.in-Tagged.tag c.in-Tagged.variants c.in-Tagged.is in
     let whole : List (ℕ × ℕ) → Placed = λ vs. tagged layout c.in-Tagged.mark (tag_offset layout) (placed_at ns c.in-Tagged.tag) (encoding_of layout.variants) (arms_in (types_in ns) vs) in
     IfOk-weaker c.read_variant.result _ _
@@ -189,7 +189,7 @@ read_node-returns-in-Tagged t c =
 pub read_node-read_state-requires : goal.read_node-read_state-requires
 read_node-read_state-requires t c =
     let ns = c.args.walk.nodes.now in
-    let layout : Layout = c.read_one-here.result.now.layout in
+    let layout : Layout = c.read_one-here.result.layout.now in
     let facts = states_node ns c.args.walk.well c.args.node _ c.requires.there c.read_one-here.ensures c.requires.room c.in-States.prefix c.in-States.tag c.in-States.states c.in-States.is in
     let width = state_tag_width_at ns c.args.walk.well c.args.walk.widths c.args.node _ c.requires.there c.read_one-here.ensures c.in-States.prefix c.in-States.tag c.in-States.states c.in-States.is in
     let room : has_room (states_in (types_in ns) layout c.deref-in-States.result.now c.in-States.tag c.deref-in-States-2.result.now) ≡ true =
@@ -209,7 +209,7 @@ pub read_node-returns-in-States : goal.read_node-returns-in-States
 read_node-returns-in-States t c =
     let ns = c.args.walk.nodes.now in
     let b : List ℕ = c.args.bytes.now in
-    let layout : Layout = c.read_one-here.result.now.layout in
+    let layout : Layout = c.read_one-here.result.layout.now in
     let facts = states_node ns c.args.walk.well c.args.node _ c.requires.there c.read_one-here.ensures c.requires.room c.in-States.prefix c.in-States.tag c.in-States.states c.in-States.is in
     subst (λ x. IfOk c.read_state.result (Finds (Holds c.args.walk.order x b))) (sym facts.3)
     (subst (λ vs. IfOk c.read_state.result (Finds (Holds c.args.walk.order (states_in (types_in ns) layout c.in-States.prefix.items c.in-States.tag vs) b))) c.deref-in-States-2.ensures.value

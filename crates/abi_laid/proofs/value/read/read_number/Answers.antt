@@ -24,7 +24,7 @@ pub returns-in-Scalar : goal.returns-in-Scalar
 returns-in-Scalar c =
     let is = (placed_at-node c.args.walk.nodes.now c.args.walk.well c.args.node _ (OneScalar c.in-Scalar.scalar) c.requires.there c.read_one-here.ensures c.in-Scalar.is).1 in
     subst (λ p. FindsNumber (λ n. Holds c.args.walk.order p c.args.bytes.now (number n)) c.scalar_number.result) (sym is)
-    (found_scalar c.args.walk.order c.read_one-here.result.now.layout c.in-Scalar.scalar c.args.bytes.now c.scalar_number.result (c.if-bytes.false ∙ c.bytes.ensures) c.scalar_number.ensures)
+    (found_scalar c.args.walk.order c.read_one-here.result.layout.now c.in-Scalar.scalar c.args.bytes.now c.scalar_number.result (c.if-bytes.false ∙ c.bytes.ensures) c.scalar_number.ensures)
 
 pub returns-in_default : goal.returns-in_default
 returns-in_default c =

@@ -40,7 +40,7 @@ write_node-put_number-requires-clause-fits t c =
 
 pub write_node-returns-in-Scalar-clause-put : goal.write_node-returns-in-Scalar-clause-put
 write_node-returns-in-Scalar-clause-put t c = λ b all held.
-    let layout : Layout = c.read_one-here.result.now.layout in
+    let layout : Layout = c.read_one-here.result.layout.now in
     let is = scalar_node c.args.walk.nodes.now c.args.walk.well c.args.node _ c.requires.there c.read_one-here.ensures c.requires.room c.in-Scalar.field-0 c.in-Scalar.is in
     subst (λ p. IsPutOver (is_covered p (value_of c.args.value.now)) c.args.at b c.args.bytes.now c.put_number.new.bytes) (sym is)
     (put_scalar c.args.walk.order layout c.args.at b c.args.bytes.now c.put_number.new.bytes c.in-Scalar.field-0 (value_of c.args.value.now) c.number.result c.number.ensures
@@ -56,7 +56,7 @@ write_node-write_fields-requires t c =
 pub write_node-returns-in-Pair-clause-put : goal.write_node-returns-in-Pair-clause-put
 write_node-returns-in-Pair-clause-put t c =
     let ns = c.args.walk.nodes.now in
-    let layout : Layout = c.read_one-here.result.now.layout in
+    let layout : Layout = c.read_one-here.result.layout.now in
     let v : Value = value_of c.args.value.now in
     let children : List ℕ = c.in-Pair.first ∷ c.in-Pair.second ∷ [] in
     let facts = pair_node ns c.args.walk.well c.args.node _ c.requires.there c.read_one-here.ensures c.requires.room c.in-Pair.first c.in-Pair.second c.in-Pair.is in
@@ -72,7 +72,7 @@ pub write_node-returns-in-Never-clause-put : goal.write_node-returns-in-Never-cl
 write_node-returns-in-Never-clause-put t c = λ b all held.
     let is = never_node c.args.walk.nodes.now c.args.walk.well c.args.node _ c.requires.there c.read_one-here.ensures c.requires.room c.in-Never.field-0 c.in-Never.is in
     subst (λ p. IsPutOver (is_covered p (value_of c.args.value.now)) c.args.at b c.args.bytes.now c.args.bytes.now) (sym is)
-    (put_never c.args.walk.order c.read_one-here.result.now.layout c.args.at b c.args.bytes.now c.args.bytes.now c.in-Never.field-0 (value_of c.args.value.now)
+    (put_never c.args.walk.order c.read_one-here.result.layout.now c.args.at b c.args.bytes.now c.args.bytes.now c.in-Never.field-0 (value_of c.args.value.now)
     (subst (λ p. Holds c.args.walk.order p b (value_of c.args.value.now)) is held))
 
 pub write_node-write_elements-requires : goal.write_node-write_elements-requires
@@ -91,7 +91,7 @@ write_node-returns-in-Elements-clause-put t c =
     on_ok_weaker c.write_elements.result
     (λ put b all held.
     subst (λ p. IsPutOver (is_covered p v) c.args.at b c.args.bytes.now c.write_elements.new.bytes) (sym facts.1)
-    (put_elements c.args.walk.order c.read_one-here.result.now.layout c.args.at b c.args.bytes.now c.write_elements.new.bytes c.in-Elements.count (placed_at ns c.in-Elements.element) v (values_of c.list.result.now)
+    (put_elements c.args.walk.order c.read_one-here.result.layout.now c.args.at b c.args.bytes.now c.write_elements.new.bytes c.in-Elements.count (placed_at ns c.in-Elements.element) v (values_of c.list.result.now)
     c.list.ensures (λ many. put many b all) (subst (λ p. Holds c.args.walk.order p b v) facts.1 held)))
     c.write_elements.ensures.put
 
@@ -104,7 +104,7 @@ write_node-write_fields-requires-in-Fields t c =
 pub write_node-returns-in-Fields-clause-put : goal.write_node-returns-in-Fields-clause-put
 write_node-returns-in-Fields-clause-put t c =
     let ns = c.args.walk.nodes.now in
-    let layout : Layout = c.read_one-here.result.now.layout in
+    let layout : Layout = c.read_one-here.result.layout.now in
     let v : Value = value_of c.args.value.now in
     let us : Values = values_of c.list-in-Fields.result.now in
     let new : List ℕ = c.write_fields-in-Fields.new.bytes in
@@ -123,7 +123,7 @@ write_node-write_union-requires-clause-fits t c = c.requires.fits
 pub write_node-returns-in-Union-clause-put : goal.write_node-returns-in-Union-clause-put
 write_node-returns-in-Union-clause-put t c =
     let ns = c.args.walk.nodes.now in
-    let layout : Layout = c.read_one-here.result.now.layout in
+    let layout : Layout = c.read_one-here.result.layout.now in
     let v : Value = value_of c.args.value.now in
     let new : List ℕ = c.write_union.new.bytes in
     let size = node_size ns c.args.node _ c.requires.there c.read_one-here.ensures in
@@ -143,7 +143,7 @@ pub write_node-write_node-requires : goal.write_node-write_node-requires
 write_node-write_node-requires t c =
     let size = node_size c.args.walk.nodes.now c.args.node _ c.requires.there c.read_one-here.ensures in
     let facts = vector_node c.args.walk.nodes.now c.args.walk.well c.args.node _ c.requires.there c.read_one-here.ensures c.requires.room c.in-Vector.lanes c.in-Vector.is in
-    let inside = vector_room c.args.walk.nodes.now c.args.node c.in-Vector.lanes c.read_one-here.result.now.layout facts.1 c.requires.room in (
+    let inside = vector_room c.args.walk.nodes.now c.args.node c.in-Vector.lanes c.read_one-here.result.layout.now facts.1 c.requires.room in (
       omega (arith, facts.0, c.decreases),
       (omega (arith, facts.0, c.requires.there), (facts.2, omega (arith, size, inside, c.requires.fits))),
     )
@@ -158,7 +158,7 @@ write_node-returns-in-Vector-clause-put t c =
     on_ok_weaker c.write_node.result
     (λ put b all held.
     subst (λ p. IsPutOver (is_covered p v) c.args.at b c.args.bytes.now c.write_node.new.bytes) (sym facts.1)
-    (put_vector c.args.walk.order c.read_one-here.result.now.layout c.args.at b c.args.bytes.now c.write_node.new.bytes lanes v
+    (put_vector c.args.walk.order c.read_one-here.result.layout.now c.args.at b c.args.bytes.now c.write_node.new.bytes lanes v
     (λ at. put_slice c.args.walk.order lanes v c.args.at 0 b c.args.bytes.now c.write_node.new.bytes all at
     (λ s each holds. subst (λ a. IsPutOver (is_covered lanes v) a s c.args.bytes.now c.write_node.new.bytes) start (put s each holds)))
     (subst (λ p. Holds c.args.walk.order p b v) facts.1 held)))
@@ -175,7 +175,7 @@ write_node-write_fields-requires-in-Single t c =
 pub write_node-returns-in-Single-clause-put : goal.write_node-returns-in-Single-clause-put
 write_node-returns-in-Single-clause-put t c =
     let ns = c.args.walk.nodes.now in
-    let layout : Layout = c.read_one-here.result.now.layout in
+    let layout : Layout = c.read_one-here.result.layout.now in
     let v : Value = value_of c.args.value.now in
     let us : Values = values_of c.variant-index.result.1.now in
     let new : List ℕ = c.write_fields-in-Single.new.bytes in
@@ -212,7 +212,7 @@ write_node-write_variant-requires t c =
 pub write_node-returns-in-Tagged-clause-put : goal.write_node-returns-in-Tagged-clause-put
 write_node-returns-in-Tagged-clause-put t c =
     let ns = c.args.walk.nodes.now in
-    let layout : Layout = c.read_one-here.result.now.layout in
+    let layout : Layout = c.read_one-here.result.layout.now in
     let v : Value = value_of c.args.value.now in
     let new : List ℕ = c.write_variant.new.bytes in
     let facts = tagged_node ns c.args.walk.well c.args.node _ c.requires.there c.read_one-here.ensures c.requires.room c.in-Tagged.mark c.in-Tagged.tag c.in-Tagged.variants c.in-Tagged.is in
@@ -228,7 +228,7 @@ write_node-returns-in-Tagged-clause-put t c =
 pub write_node-write_state-requires : goal.write_node-write_state-requires
 write_node-write_state-requires t c =
     let ns = c.args.walk.nodes.now in
-    let layout : Layout = c.read_one-here.result.now.layout in
+    let layout : Layout = c.read_one-here.result.layout.now in
     let size = node_size ns c.args.node _ c.requires.there c.read_one-here.ensures in
     let facts = states_node ns c.args.walk.well c.args.node _ c.requires.there c.read_one-here.ensures c.requires.room c.in-States.prefix c.in-States.tag c.in-States.states c.in-States.is in
     let width = state_tag_width_at ns c.args.walk.well c.args.walk.widths c.args.node _ c.requires.there c.read_one-here.ensures c.in-States.prefix c.in-States.tag c.in-States.states c.in-States.is in
@@ -246,7 +246,7 @@ write_node-write_state-requires t c =
 pub write_node-returns-in-States-clause-put : goal.write_node-returns-in-States-clause-put
 write_node-returns-in-States-clause-put t c =
     let ns = c.args.walk.nodes.now in
-    let layout : Layout = c.read_one-here.result.now.layout in
+    let layout : Layout = c.read_one-here.result.layout.now in
     let v : Value = value_of c.args.value.now in
     let new : List ℕ = c.write_state.new.bytes in
     let facts = states_node ns c.args.walk.well c.args.node _ c.requires.there c.read_one-here.ensures c.requires.room c.in-States.prefix c.in-States.tag c.in-States.states c.in-States.is in
