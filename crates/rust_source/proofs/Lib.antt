@@ -3,6 +3,8 @@ mod Growth
 mod NameTexts
 mod Operators
 mod Pointed
+mod Rooms
+mod SourceLemmas
 mod Steps
 mod TokenSteps
 mod Turns

@@ -2,6 +2,7 @@
 use Rattle.std.specs.Prelude.{ℕ, ◌+◌, ◌-◌, ◌^◌, ◌==◌, ◌&&◌, ◌||◌, Bool, true, false, not, List, [], get_or, length, min, nat_le, nat_lt, slice_get, slice_range, Option, None, Some, Result, Ok, Err, if◌then◌else◌}
 use Rattle.rust_source.specs.declared.fault.SourceFault.{SourceFault}
 use Rattle.rust_source.specs.declared.fault.SourceFaultKind.{SourceFaultKind}
+use Rattle.rust_source.specs.declared.fault.SourceFaultKind.TheVariants.{ExpectedComma}
 use Rattle.rust_source.specs.declared.place.Place.{Place}
 use Rattle.rust_source.specs.declared.reader.cursor.Cursor.{Cursor}
 use Rattle.rust_source.specs.declared.tokens.keyword.Keyword.{Keyword}
@@ -170,6 +171,11 @@ partner_of (Some t) = t.partner
 unfoldable pub behind : Cursor → Cursor
 behind c = record c { at = partner_of (nth c 0) + 1 }
 
+-- what follows a group whose tokens are these, where there is one
+abbrev pub group_passed : Cursor → (inside : Option Cursor) → Cursor
+group_passed c None = c
+group_passed c (Some i) = behind c
+
 -- what follows the token, or the group that it opens
 abbrev pub behind_kind : Cursor → Token → TokenKind → Cursor
 behind_kind c t (kind.Open b) = record c { at = t.partner + 1 }
@@ -188,3 +194,11 @@ tree_passed c = tree_passed_by c (nth c 0)
 abbrev pub is_lifetime : Option TokenKind → Bool
 is_lifetime (Some kind.Lifetime) = true
 is_lifetime _ = false
+
+-- the character is passed over, or the fault of this kind where it isn't next
+abbrev pub expected : Cursor → (character : ℕ) → SourceFaultKind → Result Cursor SourceFault
+expected c character k = if is_next c character then Ok (passed c 1) else Err (fault c k)
+
+-- a `,` is passed over, unless nothing is left
+abbrev pub comma_passed : Cursor → Result Cursor SourceFault
+comma_passed c = if is_next c 44 then Ok (passed c 1) else (if is_done c then Ok c else Err (fault c ExpectedComma))

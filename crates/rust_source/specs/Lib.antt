@@ -14,3 +14,5 @@ pub mod Operators
 pub mod Passing
 pub mod Reading
 pub mod Simple
+pub mod Terms
+pub mod Sources

@@ -21,6 +21,13 @@ mod uses;
 
 ghost use Rattle.std.specs.Prelude.{◌≡◌, [], IfOk, length};
 ghost use Rattle.rust_source.specs.Growth.{Keeps};
+ghost use Rattle.rust_source.specs.Names.{texts};
+ghost use Rattle.rust_source.specs.Reading.{Reads};
+ghost use Rattle.rust_source.specs.Simple.{most_nested};
+ghost use Rattle.rust_source.specs.Sources.{MeansType, StandsBefore, alone, tokens_at};
+ghost use Rattle.rust_source.specs.Syntax.{type_of};
+ghost use Rattle.rust_source.specs.Terms.{type_read};
+ghost use Rattle.rust_source.specs.Tokens.{Agrees};
 
 use crate::fault::{SourceFault, SourceFaultKind};
 use crate::item::Items;
@@ -29,7 +36,7 @@ use crate::place::{Place, Symbol};
 use crate::reader::attributes::Rules;
 use crate::reader::cursor::{Cursor, fault, is_done};
 use crate::reader::items::read_root;
-use crate::reader::room::MOST_NESTED;
+use crate::reader::room::most_nested;
 use crate::syntax::Type;
 use crate::target::CfgTarget;
 use crate::tokens::token::Token;
@@ -68,7 +75,9 @@ impl Items {
 }
 
 /// The tokens of a text whose first byte has this place.
-fn tokens_at(alloc: Global, text: &str, start: Place) -> Result<Vec<Token>, SourceFault> {
+fn tokens_at(alloc: Global, text: &str, start: Place) -> Result<Vec<Token>, SourceFault>
+    ensures { Agrees (λ found. found.items) (tokens_at start.0 text.now) result }
+{
     match tokens(alloc, text.as_bytes()) {
         Ok(found) => Ok(found),
         Err(fault) => Err(SourceFault {
@@ -79,7 +88,9 @@ fn tokens_at(alloc: Global, text: &str, start: Place) -> Result<Vec<Token>, Sour
 }
 
 /// A cursor at the first token.
-fn beginning<'a>(text: &'a str, start: Place, tokens: &'a [Token]) -> Cursor<'a> {
+fn beginning<'a>(text: &'a str, start: Place, tokens: &'a [Token]) -> Cursor<'a>
+    ensures { StandsBefore result text.now start.0 tokens.now }
+{
     Cursor {
         text,
         tokens,
@@ -112,6 +123,22 @@ pub fn read_items(
     read_root(alloc, &rules, names, items, source.root, &mut cursor)
 }
 
+/// Reads a type, which is all that is left.
+fn read_alone(
+    alloc: Global,
+    names: &mut Names,
+    cursor: &mut Cursor<'_>,
+) -> Result<Type, SourceFault>
+    ensures { Reads type_of (alone (type_read most_nested cursor.old (texts names.old))) (texts names.new) result }
+{
+    let ty = crate::reader::types::read_type(alloc, names, cursor, most_nested())?;
+    if is_done(cursor) {
+        Ok(ty)
+    } else {
+        Err(fault(cursor, SourceFaultKind::ExpectedType))
+    }
+}
+
 /// Reads a type, which is all of the text, as `Option<Header>`. The first fault is told, at its place, the text's first
 /// byte having the place `start`. `OutOfMemory` comes where a growth of memory was refused.
 pub fn read_type(
@@ -119,13 +146,10 @@ pub fn read_type(
     names: &mut Names,
     text: &str,
     start: Place,
-) -> Result<Type, SourceFault> {
+) -> Result<Type, SourceFault>
+    ensures { MeansType text.now start.0 (texts names.old) (texts names.new) result }
+{
     let found = tokens_at(alloc, text, start)?;
     let mut cursor = beginning(text, start, &found);
-    let ty = crate::reader::types::read_type(alloc, names, &mut cursor, MOST_NESTED)?;
-    if is_done(&cursor) {
-        Ok(ty)
-    } else {
-        Err(fault(&cursor, SourceFaultKind::ExpectedType))
-    }
+    read_alone(alloc, names, &mut cursor)
 }

@@ -1,7 +1,8 @@
 //! Where a reader stands among the tokens of a group.
 
 ghost use Rattle.std.specs.Prelude.{◌≡◌, ◌+◌, ◌||◌, if◌then◌else◌};
-ghost use Rattle.rust_source.specs.Cursor.{behind, fault, inside, is_cut, is_done, is_group, is_lifetime, is_next, is_named_next, is_nth, is_nth_pair, is_pair, is_punct, is_word, kind_of, next_kind, nth, passed, place, place_behind, place_of, text_of, touch, tree_passed};
+ghost use Rattle.rust_source.specs.Reading.{seen};
+ghost use Rattle.rust_source.specs.Cursor.{behind, comma_passed, fault, group_passed, inside, is_cut, is_done, is_group, is_lifetime, is_named_next, is_next, is_nth, is_nth_pair, is_pair, is_punct, is_word, kind_of, next_kind, nth, passed, place, place_behind, place_of, text_of, touch, tree_passed};
 
 use crate::fault::{SourceFault, SourceFaultKind};
 use crate::place::Place;
@@ -289,6 +290,7 @@ pub(crate) fn is_group(cursor: &Cursor<'_>, bracket: Bracket) -> bool
 pub(crate) fn take_group<'a>(cursor: &mut Cursor<'a>, bracket: Bracket) -> Option<Cursor<'a>>
     ensures inside { result ≡ inside cursor.old bracket }
     ensures passed { cursor.new ≡ (if is_group cursor.old bracket then behind cursor.old else cursor.old) }
+    ensures moved { cursor.new ≡ group_passed cursor.old result }
 {
     let token = nth(cursor, 0)?;
     if token.kind != TokenKind::Open(bracket) {
@@ -334,6 +336,7 @@ pub(crate) fn expect_comma(cursor: &mut Cursor<'_>) -> Result<(), SourceFault>
     ensures is { result ≡ (if is_done cursor.old || is_next cursor.old 44 then Ok tt
         else Err (fault cursor.old SourceFaultKind.ExpectedComma)) }
     ensures passed { cursor.new ≡ (if is_next cursor.old 44 then passed cursor.old 1 else cursor.old) }
+    ensures read { seen (λ _. cursor.new) result ≡ comma_passed cursor.old }
 {
     if is_done(cursor) || take(cursor, b',') {
         Ok(())

@@ -1,11 +1,14 @@
 //! Expressions that constants are.
 
-ghost use Rattle.std.specs.Prelude.{◌≡◌, drop};
+ghost use Rattle.std.specs.Prelude.{◌≡◌, [], ◌∷◌, ◌++◌, drop, IfErr, IfOk, map};
+ghost use Rattle.rust_source.specs.Names.{texts};
+ghost use Rattle.rust_source.specs.Operators.{operands_of};
 ghost use Rattle.rust_source.specs.Cursor.{next_kind, text_of};
 ghost use Rattle.rust_source.specs.Literals.{char_code, number_of};
-ghost use Rattle.rust_source.specs.Reading.{seen};
-ghost use Rattle.rust_source.specs.Simple.{byte_read, char_read, is_literal, literal, literal_of, number_read, sign_of, signed_literal, signs};
-ghost use Rattle.rust_source.specs.Syntax.{expr_of};
+ghost use Rattle.rust_source.specs.Reading.{Reads, seen};
+ghost use Rattle.rust_source.specs.Simple.{byte_read, char_read, is_literal, literal, literal_of, most_nested, number_read, sign_of, signed_literal, signs};
+ghost use Rattle.rust_source.specs.Syntax.{cast, choice, expr_of, type_of};
+ghost use Rattle.rust_source.specs.Terms.{bracketed, cast_from, choice_behind, choice_read, choice_with, else_read, expr_read, expr_with, inner, is_told, operand, primary, value, values, whole};
 ghost use Rattle.rust_source.specs.Tokens.{Agrees};
 
 use crate::fault::{SourceFault, SourceFaultKind};
@@ -20,66 +23,107 @@ use crate::reader::operators::{Waiting, join_all, next_operator, put_operator, w
 use crate::reader::paths::read_path;
 use crate::reader::room::{less, most_nested};
 use crate::reader::types::read_type;
-use crate::syntax::{Expr, IntegerKind, Unary, Unevaluated};
+use crate::syntax::{Expr, IntegerKind, Type, Unary, Unevaluated};
 use crate::tokens::after;
 use crate::tokens::keyword::Keyword;
 use crate::tokens::token::{Bracket, Token, TokenKind};
 use std::alloc::Global;
 
 /// Whether a fault is told even where an expression needn't be read.
-fn is_told(kind: SourceFaultKind) -> bool {
-    kind == SourceFaultKind::OutOfMemory
-        || kind == SourceFaultKind::TooDeep
-        || kind == SourceFaultKind::BadNumber
+fn is_told(kind: SourceFaultKind) -> bool
+    ensures { result ≡ is_told kind }
+{
+    match kind {
+        SourceFaultKind::OutOfMemory | SourceFaultKind::TooDeep | SourceFaultKind::BadNumber => {
+            true
+        }
+        _ => false,
+    }
 }
 
 /// The expression that all tokens that are left make. One that isn't read is `Unevaluated`; they are passed over.
 #[cycle(terms)]
+#[tactic(auto, unfolding(crate::specs::Terms::whole))]
 pub(crate) fn read_whole(
     alloc: Global,
     names: &mut Names,
     cursor: &mut Cursor<'_>,
     room: u32,
-) -> Result<Expr, SourceFault> {
-    let at = place(cursor);
+) -> Result<Expr, SourceFault>
+    ensures { Reads (λ value. (expr_of value, cursor.new)) (whole (inner room) cursor.old (texts names.old)) (texts names.new) result }
+{
     if is_done(cursor) {
         return Err(fault(cursor, SourceFaultKind::ExpectedExpression));
     }
-    let read = read_expression(alloc, names, cursor, room);
-    let is_whole = is_done(cursor);
+    let at = place(cursor);
+    let mut inside = *cursor;
+    let read = read_expression(alloc, names, &mut inside, room);
     cursor.at = cursor.end;
     match read {
-        Ok(whole) if is_whole => Ok(whole),
-        Err(fault) if is_told(fault.kind) => Err(fault),
-        _ => Ok(Expr::Unevaluated(Unevaluated::Expression, at)),
+        Ok(whole) => {
+            if is_done(&inside) {
+                Ok(whole)
+            } else {
+                Ok(Expr::Unevaluated(Unevaluated::Expression, at))
+            }
+        }
+        Err(fault) => {
+            if is_told(fault.kind) {
+                Err(fault)
+            } else {
+                Ok(Expr::Unevaluated(Unevaluated::Expression, at))
+            }
+        }
     }
 }
 
 /// An expression. Types and expressions may stand in `room` others here.
 #[cycle(terms)]
+#[tactic(auto, using(crate::proofs::Rooms::expr_less, crate::proofs::Rooms::expr_none))]
 fn read_expression(
     alloc: Global,
     names: &mut Names,
     cursor: &mut Cursor<'_>,
     room: u32,
-) -> Result<Expr, SourceFault> {
+) -> Result<Expr, SourceFault>
+    ensures { Reads (λ value. (expr_of value, cursor.new)) (expr_read room cursor.old (texts names.old)) (texts names.new) result }
+{
     let room = less(cursor, room)?;
+    read_joined(alloc, names, cursor, room)
+}
+
+/// Puts an operand behind the others.
+fn push_operand(all: &mut Vec<Expr>, one: Expr) -> Result<(), SourceFault>
+    ensures ok { IfOk result (λ _. operands_of all.new.items ≡ expr_of one ∷ operands_of all.old.items) }
+    ensures err { IfErr result (λ fault. fault.kind ≡ SourceFaultKind.OutOfMemory) }
+{
+    all.push(one)?;
+    Ok(())
+}
+
+/// Operands, and the operators between them.
+#[cycle(terms)]
+#[tactic(auto, unfolding(crate::specs::Terms::expr_with), using(crate::proofs::Rooms::expr_more, crate::proofs::Rooms::expr_done))]
+fn read_joined(
+    alloc: Global,
+    names: &mut Names,
+    cursor: &mut Cursor<'_>,
+    room: u32,
+) -> Result<Expr, SourceFault>
+    ensures { Reads (λ value. (expr_of value, cursor.new)) (expr_with (inner room) cursor.old (texts names.old)) (texts names.new) result }
+{
     let mut operands = Vec::new(alloc);
     let mut waiting: Vec<Waiting> = Vec::new(alloc);
-    for _ in 0..most_nested() {
-        let operand = read_operand(alloc, names, cursor, room)?;
-        operands.push(operand)?;
+    let turns = most_nested();
+    for turn in 0..turns {
+        let one = read_operand(alloc, names, cursor, room)?;
+        push_operand(&mut operands, one)?;
         let at = place(cursor);
         let Some((operator, length)) = next_operator(cursor) else {
             return join_all(alloc, cursor, operands, waiting);
         };
-        put_operator(
-            alloc,
-            cursor,
-            &mut operands,
-            &mut waiting,
-            Waiting { operator, at },
-        )?;
+        let by = Waiting { operator, at };
+        put_operator(alloc, cursor, &mut operands, &mut waiting, by)?;
         pass(cursor, length);
     }
     Err(fault(cursor, SourceFaultKind::TooDeep))
@@ -116,36 +160,69 @@ fn take_signs(alloc: Global, cursor: &mut Cursor<'_>) -> Result<Vec<(Unary, Plac
 
 /// An operand, with the operators before it and the casts behind.
 #[cycle(terms)]
+#[tactic(auto, unfolding(crate::specs::Terms::operand))]
 fn read_operand(
     alloc: Global,
     names: &mut Names,
     cursor: &mut Cursor<'_>,
     room: u32,
-) -> Result<Expr, SourceFault> {
+) -> Result<Expr, SourceFault>
+    ensures { Reads (λ value. (expr_of value, cursor.new)) (operand (inner room) cursor.old (texts names.old)) (texts names.new) result }
+{
     let signs = take_signs(alloc, cursor)?;
     let first = read_primary(alloc, names, cursor, room)?;
-    let mut operand = with_signs(alloc, first, signs)?;
-    for _ in 0..most_nested() {
+    let operand = with_signs(alloc, first, signs)?;
+    read_casts(alloc, names, cursor, operand, room)
+}
+
+/// An operand, cast to a type behind an `as` that stands at this place.
+fn with_cast(alloc: Global, operand: Expr, to: Type, at: Place) -> Result<Expr, SourceFault>
+    ensures ok { IfOk result (λ whole. expr_of whole ≡ cast (expr_of operand) (type_of to) at) }
+    ensures err { IfErr result (λ fault. fault.kind ≡ SourceFaultKind.OutOfMemory) }
+{
+    let from = Box::new(alloc, operand)?;
+    let to = Box::new(alloc, to)?;
+    Ok(Expr::Cast(from, to, at))
+}
+
+/// An operand with the casts behind it.
+#[cycle(terms)]
+#[tactic(auto, using(crate::proofs::Rooms::cast_more, crate::proofs::Rooms::cast_done))]
+fn read_casts(
+    alloc: Global,
+    names: &mut Names,
+    cursor: &mut Cursor<'_>,
+    operand: Expr,
+    room: u32,
+) -> Result<Expr, SourceFault>
+    ensures { Reads (λ value. (expr_of value, cursor.new))
+        (cast_from (inner room) most_nested (expr_of operand) cursor.old (texts names.old)) (texts names.new) result }
+{
+    let mut operand = operand;
+    let turns = most_nested();
+    for turn in 0..turns {
         let at = place(cursor);
         if !take_word(cursor, Keyword::As) {
             return Ok(operand);
         }
-        let from = Box::new(alloc, operand)?;
-        let to = Box::new(alloc, read_type(alloc, names, cursor, room)?)?;
-        operand = Expr::Cast(from, to, at);
+        let to = read_type(alloc, names, cursor, room)?;
+        operand = with_cast(alloc, operand, to, at)?;
     }
     Err(fault(cursor, SourceFaultKind::TooDeep))
 }
 
 /// An expression in brackets of this kind, alone.
 #[cycle(terms)]
+#[tactic(auto, unfolding(crate::specs::Terms::bracketed))]
 fn read_in(
     alloc: Global,
     names: &mut Names,
     cursor: &mut Cursor<'_>,
     bracket: Bracket,
     room: u32,
-) -> Result<Expr, SourceFault> {
+) -> Result<Expr, SourceFault>
+    ensures { Reads (λ value. (expr_of value, cursor.new)) (bracketed (inner room) bracket cursor.old (texts names.old)) (texts names.new) result }
+{
     let Some(mut inside) = take_group(cursor, bracket) else {
         return Err(fault(cursor, SourceFaultKind::ExpectedExpression));
     };
@@ -159,43 +236,106 @@ fn read_in(
 
 /// A choice, behind its `if`, which stands at this place.
 #[cycle(terms)]
+#[tactic(auto, using(crate::proofs::Rooms::choice_less, crate::proofs::Rooms::choice_none))]
 fn read_choice(
     alloc: Global,
     names: &mut Names,
     cursor: &mut Cursor<'_>,
     at: Place,
     room: u32,
-) -> Result<Expr, SourceFault> {
+) -> Result<Expr, SourceFault>
+    ensures { Reads (λ value. (expr_of value, cursor.new)) (choice_read room at cursor.old (texts names.old)) (texts names.new) result }
+{
     let room = less(cursor, room)?;
-    let test = Box::new(alloc, read_expression(alloc, names, cursor, room)?)?;
-    let yes = Box::new(alloc, read_in(alloc, names, cursor, Bracket::Curly, room)?)?;
+    read_tested(alloc, names, cursor, at, room)
+}
+
+/// The test of a choice, and what stands behind it.
+#[cycle(terms)]
+#[tactic(auto, unfolding(crate::specs::Terms::choice_with))]
+fn read_tested(
+    alloc: Global,
+    names: &mut Names,
+    cursor: &mut Cursor<'_>,
+    at: Place,
+    room: u32,
+) -> Result<Expr, SourceFault>
+    ensures { Reads (λ value. (expr_of value, cursor.new)) (choice_with (inner room) at cursor.old (texts names.old)) (texts names.new) result }
+{
+    let test = read_expression(alloc, names, cursor, room)?;
+    read_branches(alloc, names, cursor, test, at, room)
+}
+
+/// The choice of three expressions, which stands at this place.
+fn choice(alloc: Global, test: Expr, yes: Expr, no: Expr, at: Place) -> Result<Expr, SourceFault>
+    ensures ok { IfOk result (λ whole. expr_of whole ≡ choice (expr_of test) (expr_of yes) (expr_of no) at) }
+    ensures err { IfErr result (λ fault. fault.kind ≡ SourceFaultKind.OutOfMemory) }
+{
+    let test = Box::new(alloc, test)?;
+    let yes = Box::new(alloc, yes)?;
+    let no = Box::new(alloc, no)?;
+    Ok(Expr::If(test, yes, no, at))
+}
+
+/// The choice by this test, behind it.
+#[cycle(terms)]
+fn read_branches(
+    alloc: Global,
+    names: &mut Names,
+    cursor: &mut Cursor<'_>,
+    test: Expr,
+    at: Place,
+    room: u32,
+) -> Result<Expr, SourceFault>
+    ensures { Reads (λ value. (expr_of value, cursor.new))
+        (choice_behind (inner room) at (expr_of test) cursor.old (texts names.old)) (texts names.new) result }
+{
+    let yes = read_in(alloc, names, cursor, Bracket::Curly, room)?;
     if !take_word(cursor, Keyword::Else) {
         return Err(fault(cursor, SourceFaultKind::ExpectedExpression));
     }
+    let no = read_else(alloc, names, cursor, room)?;
+    choice(alloc, test, yes, no, at)
+}
+
+/// What stands behind `else`.
+#[cycle(terms)]
+fn read_else(
+    alloc: Global,
+    names: &mut Names,
+    cursor: &mut Cursor<'_>,
+    room: u32,
+) -> Result<Expr, SourceFault>
+    ensures { Reads (λ value. (expr_of value, cursor.new)) (else_read (inner room) cursor.old (texts names.old)) (texts names.new) result }
+{
     let again = place(cursor);
-    let no = if take_word(cursor, Keyword::If) {
-        read_choice(alloc, names, cursor, again, room)?
-    } else {
-        read_in(alloc, names, cursor, Bracket::Curly, room)?
-    };
-    Ok(Expr::If(test, yes, Box::new(alloc, no)?, at))
+    if take_word(cursor, Keyword::If) {
+        return read_choice(alloc, names, cursor, again, room);
+    }
+    read_in(alloc, names, cursor, Bracket::Curly, room)
 }
 
 /// An operand without operators.
 #[cycle(terms)]
+#[tactic(auto, unfolding(crate::specs::Terms::primary))]
 fn read_primary(
     alloc: Global,
     names: &mut Names,
     cursor: &mut Cursor<'_>,
     room: u32,
-) -> Result<Expr, SourceFault> {
+) -> Result<Expr, SourceFault>
+    ensures { Reads (λ value. (expr_of value, cursor.new)) (primary (inner room) cursor.old (texts names.old)) (texts names.new) result }
+{
     if is_literal(cursor) {
         return read_literal(cursor);
     }
     let at = place(cursor);
     match next_kind(cursor) {
-        Some(TokenKind::Open(bracket)) if bracket != Bracket::Square => {
-            read_in(alloc, names, cursor, bracket, room)
+        Some(TokenKind::Open(Bracket::Round)) => {
+            read_in(alloc, names, cursor, Bracket::Round, room)
+        }
+        Some(TokenKind::Open(Bracket::Curly)) => {
+            read_in(alloc, names, cursor, Bracket::Curly, room)
         }
         Some(TokenKind::Keyword(Keyword::If)) => {
             pass(cursor, 1);
@@ -207,26 +347,55 @@ fn read_primary(
 
 /// A path, or the call of what it names.
 #[cycle(terms)]
+#[tactic(auto, unfolding(crate::specs::Terms::value))]
 fn read_value(
     alloc: Global,
     names: &mut Names,
     cursor: &mut Cursor<'_>,
     room: u32,
-) -> Result<Expr, SourceFault> {
+) -> Result<Expr, SourceFault>
+    ensures { Reads (λ value. (expr_of value, cursor.new)) (value (inner room) cursor.old (texts names.old)) (texts names.new) result }
+{
     let at = place(cursor);
     let path = read_path(alloc, names, cursor, false, room)?;
     let Some(mut inside) = take_group(cursor, Bracket::Round) else {
         return Ok(Expr::Path(path));
     };
-    let mut arguments = Vec::new(alloc);
-    for _ in inside.at..inside.end {
-        if is_done(&inside) {
-            break;
-        }
-        arguments.push(read_expression(alloc, names, &mut inside, room)?)?;
-        expect_comma(&mut inside)?;
-    }
+    let arguments = read_values(alloc, names, &mut inside, room)?;
     Ok(Expr::Call(path, arguments, at))
+}
+
+/// Puts an expression behind the others.
+fn push_value(all: &mut Vec<Expr>, one: Expr) -> Result<(), SourceFault>
+    ensures ok { IfOk result (λ _. map expr_of all.new.items ≡ map expr_of all.old.items ++ expr_of one ∷ []) }
+    ensures err { IfErr result (λ fault. fault.kind ≡ SourceFaultKind.OutOfMemory) }
+{
+    all.push(one)?;
+    Ok(())
+}
+
+/// The expressions that stand in parentheses.
+#[cycle(terms)]
+#[tactic(auto, unfolding(crate::specs::Terms::values), using(crate::proofs::Rooms::values_more, crate::proofs::Rooms::values_done))]
+fn read_values(
+    alloc: Global,
+    names: &mut Names,
+    inside: &mut Cursor<'_>,
+    room: u32,
+) -> Result<Vec<Expr>, SourceFault>
+    ensures { Reads (λ all. map expr_of all.items) (values (inner room) inside.old (texts names.old)) (texts names.new) result }
+{
+    let mut all = Vec::new(alloc);
+    let turns = inside.end.saturating_sub(inside.at);
+    for turn in 0..turns {
+        if is_done(inside) {
+            return Ok(all);
+        }
+        let one = read_expression(alloc, names, inside, room)?;
+        push_value(&mut all, one)?;
+        expect_comma(inside)?;
+    }
+    Ok(all)
 }
 
 /// Whether a literal is next.

@@ -1,21 +1,34 @@
 //! Paths and their arguments.
 
+ghost use Rattle.std.specs.Prelude.{◌≡◌, ◌||◌, [], ◌∷◌, ◌++◌, false, IfErr, IfOk, map, Some, None, if◌then◌else◌};
+ghost use Rattle.rust_source.specs.Cursor.{is_next, passed};
+ghost use Rattle.rust_source.specs.Names.{texts};
+ghost use Rattle.rust_source.specs.Reading.{Reads};
+ghost use Rattle.rust_source.specs.Simple.{is_literal};
+ghost use Rattle.rust_source.specs.Tokens.{Agrees};
+ghost use Rattle.rust_source.specs.Syntax.{argument_of, path, path_of, segment_of, segments as segments_of, type_of};
+ghost use Rattle.rust_source.specs.Terms.{argument, argument_behind, argument_more, arguments_begin, arguments_by, arguments_read, constant_read, inner, is_binding, path_read, segment_read};
+
 use crate::fault::{SourceFault, SourceFaultKind};
 use crate::names::Names;
+use crate::place::Place;
 use crate::reader::cursor::{
-    Cursor, fault, is_next, is_nth, is_nth_pair, is_pair, next_kind, pass, place, take, take_group,
-    take_pair,
+    Cursor, fault, is_lifetime, is_next, is_nth, is_nth_pair, is_pair, pass, place, take,
+    take_group, take_pair,
 };
 use crate::reader::expressions::{is_literal, read_signed, read_whole};
 use crate::reader::naming::take_path_name;
 use crate::reader::passing::pass_bounds;
 use crate::reader::types::read_type;
-use crate::syntax::{Argument, Path, Segment};
-use crate::tokens::token::{Bracket, TokenKind};
+use crate::syntax::{Argument, Path, Segment, Type};
+use crate::tokens::token::Bracket;
 use std::alloc::Global;
 
 /// Passes over the `<` of arguments, where they are next. In a type they need no `::` before them.
-fn takes_arguments(cursor: &mut Cursor<'_>, in_type: bool) -> bool {
+fn takes_arguments(cursor: &mut Cursor<'_>, in_type: bool) -> bool
+    ensures found { arguments_begin in_type cursor.old ≡ (if result then Some cursor.new else None) }
+    ensures stays { result ≡ false → cursor.new ≡ cursor.old }
+{
     if is_pair(cursor, b':', b':') && is_nth(cursor, 2, b'<') {
         pass(cursor, 3);
         return true;
@@ -23,90 +36,197 @@ fn takes_arguments(cursor: &mut Cursor<'_>, in_type: bool) -> bool {
     in_type && take(cursor, b'<')
 }
 
+/// Puts a segment behind the others.
+fn push_segment(all: &mut Vec<Segment>, one: Segment) -> Result<(), SourceFault>
+    ensures ok { IfOk result (λ _. map segment_of all.new.items ≡ map segment_of all.old.items ++ segment_of one ∷ []) }
+    ensures err { IfErr result (λ fault. fault.kind ≡ SourceFaultKind.OutOfMemory) }
+{
+    all.push(one)?;
+    Ok(())
+}
+
+/// The path of these segments.
+fn path_of(is_global: bool, segments: Vec<Segment>) -> Path
+    ensures { path_of result ≡ path is_global (segments_of (map segment_of segments.items)) }
+{
+    Path {
+        is_global,
+        segments,
+    }
+}
+
 /// A path. In a type its arguments need no `::` before them.
 #[cycle(terms)]
+#[tactic(auto, unfolding(crate::specs::Terms::path_read), using(crate::proofs::Rooms::path_more, crate::proofs::Rooms::path_done))]
 pub(crate) fn read_path(
     alloc: Global,
     names: &mut Names,
     cursor: &mut Cursor<'_>,
     in_type: bool,
     room: u32,
-) -> Result<Path, SourceFault> {
+) -> Result<Path, SourceFault>
+    ensures { Reads (λ path. (path_of path, cursor.new)) (path_read (inner room) in_type cursor.old (texts names.old)) (texts names.new) result }
+{
     let is_global = take_pair(cursor, b':', b':');
     let mut segments = Vec::new(alloc);
-    for _ in cursor.at..cursor.end {
-        let (name, at) = take_path_name(alloc, names, cursor)?;
-        let arguments = if takes_arguments(cursor, in_type) {
-            read_arguments(alloc, names, cursor, room)?
-        } else {
-            Vec::new(alloc)
-        };
-        segments.push(Segment {
-            name,
-            at,
-            arguments,
-        })?;
+    let turns = cursor.end.saturating_sub(cursor.at);
+    for turn in 0..turns {
+        let one = read_segment(alloc, names, cursor, in_type, room)?;
+        push_segment(&mut segments, one)?;
         if !take_pair(cursor, b':', b':') {
-            return Ok(Path {
-                is_global,
-                segments,
-            });
+            return Ok(path_of(is_global, segments));
         }
     }
     Err(fault(cursor, SourceFaultKind::ExpectedName))
 }
 
+/// A name of a path, with its arguments.
+#[cycle(terms)]
+#[tactic(auto, unfolding(crate::specs::Terms::segment_read))]
+fn read_segment(
+    alloc: Global,
+    names: &mut Names,
+    cursor: &mut Cursor<'_>,
+    in_type: bool,
+    room: u32,
+) -> Result<Segment, SourceFault>
+    ensures { Reads (λ one. (segment_of one, cursor.new)) (segment_read (inner room) in_type cursor.old (texts names.old)) (texts names.new) result }
+{
+    let (name, at) = take_path_name(alloc, names, cursor)?;
+    let arguments = read_name_arguments(alloc, names, cursor, in_type, room)?;
+    Ok(Segment {
+        name,
+        at,
+        arguments,
+    })
+}
+
+/// The arguments of a name, where they are next.
+#[cycle(terms)]
+fn read_name_arguments(
+    alloc: Global,
+    names: &mut Names,
+    cursor: &mut Cursor<'_>,
+    in_type: bool,
+    room: u32,
+) -> Result<Vec<Argument>, SourceFault>
+    ensures { Reads (λ all. (map argument_of all.items, cursor.new))
+        (arguments_by (inner room) cursor.old (arguments_begin in_type cursor.old) (texts names.old)) (texts names.new) result }
+{
+    if takes_arguments(cursor, in_type) {
+        return read_arguments(alloc, names, cursor, room);
+    }
+    Ok(Vec::new(alloc))
+}
+
+/// Whether arguments go on behind one, or end there. A `,` is passed over.
+fn goes_on(cursor: &mut Cursor<'_>) -> bool
+    ensures is { result ≡ (is_next cursor.old 62 || is_next cursor.old 44) }
+    ensures passed { cursor.new ≡ (if is_next cursor.old 62 then cursor.old
+        else (if is_next cursor.old 44 then passed cursor.old 1 else cursor.old)) }
+{
+    is_next(cursor, b'>') || take(cursor, b',')
+}
+
 /// Arguments, behind their `<`; their `>` is passed over.
 #[cycle(terms)]
+#[tactic(auto, unfolding(crate::specs::Terms::arguments_read), using(crate::proofs::Rooms::arguments_more, crate::proofs::Rooms::arguments_done))]
 fn read_arguments(
     alloc: Global,
     names: &mut Names,
     cursor: &mut Cursor<'_>,
     room: u32,
-) -> Result<Vec<Argument>, SourceFault> {
+) -> Result<Vec<Argument>, SourceFault>
+    ensures { Reads (λ all. (map argument_of all.items, cursor.new)) (arguments_read (inner room) cursor.old (texts names.old)) (texts names.new) result }
+{
     let mut arguments = Vec::new(alloc);
-    for _ in cursor.at..cursor.end {
+    let turns = cursor.end.saturating_sub(cursor.at);
+    for turn in 0..turns {
         if take(cursor, b'>') {
             return Ok(arguments);
         }
-        if next_kind(cursor) == Some(TokenKind::Lifetime) {
-            pass(cursor, 1);
-        } else {
-            arguments.push(read_argument(alloc, names, cursor, room)?)?;
-        }
-        if !is_next(cursor, b'>') && !take(cursor, b',') {
-            break;
+        add_argument(alloc, names, cursor, &mut arguments, room)?;
+        if !goes_on(cursor) {
+            return Err(fault(cursor, SourceFaultKind::ExpectedAngle));
         }
     }
     Err(fault(cursor, SourceFaultKind::ExpectedAngle))
 }
 
+/// Puts the argument that is next behind the others. A lifetime is passed over.
+#[cycle(terms)]
+#[tactic(auto, unfolding(crate::specs::Terms::argument_more))]
+fn add_argument(
+    alloc: Global,
+    names: &mut Names,
+    cursor: &mut Cursor<'_>,
+    arguments: &mut Vec<Argument>,
+    room: u32,
+) -> Result<(), SourceFault>
+    ensures { Reads (λ _. (map argument_of arguments.new.items, cursor.new))
+        (argument_more (inner room) (map argument_of arguments.old.items) cursor.old (texts names.old)) (texts names.new) result }
+{
+    if is_lifetime(cursor) {
+        pass(cursor, 1);
+        return Ok(());
+    }
+    let one = read_argument(alloc, names, cursor, room)?;
+    arguments.push(one)?;
+    Ok(())
+}
+
 /// Whether what follows a type makes it the name of a binding.
-fn is_binding(cursor: &Cursor<'_>) -> bool {
+fn is_binding(cursor: &Cursor<'_>) -> bool
+    ensures { result ≡ is_binding cursor.now }
+{
     is_next(cursor, b'=') || (is_next(cursor, b':') && !is_nth_pair(cursor, 0, b':', b':'))
+}
+
+/// The argument that a type is, or the name of a binding, which stands at this place.
+fn argument_behind(cursor: &mut Cursor<'_>, ty: Type, at: Place) -> Argument
+    ensures { (argument_of result, cursor.new) ≡ argument_behind at (type_of ty) cursor.old }
+{
+    if !is_binding(cursor) {
+        return Argument::Type(ty);
+    }
+    pass(cursor, 1);
+    let _ = pass_bounds(cursor);
+    Argument::Binding(at)
+}
+
+/// Whether a literal is next, with or without its sign.
+fn begins_constant(cursor: &Cursor<'_>) -> bool
+    ensures { result ≡ (is_literal cursor.now || is_next cursor.now 45) }
+{
+    is_literal(cursor) || is_next(cursor, b'-')
+}
+
+/// The constant that a literal is, with the operators before it.
+fn read_constant(alloc: Global, cursor: &mut Cursor<'_>) -> Result<Argument, SourceFault>
+    ensures { Agrees (λ one. (argument_of one, cursor.new)) (constant_read cursor.old) result }
+{
+    Ok(Argument::Const(read_signed(alloc, cursor)?))
 }
 
 /// An argument that is no lifetime.
 #[cycle(terms)]
+#[tactic(auto, unfolding(crate::specs::Terms::argument))]
 pub(crate) fn read_argument(
     alloc: Global,
     names: &mut Names,
     cursor: &mut Cursor<'_>,
     room: u32,
-) -> Result<Argument, SourceFault> {
+) -> Result<Argument, SourceFault>
+    ensures { Reads (λ one. (argument_of one, cursor.new)) (argument (inner room) cursor.old (texts names.old)) (texts names.new) result }
+{
     if let Some(mut inside) = take_group(cursor, Bracket::Curly) {
         let value = read_whole(alloc, names, &mut inside, room)?;
         return Ok(Argument::Const(value));
     }
-    if is_literal(cursor) || is_next(cursor, b'-') {
-        return Ok(Argument::Const(read_signed(alloc, cursor)?));
+    if begins_constant(cursor) {
+        return read_constant(alloc, cursor);
     }
     let at = place(cursor);
     let ty = read_type(alloc, names, cursor, room)?;
-    if !is_binding(cursor) {
-        return Ok(Argument::Type(ty));
-    }
-    pass(cursor, 1);
-    let _ = pass_bounds(cursor);
-    Ok(Argument::Binding(at))
+    Ok(argument_behind(cursor, ty, at))
 }

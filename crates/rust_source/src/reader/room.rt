@@ -1,7 +1,8 @@
 //! How deep a source may nest.
 
-ghost use Rattle.std.specs.Prelude.{◌≡◌, ◌+◌, IfOk};
+ghost use Rattle.std.specs.Prelude.{◌≡◌, ◌+◌, IfErr, IfOk};
 ghost use Rattle.rust_source.specs.Simple.{most_nested};
+ghost use Rattle.rust_source.specs.Cursor.{fault};
 
 use crate::fault::{SourceFault, SourceFaultKind};
 use crate::reader::cursor::{Cursor, fault};
@@ -19,7 +20,8 @@ pub(crate) fn most_nested() -> u32
 
 /// The room that is left within what begins at the next token.
 pub(crate) fn less(cursor: &Cursor<'_>, room: u32) -> Result<u32, SourceFault>
-    ensures { IfOk result (λ left. left + 1 ≡ room) }
+    ensures ok { IfOk result (λ left. left + 1 ≡ room) }
+    ensures err { IfErr result (λ e. (room ≡ 0) × (e ≡ fault cursor.now SourceFaultKind.TooDeep)) }
 {
     match room.checked_sub(1) {
         Some(less) => Ok(less),

@@ -1,11 +1,13 @@
 //! Types.
 
-ghost use Rattle.std.specs.Prelude.{◌≡◌, IfErr, IfOk};
-ghost use Rattle.rust_source.specs.Reading.{seen};
+ghost use Rattle.std.specs.Prelude.{◌≡◌, [], ◌∷◌, ◌++◌, false, IfErr, IfOk, map, if◌then◌else◌};
+ghost use Rattle.rust_source.specs.Reading.{Reads, seen};
+ghost use Rattle.rust_source.specs.Names.{texts};
+ghost use Rattle.rust_source.specs.Terms.{inner, is_empty, list_read, target, tuple_read, type_read, type_with};
 ghost use Rattle.rust_source.specs.Simple.{after_path, associated_passed, before_function, begins_path, function_behind, function_read, lifetime_passed, pointed, pointing, pointing_to, pointings, simple, worded};
-ghost use Rattle.rust_source.specs.Syntax.{other_type, path_of, type_of};
+ghost use Rattle.rust_source.specs.Syntax.{other_type, path_of, tuple, type_of, types};
 ghost use Rattle.rust_source.specs.Tokens.{Agrees};
-ghost use Rattle.rust_source.specs.Cursor.{place};
+ghost use Rattle.rust_source.specs.Cursor.{is_done, place};
 
 use crate::fault::{SourceFault, SourceFaultKind};
 use crate::names::Names;
@@ -232,13 +234,30 @@ pub(crate) fn begins_path(cursor: &Cursor<'_>) -> bool
 
 /// A type. Types and expressions may stand in `room` others here.
 #[cycle(terms)]
+#[tactic(auto, using(crate::proofs::Rooms::type_less, crate::proofs::Rooms::type_none))]
 pub(crate) fn read_type(
     alloc: Global,
     names: &mut Names,
     cursor: &mut Cursor<'_>,
     room: u32,
-) -> Result<Type, SourceFault> {
+) -> Result<Type, SourceFault>
+    ensures { Reads (λ ty. (type_of ty, cursor.new)) (type_read room cursor.old (texts names.old)) (texts names.new) result }
+{
     let room = less(cursor, room)?;
+    read_pointed(alloc, names, cursor, room)
+}
+
+/// A type with the `&` and `*` before it.
+#[cycle(terms)]
+#[tactic(auto, unfolding(crate::specs::Terms::type_with))]
+fn read_pointed(
+    alloc: Global,
+    names: &mut Names,
+    cursor: &mut Cursor<'_>,
+    room: u32,
+) -> Result<Type, SourceFault>
+    ensures { Reads (λ ty. (type_of ty, cursor.new)) (type_with (inner room) cursor.old (texts names.old)) (texts names.new) result }
+{
     let pointing = take_all_pointing(alloc, cursor)?;
     let target = read_target(alloc, names, cursor, room)?;
     pointed(alloc, target, pointing)
@@ -246,12 +265,15 @@ pub(crate) fn read_type(
 
 /// A type that no `&` or `*` stands before.
 #[cycle(terms)]
+#[tactic(auto, unfolding(crate::specs::Terms::target))]
 fn read_target(
     alloc: Global,
     names: &mut Names,
     cursor: &mut Cursor<'_>,
     room: u32,
-) -> Result<Type, SourceFault> {
+) -> Result<Type, SourceFault>
+    ensures { Reads (λ ty. (type_of ty, cursor.new)) (target (inner room) cursor.old (texts names.old)) (texts names.new) result }
+{
     if let Some(mut inside) = take_group(cursor, Bracket::Round) {
         return read_tuple(alloc, names, &mut inside, room);
     }
@@ -266,37 +288,67 @@ fn read_target(
     Ok(after_path(cursor, path, at))
 }
 
+/// Whether the first of the types is all that stands in its parentheses.
+fn is_alone(before: &Vec<Type>, inside: &Cursor<'_>) -> bool
+    ensures { result ≡ (if is_empty (map type_of before.now.items) then is_done inside.now else false) }
+{
+    before.is_empty() && is_done(inside)
+}
+
+/// The type of these types together.
+fn tuple(all: Vec<Type>) -> Type
+    ensures { type_of result ≡ tuple (types (map type_of all.items)) }
+{
+    Type::Tuple(all)
+}
+
+/// Puts a type behind the others.
+fn push_type(all: &mut Vec<Type>, one: Type) -> Result<(), SourceFault>
+    ensures ok { IfOk result (λ _. map type_of all.new.items ≡ map type_of all.old.items ++ type_of one ∷ []) }
+    ensures err { IfErr result (λ fault. fault.kind ≡ SourceFaultKind.OutOfMemory) }
+{
+    all.push(one)?;
+    Ok(())
+}
+
 /// The type that stands in parentheses.
 #[cycle(terms)]
+#[tactic(auto, unfolding(crate::specs::Terms::tuple_read), using(crate::proofs::Rooms::tuple_more, crate::proofs::Rooms::tuple_done))]
 fn read_tuple(
     alloc: Global,
     names: &mut Names,
     inside: &mut Cursor<'_>,
     room: u32,
-) -> Result<Type, SourceFault> {
-    let mut types = Vec::new(alloc);
-    for _ in inside.at..inside.end {
+) -> Result<Type, SourceFault>
+    ensures { Reads type_of (tuple_read (inner room) inside.old (texts names.old)) (texts names.new) result }
+{
+    let mut all = Vec::new(alloc);
+    let turns = inside.end.saturating_sub(inside.at);
+    for turn in 0..turns {
         if is_done(inside) {
-            break;
+            return Ok(tuple(all));
         }
         let one = read_type(alloc, names, inside, room)?;
-        if types.is_empty() && is_done(inside) {
+        if is_alone(&all, inside) {
             return Ok(one);
         }
-        types.push(one)?;
+        push_type(&mut all, one)?;
         expect_comma(inside)?;
     }
-    Ok(Type::Tuple(types))
+    Ok(tuple(all))
 }
 
 /// The array's or the slice's type that stands in square brackets.
 #[cycle(terms)]
+#[tactic(auto, unfolding(crate::specs::Terms::list_read))]
 fn read_list(
     alloc: Global,
     names: &mut Names,
     inside: &mut Cursor<'_>,
     room: u32,
-) -> Result<Type, SourceFault> {
+) -> Result<Type, SourceFault>
+    ensures { Reads type_of (list_read (inner room) inside.old (texts names.old)) (texts names.new) result }
+{
     let element = Box::new(alloc, read_type(alloc, names, inside, room)?)?;
     if is_done(inside) {
         return Ok(Type::Slice(element));

@@ -1,0 +1,49 @@
+-- What a text means that is all one type.
+use Rattle.std.specs.Prelude.{◌≡◌, ◌⊎◌, ℕ, ◌+◌, ◌-◌, ◌^◌, List, length, min, Result, Ok, Err, if◌then◌else◌}
+use Rattle.rust_source.specs.declared.fault.SourceFault.{SourceFault}
+use Rattle.rust_source.specs.declared.fault.SourceFaultKind.TheVariants.{ExpectedType, OutOfMemory}
+use Rattle.rust_source.specs.declared.reader.cursor.Cursor.{Cursor}
+use Rattle.rust_source.specs.declared.syntax.«Type».{«Type» as Written}
+use Rattle.rust_source.specs.declared.tokens.token.Token.{Token}
+use Rattle.rust_source.specs.Cursor.{is_done}
+use Rattle.rust_source.specs.Reading.{Reading, Reads, after}
+use Rattle.rust_source.specs.Simple.{most_nested}
+use Rattle.rust_source.specs.Syntax.{TypeRead, type_of}
+use Rattle.rust_source.specs.Terms.{Known, done, refused, type_read}
+use Rattle.rust_source.specs.Tokens.{tokens}
+
+-- the tokens, or the fault, whose place is counted from where the text begins
+abbrev pub placed : (start : ℕ) → Result (List Token) SourceFault → Result (List Token) SourceFault
+placed start (Ok ts) = Ok ts
+placed start (Err e) = Err (record { at = record { 0 = min (start + e.at.0) (2 ^ 32 - 1) }; kind = e.kind })
+
+-- the tokens of a text that begins at a place, or its first fault
+abbrev pub tokens_at : (start : ℕ) → (text : List ℕ) → Result (List Token) SourceFault
+tokens_at start text = placed start (tokens text)
+
+-- a reading stands before all tokens of a text
+pub record StandsBefore (c : Cursor) (text : List ℕ) (start : ℕ) (ts : List Token) : Type 0 where
+  pub of_text : c.text.now ≡ text
+  pub of_tokens : c.tokens.now ≡ ts
+  pub from_start : c.start ≡ start
+  pub at_first : c.at ≡ 0
+  pub to_last : c.end ≡ length ts
+
+-- the type that is all that is there
+abbrev pub alone : Reading (TypeRead × Cursor) → Reading TypeRead
+alone read = after (λ (t : TypeRead × Cursor) ns. if is_done t.1 then done t.0 ns else refused ExpectedType t.1 ns) read
+
+-- memory was wanting
+abbrev pub WantsMemory : {A : Type 0} → Result A SourceFault → Type 0
+WantsMemory (Ok a) = ⊥
+WantsMemory (Err e) = e.kind ≡ OutOfMemory
+
+-- the answer is what these tokens mean, or this first fault
+abbrev pub MeansBy : (text : List ℕ) (start : ℕ) (old new : Known) → Result Written SourceFault → Result (List Token) SourceFault → Type 0
+MeansBy text start old new answer (Ok ts) =
+    (c : Cursor) × StandsBefore c text start ts × Reads type_of (alone (type_read most_nested c old)) new answer
+MeansBy text start old new answer (Err e) = Reads type_of (Err e, old) new answer
+
+-- the answer is the type that the text means, or its first fault, and the names are those that it has; memory aside
+abbrev pub MeansType : (text : List ℕ) (start : ℕ) (old new : Known) → Result Written SourceFault → Type 0
+MeansType text start old new answer = WantsMemory answer ⊎ MeansBy text start old new answer (tokens_at start text)

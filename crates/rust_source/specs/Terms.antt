@@ -1,0 +1,299 @@
+-- Types, paths and expressions: what the tokens mean that are next, or their first fault.
+use Rattle.std.specs.Prelude.{ℕ, zero, suc, ◌-◌, ◌==◌, ◌||◌, Bool, true, false, List, [], ◌∷◌, ◌++◌, Option, None, Some, Result, Ok, Err, if◌then◌else◌}
+use Rattle.rust_source.specs.declared.fault.SourceFault.{SourceFault}
+use Rattle.rust_source.specs.declared.fault.SourceFaultKind.{SourceFaultKind}
+use Rattle.rust_source.specs.declared.fault.SourceFaultKind.TheVariants.{BadNumber, ExpectedAngle, ExpectedComma, ExpectedExpression, ExpectedName, ExpectedSemicolon, OutOfMemory, TooDeep}
+use Rattle.rust_source.specs.declared.place.Place.{Place}
+use Rattle.rust_source.specs.declared.place.Symbol.{Symbol}
+use Rattle.rust_source.specs.declared.reader.cursor.Cursor.{Cursor}
+use Rattle.rust_source.specs.declared.reader.operators.Waiting.{Waiting}
+use Rattle.rust_source.specs.declared.syntax.Binary.{Binary}
+use Rattle.rust_source.specs.declared.syntax.Unevaluated.TheVariants.{Expression}
+use Rattle.rust_source.specs.declared.tokens.keyword.Keyword.TheVariants as keyword
+use Rattle.rust_source.specs.declared.tokens.token.Bracket.{Bracket}
+use Rattle.rust_source.specs.declared.tokens.token.Bracket.TheVariants as bracket
+use Rattle.rust_source.specs.declared.tokens.token.TokenKind.{TokenKind}
+use Rattle.rust_source.specs.declared.tokens.token.TokenKind.TheVariants as kind
+use Rattle.rust_source.specs.Cursor.{behind, comma_passed, expected, fault, inside, is_done, is_lifetime, is_next, is_nth, is_nth_pair, is_pair, is_word, next_kind, passed, place}
+use Rattle.rust_source.specs.Operators.{all_joined, next_operator, operator_put, signed}
+use Rattle.rust_source.specs.Passing.{bounds}
+use Rattle.rust_source.specs.Reading.{Reading, after, path_name, seen}
+use Rattle.rust_source.specs.Simple.{after_path, begins_path, is_literal, literal, most_nested, pointed, pointings, signed_literal, signs, simple}
+use Rattle.rust_source.specs.Syntax.{ArgumentRead, ExprRead, PathRead, SegmentRead, TypeRead, arguments, array, binding, call, cast, choice, constant, exprs, of_const, of_type, other_expr, path, segment, segments, slice, tuple, types}
+
+-- names that have numbers
+abbrev pub Known : Type 0
+Known = List (List ℕ)
+
+-- what stands at a place is read, with what follows it
+abbrev pub Reader : Type 0 → Type 0
+Reader A = Cursor → Known → Reading (A × Cursor)
+
+-- how the types, the expressions and the choices are read that stand within others
+pub record Inner : Type 0 where
+  pub type_in : Reader TypeRead
+  pub expr_in : Reader ExprRead
+  -- the choice behind its `if`, which stands at the place
+  pub choice_in : Place → Reader ExprRead
+
+-- a value, and no fault
+abbrev pub done : {A : Type 0} → A → Known → Reading A
+done a names = (Ok a, names)
+
+-- the fault of this kind at the next token
+abbrev pub refused : {A : Type 0} → SourceFaultKind → Cursor → Known → Reading A
+refused k c names = (Err (fault c k), names)
+
+-- what is told even where an expression needn't be read
+abbrev pub is_told : SourceFaultKind → Bool
+is_told OutOfMemory = true
+is_told TooDeep = true
+is_told BadNumber = true
+is_told _ = false
+
+-- nothing is left
+abbrev pub ended : Cursor → Cursor
+ended c = record c { at = c.end }
+
+-- what all tokens that are left mean, of which this was read
+abbrev pub whole_by : Cursor → Result (ExprRead × Cursor) SourceFault → Known → Reading (ExprRead × Cursor)
+whole_by c (Ok e) names = done ((if is_done e.1 then e.0 else other_expr Expression (place c)), ended c) names
+whole_by c (Err e) names = if is_told e.kind then (Err e, names) else done (other_expr Expression (place c), ended c) names
+
+-- no list is there yet
+abbrev pub is_empty : {A : Type 0} → List A → Bool
+is_empty [] = true
+is_empty (a ∷ more) = false
+
+-- the list is followed by another token that has a name in a type
+abbrev pub is_binding : Cursor → Bool
+is_binding c = is_next c 61 || (if is_next c 58 then (if is_nth_pair c 0 58 58 then false else true) else false)
+
+-- the arguments of a path's name are next: where their `<` ends
+abbrev pub arguments_begin : (in_type : Bool) → Cursor → Option Cursor
+arguments_begin in_type c =
+    if (if is_pair c 58 58 then is_nth c 2 60 else false) then Some (passed c 3)
+    else (if (if in_type then is_next c 60 else false) then Some (passed c 1) else None)
+
+-- an argument that a type began, at this place: the type, or the name of a binding
+abbrev pub argument_behind : Place → TypeRead → Cursor → ArgumentRead × Cursor
+argument_behind at t c = if is_binding c then (binding at, (bounds (passed c 1)).1) else (of_type t, c)
+
+-- what comes behind an argument: a `,` or the end
+abbrev pub arguments_on : (go_on : List ArgumentRead → Reader (List ArgumentRead)) → List ArgumentRead → Reader (List ArgumentRead)
+arguments_on go_on all c names =
+    if is_next c 62 then go_on all c names
+    else (if is_next c 44 then go_on all (passed c 1) names else refused ExpectedAngle c names)
+
+-- what comes behind a name of a path: `::` and another one, or the end
+abbrev pub path_on : (go_on : List SegmentRead → Reader PathRead) → (is_global : Bool) → List SegmentRead → Reader PathRead
+path_on go_on is_global all c names =
+    if is_pair c 58 58 then go_on all (passed c 2) names else done (path is_global (segments all), c) names
+
+-- what comes behind a type in parentheses: nothing behind the first one, which is the type itself, or a `,`
+abbrev pub tuple_on : (go_on : List TypeRead → Cursor → Known → Reading TypeRead) → List TypeRead → TypeRead → Cursor → Known → Reading TypeRead
+tuple_on go_on all t c names =
+    if (if is_empty all then is_done c else false) then done t names
+    else after (λ d ns. go_on (all ++ t ∷ []) d ns) (comma_passed c, names)
+
+-- what comes behind an operand: an operator, or the end
+abbrev pub expr_on : (go_on : List ExprRead → List Waiting → Reader ExprRead) → List ExprRead → List Waiting → Cursor → Option (Binary × ℕ) → Known → Reading (ExprRead × Cursor)
+expr_on go_on os ws c None names = (seen (λ e. (e, c)) (all_joined c os ws), names)
+expr_on go_on os ws c (Some o) names =
+    after (λ s ns. go_on s.0 s.1 (passed c o.1) ns) (operator_put c os ws (record { operator = o.0; at = place c }), names)
+
+-- the argument that a literal is, with the operators before it
+abbrev pub constant_read : Cursor → Result (ArgumentRead × Cursor) SourceFault
+constant_read c = seen (λ (e : ExprRead × Cursor). (of_const e.0, e.1)) (signed_literal c)
+
+module _ (R : Inner) where
+  -- the expression that all tokens make that are left, `Unevaluated` where they make none that is read
+  unfoldable pub whole : Reader ExprRead
+  whole c names =
+      if is_done c then refused ExpectedExpression c names
+      else (let read = R.expr_in c names in whole_by c read.0 read.1)
+
+  -- an argument, which stands in these braces, or in none
+  abbrev pub argument_by : Cursor → Option Cursor → Known → Reading (ArgumentRead × Cursor)
+  argument_by c (Some i) names = after (λ (e : ExprRead × Cursor) ns. done (of_const e.0, behind c) ns) (whole i names)
+  argument_by c None names =
+      if is_literal c || is_next c 45 then (constant_read c, names)
+      else after (λ (t : TypeRead × Cursor) ns. done (argument_behind (place c) t.0 t.1) ns) (R.type_in c names)
+
+  -- the argument that is next, which is no lifetime
+  unfoldable pub argument : Reader ArgumentRead
+  argument c names = argument_by c (inside c bracket.Curly) names
+
+  -- the arguments with the one that is next, a lifetime left out
+  unfoldable pub argument_more : List ArgumentRead → Reader (List ArgumentRead)
+  argument_more all c names =
+      if is_lifetime (next_kind c) then done (all, passed c 1) names
+      else after (λ (a : ArgumentRead × Cursor) ns. done (all ++ a.0 ∷ [], a.1) ns) (argument c names)
+
+  -- arguments up to their `>`, behind these
+  abbrev pub arguments_from : (limit : ℕ) → List ArgumentRead → Reader (List ArgumentRead)
+  arguments_from zero all c names = refused ExpectedAngle c names
+  arguments_from (suc limit) all c names =
+      if is_next c 62 then done (all, passed c 1) names
+      else after (λ (a : List ArgumentRead × Cursor) ns. arguments_on (arguments_from limit) a.0 a.1 ns) (argument_more all c names)
+
+  -- the arguments whose `<` stands before
+  unfoldable pub arguments_read : Reader (List ArgumentRead)
+  arguments_read c names = arguments_from (c.end - c.at) [] c names
+
+  -- the arguments of a name, where they are there
+  abbrev pub arguments_by : Cursor → Option Cursor → Known → Reading (List ArgumentRead × Cursor)
+  arguments_by c None names = done ([], c) names
+  arguments_by c (Some d) names = arguments_read d names
+
+  -- the name of a path that is next, with its arguments; in a type they need no `::` before them
+  unfoldable pub segment_read : (in_type : Bool) → Reader SegmentRead
+  segment_read in_type c names =
+      after (λ (n : (Symbol × Place) × Cursor) ns.
+      after (λ (a : List ArgumentRead × Cursor) ms. done (segment n.0.0.0 n.0.1 (arguments a.0), a.1) ms)
+      (arguments_by n.1 (arguments_begin in_type n.1) ns))
+      (path_name c names)
+
+  -- a path, behind these names
+  abbrev pub path_from : (in_type is_global : Bool) → (limit : ℕ) → List SegmentRead → Reader PathRead
+  path_from in_type is_global zero all c names = refused ExpectedName c names
+  path_from in_type is_global (suc limit) all c names =
+      after (λ (s : SegmentRead × Cursor) ns. path_on (path_from in_type is_global limit) is_global (all ++ s.0 ∷ []) s.1 ns) (segment_read in_type c names)
+
+  -- the path that is next
+  unfoldable pub path_read : (in_type : Bool) → Reader PathRead
+  path_read in_type c names =
+      let d = if is_pair c 58 58 then passed c 2 else c in
+      path_from in_type (is_pair c 58 58) (d.end - d.at) [] d names
+
+  -- the type that stands in parentheses, behind these
+  abbrev pub tuple_from : (limit : ℕ) → List TypeRead → Cursor → Known → Reading TypeRead
+  tuple_from zero all c names = done (tuple (types all)) names
+  tuple_from (suc limit) all c names =
+      if is_done c then done (tuple (types all)) names
+      else after (λ (t : TypeRead × Cursor) ns. tuple_on (tuple_from limit) all t.0 t.1 ns) (R.type_in c names)
+
+  -- the type that stands in these parentheses
+  unfoldable pub tuple_read : Cursor → Known → Reading TypeRead
+  tuple_read c names = tuple_from (c.end - c.at) [] c names
+
+  -- the slice or the array whose element is this
+  abbrev pub list_on : TypeRead → Cursor → Known → Reading TypeRead
+  list_on t c names =
+      if is_done c then done (slice t) names
+      else after (λ d ns. after (λ (e : ExprRead × Cursor) ms. done (array t e.0) ms) (whole d ns)) (expected c 59 ExpectedSemicolon, names)
+
+  -- the type that stands in these square brackets
+  unfoldable pub list_read : Cursor → Known → Reading TypeRead
+  list_read c names = after (λ (t : TypeRead × Cursor) ns. list_on t.0 t.1 ns) (R.type_in c names)
+
+  -- a type that no `&` or `*` stands before, which stands in these brackets, or in none
+  abbrev pub target_by : Cursor → (round square : Option Cursor) → Known → Reading (TypeRead × Cursor)
+  target_by c (Some i) square names = after (λ t ns. done (t, behind c) ns) (tuple_read i names)
+  target_by c None (Some i) names = after (λ t ns. done (t, behind c) ns) (list_read i names)
+  target_by c None None names =
+      if begins_path c then after (λ (p : PathRead × Cursor) ns. done (after_path p.1 p.0 (place c)) ns) (path_read true c names)
+      else (simple c, names)
+
+  unfoldable pub target : Reader TypeRead
+  target c names = target_by c (inside c bracket.Round) (inside c bracket.Square) names
+
+  -- the type that is next
+  unfoldable pub type_with : Reader TypeRead
+  type_with c names =
+      after (λ p ns. after (λ (t : TypeRead × Cursor) ms. done (pointed t.0 p.0, t.1) ms) (target p.1 ns)) (pointings c, names)
+
+  -- the expression that stands in these brackets, alone
+  abbrev pub bracketed_by : Cursor → Option Cursor → Known → Reading (ExprRead × Cursor)
+  bracketed_by c None names = refused ExpectedExpression c names
+  bracketed_by c (Some i) names =
+      after (λ (e : ExprRead × Cursor) ns. if is_done e.1 then done (e.0, behind c) ns else refused ExpectedExpression e.1 ns) (R.expr_in i names)
+
+  unfoldable pub bracketed : Bracket → Reader ExprRead
+  bracketed b c names = bracketed_by c (inside c b) names
+
+  -- expressions with a `,` between them, behind these
+  abbrev pub values_from : (limit : ℕ) → List ExprRead → Cursor → Known → Reading (List ExprRead)
+  values_from zero all c names = done all names
+  values_from (suc limit) all c names =
+      if is_done c then done all names
+      else after (λ (e : ExprRead × Cursor) ns. after (λ d ms. values_from limit (all ++ e.0 ∷ []) d ms) (comma_passed e.1, ns)) (R.expr_in c names)
+
+  -- the expressions that stand in these parentheses
+  unfoldable pub values : Cursor → Known → Reading (List ExprRead)
+  values c names = values_from (c.end - c.at) [] c names
+
+  -- the constant that a path names, or the call of what it names, with what stands in these parentheses
+  abbrev pub value_by : Place → PathRead → Cursor → Option Cursor → Known → Reading (ExprRead × Cursor)
+  value_by at p c None names = done (constant p, c) names
+  value_by at p c (Some i) names = after (λ es ns. done (call p (exprs es) at, behind c) ns) (values i names)
+
+  unfoldable pub value : Reader ExprRead
+  value c names =
+      after (λ (p : PathRead × Cursor) ns. value_by (place c) p.0 p.1 (inside p.1 bracket.Round) ns) (path_read false c names)
+
+  -- the operand without operators that begins with a token of this kind, which is no literal
+  abbrev pub primary_by : Cursor → Option TokenKind → Known → Reading (ExprRead × Cursor)
+  primary_by c (Some (kind.Open bracket.Round)) names = bracketed bracket.Round c names
+  primary_by c (Some (kind.Open bracket.Curly)) names = bracketed bracket.Curly c names
+  primary_by c (Some (kind.Keyword keyword.If)) names = R.choice_in (place c) (passed c 1) names
+  primary_by c _ names = value c names
+
+  -- the operand without operators that is next
+  unfoldable pub primary : Reader ExprRead
+  primary c names = if is_literal c then (literal c, names) else primary_by c (next_kind c) names
+
+  -- an operand with the casts behind it; there are less than `limit`
+  abbrev pub cast_from : (limit : ℕ) → ExprRead → Reader ExprRead
+  cast_from zero e c names = refused TooDeep c names
+  cast_from (suc limit) e c names =
+      if is_word c keyword.As
+      then after (λ (t : TypeRead × Cursor) ns. cast_from limit (cast e t.0 (place c)) t.1 ns) (R.type_in (passed c 1) names)
+      else done (e, c) names
+
+  -- the operand that is next, with the operators before it and the casts behind
+  unfoldable pub operand : Reader ExprRead
+  operand c names =
+      after (λ s ns. after (λ (e : ExprRead × Cursor) ms. cast_from most_nested (signed e.0 s.0) e.1 ms) (primary s.1 ns)) (signs c, names)
+
+  -- an expression, behind these operands and operators, both the last first
+  abbrev pub expr_from : (limit : ℕ) → List ExprRead → List Waiting → Reader ExprRead
+  expr_from zero os ws c names = refused TooDeep c names
+  expr_from (suc limit) os ws c names =
+      after (λ (e : ExprRead × Cursor) ns. expr_on (expr_from limit) (e.0 ∷ os) ws e.1 (next_operator e.1) ns) (operand c names)
+
+  -- the expression that is next
+  unfoldable pub expr_with : Reader ExprRead
+  expr_with c names = expr_from most_nested [] [] c names
+
+  -- what stands behind `else`: a choice, or an expression in braces
+  abbrev pub else_read : Reader ExprRead
+  else_read c names = if is_word c keyword.If then R.choice_in (place c) (passed c 1) names else bracketed bracket.Curly c names
+
+  -- the choice behind its test
+  abbrev pub choice_behind : Place → ExprRead → Reader ExprRead
+  choice_behind at test c names =
+      after (λ (yes : ExprRead × Cursor) ns.
+      if is_word yes.1 keyword.Else
+      then after (λ (no : ExprRead × Cursor) ms. done (choice test yes.0 no.0 at, no.1) ms) (else_read (passed yes.1 1) ns)
+      else refused ExpectedExpression yes.1 ns)
+      (bracketed bracket.Curly c names)
+
+  -- the choice behind its `if`, which stands at the place
+  unfoldable pub choice_with : Place → Reader ExprRead
+  choice_with at c names = after (λ (test : ExprRead × Cursor) ns. choice_behind at test.0 test.1 ns) (R.expr_in c names)
+
+-- how types, expressions and choices are read that may stand in so many others
+unfoldable pub inner : (room : ℕ) → Inner
+inner zero = record { type_in = refused TooDeep; expr_in = refused TooDeep; choice_in = λ at. refused TooDeep }
+inner (suc room) = record { type_in = type_with (inner room); expr_in = expr_with (inner room); choice_in = choice_with (inner room) }
+
+-- the type, the expression and the choice that is next, which may stand in so many others
+abbrev pub type_read : (room : ℕ) → Reader TypeRead
+type_read room = (inner room).type_in
+
+abbrev pub expr_read : (room : ℕ) → Reader ExprRead
+expr_read room = (inner room).expr_in
+
+abbrev pub choice_read : (room : ℕ) → Place → Reader ExprRead
+choice_read room = (inner room).choice_in
