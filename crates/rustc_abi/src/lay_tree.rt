@@ -177,7 +177,7 @@ fn lay_each(
     ensures err { IfErr result (IsRefused (AreLaying dl.now (trees (map tree_of fields.now)))) }
     ensures behind { AreStillThere nodes.old nodes.new }
 {
-    let mut children = Vec::new(alloc);
+    let mut children = Vec::with_capacity(alloc, fields.len())?;
     for field in fields {
         let child = lay_tree(alloc, dl, nodes, field)?;
         children.push(child)?;

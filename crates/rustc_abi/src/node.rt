@@ -49,7 +49,7 @@ pub(crate) fn layouts_at<'a>(
     ensures { IfOk result (λ layouts.
         map (λ lent. lent.now) layouts ≡ map layout_of (all_at nodes.now children.now)) }
 {
-    let mut layouts = IndexVec::new(alloc);
+    let mut layouts = IndexVec::with_capacity(alloc, children.len())?;
     for child in children {
         let _field: FieldIdx = layouts.push(nodes.layout(*child))?;
     }
