@@ -1,6 +1,6 @@
 //! The runs of a node's data places: the bytes that decide which value is held.
 
-ghost use Rattle.std.specs.Prelude.{◌≡◌, ℕ, ◌+◌, ◌*◌, ◌-◌, ◌^◌, ◌<◌, ◌≤◌, ◌||◌, [], All, IfOk, IfSome, List, None, OnOk, get_or, length, map, true};
+ghost use Rattle.std.specs.Prelude.{◌≡◌, ℕ, ◌+◌, ◌*◌, ◌-◌, ◌^◌, ◌<◌, ◌≤◌, ◌||◌, [], All, IfOk, IfSome, List, None, OnOk, get_or, length, map, true, nat_lt};
 ghost use Rattle.abi_index.specs.RangeSet.{is_in_ranges};
 ghost use Rattle.abi_index.specs.Runs.{Adds, moved_to, repeated};
 ghost use Rattle.abi_laid.specs.declared.node.Node.{Node as OneNode};
@@ -164,6 +164,15 @@ fn put_places(
     }
 }
 
+/// The first bytes, so many of them.
+fn first_bytes(alloc: Global, count: u64) -> Result<RangeSet, AllocError>
+    ensures { IfOk result (λ set. (k : ℕ) → is_in_ranges set k ≡ nat_lt k count) }
+{
+    let mut set = RangeSet::new(alloc);
+    set.add_range(0, count)?;
+    Ok(set)
+}
+
 /// The runs of a node's data places, made from those of the nodes before it whose data places are its own.
 fn runs_of(alloc: Global, node: NodeRef<'_>, done: &[RangeSet]) -> Result<RangeSet, AllocError>
     requires { (types : List Placed) × IsMadeOf types (lent_node node) done.now }
@@ -173,6 +182,9 @@ fn runs_of(alloc: Global, node: NodeRef<'_>, done: &[RangeSet]) -> Result<RangeS
 {
     if node.layout.size == Size::ZERO {
         return Ok(RangeSet::new(alloc));
+    }
+    if let Shape::Scalar(_) = node.shape {
+        return first_bytes(alloc, node.layout.size.bytes());
     }
     let mut runs = RangeSetBuilder::new(alloc);
     put_places(&mut runs, node, done)?;
