@@ -47,14 +47,11 @@ use Rattle.abi_calc.specs.Enums.Several.{AreLawfulTags, HasEnumSize, HasTaggedSi
 use Rattle.abi_calc.specs.Enums.Sizes.{IsTaggedTooLarge}
 use Rattle.abi_calc.specs.Enums.Tagged.{IsTaggedAnswer, IsTaggedBy, lists_align, lists_size, payloads_of}
 use Rattle.abi_calc.proofs.EnumLemmas.Asked.{tagged_fits, tagged_large, tagged_lawful as asked_lawful, tagged_no_other, tagged_sized as asked_size, tagged_told as asked_told}
-use Rattle.abi_calc.proofs.EnumLemmas.Promised.{HasGoodLists, by_good, by_lawful, by_size, placed_by}
-use Rattle.abi_calc.proofs.EnumLemmas.Lists.{good_exact, good_lawful}
+use Rattle.abi_calc.proofs.EnumLemmas.Lists.{good_exact}
 use Rattle.abi_calc.proofs.EnumLemmas.InNiche.{needing_others, needing_within, span_holds}
 use Rattle.abi_calc.proofs.EnumLemmas.NicheLawful.{niche_parts}
 use Rattle.abi_calc.proofs.EnumLemmas.Several.{IsFound, better_lawful, better_size, better_told, by_both, found_of}
-use Rattle.abi_calc.proofs.EnumLemmas.Sizes.{error_large, error_sized, not_too_large, too_large_whole}
-use Rattle.abi_calc.proofs.EnumLemmas.Told.{asked_sized, told_by_tag}
-use Rattle.abi_calc.proofs.EnumLemmas.GoodLists.{good_lists, tag_prefix}
+use Rattle.abi_calc.proofs.EnumLemmas.GoodLists.{good_lists}
 
 -- ---- the views of enums are sized
 
