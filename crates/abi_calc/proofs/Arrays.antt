@@ -1,6 +1,6 @@
 -- Arrays are refused for their size alone, and exactly where it isn't below the bound.
 use Rattle.std.proofs.Common.{◌≡◌, ◌≢◌, ℕ, ◌*◌, ◌==◌, ◌≤◌, ◌∙◌, Bool, true, false, Err, None, Ok, Option, arith, refl, sym}
-use Rattle.std.specs.Prelude.{IfErr, Result, if◌then◌else◌, is_some, nat_lt, unwrap_or}
+use Rattle.std.specs.Prelude.{IfErr, Result, if◌then◌else◌, nat_lt, unwrap_or}
 use Rattle.std.proofs.lemmas.Bool.Decides.{nat_tests}
 use Rattle.abi_base.specs.declared.data_layout.TargetDataLayout.{TargetDataLayout}
 use Rattle.abi_base.specs.DataLayout.{size_bound}

@@ -36,7 +36,7 @@ use Rattle.abi_calc.specs.Coroutine.Answer.{IsPromotedAnswer}
 use Rattle.abi_calc.specs.Coroutine.Layout.{IsStateTag, coroutine_layout, whole_align, whole_size}
 use Rattle.abi_calc.specs.Coroutine.Lists.{AreOwnLists, IsFirstOwnError, behind, default_repr, first_list, own_list, own_of, picked}
 use Rattle.abi_calc.specs.Coroutine.Promised.{IsSizedPromoted}
-use Rattle.abi_calc.specs.Coroutine.Sizes.{AreListsTooLarge, IsSizeOfLists, IsSizeWith, IsTooLargeWith, align_of_all, behind_first, own_lists}
+use Rattle.abi_calc.specs.Coroutine.Sizes.{AreListsTooLarge, IsSizeOfLists, IsSizeWith, align_of_all, behind_first, own_lists}
 use Rattle.abi_calc.specs.Enums.Lists.{AreGoodLists, AreListLayouts, IsFirstListError, IsGoodList}
 use Rattle.abi_calc.specs.Enums.Sizes.{AreLeastSizes}
 use Rattle.abi_calc.specs.Coroutine.States.{HasFields}

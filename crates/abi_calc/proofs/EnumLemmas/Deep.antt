@@ -46,14 +46,12 @@ use Rattle.abi_calc.specs.Enums.Payload.{beside_tag, common_of, tagged_view}
 use Rattle.abi_calc.specs.Enums.Several.{AreLawfulTags, HasEnumSize, HasTaggedSize, IsAlwaysTooLarge, IsAskedAnswer, IsAskedFor, IsAskedTooLarge, IsEnumAnswer, IsSeveralAnswer, better_of}
 use Rattle.abi_calc.specs.Enums.Sizes.{IsTaggedTooLarge}
 use Rattle.abi_calc.specs.Enums.Tagged.{IsTaggedAnswer, IsTaggedBy, lists_align, lists_size, payloads_of}
-use Rattle.abi_calc.proofs.EnumLemmas.Promised.{HasGoodLists, by_good, by_lawful, by_size, placed_by}
-use Rattle.abi_calc.proofs.EnumLemmas.Lists.{good_exact, good_lawful}
+use Rattle.abi_calc.proofs.EnumLemmas.Asked.{tagged_fits, tagged_large, tagged_lawful as asked_lawful, tagged_no_other, tagged_sized as asked_size, tagged_told as asked_told}
+use Rattle.abi_calc.proofs.EnumLemmas.Lists.{good_exact}
 use Rattle.abi_calc.proofs.EnumLemmas.InNiche.{needing_others, needing_within, span_holds}
 use Rattle.abi_calc.proofs.EnumLemmas.NicheLawful.{niche_parts}
 use Rattle.abi_calc.proofs.EnumLemmas.Several.{IsFound, better_lawful, better_size, better_told, by_both, found_of}
-use Rattle.abi_calc.proofs.EnumLemmas.Sizes.{error_large, error_sized, not_too_large, too_large_whole}
-use Rattle.abi_calc.proofs.EnumLemmas.Told.{asked_sized, told_by_tag}
-use Rattle.abi_calc.proofs.EnumLemmas.GoodLists.{good_lists, tag_prefix}
+use Rattle.abi_calc.proofs.EnumLemmas.GoodLists.{good_lists}
 
 -- ---- the views of enums are sized
 
@@ -155,35 +153,21 @@ module _ {H : Type 0} (layout_of : H → LayoutData ℕ ℕ) (dl : TargetDataLay
   abbrev IsTagged : Integer → Bool → Result (LayoutData ℕ ℕ) (LayoutCalculatorError H) → Type 0
   IsTagged asked signed r = IsTaggedAnswer layout_of (λ i. i) (λ i. i) 0 dl repr asked signed values variants r
 
-  good_behind : (asked : Integer) (lists : List (LayoutData ℕ ℕ)) → AreListLayouts layout_of (λ i. i) 0 dl repr (behind asked) variants lists → AreGoodLists layout_of (λ i. i) 0 dl repr (behind asked) variants lists
-  good_behind asked lists h = good_lists layout_of (λ i. i) 0 dl repr (behind asked) variants lists law fields aligns (tag_prefix layout_of dl repr asked variants law fields) tt h
-
-  have_good : (asked : Integer) (signed : Bool) (lists : List (LayoutData ℕ ℕ)) → repr.pack ≡ None → AreListLayouts layout_of (λ i. i) 0 dl repr (behind asked) variants lists
-      → HasGoodLists layout_of (λ i. i) (λ i. i) 0 dl repr asked signed values (behind asked) variants lists
-  have_good asked signed lists unpacked h = record { good = good_behind asked lists h; some = some; unpacked = unpacked }
-
   -- it is lawful
   tagged_lawful : (asked : Integer) (signed : Bool) (t : LayoutData ℕ ℕ) → repr.pack ≡ None → IsTagged asked signed (Ok t) → IsLawfulLayout dl t
   tagged_lawful asked signed t unpacked h =
-      by_lawful layout_of (λ i. i) (λ i. i) 0 dl repr asked signed values (behind asked) variants h.0 (longest variants) (λ i le. refl) law refl (within variants (longest variants) (omega arith)) fields
-      (good_lawful layout_of (λ i. i) 0 dl repr (behind asked) variants h.0 (good_behind asked h.0 h.1)) (Ok t) (have_good asked signed h.0 unpacked h.1) h.2
+      asked_lawful layout_of (λ i. i) (λ i. i) 0 dl law repr asked signed values variants aligns fields some unpacked (longest variants) (λ i le. refl) (within variants (longest variants) (omega arith)) t h
 
   -- its tag tells the variants apart
   tagged_told : (asked : Integer) (signed : Bool) (t : LayoutData ℕ ℕ) → repr.pack ≡ None → IsAskedFor dl repr asks values asked signed → IsTagged asked signed (Ok t) → IsToldByTag dl (λ v. v) vs items t
   tagged_told asked signed t unpacked is h =
-      told_by_tag layout_of (λ i. i) (λ i. i) 0 (λ v. v) dl repr asked signed variants items (Ok t) h
-      (placed_by layout_of (λ i. i) (λ i. i) 0 dl repr asked signed values (behind asked) variants h.0 (longest variants) (λ i le. refl) law refl (within variants (longest variants) (omega arith)) (Ok t)
-      (have_good asked signed h.0 unpacked h.1) h.2)
-      (tags asked signed is).differ
+      asked_told layout_of (λ i. i) (λ i. i) 0 dl law repr asked signed values variants aligns fields some unpacked (longest variants) (λ i le. refl) (within variants (longest variants) (omega arith)) (λ v. v) items refl asks tags is t h
 
   -- it has the tagged size
   tagged_sized : (asked : Integer) (signed : Bool) (t : LayoutData ℕ ℕ) → repr.pack ≡ None → IsAskedFor dl repr asks values asked signed → IsTagged asked signed (Ok t)
       → HasTaggedSize layout_of (λ i. i) 0 dl repr asks values variants t.size
   tagged_sized asked signed t unpacked is h =
-      let good = have_good asked signed h.0 unpacked h.1 in
-      asked_sized layout_of (λ i. i) (λ i. i) 0 (λ v. v) dl repr asked signed variants items asks values (Ok t) is
-      (by_size layout_of (λ i. i) (λ i. i) 0 dl repr asked signed values (behind asked) variants h.0 (Ok t) good h.2)
-      (by_good layout_of (λ i. i) (λ i. i) 0 dl repr asked signed values (behind asked) variants h.0 (Ok t) good)
+      asked_size layout_of (λ i. i) (λ i. i) 0 dl law repr asked signed values variants aligns fields some unpacked asks is (λ v. v) items t h
 
   -- ---- the layout with a niche
 
@@ -294,9 +278,7 @@ module _ {H : Type 0} (layout_of : H → LayoutData ℕ ℕ) (dl : TargetDataLay
   -- ---- refusals
 
   large_error : (asked : Integer) (signed : Bool) (e : LayoutCalculatorError H) → repr.pack ≡ None → IsTagged asked signed (Err e) → e ≡ SizeOverflow → IsTaggedTooLarge dl repr (behind asked) vs
-  large_error asked signed e unpacked (inl fault) is = error_large layout_of (λ i. i) 0 dl repr (behind asked) variants e fields tt fault is
-  large_error asked signed e unpacked (inr (inl whole)) is = too_large_whole layout_of (λ i. i) 0 dl repr (behind asked) variants whole.0 some unpacked (good_behind asked whole.0 whole.1) whole.2
-  large_error asked signed e unpacked (inr (inr want)) is = absurd (cc)
+  large_error asked signed e unpacked h is = tagged_large layout_of (λ i. i) (λ i. i) 0 dl law repr asked signed values variants aligns fields some unpacked e h is
 
   large_tagged : (found : Option (LayoutData ℕ ℕ)) → repr.pack ≡ None → (r : Result (LayoutData ℕ ℕ) (LayoutCalculatorError H)) → IsAskedTag r
       → Err SizeOverflow ≡ better_of dl r found → IsAskedTooLarge dl repr asks values vs
@@ -313,25 +295,23 @@ module _ {H : Type 0} (layout_of : H → LayoutData ℕ ℕ) (dl : TargetDataLay
   enum_too_large (inr (inl want)) = absurd (cc want.1)
   enum_too_large (inr (inr h)) = large_enum h.0 (by_items (Err SizeOverflow) h.1 h.2 h.3)
 
-  other_error : (asked : Integer) (signed : Bool) (e : LayoutCalculatorError H) → All AreSized vs → IsTagged asked signed (Err e) → (e ≡ SizeOverflow) ⊎ (e ≡ OutOfMemory)
-  other_error asked signed e sized (inl fault) = error_sized layout_of (λ i. i) 0 dl repr (behind asked) variants e sized tt fault
-  other_error asked signed e sized (inr (inl whole)) = inl whole.3
-  other_error asked signed e sized (inr (inr want)) = inr want
-
-  other_tagged : (found : Option (LayoutData ℕ ℕ)) (e : LayoutCalculatorError H) → All AreSized vs → (r : Result (LayoutData ℕ ℕ) (LayoutCalculatorError H)) → IsAskedTag r
+  other_tagged : (found : Option (LayoutData ℕ ℕ)) (e : LayoutCalculatorError H) → repr.pack ≡ None → All AreSized vs → (r : Result (LayoutData ℕ ℕ) (LayoutCalculatorError H)) → IsAskedTag r
       → Err e ≡ better_of dl r found → (e ≡ SizeOverflow) ⊎ (e ≡ OutOfMemory)
-  other_tagged found e sized (Ok t) a is = absurd (cc)
-  other_tagged found e sized (Err f) a is = let same : f ≡ e = cc in subst (λ x. (x ≡ SizeOverflow) ⊎ (x ≡ OutOfMemory)) same (other_error a.0 a.1 f sized a.3)
+  other_tagged found e unpacked sized (Ok t) a is = absurd (cc)
+  other_tagged found e unpacked sized (Err f) a is =
+      let same : f ≡ e = cc in
+      subst (λ x. (x ≡ SizeOverflow) ⊎ (x ≡ OutOfMemory)) same
+      (tagged_no_other layout_of (λ i. i) (λ i. i) 0 dl law repr a.0 a.1 values variants aligns fields some unpacked f sized a.3)
 
-  other_enum : (e : LayoutCalculatorError H) → All AreSized vs → ByItems items (Err e) → (e ≡ SizeOverflow) ⊎ (e ≡ OutOfMemory)
-  other_enum e sized (inl want) = inr (cc)
-  other_enum e sized (inr h) = other_tagged h.0 e sized h.2 h.3 h.4
+  other_enum : (e : LayoutCalculatorError H) → repr.pack ≡ None → All AreSized vs → ByItems items (Err e) → (e ≡ SizeOverflow) ⊎ (e ≡ OutOfMemory)
+  other_enum e unpacked sized (inl want) = inr (cc)
+  other_enum e unpacked sized (inr h) = other_tagged h.0 e unpacked sized h.2 h.3 h.4
 
   -- one that isn't packed and has sized fields is refused for its size, and by no other name
   pub enum_no_other : repr.pack ≡ None → All AreSized (map (map layout_of) variants) → (e : LayoutCalculatorError H) → Answers (Err e) → (e ≡ SizeOverflow) ⊎ (e ≡ OutOfMemory)
   enum_no_other unpacked sized e (inl packed) = absurd (cc (subst IsSome unpacked packed.0))
   enum_no_other unpacked sized e (inr (inl want)) = inr (cc want.1)
-  enum_no_other unpacked sized e (inr (inr h)) = other_enum e sized (by_items (Err e) h.1 h.2 h.3)
+  enum_no_other unpacked sized e (inr (inr h)) = other_enum e unpacked sized (by_items (Err e) h.1 h.2 h.3)
 
   one_refusal : (e : LayoutCalculatorError H) → (e ≡ SizeOverflow) ⊎ (e ≡ OutOfMemory) → IsAnswer {A = LayoutData ℕ ℕ} (Err SizeOverflow) (Err e)
   one_refusal e (inl is) = inl (ap (λ x. Err x) is)
@@ -343,5 +323,5 @@ module _ {H : Type 0} (layout_of : H → LayoutData ℕ ℕ) (dl : TargetDataLay
       → (r : Result (LayoutData ℕ ℕ) (LayoutCalculatorError H)) → Answers r → (r ≡ Err SizeOverflow) ⊎ (r ≡ Err OutOfMemory)
   enum_refused unpacked sized large (Ok l) h =
       let b = from_answer l h in
-      absurd (not_too_large layout_of (λ i. i) 0 dl repr (behind b.asked) variants b.with_tag.0 some unpacked (good_behind b.asked b.with_tag.0 b.with_tag.1) b.with_tag.2.small (large b.asked b.signed b.is))
+      absurd (tagged_fits layout_of (λ i. i) (λ i. i) 0 dl law repr b.asked b.signed values variants aligns fields some b.unpacked b.tagged b.with_tag (large b.asked b.signed b.is))
   enum_refused unpacked sized large (Err e) h = one_refusal e (enum_no_other unpacked sized e h)

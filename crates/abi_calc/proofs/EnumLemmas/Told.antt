@@ -28,7 +28,7 @@ use Rattle.abi_calc.specs.Enums.Promised.{IsPlacedByTag}
 use Rattle.abi_calc.specs.Enums.Several.{HasTaggedSize, IsAskedFor}
 use Rattle.abi_calc.specs.Enums.Sizes.{IsTaggedSize}
 use Rattle.abi_calc.specs.Enums.Path.{has_no_value, variant_at}
-use Rattle.abi_calc.specs.Enums.Places.{AreApartAmong, AreNumbersAmong, BeginsWithTagOf, HasViewOfTag}
+use Rattle.abi_calc.specs.Enums.Places.{AreApartAmong, AreNumbersAmong, BeginsWithTagOf}
 use Rattle.abi_calc.specs.Enums.Tagged.{IsTaggedAnswer, lists_align, lists_size, payloads_of}
 use Rattle.abi_calc.proofs.EnumLemmas.Promised.{differ_wider}
 use Rattle.abi_calc.proofs.EnumLemmas.Filled.{listed_count, tagged_filled}

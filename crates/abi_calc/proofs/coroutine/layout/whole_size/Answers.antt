@@ -1,7 +1,5 @@
 -- Sizes and alignments of lawful lists are small.
-use Rattle.std.proofs.Common.{◌≡◌, ◌∙◌, ◌^◌, ap₂, arith, max, ◌∷◌}
-use Rattle.std.specs.Int.{next_multiple_of}
-use Rattle.abi_lists.specs.Fields.{greatest_size}
+use Rattle.std.proofs.Common.{◌∙◌, ap₂, arith, max}
 use Rattle.abi_calc.proofs.CoroutineLemmas.Layout.{whole_align_small, whole_small}
 use Rattle.abi_calc.proofs.coroutine.layout.whole_size.Goals as goal
 
