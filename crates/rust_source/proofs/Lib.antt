@@ -1,4 +1,5 @@
 mod Digits
+mod Facts
 mod Growth
 mod NameTexts
 mod Operators

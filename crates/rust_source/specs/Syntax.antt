@@ -1,5 +1,5 @@
 -- Types, paths and expressions as they are read.
-use Rattle.std.specs.Prelude.{ℕ, Bool, List, [], ◌∷◌, Option, map}
+use Rattle.std.specs.Prelude.{ℕ, Bool, List, [], ◌∷◌, Option}
 use Rattle.rust_source.specs.declared.place.Place.{Place}
 use Rattle.rust_source.specs.declared.syntax.Argument.{Argument}
 use Rattle.rust_source.specs.declared.syntax.Argument.TheFolds.{fold-Argument, fold-Expr, fold-Path, fold-Segment, fold-Type}

@@ -1,8 +1,8 @@
 -- Types, paths and expressions: what the tokens mean that are next, or their first fault.
-use Rattle.std.specs.Prelude.{ℕ, zero, suc, ◌-◌, ◌==◌, ◌||◌, Bool, true, false, List, [], ◌∷◌, ◌++◌, Option, None, Some, Result, Ok, Err, if◌then◌else◌}
+use Rattle.std.specs.Prelude.{ℕ, zero, suc, ◌-◌, ◌||◌, Bool, true, false, List, [], ◌∷◌, ◌++◌, Option, None, Some, Result, Ok, Err, if◌then◌else◌}
 use Rattle.rust_source.specs.declared.fault.SourceFault.{SourceFault}
 use Rattle.rust_source.specs.declared.fault.SourceFaultKind.{SourceFaultKind}
-use Rattle.rust_source.specs.declared.fault.SourceFaultKind.TheVariants.{BadNumber, ExpectedAngle, ExpectedComma, ExpectedExpression, ExpectedName, ExpectedSemicolon, OutOfMemory, TooDeep}
+use Rattle.rust_source.specs.declared.fault.SourceFaultKind.TheVariants.{BadNumber, ExpectedAngle, ExpectedExpression, ExpectedName, ExpectedSemicolon, OutOfMemory, TooDeep}
 use Rattle.rust_source.specs.declared.place.Place.{Place}
 use Rattle.rust_source.specs.declared.place.Symbol.{Symbol}
 use Rattle.rust_source.specs.declared.reader.cursor.Cursor.{Cursor}

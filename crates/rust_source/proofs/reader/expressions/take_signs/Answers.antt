@@ -1,8 +1,6 @@
 -- The next operator goes behind those before it.
-use Rattle.std.proofs.Common.{◌∙◌, ap, sym, rules}
-use Rattle.std.proofs.lemmas.Grind.{common_steps}
+use Rattle.std.proofs.Common.{rules}
 use Rattle.rust_source.proofs.Turns.{signs_on}
-use Rattle.rust_source.specs.Simple.{signs_from}
 use Rattle.rust_source.proofs.reader.expressions.take_signs.Goals as goal
 
 pub loop-turn-preserved : goal.loop-turn-preserved
