@@ -26,7 +26,7 @@ lay_each-lay_tree-requires t c =
 pub lay_each-returns-in_err-child-clause-err : goal.lay_each-returns-in_err-child-clause-err
 lay_each-returns-in_err-child-clause-err t c =
     let item : c.field-item.result ≡ get_or c.args.fields.now c.loop-field.field-index c.field-item.result = c.field-item.is in
-    passed_on _ _ _ c.from_residual.ensures.1
+    passed_on _ _ _ c.from_residual-in_err-child.ensures.1
     (each_refused c.args.dl.now c.args.fields.now c.loop-field.field-index c.field-item.result _ _ (omega arith) item c.loop-field.invariant.0.exact c.in_err-child.ensures.err)
 
 pub lay_each-loop-field-preserved : goal.lay_each-loop-field-preserved
