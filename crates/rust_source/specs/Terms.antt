@@ -97,7 +97,8 @@ tuple_on go_on all t c names =
     else after (λ d ns. go_on (all ++ t ∷ []) d ns) (comma_passed c, names)
 
 -- what comes behind an operand: an operator, or the end
-abbrev pub expr_on : (go_on : List ExprRead → List Waiting → Reader ExprRead) → List ExprRead → List Waiting → Cursor → Option (Binary × ℕ) → Known → Reading (ExprRead × Cursor)
+abbrev pub expr_on : (go_on : List ExprRead → List Waiting → Reader ExprRead) → List ExprRead → List Waiting → Cursor → Option (Binary × ℕ) → Known
+    → Reading (ExprRead × Cursor)
 expr_on go_on os ws c None names = (seen (λ e. (e, c)) (all_joined c os ws), names)
 expr_on go_on os ws c (Some o) names =
     after (λ s ns. go_on s.0 s.1 (passed c o.1) ns) (operator_put c os ws (record { operator = o.0; at = place c }), names)
