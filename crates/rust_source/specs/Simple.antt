@@ -43,25 +43,30 @@ unfoldable pub pointing : Cursor → Result (Option Pointing × Cursor) SourceFa
 pointing c =
     let behind_one = passed c 1 in
     if is_next c 38 then Ok (Some before.Reference, word_passed keyword.Mut (lifetime_passed behind_one))
-    else (if is_next c 42 then (if is_word behind_one keyword.Mut || is_word behind_one keyword.Const then Ok (Some before.Pointer, passed behind_one 1) else Err (fault behind_one ExpectedType))
+    else (if is_next c 42 then (if is_word behind_one keyword.Mut || is_word behind_one keyword.Const
+    then Ok (Some before.Pointer, passed behind_one 1) else Err (fault behind_one ExpectedType))
     else Ok (None, c))
 
+-- what stands before a type, and what follows it
+abbrev pub PointingsRead : Type 0
+PointingsRead = Result (List Pointing × Cursor) SourceFault
+
 -- what comes of the next that points
-abbrev pub pointing_by : (go_on : List Pointing → Cursor → Result (List Pointing × Cursor) SourceFault) → List Pointing → Option Pointing → Cursor → Result (List Pointing × Cursor) SourceFault
+abbrev pub pointing_by : (go_on : List Pointing → Cursor → PointingsRead) → List Pointing → Option Pointing → Cursor → PointingsRead
 pointing_by go_on all None c = Ok (all, c)
 pointing_by go_on all (Some p) c = go_on (all ++ p ∷ []) c
 
-abbrev pub pointing_step : (go_on : List Pointing → Cursor → Result (List Pointing × Cursor) SourceFault) → List Pointing → Result (Option Pointing × Cursor) SourceFault → Result (List Pointing × Cursor) SourceFault
+abbrev pub pointing_step : (go_on : List Pointing → Cursor → PointingsRead) → List Pointing → Result (Option Pointing × Cursor) SourceFault → PointingsRead
 pointing_step go_on all (Err e) = Err e
 pointing_step go_on all (Ok p) = pointing_by go_on all p.0 p.1
 
 -- all that stands before a type, behind these; it is less than `limit` more
-abbrev pub pointings_from : (limit : ℕ) → List Pointing → Cursor → Result (List Pointing × Cursor) SourceFault
+abbrev pub pointings_from : (limit : ℕ) → List Pointing → Cursor → PointingsRead
 pointings_from zero all c = Err (fault c TooDeep)
 pointings_from (suc limit) all c = pointing_step (pointings_from limit) all (pointing c)
 
 -- all that stands before the type that is next
-unfoldable pub pointings : Cursor → Result (List Pointing × Cursor) SourceFault
+unfoldable pub pointings : Cursor → PointingsRead
 pointings c = pointings_from most_nested [] c
 
 -- the type that points to another one

@@ -25,7 +25,7 @@ use Rattle.rust_source.specs.Syntax.{ArgumentRead, ExprRead, PathRead, SegmentRe
 abbrev pub Known : Type 0
 Known = List (List ℕ)
 
--- what stands at a place is read, with what follows it
+-- what stands where a reading stands, with what follows it, by the names so far
 abbrev pub Reader : Type 0 → Type 0
 Reader A = Cursor → Known → Reading (A × Cursor)
 
@@ -51,7 +51,7 @@ is_told TooDeep = true
 is_told BadNumber = true
 is_told _ = false
 
--- nothing is left
+-- all is passed over
 abbrev pub ended : Cursor → Cursor
 ended c = record c { at = c.end }
 
@@ -60,16 +60,16 @@ abbrev pub whole_by : Cursor → Result (ExprRead × Cursor) SourceFault → Kno
 whole_by c (Ok e) names = done ((if is_done e.1 then e.0 else other_expr Expression (place c)), ended c) names
 whole_by c (Err e) names = if is_told e.kind then (Err e, names) else done (other_expr Expression (place c), ended c) names
 
--- no list is there yet
+-- nothing is in the list
 abbrev pub is_empty : {A : Type 0} → List A → Bool
 is_empty [] = true
 is_empty (a ∷ more) = false
 
--- the list is followed by another token that has a name in a type
+-- what stands behind a type makes it the name of a binding: `=`, or a `:` that is no `::`
 abbrev pub is_binding : Cursor → Bool
 is_binding c = is_next c 61 || (if is_next c 58 then (if is_nth_pair c 0 58 58 then false else true) else false)
 
--- the arguments of a path's name are next: where their `<` ends
+-- where the `<` ends of the arguments that a name of a path has, if they are next; in a type they need no `::` before them
 abbrev pub arguments_begin : (in_type : Bool) → Cursor → Option Cursor
 arguments_begin in_type c =
     if (if is_pair c 58 58 then is_nth c 2 60 else false) then Some (passed c 3)
@@ -97,7 +97,8 @@ tuple_on go_on all t c names =
     else after (λ d ns. go_on (all ++ t ∷ []) d ns) (comma_passed c, names)
 
 -- what comes behind an operand: an operator, or the end
-abbrev pub expr_on : (go_on : List ExprRead → List Waiting → Reader ExprRead) → List ExprRead → List Waiting → Cursor → Option (Binary × ℕ) → Known → Reading (ExprRead × Cursor)
+abbrev pub expr_on : (go_on : List ExprRead → List Waiting → Reader ExprRead) → List ExprRead → List Waiting → Cursor → Option (Binary × ℕ) → Known
+    → Reading (ExprRead × Cursor)
 expr_on go_on os ws c None names = (seen (λ e. (e, c)) (all_joined c os ws), names)
 expr_on go_on os ws c (Some o) names =
     after (λ s ns. go_on s.0 s.1 (passed c o.1) ns) (operator_put c os ws (record { operator = o.0; at = place c }), names)
