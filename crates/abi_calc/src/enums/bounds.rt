@@ -60,8 +60,8 @@ fn has_no_more(width: Size, numbers: u128) -> bool
     bytes < 16 && 1u128 << (8 * bytes) <= numbers
 }
 
-/// Whether a tag of this integer, and this layout behind it, stay below the bound: then no variant, which is no larger,
-/// is too large behind that tag.
+/// Whether a tag of this integer and this layout, each rounded up to the greater alignment of both, stay below the bound
+/// together: then no variant, which is no larger than the layout, is too large behind the tag.
 fn fits_behind<FieldIdx: Idx, VariantIdx: Idx>(
     dl: &TargetDataLayout,
     asked: Integer,
@@ -78,8 +78,8 @@ fn fits_behind<FieldIdx: Idx, VariantIdx: Idx>(
     (tag + whole).bytes() < dl.obj_size_bound()
 }
 
-/// Whether no layout with a tag of this integer, or a larger one, is as good as this layout: it is larger, or has as
-/// much room for a tag as leaves fewer numbers free.
+/// Whether so many bytes, which the variants' fields leave of this layout's size, have no room for a tag of this integer,
+/// or no more numbers than the layout's niche has left: then no layout with a tag is as good.
 fn outdoes<FieldIdx: Idx, VariantIdx: Idx>(
     dl: &TargetDataLayout,
     asked: Integer,
