@@ -232,8 +232,9 @@ pub(crate) fn is_same_layout(
 ) -> bool
     ensures { IsTrue result → a.now ≡ b.now }
 {
-    has_same_rest(a, b)
+    a.size == b.size
         && has_same_variants(&a.variants, &b.variants)
+        && has_same_rest(a, b)
         && is_same_shape(&a.fields, &b.fields)
         && is_same_view(&a.backend_repr, &b.backend_repr)
         && a.largest_niche == b.largest_niche
