@@ -25,7 +25,7 @@ pub(crate) fn write_two_numbered(
     other: u64,
 ) -> Result<(), AllocError>
     ensures { OnOk result (string_bytes out.new ≡ string_bytes out.old
-        ++ word.now ++ decimal number ++ between.now ++ decimal other ++ codes "\n") }
+        ++ (word.now ++ (decimal number ++ (between.now ++ (decimal other ++ codes "\n"))))) }
 {
     let mut digits = Buffer::new();
     out.push_str(word)?;

@@ -9,3 +9,4 @@ mod SourceLemmas
 mod Steps
 mod TokenSteps
 mod Turns
+mod Until

@@ -6,6 +6,7 @@ pub mod Numerals
 pub mod Quoted
 pub mod Keywords
 pub mod Tokens
+pub mod Until
 pub mod Cursor
 pub mod Literals
 pub mod Slices

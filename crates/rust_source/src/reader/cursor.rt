@@ -2,6 +2,7 @@
 
 ghost use Rattle.std.specs.Prelude.{◌≡◌, ◌+◌, ◌||◌, if◌then◌else◌};
 ghost use Rattle.rust_source.specs.Reading.{seen};
+ghost use Rattle.rust_source.specs.Until.{until, up_to};
 ghost use Rattle.rust_source.specs.Cursor.{behind, comma_passed, fault, group_passed, inside, is_cut, is_done, is_group, is_lifetime, is_named_next, is_next, is_nth, is_nth_pair, is_pair, is_punct, is_word, kind_of, next_kind, nth, passed, place, place_behind, place_of, text_of, touch, tree_passed};
 
 use crate::fault::{SourceFault, SourceFaultKind};
@@ -317,15 +318,35 @@ pub(crate) fn pass_tree(cursor: &mut Cursor<'_>)
     }
 }
 
-/// The tokens up to this character outside of inner groups, or all where it isn't there; they are passed over.
-pub(crate) fn take_until<'a>(cursor: &mut Cursor<'a>, character: u8) -> Cursor<'a> {
-    let mut before = *cursor;
-    for _ in cursor.at..cursor.end {
-        if is_done(cursor) || is_next(cursor, character) {
-            break;
+/// Whether this character is next, or nothing is left.
+fn ends_at(cursor: &Cursor<'_>, character: u8) -> bool
+    ensures { result ≡ (is_done cursor.now || is_next cursor.now character) }
+{
+    is_done(cursor) || is_next(cursor, character)
+}
+
+/// Passes over what stands before this character outside of inner groups, or over all where it isn't there.
+#[tactic(auto, unfolding(crate::specs::Until::until), using(crate::proofs::Until::until_more, crate::proofs::Until::until_done))]
+fn pass_until(cursor: &mut Cursor<'_>, character: u8)
+    ensures { cursor.new ≡ until character cursor.old }
+{
+    let turns = cursor.end.saturating_sub(cursor.at);
+    for turn in 0..turns {
+        if ends_at(cursor, character) {
+            return;
         }
         pass_tree(cursor);
     }
+}
+
+/// The tokens up to this character outside of inner groups, or all where it isn't there; they are passed over.
+#[tactic(auto, unfolding(crate::specs::Until::up_to))]
+pub(crate) fn take_until<'a>(cursor: &mut Cursor<'a>, character: u8) -> Cursor<'a>
+    ensures before { result ≡ up_to character cursor.old }
+    ensures passed { cursor.new ≡ until character cursor.old }
+{
+    let mut before = *cursor;
+    pass_until(cursor, character);
     before.end = cursor.at.min(cursor.end);
     before
 }

@@ -4,5 +4,5 @@ use Rattle.abi_text.proofs.print.write_union_fields.Goals as goal
 
 pub loop-index-preserved : goal.loop-index-preserved
 loop-index-preserved c =
-    let more : c.loop-index.index-counter < c.args.count = search rules in
-    line_written _ _ c.args.count c.loop-index.index-counter more c.in_ok-write_two_numbered.ensures ∙ c.loop-index.invariant
+    let more : c.loop-index.index < c.args.count = search rules in
+    line_written _ _ c.args.count c.loop-index.index more c.in_ok-write_two_numbered.ensures ∙ c.loop-index.invariant

@@ -4,4 +4,4 @@ use Rattle.abi_text.specs.Printing.{field_lines}
 use Rattle.abi_text.proofs.print.write_union_fields.Given as goal
 
 abbrev pub invariant-loop-index : goal.invariant-loop-index
-invariant-loop-index l = string_bytes l.out ++ field_lines l.index-counter (replicate (l.count - l.index-counter) 0) ≡ string_bytes l.initial.out ++ field_lines 0 (replicate l.count 0)
+invariant-loop-index l = string_bytes l.out ++ field_lines l.index (replicate (l.count - l.index) 0) ≡ string_bytes l.initial.out ++ field_lines 0 (replicate l.count 0)
