@@ -1,9 +1,7 @@
 -- What is wrong with a repr.
 use Rattle.std.specs.Prelude.{ℕ, Bool, true, false, cond, ◌&&◌, ◌||◌, not, nat_eq, is_some, Option, Some, None}
 use Rattle.rust_source.specs.declared.item.Repr.{Repr}
-use Rattle.rust_source.specs.declared.fault.SourceFaultKind.{SourceFaultKind}
 use Rattle.rust_source.specs.declared.fault.SourceFaultKind.TheVariants.{OutOfMemory as SourceOutOfMemory}
-use Rattle.rustc_abi.specs.declared.error.LayError.{LayError}
 use Rattle.rustc_abi.specs.declared.error.LayError.TheVariants.{OutOfMemory as LayOutOfMemory}
 use Rattle.abi_rust.specs.declared.fault.FaultKind.{FaultKind}
 use Rattle.abi_rust.specs.declared.fault.FaultKind.TheVariants.{OutOfMemory, Source, Layout, PackedApart, PackedEnum, ReprWithoutVariants, TransparentFields, IntegerRepr, PackedAndAligned}

@@ -1,5 +1,5 @@
 -- What the definitions say of some numbers, characters and expressions.
-use Rattle.std.proofs.Common.{◌≡◌, ℕ, ◌-◌, ◌^◌, codes, [], ◌∷◌, None, Some, Ok, Err, refl}
+use Rattle.std.proofs.Common.{◌≡◌, ◌-◌, ◌^◌, codes, [], ◌∷◌, None, Some, Ok, Err, refl}
 use Rattle.rust_source.specs.declared.fault.SourceFaultKind.TheVariants.{BadCharacter, ExpectedExpression}
 use Rattle.rust_source.specs.declared.place.Place.{Place}
 use Rattle.rust_source.specs.declared.reader.cursor.Cursor.{Cursor}

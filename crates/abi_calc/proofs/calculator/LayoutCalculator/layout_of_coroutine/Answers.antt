@@ -14,7 +14,6 @@ use Rattle.abi_scalar.specs.declared.scalar.Scalar.{Scalar}
 use Rattle.abi_scalar.specs.Lawful.{IsLawfulLayout}
 use Rattle.abi_scalar.specs.Simple.{scalar_layout}
 use Rattle.abi_calc.specs.Coroutine.Answer.{IsPromotedAnswer}
-use Rattle.abi_calc.specs.Coroutine.Asked.{AreStates}
 use Rattle.abi_calc.specs.Coroutine.Layout.{IsStateTag}
 use Rattle.abi_calc.specs.Coroutine.Promised.{IsSizedCoroutine, IsSizedPromoted}
 use Rattle.abi_calc.specs.Coroutine.Promotion.{promoted_of}
@@ -66,8 +65,7 @@ pub returns-in_err-promoted-clause-exact : goal.returns-in_err-promoted-clause-e
 returns-in_err-promoted-clause-exact g c =
     let states : List (List ℕ) = map (map g.LocalIdx.Idx.number) (items_of c.args.variant_fields) in
     let answer = IsPromotedAnswer g.F.LayoutHandle.layout_of g.FieldIdx.Idx.at g.FieldIdx.Idx.number (g.VariantIdx.Idx.at 0) (g.Cx.HasDataLayout.target c.args.self.now.cx) c.args.prefix_layouts c.state_tag-tag.result c.tag_to_layout-field.result (items_of c.args.local_layouts) states
-    (promoted_of states c.args.storage_conflicts.now) in
-    (
+    (promoted_of states c.args.storage_conflicts.now) in (
       c.state_tag-tag.result,
       subst (λ s. IsStateTag (length s) c.state_tag-tag.result) c.as_raw-states.ensures.items c.state_tag-tag.ensures,
       c.tag_to_layout-field.result,
