@@ -84,7 +84,7 @@ fn mark_named(needed: &mut [bool], node: NodeRef<'_>)
 fn unread<'a>(alloc: Global, count: usize) -> Result<Vec<Option<NodeRef<'a>>>, AllocError>
     ensures { IfOk result (λ kept. kept.items ≡ replicate count None) }
 {
-    let mut kept = Vec::new(alloc);
+    let mut kept = Vec::with_capacity(alloc, count)?;
     for _i in 0..count {
         kept.push(None)?;
     }
