@@ -16,6 +16,9 @@ use std::marker::Model;
 /// How many layouts, the newest ones, a further one is compared with.
 const RECENT: usize = 8;
 
+/// For how many nodes room is asked for at the first.
+const FIRST_ROOM: usize = 16;
+
 /// A node as it is kept: its layout by its place among those that are kept, and what it consists of.
 #[derive(Drop)]
 pub(crate) struct Entry {
@@ -113,6 +116,18 @@ fn place_of(
     Ok(at)
 }
 
+/// Puts an entry behind the others. Where a growth is refused, they are as they were.
+fn put_entry(entries: &mut Vec<Entry>, entry: Entry) -> Result<(), AllocError>
+    ensures ok { OnOk result (entries.new.items ≡ entries.old.items ++ entry ∷ []) }
+    ensures err { OnErr result (entries.new.items ≡ entries.old.items) }
+{
+    if entries.is_empty() {
+        entries.reserve(FIRST_ROOM)?;
+    }
+    entries.push(entry)?;
+    Ok(())
+}
+
 impl Nodes {
     /// No nodes yet, for which no memory is asked.
     pub fn new(alloc: Global) -> Nodes
@@ -142,10 +157,13 @@ impl Nodes {
         ensures err { OnErr result (self.new ≡ self.old) }
     {
         let place = place_of(&mut self.layouts, layout)?;
-        self.entries.push(Entry {
-            layout: place,
-            shape,
-        })?;
+        put_entry(
+            &mut self.entries,
+            Entry {
+                layout: place,
+                shape,
+            },
+        )?;
         Ok(())
     }
 
