@@ -1,5 +1,8 @@
 //! A file of Rust source, and what its types are.
 
+ghost use Rattle.std.specs.Prelude.{◌≡◌, ◌-◌, IfOk, [], length, slice_get};
+ghost use Rattle.abi_rust.specs.Sources.{is_told, items_of, place_of_item, place_told};
+
 use crate::fault::{Fault, FaultKind, FaultPlace, Stop};
 use crate::scope::Scope;
 use crate::std_source::STD_SOURCES;
@@ -33,7 +36,9 @@ pub struct Sources {
 
 impl Sources {
     /// No source. An error comes where a growth of memory was refused.
-    pub fn new(alloc: Global) -> Result<Sources, AllocError> {
+    pub fn new(alloc: Global) -> Result<Sources, AllocError>
+        ensures { IfOk result (λ sources. items_of sources ≡ []) }
+    {
         let mut names = Names::new(alloc)?;
         let words = Words::new(alloc, &mut names)?;
         Ok(Sources {
@@ -99,7 +104,9 @@ impl Sources {
     }
 
     /// Where a place of the sources is.
-    fn place(&self, at: Option<Place>) -> FaultPlace {
+    fn place(&self, at: Option<Place>) -> FaultPlace
+        ensures { result ≡ place_told self.now at }
+    {
         let Some(Place(at)) = at else {
             return FaultPlace::Nowhere;
         };
@@ -113,13 +120,17 @@ impl Sources {
     }
 
     /// How many items there are: the standard library's, and then the file's.
-    pub fn item_count(&self) -> usize {
+    pub fn item_count(&self) -> usize
+        ensures { result ≡ length (items_of self.now) }
+    {
         self.items.items.len()
     }
 
     /// Whether the item is told of by itself: a struct, an enum, a union or an alias of the file that has no type and
     /// no constant as a parameter.
-    pub fn is_told(&self, item: usize) -> bool {
+    pub fn is_told(&self, item: usize) -> bool
+        ensures { result ≡ is_told self.now item }
+    {
         if item < self.first {
             return false;
         }
@@ -136,7 +147,9 @@ impl Sources {
     }
 
     /// Where the item's name stands.
-    pub fn place_of(&self, item: usize) -> FaultPlace {
+    pub fn place_of(&self, item: usize) -> FaultPlace
+        ensures { result ≡ place_of_item self.now (slice_get (items_of self.now) item) }
+    {
         match self.items.items.get(item) {
             Some(found) => self.place(Some(found.at)),
             None => FaultPlace::Nowhere,
@@ -169,17 +182,23 @@ impl Sources {
     }
 
     /// How many items of the file were passed over, since they are no types and no constants.
-    pub fn passed_over(&self) -> u64 {
+    pub fn passed_over(&self) -> u64
+        ensures { result ≡ self.now.items.passed_over - self.now.passed_over }
+    {
         self.items.passed_over.saturating_sub(self.passed_over)
     }
 
     /// The names of `cfg` that aren't known and count as false, each once.
-    pub fn unknown_cfgs(&self) -> &[Symbol] {
+    pub fn unknown_cfgs(&self) -> &[Symbol]
+        ensures { result.now ≡ self.now.items.unknown_cfgs.items }
+    {
         self.items.unknown_cfgs.as_slice()
     }
 
     /// The names.
-    pub fn names(&self) -> &Names {
+    pub fn names(&self) -> &Names
+        ensures { result.now ≡ self.now.names }
+    {
         &self.names
     }
 
