@@ -22,7 +22,7 @@ pub record IsLaidType (string numbers : List ℕ) (dl : TargetDataLayout) (t : T
   pub laying : IsLaying dl t (Ok placed)
 
 -- The program's laid-out type is that of the tree, and keeps its values.
-pub record IsKept (dl : TargetDataLayout) (t : Tree) (laid : Laid) : Type 0 where
+pub record IsLaidFrom (dl : TargetDataLayout) (t : Tree) (laid : Laid) : Type 0 where
   pub laying : IsLaying dl t (Ok (placed_of laid))
   pub aligned : (layout_of (placed_of laid)).align.abi < 64
   pub order : endian_of laid ≡ dl.endian

@@ -7,7 +7,7 @@ ghost use Rattle.abi_laid.specs.Tree.{Tree, tree_of};
 ghost use Rattle.abi_text.specs.DataLayoutLine.{data_layout_of};
 ghost use Rattle.rustc_abi.specs.declared.error.LayError.{LayError};
 ghost use Rattle.abi_c.specs.Flat.{AreNumbersOf, IsLaidTold, IsLayoutTold, IsToldIn, IsToldOf, data_layout_error_number, refusal_number};
-ghost use Rattle.abi_c.specs.LaidType.{FailsAs, IsKept, IsLaidType};
+ghost use Rattle.abi_c.specs.LaidType.{FailsAs, IsLaidFrom, IsLaidType};
 
 use abi_base::{TargetDataLayout, TargetDataLayoutError};
 use abi_flat::{ReadError, read_tree};
@@ -96,7 +96,7 @@ fn flawed(error: &TargetDataLayoutError<'_>) -> Failure
 
 /// Lays out a type.
 fn lay_tree(alloc: Global, dl: &TargetDataLayout, tree: &TypeTree) -> Result<Laid, Failure>
-    ensures ok { IfOk result (IsKept dl.now (tree_of tree.now)) }
+    ensures ok { IfOk result (IsLaidFrom dl.now (tree_of tree.now)) }
     ensures err { IfErr result (FailsAs (IsLaidTold dl.now (tree_of tree.now))) }
 {
     match lay_out(alloc, dl, tree) {
@@ -107,7 +107,7 @@ fn lay_tree(alloc: Global, dl: &TargetDataLayout, tree: &TypeTree) -> Result<Lai
 
 /// Lays out the type with these numbers.
 fn lay_numbers(alloc: Global, dl: &TargetDataLayout, tree: &[u64]) -> Result<Laid, Failure>
-    ensures ok { IfOk result (λ laid. (t : Tree) × AreNumbersOf tree.now t × IsKept dl.now t laid) }
+    ensures ok { IfOk result (λ laid. (t : Tree) × AreNumbersOf tree.now t × IsLaidFrom dl.now t laid) }
     ensures err { IfErr result (FailsAs (IsToldOf (IsLaidTold dl.now) tree.now)) }
 {
     match read_tree(alloc, tree) {
@@ -123,7 +123,7 @@ fn lay_numbers(alloc: Global, dl: &TargetDataLayout, tree: &[u64]) -> Result<Lai
 /// Lays out the type with these numbers under the data layout of a text.
 fn lay_under(alloc: Global, string: &str, tree: &[u64]) -> Result<Laid, Failure>
     ensures ok { IfOk result (λ laid. (dl : Target) × (t : Tree) ×
-        (data_layout_of string.now ≡ Ok dl) × AreNumbersOf tree.now t × IsKept dl t laid) }
+        (data_layout_of string.now ≡ Ok dl) × AreNumbersOf tree.now t × IsLaidFrom dl t laid) }
     ensures err { IfErr result (FailsAs (IsToldIn (λ dl. IsToldOf (IsLaidTold dl) tree.now)
         (data_layout_of string.now))) }
 {
@@ -136,7 +136,7 @@ fn lay_under(alloc: Global, string: &str, tree: &[u64]) -> Result<Laid, Failure>
 /// Lays out the type with these numbers under the data layout of a string.
 pub(crate) fn lay_type(alloc: Global, string: &[u8], tree: &[u64]) -> Result<Laid, Failure>
     ensures ok { IfOk result (λ laid. (dl : Target) × (t : Tree) ×
-        IsLaidType string.now tree.now dl t (placed_of laid) × IsKept dl t laid) }
+        IsLaidType string.now tree.now dl t (placed_of laid) × IsLaidFrom dl t laid) }
     ensures err { IfErr result (FailsAs (IsLayoutTold string.now tree.now)) }
 {
     match std::str::from_utf8(string) {

@@ -8,7 +8,7 @@ ghost use Rattle.abi_laid.specs.Value.{value_of};
 ghost use Rattle.abi_flat.specs.FlatValue.{flat_value};
 ghost use Rattle.abi_c.specs.Flat.{told_by};
 ghost use Rattle.abi_c.specs.FlatValues.{IsReadOf, IsToldOfLaid, IsWritten, IsWrittenOf, bytes_told_by};
-ghost use Rattle.abi_c.specs.LaidType.{IsKept};
+ghost use Rattle.abi_c.specs.LaidType.{IsLaidFrom};
 
 use crate::flat::{FlatAnswer, one_number};
 use crate::laid_type::{Failure, lay_type};
@@ -36,7 +36,7 @@ fn one_byte(alloc: Global, status: u8, byte: u8) -> Result<BytesAnswer, AllocErr
 
 /// The answer to a value of a laid-out type.
 fn written(alloc: Global, laid: &Laid, value: &Value) -> Result<BytesAnswer, AllocError>
-    ensures { IfOk result (λ a. (dl : Target) (t : Tree) → IsKept dl t laid.now →
+    ensures { IfOk result (λ a. (dl : Target) (t : Tree) → IsLaidFrom dl t laid.now →
         IsWritten dl t (placed_of laid.now) (value_of value.now) (bytes_told_by a)) }
 {
     match write_value(alloc, laid, value) {
@@ -51,7 +51,7 @@ fn written(alloc: Global, laid: &Laid, value: &Value) -> Result<BytesAnswer, All
 
 /// The answer to the numbers of a value of a laid-out type.
 fn written_of(alloc: Global, laid: &Laid, value: &[u64]) -> Result<BytesAnswer, AllocError>
-    ensures { IfOk result (λ a. (dl : Target) (t : Tree) → IsKept dl t laid.now →
+    ensures { IfOk result (λ a. (dl : Target) (t : Tree) → IsLaidFrom dl t laid.now →
         IsWrittenOf value.now dl t (placed_of laid.now) (bytes_told_by a)) }
 {
     match read_flat_value(alloc, value) {
@@ -92,7 +92,7 @@ fn value_numbers(alloc: Global, value: &Value) -> Result<FlatAnswer, AllocError>
 
 /// The answer to bytes of a laid-out type.
 fn read_of(alloc: Global, laid: &Laid, bytes: &[u8]) -> Result<FlatAnswer, AllocError>
-    ensures { IfOk result (λ a. (dl : Target) (t : Tree) → IsKept dl t laid.now →
+    ensures { IfOk result (λ a. (dl : Target) (t : Tree) → IsLaidFrom dl t laid.now →
         IsReadOf bytes.now dl t (placed_of laid.now) (told_by a)) }
 {
     match read_value(alloc, laid, bytes)? {

@@ -16,7 +16,7 @@ use Rattle.abi_index.specs.RangeSet.{AreMaximalRuns, is_in_ranges, is_in_run}
 use Rattle.abi_index.proofs.UncutLemmas.{none_below}
 use Rattle.abi_map.specs.declared.part.Name.{Name}
 use Rattle.abi_map.specs.declared.part.PartBytes.{PartBytes}
-use Rattle.abi_map.specs.Covering.{AreAscending, PutsNames, name_in, name_of, names_of}
+use Rattle.abi_map.specs.Covering.{AreAscending, PutsNames, name_at, name_of, names_of}
 use Rattle.abi_map.specs.Map.{names_at}
 use Rattle.abi_map.specs.Parts.{Part, part_told}
 
@@ -94,7 +94,7 @@ putting_more name first s m old now new v le more lt inv is pushed =
 pub put_all : (starts : List ℕ) (name : Name) (run : ℕ × ℕ) (first s : ℕ) (old new : List (Vec Name Global)) → IsPutting name first s old new
     → ((j : ℕ) → j < first → j < length starts → get_or starts j 0 < run.0) → ((j : ℕ) → first ≤ j → j < length starts → run.0 ≤ get_or starts j 0)
     → ((j : ℕ) → first ≤ j → j < s → j < length starts → get_or starts j 0 < run.0 + run.1) → ((j : ℕ) → s ≤ j → j < length starts → run.0 + run.1 ≤ get_or starts j 0) → first ≤ s
-    → PutsNames starts old new (name_in name run)
+    → PutsNames starts old new (name_at name run)
 put_all starts name run first s old new inv below from inside past le = (
   inv.long,
   λ j lt. elim (cases_lt j first) [
@@ -120,7 +120,7 @@ past_all starts s end asc le j from lt = omega (arith, le, rises starts asc s j 
 
 -- the name, as often as one of the runs has the byte
 abbrev pub name_in_each : Name → List (ℕ × ℕ) → (k : ℕ) → List Name
-name_in_each name runs k = flat_map (λ run. name_in name run k) runs
+name_in_each name runs k = flat_map (λ run. name_at name run k) runs
 
 pub puts_none : (starts : List ℕ) (all : List (Vec Name Global)) → PutsNames starts all all (λ k. [])
 puts_none starts all = (refl, λ s lt. sym (append-nil (names_of all s)))
@@ -134,10 +134,10 @@ puts_both starts old middle new p q first next = (
 pub puts_same : (starts : List ℕ) (old new : List (Vec Name Global)) (p q : ℕ → List Name) → PutsNames starts old new p → ((k : ℕ) → p k ≡ q k) → PutsNames starts old new q
 puts_same starts old new p q puts same = (puts.0, λ s lt. puts.1 s lt ∙ ap (λ ns. names_of old s ++ ns) (same (get_or starts s 0)))
 
-pub each_more : (name : Name) (runs : List (ℕ × ℕ)) (i : ℕ) (d : ℕ × ℕ) → i < length runs → (k : ℕ) → (name_in_each name (take i runs) k ++ name_in name (get_or runs i d) k) ≡ name_in_each name (take (i + 1) runs) k
+pub each_more : (name : Name) (runs : List (ℕ × ℕ)) (i : ℕ) (d : ℕ × ℕ) → i < length runs → (k : ℕ) → (name_in_each name (take i runs) k ++ name_at name (get_or runs i d) k) ≡ name_in_each name (take (i + 1) runs) k
 each_more name runs i d lt k =
-    let f = λ (run : ℕ × ℕ). name_in name run k in
-    sym (ap (flat_map f) (take_more runs i d lt) ∙ flat_map-append f (take i runs) (get_or runs i d ∷ []) ∙ ap (λ ns. flat_map f (take i runs) ++ ns) (append-nil (name_in name (get_or runs i d) k)))
+    let f = λ (run : ℕ × ℕ). name_at name run k in
+    sym (ap (flat_map f) (take_more runs i d lt) ∙ flat_map-append f (take i runs) (get_or runs i d ∷ []) ∙ ap (λ ns. flat_map f (take i runs) ++ ns) (append-nil (name_at name (get_or runs i d) k)))
 
 -- at most one of runs that don't meet has the byte
 pub each_once : (name : Name) (k low : ℕ) (runs : List (ℕ × ℕ)) → AreMaximalRuns low runs → name_in_each name runs k ≡ (if is_in_ranges runs k then name ∷ [] else [])
@@ -146,7 +146,7 @@ each_once name k low (run ∷ runs) maximal =
     elim (cases_lt k (run.0 + run.1 + 1)) [
       | inl below ↦
           let none : is_in_ranges runs k ≡ false = none_below (run.0 + run.1 + 1) runs k maximal.3 below in
-          ap (λ ns. name_in name run k ++ ns) (each_once name k (run.0 + run.1 + 1) runs maximal.3 ∙ ap (λ b. if b then name ∷ [] else []) none) ∙ append-nil (name_in name run k)
+          ap (λ ns. name_at name run k ++ ns) (each_once name k (run.0 + run.1 + 1) runs maximal.3 ∙ ap (λ b. if b then name ∷ [] else []) none) ∙ append-nil (name_at name run k)
           ∙ ap (λ b. if b then name ∷ [] else []) (sym (ap (λ b. is_in_run k run || b) none ∙ or-false (is_in_run k run)))
       | inr behind ↦
           let none : is_in_run k run ≡ false = behind_run k run (omega (arith, behind)) in

@@ -31,7 +31,7 @@ use Rattle.rustc_abi.specs.Laying.{IsLaying, one_scalar}
 use Rattle.rustc_abi.proofs.Trees.KindsLemmas.{IsKept, laid_kept}
 use Rattle.abi_map.specs.declared.part.Name.{Name}
 use Rattle.abi_map.specs.declared.part.Name.TheVariants.{Elements, Lanes, Number, VariantField}
-use Rattle.abi_map.specs.Map.{TellsMap, map_text, name_text}
+use Rattle.abi_map.specs.Map.{TellsMap, map_text, called_text}
 use Rattle.abi_map.specs.Parts.{Part, parts_of_variants, field_name, field_parts, is_alone, is_vector, common_parts, all_parts, variant_parts, variants_parts, whole_part}
 use Rattle.abi_map.proofs.LaidLemmas.{none_beside}
 use Rattle.abi_map.proofs.PaddingLemmas.{alone_cover, any_same, place_by}
@@ -314,4 +314,4 @@ module _ (dl : TargetDataLayout) where
 
 -- a type that is laid out has no two maps
 pub one_map : (dl : TargetDataLayout) → IsLawfulDataLayout dl → (tree : Tree) (p : Placed) → IsLaying dl tree (Ok p) → (a b : List ℕ) → TellsMap dl p a → TellsMap dl p b → a ≡ b
-one_map dl law tree p laid a b h g = h.2 ∙ map_same h.0 g.0 (laid_kept dl law AreSeenAlike (alike_kept dl) tree p laid h.0 g.0 h.1 g.1) name_text dl ∙ sym g.2
+one_map dl law tree p laid a b h g = h.2 ∙ map_same h.0 g.0 (laid_kept dl law AreSeenAlike (alike_kept dl) tree p laid h.0 g.0 h.1 g.1) called_text dl ∙ sym g.2

@@ -24,7 +24,7 @@ use Rattle.rustc_abi.specs.Enums.{arms_at}
 use Rattle.rustc_abi.specs.Inside.{EndInside, VariantsInside}
 use Rattle.rustc_abi.specs.Laying.{IsLaying, one_scalar}
 use Rattle.rustc_abi.proofs.Trees.KindsLemmas.{IsKept, laid_kept}
-use Rattle.abi_map.specs.Map.{TellsMap, map_text, name_text}
+use Rattle.abi_map.specs.Map.{TellsMap, map_text, called_text}
 
 -- some handle sees the type
 abbrev IsSeen : Placed → Type 0
@@ -173,4 +173,4 @@ module _ (dl : TargetDataLayout) where
 
 -- a type that is laid out has a map
 pub some_map : (dl : TargetDataLayout) → IsLawfulDataLayout dl → (tree : Tree) (p : Placed) → IsLaying dl tree (Ok p) → (text : List ℕ) × TellsMap dl p text
-some_map dl law tree p laid = let seen = laid_kept dl law IsSeen (seen_kept dl) tree p laid in (map_text name_text dl seen.0, (seen.0, seen.1, refl))
+some_map dl law tree p laid = let seen = laid_kept dl law IsSeen (seen_kept dl) tree p laid in (map_text called_text dl seen.0, (seen.0, seen.1, refl))

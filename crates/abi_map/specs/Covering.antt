@@ -11,8 +11,8 @@ abbrev pub AreAscending : List ℕ → Type 0
 AreAscending starts = (i j : ℕ) → i < j → j < length starts → get_or starts i 0 < get_or starts j 0
 
 -- the name, where the run has the byte
-abbrev pub name_in : Name → (run : ℕ × ℕ) → (k : ℕ) → List Name
-name_in name run k = if is_in_run k run then name ∷ [] else []
+abbrev pub name_at : Name → (run : ℕ × ℕ) → (k : ℕ) → List Name
+name_at name run k = if is_in_run k run then name ∷ [] else []
 
 -- the name, where the part has the byte
 abbrev pub name_of : Part → (k : ℕ) → List Name

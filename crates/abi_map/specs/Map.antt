@@ -19,13 +19,13 @@ abbrev pub names_at : List Part → (k : ℕ) → List Name
 names_at parts k = map (λ part. part.name) (filter (λ part. part.has k) parts)
 
 -- how a part is called
-abbrev pub name_text : Name → List ℕ
-name_text Number = codes "number"
-name_text Elements = codes "elements"
-name_text Lanes = codes "lanes"
-name_text (Field i) = codes "field " ++ decimal i
-name_text Tag = codes "tag"
-name_text (VariantField v i) = codes "variant " ++ decimal v ++ codes " field " ++ decimal i
+abbrev pub called_text : Name → List ℕ
+called_text Number = codes "number"
+called_text Elements = codes "elements"
+called_text Lanes = codes "lanes"
+called_text (Field i) = codes "field " ++ decimal i
+called_text Tag = codes "tag"
+called_text (VariantField v i) = codes "variant " ++ decimal v ++ codes " field " ++ decimal i
 
 -- names behind others, each part called so
 abbrev pub more_names : (called : Name → List ℕ) → List Name → List ℕ
@@ -64,4 +64,4 @@ map_text called dl t = size_line (layout_in t) ++ bytes_text called t ++ niche_t
 
 -- the text is the map of the type, as handles see it, with its parts called by their indices
 abbrev pub TellsMap : TargetDataLayout → Placed → (text : List ℕ) → Type 0
-TellsMap dl placed text = (t : Typed) × Sees t placed × (text ≡ map_text name_text dl t)
+TellsMap dl placed text = (t : Typed) × Sees t placed × (text ≡ map_text called_text dl t)

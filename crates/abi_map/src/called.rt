@@ -21,9 +21,9 @@ pub trait Called {
 pub struct ByIndex;
 
 impl Called for ByIndex {
-    ghost use Rattle.abi_map.specs.Map.{name_text};
+    ghost use Rattle.abi_map.specs.Map.{called_text};
 
-    ghost called = { λ _ name. name_text name };
+    ghost called = { λ _ name. called_text name };
 
     fn write_name(&self, out: &mut String, name: Name) -> Result<(), AllocError> {
         match name {

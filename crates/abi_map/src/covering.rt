@@ -2,7 +2,7 @@
 
 ghost use Rattle.std.specs.Prelude.{◌≡◌, ℕ, ◌+◌, ◌<◌, ◌≤◌, ◌^◌, [], IfOk, OnOk, get_or, length, map};
 ghost use Rattle.abi_map.specs.Parts.{part_told};
-ghost use Rattle.abi_map.specs.Covering.{AreAscending, HaveNames, PutsNames, name_in, name_of, names_of};
+ghost use Rattle.abi_map.specs.Covering.{AreAscending, HaveNames, PutsNames, name_at, name_of, names_of};
 
 use crate::part::{Name, PartBytes};
 use std::alloc::{AllocError, Global};
@@ -30,7 +30,7 @@ fn put_run(
     requires fits { run.0 + run.1 < 2 ^ 64 }
     requires same { length names.old.items ≡ length starts.now }
     ensures { OnOk result
-        (PutsNames starts.now names.old.items names.new.items (name_in name run)) }
+        (PutsNames starts.now names.old.items names.new.items (name_at name run)) }
 {
     let end = run.0 + run.1;
     for s in first_from(starts, run.0)..starts.len() {

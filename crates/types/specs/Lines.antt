@@ -27,15 +27,15 @@ offsets_in (Arbitrary offsets order) = offsets
 offsets_in _ = []
 
 -- a line for each field, the first of which has this index: its name, and its offset in bytes, 0 where the list has none
-abbrev pub field_lines : Names → (index : ℕ) → List Label → (offsets : List ℕ) → List ℕ
-field_lines names index [] offsets = []
-field_lines names index (l ∷ labels) offsets =
-    codes "field " ++ field_text names l.name ++ codes " offset " ++ decimal (get_or offsets index 0) ++ codes "\n" ++ field_lines names (index + 1) labels offsets
+abbrev pub labelled_fields : Names → (index : ℕ) → List Label → (offsets : List ℕ) → List ℕ
+labelled_fields names index [] offsets = []
+labelled_fields names index (l ∷ labels) offsets =
+    codes "field " ++ field_text names l.name ++ codes " offset " ++ decimal (get_or offsets index 0) ++ codes "\n" ++ labelled_fields names (index + 1) labels offsets
 
 -- the line that begins a variant, where there is one, and those of its fields, which lie at these offsets
-abbrev pub variant_lines : Names → Option VariantLabels → (offsets : List ℕ) → List ℕ
-variant_lines names None offsets = codes "variant \n"
-variant_lines names (Some v) offsets = codes "variant " ++ text_of names v.name.0 ++ codes "\n" ++ field_lines names 0 v.fields.items offsets
+abbrev pub labelled_variant : Names → Option VariantLabels → (offsets : List ℕ) → List ℕ
+labelled_variant names None offsets = codes "variant \n"
+labelled_variant names (Some v) offsets = codes "variant " ++ text_of names v.name.0 ++ codes "\n" ++ labelled_fields names 0 v.fields.items offsets
 
 -- the offsets are those of the variant with this index, and not of others
 abbrev pub own_offsets : (single : Option ℕ) → (index : ℕ) → (offsets : List ℕ) → List ℕ
@@ -46,42 +46,42 @@ own_offsets (Some single) index offsets = if single == index then offsets else [
 abbrev pub single_lines : Names → (single : Option ℕ) → (index : ℕ) → List VariantLabels → (offsets : List ℕ) → List ℕ
 single_lines names single index [] offsets = []
 single_lines names single index (v ∷ variants) offsets =
-    variant_lines names (Some v) (own_offsets single index offsets) ++ single_lines names single (index + 1) variants offsets
+    labelled_variant names (Some v) (own_offsets single index offsets) ++ single_lines names single (index + 1) variants offsets
 
 -- variants that a tag tells apart, the first of which has this index, with the bytes that each doesn't use
 abbrev pub several_lines : {F : Type 0} → Names → List VariantLabels → Placed → (index : ℕ) → List (VariantLayout F) → List ℕ
 several_lines names labels placed index [] = []
 several_lines names labels placed index (v ∷ variants) =
-    variant_lines names (slice_get labels index) v.field_offsets ++ unused_lines placed index ++ several_lines names labels placed (index + 1) variants
+    labelled_variant names (slice_get labels index) v.field_offsets ++ unused_lines placed index ++ several_lines names labels placed (index + 1) variants
 
 -- the first and the last of the variants that a niche names
-abbrev pub range_text : Names → List VariantLabels → RangeInclusive ℕ → List ℕ
-range_text names labels named = codes " variants " ++ variant_text names (slice_get labels named.start) ++ codes "..=" ++ variant_text names (slice_get labels named.last)
+abbrev pub labelled_range : Names → List VariantLabels → RangeInclusive ℕ → List ℕ
+labelled_range names labels named = codes " variants " ++ variant_text names (slice_get labels named.start) ++ codes "..=" ++ variant_text names (slice_get labels named.last)
 
 -- the variant that a niche doesn't name, and those that it names by the numbers from this one on
-abbrev pub named_text : Names → List VariantLabels → (untagged : ℕ) → (named : RangeInclusive ℕ) → (start : ℕ) → List ℕ
-named_text names labels untagged named start =
-    codes " untagged " ++ variant_text names (slice_get labels untagged) ++ range_text names labels named ++ codes " start " ++ decimal start
+abbrev pub labelled_niche : Names → List VariantLabels → (untagged : ℕ) → (named : RangeInclusive ℕ) → (start : ℕ) → List ℕ
+labelled_niche names labels untagged named start =
+    codes " untagged " ++ variant_text names (slice_get labels untagged) ++ labelled_range names labels named ++ codes " start " ++ decimal start
 
 -- where the tag lies, what it holds, and how it names a variant: by its discriminant, or in a niche
-abbrev pub tag_line : Names → List VariantLabels → (offset : ℕ) → (tag : Scalar) → TagEncoding ℕ → List ℕ
-tag_line names labels offset tag Direct = codes "tag offset " ++ decimal offset ++ codes " direct " ++ printed_scalar tag ++ codes "\n"
-tag_line names labels offset tag (InNiche untagged named start) =
-    codes "tag offset " ++ decimal offset ++ codes " niche " ++ printed_scalar tag ++ named_text names labels untagged named start ++ codes "\n"
+abbrev pub labelled_tag : Names → List VariantLabels → (offset : ℕ) → (tag : Scalar) → TagEncoding ℕ → List ℕ
+labelled_tag names labels offset tag Direct = codes "tag offset " ++ decimal offset ++ codes " direct " ++ printed_scalar tag ++ codes "\n"
+labelled_tag names labels offset tag (InNiche untagged named start) =
+    codes "tag offset " ++ decimal offset ++ codes " niche " ++ printed_scalar tag ++ labelled_niche names labels untagged named start ++ codes "\n"
 
 -- the variants of an enum, and behind several of them the tag
-abbrev pub variants_lines : Names → List VariantLabels → Placed → (offsets : List ℕ) → Variants ℕ ℕ → List ℕ
-variants_lines names labels placed offsets Empty = single_lines names None 0 labels []
-variants_lines names labels placed offsets (Single index) = single_lines names (Some index) 0 labels offsets
-variants_lines names labels placed offsets (Multiple tag encoding field variants) =
-    several_lines names labels placed 0 variants ++ tag_line names labels (get_or offsets field 0) tag encoding
+abbrev pub labelled_variants : Names → List VariantLabels → Placed → (offsets : List ℕ) → Variants ℕ ℕ → List ℕ
+labelled_variants names labels placed offsets Empty = single_lines names None 0 labels []
+labelled_variants names labels placed offsets (Single index) = single_lines names (Some index) 0 labels offsets
+labelled_variants names labels placed offsets (Multiple tag encoding field variants) =
+    several_lines names labels placed 0 variants ++ labelled_tag names labels (get_or offsets field 0) tag encoding
 
 -- where the parts of a type lie, and whether it has no values; a union has some, and of a type without names nothing is told
 abbrev pub parts_lines : Names → Shape → Placed → Layout → List ℕ
 parts_lines names Plain placed layout = []
-parts_lines names (Struct labels) placed layout = uninhabited_line layout.uninhabited ++ field_lines names 0 labels.items (offsets_in layout.fields)
-parts_lines names (Union labels) placed layout = field_lines names 0 labels.items []
-parts_lines names (Enum labels) placed layout = uninhabited_line layout.uninhabited ++ variants_lines names labels.items placed (offsets_in layout.fields) layout.variants
+parts_lines names (Struct labels) placed layout = uninhabited_line layout.uninhabited ++ labelled_fields names 0 labels.items (offsets_in layout.fields)
+parts_lines names (Union labels) placed layout = labelled_fields names 0 labels.items []
+parts_lines names (Enum labels) placed layout = uninhabited_line layout.uninhabited ++ labelled_variants names labels.items placed (offsets_in layout.fields) layout.variants
 
 -- the largest niche and the padding, of a type with named parts
 abbrev pub rest_lines : Shape → Placed → List ℕ

@@ -6,7 +6,7 @@ ghost use Rattle.abi_laid.specs.Laid.{placed_of};
 ghost use Rattle.abi_laid.specs.Placed.{layout_of};
 ghost use Rattle.abi_text.specs.Told.{TellsBytes};
 ghost use Rattle.abi_types.specs.Ty.Runs.{IsVariantOfSeveral};
-ghost use Rattle.types.specs.Lines.{field_lines, named_text, offsets_in, own_offsets, parts_lines, range_text, rest_lines, several_lines, single_lines, tag_line, type_lines, variant_lines, variants_lines};
+ghost use Rattle.types.specs.Lines.{labelled_fields, labelled_niche, offsets_in, own_offsets, parts_lines, labelled_range, rest_lines, several_lines, single_lines, labelled_tag, type_lines, labelled_variant, labelled_variants};
 
 use crate::labels::{offset_at, offsets_of, write_field_name};
 use crate::mapped::write_variant;
@@ -30,7 +30,7 @@ fn write_fields(
     offsets: &[Size],
 ) -> Result<(), AllocError>
     ensures { OnOk result (string_bytes out.new
-        ≡ string_bytes out.old ++ field_lines names.now 0 labels.now offsets.now) }
+        ≡ string_bytes out.old ++ labelled_fields names.now 0 labels.now offsets.now) }
 {
     for (index, label) in labels.iter().enumerate() {
         let offset = offset_at(offsets, index);
@@ -59,7 +59,7 @@ fn write_one(
     offsets: &[Size],
 ) -> Result<(), AllocError>
     ensures { OnOk result (string_bytes out.new
-        ≡ string_bytes out.old ++ variant_lines names.now (Some variant.now) offsets.now) }
+        ≡ string_bytes out.old ++ labelled_variant names.now (Some variant.now) offsets.now) }
 {
     out.push_str("variant ")?;
     out.push_str(names.text(variant.name))?;
@@ -76,7 +76,7 @@ fn write_one_of(
     offsets: &[Size],
 ) -> Result<(), AllocError>
     ensures { OnOk result (string_bytes out.new ≡ string_bytes out.old
-        ++ variant_lines names.now (slice_get labels.now index) offsets.now) }
+        ++ labelled_variant names.now (slice_get labels.now index) offsets.now) }
 {
     match labels.get(index) {
         Some(variant) => write_one(out, names, variant, offsets),
@@ -139,7 +139,7 @@ fn write_range(
     named: RangeInclusive<VariantIdx>,
 ) -> Result<(), AllocError>
     ensures { OnOk result (string_bytes out.new
-        ≡ string_bytes out.old ++ range_text names.now labels.now named) }
+        ≡ string_bytes out.old ++ labelled_range names.now labels.now named) }
 {
     out.push_str(" variants ")?;
     write_variant(out, names, labels, named.start.as_usize())?;
@@ -157,7 +157,7 @@ fn write_named(
     start: u128,
 ) -> Result<(), AllocError>
     ensures { OnOk result (string_bytes out.new
-        ≡ string_bytes out.old ++ named_text names.now labels.now untagged named start) }
+        ≡ string_bytes out.old ++ labelled_niche names.now labels.now untagged named start) }
 {
     out.push_str(" untagged ")?;
     write_variant(out, names, labels, untagged.as_usize())?;
@@ -175,7 +175,7 @@ fn write_tag(
     encoding: TagEncoding<VariantIdx>,
 ) -> Result<(), AllocError>
     ensures { OnOk result (string_bytes out.new
-        ≡ string_bytes out.old ++ tag_line names.now labels.now offset tag encoding) }
+        ≡ string_bytes out.old ++ labelled_tag names.now labels.now offset tag encoding) }
 {
     match encoding {
         TagEncoding::Direct => {
@@ -213,7 +213,7 @@ fn write_variants(
 ) -> Result<(), AllocError>
     requires { TellsBytes laid.now }
     ensures { let placed = placed_of laid.now in OnOk result (string_bytes out.new ≡ string_bytes out.old
-        ++ variants_lines names.now labels.now placed (offsets_in (layout_of placed).fields)
+        ++ labelled_variants names.now labels.now placed (offsets_in (layout_of placed).fields)
         (layout_of placed).variants) }
 {
     let layout = laid.layout();
