@@ -38,6 +38,19 @@ use abi_base::TargetDataLayout;
 use abi_laid::{Laid, Nodes, TypeTree};
 use std::alloc::Global;
 
+/// Refuses a data layout under which no type has a layout, as `UnlawfulDataLayout`: one that isn't lawful.
+fn refuse_unlawful(dl: &TargetDataLayout) -> Result<(), LayError>
+    ensures lawful { IfOk result (λ _. IsLawfulDataLayout dl.now) }
+    ensures unlawful { IfErr result (λ e. e ≡ LayError.UnlawfulDataLayout) }
+    ensures told { IfErr result (λ _. IsLawfulDataLayout dl.now → ⊥) }
+{
+    if dl.is_lawful() {
+        Ok(())
+    } else {
+        Err(LayError::UnlawfulDataLayout)
+    }
+}
+
 /// Lays out a tree under a data layout: children before parents, left to right.
 ///
 /// `UnlawfulDataLayout` where the data layout isn't lawful. Else the first fault of a part: `UnknownSpace` for a scalar
@@ -133,9 +146,7 @@ pub fn lay_out(alloc: Global, dl: &TargetDataLayout, tree: &TypeTree) -> Result<
     ensures decides { IfOk result (λ laid. all_inhabited_of laid ≡ true →
         EachPlaceDecides dl.now.endian (placed_of laid)) }
 {
-    if !dl.is_lawful() {
-        return Err(LayError::UnlawfulDataLayout);
-    }
+    refuse_unlawful(dl)?;
     let mut nodes = Nodes::new(alloc);
     let _root = lay_tree(alloc, dl, &mut nodes, tree)?;
     Ok(Laid::new(nodes, dl.endian))

@@ -81,58 +81,58 @@ returns-clause-inside c = λ locals. (faithful_root _ _ _ _ _ _ c.in_ok-_root.en
 
 pub returns-clause-least : goal.returns-clause-least
 returns-clause-least c =
-    let law = c.is_lawful.ensures.0 c.if-not-is_lawful.false in
+    let law = c.in_ok-refuse_unlawful.ensures.lawful in
     everywhere c.args.dl.now law (IsLeast c.args.dl.now) (laid_least c.args.dl.now law) (tree_of c.args.tree.now) _ (laid_root _ _ _ _ _ _ c.in_ok-_root.ensures.ok c.new.ensures.placed)
 
 pub returns-clause-overlap : goal.returns-clause-overlap
 returns-clause-overlap c =
-    let law = c.is_lawful.ensures.0 c.if-not-is_lawful.false in
+    let law = c.in_ok-refuse_unlawful.ensures.lawful in
     everywhere c.args.dl.now law (HasOverlapSize c.args.dl.now) (laid_overlap c.args.dl.now law)
     (tree_of c.args.tree.now) _ (laid_root _ _ _ _ _ _ c.in_ok-_root.ensures.ok c.new.ensures.placed)
 
 pub returns-clause-each_list : goal.returns-clause-each_list
 returns-clause-each_list c =
-    let law = c.is_lawful.ensures.0 c.if-not-is_lawful.false in
+    let law = c.in_ok-refuse_unlawful.ensures.lawful in
     everywhere c.args.dl.now law (HasLeastLists c.args.dl.now) (laid_lists c.args.dl.now law)
     (tree_of c.args.tree.now) _ (laid_root _ _ _ _ _ _ c.in_ok-_root.ensures.ok c.new.ensures.placed)
 
 pub returns-clause-placed : goal.returns-clause-placed
 returns-clause-placed c =
-    let law = c.is_lawful.ensures.0 c.if-not-is_lawful.false in
+    let law = c.in_ok-refuse_unlawful.ensures.lawful in
     everywhere c.args.dl.now law (LiesAsAsked c.args.dl.now) (laid_as_asked c.args.dl.now law)
     (tree_of c.args.tree.now) _ (laid_root _ _ _ _ _ _ c.in_ok-_root.ensures.ok c.new.ensures.placed)
 
 pub returns-clause-best_niche : goal.returns-clause-best_niche
 returns-clause-best_niche c =
-    let law = c.is_lawful.ensures.0 c.if-not-is_lawful.false in
+    let law = c.in_ok-refuse_unlawful.ensures.lawful in
     everywhere c.args.dl.now law (HasNicheOfParts c.args.dl.now) (λ t p h. (laid_taken c.args.dl.now law t p h).0)
     (tree_of c.args.tree.now) _ (laid_root _ _ _ _ _ _ c.in_ok-_root.ensures.ok c.new.ensures.placed)
 
 pub returns-clause-alignment : goal.returns-clause-alignment
 returns-clause-alignment c =
-    let law = c.is_lawful.ensures.0 c.if-not-is_lawful.false in
+    let law = c.in_ok-refuse_unlawful.ensures.lawful in
     everywhere c.args.dl.now law (HasAlignOfParts c.args.dl.now) (λ t p h. (laid_taken c.args.dl.now law t p h).1)
     (tree_of c.args.tree.now) _ (laid_root _ _ _ _ _ _ c.in_ok-_root.ensures.ok c.new.ensures.placed)
 
 pub returns-clause-marks : goal.returns-clause-marks
 returns-clause-marks c =
-    let law = c.is_lawful.ensures.0 c.if-not-is_lawful.false in
+    let law = c.in_ok-refuse_unlawful.ensures.lawful in
     everywhere c.args.dl.now law (HasMarksOfParts c.args.dl.now) (λ t p h. (laid_taken c.args.dl.now law t p h).2)
     (tree_of c.args.tree.now) _ (laid_root _ _ _ _ _ _ c.in_ok-_root.ensures.ok c.new.ensures.placed)
 
 pub returns-clause-clash : goal.returns-clause-clash
 returns-clause-clash c =
-    let law = c.is_lawful.ensures.0 c.if-not-is_lawful.false in
+    let law = c.in_ok-refuse_unlawful.ensures.lawful in
     everywhere c.args.dl.now law AreClashingLocalsApart (laid_clash c.args.dl.now law) (tree_of c.args.tree.now) _ (laid_root _ _ _ _ _ _ c.in_ok-_root.ensures.ok c.new.ensures.placed)
 
 pub returns-clause-one_offset : goal.returns-clause-one_offset
 returns-clause-one_offset c =
-    let law = c.is_lawful.ensures.0 c.if-not-is_lawful.false in
+    let law = c.in_ok-refuse_unlawful.ensures.lawful in
     everywhere c.args.dl.now law HaveLocalsOneOffset (laid_one_offset c.args.dl.now law) (tree_of c.args.tree.now) _ (laid_root _ _ _ _ _ _ c.in_ok-_root.ensures.ok c.new.ensures.placed)
 
 pub returns-clause-parts : goal.returns-clause-parts
 returns-clause-parts c =
-    let law = c.is_lawful.ensures.0 c.if-not-is_lawful.false in
+    let law = c.in_ok-refuse_unlawful.ensures.lawful in
     everywhere c.args.dl.now law (λ t p. IsLaying c.args.dl.now t (Ok p)) (λ t p h. h) (tree_of c.args.tree.now) _ (laid_root _ _ _ _ _ _ c.in_ok-_root.ensures.ok c.new.ensures.placed)
 
 abbrev ok : Placed → Result Placed LayError
@@ -143,20 +143,20 @@ inj-Ok p q e = cc
 
 pub returns-clause-one_each : goal.returns-clause-one_each
 returns-clause-one_each c =
-    let law = c.is_lawful.ensures.0 c.if-not-is_lawful.false in
+    let law = c.in_ok-refuse_unlawful.ensures.lawful in
     everywhere c.args.dl.now law (λ t p. (q : Placed) → IsLaying c.args.dl.now t (Ok q) → q ≡ p)
     (λ t p h q k. inj-Ok p q (one_answer c.args.dl.now t (Ok q) (Ok p) k h))
     (tree_of c.args.tree.now) _ (laid_root _ _ _ _ _ _ c.in_ok-_root.ensures.ok c.new.ensures.placed)
 
 pub returns-clause-each_layout : goal.returns-clause-each_layout
 returns-clause-each_layout c =
-    let law = c.is_lawful.ensures.0 c.if-not-is_lawful.false in
+    let law = c.in_ok-refuse_unlawful.ensures.lawful in
     everywhere c.args.dl.now law (λ t p. IsLawfulLayout c.args.dl.now (layout_of p)) (λ t p h. (laid_whole c.args.dl.now law t p h).0)
     (tree_of c.args.tree.now) _ (laid_root _ _ _ _ _ _ c.in_ok-_root.ensures.ok c.new.ensures.placed)
 
 pub returns-clause-sized : goal.returns-clause-sized
 returns-clause-sized c =
-    let law = c.is_lawful.ensures.0 c.if-not-is_lawful.false in
+    let law = c.in_ok-refuse_unlawful.ensures.lawful in
     laid_sized c.args.dl.now law (tree_of c.args.tree.now) _ (laid_root _ _ _ _ _ _ c.in_ok-_root.ensures.ok c.new.ensures.placed)
 
 pub returns-clause-covered : goal.returns-clause-covered
@@ -170,13 +170,13 @@ returns-clause-inhabited c = (
 
 pub returns-clause-all_have : goal.returns-clause-all_have
 returns-clause-all_have c = λ have.
-    let law = c.is_lawful.ensures.0 c.if-not-is_lawful.false in
+    let law = c.in_ok-refuse_unlawful.ensures.lawful in
     (returns-clause-inhabited c).1
     (each_inhabited c.args.dl.now law (tree_of c.args.tree.now) _ (laid_root _ _ _ _ _ _ c.in_ok-_root.ensures.ok c.new.ensures.placed) have).0
 
 pub returns-clause-covers : goal.returns-clause-covers
 returns-clause-covers c = λ all.
-    let law = c.is_lawful.ensures.0 c.if-not-is_lawful.false in
+    let law = c.in_ok-refuse_unlawful.ensures.lawful in
     let some = (c.in_ok-_root.ensures.counted.3.0 (sym c.new.ensures.flags ∙ all)).1 in
     let own = coverable c.args.dl.now law (tree_of c.args.tree.now) _ (laid_root _ _ _ _ _ _ c.in_ok-_root.ensures.ok c.new.ensures.placed) some in
     let faithful = faithful_root _ _ _ _ _ _ c.in_ok-_root.ensures.ok c.new.ensures.placed own.locals in
@@ -194,12 +194,12 @@ returns-clause-covers c = λ all.
 
 pub returns-clause-own_places : goal.returns-clause-own_places
 returns-clause-own_places c =
-    let law = c.is_lawful.ensures.0 c.if-not-is_lawful.false in
+    let law = c.in_ok-refuse_unlawful.ensures.lawful in
     laid_own_places c.args.dl.now.endian c.args.dl.now law (tree_of c.args.tree.now) _ (laid_root _ _ _ _ _ _ c.in_ok-_root.ensures.ok c.new.ensures.placed)
 
 pub returns-clause-unused : goal.returns-clause-unused
 returns-clause-unused c i k index =
-    let law = c.is_lawful.ensures.0 c.if-not-is_lawful.false in
+    let law = c.in_ok-refuse_unlawful.ensures.lawful in
     let told = laid_told c.args.dl.now law (tree_of c.args.tree.now) _ (laid_root _ _ _ _ _ _ c.in_ok-_root.ensures.ok c.new.ensures.placed) in
     told.unused (typed_of c.new.result) (seen_root c.new.result) i k index
 
@@ -215,7 +215,7 @@ returns-clause-of_tree c = record {
 
 pub returns-clause-decides : goal.returns-clause-decides
 returns-clause-decides c = λ all k place.
-    let law = c.is_lawful.ensures.0 c.if-not-is_lawful.false in
+    let law = c.in_ok-refuse_unlawful.ensures.lawful in
     let some = (c.in_ok-_root.ensures.counted.3.0 (sym c.new.ensures.flags ∙ all)).1 in
     let p : Placed = placed_of c.new.result in
     let own = coverable c.args.dl.now law (tree_of c.args.tree.now) _ (laid_root _ _ _ _ _ _ c.in_ok-_root.ensures.ok c.new.ensures.placed) some in
@@ -226,7 +226,7 @@ returns-clause-decides c = λ all k place.
 
 pub returns-clause-places : goal.returns-clause-places
 returns-clause-places c k =
-    let law = c.is_lawful.ensures.0 c.if-not-is_lawful.false in
+    let law = c.in_ok-refuse_unlawful.ensures.lawful in
     let told = laid_told c.args.dl.now law (tree_of c.args.tree.now) _ (laid_root _ _ _ _ _ _ c.in_ok-_root.ensures.ok c.new.ensures.placed) in
     told.places (typed_of c.new.result) (seen_root c.new.result) k
 
@@ -236,12 +236,12 @@ returns-clause-too_large c law large =
 
 pub returns-in_err-_root-clause-overflow : goal.returns-in_err-_root-clause-overflow
 returns-in_err-_root-clause-overflow c =
-    let law = c.is_lawful.ensures.0 c.if-not-is_lawful.false in
-    passed_on _ _ _ c.from_residual.ensures.1 (λ size. told_overflow c.args.dl.now law (tree_of c.args.tree.now) _ c.in_err-_root.ensures.err size)
+    let law = c.in_ok-refuse_unlawful.ensures.lawful in
+    passed_on _ _ _ c.from_residual-in_err-_root.ensures.1 (λ size. told_overflow c.args.dl.now law (tree_of c.args.tree.now) _ c.in_err-_root.ensures.err size)
 
 pub returns-in_err-_root-clause-too_large : goal.returns-in_err-_root-clause-too_large
 returns-in_err-_root-clause-too_large c law large =
-    passed_as _ _ _ c.from_residual.ensures.1 (told_large c.args.dl.now law (tree_of c.args.tree.now) _ c.in_err-_root.ensures.err large)
+    passed_as _ _ _ c.from_residual-in_err-_root.ensures.1 (told_large c.args.dl.now law (tree_of c.args.tree.now) _ c.in_err-_root.ensures.err large)
 
 pub returns-clause-one : goal.returns-clause-one
 returns-clause-one c a b h k = one_answer c.args.dl.now (tree_of c.args.tree.now) a b h k
@@ -249,8 +249,8 @@ returns-clause-one c a b h k = one_answer c.args.dl.now (tree_of c.args.tree.now
 pub returns-in_err-_root-clause-one : goal.returns-in_err-_root-clause-one
 returns-in_err-_root-clause-one c a b h k = one_answer c.args.dl.now (tree_of c.args.tree.now) a b h k
 
-pub returns-then-not-is_lawful-clause-one : goal.returns-then-not-is_lawful-clause-one
-returns-then-not-is_lawful-clause-one c a b h k = one_answer c.args.dl.now (tree_of c.args.tree.now) a b h k
+pub returns-in_err-refuse_unlawful-clause-one : goal.returns-in_err-refuse_unlawful-clause-one
+returns-in_err-refuse_unlawful-clause-one c a b h k = one_answer c.args.dl.now (tree_of c.args.tree.now) a b h k
 
 pub returns-clause-some : goal.returns-clause-some
 returns-clause-some c law = some_answer c.args.dl.now law (tree_of c.args.tree.now)
@@ -258,8 +258,8 @@ returns-clause-some c law = some_answer c.args.dl.now law (tree_of c.args.tree.n
 pub returns-in_err-_root-clause-some : goal.returns-in_err-_root-clause-some
 returns-in_err-_root-clause-some c law = some_answer c.args.dl.now law (tree_of c.args.tree.now)
 
-pub returns-then-not-is_lawful-clause-some : goal.returns-then-not-is_lawful-clause-some
-returns-then-not-is_lawful-clause-some c law = some_answer c.args.dl.now law (tree_of c.args.tree.now)
+pub returns-in_err-refuse_unlawful-clause-some : goal.returns-in_err-refuse_unlawful-clause-some
+returns-in_err-refuse_unlawful-clause-some c law = some_answer c.args.dl.now law (tree_of c.args.tree.now)
 
 pub returns-clause-counted : goal.returns-clause-counted
 returns-clause-counted c =
