@@ -1,6 +1,7 @@
 mod Digits
 mod Facts
 mod Growth
+mod ItemTurns
 mod NameTexts
 mod Operators
 mod Pointed

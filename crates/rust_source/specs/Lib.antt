@@ -14,6 +14,7 @@ pub mod Syntax
 pub mod Operators
 pub mod Passing
 pub mod Reading
+pub mod Repr
 pub mod Simple
 pub mod Terms
 pub mod Sources

@@ -37,12 +37,12 @@ pub record Inner : Type 0 where
   pub choice_in : Place → Reader ExprRead
 
 -- a value, and no fault
-abbrev pub done : {A : Type 0} → A → Known → Reading A
-done a names = (Ok a, names)
+abbrev pub done : {S A : Type 0} → A → (known : S) → Result A SourceFault × S
+done a known = (Ok a, known)
 
 -- the fault of this kind at the next token
-abbrev pub refused : {A : Type 0} → SourceFaultKind → Cursor → Known → Reading A
-refused k c names = (Err (fault c k), names)
+abbrev pub refused : {S A : Type 0} → SourceFaultKind → Cursor → (known : S) → Result A SourceFault × S
+refused k c known = (Err (fault c k), known)
 
 -- what is told even where an expression needn't be read
 abbrev pub is_told : SourceFaultKind → Bool
