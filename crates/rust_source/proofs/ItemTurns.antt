@@ -1,11 +1,16 @@
 -- A turn of the loops over attributes and items, and what stands at their ends.
-use Rattle.std.proofs.Common.{◌≡◌, ℕ, suc, ◌+◌, ◌-◌, ◌<◌, ◌≤◌, Ok, refl, ap}
+use Rattle.std.proofs.Common.{◌≡◌, ℕ, zero, suc, ◌+◌, ◌-◌, ◌<◌, ◌≤◌, Bool, true, List, Ok, Err, refl, ap, arith}
 use Rattle.std.specs.Prelude.{if◌then◌else◌}
 use Rattle.rust_source.specs.declared.item.Repr.{Repr}
+use Rattle.rust_source.specs.declared.place.Symbol.{Symbol}
 use Rattle.rust_source.specs.declared.reader.cursor.Cursor.{Cursor}
-use Rattle.rust_source.specs.Cursor.{is_done}
-use Rattle.rust_source.specs.Reading.{then_read}
+use Rattle.rust_source.specs.declared.fault.SourceFaultKind.TheVariants.{TooDeep}
+use Rattle.rust_source.specs.declared.target.CfgTarget.{CfgTarget}
+use Rattle.rust_source.specs.Cfg.{Noted, count_from, counted, predicate_read, predicate_with}
+use Rattle.rust_source.specs.Cursor.{comma_passed, fault, is_done}
+use Rattle.rust_source.specs.Reading.{after, then_read}
 use Rattle.rust_source.specs.Repr.{word_more, words_from}
+use Rattle.rust_source.specs.Terms.{Known, done}
 use Rattle.rust_source.proofs.Turns.{none_left, turns}
 
 pub words_more : (n i : ℕ) (r : Repr) (c : Cursor) → i < n → words_from (n - i) r c ≡ (if is_done c then Ok r else then_read (λ (s : Repr × Cursor). words_from (n - (i + 1)) s.0 s.1) (word_more r c))
@@ -13,3 +18,21 @@ words_more n i r c more = ap (λ k. words_from k r c) (turns n i more)
 
 pub words_done : (n i : ℕ) (r : Repr) (c : Cursor) → n ≤ i → words_from (n - i) r c ≡ Ok r
 words_done n i r c past = ap (λ k. words_from k r c) (none_left n i past)
+
+module _ (t : CfgTarget) where
+  pub predicate_less : (room left : ℕ) (c : Cursor) (known : Noted) → left + 1 ≡ room → predicate_read t room c known ≡ predicate_with t (predicate_read t left) c known
+  unfolding predicate_read
+  predicate_less zero left c known is = absurd (omega arith)
+  predicate_less (suc room) left c known is = let e : room ≡ left = omega arith in ap (λ r. predicate_with t (predicate_read t r) c known) e
+
+  pub predicate_none : (room : ℕ) (c : Cursor) (known : Noted) → room ≡ 0 → predicate_read t room c known ≡ (Err (fault c TooDeep), known)
+  unfolding predicate_read
+  predicate_none zero c known is = refl
+  predicate_none (suc room) c known is = absurd (omega arith)
+
+  module _ (room n i : ℕ) where
+    pub count_more : (holding count : ℕ) (c : Cursor) (known : Noted) → i < n → count_from t (predicate_read t room) (n - i) holding count c known ≡ (if is_done c then done (holding, count) known else after (λ (b : Bool × Cursor) ns. after (λ d ms. count_from t (predicate_read t room) (n - (i + 1)) (counted holding b.0) (counted count true) d ms) (comma_passed b.1, ns)) (predicate_read t room c known))
+    count_more holding count c known more = ap (λ k. count_from t (predicate_read t room) k holding count c known) (turns n i more)
+
+    pub count_done : (holding count : ℕ) (c : Cursor) (known : Noted) → n ≤ i → count_from t (predicate_read t room) (n - i) holding count c known ≡ done (holding, count) known
+    count_done holding count c known past = ap (λ k. count_from t (predicate_read t room) k holding count c known) (none_left n i past)

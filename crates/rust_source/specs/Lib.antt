@@ -17,4 +17,5 @@ pub mod Reading
 pub mod Repr
 pub mod Simple
 pub mod Terms
+pub mod Cfg
 pub mod Sources
