@@ -3,14 +3,18 @@ use Rattle.std.proofs.Common.{◌≡◌, ℕ, zero, suc, ◌+◌, ◌-◌, ◌<�
 use Rattle.std.specs.Prelude.{if◌then◌else◌}
 use Rattle.rust_source.specs.declared.item.Repr.{Repr}
 use Rattle.rust_source.specs.declared.place.Symbol.{Symbol}
+use Rattle.rust_source.specs.declared.reader.attributes.Attributes.{Attributes}
+use Rattle.rust_source.specs.declared.reader.attributes.Rules.{Rules}
 use Rattle.rust_source.specs.declared.reader.cursor.Cursor.{Cursor}
 use Rattle.rust_source.specs.declared.fault.SourceFaultKind.TheVariants.{TooDeep}
 use Rattle.rust_source.specs.declared.target.CfgTarget.{CfgTarget}
+use Rattle.rust_source.specs.Attributes.{attribute_read, attribute_with, attributes_from, expanded_from, one_attribute}
 use Rattle.rust_source.specs.Cfg.{Noted, count_from, counted, predicate_read, predicate_with}
-use Rattle.rust_source.specs.Cursor.{comma_passed, fault, is_done}
+use Rattle.rust_source.specs.Cursor.{comma_passed, fault, is_done, is_next, passed}
 use Rattle.rust_source.specs.Reading.{after, then_read}
 use Rattle.rust_source.specs.Repr.{word_more, words_from}
 use Rattle.rust_source.specs.Terms.{Known, done}
+use Rattle.rust_source.specs.Until.{until, up_to}
 use Rattle.rust_source.proofs.Turns.{none_left, turns}
 
 pub words_more : (n i : ℕ) (r : Repr) (c : Cursor) → i < n → words_from (n - i) r c ≡ (if is_done c then Ok r else then_read (λ (s : Repr × Cursor). words_from (n - (i + 1)) s.0 s.1) (word_more r c))
@@ -36,3 +40,27 @@ module _ (t : CfgTarget) where
 
     pub count_done : (holding count : ℕ) (c : Cursor) (known : Noted) → n ≤ i → count_from t (predicate_read t room) (n - i) holding count c known ≡ done (holding, count) known
     count_done holding count c known past = ap (λ k. count_from t (predicate_read t room) k holding count c known) (none_left n i past)
+
+module _ (rules : Rules) where
+  pub attribute_less : (room left : ℕ) (said : Attributes) (c : Cursor) (known : Noted) → left + 1 ≡ room → attribute_read rules room said c known ≡ attribute_with rules (attribute_read rules left) said c known
+  unfolding attribute_read
+  attribute_less zero left said c known is = absurd (omega arith)
+  attribute_less (suc room) left said c known is = let e : room ≡ left = omega arith in ap (λ r. attribute_with rules (attribute_read rules r) said c known) e
+
+  pub attribute_none : (room : ℕ) (said : Attributes) (c : Cursor) (known : Noted) → room ≡ 0 → attribute_read rules room said c known ≡ (Err (fault c TooDeep), known)
+  unfolding attribute_read
+  attribute_none zero said c known is = refl
+  attribute_none (suc room) said c known is = absurd (omega arith)
+
+  module _ (n i : ℕ) where
+    pub expanded_more : (room : ℕ) (said : Attributes) (c : Cursor) (known : Noted) → i < n → expanded_from rules (attribute_read rules room) (n - i) said c known ≡ (if is_done c then done said known else after (λ more ns. after (λ d ms. expanded_from rules (attribute_read rules room) (n - (i + 1)) more d ms) (comma_passed (until 44 c), ns)) (attribute_read rules room said (up_to 44 c) known))
+    expanded_more room said c known more = ap (λ k. expanded_from rules (attribute_read rules room) k said c known) (turns n i more)
+
+    pub expanded_done : (room : ℕ) (said : Attributes) (c : Cursor) (known : Noted) → n ≤ i → expanded_from rules (attribute_read rules room) (n - i) said c known ≡ done said known
+    expanded_done room said c known past = ap (λ k. expanded_from rules (attribute_read rules room) k said c known) (none_left n i past)
+
+    pub attributes_more : (said : Attributes) (c : Cursor) (known : Noted) → i < n → attributes_from rules (n - i) said c known ≡ (if is_next c 35 then after (λ (s : Attributes × Cursor) ns. attributes_from rules (n - (i + 1)) s.0 s.1 ns) (one_attribute rules said (passed c 1) known) else done (said, c) known)
+    attributes_more said c known more = ap (λ k. attributes_from rules k said c known) (turns n i more)
+
+    pub attributes_done : (said : Attributes) (c : Cursor) (known : Noted) → n ≤ i → attributes_from rules (n - i) said c known ≡ done (said, c) known
+    attributes_done said c known past = ap (λ k. attributes_from rules k said c known) (none_left n i past)

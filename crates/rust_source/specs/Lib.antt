@@ -18,4 +18,5 @@ pub mod Repr
 pub mod Simple
 pub mod Terms
 pub mod Cfg
+pub mod Attributes
 pub mod Sources
