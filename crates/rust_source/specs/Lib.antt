@@ -19,4 +19,7 @@ pub mod Simple
 pub mod Terms
 pub mod Cfg
 pub mod Attributes
+pub mod Items
+pub mod Repeated
+pub mod Generics
 pub mod Sources

@@ -79,8 +79,8 @@ arguments_begin in_type c =
 abbrev pub argument_behind : Place → TypeRead → Cursor → ArgumentRead × Cursor
 argument_behind at t c = if is_binding c then (binding at, (bounds (passed c 1)).1) else (of_type t, c)
 
--- what comes behind an argument: a `,` or the end
-abbrev pub arguments_on : (go_on : List ArgumentRead → Reader (List ArgumentRead)) → List ArgumentRead → Reader (List ArgumentRead)
+-- what comes behind an argument or a parameter: a `,` or the end
+abbrev pub arguments_on : {A : Type 0} → (go_on : List A → Reader (List A)) → List A → Reader (List A)
 arguments_on go_on all c names =
     if is_next c 62 then go_on all c names
     else (if is_next c 44 then go_on all (passed c 1) names else refused ExpectedAngle c names)
