@@ -11,6 +11,8 @@ use Rattle.rust_source.specs.declared.target.CfgTarget.{CfgTarget}
 use Rattle.rust_source.specs.Attributes.{attribute_read, attribute_with, attributes_from, expanded_from, one_attribute}
 use Rattle.rust_source.specs.Cfg.{Noted, count_from, counted, predicate_read, predicate_with}
 use Rattle.rust_source.specs.Cursor.{comma_passed, fault, is_done, is_next, passed}
+use Rattle.rust_source.specs.Fields.{field_more, fields_from, variant_more, variants_from}
+use Rattle.rust_source.specs.Items.{FieldRead, VariantRead}
 use Rattle.rust_source.specs.Reading.{after, then_read}
 use Rattle.rust_source.specs.Repr.{word_more, words_from}
 use Rattle.rust_source.specs.Terms.{Known, done}
@@ -64,3 +66,15 @@ module _ (rules : Rules) where
 
     pub attributes_done : (said : Attributes) (c : Cursor) (known : Noted) → n ≤ i → attributes_from rules (n - i) said c known ≡ done (said, c) known
     attributes_done said c known past = ap (λ k. attributes_from rules k said c known) (none_left n i past)
+
+    pub fields_more : (is_tuple : Bool) (all : List FieldRead) (c : Cursor) (known : Noted) → i < n → fields_from rules is_tuple (n - i) all c known ≡ (if is_done c then done all known else after (λ (f : List FieldRead × Cursor) ns. fields_from rules is_tuple (n - (i + 1)) f.0 f.1 ns) (field_more rules is_tuple all c known))
+    fields_more is_tuple all c known more = ap (λ k. fields_from rules is_tuple k all c known) (turns n i more)
+
+    pub fields_done : (is_tuple : Bool) (all : List FieldRead) (c : Cursor) (known : Noted) → n ≤ i → fields_from rules is_tuple (n - i) all c known ≡ done all known
+    fields_done is_tuple all c known past = ap (λ k. fields_from rules is_tuple k all c known) (none_left n i past)
+
+    pub variants_more : (all : List VariantRead) (c : Cursor) (known : Noted) → i < n → variants_from rules (n - i) all c known ≡ (if is_done c then done all known else after (λ (v : List VariantRead × Cursor) ns. variants_from rules (n - (i + 1)) v.0 v.1 ns) (variant_more rules all c known))
+    variants_more all c known more = ap (λ k. variants_from rules k all c known) (turns n i more)
+
+    pub variants_done : (all : List VariantRead) (c : Cursor) (known : Noted) → n ≤ i → variants_from rules (n - i) all c known ≡ done all known
+    variants_done all c known past = ap (λ k. variants_from rules k all c known) (none_left n i past)

@@ -1,5 +1,6 @@
 mod Digits
 mod Facts
+mod GenericTurns
 mod Growth
 mod ItemTurns
 mod NameTexts

@@ -22,4 +22,5 @@ pub mod Attributes
 pub mod Items
 pub mod Repeated
 pub mod Generics
+pub mod Fields
 pub mod Sources
