@@ -12,3 +12,4 @@ mod Steps
 mod TokenSteps
 mod Turns
 mod Until
+mod UseTurns

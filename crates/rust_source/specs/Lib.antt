@@ -23,4 +23,5 @@ pub mod Items
 pub mod Repeated
 pub mod Generics
 pub mod Fields
+pub mod Uses
 pub mod Sources
