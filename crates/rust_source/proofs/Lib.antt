@@ -3,6 +3,7 @@ mod Facts
 mod GenericTurns
 mod Growth
 mod ItemTurns
+mod ModuleTurns
 mod NameTexts
 mod Operators
 mod Pointed

@@ -24,4 +24,8 @@ pub mod Repeated
 pub mod Generics
 pub mod Fields
 pub mod Uses
+pub mod Written
+pub mod Having
+pub mod Constants
+pub mod Modules
 pub mod Sources

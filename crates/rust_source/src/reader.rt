@@ -18,6 +18,7 @@ mod repr;
 mod room;
 mod types;
 mod uses;
+mod written;
 
 ghost use Rattle.std.specs.Prelude.{◌≡◌, [], IfOk, length};
 ghost use Rattle.rust_source.specs.Growth.{Keeps};

@@ -93,7 +93,7 @@ fn read_const_parameter(
 }
 
 /// Passes over bounds behind a `:`, and says whether a `?` is among them.
-fn pass_asked(cursor: &mut Cursor<'_>) -> bool
+pub(crate) fn pass_asked(cursor: &mut Cursor<'_>) -> bool
     ensures { (result, cursor.new) ≡ asked cursor.old }
 {
     take(cursor, b':') && pass_bounds(cursor)
