@@ -1,7 +1,7 @@
 //! Items, one after another, and modules within one another.
 
 ghost use Rattle.std.specs.Prelude.{◌≡◌, IfErr, IfOk};
-ghost use Rattle.rust_source.specs.Cursor.{inside};
+ghost use Rattle.rust_source.specs.Cursor.{inside, next_kind};
 ghost use Rattle.rust_source.specs.Growth.{Keeps};
 ghost use Rattle.rust_source.specs.Having.{item_in, next_module, with_item, with_module};
 ghost use Rattle.rust_source.specs.Items.{item_of, items_of};
