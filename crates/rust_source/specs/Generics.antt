@@ -115,7 +115,7 @@ unfoldable pub where_one : List ParameterRead → Reader (List ParameterRead)
 where_one all c names =
     if is_bounded_name c
     then after (λ (n : (Symbol × Place) × Cursor) ns.
-        let b = bounds (passed n.1 1) in done ((if b.0 then map (let_unsized n.0.0) all else all), b.1) ns) (name c names)
+    let b = bounds (passed n.1 1) in done ((if b.0 then map (let_unsized n.0.0) all else all), b.1) ns) (name c names)
     else done (all, (bounds c).1) names
 
 -- what comes behind one that `where` asks: a `,` and another, or the end

@@ -1,5 +1,5 @@
 -- Items as they are read.
-use Rattle.std.specs.Prelude.{ℕ, Bool, List, Option, map}
+use Rattle.std.specs.Prelude.{ℕ, Bool, List, [], Option, map}
 use Rattle.std.specs.Option.{option_map}
 use Rattle.rust_source.specs.declared.item.Const.{Const}
 use Rattle.rust_source.specs.declared.item.Field.{Field}
@@ -87,6 +87,10 @@ pub record ItemsRead : Type 0 where
   pub owners : List PathRead
   pub passed_over : ℕ
   pub unknown : List Symbol
+
+-- nothing is read
+abbrev pub no_items : ItemsRead
+no_items = record { modules = []; items = []; uses = []; owners = []; passed_over = 0; unknown = [] }
 
 -- the program's field as the definitions see it, and so on
 abbrev pub field_of : Field → FieldRead

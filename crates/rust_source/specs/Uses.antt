@@ -28,7 +28,7 @@ unfoldable pub rename_read : (last : Option Symbol) → Reader (Option Symbol)
 rename_read last c names =
     if is_word c keyword.As
     then (if is_word (passed c 1) keyword.Underscore then done (None, passed (passed c 1) 1) names
-        else after (λ (n : (Symbol × Place) × Cursor) ns. done (Some n.0.0, n.1) ns) (name (passed c 1) names))
+    else after (λ (n : (Symbol × Place) × Cursor) ns. done (Some n.0.0, n.1) ns) (name (passed c 1) names))
     else done (last, c) names
 
 -- a name is `self`

@@ -245,7 +245,15 @@ fn read_one(
     if is_inner {
         return Ok(before);
     }
-    read_attribute(alloc, names, unknown, rules, before, &mut inside, most_nested())
+    read_attribute(
+        alloc,
+        names,
+        unknown,
+        rules,
+        before,
+        &mut inside,
+        most_nested(),
+    )
 }
 
 /// What the attributes that are next say.

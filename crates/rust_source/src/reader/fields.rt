@@ -229,12 +229,7 @@ pub(crate) fn read_value(
         return Ok(None);
     }
     let mut written = take_until(cursor, end);
-    Ok(Some(read_whole(
-        alloc,
-        names,
-        &mut written,
-        most_nested(),
-    )?))
+    Ok(Some(read_whole(alloc, names, &mut written, most_nested())?))
 }
 
 /// A variant, behind its attributes.

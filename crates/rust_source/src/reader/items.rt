@@ -150,11 +150,7 @@ fn is_passed_over(cursor: &Cursor<'_>) -> bool
 
 /// Passes over an item that makes no type, and counts it.
 #[tactic(auto, unfolding(crate::specs::Modules::over_passed))]
-fn pass_over(
-    names: &Names,
-    items: &mut Items,
-    cursor: &mut Cursor<'_>,
-) -> Result<(), SourceFault>
+fn pass_over(names: &Names, items: &mut Items, cursor: &mut Cursor<'_>) -> Result<(), SourceFault>
     ensures kept { Keeps items.old items.new }
     ensures read { Reads (λ _. cursor.new) (over_passed cursor.old (texts names.now, items_of items.old)) (texts names.now, items_of items.new) result }
 {

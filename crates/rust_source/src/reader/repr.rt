@@ -124,12 +124,7 @@ fn with_word(cursor: &Cursor<'_>, asked: Repr, word: &str) -> Result<Repr, Sourc
 
 /// What is asked for with a word and its number more.
 #[tactic(auto, unfolding(crate::specs::Repr::with_bytes))]
-fn with_bytes(
-    cursor: &Cursor<'_>,
-    asked: Repr,
-    word: &str,
-    bytes: u64,
-) -> Result<Repr, SourceFault>
+fn with_bytes(cursor: &Cursor<'_>, asked: Repr, word: &str, bytes: u64) -> Result<Repr, SourceFault>
     ensures { result ≡ with_bytes cursor.now asked word.now bytes }
 {
     let mut asked = asked;

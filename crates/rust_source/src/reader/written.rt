@@ -42,11 +42,7 @@ pub(crate) struct Written {
 
 /// An item's name and parameters.
 #[tactic(auto, unfolding(crate::specs::Written::head_read))]
-fn read_head(
-    alloc: Global,
-    names: &mut Names,
-    cursor: &mut Cursor<'_>,
-) -> Result<Head, SourceFault>
+fn read_head(alloc: Global, names: &mut Names, cursor: &mut Cursor<'_>) -> Result<Head, SourceFault>
     ensures { Reads (λ head. (head_of head, cursor.new)) (head_read cursor.old (texts names.old)) (texts names.new) result }
 {
     let (name, at) = take_name(alloc, names, cursor)?;
