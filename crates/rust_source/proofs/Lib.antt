@@ -1,6 +1,9 @@
 mod Digits
 mod Facts
+mod GenericTurns
 mod Growth
+mod ItemTurns
+mod ModuleTurns
 mod NameTexts
 mod Operators
 mod Pointed
@@ -10,3 +13,4 @@ mod Steps
 mod TokenSteps
 mod Turns
 mod Until
+mod UseTurns

@@ -1,5 +1,6 @@
 -- What reading gives: what is read or the first fault, and the names that have numbers then.
-use Rattle.std.specs.Prelude.{◌≡◌, ◌⊎◌, ◌||◌, ℕ, Bool, true, false, List, drop, Option, None, Some, Result, Ok, Err, if◌then◌else◌}
+use Rattle.std.specs.Prelude.{◌≡◌, ◌⊎◌, ◌||◌, ℕ, Bool, true, false, List, [], drop, Option, None, Some, Result, Ok, Err, if◌then◌else◌}
+use Rattle.std.specs.Str.{bytes_eq}
 use Rattle.rust_source.specs.declared.fault.SourceFault.{SourceFault}
 use Rattle.rust_source.specs.declared.fault.SourceFaultKind.TheVariants.{ExpectedName, OutOfMemory}
 use Rattle.rust_source.specs.declared.place.Place.{Place}
@@ -18,12 +19,12 @@ use Rattle.rust_source.specs.Names.{added, number_of}
 abbrev pub Reading : Type 0 → Type 0
 Reading A = Result A SourceFault × List (List ℕ)
 
--- what follows where there is no fault
-abbrev pub after_by : {A B : Type 0} → (A → List (List ℕ) → Reading B) → Result A SourceFault → (names : List (List ℕ)) → Reading B
-after_by next (Ok a) names = next a names
-after_by next (Err e) names = (Err e, names)
+-- what follows where there is no fault, by what is known then
+abbrev pub after_by : {S A B : Type 0} → (A → S → Result B SourceFault × S) → Result A SourceFault → S → Result B SourceFault × S
+after_by next (Ok a) known = next a known
+after_by next (Err e) known = (Err e, known)
 
-abbrev pub after : {A B : Type 0} → (A → List (List ℕ) → Reading B) → Reading A → Reading B
+abbrev pub after : {S A B : Type 0} → (A → S → Result B SourceFault × S) → Result A SourceFault × S → Result B SourceFault × S
 after next r = after_by next r.0 r.1
 
 -- what was read, seen in another way
@@ -31,10 +32,15 @@ abbrev pub seen : {A B : Type 0} → (A → B) → Result A SourceFault → Resu
 seen view (Ok a) = Ok (view a)
 seen view (Err e) = Err e
 
--- the answer and its names, want of memory aside: the same value, or the same fault
-abbrev pub Reads : {A B : Type 0} → (A → B) → (answer : Reading B) → (names : List (List ℕ)) → Result A SourceFault → Type 0
-Reads view answer names (Ok a) = answer ≡ (Ok (view a), names)
-Reads view answer names (Err e) = (answer ≡ (Err e, names)) ⊎ (e.kind ≡ OutOfMemory)
+-- what follows where there is no fault, and what is known doesn't matter
+abbrev pub then_read : {A B : Type 0} → (A → Result B SourceFault) → Result A SourceFault → Result B SourceFault
+then_read next (Ok a) = next a
+then_read next (Err e) = Err e
+
+-- the answer and what is known then, want of memory aside: the same value, or the same fault
+abbrev pub Reads : {S A B : Type 0} → (A → B) → (answer : Result B SourceFault × S) → (known : S) → Result A SourceFault → Type 0
+Reads view answer known (Ok a) = answer ≡ (Ok (view a), known)
+Reads view answer known (Err e) = (answer ≡ (Err e, known)) ⊎ (e.kind ≡ OutOfMemory)
 
 -- the text behind a name's `r#`, or the whole where that is a keyword
 abbrev pub bare_or : (text : List ℕ) → Option Keyword → List ℕ
@@ -103,6 +109,33 @@ is_some_name (Some t) = true
 abbrev pub is_some_word : Option Symbol → Bool
 is_some_word None = false
 is_some_word (Some n) = true
+
+-- a token of this kind, whose text is given, is the name of this text, without `r#`
+abbrev pub has_name : (own text : List ℕ) → TokenKind → Bool
+has_name own text kind.Name = bytes_eq own text
+has_name own text _ = false
+
+abbrev pub is_named_by : Cursor → (text : List ℕ) → Option Token → Bool
+is_named_by c text None = false
+is_named_by c text (Some t) = has_name (text_of c t) text t.kind
+
+-- the next token is the name of this text, without `r#`
+unfoldable pub is_named : Cursor → (text : List ℕ) → Bool
+is_named c text = is_named_by c text (nth c 0)
+
+-- the text of a token of this kind, where it is a name or a keyword; else nothing
+abbrev pub word_text_of : (text : List ℕ) → TokenKind → List ℕ
+word_text_of text kind.Name = text
+word_text_of text (kind.Keyword k) = text
+word_text_of text _ = []
+
+abbrev pub word_text_by : Cursor → Option Token → List ℕ
+word_text_by c None = []
+word_text_by c (Some t) = word_text_of (text_of c t) t.kind
+
+-- the text of the next token, where it is a name or a keyword; else nothing
+unfoldable pub word_text : Cursor → List ℕ
+word_text c = word_text_by c (nth c 0)
 
 -- a name of a path is next
 unfoldable pub is_path_name : Cursor → Bool

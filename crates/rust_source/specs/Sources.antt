@@ -1,11 +1,16 @@
--- What a text means that is all one type.
+-- What a text means that is all one type, or a source of items.
 use Rattle.std.specs.Prelude.{◌≡◌, ◌⊎◌, ℕ, ◌+◌, ◌-◌, ◌^◌, List, length, min, Result, Ok, Err, if◌then◌else◌}
 use Rattle.rust_source.specs.declared.fault.SourceFault.{SourceFault}
 use Rattle.rust_source.specs.declared.fault.SourceFaultKind.TheVariants.{ExpectedType, OutOfMemory}
 use Rattle.rust_source.specs.declared.reader.cursor.Cursor.{Cursor}
+use Rattle.rust_source.specs.declared.reader.Source.{Source}
+use Rattle.rust_source.specs.declared.reader.attributes.Rules.{Rules}
 use Rattle.rust_source.specs.declared.syntax.«Type».{«Type» as Written}
+use Rattle.rust_source.specs.declared.target.CfgTarget.{CfgTarget}
 use Rattle.rust_source.specs.declared.tokens.token.Token.{Token}
 use Rattle.rust_source.specs.Cursor.{is_done}
+use Rattle.rust_source.specs.Having.{Having}
+use Rattle.rust_source.specs.Modules.{root_read}
 use Rattle.rust_source.specs.Reading.{Reading, Reads, after}
 use Rattle.rust_source.specs.Simple.{most_nested}
 use Rattle.rust_source.specs.Syntax.{TypeRead, type_of}
@@ -47,3 +52,20 @@ MeansBy text start old new answer (Err e) = Reads type_of (Err e, old) new answe
 -- the answer is the type that the text means, or its first fault, and the names are those that it has; memory aside
 abbrev pub MeansType : (text : List ℕ) (start : ℕ) (old new : Known) → Result Written SourceFault → Type 0
 MeansType text start old new answer = WantsMemory answer ⊎ MeansBy text start old new answer (tokens_at start text)
+
+-- how a source is read for a target
+abbrev pub rules_of : CfgTarget → Source → Rules
+rules_of target source = record { target = target; is_trusted = source.is_trusted }
+
+-- the answer and what sources have then are what these tokens mean, or their first fault, or this one
+abbrev pub MeansItemsBy : CfgTarget → Source → (old new : Having) → Result ℕ SourceFault → Result (List Token) SourceFault → Type 0
+MeansItemsBy target source old new answer (Ok ts) =
+    (c : Cursor) × StandsBefore c source.text.now source.start.0 ts
+    × Reads (λ root. root) (root_read (rules_of target source) source.root c old) new answer
+MeansItemsBy target source old new answer (Err e) = Reads (λ root. root) (Err e, old) new answer
+
+-- the answer is the number of the new root module, or the text's first fault; names have the numbers, and sources have
+-- what the text adds to what they had; memory aside
+abbrev pub MeansItems : CfgTarget → Source → (old new : Having) → Result ℕ SourceFault → Type 0
+MeansItems target source old new answer =
+    WantsMemory answer ⊎ MeansItemsBy target source old new answer (tokens_at source.start.0 source.text.now)

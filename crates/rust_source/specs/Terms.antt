@@ -37,12 +37,12 @@ pub record Inner : Type 0 where
   pub choice_in : Place → Reader ExprRead
 
 -- a value, and no fault
-abbrev pub done : {A : Type 0} → A → Known → Reading A
-done a names = (Ok a, names)
+abbrev pub done : {S A : Type 0} → A → (known : S) → Result A SourceFault × S
+done a known = (Ok a, known)
 
 -- the fault of this kind at the next token
-abbrev pub refused : {A : Type 0} → SourceFaultKind → Cursor → Known → Reading A
-refused k c names = (Err (fault c k), names)
+abbrev pub refused : {S A : Type 0} → SourceFaultKind → Cursor → (known : S) → Result A SourceFault × S
+refused k c known = (Err (fault c k), known)
 
 -- what is told even where an expression needn't be read
 abbrev pub is_told : SourceFaultKind → Bool
@@ -79,8 +79,8 @@ arguments_begin in_type c =
 abbrev pub argument_behind : Place → TypeRead → Cursor → ArgumentRead × Cursor
 argument_behind at t c = if is_binding c then (binding at, (bounds (passed c 1)).1) else (of_type t, c)
 
--- what comes behind an argument: a `,` or the end
-abbrev pub arguments_on : (go_on : List ArgumentRead → Reader (List ArgumentRead)) → List ArgumentRead → Reader (List ArgumentRead)
+-- what comes behind an argument or a parameter: a `,` or the end
+abbrev pub arguments_on : {A : Type 0} → (go_on : List A → Reader (List A)) → List A → Reader (List A)
 arguments_on go_on all c names =
     if is_next c 62 then go_on all c names
     else (if is_next c 44 then go_on all (passed c 1) names else refused ExpectedAngle c names)

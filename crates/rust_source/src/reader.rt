@@ -18,13 +18,15 @@ mod repr;
 mod room;
 mod types;
 mod uses;
+mod written;
 
 ghost use Rattle.std.specs.Prelude.{◌≡◌, [], IfOk, length};
 ghost use Rattle.rust_source.specs.Growth.{Keeps};
+ghost use Rattle.rust_source.specs.Items.{items_of, no_items};
 ghost use Rattle.rust_source.specs.Names.{texts};
 ghost use Rattle.rust_source.specs.Reading.{Reads};
 ghost use Rattle.rust_source.specs.Simple.{most_nested};
-ghost use Rattle.rust_source.specs.Sources.{MeansType, StandsBefore, alone, tokens_at};
+ghost use Rattle.rust_source.specs.Sources.{MeansItems, MeansType, StandsBefore, alone, tokens_at};
 ghost use Rattle.rust_source.specs.Syntax.{type_of};
 ghost use Rattle.rust_source.specs.Terms.{type_read};
 ghost use Rattle.rust_source.specs.Tokens.{Agrees};
@@ -62,6 +64,7 @@ impl Items {
         ensures modules { result.modules.items ≡ [] }
         ensures items { result.items.items ≡ [] }
         ensures uses { result.uses.items ≡ [] }
+        ensures nothing { items_of result ≡ no_items }
     {
         Items {
             modules: Vec::new(alloc),
@@ -101,10 +104,11 @@ fn beginning<'a>(text: &'a str, start: Place, tokens: &'a [Token]) -> Cursor<'a>
 }
 
 /// Reads a source. Its items go behind those that are there, in a new root module of its name, whose number is the
-/// answer. What `cfg` takes out is left out. The modules, the items and the uses that are there stay in front.
+/// answer. What `cfg` takes out is left out, and so are constants of types that can't be read. The modules, the items and
+/// the uses that are there stay in front.
 ///
-/// The first fault is told, at its place; what was read before it may be among the items then. `OutOfMemory` comes
-/// where a growth of memory was refused.
+/// The first fault is told, at its place; what was read before it is among the items then. `OutOfMemory` comes where a
+/// growth of memory was refused.
 pub fn read_items(
     alloc: Global,
     target: &CfgTarget<'_>,
@@ -112,7 +116,8 @@ pub fn read_items(
     items: &mut Items,
     source: Source<'_>,
 ) -> Result<u32, SourceFault>
-    ensures { Keeps items.old items.new }
+    ensures kept { Keeps items.old items.new }
+    ensures read { MeansItems target.now source.entry (texts names.old, items_of items.old) (texts names.new, items_of items.new) result }
 {
     let found = tokens_at(alloc, source.text, source.start)?;
     let mut cursor = beginning(source.text, source.start, &found);

@@ -1,20 +1,24 @@
 //! Attributes of items, fields and variants.
 
+ghost use Rattle.std.specs.Prelude.{◌≡◌};
+ghost use Rattle.rust_source.specs.Attributes.{attribute_read, attribute_with, attributes_read, cfg_said, expanded, expanded_all, none_said, number_read, one_attribute, range_read, simple_said};
+ghost use Rattle.rust_source.specs.Names.{texts};
+ghost use Rattle.rust_source.specs.Reading.{Reads, seen};
+
 use crate::fault::{SourceFault, SourceFaultKind};
 use crate::item::Repr;
 use crate::names::Names;
 use crate::place::Symbol;
 use crate::reader::cfg::is_predicate;
 use crate::reader::cursor::{
-    Cursor, expect_comma, fault, is_done, is_next, is_nth, nth, pass, pass_tree, place, take,
-    take_group, take_until, text_of,
+    Cursor, expect_comma, fault, is_done, pass, take, take_group, take_until,
 };
-use crate::reader::literals::{Number, number_of};
+use crate::reader::literals::Number;
 use crate::reader::naming::word_text;
-use crate::reader::repr::{NOTHING, with_repr};
-use crate::reader::room::{MOST_NESTED, less};
+use crate::reader::repr::{NOTHING, next_number, with_repr};
+use crate::reader::room::{less, most_nested};
 use crate::target::CfgTarget;
-use crate::tokens::token::{Bracket, TokenKind};
+use crate::tokens::token::Bracket;
 use std::alloc::Global;
 
 /// What is asked of `cfg`, and whether the source may use what only the standard library may.
@@ -43,28 +47,36 @@ const NONE: Attributes = Attributes {
 /// The attribute that tells which numbers a scalar may be.
 const VALID_RANGE: &str = "rustc_layout_scalar_valid_range";
 
-/// An integer without a suffix, which is passed over.
-fn take_number(cursor: &mut Cursor<'_>) -> Result<u128, SourceFault> {
-    let bad = fault(cursor, SourceFaultKind::BadAttribute);
-    let Some(token) = nth(cursor, 0) else {
-        return Err(bad);
-    };
-    if token.kind != TokenKind::Number {
-        return Err(bad);
-    }
-    pass(cursor, 1);
-    match number_of(text_of(cursor, token).as_bytes()) {
-        Number::Integer(value, None) => Ok(value),
-        _ => Err(bad),
+/// What no attributes say.
+#[tactic(auto, unfolding(crate::specs::Attributes::none_said))]
+fn none_said() -> Attributes
+    ensures { result ≡ none_said }
+{
+    NONE
+}
+
+/// The number that is next, without a suffix; it is passed over, with a `,`.
+#[tactic(auto, unfolding(crate::specs::Attributes::number_read))]
+fn take_number(cursor: &mut Cursor<'_>) -> Result<u128, SourceFault>
+    ensures { seen (λ number. (number, cursor.new)) result ≡ number_read cursor.old }
+{
+    match next_number(cursor) {
+        Number::Integer(value, None) => {
+            pass(cursor, 1);
+            expect_comma(cursor)?;
+            Ok(value)
+        }
+        _ => Err(fault(cursor, SourceFaultKind::BadAttribute)),
     }
 }
 
 /// The first and the last number of a valid range.
-fn range_in(inside: &mut Cursor<'_>) -> Result<(u128, u128), SourceFault> {
+#[tactic(auto, unfolding(crate::specs::Attributes::range_read))]
+fn range_in(inside: &mut Cursor<'_>) -> Result<(u128, u128), SourceFault>
+    ensures { result ≡ range_read inside.old }
+{
     let start = take_number(inside)?;
-    expect_comma(inside)?;
     let end = take_number(inside)?;
-    expect_comma(inside)?;
     if is_done(inside) {
         Ok((start, end))
     } else {
@@ -72,9 +84,48 @@ fn range_in(inside: &mut Cursor<'_>) -> Result<(u128, u128), SourceFault> {
     }
 }
 
-/// What the attributes behind the predicate of a `cfg_attr` say, where the predicate holds.
+/// What is said with another `cfg`, whose predicate is next.
+#[tactic(auto, unfolding(crate::specs::Attributes::cfg_said))]
+fn read_cfg(
+    alloc: Global,
+    names: &mut Names,
+    unknown: &mut Vec<Symbol>,
+    rules: &Rules<'_>,
+    before: Attributes,
+    inside: &mut Cursor<'_>,
+) -> Result<Attributes, SourceFault>
+    ensures { Reads (λ said. said) (cfg_said rules.now before inside.old (texts names.old, unknown.old.items))
+        (texts names.new, unknown.new.items) result }
+{
+    let mut said = before;
+    let holds = is_predicate(alloc, names, unknown, &rules.target, inside, most_nested())?;
+    said.holds = said.holds && holds;
+    Ok(said)
+}
+
+/// What an attribute of this name says that has no predicates within it, added to what those before it say.
+#[tactic(auto, unfolding(crate::specs::Attributes::simple_said))]
+fn read_simple(
+    rules: &Rules<'_>,
+    before: Attributes,
+    name: &str,
+    inside: &mut Cursor<'_>,
+) -> Result<Attributes, SourceFault>
+    ensures { result ≡ simple_said rules.now before name.now inside.old }
+{
+    let mut said = before;
+    if name == "repr" {
+        said.repr = with_repr(said.repr, inside)?;
+    } else if name == VALID_RANGE && rules.is_trusted {
+        said.valid_range = Some(range_in(inside)?);
+    }
+    Ok(said)
+}
+
+/// What attributes separated by `,` say, added to what those before them say.
 #[cycle(attributes)]
-fn read_expanded(
+#[tactic(auto, unfolding(crate::specs::Attributes::expanded_all), using(crate::proofs::ItemTurns::expanded_more, crate::proofs::ItemTurns::expanded_done))]
+fn read_list(
     alloc: Global,
     names: &mut Names,
     unknown: &mut Vec<Symbol>,
@@ -82,16 +133,16 @@ fn read_expanded(
     before: Attributes,
     inside: &mut Cursor<'_>,
     room: u32,
-) -> Result<Attributes, SourceFault> {
+) -> Result<Attributes, SourceFault>
+    ensures { Reads (λ said. said)
+        (expanded_all rules.now (attribute_read rules.now room) before inside.old (texts names.old, unknown.old.items))
+        (texts names.new, unknown.new.items) result }
+{
     let mut said = before;
-    let holds = is_predicate(alloc, names, unknown, &rules.target, inside, MOST_NESTED)?;
-    expect_comma(inside)?;
-    if !holds {
-        return Ok(said);
-    }
-    for _ in inside.at..inside.end {
+    let turns = inside.end.saturating_sub(inside.at);
+    for turn in 0..turns {
         if is_done(inside) {
-            break;
+            return Ok(said);
         }
         let mut one = take_until(inside, b',');
         said = read_attribute(alloc, names, unknown, rules, said, &mut one, room)?;
@@ -100,8 +151,64 @@ fn read_expanded(
     Ok(said)
 }
 
+/// What the attributes behind the predicate of a `cfg_attr` say, where the predicate holds.
+#[cycle(attributes)]
+#[tactic(auto, unfolding(crate::specs::Attributes::expanded))]
+fn read_expanded(
+    alloc: Global,
+    names: &mut Names,
+    unknown: &mut Vec<Symbol>,
+    rules: &Rules<'_>,
+    before: Attributes,
+    inside: &mut Cursor<'_>,
+    room: u32,
+) -> Result<Attributes, SourceFault>
+    ensures { Reads (λ said. said)
+        (expanded rules.now (attribute_read rules.now room) before inside.old (texts names.old, unknown.old.items))
+        (texts names.new, unknown.new.items) result }
+{
+    let holds = is_predicate(alloc, names, unknown, &rules.target, inside, most_nested())?;
+    expect_comma(inside)?;
+    if holds {
+        read_list(alloc, names, unknown, rules, before, inside, room)
+    } else {
+        Ok(before)
+    }
+}
+
+/// What an attribute says, within the room that is left.
+#[cycle(attributes)]
+#[tactic(auto, unfolding(crate::specs::Attributes::attribute_with))]
+fn read_within(
+    alloc: Global,
+    names: &mut Names,
+    unknown: &mut Vec<Symbol>,
+    rules: &Rules<'_>,
+    before: Attributes,
+    cursor: &mut Cursor<'_>,
+    room: u32,
+) -> Result<Attributes, SourceFault>
+    ensures { Reads (λ said. said)
+        (attribute_with rules.now (attribute_read rules.now room) before cursor.old (texts names.old, unknown.old.items))
+        (texts names.new, unknown.new.items) result }
+{
+    let name = word_text(cursor);
+    pass(cursor, 1);
+    let Some(mut inside) = take_group(cursor, Bracket::Round) else {
+        return Ok(before);
+    };
+    if name == "cfg_attr" {
+        read_expanded(alloc, names, unknown, rules, before, &mut inside, room)
+    } else if name == "cfg" {
+        read_cfg(alloc, names, unknown, rules, before, &mut inside)
+    } else {
+        read_simple(rules, before, name, &mut inside)
+    }
+}
+
 /// What an attribute says, added to what those before it say.
 #[cycle(attributes)]
+#[tactic(auto, using(crate::proofs::ItemTurns::attribute_less, crate::proofs::ItemTurns::attribute_none))]
 fn read_attribute(
     alloc: Global,
     names: &mut Names,
@@ -110,50 +217,64 @@ fn read_attribute(
     before: Attributes,
     cursor: &mut Cursor<'_>,
     room: u32,
-) -> Result<Attributes, SourceFault> {
+) -> Result<Attributes, SourceFault>
+    ensures { Reads (λ said. said) (attribute_read rules.now room before cursor.old (texts names.old, unknown.old.items))
+        (texts names.new, unknown.new.items) result }
+{
     let room = less(cursor, room)?;
-    let mut said = before;
-    let name = word_text(cursor);
-    pass(cursor, 1);
-    let Some(mut inside) = take_group(cursor, Bracket::Round) else {
-        return Ok(said);
-    };
-    if name == "cfg_attr" {
-        return read_expanded(alloc, names, unknown, rules, said, &mut inside, room);
-    }
-    if name == "cfg" {
-        let target = &rules.target;
-        let holds = is_predicate(alloc, names, unknown, target, &mut inside, MOST_NESTED)?;
-        said.holds = said.holds && holds;
-    } else if name == "repr" {
-        said.repr = with_repr(said.repr, &mut inside)?;
-    } else if name == VALID_RANGE && rules.is_trusted {
-        said.valid_range = Some(range_in(&mut inside)?);
-    }
-    Ok(said)
+    read_within(alloc, names, unknown, rules, before, cursor, room)
 }
 
-/// What the attributes that are next say. Those of the module around them (`#![..]`) are passed over.
+/// What the attribute says whose `#` stands before. One of the module around it (`#![..]`) says nothing here.
+#[tactic(auto, unfolding(crate::specs::Attributes::one_attribute))]
+fn read_one(
+    alloc: Global,
+    names: &mut Names,
+    unknown: &mut Vec<Symbol>,
+    rules: &Rules<'_>,
+    before: Attributes,
+    cursor: &mut Cursor<'_>,
+) -> Result<Attributes, SourceFault>
+    ensures { Reads (λ said. (said, cursor.new)) (one_attribute rules.now before cursor.old (texts names.old, unknown.old.items))
+        (texts names.new, unknown.new.items) result }
+{
+    let is_inner = take(cursor, b'!');
+    let Some(mut inside) = take_group(cursor, Bracket::Square) else {
+        return Err(fault(cursor, SourceFaultKind::BadAttribute));
+    };
+    if is_inner {
+        return Ok(before);
+    }
+    read_attribute(
+        alloc,
+        names,
+        unknown,
+        rules,
+        before,
+        &mut inside,
+        most_nested(),
+    )
+}
+
+/// What the attributes that are next say.
+#[tactic(auto, unfolding(crate::specs::Attributes::attributes_read), using(crate::proofs::ItemTurns::attributes_more, crate::proofs::ItemTurns::attributes_done))]
 pub(crate) fn read_attributes(
     alloc: Global,
     names: &mut Names,
     unknown: &mut Vec<Symbol>,
     rules: &Rules<'_>,
     cursor: &mut Cursor<'_>,
-) -> Result<Attributes, SourceFault> {
-    let mut said = NONE;
-    for _ in cursor.at..cursor.end {
+) -> Result<Attributes, SourceFault>
+    ensures { Reads (λ said. (said, cursor.new)) (attributes_read rules.now cursor.old (texts names.old, unknown.old.items))
+        (texts names.new, unknown.new.items) result }
+{
+    let mut said = none_said();
+    let turns = cursor.end.saturating_sub(cursor.at);
+    for turn in 0..turns {
         if !take(cursor, b'#') {
-            break;
+            return Ok(said);
         }
-        let is_inner = take(cursor, b'!');
-        let Some(mut inside) = take_group(cursor, Bracket::Square) else {
-            return Err(fault(cursor, SourceFaultKind::BadAttribute));
-        };
-        if !is_inner {
-            let room = MOST_NESTED;
-            said = read_attribute(alloc, names, unknown, rules, said, &mut inside, room)?;
-        }
+        said = read_one(alloc, names, unknown, rules, said, cursor)?;
     }
     Ok(said)
 }

@@ -1,69 +1,51 @@
-//! Constants, of modules and of types.
+//! Constants of types, in `impl` blocks that have no parameters and implement no trait.
 
-ghost use Rattle.std.specs.Prelude.{◌≡◌};
-ghost use Rattle.rust_source.specs.Cursor.{is_constant};
+ghost use Rattle.std.specs.Prelude.{◌≡◌, IfErr, IfOk};
+ghost use Rattle.std.specs.Option.{option_map};
+ghost use Rattle.rust_source.specs.Constants.{impl_in, is_wanting, lifetimes, lifetimes_in, own_const, own_constants, own_item, own_items, owner_read};
+ghost use Rattle.rust_source.specs.Cursor.{inside};
 ghost use Rattle.rust_source.specs.Growth.{Keeps};
+ghost use Rattle.rust_source.specs.Having.{next_owner, with_owner};
+ghost use Rattle.rust_source.specs.Items.{items_of};
+ghost use Rattle.rust_source.specs.Names.{texts};
+ghost use Rattle.rust_source.specs.Reading.{Reads};
+ghost use Rattle.rust_source.specs.Syntax.{path_of};
 
 use crate::fault::{SourceFault, SourceFaultKind};
-use crate::item::{Const, ItemKind, Items};
+use crate::item::Items;
 use crate::names::Names;
 use crate::reader::attributes::{Attributes, Rules, read_attributes};
-use crate::reader::cursor::{
-    Cursor, expect, is_done, is_named_next, is_word, next_kind, pass, take, take_group, take_until,
-    take_word,
-};
-use crate::reader::expressions::read_whole;
+use crate::reader::cursor::{Cursor, is_done, next_kind, pass, take, take_group, take_word};
 use crate::reader::fields::pass_visibility;
-use crate::reader::items::{put_item, read_head};
+use crate::reader::items::put_item;
 use crate::reader::passing::pass_item;
 use crate::reader::paths::read_path;
-use crate::reader::room::MOST_NESTED;
-use crate::reader::types::{begins_path, read_type};
+use crate::reader::room::most_nested;
+use crate::reader::types::begins_path;
+use crate::reader::written::{is_constant, read_const};
 use crate::syntax::Path;
 use crate::tokens::as_place;
 use crate::tokens::keyword::Keyword;
 use crate::tokens::token::{Bracket, TokenKind};
 use std::alloc::Global;
 
-/// Whether a constant with a name is next.
-pub(crate) fn is_constant(cursor: &Cursor<'_>) -> bool
-    ensures { result ≡ is_constant cursor.now }
+/// Whether memory was wanting.
+fn is_wanting(kind: SourceFaultKind) -> bool
+    ensures { result ≡ is_wanting kind }
 {
-    is_word(cursor, Keyword::Const) && is_named_next(cursor)
-}
-
-/// Reads a constant, behind its `const`; `owner` is the type whose own it is.
-pub(crate) fn read_const(
-    alloc: Global,
-    names: &mut Names,
-    items: &mut Items,
-    module: u32,
-    said: &Attributes,
-    owner: Option<u32>,
-    cursor: &mut Cursor<'_>,
-) -> Result<(), SourceFault>
-    ensures { Keeps items.old items.new }
-{
-    let head = read_head(alloc, names, cursor)?;
-    expect(cursor, b':', SourceFaultKind::ExpectedColon)?;
-    let ty = read_type(alloc, names, cursor, MOST_NESTED)?;
-    let value = if take(cursor, b'=') {
-        let mut written = take_until(cursor, b';');
-        Some(read_whole(alloc, names, &mut written, MOST_NESTED)?)
-    } else {
-        None
-    };
-    expect(cursor, b';', SourceFaultKind::ExpectedSemicolon)?;
-    let constant = Const { ty, value, owner };
-    put_item(items, module, said, head, ItemKind::Const(constant))
-}
-
-/// Passes over the parameters of an `impl` block, and says whether all are lifetimes.
-fn pass_lifetimes(cursor: &mut Cursor<'_>) -> bool {
-    if !take(cursor, b'<') {
-        return true;
+    match kind {
+        SourceFaultKind::OutOfMemory => true,
+        _ => false,
     }
-    for _ in cursor.at..cursor.end {
+}
+
+/// Passes over parameters up to their `>`, and says whether all are lifetimes.
+#[tactic(auto, unfolding(crate::specs::Constants::lifetimes_in), using(crate::proofs::ModuleTurns::lifetimes_more, crate::proofs::ModuleTurns::lifetimes_done))]
+fn pass_lifetimes_in(cursor: &mut Cursor<'_>) -> bool
+    ensures { (result, cursor.new) ≡ lifetimes_in cursor.old }
+{
+    let turns = cursor.end.saturating_sub(cursor.at);
+    for turn in 0..turns {
         if take(cursor, b'>') {
             return true;
         }
@@ -75,29 +57,72 @@ fn pass_lifetimes(cursor: &mut Cursor<'_>) -> bool {
     false
 }
 
-/// What was read, where it could be read; what can't be read here isn't told.
-fn where_read<T>(read: Result<T, SourceFault>) -> Result<Option<T>, SourceFault> {
-    match read {
-        Ok(found) => Ok(Some(found)),
-        Err(fault) if fault.kind == SourceFaultKind::OutOfMemory => Err(fault),
-        Err(_) => Ok(None),
+/// Passes over the parameters of an `impl` block, and says whether all are lifetimes.
+fn pass_lifetimes(cursor: &mut Cursor<'_>) -> bool
+    ensures { (result, cursor.new) ≡ lifetimes cursor.old }
+{
+    if take(cursor, b'<') {
+        pass_lifetimes_in(cursor)
+    } else {
+        true
     }
 }
 
-/// The type whose own the items of an `impl` block are, behind its `impl`. None where it has parameters or implements a
-/// trait.
+/// The type whose own the items of an `impl` block are, behind its `impl`. None where it has parameters, or its path
+/// can't be read.
+#[tactic(auto, unfolding(crate::specs::Constants::owner_read))]
 fn take_owner(
     alloc: Global,
     names: &mut Names,
     cursor: &mut Cursor<'_>,
-) -> Result<Option<Path>, SourceFault> {
+) -> Result<Option<Path>, SourceFault>
+    ensures { Reads (λ found. option_map (λ path. (path_of path, cursor.new)) found)
+        (owner_read cursor.old (texts names.old)) (texts names.new) result }
+{
     if !pass_lifetimes(cursor) || !begins_path(cursor) {
         return Ok(None);
     }
-    where_read(read_path(alloc, names, cursor, true, MOST_NESTED))
+    match read_path(alloc, names, cursor, true, most_nested()) {
+        Ok(path) => Ok(Some(path)),
+        Err(fault) => {
+            if is_wanting(fault.kind) {
+                Err(fault)
+            } else {
+                Ok(None)
+            }
+        }
+    }
+}
+
+/// Reads a constant of the type with this number, behind its `const`. One that can't be read isn't told.
+#[tactic(auto, unfolding(crate::specs::Constants::own_const))]
+fn read_own_const(
+    alloc: Global,
+    names: &mut Names,
+    items: &mut Items,
+    module: u32,
+    said: &Attributes,
+    owner: u32,
+    cursor: &mut Cursor<'_>,
+) -> Result<(), SourceFault>
+    ensures kept { Keeps items.old items.new }
+    ensures read { Reads (λ done. done) (own_const «module» said.now owner cursor.old (texts names.old, items_of items.old))
+        (texts names.new, items_of items.new) result }
+{
+    match read_const(alloc, names, cursor, Some(owner)) {
+        Ok(one) => put_item(items, module, said, one),
+        Err(fault) => {
+            if is_wanting(fault.kind) {
+                Err(fault)
+            } else {
+                Ok(())
+            }
+        }
+    }
 }
 
 /// Reads the next item of an `impl` block, where it is a constant, and passes over it.
+#[tactic(auto, unfolding(crate::specs::Constants::own_item))]
 fn read_own_item(
     alloc: Global,
     rules: &Rules<'_>,
@@ -107,7 +132,9 @@ fn read_own_item(
     owner: u32,
     inside: &mut Cursor<'_>,
 ) -> Result<(), SourceFault>
-    ensures { Keeps items.old items.new }
+    ensures kept { Keeps items.old items.new }
+    ensures read { Reads (λ _. inside.new) (own_item rules.now «module» owner inside.old (texts names.old, items_of items.old))
+        (texts names.new, items_of items.new) result }
 {
     let said = read_attributes(alloc, names, &mut items.unknown_cfgs, rules, inside)?;
     pass_visibility(inside);
@@ -115,14 +142,74 @@ fn read_own_item(
     pass_item(inside);
     if said.holds && is_constant(&ahead) {
         pass(&mut ahead, 1);
-        let read = read_const(alloc, names, items, module, &said, Some(owner), &mut ahead);
-        let _ = where_read(read)?;
+        return read_own_const(alloc, names, items, module, &said, owner, &mut ahead);
     }
     Ok(())
 }
 
+/// Reads the constants within an `impl` block of the type with this number.
+#[tactic(auto, unfolding(crate::specs::Constants::own_items), using(crate::proofs::ModuleTurns::own_more, crate::proofs::ModuleTurns::own_done))]
+fn read_own_items(
+    alloc: Global,
+    rules: &Rules<'_>,
+    names: &mut Names,
+    items: &mut Items,
+    module: u32,
+    owner: u32,
+    inside: &mut Cursor<'_>,
+) -> Result<(), SourceFault>
+    ensures kept { Keeps items.old items.new }
+    ensures read { Reads (λ done. done) (own_items rules.now «module» owner inside.old (texts names.old, items_of items.old))
+        (texts names.new, items_of items.new) result }
+{
+    let turns = inside.end.saturating_sub(inside.at);
+    for turn in 0..turns {
+        if is_done(inside) {
+            return Ok(());
+        }
+        read_own_item(alloc, rules, names, items, module, owner, inside)?;
+    }
+    Ok(())
+}
+
+/// Puts a type behind those that have constants of their own, and is its number.
+#[tactic(auto, using(std::proofs::lemmas::Grind::common_steps))]
+fn put_owner(items: &mut Items, path: Path) -> Result<u32, SourceFault>
+    ensures kept { Keeps items.old items.new }
+    ensures number { IfOk result (λ owner. owner ≡ next_owner (items_of items.old)) }
+    ensures ok { IfOk result (λ _. items_of items.new ≡ with_owner (path_of path) (items_of items.old)) }
+    ensures err { IfErr result (λ fault. fault.kind ≡ SourceFaultKind.OutOfMemory) }
+{
+    let owner = as_place(items.owners.len());
+    items.owners.push(path)?;
+    Ok(owner)
+}
+
+/// Reads the constants within these braces, of the type that the path names.
+fn read_impl(
+    alloc: Global,
+    rules: &Rules<'_>,
+    names: &mut Names,
+    items: &mut Items,
+    module: u32,
+    path: Path,
+    cursor: &mut Cursor<'_>,
+) -> Result<(), SourceFault>
+    ensures kept { Keeps items.old items.new }
+    ensures read { Reads (λ done. done)
+        (impl_in rules.now «module» (path_of path) (inside cursor.old Bracket.Curly) (texts names.old, items_of items.old))
+        (texts names.new, items_of items.new) result }
+{
+    let Some(mut inside) = take_group(cursor, Bracket::Curly) else {
+        return Ok(());
+    };
+    let owner = put_owner(items, path)?;
+    read_own_items(alloc, rules, names, items, module, owner, &mut inside)
+}
+
 /// Reads the constants of an `impl` block, where one is next that has no parameters and implements no trait. Nothing is
 /// passed over.
+#[tactic(auto, unfolding(crate::specs::Constants::own_constants))]
 pub(crate) fn read_own_constants(
     alloc: Global,
     rules: &Rules<'_>,
@@ -131,25 +218,16 @@ pub(crate) fn read_own_constants(
     module: u32,
     cursor: &Cursor<'_>,
 ) -> Result<(), SourceFault>
-    ensures { Keeps items.old items.new }
+    ensures kept { Keeps items.old items.new }
+    ensures read { Reads (λ done. done) (own_constants rules.now «module» cursor.now (texts names.old, items_of items.old))
+        (texts names.new, items_of items.new) result }
 {
     let mut ahead = *cursor;
     if !take_word(&mut ahead, Keyword::Impl) {
         return Ok(());
     }
-    let Some(path) = take_owner(alloc, names, &mut ahead)? else {
-        return Ok(());
-    };
-    let Some(mut inside) = take_group(&mut ahead, Bracket::Curly) else {
-        return Ok(());
-    };
-    let owner = as_place(items.owners.len());
-    items.owners.push(path)?;
-    for _ in inside.at..inside.end {
-        if is_done(&inside) {
-            break;
-        }
-        read_own_item(alloc, rules, names, items, module, owner, &mut inside)?;
+    match take_owner(alloc, names, &mut ahead)? {
+        Some(path) => read_impl(alloc, rules, names, items, module, path, &mut ahead),
+        None => Ok(()),
     }
-    Ok(())
 }

@@ -327,7 +327,7 @@ fn ends_at(cursor: &Cursor<'_>, character: u8) -> bool
 
 /// Passes over what stands before this character outside of inner groups, or over all where it isn't there.
 #[tactic(auto, unfolding(crate::specs::Until::until), using(crate::proofs::Until::until_more, crate::proofs::Until::until_done))]
-fn pass_until(cursor: &mut Cursor<'_>, character: u8)
+pub(crate) fn pass_until(cursor: &mut Cursor<'_>, character: u8)
     ensures { cursor.new ≡ until character cursor.old }
 {
     let turns = cursor.end.saturating_sub(cursor.at);

@@ -1,32 +1,40 @@
 //! Fields of structs, unions and variants, and variants of enums.
 
+ghost use Rattle.std.specs.Prelude.{◌≡◌, ◌∷◌, ◌++◌, [], IfErr, IfOk, map};
+ghost use Rattle.std.specs.Option.{option_map};
+ghost use Rattle.rust_source.specs.Fields.{field_more, field_read, field_typed, fields_all, fields_in, fields_read, is_restriction, next_number, value_read, variant_more, variant_read, variants_all, variants_in, visibility_passed, with_one};
+ghost use Rattle.rust_source.specs.Items.{field_of, fields_of, variant_of};
+ghost use Rattle.rust_source.specs.Names.{texts};
+ghost use Rattle.rust_source.specs.Reading.{Reads};
+ghost use Rattle.rust_source.specs.Syntax.{expr_of};
+
 use crate::fault::{SourceFault, SourceFaultKind};
 use crate::item::{Enum, Field, FieldName, Fields, Variant};
 use crate::names::Names;
-use crate::place::Symbol;
+use crate::place::{Place, Symbol};
 use crate::reader::attributes::{Rules, read_attributes};
 use crate::reader::cursor::{
-    Cursor, expect, expect_comma, is_done, nth, pass, place, place_behind, take, take_group,
-    take_until, take_word,
+    Cursor, expect, expect_comma, is_done, next_kind, nth, pass, place, place_behind, take,
+    take_group, take_until, take_word,
 };
 use crate::reader::expressions::read_whole;
 use crate::reader::naming::take_name;
 use crate::reader::repeated::{refuse_repeated_fields, refuse_repeated_variants};
-use crate::reader::room::MOST_NESTED;
+use crate::reader::room::most_nested;
 use crate::reader::types::read_type;
+use crate::syntax::Expr;
 use crate::tokens::as_place;
 use crate::tokens::keyword::Keyword;
 use crate::tokens::token::{Bracket, TokenKind};
 use std::alloc::Global;
 
 /// Whether the parentheses behind `pub` say where the item is seen, as `pub(crate)` and `pub(in a::b)`.
-fn is_restriction(inside: &Cursor<'_>) -> bool {
-    let Some(first) = nth(inside, 0) else {
-        return false;
-    };
-    match first.kind {
-        TokenKind::Keyword(Keyword::In) => true,
-        TokenKind::Keyword(Keyword::Crate | Keyword::SelfValue | Keyword::Super) => {
+fn is_restriction(inside: &Cursor<'_>) -> bool
+    ensures { result ≡ is_restriction inside.now }
+{
+    match next_kind(inside) {
+        Some(TokenKind::Keyword(Keyword::In)) => true,
+        Some(TokenKind::Keyword(Keyword::Crate | Keyword::SelfValue | Keyword::Super)) => {
             nth(inside, 1).is_none()
         }
         _ => false,
@@ -34,7 +42,10 @@ fn is_restriction(inside: &Cursor<'_>) -> bool {
 }
 
 /// Passes over `pub` and its restriction.
-pub(crate) fn pass_visibility(cursor: &mut Cursor<'_>) {
+#[tactic(auto, unfolding(crate::specs::Fields::visibility_passed))]
+pub(crate) fn pass_visibility(cursor: &mut Cursor<'_>)
+    ensures { cursor.new ≡ visibility_passed cursor.old }
+{
     if !take_word(cursor, Keyword::Pub) {
         return;
     }
@@ -47,15 +58,18 @@ pub(crate) fn pass_visibility(cursor: &mut Cursor<'_>) {
 }
 
 /// The field of this name, whose type is next.
+#[tactic(auto, unfolding(crate::specs::Fields::field_typed))]
 fn read_field_type(
     alloc: Global,
     names: &mut Names,
     cursor: &mut Cursor<'_>,
     name: FieldName,
-    at: crate::place::Place,
-) -> Result<Field, SourceFault> {
+    at: Place,
+) -> Result<Field, SourceFault>
+    ensures { Reads (λ field. (field_of field, cursor.new)) (field_typed name at cursor.old (texts names.old)) (texts names.new) result }
+{
     let start = place(cursor);
-    let ty = read_type(alloc, names, cursor, MOST_NESTED)?;
+    let ty = read_type(alloc, names, cursor, most_nested())?;
     let end = place_behind(cursor);
     Ok(Field {
         name,
@@ -67,12 +81,15 @@ fn read_field_type(
 }
 
 /// A field with its name, or the field of this number in a tuple.
+#[tactic(auto, unfolding(crate::specs::Fields::field_read))]
 fn read_field(
     alloc: Global,
     names: &mut Names,
     cursor: &mut Cursor<'_>,
     number: Option<u32>,
-) -> Result<Field, SourceFault> {
+) -> Result<Field, SourceFault>
+    ensures { Reads (λ field. (field_of field, cursor.new)) (field_read number cursor.old (texts names.old)) (texts names.new) result }
+{
     pass_visibility(cursor);
     match number {
         Some(number) => {
@@ -87,7 +104,77 @@ fn read_field(
     }
 }
 
+/// The number of the field behind these, in a tuple.
+#[tactic(auto, using(std::proofs::lemmas::Grind::common_steps))]
+fn next_number(is_tuple: bool, before: &Vec<Field>) -> Option<u32>
+    ensures { result ≡ next_number is_tuple (map field_of before.now.items) }
+{
+    if is_tuple {
+        Some(as_place(before.len()))
+    } else {
+        None
+    }
+}
+
+/// Puts a field behind the others, where it is there.
+fn push_field(all: &mut Vec<Field>, is_there: bool, one: Field) -> Result<(), SourceFault>
+    ensures ok { IfOk result (λ _. map field_of all.new.items ≡ with_one (map field_of all.old.items) is_there (field_of one)) }
+    ensures err { IfErr result (λ fault. fault.kind ≡ SourceFaultKind.OutOfMemory) }
+{
+    if is_there {
+        all.push(one)?;
+    }
+    Ok(())
+}
+
+/// Puts the field that is next behind the others, unless a `cfg` takes it out.
+#[tactic(auto, unfolding(crate::specs::Fields::field_more))]
+fn add_field(
+    alloc: Global,
+    names: &mut Names,
+    unknown: &mut Vec<Symbol>,
+    rules: &Rules<'_>,
+    inside: &mut Cursor<'_>,
+    is_tuple: bool,
+    all: &mut Vec<Field>,
+) -> Result<(), SourceFault>
+    ensures { Reads (λ _. (map field_of all.new.items, inside.new))
+        (field_more rules.now is_tuple (map field_of all.old.items) inside.old (texts names.old, unknown.old.items))
+        (texts names.new, unknown.new.items) result }
+{
+    let said = read_attributes(alloc, names, unknown, rules, inside)?;
+    let number = next_number(is_tuple, all);
+    let field = read_field(alloc, names, inside, number)?;
+    push_field(all, said.holds, field)?;
+    expect_comma(inside)
+}
+
+/// All fields within brackets.
+#[tactic(auto, unfolding(crate::specs::Fields::fields_all), using(crate::proofs::ItemTurns::fields_more, crate::proofs::ItemTurns::fields_done))]
+fn read_all_fields(
+    alloc: Global,
+    names: &mut Names,
+    unknown: &mut Vec<Symbol>,
+    rules: &Rules<'_>,
+    inside: &mut Cursor<'_>,
+    is_tuple: bool,
+) -> Result<Vec<Field>, SourceFault>
+    ensures { Reads (λ all. map field_of all.items) (fields_all rules.now is_tuple inside.old (texts names.old, unknown.old.items))
+        (texts names.new, unknown.new.items) result }
+{
+    let mut all = Vec::new(alloc);
+    let turns = inside.end.saturating_sub(inside.at);
+    for turn in 0..turns {
+        if is_done(inside) {
+            return Ok(all);
+        }
+        add_field(alloc, names, unknown, rules, inside, is_tuple, &mut all)?;
+    }
+    Ok(all)
+}
+
 /// The fields within brackets.
+#[tactic(auto, unfolding(crate::specs::Fields::fields_in))]
 fn read_fields_in(
     alloc: Global,
     names: &mut Names,
@@ -95,36 +182,27 @@ fn read_fields_in(
     rules: &Rules<'_>,
     inside: &mut Cursor<'_>,
     is_tuple: bool,
-) -> Result<Fields, SourceFault> {
-    let mut all = Vec::new(alloc);
-    for _ in inside.at..inside.end {
-        if is_done(inside) {
-            break;
-        }
-        let said = read_attributes(alloc, names, unknown, rules, inside)?;
-        let number = if is_tuple {
-            Some(as_place(all.len()))
-        } else {
-            None
-        };
-        let field = read_field(alloc, names, inside, number)?;
-        if said.holds {
-            all.push(field)?;
-        }
-        expect_comma(inside)?;
-    }
+) -> Result<Fields, SourceFault>
+    ensures { Reads fields_of (fields_in rules.now is_tuple inside.old (texts names.old, unknown.old.items))
+        (texts names.new, unknown.new.items) result }
+{
+    let all = read_all_fields(alloc, names, unknown, rules, inside, is_tuple)?;
     refuse_repeated_fields(alloc, &all)?;
     Ok(Fields { is_tuple, all })
 }
 
 /// The fields that are next, in parentheses or braces; none where neither is next.
+#[tactic(auto, unfolding(crate::specs::Fields::fields_read))]
 pub(crate) fn read_fields(
     alloc: Global,
     names: &mut Names,
     unknown: &mut Vec<Symbol>,
     rules: &Rules<'_>,
     cursor: &mut Cursor<'_>,
-) -> Result<Fields, SourceFault> {
+) -> Result<Fields, SourceFault>
+    ensures { Reads (λ fields. (fields_of fields, cursor.new)) (fields_read rules.now cursor.old (texts names.old, unknown.old.items))
+        (texts names.new, unknown.new.items) result }
+{
     if let Some(mut inside) = take_group(cursor, Bracket::Round) {
         return read_fields_in(alloc, names, unknown, rules, &mut inside, true);
     }
@@ -137,23 +215,39 @@ pub(crate) fn read_fields(
     })
 }
 
+/// The value behind a `=`, up to this character. None where no `=` is next.
+#[tactic(auto, unfolding(crate::specs::Fields::value_read))]
+pub(crate) fn read_value(
+    alloc: Global,
+    names: &mut Names,
+    cursor: &mut Cursor<'_>,
+    end: u8,
+) -> Result<Option<Expr>, SourceFault>
+    ensures { Reads (λ value. (option_map expr_of value, cursor.new)) (value_read end cursor.old (texts names.old)) (texts names.new) result }
+{
+    if !take(cursor, b'=') {
+        return Ok(None);
+    }
+    let mut written = take_until(cursor, end);
+    Ok(Some(read_whole(alloc, names, &mut written, most_nested())?))
+}
+
 /// A variant, behind its attributes.
+#[tactic(auto, unfolding(crate::specs::Fields::variant_read))]
 fn read_variant(
     alloc: Global,
     names: &mut Names,
     unknown: &mut Vec<Symbol>,
     rules: &Rules<'_>,
     cursor: &mut Cursor<'_>,
-) -> Result<Variant, SourceFault> {
+) -> Result<Variant, SourceFault>
+    ensures { Reads (λ one. (variant_of one, cursor.new)) (variant_read rules.now cursor.old (texts names.old, unknown.old.items))
+        (texts names.new, unknown.new.items) result }
+{
     pass_visibility(cursor);
     let (name, at) = take_name(alloc, names, cursor)?;
     let fields = read_fields(alloc, names, unknown, rules, cursor)?;
-    let discriminant = if take(cursor, b'=') {
-        let mut value = take_until(cursor, b',');
-        Some(read_whole(alloc, names, &mut value, MOST_NESTED)?)
-    } else {
-        None
-    };
+    let discriminant = read_value(alloc, names, cursor, b',')?;
     Ok(Variant {
         name,
         at,
@@ -162,26 +256,73 @@ fn read_variant(
     })
 }
 
+/// Puts a variant behind the others, where it is there.
+fn push_variant(all: &mut Vec<Variant>, is_there: bool, one: Variant) -> Result<(), SourceFault>
+    ensures ok { IfOk result (λ _. map variant_of all.new.items ≡ with_one (map variant_of all.old.items) is_there (variant_of one)) }
+    ensures err { IfErr result (λ fault. fault.kind ≡ SourceFaultKind.OutOfMemory) }
+{
+    if is_there {
+        all.push(one)?;
+    }
+    Ok(())
+}
+
+/// Puts the variant that is next behind the others, unless a `cfg` takes it out.
+#[tactic(auto, unfolding(crate::specs::Fields::variant_more))]
+fn add_variant(
+    alloc: Global,
+    names: &mut Names,
+    unknown: &mut Vec<Symbol>,
+    rules: &Rules<'_>,
+    inside: &mut Cursor<'_>,
+    all: &mut Vec<Variant>,
+) -> Result<(), SourceFault>
+    ensures { Reads (λ _. (map variant_of all.new.items, inside.new))
+        (variant_more rules.now (map variant_of all.old.items) inside.old (texts names.old, unknown.old.items))
+        (texts names.new, unknown.new.items) result }
+{
+    let said = read_attributes(alloc, names, unknown, rules, inside)?;
+    let variant = read_variant(alloc, names, unknown, rules, inside)?;
+    push_variant(all, said.holds, variant)?;
+    expect_comma(inside)
+}
+
+/// All variants within an enum's braces.
+#[tactic(auto, unfolding(crate::specs::Fields::variants_all), using(crate::proofs::ItemTurns::variants_more, crate::proofs::ItemTurns::variants_done))]
+fn read_all_variants(
+    alloc: Global,
+    names: &mut Names,
+    unknown: &mut Vec<Symbol>,
+    rules: &Rules<'_>,
+    inside: &mut Cursor<'_>,
+) -> Result<Vec<Variant>, SourceFault>
+    ensures { Reads (λ all. map variant_of all.items) (variants_all rules.now inside.old (texts names.old, unknown.old.items))
+        (texts names.new, unknown.new.items) result }
+{
+    let mut all = Vec::new(alloc);
+    let turns = inside.end.saturating_sub(inside.at);
+    for turn in 0..turns {
+        if is_done(inside) {
+            return Ok(all);
+        }
+        add_variant(alloc, names, unknown, rules, inside, &mut all)?;
+    }
+    Ok(all)
+}
+
 /// The variants within an enum's braces.
+#[tactic(auto, unfolding(crate::specs::Fields::variants_in))]
 pub(crate) fn read_variants(
     alloc: Global,
     names: &mut Names,
     unknown: &mut Vec<Symbol>,
     rules: &Rules<'_>,
     inside: &mut Cursor<'_>,
-) -> Result<Enum, SourceFault> {
-    let mut variants = Vec::new(alloc);
-    for _ in inside.at..inside.end {
-        if is_done(inside) {
-            break;
-        }
-        let said = read_attributes(alloc, names, unknown, rules, inside)?;
-        let variant = read_variant(alloc, names, unknown, rules, inside)?;
-        if said.holds {
-            variants.push(variant)?;
-        }
-        expect_comma(inside)?;
-    }
+) -> Result<Enum, SourceFault>
+    ensures { Reads (λ all. map variant_of all.variants.items) (variants_in rules.now inside.old (texts names.old, unknown.old.items))
+        (texts names.new, unknown.new.items) result }
+{
+    let variants = read_all_variants(alloc, names, unknown, rules, inside)?;
     refuse_repeated_variants(alloc, &variants)?;
     Ok(Enum { variants })
 }

@@ -1,50 +1,50 @@
 //! Items, one after another, and modules within one another.
 
+ghost use Rattle.std.specs.Prelude.{◌≡◌, IfErr, IfOk};
+ghost use Rattle.rust_source.specs.Cursor.{inside, next_kind};
 ghost use Rattle.rust_source.specs.Growth.{Keeps};
+ghost use Rattle.rust_source.specs.Having.{item_in, next_module, with_item, with_module};
+ghost use Rattle.rust_source.specs.Items.{item_of, items_of};
+ghost use Rattle.rust_source.specs.Modules.{all_read, is_inline_module, is_item_word, is_macro, is_passed_over, item_read, module_in, module_read, module_within, one_read, other_read, over_passed, passes_kind, path_passed, root_read, said_read, use_read};
+ghost use Rattle.rust_source.specs.Names.{texts};
+ghost use Rattle.rust_source.specs.Reading.{Reads};
+ghost use Rattle.rust_source.specs.Simple.{most_nested};
+ghost use Rattle.rust_source.specs.Written.{written_of};
 
 use crate::fault::{SourceFault, SourceFaultKind};
-use crate::item::{Item, ItemKind, Items, Module, Parameter};
+use crate::item::{Item, Items, Module};
 use crate::names::Names;
-use crate::place::{Place, Symbol};
+use crate::place::Symbol;
 use crate::reader::attributes::{Attributes, Rules, read_attributes};
-use crate::reader::constants::{is_constant, read_const, read_own_constants};
+use crate::reader::constants::read_own_constants;
 use crate::reader::cursor::{
-    Cursor, expect, fault, is_done, is_group, is_named_next, is_next, next_kind, nth, pass, take,
-    take_group, take_word,
+    Cursor, expect, fault, is_done, is_next, is_word, next_kind, nth, pass, take_group, take_word,
 };
-use crate::reader::fields::{pass_visibility, read_fields, read_variants};
-use crate::reader::generics::{read_parameters, read_where};
+use crate::reader::fields::pass_visibility;
 use crate::reader::naming::{is_named, is_path_name, take_name, word_text};
-use crate::reader::passing::{pass_bounds, pass_item};
-use crate::reader::room::MOST_NESTED;
-use crate::reader::types::read_type;
+use crate::reader::passing::pass_item;
+use crate::reader::room::{less, most_nested};
 use crate::reader::uses::{UsePlace, read_tree};
+use crate::reader::written::{Written, read_written};
 use crate::tokens::as_place;
 use crate::tokens::keyword::Keyword;
 use crate::tokens::token::{Bracket, TokenKind};
 use std::alloc::Global;
 
-/// The name of an item, where it stands, and its parameters.
-#[derive(Drop)]
-pub(crate) struct Head {
-    name: Symbol,
-    at: Place,
-    parameters: Vec<Parameter>,
-}
-
-/// An item's name and parameters.
-pub(crate) fn read_head(
-    alloc: Global,
-    names: &mut Names,
-    cursor: &mut Cursor<'_>,
-) -> Result<Head, SourceFault> {
-    let (name, at) = take_name(alloc, names, cursor)?;
-    let parameters = read_parameters(alloc, names, cursor)?;
-    Ok(Head {
-        name,
-        at,
-        parameters,
-    })
+/// An item of a module, with what its attributes say.
+fn item_in(module: u32, said: &Attributes, one: Written) -> Item
+    ensures { item_of result ≡ item_in «module» said.now (written_of one) }
+{
+    let Written { head, kind } = one;
+    Item {
+        name: head.name,
+        at: head.at,
+        module,
+        parameters: head.parameters,
+        repr: said.repr,
+        valid_range: said.valid_range,
+        kind,
+    }
 }
 
 /// Puts an item behind the others.
@@ -52,117 +52,18 @@ pub(crate) fn put_item(
     items: &mut Items,
     module: u32,
     said: &Attributes,
-    head: Head,
-    kind: ItemKind,
+    one: Written,
 ) -> Result<(), SourceFault>
-    ensures { Keeps items.old items.new }
+    ensures kept { Keeps items.old items.new }
+    ensures ok { IfOk result (λ _. items_of items.new ≡ with_item (item_in «module» said.now (written_of one)) (items_of items.old)) }
+    ensures err { IfErr result (λ fault. fault.kind ≡ SourceFaultKind.OutOfMemory) }
 {
-    let Head {
-        name,
-        at,
-        parameters,
-    } = head;
-    items.items.push(Item {
-        name,
-        at,
-        module,
-        parameters,
-        repr: said.repr,
-        valid_range: said.valid_range,
-        kind,
-    })?;
+    items.items.push(item_in(module, said, one))?;
     Ok(())
 }
 
-/// Reads a struct, behind its `struct`.
-fn read_struct(
-    alloc: Global,
-    rules: &Rules<'_>,
-    names: &mut Names,
-    items: &mut Items,
-    module: u32,
-    said: &Attributes,
-    cursor: &mut Cursor<'_>,
-) -> Result<(), SourceFault>
-    ensures { Keeps items.old items.new }
-{
-    let mut head = read_head(alloc, names, cursor)?;
-    read_where(alloc, names, cursor, &mut head.parameters)?;
-    let has_braces = is_group(cursor, Bracket::Curly);
-    let fields = read_fields(alloc, names, &mut items.unknown_cfgs, rules, cursor)?;
-    if !has_braces {
-        read_where(alloc, names, cursor, &mut head.parameters)?;
-        expect(cursor, b';', SourceFaultKind::ExpectedSemicolon)?;
-    }
-    put_item(items, module, said, head, ItemKind::Struct(fields))
-}
-
-/// Reads a union, behind its `union`.
-fn read_union(
-    alloc: Global,
-    rules: &Rules<'_>,
-    names: &mut Names,
-    items: &mut Items,
-    module: u32,
-    said: &Attributes,
-    cursor: &mut Cursor<'_>,
-) -> Result<(), SourceFault>
-    ensures { Keeps items.old items.new }
-{
-    let mut head = read_head(alloc, names, cursor)?;
-    read_where(alloc, names, cursor, &mut head.parameters)?;
-    if !is_group(cursor, Bracket::Curly) {
-        return Err(fault(cursor, SourceFaultKind::ExpectedFields));
-    }
-    let fields = read_fields(alloc, names, &mut items.unknown_cfgs, rules, cursor)?;
-    put_item(items, module, said, head, ItemKind::Union(fields))
-}
-
-/// Reads an enum, behind its `enum`.
-fn read_enum(
-    alloc: Global,
-    rules: &Rules<'_>,
-    names: &mut Names,
-    items: &mut Items,
-    module: u32,
-    said: &Attributes,
-    cursor: &mut Cursor<'_>,
-) -> Result<(), SourceFault>
-    ensures { Keeps items.old items.new }
-{
-    let mut head = read_head(alloc, names, cursor)?;
-    read_where(alloc, names, cursor, &mut head.parameters)?;
-    let Some(mut inside) = take_group(cursor, Bracket::Curly) else {
-        return Err(fault(cursor, SourceFaultKind::ExpectedFields));
-    };
-    let variants = read_variants(alloc, names, &mut items.unknown_cfgs, rules, &mut inside)?;
-    put_item(items, module, said, head, ItemKind::Enum(variants))
-}
-
-/// Reads another name of a type, behind its `type`.
-fn read_alias(
-    alloc: Global,
-    names: &mut Names,
-    items: &mut Items,
-    module: u32,
-    said: &Attributes,
-    cursor: &mut Cursor<'_>,
-) -> Result<(), SourceFault>
-    ensures { Keeps items.old items.new }
-{
-    let mut head = read_head(alloc, names, cursor)?;
-    if take(cursor, b':') {
-        let _ = pass_bounds(cursor);
-    }
-    read_where(alloc, names, cursor, &mut head.parameters)?;
-    expect(cursor, b'=', SourceFaultKind::ExpectedEquals)?;
-    let ty = read_type(alloc, names, cursor, MOST_NESTED)?;
-    read_where(alloc, names, cursor, &mut head.parameters)?;
-    expect(cursor, b';', SourceFaultKind::ExpectedSemicolon)?;
-    put_item(items, module, said, head, ItemKind::Alias(ty))
-}
-
 /// Reads what is brought in, behind `use`.
+#[tactic(auto, unfolding(crate::specs::Modules::use_read))]
 fn read_use(
     alloc: Global,
     names: &mut Names,
@@ -170,51 +71,57 @@ fn read_use(
     module: u32,
     cursor: &mut Cursor<'_>,
 ) -> Result<(), SourceFault>
-    ensures { Keeps items.old items.new }
+    ensures kept { Keeps items.old items.new }
+    ensures read { Reads (λ _. cursor.new) (use_read «module» cursor.old (texts names.old, items_of items.old))
+        (texts names.new, items_of items.new) result }
 {
     let place = UsePlace {
         module,
         is_global: false,
     };
-    read_tree(
-        alloc,
-        names,
-        &mut items.uses,
-        place,
-        cursor,
-        &[],
-        MOST_NESTED,
-    )?;
+    let uses = &mut items.uses;
+    read_tree(alloc, names, uses, place, cursor, &[], most_nested())?;
     expect(cursor, b';', SourceFaultKind::ExpectedSemicolon)
 }
 
-/// Whether a union is next: the word, and then a name.
-fn is_union(cursor: &Cursor<'_>) -> bool {
-    is_named(cursor, "union") && is_named_next(cursor)
+/// Passes over names of a path.
+#[tactic(auto, unfolding(crate::specs::Modules::path_passed), using(crate::proofs::ModuleTurns::path_more, crate::proofs::ModuleTurns::path_done))]
+fn pass_path(cursor: &mut Cursor<'_>)
+    ensures { cursor.new ≡ path_passed cursor.old }
+{
+    let turns = cursor.end.saturating_sub(cursor.at);
+    for turn in 0..turns {
+        if !is_path_name(cursor) && !is_next(cursor, b':') {
+            return;
+        }
+        pass(cursor, 1);
+    }
 }
 
-/// Passes over names of a path up to the `!` of a macro's call, and says whether one is there.
-fn is_macro(cursor: &Cursor<'_>) -> bool {
+/// Whether the call of a macro is next: a path, and then a `!`.
+fn is_macro(cursor: &Cursor<'_>) -> bool
+    ensures { result ≡ is_macro cursor.now }
+{
     let mut ahead = *cursor;
-    for _ in cursor.at..cursor.end {
-        if !is_path_name(&ahead) && !is_next(&ahead, b':') {
-            break;
-        }
-        pass(&mut ahead, 1);
-    }
+    pass_path(&mut ahead);
     ahead.at > cursor.at && is_next(&ahead, b'!')
 }
 
 /// Whether a name alone begins an item here, as `auto` in `auto trait`.
-fn is_item_word(cursor: &Cursor<'_>) -> bool {
+#[tactic(auto, unfolding(crate::specs::Modules::is_item_word))]
+fn is_item_word(cursor: &Cursor<'_>) -> bool
+    ensures { result ≡ is_item_word cursor.now }
+{
     word_text(cursor) == "macro"
         || is_named(cursor, "auto")
         || is_named(cursor, "default")
         || is_named(cursor, "safe")
 }
 
-/// Whether an item that is passed over is next.
-fn is_passed_over(cursor: &Cursor<'_>) -> bool {
+/// Whether an item that begins with the next token is passed over.
+fn passes_next(cursor: &Cursor<'_>) -> bool
+    ensures { result ≡ passes_kind (next_kind cursor.now) }
+{
     match next_kind(cursor) {
         Some(
             TokenKind::Keyword(
@@ -229,13 +136,23 @@ fn is_passed_over(cursor: &Cursor<'_>) -> bool {
                 | Keyword::Mod,
             ),
         ) => true,
-        _ => is_item_word(cursor) || is_macro(cursor),
+        _ => false,
     }
 }
 
+/// Whether an item that is passed over is next.
+#[tactic(auto, unfolding(crate::specs::Modules::is_passed_over))]
+fn is_passed_over(cursor: &Cursor<'_>) -> bool
+    ensures { result ≡ is_passed_over cursor.now }
+{
+    passes_next(cursor) || is_item_word(cursor) || is_macro(cursor)
+}
+
 /// Passes over an item that makes no type, and counts it.
-fn pass_over(items: &mut Items, cursor: &mut Cursor<'_>) -> Result<(), SourceFault>
-    ensures { Keeps items.old items.new }
+#[tactic(auto, unfolding(crate::specs::Modules::over_passed))]
+fn pass_over(names: &Names, items: &mut Items, cursor: &mut Cursor<'_>) -> Result<(), SourceFault>
+    ensures kept { Keeps items.old items.new }
+    ensures read { Reads (λ _. cursor.new) (over_passed cursor.old (texts names.now, items_of items.old)) (texts names.now, items_of items.new) result }
 {
     if !is_passed_over(cursor) {
         return Err(fault(cursor, SourceFaultKind::ExpectedItem));
@@ -245,7 +162,29 @@ fn pass_over(items: &mut Items, cursor: &mut Cursor<'_>) -> Result<(), SourceFau
     Ok(())
 }
 
+/// Reads the item that is next, which makes no type and is no constant.
+#[tactic(auto, unfolding(crate::specs::Modules::other_read))]
+fn read_other(
+    alloc: Global,
+    rules: &Rules<'_>,
+    names: &mut Names,
+    items: &mut Items,
+    module: u32,
+    cursor: &mut Cursor<'_>,
+) -> Result<(), SourceFault>
+    ensures kept { Keeps items.old items.new }
+    ensures read { Reads (λ _. cursor.new) (other_read rules.now «module» cursor.old (texts names.old, items_of items.old))
+        (texts names.new, items_of items.new) result }
+{
+    if take_word(cursor, Keyword::Use) {
+        return read_use(alloc, names, items, module, cursor);
+    }
+    read_own_constants(alloc, rules, names, items, module, cursor)?;
+    pass_over(names, items, cursor)
+}
+
 /// Reads an item that is no module, behind its attributes and its `pub`.
+#[tactic(auto, unfolding(crate::specs::Modules::item_read))]
 fn read_item(
     alloc: Global,
     rules: &Rules<'_>,
@@ -255,38 +194,23 @@ fn read_item(
     said: &Attributes,
     cursor: &mut Cursor<'_>,
 ) -> Result<(), SourceFault>
-    ensures { Keeps items.old items.new }
+    ensures kept { Keeps items.old items.new }
+    ensures read { Reads (λ _. cursor.new) (item_read rules.now «module» said.now cursor.old (texts names.old, items_of items.old))
+        (texts names.new, items_of items.new) result }
 {
-    if take_word(cursor, Keyword::Struct) {
-        read_struct(alloc, rules, names, items, module, said, cursor)
-    } else if take_word(cursor, Keyword::Enum) {
-        read_enum(alloc, rules, names, items, module, said, cursor)
-    } else if take_word(cursor, Keyword::Type) {
-        read_alias(alloc, names, items, module, said, cursor)
-    } else if take_word(cursor, Keyword::Use) {
-        read_use(alloc, names, items, module, cursor)
-    } else if is_union(cursor) {
-        pass(cursor, 1);
-        read_union(alloc, rules, names, items, module, said, cursor)
-    } else if is_constant(cursor) {
-        pass(cursor, 1);
-        read_const(alloc, names, items, module, said, None, cursor)
-    } else {
-        read_own_constants(alloc, rules, names, items, module, cursor)?;
-        pass_over(items, cursor)
+    match read_written(alloc, names, &mut items.unknown_cfgs, rules, cursor)? {
+        Some(one) => put_item(items, module, said, one),
+        None => read_other(alloc, rules, names, items, module, cursor),
     }
 }
 
-/// A module that is read, and the end of the tokens of the one around it.
-#[derive(Clone, Copy)]
-struct Around {
-    module: u32,
-    end: usize,
-}
-
 /// Begins a module behind the modules that are there, and is its number.
+#[tactic(auto, using(std::proofs::lemmas::Grind::common_steps))]
 fn begin_module(items: &mut Items, name: Symbol, parent: Option<u32>) -> Result<u32, SourceFault>
-    ensures { Keeps items.old items.new }
+    ensures kept { Keeps items.old items.new }
+    ensures number { IfOk result (λ number. number ≡ next_module (items_of items.old)) }
+    ensures ok { IfOk result (λ _. items_of items.new ≡ with_module (record { name = name; parent = parent }) (items_of items.old)) }
+    ensures err { IfErr result (λ fault. fault.kind ≡ SourceFaultKind.OutOfMemory) }
 {
     let number = as_place(items.modules.len());
     items.modules.push(Module { name, parent })?;
@@ -294,77 +218,165 @@ fn begin_module(items: &mut Items, name: Symbol, parent: Option<u32>) -> Result<
 }
 
 /// Whether a module with its items is next.
-fn is_inline_module(cursor: &Cursor<'_>) -> bool {
-    match (nth(cursor, 0), nth(cursor, 2)) {
-        (Some(first), Some(third)) => {
-            first.kind == TokenKind::Keyword(Keyword::Mod)
-                && third.kind == TokenKind::Open(Bracket::Curly)
+fn is_inline_module(cursor: &Cursor<'_>) -> bool
+    ensures { result ≡ is_inline_module cursor.now }
+{
+    match nth(cursor, 2) {
+        Some(third) => {
+            is_word(cursor, Keyword::Mod) && third.kind == TokenKind::Open(Bracket::Curly)
         }
-        _ => false,
+        None => false,
     }
 }
 
-/// Enters the module that is next, and is its number; the cursor then stands at its first item.
-fn enter_module(
+/// Reads the items of the module with this number that stand in braces, which are passed over.
+#[cycle(modules)]
+fn read_braces(
     alloc: Global,
+    rules: &Rules<'_>,
     names: &mut Names,
     items: &mut Items,
-    parent: u32,
+    module: u32,
     cursor: &mut Cursor<'_>,
-) -> Result<u32, SourceFault>
-    ensures { Keeps items.old items.new }
+    room: u32,
+) -> Result<(), SourceFault>
+    ensures kept { Keeps items.old items.new }
+    ensures read { Reads (λ _. cursor.new)
+        (module_in rules.now (module_within rules.now room) «module» cursor.old (inside cursor.old Bracket.Curly) (texts names.old, items_of items.old))
+        (texts names.new, items_of items.new) result }
+{
+    match take_group(cursor, Bracket::Curly) {
+        Some(mut inside) => read_within(alloc, rules, names, items, module, &mut inside, room),
+        None => Ok(()),
+    }
+}
+
+/// Reads the module that is next, in the one with this number.
+#[cycle(modules)]
+#[tactic(auto, unfolding(crate::specs::Modules::module_read))]
+fn read_module(
+    alloc: Global,
+    rules: &Rules<'_>,
+    names: &mut Names,
+    items: &mut Items,
+    outer: u32,
+    cursor: &mut Cursor<'_>,
+    room: u32,
+) -> Result<(), SourceFault>
+    ensures kept { Keeps items.old items.new }
+    ensures read { Reads (λ _. cursor.new)
+        (module_read rules.now (module_within rules.now room) outer cursor.old (texts names.old, items_of items.old))
+        (texts names.new, items_of items.new) result }
 {
     pass(cursor, 1);
     let (name, _at) = take_name(alloc, names, cursor)?;
-    let number = begin_module(items, name, Some(parent))?;
-    if let Some(inside) = take_group(cursor, Bracket::Curly) {
-        *cursor = inside;
-    }
-    Ok(number)
+    let number = begin_module(items, name, Some(outer))?;
+    read_braces(alloc, rules, names, items, number, cursor, room)
 }
 
-/// Reads the items that are left, in this module and those around it.
+/// Reads what stands behind these attributes and its `pub`.
+#[cycle(modules)]
+#[tactic(auto, unfolding(crate::specs::Modules::said_read))]
+fn read_said(
+    alloc: Global,
+    rules: &Rules<'_>,
+    names: &mut Names,
+    items: &mut Items,
+    module: u32,
+    said: &Attributes,
+    cursor: &mut Cursor<'_>,
+    room: u32,
+) -> Result<(), SourceFault>
+    ensures kept { Keeps items.old items.new }
+    ensures read { Reads (λ _. cursor.new)
+        (said_read rules.now (module_within rules.now room) «module» said.now cursor.old (texts names.old, items_of items.old))
+        (texts names.new, items_of items.new) result }
+{
+    if !said.holds {
+        pass_item(cursor);
+        return Ok(());
+    }
+    if is_inline_module(cursor) {
+        read_module(alloc, rules, names, items, module, cursor, room)
+    } else {
+        read_item(alloc, rules, names, items, module, said, cursor)
+    }
+}
+
+/// Reads the item that is next, if one is behind its attributes.
+#[cycle(modules)]
+#[tactic(auto, unfolding(crate::specs::Modules::one_read))]
+fn read_one(
+    alloc: Global,
+    rules: &Rules<'_>,
+    names: &mut Names,
+    items: &mut Items,
+    module: u32,
+    cursor: &mut Cursor<'_>,
+    room: u32,
+) -> Result<(), SourceFault>
+    ensures kept { Keeps items.old items.new }
+    ensures read { Reads (λ _. cursor.new)
+        (one_read rules.now (module_within rules.now room) «module» cursor.old (texts names.old, items_of items.old))
+        (texts names.new, items_of items.new) result }
+{
+    let said = read_attributes(alloc, names, &mut items.unknown_cfgs, rules, cursor)?;
+    if is_done(cursor) {
+        return Ok(());
+    }
+    pass_visibility(cursor);
+    read_said(alloc, rules, names, items, module, &said, cursor, room)
+}
+
+/// Reads the items of the module with this number that are left.
+#[cycle(modules)]
+#[tactic(auto, unfolding(crate::specs::Modules::all_read), using(crate::proofs::ModuleTurns::all_more, crate::proofs::ModuleTurns::all_done))]
 fn read_all(
     alloc: Global,
     rules: &Rules<'_>,
     names: &mut Names,
     items: &mut Items,
-    root: u32,
+    module: u32,
     cursor: &mut Cursor<'_>,
+    room: u32,
 ) -> Result<(), SourceFault>
-    ensures { Keeps items.old items.new }
+    ensures kept { Keeps items.old items.new }
+    ensures read { Reads (λ done. done)
+        (all_read rules.now (module_within rules.now room) «module» cursor.old (texts names.old, items_of items.old))
+        (texts names.new, items_of items.new) result }
 {
-    let mut module = root;
-    let mut around: Vec<Around> = Vec::new(alloc);
-    for _ in cursor.at..=cursor.end.saturating_mul(2) {
+    let turns = cursor.end.saturating_sub(cursor.at);
+    for turn in 0..turns {
         if is_done(cursor) {
-            let Some(outer) = around.pop() else {
-                break;
-            };
-            cursor.at = cursor.end.saturating_add(1);
-            cursor.end = outer.end;
-            module = outer.module;
-            continue;
+            return Ok(());
         }
-        let said = read_attributes(alloc, names, &mut items.unknown_cfgs, rules, cursor)?;
-        if is_done(cursor) {
-            continue;
-        }
-        pass_visibility(cursor);
-        if !said.holds {
-            pass_item(cursor);
-        } else if is_inline_module(cursor) {
-            let end = cursor.end;
-            around.push(Around { module, end })?;
-            module = enter_module(alloc, names, items, module, cursor)?;
-        } else {
-            read_item(alloc, rules, names, items, module, &said, cursor)?;
-        }
+        read_one(alloc, rules, names, items, module, cursor, room)?;
     }
     Ok(())
 }
 
+/// Reads the items of the module with this number, which may stand in `room` others here.
+#[cycle(modules)]
+#[tactic(auto, using(crate::proofs::ModuleTurns::module_less, crate::proofs::ModuleTurns::module_none))]
+fn read_within(
+    alloc: Global,
+    rules: &Rules<'_>,
+    names: &mut Names,
+    items: &mut Items,
+    module: u32,
+    cursor: &mut Cursor<'_>,
+    room: u32,
+) -> Result<(), SourceFault>
+    ensures kept { Keeps items.old items.new }
+    ensures read { Reads (λ done. done) (module_within rules.now room «module» cursor.old (texts names.old, items_of items.old))
+        (texts names.new, items_of items.new) result }
+{
+    let room = less(cursor, room)?;
+    read_all(alloc, rules, names, items, module, cursor, room)
+}
+
 /// Reads the items of a source, in a new root module of this name, and is that module's number.
+#[tactic(auto, unfolding(crate::specs::Modules::root_read))]
 pub(crate) fn read_root(
     alloc: Global,
     rules: &Rules<'_>,
@@ -373,9 +385,11 @@ pub(crate) fn read_root(
     name: Symbol,
     cursor: &mut Cursor<'_>,
 ) -> Result<u32, SourceFault>
-    ensures { Keeps items.old items.new }
+    ensures kept { Keeps items.old items.new }
+    ensures read { Reads (λ root. root) (root_read rules.now name cursor.old (texts names.old, items_of items.old))
+        (texts names.new, items_of items.new) result }
 {
     let root = begin_module(items, name, None)?;
-    read_all(alloc, rules, names, items, root, cursor)?;
+    read_all(alloc, rules, names, items, root, cursor, most_nested())?;
     Ok(root)
 }

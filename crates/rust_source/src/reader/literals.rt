@@ -210,7 +210,7 @@ fn as_code(value: Option<u128>) -> Option<u32>
 
 /// The bytes between a first one and a last one.
 #[tactic(auto, unfolding(crate::specs::Literals::within))]
-fn within(bytes: &[u8], first: u8, last: u8) -> Option<&[u8]>
+pub(crate) fn within(bytes: &[u8], first: u8, last: u8) -> Option<&[u8]>
     ensures { now_of result ≡ within first last bytes.now }
 {
     let end = bytes.len();

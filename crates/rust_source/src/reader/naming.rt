@@ -3,7 +3,7 @@
 ghost use Rattle.std.specs.Prelude.{◌≡◌};
 ghost use Rattle.rust_source.specs.Cursor.{next_kind, nth, text_of};
 ghost use Rattle.rust_source.specs.Names.{texts};
-ghost use Rattle.rust_source.specs.Reading.{Reads, bare_or, bare_text, is_path_name, name, name_in, name_text, path_name, path_word, word_in};
+ghost use Rattle.rust_source.specs.Reading.{Reads, bare_or, bare_text, is_named, is_path_name, name, name_in, name_text, path_name, path_word, word_in, word_text};
 
 use crate::fault::{SourceFault, SourceFaultKind};
 use crate::names::Names;
@@ -54,15 +54,24 @@ fn name_token(cursor: &Cursor<'_>) -> Option<Token>
 }
 
 /// Whether the next token is the name of this text, without `r#`.
-pub(crate) fn is_named(cursor: &Cursor<'_>, text: &str) -> bool {
+#[tactic(auto, unfolding(crate::specs::Reading::is_named))]
+pub(crate) fn is_named(cursor: &Cursor<'_>, text: &str) -> bool
+    ensures { result ≡ is_named cursor.now text.now }
+{
     match nth(cursor, 0) {
-        Some(token) => token.kind == TokenKind::Name && text_of(cursor, token) == text,
+        Some(token) => match token.kind {
+            TokenKind::Name => text_of(cursor, token) == text,
+            _ => false,
+        },
         None => false,
     }
 }
 
 /// The text of the next token, where it is a name or a keyword; else nothing.
-pub(crate) fn word_text<'a>(cursor: &Cursor<'a>) -> &'a str {
+#[tactic(auto, unfolding(crate::specs::Reading::word_text))]
+pub(crate) fn word_text<'a>(cursor: &Cursor<'a>) -> &'a str
+    ensures { result.now ≡ word_text cursor.now }
+{
     match nth(cursor, 0) {
         Some(token) => match token.kind {
             TokenKind::Name | TokenKind::Keyword(_) => text_of(cursor, token),

@@ -1,13 +1,14 @@
 //! What is passed over: bounds, angle brackets, and items that make no types.
 
 ghost use Rattle.std.specs.Prelude.{◌≡◌, ◌==◌, ◌&&◌, ◌||◌};
-ghost use Rattle.rust_source.specs.Passing.{angles_passed, bounds, ends_bounds, is_question, one_passed, open_behind};
+ghost use Rattle.rust_source.specs.Cursor.{kind_of};
+ghost use Rattle.rust_source.specs.Passing.{angles_passed, body_passed, bounds, ends_at_semicolon, ends_bounds, ends_item, is_question, item_passed, names_constant, one_passed, open_behind, semicolon_passed};
 
 use crate::reader::cursor::{
-    Cursor, is_done, is_next, is_pair, next_kind, nth, pass, pass_tree, take,
+    Cursor, is_next, is_pair, next_kind, nth, pass, pass_tree, pass_until, take,
 };
 use crate::tokens::keyword::Keyword;
-use crate::tokens::token::{Bracket, TokenKind};
+use crate::tokens::token::{Bracket, Token, TokenKind};
 
 /// Whether the next token ends bounds that stand in no angle brackets.
 fn ends_bounds(kind: TokenKind) -> bool
@@ -122,51 +123,80 @@ pub(crate) fn pass_angles(cursor: &mut Cursor<'_>)
 }
 
 /// Passes over an item up to its `;`, outside of groups.
-pub(crate) fn pass_to_semicolon(cursor: &mut Cursor<'_>) {
-    for _ in cursor.at..cursor.end {
-        if is_done(cursor) || take(cursor, b';') {
-            break;
-        }
-        pass_tree(cursor);
+#[tactic(auto, unfolding(crate::specs::Passing::semicolon_passed))]
+fn pass_to_semicolon(cursor: &mut Cursor<'_>)
+    ensures { cursor.new ≡ semicolon_passed cursor.old }
+{
+    pass_until(cursor, b';');
+    let _ = take(cursor, b';');
+}
+
+/// Whether a token ends an item, with the group that it opens or alone.
+fn ends_item(kind: TokenKind) -> bool
+    ensures { result ≡ ends_item kind }
+{
+    match kind {
+        TokenKind::Punct(character) => character == b';',
+        TokenKind::Open(Bracket::Curly) => true,
+        _ => false,
     }
 }
 
+/// Whether an item ends with a token within so many angle brackets.
+fn ends_item_here(kind: TokenKind, depth: u64) -> bool
+    ensures { result ≡ ((depth == 0) && ends_item kind) }
+{
+    depth == 0 && ends_item(kind)
+}
+
 /// Passes over an item up to its `;` or the end of its braces, outside of angle brackets and groups.
-pub(crate) fn pass_to_body(cursor: &mut Cursor<'_>) {
-    let mut open = 0u64;
-    for _ in cursor.at..cursor.end {
+#[tactic(auto, unfolding(crate::specs::Passing::body_passed), using(crate::proofs::Turns::body_more, crate::proofs::Turns::body_done))]
+fn pass_to_body(cursor: &mut Cursor<'_>)
+    ensures { cursor.new ≡ body_passed cursor.old }
+{
+    let mut depth = 0u64;
+    let turns = cursor.end.saturating_sub(cursor.at);
+    for turn in 0..turns {
         let Some(kind) = next_kind(cursor) else {
-            break;
+            return;
         };
-        let is_last = kind == TokenKind::Punct(b';') || kind == TokenKind::Open(Bracket::Curly);
-        let ends = open == 0 && is_last;
-        open = pass_counting(cursor, open);
+        let ends = ends_item_here(kind, depth);
+        depth = pass_counting(cursor, depth);
         if ends {
-            break;
+            return;
         }
+    }
+}
+
+/// Whether a token names a constant.
+fn names_constant(token: Option<Token>) -> bool
+    ensures { result ≡ names_constant (kind_of token) }
+{
+    match token {
+        Some(token) => match token.kind {
+            TokenKind::Name | TokenKind::RawName | TokenKind::Keyword(Keyword::Underscore) => true,
+            _ => false,
+        },
+        None => false,
     }
 }
 
 /// Whether the item that is next ends at a `;` even where it has braces.
-fn ends_at_semicolon(cursor: &Cursor<'_>) -> bool {
+fn ends_at_semicolon(cursor: &Cursor<'_>) -> bool
+    ensures { result ≡ ends_at_semicolon cursor.now }
+{
     match next_kind(cursor) {
-        Some(TokenKind::Keyword(Keyword::Const)) => match nth(cursor, 1) {
-            Some(token) => match token.kind {
-                TokenKind::Name | TokenKind::RawName => true,
-                TokenKind::Keyword(word) => word == Keyword::Underscore,
-                _ => false,
-            },
-            None => false,
-        },
-        Some(TokenKind::Keyword(word)) => {
-            word == Keyword::Static || word == Keyword::Type || word == Keyword::Use
-        }
+        Some(TokenKind::Keyword(Keyword::Const)) => names_constant(nth(cursor, 1)),
+        Some(TokenKind::Keyword(Keyword::Static | Keyword::Type | Keyword::Use)) => true,
         _ => false,
     }
 }
 
 /// Passes over an item, behind its attributes and its `pub`.
-pub(crate) fn pass_item(cursor: &mut Cursor<'_>) {
+#[tactic(auto, unfolding(crate::specs::Passing::item_passed))]
+pub(crate) fn pass_item(cursor: &mut Cursor<'_>)
+    ensures { cursor.new ≡ item_passed cursor.old }
+{
     if ends_at_semicolon(cursor) {
         pass_to_semicolon(cursor);
     } else {

@@ -119,8 +119,8 @@ fn read_name_arguments(
     Ok(Vec::new(alloc))
 }
 
-/// Whether arguments go on behind one, or end there. A `,` is passed over.
-fn goes_on(cursor: &mut Cursor<'_>) -> bool
+/// Whether arguments or parameters go on behind one, or end there. A `,` is passed over.
+pub(crate) fn goes_on(cursor: &mut Cursor<'_>) -> bool
     ensures is { result ≡ (is_next cursor.old 62 || is_next cursor.old 44) }
     ensures passed { cursor.new ≡ (if is_next cursor.old 62 then cursor.old
         else (if is_next cursor.old 44 then passed cursor.old 1 else cursor.old)) }

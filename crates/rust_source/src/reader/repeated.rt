@@ -1,55 +1,66 @@
 //! Names that stand twice in a list.
 
+ghost use Rattle.std.specs.Prelude.{◌≡◌, ◌==◌, ◌∷◌, ◌++◌, [], map, Ok, Err, if◌then◌else◌};
+ghost use Rattle.std.specs.List.{list_any};
+ghost use Rattle.rust_source.specs.Items.{field_of, parameter_of, variant_of};
+ghost use Rattle.rust_source.specs.Reading.{Reads};
+ghost use Rattle.rust_source.specs.Repeated.{field_names, met, none_twice, parameter_names, variant_names};
+ghost use Rattle.rust_source.specs.Tokens.{Agrees};
+
 use crate::fault::{SourceFault, SourceFaultKind};
 use crate::item::{Field, FieldName, Parameter, Variant};
-use crate::place::Place;
+use crate::place::{Place, Symbol};
+use indexmap::IndexSet;
 use std::alloc::Global;
 
-/// A fault where two of the names, each with its place, are one.
-fn refuse_twice(listed: Vec<(u32, u32)>) -> Result<(), SourceFault> {
-    let mut listed = listed;
-    listed.sort_unstable();
-    let mut before = None;
-    for &(name, at) in listed.iter() {
-        if before == Some(name) {
-            return Err(SourceFault {
-                at: Place(at),
-                kind: SourceFaultKind::RepeatedName,
-            });
+/// Puts a name behind those that were met; a fault at its place where it was met before.
+fn meet(seen: &mut IndexSet<u32>, name: Symbol, at: Place) -> Result<(), SourceFault>
+    ensures { Reads (λ done. done) (met seen.old.keys (name.0, at)) seen.new.keys result }
+{
+    if seen.insert(name.0)? {
+        Ok(())
+    } else {
+        Err(SourceFault {
+            at,
+            kind: SourceFaultKind::RepeatedName,
+        })
+    }
+}
+
+/// A fault at the first field that has the name of one before it.
+pub(crate) fn refuse_repeated_fields(alloc: Global, all: &[Field]) -> Result<(), SourceFault>
+    ensures { Agrees (λ done. done) (none_twice (field_names (map field_of all.now))) result }
+{
+    let mut seen = IndexSet::new(alloc);
+    for field in all {
+        if let FieldName::Named(name) = field.name {
+            meet(&mut seen, name, field.at)?;
         }
-        before = Some(name);
     }
     Ok(())
 }
 
-/// A fault where two of the fields have one name.
-pub(crate) fn refuse_repeated_fields(alloc: Global, all: &[Field]) -> Result<(), SourceFault> {
-    let mut listed = Vec::new(alloc);
-    for field in all {
-        if let FieldName::Named(name) = field.name {
-            listed.push((name.0, field.at.0))?;
-        }
-    }
-    refuse_twice(listed)
-}
-
-/// A fault where two of the variants have one name.
-pub(crate) fn refuse_repeated_variants(alloc: Global, all: &[Variant]) -> Result<(), SourceFault> {
-    let mut listed = Vec::new(alloc);
+/// A fault at the first variant that has the name of one before it.
+pub(crate) fn refuse_repeated_variants(alloc: Global, all: &[Variant]) -> Result<(), SourceFault>
+    ensures { Agrees (λ done. done) (none_twice (variant_names (map variant_of all.now))) result }
+{
+    let mut seen = IndexSet::new(alloc);
     for variant in all {
-        listed.push((variant.name.0, variant.at.0))?;
+        meet(&mut seen, variant.name, variant.at)?;
     }
-    refuse_twice(listed)
+    Ok(())
 }
 
-/// A fault where two of the parameters have one name.
+/// A fault at the first parameter that has the name of one before it.
 pub(crate) fn refuse_repeated_parameters(
     alloc: Global,
     all: &[Parameter],
-) -> Result<(), SourceFault> {
-    let mut listed = Vec::new(alloc);
+) -> Result<(), SourceFault>
+    ensures { Agrees (λ done. done) (none_twice (parameter_names (map parameter_of all.now))) result }
+{
+    let mut seen = IndexSet::new(alloc);
     for parameter in all {
-        listed.push((parameter.name.0, parameter.at.0))?;
+        meet(&mut seen, parameter.name, parameter.at)?;
     }
-    refuse_twice(listed)
+    Ok(())
 }

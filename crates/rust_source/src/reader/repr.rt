@@ -1,7 +1,13 @@
 //! What `repr` asks for.
 
+ghost use Rattle.std.specs.Prelude.{◌≡◌};
+ghost use Rattle.rust_source.specs.Literals.{integer_kind};
+ghost use Rattle.rust_source.specs.Reading.{seen};
+ghost use Rattle.rust_source.specs.Repr.{bytes_in, first_at, integer_by, largest, next_number, with_bytes, with_packed, with_repr, with_word, word_by, word_more};
+
 use crate::fault::{SourceFault, SourceFaultKind};
 use crate::item::Repr;
+use crate::place::Place;
 use crate::reader::cursor::{
     Cursor, expect_comma, fault, is_done, nth, pass, place, take_group, text_of,
 };
@@ -22,24 +28,40 @@ pub(crate) const NOTHING: Repr = Repr {
     align: None,
 };
 
-/// The number of bytes that stands in parentheses, alone.
-fn bytes_in(inside: &mut Cursor<'_>) -> Result<u64, SourceFault> {
-    let bad = fault(inside, SourceFaultKind::BadRepr);
-    let Some(token) = nth(inside, 0) else {
-        return Err(bad);
-    };
-    if token.kind != TokenKind::Number {
-        return Err(bad);
+/// The number that is next; a bad one where none is.
+#[tactic(auto, unfolding(crate::specs::Repr::next_number))]
+pub(crate) fn next_number(cursor: &Cursor<'_>) -> Number
+    ensures { result ≡ next_number cursor.now }
+{
+    match nth(cursor, 0) {
+        Some(token) => match token.kind {
+            TokenKind::Number => number_of(text_of(cursor, token).as_bytes()),
+            _ => Number::Bad,
+        },
+        None => Number::Bad,
     }
-    pass(inside, 1);
-    match number_of(text_of(inside, token).as_bytes()) {
-        Number::Integer(value, None) if is_done(inside) => u64::try_from(value).map_err(|_| bad),
+}
+
+/// The number of bytes that stands in parentheses, alone.
+#[tactic(auto, unfolding(crate::specs::Repr::bytes_in))]
+fn bytes_in(inside: &Cursor<'_>) -> Result<u64, SourceFault>
+    ensures { result ≡ bytes_in inside.now }
+{
+    let bad = fault(inside, SourceFaultKind::BadRepr);
+    let is_alone = nth(inside, 1).is_none();
+    match next_number(inside) {
+        Number::Integer(value, None) => match u64::try_from(value) {
+            Ok(bytes) if is_alone => Ok(bytes),
+            _ => Err(bad),
+        },
         _ => Err(bad),
     }
 }
 
 /// What is asked for with `packed` more, to so many bytes.
-fn with_packed(asked: Repr, bytes: u64) -> Repr {
+fn with_packed(asked: Repr, bytes: u64) -> Repr
+    ensures { result ≡ with_packed asked bytes }
+{
     let mut asked = asked;
     match asked.packed {
         Some(before) => {
@@ -52,7 +74,9 @@ fn with_packed(asked: Repr, bytes: u64) -> Repr {
 }
 
 /// The greater of two numbers, of which one may be missing.
-fn largest(one: Option<u64>, other: u64) -> Option<u64> {
+fn largest(one: Option<u64>, other: u64) -> Option<u64>
+    ensures { result ≡ largest one other }
+{
     match one {
         Some(one) => Some(one.max(other)),
         None => Some(other),
@@ -60,7 +84,9 @@ fn largest(one: Option<u64>, other: u64) -> Option<u64> {
 }
 
 /// What is asked for with an integer type more, whose name stands at the cursor.
-fn with_integer(cursor: &Cursor<'_>, asked: Repr, word: &str) -> Result<Repr, SourceFault> {
+fn with_integer(cursor: &Cursor<'_>, asked: Repr, word: &str) -> Result<Repr, SourceFault>
+    ensures { result ≡ integer_by cursor.now asked (integer_kind word.now) }
+{
     let mut asked = asked;
     let Some(kind) = integer_kind(word.as_bytes()) else {
         return Err(fault(cursor, SourceFaultKind::BadRepr));
@@ -75,7 +101,10 @@ fn with_integer(cursor: &Cursor<'_>, asked: Repr, word: &str) -> Result<Repr, So
 }
 
 /// What is asked for with a word more, which has no number and stands at the cursor.
-fn with_word(cursor: &Cursor<'_>, asked: Repr, word: &str) -> Result<Repr, SourceFault> {
+#[tactic(auto, unfolding(crate::specs::Repr::with_word))]
+fn with_word(cursor: &Cursor<'_>, asked: Repr, word: &str) -> Result<Repr, SourceFault>
+    ensures { result ≡ with_word cursor.now asked word.now }
+{
     let mut asked = asked;
     if word == "C" {
         asked.c = true;
@@ -94,12 +123,10 @@ fn with_word(cursor: &Cursor<'_>, asked: Repr, word: &str) -> Result<Repr, Sourc
 }
 
 /// What is asked for with a word and its number more.
-fn with_bytes(
-    cursor: &Cursor<'_>,
-    asked: Repr,
-    word: &str,
-    bytes: u64,
-) -> Result<Repr, SourceFault> {
+#[tactic(auto, unfolding(crate::specs::Repr::with_bytes))]
+fn with_bytes(cursor: &Cursor<'_>, asked: Repr, word: &str, bytes: u64) -> Result<Repr, SourceFault>
+    ensures { result ≡ with_bytes cursor.now asked word.now bytes }
+{
     let mut asked = asked;
     if word == "packed" {
         asked = with_packed(asked, bytes);
@@ -111,27 +138,57 @@ fn with_bytes(
     Ok(asked)
 }
 
-/// What is asked for with the words more that stand in the parentheses of a `repr`, which stands at this place.
-pub(crate) fn with_repr(asked: Repr, inside: &mut Cursor<'_>) -> Result<Repr, SourceFault> {
-    let mut asked = asked;
-    if asked.at.is_none() {
-        asked.at = Some(place(inside));
+/// What is asked for with the word more that is next, whose number stands in these parentheses, if it has one.
+fn with_named(
+    cursor: &Cursor<'_>,
+    asked: Repr,
+    number: Option<Cursor<'_>>,
+) -> Result<Repr, SourceFault>
+    ensures { result ≡ word_by asked cursor.now number.entry }
+{
+    let word = word_text(cursor);
+    match number {
+        Some(inside) => with_bytes(cursor, asked, word, bytes_in(&inside)?),
+        None => with_word(cursor, asked, word),
     }
-    for _ in inside.at..inside.end {
+}
+
+/// What is asked for with the word more that is next; it is passed over, with its number and a `,`.
+#[tactic(auto, unfolding(crate::specs::Repr::word_more))]
+fn with_next(asked: Repr, inside: &mut Cursor<'_>) -> Result<Repr, SourceFault>
+    ensures { seen (λ asked. (asked, inside.new)) result ≡ word_more asked inside.old }
+{
+    let before = *inside;
+    pass(inside, 1);
+    let number = take_group(inside, Bracket::Round);
+    let asked = with_named(&before, asked, number)?;
+    expect_comma(inside)?;
+    Ok(asked)
+}
+
+/// Where the first `repr` stands.
+fn first_at(before: Option<Place>, here: Place) -> Place
+    ensures { result ≡ first_at before here }
+{
+    match before {
+        Some(at) => at,
+        None => here,
+    }
+}
+
+/// What is asked for with the words more that stand in the parentheses of a `repr`, which stands at this place.
+#[tactic(auto, unfolding(crate::specs::Repr::with_repr), using(crate::proofs::ItemTurns::words_more, crate::proofs::ItemTurns::words_done))]
+pub(crate) fn with_repr(asked: Repr, inside: &mut Cursor<'_>) -> Result<Repr, SourceFault>
+    ensures { result ≡ with_repr asked inside.old }
+{
+    let mut asked = asked;
+    asked.at = Some(first_at(asked.at, place(inside)));
+    let turns = inside.end.saturating_sub(inside.at);
+    for turn in 0..turns {
         if is_done(inside) {
-            break;
+            return Ok(asked);
         }
-        let before = *inside;
-        let word = word_text(inside);
-        pass(inside, 1);
-        asked = match take_group(inside, Bracket::Round) {
-            Some(mut number) => {
-                let bytes = bytes_in(&mut number)?;
-                with_bytes(&before, asked, word, bytes)?
-            }
-            None => with_word(&before, asked, word)?,
-        };
-        expect_comma(inside)?;
+        asked = with_next(asked, inside)?;
     }
     Ok(asked)
 }

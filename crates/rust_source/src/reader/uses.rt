@@ -1,6 +1,12 @@
 //! What `use` brings in.
 
+ghost use Rattle.std.specs.Prelude.{◌≡◌, ◌∷◌, ◌++◌, [], IfErr, IfOk, map, if◌then◌else◌};
+ghost use Rattle.rust_source.specs.Cursor.{passed};
 ghost use Rattle.rust_source.specs.Growth.{BeginsWith};
+ghost use Rattle.rust_source.specs.Items.{use_of};
+ghost use Rattle.rust_source.specs.Names.{texts};
+ghost use Rattle.rust_source.specs.Reading.{Reads};
+ghost use Rattle.rust_source.specs.Uses.{begins_globally, glob, group_read, is_self, last, names_read, path_used, placed, rename_read, tree_on, tree_read, tree_with, without_self};
 
 use crate::fault::{SourceFault, SourceFaultKind};
 use crate::item::{Use, UsedName};
@@ -23,12 +29,15 @@ pub(crate) struct UsePlace {
 }
 
 /// The name that a path is brought in as: what `as` says, or its last name.
+#[tactic(auto, unfolding(crate::specs::Uses::rename_read))]
 fn read_rename(
     alloc: Global,
     names: &mut Names,
     cursor: &mut Cursor<'_>,
     last: Option<Symbol>,
-) -> Result<Option<Symbol>, SourceFault> {
+) -> Result<Option<Symbol>, SourceFault>
+    ensures { Reads (λ name. (name, cursor.new)) (rename_read last cursor.old (texts names.old)) (texts names.new) result }
+{
     if !take_word(cursor, Keyword::As) {
         return Ok(last);
     }
@@ -39,18 +48,48 @@ fn read_rename(
     Ok(Some(name))
 }
 
-/// The path without a `self` at its end, unless it is all of it.
-fn without_self(path: &mut Vec<UsedName>) {
-    let is_self = match path.last() {
-        Some(last) => last.name == Symbol::SELF && path.len() > 1,
-        None => false,
-    };
-    if is_self {
-        let _ = path.pop();
+/// The last name of a path.
+fn last_name(path: &Vec<UsedName>) -> Option<UsedName>
+    ensures { result ≡ last path.now.items }
+{
+    match path.last() {
+        Some(last) => Some(*last),
+        None => None,
     }
 }
 
+/// Whether a name is `self`.
+fn is_self(name: Option<UsedName>) -> bool
+    ensures { result ≡ is_self name }
+{
+    match name {
+        Some(name) => name.name == Symbol::SELF,
+        None => false,
+    }
+}
+
+/// The path without a `self` at its end, unless it is all of it.
+fn without_self(path: &mut Vec<UsedName>)
+    ensures { path.new.items ≡ without_self path.old.items }
+{
+    let count = path.len();
+    if count > 1 && is_self(last_name(path)) {
+        path.truncate(count - 1);
+    }
+}
+
+/// Puts what is brought in behind the others.
+fn put_use(uses: &mut Vec<Use>, one: Use) -> Result<(), SourceFault>
+    ensures ok { IfOk result (λ _. map use_of uses.new.items ≡ map use_of uses.old.items ++ use_of one ∷ []) }
+    ensures err { IfErr result (λ fault. fault.kind ≡ SourceFaultKind.OutOfMemory) }
+    ensures kept { BeginsWith uses.new.items uses.old.items }
+{
+    uses.push(one)?;
+    Ok(())
+}
+
 /// Puts a path of a `use`, behind its last name, into the uses.
+#[tactic(auto, unfolding(crate::specs::Uses::path_used))]
 fn put_path(
     alloc: Global,
     names: &mut Names,
@@ -59,62 +98,167 @@ fn put_path(
     cursor: &mut Cursor<'_>,
     path: Vec<UsedName>,
 ) -> Result<(), SourceFault>
-    ensures { BeginsWith uses.new.items uses.old.items }
+    ensures kept { BeginsWith uses.new.items uses.old.items }
+    ensures read { Reads (λ _. cursor.new) (path_used place path.items cursor.old (texts names.old, map use_of uses.old.items))
+        (texts names.new, map use_of uses.new.items) result }
 {
     let mut path = path;
     without_self(&mut path);
-    let last = match path.last() {
-        Some(last) => Some(last.name),
-        None => return Err(fault(cursor, SourceFaultKind::ExpectedUse)),
+    let Some(last) = last_name(&path) else {
+        return Err(fault(cursor, SourceFaultKind::ExpectedUse));
     };
-    let name = read_rename(alloc, names, cursor, last)?;
-    uses.push(Use {
+    let name = read_rename(alloc, names, cursor, Some(last.name))?;
+    let one = Use {
         module: place.module,
         is_global: place.is_global,
         path,
         name,
         is_glob: false,
-    })?;
-    Ok(())
+    };
+    put_use(uses, one)
 }
 
-/// Puts all names of the module that a path names into the uses.
-fn put_glob(uses: &mut Vec<Use>, place: UsePlace, path: Vec<UsedName>) -> Result<(), SourceFault>
-    ensures { BeginsWith uses.new.items uses.old.items }
+/// All names of the module that a path names.
+fn glob(place: UsePlace, path: Vec<UsedName>) -> Use
+    ensures { use_of result ≡ glob place path.items }
 {
-    uses.push(Use {
+    Use {
         module: place.module,
         is_global: place.is_global,
         path,
         name: None,
         is_glob: true,
-    })?;
-    Ok(())
+    }
 }
 
 /// The names of a path, behind those that stand before its group, up to a group, a `*` or its last name. Says whether
 /// it is all read.
+#[tactic(auto, unfolding(crate::specs::Uses::names_read), using(crate::proofs::UseTurns::names_more, crate::proofs::UseTurns::names_done))]
 fn read_names(
     alloc: Global,
     names: &mut Names,
     cursor: &mut Cursor<'_>,
-    before: &[UsedName],
-) -> Result<(Vec<UsedName>, bool), SourceFault> {
-    let mut path = Vec::from_slice(alloc, before)?;
-    for _ in cursor.at..cursor.end {
+    path: &mut Vec<UsedName>,
+) -> Result<bool, SourceFault>
+    ensures { Reads (λ is_whole. ((path.new.items, is_whole), cursor.new))
+        (names_read path.old.items cursor.old (texts names.old)) (texts names.new) result }
+{
+    let turns = cursor.end.saturating_sub(cursor.at);
+    for turn in 0..turns {
         if !is_path_name(cursor) {
-            return Ok((path, false));
+            return Ok(false);
         }
         let (name, at) = take_path_name(alloc, names, cursor)?;
         path.push(UsedName { name, at })?;
         if !take_pair(cursor, b':', b':') {
-            return Ok((path, true));
+            return Ok(true);
         }
     }
-    Ok((path, false))
+    Ok(false)
+}
+
+/// Passes over the `::` that the path begins with, if no names stand before its group, and says whether it is there.
+fn takes_global(cursor: &mut Cursor<'_>, before: &[UsedName]) -> bool
+    ensures is { result ≡ begins_globally before.now cursor.old }
+    ensures passed { cursor.new ≡ (if begins_globally before.now cursor.old then passed cursor.old 2 else cursor.old) }
+{
+    before.is_empty() && take_pair(cursor, b':', b':')
+}
+
+/// The place of a `use`, whose path begins with `::` or as it is.
+fn placed(place: UsePlace, is_global: bool) -> UsePlace
+    ensures { result ≡ placed place is_global }
+{
+    let mut place = place;
+    if is_global {
+        place.is_global = true;
+    }
+    place
+}
+
+/// Reads what a group brings in, behind the names that stand before it.
+#[cycle(uses)]
+#[tactic(auto, unfolding(crate::specs::Uses::group_read), using(crate::proofs::UseTurns::group_more, crate::proofs::UseTurns::group_done))]
+fn read_group(
+    alloc: Global,
+    names: &mut Names,
+    uses: &mut Vec<Use>,
+    place: UsePlace,
+    inside: &mut Cursor<'_>,
+    path: &[UsedName],
+    room: u32,
+) -> Result<(), SourceFault>
+    ensures kept { BeginsWith uses.new.items uses.old.items }
+    ensures read { Reads (λ done. done)
+        (group_read (tree_read room) place path.now inside.old (texts names.old, map use_of uses.old.items))
+        (texts names.new, map use_of uses.new.items) result }
+{
+    let turns = inside.end.saturating_sub(inside.at);
+    for turn in 0..turns {
+        if is_done(inside) {
+            return Ok(());
+        }
+        read_tree(alloc, names, uses, place, inside, path, room)?;
+        expect_comma(inside)?;
+    }
+    Ok(())
+}
+
+/// Reads what stands behind the names of a path: nothing, where it is whole, a `*` or a group.
+#[cycle(uses)]
+fn read_behind(
+    alloc: Global,
+    names: &mut Names,
+    uses: &mut Vec<Use>,
+    place: UsePlace,
+    cursor: &mut Cursor<'_>,
+    path: Vec<UsedName>,
+    is_whole: bool,
+    room: u32,
+) -> Result<(), SourceFault>
+    ensures kept { BeginsWith uses.new.items uses.old.items }
+    ensures read { Reads (λ _. cursor.new)
+        (tree_on (tree_read room) place (path.items, is_whole) cursor.old (texts names.old, map use_of uses.old.items))
+        (texts names.new, map use_of uses.new.items) result }
+{
+    if is_whole {
+        return put_path(alloc, names, uses, place, cursor, path);
+    }
+    if take(cursor, b'*') {
+        return put_use(uses, glob(place, path));
+    }
+    let Some(mut inside) = take_group(cursor, Bracket::Curly) else {
+        return Err(fault(cursor, SourceFaultKind::ExpectedUse));
+    };
+    read_group(alloc, names, uses, place, &mut inside, &path, room)
+}
+
+/// Reads what a `use` brings in, behind the names that stand before its group, within the room that is left.
+#[cycle(uses)]
+#[tactic(auto, unfolding(crate::specs::Uses::tree_with))]
+fn read_within(
+    alloc: Global,
+    names: &mut Names,
+    uses: &mut Vec<Use>,
+    place: UsePlace,
+    cursor: &mut Cursor<'_>,
+    before: &[UsedName],
+    room: u32,
+) -> Result<(), SourceFault>
+    ensures kept { BeginsWith uses.new.items uses.old.items }
+    ensures read { Reads (λ _. cursor.new)
+        (tree_with (tree_read room) place before.now cursor.old (texts names.old, map use_of uses.old.items))
+        (texts names.new, map use_of uses.new.items) result }
+{
+    let place = placed(place, takes_global(cursor, before));
+    let mut path = Vec::from_slice(alloc, before)?;
+    let is_whole = read_names(alloc, names, cursor, &mut path)?;
+    read_behind(alloc, names, uses, place, cursor, path, is_whole, room)
 }
 
 /// Reads what a `use` brings in, behind the names that stand before its group.
+#[cycle(uses)]
+#[tactic(auto, using(crate::proofs::UseTurns::tree_less, crate::proofs::UseTurns::tree_none))]
 pub(crate) fn read_tree(
     alloc: Global,
     names: &mut Names,
@@ -124,29 +268,10 @@ pub(crate) fn read_tree(
     before: &[UsedName],
     room: u32,
 ) -> Result<(), SourceFault>
-    ensures { BeginsWith uses.new.items uses.old.items }
+    ensures kept { BeginsWith uses.new.items uses.old.items }
+    ensures read { Reads (λ _. cursor.new) (tree_read room place before.now cursor.old (texts names.old, map use_of uses.old.items))
+        (texts names.new, map use_of uses.new.items) result }
 {
     let room = less(cursor, room)?;
-    let mut place = place;
-    if before.is_empty() && take_pair(cursor, b':', b':') {
-        place.is_global = true;
-    }
-    let (path, is_whole) = read_names(alloc, names, cursor, before)?;
-    if is_whole {
-        return put_path(alloc, names, uses, place, cursor, path);
-    }
-    if take(cursor, b'*') {
-        return put_glob(uses, place, path);
-    }
-    let Some(mut inside) = take_group(cursor, Bracket::Curly) else {
-        return Err(fault(cursor, SourceFaultKind::ExpectedUse));
-    };
-    for _ in inside.at..inside.end {
-        if is_done(&inside) {
-            break;
-        }
-        read_tree(alloc, names, uses, place, &mut inside, &path, room)?;
-        expect_comma(&mut inside)?;
-    }
-    Ok(())
+    read_within(alloc, names, uses, place, cursor, before, room)
 }

@@ -1,0 +1,48 @@
+-- Less room within a module, a turn of the loops over items, and what stands at their ends.
+use Rattle.std.proofs.Common.{◌≡◌, ℕ, zero, suc, ◌+◌, ◌-◌, ◌<◌, ◌≤◌, true, false, Err, refl, ap, arith}
+use Rattle.std.specs.Prelude.{◌||◌, if◌then◌else◌}
+use Rattle.rust_source.specs.declared.fault.SourceFaultKind.TheVariants.{TooDeep}
+use Rattle.rust_source.specs.declared.reader.attributes.Rules.{Rules}
+use Rattle.rust_source.specs.declared.reader.cursor.Cursor.{Cursor}
+use Rattle.rust_source.specs.Constants.{is_of_lifetimes, lifetimes_from, own_from, own_item}
+use Rattle.rust_source.specs.Cursor.{fault, is_done, is_next, next_kind, passed}
+use Rattle.rust_source.specs.Having.{Having}
+use Rattle.rust_source.specs.Modules.{all_from, all_read, module_within, one_read, path_passed_from}
+use Rattle.rust_source.specs.Reading.{after, is_path_name}
+use Rattle.rust_source.specs.Terms.{done}
+use Rattle.rust_source.proofs.Turns.{none_left, turns}
+
+module _ (n i : ℕ) where
+  pub lifetimes_more : (c : Cursor) → i < n → lifetimes_from (n - i) c ≡ (if is_next c 62 then (true, passed c 1) else (if is_of_lifetimes (next_kind c) then lifetimes_from (n - (i + 1)) (passed c 1) else (false, c)))
+  lifetimes_more c more = ap (λ k. lifetimes_from k c) (turns n i more)
+
+  pub lifetimes_done : (c : Cursor) → n ≤ i → lifetimes_from (n - i) c ≡ (false, c)
+  lifetimes_done c past = ap (λ k. lifetimes_from k c) (none_left n i past)
+
+  pub path_more : (c : Cursor) → i < n → path_passed_from (n - i) c ≡ (if is_path_name c || is_next c 58 then path_passed_from (n - (i + 1)) (passed c 1) else c)
+  path_more c more = ap (λ k. path_passed_from k c) (turns n i more)
+
+  pub path_done : (c : Cursor) → n ≤ i → path_passed_from (n - i) c ≡ c
+  path_done c past = ap (λ k. path_passed_from k c) (none_left n i past)
+
+  pub own_more : (rules : Rules) (number owner : ℕ) (c : Cursor) (known : Having) → i < n → own_from rules (n - i) number owner c known ≡ (if is_done c then done tt known else after (λ d ns. own_from rules (n - (i + 1)) number owner d ns) (own_item rules number owner c known))
+  own_more rules number owner c known more = ap (λ k. own_from rules k number owner c known) (turns n i more)
+
+  pub own_done : (rules : Rules) (number owner : ℕ) (c : Cursor) (known : Having) → n ≤ i → own_from rules (n - i) number owner c known ≡ done tt known
+  own_done rules number owner c known past = ap (λ k. own_from rules k number owner c known) (none_left n i past)
+
+  pub all_more : (rules : Rules) (room number : ℕ) (c : Cursor) (known : Having) → i < n → all_from rules (module_within rules room) (n - i) number c known ≡ (if is_done c then done tt known else after (λ d ns. all_from rules (module_within rules room) (n - (i + 1)) number d ns) (one_read rules (module_within rules room) number c known))
+  all_more rules room number c known more = ap (λ k. all_from rules (module_within rules room) k number c known) (turns n i more)
+
+  pub all_done : (rules : Rules) (room number : ℕ) (c : Cursor) (known : Having) → n ≤ i → all_from rules (module_within rules room) (n - i) number c known ≡ done tt known
+  all_done rules room number c known past = ap (λ k. all_from rules (module_within rules room) k number c known) (none_left n i past)
+
+pub module_less : (rules : Rules) (room left number : ℕ) (c : Cursor) (known : Having) → left + 1 ≡ room → module_within rules room number c known ≡ all_read rules (module_within rules left) number c known
+unfolding module_within
+module_less rules zero left number c known is = absurd (omega arith)
+module_less rules (suc room) left number c known is = let e : room ≡ left = omega arith in ap (λ r. all_read rules (module_within rules r) number c known) e
+
+pub module_none : (rules : Rules) (room number : ℕ) (c : Cursor) (known : Having) → room ≡ 0 → module_within rules room number c known ≡ (Err (fault c TooDeep), known)
+unfolding module_within
+module_none rules zero number c known is = refl
+module_none rules (suc room) number c known is = absurd (omega arith)

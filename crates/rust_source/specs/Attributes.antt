@@ -1,0 +1,125 @@
+-- What the attributes of items, fields and variants say.
+use Rattle.std.specs.Prelude.{ℕ, zero, suc, ◌-◌, ◌&&◌, Bool, true, false, codes, List, Option, None, Some, Result, Ok, Err, if◌then◌else◌}
+use Rattle.std.specs.Str.{bytes_eq}
+use Rattle.rust_source.specs.declared.fault.SourceFault.{SourceFault}
+use Rattle.rust_source.specs.declared.fault.SourceFaultKind.TheVariants.{BadAttribute, TooDeep}
+use Rattle.rust_source.specs.declared.item.Repr.{Repr}
+use Rattle.rust_source.specs.declared.reader.attributes.Attributes.{Attributes}
+use Rattle.rust_source.specs.declared.reader.attributes.Rules.{Rules}
+use Rattle.rust_source.specs.declared.reader.cursor.Cursor.{Cursor}
+use Rattle.rust_source.specs.declared.reader.literals.Number.{Number}
+use Rattle.rust_source.specs.declared.reader.literals.Number.TheVariants as number
+use Rattle.rust_source.specs.declared.tokens.token.Bracket.TheVariants as bracket
+use Rattle.rust_source.specs.Cfg.{Noted, predicate_read}
+use Rattle.rust_source.specs.Cursor.{behind, comma_passed, fault, inside, is_done, is_next, passed}
+use Rattle.rust_source.specs.Reading.{after, seen, then_read, word_text}
+use Rattle.rust_source.specs.Repr.{next_number, with_repr}
+use Rattle.rust_source.specs.Simple.{most_nested}
+use Rattle.rust_source.specs.Terms.{done, refused}
+use Rattle.rust_source.specs.Until.{until, up_to}
+
+-- an integer without a suffix
+abbrev pub number_by : Cursor → Number → Result ℕ SourceFault
+number_by c (number.Integer n None) = Ok n
+number_by c _ = Err (fault c BadAttribute)
+
+-- the number that is next, and what follows it and a `,`
+unfoldable pub number_read : Cursor → Result (ℕ × Cursor) SourceFault
+number_read c = then_read (λ n. seen (λ d. (n, d)) (comma_passed (passed c 1))) (number_by c (next_number c))
+
+-- the two numbers of a valid range, alone in its parentheses
+unfoldable pub range_read : Cursor → Result (ℕ × ℕ) SourceFault
+range_read c =
+    then_read (λ (a : ℕ × Cursor). then_read (λ (b : ℕ × Cursor). if is_done b.1 then Ok (a.0, b.0) else Err (fault b.1 BadAttribute)) (number_read a.1))
+    (number_read c)
+
+-- what no attributes say
+unfoldable pub none_said : Attributes
+none_said = record {
+  holds = true;
+  repr = record {
+    at = None;
+    c = false;
+    rust = false;
+    transparent = false;
+    simd = false;
+    integer = None;
+    packed = None;
+    is_packed_apart = false;
+    align = None;
+  };
+  valid_range = None;
+}
+
+-- with another `cfg`, whose predicate stands in these parentheses
+unfoldable pub cfg_said : Rules → Attributes → Cursor → Noted → Result Attributes SourceFault × Noted
+cfg_said rules said i known =
+    after (λ (b : Bool × Cursor) ns. done (record said { holds = said.holds && b.0 }) ns) (predicate_read rules.target most_nested i known)
+
+-- what an attribute says that has nothing within it that is read by attributes, of this name
+unfoldable pub simple_said : Rules → Attributes → (name : List ℕ) → Cursor → Result Attributes SourceFault
+simple_said rules said name i =
+    if bytes_eq name (codes "repr") then seen (λ r. record said { repr = r }) (with_repr said.repr i)
+    else (if bytes_eq name (codes "rustc_layout_scalar_valid_range") && rules.is_trusted
+    then seen (λ r. record said { valid_range = Some r }) (range_read i) else Ok said)
+
+module _ (rules : Rules) (A : Attributes → Cursor → Noted → Result Attributes SourceFault × Noted) where
+  -- attributes separated by `,`, at most so many
+  abbrev pub expanded_from : (limit : ℕ) → Attributes → Cursor → Noted → Result Attributes SourceFault × Noted
+  expanded_from zero said c known = done said known
+  expanded_from (suc limit) said c known =
+      if is_done c then done said known
+      else after (λ more ns. after (λ d ms. expanded_from limit more d ms) (comma_passed (until 44 c), ns)) (A said (up_to 44 c) known)
+
+  unfoldable pub expanded_all : Attributes → Cursor → Noted → Result Attributes SourceFault × Noted
+  expanded_all said c known = expanded_from (c.end - c.at) said c known
+
+  -- the attributes behind the predicate of a `cfg_attr`, where it holds
+  unfoldable pub expanded : Attributes → Cursor → Noted → Result Attributes SourceFault × Noted
+  expanded said c known =
+      after (λ (b : Bool × Cursor) ns. after (λ d ms. if b.0 then expanded_all said d ms else done said ms) (comma_passed b.1, ns))
+      (predicate_read rules.target most_nested c known)
+
+  -- the attribute of this name, whose parentheses hold these tokens
+  abbrev pub attribute_in : Attributes → (name : List ℕ) → Cursor → Noted → Result Attributes SourceFault × Noted
+  attribute_in said name i known =
+      if bytes_eq name (codes "cfg_attr") then expanded said i known
+      else (if bytes_eq name (codes "cfg") then cfg_said rules said i known else (simple_said rules said name i, known))
+
+  abbrev pub attribute_by : Attributes → Cursor → Option Cursor → Noted → Result Attributes SourceFault × Noted
+  attribute_by said c None known = done said known
+  attribute_by said c (Some i) known = attribute_in said (word_text c) i known
+
+  unfoldable pub attribute_with : Attributes → Cursor → Noted → Result Attributes SourceFault × Noted
+  attribute_with said c known = attribute_by said c (inside (passed c 1) bracket.Round) known
+
+-- what the attribute says that is next and may stand in so many others, added to what those before it say
+unfoldable pub attribute_read : Rules → (room : ℕ) → Attributes → Cursor → Noted → Result Attributes SourceFault × Noted
+attribute_read rules zero said c known = refused TooDeep c known
+attribute_read rules (suc room) said c known = attribute_with rules (attribute_read rules room) said c known
+
+-- the `!` of an attribute is passed over
+abbrev pub bang_passed : Cursor → Cursor
+bang_passed c = if is_next c 33 then passed c 1 else c
+
+-- the attribute in these square brackets, whose `#` stands before: one of the module around says nothing here
+abbrev pub bracketed_by : Rules → Attributes → Cursor → Option Cursor → Noted → Result (Attributes × Cursor) SourceFault × Noted
+bracketed_by rules said c None known = refused BadAttribute (bang_passed c) known
+bracketed_by rules said c (Some i) known =
+    if is_next c 33 then done (said, behind (bang_passed c)) known
+    else after (λ more ns. done (more, behind (bang_passed c)) ns) (attribute_read rules most_nested said i known)
+
+unfoldable pub one_attribute : Rules → Attributes → Cursor → Noted → Result (Attributes × Cursor) SourceFault × Noted
+one_attribute rules said c known = bracketed_by rules said c (inside (bang_passed c) bracket.Square) known
+
+-- what the attributes that are next say, at most so many, added to what those before them say
+abbrev pub attributes_from : Rules → (limit : ℕ) → Attributes → Cursor → Noted → Result (Attributes × Cursor) SourceFault × Noted
+attributes_from rules zero said c known = done (said, c) known
+attributes_from rules (suc limit) said c known =
+    if is_next c 35
+    then after (λ (s : Attributes × Cursor) ns. attributes_from rules limit s.0 s.1 ns) (one_attribute rules said (passed c 1) known)
+    else done (said, c) known
+
+-- what the attributes that are next say
+unfoldable pub attributes_read : Rules → Cursor → Noted → Result (Attributes × Cursor) SourceFault × Noted
+attributes_read rules c known = attributes_from rules (c.end - c.at) none_said c known

@@ -1,0 +1,108 @@
+-- Constants of types, in `impl` blocks that have no parameters and implement no trait.
+use Rattle.std.specs.Prelude.{ℕ, zero, suc, ◌-◌, ◌&&◌, Bool, true, false, Option, None, Some, Result, Ok, Err, if◌then◌else◌}
+use Rattle.rust_source.specs.declared.fault.SourceFault.{SourceFault}
+use Rattle.rust_source.specs.declared.fault.SourceFaultKind.{SourceFaultKind}
+use Rattle.rust_source.specs.declared.fault.SourceFaultKind.TheVariants.{OutOfMemory}
+use Rattle.rust_source.specs.declared.reader.attributes.Attributes.{Attributes}
+use Rattle.rust_source.specs.declared.reader.attributes.Rules.{Rules}
+use Rattle.rust_source.specs.declared.reader.cursor.Cursor.{Cursor}
+use Rattle.rust_source.specs.declared.tokens.keyword.Keyword.TheVariants as keyword
+use Rattle.rust_source.specs.declared.tokens.token.Bracket.TheVariants as bracket
+use Rattle.rust_source.specs.declared.tokens.token.TokenKind.{TokenKind}
+use Rattle.rust_source.specs.declared.tokens.token.TokenKind.TheVariants as kind
+use Rattle.rust_source.specs.Attributes.{attributes_read}
+use Rattle.rust_source.specs.Cursor.{inside, is_constant, is_done, is_next, is_word, next_kind, passed}
+use Rattle.rust_source.specs.Fields.{beside, visibility_passed}
+use Rattle.rust_source.specs.Having.{Having, item_in, next_owner, noted, with_item, with_owner, within}
+use Rattle.rust_source.specs.Items.{ItemsRead}
+use Rattle.rust_source.specs.Passing.{item_passed}
+use Rattle.rust_source.specs.Reading.{Reading, after}
+use Rattle.rust_source.specs.Simple.{begins_path, most_nested}
+use Rattle.rust_source.specs.Syntax.{PathRead}
+use Rattle.rust_source.specs.Terms.{Known, done, inner, path_read}
+use Rattle.rust_source.specs.Written.{WrittenRead, const_read}
+
+-- memory was wanting
+abbrev pub is_wanting : SourceFaultKind → Bool
+is_wanting OutOfMemory = true
+is_wanting _ = false
+
+-- a token of this kind may stand among lifetimes in angle brackets
+abbrev pub is_of_lifetimes : Option TokenKind → Bool
+is_of_lifetimes (Some kind.Lifetime) = true
+is_of_lifetimes (Some (kind.Punct b)) = true
+is_of_lifetimes _ = false
+
+-- whether all parameters up to a `>` are lifetimes, and what follows them, of at most so many tokens
+abbrev pub lifetimes_from : (limit : ℕ) → Cursor → Bool × Cursor
+lifetimes_from zero c = (false, c)
+lifetimes_from (suc limit) c =
+    if is_next c 62 then (true, passed c 1) else (if is_of_lifetimes (next_kind c) then lifetimes_from limit (passed c 1) else (false, c))
+
+unfoldable pub lifetimes_in : Cursor → Bool × Cursor
+lifetimes_in c = lifetimes_from (c.end - c.at) c
+
+-- whether all parameters of an `impl` block are lifetimes, and what follows them
+abbrev pub lifetimes : Cursor → Bool × Cursor
+lifetimes c = if is_next c 60 then lifetimes_in (passed c 1) else (true, c)
+
+-- a type, where its path could be read; what can't be read here isn't told
+abbrev pub owner_by : Result (PathRead × Cursor) SourceFault → Known → Reading (Option (PathRead × Cursor))
+owner_by (Ok p) names = done (Some p) names
+owner_by (Err e) names = done None names
+
+abbrev pub owner_of : Reading (PathRead × Cursor) → Reading (Option (PathRead × Cursor))
+owner_of read = owner_by read.0 read.1
+
+-- the type whose own the items of an `impl` block are, behind its `impl`, and what follows it; none where it has parameters
+unfoldable pub owner_read : Cursor → Known → Reading (Option (PathRead × Cursor))
+owner_read c names =
+    let l = lifetimes c in
+    if l.0 && begins_path l.1 then owner_of (path_read (inner most_nested) true l.1 names) else done None names
+
+-- a constant of a type goes behind the items, where it could be read; what can't be read here isn't told
+abbrev pub own_by : (number : ℕ) → Attributes → ItemsRead → Result (WrittenRead × Cursor) SourceFault → Known → Result (Unit {0}) SourceFault × Having
+own_by number said items (Ok w) names = done tt (names, with_item (item_in number said w.0) items)
+own_by number said items (Err e) names = done tt (names, items)
+
+abbrev pub own_of : (number : ℕ) → Attributes → ItemsRead → Reading (WrittenRead × Cursor) → Result (Unit {0}) SourceFault × Having
+own_of number said items read = own_by number said items read.0 read.1
+
+-- the constant, behind its `const`, of the type with this number
+unfoldable pub own_const : (number : ℕ) → Attributes → (owner : ℕ) → Cursor → Having → Result (Unit {0}) SourceFault × Having
+own_const number said owner c known = own_of number said known.1 (const_read (Some owner) c known.0)
+
+-- the item here, where it is a constant that no `cfg` takes out
+abbrev pub own_on : (number : ℕ) → Attributes → (owner : ℕ) → Cursor → Having → Result Cursor SourceFault × Having
+own_on number said owner c known =
+    if said.holds && is_constant c then after (λ _ ns. done (item_passed c) ns) (own_const number said owner (passed c 1) known)
+    else done (item_passed c) known
+
+module _ (rules : Rules) where
+  -- the item of an `impl` block that is next
+  unfoldable pub own_item : (number owner : ℕ) → Cursor → Having → Result Cursor SourceFault × Having
+  own_item number owner c known =
+      after (λ (a : Attributes × Cursor) ns. own_on number a.0 owner (visibility_passed a.1) ns) (within known.1 (attributes_read rules c (noted known)))
+
+  -- the items of an `impl` block, at most so many
+  abbrev pub own_from : (limit number owner : ℕ) → Cursor → Having → Result (Unit {0}) SourceFault × Having
+  own_from zero number owner c known = done tt known
+  own_from (suc limit) number owner c known =
+      if is_done c then done tt known else after (λ d ns. own_from limit number owner d ns) (own_item number owner c known)
+
+  unfoldable pub own_items : (number owner : ℕ) → Cursor → Having → Result (Unit {0}) SourceFault × Having
+  own_items number owner c known = own_from (c.end - c.at) number owner c known
+
+  -- the items in these braces, of the type that the path names
+  abbrev pub impl_in : (number : ℕ) → PathRead → Option Cursor → Having → Result (Unit {0}) SourceFault × Having
+  impl_in number path None known = done tt known
+  impl_in number path (Some i) known = own_items number (next_owner known.1) i (known.0, with_owner path known.1)
+
+  abbrev pub impl_by : (number : ℕ) → Option (PathRead × Cursor) → Having → Result (Unit {0}) SourceFault × Having
+  impl_by number None known = done tt known
+  impl_by number (Some p) known = impl_in number p.0 (inside p.1 bracket.Curly) known
+
+  -- the constants of the `impl` block that is next, if one is that has no parameters and implements no trait
+  unfoldable pub own_constants : (number : ℕ) → Cursor → Having → Result (Unit {0}) SourceFault × Having
+  own_constants number c known =
+      if is_word c keyword.Impl then after (λ o ns. impl_by number o ns) (beside known.1 (owner_read (passed c 1) known.0)) else done tt known

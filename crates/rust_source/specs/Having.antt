@@ -1,0 +1,61 @@
+-- What sources have so far, beside the names that have numbers.
+use Rattle.std.specs.Prelude.{ℕ, ◌+◌, ◌-◌, ◌^◌, List, [], ◌∷◌, ◌++◌, length, min, Result}
+use Rattle.rust_source.specs.declared.fault.SourceFault.{SourceFault}
+use Rattle.rust_source.specs.declared.item.Module.{Module}
+use Rattle.rust_source.specs.declared.reader.attributes.Attributes.{Attributes}
+use Rattle.rust_source.specs.Cfg.{Noted}
+use Rattle.rust_source.specs.Items.{ItemRead, ItemsRead, UseRead}
+use Rattle.rust_source.specs.Syntax.{PathRead}
+use Rattle.rust_source.specs.Terms.{Known}
+use Rattle.rust_source.specs.Written.{WrittenRead}
+
+-- names that have numbers, and what sources have so far
+abbrev pub Having : Type 0
+Having = Known × ItemsRead
+
+-- what is read where unknown names of `cfg` are kept, beside what else sources have
+abbrev pub within : {A : Type 0} → (items : ItemsRead) → Result A SourceFault × Noted → Result A SourceFault × Having
+within items read = (read.0, (read.1.0, record items { unknown = read.1.1 }))
+
+abbrev pub noted : Having → Noted
+noted known = (known.0, known.1.unknown)
+
+-- what is read where `use` brings something in, beside what else sources have
+abbrev pub using_within : {A : Type 0} → (items : ItemsRead) → Result A SourceFault × (Known × List UseRead) → Result A SourceFault × Having
+using_within items read = (read.0, (read.1.0, record items { uses = read.1.1 }))
+
+-- an item of a module, with what its attributes say
+abbrev pub item_in : (number : ℕ) → Attributes → WrittenRead → ItemRead
+item_in number said w = record {
+  name = w.head.name;
+  at = w.head.at;
+  inside = number;
+  parameters = w.head.parameters;
+  repr = said.repr;
+  valid_range = said.valid_range;
+  kind = w.kind;
+}
+
+-- with an item more
+abbrev pub with_item : ItemRead → ItemsRead → ItemsRead
+with_item i items = record items { items = items.items ++ i ∷ [] }
+
+-- with a type more that has constants of its own
+abbrev pub with_owner : PathRead → ItemsRead → ItemsRead
+with_owner p items = record items { owners = items.owners ++ p ∷ [] }
+
+-- the number of the next such type
+abbrev pub next_owner : ItemsRead → ℕ
+next_owner items = min (length items.owners) (2 ^ 32 - 1)
+
+-- with a module more
+abbrev pub with_module : Module → ItemsRead → ItemsRead
+with_module m items = record items { modules = items.modules ++ m ∷ [] }
+
+-- the number of the next module
+abbrev pub next_module : ItemsRead → ℕ
+next_module items = min (length items.modules) (2 ^ 32 - 1)
+
+-- with an item more that is passed over; no more than 2 ^ 64 - 1 are counted
+abbrev pub with_passed : ItemsRead → ItemsRead
+with_passed items = record items { passed_over = min (items.passed_over + 1) (2 ^ 64 - 1) }

@@ -1,0 +1,144 @@
+-- Items as they are read.
+use Rattle.std.specs.Prelude.{ℕ, Bool, List, [], Option, map}
+use Rattle.std.specs.Option.{option_map}
+use Rattle.rust_source.specs.declared.item.Const.{Const}
+use Rattle.rust_source.specs.declared.item.Field.{Field}
+use Rattle.rust_source.specs.declared.item.FieldName.{FieldName}
+use Rattle.rust_source.specs.declared.item.Fields.{Fields}
+use Rattle.rust_source.specs.declared.item.Item.{Item}
+use Rattle.rust_source.specs.declared.item.ItemKind.{ItemKind}
+use Rattle.rust_source.specs.declared.item.ItemKind.TheVariants as item
+use Rattle.rust_source.specs.declared.item.Items.{Items}
+use Rattle.rust_source.specs.declared.item.Module.{Module}
+use Rattle.rust_source.specs.declared.item.Parameter.{Parameter}
+use Rattle.rust_source.specs.declared.item.ParameterKind.{ParameterKind}
+use Rattle.rust_source.specs.declared.item.ParameterKind.TheVariants as parameter
+use Rattle.rust_source.specs.declared.item.Repr.{Repr}
+use Rattle.rust_source.specs.declared.item.Use.{Use}
+use Rattle.rust_source.specs.declared.item.UsedName.{UsedName}
+use Rattle.rust_source.specs.declared.item.Variant.{Variant}
+use Rattle.rust_source.specs.declared.place.Place.{Place}
+use Rattle.rust_source.specs.declared.place.Symbol.{Symbol}
+use Rattle.rust_source.specs.Syntax.{ExprRead, PathRead, TypeRead, expr_of, path_of, type_of}
+
+-- a field, where its name stands, or its type where it has none, and where its type begins and ends
+pub record FieldRead : Type 0 where
+  pub name : FieldName
+  pub at : Place
+  pub ty : TypeRead
+  pub start : Place
+  pub end : Place
+
+-- fields, in parentheses or not
+pub record FieldsRead : Type 0 where
+  pub is_tuple : Bool
+  pub all : List FieldRead
+
+-- a variant, and its discriminant where it is written
+pub record VariantRead : Type 0 where
+  pub name : Symbol
+  pub at : Place
+  pub fields : FieldsRead
+  pub discriminant : Option ExprRead
+
+-- what a parameter stands for, and its default
+pub data ParameterKindRead : Type 0 where
+  for_type : (default : Option TypeRead) → ParameterKindRead
+  for_constant : TypeRead → (default : Option ExprRead) → ParameterKindRead
+
+-- a parameter
+pub record ParameterRead : Type 0 where
+  pub name : Symbol
+  pub at : Place
+  pub may_be_unsized : Bool
+  pub kind : ParameterKindRead
+
+-- what an item is: a constant has the number of the type whose own it is, if it is one's
+pub data ItemKindRead : Type 0 where
+  struct_of : FieldsRead → ItemKindRead
+  enum_of : List VariantRead → ItemKindRead
+  union_of : FieldsRead → ItemKindRead
+  alias_of : TypeRead → ItemKindRead
+  const_of : TypeRead → (value : Option ExprRead) → (owner : Option ℕ) → ItemKindRead
+
+-- an item, where its name stands, and the number of the module that it is in
+pub record ItemRead : Type 0 where
+  pub name : Symbol
+  pub at : Place
+  pub inside : ℕ
+  pub parameters : List ParameterRead
+  pub repr : Repr
+  pub valid_range : Option (ℕ × ℕ)
+  pub kind : ItemKindRead
+
+-- what a `use` brings in, and the number of the module that it stands in
+pub record UseRead : Type 0 where
+  pub inside : ℕ
+  pub is_global : Bool
+  pub path : List UsedName
+  pub name : Option Symbol
+  pub is_glob : Bool
+
+-- what sources have
+pub record ItemsRead : Type 0 where
+  pub modules : List Module
+  pub items : List ItemRead
+  pub uses : List UseRead
+  pub owners : List PathRead
+  pub passed_over : ℕ
+  pub unknown : List Symbol
+
+-- nothing is read
+abbrev pub no_items : ItemsRead
+no_items = record { modules = []; items = []; uses = []; owners = []; passed_over = 0; unknown = [] }
+
+-- the program's field as the definitions see it, and so on
+abbrev pub field_of : Field → FieldRead
+field_of f = record { name = f.name; at = f.at; ty = type_of f.ty; start = f.start; end = f.end }
+
+abbrev pub fields_of : Fields → FieldsRead
+fields_of f = record { is_tuple = f.is_tuple; all = map field_of f.all.items }
+
+abbrev pub variant_of : Variant → VariantRead
+variant_of v = record { name = v.name; at = v.at; fields = fields_of v.fields; discriminant = option_map expr_of v.discriminant }
+
+abbrev pub parameter_kind_of : ParameterKind → ParameterKindRead
+parameter_kind_of (parameter.«Type» default) = for_type (option_map type_of default)
+parameter_kind_of (parameter.Const t default) = for_constant (type_of t) (option_map expr_of default)
+
+abbrev pub parameter_of : Parameter → ParameterRead
+parameter_of p = record { name = p.name; at = p.at; may_be_unsized = p.may_be_unsized; kind = parameter_kind_of p.kind }
+
+abbrev pub constant_of : Const → ItemKindRead
+constant_of c = const_of (type_of c.ty) (option_map expr_of c.value) c.owner
+
+abbrev pub item_kind_of : ItemKind → ItemKindRead
+item_kind_of (item.Struct f) = struct_of (fields_of f)
+item_kind_of (item.Enum e) = enum_of (map variant_of e.variants.items)
+item_kind_of (item.Union f) = union_of (fields_of f)
+item_kind_of (item.Alias t) = alias_of (type_of t)
+item_kind_of (item.Const c) = constant_of c
+
+abbrev pub item_of : Item → ItemRead
+item_of i = record {
+  name = i.name;
+  at = i.at;
+  inside = i.«module»;
+  parameters = map parameter_of i.parameters.items;
+  repr = i.repr;
+  valid_range = i.valid_range;
+  kind = item_kind_of i.kind;
+}
+
+abbrev pub use_of : Use → UseRead
+use_of u = record { inside = u.«module»; is_global = u.is_global; path = u.path.items; name = u.name; is_glob = u.is_glob }
+
+abbrev pub items_of : Items → ItemsRead
+items_of i = record {
+  modules = i.modules.items;
+  items = map item_of i.items.items;
+  uses = map use_of i.uses.items;
+  owners = map path_of i.owners.items;
+  passed_over = i.passed_over;
+  unknown = i.unknown_cfgs.items;
+}

@@ -1,0 +1,147 @@
+-- Items, one after another, and modules within one another.
+use Rattle.std.specs.Prelude.{ℕ, zero, suc, ◌-◌, ◌&&◌, ◌||◌, Bool, true, false, codes, [], nat_lt, Option, None, Some, Result, Ok, Err, if◌then◌else◌}
+use Rattle.std.specs.Str.{bytes_eq}
+use Rattle.rust_source.specs.declared.fault.SourceFault.{SourceFault}
+use Rattle.rust_source.specs.declared.fault.SourceFaultKind.TheVariants.{ExpectedItem, ExpectedSemicolon, TooDeep}
+use Rattle.rust_source.specs.declared.place.Place.{Place}
+use Rattle.rust_source.specs.declared.place.Symbol.{Symbol}
+use Rattle.rust_source.specs.declared.reader.attributes.Attributes.{Attributes}
+use Rattle.rust_source.specs.declared.reader.attributes.Rules.{Rules}
+use Rattle.rust_source.specs.declared.reader.cursor.Cursor.{Cursor}
+use Rattle.rust_source.specs.declared.tokens.keyword.Keyword.{Keyword}
+use Rattle.rust_source.specs.declared.tokens.keyword.Keyword.TheVariants as keyword
+use Rattle.rust_source.specs.declared.tokens.token.Bracket.TheVariants as bracket
+use Rattle.rust_source.specs.declared.tokens.token.TokenKind.{TokenKind}
+use Rattle.rust_source.specs.declared.tokens.token.TokenKind.TheVariants as kind
+use Rattle.rust_source.specs.Attributes.{attributes_read}
+use Rattle.rust_source.specs.Constants.{own_constants}
+use Rattle.rust_source.specs.Cursor.{behind, expected, inside, is_done, is_next, is_open, is_word, next_kind, nth, passed}
+use Rattle.rust_source.specs.Fields.{beside, visibility_passed}
+use Rattle.rust_source.specs.Having.{Having, item_in, next_module, noted, using_within, with_item, with_module, with_passed, within}
+use Rattle.rust_source.specs.Passing.{item_passed}
+use Rattle.rust_source.specs.Reading.{after, is_named, is_path_name, name, word_text}
+use Rattle.rust_source.specs.Simple.{most_nested}
+use Rattle.rust_source.specs.Terms.{done, refused}
+use Rattle.rust_source.specs.Uses.{tree_read}
+use Rattle.rust_source.specs.Written.{WrittenRead, written_read}
+
+-- what follows names and `:`, of at most so many
+abbrev pub path_passed_from : (limit : ℕ) → Cursor → Cursor
+path_passed_from zero c = c
+path_passed_from (suc limit) c = if is_path_name c || is_next c 58 then path_passed_from limit (passed c 1) else c
+
+unfoldable pub path_passed : Cursor → Cursor
+path_passed c = path_passed_from (c.end - c.at) c
+
+-- the call of a macro is next: a path, and then a `!`
+abbrev pub is_macro : Cursor → Bool
+is_macro c = nat_lt c.at (path_passed c).at && is_next (path_passed c) 33
+
+-- a name alone begins an item here, as `auto` in `auto trait`
+unfoldable pub is_item_word : Cursor → Bool
+is_item_word c =
+    bytes_eq (word_text c) (codes "macro") || is_named c (codes "auto") || is_named c (codes "default") || is_named c (codes "safe")
+
+-- an item that begins with this keyword is passed over
+abbrev pub passes : Keyword → Bool
+passes keyword.Fn = true
+passes keyword.Impl = true
+passes keyword.Trait = true
+passes keyword.Static = true
+passes keyword.Extern = true
+passes keyword.Unsafe = true
+passes keyword.Async = true
+passes keyword.Const = true
+passes keyword.Mod = true
+passes _ = false
+
+abbrev pub passes_kind : Option TokenKind → Bool
+passes_kind (Some (kind.Keyword k)) = passes k
+passes_kind _ = false
+
+-- an item that is passed over is next
+unfoldable pub is_passed_over : Cursor → Bool
+is_passed_over c = passes_kind (next_kind c) || is_item_word c || is_macro c
+
+-- an item that makes no type is passed over, and counted
+unfoldable pub over_passed : Cursor → Having → Result Cursor SourceFault × Having
+over_passed c known = if is_passed_over c then done (item_passed c) (known.0, with_passed known.1) else refused ExpectedItem c known
+
+-- what is brought in, behind `use`
+unfoldable pub use_read : (number : ℕ) → Cursor → Having → Result Cursor SourceFault × Having
+use_read number c known =
+    after (λ d ns. (expected d 59 ExpectedSemicolon, ns))
+    (using_within known.1 (tree_read most_nested (record { «module» = number; is_global = false }) [] c (known.0, known.1.uses)))
+
+-- a module with its items is next
+abbrev pub is_inline_module : Cursor → Bool
+is_inline_module c = is_word c keyword.Mod && is_open bracket.Curly (nth c 2)
+
+-- how the items of the module with this number are read, which stands within others
+abbrev pub ModuleReader : Type 0
+ModuleReader = (number : ℕ) → Cursor → Having → Result (Unit {0}) SourceFault × Having
+
+module _ (rules : Rules) where
+  -- the item that is next, which makes no type and is no constant
+  unfoldable pub other_read : (number : ℕ) → Cursor → Having → Result Cursor SourceFault × Having
+  other_read number c known =
+      if is_word c keyword.Use then use_read number (passed c 1) known else after (λ _ ns. over_passed c ns) (own_constants rules number c known)
+
+  -- the item that is next, which this was or another one is
+  abbrev pub item_by : (number : ℕ) → Attributes → Option WrittenRead → Cursor → Having → Result Cursor SourceFault × Having
+  item_by number said (Some w) c known = done c (known.0, with_item (item_in number said w) known.1)
+  item_by number said None c known = other_read number c known
+
+  -- the item that is next, which is no module, behind its attributes and its `pub`
+  unfoldable pub item_read : (number : ℕ) → Attributes → Cursor → Having → Result Cursor SourceFault × Having
+  item_read number said c known =
+      after (λ (w : Option WrittenRead × Cursor) ns. item_by number said w.0 w.1 ns) (within known.1 (written_read rules c (noted known)))
+
+  module _ (M : ModuleReader) where
+    -- the items of a module, which stand in these braces
+    abbrev pub module_in : (number : ℕ) → Cursor → Option Cursor → Having → Result Cursor SourceFault × Having
+    module_in number c None known = done c known
+    module_in number c (Some i) known = after (λ _ ns. done (behind c) ns) (M number i known)
+
+    -- a module of this name in another one
+    abbrev pub module_on : (outer : ℕ) → Symbol → Cursor → Having → Result Cursor SourceFault × Having
+    module_on outer name c known =
+        module_in (next_module known.1) c (inside c bracket.Curly) (known.0, with_module (record { name = name; parent = Some outer }) known.1)
+
+    -- the module that is next
+    unfoldable pub module_read : (outer : ℕ) → Cursor → Having → Result Cursor SourceFault × Having
+    module_read outer c known =
+        after (λ (n : (Symbol × Place) × Cursor) ns. module_on outer n.0.0 n.1 ns) (beside known.1 (name (passed c 1) known.0))
+
+    -- what stands behind these attributes and its `pub`, and what follows it
+    unfoldable pub said_read : (number : ℕ) → Attributes → Cursor → Having → Result Cursor SourceFault × Having
+    said_read number said c known =
+        if said.holds then (if is_inline_module c then module_read number c known else item_read number said c known)
+        else done (item_passed c) known
+
+    -- the item that is next, if one is behind its attributes
+    unfoldable pub one_read : (number : ℕ) → Cursor → Having → Result Cursor SourceFault × Having
+    one_read number c known =
+        after (λ (a : Attributes × Cursor) ns. if is_done a.1 then done a.1 ns else said_read number a.0 (visibility_passed a.1) ns)
+        (within known.1 (attributes_read rules c (noted known)))
+
+    -- the items of a module, at most so many
+    abbrev pub all_from : (limit number : ℕ) → Cursor → Having → Result (Unit {0}) SourceFault × Having
+    all_from zero number c known = done tt known
+    all_from (suc limit) number c known =
+        if is_done c then done tt known else after (λ d ns. all_from limit number d ns) (one_read number c known)
+
+    unfoldable pub all_read : ModuleReader
+    all_read number c known = all_from (c.end - c.at) number c known
+
+-- the items of a module that may stand in so many others
+unfoldable pub module_within : Rules → (room : ℕ) → ModuleReader
+module_within rules zero number c known = refused TooDeep c known
+module_within rules (suc room) number c known = all_read rules (module_within rules room) number c known
+
+-- the items of a source, in a new root module of this name, and that module's number
+unfoldable pub root_read : Rules → Symbol → Cursor → Having → Result ℕ SourceFault × Having
+root_read rules name c known =
+    after (λ _ ns. done (next_module known.1) ns)
+    (all_read rules (module_within rules most_nested) (next_module known.1) c
+    (known.0, with_module (record { name = name; parent = None }) known.1))
