@@ -1,5 +1,8 @@
 //! The names that each module has.
 
+ghost use Rattle.std.specs.Prelude.{◌≡◌};
+ghost use Rattle.abi_rust.specs.Scope.{constant_in, module_in, own_constant, owner_of, reached_from, type_in, use_in};
+
 use crate::fault::{FaultKind, Stop, stop_at};
 use crate::paths::{Found, Space, target_of, type_named};
 use crate::words::{Word, Words};
@@ -46,7 +49,9 @@ fn numbered(index: usize) -> u32 {
 }
 
 /// A name in a module.
-fn key(module: u32, name: Symbol) -> Key {
+fn key(module: u32, name: Symbol) -> Key
+    ensures { result ≡ («module», name.0) }
+{
     (module, name.0)
 }
 
@@ -184,37 +189,58 @@ impl Scope {
     }
 
     /// The module of this name that stands in a module.
-    pub(crate) fn module(&self, module: u32, name: Symbol) -> Option<u32> {
+    #[tactic(auto, unfolding(crate::specs::Scope::module_in))]
+    pub(crate) fn module(&self, module: u32, name: Symbol) -> Option<u32>
+        ensures { result ≡ module_in self.now «module» name }
+    {
         self.modules.get(&key(module, name)).copied()
     }
 
     /// The type of this name that stands in a module.
-    pub(crate) fn ty(&self, module: u32, name: Symbol) -> Option<u32> {
+    #[tactic(auto, unfolding(crate::specs::Scope::type_in))]
+    pub(crate) fn ty(&self, module: u32, name: Symbol) -> Option<u32>
+        ensures { result ≡ type_in self.now «module» name }
+    {
         self.types.get(&key(module, name)).copied()
     }
 
     /// The constant of this name that stands in a module.
-    pub(crate) fn value(&self, module: u32, name: Symbol) -> Option<u32> {
+    #[tactic(auto, unfolding(crate::specs::Scope::constant_in))]
+    pub(crate) fn value(&self, module: u32, name: Symbol) -> Option<u32>
+        ensures { result ≡ constant_in self.now «module» name }
+    {
         self.values.get(&key(module, name)).copied()
     }
 
     /// The constant of this name that is the type's own, which has this number.
-    pub(crate) fn own_constant(&self, owner: u32, name: Symbol) -> Option<u32> {
+    #[tactic(auto, unfolding(crate::specs::Scope::own_constant))]
+    pub(crate) fn own_constant(&self, owner: u32, name: Symbol) -> Option<u32>
+        ensures { result ≡ own_constant self.now owner name }
+    {
         self.own_constants.get(&(owner, name.0)).copied()
     }
 
     /// The type whose own the constant of this number is.
-    pub(crate) fn owner(&self, constant: u32) -> Option<u32> {
+    #[tactic(auto, unfolding(crate::specs::Scope::owner_of))]
+    pub(crate) fn owner(&self, constant: u32) -> Option<u32>
+        ensures { result ≡ owner_of self.now constant }
+    {
         self.owners.get(&constant).copied()
     }
 
     /// The use that brings a name into a module.
-    pub(crate) fn used(&self, module: u32, name: Symbol) -> Option<u32> {
+    #[tactic(auto, unfolding(crate::specs::Scope::use_in))]
+    pub(crate) fn used(&self, module: u32, name: Symbol) -> Option<u32>
+        ensures { result ≡ use_in self.now «module» name }
+    {
         self.uses.get(&key(module, name)).copied()
     }
 
     /// The modules that a module's globs lead to.
-    pub(crate) fn reached(&self, module: u32) -> &[u32] {
+    #[tactic(auto, unfolding(crate::specs::Scope::reached_from))]
+    pub(crate) fn reached(&self, module: u32) -> &[u32]
+        ensures { result.now ≡ reached_from self.now «module» }
+    {
         match self.reached.get(module as usize) {
             Some(reached) => reached.as_slice(),
             None => &[],
@@ -222,7 +248,9 @@ impl Scope {
     }
 
     /// The module whose names are everywhere.
-    pub(crate) fn prelude(&self) -> Option<u32> {
+    pub(crate) fn prelude(&self) -> Option<u32>
+        ensures { result ≡ self.now.prelude }
+    {
         self.prelude
     }
 }
