@@ -5,7 +5,9 @@ pub mod Places
 pub mod Reprs
 pub mod Scalars
 pub mod Scope
+pub mod ScopeNames
 pub mod Sources
+pub mod Standing
 pub mod Types
 pub mod Values
 pub mod Words
