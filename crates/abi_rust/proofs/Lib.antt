@@ -1,1 +1,4 @@
 pub mod Bits
+pub mod Rooms
+pub mod StandingLemmas
+pub mod ScopeLemmas

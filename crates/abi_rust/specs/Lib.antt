@@ -1,5 +1,13 @@
 pub mod Int
+pub mod Kinds
+pub mod Names
+pub mod Places
 pub mod Reprs
 pub mod Scalars
+pub mod Scope
+pub mod ScopeNames
 pub mod Sources
+pub mod Standing
+pub mod Types
 pub mod Values
+pub mod Words

@@ -1,35 +1,45 @@
 //! Constants by their paths: those of modules, and those of types, as `Header::LEN`.
 
-use crate::kind::parameter_named;
+ghost use Rattle.std.specs.Prelude.{◌≡◌};
+ghost use Rattle.abi_rust.specs.Kinds.{constant_named, constant_place, own_named, owner_named};
+ghost use Rattle.abi_rust.specs.Types.{where_of};
+
+use crate::kind::{name_alone, parameter_named};
 use crate::paths::{Found, Space, find, type_named};
 use crate::work::{Context, Setting};
 use rust_source::{Item, Path, Symbol};
 
 /// The constant that a path names: a module's, or a type's own.
-pub(crate) fn constant_named(cx: &Context<'_>, setting: Setting<'_>, path: &Path) -> Option<u32> {
-    if let Some(Found::Item(number)) = find(
-        cx.items,
-        cx.scope,
-        setting.module,
-        path,
-        Space::Values,
-    ) {
-        return Some(number);
+#[tactic(auto, unfolding(crate::specs::Kinds::constant_named))]
+pub(crate) fn constant_named(cx: &Context<'_>, setting: Setting<'_>, path: &Path) -> Option<u32>
+    ensures { result ≡ constant_named cx.now.items.now cx.now.scope.now (where_of setting.entry) path.now }
+{
+    match find(cx.items, cx.scope, setting.module, path, Space::Values) {
+        Some(Found::Item(number)) => Some(number),
+        _ => own_named(cx, setting, path),
     }
-    let count = path.segments.len().checked_sub(1)?;
-    let last = path.segments.get(count)?;
-    cx.scope
-        .own_constant(owner_named(cx, setting, path, count)?, last.name)
+}
+
+/// The constant of a type that a path names.
+#[tactic(auto, unfolding(crate::specs::Kinds::own_named))]
+fn own_named(cx: &Context<'_>, setting: Setting<'_>, path: &Path) -> Option<u32>
+    ensures { result ≡ own_named cx.now.items.now cx.now.scope.now (where_of setting.entry) path.now }
+{
+    let owner = owner_named(cx, setting, path, path.segments.len().saturating_sub(1))?;
+    let last = path.segments.last()?;
+    cx.scope.own_constant(owner, last.name)
 }
 
 /// The type that the first names of a path name, so many of them, where it may have constants of its own.
-fn owner_named(cx: &Context<'_>, setting: Setting<'_>, path: &Path, count: usize) -> Option<u32> {
-    if count == 1 {
-        let first = path.segments.first()?;
-        if first.name == Symbol::SELF_TYPE {
+#[tactic(auto, unfolding(crate::specs::Kinds::owner_named))]
+fn owner_named(cx: &Context<'_>, setting: Setting<'_>, path: &Path, count: usize) -> Option<u32>
+    ensures { result ≡ owner_named cx.now.items.now cx.now.scope.now (where_of setting.entry) path.now count }
+{
+    if let Some(name) = name_alone(path, count) {
+        if name == Symbol::SELF_TYPE {
             return setting.item;
         }
-        if parameter_named(cx, setting.item, first.name).is_some() {
+        if parameter_named(cx, setting.item, name).is_some() {
             return None;
         }
     }
@@ -37,7 +47,9 @@ fn owner_named(cx: &Context<'_>, setting: Setting<'_>, path: &Path, count: usize
 }
 
 /// Where the value of the constant of this number stands: in its module, and in the type whose own it is.
-pub(crate) fn inside_constant(cx: &Context<'_>, number: u32, item: &Item) -> Setting<'static> {
+pub(crate) fn inside_constant(cx: &Context<'_>, number: u32, item: &Item) -> Setting<'static>
+    ensures { where_of result ≡ constant_place cx.now.scope.now number item.now }
+{
     Setting {
         module: item.module,
         item: cx.scope.owner(number),

@@ -120,17 +120,31 @@ pub(crate) enum Stop {
 }
 
 /// A fault at a place.
-pub(crate) fn stop_at(at: Place, kind: FaultKind) -> Stop {
+pub(crate) fn stop_at(at: Place, kind: FaultKind) -> Stop
+    ensures { result ≡ Stop.Fault (Some at) kind }
+{
     Stop::Fault(Some(at), kind)
 }
 
 impl From<AllocError> for Stop {
+    ghost use Rattle.std.specs.Prelude.{◌≡◌, None};
+    ghost use Rattle.abi_rust.specs.declared.fault.FaultKind.TheVariants.{OutOfMemory};
+    ghost use Rattle.abi_rust.specs.declared.fault.Stop.TheVariants.{Fault};
+
+    ghost from_gives = { λ _ stop. stop ≡ Fault None OutOfMemory };
+
     fn from(_error: AllocError) -> Stop {
         Stop::Fault(None, FaultKind::OutOfMemory)
     }
 }
 
 impl<T: Drop> From<AllocFailed<T>> for Stop {
+    ghost use Rattle.std.specs.Prelude.{◌≡◌, None};
+    ghost use Rattle.abi_rust.specs.declared.fault.FaultKind.TheVariants.{OutOfMemory};
+    ghost use Rattle.abi_rust.specs.declared.fault.Stop.TheVariants.{Fault};
+
+    ghost from_gives = { λ _ stop. stop ≡ Fault None OutOfMemory };
+
     fn from(_error: AllocFailed<T>) -> Stop {
         Stop::Fault(None, FaultKind::OutOfMemory)
     }

@@ -1,14 +1,26 @@
 //! The type of a constant expression, found without its value.
 
+ghost use Rattle.std.specs.Prelude.{◌≡◌, IfSome, slice_get};
+ghost use Rattle.std.specs.Option.{option_and_then, option_copied, option_map};
+ghost use Rattle.rust_source.specs.declared.syntax.Path.{out-Path};
+ghost use Rattle.abi_rust.specs.Kinds.{constant_type, given_named, is_shift, is_test, kind_at, kind_found, kind_given, kind_of, kind_of_primitive, kind_written, limit_type, name_alone, number_from, operand_kind, operands_kind, outside, parameter_named, parameter_type, parameters_of, path_kind, single_name};
+ghost use Rattle.abi_rust.specs.Places.{last_name};
+ghost use Rattle.abi_rust.specs.Types.{given_of, where_of};
+
 use crate::constants::{constant_named, inside_constant};
-use crate::paths::{Found, MOST_ALIASES, Space, find, find_of};
+use crate::paths::{Found, Space, find_of, found_by, item_at, most_aliases};
 use crate::ty::{Given, Kind, Primitive, Ty};
 use crate::words::Word;
 use crate::work::{Context, Setting};
-use rust_source::{Binary, Expr, IntegerKind, ItemKind, ParameterKind, Path, Symbol, Type};
+use rust_source::{
+    Binary, Expr, IntegerKind, Item, ItemKind, Parameter, ParameterKind, Path, Symbol, Type,
+};
 
 /// The name of a path that is one name without arguments.
-pub(crate) fn single_name(path: &Path) -> Option<Symbol> {
+#[tactic(auto, unfolding(crate::specs::Kinds::single_name))]
+pub(crate) fn single_name(path: &Path) -> Option<Symbol>
+    ensures { result ≡ single_name path.now }
+{
     let segment = path.segments.first()?;
     if path.is_global || path.segments.len() != 1 || !segment.arguments.is_empty() {
         return None;
@@ -17,8 +29,18 @@ pub(crate) fn single_name(path: &Path) -> Option<Symbol> {
 }
 
 /// The number of the item's parameter of this name.
-pub(crate) fn parameter_named(cx: &Context<'_>, item: Option<u32>, name: Symbol) -> Option<usize> {
-    let item = cx.items.items.get(item? as usize)?;
+#[tactic(auto, unfolding(crate::specs::Kinds::parameter_named))]
+pub(crate) fn parameter_named(cx: &Context<'_>, item: Option<u32>, name: Symbol) -> Option<usize>
+    ensures { result ≡ parameter_named cx.now.items.now cx.now.scope.now item name }
+{
+    let item = item_at(cx.items, item?)?;
+    number_named(item, name)
+}
+
+/// The number of the first parameter of this name.
+fn number_named(item: &Item, name: Symbol) -> Option<usize>
+    ensures { result ≡ number_from 0 name item.now.parameters.items }
+{
     for (index, parameter) in item.parameters.iter().enumerate() {
         if parameter.name == name {
             return Some(index);
@@ -28,16 +50,21 @@ pub(crate) fn parameter_named(cx: &Context<'_>, item: Option<u32>, name: Symbol)
 }
 
 /// What the parameter of this name is given.
+#[tactic(auto, unfolding(crate::specs::Kinds::given_named))]
 pub(crate) fn given_named<'g>(
     cx: &Context<'_>,
     setting: Setting<'g>,
     name: Symbol,
-) -> Option<&'g Given> {
+) -> Option<&'g Given>
+    ensures { option_map (λ given. given_of given.now) result ≡ given_named cx.now.items.now cx.now.scope.now (where_of setting.entry) name }
+{
     setting.given.get(parameter_named(cx, setting.item, name)?)
 }
 
 /// The type of constants that a primitive type is.
-fn kind_of_primitive(primitive: Primitive) -> Option<Kind> {
+fn kind_of_primitive(primitive: Primitive) -> Option<Kind>
+    ensures { result ≡ kind_of_primitive primitive }
+{
     match primitive {
         Primitive::Bool => Some(Kind::Bool),
         Primitive::Char => Some(Kind::Char),
@@ -48,7 +75,9 @@ fn kind_of_primitive(primitive: Primitive) -> Option<Kind> {
 }
 
 /// The type of constants that the parameter of this name is given, if it is one.
-fn kind_given(cx: &Context<'_>, setting: Setting<'_>, name: Symbol) -> Option<Kind> {
+fn kind_given(cx: &Context<'_>, setting: Setting<'_>, name: Symbol) -> Option<Kind>
+    ensures { result ≡ kind_given (given_named cx.now.items.now cx.now.scope.now (where_of setting.entry) name) }
+{
     match given_named(cx, setting, name)? {
         Given::Type(Ty::Primitive(primitive)) => kind_of_primitive(*primitive),
         _ => None,
@@ -56,25 +85,39 @@ fn kind_given(cx: &Context<'_>, setting: Setting<'_>, name: Symbol) -> Option<Ki
 }
 
 /// The type of constants that a type is, if it is one.
-pub(crate) fn kind_written(cx: &Context<'_>, setting: Setting<'_>, ty: &Type) -> Option<Kind> {
+pub(crate) fn kind_written(cx: &Context<'_>, setting: Setting<'_>, ty: &Type) -> Option<Kind>
+    ensures { result ≡ kind_written cx.now.items.now cx.now.scope.now (where_of setting.entry) ty.now }
+{
     let Type::Path(path) = ty else {
         return None;
     };
     kind_at(cx, setting, path, path.segments.len())
 }
 
+/// The name that the first names of a path are, so many of them, where they are one.
+pub(crate) fn name_alone(path: &Path, count: usize) -> Option<Symbol>
+    ensures { result ≡ name_alone count (out-Path path.now).segments.items }
+{
+    if count == 1 {
+        let segment = path.segments.first()?;
+        return Some(segment.name);
+    }
+    None
+}
+
 /// The type of constants that the first names of a path are, so many of them, if they are one.
+#[tactic(auto, unfolding(crate::specs::Kinds::kind_at))]
 pub(crate) fn kind_at(
     cx: &Context<'_>,
     setting: Setting<'_>,
     path: &Path,
     count: usize,
-) -> Option<Kind> {
-    if count == 1 {
-        if let Some(segment) = path.segments.first() {
-            if parameter_named(cx, setting.item, segment.name).is_some() {
-                return kind_given(cx, setting, segment.name);
-            }
+) -> Option<Kind>
+    ensures { result ≡ kind_at cx.now.items.now cx.now.scope.now (where_of setting.entry) path.now count }
+{
+    if let Some(name) = name_alone(path, count) {
+        if parameter_named(cx, setting.item, name).is_some() {
+            return kind_given(cx, setting, name);
         }
     }
     kind_found(
@@ -86,30 +129,36 @@ pub(crate) fn kind_at(
             path,
             count,
             Space::Types,
-        )?,
+        ),
     )
 }
 
 /// The type of constants that a type is, by its aliases.
-fn kind_found(cx: &Context<'_>, found: Found) -> Option<Kind> {
+#[tactic(auto, unfolding(crate::specs::Kinds::kind_found), using(crate::proofs::Rooms::kind_more, crate::proofs::Rooms::kind_done))]
+fn kind_found(cx: &Context<'_>, found: Option<Found>) -> Option<Kind>
+    ensures { result ≡ kind_found cx.now.items.now cx.now.scope.now found }
+{
     let mut found = found;
-    for _alias in 0..MOST_ALIASES {
+    let turns = most_aliases();
+    for turn in 0..turns {
         let number = match found {
-            Found::Primitive(primitive) => return kind_of_primitive(primitive),
-            Found::Module(_) => return None,
-            Found::Item(number) => number,
+            Some(Found::Primitive(primitive)) => return kind_of_primitive(primitive),
+            Some(Found::Item(number)) => number,
+            _ => return None,
         };
-        let item = cx.items.items.get(number as usize)?;
-        let ItemKind::Alias(Type::Path(path)) = &item.kind else {
+        let item = item_at(cx.items, number)?;
+        let ItemKind::Alias(ty) = &item.kind else {
             return None;
         };
-        found = find(cx.items, cx.scope, item.module, path, Space::Types)?;
+        found = found_by(cx.items, cx.scope, item.module, ty);
     }
     None
 }
 
 /// The type of an expression, where its parts tell it.
-pub(crate) fn kind_of(cx: &Context<'_>, setting: Setting<'_>, expr: &Expr) -> Option<Kind> {
+pub(crate) fn kind_of(cx: &Context<'_>, setting: Setting<'_>, expr: &Expr) -> Option<Kind>
+    ensures { result ≡ kind_of cx.now.items.now cx.now.scope.now (where_of setting.entry) expr.now }
+{
     match expr {
         Expr::Integer(_, suffix, _) => Some(Kind::Integer((*suffix)?)),
         Expr::Char(_, _) => Some(Kind::Char),
@@ -139,38 +188,71 @@ pub(crate) fn kind_of(cx: &Context<'_>, setting: Setting<'_>, expr: &Expr) -> Op
     }
 }
 
-/// The type of a constant that a path names.
-fn kind_of_path(cx: &Context<'_>, setting: Setting<'_>, path: &Path) -> Option<Kind> {
+/// The type of the constant that a path names.
+#[tactic(auto, unfolding(crate::specs::Kinds::path_kind))]
+fn kind_of_path(cx: &Context<'_>, setting: Setting<'_>, path: &Path) -> Option<Kind>
+    ensures { result ≡ path_kind cx.now.items.now cx.now.scope.now (where_of setting.entry) path.now }
+{
     if let Some(name) = single_name(path) {
         if let Some(index) = parameter_named(cx, setting.item, name) {
-            return kind_of_parameter(cx, setting, index);
+            return kind_of_parameter(cx, setting.item, index);
         }
     }
-    if let Some(number) = constant_named(cx, setting, path) {
-        let item = cx.items.items.get(number as usize)?;
-        if let ItemKind::Const(constant) = &item.kind {
-            return kind_written(cx, inside_constant(cx, number, item), &constant.ty);
-        }
+    match constant_named(cx, setting, path) {
+        Some(number) => kind_of_constant(cx, number),
+        None => kind_of_limit(cx, setting, path),
     }
-    let count = path.segments.len().checked_sub(1)?;
-    let last = path.segments.get(count)?.name;
-    if cx.scope.words.is(last, Word::Bits) {
+}
+
+/// The type of the constant of this number.
+#[tactic(auto, unfolding(crate::specs::Kinds::constant_type))]
+pub(crate) fn kind_of_constant(cx: &Context<'_>, number: u32) -> Option<Kind>
+    ensures { result ≡ constant_type cx.now.items.now cx.now.scope.now number }
+{
+    let item = item_at(cx.items, number)?;
+    match &item.kind {
+        ItemKind::Const(constant) => {
+            kind_written(cx, inside_constant(cx, number, item), &constant.ty)
+        }
+        _ => None,
+    }
+}
+
+/// The type of a limit that a path names, as `T::BITS`.
+fn kind_of_limit(cx: &Context<'_>, setting: Setting<'_>, path: &Path) -> Option<Kind>
+    ensures { result ≡ limit_type cx.now.items.now cx.now.scope.now (where_of setting.entry) path.now (last_name path.now) }
+{
+    let last = path.segments.last()?;
+    if cx.scope.words.is(last.name, Word::Bits) {
         return Some(Kind::Integer(IntegerKind::U32));
     }
-    kind_at(cx, setting, path, count)
+    kind_at(cx, setting, path, path.segments.len().saturating_sub(1))
 }
 
 /// The type of an item's constant parameter.
-fn kind_of_parameter(cx: &Context<'_>, setting: Setting<'_>, index: usize) -> Option<Kind> {
-    let item = cx.items.items.get(setting.item? as usize)?;
-    match &item.parameters.get(index)?.kind {
+#[tactic(auto, unfolding(crate::specs::Kinds::parameter_type))]
+fn kind_of_parameter(cx: &Context<'_>, item: Option<u32>, index: usize) -> Option<Kind>
+    ensures { result ≡ parameter_type cx.now.items.now cx.now.scope.now item index }
+{
+    let item = item_at(cx.items, item?)?;
+    let parameter = parameter_at(item, index)?;
+    match &parameter.kind {
         ParameterKind::Const(ty, _) => kind_written(cx, outside(item.module), ty),
         ParameterKind::Type(_) => None,
     }
 }
 
+/// The parameter of this number.
+fn parameter_at(item: &Item, index: usize) -> Option<&Parameter>
+    ensures { option_copied result ≡ slice_get item.now.parameters.items index }
+{
+    item.parameters.get(index)
+}
+
 /// A module outside of items.
-pub(crate) fn outside(module: u32) -> Setting<'static> {
+pub(crate) fn outside(module: u32) -> Setting<'static>
+    ensures { where_of result ≡ outside «module» }
+{
     Setting {
         module,
         item: None,
@@ -179,7 +261,9 @@ pub(crate) fn outside(module: u32) -> Setting<'static> {
 }
 
 /// Whether the operator answers a `bool` whatever its operands are.
-pub(crate) fn is_test(operator: Binary) -> bool {
+pub(crate) fn is_test(operator: Binary) -> bool
+    ensures { result ≡ is_test operator }
+{
     match operator {
         Binary::Equal | Binary::NotEqual => true,
         Binary::Less | Binary::LessOrEqual | Binary::Greater | Binary::GreaterOrEqual => true,
@@ -189,7 +273,9 @@ pub(crate) fn is_test(operator: Binary) -> bool {
 }
 
 /// Whether the operator's operands may be of two types.
-pub(crate) fn is_shift(operator: Binary) -> bool {
+pub(crate) fn is_shift(operator: Binary) -> bool
+    ensures { result ≡ is_shift operator }
+{
     match operator {
         Binary::Shl | Binary::Shr => true,
         _ => false,
@@ -204,7 +290,9 @@ pub(crate) fn operand_kind(
     left: &Expr,
     right: &Expr,
     wanted: Option<Kind>,
-) -> Option<Kind> {
+) -> Option<Kind>
+    ensures { result ≡ operand_kind cx.now.items.now cx.now.scope.now (where_of setting.entry) operator left.now right.now wanted }
+{
     if !is_test(operator) && wanted.is_some() {
         return wanted;
     }

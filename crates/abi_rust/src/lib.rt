@@ -16,6 +16,7 @@ mod std_source;
 // Names.
 mod paths;
 mod scope;
+mod standing;
 mod words;
 
 // Types whose names are resolved.

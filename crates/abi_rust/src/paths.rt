@@ -1,14 +1,23 @@
 //! What a path names.
 
+ghost use Rattle.std.specs.Prelude.{◌≡◌, ◌+◌, IfNone, IfSome, length, map, slice_get};
+ghost use Rattle.std.specs.Option.{option_copied};
+ghost use Rattle.rust_source.specs.declared.syntax.Path.{out-Path};
+ghost use Rattle.abi_rust.specs.Kinds.{found_by, most_aliases, type_named};
+ghost use Rattle.abi_rust.specs.Names.{behind, beside_module, declared, first, found, found_of, most_modules, most_uses, names_of, own, parent, path_named, root, space_before, target, target_with, within};
+
 use crate::scope::Scope;
 use crate::ty::Primitive;
-use rust_source::{ItemKind, Items, Path, Symbol, Type};
+use rust_source::{Item, ItemKind, Items, Path, Symbol, Type, Use};
 
 /// How many uses may lead from one to another.
 const MOST_USES: u32 = 32;
 
+/// How many modules a module may be in.
+const MOST_MODULES: u32 = 256;
+
 /// How many aliases may lead from one to another.
-pub(crate) const MOST_ALIASES: u32 = 64;
+const MOST_ALIASES: u32 = 64;
 
 /// What a path names.
 #[derive(Clone, Copy)]
@@ -28,14 +37,28 @@ pub(crate) enum Space {
 }
 
 /// The module that a module is in.
-fn parent_of(items: &Items, module: u32) -> Option<u32> {
+fn parent_of(items: &Items, module: u32) -> Option<u32>
+    ensures { result ≡ parent items.now «module» }
+{
     items.modules.get(module as usize)?.parent
 }
 
+/// How many modules a module may be in.
+#[tactic(auto, unfolding(crate::specs::Names::most_modules))]
+fn most_modules() -> u32
+    ensures { result ≡ most_modules }
+{
+    MOST_MODULES
+}
+
 /// The root of the source that a module is in. Modules stand in at most 200 others.
-pub(crate) fn root_of(items: &Items, module: u32) -> u32 {
+#[tactic(auto, unfolding(crate::specs::Names::root), using(crate::proofs::Rooms::root_more, crate::proofs::Rooms::root_done))]
+pub(crate) fn root_of(items: &Items, module: u32) -> u32
+    ensures { result ≡ root items.now «module» }
+{
     let mut root = module;
-    for _depth in 0..256 {
+    let turns = most_modules();
+    for turn in 0..turns {
         match parent_of(items, root) {
             Some(parent) => root = parent,
             None => return root,
@@ -51,11 +74,14 @@ pub(crate) fn find(
     module: u32,
     path: &Path,
     space: Space,
-) -> Option<Found> {
+) -> Option<Found>
+    ensures { result ≡ found items.now scope.now «module» path.now space }
+{
     find_of(items, scope, module, path, path.segments.len(), space)
 }
 
 /// What the first names of a path name, so many of them, if anything.
+#[tactic(auto, unfolding(crate::specs::Names::found_of))]
 pub(crate) fn find_of(
     items: &Items,
     scope: &Scope,
@@ -63,65 +89,111 @@ pub(crate) fn find_of(
     path: &Path,
     count: usize,
     space: Space,
-) -> Option<Found> {
-    let mut found = None;
-    for (index, segment) in path.segments.iter().enumerate() {
-        if index >= count {
+) -> Option<Found>
+    ensures { result ≡ found_of items.now scope.now «module» path.now count space }
+{
+    let found = names_named(items, scope, module, path, count, space, most_uses());
+    beside_module(items, scope, path, count, space, found)
+}
+
+/// What the first names of a path name, so many of them, where a module may have the name of a primitive type.
+fn names_named(
+    items: &Items,
+    scope: &Scope,
+    module: u32,
+    path: &Path,
+    count: usize,
+    space: Space,
+    room: u32,
+) -> Option<Found>
+    ensures { result ≡ path_named items.now scope.now (target items.now scope.now room)
+        count «module» (out-Path path.now).is_global space None (names_of path.now) }
+{
+    let mut left = count.checked_sub(1)?;
+    let (begin, rest) = path.segments.as_slice().split_first()?;
+    let first_space = space_before(left, space);
+    let mut found = first(
+        items,
+        scope,
+        module,
+        begin.name,
+        path.is_global,
+        first_space,
+        None,
+        room,
+    );
+    for segment in rest {
+        let Some(fewer) = left.checked_sub(1) else {
             break;
-        }
-        let space = space_of(index, count, space);
-        let name = segment.name;
-        if index == 0 {
-            found = first(
-                items,
-                scope,
-                module,
-                name,
-                path.is_global,
-                space,
-                None,
-                MOST_USES,
-            );
-        } else {
-            found = behind(items, scope, found, name, space, MOST_USES);
-        }
+        };
+        left = fewer;
+        found = behind(
+            items,
+            scope,
+            found,
+            segment.name,
+            space_before(left, space),
+            room,
+        );
     }
-    beside_module(scope, path, count, space, found)
+    found
 }
 
 /// The struct, enum or union that the first names of a path name, so many of them, by aliases too.
+#[tactic(auto, unfolding(crate::specs::Kinds::type_named), using(crate::proofs::Rooms::type_more, crate::proofs::Rooms::type_done))]
 pub(crate) fn type_named(
     items: &Items,
     scope: &Scope,
     module: u32,
     path: &Path,
     count: usize,
-) -> Option<u32> {
-    let mut found = find_of(items, scope, module, path, count, Space::Types)?;
-    for _alias in 0..MOST_ALIASES {
-        let Found::Item(number) = found else {
+) -> Option<u32>
+    ensures { result ≡ type_named items.now scope.now «module» path.now count }
+{
+    let mut found = find_of(items, scope, module, path, count, Space::Types);
+    let turns = most_aliases();
+    for turn in 0..turns {
+        let Some(Found::Item(number)) = found else {
             return None;
         };
-        let item = items.items.get(number as usize)?;
+        let item = item_at(items, number)?;
         match &item.kind {
-            ItemKind::Alias(Type::Path(path)) => {
-                found = find(items, scope, item.module, path, Space::Types)?;
-            }
-            ItemKind::Alias(_) => return None,
+            ItemKind::Alias(ty) => found = found_by(items, scope, item.module, ty),
             _ => return Some(number),
         }
     }
     None
 }
 
+/// What a type names that is a path, if anything.
+pub(crate) fn found_by(items: &Items, scope: &Scope, module: u32, ty: &Type) -> Option<Found>
+    ensures { result ≡ found_by items.now scope.now «module» ty.now }
+{
+    match ty {
+        Type::Path(path) => find(items, scope, module, path, Space::Types),
+        _ => None,
+    }
+}
+
+/// How many aliases may lead from one to another.
+#[tactic(auto, unfolding(crate::specs::Kinds::most_aliases))]
+pub(crate) fn most_aliases() -> u32
+    ensures { result ≡ most_aliases }
+{
+    MOST_ALIASES
+}
+
 /// What is found, but a primitive type in place of a module of its name, which a type can't be.
 fn beside_module(
+    items: &Items,
     scope: &Scope,
     path: &Path,
     count: usize,
     space: Space,
     found: Option<Found>,
-) -> Option<Found> {
+) -> Option<Found>
+    ensures { result ≡ beside_module items.now scope.now count space (names_of path.now) found }
+{
     if let Some(Found::Module(_)) = found {
         if count == 1 && space == Space::Types {
             if let Some(segment) = path.segments.first() {
@@ -134,50 +206,120 @@ fn beside_module(
     found
 }
 
-/// Which names are looked for at a name of a path: modules before the last.
-fn space_of(index: usize, count: usize, space: Space) -> Space {
-    if index.saturating_add(1) == count {
-        space
-    } else {
-        Space::Types
-    }
+/// Which names are looked for at a name of a path behind which so many stand: modules before the last.
+fn space_before(behind: usize, space: Space) -> Space
+    ensures { result ≡ space_before behind space }
+{
+    if behind == 0 { space } else { Space::Types }
+}
+
+/// How many uses may lead from one to another.
+#[tactic(auto, unfolding(crate::specs::Names::most_uses))]
+fn most_uses() -> u32
+    ensures { result ≡ most_uses }
+{
+    MOST_USES
+}
+
+/// The use of this number.
+fn use_at(items: &Items, number: u32) -> Option<&Use>
+    ensures { option_copied result ≡ slice_get items.now.uses.items number }
+{
+    items.uses.get(number as usize)
+}
+
+/// The item of this number.
+pub(crate) fn item_at(items: &Items, number: u32) -> Option<&Item>
+    ensures { option_copied result ≡ slice_get items.now.items.items number }
+{
+    items.items.get(number as usize)
+}
+
+/// One less room, if there is some.
+fn less(room: u32) -> Option<u32>
+    ensures some { IfSome result (λ left. left + 1 ≡ room) }
+    ensures none { IfNone result (room ≡ 0) }
+{
+    room.checked_sub(1)
 }
 
 /// What a use brings in, if anything.
-pub(crate) fn target_of(items: &Items, scope: &Scope, number: u32, space: Space) -> Option<Found> {
-    follow(items, scope, number, space, MOST_USES)
+pub(crate) fn target_of(items: &Items, scope: &Scope, number: u32, space: Space) -> Option<Found>
+    ensures { result ≡ target items.now scope.now most_uses number space }
+{
+    follow(items, scope, number, space, most_uses())
 }
 
 /// What a use brings in, if anything.
 #[cycle(names)]
-fn follow(items: &Items, scope: &Scope, number: u32, space: Space, room: u32) -> Option<Found> {
-    let room = room.checked_sub(1)?;
-    let used = items.uses.get(number as usize)?;
-    let count = used.path.len();
-    let mut found = None;
-    for (index, name) in used.path.iter().enumerate() {
-        let space = space_of(index, count, space);
-        if index == 0 {
-            let (module, skipped) = (used.module, Some(number));
-            found = first(
-                items,
-                scope,
-                module,
-                name.name,
-                used.is_global,
-                space,
-                skipped,
-                room,
-            );
-        } else {
-            found = behind(items, scope, found, name.name, space, room);
-        }
+#[tactic(auto, using(crate::proofs::Rooms::target_less, crate::proofs::Rooms::target_none))]
+fn follow(items: &Items, scope: &Scope, number: u32, space: Space, room: u32) -> Option<Found>
+    ensures { result ≡ target items.now scope.now room number space }
+{
+    match less(room) {
+        Some(room) => follow_use(items, scope, number, space, room),
+        None => None,
+    }
+}
+
+/// What a use brings in, by those that its path goes through.
+#[cycle(names)]
+#[tactic(auto, unfolding(crate::specs::Names::target_with))]
+fn follow_use(items: &Items, scope: &Scope, number: u32, space: Space, room: u32) -> Option<Found>
+    ensures { result ≡ target_with items.now scope.now (target items.now scope.now room) number space }
+{
+    match use_at(items, number) {
+        Some(used) => follow_names(items, scope, used, number, space, room),
+        None => None,
+    }
+}
+
+/// What the names of a use name.
+#[cycle(names)]
+fn follow_names(
+    items: &Items,
+    scope: &Scope,
+    used: &Use,
+    number: u32,
+    space: Space,
+    room: u32,
+) -> Option<Found>
+    ensures { result ≡ path_named items.now scope.now (target items.now scope.now room) (length used.now.path.items)
+        used.now.«module» used.now.is_global space (Some number) (map (λ n. n.name) used.now.path.items) }
+{
+    let mut left = used.path.len().checked_sub(1)?;
+    let (begin, rest) = used.path.as_slice().split_first()?;
+    let first_space = space_before(left, space);
+    let mut found = first(
+        items,
+        scope,
+        used.module,
+        begin.name,
+        used.is_global,
+        first_space,
+        Some(number),
+        room,
+    );
+    for name in rest {
+        let Some(fewer) = left.checked_sub(1) else {
+            break;
+        };
+        left = fewer;
+        found = behind(
+            items,
+            scope,
+            found,
+            name.name,
+            space_before(left, space),
+            room,
+        );
     }
     found
 }
 
 /// What a path's first name names in a module. The use of the number `skipped` counts for nothing.
 #[cycle(names)]
+#[tactic(auto, unfolding(crate::specs::Names::first))]
 fn first(
     items: &Items,
     scope: &Scope,
@@ -187,7 +329,9 @@ fn first(
     space: Space,
     skipped: Option<u32>,
     room: u32,
-) -> Option<Found> {
+) -> Option<Found>
+    ensures { result ≡ first items.now scope.now (target items.now scope.now room) «module» name is_global space skipped }
+{
     if name == Symbol::CRATE {
         return Some(Found::Module(root_of(items, module)));
     }
@@ -215,6 +359,7 @@ fn first(
 
 /// What a name behind another names.
 #[cycle(names)]
+#[tactic(auto, unfolding(crate::specs::Names::behind))]
 fn behind(
     items: &Items,
     scope: &Scope,
@@ -222,7 +367,9 @@ fn behind(
     name: Symbol,
     space: Space,
     room: u32,
-) -> Option<Found> {
+) -> Option<Found>
+    ensures { result ≡ behind items.now scope.now (target items.now scope.now room) before name space }
+{
     let Some(Found::Module(module)) = before else {
         return None;
     };
@@ -237,6 +384,7 @@ fn behind(
 
 /// What a name names in a module: what stands there, what its uses bring in, and then what its globs do.
 #[cycle(names)]
+#[tactic(auto, unfolding(crate::specs::Names::within))]
 fn within(
     items: &Items,
     scope: &Scope,
@@ -245,7 +393,9 @@ fn within(
     space: Space,
     skipped: Option<u32>,
     room: u32,
-) -> Option<Found> {
+) -> Option<Found>
+    ensures { result ≡ within items.now scope.now (target items.now scope.now room) «module» name space skipped }
+{
     if let Some(found) = own(items, scope, module, name, space, skipped, room) {
         return Some(found);
     }
@@ -259,6 +409,7 @@ fn within(
 
 /// What a name names in a module without its globs.
 #[cycle(names)]
+#[tactic(auto, unfolding(crate::specs::Names::own))]
 fn own(
     items: &Items,
     scope: &Scope,
@@ -267,7 +418,9 @@ fn own(
     space: Space,
     skipped: Option<u32>,
     room: u32,
-) -> Option<Found> {
+) -> Option<Found>
+    ensures { result ≡ own items.now scope.now (target items.now scope.now room) «module» name space skipped }
+{
     if let Some(found) = declared(scope, module, name, space) {
         return Some(found);
     }
@@ -279,7 +432,9 @@ fn own(
 }
 
 /// What stands in a module under a name.
-fn declared(scope: &Scope, module: u32, name: Symbol, space: Space) -> Option<Found> {
+fn declared(scope: &Scope, module: u32, name: Symbol, space: Space) -> Option<Found>
+    ensures { result ≡ declared scope.now «module» name space }
+{
     if space == Space::Values {
         return Some(Found::Item(scope.value(module, name)?));
     }

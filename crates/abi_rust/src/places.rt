@@ -1,11 +1,16 @@
 //! Where expressions stand, and faults in them.
 
+ghost use Rattle.std.specs.Prelude.{◌≡◌};
+ghost use Rattle.abi_rust.specs.Places.{place_of, place_of_path};
+
 use crate::fault::{FaultKind, Stop, stop_at};
 use crate::ty::Value;
 use rust_source::{Expr, Path, Place};
 
 /// Where an expression stands.
-pub(crate) fn place_of(expr: &Expr) -> Place {
+pub(crate) fn place_of(expr: &Expr) -> Place
+    ensures { result ≡ place_of expr.now }
+{
     match expr {
         Expr::Integer(_, _, at) => *at,
         Expr::Char(_, at) => *at,
@@ -21,7 +26,10 @@ pub(crate) fn place_of(expr: &Expr) -> Place {
 }
 
 /// Where a path's last name stands.
-pub(crate) fn place_of_path(path: &Path) -> Place {
+#[tactic(auto, unfolding(crate::specs::Places::place_of_path))]
+pub(crate) fn place_of_path(path: &Path) -> Place
+    ensures { result ≡ place_of_path path.now }
+{
     match path.segments.last() {
         Some(segment) => segment.at,
         None => Place(0),

@@ -1,10 +1,16 @@
 //! The names that each module has.
 
+ghost use Rattle.std.specs.Prelude.{◌≡◌, ◌⊎◌, IfErr, IfOk, None, Some};
+ghost use Rattle.abi_rust.specs.Scope.{constant_in, module_in, own_constant, owner_of, reached_from, type_in, use_in};
+ghost use Rattle.abi_rust.specs.ScopeNames.{HasSameNames, HasSameRoots, IsEmpty, KeepsNames, repeated_of};
+ghost use Rattle.abi_rust.specs.Standing.{IsMemory};
+
 use crate::fault::{FaultKind, Stop, stop_at};
 use crate::paths::{Found, Space, target_of, type_named};
+use crate::standing::{Key, add_items, add_modules, add_uses, key, numbered};
 use crate::words::{Word, Words};
 use indexmap::IndexMap;
-use rust_source::{Const, Item, ItemKind, Items, Symbol};
+use rust_source::{Item, ItemKind, Items, Symbol};
 use std::alloc::Global;
 
 /// How often globs are followed that are found through others.
@@ -12,9 +18,6 @@ const MOST_ROUNDS: usize = 8;
 
 /// How many modules a module's globs may lead to.
 const MOST_REACHED: usize = 256;
-
-/// A name in a module: the module's number, and the name's.
-type Key = (u32, u32);
 
 /// The names that each module has.
 #[derive(Drop)]
@@ -40,16 +43,6 @@ pub(crate) struct Scope {
     reached: Vec<Vec<u32>>,
 }
 
-/// The number of what stands at an index: there are fewer than 2^32 of each kind, since each is written somewhere.
-fn numbered(index: usize) -> u32 {
-    u32::try_from(index).unwrap_or(u32::MAX)
-}
-
-/// A name in a module.
-fn key(module: u32, name: Symbol) -> Key {
-    (module, name.0)
-}
-
 impl Scope {
     /// The names of modules. `RepeatedType` and `RepeatedConstant` where a module has two types or two constants of one
     /// name, or a type and a module.
@@ -58,7 +51,12 @@ impl Scope {
         words: Words,
         items: &Items,
         std_root: u32,
-    ) -> Result<Scope, Stop> {
+    ) -> Result<Scope, Stop>
+        ensures names { IfOk result (KeepsNames items.now) }
+        ensures roots { IfOk result (λ scope. (scope.words ≡ words) × (scope.std_root ≡ std_root)) }
+        ensures once { IfOk result (λ _. repeated_of items.now ≡ None) }
+        ensures err { IfErr result (λ stop. (repeated_of items.now ≡ Some stop) ⊎ IsMemory stop) }
+    {
         let mut scope = Scope {
             words,
             std_root,
@@ -71,56 +69,50 @@ impl Scope {
             uses: IndexMap::new(alloc),
             reached: Vec::new(alloc),
         };
-        scope.fill(alloc, items)?;
-        Ok(scope)
+        match scope.fill(alloc, items) {
+            Ok(()) => Ok(scope),
+            Err(stop) => Err(stop),
+        }
     }
 
     /// Adds the names of modules.
-    fn fill(&mut self, alloc: Global, items: &Items) -> Result<(), Stop> {
-        self.add_modules(items)?;
-        for (number, item) in items.items.iter().enumerate() {
-            self.add_item(numbered(number), item)?;
-        }
-        self.add_uses(items)?;
-        self.prelude = self.module(self.std_root, self.words.symbol(Word::Prelude));
+    fn fill(&mut self, alloc: Global, items: &Items) -> Result<(), Stop>
+        requires { IsEmpty self.old }
+        ensures names { IfOk result (λ _. KeepsNames items.now self.new) }
+        ensures roots { IfOk result (λ _. HasSameRoots self.old self.new) }
+        ensures once { IfOk result (λ _. repeated_of items.now ≡ None) }
+        ensures err { IfErr result (λ stop. (repeated_of items.now ≡ Some stop) ⊎ IsMemory stop) }
+    {
+        self.declare(items)?;
         self.follow_globs(alloc, items)?;
-        self.add_own_constants(items)
-    }
-
-    /// Adds the modules' names.
-    fn add_modules(&mut self, items: &Items) -> Result<(), Stop> {
-        for (number, module) in items.modules.iter().enumerate() {
-            if let Some(parent) = module.parent {
-                let _ = self
-                    .modules
-                    .insert(key(parent, module.name), numbered(number))?;
-            }
-        }
+        self.add_own_constants(items)?;
         Ok(())
     }
 
-    /// Adds an item's name.
-    fn add_item(&mut self, number: u32, item: &Item) -> Result<(), Stop> {
-        let key = key(item.module, item.name);
-        match &item.kind {
-            ItemKind::Const(Const { owner: Some(_), .. }) => {}
-            ItemKind::Const(_) => {
-                if self.values.insert(key, number)?.is_some() {
-                    return Err(stop_at(item.at, FaultKind::RepeatedConstant(item.name)));
-                }
-            }
-            _ => {
-                if self.types.insert(key, number)?.is_some() || self.modules.get(&key).is_some() {
-                    return Err(stop_at(item.at, FaultKind::RepeatedType(item.name)));
-                }
-            }
+    /// Adds the names that stand in modules, or that uses bring in.
+    fn declare(&mut self, items: &Items) -> Result<(), Stop>
+        requires { IsEmpty self.old }
+        ensures names { IfOk result (λ _. KeepsNames items.now self.new) }
+        ensures same { IfOk result (λ _. HasSameRoots self.old self.new) }
+        ensures once { IfOk result (λ _. repeated_of items.now ≡ None) }
+        ensures err { IfErr result (λ stop. (repeated_of items.now ≡ Some stop) ⊎ IsMemory stop) }
+    {
+        add_modules(&mut self.modules, &items.modules)?;
+        let (types, constants) = (&mut self.types, &mut self.values);
+        if let Err(stop) = add_items(types, constants, &self.modules, &items.items) {
+            return Err(stop);
         }
+        add_uses(&mut self.uses, &items.uses)?;
+        self.prelude = self.module(self.std_root, self.words.symbol(Word::Prelude));
         Ok(())
     }
 
     /// Adds the constants of types, of two of one name the first. A type with parameters has none here, since what they
     /// are may depend on what those are given.
-    fn add_own_constants(&mut self, items: &Items) -> Result<(), Stop> {
+    fn add_own_constants(&mut self, items: &Items) -> Result<(), Stop>
+        ensures same { IfOk result (λ _. HasSameNames self.old self.new) }
+        ensures err { IfErr result IsMemory }
+    {
         for (number, item) in items.items.iter().enumerate() {
             if let Some(owner) = owner_of(items, self, item) {
                 let key = (owner, item.name.0);
@@ -133,26 +125,13 @@ impl Scope {
         Ok(())
     }
 
-    /// Adds the names that uses bring in, of two of one name the first.
-    fn add_uses(&mut self, items: &Items) -> Result<(), Stop> {
-        for (number, used) in items.uses.iter().enumerate() {
-            if let Some(name) = used.name {
-                let key = key(used.module, name);
-                if self.uses.get(&key).is_none() {
-                    let _ = self.uses.insert(key, numbered(number))?;
-                }
-            }
-        }
-        Ok(())
-    }
-
     /// Finds the modules that globs lead to.
-    fn follow_globs(&mut self, alloc: Global, items: &Items) -> Result<(), Stop> {
-        let mut direct = Vec::new(alloc);
-        for _module in &items.modules {
-            direct.push(Vec::new(alloc))?;
-            self.reached.push(Vec::new(alloc))?;
-        }
+    fn follow_globs(&mut self, alloc: Global, items: &Items) -> Result<(), Stop>
+        ensures same { IfOk result (λ _. HasSameNames self.old self.new) }
+        ensures err { IfErr result IsMemory }
+    {
+        let mut direct = no_modules(alloc, items.modules.len())?;
+        self.reached = no_modules(alloc, items.modules.len())?;
         for _round in 0..MOST_ROUNDS {
             if !self.add_globs(items, &mut direct)? {
                 break;
@@ -163,7 +142,9 @@ impl Scope {
     }
 
     /// Adds to each module those that its own globs name, and tells whether one is new.
-    fn add_globs(&self, items: &Items, direct: &mut Vec<Vec<u32>>) -> Result<bool, Stop> {
+    fn add_globs(&self, items: &Items, direct: &mut Vec<Vec<u32>>) -> Result<bool, Stop>
+        ensures { IfErr result IsMemory }
+    {
         let mut is_new = false;
         for (number, used) in items.uses.iter().enumerate() {
             if !used.is_glob {
@@ -184,37 +165,58 @@ impl Scope {
     }
 
     /// The module of this name that stands in a module.
-    pub(crate) fn module(&self, module: u32, name: Symbol) -> Option<u32> {
+    #[tactic(auto, unfolding(crate::specs::Scope::module_in))]
+    pub(crate) fn module(&self, module: u32, name: Symbol) -> Option<u32>
+        ensures { result ≡ module_in self.now «module» name }
+    {
         self.modules.get(&key(module, name)).copied()
     }
 
     /// The type of this name that stands in a module.
-    pub(crate) fn ty(&self, module: u32, name: Symbol) -> Option<u32> {
+    #[tactic(auto, unfolding(crate::specs::Scope::type_in))]
+    pub(crate) fn ty(&self, module: u32, name: Symbol) -> Option<u32>
+        ensures { result ≡ type_in self.now «module» name }
+    {
         self.types.get(&key(module, name)).copied()
     }
 
     /// The constant of this name that stands in a module.
-    pub(crate) fn value(&self, module: u32, name: Symbol) -> Option<u32> {
+    #[tactic(auto, unfolding(crate::specs::Scope::constant_in))]
+    pub(crate) fn value(&self, module: u32, name: Symbol) -> Option<u32>
+        ensures { result ≡ constant_in self.now «module» name }
+    {
         self.values.get(&key(module, name)).copied()
     }
 
     /// The constant of this name that is the type's own, which has this number.
-    pub(crate) fn own_constant(&self, owner: u32, name: Symbol) -> Option<u32> {
+    #[tactic(auto, unfolding(crate::specs::Scope::own_constant))]
+    pub(crate) fn own_constant(&self, owner: u32, name: Symbol) -> Option<u32>
+        ensures { result ≡ own_constant self.now owner name }
+    {
         self.own_constants.get(&(owner, name.0)).copied()
     }
 
     /// The type whose own the constant of this number is.
-    pub(crate) fn owner(&self, constant: u32) -> Option<u32> {
+    #[tactic(auto, unfolding(crate::specs::Scope::owner_of))]
+    pub(crate) fn owner(&self, constant: u32) -> Option<u32>
+        ensures { result ≡ owner_of self.now constant }
+    {
         self.owners.get(&constant).copied()
     }
 
     /// The use that brings a name into a module.
-    pub(crate) fn used(&self, module: u32, name: Symbol) -> Option<u32> {
+    #[tactic(auto, unfolding(crate::specs::Scope::use_in))]
+    pub(crate) fn used(&self, module: u32, name: Symbol) -> Option<u32>
+        ensures { result ≡ use_in self.now «module» name }
+    {
         self.uses.get(&key(module, name)).copied()
     }
 
     /// The modules that a module's globs lead to.
-    pub(crate) fn reached(&self, module: u32) -> &[u32] {
+    #[tactic(auto, unfolding(crate::specs::Scope::reached_from))]
+    pub(crate) fn reached(&self, module: u32) -> &[u32]
+        ensures { result.now ≡ reached_from self.now «module» }
+    {
         match self.reached.get(module as usize) {
             Some(reached) => reached.as_slice(),
             None => &[],
@@ -222,7 +224,9 @@ impl Scope {
     }
 
     /// The module whose names are everywhere.
-    pub(crate) fn prelude(&self) -> Option<u32> {
+    pub(crate) fn prelude(&self) -> Option<u32>
+        ensures { result ≡ self.now.prelude }
+    {
         self.prelude
     }
 }
@@ -241,8 +245,21 @@ fn owner_of(items: &Items, scope: &Scope, item: &Item) -> Option<u32> {
     }
 }
 
+/// For each of so many modules none.
+fn no_modules(alloc: Global, count: usize) -> Result<Vec<Vec<u32>>, Stop>
+    ensures { IfErr result IsMemory }
+{
+    let mut all = Vec::new(alloc);
+    for _module in 0..count {
+        all.push(Vec::new(alloc))?;
+    }
+    Ok(all)
+}
+
 /// For each module those that its globs lead to, by the globs of those too.
-fn reached_through(alloc: Global, direct: &Vec<Vec<u32>>) -> Result<Vec<Vec<u32>>, Stop> {
+fn reached_through(alloc: Global, direct: &Vec<Vec<u32>>) -> Result<Vec<Vec<u32>>, Stop>
+    ensures { IfErr result IsMemory }
+{
     let mut all = Vec::new(alloc);
     for own in direct {
         let mut reached = Vec::new(alloc);
@@ -261,7 +278,9 @@ fn reached_through(alloc: Global, direct: &Vec<Vec<u32>>) -> Result<Vec<Vec<u32>
 }
 
 /// Adds the modules that aren't there.
-fn add_new(reached: &mut Vec<u32>, more: &[u32]) -> Result<(), Stop> {
+fn add_new(reached: &mut Vec<u32>, more: &[u32]) -> Result<(), Stop>
+    ensures { IfErr result IsMemory }
+{
     for module in more {
         if !reached.as_slice().contains(module) {
             reached.push(*module)?;

@@ -1,5 +1,8 @@
 //! The names that have a meaning of their own.
 
+ghost use Rattle.std.specs.Prelude.{◌≡◌};
+ghost use Rattle.abi_rust.specs.Words.{integer_at, is_std, is_word, primitive_named, symbol_of};
+
 use crate::ty::Primitive;
 use abi_base::Float;
 use rust_source::{IntegerKind, Names, Symbol};
@@ -59,17 +62,25 @@ impl Words {
     }
 
     /// The number of a name.
-    pub(crate) fn symbol(self, word: Word) -> Symbol {
+    #[tactic(auto, unfolding(crate::specs::Words::symbol_of))]
+    pub(crate) fn symbol(self, word: Word) -> Symbol
+        ensures { result ≡ symbol_of self word }
+    {
         Symbol(self.first.wrapping_add(word as u32))
     }
 
     /// Whether it is this name.
-    pub(crate) fn is(self, name: Symbol, word: Word) -> bool {
+    pub(crate) fn is(self, name: Symbol, word: Word) -> bool
+        ensures { result ≡ is_word self name word }
+    {
         name == self.symbol(word)
     }
 
     /// The primitive type of this name, if there is one.
-    pub(crate) fn primitive(self, name: Symbol) -> Option<Primitive> {
+    #[tactic(auto, unfolding(crate::specs::Words::primitive_named))]
+    pub(crate) fn primitive(self, name: Symbol) -> Option<Primitive>
+        ensures { result ≡ primitive_named self name }
+    {
         match name.0.wrapping_sub(self.first) {
             0 => Some(Primitive::Bool),
             1 => Some(Primitive::Char),
@@ -83,13 +94,17 @@ impl Words {
     }
 
     /// Whether it is the name of the standard library: `std`, `core` or `alloc`.
-    pub(crate) fn is_std(self, name: Symbol) -> bool {
+    pub(crate) fn is_std(self, name: Symbol) -> bool
+        ensures { result ≡ is_std self name }
+    {
         self.is(name, Word::Std) || self.is(name, Word::Core) || self.is(name, Word::Alloc)
     }
 }
 
 /// The integer type whose name has this number.
-fn integer_numbered(number: u32) -> Option<IntegerKind> {
+fn integer_numbered(number: u32) -> Option<IntegerKind>
+    ensures { result ≡ integer_at number }
+{
     match number {
         3 => Some(IntegerKind::I8),
         4 => Some(IntegerKind::I16),

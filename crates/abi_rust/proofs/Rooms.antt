@@ -1,0 +1,83 @@
+-- What is found within less room, and a turn more of each loop.
+use Rattle.std.proofs.Common.{◌≡◌, ℕ, zero, suc, ◌+◌, ◌-◌, ◌<◌, ◌≤◌, List, [], ◌∷◌, None, Bool, sym, ◌∙◌, length, map, drop, get_or, drop-cons, add-one, refl, ap, arith}
+use Rattle.std.proofs.lemmas.List.{drop_all}
+use Rattle.rust_source.specs.declared.item.Items.{Items}
+use Rattle.rust_source.specs.declared.place.Symbol.{Symbol}
+use Rattle.abi_rust.specs.declared.paths.Found.{Found}
+use Rattle.abi_rust.specs.declared.paths.Space.{Space}
+use Rattle.abi_rust.specs.declared.scope.Scope.{Scope}
+use Rattle.std.specs.Prelude.{Option}
+use Rattle.abi_rust.specs.declared.ty.Kind.{Kind}
+use Rattle.abi_rust.specs.Kinds.{kind_step, kind_within, type_step, type_within}
+use Rattle.abi_rust.specs.Names.{behind, behind_all, first, parent, path_named, root_above, root_within, space_before, target, target_with}
+
+pub turns : (n i : ℕ) → i < n → n - i ≡ suc (n - (i + 1))
+turns n i more = omega arith
+
+pub none_left : (n i : ℕ) → n ≤ i → n - i ≡ 0
+none_left n i done = omega arith
+
+pub root_more : (n i : ℕ) (items : Items) (m : ℕ) → i < n → root_within (n - i) items m ≡ root_above (root_within (n - (i + 1)) items) m (parent items m)
+root_more n i items m more = ap (λ k. root_within k items m) (turns n i more)
+
+pub root_done : (n i : ℕ) (items : Items) (m : ℕ) → n ≤ i → root_within (n - i) items m ≡ m
+root_done n i items m done = ap (λ k. root_within k items m) (none_left n i done)
+
+module _ (items : Items) (scope : Scope) where
+  pub target_less : (room left u : ℕ) (space : Space) → left + 1 ≡ room → target items scope room u space ≡ target_with items scope (target items scope left) u space
+  unfolding target
+  target_less zero left u space is = absurd (omega arith)
+  target_less (suc room) left u space is = let e : room ≡ left = omega arith in ap (λ r. target_with items scope (target items scope r) u space) e
+
+  pub target_none : (room u : ℕ) (space : Space) → room ≡ 0 → target items scope room u space ≡ None
+  unfolding target
+  target_none zero u space is = refl
+  target_none (suc room) u space is = absurd (omega arith)
+
+  module _ (brought : ℕ → Space → Option Found) where
+    pub names_step : (left fewer : ℕ) (space : Space) (before : Option Found) (name : Symbol) (names : List Symbol) → fewer + 1 ≡ left
+        → behind_all items scope brought left space before (name ∷ names) ≡ behind_all items scope brought fewer space (behind items scope brought before name (space_before fewer space)) names
+    names_step zero fewer space before name names is = absurd (omega arith)
+    names_step (suc left) fewer space before name names is =
+        let e : left ≡ fewer = omega arith in
+        ap (λ n. behind_all items scope brought n space (behind items scope brought before name (space_before n space)) names) e
+
+    -- the names of a list, of which one more is looked at
+    pub names_on : {X : Type 0} (view : X → Symbol) (all : List X) (d : X) (i left fewer : ℕ) (space : Space) (before : Option Found) → i < length all → fewer + 1 ≡ left
+        → behind_all items scope brought left space before (map view (drop i all)) ≡ behind_all items scope brought fewer space (behind items scope brought before (view (get_or all i d)) (space_before fewer space)) (map view (drop (i + 1) all))
+    names_on view all d i left fewer space before more is = rw (drop-cons all i d, add-one i) (names_step left fewer space before (view (get_or all i d)) (map view (drop (suc i) all)) is)
+
+    pub names_past : (left : ℕ) (space : Space) (before : Option Found) (names : List Symbol) → left ≡ 0 → behind_all items scope brought left space before names ≡ before
+    names_past zero space before names is = refl
+    names_past (suc left) space before names is = absurd (omega arith)
+
+    pub names_none : (left : ℕ) (space : Space) (before : Option Found) → behind_all items scope brought left space before [] ≡ before
+    names_none zero space before = refl
+    names_none (suc left) space before = refl
+
+    pub names_end : {X : Type 0} (view : X → Symbol) (all : List X) (i left : ℕ) (space : Space) (before : Option Found) → length all ≤ i → behind_all items scope brought left space before (map view (drop i all)) ≡ before
+    names_end view all i left space before done = rw (drop_all i all done) (names_none left space before)
+
+    -- what was found when no name is left is what all names name
+    pub all_named : {X : Type 0} (view : X → Symbol) (all rest : List X) (begin : X) (count begun left m : ℕ) (is_global : Bool) (space : Space) (skipped : Option ℕ) (start found : Option Found) (names : List Symbol)
+        → all ≡ begin ∷ rest → begun + 1 ≡ count → start ≡ first items scope brought m (view begin) is_global (space_before begun space) skipped
+        → behind_all items scope brought left space found names ≡ behind_all items scope brought begun space start (map view rest)
+        → behind_all items scope brought left space found names ≡ found
+        → found ≡ path_named items scope brought count m is_global space skipped (map view all)
+    all_named view all rest begin zero begun left m is_global space skipped start found names is counted started same past = absurd (omega arith)
+    all_named view all rest begin (suc count) begun left m is_global space skipped start found names is counted started same past =
+        let e : begun ≡ count = omega arith in
+        rw (is, ← e) (sym past ∙ (same ∙ ap (λ s. behind_all items scope brought begun space s (map view rest)) started))
+
+module _ (items : Items) (scope : Scope) (n i : ℕ) where
+  pub type_more : (found : Option Found) → i < n → type_within items scope (n - i) found ≡ type_step items scope (type_within items scope (n - (i + 1))) found
+  type_more found more = ap (λ k. type_within items scope k found) (turns n i more)
+
+  pub type_done : (found : Option Found) → n ≤ i → type_within items scope (n - i) found ≡ None
+  type_done found done = ap (λ k. type_within items scope k found) (none_left n i done)
+
+  pub kind_more : (found : Option Found) → i < n → kind_within items scope (n - i) found ≡ kind_step items scope (kind_within items scope (n - (i + 1))) found
+  kind_more found more = ap (λ k. kind_within items scope k found) (turns n i more)
+
+  pub kind_done : (found : Option Found) → n ≤ i → kind_within items scope (n - i) found ≡ None
+  kind_done found done = ap (λ k. kind_within items scope k found) (none_left n i done)

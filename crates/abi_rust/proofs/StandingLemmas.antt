@@ -1,0 +1,78 @@
+-- One more of what stands in modules.
+use Rattle.std.proofs.Common.{◌≡◌, ℕ, ◌+◌, ◌<◌, Bool, true, false, List, [], ◌∷◌, ◌++◌, get_or, drop, length, take, Option, Some, None, refl, arith, ap, ◌∙◌, sym, add-one, add-zero, zero-add}
+use Rattle.std.proofs.Math.Seq.{drop-cons, take-suc}
+use Rattle.std.proofs.lemmas.Grind.{common_steps}
+use Rattle.std.specs.Prelude.{if◌then◌else◌}
+use Rattle.std.specs.Option.{option_or}
+use Rattle.rust_source.specs.declared.item.Item.{Item}
+use Rattle.abi_rust.specs.declared.fault.Stop.{Stop}
+use Rattle.abi_rust.specs.Standing.{ModuleName, constant_at, first_repeated, first_so, key_of, last_so, numbered, repeated_by, type_at}
+
+-- the last of one more
+pub last_snoc : {A : Type 0} (is : A → Bool) (i : ℕ) (xs : List A) (x : A)
+    → last_so is i (xs ++ x ∷ []) ≡ (if is x then Some (numbered (i + length xs)) else last_so is i xs)
+last_snoc is i [] x = rw add-zero (elim (is x) as (λ v. option_or None (if v then Some (numbered i) else None) ≡ (if v then Some (numbered i) else None)) [ true ↦ refl | false ↦ refl ])
+last_snoc is i (y ∷ xs) x =
+    let more = last_snoc is (i + 1) xs x in
+    let same : i + 1 + length xs ≡ i + length (y ∷ xs) = omega arith in
+    rw (more, same) (elim (is x) as (λ v. option_or (if v then Some (numbered (i + length (y ∷ xs))) else last_so is (i + 1) xs) (if is y then Some (numbered i) else None)
+    ≡ (if v then Some (numbered (i + length (y ∷ xs))) else option_or (last_so is (i + 1) xs) (if is y then Some (numbered i) else None))) [ true ↦ refl | false ↦ refl ])
+
+-- the last of those up to an index, and that one too
+pub last_more : {A : Type 0} (is : A → Bool) (xs : List A) (i : ℕ) (d : A) → i < length xs
+    → last_so is 0 (take (i + 1) xs) ≡ (if is (get_or xs i d) then Some (numbered i) else last_so is 0 (take i xs))
+last_more is xs i d within =
+    let long : length (take i xs) ≡ i = grind (arith, common_steps) in
+    let all : take (i + 1) xs ≡ take i xs ++ get_or xs i d ∷ [] = rw add-one (take-suc xs i d within) in
+    rw all (last_snoc is 0 (take i xs) (get_or xs i d) ∙ ap (λ n. if is (get_or xs i d) then Some (numbered n) else last_so is 0 (take i xs)) (rw long (zero-add i)))
+
+-- the first of one more
+pub first_snoc : {A : Type 0} (is : A → Bool) (i : ℕ) (xs : List A) (x : A)
+    → first_so is i (xs ++ x ∷ []) ≡ option_or (first_so is i xs) (if is x then Some (numbered (i + length xs)) else None)
+first_snoc is i [] x = rw add-zero refl
+first_snoc is i (y ∷ xs) x =
+    let same : i + 1 + length xs ≡ i + length (y ∷ xs) = omega arith in
+    let more : first_so is (i + 1) (xs ++ x ∷ []) ≡ option_or (first_so is (i + 1) xs) (if is x then Some (numbered (i + length (y ∷ xs))) else None) =
+    first_snoc is (i + 1) xs x ∙ ap (λ n. option_or (first_so is (i + 1) xs) (if is x then Some (numbered n) else None)) same in
+    elim (is y) as (λ v. (if v then Some (numbered i) else first_so is (i + 1) (xs ++ x ∷ []))
+    ≡ option_or (if v then Some (numbered i) else first_so is (i + 1) xs) (if is x then Some (numbered (i + length (y ∷ xs))) else None)) [ true ↦ refl | false ↦ more ]
+
+-- the first of those up to an index, and that one too
+pub first_more : {A : Type 0} (is : A → Bool) (xs : List A) (i : ℕ) (d : A) → i < length xs
+    → first_so is 0 (take (i + 1) xs) ≡ option_or (first_so is 0 (take i xs)) (if is (get_or xs i d) then Some (numbered i) else None)
+first_more is xs i d within =
+    let long : length (take i xs) ≡ i = grind (arith, common_steps) in
+    let all : take (i + 1) xs ≡ take i xs ++ get_or xs i d ∷ [] = rw add-one (take-suc xs i d within) in
+    rw all (first_snoc is 0 (take i xs) (get_or xs i d) ∙ ap (λ n. option_or (first_so is 0 (take i xs)) (if is (get_or xs i d) then Some (numbered n) else None)) (rw long (zero-add i)))
+
+-- an item is told by what its own name is
+pub repeated_same : (types others constants more modules : ModuleName → Option ℕ) (it : Item)
+    → types (key_of it) ≡ others (key_of it) → constants (key_of it) ≡ more (key_of it)
+    → repeated_by types constants modules it ≡ repeated_by others more modules it
+repeated_same types others constants more modules it t c = rw (t, c) refl
+
+-- what comes first of those from an index on
+left_at : (items : List Item) (i : ℕ) (d : Item) → i < length items → drop i items ≡ get_or items i d ∷ drop (i + 1) items
+left_at items i d within = rw add-one (drop-cons items i d within)
+
+one_more : (items : List Item) (i : ℕ) (d : Item) → i < length items → take (i + 1) items ≡ take i items ++ get_or items i d ∷ []
+one_more items i d within = rw add-one (take-suc items i d within)
+
+-- the item at the index repeats no name
+pub repeated_later : (modules : ModuleName → Option ℕ) (items : List Item) (i : ℕ) (d : Item) → i < length items
+    → repeated_by (type_at (take i items)) (constant_at (take i items)) modules (get_or items i d) ≡ None
+    → first_repeated modules (take i items) (drop i items) ≡ first_repeated modules (take (i + 1) items) (drop (i + 1) items)
+repeated_later modules items i d within none = rw (left_at items i d within, none, one_more items i d within) refl
+
+-- it does
+pub repeated_here : (modules : ModuleName → Option ℕ) (items : List Item) (i : ℕ) (d : Item) (stop : Stop) → i < length items
+    → repeated_by (type_at (take i items)) (constant_at (take i items)) modules (get_or items i d) ≡ Some stop
+    → first_repeated modules (take i items) (drop i items) ≡ Some stop
+repeated_here modules items i d stop within some = rw (left_at items i d within, some) refl
+
+-- the modules are asked for their names alone
+pub repeated_told : (modules others : ModuleName → Option ℕ) (before items : List Item) → ((k : ModuleName) → modules k ≡ others k)
+    → first_repeated modules before items ≡ first_repeated others before items
+repeated_told modules others before [] same = refl
+repeated_told modules others before (it ∷ items) same =
+    rw (same (key_of it), repeated_told modules others (before ++ it ∷ []) items same) refl

@@ -1,0 +1,23 @@
+-- The names that are kept first stay, and an error is passed on.
+use Rattle.std.proofs.Common.{◌≡◌, ◌⊎◌, Some, inr}
+use Rattle.abi_rust.specs.declared.fault.Stop.{Stop}
+use Rattle.abi_rust.specs.ScopeNames.{repeated_of}
+use Rattle.abi_rust.specs.Standing.{IsMemory}
+use Rattle.abi_rust.proofs.ScopeLemmas.{keeps_same, passed_on}
+use Rattle.abi_rust.proofs.scope.Scope.fill.Goals as goal
+
+pub returns-in_err-declare-clause-err : goal.returns-in_err-declare-clause-err
+returns-in_err-declare-clause-err c =
+    passed_on (λ (stop : Stop). (repeated_of c.args.items.now ≡ Some stop) ⊎ IsMemory stop) _ _ c.from_residual.ensures.1 c.in_err-declare.ensures.err
+
+pub returns-in_err-follow_globs-clause-err : goal.returns-in_err-follow_globs-clause-err
+returns-in_err-follow_globs-clause-err c =
+    passed_on (λ (stop : Stop). (repeated_of c.args.items.now ≡ Some stop) ⊎ IsMemory stop) _ _ c.from_residual-in_err-follow_globs.ensures.1 (inr c.in_err-follow_globs.ensures.err)
+
+pub returns-in_err-add_own_constants-clause-err : goal.returns-in_err-add_own_constants-clause-err
+returns-in_err-add_own_constants-clause-err c =
+    passed_on (λ (stop : Stop). (repeated_of c.args.items.now ≡ Some stop) ⊎ IsMemory stop) _ _ c.from_residual-in_err-add_own_constants.ensures.1 (inr c.in_err-add_own_constants.ensures.err)
+
+pub returns-clause-names : goal.returns-clause-names
+returns-clause-names c =
+    keeps_same _ _ _ (keeps_same _ _ _ c.in_ok-declare.ensures.names c.in_ok-follow_globs.ensures.same) c.in_ok-add_own_constants.ensures.same

@@ -1,0 +1,280 @@
+-- The type of a constant expression, found without its value.
+use Rattle.std.specs.Prelude.{ℕ, zero, suc, ◌-◌, ◌&&◌, not, nat_eq, is_some, Bool, true, false, List, [], ◌∷◌, length, slice_get, Option, Some, None, if◌then◌else◌}
+use Rattle.std.specs.Option.{option_and_then, option_map, option_or}
+use Rattle.rust_source.specs.declared.item.Item.{Item}
+use Rattle.rust_source.specs.declared.item.ItemKind.{ItemKind}
+use Rattle.rust_source.specs.declared.item.ItemKind.TheVariants.{Alias as AliasItem, Const as ConstItem}
+use Rattle.rust_source.specs.declared.item.Items.{Items}
+use Rattle.rust_source.specs.declared.item.Parameter.{Parameter}
+use Rattle.rust_source.specs.declared.item.ParameterKind.{ParameterKind}
+use Rattle.rust_source.specs.declared.item.ParameterKind.TheVariants.{Const as ConstParameter, «Type» as TypeParameter}
+use Rattle.rust_source.specs.declared.place.Symbol.{Symbol}
+use Rattle.rust_source.specs.declared.place.TheConstants.Symbol.{SELF_TYPE}
+use Rattle.rust_source.specs.declared.syntax.Binary.{Binary}
+use Rattle.rust_source.specs.declared.syntax.Binary.TheVariants as operator
+use Rattle.rust_source.specs.declared.syntax.Expr.{Expr, Integer as IntegerExpr, Char as CharExpr, Bool as BoolExpr, Path as PathExpr, Call', Unary', Binary', Cast', If', Unevaluated}
+use Rattle.rust_source.specs.declared.syntax.IntegerKind.{IntegerKind}
+use Rattle.rust_source.specs.declared.syntax.IntegerKind.TheVariants.{I32, U8, U32, Usize}
+use Rattle.rust_source.specs.declared.syntax.Path.{Path, out-Path}
+use Rattle.rust_source.specs.declared.syntax.Segment.{Segment, out-Segment}
+use Rattle.rust_source.specs.declared.syntax.«Type».{«Type» as Written, Path as PathType}
+use Rattle.abi_rust.specs.declared.paths.Found.{Found}
+use Rattle.abi_rust.specs.declared.paths.Found.TheVariants.{Module, Item as ItemFound, Primitive as PrimitiveFound}
+use Rattle.abi_rust.specs.declared.paths.Space.TheVariants.{Types, Values}
+use Rattle.abi_rust.specs.declared.scope.Scope.{Scope}
+use Rattle.abi_rust.specs.declared.ty.Kind.{Kind}
+use Rattle.abi_rust.specs.declared.ty.Kind.TheVariants.{Bool as BoolKind, Char as CharKind, Integer as KindInteger}
+use Rattle.abi_rust.specs.declared.ty.Primitive.{Primitive}
+use Rattle.abi_rust.specs.declared.ty.Primitive.TheVariants.{Bool as BoolType, Char as CharType, Integer as IntegerType}
+use Rattle.abi_rust.specs.declared.work.Context.{Context}
+use Rattle.abi_rust.specs.declared.words.Word.TheVariants as word
+use Rattle.abi_rust.specs.Names.{found, found_of}
+use Rattle.abi_rust.specs.Places.{last_name}
+use Rattle.abi_rust.specs.Scope.{own_constant, owner_of}
+use Rattle.abi_rust.specs.Types.{GivenRead, Where, of_type, primitive}
+use Rattle.abi_rust.specs.Words.{is_word, same_name}
+
+-- how many aliases may lead from one to another
+unfoldable pub most_aliases : ℕ
+most_aliases = 64
+
+-- a module outside of items
+abbrev pub outside : (inside : ℕ) → Where
+outside m = record { inside = m; item = None; given = [] }
+
+-- the name that a path is that is one name without arguments
+abbrev pub single_of : (is_global : Bool) → List Segment → Option Symbol
+single_of false (s ∷ []) = if nat_eq (length (out-Segment s).arguments.items) 0 then Some (out-Segment s).name else None
+single_of _ _ = None
+
+unfoldable pub single_name : Path → Option Symbol
+single_name p = single_of (out-Path p).is_global (out-Path p).segments.items
+
+-- the number of the first of these parameters that has this name, counted from one on
+abbrev pub number_from : (counted : ℕ) → Symbol → List Parameter → Option ℕ
+number_from n name [] = None
+number_from n name (p ∷ ps) = if same_name p.name name then Some n else number_from (suc n) name ps
+
+-- the name that so many names are, where they are one
+abbrev pub name_alone : (count : ℕ) → List Segment → Option Symbol
+name_alone (suc zero) (s ∷ ss) = Some (out-Segment s).name
+name_alone _ _ = None
+
+-- the type of constants that a primitive type is
+abbrev pub kind_of_primitive : Primitive → Option Kind
+kind_of_primitive BoolType = Some BoolKind
+kind_of_primitive CharType = Some CharKind
+kind_of_primitive (IntegerType kind) = Some (KindInteger kind)
+kind_of_primitive _ = None
+
+-- the type of constants that a parameter is given
+abbrev pub kind_given : Option GivenRead → Option Kind
+kind_given (Some (of_type (primitive p))) = kind_of_primitive p
+kind_given _ = None
+
+-- it answers a bool whatever its operands are
+abbrev pub is_test : Binary → Bool
+is_test operator.Equal = true
+is_test operator.NotEqual = true
+is_test operator.Less = true
+is_test operator.LessOrEqual = true
+is_test operator.Greater = true
+is_test operator.GreaterOrEqual = true
+is_test operator.And = true
+is_test operator.Or = true
+is_test _ = false
+
+-- its operands may be of two types
+abbrev pub is_shift : Binary → Bool
+is_shift operator.Shl = true
+is_shift operator.Shr = true
+is_shift _ = false
+
+-- the type that a suffix tells
+abbrev pub suffix_kind : Option IntegerKind → Option Kind
+suffix_kind None = None
+suffix_kind (Some kind) = Some (KindInteger kind)
+
+-- the type of an operator's operands: the left one's, or else the right one's, but of a shift the left one's alone
+abbrev pub operands_kind : Binary → (left right : Option Kind) → Option Kind
+operands_kind b left right = if is_shift b then left else option_or left right
+
+-- a constant's type and value are found in its module, and in the type whose own it is
+abbrev pub constant_place : Scope → (constant : ℕ) → Item → Where
+constant_place s n it = record { inside = it.«module»; item = owner_of s n; given = [] }
+
+module _ (items : Items) (scope : Scope) where
+  -- the item of this number
+  abbrev pub item_at : ℕ → Option Item
+  item_at n = slice_get items.items.items n
+
+  -- what a type names that is a path
+  abbrev pub found_by : (inside : ℕ) → Written → Option Found
+  found_by m (PathType p) = found items scope m p Types
+  found_by m _ = None
+
+  -- the type that an item is, by the alias that it may be
+  abbrev pub type_on : (go_on : Option Found → Option ℕ) → ℕ → (inside : ℕ) → ItemKind → Option ℕ
+  type_on go_on n m (AliasItem t) = go_on (found_by m t)
+  type_on go_on n m _ = Some n
+
+  abbrev pub type_by : (go_on : Option Found → Option ℕ) → ℕ → Option Item → Option ℕ
+  type_by go_on n None = None
+  type_by go_on n (Some it) = type_on go_on n it.«module» it.kind
+
+  abbrev pub type_step : (go_on : Option Found → Option ℕ) → Option Found → Option ℕ
+  type_step go_on (Some (ItemFound n)) = type_by go_on n (item_at n)
+  type_step go_on _ = None
+
+  -- the struct, enum or union that is found, by so many aliases at most
+  abbrev pub type_within : (most : ℕ) → Option Found → Option ℕ
+  type_within zero found = None
+  type_within (suc most) found = type_step (type_within most) found
+
+  -- the struct, enum or union that the first names of a path name, so many of them
+  unfoldable pub type_named : (inside : ℕ) → Path → (count : ℕ) → Option ℕ
+  type_named m p count = type_within most_aliases (found_of items scope m p count Types)
+
+  -- the type of constants that an item is, by the alias that it may be
+  abbrev pub kind_on : (go_on : Option Found → Option Kind) → (inside : ℕ) → ItemKind → Option Kind
+  kind_on go_on m (AliasItem t) = go_on (found_by m t)
+  kind_on go_on m _ = None
+
+  abbrev pub kind_by : (go_on : Option Found → Option Kind) → Option Item → Option Kind
+  kind_by go_on None = None
+  kind_by go_on (Some it) = kind_on go_on it.«module» it.kind
+
+  abbrev pub kind_step : (go_on : Option Found → Option Kind) → Option Found → Option Kind
+  kind_step go_on (Some (PrimitiveFound p)) = kind_of_primitive p
+  kind_step go_on (Some (ItemFound n)) = kind_by go_on (item_at n)
+  kind_step go_on _ = None
+
+  -- the type of constants that is found, by so many aliases at most
+  abbrev pub kind_within : (most : ℕ) → Option Found → Option Kind
+  kind_within zero found = None
+  kind_within (suc most) found = kind_step (kind_within most) found
+
+  unfoldable pub kind_found : Option Found → Option Kind
+  kind_found found = kind_within most_aliases found
+
+  abbrev pub parameters_of : Option Item → List Parameter
+  parameters_of None = []
+  parameters_of (Some it) = it.parameters.items
+
+  -- the number of the item's parameter of this name
+  unfoldable pub parameter_named : (item : Option ℕ) → Symbol → Option ℕ
+  parameter_named item name = number_from 0 name (parameters_of (option_and_then item_at item))
+
+  -- what the parameter of this name is given
+  unfoldable pub given_named : Where → Symbol → Option GivenRead
+  given_named w name = option_and_then (slice_get w.given) (parameter_named w.item name)
+
+  -- what the parameter of this name is, or else what the names name
+  abbrev pub kind_at_by : Where → Path → (count : ℕ) → Option Symbol → Option Kind
+  kind_at_by w p count None = kind_found (found_of items scope w.inside p count Types)
+  kind_at_by w p count (Some name) =
+      if is_some (parameter_named w.item name) then kind_given (given_named w name)
+      else kind_found (found_of items scope w.inside p count Types)
+
+  -- the type of constants that the first names of a path are, so many of them
+  unfoldable pub kind_at : Where → Path → (count : ℕ) → Option Kind
+  kind_at w p count = kind_at_by w p count (name_alone count (out-Path p).segments.items)
+
+  -- the type of constants that a type is
+  abbrev pub kind_written : Where → Written → Option Kind
+  kind_written w (PathType p) = kind_at w p (length (out-Path p).segments.items)
+  kind_written w _ = None
+
+  abbrev pub owner_by : Where → Path → (count : ℕ) → Option Symbol → Option ℕ
+  owner_by w p count None = type_named w.inside p count
+  owner_by w p count (Some name) =
+      if same_name name SELF_TYPE then w.item
+      else (if is_some (parameter_named w.item name) then None else type_named w.inside p count)
+
+  -- the type that the first names of a path name, so many of them, where it may have constants of its own
+  unfoldable pub owner_named : Where → Path → (count : ℕ) → Option ℕ
+  owner_named w p count = owner_by w p count (name_alone count (out-Path p).segments.items)
+
+  -- the constant of this name that is such a type's own
+  abbrev pub own_by : Option ℕ → Option Segment → Option ℕ
+  own_by (Some t) (Some s) = own_constant scope t (out-Segment s).name
+  own_by _ _ = None
+
+  -- the constant of a type that a path names
+  unfoldable pub own_named : Where → Path → Option ℕ
+  own_named w p =
+      let count = length (out-Path p).segments.items - 1 in
+      own_by (owner_named w p count) (last_name p)
+
+  abbrev pub constant_by : Where → Path → Option Found → Option ℕ
+  constant_by w p (Some (ItemFound n)) = Some n
+  constant_by w p _ = own_named w p
+
+  -- the constant that a path names: a module's, or a type's own
+  unfoldable pub constant_named : Where → Path → Option ℕ
+  constant_named w p = constant_by w p (found items scope w.inside p Values)
+
+  abbrev pub constant_type_on : ℕ → Item → ItemKind → Option Kind
+  constant_type_on n it (ConstItem c) = kind_written (constant_place scope n it) c.ty
+  constant_type_on n it _ = None
+
+  abbrev pub constant_type_by : ℕ → Option Item → Option Kind
+  constant_type_by n None = None
+  constant_type_by n (Some it) = constant_type_on n it it.kind
+
+  -- the type of the constant of this number
+  unfoldable pub constant_type : ℕ → Option Kind
+  constant_type n = constant_type_by n (item_at n)
+
+  abbrev pub parameter_type_on : (inside : ℕ) → ParameterKind → Option Kind
+  parameter_type_on m (ConstParameter t default) = kind_written (outside m) t
+  parameter_type_on m (TypeParameter default) = None
+
+  abbrev pub parameter_type_by : (inside : ℕ) → Option Parameter → Option Kind
+  parameter_type_by m None = None
+  parameter_type_by m (Some p) = parameter_type_on m p.kind
+
+  abbrev pub parameter_type_in : (index : ℕ) → Option Item → Option Kind
+  parameter_type_in index None = None
+  parameter_type_in index (Some it) = parameter_type_by it.«module» (slice_get it.parameters.items index)
+
+  -- the type of an item's constant parameter
+  unfoldable pub parameter_type : (item : Option ℕ) → (index : ℕ) → Option Kind
+  parameter_type item index = parameter_type_in index (option_and_then item_at item)
+
+  -- the type of a constant of a type, or of `T::BITS` and other limits
+  abbrev pub limit_type : Where → Path → Option Segment → Option Kind
+  limit_type w p None = None
+  limit_type w p (Some s) =
+      if is_word scope.words (out-Segment s).name word.Bits then Some (KindInteger U32)
+      else kind_at w p (length (out-Path p).segments.items - 1)
+
+  abbrev pub path_kind_by : Where → Path → Option ℕ → Option Kind
+  path_kind_by w p (Some n) = constant_type n
+  path_kind_by w p None = limit_type w p (last_name p)
+
+  abbrev pub path_kind_in : Where → Path → Option ℕ → Option Kind
+  path_kind_in w p (Some index) = parameter_type w.item index
+  path_kind_in w p None = path_kind_by w p (constant_named w p)
+
+  -- the type of the constant that a path names: a parameter, a constant or a limit
+  unfoldable pub path_kind : Where → Path → Option Kind
+  path_kind w p = path_kind_in w p (option_and_then (parameter_named w.item) (single_name p))
+
+  -- the type of an expression, where its parts tell it
+  abbrev pub kind_of : Where → Expr → Option Kind
+  kind_of w (IntegerExpr n suffix at) = suffix_kind suffix
+  kind_of w (CharExpr code at) = Some CharKind
+  kind_of w (BoolExpr b at) = Some BoolKind
+  kind_of w (PathExpr p) = path_kind w p
+  kind_of w (Call' p shape all at) = Some (KindInteger Usize)
+  kind_of w (Unary' u p e at) = kind_of w e
+  kind_of w (Binary' b p l q r at) = if is_test b then Some BoolKind else operands_kind b (kind_of w l) (kind_of w r)
+  kind_of w (Cast' p e q t at) = kind_written w t
+  kind_of w (If' p c q l o r at) = option_or (kind_of w l) (kind_of w r)
+  kind_of w (Unevaluated u at) = None
+
+  -- the type that an operator's first operand has to have: the one that is wanted, but of a test the operands'
+  abbrev pub operand_kind : Where → Binary → (left right : Expr) → (wanted : Option Kind) → Option Kind
+  operand_kind w b l r wanted =
+      option_or (if is_test b then None else wanted) (operands_kind b (kind_of w l) (kind_of w r))

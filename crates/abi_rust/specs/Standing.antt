@@ -1,0 +1,100 @@
+-- What stands in each module under each name.
+use Rattle.std.specs.Prelude.{◌≡◌, ℕ, ◌+◌, ◌-◌, ◌^◌, ◌&&◌, ◌||◌, min, nat_eq, Bool, true, false, List, [], ◌∷◌, ◌++◌, Option, None, Some, is_some, if◌then◌else◌}
+use Rattle.std.specs.Option.{option_or}
+use Rattle.rust_source.specs.declared.item.Item.{Item}
+use Rattle.rust_source.specs.declared.item.ItemKind.{ItemKind}
+use Rattle.rust_source.specs.declared.item.ItemKind.TheVariants.{Const as ConstItem}
+use Rattle.rust_source.specs.declared.item.«Module».{«Module»}
+use Rattle.rust_source.specs.declared.item.Use.{Use}
+use Rattle.rust_source.specs.declared.place.Symbol.{Symbol}
+use Rattle.abi_rust.specs.declared.fault.FaultKind.TheVariants.{OutOfMemory, RepeatedConstant, RepeatedType}
+use Rattle.abi_rust.specs.declared.fault.Stop.{Stop}
+use Rattle.abi_rust.specs.declared.fault.Stop.TheVariants.{Fault}
+use Rattle.abi_rust.specs.Scope.{same_key}
+use Rattle.abi_rust.specs.Sources.{is_type}
+
+-- a name in a module: the module's number, and the name's
+abbrev pub ModuleName : Type 0
+ModuleName = ℕ × ℕ
+
+-- the number of what stands at an index: there are fewer than 2^32 of each kind, since each is written somewhere
+abbrev pub numbered : (index : ℕ) → ℕ
+numbered i = min i (2 ^ 32 - 1)
+
+-- the number of the last of these that is so, the first of which stands at this index
+abbrev pub last_so : {A : Type 0} → (A → Bool) → (index : ℕ) → List A → Option ℕ
+last_so is i [] = None
+last_so is i (x ∷ xs) = option_or (last_so is (i + 1) xs) (if is x then Some (numbered i) else None)
+
+-- the number of the first of these that is so
+abbrev pub first_so : {A : Type 0} → (A → Bool) → (index : ℕ) → List A → Option ℕ
+first_so is i [] = None
+first_so is i (x ∷ xs) = if is x then Some (numbered i) else first_so is (i + 1) xs
+
+-- it is this number
+abbrev pub is_number : ℕ → Option ℕ → Bool
+is_number n None = false
+is_number n (Some m) = nat_eq m n
+
+-- it is the name of this number
+abbrev pub is_named : ℕ → Option Symbol → Bool
+is_named n None = false
+is_named n (Some s) = nat_eq s.0 n
+
+-- the module stands there
+abbrev pub is_module_at : ModuleName → «Module» → Bool
+is_module_at k m = is_number k.0 m.parent && nat_eq m.name.0 k.1
+
+-- a constant that is a module's, and no type's own
+abbrev pub is_constant : ItemKind → Bool
+is_constant (ConstItem c) = (if is_some c.owner then false else true)
+is_constant _ = false
+
+-- where the item stands
+abbrev pub key_of : Item → ModuleName
+key_of it = (it.«module», it.name.0)
+
+-- a type that stands there
+abbrev pub is_type_at : ModuleName → Item → Bool
+is_type_at k it = is_type it.kind && same_key (key_of it) k
+
+-- a constant that stands there
+abbrev pub is_constant_at : ModuleName → Item → Bool
+is_constant_at k it = is_constant it.kind && same_key (key_of it) k
+
+-- a use that brings the name in there
+abbrev pub is_use_at : ModuleName → Use → Bool
+is_use_at k u = nat_eq u.«module» k.0 && is_named k.1 u.name
+
+-- the module that stands there: of several the last
+abbrev pub module_at : List «Module» → ModuleName → Option ℕ
+module_at modules k = last_so (is_module_at k) 0 modules
+
+-- the type that stands there
+abbrev pub type_at : List Item → ModuleName → Option ℕ
+type_at items k = last_so (is_type_at k) 0 items
+
+-- the constant that stands there
+abbrev pub constant_at : List Item → ModuleName → Option ℕ
+constant_at items k = last_so (is_constant_at k) 0 items
+
+-- the use that brings the name in there: of several the first
+abbrev pub use_at : List Use → ModuleName → Option ℕ
+use_at uses k = first_so (is_use_at k) 0 uses
+
+-- the fault of an item whose name another one has, as these tell: of a type a type or a module, of a constant a constant
+abbrev pub repeated_by : (types constants modules : ModuleName → Option ℕ) → Item → Option Stop
+repeated_by types constants modules it =
+    if is_type it.kind then
+    (if is_some (types (key_of it)) || is_some (modules (key_of it)) then Some (Fault (Some it.at) (RepeatedType it.name)) else None)
+    else (if is_constant it.kind && is_some (constants (key_of it)) then Some (Fault (Some it.at) (RepeatedConstant it.name)) else None)
+
+-- the fault of the first item whose name one before it has, or a module; these stand before it
+abbrev pub first_repeated : (modules : ModuleName → Option ℕ) → (before : List Item) → List Item → Option Stop
+first_repeated modules before [] = None
+first_repeated modules before (it ∷ rest) =
+    option_or (repeated_by (type_at before) (constant_at before) modules it) (first_repeated modules (before ++ it ∷ []) rest)
+
+-- memory was refused
+abbrev pub IsMemory : Stop → Type 0
+IsMemory stop = stop ≡ Fault None OutOfMemory

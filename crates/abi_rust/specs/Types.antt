@@ -1,0 +1,99 @@
+-- Types whose names are resolved, as the definitions see them.
+use Rattle.std.specs.Prelude.{ℕ, List, [], ◌∷◌, map, slice_get, Option, Some, None}
+use Rattle.abi_rust.specs.declared.ty.Given.{Given}
+use Rattle.abi_rust.specs.declared.ty.Given.TheFolds.{fold-Given, fold-Ty}
+use Rattle.abi_rust.specs.declared.ty.Given.TheOpen.{Given-F, Ty-F}
+use Rattle.abi_rust.specs.declared.ty.Given.TheOpen as layer
+use Rattle.abi_rust.specs.declared.ty.Primitive.{Primitive}
+use Rattle.abi_rust.specs.declared.ty.Ty.{Ty}
+use Rattle.abi_rust.specs.declared.ty.Value.{Value}
+use Rattle.abi_rust.specs.declared.work.Setting.{Setting}
+
+mutual
+  -- a type
+  pub data TyRead : Type 0 where
+    never : TyRead
+    primitive : Primitive → TyRead
+    function : TyRead
+    dyn : TyRead
+    tuple : TysRead → TyRead
+    array : TyRead → (count : ℕ) → TyRead
+    slice : TyRead → TyRead
+    reference : TyRead → TyRead
+    pointer : TyRead → TyRead
+    -- the struct, enum or union of this number, and what its parameters are given
+    adt : (item : ℕ) → GivensRead → TyRead
+
+  -- a list of types
+  pub data TysRead : Type 0 where
+    no_types : TysRead
+    more_types : TyRead → TysRead → TysRead
+
+  -- what a parameter is given
+  pub data GivenRead : Type 0 where
+    of_type : TyRead → GivenRead
+    of_value : Value → GivenRead
+
+  -- a list of what parameters are given
+  pub data GivensRead : Type 0 where
+    no_given : GivensRead
+    more_given : GivenRead → GivensRead → GivensRead
+
+-- the types of a list
+abbrev pub types : List TyRead → TysRead
+types [] = no_types
+types (t ∷ ts) = more_types t (types ts)
+
+-- a list of types
+abbrev pub list_of : TysRead → List TyRead
+list_of no_types = []
+list_of (more_types t ts) = t ∷ list_of ts
+
+-- what parameters are given, of a list
+abbrev pub givens : List GivenRead → GivensRead
+givens [] = no_given
+givens (g ∷ gs) = more_given g (givens gs)
+
+-- a list of what parameters are given
+abbrev pub list_given : GivensRead → List GivenRead
+list_given no_given = []
+list_given (more_given g gs) = g ∷ list_given gs
+
+-- one layer of the program's types, whose parts are seen so already
+abbrev pub layer_given : Given-F GivenRead TyRead → GivenRead
+layer_given (layer.«Type» t) = of_type t
+layer_given (layer.Value v) = of_value v
+
+abbrev pub layer_ty : Ty-F GivenRead TyRead → TyRead
+layer_ty layer.Never = never
+layer_ty (layer.Primitive p) = primitive p
+layer_ty layer.Function = function
+layer_ty layer.Dyn = dyn
+layer_ty (layer.Tuple all) = tuple (types all.items)
+layer_ty (layer.Array t count) = array t.value count
+layer_ty (layer.Slice t) = slice t.value
+layer_ty (layer.Reference t) = reference t.value
+layer_ty (layer.Pointer t) = pointer t.value
+layer_ty (layer.Adt item all) = adt item (givens all.items)
+
+-- the program's type as the definitions see it
+abbrev pub ty_of : Ty → TyRead
+ty_of = fold-Ty GivenRead TyRead layer_given layer_ty
+
+-- what the program gives a parameter
+abbrev pub given_of : Given → GivenRead
+given_of = fold-Given GivenRead TyRead layer_given layer_ty
+
+-- what the program gives parameters
+abbrev pub all_given : List Given → List GivenRead
+all_given = map given_of
+
+-- where a type or an expression stands: the module, the item whose parameters it may name, and what they are given
+pub record Where : Type 0 where
+  pub inside : ℕ
+  pub item : Option ℕ
+  pub given : List GivenRead
+
+-- the program's setting as the definitions see it
+abbrev pub where_of : Setting → Where
+where_of s = record { inside = s.«module»; item = s.item; given = all_given s.given.now }
