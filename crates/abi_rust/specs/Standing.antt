@@ -32,23 +32,23 @@ first_so is i [] = None
 first_so is i (x ∷ xs) = if is x then Some (numbered i) else first_so is (i + 1) xs
 
 -- it is this number
-abbrev pub is_number : ℕ → Option ℕ → Bool
-is_number n None = false
-is_number n (Some m) = nat_eq m n
+abbrev pub is_module_number : ℕ → Option ℕ → Bool
+is_module_number n None = false
+is_module_number n (Some m) = nat_eq m n
 
 -- it is the name of this number
-abbrev pub is_named : ℕ → Option Symbol → Bool
-is_named n None = false
-is_named n (Some s) = nat_eq s.0 n
+abbrev pub is_symbol : ℕ → Option Symbol → Bool
+is_symbol n None = false
+is_symbol n (Some s) = nat_eq s.0 n
 
 -- the module stands there
 abbrev pub is_module_at : ModuleName → «Module» → Bool
-is_module_at k m = is_number k.0 m.parent && nat_eq m.name.0 k.1
+is_module_at k m = is_module_number k.0 m.parent && nat_eq m.name.0 k.1
 
 -- a constant that is a module's, and no type's own
-abbrev pub is_constant : ItemKind → Bool
-is_constant (ConstItem c) = (if is_some c.owner then false else true)
-is_constant _ = false
+abbrev pub is_module_constant : ItemKind → Bool
+is_module_constant (ConstItem c) = (if is_some c.owner then false else true)
+is_module_constant _ = false
 
 -- where the item stands
 abbrev pub key_of : Item → ModuleName
@@ -60,11 +60,11 @@ is_type_at k it = is_type it.kind && same_key (key_of it) k
 
 -- a constant that stands there
 abbrev pub is_constant_at : ModuleName → Item → Bool
-is_constant_at k it = is_constant it.kind && same_key (key_of it) k
+is_constant_at k it = is_module_constant it.kind && same_key (key_of it) k
 
 -- a use that brings the name in there
 abbrev pub is_use_at : ModuleName → Use → Bool
-is_use_at k u = nat_eq u.«module» k.0 && is_named k.1 u.name
+is_use_at k u = nat_eq u.«module» k.0 && is_symbol k.1 u.name
 
 -- the module that stands there: of several the last
 abbrev pub module_at : List «Module» → ModuleName → Option ℕ
@@ -87,7 +87,7 @@ abbrev pub repeated_by : (types constants modules : ModuleName → Option ℕ) �
 repeated_by types constants modules it =
     if is_type it.kind then
     (if is_some (types (key_of it)) || is_some (modules (key_of it)) then Some (Fault (Some it.at) (RepeatedType it.name)) else None)
-    else (if is_constant it.kind && is_some (constants (key_of it)) then Some (Fault (Some it.at) (RepeatedConstant it.name)) else None)
+    else (if is_module_constant it.kind && is_some (constants (key_of it)) then Some (Fault (Some it.at) (RepeatedConstant it.name)) else None)
 
 -- the fault of the first item whose name one before it has, or a module; these stand before it
 abbrev pub first_repeated : (modules : ModuleName → Option ℕ) → (before : List Item) → List Item → Option Stop

@@ -45,9 +45,9 @@ types [] = no_types
 types (t ∷ ts) = more_types t (types ts)
 
 -- a list of types
-abbrev pub list_of : TysRead → List TyRead
-list_of no_types = []
-list_of (more_types t ts) = t ∷ list_of ts
+abbrev pub list_of_types : TysRead → List TyRead
+list_of_types no_types = []
+list_of_types (more_types t ts) = t ∷ list_of_types ts
 
 -- what parameters are given, of a list
 abbrev pub givens : List GivenRead → GivensRead

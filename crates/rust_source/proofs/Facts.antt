@@ -8,37 +8,37 @@ use Rattle.rust_source.specs.declared.syntax.Binary.TheVariants as operator
 use Rattle.rust_source.specs.declared.syntax.IntegerKind.TheVariants.{U8}
 use Rattle.rust_source.specs.Characters.{decoded, first_char}
 use Rattle.rust_source.specs.Cursor.{fault}
-use Rattle.rust_source.specs.Literals.{char_code, digits_length, digits_value, escaped_code, integer_kind, integer_kinds, number_in, number_of, within}
+use Rattle.rust_source.specs.Literals.{char_code, digits_length, digits_value, escaped_code, integer_kind, integer_kinds, number_in, number_written, within}
 use Rattle.rust_source.specs.Names.{added, number_of as name_number}
 use Rattle.rust_source.specs.Operators.{all_joined, operator_put}
 use Rattle.rust_source.specs.Syntax.{ExprRead, binary}
 
-hexadecimal : number_of (codes "0x1F_u8") ≡ number.Integer 31 (Some U8)
-unfolding number_of number_in digits_length digits_value integer_kind integer_kinds
+hexadecimal : number_written (codes "0x1F_u8") ≡ number.Integer 31 (Some U8)
+unfolding number_written number_in digits_length digits_value integer_kind integer_kinds
 hexadecimal = refl
 
-spaced : number_of (codes "1_000") ≡ number.Integer 1000 None
-unfolding number_of number_in digits_length digits_value integer_kind integer_kinds
+spaced : number_written (codes "1_000") ≡ number.Integer 1000 None
+unfolding number_written number_in digits_length digits_value integer_kind integer_kinds
 spaced = refl
 
-binary_has_no_two : number_of (codes "0b12") ≡ number.Bad
-unfolding number_of number_in digits_length digits_value integer_kind integer_kinds
+binary_has_no_two : number_written (codes "0b12") ≡ number.Bad
+unfolding number_written number_in digits_length digits_value integer_kind integer_kinds
 binary_has_no_two = refl
 
-no_such_suffix : number_of (codes "1u7") ≡ number.Bad
-unfolding number_of number_in digits_length digits_value integer_kind integer_kinds
+no_such_suffix : number_written (codes "1u7") ≡ number.Bad
+unfolding number_written number_in digits_length digits_value integer_kind integer_kinds
 no_such_suffix = refl
 
-largest : number_of (codes "340282366920938463463374607431768211455") ≡ number.Integer (2 ^ 128 - 1) None
-unfolding number_of number_in digits_length digits_value integer_kind integer_kinds
+largest : number_written (codes "340282366920938463463374607431768211455") ≡ number.Integer (2 ^ 128 - 1) None
+unfolding number_written number_in digits_length digits_value integer_kind integer_kinds
 largest = refl
 
-too_large : number_of (codes "340282366920938463463374607431768211456") ≡ number.Bad
-unfolding number_of number_in digits_length digits_value integer_kind integer_kinds
+too_large : number_written (codes "340282366920938463463374607431768211456") ≡ number.Bad
+unfolding number_written number_in digits_length digits_value integer_kind integer_kinds
 too_large = refl
 
-float : number_of (codes "1e3") ≡ number.Float
-unfolding number_of digits_length
+float : number_written (codes "1e3") ≡ number.Float
+unfolding number_written digits_length
 float = refl
 
 -- `'a'`, `'\n'`, `'\u{7b}'`, and `'\x'`, which has no digit

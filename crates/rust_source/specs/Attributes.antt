@@ -19,19 +19,19 @@ use Rattle.rust_source.specs.Terms.{done, refused}
 use Rattle.rust_source.specs.Until.{until, up_to}
 
 -- an integer without a suffix
-abbrev pub number_by : Cursor → Number → Result ℕ SourceFault
-number_by c (number.Integer n None) = Ok n
-number_by c _ = Err (fault c BadAttribute)
+abbrev pub plain_number : Cursor → Number → Result ℕ SourceFault
+plain_number c (number.Integer n None) = Ok n
+plain_number c _ = Err (fault c BadAttribute)
 
 -- the number that is next, and what follows it and a `,`
-unfoldable pub number_read : Cursor → Result (ℕ × Cursor) SourceFault
-number_read c = then_read (λ n. seen (λ d. (n, d)) (comma_passed (passed c 1))) (number_by c (next_number c))
+unfoldable pub number_and_comma : Cursor → Result (ℕ × Cursor) SourceFault
+number_and_comma c = then_read (λ n. seen (λ d. (n, d)) (comma_passed (passed c 1))) (plain_number c (next_number c))
 
 -- the two numbers of a valid range, alone in its parentheses
 unfoldable pub range_read : Cursor → Result (ℕ × ℕ) SourceFault
 range_read c =
-    then_read (λ (a : ℕ × Cursor). then_read (λ (b : ℕ × Cursor). if is_done b.1 then Ok (a.0, b.0) else Err (fault b.1 BadAttribute)) (number_read a.1))
-    (number_read c)
+    then_read (λ (a : ℕ × Cursor). then_read (λ (b : ℕ × Cursor). if is_done b.1 then Ok (a.0, b.0) else Err (fault b.1 BadAttribute)) (number_and_comma a.1))
+    (number_and_comma c)
 
 -- what no attributes say
 unfoldable pub none_said : Attributes

@@ -16,8 +16,8 @@ use Rattle.rust_source.specs.declared.tokens.token.Bracket.TheVariants as bracke
 use Rattle.rust_source.specs.declared.tokens.token.Token.{Token}
 use Rattle.rust_source.specs.declared.tokens.token.TokenKind.{TokenKind}
 use Rattle.rust_source.specs.declared.tokens.token.TokenKind.TheVariants as kind
-use Rattle.rust_source.specs.Cursor.{behind, comma_passed, fault, inside, is_done, is_next, nth, passed, text_of}
-use Rattle.rust_source.specs.Literals.{number_of, within}
+use Rattle.rust_source.specs.Cursor.{behind, comma_passed, fault, inside, is_done, is_next, nth, passed, token_text}
+use Rattle.rust_source.specs.Literals.{number_written, within}
 use Rattle.rust_source.specs.Names.{added, number_of as name_number}
 use Rattle.rust_source.specs.Reading.{after, seen, word_text}
 use Rattle.rust_source.specs.Terms.{Known, done, refused}
@@ -55,7 +55,7 @@ is_wanted wanted _ = false
 
 -- a text is this number, without a suffix
 abbrev pub is_number : (text : List ℕ) → (wanted : ℕ) → Bool
-is_number text wanted = is_wanted wanted (number_of text)
+is_number text wanted = is_wanted wanted (number_written text)
 
 -- a width of integers that the atomic types have
 unfoldable pub is_atomic_width : (text : List ℕ) → Bool
@@ -106,7 +106,7 @@ string_of text _ = None
 
 abbrev pub string_by : Cursor → Option Token → Option (List ℕ)
 string_by c None = None
-string_by c (Some t) = string_of (text_of c t) t.kind
+string_by c (Some t) = string_of (token_text c t) t.kind
 
 -- the string that is next
 unfoldable pub next_string : Cursor → Option (List ℕ)

@@ -13,7 +13,7 @@ use Rattle.rust_source.specs.declared.tokens.token.TokenKind.TheVariants as kind
 use Rattle.rust_source.specs.Attributes.{attributes_read}
 use Rattle.rust_source.specs.Cursor.{inside, is_constant, is_done, is_next, is_word, next_kind, passed}
 use Rattle.rust_source.specs.Fields.{beside, visibility_passed}
-use Rattle.rust_source.specs.Having.{Having, item_in, next_owner, noted, with_item, with_owner, within}
+use Rattle.rust_source.specs.Having.{Having, item_in, next_owner, noted, with_item, with_owner, noted_within}
 use Rattle.rust_source.specs.Items.{ItemsRead}
 use Rattle.rust_source.specs.Passing.{item_passed}
 use Rattle.rust_source.specs.Reading.{Reading, after}
@@ -82,7 +82,7 @@ module _ (rules : Rules) where
   -- the item of an `impl` block that is next
   unfoldable pub own_item : (number owner : ℕ) → Cursor → Having → Result Cursor SourceFault × Having
   own_item number owner c known =
-      after (λ (a : Attributes × Cursor) ns. own_on number a.0 owner (visibility_passed a.1) ns) (within known.1 (attributes_read rules c (noted known)))
+      after (λ (a : Attributes × Cursor) ns. own_on number a.0 owner (visibility_passed a.1) ns) (noted_within known.1 (attributes_read rules c (noted known)))
 
   -- the items of an `impl` block, at most so many
   abbrev pub own_from : (limit number owner : ℕ) → Cursor → Having → Result (Unit {0}) SourceFault × Having

@@ -74,8 +74,8 @@ text_between text from end =
     if nat_le from end && is_cut text from && is_cut text end then slice_range text from end else []
 
 -- the text of a token
-abbrev pub text_of : Cursor → Token → List ℕ
-text_of c t = text_between c.text.now t.start t.end
+abbrev pub token_text : Cursor → Token → List ℕ
+token_text c t = text_between c.text.now t.start t.end
 
 -- the fault of this kind at the next token
 abbrev pub fault : Cursor → SourceFaultKind → SourceFault

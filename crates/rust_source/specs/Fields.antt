@@ -71,8 +71,8 @@ unfoldable pub field_read : (number : Option ℕ) → Reader FieldRead
 field_read number c names = field_by number (visibility_passed c) names
 
 -- the number of the field behind these, in a tuple
-abbrev pub next_number : (is_tuple : Bool) → List FieldRead → Option ℕ
-next_number is_tuple before = if is_tuple then Some (min (length before) (2 ^ 32 - 1)) else None
+abbrev pub next_field_number : (is_tuple : Bool) → List FieldRead → Option ℕ
+next_field_number is_tuple before = if is_tuple then Some (min (length before) (2 ^ 32 - 1)) else None
 
 -- with one more, where it is there
 abbrev pub with_one : {A : Type 0} → List A → (is_there : Bool) → A → List A
@@ -84,7 +84,7 @@ module _ (rules : Rules) where
   field_more is_tuple all c known =
       after (λ (a : Attributes × Cursor) ns.
       after (λ (f : FieldRead × Cursor) ms. after (λ d ls. done (with_one all a.0.holds f.0, d) ls) (comma_passed f.1, ms))
-      (beside ns.1 (field_read (next_number is_tuple all) a.1 ns.0)))
+      (beside ns.1 (field_read (next_field_number is_tuple all) a.1 ns.0)))
       (attributes_read rules c known)
 
   -- the fields behind these, at most so many

@@ -14,8 +14,8 @@ abbrev pub Having : Type 0
 Having = Known × ItemsRead
 
 -- what is read where unknown names of `cfg` are kept, beside what else sources have
-abbrev pub within : {A : Type 0} → (items : ItemsRead) → Result A SourceFault × Noted → Result A SourceFault × Having
-within items read = (read.0, (read.1.0, record items { unknown = read.1.1 }))
+abbrev pub noted_within : {A : Type 0} → (items : ItemsRead) → Result A SourceFault × Noted → Result A SourceFault × Having
+noted_within items read = (read.0, (read.1.0, record items { unknown = read.1.1 }))
 
 abbrev pub noted : Having → Noted
 noted known = (known.0, known.1.unknown)

@@ -63,8 +63,8 @@ keywords =
     []
 
 -- what a table of the program has at a place
-abbrev pub entry : Bor (List ℕ) × Keyword → List ℕ × Keyword
-entry e = (e.0.now, e.1)
+abbrev pub keyword_entry : Bor (List ℕ) × Keyword → List ℕ × Keyword
+keyword_entry e = (e.0.now, e.1)
 
 -- the first of these that the word is
 abbrev pub keyword_in : List (List ℕ × Keyword) → (word : List ℕ) → Option Keyword

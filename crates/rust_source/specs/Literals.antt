@@ -31,8 +31,8 @@ integer_kinds =
     []
 
 -- what a table of the program has at a place
-abbrev pub entry : Bor (List ℕ) × IntegerKind → List ℕ × IntegerKind
-entry e = (e.0.now, e.1)
+abbrev pub kind_entry : Bor (List ℕ) × IntegerKind → List ℕ × IntegerKind
+kind_entry e = (e.0.now, e.1)
 
 -- the first of these that has the name
 abbrev pub integer_kind_in : List (List ℕ × IntegerKind) → (name : List ℕ) → Option IntegerKind
@@ -109,8 +109,8 @@ abbrev pub base_of : List ℕ → ℕ
 base_of text = if byte_at text 1 == 120 then 16 else (if byte_at text 1 == 111 then 8 else 2)
 
 -- what a number is that a source writes so
-unfoldable pub number_of : List ℕ → Number
-number_of text =
+unfoldable pub number_written : List ℕ → Number
+number_written text =
     if has_base text then number_in (base_of text) (drop 2 text)
     else (if is_float_tail (drop (digits_length 10 text) text) then number.Float else number_in 10 text)
 

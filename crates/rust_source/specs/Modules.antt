@@ -17,7 +17,7 @@ use Rattle.rust_source.specs.Attributes.{attributes_read}
 use Rattle.rust_source.specs.Constants.{own_constants}
 use Rattle.rust_source.specs.Cursor.{behind, expected, inside, is_done, is_next, is_open, is_word, next_kind, nth, passed}
 use Rattle.rust_source.specs.Fields.{beside, visibility_passed}
-use Rattle.rust_source.specs.Having.{Having, item_in, next_module, noted, using_within, with_item, with_module, with_passed, within}
+use Rattle.rust_source.specs.Having.{Having, item_in, next_module, noted, using_within, with_item, with_module, with_passed, noted_within}
 use Rattle.rust_source.specs.Passing.{item_passed}
 use Rattle.rust_source.specs.Reading.{after, is_named, is_path_name, name, word_text}
 use Rattle.rust_source.specs.Simple.{most_nested}
@@ -95,7 +95,7 @@ module _ (rules : Rules) where
   -- the item that is next, which is no module, behind its attributes and its `pub`
   unfoldable pub item_read : (number : ℕ) → Attributes → Cursor → Having → Result Cursor SourceFault × Having
   item_read number said c known =
-      after (λ (w : Option WrittenRead × Cursor) ns. item_by number said w.0 w.1 ns) (within known.1 (written_read rules c (noted known)))
+      after (λ (w : Option WrittenRead × Cursor) ns. item_by number said w.0 w.1 ns) (noted_within known.1 (written_read rules c (noted known)))
 
   module _ (M : ModuleReader) where
     -- the items of a module, which stand in these braces
@@ -123,7 +123,7 @@ module _ (rules : Rules) where
     unfoldable pub one_read : (number : ℕ) → Cursor → Having → Result Cursor SourceFault × Having
     one_read number c known =
         after (λ (a : Attributes × Cursor) ns. if is_done a.1 then done a.1 ns else said_read number a.0 (visibility_passed a.1) ns)
-        (within known.1 (attributes_read rules c (noted known)))
+        (noted_within known.1 (attributes_read rules c (noted known)))
 
     -- the items of a module, at most so many
     abbrev pub all_from : (limit number : ℕ) → Cursor → Having → Result (Unit {0}) SourceFault × Having

@@ -11,7 +11,7 @@ use Rattle.rust_source.specs.declared.tokens.keyword.Keyword.TheVariants as keyw
 use Rattle.rust_source.specs.declared.tokens.token.Token.{Token}
 use Rattle.rust_source.specs.declared.tokens.token.TokenKind.{TokenKind}
 use Rattle.rust_source.specs.declared.tokens.token.TokenKind.TheVariants as kind
-use Rattle.rust_source.specs.Cursor.{fault, is_cut, next_kind, nth, passed, place, text_of}
+use Rattle.rust_source.specs.Cursor.{fault, is_cut, next_kind, nth, passed, place, token_text}
 use Rattle.rust_source.specs.Keywords.{keyword_of}
 use Rattle.rust_source.specs.Names.{added, number_of}
 
@@ -86,7 +86,7 @@ Named = (Symbol × Place) × Cursor
 abbrev pub name_by : Cursor → (names : List (List ℕ)) → Option Token → Reading Named
 name_by c names None = (Err (fault c ExpectedName), names)
 name_by c names (Some t) =
-    let text = name_text (text_of c t) t.kind in
+    let text = name_text (token_text c t) t.kind in
     (Ok ((record { 0 = number_of names text }, place c), passed c 1), added names text)
 
 -- the name that is next, which is no keyword
@@ -117,7 +117,7 @@ has_name own text _ = false
 
 abbrev pub is_named_by : Cursor → (text : List ℕ) → Option Token → Bool
 is_named_by c text None = false
-is_named_by c text (Some t) = has_name (text_of c t) text t.kind
+is_named_by c text (Some t) = has_name (token_text c t) text t.kind
 
 -- the next token is the name of this text, without `r#`
 unfoldable pub is_named : Cursor → (text : List ℕ) → Bool
@@ -131,7 +131,7 @@ word_text_of text _ = []
 
 abbrev pub word_text_by : Cursor → Option Token → List ℕ
 word_text_by c None = []
-word_text_by c (Some t) = word_text_of (text_of c t) t.kind
+word_text_by c (Some t) = word_text_of (token_text c t) t.kind
 
 -- the text of the next token, where it is a name or a keyword; else nothing
 unfoldable pub word_text : Cursor → List ℕ

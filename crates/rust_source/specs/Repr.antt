@@ -15,18 +15,18 @@ use Rattle.rust_source.specs.declared.tokens.token.Bracket.TheVariants as bracke
 use Rattle.rust_source.specs.declared.tokens.token.Token.{Token}
 use Rattle.rust_source.specs.declared.tokens.token.TokenKind.{TokenKind}
 use Rattle.rust_source.specs.declared.tokens.token.TokenKind.TheVariants as kind
-use Rattle.rust_source.specs.Cursor.{comma_passed, fault, group_passed, inside, is_done, is_none, nth, passed, place, text_of}
-use Rattle.rust_source.specs.Literals.{integer_kind, number_of}
+use Rattle.rust_source.specs.Cursor.{comma_passed, fault, group_passed, inside, is_done, is_none, nth, passed, place, token_text}
+use Rattle.rust_source.specs.Literals.{integer_kind, number_written}
 use Rattle.rust_source.specs.Reading.{seen, then_read, word_text}
 
 -- the number that a token of this kind is, whose text is given
 abbrev pub number_of_kind : (text : List ℕ) → TokenKind → Number
-number_of_kind text kind.Number = number_of text
+number_of_kind text kind.Number = number_written text
 number_of_kind text _ = number.Bad
 
 abbrev pub number_by : Cursor → Option Token → Number
 number_by c None = number.Bad
-number_by c (Some t) = number_of_kind (text_of c t) t.kind
+number_by c (Some t) = number_of_kind (token_text c t) t.kind
 
 -- the number that is next; a bad one where none is
 unfoldable pub next_number : Cursor → Number

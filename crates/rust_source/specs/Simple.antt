@@ -19,8 +19,8 @@ use Rattle.rust_source.specs.declared.tokens.token.Bracket.TheVariants as bracke
 use Rattle.rust_source.specs.declared.tokens.token.Token.{Token}
 use Rattle.rust_source.specs.declared.tokens.token.TokenKind.{TokenKind}
 use Rattle.rust_source.specs.declared.tokens.token.TokenKind.TheVariants as kind
-use Rattle.rust_source.specs.Cursor.{behind, fault, is_group, is_lifetime, is_next, is_pair, is_same_word, is_word, next_kind, nth, passed, place, text_of, tree_passed}
-use Rattle.rust_source.specs.Literals.{char_code, number_of}
+use Rattle.rust_source.specs.Cursor.{behind, fault, is_group, is_lifetime, is_next, is_pair, is_same_word, is_word, next_kind, nth, passed, place, token_text, tree_passed}
+use Rattle.rust_source.specs.Literals.{char_code, number_written}
 use Rattle.rust_source.specs.Operators.{signed}
 use Rattle.rust_source.specs.Passing.{angles_passed, bounds}
 use Rattle.rust_source.specs.Reading.{is_path_name, seen}
@@ -177,9 +177,9 @@ byte_read c (Err k) = Err (fault c BadCharacter)
 
 -- the expression that a token of this kind is
 abbrev pub literal_of : Cursor → Token → TokenKind → Result ExprRead SourceFault
-literal_of c t kind.Number = number_read c (number_of (text_of c t))
-literal_of c t kind.Char = char_read c (char_code (text_of c t))
-literal_of c t kind.Byte = byte_read c (char_code (drop 1 (text_of c t)))
+literal_of c t kind.Number = number_read c (number_written (token_text c t))
+literal_of c t kind.Char = char_read c (char_code (token_text c t))
+literal_of c t kind.Byte = byte_read c (char_code (drop 1 (token_text c t)))
 literal_of c t (kind.Keyword k) = Ok (bool (is_same_word k keyword.True) (place c))
 literal_of c t _ = Ok (other_expr other.Expression (place c))
 

@@ -61,30 +61,30 @@ abbrev pub glob : UsePlace → (path : List UsedName) → UseRead
 glob place path = record { inside = place.«module»; is_global = place.is_global; path = path; name = None; is_glob = true }
 
 -- names of a path, and whether it is all of it
-abbrev pub Named : Type 0
-Named = List UsedName × Bool
+abbrev pub UsedNames : Type 0
+UsedNames = List UsedName × Bool
 
 -- what comes behind a name of a path: `::`, or nothing
-abbrev pub names_on : (go_on : List UsedName → Reader Named) → List UsedName → Reader Named
+abbrev pub names_on : (go_on : List UsedName → Reader UsedNames) → List UsedName → Reader UsedNames
 names_on go_on path c names = if is_pair c 58 58 then go_on path (passed c 2) names else done ((path, true), c) names
 
 -- the names of a path behind these, up to a group, a `*` or its last name
-abbrev pub names_from : (limit : ℕ) → List UsedName → Reader Named
-names_from zero path c names = done ((path, false), c) names
-names_from (suc limit) path c names =
+abbrev pub path_names_from : (limit : ℕ) → List UsedName → Reader UsedNames
+path_names_from zero path c names = done ((path, false), c) names
+path_names_from (suc limit) path c names =
     if is_path_name c
-    then after (λ (n : (Symbol × Place) × Cursor) ns. names_on (names_from limit) (path ++ record { name = n.0.0; at = n.0.1 } ∷ []) n.1 ns) (path_name c names)
+    then after (λ (n : (Symbol × Place) × Cursor) ns. names_on (path_names_from limit) (path ++ record { name = n.0.0; at = n.0.1 } ∷ []) n.1 ns) (path_name c names)
     else done ((path, false), c) names
 
-unfoldable pub names_read : List UsedName → Reader Named
-names_read path c names = names_from (c.end - c.at) path c names
+unfoldable pub names_read : List UsedName → Reader UsedNames
+names_read path c names = path_names_from (c.end - c.at) path c names
 
 -- the path begins with `::` here
 abbrev pub begins_globally : (before : List UsedName) → Cursor → Bool
 begins_globally before c = (length before == 0) && is_pair c 58 58
 
-abbrev pub placed : UsePlace → (is_global : Bool) → UsePlace
-placed place is_global = if is_global then record place { is_global = true } else place
+abbrev pub used_place : UsePlace → (is_global : Bool) → UsePlace
+used_place place is_global = if is_global then record place { is_global = true } else place
 
 module _ (T : UsePlace → List UsedName → Cursor → Using → Result Cursor SourceFault × Using) where
   -- what a group brings in, of at most so many
@@ -104,7 +104,7 @@ module _ (T : UsePlace → List UsedName → Cursor → Using → Result Cursor 
   group_by place path c (Some i) known = after (λ _ ns. done (behind c) ns) (group_read place path i known)
 
   -- what stands behind the names of a path: nothing, a `*` or a group
-  abbrev pub tree_on : UsePlace → Named → Cursor → Using → Result Cursor SourceFault × Using
+  abbrev pub tree_on : UsePlace → UsedNames → Cursor → Using → Result Cursor SourceFault × Using
   tree_on place n c known =
       if n.1 then path_used place n.0 c known
       else (if is_next c 42 then done (passed c 1) (with_use (glob place n.0) known) else group_by place n.0 c (inside c bracket.Curly) known)
@@ -113,7 +113,7 @@ module _ (T : UsePlace → List UsedName → Cursor → Using → Result Cursor 
   unfoldable pub tree_with : UsePlace → List UsedName → Cursor → Using → Result Cursor SourceFault × Using
   tree_with place before c known =
       let is_global = begins_globally before c in
-      after (λ (n : Named × Cursor) ns. tree_on (placed place is_global) n.0 n.1 ns)
+      after (λ (n : UsedNames × Cursor) ns. tree_on (used_place place is_global) n.0 n.1 ns)
       (beside known.1 (names_read before (if is_global then passed c 2 else c) known.0))
 
 -- what is brought in behind the names before a group, where groups may stand in so many others

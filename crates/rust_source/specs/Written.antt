@@ -132,14 +132,14 @@ unfoldable pub is_union : Cursor → Bool
 is_union c = is_named c (codes "union") && is_named_next c
 
 -- an item that is there
-abbrev pub found : {S : Type 0} → Result (WrittenRead × Cursor) SourceFault × S → Result (Option WrittenRead × Cursor) SourceFault × S
-found = after (λ w ns. done (Some w.0, w.1) ns)
+abbrev pub item_there : {S : Type 0} → Result (WrittenRead × Cursor) SourceFault × S → Result (Option WrittenRead × Cursor) SourceFault × S
+item_there = after (λ w ns. done (Some w.0, w.1) ns)
 
 -- the item that is next, where it makes a type or is a constant
 unfoldable pub written_read : Rules → Noting (Option WrittenRead)
 written_read rules c known =
-    if is_word c keyword.Struct then found (struct_read rules (passed c 1) known)
-    else (if is_word c keyword.Enum then found (enum_read rules (passed c 1) known)
-    else (if is_word c keyword.Type then found (beside known.1 (alias_read (passed c 1) known.0))
-    else (if is_union c then found (union_read rules (passed c 1) known)
-    else (if is_constant c then found (beside known.1 (const_read None (passed c 1) known.0)) else done (None, c) known))))
+    if is_word c keyword.Struct then item_there (struct_read rules (passed c 1) known)
+    else (if is_word c keyword.Enum then item_there (enum_read rules (passed c 1) known)
+    else (if is_word c keyword.Type then item_there (beside known.1 (alias_read (passed c 1) known.0))
+    else (if is_union c then item_there (union_read rules (passed c 1) known)
+    else (if is_constant c then item_there (beside known.1 (const_read None (passed c 1) known.0)) else done (None, c) known))))

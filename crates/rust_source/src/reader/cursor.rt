@@ -3,7 +3,7 @@
 ghost use Rattle.std.specs.Prelude.{◌≡◌, ◌+◌, ◌||◌, if◌then◌else◌};
 ghost use Rattle.rust_source.specs.Reading.{seen};
 ghost use Rattle.rust_source.specs.Until.{until, up_to};
-ghost use Rattle.rust_source.specs.Cursor.{behind, comma_passed, fault, group_passed, inside, is_cut, is_done, is_group, is_lifetime, is_named_next, is_next, is_nth, is_nth_pair, is_pair, is_punct, is_word, kind_of, next_kind, nth, passed, place, place_behind, place_of, text_of, touch, tree_passed};
+ghost use Rattle.rust_source.specs.Cursor.{behind, comma_passed, fault, group_passed, inside, is_cut, is_done, is_group, is_lifetime, is_named_next, is_next, is_nth, is_nth_pair, is_pair, is_punct, is_word, kind_of, next_kind, nth, passed, place, place_behind, place_of, token_text, touch, tree_passed};
 
 use crate::fault::{SourceFault, SourceFaultKind};
 use crate::place::Place;
@@ -118,7 +118,7 @@ pub(crate) fn is_cut(text: &str, at: usize) -> bool
 /// The text of a token.
 #[tactic(auto, unfolding(crate::specs::Cursor::text_between))]
 pub(crate) fn text_of<'a>(cursor: &Cursor<'a>, token: Token) -> &'a str
-    ensures { result.now ≡ text_of cursor.now token }
+    ensures { result.now ≡ token_text cursor.now token }
 {
     let from = token.start as usize;
     let end = token.end as usize;

@@ -3,8 +3,8 @@
 ghost use Rattle.std.specs.Prelude.{◌≡◌, [], ◌∷◌, ◌++◌, drop, IfErr, IfOk, map};
 ghost use Rattle.rust_source.specs.Names.{texts};
 ghost use Rattle.rust_source.specs.Operators.{operands_of};
-ghost use Rattle.rust_source.specs.Cursor.{next_kind, text_of};
-ghost use Rattle.rust_source.specs.Literals.{char_code, number_of};
+ghost use Rattle.rust_source.specs.Cursor.{next_kind, token_text};
+ghost use Rattle.rust_source.specs.Literals.{char_code, number_written};
 ghost use Rattle.rust_source.specs.Reading.{Reads, seen};
 ghost use Rattle.rust_source.specs.Simple.{byte_read, char_read, is_literal, literal, literal_of, most_nested, number_read, sign_of, signed_literal, signs};
 ghost use Rattle.rust_source.specs.Syntax.{cast, choice, expr_of, type_of};
@@ -412,7 +412,7 @@ pub(crate) fn is_literal(cursor: &Cursor<'_>) -> bool
 
 /// The number that the next token is.
 fn number_literal(cursor: &Cursor<'_>, token: Token) -> Result<Expr, SourceFault>
-    ensures { seen expr_of result ≡ number_read cursor.now (number_of (text_of cursor.now token)) }
+    ensures { seen expr_of result ≡ number_read cursor.now (number_written (token_text cursor.now token)) }
 {
     let at = place(cursor);
     match number_of(text_of(cursor, token).as_bytes()) {
@@ -424,7 +424,7 @@ fn number_literal(cursor: &Cursor<'_>, token: Token) -> Result<Expr, SourceFault
 
 /// The character that the next token is.
 fn char_literal(cursor: &Cursor<'_>, token: Token) -> Result<Expr, SourceFault>
-    ensures { seen expr_of result ≡ char_read cursor.now (char_code (text_of cursor.now token)) }
+    ensures { seen expr_of result ≡ char_read cursor.now (char_code (token_text cursor.now token)) }
 {
     let at = place(cursor);
     match char_code(text_of(cursor, token).as_bytes()) {
@@ -435,7 +435,7 @@ fn char_literal(cursor: &Cursor<'_>, token: Token) -> Result<Expr, SourceFault>
 
 /// The byte that the next token is.
 fn byte_literal(cursor: &Cursor<'_>, token: Token) -> Result<Expr, SourceFault>
-    ensures { seen expr_of result ≡ byte_read cursor.now (char_code (drop 1 (text_of cursor.now token))) }
+    ensures { seen expr_of result ≡ byte_read cursor.now (char_code (drop 1 (token_text cursor.now token))) }
 {
     let at = place(cursor);
     match char_code(after(text_of(cursor, token).as_bytes(), 1)) {

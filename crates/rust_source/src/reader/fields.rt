@@ -2,7 +2,7 @@
 
 ghost use Rattle.std.specs.Prelude.{◌≡◌, ◌∷◌, ◌++◌, [], IfErr, IfOk, map};
 ghost use Rattle.std.specs.Option.{option_map};
-ghost use Rattle.rust_source.specs.Fields.{field_more, field_read, field_typed, fields_all, fields_in, fields_read, is_restriction, next_number, value_read, variant_more, variant_read, variants_all, variants_in, visibility_passed, with_one};
+ghost use Rattle.rust_source.specs.Fields.{field_more, field_read, field_typed, fields_all, fields_in, fields_read, is_restriction, next_field_number, value_read, variant_more, variant_read, variants_all, variants_in, visibility_passed, with_one};
 ghost use Rattle.rust_source.specs.Items.{field_of, fields_of, variant_of};
 ghost use Rattle.rust_source.specs.Names.{texts};
 ghost use Rattle.rust_source.specs.Reading.{Reads};
@@ -107,7 +107,7 @@ fn read_field(
 /// The number of the field behind these, in a tuple.
 #[tactic(auto, using(std::proofs::lemmas::Grind::common_steps))]
 fn next_number(is_tuple: bool, before: &Vec<Field>) -> Option<u32>
-    ensures { result ≡ next_number is_tuple (map field_of before.now.items) }
+    ensures { result ≡ next_field_number is_tuple (map field_of before.now.items) }
 {
     if is_tuple {
         Some(as_place(before.len()))

@@ -1,7 +1,7 @@
 //! The values of numbers and characters.
 
 ghost use Rattle.std.specs.Prelude.{◌≡◌, ◌≤◌, length, map};
-ghost use Rattle.rust_source.specs.Literals.{as_code, base_of, char_code, code_by, code_within, digit_value, digits_length, digits_value, entry, escape_by, escaped_code, hex_code, integer_kind, integer_kind_in, is_digit_in, is_float_tail, letter_code, number_in, number_of, suffixed, with_digit, within};
+ghost use Rattle.rust_source.specs.Literals.{as_code, base_of, char_code, code_by, code_within, digit_value, digits_length, digits_value, kind_entry, escape_by, escaped_code, hex_code, integer_kind, integer_kind_in, is_digit_in, is_float_tail, letter_code, number_in, number_written, suffixed, with_digit, within};
 ghost use Rattle.rust_source.specs.Characters.{first_char};
 ghost use Rattle.rust_source.specs.Slices.{now_of};
 
@@ -30,7 +30,7 @@ static KIND_NAMES: [(&str, IntegerKind); KINDS] = [
 
 /// The first integer type of a table that has this name.
 fn integer_kind_in(table: &[(&'static str, IntegerKind)], name: &[u8]) -> Option<IntegerKind>
-    ensures { result ≡ integer_kind_in (map entry table.now) name.now }
+    ensures { result ≡ integer_kind_in (map kind_entry table.now) name.now }
 {
     for (text, kind) in table {
         if text.as_bytes() == name {
@@ -169,9 +169,9 @@ fn base_of(text: &[u8]) -> u8
 }
 
 /// What a number is that a source writes so.
-#[tactic(auto, unfolding(crate::specs::Literals::number_of))]
+#[tactic(auto, unfolding(crate::specs::Literals::number_written))]
 pub(crate) fn number_of(text: &[u8]) -> Number
-    ensures { result ≡ number_of text.now }
+    ensures { result ≡ number_written text.now }
 {
     if has_base(text) {
         number_in(after(text, 2), base_of(text))

@@ -1,7 +1,7 @@
 //! Names of items, fields and paths.
 
 ghost use Rattle.std.specs.Prelude.{◌≡◌};
-ghost use Rattle.rust_source.specs.Cursor.{next_kind, nth, text_of};
+ghost use Rattle.rust_source.specs.Cursor.{next_kind, nth, token_text};
 ghost use Rattle.rust_source.specs.Names.{texts};
 ghost use Rattle.rust_source.specs.Reading.{Reads, bare_or, bare_text, is_named, is_path_name, name, name_in, name_text, path_name, path_word, word_in, word_text};
 
@@ -33,7 +33,7 @@ fn bare_text(text: &str) -> &str
 
 /// The text of a name, without its `r#` where it is no keyword.
 fn name_text<'a>(cursor: &Cursor<'a>, token: Token) -> &'a str
-    ensures { result.now ≡ name_text (text_of cursor.now token) token.kind }
+    ensures { result.now ≡ name_text (token_text cursor.now token) token.kind }
 {
     let text = text_of(cursor, token);
     match token.kind {

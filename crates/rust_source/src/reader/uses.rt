@@ -6,7 +6,7 @@ ghost use Rattle.rust_source.specs.Growth.{BeginsWith};
 ghost use Rattle.rust_source.specs.Items.{use_of};
 ghost use Rattle.rust_source.specs.Names.{texts};
 ghost use Rattle.rust_source.specs.Reading.{Reads};
-ghost use Rattle.rust_source.specs.Uses.{begins_globally, glob, group_read, is_self, last, names_read, path_used, placed, rename_read, tree_on, tree_read, tree_with, without_self};
+ghost use Rattle.rust_source.specs.Uses.{begins_globally, glob, group_read, is_self, last, names_read, path_used, used_place, rename_read, tree_on, tree_read, tree_with, without_self};
 
 use crate::fault::{SourceFault, SourceFaultKind};
 use crate::item::{Use, UsedName};
@@ -167,7 +167,7 @@ fn takes_global(cursor: &mut Cursor<'_>, before: &[UsedName]) -> bool
 
 /// The place of a `use`, whose path begins with `::` or as it is.
 fn placed(place: UsePlace, is_global: bool) -> UsePlace
-    ensures { result ≡ placed place is_global }
+    ensures { result ≡ used_place place is_global }
 {
     let mut place = place;
     if is_global {

@@ -1,7 +1,7 @@
 //! Keywords.
 
 ghost use Rattle.std.specs.Prelude.{◌≡◌, map};
-ghost use Rattle.rust_source.specs.Keywords.{entry, keyword_in, keyword_of};
+ghost use Rattle.rust_source.specs.Keywords.{keyword_entry, keyword_in, keyword_of};
 
 /// A keyword of the language.
 #[derive(Clone, Copy, PartialEq, Eq)]
@@ -100,7 +100,7 @@ static WORDS: [(&str, Keyword); COUNT] = [
 
 /// The first keyword of a table that a word is.
 fn keyword_in(table: &[(&'static str, Keyword)], word: &[u8]) -> Option<Keyword>
-    ensures { result ≡ keyword_in (map entry table.now) word.now }
+    ensures { result ≡ keyword_in (map keyword_entry table.now) word.now }
 {
     for (text, keyword) in table {
         if text.as_bytes() == word {
