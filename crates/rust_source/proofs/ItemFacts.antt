@@ -1,6 +1,6 @@
 -- What the definitions say of some items.
-use Rattle.std.proofs.Common.{◌≡◌, ℕ, ◌+◌, ◌-◌, codes, true, false, List, [], ◌∷◌, length, Option, None, Some, Ok, refl}
-use Rattle.rust_source.specs.declared.item.FieldName.TheVariants.{Named, Numbered}
+use Rattle.std.proofs.Common.{◌≡◌, ℕ, ◌+◌, codes, false, List, [], ◌∷◌, length, None, Some, Ok, refl}
+use Rattle.rust_source.specs.declared.item.FieldName.TheVariants.{Named}
 use Rattle.rust_source.specs.declared.reader.attributes.Rules.{Rules}
 use Rattle.rust_source.specs.declared.reader.cursor.Cursor.{Cursor}
 use Rattle.rust_source.specs.declared.tokens.keyword.Keyword.TheVariants as keyword
