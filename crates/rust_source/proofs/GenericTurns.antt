@@ -1,5 +1,5 @@
 -- A turn of the loops over parameters, and what stands at their ends.
-use Rattle.std.proofs.Common.{◌≡◌, ℕ, suc, ◌+◌, ◌-◌, ◌<◌, ◌≤◌, List, ap}
+use Rattle.std.proofs.Common.{◌≡◌, ℕ, ◌+◌, ◌-◌, ◌<◌, ◌≤◌, List, ap}
 use Rattle.std.specs.Prelude.{if◌then◌else◌}
 use Rattle.rust_source.specs.declared.fault.SourceFaultKind.TheVariants.{ExpectedAngle}
 use Rattle.rust_source.specs.declared.reader.cursor.Cursor.{Cursor}

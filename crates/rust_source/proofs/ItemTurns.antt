@@ -2,7 +2,6 @@
 use Rattle.std.proofs.Common.{◌≡◌, ℕ, zero, suc, ◌+◌, ◌-◌, ◌<◌, ◌≤◌, Bool, true, List, Ok, Err, refl, ap, arith}
 use Rattle.std.specs.Prelude.{if◌then◌else◌}
 use Rattle.rust_source.specs.declared.item.Repr.{Repr}
-use Rattle.rust_source.specs.declared.place.Symbol.{Symbol}
 use Rattle.rust_source.specs.declared.reader.attributes.Attributes.{Attributes}
 use Rattle.rust_source.specs.declared.reader.attributes.Rules.{Rules}
 use Rattle.rust_source.specs.declared.reader.cursor.Cursor.{Cursor}
@@ -15,7 +14,7 @@ use Rattle.rust_source.specs.Fields.{field_more, fields_from, variant_more, vari
 use Rattle.rust_source.specs.Items.{FieldRead, VariantRead}
 use Rattle.rust_source.specs.Reading.{after, then_read}
 use Rattle.rust_source.specs.Repr.{word_more, words_from}
-use Rattle.rust_source.specs.Terms.{Known, done}
+use Rattle.rust_source.specs.Terms.{done}
 use Rattle.rust_source.specs.Until.{until, up_to}
 use Rattle.rust_source.proofs.Turns.{none_left, turns}
 

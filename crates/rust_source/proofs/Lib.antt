@@ -2,6 +2,7 @@ mod Digits
 mod Facts
 mod GenericTurns
 mod Growth
+mod ItemFacts
 mod ItemTurns
 mod ModuleTurns
 mod NameTexts

@@ -95,8 +95,8 @@ module _ (rules : Rules) where
 
   -- the items in these braces, of the type that the path names
   abbrev pub impl_in : (number : ℕ) → PathRead → Option Cursor → Having → Result (Unit {0}) SourceFault × Having
-  impl_in number path None known = done tt known
-  impl_in number path (Some i) known = own_items number (next_owner known.1) i (known.0, with_owner path known.1)
+  impl_in number p None known = done tt known
+  impl_in number p (Some i) known = own_items number (next_owner known.1) i (known.0, with_owner p known.1)
 
   abbrev pub impl_by : (number : ℕ) → Option (PathRead × Cursor) → Having → Result (Unit {0}) SourceFault × Having
   impl_by number None known = done tt known

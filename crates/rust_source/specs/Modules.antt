@@ -1,5 +1,5 @@
 -- Items, one after another, and modules within one another.
-use Rattle.std.specs.Prelude.{ℕ, zero, suc, ◌-◌, ◌&&◌, ◌||◌, Bool, true, false, codes, [], nat_lt, Option, None, Some, Result, Ok, Err, if◌then◌else◌}
+use Rattle.std.specs.Prelude.{ℕ, zero, suc, ◌+◌, ◌-◌, ◌&&◌, ◌||◌, Bool, true, false, codes, [], nat_lt, Option, None, Some, Result, if◌then◌else◌}
 use Rattle.std.specs.Str.{bytes_eq}
 use Rattle.rust_source.specs.declared.fault.SourceFault.{SourceFault}
 use Rattle.rust_source.specs.declared.fault.SourceFaultKind.TheVariants.{ExpectedItem, ExpectedSemicolon, TooDeep}
@@ -139,9 +139,9 @@ unfoldable pub module_within : Rules → (room : ℕ) → ModuleReader
 module_within rules zero number c known = refused TooDeep c known
 module_within rules (suc room) number c known = all_read rules (module_within rules room) number c known
 
--- the items of a source, in a new root module of this name, and that module's number
+-- the items of a source, in a new root module of this name, and that module's number; modules may stand in 200 others
 unfoldable pub root_read : Rules → Symbol → Cursor → Having → Result ℕ SourceFault × Having
 root_read rules name c known =
     after (λ _ ns. done (next_module known.1) ns)
-    (all_read rules (module_within rules most_nested) (next_module known.1) c
+    (all_read rules (module_within rules (most_nested + 1)) (next_module known.1) c
     (known.0, with_module (record { name = name; parent = None }) known.1))

@@ -1,5 +1,5 @@
 -- What `use` brings in.
-use Rattle.std.specs.Prelude.{ℕ, zero, suc, ◌-◌, ◌==◌, ◌&&◌, Bool, true, false, List, [], ◌∷◌, ◌++◌, length, nat_lt, slice_get, take, Option, None, Some, Result, Ok, Err, if◌then◌else◌}
+use Rattle.std.specs.Prelude.{ℕ, zero, suc, ◌-◌, ◌==◌, ◌&&◌, Bool, true, false, List, [], ◌∷◌, ◌++◌, length, nat_lt, slice_get, take, Option, None, Some, Result, if◌then◌else◌}
 use Rattle.rust_source.specs.declared.fault.SourceFault.{SourceFault}
 use Rattle.rust_source.specs.declared.fault.SourceFaultKind.TheVariants.{ExpectedUse, TooDeep}
 use Rattle.rust_source.specs.declared.item.UsedName.{UsedName}
@@ -12,7 +12,7 @@ use Rattle.rust_source.specs.declared.tokens.token.Bracket.TheVariants as bracke
 use Rattle.rust_source.specs.Cursor.{behind, comma_passed, inside, is_done, is_next, is_pair, is_word, passed}
 use Rattle.rust_source.specs.Fields.{beside}
 use Rattle.rust_source.specs.Items.{UseRead}
-use Rattle.rust_source.specs.Reading.{Reading, after, is_path_name, name, path_name}
+use Rattle.rust_source.specs.Reading.{after, is_path_name, name, path_name}
 use Rattle.rust_source.specs.Terms.{Known, Reader, done, refused}
 
 -- names that have numbers, and what was brought in so far

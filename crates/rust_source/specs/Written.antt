@@ -1,5 +1,5 @@
 -- Items that make types, and constants, as they are written.
-use Rattle.std.specs.Prelude.{ℕ, ◌&&◌, Bool, codes, List, map, Option, None, Some, Result, Ok, Err, if◌then◌else◌}
+use Rattle.std.specs.Prelude.{ℕ, ◌&&◌, Bool, codes, List, map, Option, None, Some, Result, if◌then◌else◌}
 use Rattle.rust_source.specs.declared.fault.SourceFault.{SourceFault}
 use Rattle.rust_source.specs.declared.fault.SourceFaultKind.TheVariants.{ExpectedColon, ExpectedEquals, ExpectedFields, ExpectedSemicolon}
 use Rattle.rust_source.specs.declared.place.Place.{Place}
@@ -15,10 +15,10 @@ use Rattle.rust_source.specs.Cursor.{behind, expected, inside, is_constant, is_g
 use Rattle.rust_source.specs.Fields.{beside, fields_read, value_read, variants_in}
 use Rattle.rust_source.specs.Generics.{asked, parameters_read, where_read}
 use Rattle.rust_source.specs.Items.{FieldsRead, ItemKindRead, ParameterRead, VariantRead, alias_of, const_of, enum_of, item_kind_of, parameter_of, struct_of, union_of}
-use Rattle.rust_source.specs.Reading.{Reading, after, is_named, name}
+use Rattle.rust_source.specs.Reading.{after, is_named, name}
 use Rattle.rust_source.specs.Simple.{most_nested}
 use Rattle.rust_source.specs.Syntax.{ExprRead, TypeRead}
-use Rattle.rust_source.specs.Terms.{Known, Reader, done, refused, type_read}
+use Rattle.rust_source.specs.Terms.{Reader, done, refused, type_read}
 
 -- the name of an item, where it stands, and its parameters
 pub record HeadRead : Type 0 where

@@ -376,7 +376,7 @@ fn read_within(
 }
 
 /// Reads the items of a source, in a new root module of this name, and is that module's number.
-#[tactic(auto, unfolding(crate::specs::Modules::root_read))]
+#[tactic(auto, unfolding(crate::specs::Modules::root_read, crate::specs::Simple::most_nested))]
 pub(crate) fn read_root(
     alloc: Global,
     rules: &Rules<'_>,
@@ -390,6 +390,6 @@ pub(crate) fn read_root(
         (texts names.new, items_of items.new) result }
 {
     let root = begin_module(items, name, None)?;
-    read_all(alloc, rules, names, items, root, cursor, most_nested())?;
+    read_all(alloc, rules, names, items, root, cursor, most_nested() + 1)?;
     Ok(root)
 }
