@@ -15,7 +15,7 @@ use Rattle.rust_source.specs.Cursor.{behind, inside, is_group, is_nth, is_nth_pa
 use Rattle.rust_source.specs.Fields.{field_more, field_read, field_typed, fields_all, fields_in, fields_read, value_read, variant_more, variant_read, variants_all, variants_in, visibility_passed}
 use Rattle.rust_source.specs.Generics.{parameters_read, where_read}
 use Rattle.rust_source.specs.Items.{enum_of, struct_of}
-use Rattle.rust_source.specs.Literals.{digits_length, digits_value, integer_kind, integer_kinds, number_in, number_of}
+use Rattle.rust_source.specs.Literals.{digits_length, digits_value, integer_kind, integer_kinds, number_in, number_written}
 use Rattle.rust_source.specs.Names.{first_names}
 use Rattle.rust_source.specs.Operators.{all_joined, next_operator, pairs}
 use Rattle.rust_source.specs.Reading.{bare_text, is_path_name, name, path_name, seen, word_text}
@@ -92,7 +92,7 @@ module _ (rules : Rules) where
         fields = record { is_tuple = false; all = [] };
         discriminant = Some (integer 3 None (record { 0 = 8 }));
       } ∷ []))
-  unfolding first_names enum_read head_where head_read where_asked name bare_text place place_of nth passed is_nth is_nth_pair is_word is_group inside behind text_between parameters_read where_read fields_read variants_in variants_all variant_more variant_read value_read attributes_read none_said one_attribute attribute_read attribute_with cfg_said predicate_read predicate_with option_read option_answer has_flag word_text visibility_passed until up_to tree_passed whole inner expr_with operand primary is_literal literal signs number_of digits_length number_in digits_value integer_kind integer_kinds next_operator pairs all_joined most_nested
+  unfolding first_names enum_read head_where head_read where_asked name bare_text place place_of nth passed is_nth is_nth_pair is_word is_group inside behind text_between parameters_read where_read fields_read variants_in variants_all variant_more variant_read value_read attributes_read none_said one_attribute attribute_read attribute_with cfg_said predicate_read predicate_with option_read option_answer has_flag word_text visibility_passed until up_to tree_passed whole inner expr_with operand primary is_literal literal signs number_written digits_length number_in digits_value integer_kind integer_kinds next_operator pairs all_joined most_nested
   variant_taken_out = refl
 
 -- a::{b, c as d}
