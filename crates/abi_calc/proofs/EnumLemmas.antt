@@ -52,6 +52,7 @@ pub mod Discriminants
 pub mod Single
 -- the first fields that take room, and a tag that grows up to them
 pub mod Growth
+pub mod OnlyField
 -- what variants have in common
 pub mod Payload
 -- some values have a least range, and one only

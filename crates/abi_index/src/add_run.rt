@@ -3,6 +3,7 @@
 ghost use Rattle.std.specs.Prelude.{◌≡◌, ℕ, ◌<◌, ◌≤◌, ◌+◌, ◌-◌, ◌^◌, ◌||◌, length, slice_get, IfSome, IsSomeAnd, IfOk, OnOk, OnErr};
 ghost use Rattle.abi_index.specs.RangeSet.{is_in_run, is_in_ranges, AreMaximalRuns};
 
+use crate::few::Few;
 use std::alloc::{AllocError, Global};
 
 /// Adds the bytes from one on up to another, and without that one, to these runs, each its first byte and how many
@@ -10,7 +11,7 @@ use std::alloc::{AllocError, Global};
 /// the list is made anew. `AllocError` where memory is refused: then the runs are as they were.
 pub(crate) fn add_run(
     alloc: Global,
-    runs: &mut Vec<(u64, u64)>,
+    runs: &mut Few<(u64, u64)>,
     from: u64,
     to: u64,
 ) -> Result<(), AllocError>
@@ -21,7 +22,7 @@ pub(crate) fn add_run(
     ensures maximal { AreMaximalRuns 0 runs.new.items }
     ensures err { OnErr result (runs.new.items ≡ runs.old.items) }
 {
-    match runs.last().copied() {
+    match runs.as_slice().last().copied() {
         None => push_run(runs, from, to),
         Some((first, size)) if first + size < from => push_run(runs, from, to),
         Some((first, _size)) if first <= from => {
@@ -29,7 +30,7 @@ pub(crate) fn add_run(
             Ok(())
         }
         Some(_) => {
-            *runs = with_run(alloc, runs.as_slice(), from, to)?;
+            *runs = Few::from_vec(with_run(alloc, runs.as_slice(), from, to)?);
             Ok(())
         }
     }
@@ -37,7 +38,7 @@ pub(crate) fn add_run(
 
 /// Puts the run from a byte on up to another and without it behind these, of which none meets it. `AllocError` where
 /// memory is refused: then the runs are as they were.
-fn push_run(runs: &mut Vec<(u64, u64)>, from: u64, to: u64) -> Result<(), AllocError>
+fn push_run(runs: &mut Few<(u64, u64)>, from: u64, to: u64) -> Result<(), AllocError>
     requires some { from < to }
     requires maximal { AreMaximalRuns 0 runs.old.items }
     requires behind { IfSome (slice_get runs.old.items (length runs.old.items - 1)) (λ last.
@@ -52,7 +53,7 @@ fn push_run(runs: &mut Vec<(u64, u64)>, from: u64, to: u64) -> Result<(), AllocE
 }
 
 /// Makes the last run reach from a byte that it has, or that is directly behind it, up to another and without that one.
-fn lengthen_last(runs: &mut Vec<(u64, u64)>, from: u64, to: u64)
+fn lengthen_last(runs: &mut Few<(u64, u64)>, from: u64, to: u64)
     requires some { from < to }
     requires maximal { AreMaximalRuns 0 runs.old.items }
     requires meets { IsSomeAnd (slice_get runs.old.items (length runs.old.items - 1)) (λ last.
@@ -62,8 +63,8 @@ fn lengthen_last(runs: &mut Vec<(u64, u64)>, from: u64, to: u64)
     ensures maximal { AreMaximalRuns 0 runs.new.items }
 {
     let last = runs.len() - 1;
-    let (first, size) = runs[last];
-    runs[last] = (first, size.max(to - first));
+    let (first, size) = runs.as_slice()[last];
+    runs.set_last((first, size.max(to - first)));
 }
 
 /// These runs and the one from a byte on up to another and without it, joined to those that it meets. `AllocError`

@@ -1,6 +1,6 @@
 //! Lists that keep up to two items in themselves.
 
-ghost use Rattle.std.specs.Prelude.{◌≡◌, ℕ, ◌≤◌, ◌<◌, ◌↔◌, [], ◌∷◌, ◌++◌, length, IsTrue, IsOk, IfOk, IfErr, OnOk, OnErr, nat_le, if◌then◌else◌, option_to_list, vec_capacity};
+ghost use Rattle.std.specs.Prelude.{◌≡◌, ℕ, ◌≤◌, ◌<◌, ◌-◌, ◌↔◌, [], ◌∷◌, ◌++◌, length, IsTrue, IsOk, IfOk, IfErr, OnOk, OnErr, nat_le, if◌then◌else◌, option_to_list, slice_set, vec_capacity};
 ghost use Rattle.std.specs.Mem.{type_size};
 ghost use Rattle.abi_index.specs.Few.{TwoFit, few_items};
 
@@ -146,6 +146,32 @@ impl<T> Few<T> {
             front: Front::Empty,
             rest,
         }
+    }
+
+    /// Puts an item in the place of the last one.
+    pub(crate) fn set_last(&mut self, item: T)
+    where
+        T: Copy,
+        requires { 0 < length self.old.items }
+        ensures items { self.new.items
+            ≡ slice_set self.old.items (length self.old.items - 1) item }
+        ensures room { self.new.room ≡ self.old.room }
+    {
+        match &mut self.front {
+            Front::Empty => {
+                let last = self.rest.len() - 1;
+                self.rest[last] = item;
+            }
+            Front::One(only) => *only = item,
+            Front::Two(pair) => pair.second = item,
+        }
+    }
+
+    /// The items that it has in itself, and those in an allocation. Nothing is copied.
+    pub(crate) fn into_parts(self) -> (Front<T>, Vec<T>)
+        ensures { few_items result.0 result.1.items ≡ self.items }
+    {
+        (self.front, self.rest)
     }
 
     /// How many items there are.

@@ -4,6 +4,7 @@ ghost use Rattle.std.specs.Prelude.{◌≡◌, ℕ, ◌<◌, ◌+◌, ◌^◌, �
 ghost use Rattle.abi_index.specs.RangeSet.{is_in_run, is_in_ranges, AreMaximalRuns};
 
 use crate::add_run::add_run;
+use crate::few::Few;
 use crate::try_clone::TryClone;
 use crate::uncut::add_uncut;
 use std::alloc::{AllocError, Global};
@@ -15,7 +16,7 @@ use std::marker::Model;
 #[derive(Drop)]
 pub struct RangeSet {
     alloc: Global,
-    runs: Vec<(u64, u64)>,
+    runs: Few<(u64, u64)>,
 }
 
 impl Model for RangeSet {
@@ -38,7 +39,7 @@ impl PartialEq for RangeSet {
     ghost laws = { lists_per (partial_equiv_from_equiv (and_equiv (on_equiv (λ run. run.0) nat_eq_equiv) (on_equiv (λ run. run.1) nat_eq_equiv))) };
 
     fn eq(&self, other: &Self) -> bool {
-        self.runs == other.runs
+        self.as_slice() == other.as_slice()
     }
 }
 
@@ -51,14 +52,13 @@ impl Eq for RangeSet {
 
 impl Debug for RangeSet {
     fn fmt<W: fmt::Write>(&self, f: &mut fmt::Formatter<W>) -> fmt::Result {
-        self.runs.fmt(f)
+        self.as_slice().fmt(f)
     }
 }
 
 impl TryClone for RangeSet {
     fn try_clone(&self, alloc: Global) -> Result<Self, AllocError> {
-        let mut runs = Vec::with_capacity(alloc, self.runs.len())?;
-        runs.extend_from_slice(self.runs.as_slice())?;
+        let runs = Few::from_vec(Vec::from_slice(alloc, self.runs.as_slice())?);
         Ok(RangeSet { alloc, runs })
     }
 }
@@ -70,7 +70,7 @@ impl RangeSet {
     {
         RangeSet {
             alloc,
-            runs: Vec::new(alloc),
+            runs: Few::new(alloc),
         }
     }
 

@@ -1,9 +1,10 @@
 //! Runs of bytes that are collected, of which a set is made at once.
 
-ghost use Rattle.std.specs.Prelude.{◌≡◌, ℕ, ◌+◌, ◌*◌, ◌-◌, ◌<◌, ◌≤◌, ◌^◌, [], All, IfOk, IsOk, OnErr, OnOk, nat_lt};
+ghost use Rattle.std.specs.Prelude.{◌≡◌, ℕ, ◌+◌, ◌*◌, ◌-◌, ◌<◌, ◌≤◌, ◌^◌, [], ◌∷◌, All, IfOk, IsOk, OnErr, OnOk, nat_lt};
 ghost use Rattle.abi_index.specs.RangeSet.{is_in_ranges};
-ghost use Rattle.abi_index.specs.Runs.{Adds, Extends, moved_to, repeated};
+ghost use Rattle.abi_index.specs.Runs.{Adds, Extends, HaveEnds, moved_to, repeated};
 
+use crate::few::{Few, Front};
 use crate::range_set::RangeSet;
 use std::alloc::{AllocError, Global};
 use std::marker::Model;
@@ -12,7 +13,7 @@ use std::marker::Model;
 /// but once.
 #[derive(Drop)]
 pub struct RangeSetBuilder {
-    runs: Vec<(u64, u64)>,
+    runs: Few<(u64, u64)>,
 }
 
 impl Model for RangeSetBuilder {
@@ -26,13 +27,48 @@ impl Model for RangeSetBuilder {
     ghost invariant = { λ a. HaveEnds a.runs.items };
 }
 
+/// The set of the bytes of these runs, each of which is put in behind those before it where they ascend.
+fn set_of(alloc: Global, runs: &[(u64, u64)]) -> Result<RangeSet, AllocError>
+    requires { HaveEnds runs.now }
+    ensures { IfOk result (λ set. (k : ℕ) → is_in_ranges set k ≡ is_in_ranges runs.now k) }
+{
+    let mut set = RangeSet::new(alloc);
+    for run in runs {
+        set.add_range(run.0, run.1)?;
+    }
+    Ok(set)
+}
+
+/// The set of the bytes of these runs, which are sorted once.
+fn set_of_any(alloc: Global, runs: Vec<(u64, u64)>) -> Result<RangeSet, AllocError>
+    requires { HaveEnds runs.items }
+    ensures { IfOk result (λ set. (k : ℕ) → is_in_ranges set k ≡ is_in_ranges runs.items k) }
+{
+    let mut runs = runs;
+    runs.sort_unstable_by_key(|run| run.0);
+    set_of(alloc, runs.as_slice())
+}
+
+/// The set of the bytes of two runs, of which the one that begins first is put in first.
+fn set_of_two(alloc: Global, first: (u64, u64), second: (u64, u64)) -> Result<RangeSet, AllocError>
+    requires { HaveEnds (first ∷ second ∷ []) }
+    ensures { IfOk result (λ set. (k : ℕ) →
+        is_in_ranges set k ≡ is_in_ranges (first ∷ second ∷ []) k) }
+{
+    if first.0 <= second.0 {
+        set_of(alloc, &[first, second])
+    } else {
+        set_of(alloc, &[second, first])
+    }
+}
+
 impl RangeSetBuilder {
     /// A set without bytes yet, which asks for no memory.
     pub fn new(alloc: Global) -> Self
         ensures { result ≡ [] }
     {
         RangeSetBuilder {
-            runs: Vec::new(alloc),
+            runs: Few::new(alloc),
         }
     }
 
@@ -104,12 +140,10 @@ impl RangeSetBuilder {
     pub fn build(self, alloc: Global) -> Result<RangeSet, AllocError>
         ensures bytes { IfOk result (λ set. (k : ℕ) → is_in_ranges set k ≡ is_in_ranges self k) }
     {
-        let mut runs = self.runs;
-        runs.sort_unstable_by_key(|run| run.0);
-        let mut set = RangeSet::new(alloc);
-        for run in &runs {
-            set.add_range(run.0, run.1)?;
+        match self.runs.into_parts() {
+            (Front::Empty, runs) => set_of_any(alloc, runs),
+            (Front::One(run), _) => set_of(alloc, &[run]),
+            (Front::Two(pair), _) => set_of_two(alloc, pair.first, pair.second),
         }
-        Ok(set)
     }
 }

@@ -12,6 +12,7 @@ pub mod Reading
 -- laid-out types printed, and the names of refusals
 pub mod Printing
 pub mod Told
+pub mod Listed
 pub mod Names
 -- the words that write a type
 pub mod Written

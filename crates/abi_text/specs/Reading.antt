@@ -410,6 +410,11 @@ abbrev pub Agrees : {A B : Type 0} → (A → B) → Result B Fault → Result A
 Agrees view answer (Ok a) = answer ≡ Ok (view a)
 Agrees view answer (Err fault) = (answer ≡ Err fault) ⊎ (fault ≡ OutOfMemory)
 
+-- the whole type that the program has, where nothing comes next
+abbrev pub whole_by : Want → Option TypeTree → Option Tree
+whole_by want.End tree = option_map tree_of tree
+whole_by _ tree = None
+
 -- what the program's reader has read
 abbrev pub state_of : Reader → State
-state_of reader = record { want = reader.want; begun = begun_in reader.begun.items; tree = option_map tree_of reader.tree }
+state_of reader = record { want = reader.want; begun = begun_in reader.begun.items; tree = whole_by reader.want reader.tree }

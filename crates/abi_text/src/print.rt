@@ -9,6 +9,7 @@ ghost use Rattle.abi_text.specs.Told.{TellsBytes};
 ghost use Rattle.abi_laid.specs.Laid.{placed_of};
 ghost use Rattle.abi_laid.specs.Placed.{layout_of};
 
+use crate::listed::{listed, write_listed_padding};
 use crate::numbered::write_two_numbered;
 use crate::print_variants::write_variants;
 use abi_base::{Integer, Primitive, Size};
@@ -190,8 +191,9 @@ pub fn write_type(alloc: Global, out: &mut String, laid: &Laid) -> Result<(), Al
     ensures { OnOk result (string_bytes out.new
         ≡ string_bytes out.old ++ type_text (placed_of laid.now)) }
 {
+    let (padding, unused) = listed(alloc, laid)?;
     write_layout(out, laid.layout())?;
-    write_variants(alloc, out, laid)?;
+    write_variants(out, laid, &unused)?;
     write_niche(out, laid.layout().largest_niche)?;
-    write_padding(alloc, out, laid)
+    write_listed_padding(out, laid, &padding)
 }

@@ -4,6 +4,7 @@ ghost use Rattle.std.specs.Prelude.{◌≡◌, ℕ, ◌<◌, ◌≤◌, ◌+◌,
 ghost use Rattle.abi_index.specs.Idx.{greatest_place};
 ghost use Rattle.abi_index.specs.RangeSet.{AreMaximalRuns};
 ghost use Rattle.abi_text.specs.Printing.{lines_of_variants, named_text, range_lines, printed_scalar, tag_line, unused_lines, variant_lines, variants_lines};
+ghost use Rattle.abi_text.specs.Listed.{ListsUnused};
 ghost use Rattle.abi_text.specs.Told.{TellsBytes};
 ghost use Rattle.abi_types.specs.Ty.Runs.{IsVariantOfSeveral};
 ghost use Rattle.abi_laid.specs.Laid.{placed_of};
@@ -24,10 +25,7 @@ pub fn listed_unused(
     laid: &Laid,
 ) -> Result<IndexVec<VariantIdx, RangeSet>, AllocError>
     requires { TellsBytes laid.now }
-    ensures { IfOk result (λ sets. (i : ℕ) (runs : List (ℕ × ℕ)) →
-        IsVariantOfSeveral (layout_of (placed_of laid.now)).variants i →
-        runs ≡ get_or sets i [] → AreMaximalRuns 0 runs →
-        range_lines (codes "unused") runs ≡ unused_lines (placed_of laid.now) i) }
+    ensures { IfOk result (ListsUnused (placed_of laid.now)) }
 {
     if laid.layout().size.bytes() > MOST_LISTED {
         return Ok(IndexVec::new(alloc));
@@ -68,23 +66,22 @@ fn write_variant(
 
 /// Writes each of the variants, the first of which has the index 0.
 fn write_each_variant(
-    alloc: Global,
     out: &mut String,
     laid: &Laid,
+    unused: &IndexVec<VariantIdx, RangeSet>,
     variants: &[VariantLayout<FieldIdx>],
 ) -> Result<(), AllocError>
-    requires told { TellsBytes laid.now }
+    requires unused { ListsUnused (placed_of laid.now) unused.now }
     requires most { length variants.now ≤ greatest_place + 1 }
     requires variants { (i : ℕ) → i < length variants.now →
         IsVariantOfSeveral (layout_of (placed_of laid.now)).variants i }
     ensures { OnOk result (string_bytes out.new ≡ string_bytes out.old ++ lines_of_variants
         (placed_of laid.now) 0 variants.now) }
 {
-    let unused = listed_unused(alloc, laid)?;
     for (index, variant) in variants.iter().enumerate() {
         let offsets = variant.field_offsets.as_slice().as_raw();
         let variant = VariantIdx::from_usize(index);
-        write_variant(out, variant, offsets, runs_of(&unused, variant))?;
+        write_variant(out, variant, offsets, runs_of(unused, variant))?;
     }
     Ok(())
 }
@@ -152,8 +149,12 @@ fn write_tag(
 }
 
 /// Writes the variants of a type that has several, and the tag that tells them apart.
-pub(crate) fn write_variants(alloc: Global, out: &mut String, laid: &Laid) -> Result<(), AllocError>
-    requires { TellsBytes laid.now }
+pub(crate) fn write_variants(
+    out: &mut String,
+    laid: &Laid,
+    unused: &IndexVec<VariantIdx, RangeSet>,
+) -> Result<(), AllocError>
+    requires { ListsUnused (placed_of laid.now) unused.now }
     ensures { let placed = placed_of laid.now in OnOk result (string_bytes out.new
         ≡ string_bytes out.old ++ variants_lines placed (layout_of placed).variants) }
 {
@@ -164,7 +165,7 @@ pub(crate) fn write_variants(alloc: Global, out: &mut String, laid: &Laid) -> Re
             tag_field,
             variants,
         } => {
-            write_each_variant(alloc, out, laid, variants.as_slice().as_raw())?;
+            write_each_variant(out, laid, unused, variants.as_slice().as_raw())?;
             write_tag(out, *tag_field, *tag, *tag_encoding)
         }
         Variants::Empty => Ok(()),

@@ -21,7 +21,7 @@ ghost use Rattle.abi_text.specs.Written.{IsLineOf, IsWrittenAs, nesting};
 
 use crate::fault::Fault;
 use crate::number::{decimal, discriminant};
-use crate::reader::begun::{Open, OrderWant, Reader, ScalarForm, ScalarPlace, Want, put, waiting};
+use crate::reader::begun::{Open, OrderWant, Reader, ScalarForm, ScalarPlace, Want, put};
 use crate::reader::close::close;
 use crate::reader::read_coroutine::{open_coroutine, read_coroutine_word};
 use crate::reader::read_order::read_order_word;
@@ -45,97 +45,129 @@ fn read_type_word(
     dl: &TargetDataLayout,
     number: u64,
     closes: bool,
-    begun: Vec<Open>,
+    reader: &mut Reader,
     word: Option<TypeWord>,
-) -> Result<Reader, Fault>
-    ensures { Agrees state_of (at_type dl.now number closes (begun_in begun.items) word) result }
+) -> Result<(), Fault>
+    ensures { Agrees (λ _. state_of reader.new)
+        (at_type dl.now number closes (begun_in reader.old.begun.items) word) result }
 {
     let Some(word) = word else {
         if closes {
-            return close(alloc, number, begun);
+            return close(alloc, number, reader);
         }
         return Err(Fault::Unreadable(number));
     };
-    if begun.len() > MOST_NESTED {
+    if reader.begun.len() > MOST_NESTED {
         return Err(Fault::TooDeep);
     }
     match word {
         TypeWord::Scalar(scalar) => {
             let (form, place) = (ScalarForm::Full, ScalarPlace::Alone);
-            begin_scalar(alloc, dl, form, place, begun, scalar)
+            begin_scalar(alloc, dl, form, place, reader, scalar)
         }
-        TypeWord::Pair => Ok(waiting(Want::Scalar(ScalarPlace::First), begun)),
-        TypeWord::Never => put(alloc, TypeTree::Never, begun),
-        TypeWord::Unit => put(alloc, TypeTree::Unit, begun),
-        TypeWord::Array => Ok(waiting(Want::Count, begun)),
-        TypeWord::Vector(packed) => Ok(waiting(Want::Lanes(packed), begun)),
-        TypeWord::Struct => Ok(waiting(Want::Repr, begun)),
-        TypeWord::Ordered => Ok(waiting(Want::Order(OrderWant::Repr), begun)),
-        TypeWord::Union => Ok(waiting(Want::UnionRepr, begun)),
-        TypeWord::Enum => Ok(waiting(Want::EnumRepr, begun)),
-        TypeWord::Coroutine => open_coroutine(alloc, begun),
+        TypeWord::Pair => {
+            reader.want = Want::Scalar(ScalarPlace::First);
+            Ok(())
+        }
+        TypeWord::Never => put(alloc, TypeTree::Never, reader),
+        TypeWord::Unit => put(alloc, TypeTree::Unit, reader),
+        TypeWord::Array => {
+            reader.want = Want::Count;
+            Ok(())
+        }
+        TypeWord::Vector(packed) => {
+            reader.want = Want::Lanes(packed);
+            Ok(())
+        }
+        TypeWord::Struct => {
+            reader.want = Want::Repr;
+            Ok(())
+        }
+        TypeWord::Ordered => {
+            reader.want = Want::Order(OrderWant::Repr);
+            Ok(())
+        }
+        TypeWord::Union => {
+            reader.want = Want::UnionRepr;
+            Ok(())
+        }
+        TypeWord::Enum => {
+            reader.want = Want::EnumRepr;
+            Ok(())
+        }
+        TypeWord::Coroutine => open_coroutine(alloc, reader),
     }
 }
 
 /// Reads an array's count.
-fn read_count(number: u64, begun: Vec<Open>, word: &[u8]) -> Result<Reader, Fault>
-    ensures { Agrees state_of
-        (at_count number (begun_in begun.items) (number_of_bits 64 word.now)) result }
+fn read_count(number: u64, reader: &mut Reader, word: &[u8]) -> Result<(), Fault>
+    ensures { Agrees (λ _. state_of reader.new)
+        (at_count number (begun_in reader.old.begun.items) (number_of_bits 64 word.now)) result }
 {
-    let mut begun = begun;
     match decimal(word) {
         Some(count) => {
-            begun.push(Open::Elements(count))?;
-            Ok(waiting(Want::Tree, begun))
+            reader.begun.push(Open::Elements(count))?;
+            reader.want = Want::Tree;
+            Ok(())
         }
         None => Err(Fault::Unreadable(number)),
     }
 }
 
 /// Reads how many lanes a vector has.
-fn read_lanes(number: u64, packed: bool, begun: Vec<Open>, word: &[u8]) -> Result<Reader, Fault>
-    ensures { Agrees state_of
-        (at_lanes number packed (begun_in begun.items) (number_of_bits 64 word.now)) result }
+fn read_lanes(number: u64, packed: bool, reader: &mut Reader, word: &[u8]) -> Result<(), Fault>
+    ensures { Agrees (λ _. state_of reader.new)
+        (at_lanes number packed (begun_in reader.old.begun.items)
+        (number_of_bits 64 word.now)) result }
 {
-    let mut begun = begun;
     match decimal(word) {
         Some(lanes) => {
-            begun.push(Open::Lanes(lanes, packed))?;
-            Ok(waiting(Want::Tree, begun))
+            reader.begun.push(Open::Lanes(lanes, packed))?;
+            reader.want = Want::Tree;
+            Ok(())
         }
         None => Err(Fault::Unreadable(number)),
     }
 }
 
 /// Reads a struct's repr.
-fn read_repr(number: u64, begun: Vec<Open>, word: &[u8]) -> Result<Reader, Fault>
-    ensures { Agrees state_of
-        (at_repr number (begun_in begun.items) (struct_repr word.now)) result }
+fn read_repr(number: u64, reader: &mut Reader, word: &[u8]) -> Result<(), Fault>
+    ensures { Agrees (λ _. state_of reader.new)
+        (at_repr number (begun_in reader.old.begun.items) (struct_repr word.now)) result }
 {
     match struct_repr(word) {
-        Some(asked) => Ok(waiting(Want::Opening(asked), begun)),
+        Some(asked) => {
+            reader.want = Want::Opening(asked);
+            Ok(())
+        }
         None => Err(Fault::Unreadable(number)),
     }
 }
 
 /// Reads a union's repr.
-fn read_union_repr(number: u64, begun: Vec<Open>, word: &[u8]) -> Result<Reader, Fault>
-    ensures { Agrees state_of
-        (at_union_repr number (begun_in begun.items) (union_repr word.now)) result }
+fn read_union_repr(number: u64, reader: &mut Reader, word: &[u8]) -> Result<(), Fault>
+    ensures { Agrees (λ _. state_of reader.new)
+        (at_union_repr number (begun_in reader.old.begun.items) (union_repr word.now)) result }
 {
     match union_repr(word) {
-        Some(repr) => Ok(waiting(Want::UnionOpening(repr), begun)),
+        Some(repr) => {
+            reader.want = Want::UnionOpening(repr);
+            Ok(())
+        }
         None => Err(Fault::Unreadable(number)),
     }
 }
 
 /// Reads an enum's repr.
-fn read_enum_repr(number: u64, begun: Vec<Open>, word: &[u8]) -> Result<Reader, Fault>
-    ensures { Agrees state_of
-        (at_enum_repr number (begun_in begun.items) (union_repr word.now)) result }
+fn read_enum_repr(number: u64, reader: &mut Reader, word: &[u8]) -> Result<(), Fault>
+    ensures { Agrees (λ _. state_of reader.new)
+        (at_enum_repr number (begun_in reader.old.begun.items) (union_repr word.now)) result }
 {
     match union_repr(word) {
-        Some(repr) => Ok(waiting(Want::EnumOpening(repr), begun)),
+        Some(repr) => {
+            reader.want = Want::EnumOpening(repr);
+            Ok(())
+        }
         None => Err(Fault::Unreadable(number)),
     }
 }
@@ -145,16 +177,17 @@ fn read_opening(
     alloc: Global,
     number: u64,
     asked: StructRepr,
-    begun: Vec<Open>,
+    reader: &mut Reader,
     word: &[u8],
-) -> Result<Reader, Fault>
-    ensures { Agrees state_of
-        (at_opening number asked (begun_in begun.items) (bytes_eq word.now (codes "("))) result }
+) -> Result<(), Fault>
+    ensures { Agrees (λ _. state_of reader.new)
+        (at_opening number asked (begun_in reader.old.begun.items) (bytes_eq word.now
+        (codes "("))) result }
 {
-    let mut begun = begun;
     if word == b"(".as_slice() {
-        begun.push(Open::Fields(asked, Vec::new(alloc)))?;
-        Ok(waiting(Want::Tree, begun))
+        reader.begun.push(Open::Fields(asked, Vec::new(alloc)))?;
+        reader.want = Want::Tree;
+        Ok(())
     } else {
         Err(Fault::Unreadable(number))
     }
@@ -165,16 +198,17 @@ fn read_union_opening(
     alloc: Global,
     number: u64,
     repr: ReprOptions,
-    begun: Vec<Open>,
+    reader: &mut Reader,
     word: &[u8],
-) -> Result<Reader, Fault>
-    ensures { Agrees state_of (at_union_opening number repr (begun_in begun.items)
+) -> Result<(), Fault>
+    ensures { Agrees (λ _. state_of reader.new)
+        (at_union_opening number repr (begun_in reader.old.begun.items)
         (bytes_eq word.now (codes "("))) result }
 {
-    let mut begun = begun;
     if word == b"(".as_slice() {
-        begun.push(Open::Members(repr, Vec::new(alloc)))?;
-        Ok(waiting(Want::Tree, begun))
+        reader.begun.push(Open::Members(repr, Vec::new(alloc)))?;
+        reader.want = Want::Tree;
+        Ok(())
     } else {
         Err(Fault::Unreadable(number))
     }
@@ -185,16 +219,17 @@ fn read_enum_opening(
     alloc: Global,
     number: u64,
     repr: ReprOptions,
-    begun: Vec<Open>,
+    reader: &mut Reader,
     word: &[u8],
-) -> Result<Reader, Fault>
-    ensures { Agrees state_of (at_enum_opening number repr (begun_in begun.items)
+) -> Result<(), Fault>
+    ensures { Agrees (λ _. state_of reader.new)
+        (at_enum_opening number repr (begun_in reader.old.begun.items)
         (bytes_eq word.now (codes "("))) result }
 {
-    let mut begun = begun;
     if word == b"(".as_slice() {
-        begun.push(Open::Variants(repr, Vec::new(alloc)))?;
-        Ok(waiting(Want::Discriminant, begun))
+        reader.begun.push(Open::Variants(repr, Vec::new(alloc)))?;
+        reader.want = Want::Discriminant;
+        Ok(())
     } else {
         Err(Fault::Unreadable(number))
     }
@@ -204,18 +239,21 @@ fn read_enum_opening(
 fn read_discriminant(
     alloc: Global,
     number: u64,
-    begun: Vec<Open>,
+    reader: &mut Reader,
     word: &[u8],
-) -> Result<Reader, Fault>
-    ensures { Agrees state_of
-        (at_discriminant number (bytes_eq word.now (codes ")")) (begun_in begun.items)
+) -> Result<(), Fault>
+    ensures { Agrees (λ _. state_of reader.new)
+        (at_discriminant number (bytes_eq word.now (codes ")")) (begun_in reader.old.begun.items)
         (discriminant_in word.now)) result }
 {
     if word == b")".as_slice() {
-        return close(alloc, number, begun);
+        return close(alloc, number, reader);
     }
     match discriminant(word) {
-        Some(discriminant) => Ok(waiting(Want::VariantOpening(discriminant), begun)),
+        Some(discriminant) => {
+            reader.want = Want::VariantOpening(discriminant);
+            Ok(())
+        }
         None => Err(Fault::Unreadable(number)),
     }
 }
@@ -225,17 +263,18 @@ fn read_variant_opening(
     alloc: Global,
     number: u64,
     discriminant: u128,
-    begun: Vec<Open>,
+    reader: &mut Reader,
     word: &[u8],
-) -> Result<Reader, Fault>
-    ensures { Agrees state_of (at_variant_opening number discriminant (begun_in begun.items)
+) -> Result<(), Fault>
+    ensures { Agrees (λ _. state_of reader.new)
+        (at_variant_opening number discriminant (begun_in reader.old.begun.items)
         (bytes_eq word.now (codes "("))) result }
 {
-    let mut begun = begun;
-    match (begun.pop(), word == b"(".as_slice()) {
+    match (reader.begun.pop(), word == b"(".as_slice()) {
         (Some(Open::Variants(repr, variants)), true) => {
-            begun.push(Open::Variant(repr, variants, discriminant, Vec::new(alloc)))?;
-            Ok(waiting(Want::Tree, begun))
+            reader.begun.push(Open::Variant(repr, variants, discriminant, Vec::new(alloc)))?;
+            reader.want = Want::Tree;
+            Ok(())
         }
         _ => Err(Fault::Unreadable(number)),
     }
@@ -247,37 +286,38 @@ fn read_next(
     dl: &TargetDataLayout,
     number: u64,
     want: Want,
-    begun: Vec<Open>,
+    reader: &mut Reader,
     word: &[u8],
-) -> Result<Reader, Fault>
-    ensures { Agrees state_of (next dl.now number (begun_in begun.items) word.now want) result }
+) -> Result<(), Fault>
+    ensures { Agrees (λ _. state_of reader.new)
+        (next dl.now number (begun_in reader.old.begun.items) word.now want) result }
 {
     match want {
         Want::Tree => {
             let closes = word == b")".as_slice();
-            read_type_word(alloc, dl, number, closes, begun, type_word(word))
+            read_type_word(alloc, dl, number, closes, reader, type_word(word))
         }
-        Want::Scalar(place) => read_scalar(alloc, dl, number, place, begun, word),
+        Want::Scalar(place) => read_scalar(alloc, dl, number, place, reader, word),
         Want::Primitive(form, place) => {
-            read_primitive(alloc, dl, number, form, place, begun, word)
+            read_primitive(alloc, dl, number, form, place, reader, word)
         }
-        Want::Space(form, place) => read_space(alloc, dl, number, form, place, begun, word),
-        Want::RangeStart(value, place) => read_start(number, value, place, begun, word),
+        Want::Space(form, place) => read_space(alloc, dl, number, form, place, reader, word),
+        Want::RangeStart(value, place) => read_start(number, value, place, reader, word),
         Want::RangeEnd(value, start, place) => {
-            read_end(alloc, number, value, start, place, begun, word)
+            read_end(alloc, number, value, start, place, reader, word)
         }
-        Want::Count => read_count(number, begun, word),
-        Want::Lanes(packed) => read_lanes(number, packed, begun, word),
-        Want::Repr => read_repr(number, begun, word),
-        Want::UnionRepr => read_union_repr(number, begun, word),
-        Want::EnumRepr => read_enum_repr(number, begun, word),
-        Want::Opening(asked) => read_opening(alloc, number, asked, begun, word),
-        Want::UnionOpening(repr) => read_union_opening(alloc, number, repr, begun, word),
-        Want::EnumOpening(repr) => read_enum_opening(alloc, number, repr, begun, word),
-        Want::Discriminant => read_discriminant(alloc, number, begun, word),
-        Want::VariantOpening(value) => read_variant_opening(alloc, number, value, begun, word),
-        Want::Coroutine(part) => read_coroutine_word(alloc, number, part, begun, word),
-        Want::Order(part) => read_order_word(alloc, number, part, begun, word),
+        Want::Count => read_count(number, reader, word),
+        Want::Lanes(packed) => read_lanes(number, packed, reader, word),
+        Want::Repr => read_repr(number, reader, word),
+        Want::UnionRepr => read_union_repr(number, reader, word),
+        Want::EnumRepr => read_enum_repr(number, reader, word),
+        Want::Opening(asked) => read_opening(alloc, number, asked, reader, word),
+        Want::UnionOpening(repr) => read_union_opening(alloc, number, repr, reader, word),
+        Want::EnumOpening(repr) => read_enum_opening(alloc, number, repr, reader, word),
+        Want::Discriminant => read_discriminant(alloc, number, reader, word),
+        Want::VariantOpening(value) => read_variant_opening(alloc, number, value, reader, word),
+        Want::Coroutine(part) => read_coroutine_word(alloc, number, part, reader, word),
+        Want::Order(part) => read_order_word(alloc, number, part, reader, word),
         Want::End => Err(Fault::Unreadable(number)),
     }
 }
@@ -286,27 +326,22 @@ fn read_next(
 fn read_words(alloc: Global, dl: &TargetDataLayout, line: &[u8]) -> Result<TypeTree, Fault>
     ensures { Agrees tree_of (read dl.now (words_of line.now)) result }
 {
-    let mut reader = waiting(Want::Tree, Vec::new(alloc));
+    let mut reader = Reader {
+        want: Want::Tree,
+        begun: Vec::new(alloc),
+        tree: None,
+    };
     let mut rest = line;
     let mut number = 1u64;
     while let Some((word, more)) = next_word(rest) {
-        let Reader {
-            want,
-            begun,
-            tree: _,
-        } = reader;
-        reader = read_next(alloc, dl, number, want, begun, word)?;
+        let want = reader.want;
+        read_next(alloc, dl, number, want, &mut reader, word)?;
         rest = more;
         number += 1;
     }
-    let Reader {
-        want: _,
-        begun: _,
-        tree,
-    } = reader;
-    match tree {
-        Some(tree) => Ok(tree),
-        None => Err(Fault::Unreadable(number)),
+    match (reader.want, reader.tree) {
+        (Want::End, Some(tree)) => Ok(tree),
+        _ => Err(Fault::Unreadable(number)),
     }
 }
 

@@ -1,5 +1,5 @@
 -- Where sums of sizes tell it, there is a layout with a tag, and the one with a niche is the better one.
-use Rattle.std.proofs.Common.{◌≡◌, ℕ, ◌+◌, ◌*◌, ◌^◌, ◌<◌, ◌≤◌, Bool, true, false, List, [], ◌∷◌, ap, arith, inl, inr, length, map, max, refl, subst, sum_by, sym}
+use Rattle.std.proofs.Common.{◌≡◌, ℕ, ◌+◌, ◌*◌, ◌^◌, ◌<◌, ◌≤◌, Bool, true, false, List, [], ◌∷◌, ap, arith, inl, inr, length, map, max, min, refl, subst, sum_by, sym}
 use Rattle.std.specs.Prelude.{◌==◌, ◌&&◌, ◌||◌, ◌⊎◌, All, None, Some, Ok, is_some, if◌then◌else◌, nat_le, nat_lt, not}
 use Rattle.std.specs.Int.{next_multiple_of}
 use Rattle.std.proofs.Math.Nat.{dvd-add, mod-lt, pow-le-pow_right}
@@ -34,7 +34,7 @@ use Rattle.abi_lists.proofs.Offsets.Rounding.{round_below, round_multiple, round
 use Rattle.abi_lists.proofs.Sorted.Prefixes.{round_lower}
 use Rattle.abi_calc.specs.Enums.Discriminants.{IsTagRange}
 use Rattle.abi_calc.specs.Enums.Sizes.{IsTaggedSize}
-use Rattle.abi_calc.specs.Enums.Bounds.{fits_behind, least_left, outdoes, wins}
+use Rattle.abi_calc.specs.Enums.Bounds.{fits_behind, least_left, most_tag, outdoes, wins}
 use Rattle.abi_calc.specs.Enums.Choice.{IsNicheAnswer, takes_niche}
 use Rattle.abi_calc.specs.Enums.Growth.{grown_tag, start_align}
 use Rattle.abi_calc.specs.Enums.Lists.{AreGoodLists, AreListLayouts, IsFirstListError, IsGoodList, align_with_all, behind_tag, tag_align}
@@ -44,6 +44,7 @@ use Rattle.abi_calc.specs.Enums.Several.{IsBetterAnswer}
 use Rattle.abi_calc.specs.Enums.Tagged.{lists_align, lists_size, tagged_layout}
 use Rattle.abi_calc.proofs.EnumLemmas.Asked.{good_behind}
 use Rattle.abi_calc.proofs.EnumLemmas.Growth.{grown_size}
+use Rattle.abi_calc.proofs.EnumLemmas.OnlyField.{tag_most}
 use Rattle.abi_calc.proofs.EnumLemmas.Less.{fields_sized, parts_sized, tagged_less}
 use Rattle.abi_calc.proofs.EnumLemmas.NicheLawful.{niche_parts, niche_size_is}
 use Rattle.abi_calc.proofs.EnumLemmas.OneEnum.{all_full}
@@ -315,16 +316,26 @@ module _ {F V H : Type 0} (layout_of : H → LayoutData F V) (at : ℕ → F) (i
           let is : lists_size dl listed.0 ≡ l.size = omega (arith, same, no_smaller) in
           left_for_tag l.size (integer_size grown) vs (omega (arith, some, length-map variants (map layout_of))) (subst (λ n. All (λ fields. integer_size grown + sum_by (λ f. f.size) fields ≤ n) vs) is room)
 
-      takes : outdoes dl asked l (least_left l.size vs) ≡ true → takes_niche dl tagged l ≡ true
-      takes won =
-          better_by dl asked tagged l (least_left l.size vs) (integer_size grown) won no_smaller (grown_size dl repr asked (start_align number vs listed.0)).no_less left_for (free_of_tag dl (Int grown signed) ranged.0)
+      -- and no more bytes than those that a tag may have
+      abbrev room_of_tag : ℕ
+      room_of_tag = min (least_left l.size vs) (most_tag asked vs)
 
-      answer : outdoes dl asked l (least_left l.size vs) ≡ true → IsBetterAnswer layout_of at number (index 0) dl repr asked signed values variants (Some l) (Ok l)
+      tag_in_room : lists_size dl listed.0 ≤ l.size → integer_size grown ≤ room_of_tag
+      tag_in_room same =
+          let most : integer_size grown ≤ most_tag asked vs =
+          tag_most layout_of at number (index 0) dl repr (behind_tag dl repr asked vs) (laws 0 (omega arith)) asked variants listed.0 good in
+          omega (arith, left_for same, most)
+
+      takes : outdoes dl asked l room_of_tag ≡ true → takes_niche dl tagged l ≡ true
+      takes won =
+          better_by dl asked tagged l room_of_tag (integer_size grown) won no_smaller (grown_size dl repr asked (start_align number vs listed.0)).no_less tag_in_room (free_of_tag dl (Int grown signed) ranged.0)
+
+      answer : outdoes dl asked l room_of_tag ≡ true → IsBetterAnswer layout_of at number (index 0) dl repr asked signed values variants (Some l) (Ok l)
       answer won =
           (Ok tagged, (listed.0, listed.1, record { small = below; ranged = (ranged.0, ranged.1, refl) }), rw (takes won) refl)
 
     -- the layout with a niche is the answer where it wins
     pub wins_answer : wins dl asked l (map (map layout_of) variants) ≡ true → IsBetterAnswer layout_of at number (index 0) dl repr asked signed values variants (Some l) (Ok l)
     wins_answer won =
-        let two = both_hold (fits_behind dl asked l) (outdoes dl asked l (least_left l.size vs)) won in
+        let two = both_hold (fits_behind dl asked l) (outdoes dl asked l (min (least_left l.size vs) (most_tag asked vs))) won in
         answer (ltb-true _ (size_bound dl) two.0) two.1

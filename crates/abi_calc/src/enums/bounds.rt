@@ -5,10 +5,11 @@ ghost use Rattle.abi_base.specs.DataLayout.{IsLawfulDataLayout};
 ghost use Rattle.abi_scalar.specs.Lawful.{IsLawfulNiche};
 ghost use Rattle.abi_scalar.specs.Range.{numbers_of};
 ghost use Rattle.abi_lists.specs.Part.{max_align};
-ghost use Rattle.abi_calc.specs.Enums.Bounds.{fits_behind, left_beside, least_left, outdoes, wins};
+ghost use Rattle.abi_calc.specs.Enums.Bounds.{fits_behind, left_beside, least_left, least_only, most_tag, only_align, outdoes, wins};
 
+use crate::enums::growth::align_at;
 use crate::over_lists::greater_align;
-use abi_base::{Integer, Size, TargetDataLayout};
+use abi_base::{Align, Integer, Size, TargetDataLayout};
 use abi_index::{Idx, IndexVec};
 use abi_lists::{free_numbers, rounded};
 use abi_scalar::{LayoutData, LayoutHandle};
@@ -52,6 +53,45 @@ fn least_left<FieldIdx: Idx, VariantIdx: Idx, F: LayoutHandle<FieldIdx, VariantI
     least
 }
 
+/// The alignment of a variant's only field, where that takes room; the greatest there is for any other variant.
+fn only_align<FieldIdx: Idx, VariantIdx: Idx, F: LayoutHandle<FieldIdx, VariantIdx>>(
+    fields: &[F],
+) -> Align
+    ensures { result ≡ only_align (map F.layout_of fields.now) }
+{
+    if fields.len() == 1 {
+        align_at(fields, 0).unwrap_or(Align::MAX)
+    } else {
+        Align::MAX
+    }
+}
+
+/// The least of those.
+fn least_only<FieldIdx: Idx, VariantIdx: Idx, F: LayoutHandle<FieldIdx, VariantIdx>>(
+    variants: &[IndexVec<FieldIdx, F>],
+) -> Align
+    ensures least { result ≡ least_only (map (map F.layout_of) variants.now) }
+    ensures most { result ≤ max_align }
+{
+    let mut least = Align::MAX;
+    for fields in variants {
+        least = least.min(only_align(fields.as_slice().as_raw()));
+    }
+    least
+}
+
+/// How many bytes a tag that is asked for as this integer may grow to.
+fn most_tag<FieldIdx: Idx, VariantIdx: Idx, F: LayoutHandle<FieldIdx, VariantIdx>>(
+    asked: Integer,
+    variants: &[IndexVec<FieldIdx, F>],
+) -> Size
+    ensures { result ≡ most_tag asked (map (map F.layout_of) variants.now) }
+{
+    asked
+        .size()
+        .max(Size::from_bytes(least_only(variants).bytes()))
+}
+
 /// Whether so many bytes have no more numbers than this.
 fn has_no_more(width: Size, numbers: u128) -> bool
     ensures { result ≡ nat_le (numbers_of width) numbers }
@@ -78,7 +118,7 @@ fn fits_behind<FieldIdx: Idx, VariantIdx: Idx>(
     (tag + whole).bytes() < dl.obj_size_bound()
 }
 
-/// Whether so many bytes, which the variants' fields leave of this layout's size, have no room for a tag of this integer,
+/// Whether so many bytes, no fewer than a tag beside the variants' fields has in this layout's size, have no room for a tag of this integer,
 /// or no more numbers than the layout's niche has left: then no layout with a tag is as good.
 fn outdoes<FieldIdx: Idx, VariantIdx: Idx>(
     dl: &TargetDataLayout,
@@ -105,5 +145,9 @@ pub(crate) fn wins<FieldIdx: Idx, VariantIdx: Idx, F: LayoutHandle<FieldIdx, Var
     requires size { layout.now.size < 2 ^ 63 }
     ensures { result ≡ wins dl.now asked layout.now (map (map F.layout_of) variants.now) }
 {
-    fits_behind(dl, asked, layout) && outdoes(dl, asked, layout, least_left(layout.size, variants))
+    if !fits_behind(dl, asked, layout) {
+        return false;
+    }
+    let left = least_left(layout.size, variants).min(most_tag(asked, variants));
+    outdoes(dl, asked, layout, left)
 }

@@ -26,7 +26,7 @@ fn room_align<FieldIdx: Idx, VariantIdx: Idx>(
 }
 
 /// The alignment of the field at this place, where there is one that takes room.
-fn align_at<FieldIdx: Idx, VariantIdx: Idx, F: LayoutHandle<FieldIdx, VariantIdx>>(
+pub(crate) fn align_at<FieldIdx: Idx, VariantIdx: Idx, F: LayoutHandle<FieldIdx, VariantIdx>>(
     fields: &[F],
     index: usize,
 ) -> Option<Align>

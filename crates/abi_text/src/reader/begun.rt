@@ -1,6 +1,6 @@
 //! What has been read of a type.
 
-ghost use Rattle.std.specs.Prelude.{◌≡◌, ◌∷◌, IfOk, IfErr};
+ghost use Rattle.std.specs.Prelude.{◌≡◌, ◌∷◌, IfOk, IfErr, OnOk};
 ghost use Rattle.abi_laid.specs.Tree.{tree_of, vector};
 ghost use Rattle.abi_text.specs.Reading.{begun_by, begun_in, coroutine_with, parts_by, put, put_primitive, put_scalar, state_of, waiting, with_member, with_type};
 
@@ -151,39 +151,19 @@ pub(crate) struct Reader {
     pub(crate) tree: Option<TypeTree>,
 }
 
-/// Waits for something within these types.
-pub(crate) fn waiting(want: Want, begun: Vec<Open>) -> Reader
-    ensures { state_of result ≡ waiting want (begun_in begun.items) }
-{
-    Reader {
-        want,
-        begun,
-        tree: None,
-    }
-}
-
-/// Waits for something within these types, and within one type more.
-pub(crate) fn waiting_in(want: Want, top: Open, begun: Vec<Open>) -> Result<Reader, Fault>
-    ensures ok { IfOk result (λ reader.
-        state_of reader ≡ waiting want (begun_by top ∷ begun_in begun.items)) }
-    ensures err { IfErr result (λ fault. fault ≡ Fault.OutOfMemory) }
-{
-    let mut begun = begun;
-    begun.push(top)?;
-    Ok(waiting(want, begun))
-}
-
 /// Waits for something that is no type, within a coroutine with these parts so far.
-pub(crate) fn waiting_for(
+pub(crate) fn wait_for(
     part: CoroutineWant,
     parts: CoroutineParts,
-    begun: Vec<Open>,
-) -> Result<Reader, Fault>
-    ensures ok { IfOk result (λ reader. state_of reader
-        ≡ waiting (Want.Coroutine part) (coroutine_with (parts_by parts) ∷ begun_in begun.items)) }
+    reader: &mut Reader,
+) -> Result<(), Fault>
+    ensures ok { OnOk result (state_of reader.new ≡ waiting (Want.Coroutine part)
+        (coroutine_with (parts_by parts) ∷ begun_in reader.old.begun.items)) }
     ensures err { IfErr result (λ fault. fault ≡ Fault.OutOfMemory) }
 {
-    waiting_in(Want::Coroutine(part), Open::Coroutine(parts), begun)
+    reader.begun.push(Open::Coroutine(parts))?;
+    reader.want = Want::Coroutine(part);
+    Ok(())
 }
 
 /// A vector of `lanes` lanes, packed or not.
@@ -202,71 +182,57 @@ fn vector(
     })
 }
 
-/// A coroutine's parts with one type more in the part that is begun.
-fn with_type(tree: TypeTree, parts: CoroutineParts) -> Result<CoroutineParts, Fault>
-    ensures ok { IfOk result (λ more. parts_by more ≡ with_type (tree_of tree) (parts_by parts)) }
+/// Puts one type more into the part of a coroutine that is begun.
+fn with_type(tree: TypeTree, parts: &mut CoroutineParts) -> Result<(), Fault>
+    ensures ok { OnOk result (parts_by parts.new ≡ with_type (tree_of tree) (parts_by parts.old)) }
     ensures err { IfErr result (λ fault. fault ≡ Fault.OutOfMemory) }
 {
     match parts {
-        CoroutineParts::Prefix(mut prefix) => {
-            prefix.push(tree)?;
-            Ok(CoroutineParts::Prefix(prefix))
-        }
-        CoroutineParts::Locals(prefix, mut locals) => {
-            locals.push(tree)?;
-            Ok(CoroutineParts::Locals(prefix, locals))
-        }
-        other => Ok(other),
+        CoroutineParts::Prefix(prefix) => prefix.push(tree)?,
+        CoroutineParts::Locals(_, locals) => locals.push(tree)?,
+        _ => {}
     }
+    Ok(())
 }
 
-/// A type that is begun, with one type more in its list of types.
-fn with_member(tree: TypeTree, top: Open) -> Result<Open, Fault>
-    ensures ok { IfOk result (λ more. begun_by more ≡ with_member (tree_of tree) (begun_by top)) }
+/// Puts one type more into the list of types of one that is begun.
+fn with_member(tree: TypeTree, top: &mut Open) -> Result<(), Fault>
+    ensures ok { OnOk result (begun_by top.new ≡ with_member (tree_of tree) (begun_by top.old)) }
     ensures err { IfErr result (λ fault. fault ≡ Fault.OutOfMemory) }
 {
     match top {
-        Open::Fields(repr, mut fields) => {
-            fields.push(tree)?;
-            Ok(Open::Fields(repr, fields))
-        }
-        Open::Ordered(repr, order, mut fields) => {
-            fields.push(tree)?;
-            Ok(Open::Ordered(repr, order, fields))
-        }
-        Open::Members(repr, mut fields) => {
-            fields.push(tree)?;
-            Ok(Open::Members(repr, fields))
-        }
-        Open::Variant(repr, done, discriminant, mut fields) => {
-            fields.push(tree)?;
-            Ok(Open::Variant(repr, done, discriminant, fields))
-        }
-        Open::Coroutine(parts) => Ok(Open::Coroutine(with_type(tree, parts)?)),
-        other => Ok(other),
+        Open::Fields(_, fields) => fields.push(tree)?,
+        Open::Ordered(_, _, fields) => fields.push(tree)?,
+        Open::Members(_, fields) => fields.push(tree)?,
+        Open::Variant(_, _, _, fields) => fields.push(tree)?,
+        Open::Coroutine(parts) => with_type(tree, parts)?,
+        _ => {}
     }
+    Ok(())
 }
 
 /// Puts a complete type into the innermost type that is begun.
-pub(crate) fn put(alloc: Global, tree: TypeTree, begun: Vec<Open>) -> Result<Reader, Fault>
-    ensures ok { IfOk result (λ reader.
-        state_of reader ≡ put (tree_of tree) (begun_in begun.items)) }
+pub(crate) fn put(alloc: Global, tree: TypeTree, reader: &mut Reader) -> Result<(), Fault>
+    ensures ok { OnOk result (state_of reader.new
+        ≡ put (tree_of tree) (begun_in reader.old.begun.items)) }
     ensures err { IfErr result (λ fault. fault ≡ Fault.OutOfMemory) }
 {
     let mut tree = tree;
-    let mut begun = begun;
-    while let Some(top) = begun.pop() {
+    while let Some(top) = reader.begun.pop() {
         match top {
             Open::Elements(count) => tree = TypeTree::Array(count, Box::new(alloc, tree)?),
             Open::Lanes(lanes, packed) => tree = vector(alloc, lanes, packed, tree)?,
-            other => return waiting_in(Want::Tree, with_member(tree, other)?, begun),
+            mut other => {
+                with_member(tree, &mut other)?;
+                reader.begun.push(other)?;
+                reader.want = Want::Tree;
+                return Ok(());
+            }
         }
     }
-    Ok(Reader {
-        want: Want::End,
-        begun,
-        tree: Some(tree),
-    })
+    reader.want = Want::End;
+    reader.tree = Some(tree);
+    Ok(())
 }
 
 /// Puts a complete scalar where it belongs.
@@ -274,16 +240,19 @@ pub(crate) fn put_scalar(
     alloc: Global,
     scalar: Scalar,
     place: ScalarPlace,
-    begun: Vec<Open>,
-) -> Result<Reader, Fault>
-    ensures ok { IfOk result (λ reader.
-        state_of reader ≡ put_scalar scalar place (begun_in begun.items)) }
+    reader: &mut Reader,
+) -> Result<(), Fault>
+    ensures ok { OnOk result (state_of reader.new
+        ≡ put_scalar scalar place (begun_in reader.old.begun.items)) }
     ensures err { IfErr result (λ fault. fault ≡ Fault.OutOfMemory) }
 {
     match place {
-        ScalarPlace::Alone => put(alloc, TypeTree::Scalar(scalar), begun),
-        ScalarPlace::First => Ok(waiting(Want::Scalar(ScalarPlace::Second(scalar)), begun)),
-        ScalarPlace::Second(first) => put(alloc, TypeTree::Pair(first, scalar), begun),
+        ScalarPlace::Alone => put(alloc, TypeTree::Scalar(scalar), reader),
+        ScalarPlace::First => {
+            reader.want = Want::Scalar(ScalarPlace::Second(scalar));
+            Ok(())
+        }
+        ScalarPlace::Second(first) => put(alloc, TypeTree::Pair(first, scalar), reader),
     }
 }
 
@@ -294,15 +263,18 @@ pub(crate) fn put_primitive(
     value: Primitive,
     form: ScalarForm,
     place: ScalarPlace,
-    begun: Vec<Open>,
-) -> Result<Reader, Fault>
-    ensures ok { IfOk result (λ reader.
-        state_of reader ≡ put_primitive dl.now value form place (begun_in begun.items)) }
+    reader: &mut Reader,
+) -> Result<(), Fault>
+    ensures ok { OnOk result (state_of reader.new
+        ≡ put_primitive dl.now value form place (begun_in reader.old.begun.items)) }
     ensures err { IfErr result (λ fault. fault ≡ Fault.OutOfMemory) }
 {
     match form {
-        ScalarForm::Full => put_scalar(alloc, full(dl, value), place, begun),
-        ScalarForm::Range => Ok(waiting(Want::RangeStart(value, place), begun)),
-        ScalarForm::Union => put_scalar(alloc, Scalar::Union { value }, place, begun),
+        ScalarForm::Full => put_scalar(alloc, full(dl, value), place, reader),
+        ScalarForm::Range => {
+            reader.want = Want::RangeStart(value, place);
+            Ok(())
+        }
+        ScalarForm::Union => put_scalar(alloc, Scalar::Union { value }, place, reader),
     }
 }

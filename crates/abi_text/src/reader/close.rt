@@ -1,13 +1,12 @@
 //! Reads closing parentheses.
 
-ghost use Rattle.std.specs.Prelude.{◌≡◌, IfOk, IfErr, Some, map};
+ghost use Rattle.std.specs.Prelude.{◌≡◌, IfErr, OnOk, Some, map};
 ghost use Rattle.abi_laid.specs.Tree.{coroutine, enum, struct, tree_of, trees};
 ghost use Rattle.abi_text.specs.Reading.{Agrees, begun_in, closed, indices_by, part_closed, parts_by, state_of, variant_by, variants_read};
 
 use crate::fault::Fault;
 use crate::reader::begun::{
-    CoroutineParts, CoroutineWant, Open, OrderWant, Reader, Want, put, waiting, waiting_for,
-    waiting_in,
+    CoroutineParts, CoroutineWant, Open, OrderWant, Reader, Want, put, wait_for,
 };
 use crate::reader::repr_text::StructRepr;
 use abi_laid::TypeTree;
@@ -53,68 +52,70 @@ fn whole_coroutine(
 }
 
 /// Ends a part of a coroutine; the conflicts are the last, and end the coroutine.
-fn close_part(alloc: Global, parts: CoroutineParts, begun: Vec<Open>) -> Result<Reader, Fault>
-    ensures ok { IfOk result (λ reader.
-        state_of reader ≡ part_closed (parts_by parts) (begun_in begun.items)) }
+fn close_part(alloc: Global, parts: CoroutineParts, reader: &mut Reader) -> Result<(), Fault>
+    ensures ok { OnOk result (state_of reader.new
+        ≡ part_closed (parts_by parts) (begun_in reader.old.begun.items)) }
     ensures err { IfErr result (λ fault. fault ≡ Fault.OutOfMemory) }
 {
     match parts {
         CoroutineParts::Prefix(prefix) => {
             let parts = CoroutineParts::Locals(prefix, Vec::new(alloc));
-            waiting_for(CoroutineWant::TypesOpening, parts, begun)
+            wait_for(CoroutineWant::TypesOpening, parts, reader)
         }
         CoroutineParts::Locals(prefix, locals) => {
             let parts = CoroutineParts::States(prefix, locals, Vec::new(alloc));
-            waiting_for(CoroutineWant::StatesOpening, parts, begun)
+            wait_for(CoroutineWant::StatesOpening, parts, reader)
         }
         CoroutineParts::States(prefix, locals, states) => {
             let parts = CoroutineParts::Conflicts(prefix, locals, states, Vec::new(alloc));
-            waiting_for(CoroutineWant::ConflictsOpening, parts, begun)
+            wait_for(CoroutineWant::ConflictsOpening, parts, reader)
         }
         CoroutineParts::State(prefix, locals, mut states, indices) => {
             states.push(indices)?;
             let parts = CoroutineParts::States(prefix, locals, states);
-            waiting_for(CoroutineWant::State, parts, begun)
+            wait_for(CoroutineWant::State, parts, reader)
         }
         CoroutineParts::Conflicts(prefix, locals, states, conflicts) => {
             put(
                 alloc,
                 whole_coroutine(prefix, locals, states, conflicts),
-                begun,
+                reader,
             )
         }
     }
 }
 
 /// Reads a closing parenthesis.
-pub(crate) fn close(alloc: Global, number: u64, begun: Vec<Open>) -> Result<Reader, Fault>
-    ensures { Agrees state_of (closed number (begun_in begun.items)) result }
+pub(crate) fn close(alloc: Global, number: u64, reader: &mut Reader) -> Result<(), Fault>
+    ensures { Agrees (λ _. state_of reader.new)
+        (closed number (begun_in reader.old.begun.items)) result }
 {
-    let mut begun = begun;
-    match begun.pop() {
+    match reader.begun.pop() {
         Some(Open::Fields(asked, fields)) => {
             let tree = TypeTree::Struct {
                 repr: asked.repr,
                 always_sized: asked.always_sized,
                 fields,
             };
-            put(alloc, tree, begun)
+            put(alloc, tree, reader)
         }
         Some(Open::Ordering(asked, order)) => {
-            let want = Want::Order(OrderWant::FieldsOpening);
-            waiting_in(want, Open::Ordering(asked, order), begun)
+            reader.begun.push(Open::Ordering(asked, order))?;
+            reader.want = Want::Order(OrderWant::FieldsOpening);
+            Ok(())
         }
         Some(Open::Ordered(asked, order, fields)) => {
-            put(alloc, ordered(&asked, order, fields), begun)
+            put(alloc, ordered(&asked, order, fields), reader)
         }
-        Some(Open::Members(repr, fields)) => put(alloc, TypeTree::Union { repr, fields }, begun),
+        Some(Open::Members(repr, fields)) => put(alloc, TypeTree::Union { repr, fields }, reader),
         Some(Open::Variant(repr, mut variants, discriminant, fields)) => {
             variants.push((discriminant, fields))?;
-            begun.push(Open::Variants(repr, variants))?;
-            Ok(waiting(Want::Discriminant, begun))
+            reader.begun.push(Open::Variants(repr, variants))?;
+            reader.want = Want::Discriminant;
+            Ok(())
         }
-        Some(Open::Variants(repr, variants)) => put(alloc, whole_enum(repr, variants), begun),
-        Some(Open::Coroutine(parts)) => close_part(alloc, parts, begun),
+        Some(Open::Variants(repr, variants)) => put(alloc, whole_enum(repr, variants), reader),
+        Some(Open::Coroutine(parts)) => close_part(alloc, parts, reader),
         _ => Err(Fault::Unreadable(number)),
     }
 }

@@ -8,18 +8,21 @@ ghost use Rattle.abi_text.specs.Repr.{struct_repr};
 
 use crate::fault::Fault;
 use crate::number::decimal;
-use crate::reader::begun::{Open, OrderWant, Reader, Want, waiting, waiting_in};
+use crate::reader::begun::{Open, OrderWant, Reader, Want};
 use crate::reader::close::close;
 use crate::reader::repr_text::{StructRepr, struct_repr};
 use std::alloc::Global;
 
 /// Reads the repr.
-fn read_order_repr(number: u64, begun: Vec<Open>, word: &[u8]) -> Result<Reader, Fault>
-    ensures { Agrees state_of
-        (at_order_repr number (begun_in begun.items) (struct_repr word.now)) result }
+fn read_order_repr(number: u64, reader: &mut Reader, word: &[u8]) -> Result<(), Fault>
+    ensures { Agrees (λ _. state_of reader.new)
+        (at_order_repr number (begun_in reader.old.begun.items) (struct_repr word.now)) result }
 {
     match struct_repr(word) {
-        Some(asked) => Ok(waiting(Want::Order(OrderWant::Opening(asked)), begun)),
+        Some(asked) => {
+            reader.want = Want::Order(OrderWant::Opening(asked));
+            Ok(())
+        }
         None => Err(Fault::Unreadable(number)),
     }
 }
@@ -29,35 +32,39 @@ fn read_order_opening(
     alloc: Global,
     number: u64,
     asked: StructRepr,
-    begun: Vec<Open>,
+    reader: &mut Reader,
     word: &[u8],
-) -> Result<Reader, Fault>
-    ensures { Agrees state_of (at_order_opening number asked (begun_in begun.items)
+) -> Result<(), Fault>
+    ensures { Agrees (λ _. state_of reader.new)
+        (at_order_opening number asked (begun_in reader.old.begun.items)
         (bytes_eq word.now (codes "("))) result }
 {
     if word == b"(".as_slice() {
         let order = Open::Ordering(asked, Vec::new(alloc));
-        waiting_in(Want::Order(OrderWant::Index), order, begun)
+        reader.begun.push(order)?;
+        reader.want = Want::Order(OrderWant::Index);
+        Ok(())
     } else {
         Err(Fault::Unreadable(number))
     }
 }
 
 /// Reads the order's next index, or the parenthesis that ends the order.
-fn read_index(alloc: Global, number: u64, begun: Vec<Open>, word: &[u8]) -> Result<Reader, Fault>
-    ensures { Agrees state_of
-        (at_index number (bytes_eq word.now (codes ")")) (begun_in begun.items)
+fn read_index(alloc: Global, number: u64, reader: &mut Reader, word: &[u8]) -> Result<(), Fault>
+    ensures { Agrees (λ _. state_of reader.new)
+        (at_index number (bytes_eq word.now (codes ")")) (begun_in reader.old.begun.items)
         (number_of_bits 64 word.now)) result }
 {
     if word == b")".as_slice() {
-        return close(alloc, number, begun);
+        return close(alloc, number, reader);
     }
-    let mut begun = begun;
-    match (begun.pop(), decimal(word)) {
+    match (reader.begun.pop(), decimal(word)) {
         (Some(Open::Ordering(asked, mut order)), Some(index)) => {
             order.push(index)?;
             let order = Open::Ordering(asked, order);
-            waiting_in(Want::Order(OrderWant::Index), order, begun)
+            reader.begun.push(order)?;
+            reader.want = Want::Order(OrderWant::Index);
+            Ok(())
         }
         _ => Err(Fault::Unreadable(number)),
     }
@@ -67,17 +74,19 @@ fn read_index(alloc: Global, number: u64, begun: Vec<Open>, word: &[u8]) -> Resu
 fn read_fields_opening(
     alloc: Global,
     number: u64,
-    begun: Vec<Open>,
+    reader: &mut Reader,
     word: &[u8],
-) -> Result<Reader, Fault>
-    ensures { Agrees state_of
-        (at_fields_opening number (begun_in begun.items) (bytes_eq word.now (codes "("))) result }
+) -> Result<(), Fault>
+    ensures { Agrees (λ _. state_of reader.new)
+        (at_fields_opening number (begun_in reader.old.begun.items) (bytes_eq word.now
+        (codes "("))) result }
 {
-    let mut begun = begun;
-    match (begun.pop(), word == b"(".as_slice()) {
+    match (reader.begun.pop(), word == b"(".as_slice()) {
         (Some(Open::Ordering(asked, order)), true) => {
             let fields = Open::Ordered(asked, order, Vec::new(alloc));
-            waiting_in(Want::Tree, fields, begun)
+            reader.begun.push(fields)?;
+            reader.want = Want::Tree;
+            Ok(())
         }
         _ => Err(Fault::Unreadable(number)),
     }
@@ -88,15 +97,16 @@ pub(crate) fn read_order_word(
     alloc: Global,
     number: u64,
     want: OrderWant,
-    begun: Vec<Open>,
+    reader: &mut Reader,
     word: &[u8],
-) -> Result<Reader, Fault>
-    ensures { Agrees state_of (next_in_order number (begun_in begun.items) word.now want) result }
+) -> Result<(), Fault>
+    ensures { Agrees (λ _. state_of reader.new)
+        (next_in_order number (begun_in reader.old.begun.items) word.now want) result }
 {
     match want {
-        OrderWant::Repr => read_order_repr(number, begun, word),
-        OrderWant::Opening(asked) => read_order_opening(alloc, number, asked, begun, word),
-        OrderWant::Index => read_index(alloc, number, begun, word),
-        OrderWant::FieldsOpening => read_fields_opening(alloc, number, begun, word),
+        OrderWant::Repr => read_order_repr(number, reader, word),
+        OrderWant::Opening(asked) => read_order_opening(alloc, number, asked, reader, word),
+        OrderWant::Index => read_index(alloc, number, reader, word),
+        OrderWant::FieldsOpening => read_fields_opening(alloc, number, reader, word),
     }
 }

@@ -1,6 +1,6 @@
 //! Reads the words of a scalar.
 
-ghost use Rattle.std.specs.Prelude.{◌≡◌, IfOk, IfErr};
+ghost use Rattle.std.specs.Prelude.{◌≡◌, IfErr, OnOk};
 ghost use Rattle.abi_text.specs.Numbers.{number_of_bits};
 ghost use Rattle.abi_text.specs.Reading.{Agrees, at_end, at_primitive, at_scalar, at_space, at_start, begin_scalar, begun_in, is_primitive, state_of};
 ghost use Rattle.abi_text.specs.ScalarWords.{scalar_word};
@@ -8,7 +8,7 @@ ghost use Rattle.abi_text.specs.ScalarWords.{scalar_word};
 use crate::fault::Fault;
 use crate::number::{short, wide};
 use crate::reader::begun::{
-    Open, Reader, ScalarForm, ScalarPlace, Want, put_primitive, put_scalar, waiting,
+    Open, Reader, ScalarForm, ScalarPlace, Want, put_primitive, put_scalar,
 };
 use crate::reader::scalar_word::{ScalarWord, scalar_word};
 use crate::reader::scalars::{a_bool, a_char, a_ref, default_pointer, index_primitive};
@@ -22,11 +22,11 @@ pub(crate) fn begin_scalar(
     dl: &TargetDataLayout,
     form: ScalarForm,
     place: ScalarPlace,
-    begun: Vec<Open>,
+    reader: &mut Reader,
     word: ScalarWord,
-) -> Result<Reader, Fault>
-    ensures ok { IfOk result (λ reader.
-        state_of reader ≡ begin_scalar dl.now form place (begun_in begun.items) word) }
+) -> Result<(), Fault>
+    ensures ok { OnOk result (state_of reader.new
+        ≡ begin_scalar dl.now form place (begun_in reader.old.begun.items) word) }
     ensures err { IfErr result (λ fault. fault ≡ Fault.OutOfMemory) }
 {
     match word {
@@ -37,22 +37,31 @@ pub(crate) fn begin_scalar(
                 Primitive::Int(integer, signed),
                 form,
                 place,
-                begun,
+                reader,
             )
         }
         ScalarWord::Index(signed) => {
-            put_primitive(alloc, dl, index_primitive(dl, signed), form, place, begun)
+            put_primitive(alloc, dl, index_primitive(dl, signed), form, place, reader)
         }
         ScalarWord::Float(float) => {
-            put_primitive(alloc, dl, Primitive::Float(float), form, place, begun)
+            put_primitive(alloc, dl, Primitive::Float(float), form, place, reader)
         }
-        ScalarWord::Pointer => put_primitive(alloc, dl, default_pointer(), form, place, begun),
-        ScalarWord::PointerIn => Ok(waiting(Want::Space(form, place), begun)),
-        ScalarWord::Bool => put_scalar(alloc, a_bool(), place, begun),
-        ScalarWord::Char => put_scalar(alloc, a_char(), place, begun),
-        ScalarWord::Ref => put_scalar(alloc, a_ref(dl), place, begun),
-        ScalarWord::Range => Ok(waiting(Want::Primitive(ScalarForm::Range, place), begun)),
-        ScalarWord::UnionOf => Ok(waiting(Want::Primitive(ScalarForm::Union, place), begun)),
+        ScalarWord::Pointer => put_primitive(alloc, dl, default_pointer(), form, place, reader),
+        ScalarWord::PointerIn => {
+            reader.want = Want::Space(form, place);
+            Ok(())
+        }
+        ScalarWord::Bool => put_scalar(alloc, a_bool(), place, reader),
+        ScalarWord::Char => put_scalar(alloc, a_char(), place, reader),
+        ScalarWord::Ref => put_scalar(alloc, a_ref(dl), place, reader),
+        ScalarWord::Range => {
+            reader.want = Want::Primitive(ScalarForm::Range, place);
+            Ok(())
+        }
+        ScalarWord::UnionOf => {
+            reader.want = Want::Primitive(ScalarForm::Union, place);
+            Ok(())
+        }
     }
 }
 
@@ -76,14 +85,15 @@ pub(crate) fn read_scalar(
     dl: &TargetDataLayout,
     number: u64,
     place: ScalarPlace,
-    begun: Vec<Open>,
+    reader: &mut Reader,
     word: &[u8],
-) -> Result<Reader, Fault>
-    ensures { Agrees state_of
-        (at_scalar dl.now number place (begun_in begun.items) (scalar_word word.now)) result }
+) -> Result<(), Fault>
+    ensures { Agrees (λ _. state_of reader.new)
+        (at_scalar dl.now number place (begun_in reader.old.begun.items)
+        (scalar_word word.now)) result }
 {
     match scalar_word(word) {
-        Some(scalar) => begin_scalar(alloc, dl, ScalarForm::Full, place, begun, scalar),
+        Some(scalar) => begin_scalar(alloc, dl, ScalarForm::Full, place, reader, scalar),
         None => Err(Fault::Unreadable(number)),
     }
 }
@@ -95,17 +105,18 @@ pub(crate) fn read_primitive(
     number: u64,
     form: ScalarForm,
     place: ScalarPlace,
-    begun: Vec<Open>,
+    reader: &mut Reader,
     word: &[u8],
-) -> Result<Reader, Fault>
-    ensures { Agrees state_of (at_primitive dl.now number form place (begun_in begun.items)
+) -> Result<(), Fault>
+    ensures { Agrees (λ _. state_of reader.new)
+        (at_primitive dl.now number form place (begun_in reader.old.begun.items)
         (scalar_word word.now)) result }
 {
     let Some(scalar) = scalar_word(word) else {
         return Err(Fault::Unreadable(number));
     };
     if is_primitive(scalar) {
-        begin_scalar(alloc, dl, form, place, begun, scalar)
+        begin_scalar(alloc, dl, form, place, reader, scalar)
     } else {
         Err(Fault::Unreadable(number))
     }
@@ -118,16 +129,17 @@ pub(crate) fn read_space(
     number: u64,
     form: ScalarForm,
     place: ScalarPlace,
-    begun: Vec<Open>,
+    reader: &mut Reader,
     word: &[u8],
-) -> Result<Reader, Fault>
-    ensures { Agrees state_of (at_space dl.now number form place (begun_in begun.items)
+) -> Result<(), Fault>
+    ensures { Agrees (λ _. state_of reader.new)
+        (at_space dl.now number form place (begun_in reader.old.begun.items)
         (number_of_bits 32 word.now)) result }
 {
     match short(word) {
         Some(space) => {
             let value = Primitive::Pointer(AddressSpace(space));
-            put_primitive(alloc, dl, value, form, place, begun)
+            put_primitive(alloc, dl, value, form, place, reader)
         }
         None => Err(Fault::Unreadable(number)),
     }
@@ -138,14 +150,18 @@ pub(crate) fn read_start(
     number: u64,
     value: Primitive,
     place: ScalarPlace,
-    begun: Vec<Open>,
+    reader: &mut Reader,
     word: &[u8],
-) -> Result<Reader, Fault>
-    ensures { Agrees state_of
-        (at_start number value place (begun_in begun.items) (number_of_bits 128 word.now)) result }
+) -> Result<(), Fault>
+    ensures { Agrees (λ _. state_of reader.new)
+        (at_start number value place (begun_in reader.old.begun.items)
+        (number_of_bits 128 word.now)) result }
 {
     match wide(word) {
-        Some(start) => Ok(waiting(Want::RangeEnd(value, start, place), begun)),
+        Some(start) => {
+            reader.want = Want::RangeEnd(value, start, place);
+            Ok(())
+        }
         None => Err(Fault::Unreadable(number)),
     }
 }
@@ -157,10 +173,11 @@ pub(crate) fn read_end(
     value: Primitive,
     start: u128,
     place: ScalarPlace,
-    begun: Vec<Open>,
+    reader: &mut Reader,
     word: &[u8],
-) -> Result<Reader, Fault>
-    ensures { Agrees state_of (at_end number value start place (begun_in begun.items)
+) -> Result<(), Fault>
+    ensures { Agrees (λ _. state_of reader.new)
+        (at_end number value start place (begun_in reader.old.begun.items)
         (number_of_bits 128 word.now)) result }
 {
     match wide(word) {
@@ -170,7 +187,7 @@ pub(crate) fn read_end(
                 alloc,
                 Scalar::Initialized { value, valid_range },
                 place,
-                begun,
+                reader,
             )
         }
         None => Err(Fault::Unreadable(number)),

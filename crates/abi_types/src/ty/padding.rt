@@ -25,26 +25,39 @@ fn data<W: Walk>(alloc: Global, this: W) -> Result<RangeSet, AllocError>
     places_of(alloc, this)
 }
 
+/// The bytes below the size that no part covers, beside those that some part covers.
+fn padding_beside<W: Walk>(
+    alloc: Global,
+    this: W,
+    places: &RangeSet,
+) -> Result<RangeSet, AllocError>
+    requires valid { W.is_valid this }
+    requires places { (k : ℕ) → is_in_ranges places.now k ≡ is_place (W.typed_of this) k }
+    ensures { IfOk result (λ set. (k : ℕ) → is_in_ranges set k ≡ is_padding (W.typed_of this) k) }
+{
+    let mut whole = RangeSet::new(alloc);
+    whole.add_range(0, this.layout().size.bytes())?;
+    whole.difference(alloc, places)
+}
+
 /// The bytes below the size that no part covers.
 fn padding<W: Walk>(alloc: Global, this: W) -> Result<RangeSet, AllocError>
     requires { W.is_valid this }
     ensures { IfOk result (λ set. (k : ℕ) → is_in_ranges set k ≡ is_padding (W.typed_of this) k) }
 {
-    let mut whole = RangeSet::new(alloc);
-    whole.add_range(0, this.layout().size.bytes())?;
-    let places = places_of(alloc, this)?;
-    whole.difference(alloc, &places)
+    let places = data(alloc, this)?;
+    padding_beside(alloc, this, &places)
 }
 
-/// The bytes that some part covers, and no field that all variants have.
-fn beside_shared<W: Walk>(alloc: Global, this: W) -> Result<RangeSet, AllocError>
-    requires { W.is_valid this }
+/// Of the bytes that some part covers those that no field covers that all variants have.
+fn beside_shared<W: Walk>(alloc: Global, this: W, any: &RangeSet) -> Result<RangeSet, AllocError>
+    requires valid { W.is_valid this }
+    requires any { (k : ℕ) → is_in_ranges any.now k ≡ is_place (W.typed_of this) k }
     ensures { IfOk result (λ set. (k : ℕ) → is_in_ranges set k
         ≡ (is_place (W.typed_of this) k && not (is_shared_place (W.typed_of this) k))) }
 {
     // It is a number of 64 bits, which the walks ask for.
     let _size = this.layout().size.bytes();
-    let any = places_of(alloc, this)?;
     let mut runs = RangeSetBuilder::new(alloc);
     put_fields(alloc, this, 0, &mut runs)?;
     let shared = runs.build(alloc)?;
@@ -84,7 +97,8 @@ fn unused<W: Walk>(alloc: Global, this: W, variant: VariantIdx) -> Result<RangeS
             tag_field: _,
             variants: _,
         } => {
-            let beside = beside_shared(alloc, this)?;
+            let any = data(alloc, this)?;
+            let beside = beside_shared(alloc, this, &any)?;
             unused_of(alloc, this, variant, &beside)
         }
         _ => Ok(RangeSet::new(alloc)),
@@ -92,25 +106,48 @@ fn unused<W: Walk>(alloc: Global, this: W, variant: VariantIdx) -> Result<RangeS
 }
 
 /// Of each of the first `count` variants the bytes that some variant covers, and neither this one nor a field that
-/// all of them have.
+/// all of them have; `any` are those that some part covers.
 #[tactic(auto, using(crate::proofs::PlacesLemmas::unused_more))]
 fn unused_of_each<W: Walk>(
     alloc: Global,
     this: W,
     count: usize,
+    any: &RangeSet,
 ) -> Result<IndexVec<VariantIdx, RangeSet>, AllocError>
     requires valid { W.is_valid this }
+    requires any { (k : ℕ) → is_in_ranges any.now k ≡ is_place (W.typed_of this) k }
     requires several { (v : ℕ) → v < count →
         IsVariantOfSeveral (layout_in (W.typed_of this)).variants v }
     requires few { count ≤ greatest_place + 1 }
     ensures { IfOk result (λ sets. AreUnusedOf (W.typed_of this) count sets) }
 {
-    let beside = beside_shared(alloc, this)?;
+    let beside = beside_shared(alloc, this, any)?;
     let mut sets = Vec::with_capacity(alloc, count)?;
     for v in 0..count {
         sets.push(unused_of(alloc, this, VariantIdx::from_usize(v), &beside)?)?;
     }
     Ok(IndexVec::from_raw(sets))
+}
+
+/// Of each variant that a tag tells apart the bytes that it leaves unused; `any` are those that some part covers.
+fn each_unused_beside<W: Walk>(
+    alloc: Global,
+    this: W,
+    any: &RangeSet,
+) -> Result<IndexVec<VariantIdx, RangeSet>, AllocError>
+    requires valid { W.is_valid this }
+    requires any { (k : ℕ) → is_in_ranges any.now k ≡ is_place (W.typed_of this) k }
+    ensures { IfOk result (λ sets. AreUnused (W.typed_of this) sets) }
+{
+    match &this.layout().variants {
+        Variants::Multiple {
+            tag: _,
+            tag_encoding: _,
+            tag_field: _,
+            variants,
+        } => unused_of_each(alloc, this, variants.len(), any),
+        _ => Ok(IndexVec::new(alloc)),
+    }
 }
 
 /// Of each variant that a tag tells apart the bytes that it leaves unused.
@@ -127,9 +164,28 @@ fn each_unused<W: Walk>(
             tag_encoding: _,
             tag_field: _,
             variants,
-        } => unused_of_each(alloc, this, variants.len()),
+        } => {
+            let any = data(alloc, this)?;
+            unused_of_each(alloc, this, variants.len(), &any)
+        }
         _ => Ok(IndexVec::new(alloc)),
     }
+}
+
+/// The padding, and of each variant that a tag tells apart the bytes that it leaves unused.
+fn all_padding<W: Walk>(
+    alloc: Global,
+    this: W,
+) -> Result<(RangeSet, IndexVec<VariantIdx, RangeSet>), AllocError>
+    requires { W.is_valid this }
+    ensures padding { IfOk result (λ r. (k : ℕ) →
+        is_in_ranges r.0 k ≡ is_padding (W.typed_of this) k) }
+    ensures unused { IfOk result (λ r. AreUnused (W.typed_of this) r.1) }
+{
+    let any = data(alloc, this)?;
+    let padding = padding_beside(alloc, this, &any)?;
+    let unused = each_unused_beside(alloc, this, &any)?;
+    Ok((padding, unused))
 }
 
 impl<'a, Ty> TyAndLayout<'a, Ty> {
@@ -216,6 +272,31 @@ impl<'a, Ty> TyAndLayout<'a, Ty> {
         ensures { IfOk result (λ sets. AreUnused (Ty.typed_of self.now) sets) }
     {
         each_unused(
+            alloc,
+            At {
+                ty: self.ty,
+                layout: self.layout,
+                cx,
+            },
+        )
+    }
+
+    /// What `variant_independent_padding_ranges` and `each_variant_dependent_padding_ranges` answer, in one walk over the
+    /// type. `AllocError` where memory is refused.
+    pub fn padding_ranges<C>(
+        &self,
+        alloc: Global,
+        cx: &C,
+    ) -> Result<(RangeSet, IndexVec<VariantIdx, RangeSet>), AllocError>
+    where
+        Ty: TyAbiInterface<'a, C> + Copy,
+        requires valid { Ty.is_valid self.now }
+        requires sized { is_sized (layout_in (Ty.typed_of self.now)).backend_repr ≡ true }
+        ensures padding { IfOk result (λ r. (k : ℕ) →
+            is_in_ranges r.0 k ≡ is_padding (Ty.typed_of self.now) k) }
+        ensures unused { IfOk result (λ r. AreUnused (Ty.typed_of self.now) r.1) }
+    {
+        all_padding(
             alloc,
             At {
                 ty: self.ty,

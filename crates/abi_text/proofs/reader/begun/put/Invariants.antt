@@ -5,7 +5,7 @@ use Rattle.abi_text.specs.Reading.{begun_in, put}
 use Rattle.abi_text.proofs.reader.begun.put.Given as goal
 
 abbrev pub invariant-loop-top : goal.invariant-loop-top
-invariant-loop-top l = put (tree_of l.tree) (begun_in l.begun.items) ≡ put (tree_of l.initial.tree) (begun_in l.initial.begun.items)
+invariant-loop-top l = put (tree_of l.tree) (begun_in l.reader.begun.items) ≡ put (tree_of l.fn.tree) (begun_in l.fn.reader.begun.items)
 
 abbrev pub decreases-loop-top : goal.decreases-loop-top
-decreases-loop-top l = vec_len l.begun
+decreases-loop-top l = vec_len l.reader.begun

@@ -10,6 +10,6 @@ pub returns : goal.returns
 returns g c =
     let t = g.W.Walk.typed_of c.args.this in
     IfOk-weaker c.difference.result _ _
-    (λ rest left k. left k ∙ ap (λ b. b && not (is_in_ranges c.in_ok-shared.shared k)) (c.in_ok-any.ensures k)
+    (λ rest left k. left k ∙ ap (λ b. b && not (is_in_ranges c.in_ok-shared.shared k)) (c.requires.any k)
     ∙ ap (λ b. is_place t k && not b) (c.in_ok-shared.ensures.bytes k ∙ first_bytes c.new-runs.result c.put_fields.new.all (is_shared_place t) c.new-runs.ensures c.in_ok-put_fields.ensures k))
     c.difference.ensures.bytes
