@@ -1,13 +1,20 @@
 -- Names that are kept stay so, and errors that are passed on.
-use Rattle.std.proofs.Common.{◌≡◌, ◌∙◌, Err, Ok, Result, ap, refl, subst, sym}
+use Rattle.std.proofs.Common.{◌≡◌, ◌∙◌, ℕ, zero, suc, Err, Ok, Option, Result, ap, refl, subst, sym}
 use Rattle.std.specs.Result.{IfErr, IsErrAnd}
 use Rattle.indexmap.specs.IndexMap.{get}
+use Rattle.std.specs.Prelude.{nat_eq}
+use Rattle.rust_source.specs.declared.item.Item.{Item}
 use Rattle.rust_source.specs.declared.item.Items.{Items}
+use Rattle.rust_source.specs.declared.syntax.Path.{Path}
 use Rattle.abi_rust.specs.declared.fault.Stop.{Stop}
 use Rattle.abi_rust.specs.declared.scope.Scope.{Scope}
 use Rattle.abi_rust.specs.declared.words.Word.TheVariants.{Prelude}
-use Rattle.abi_rust.specs.Scope.{module_in, same_key}
-use Rattle.abi_rust.specs.ScopeNames.{HasSameNames, KeepsNames}
+use Rattle.abi_rust.specs.Kinds.{type_named}
+use Rattle.abi_rust.specs.Names.{behind, first, found_of, most_uses, own, target, target_with, within}
+use Rattle.abi_rust.specs.OwnConstants.{is_own, last_told, own_at, own_type, own_type_by, type_owning}
+use Rattle.abi_rust.specs.Scope.{constant_in, module_in, reached_from, same_key, type_in, use_in}
+use Rattle.abi_rust.specs.ScopeNames.{HasSameNames, KeepsNames, KeepsOwn}
+use Rattle.abi_rust.specs.Standing.{ModuleName, first_so}
 use Rattle.abi_rust.specs.Words.{symbol_of}
 
 -- an error that was passed on
@@ -27,4 +34,35 @@ keeps_same items old new keeps same = record {
   constants = λ k. ap (λ m. get same_key m k) same.constants ∙ keeps.constants k;
   uses = λ k. ap (λ m. get same_key m k) same.uses ∙ keeps.uses k;
   prelude = same.prelude ∙ keeps.prelude ∙ same_prelude old new same;
+}
+
+-- the scope with what another one knows of constants of types
+abbrev with_own : (scope other : Scope) → Scope
+with_own scope other = record scope { owners = other.owners; own_constants = other.own_constants }
+
+-- that tells nothing of what uses bring in
+same_target : (items : Items) (scope other : Scope) (room : ℕ) → target items (with_own scope other) room ≡ target items scope room
+unfolding target target_with first behind within own use_in module_in type_in constant_in reached_from
+same_target items scope other zero = refl
+same_target items scope other (suc room) = ap (target_with items scope) (same_target items scope other room)
+
+-- nor of what paths name
+same_type : (items : Items) (scope other : Scope) (m : ℕ) (p : Path) (count : ℕ) → type_named items (with_own scope other) m p count ≡ type_named items scope m p count
+unfolding type_named found_of first behind within own use_in module_in type_in constant_in reached_from target target_with
+same_type items scope other m p count = rw (same_target items scope other most_uses) refl
+
+same_types : (items : Items) (scope other : Scope) → type_named items (with_own scope other) ≡ type_named items scope
+same_types items scope other = λ i m p count. same_type items scope other m p count i
+
+-- nor of which constants are types' own
+pub same_own : (items : Items) (scope other : Scope) → own_type items (with_own scope other) ≡ own_type items scope
+same_own items scope other = ap (own_type_by items) (same_types items scope other)
+
+-- what is known of constants of types is what the items say
+pub keeps_own : (items : Items) (scope other : Scope)
+    → ((k : ModuleName) → get same_key other.own_constants k ≡ own_at items scope k) → ((n : ℕ) → get nat_eq other.owners n ≡ type_owning items scope n)
+    → KeepsOwn items (with_own scope other)
+keeps_own items scope other constants owners = record {
+  constants = λ k. constants k ∙ ap (λ (of : Item → Option ℕ). first_so (λ (it : Item). is_own k (of it) it.name) 0 items.items.items) (sym (same_own items scope other));
+  owners = λ n. owners n ∙ ap (λ (of : Item → Option ℕ). last_told of 0 n items.items.items) (sym (same_own items scope other));
 }

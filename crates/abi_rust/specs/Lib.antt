@@ -1,6 +1,7 @@
 pub mod Int
 pub mod Kinds
 pub mod Names
+pub mod OwnConstants
 pub mod Places
 pub mod Reprs
 pub mod Scalars

@@ -1,10 +1,11 @@
 -- That a scope keeps the names of the items that were read.
-use Rattle.std.specs.Prelude.{◌≡◌, ℕ, [], Option, None}
+use Rattle.std.specs.Prelude.{◌≡◌, ℕ, [], nat_eq, Option, None}
 use Rattle.indexmap.specs.IndexMap.{get}
 use Rattle.rust_source.specs.declared.item.Items.{Items}
 use Rattle.abi_rust.specs.declared.fault.Stop.{Stop}
 use Rattle.abi_rust.specs.declared.scope.Scope.{Scope}
 use Rattle.abi_rust.specs.declared.words.Word.TheVariants.{Prelude}
+use Rattle.abi_rust.specs.OwnConstants.{own_at, type_owning}
 use Rattle.abi_rust.specs.Scope.{module_in, same_key}
 use Rattle.abi_rust.specs.Standing.{ModuleName, constant_at, first_repeated, module_at, type_at, use_at}
 use Rattle.abi_rust.specs.Words.{symbol_of}
@@ -24,6 +25,11 @@ pub record KeepsNames (items : Items) (scope : Scope) : Type 0 where
   pub uses : (k : ModuleName) → get same_key scope.uses k ≡ use_at items.uses.items k
   -- the module whose names are everywhere is called `prelude`
   pub prelude : scope.prelude ≡ module_in scope scope.std_root (symbol_of scope.words Prelude)
+
+-- each constant of a type is that of the type which stands under the name, and knows its type
+pub record KeepsOwn (items : Items) (scope : Scope) : Type 0 where
+  pub constants : (of_type_and_name : ModuleName) → get same_key scope.own_constants of_type_and_name ≡ own_at items scope of_type_and_name
+  pub owners : (number : ℕ) → get nat_eq scope.owners number ≡ type_owning items scope number
 
 -- the words and the standard library's module are the same
 pub record HasSameRoots (old new : Scope) : Type 0 where

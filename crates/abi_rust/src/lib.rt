@@ -14,6 +14,7 @@ mod told;
 mod std_source;
 
 // Names.
+mod own_constants;
 mod paths;
 mod scope;
 mod standing;

@@ -2,15 +2,16 @@
 
 ghost use Rattle.std.specs.Prelude.{◌≡◌, ◌⊎◌, IfErr, IfOk, None, Some};
 ghost use Rattle.abi_rust.specs.Scope.{constant_in, module_in, own_constant, owner_of, reached_from, type_in, use_in};
-ghost use Rattle.abi_rust.specs.ScopeNames.{HasSameNames, HasSameRoots, IsEmpty, KeepsNames, repeated_of};
+ghost use Rattle.abi_rust.specs.ScopeNames.{HasSameNames, HasSameRoots, IsEmpty, KeepsNames, KeepsOwn, repeated_of};
 ghost use Rattle.abi_rust.specs.Standing.{IsMemory};
 
 use crate::fault::{FaultKind, Stop, stop_at};
-use crate::paths::{Found, Space, target_of, type_named};
+use crate::own_constants::add_own_constants;
+use crate::paths::{Found, Space, target_of};
 use crate::standing::{Key, add_items, add_modules, add_uses, key, numbered};
 use crate::words::{Word, Words};
 use indexmap::IndexMap;
-use rust_source::{Item, ItemKind, Items, Symbol};
+use rust_source::{Items, Symbol};
 use std::alloc::Global;
 
 /// How often globs are followed that are found through others.
@@ -53,6 +54,7 @@ impl Scope {
         std_root: u32,
     ) -> Result<Scope, Stop>
         ensures names { IfOk result (KeepsNames items.now) }
+        ensures own { IfOk result (KeepsOwn items.now) }
         ensures roots { IfOk result (λ scope. (scope.words ≡ words) × (scope.std_root ≡ std_root)) }
         ensures once { IfOk result (λ _. repeated_of items.now ≡ None) }
         ensures err { IfErr result (λ stop. (repeated_of items.now ≡ Some stop) ⊎ IsMemory stop) }
@@ -79,13 +81,18 @@ impl Scope {
     fn fill(&mut self, alloc: Global, items: &Items) -> Result<(), Stop>
         requires { IsEmpty self.old }
         ensures names { IfOk result (λ _. KeepsNames items.now self.new) }
+        ensures own { IfOk result (λ _. KeepsOwn items.now self.new) }
         ensures roots { IfOk result (λ _. HasSameRoots self.old self.new) }
         ensures once { IfOk result (λ _. repeated_of items.now ≡ None) }
         ensures err { IfErr result (λ stop. (repeated_of items.now ≡ Some stop) ⊎ IsMemory stop) }
     {
         self.declare(items)?;
         self.follow_globs(alloc, items)?;
-        self.add_own_constants(items)?;
+        let mut owners = IndexMap::new(alloc);
+        let mut own = IndexMap::new(alloc);
+        add_own_constants(&mut owners, &mut own, items, self)?;
+        self.owners = owners;
+        self.own_constants = own;
         Ok(())
     }
 
@@ -104,24 +111,6 @@ impl Scope {
         }
         add_uses(&mut self.uses, &items.uses)?;
         self.prelude = self.module(self.std_root, self.words.symbol(Word::Prelude));
-        Ok(())
-    }
-
-    /// Adds the constants of types, of two of one name the first. A type with parameters has none here, since what they
-    /// are may depend on what those are given.
-    fn add_own_constants(&mut self, items: &Items) -> Result<(), Stop>
-        ensures same { IfOk result (λ _. HasSameNames self.old self.new) }
-        ensures err { IfErr result IsMemory }
-    {
-        for (number, item) in items.items.iter().enumerate() {
-            if let Some(owner) = owner_of(items, self, item) {
-                let key = (owner, item.name.0);
-                let _ = self.owners.insert(numbered(number), owner)?;
-                if self.own_constants.get(&key).is_none() {
-                    let _ = self.own_constants.insert(key, numbered(number))?;
-                }
-            }
-        }
         Ok(())
     }
 
@@ -228,20 +217,6 @@ impl Scope {
         ensures { result ≡ self.now.prelude }
     {
         self.prelude
-    }
-}
-
-/// The type without parameters whose own an item is, where it is a constant of one.
-fn owner_of(items: &Items, scope: &Scope, item: &Item) -> Option<u32> {
-    let ItemKind::Const(constant) = &item.kind else {
-        return None;
-    };
-    let path = items.owners.get(constant.owner? as usize)?;
-    let owner = type_named(items, scope, item.module, path, path.segments.len())?;
-    if items.items.get(owner as usize)?.parameters.is_empty() {
-        Some(owner)
-    } else {
-        None
     }
 }
 

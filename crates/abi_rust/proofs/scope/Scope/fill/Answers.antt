@@ -1,9 +1,9 @@
 -- The names that are kept first stay, and an error is passed on.
-use Rattle.std.proofs.Common.{◌≡◌, ◌⊎◌, Some, inr}
+use Rattle.std.proofs.Common.{◌≡◌, ◌⊎◌, Some, inr, refl}
 use Rattle.abi_rust.specs.declared.fault.Stop.{Stop}
 use Rattle.abi_rust.specs.ScopeNames.{repeated_of}
 use Rattle.abi_rust.specs.Standing.{IsMemory}
-use Rattle.abi_rust.proofs.ScopeLemmas.{keeps_same, passed_on}
+use Rattle.abi_rust.proofs.ScopeLemmas.{keeps_own, keeps_same, passed_on}
 use Rattle.abi_rust.proofs.scope.Scope.fill.Goals as goal
 
 pub returns-in_err-declare-clause-err : goal.returns-in_err-declare-clause-err
@@ -20,4 +20,10 @@ returns-in_err-add_own_constants-clause-err c =
 
 pub returns-clause-names : goal.returns-clause-names
 returns-clause-names c =
-    keeps_same _ _ _ (keeps_same _ _ _ c.in_ok-declare.ensures.names c.in_ok-follow_globs.ensures.same) c.in_ok-add_own_constants.ensures.same
+    keeps_same _ _ _ (keeps_same _ _ _ c.in_ok-declare.ensures.names c.in_ok-follow_globs.ensures.same)
+    (record { roots = record { words = refl; root = refl }; modules = refl; types = refl; constants = refl; uses = refl; prelude = refl })
+
+pub returns-clause-own : goal.returns-clause-own
+returns-clause-own c =
+    let known = record c.follow_globs.new.self { owners = c.add_own_constants.new.owners; own_constants = c.add_own_constants.new.own } in
+    keeps_own c.args.items.now c.follow_globs.new.self known c.in_ok-add_own_constants.ensures.own c.in_ok-add_own_constants.ensures.owners
