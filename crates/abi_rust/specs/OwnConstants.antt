@@ -9,7 +9,7 @@ use Rattle.rust_source.specs.declared.place.Symbol.{Symbol}
 use Rattle.rust_source.specs.declared.syntax.Path.{Path, out-Path}
 use Rattle.abi_rust.specs.declared.scope.Scope.{Scope}
 use Rattle.abi_rust.specs.Kinds.{type_named}
-use Rattle.abi_rust.specs.Standing.{ModuleName, first_so, is_number, numbered}
+use Rattle.abi_rust.specs.Standing.{ModuleName, first_so, is_module_number, numbered}
 
 -- what the last of these tells that has the number, the first of which stands at this index
 abbrev pub last_told : {A B : Type 0} → (A → Option B) → (index number : ℕ) → List A → Option B
@@ -18,7 +18,7 @@ last_told tell i n (x ∷ xs) = option_or (last_told tell (i + 1) n xs) (if nat_
 
 -- a constant of this name of the type is the one that is asked for
 abbrev pub is_own : ModuleName → (owner : Option ℕ) → Symbol → Bool
-is_own k owner name = is_number k.0 owner && nat_eq name.0 k.1
+is_own k owner name = is_module_number k.0 owner && nat_eq name.0 k.1
 
 module _ (items : Items) (named : (inside : ℕ) → Path → (count : ℕ) → Option ℕ) where
   -- the type of this number, where it has no parameters
