@@ -196,9 +196,9 @@ impl<T> Few<T> {
         }
     }
 
-    /// Puts an item last. A refused growth leaves the list as it was. A list of at most two items then asks for none, and
-    /// one that has room for the item neither.
-    pub(crate) fn push(&mut self, item: T) -> Result<(), AllocError>
+    /// Puts an item last, as `push` does.
+    #[inline(never)]
+    fn push_any(&mut self, item: T) -> Result<(), AllocError>
     where
         T: Drop,
         ensures ok { OnOk result (self.new.items ≡ self.old.items ++ item ∷ []) }
@@ -228,5 +228,25 @@ impl<T> Few<T> {
             }
         }
         Ok(())
+    }
+
+    /// Puts an item last. A refused growth leaves the list as it was. A list of at most two items then asks for none, and
+    /// one that has room for the item neither.
+    #[inline(always)]
+    pub(crate) fn push(&mut self, item: T) -> Result<(), AllocError>
+    where
+        T: Drop,
+        ensures ok { OnOk result (self.new.items ≡ self.old.items ++ item ∷ []) }
+        ensures err { OnErr result (self.new ≡ self.old) }
+        ensures inline { TwoFit T.row → length self.old.items < 2 →
+            IsOk result × (self.new.room ≡ self.old.room) }
+        ensures reserved { length self.old.items < self.old.room → IsOk result }
+        ensures kept { self.old.room ≤ self.new.room }
+    {
+        // (a long list is the common case where this is called from loops)
+        if self.rest.len() >= 2 {
+            return push_allocated(&mut self.rest, item);
+        }
+        self.push_any(item)
     }
 }

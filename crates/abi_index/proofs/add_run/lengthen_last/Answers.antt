@@ -12,4 +12,4 @@ pub returns-clause-maximal : goal.returns-clause-maximal
 returns-clause-maximal c =
     let whole = lengthened_is c.args.runs.now.items _ _ _ (0, 0) refl c.requires.some c.requires.maximal c.requires.meets in
     rw (c.set_last.ensures.items, c.max.ensures, c.as_slice.ensures, c.len-last.ensures)
-        (rw whole (maximal_added _ _ 0 _ c.requires.some c.ranges.to.fits (omega arith) c.requires.maximal))
+    (rw whole (maximal_added _ _ 0 _ c.requires.some c.ranges.to.fits (omega arith) c.requires.maximal))

@@ -1,4 +1,4 @@
-use Rattle.std.proofs.Common.{◌+◌, ◌<◌, ap, sym, ◌∙◌, All}
+use Rattle.std.proofs.Common.{◌+◌, ◌<◌, ap, sym, ◌∙◌}
 use Rattle.std.specs.Prelude.{◌^◌}
 use Rattle.std.proofs.lemmas.List.Sorted.{All-permutation, list_any-IsPermutation}
 use Rattle.std.proofs.lemmas.Result.{IfOk-weaker}
