@@ -94,13 +94,13 @@ module _ (rules : Rules) where
       if is_done c then done all known
       else after (λ (f : List FieldRead × Cursor) ns. fields_from is_tuple limit f.0 f.1 ns) (field_more is_tuple all c known)
 
-  unfoldable pub fields_all : (is_tuple : Bool) → Cursor → Noted → Result (List FieldRead) SourceFault × Noted
-  fields_all is_tuple c known = fields_from is_tuple (c.end - c.at) [] c known
+  unfoldable pub fields_all : (is_tuple : Bool) → List FieldRead → Cursor → Noted → Result (List FieldRead) SourceFault × Noted
+  fields_all is_tuple all c known = fields_from is_tuple (c.end - c.at) all c known
 
   -- the fields within brackets, no two of one name
   unfoldable pub fields_in : (is_tuple : Bool) → Cursor → Noted → Result FieldsRead SourceFault × Noted
   fields_in is_tuple c known =
-      after (λ (all : List FieldRead) ns. (seen (λ _. record { is_tuple = is_tuple; all = all }) (none_twice (field_names all)), ns)) (fields_all is_tuple c known)
+      after (λ (all : List FieldRead) ns. (seen (λ _. record { is_tuple = is_tuple; all = all }) (none_twice (field_names all)), ns)) (fields_all is_tuple [] c known)
 
   -- the fields in these parentheses or braces; none where there are neither
   abbrev pub fields_by : Cursor → (round curly : Option Cursor) → Noted → Result (FieldsRead × Cursor) SourceFault × Noted
@@ -145,10 +145,10 @@ module _ (rules : Rules) where
       if is_done c then done all known
       else after (λ (v : List VariantRead × Cursor) ns. variants_from limit v.0 v.1 ns) (variant_more all c known)
 
-  unfoldable pub variants_all : Cursor → Noted → Result (List VariantRead) SourceFault × Noted
-  variants_all c known = variants_from (c.end - c.at) [] c known
+  unfoldable pub variants_all : List VariantRead → Cursor → Noted → Result (List VariantRead) SourceFault × Noted
+  variants_all all c known = variants_from (c.end - c.at) all c known
 
   -- the variants within an enum's braces, no two of one name
   unfoldable pub variants_in : Cursor → Noted → Result (List VariantRead) SourceFault × Noted
   variants_in c known =
-      after (λ (all : List VariantRead) ns. (seen (λ _. all) (none_twice (variant_names all)), ns)) (variants_all c known)
+      after (λ (all : List VariantRead) ns. (seen (λ _. all) (none_twice (variant_names all)), ns)) (variants_all [] c known)

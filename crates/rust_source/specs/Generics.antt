@@ -90,15 +90,15 @@ parameters_from (suc limit) all c names =
     if is_next c 62 then done (all, passed c 1) names
     else after (λ (p : List ParameterRead × Cursor) ns. arguments_on (parameters_from limit) p.0 p.1 ns) (parameter_more all c names)
 
--- the parameters whose `<` stands before
-unfoldable pub parameters_in : Reader (List ParameterRead)
-parameters_in c names = parameters_from (c.end - c.at) [] c names
+-- the parameters whose `<` stands before, behind these
+unfoldable pub parameters_in : List ParameterRead → Reader (List ParameterRead)
+parameters_in all c names = parameters_from (c.end - c.at) all c names
 
 -- the parameters of an item, lifetimes left out, no two of one name; none where no `<` is next
 unfoldable pub parameters_read : Reader (List ParameterRead)
 parameters_read c names =
     if is_next c 60
-    then after (λ (p : List ParameterRead × Cursor) ns. (seen (λ _. p) (none_twice (parameter_names p.0)), ns)) (parameters_in (passed c 1) names)
+    then after (λ (p : List ParameterRead × Cursor) ns. (seen (λ _. p) (none_twice (parameter_names p.0)), ns)) (parameters_in [] (passed c 1) names)
     else done ([], c) names
 
 -- a parameter may be unsized, if it has the name

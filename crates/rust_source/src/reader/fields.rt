@@ -149,28 +149,29 @@ fn add_field(
     expect_comma(inside)
 }
 
-/// All fields within brackets.
+/// Puts all fields within brackets behind the others.
 #[tactic(auto, unfolding(crate::specs::Fields::fields_all), using(crate::proofs::ItemTurns::fields_more, crate::proofs::ItemTurns::fields_done))]
-fn read_all_fields(
+fn add_fields(
     alloc: Global,
     names: &mut Names,
     unknown: &mut Vec<Symbol>,
     rules: &Rules<'_>,
     inside: &mut Cursor<'_>,
     is_tuple: bool,
-) -> Result<Vec<Field>, SourceFault>
-    ensures { Reads (λ all. map field_of all.items) (fields_all rules.now is_tuple inside.old (texts names.old, unknown.old.items))
+    all: &mut Vec<Field>,
+) -> Result<(), SourceFault>
+    ensures { Reads (λ _. map field_of all.new.items)
+        (fields_all rules.now is_tuple (map field_of all.old.items) inside.old (texts names.old, unknown.old.items))
         (texts names.new, unknown.new.items) result }
 {
-    let mut all = Vec::new(alloc);
     let turns = inside.end.saturating_sub(inside.at);
     for turn in 0..turns {
         if is_done(inside) {
-            return Ok(all);
+            return Ok(());
         }
-        add_field(alloc, names, unknown, rules, inside, is_tuple, &mut all)?;
+        add_field(alloc, names, unknown, rules, inside, is_tuple, all)?;
     }
-    Ok(all)
+    Ok(())
 }
 
 /// The fields within brackets.
@@ -186,7 +187,8 @@ fn read_fields_in(
     ensures { Reads fields_of (fields_in rules.now is_tuple inside.old (texts names.old, unknown.old.items))
         (texts names.new, unknown.new.items) result }
 {
-    let all = read_all_fields(alloc, names, unknown, rules, inside, is_tuple)?;
+    let mut all = Vec::new(alloc);
+    add_fields(alloc, names, unknown, rules, inside, is_tuple, &mut all)?;
     refuse_repeated_fields(alloc, &all)?;
     Ok(Fields { is_tuple, all })
 }
@@ -287,27 +289,28 @@ fn add_variant(
     expect_comma(inside)
 }
 
-/// All variants within an enum's braces.
+/// Puts all variants within an enum's braces behind the others.
 #[tactic(auto, unfolding(crate::specs::Fields::variants_all), using(crate::proofs::ItemTurns::variants_more, crate::proofs::ItemTurns::variants_done))]
-fn read_all_variants(
+fn add_variants(
     alloc: Global,
     names: &mut Names,
     unknown: &mut Vec<Symbol>,
     rules: &Rules<'_>,
     inside: &mut Cursor<'_>,
-) -> Result<Vec<Variant>, SourceFault>
-    ensures { Reads (λ all. map variant_of all.items) (variants_all rules.now inside.old (texts names.old, unknown.old.items))
+    all: &mut Vec<Variant>,
+) -> Result<(), SourceFault>
+    ensures { Reads (λ _. map variant_of all.new.items)
+        (variants_all rules.now (map variant_of all.old.items) inside.old (texts names.old, unknown.old.items))
         (texts names.new, unknown.new.items) result }
 {
-    let mut all = Vec::new(alloc);
     let turns = inside.end.saturating_sub(inside.at);
     for turn in 0..turns {
         if is_done(inside) {
-            return Ok(all);
+            return Ok(());
         }
-        add_variant(alloc, names, unknown, rules, inside, &mut all)?;
+        add_variant(alloc, names, unknown, rules, inside, all)?;
     }
-    Ok(all)
+    Ok(())
 }
 
 /// The variants within an enum's braces.
@@ -322,7 +325,8 @@ pub(crate) fn read_variants(
     ensures { Reads (λ all. map variant_of all.variants.items) (variants_in rules.now inside.old (texts names.old, unknown.old.items))
         (texts names.new, unknown.new.items) result }
 {
-    let variants = read_all_variants(alloc, names, unknown, rules, inside)?;
+    let mut variants = Vec::new(alloc);
+    add_variants(alloc, names, unknown, rules, inside, &mut variants)?;
     refuse_repeated_variants(alloc, &variants)?;
     Ok(Enum { variants })
 }

@@ -182,22 +182,23 @@ fn add_parameter(
     push_parameter(all, one)
 }
 
-/// Parameters, behind their `<`; their `>` is passed over.
+/// Puts parameters behind the others, whose `<` stands before; their `>` is passed over.
 #[tactic(auto, unfolding(crate::specs::Generics::parameters_in), using(crate::proofs::GenericTurns::parameters_more, crate::proofs::GenericTurns::parameters_done))]
-fn read_parameters_in(
+fn add_parameters(
     alloc: Global,
     names: &mut Names,
     cursor: &mut Cursor<'_>,
-) -> Result<Vec<Parameter>, SourceFault>
-    ensures { Reads (λ all. (map parameter_of all.items, cursor.new)) (parameters_in cursor.old (texts names.old)) (texts names.new) result }
+    all: &mut Vec<Parameter>,
+) -> Result<(), SourceFault>
+    ensures { Reads (λ _. (map parameter_of all.new.items, cursor.new))
+        (parameters_in (map parameter_of all.old.items) cursor.old (texts names.old)) (texts names.new) result }
 {
-    let mut all = Vec::new(alloc);
     let turns = cursor.end.saturating_sub(cursor.at);
     for turn in 0..turns {
         if take(cursor, b'>') {
-            return Ok(all);
+            return Ok(());
         }
-        add_parameter(alloc, names, cursor, &mut all)?;
+        add_parameter(alloc, names, cursor, all)?;
         if !goes_on(cursor) {
             return Err(fault(cursor, SourceFaultKind::ExpectedAngle));
         }
@@ -214,11 +215,11 @@ pub(crate) fn read_parameters(
 ) -> Result<Vec<Parameter>, SourceFault>
     ensures { Reads (λ all. (map parameter_of all.items, cursor.new)) (parameters_read cursor.old (texts names.old)) (texts names.new) result }
 {
-    if !take(cursor, b'<') {
-        return Ok(Vec::new(alloc));
+    let mut all = Vec::new(alloc);
+    if take(cursor, b'<') {
+        add_parameters(alloc, names, cursor, &mut all)?;
+        refuse_repeated_parameters(alloc, &all)?;
     }
-    let all = read_parameters_in(alloc, names, cursor)?;
-    refuse_repeated_parameters(alloc, &all)?;
     Ok(all)
 }
 
