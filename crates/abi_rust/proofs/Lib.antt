@@ -1,5 +1,13 @@
+pub mod Aligned
 pub mod Bits
-pub mod Rooms
-pub mod StandingLemmas
-pub mod ScopeLemmas
+pub mod Copies
+pub mod Facts
+pub mod Lasts
+pub mod Lists
+pub mod Numbers
 pub mod OwnLemmas
+pub mod Rooms
+pub mod Same
+pub mod ScopeLemmas
+pub mod StandingLemmas
+pub mod Written

@@ -9,6 +9,15 @@ use Rattle.abi_rust.specs.declared.scope.Scope.{Scope}
 use Rattle.std.specs.Prelude.{Option}
 use Rattle.abi_rust.specs.declared.ty.Kind.{Kind}
 use Rattle.abi_rust.specs.Kinds.{kind_step, kind_within, type_step, type_within}
+use Rattle.rust_source.specs.declared.syntax.Expr.{Expr}
+use Rattle.abi_rust.specs.declared.work.Context.{Context}
+use Rattle.abi_rust.specs.Evaluating.{evaluator, value_with}
+use Rattle.abi_rust.specs.Meaning.{too_deep}
+use Rattle.rust_source.specs.declared.syntax.Segment.{Segment}
+use Rattle.rust_source.specs.declared.syntax.«Type».{«Type» as Written}
+use Rattle.abi_rust.specs.Resolving.{inner, item_with, resolver, type_with}
+use Rattle.abi_rust.specs.Tails.{Outer, tail_inner, tail_of_item_with, tail_with}
+use Rattle.abi_rust.specs.Types.{GivensRead, TyRead, Where}
 use Rattle.abi_rust.specs.Names.{behind, behind_all, first, parent, path_named, root_above, root_within, space_before, target, target_with}
 
 pub turns : (n i : ℕ) → i < n → n - i ≡ suc (n - (i + 1))
@@ -81,3 +90,54 @@ module _ (items : Items) (scope : Scope) (n i : ℕ) where
 
   pub kind_done : (found : Option Found) → n ≤ i → kind_within items scope (n - i) found ≡ None
   kind_done found done = ap (λ k. kind_within items scope k found) (none_left n i done)
+
+module _ (cx : Context) where
+  pub value_less : (room left : ℕ) (w : Where) (e : Expr) (wanted : Option Kind) → left + 1 ≡ room → evaluator cx room w e wanted ≡ value_with cx (evaluator cx left) w e wanted
+  unfolding evaluator
+  value_less zero left w e wanted is = absurd (omega arith)
+  value_less (suc room) left w e wanted is = let q : room ≡ left = omega arith in ap (λ r. value_with cx (evaluator cx r) w e wanted) q
+
+  pub value_none : (room : ℕ) (w : Where) (e : Expr) (wanted : Option Kind) → room ≡ 0 → evaluator cx room w e wanted ≡ too_deep
+  unfolding evaluator
+  value_none zero w e wanted is = refl
+  value_none (suc room) w e wanted is = absurd (omega arith)
+
+  pub resolve_less : (room left : ℕ) (w : Where) (t : Written) → left + 1 ≡ room → resolver cx room w t ≡ type_with cx (inner cx left) w t
+  unfolding inner
+  resolve_less zero left w t is = absurd (omega arith)
+  resolve_less (suc room) left w t is = let q : room ≡ left = omega arith in ap (λ r. type_with cx (inner cx r) w t) q
+
+  pub resolve_none : (room : ℕ) (w : Where) (t : Written) → room ≡ 0 → resolver cx room w t ≡ too_deep
+  unfolding inner
+  resolve_none zero w t is = refl
+  resolve_none (suc room) w t is = absurd (omega arith)
+
+  pub item_less : (room left : ℕ) (w : Where) (n : ℕ) (s : Segment) → left + 1 ≡ room → (inner cx room).item_of w n s ≡ item_with cx (inner cx left) w n s
+  unfolding inner
+  item_less zero left w n s is = absurd (omega arith)
+  item_less (suc room) left w n s is = let q : room ≡ left = omega arith in ap (λ r. item_with cx (inner cx r) w n s) q
+
+  pub item_none : (room : ℕ) (w : Where) (n : ℕ) (s : Segment) → room ≡ 0 → (inner cx room).item_of w n s ≡ too_deep
+  unfolding inner
+  item_none zero w n s is = refl
+  item_none (suc room) w n s is = absurd (omega arith)
+
+  pub tail_less : (room left : ℕ) (outer : Outer) (t : TyRead) → left + 1 ≡ room → (tail_inner cx room).tail_of outer t ≡ tail_with cx (tail_inner cx left) outer t
+  unfolding tail_inner
+  tail_less zero left outer t is = absurd (omega arith)
+  tail_less (suc room) left outer t is = let q : room ≡ left = omega arith in ap (λ r. tail_with cx (tail_inner cx r) outer t) q
+
+  pub tail_none : (room : ℕ) (outer : Outer) (t : TyRead) → room ≡ 0 → (tail_inner cx room).tail_of outer t ≡ too_deep
+  unfolding tail_inner
+  tail_none zero outer t is = refl
+  tail_none (suc room) outer t is = absurd (omega arith)
+
+  pub tail_item_less : (room left : ℕ) (outer : Outer) (n : ℕ) (gs : GivensRead) → left + 1 ≡ room → (tail_inner cx room).tail_of_item outer n gs ≡ tail_of_item_with cx (tail_inner cx left) outer n gs
+  unfolding tail_inner
+  tail_item_less zero left outer n gs is = absurd (omega arith)
+  tail_item_less (suc room) left outer n gs is = let q : room ≡ left = omega arith in ap (λ r. tail_of_item_with cx (tail_inner cx r) outer n gs) q
+
+  pub tail_item_none : (room : ℕ) (outer : Outer) (n : ℕ) (gs : GivensRead) → room ≡ 0 → (tail_inner cx room).tail_of_item outer n gs ≡ too_deep
+  unfolding tail_inner
+  tail_item_none zero outer n gs is = refl
+  tail_item_none (suc room) outer n gs is = absurd (omega arith)

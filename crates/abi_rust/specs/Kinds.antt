@@ -1,6 +1,6 @@
 -- The type of a constant expression, found without its value.
-use Rattle.std.specs.Prelude.{ℕ, zero, suc, ◌-◌, ◌&&◌, not, nat_eq, is_some, Bool, true, false, List, [], ◌∷◌, length, slice_get, Option, Some, None, if◌then◌else◌}
-use Rattle.std.specs.Option.{option_and_then, option_map, option_or}
+use Rattle.std.specs.Prelude.{ℕ, zero, suc, ◌-◌, nat_eq, is_some, Bool, true, false, List, [], ◌∷◌, length, slice_get, Option, Some, None, if◌then◌else◌}
+use Rattle.std.specs.Option.{option_and_then, option_or}
 use Rattle.rust_source.specs.declared.item.Item.{Item}
 use Rattle.rust_source.specs.declared.item.ItemKind.{ItemKind}
 use Rattle.rust_source.specs.declared.item.ItemKind.TheVariants.{Alias as AliasItem, Const as ConstItem}
@@ -14,19 +14,18 @@ use Rattle.rust_source.specs.declared.syntax.Binary.{Binary}
 use Rattle.rust_source.specs.declared.syntax.Binary.TheVariants as operator
 use Rattle.rust_source.specs.declared.syntax.Expr.{Expr, Integer as IntegerExpr, Char as CharExpr, Bool as BoolExpr, Path as PathExpr, Call', Unary', Binary', Cast', If', Unevaluated}
 use Rattle.rust_source.specs.declared.syntax.IntegerKind.{IntegerKind}
-use Rattle.rust_source.specs.declared.syntax.IntegerKind.TheVariants.{I32, U8, U32, Usize}
+use Rattle.rust_source.specs.declared.syntax.IntegerKind.TheVariants.{U32, Usize}
 use Rattle.rust_source.specs.declared.syntax.Path.{Path, out-Path}
 use Rattle.rust_source.specs.declared.syntax.Segment.{Segment, out-Segment}
 use Rattle.rust_source.specs.declared.syntax.«Type».{«Type» as Written, Path as PathType}
 use Rattle.abi_rust.specs.declared.paths.Found.{Found}
-use Rattle.abi_rust.specs.declared.paths.Found.TheVariants.{Module, Item as ItemFound, Primitive as PrimitiveFound}
+use Rattle.abi_rust.specs.declared.paths.Found.TheVariants.{Item as ItemFound, Primitive as PrimitiveFound}
 use Rattle.abi_rust.specs.declared.paths.Space.TheVariants.{Types, Values}
 use Rattle.abi_rust.specs.declared.scope.Scope.{Scope}
 use Rattle.abi_rust.specs.declared.ty.Kind.{Kind}
 use Rattle.abi_rust.specs.declared.ty.Kind.TheVariants.{Bool as BoolKind, Char as CharKind, Integer as KindInteger}
 use Rattle.abi_rust.specs.declared.ty.Primitive.{Primitive}
 use Rattle.abi_rust.specs.declared.ty.Primitive.TheVariants.{Bool as BoolType, Char as CharType, Integer as IntegerType}
-use Rattle.abi_rust.specs.declared.work.Context.{Context}
 use Rattle.abi_rust.specs.declared.words.Word.TheVariants as word
 use Rattle.abi_rust.specs.Names.{found, found_of}
 use Rattle.abi_rust.specs.Places.{last_name}

@@ -1,17 +1,12 @@
 -- What paths name.
-use Rattle.std.specs.Prelude.{ℕ, zero, suc, ◌+◌, ◌&&◌, nat_eq, nat_le, Bool, true, false, List, [], ◌∷◌, length, map, slice_get, Option, Some, None, if◌then◌else◌}
+use Rattle.std.specs.Prelude.{ℕ, zero, suc, nat_eq, Bool, false, List, [], ◌∷◌, length, map, slice_get, Option, Some, None, if◌then◌else◌}
 use Rattle.std.specs.Option.{option_and_then, option_map, option_or}
-use Rattle.rust_source.specs.declared.item.Item.{Item}
-use Rattle.rust_source.specs.declared.item.ItemKind.{ItemKind}
-use Rattle.rust_source.specs.declared.item.ItemKind.TheVariants.{Alias as AliasItem}
 use Rattle.rust_source.specs.declared.item.Items.{Items}
 use Rattle.rust_source.specs.declared.item.Use.{Use}
-use Rattle.rust_source.specs.declared.item.UsedName.{UsedName}
 use Rattle.rust_source.specs.declared.place.Symbol.{Symbol}
 use Rattle.rust_source.specs.declared.place.TheConstants.Symbol.{CRATE, SELF, SUPER}
 use Rattle.rust_source.specs.declared.syntax.Path.{Path, out-Path}
-use Rattle.rust_source.specs.declared.syntax.Segment.{Segment, out-Segment}
-use Rattle.rust_source.specs.declared.syntax.«Type».{«Type» as Written}
+use Rattle.rust_source.specs.declared.syntax.Segment.{out-Segment}
 use Rattle.abi_rust.specs.declared.paths.Found.{Found}
 use Rattle.abi_rust.specs.declared.paths.Found.TheVariants.{Module, Item as ItemFound, Primitive as PrimitiveFound}
 use Rattle.abi_rust.specs.declared.paths.Space.{Space}

@@ -1,5 +1,5 @@
 -- Where expressions and paths stand.
-use Rattle.std.specs.Prelude.{ℕ, ◌-◌, length, List, slice_get, Option, Some, None}
+use Rattle.std.specs.Prelude.{◌-◌, length, slice_get, Option, Some, None}
 use Rattle.rust_source.specs.declared.place.Place.{Place}
 use Rattle.rust_source.specs.declared.syntax.Expr.{Expr, Integer, Char, Bool, Path as PathExpr, Call', Unary', Binary', Cast', If', Unevaluated}
 use Rattle.rust_source.specs.declared.syntax.Path.{Path, out-Path}

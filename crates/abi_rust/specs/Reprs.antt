@@ -1,10 +1,21 @@
 -- What is wrong with a repr.
-use Rattle.std.specs.Prelude.{ℕ, Bool, true, false, cond, ◌&&◌, ◌||◌, not, nat_eq, is_some, Option, Some, None}
+use Rattle.std.specs.Prelude.{ℕ, bit_or, length, Bool, true, false, cond, ◌&&◌, ◌||◌, not, nat_eq, is_some, Option, Some, None, Result, Ok, Err, if◌then◌else◌}
+use Rattle.std.specs.Option.{option_map}
+use Rattle.abi_base.specs.Align.{align_of_bytes}
+use Rattle.abi_base.specs.declared.align.AlignFromBytesError.{AlignFromBytesError}
+use Rattle.abi_scalar.specs.declared.repr.ReprFlags.{ReprFlags}
+use Rattle.abi_scalar.specs.declared.repr.ReprOptions.{ReprOptions}
+use Rattle.rust_source.specs.declared.item.Item.{Item}
+use Rattle.rust_source.specs.declared.item.ItemKind.{ItemKind}
+use Rattle.rust_source.specs.declared.item.ItemKind.TheVariants.{Enum as EnumItem}
 use Rattle.rust_source.specs.declared.item.Repr.{Repr}
+use Rattle.rust_source.specs.declared.place.Place.{Place}
+use Rattle.abi_rust.specs.Meaning.{Meaning, after, fault_at}
+use Rattle.abi_rust.specs.Scalars.{type_of_kind}
 use Rattle.rust_source.specs.declared.fault.SourceFaultKind.TheVariants.{OutOfMemory as SourceOutOfMemory}
 use Rattle.rustc_abi.specs.declared.error.LayError.TheVariants.{OutOfMemory as LayOutOfMemory}
 use Rattle.abi_rust.specs.declared.fault.FaultKind.{FaultKind}
-use Rattle.abi_rust.specs.declared.fault.FaultKind.TheVariants.{OutOfMemory, Source, Layout, PackedApart, PackedEnum, ReprWithoutVariants, TransparentFields, IntegerRepr, PackedAndAligned}
+use Rattle.abi_rust.specs.declared.fault.FaultKind.TheVariants.{BadAlignment, OutOfMemory, RustBeside, Simd, Source, Layout, PackedApart, TransparentBeside, PackedEnum, ReprWithoutVariants, TransparentFields, IntegerRepr, PackedAndAligned}
 
 -- it asks for something beside transparent
 abbrev pub asks_beside : Repr → Bool
@@ -32,3 +43,48 @@ is_memory (Source _) = false
 is_memory (Layout LayOutOfMemory) = true
 is_memory (Layout _) = false
 is_memory _ = false
+
+-- what is wrong with it on a kind of item
+abbrev pub kind_fault : Repr → ItemKind → Option FaultKind
+kind_fault r (EnumItem all) = enum_fault r (length all.variants.items)
+kind_fault r _ = fields_fault r
+
+-- what the compiler finds wrong with it
+abbrev pub repr_fault : Repr → ItemKind → Option FaultKind
+repr_fault r kind =
+    cond r.simd (Some Simd)
+    (cond (r.transparent && asks_beside r) (Some TransparentBeside)
+    (cond (r.rust && (r.c || is_some r.integer)) (Some RustBeside) (kind_fault r kind)))
+
+-- an alignment of so many bytes
+abbrev pub align_or : Place → Result ℕ AlignFromBytesError → Meaning (Option ℕ)
+align_or at (Ok a) = Ok (Some a)
+align_or at (Err e) = fault_at at BadAlignment
+
+abbrev pub alignment_in : Place → Option ℕ → Meaning (Option ℕ)
+alignment_in at None = Ok None
+alignment_in at (Some bytes) = if nat_eq bytes 0 then fault_at at BadAlignment else align_or at (align_of_bytes bytes)
+
+-- the words of it that are set or not
+abbrev pub flags_of : Repr → ReprFlags
+flags_of r = record { 0 = bit_or (if r.c then 1 else 0) (if r.transparent then 4 else 0) }
+
+-- what asks for nothing
+abbrev pub plain : ReprOptions
+plain = record { int = None; align = None; pack = None; flags = record { 0 = 0 }; scalable = None; field_shuffle_seed = 0 }
+
+abbrev pub options : Repr → (align pack : Option ℕ) → ReprOptions
+options r align pack =
+    record { int = option_map type_of_kind r.integer; align = align; pack = pack; flags = flags_of r; scalable = None; field_shuffle_seed = 0 }
+
+abbrev pub repr_by : Place → Repr → Option FaultKind → Meaning ReprOptions
+repr_by at r (Some fault) = fault_at at fault
+repr_by at r None = after (λ align. after (λ pack. Ok (options r align pack)) (alignment_in at r.packed)) (alignment_in at r.align)
+
+abbrev pub repr_in : Item → Option Place → Meaning ReprOptions
+repr_in it None = Ok plain
+repr_in it (Some at) = repr_by at it.repr (repr_fault it.repr it.kind)
+
+-- what an item's repr asks for
+unfoldable pub repr_of : Item → Meaning ReprOptions
+repr_of it = repr_in it it.repr.at

@@ -1,5 +1,9 @@
 -- The scalars of primitive types.
-use Rattle.std.specs.Prelude.{ℕ, min, max, true, false, Option, Some, None}
+use Rattle.std.specs.Prelude.{ℕ, ◌-◌, ◌^◌, min, max, is_some, Bool as Truth, true, false, Option, Some, None, if◌then◌else◌}
+use Rattle.abi_base.specs.DataLayout.{index_integer, known_spec}
+use Rattle.abi_base.specs.declared.address_space.AddressSpace.{AddressSpace}
+use Rattle.abi_rust.specs.declared.tail.Tail.{Tail}
+use Rattle.abi_rust.specs.declared.tail.Tail.TheVariants.{Sized, Length, Table}
 use Rattle.abi_base.specs.Primitive.{primitive_size}
 use Rattle.abi_base.specs.IntegerType.{integer_of_type, is_signed_type}
 use Rattle.abi_base.specs.declared.data_layout.TargetDataLayout.{TargetDataLayout}
@@ -7,12 +11,13 @@ use Rattle.abi_base.specs.declared.integer.Integer.TheVariants.{I8 as OneByte, I
 use Rattle.abi_base.specs.declared.integer.IntegerType.{IntegerType}
 use Rattle.abi_base.specs.declared.integer.IntegerType.TheVariants.{Fixed, Pointer as AsPointer}
 use Rattle.abi_base.specs.declared.primitive.Primitive.{Primitive}
-use Rattle.abi_base.specs.declared.primitive.Primitive.TheVariants.{Int, Float}
+use Rattle.abi_base.specs.declared.primitive.Primitive.TheVariants.{Int, Float, Pointer}
 use Rattle.abi_scalar.specs.Range.{full_range}
 use Rattle.abi_scalar.specs.declared.scalar.Scalar.{Scalar}
-use Rattle.abi_scalar.specs.declared.scalar.Scalar.TheVariants.{Initialized}
+use Rattle.abi_scalar.specs.declared.scalar.Scalar.TheVariants.{Initialized, Union as UnionScalar}
+use Rattle.abi_laid.specs.Tree.{Tree, pair, scalar}
 use Rattle.abi_laid.specs.declared.tree.TypeTree.{TypeTree}
-use Rattle.abi_laid.specs.declared.tree.TypeTree.TheVariants.{Scalar as OneScalar}
+use Rattle.abi_laid.specs.declared.tree.TypeTree.TheVariants.{Scalar as OneScalar, Pair}
 use Rattle.rust_source.specs.declared.syntax.IntegerKind.{IntegerKind}
 use Rattle.rust_source.specs.declared.syntax.IntegerKind.TheVariants.{I8, I16, I32, I64, I128, Isize, U8, U16, U32, U64, U128, Usize}
 use Rattle.abi_rust.specs.declared.ty.Primitive.{Primitive as Named}
@@ -61,3 +66,37 @@ named_tree dl Char = Some (OneScalar (ranged_scalar dl (Int FourBytes false) 0 1
 named_tree dl Str = None
 named_tree dl (NamedInteger kind) = Some (OneScalar (full_scalar dl (integer_primitive dl kind)))
 named_tree dl (NamedFloat float) = Some (OneScalar (full_scalar dl (Float float)))
+
+-- the primitive that a pointer is
+abbrev pub pointer_primitive : TargetDataLayout → Primitive
+pointer_primitive dl = Pointer dl.default_address_space
+
+-- a pointer's address, which is null only where it may be
+abbrev pub address : TargetDataLayout → (may_be_null : Truth) → Scalar
+address dl true = full_scalar dl (pointer_primitive dl)
+address dl false = ranged_scalar dl (pointer_primitive dl) 1 (2 ^ 128 - 1)
+
+-- the tree of a pointer with this tail
+abbrev pub pointer_tree : TargetDataLayout → Tail → (may_be_null : Truth) → TypeTree
+pointer_tree dl Sized may = OneScalar (address dl may)
+pointer_tree dl Length may = Pair (address dl may) (full_scalar dl (Int (index_integer dl.default_address_space_pointer_spec.pointer_offset) false))
+pointer_tree dl Table may = Pair (address dl may) (address dl false)
+
+-- the space of instructions, or the default one where the data layout doesn't know it
+abbrev pub instruction_space : TargetDataLayout → AddressSpace
+instruction_space dl = if is_some (known_spec dl dl.instruction_address_space) then dl.instruction_address_space else dl.default_address_space
+
+-- the tree of a function pointer, which is never null
+abbrev pub function_tree : TargetDataLayout → TypeTree
+function_tree dl = OneScalar (ranged_scalar dl (Pointer (instruction_space dl)) 1 (2 ^ 128 - 1))
+
+-- the scalar with the numbers of a range alone, as far as it has them
+abbrev pub cut_scalar : TargetDataLayout → (start end : ℕ) → Scalar → Scalar
+cut_scalar dl start end (Initialized value range) = ranged_scalar dl value start (min end range.end)
+cut_scalar dl start end (UnionScalar value) = UnionScalar value
+
+-- the tree with its first scalar limited to a range, where it is one scalar or two
+abbrev pub limited_tree : TargetDataLayout → (start end : ℕ) → Tree → Tree
+limited_tree dl start end (scalar s) = scalar (cut_scalar dl start end s)
+limited_tree dl start end (pair a b) = pair (cut_scalar dl start end a) b
+limited_tree dl start end t = t

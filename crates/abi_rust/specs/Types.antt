@@ -1,12 +1,12 @@
 -- Types whose names are resolved, as the definitions see them.
-use Rattle.std.specs.Prelude.{ℕ, List, [], ◌∷◌, map, slice_get, Option, Some, None}
+use Rattle.std.specs.Prelude.{ℕ, List, [], ◌∷◌, map, Option}
 use Rattle.abi_rust.specs.declared.ty.Given.{Given}
 use Rattle.abi_rust.specs.declared.ty.Given.TheFolds.{fold-Given, fold-Ty}
 use Rattle.abi_rust.specs.declared.ty.Given.TheOpen.{Given-F, Ty-F}
 use Rattle.abi_rust.specs.declared.ty.Given.TheOpen as layer
 use Rattle.abi_rust.specs.declared.ty.Primitive.{Primitive}
 use Rattle.abi_rust.specs.declared.ty.Ty.{Ty}
-use Rattle.abi_rust.specs.declared.ty.Value.{Value}
+use Rattle.abi_rust.specs.Values.{ValueRead, value_of}
 use Rattle.abi_rust.specs.declared.work.Setting.{Setting}
 
 mutual
@@ -32,7 +32,7 @@ mutual
   -- what a parameter is given
   pub data GivenRead : Type 0 where
     of_type : TyRead → GivenRead
-    of_value : Value → GivenRead
+    of_value : ValueRead → GivenRead
 
   -- a list of what parameters are given
   pub data GivensRead : Type 0 where
@@ -62,7 +62,7 @@ list_given (more_given g gs) = g ∷ list_given gs
 -- one layer of the program's types, whose parts are seen so already
 abbrev pub layer_given : Given-F GivenRead TyRead → GivenRead
 layer_given (layer.«Type» t) = of_type t
-layer_given (layer.Value v) = of_value v
+layer_given (layer.Value v) = of_value (value_of v)
 
 abbrev pub layer_ty : Ty-F GivenRead TyRead → TyRead
 layer_ty layer.Never = never

@@ -1,17 +1,38 @@
 -- Values, and the types that they are of.
-use Rattle.std.specs.Prelude.{◌≡◌, Option, Some, None}
+use Rattle.std.specs.Prelude.{◌≡◌, ℕ, Bool, ℤ, Option, Some, None}
 use Rattle.rust_source.specs.declared.syntax.IntegerKind.{IntegerKind}
 use Rattle.abi_rust.specs.declared.int.Int.{Int}
+use Rattle.abi_rust.specs.Int.{number_of}
 use Rattle.abi_rust.specs.declared.ty.Kind.{Kind}
 use Rattle.abi_rust.specs.declared.ty.Kind.TheVariants.{Bool as BoolKind, Char as CharKind, Integer as IntegerKind_of}
 use Rattle.abi_rust.specs.declared.ty.Value.{Value}
 use Rattle.abi_rust.specs.declared.ty.Value.TheVariants.{Bool as BoolValue, Char as CharValue, Integer as IntegerValue}
 
+-- a value
+pub data ValueRead : Type 0 where
+  truth : Bool → ValueRead
+  -- a character's code
+  code : ℕ → ValueRead
+  -- a number of the type
+  number : IntegerKind → ℤ → ValueRead
+
+-- the program's value as the definitions see it
+abbrev pub value_of : Value → ValueRead
+value_of (BoolValue b) = truth b
+value_of (CharValue c) = code c
+value_of (IntegerValue kind int) = number kind (number_of int)
+
+-- a value's type, by the definitions
+abbrev pub kind_read : ValueRead → Kind
+kind_read (truth b) = BoolKind
+kind_read (code c) = CharKind
+kind_read (number kind z) = IntegerKind_of kind
+
 -- a value's type
 abbrev pub kind_of_value : Value → Kind
-kind_of_value (BoolValue truth) = BoolKind
-kind_of_value (CharValue code) = CharKind
-kind_of_value (IntegerValue kind int) = IntegerKind_of kind
+kind_of_value (BoolValue _) = BoolKind
+kind_of_value (CharValue _) = CharKind
+kind_of_value (IntegerValue kind _) = IntegerKind_of kind
 
 -- the value is of the type that is wanted, where one is
 abbrev pub IsOfKind : Option Kind → Value → Type 0

@@ -11,7 +11,7 @@ use rust_source::{Item, Path, Symbol};
 
 /// The constant that a path names: a module's, or a type's own.
 #[tactic(auto, unfolding(crate::specs::Kinds::constant_named))]
-pub(crate) fn constant_named(cx: &Context<'_>, setting: Setting<'_>, path: &Path) -> Option<u32>
+pub(crate) fn constant_named(cx: &Context<'_, '_>, setting: Setting<'_>, path: &Path) -> Option<u32>
     ensures { result ≡ constant_named cx.now.items.now cx.now.scope.now (where_of setting.entry) path.now }
 {
     match find(cx.items, cx.scope, setting.module, path, Space::Values) {
@@ -22,7 +22,7 @@ pub(crate) fn constant_named(cx: &Context<'_>, setting: Setting<'_>, path: &Path
 
 /// The constant of a type that a path names.
 #[tactic(auto, unfolding(crate::specs::Kinds::own_named))]
-fn own_named(cx: &Context<'_>, setting: Setting<'_>, path: &Path) -> Option<u32>
+fn own_named(cx: &Context<'_, '_>, setting: Setting<'_>, path: &Path) -> Option<u32>
     ensures { result ≡ own_named cx.now.items.now cx.now.scope.now (where_of setting.entry) path.now }
 {
     let owner = owner_named(cx, setting, path, path.segments.len().saturating_sub(1))?;
@@ -32,7 +32,7 @@ fn own_named(cx: &Context<'_>, setting: Setting<'_>, path: &Path) -> Option<u32>
 
 /// The type that the first names of a path name, so many of them, where it may have constants of its own.
 #[tactic(auto, unfolding(crate::specs::Kinds::owner_named))]
-fn owner_named(cx: &Context<'_>, setting: Setting<'_>, path: &Path, count: usize) -> Option<u32>
+fn owner_named(cx: &Context<'_, '_>, setting: Setting<'_>, path: &Path, count: usize) -> Option<u32>
     ensures { result ≡ owner_named cx.now.items.now cx.now.scope.now (where_of setting.entry) path.now count }
 {
     if let Some(name) = name_alone(path, count) {
@@ -47,7 +47,7 @@ fn owner_named(cx: &Context<'_>, setting: Setting<'_>, path: &Path, count: usize
 }
 
 /// Where the value of the constant of this number stands: in its module, and in the type whose own it is.
-pub(crate) fn inside_constant(cx: &Context<'_>, number: u32, item: &Item) -> Setting<'static>
+pub(crate) fn inside_constant(cx: &Context<'_, '_>, number: u32, item: &Item) -> Setting<'static>
     ensures { where_of result ≡ constant_place cx.now.scope.now number item.now }
 {
     Setting {

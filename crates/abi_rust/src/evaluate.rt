@@ -1,7 +1,12 @@
 //! Constants' values.
 
-ghost use Rattle.std.specs.Prelude.{◌≡◌, IfOk};
-ghost use Rattle.abi_rust.specs.Values.{IsOfKind};
+ghost use Rattle.std.specs.Prelude.{◌≡◌, IfOk, Ok, Some, nat_eq, length};
+ghost use Rattle.std.specs.Option.{option_copied, option_map};
+ghost use Rattle.abi_rust.specs.Evaluating.{begun, binary_value, branch_value, cast_value, cast_variant, constant_on, constant_value, counted, discriminant, evaluator, operand_value, path_value, right_kind, second_value, typed, unary_value, value_by, value_given, value_with};
+ghost use Rattle.abi_rust.specs.Kinds.{constant_place};
+ghost use Rattle.abi_rust.specs.Meaning.{Answers};
+ghost use Rattle.abi_rust.specs.Types.{where_of};
+ghost use Rattle.abi_rust.specs.Values.{IsOfKind, value_of};
 
 use crate::constants::{constant_named, inside_constant};
 use crate::discriminants::{discriminant_kind, variant_named, written_before};
@@ -12,7 +17,8 @@ use crate::kind::{
 };
 use crate::limits::limit;
 use crate::literals::{inner_kind, literal};
-use crate::operators::{binary, cast, fitting, is_settled, unary};
+use crate::operators::{binary, cast, fitting, is_settled, same_kind, unary};
+use crate::paths::item_at;
 use crate::places::{at_place, place_of, place_of_path};
 use crate::sizes::call;
 use crate::ty::{Given, Kind, Value};
@@ -22,61 +28,114 @@ use rust_source::{Binary, Expr, Item, ItemKind, Path, Place, Type, Unary, Uneval
 /// The value of an expression, of the type that is wanted where one is. `Stop::Size` where a type's size has to be
 /// known first.
 #[cycle(evaluating)]
+#[tactic(auto, using(crate::proofs::Rooms::value_less, crate::proofs::Rooms::value_none))]
 pub(crate) fn evaluate<'a>(
-    cx: &Context<'a>,
+    cx: &Context<'a, '_>,
     work: &mut Work<'a>,
     setting: Setting<'_>,
     expr: &'a Expr,
     wanted: Option<Kind>,
     room: u32,
 ) -> Result<Value, Stop>
-    ensures { IfOk result (λ value. IsOfKind wanted value) }
+    ensures kind { IfOk result (λ value. IsOfKind wanted value) }
+    ensures value { Answers value_of (evaluator cx.now room (where_of setting.entry) expr.now wanted) result }
 {
     work.spend()?;
     let room = less(room)?;
-    let at = place_of(expr);
-    let value = match expr {
-        Expr::Integer(number, suffix, _) => {
-            literal(cx, Int::positive(*number), *suffix, wanted, at)?
+    evaluate_typed(cx, work, setting, expr, wanted, room)
+}
+
+/// The value of an expression, of the type that is wanted where one is.
+#[cycle(evaluating)]
+#[tactic(auto, unfolding(crate::specs::Evaluating::value_with))]
+fn evaluate_typed<'a>(
+    cx: &Context<'a, '_>,
+    work: &mut Work<'a>,
+    setting: Setting<'_>,
+    expr: &'a Expr,
+    wanted: Option<Kind>,
+    room: u32,
+) -> Result<Value, Stop>
+    ensures kind { IfOk result (λ value. IsOfKind wanted value) }
+    ensures value { Answers value_of
+        (value_with cx.now (evaluator cx.now room) (where_of setting.entry) expr.now wanted) result }
+{
+    let value = evaluate_any(cx, work, setting, expr, wanted, room)?;
+    typed(value, wanted, place_of(expr))
+}
+
+/// The value of an expression, of whatever type.
+#[cycle(evaluating)]
+fn evaluate_any<'a>(
+    cx: &Context<'a, '_>,
+    work: &mut Work<'a>,
+    setting: Setting<'_>,
+    expr: &'a Expr,
+    wanted: Option<Kind>,
+    room: u32,
+) -> Result<Value, Stop>
+    ensures { Answers value_of
+        (value_by cx.now (evaluator cx.now room) (where_of setting.entry) wanted expr.now) result }
+{
+    match expr {
+        Expr::Integer(number, suffix, at) => {
+            literal(cx, Int::positive(*number), *suffix, wanted, *at)
         }
-        Expr::Char(code, _) => Value::Char(*code),
-        Expr::Bool(truth, _) => Value::Bool(*truth),
-        Expr::Path(path) => evaluate_path(cx, work, setting, path, room)?,
+        Expr::Char(code, _) => Ok(Value::Char(*code)),
+        Expr::Bool(truth, _) => Ok(Value::Bool(*truth)),
+        Expr::Path(path) => evaluate_path(cx, work, setting, path, room),
         Expr::Call(path, arguments, at) => {
-            if !arguments.is_empty() {
-                return Err(stop_at(*at, FaultKind::Unevaluated(Unevaluated::Expression)));
+            if arguments.is_empty() {
+                call(cx, work, setting, path, *at)
+            } else {
+                Err(stop_at(*at, FaultKind::Unevaluated(Unevaluated::Expression)))
             }
-            call(cx, work, setting, path, *at)?
         }
         Expr::Unary(operator, operand, _) => {
-            evaluate_unary(cx, work, setting, *operator, operand, wanted, room)?
+            evaluate_unary(cx, work, setting, *operator, operand, wanted, room)
         }
         Expr::Binary(operator, left, right, _) => {
-            evaluate_binary(cx, work, setting, *operator, left, right, wanted, room)?
+            evaluate_binary(cx, work, setting, *operator, left, right, wanted, room)
         }
-        Expr::Cast(operand, ty, _) => evaluate_cast(cx, work, setting, operand, ty, at, room)?,
+        Expr::Cast(operand, ty, at) => evaluate_cast(cx, work, setting, operand, ty, *at, room),
         Expr::If(condition, left, right, _) => {
             let condition = evaluate(cx, work, setting, condition, Some(Kind::Bool), room)?;
-            let branch = if condition == Value::Bool(true) {
-                left
-            } else {
-                right
-            };
-            evaluate(cx, work, setting, branch, wanted, room)?
+            evaluate_branch(cx, work, setting, condition, left, right, wanted, room)
         }
-        Expr::Unevaluated(what, _) => return Err(stop_at(at, FaultKind::Unevaluated(*what))),
-    };
-    typed(value, wanted, at)
+        Expr::Unevaluated(what, at) => Err(stop_at(*at, FaultKind::Unevaluated(*what))),
+    }
+}
+
+/// The value of the branch that a condition chooses.
+#[cycle(evaluating)]
+fn evaluate_branch<'a>(
+    cx: &Context<'a, '_>,
+    work: &mut Work<'a>,
+    setting: Setting<'_>,
+    condition: Value,
+    left: &'a Expr,
+    right: &'a Expr,
+    wanted: Option<Kind>,
+    room: u32,
+) -> Result<Value, Stop>
+    ensures { Answers value_of
+        (branch_value cx.now (evaluator cx.now room) (where_of setting.entry) left.now right.now wanted (value_of condition)) result }
+{
+    match condition {
+        Value::Bool(true) => evaluate(cx, work, setting, left, wanted, room),
+        _ => evaluate(cx, work, setting, right, wanted, room),
+    }
 }
 
 /// The value, where it is of the type that is wanted.
 fn typed(value: Value, wanted: Option<Kind>, at: Place) -> Result<Value, Stop>
     ensures same { IfOk result (λ given. given ≡ value) }
     ensures kind { IfOk result (λ given. IsOfKind wanted given) }
+    ensures meant { Answers value_of (typed at wanted (value_of value)) result }
 {
     match wanted {
         Some(kind) => {
-            if value.kind() == kind {
+            if same_kind(value.kind(), kind) {
                 Ok(value)
             } else {
                 Err(stop_at(at, FaultKind::WrongType))
@@ -89,28 +148,33 @@ fn typed(value: Value, wanted: Option<Kind>, at: Place) -> Result<Value, Stop>
 /// The value of an operator before its operand.
 #[cycle(evaluating)]
 fn evaluate_unary<'a>(
-    cx: &Context<'a>,
+    cx: &Context<'a, '_>,
     work: &mut Work<'a>,
     setting: Setting<'_>,
     operator: Unary,
     operand: &'a Expr,
     wanted: Option<Kind>,
     room: u32,
-) -> Result<Value, Stop> {
-    let at = place_of(operand);
-    if let Expr::Integer(number, suffix, _) = operand {
-        if operator == Unary::Minus {
-            return literal(cx, Int::new(true, *number), *suffix, wanted, at);
+) -> Result<Value, Stop>
+    ensures { Answers value_of
+        (unary_value cx.now (evaluator cx.now room) (where_of setting.entry) operator operand.now wanted) result }
+{
+    match (operator, operand) {
+        (Unary::Minus, Expr::Integer(number, suffix, at)) => {
+            literal(cx, Int::new(true, *number), *suffix, wanted, *at)
+        }
+        _ => {
+            let value = evaluate(cx, work, setting, operand, wanted, room)?;
+            at_place(place_of(operand), unary(operator, value, cx.pointer_bits))
         }
     }
-    let value = evaluate(cx, work, setting, operand, wanted, room)?;
-    at_place(at, unary(operator, value, cx.pointer_bits))
 }
 
 /// The value of an operator between its operands.
 #[cycle(evaluating)]
+#[tactic(auto, unfolding(crate::specs::Evaluating::binary_value))]
 fn evaluate_binary<'a>(
-    cx: &Context<'a>,
+    cx: &Context<'a, '_>,
     work: &mut Work<'a>,
     setting: Setting<'_>,
     operator: Binary,
@@ -118,43 +182,96 @@ fn evaluate_binary<'a>(
     right: &'a Expr,
     wanted: Option<Kind>,
     room: u32,
-) -> Result<Value, Stop> {
+) -> Result<Value, Stop>
+    ensures { Answers value_of
+        (binary_value cx.now (evaluator cx.now room) (where_of setting.entry) operator left.now right.now wanted) result }
+{
     let kind = operand_kind(cx, setting, operator, left, right, wanted);
     let first = evaluate(cx, work, setting, left, kind, room)?;
+    evaluate_second(cx, work, setting, operator, first, left, right, room)
+}
+
+/// The value of an operator between its operands, of which the first has this value.
+#[cycle(evaluating)]
+fn evaluate_second<'a>(
+    cx: &Context<'a, '_>,
+    work: &mut Work<'a>,
+    setting: Setting<'_>,
+    operator: Binary,
+    first: Value,
+    left: &'a Expr,
+    right: &'a Expr,
+    room: u32,
+) -> Result<Value, Stop>
+    ensures { Answers value_of
+        (second_value cx.now (evaluator cx.now room) (where_of setting.entry) operator left.now right.now (value_of first)) result }
+{
     if is_settled(operator, first) {
         return Ok(first);
     }
-    let right_kind = if is_shift(operator) {
-        kind_of(cx, setting, right)
-    } else {
-        Some(first.kind())
-    };
-    let second = evaluate(cx, work, setting, right, right_kind, room)?;
+    let kind = right_kind(cx, setting, operator, first, right);
+    let second = evaluate(cx, work, setting, right, kind, room)?;
     at_place(
         place_of(left),
         binary(operator, first, second, cx.pointer_bits),
     )
 }
 
+/// The type that an operator's right operand has to have: the left one's, but for a shift.
+fn right_kind(
+    cx: &Context<'_, '_>,
+    setting: Setting<'_>,
+    operator: Binary,
+    first: Value,
+    right: &Expr,
+) -> Option<Kind>
+    ensures { result ≡ right_kind cx.now (where_of setting.entry) operator (value_of first) right.now }
+{
+    if is_shift(operator) {
+        kind_of(cx, setting, right)
+    } else {
+        Some(first.kind())
+    }
+}
+
 /// The value of a cast.
 #[cycle(evaluating)]
+#[tactic(auto, unfolding(crate::specs::Evaluating::cast_value))]
 fn evaluate_cast<'a>(
-    cx: &Context<'a>,
+    cx: &Context<'a, '_>,
     work: &mut Work<'a>,
     setting: Setting<'_>,
     operand: &'a Expr,
     ty: &Type,
     at: Place,
     room: u32,
-) -> Result<Value, Stop> {
+) -> Result<Value, Stop>
+    ensures { Answers value_of
+        (cast_value cx.now (evaluator cx.now room) (where_of setting.entry) operand.now ty.now at) result }
+{
     let Some(kind) = kind_written(cx, setting, ty) else {
         return Err(stop_at(at, FaultKind::Unevaluated(Unevaluated::Expression)));
     };
-    if let Expr::Path(path) = operand {
-        if let Some((item, index)) = variant_named(cx, setting, path) {
-            let value = discriminant(cx, work, item, index, room)?;
-            return at_place(at, cast(value, kind, cx.pointer_bits));
-        }
+    let value = evaluate_operand(cx, work, setting, operand, kind, room)?;
+    at_place(at, cast(value, kind, cx.pointer_bits))
+}
+
+/// The value that is cast: a variant's discriminant, or that of the operand.
+#[cycle(evaluating)]
+fn evaluate_operand<'a>(
+    cx: &Context<'a, '_>,
+    work: &mut Work<'a>,
+    setting: Setting<'_>,
+    operand: &'a Expr,
+    kind: Kind,
+    room: u32,
+) -> Result<Value, Stop>
+    ensures { Answers value_of
+        (operand_value cx.now (evaluator cx.now room) (where_of setting.entry) operand.now kind
+        (cast_variant cx.now setting.entry.«module» operand.now)) result }
+{
+    if let Some((item, index)) = cast_variant(cx, setting.module, operand) {
+        return discriminant(cx, work, item, index, room);
     }
     let known = kind_of(cx, setting, operand);
     let wanted = if known.is_some() {
@@ -162,74 +279,123 @@ fn evaluate_cast<'a>(
     } else {
         inner_kind(operand, kind)
     };
-    let value = evaluate(cx, work, setting, operand, wanted, room)?;
-    at_place(at, cast(value, kind, cx.pointer_bits))
+    evaluate(cx, work, setting, operand, wanted, room)
+}
+
+/// The enum and the number of the variant that an operand of a cast names.
+fn cast_variant<'a>(cx: &Context<'a, '_>, module: u32, operand: &Expr) -> Option<(&'a Item, usize)>
+    ensures { option_map (λ found. (found.0.now, found.1)) result ≡ cast_variant cx.now «module» operand.now }
+{
+    match operand {
+        Expr::Path(path) => variant_named(cx, module, path),
+        _ => None,
+    }
 }
 
 /// A variant's discriminant: the one that is written last before it, and one more for each variant behind that.
 #[cycle(evaluating)]
+#[tactic(auto, unfolding(crate::specs::Evaluating::discriminant))]
 fn discriminant<'a>(
-    cx: &Context<'a>,
+    cx: &Context<'a, '_>,
     work: &mut Work<'a>,
     item: &'a Item,
     index: usize,
     room: u32,
-) -> Result<Value, Stop> {
-    let kind = discriminant_kind(item);
+) -> Result<Value, Stop>
+    ensures { Answers value_of (discriminant cx.now (evaluator cx.now room) item.now index) result }
+{
     let ItemKind::Enum(all) = &item.kind else {
         return Err(stop_at(item.at, FaultKind::WrongType));
     };
-    let (behind, written) = written_before(&all.variants, index);
-    let start = match written {
+    let (behind, written) = written_before(all.variants.as_slice(), index);
+    let start = begun(cx, work, item, written, room)?;
+    counted(cx, item, behind, start)
+}
+
+/// A discriminant that is written, or the first.
+#[cycle(evaluating)]
+fn begun<'a>(
+    cx: &Context<'a, '_>,
+    work: &mut Work<'a>,
+    item: &'a Item,
+    written: Option<&'a Expr>,
+    room: u32,
+) -> Result<Value, Stop>
+    ensures { Answers value_of
+        (begun cx.now (evaluator cx.now room) item.now (option_copied written.entry)) result }
+{
+    let kind = discriminant_kind(item);
+    match written {
         Some(expr) => {
             let wanted = Some(Kind::Integer(kind));
-            evaluate(cx, work, outside(item.module), expr, wanted, room)?
+            evaluate(cx, work, outside(item.module), expr, wanted, room)
         }
-        None => Value::Integer(kind, Int::positive(0)),
-    };
+        None => Ok(Value::Integer(kind, Int::positive(0))),
+    }
+}
+
+/// The discriminant that stands so far behind one.
+#[tactic(auto, using(crate::proofs::Numbers::too_wide))]
+fn counted(cx: &Context<'_, '_>, item: &Item, behind: usize, start: Value) -> Result<Value, Stop>
+    ensures { Answers value_of (counted cx.now item.now behind (value_of start)) result }
+{
+    let kind = discriminant_kind(item);
     match start {
         Value::Integer(_, int) => {
             let width = Width::of(kind, cx.pointer_bits);
-            at_place(
-                item.at,
-                fitting(kind, width, int.plus(Int::positive(behind as u128))),
-            )
+            let next = int.plus(Int::positive(behind as u128));
+            at_place(item.at, fitting(kind, width, next))
         }
         _ => Err(stop_at(item.at, FaultKind::WrongType)),
     }
 }
 
+/// The value that the parameter of this name is given, if it is one.
+fn value_given(cx: &Context<'_, '_>, setting: Setting<'_>, path: &Path) -> Option<Value>
+    ensures { option_map value_of result ≡ value_given cx.now (where_of setting.entry) path.now }
+{
+    match given_named(cx, setting, single_name(path)?) {
+        Some(Given::Value(value)) => Some(*value),
+        _ => None,
+    }
+}
+
 /// The value of a constant that a path names.
 #[cycle(evaluating)]
+#[tactic(auto, unfolding(crate::specs::Evaluating::path_value))]
 pub(crate) fn evaluate_path<'a>(
-    cx: &Context<'a>,
+    cx: &Context<'a, '_>,
     work: &mut Work<'a>,
     setting: Setting<'_>,
     path: &'a Path,
     room: u32,
-) -> Result<Value, Stop> {
-    if let Some(name) = single_name(path) {
-        if let Some(Given::Value(value)) = given_named(cx, setting, name) {
-            return Ok(*value);
-        }
+) -> Result<Value, Stop>
+    ensures { Answers value_of
+        (path_value cx.now (evaluator cx.now room) (where_of setting.entry) path.now) result }
+{
+    if let Some(value) = value_given(cx, setting, path) {
+        return Ok(value);
     }
-    if let Some(number) = constant_named(cx, setting, path) {
-        return constant(cx, work, number, place_of_path(path), room);
+    match constant_named(cx, setting, path) {
+        Some(number) => constant(cx, work, number, place_of_path(path), room),
+        None => limit(cx, setting, path),
     }
-    limit(cx, setting, path)
 }
 
 /// The value of the constant of this number.
 #[cycle(evaluating)]
+#[tactic(auto, unfolding(crate::specs::Evaluating::constant_value))]
 fn constant<'a>(
-    cx: &Context<'a>,
+    cx: &Context<'a, '_>,
     work: &mut Work<'a>,
     number: u32,
     at: Place,
     room: u32,
-) -> Result<Value, Stop> {
+) -> Result<Value, Stop>
+    ensures { Answers value_of (constant_value cx.now (evaluator cx.now room) number at) result }
+{
     let unevaluated = FaultKind::Unevaluated(Unevaluated::Expression);
-    let Some(item) = cx.items.items.get(number as usize) else {
+    let Some(item) = item_at(cx.items, number) else {
         return Err(stop_at(at, unevaluated));
     };
     let ItemKind::Const(constant) = &item.kind else {
@@ -237,13 +403,8 @@ fn constant<'a>(
     };
     let inside = inside_constant(cx, number, item);
     let kind = kind_written(cx, inside, &constant.ty);
-    match &constant.value {
-        Some(value) => {
-            if kind.is_none() {
-                return Err(stop_at(at, unevaluated));
-            }
-            evaluate(cx, work, inside, value, kind, room)
-        }
-        None => Err(stop_at(at, unevaluated)),
+    match (kind, &constant.value) {
+        (Some(_), Some(value)) => evaluate(cx, work, inside, value, kind, room),
+        _ => Err(stop_at(at, unevaluated)),
     }
 }

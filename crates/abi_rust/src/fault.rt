@@ -1,6 +1,6 @@
 //! Why a source, or a type of it, has no tree.
 
-ghost use Rattle.std.specs.Prelude.{◌≡◌};
+ghost use Rattle.std.specs.Prelude.{◌≡◌, Some};
 ghost use Rattle.abi_rust.specs.Reprs.{is_memory};
 
 use rust_source::{IntegerKind, Place, SourceFault, SourceFaultKind, Symbol, Unevaluated};
@@ -127,11 +127,11 @@ pub(crate) fn stop_at(at: Place, kind: FaultKind) -> Stop
 }
 
 impl From<AllocError> for Stop {
-    ghost use Rattle.std.specs.Prelude.{◌≡◌, None};
+    ghost use Rattle.std.specs.Prelude.{None};
     ghost use Rattle.abi_rust.specs.declared.fault.FaultKind.TheVariants.{OutOfMemory};
     ghost use Rattle.abi_rust.specs.declared.fault.Stop.TheVariants.{Fault};
 
-    ghost from_gives = { λ _ stop. stop ≡ Fault None OutOfMemory };
+    ghost from_gives = { λ _ e. e ≡ Fault None OutOfMemory };
 
     fn from(_error: AllocError) -> Stop {
         Stop::Fault(None, FaultKind::OutOfMemory)
@@ -139,11 +139,11 @@ impl From<AllocError> for Stop {
 }
 
 impl<T: Drop> From<AllocFailed<T>> for Stop {
-    ghost use Rattle.std.specs.Prelude.{◌≡◌, None};
+    ghost use Rattle.std.specs.Prelude.{None};
     ghost use Rattle.abi_rust.specs.declared.fault.FaultKind.TheVariants.{OutOfMemory};
     ghost use Rattle.abi_rust.specs.declared.fault.Stop.TheVariants.{Fault};
 
-    ghost from_gives = { λ _ stop. stop ≡ Fault None OutOfMemory };
+    ghost from_gives = { λ _ e. e ≡ Fault None OutOfMemory };
 
     fn from(_error: AllocFailed<T>) -> Stop {
         Stop::Fault(None, FaultKind::OutOfMemory)

@@ -1,6 +1,6 @@
 //! Integers, and what operators make of them.
 
-ghost use Rattle.std.specs.Prelude.{◌≡◌, ◌↔◌, ◌+◌, ◌-◌, ◌*◌, ◌%◌, ◌^◌, ◌≤◌, ◌<◌, IsTrue, IfSome, IfNone, IsNone, IsSome, ◌+ℤ◌, ◌*ℤ◌, ◌-ℤ◌, ◌<ℤ◌, neg_ℤ, pos, cond};
+ghost use Rattle.std.specs.Prelude.{◌≡◌, ◌↔◌, ◌+◌, ◌-◌, ◌*◌, ◌%◌, ◌^◌, ◌≤◌, ◌<◌, IsTrue, IfSome, IfNone, IsNone, IsSome, ◌+ℤ◌, ◌*ℤ◌, ◌-ℤ◌, ◌<ℤ◌, neg_ℤ, pos, cond, int_lt};
 ghost use Rattle.std.specs.Int.{cast_unsigned, int_div_euclid, w128};
 ghost use Rattle.std.specs.Int.RustNames.{int_div, int_rem, unsigned_abs};
 
@@ -26,9 +26,13 @@ pub(crate) struct Width {
 
 impl Width {
     ghost use Rattle.abi_rust.specs.Int.{Has, wrapped, number_of};
+    ghost use Rattle.abi_rust.specs.Operators.{bits_in, has_number, is_signed};
 
     /// The width of an integer type, under pointers of this many bits, of which 1 to 128 count.
-    pub(crate) fn of(kind: IntegerKind, pointer_bits: u32) -> Width {
+    pub(crate) fn of(kind: IntegerKind, pointer_bits: u32) -> Width
+        ensures bits { result.bits ≡ bits_in pointer_bits kind }
+        ensures signed { result.is_signed ≡ is_signed kind }
+    {
         let (bits, is_signed) = match kind {
             IntegerKind::I8 => (8, true),
             IntegerKind::I16 => (16, true),
@@ -91,7 +95,8 @@ impl Width {
 
     /// Whether the type has the number.
     pub(crate) fn has(self, int: Int) -> bool
-        ensures { IsTrue result ↔ Has self (number_of int) }
+        ensures has { IsTrue result ↔ Has self (number_of int) }
+        ensures value { result ≡ has_number self.is_signed self.bits (number_of int) }
     {
         if self.is_signed {
             if int.is_negative {
@@ -192,7 +197,8 @@ impl Int {
 
     /// The quotient, cut towards zero, or none for a divisor that is zero.
     pub(crate) fn over(self, other: Int) -> Option<Int>
-        ensures some { IfSome result (λ quotient. number_of quotient ≡ int_div (number_of self) (number_of other)) }
+        ensures some { IfSome result (λ quotient. number_of quotient
+            ≡ int_div (number_of self) (number_of other)) }
         ensures none { IsNone result ↔ (number_of other ≡ pos 0) }
     {
         let magnitude = self.magnitude.checked_div(other.magnitude)?;
@@ -233,7 +239,8 @@ impl Int {
 
     /// Whether it is below the other.
     pub(crate) fn is_below(self, other: Int) -> bool
-        ensures { IsTrue result ↔ (number_of self <ℤ number_of other) }
+        ensures below { IsTrue result ↔ (number_of self <ℤ number_of other) }
+        ensures value { result ≡ int_lt (number_of self) (number_of other) }
     {
         match (self.is_negative, other.is_negative) {
             (true, true) => self.magnitude > other.magnitude,

@@ -30,7 +30,11 @@ pub(crate) fn single_name(path: &Path) -> Option<Symbol>
 
 /// The number of the item's parameter of this name.
 #[tactic(auto, unfolding(crate::specs::Kinds::parameter_named))]
-pub(crate) fn parameter_named(cx: &Context<'_>, item: Option<u32>, name: Symbol) -> Option<usize>
+pub(crate) fn parameter_named(
+    cx: &Context<'_, '_>,
+    item: Option<u32>,
+    name: Symbol,
+) -> Option<usize>
     ensures { result ≡ parameter_named cx.now.items.now cx.now.scope.now item name }
 {
     let item = item_at(cx.items, item?)?;
@@ -52,11 +56,12 @@ fn number_named(item: &Item, name: Symbol) -> Option<usize>
 /// What the parameter of this name is given.
 #[tactic(auto, unfolding(crate::specs::Kinds::given_named))]
 pub(crate) fn given_named<'g>(
-    cx: &Context<'_>,
+    cx: &Context<'_, '_>,
     setting: Setting<'g>,
     name: Symbol,
 ) -> Option<&'g Given>
-    ensures { option_map (λ given. given_of given.now) result ≡ given_named cx.now.items.now cx.now.scope.now (where_of setting.entry) name }
+    ensures { option_map (λ given. given_of given.now) result
+        ≡ given_named cx.now.items.now cx.now.scope.now (where_of setting.entry) name }
 {
     setting.given.get(parameter_named(cx, setting.item, name)?)
 }
@@ -75,8 +80,9 @@ fn kind_of_primitive(primitive: Primitive) -> Option<Kind>
 }
 
 /// The type of constants that the parameter of this name is given, if it is one.
-fn kind_given(cx: &Context<'_>, setting: Setting<'_>, name: Symbol) -> Option<Kind>
-    ensures { result ≡ kind_given (given_named cx.now.items.now cx.now.scope.now (where_of setting.entry) name) }
+fn kind_given(cx: &Context<'_, '_>, setting: Setting<'_>, name: Symbol) -> Option<Kind>
+    ensures { result
+        ≡ kind_given (given_named cx.now.items.now cx.now.scope.now (where_of setting.entry) name) }
 {
     match given_named(cx, setting, name)? {
         Given::Type(Ty::Primitive(primitive)) => kind_of_primitive(*primitive),
@@ -85,7 +91,7 @@ fn kind_given(cx: &Context<'_>, setting: Setting<'_>, name: Symbol) -> Option<Ki
 }
 
 /// The type of constants that a type is, if it is one.
-pub(crate) fn kind_written(cx: &Context<'_>, setting: Setting<'_>, ty: &Type) -> Option<Kind>
+pub(crate) fn kind_written(cx: &Context<'_, '_>, setting: Setting<'_>, ty: &Type) -> Option<Kind>
     ensures { result ≡ kind_written cx.now.items.now cx.now.scope.now (where_of setting.entry) ty.now }
 {
     let Type::Path(path) = ty else {
@@ -108,7 +114,7 @@ pub(crate) fn name_alone(path: &Path, count: usize) -> Option<Symbol>
 /// The type of constants that the first names of a path are, so many of them, if they are one.
 #[tactic(auto, unfolding(crate::specs::Kinds::kind_at))]
 pub(crate) fn kind_at(
-    cx: &Context<'_>,
+    cx: &Context<'_, '_>,
     setting: Setting<'_>,
     path: &Path,
     count: usize,
@@ -135,7 +141,7 @@ pub(crate) fn kind_at(
 
 /// The type of constants that a type is, by its aliases.
 #[tactic(auto, unfolding(crate::specs::Kinds::kind_found), using(crate::proofs::Rooms::kind_more, crate::proofs::Rooms::kind_done))]
-fn kind_found(cx: &Context<'_>, found: Option<Found>) -> Option<Kind>
+fn kind_found(cx: &Context<'_, '_>, found: Option<Found>) -> Option<Kind>
     ensures { result ≡ kind_found cx.now.items.now cx.now.scope.now found }
 {
     let mut found = found;
@@ -156,7 +162,7 @@ fn kind_found(cx: &Context<'_>, found: Option<Found>) -> Option<Kind>
 }
 
 /// The type of an expression, where its parts tell it.
-pub(crate) fn kind_of(cx: &Context<'_>, setting: Setting<'_>, expr: &Expr) -> Option<Kind>
+pub(crate) fn kind_of(cx: &Context<'_, '_>, setting: Setting<'_>, expr: &Expr) -> Option<Kind>
     ensures { result ≡ kind_of cx.now.items.now cx.now.scope.now (where_of setting.entry) expr.now }
 {
     match expr {
@@ -190,7 +196,7 @@ pub(crate) fn kind_of(cx: &Context<'_>, setting: Setting<'_>, expr: &Expr) -> Op
 
 /// The type of the constant that a path names.
 #[tactic(auto, unfolding(crate::specs::Kinds::path_kind))]
-fn kind_of_path(cx: &Context<'_>, setting: Setting<'_>, path: &Path) -> Option<Kind>
+fn kind_of_path(cx: &Context<'_, '_>, setting: Setting<'_>, path: &Path) -> Option<Kind>
     ensures { result ≡ path_kind cx.now.items.now cx.now.scope.now (where_of setting.entry) path.now }
 {
     if let Some(name) = single_name(path) {
@@ -206,7 +212,7 @@ fn kind_of_path(cx: &Context<'_>, setting: Setting<'_>, path: &Path) -> Option<K
 
 /// The type of the constant of this number.
 #[tactic(auto, unfolding(crate::specs::Kinds::constant_type))]
-pub(crate) fn kind_of_constant(cx: &Context<'_>, number: u32) -> Option<Kind>
+pub(crate) fn kind_of_constant(cx: &Context<'_, '_>, number: u32) -> Option<Kind>
     ensures { result ≡ constant_type cx.now.items.now cx.now.scope.now number }
 {
     let item = item_at(cx.items, number)?;
@@ -219,8 +225,9 @@ pub(crate) fn kind_of_constant(cx: &Context<'_>, number: u32) -> Option<Kind>
 }
 
 /// The type of a limit that a path names, as `T::BITS`.
-fn kind_of_limit(cx: &Context<'_>, setting: Setting<'_>, path: &Path) -> Option<Kind>
-    ensures { result ≡ limit_type cx.now.items.now cx.now.scope.now (where_of setting.entry) path.now (last_name path.now) }
+fn kind_of_limit(cx: &Context<'_, '_>, setting: Setting<'_>, path: &Path) -> Option<Kind>
+    ensures { result
+        ≡ limit_type cx.now.items.now cx.now.scope.now (where_of setting.entry) path.now (last_name path.now) }
 {
     let last = path.segments.last()?;
     if cx.scope.words.is(last.name, Word::Bits) {
@@ -231,7 +238,7 @@ fn kind_of_limit(cx: &Context<'_>, setting: Setting<'_>, path: &Path) -> Option<
 
 /// The type of an item's constant parameter.
 #[tactic(auto, unfolding(crate::specs::Kinds::parameter_type))]
-fn kind_of_parameter(cx: &Context<'_>, item: Option<u32>, index: usize) -> Option<Kind>
+fn kind_of_parameter(cx: &Context<'_, '_>, item: Option<u32>, index: usize) -> Option<Kind>
     ensures { result ≡ parameter_type cx.now.items.now cx.now.scope.now item index }
 {
     let item = item_at(cx.items, item?)?;
@@ -284,14 +291,15 @@ pub(crate) fn is_shift(operator: Binary) -> bool
 
 /// The type that an operator's first operand has to have, where one is known.
 pub(crate) fn operand_kind(
-    cx: &Context<'_>,
+    cx: &Context<'_, '_>,
     setting: Setting<'_>,
     operator: Binary,
     left: &Expr,
     right: &Expr,
     wanted: Option<Kind>,
 ) -> Option<Kind>
-    ensures { result ≡ operand_kind cx.now.items.now cx.now.scope.now (where_of setting.entry) operator left.now right.now wanted }
+    ensures { result
+        ≡ operand_kind cx.now.items.now cx.now.scope.now (where_of setting.entry) operator left.now right.now wanted }
 {
     if !is_test(operator) && wanted.is_some() {
         return wanted;

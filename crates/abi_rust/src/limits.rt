@@ -1,5 +1,14 @@
 //! The limits of integer types, as constants name them.
 
+ghost use Rattle.std.specs.Prelude.{◌≡◌};
+ghost use Rattle.std.specs.Option.{option_map};
+ghost use Rattle.rust_source.specs.declared.syntax.Segment.{out-Segment};
+ghost use Rattle.abi_rust.specs.Evaluating.{limit, limit_named, limit_of, unknown_of};
+ghost use Rattle.abi_rust.specs.Kinds.{kind_at};
+ghost use Rattle.abi_rust.specs.Meaning.{Answers};
+ghost use Rattle.abi_rust.specs.Types.{where_of};
+ghost use Rattle.abi_rust.specs.Values.{value_of};
+
 use crate::fault::{FaultKind, Stop, stop_at};
 use crate::int::{Int, Width};
 use crate::kind::kind_at;
@@ -7,57 +16,69 @@ use crate::paths::{Found, Space, find_of};
 use crate::ty::{Kind, Value};
 use crate::words::Word;
 use crate::work::{Context, Setting};
-use rust_source::{IntegerKind, Path, Segment, Unevaluated};
+use rust_source::{IntegerKind, Path, Symbol, Unevaluated};
 
 /// `T::MAX`, `T::MIN` or `T::BITS` of an integer type.
-pub(crate) fn limit(cx: &Context<'_>, setting: Setting<'_>, path: &Path) -> Result<Value, Stop> {
+#[tactic(auto, unfolding(crate::specs::Evaluating::limit))]
+pub(crate) fn limit(cx: &Context<'_, '_>, setting: Setting<'_>, path: &Path) -> Result<Value, Stop>
+    ensures { Answers value_of (limit cx.now (where_of setting.entry) path.now) result }
+{
     let count = path.segments.len().saturating_sub(1);
-    let Some(last) = path.segments.get(count) else {
+    let Some(last) = path.segments.last() else {
         return Err(Stop::Fault(None, FaultKind::Unevaluated(Unevaluated::Expression)));
     };
-    if count > 0 {
-        if let Some(Kind::Integer(kind)) = kind_at(cx, setting, path, count) {
-            if let Some(value) = limit_named(cx, kind, last) {
-                return Ok(value);
-            }
-        }
-        return Err(stop_at(last.at, unknown_of(cx, setting, path, count, last)));
+    if count == 0 {
+        return Err(stop_at(last.at, FaultKind::UnknownConstant(last.name)));
     }
-    Err(stop_at(last.at, FaultKind::UnknownConstant(last.name)))
+    match limit_of(cx, kind_at(cx, setting, path, count), last.name) {
+        Some(value) => Ok(value),
+        None => Err(stop_at(
+            last.at,
+            unknown_of(cx, setting.module, path, count, last.name),
+        )),
+    }
+}
+
+/// The limit of this name of a type, if it is an integer's.
+fn limit_of(cx: &Context<'_, '_>, kind: Option<Kind>, name: Symbol) -> Option<Value>
+    ensures { option_map value_of result ≡ limit_of cx.now name kind }
+{
+    match kind {
+        Some(Kind::Integer(kind)) => limit_named(cx, kind, name),
+        _ => None,
+    }
 }
 
 /// What is wrong with a path whose last name is no constant's.
+#[tactic(auto, unfolding(crate::specs::Evaluating::unknown_of))]
 fn unknown_of(
-    cx: &Context<'_>,
-    setting: Setting<'_>,
+    cx: &Context<'_, '_>,
+    module: u32,
     path: &Path,
     count: usize,
-    last: &Segment,
-) -> FaultKind {
-    match find_of(
-        cx.items,
-        cx.scope,
-        setting.module,
-        path,
-        count,
-        Space::Types,
-    ) {
-        Some(Found::Module(_)) => FaultKind::UnknownConstant(last.name),
+    name: Symbol,
+) -> FaultKind
+    ensures { result ≡ unknown_of cx.now «module» path.now count name }
+{
+    match find_of(cx.items, cx.scope, module, path, count, Space::Types) {
+        Some(Found::Module(_)) => FaultKind::UnknownConstant(name),
         _ => FaultKind::Unevaluated(Unevaluated::Associated),
     }
 }
 
 /// The limit of this name of an integer type.
-fn limit_named(cx: &Context<'_>, kind: IntegerKind, last: &Segment) -> Option<Value> {
+fn limit_named(cx: &Context<'_, '_>, kind: IntegerKind, name: Symbol) -> Option<Value>
+    ensures { option_map value_of result ≡ limit_named cx.now kind name }
+{
     let width = Width::of(kind, cx.pointer_bits);
     let words = cx.scope.words;
-    if words.is(last.name, Word::Max) {
+    if words.is(name, Word::Max) {
         return Some(Value::Integer(kind, width.max()));
     }
-    if words.is(last.name, Word::Min) {
+    if words.is(name, Word::Min) {
         return Some(Value::Integer(kind, width.min()));
     }
-    if words.is(last.name, Word::Bits) {
+    if words.is(name, Word::Bits) {
         let bits = Int::positive(u128::from(width.bits));
         return Some(Value::Integer(IntegerKind::U32, bits));
     }

@@ -1,5 +1,11 @@
 //! Literals' values.
 
+ghost use Rattle.std.specs.Prelude.{◌≡◌};
+ghost use Rattle.abi_rust.specs.Evaluating.{inner_kind, literal, literal_kind};
+ghost use Rattle.abi_rust.specs.Int.{number_of};
+ghost use Rattle.abi_rust.specs.Meaning.{Answers};
+ghost use Rattle.abi_rust.specs.Values.{value_of};
+
 use crate::fault::{FaultKind, Stop, stop_at};
 use crate::int::{Int, Width};
 use crate::operators::fitting;
@@ -8,31 +14,44 @@ use crate::ty::{Kind, Value};
 use crate::work::Context;
 use rust_source::{Expr, IntegerKind, Place};
 
+/// The type of a literal: of its suffix, the one that is wanted, or an `i32`.
+fn literal_kind(suffix: Option<IntegerKind>, wanted: Option<Kind>) -> Option<IntegerKind>
+    ensures { result ≡ literal_kind suffix wanted }
+{
+    match suffix {
+        Some(kind) => Some(kind),
+        None => match wanted {
+            Some(Kind::Integer(kind)) => Some(kind),
+            Some(_) => None,
+            None => Some(IntegerKind::I32),
+        },
+    }
+}
+
 /// A literal's value: of the type of its suffix, of the one that is wanted, or an `i32`.
 pub(crate) fn literal(
-    cx: &Context<'_>,
+    cx: &Context<'_, '_>,
     int: Int,
     suffix: Option<IntegerKind>,
     wanted: Option<Kind>,
     at: Place,
-) -> Result<Value, Stop> {
-    let kind = match suffix {
-        Some(kind) => kind,
-        None => match wanted {
-            Some(Kind::Integer(kind)) => kind,
-            Some(_) => return Err(stop_at(at, FaultKind::WrongType)),
-            None => IntegerKind::I32,
-        },
+) -> Result<Value, Stop>
+    ensures { Answers value_of (literal cx.now.pointer_bits (number_of int) suffix wanted at) result }
+{
+    let Some(kind) = literal_kind(suffix, wanted) else {
+        return Err(stop_at(at, FaultKind::WrongType));
     };
     let width = Width::of(kind, cx.pointer_bits);
-    if int.is_negative && !width.is_signed {
+    if int.is_below(Int::positive(0)) && !width.is_signed {
         return Err(stop_at(at, FaultKind::WrongType));
     }
     at_place(at, fitting(kind, width, Some(int)))
 }
 
 /// The type that a literal has behind which a cast to a type stands.
-pub(crate) fn inner_kind(operand: &Expr, kind: Kind) -> Option<Kind> {
+pub(crate) fn inner_kind(operand: &Expr, kind: Kind) -> Option<Kind>
+    ensures { result ≡ inner_kind kind operand.now }
+{
     match operand {
         Expr::Integer(_, _, _) => match kind {
             Kind::Char => Some(Kind::Integer(IntegerKind::U8)),

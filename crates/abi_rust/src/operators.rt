@@ -1,7 +1,10 @@
 //! What operators make of values.
 
-ghost use Rattle.std.specs.Prelude.{IfOk};
-ghost use Rattle.abi_rust.specs.Values.{IsNumberOf};
+ghost use Rattle.std.specs.Prelude.{◌≡◌, IfNone, IfOk, IfSome, Err, pos, unsigned_abs, ◌%◌};
+ghost use Rattle.std.specs.Option.{option_map};
+ghost use Rattle.abi_rust.specs.Int.{number_of};
+ghost use Rattle.abi_rust.specs.Operators.{as_code, binary_of, bits_of_value, cast_of, divided, fitted, is_settled, number_of_kind, number_of_truth, of_numbers, of_two, of_truths, order_of, same_integer, same_kind, seen, shifted_left, shifted_right, unary_of};
+ghost use Rattle.abi_rust.specs.Values.{IsNumberOf, value_of};
 
 use crate::fault::FaultKind;
 use crate::int::{Int, Width};
@@ -10,7 +13,10 @@ use rust_source::{Binary, IntegerKind, Unary};
 
 /// A number, where it fits the type.
 pub(crate) fn fitting(kind: IntegerKind, width: Width, int: Option<Int>) -> Result<Value, FaultKind>
-    ensures { IfOk result (λ value. IsNumberOf kind int value) }
+    ensures number { IfOk result (λ value. IsNumberOf kind int value) }
+    ensures fits { IfSome int (λ i. seen value_of result
+        ≡ fitted kind width.is_signed width.bits (number_of i)) }
+    ensures none { IfNone int (result ≡ Err (FaultKind.Overflow kind)) }
 {
     match int {
         Some(int) => {
@@ -25,7 +31,9 @@ pub(crate) fn fitting(kind: IntegerKind, width: Width, int: Option<Int>) -> Resu
 }
 
 /// What an operator before its operand makes of it.
-pub(crate) fn unary(operator: Unary, value: Value, pointer_bits: u32) -> Result<Value, FaultKind> {
+pub(crate) fn unary(operator: Unary, value: Value, pointer_bits: u32) -> Result<Value, FaultKind>
+    ensures { seen value_of result ≡ unary_of pointer_bits operator (value_of value) }
+{
     match (operator, value) {
         (Unary::Not, Value::Bool(truth)) => Ok(Value::Bool(!truth)),
         (Unary::Not, Value::Integer(kind, int)) => {
@@ -44,7 +52,9 @@ pub(crate) fn unary(operator: Unary, value: Value, pointer_bits: u32) -> Result<
 }
 
 /// Whether the first operand decides: `false && ..`, `true || ..`.
-pub(crate) fn is_settled(operator: Binary, first: Value) -> bool {
+pub(crate) fn is_settled(operator: Binary, first: Value) -> bool
+    ensures { result ≡ is_settled operator (value_of first) }
+{
     match (operator, first) {
         (Binary::And, Value::Bool(false)) => true,
         (Binary::Or, Value::Bool(true)) => true,
@@ -58,7 +68,9 @@ pub(crate) fn binary(
     left: Value,
     right: Value,
     pointer_bits: u32,
-) -> Result<Value, FaultKind> {
+) -> Result<Value, FaultKind>
+    ensures { seen value_of result ≡ binary_of pointer_bits operator (value_of left) (value_of right) }
+{
     match (left, right) {
         (Value::Bool(a), Value::Bool(b)) => of_bools(operator, a, b),
         (Value::Char(a), Value::Char(b)) => {
@@ -67,38 +79,38 @@ pub(crate) fn binary(
         }
         (Value::Integer(kind, a), Value::Integer(other, b)) => {
             let width = Width::of(kind, pointer_bits);
-            if let Some(shifted) = of_shift(operator, kind, width, a, b) {
-                return shifted;
-            }
-            if kind != other {
-                return Err(FaultKind::WrongType);
-            }
-            of_integers(operator, kind, width, a, b)
+            of_two(operator, width, kind, other, a, b)
         }
         _ => Err(FaultKind::WrongType),
     }
 }
 
 /// What an operator makes of truths.
-fn of_bools(operator: Binary, a: bool, b: bool) -> Result<Value, FaultKind> {
+fn of_bools(operator: Binary, a: bool, b: bool) -> Result<Value, FaultKind>
+    ensures { seen value_of result ≡ of_truths operator a b }
+{
     match operator {
         Binary::And | Binary::BitAnd => Ok(Value::Bool(a && b)),
         Binary::Or | Binary::BitOr => Ok(Value::Bool(a || b)),
-        Binary::BitXor => Ok(Value::Bool(a != b)),
+        Binary::BitXor => Ok(Value::Bool(if a { !b } else { b })),
         _ => of_order(operator, of_truth(a), of_truth(b)),
     }
 }
 
 /// A truth as a number.
-fn of_truth(truth: bool) -> Int {
+fn of_truth(truth: bool) -> Int
+    ensures { number_of result ≡ pos (number_of_truth truth) }
+{
     Int::positive(u128::from(truth))
 }
 
 /// What a comparison tells.
-fn of_order(operator: Binary, a: Int, b: Int) -> Result<Value, FaultKind> {
+fn of_order(operator: Binary, a: Int, b: Int) -> Result<Value, FaultKind>
+    ensures { seen value_of result ≡ order_of operator (number_of a) (number_of b) }
+{
     match operator {
-        Binary::Equal => Ok(Value::Bool(a == b)),
-        Binary::NotEqual => Ok(Value::Bool(a != b)),
+        Binary::Equal => Ok(Value::Bool(!a.is_below(b) && !b.is_below(a))),
+        Binary::NotEqual => Ok(Value::Bool(a.is_below(b) || b.is_below(a))),
         Binary::Less => Ok(Value::Bool(a.is_below(b))),
         Binary::LessOrEqual => Ok(Value::Bool(!b.is_below(a))),
         Binary::Greater => Ok(Value::Bool(b.is_below(a))),
@@ -107,29 +119,58 @@ fn of_order(operator: Binary, a: Int, b: Int) -> Result<Value, FaultKind> {
     }
 }
 
-/// What a shift makes of numbers. None for what is no shift.
-fn of_shift(
+/// The number times two to the power, of which the lowest bits stay.
+fn shifted_left(kind: IntegerKind, width: Width, a: Int, b: Int) -> Result<Value, FaultKind>
+    ensures { seen value_of result
+        ≡ shifted_left kind width.is_signed width.bits (number_of a) (number_of b) }
+{
+    fitting(kind, width, a.shifted_left(width, b))
+}
+
+/// The number over two to the power, cut downwards.
+fn shifted_right(kind: IntegerKind, width: Width, a: Int, b: Int) -> Result<Value, FaultKind>
+    ensures { seen value_of result
+        ≡ shifted_right kind width.is_signed width.bits (number_of a) (number_of b) }
+{
+    fitting(kind, width, a.shifted_right(width, b))
+}
+
+/// What an operator makes of two numbers, of two types for a shift alone.
+fn of_two(
     operator: Binary,
-    kind: IntegerKind,
     width: Width,
+    kind: IntegerKind,
+    other: IntegerKind,
     a: Int,
     b: Int,
-) -> Option<Result<Value, FaultKind>> {
+) -> Result<Value, FaultKind>
+    ensures { seen value_of result
+        ≡ of_two operator width.is_signed width.bits kind other (number_of a) (number_of b) }
+{
     match operator {
-        Binary::Shl => Some(fitting(kind, width, a.shifted_left(width, b))),
-        Binary::Shr => Some(fitting(kind, width, a.shifted_right(width, b))),
-        _ => None,
+        Binary::Shl => shifted_left(kind, width, a, b),
+        Binary::Shr => shifted_right(kind, width, a, b),
+        _ => {
+            if !same_integer(kind, other) {
+                return Err(FaultKind::WrongType);
+            }
+            of_integers(operator, kind, width, a, b)
+        }
     }
 }
 
 /// What an operator makes of two numbers of one type.
+#[tactic(auto, using(crate::proofs::Numbers::too_wide))]
 fn of_integers(
     operator: Binary,
     kind: IntegerKind,
     width: Width,
     a: Int,
     b: Int,
-) -> Result<Value, FaultKind> {
+) -> Result<Value, FaultKind>
+    ensures { seen value_of result
+        ≡ of_numbers operator kind width.is_signed width.bits (number_of a) (number_of b) }
+{
     match operator {
         Binary::Add => fitting(kind, width, a.plus(b)),
         Binary::Sub => fitting(kind, width, a.plus(b.negated())),
@@ -144,7 +185,9 @@ fn of_integers(
 }
 
 /// The quotient, cut towards zero.
-fn divided(kind: IntegerKind, width: Width, a: Int, b: Int) -> Result<Value, FaultKind> {
+fn divided(kind: IntegerKind, width: Width, a: Int, b: Int) -> Result<Value, FaultKind>
+    ensures { seen value_of result ≡ divided kind width.is_signed width.bits (number_of a) (number_of b) }
+{
     match a.over(b) {
         Some(quotient) => fitting(kind, width, Some(quotient)),
         None => Err(FaultKind::DivisionByZero),
@@ -152,7 +195,10 @@ fn divided(kind: IntegerKind, width: Width, a: Int, b: Int) -> Result<Value, Fau
 }
 
 /// What the quotient leaves. It overflows where the quotient does.
-fn remainder(kind: IntegerKind, width: Width, a: Int, b: Int) -> Result<Value, FaultKind> {
+fn remainder(kind: IntegerKind, width: Width, a: Int, b: Int) -> Result<Value, FaultKind>
+    ensures { seen value_of result
+        ≡ of_numbers Binary.Rem kind width.is_signed width.bits (number_of a) (number_of b) }
+{
     let _quotient = divided(kind, width, a, b)?;
     match a.left_over(b) {
         Some(rest) => fitting(kind, width, Some(rest)),
@@ -161,30 +207,73 @@ fn remainder(kind: IntegerKind, width: Width, a: Int, b: Int) -> Result<Value, F
 }
 
 /// The lowest byte of a number that isn't negative.
-fn low_byte(int: Int) -> u32 {
+fn low_byte(int: Int) -> u32
+    ensures { result ≡ unsigned_abs (number_of int) % 256 }
+{
     u32::try_from(int.magnitude % 256).unwrap_or(0)
 }
 
-/// What a cast makes of a value.
-pub(crate) fn cast(value: Value, kind: Kind, pointer_bits: u32) -> Result<Value, FaultKind> {
-    let bits = match value {
-        Value::Bool(truth) => u128::from(truth),
+/// A value's bits.
+fn bits_of(value: Value) -> u128
+    ensures { result ≡ bits_of_value (value_of value) }
+{
+    match value {
+        Value::Bool(truth) => of_truth(truth).bits(),
         Value::Char(code) => u128::from(code),
         Value::Integer(_, int) => int.bits(),
-    };
+    }
+}
+
+/// What a cast to a character makes of a value: of one, and of a byte.
+fn as_code(value: Value) -> Result<Value, FaultKind>
+    ensures { seen value_of result ≡ as_code (value_of value) }
+{
+    match value {
+        Value::Char(code) => Ok(Value::Char(code)),
+        Value::Integer(IntegerKind::U8, int) => Ok(Value::Char(low_byte(int))),
+        _ => Err(FaultKind::WrongType),
+    }
+}
+
+/// What a cast makes of a value.
+pub(crate) fn cast(value: Value, kind: Kind, pointer_bits: u32) -> Result<Value, FaultKind>
+    ensures { seen value_of result ≡ cast_of pointer_bits kind (value_of value) }
+{
     match kind {
         Kind::Integer(wanted) => {
             let width = Width::of(wanted, pointer_bits);
-            Ok(Value::Integer(wanted, width.wrap(bits)))
+            Ok(Value::Integer(wanted, width.wrap(bits_of(value))))
         }
-        Kind::Char => match value {
-            Value::Char(code) => Ok(Value::Char(code)),
-            Value::Integer(IntegerKind::U8, int) => Ok(Value::Char(low_byte(int))),
-            _ => Err(FaultKind::WrongType),
-        },
+        Kind::Char => as_code(value),
         Kind::Bool => match value {
             Value::Bool(truth) => Ok(Value::Bool(truth)),
             _ => Err(FaultKind::WrongType),
         },
+    }
+}
+
+/// An integer type's number among them.
+fn number_of_kind(kind: IntegerKind) -> u8
+    ensures { result ≡ number_of_kind kind }
+{
+    kind as u8
+}
+
+/// Whether two integer types are one.
+pub(crate) fn same_integer(a: IntegerKind, b: IntegerKind) -> bool
+    ensures { result ≡ same_integer a b }
+{
+    number_of_kind(a) == number_of_kind(b)
+}
+
+/// Whether two types of constants are one.
+pub(crate) fn same_kind(a: Kind, b: Kind) -> bool
+    ensures { result ≡ same_kind a b }
+{
+    match (a, b) {
+        (Kind::Bool, Kind::Bool) => true,
+        (Kind::Char, Kind::Char) => true,
+        (Kind::Integer(a), Kind::Integer(b)) => same_integer(a, b),
+        _ => false,
     }
 }

@@ -284,7 +284,8 @@ fn follow_names(
     space: Space,
     room: u32,
 ) -> Option<Found>
-    ensures { result ≡ path_named items.now scope.now (target items.now scope.now room) (length used.now.path.items)
+    ensures { result
+        ≡ path_named items.now scope.now (target items.now scope.now room) (length used.now.path.items)
         used.now.«module» used.now.is_global space (Some number) (map (λ n. n.name) used.now.path.items) }
 {
     let mut left = used.path.len().checked_sub(1)?;
@@ -330,7 +331,8 @@ fn first(
     skipped: Option<u32>,
     room: u32,
 ) -> Option<Found>
-    ensures { result ≡ first items.now scope.now (target items.now scope.now room) «module» name is_global space skipped }
+    ensures { result
+        ≡ first items.now scope.now (target items.now scope.now room) «module» name is_global space skipped }
 {
     if name == Symbol::CRATE {
         return Some(Found::Module(root_of(items, module)));
@@ -394,7 +396,8 @@ fn within(
     skipped: Option<u32>,
     room: u32,
 ) -> Option<Found>
-    ensures { result ≡ within items.now scope.now (target items.now scope.now room) «module» name space skipped }
+    ensures { result
+        ≡ within items.now scope.now (target items.now scope.now room) «module» name space skipped }
 {
     if let Some(found) = own(items, scope, module, name, space, skipped, room) {
         return Some(found);

@@ -1,6 +1,10 @@
 //! Where expressions stand, and faults in them.
 
 ghost use Rattle.std.specs.Prelude.{◌≡◌};
+ghost use Rattle.abi_rust.specs.Evaluating.{made_at};
+ghost use Rattle.abi_rust.specs.Meaning.{Answers};
+ghost use Rattle.abi_rust.specs.Operators.{seen};
+ghost use Rattle.abi_rust.specs.Values.{value_of};
 ghost use Rattle.abi_rust.specs.Places.{place_of, place_of_path};
 
 use crate::fault::{FaultKind, Stop, stop_at};
@@ -37,7 +41,9 @@ pub(crate) fn place_of_path(path: &Path) -> Place
 }
 
 /// A fault at a place, where there is one.
-pub(crate) fn at_place(at: Place, found: Result<Value, FaultKind>) -> Result<Value, Stop> {
+pub(crate) fn at_place(at: Place, found: Result<Value, FaultKind>) -> Result<Value, Stop>
+    ensures { Answers value_of (made_at at (seen value_of found)) result }
+{
     match found {
         Ok(value) => Ok(value),
         Err(kind) => Err(stop_at(at, kind)),

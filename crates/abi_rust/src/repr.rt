@@ -1,18 +1,23 @@
 //! What a `repr` asks for, as the layout takes it.
 
-ghost use Rattle.std.specs.Prelude.{◌≡◌};
-ghost use Rattle.abi_rust.specs.Reprs.{asks_beside, enum_fault, fields_fault};
+ghost use Rattle.std.specs.Prelude.{◌≡◌, None};
+ghost use Rattle.std.specs.Option.{option_map};
+ghost use Rattle.abi_rust.specs.Scalars.{type_of_kind};
+ghost use Rattle.abi_rust.specs.Meaning.{Answers};
+ghost use Rattle.abi_rust.specs.Reprs.{alignment_in, asks_beside, enum_fault, fields_fault, flags_of, plain, repr_by, repr_fault, repr_of};
 
 use crate::fault::{FaultKind, Stop, stop_at};
 use crate::scalars::integer_type;
-use abi_base::Align;
+use abi_base::{Align, IntegerType};
 use abi_index::Hash64;
 use abi_scalar::{ReprFlags, ReprOptions};
 use bitflags::Flags;
-use rust_source::{Item, ItemKind, Place, Repr};
+use rust_source::{IntegerKind, Item, ItemKind, Place, Repr};
 
 /// What asks for nothing.
-pub(crate) fn plain() -> ReprOptions {
+pub(crate) fn plain() -> ReprOptions
+    ensures { result ≡ plain }
+{
     ReprOptions {
         int: None,
         align: None,
@@ -24,34 +29,67 @@ pub(crate) fn plain() -> ReprOptions {
 }
 
 /// What an item's repr asks for, or the fault that the compiler finds in it.
-pub(crate) fn repr_of(item: &Item) -> Result<ReprOptions, Stop> {
+#[tactic(auto, unfolding(crate::specs::Reprs::repr_of))]
+pub(crate) fn repr_of(item: &Item) -> Result<ReprOptions, Stop>
+    ensures { Answers (λ repr. repr) (repr_of item.now) result }
+{
     let repr = &item.repr;
-    let at = match repr.at {
-        Some(at) => at,
-        None => return Ok(plain()),
+    let Some(at) = repr.at else {
+        return Ok(plain());
     };
-    if let Some(fault) = fault_of(repr, &item.kind) {
-        return Err(stop_at(at, fault));
+    match fault_of(repr, &item.kind) {
+        Some(fault) => Err(stop_at(at, fault)),
+        None => options_of(repr, at),
     }
-    let mut flags = ReprFlags::default();
-    if repr.c {
-        flags = flags.union(ReprFlags::IS_C);
-    }
-    if repr.transparent {
-        flags = flags.union(ReprFlags::IS_TRANSPARENT);
-    }
+}
+
+/// What a repr asks for in which the compiler finds no fault.
+fn options_of(repr: &Repr, at: Place) -> Result<ReprOptions, Stop>
+    ensures { Answers (λ repr. repr) (repr_by at repr.now None) result }
+{
+    let align = alignment(repr.align, at)?;
+    let pack = alignment(repr.packed, at)?;
     Ok(ReprOptions {
-        int: repr.integer.map(|kind| integer_type(kind)),
-        align: alignment(repr.align, at)?,
-        pack: alignment(repr.packed, at)?,
-        flags,
+        int: integer_in(repr.integer),
+        align,
+        pack,
+        flags: flags_of(repr),
         scalable: None,
         field_shuffle_seed: Hash64::ZERO,
     })
 }
 
+/// The integer type that is asked for, if one is.
+fn integer_in(kind: Option<IntegerKind>) -> Option<IntegerType>
+    ensures { result ≡ option_map type_of_kind kind }
+{
+    match kind {
+        Some(kind) => Some(integer_type(kind)),
+        None => None,
+    }
+}
+
+/// The words of a repr that are set or not.
+fn flags_of(repr: &Repr) -> ReprFlags
+    ensures { result ≡ flags_of repr.now }
+{
+    let c = if repr.c {
+        ReprFlags::IS_C
+    } else {
+        ReprFlags::default()
+    };
+    let transparent = if repr.transparent {
+        ReprFlags::IS_TRANSPARENT
+    } else {
+        ReprFlags::default()
+    };
+    c.union(transparent)
+}
+
 /// An alignment of so many bytes.
-fn alignment(bytes: Option<u64>, at: Place) -> Result<Option<Align>, Stop> {
+fn alignment(bytes: Option<u64>, at: Place) -> Result<Option<Align>, Stop>
+    ensures { Answers (λ align. align) (alignment_in at bytes) result }
+{
     let Some(bytes) = bytes else {
         return Ok(None);
     };
@@ -65,7 +103,9 @@ fn alignment(bytes: Option<u64>, at: Place) -> Result<Option<Align>, Stop> {
 }
 
 /// What the compiler finds wrong with a repr on a kind of item.
-fn fault_of(repr: &Repr, kind: &ItemKind) -> Option<FaultKind> {
+fn fault_of(repr: &Repr, kind: &ItemKind) -> Option<FaultKind>
+    ensures { result ≡ repr_fault repr.now kind.now }
+{
     if repr.simd {
         return Some(FaultKind::Simd);
     }

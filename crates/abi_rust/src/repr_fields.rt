@@ -1,15 +1,19 @@
 //! What a `repr` asks of the fields of a type.
 
+ghost use Rattle.std.specs.Prelude.{◌≡◌, true};
+ghost use Rattle.abi_rust.specs.Aligned.{aligning, any_aligned, any_fields, any_written, discriminants_checked, fields_aligned, packed_checked, place_of_repr, type_aligned};
+ghost use Rattle.abi_rust.specs.Meaning.{Answers};
+
 use crate::fault::{FaultKind, Stop, stop_at};
-use crate::paths::{Found, Space, find, root_of};
+use crate::paths::{Found, found_by, item_at, root_of};
 use crate::told::size_and_align;
 use crate::work::{Context, Work, less};
 use abi_laid::TypeTree;
-use rust_source::{Enum, Fields, Item, ItemKind, Place, Type};
+use rust_source::{Enum, Field, Fields, Item, ItemKind, Place, Type, Variant};
 
 /// A fault where a transparent type has more than one field that takes room or is aligned to more than a byte.
 pub(crate) fn check_transparent(
-    cx: &Context<'_>,
+    cx: &Context<'_, '_>,
     item: &Item,
     fields: &[TypeTree],
 ) -> Result<(), Stop> {
@@ -29,7 +33,9 @@ pub(crate) fn check_transparent(
 }
 
 /// Where an item's repr stands, or its name where it has none.
-fn place_of(item: &Item) -> Place {
+fn place_of(item: &Item) -> Place
+    ensures { result ≡ place_of_repr item.now }
+{
     match item.repr.at {
         Some(at) => at,
         None => item.at,
@@ -39,14 +45,20 @@ fn place_of(item: &Item) -> Place {
 /// A fault where a packed struct or union has a field whose type has `align`, or a field of which has. What parameters
 /// are given isn't looked at, nor what stands in the standard library's types, in arrays, tuples and enums, as in the
 /// compiler.
+#[tactic(auto, unfolding(crate::specs::Aligned::packed_checked))]
 pub(crate) fn check_packed<'a>(
-    cx: &Context<'a>,
+    cx: &Context<'a, '_>,
     work: &mut Work<'a>,
     item: &Item,
     fields: &Fields,
     room: u32,
-) -> Result<(), Stop> {
-    if item.repr.packed.is_some() && has_aligned(cx, work, item.module, fields, room)? {
+) -> Result<(), Stop>
+    ensures { Answers (λ _. true) (packed_checked cx.now room item.now fields.now.all.items) result }
+{
+    if item.repr.packed.is_none() {
+        return Ok(());
+    }
+    if has_aligned(cx, work, item.module, fields.all.as_slice(), room)? {
         return Err(stop_at(place_of(item), FaultKind::AlignedInPacked));
     }
     Ok(())
@@ -54,15 +66,33 @@ pub(crate) fn check_packed<'a>(
 
 /// Whether a field that is written in a module has `align` in its type, or in a field of that.
 #[cycle(aligning)]
+#[tactic(auto, using(crate::proofs::Aligned::fields_less, crate::proofs::Aligned::fields_none))]
 fn has_aligned<'a>(
-    cx: &Context<'a>,
+    cx: &Context<'a, '_>,
     work: &mut Work<'a>,
     module: u32,
-    fields: &Fields,
+    fields: &[Field],
     room: u32,
-) -> Result<bool, Stop> {
+) -> Result<bool, Stop>
+    ensures { Answers (λ is. is) ((aligning cx.now room).of_fields «module» fields.now) result }
+{
     let room = less(room)?;
-    for field in &fields.all {
+    any_aligned(cx, work, module, fields, room)
+}
+
+/// The same, within less room.
+#[cycle(aligning)]
+#[tactic(auto, using(crate::proofs::Aligned::aligned_more, crate::proofs::Aligned::aligned_done))]
+fn any_aligned<'a>(
+    cx: &Context<'a, '_>,
+    work: &mut Work<'a>,
+    module: u32,
+    fields: &[Field],
+    room: u32,
+) -> Result<bool, Stop>
+    ensures { Answers (λ is. is) (any_aligned cx.now (aligning cx.now room) «module» fields.now) result }
+{
+    for field in fields {
         if is_aligned(cx, work, module, &field.ty, room)? {
             return Ok(true);
         }
@@ -72,42 +102,75 @@ fn has_aligned<'a>(
 
 /// Whether a type that is written in a module has `align`, or a field of it has.
 #[cycle(aligning)]
+#[tactic(auto, using(crate::proofs::Aligned::type_less, crate::proofs::Aligned::type_none))]
 fn is_aligned<'a>(
-    cx: &Context<'a>,
+    cx: &Context<'a, '_>,
     work: &mut Work<'a>,
     module: u32,
     ty: &Type,
     room: u32,
-) -> Result<bool, Stop> {
+) -> Result<bool, Stop>
+    ensures { Answers (λ is. is) ((aligning cx.now room).of_type «module» ty.now) result }
+{
     work.spend()?;
     let room = less(room)?;
-    let Type::Path(path) = ty else {
+    is_aligned_with(cx, work, module, ty, room)
+}
+
+/// The same, within less room.
+#[cycle(aligning)]
+#[tactic(auto, unfolding(crate::specs::Aligned::type_aligned))]
+fn is_aligned_with<'a>(
+    cx: &Context<'a, '_>,
+    work: &mut Work<'a>,
+    module: u32,
+    ty: &Type,
+    room: u32,
+) -> Result<bool, Stop>
+    ensures { Answers (λ is. is) (type_aligned cx.now (aligning cx.now room) «module» ty.now) result }
+{
+    let Some(Found::Item(number)) = found_by(cx.items, cx.scope, module, ty) else {
         return Ok(false);
     };
-    let Some(Found::Item(number)) = find(cx.items, cx.scope, module, path, Space::Types) else {
-        return Ok(false);
-    };
-    let Some(item) = cx.items.items.get(number as usize) else {
+    let Some(item) = item_at(cx.items, number) else {
         return Ok(false);
     };
     match &item.kind {
         ItemKind::Alias(ty) => is_aligned(cx, work, item.module, ty, room),
-        ItemKind::Struct(fields) => is_item_aligned(cx, work, item, fields, room),
-        ItemKind::Union(fields) => is_item_aligned(cx, work, item, fields, room),
+        ItemKind::Struct(fields) => is_item_aligned(cx, work, item, fields.all.as_slice(), room),
+        ItemKind::Union(fields) => is_item_aligned(cx, work, item, fields.all.as_slice(), room),
         _ => Ok(false),
     }
 }
 
 /// Whether a struct or a union has `align`, or a field of it has.
 #[cycle(aligning)]
+#[tactic(auto, using(crate::proofs::Aligned::item_less, crate::proofs::Aligned::item_none))]
 fn is_item_aligned<'a>(
-    cx: &Context<'a>,
+    cx: &Context<'a, '_>,
     work: &mut Work<'a>,
     item: &Item,
-    fields: &Fields,
+    fields: &[Field],
     room: u32,
-) -> Result<bool, Stop> {
+) -> Result<bool, Stop>
+    ensures { Answers (λ is. is) ((aligning cx.now room).of_item item.now fields.now) result }
+{
     let room = less(room)?;
+    is_item_aligned_with(cx, work, item, fields, room)
+}
+
+/// The same, within less room.
+#[cycle(aligning)]
+#[tactic(auto, unfolding(crate::specs::Aligned::fields_aligned))]
+fn is_item_aligned_with<'a>(
+    cx: &Context<'a, '_>,
+    work: &mut Work<'a>,
+    item: &Item,
+    fields: &[Field],
+    room: u32,
+) -> Result<bool, Stop>
+    ensures { Answers (λ is. is) (fields_aligned cx.now (aligning cx.now room) item.now fields.now) result }
+{
     if item.repr.align.is_some() {
         return Ok(true);
     }
@@ -117,18 +180,38 @@ fn is_item_aligned<'a>(
     has_aligned(cx, work, item.module, fields, room)
 }
 
+/// Whether a discriminant of these variants is written.
+fn any_written(variants: &[Variant]) -> bool
+    ensures { result ≡ any_written variants.now }
+{
+    for variant in variants {
+        if variant.discriminant.is_some() {
+            return true;
+        }
+    }
+    false
+}
+
+/// Whether one of these variants has fields, or parentheses for them.
+fn any_fields(variants: &[Variant]) -> bool
+    ensures { result ≡ any_fields variants.now }
+{
+    for variant in variants {
+        if variant.fields.is_tuple || !variant.fields.all.is_empty() {
+            return true;
+        }
+    }
+    false
+}
+
 /// A fault where an enum with a discriminant and a variant with fields has no integer as its repr.
-pub(crate) fn check_discriminants(item: &Item, all: &Enum) -> Result<(), Stop> {
+pub(crate) fn check_discriminants(item: &Item, all: &Enum) -> Result<(), Stop>
+    ensures { Answers (λ _. true) (discriminants_checked item.now all.now.variants.items) result }
+{
     if item.repr.integer.is_some() {
         return Ok(());
     }
-    let mut is_written = false;
-    let mut has_fields = false;
-    for variant in &all.variants {
-        is_written = is_written || variant.discriminant.is_some();
-        has_fields = has_fields || variant.fields.is_tuple || !variant.fields.all.is_empty();
-    }
-    if is_written && has_fields {
+    if any_written(all.variants.as_slice()) && any_fields(all.variants.as_slice()) {
         return Err(stop_at(item.at, FaultKind::DiscriminantWithoutRepr));
     }
     Ok(())

@@ -1,13 +1,28 @@
 //! What types mean that are written.
 
+ghost use Rattle.std.specs.Prelude.{◌≡◌, ◌∷◌, ◌++◌, [], Some, drop, length, map};
+ghost use Rattle.std.specs.Option.{option_copied, option_map};
+ghost use Rattle.rust_source.specs.declared.syntax.Argument.{out-Argument};
+ghost use Rattle.rust_source.specs.declared.syntax.Path.{out-Path};
+ghost use Rattle.rust_source.specs.declared.syntax.Segment.{out-Segment};
+ghost use Rattle.rust_source.specs.declared.syntax.«Type».{out-Type};
+ghost use Rattle.abi_rust.specs.Meaning.{Answers};
+ghost use Rattle.abi_rust.specs.Resolving.{argument_given, default_given, first_name, give, given_constant, given_type, inner, is_behind_type, is_self, is_wanted, item_under, item_with, length_by, length_of, named_by, named_type, one_given, path_type, resolver, self_by, tuple_from, type_as_constant, type_given, type_on, type_with, unknown};
+ghost use Rattle.abi_rust.specs.Resolving.{most_deep};
+ghost use Rattle.abi_rust.specs.Types.{all_given, given_of, ty_of, where_of};
+ghost use Rattle.abi_rust.specs.Values.{value_of};
+
 use crate::evaluate::{evaluate, evaluate_path};
 use crate::fault::{FaultKind, Stop, stop_at};
 use crate::kind::{given_named, kind_written, outside, parameter_named, single_name};
+use crate::operators::same_kind;
 use crate::owned::owned_of;
-use crate::paths::{Found, Space, find};
+use crate::paths::{Found, Space, find, item_at};
 use crate::places::{place_of, place_of_path};
 use crate::ty::{Given, Kind, Ty, Value};
-use crate::work::{Context, Setting, Work, copies_of, copy_of, less};
+use crate::work::{
+    Context, Setting, Work, copies_of, copy_of, less, most_deep, push_given, push_ty,
+};
 use rust_source::{
     Argument, Expr, IntegerKind, Item, ItemKind, Parameter, ParameterKind, Path, Place, Segment,
     Symbol, Type, Unevaluated,
@@ -15,27 +30,38 @@ use rust_source::{
 
 /// The type that is written in a setting. `Stop::Size` where a type's size has to be known first.
 #[cycle(resolving)]
+#[tactic(auto, using(crate::proofs::Rooms::resolve_less, crate::proofs::Rooms::resolve_none))]
 pub(crate) fn resolve<'a>(
-    cx: &Context<'a>,
+    cx: &Context<'a, '_>,
     work: &mut Work<'a>,
     setting: Setting<'_>,
     ty: &'a Type,
     room: u32,
-) -> Result<Ty, Stop> {
+) -> Result<Ty, Stop>
+    ensures { Answers ty_of (resolver cx.now room (where_of setting.entry) ty.now) result }
+{
     work.spend()?;
     let room = less(room)?;
+    resolve_with(cx, work, setting, ty, room)
+}
+
+/// The type that is written in a setting, within less room.
+#[cycle(resolving)]
+#[tactic(auto, unfolding(crate::specs::Resolving::type_with))]
+fn resolve_with<'a>(
+    cx: &Context<'a, '_>,
+    work: &mut Work<'a>,
+    setting: Setting<'_>,
+    ty: &'a Type,
+    room: u32,
+) -> Result<Ty, Stop>
+    ensures { Answers ty_of (type_with cx.now (inner cx.now room) (where_of setting.entry) ty.now) result }
+{
     match ty {
         Type::Never => Ok(Ty::Never),
         Type::Function => Ok(Ty::Function),
         Type::Dyn => Ok(Ty::Dyn),
-        Type::Tuple(parts) => {
-            let mut resolved = Vec::new(cx.alloc);
-            for part in parts {
-                let part = resolve(cx, work, setting, part, room)?;
-                resolved.push(part)?;
-            }
-            Ok(Ty::Tuple(resolved))
-        }
+        Type::Tuple(parts) => resolve_tuple(cx, work, setting, parts, room),
         Type::Array(element, count) => {
             let count = length(cx, work, setting, count)?;
             let element = resolve(cx, work, setting, element, room)?;
@@ -58,40 +84,108 @@ pub(crate) fn resolve<'a>(
     }
 }
 
+/// The tuple of these types.
+#[cycle(resolving)]
+#[tactic(auto, using(crate::proofs::Lists::tuple_more, crate::proofs::Lists::tuple_done))]
+fn resolve_tuple<'a>(
+    cx: &Context<'a, '_>,
+    work: &mut Work<'a>,
+    setting: Setting<'_>,
+    parts: &'a [Type],
+    room: u32,
+) -> Result<Ty, Stop>
+    ensures { Answers ty_of
+        (tuple_from cx.now (inner cx.now room) (where_of setting.entry) [] parts.now) result }
+{
+    let mut resolved = Vec::new(cx.alloc);
+    for part in parts {
+        let one = resolve(cx, work, setting, part, room)?;
+        push_ty(&mut resolved, one)?;
+    }
+    Ok(Ty::Tuple(resolved))
+}
+
 /// An array's length.
+#[tactic(auto, unfolding(crate::specs::Resolving::length_of))]
 fn length<'a>(
-    cx: &Context<'a>,
+    cx: &Context<'a, '_>,
     work: &mut Work<'a>,
     setting: Setting<'_>,
     count: &'a Expr,
-) -> Result<u64, Stop> {
+) -> Result<u64, Stop>
+    ensures { Answers (λ n. n) (length_of cx.now (where_of setting.entry) count.now) result }
+{
     let wanted = Some(Kind::Integer(IntegerKind::Usize));
-    let value = evaluate(cx, work, setting, count, wanted, crate::work::MOST_DEEP)?;
-    if let Value::Integer(_, int) = value {
-        if let Ok(length) = u64::try_from(int.magnitude) {
-            return Ok(length);
-        }
+    let value = evaluate(cx, work, setting, count, wanted, most_deep())?;
+    length_by(cx, value, count)
+}
+
+/// A value as an array's length.
+fn length_by(cx: &Context<'_, '_>, value: Value, count: &Expr) -> Result<u64, Stop>
+    ensures { Answers (λ n. n) (length_by cx.now count.now (value_of value)) result }
+{
+    match value {
+        Value::Integer(_, int) => match u64::try_from(int.magnitude) {
+            Ok(length) => Ok(length),
+            Err(_) => Err(stop_at(place_of(count), FaultKind::Overflow(IntegerKind::Usize))),
+        },
+        _ => Err(stop_at(place_of(count), FaultKind::Overflow(IntegerKind::Usize))),
     }
-    Err(stop_at(place_of(count), FaultKind::Overflow(IntegerKind::Usize)))
+}
+
+/// The type that the parameter is given that a path names.
+fn type_given<'g>(cx: &Context<'_, '_>, setting: Setting<'g>, path: &Path) -> Option<&'g Ty>
+    ensures { option_map (λ ty. ty_of ty.now) result ≡ type_given cx.now (where_of setting.entry) path.now }
+{
+    match given_named(cx, setting, single_name(path)?) {
+        Some(Given::Type(ty)) => Some(ty),
+        _ => None,
+    }
+}
+
+/// Whether a path is `Self` alone.
+fn is_self(path: &Path) -> bool
+    ensures { result ≡ is_self path.now }
+{
+    match single_name(path) {
+        Some(name) => name == Symbol::SELF_TYPE,
+        None => false,
+    }
 }
 
 /// The type that a path names.
 #[cycle(resolving)]
+#[tactic(auto, unfolding(crate::specs::Resolving::path_type))]
 fn resolve_path<'a>(
-    cx: &Context<'a>,
+    cx: &Context<'a, '_>,
     work: &mut Work<'a>,
     setting: Setting<'_>,
     path: &'a Path,
     room: u32,
-) -> Result<Ty, Stop> {
-    if let Some(name) = single_name(path) {
-        if let Some(Given::Type(ty)) = given_named(cx, setting, name) {
-            return copy_of(cx.alloc, work, ty);
-        }
-        if name == Symbol::SELF_TYPE {
-            return self_type(cx, work, setting, path);
-        }
+) -> Result<Ty, Stop>
+    ensures { Answers ty_of (path_type cx.now (inner cx.now room) (where_of setting.entry) path.now) result }
+{
+    if let Some(ty) = type_given(cx, setting, path) {
+        return copy_of(cx.alloc, work, ty);
     }
+    if is_self(path) {
+        return self_type(cx, work, setting, path);
+    }
+    resolve_named(cx, work, setting, path, room)
+}
+
+/// The type that names name.
+#[cycle(resolving)]
+#[tactic(auto, unfolding(crate::specs::Resolving::named_type))]
+fn resolve_named<'a>(
+    cx: &Context<'a, '_>,
+    work: &mut Work<'a>,
+    setting: Setting<'_>,
+    path: &'a Path,
+    room: u32,
+) -> Result<Ty, Stop>
+    ensures { Answers ty_of (named_type cx.now (inner cx.now room) (where_of setting.entry) path.now) result }
+{
     let at = place_of_path(path);
     let Some(last) = path.segments.last() else {
         return Err(stop_at(at, FaultKind::Unevaluated(Unevaluated::Inferred)));
@@ -106,11 +200,13 @@ fn resolve_path<'a>(
 
 /// The type that the item is, of whose definition `Self` is a part.
 fn self_type(
-    cx: &Context<'_>,
+    cx: &Context<'_, '_>,
     work: &mut Work<'_>,
     setting: Setting<'_>,
     path: &Path,
-) -> Result<Ty, Stop> {
+) -> Result<Ty, Stop>
+    ensures { Answers ty_of (self_by cx.now (where_of setting.entry) path.now setting.entry.item) result }
+{
     match setting.item {
         Some(item) => Ok(Ty::Adt(item, copies_of(cx.alloc, work, setting.given)?)),
         None => Err(stop_at(
@@ -120,14 +216,26 @@ fn self_type(
     }
 }
 
+/// Whether a path begins with a parameter's name or `Self`, and goes on.
+fn is_behind_type(cx: &Context<'_, '_>, setting: Setting<'_>, path: &Path) -> bool
+    ensures { result
+        ≡ is_behind_type cx.now (where_of setting.entry) path.now (first_name (out-Path path.now).segments.items) }
+{
+    let Some(first) = path.segments.first() else {
+        return false;
+    };
+    path.segments.len() > 1
+        && (parameter_named(cx, setting.item, first.name).is_some()
+            || first.name == Symbol::SELF_TYPE)
+}
+
 /// What is wrong with a path that names no type.
-fn unknown(cx: &Context<'_>, setting: Setting<'_>, path: &Path, name: Symbol) -> FaultKind {
-    if let Some(first) = path.segments.first() {
-        let is_parameter = parameter_named(cx, setting.item, first.name).is_some();
-        let is_self = first.name == Symbol::SELF_TYPE;
-        if path.segments.len() > 1 && (is_parameter || is_self) {
-            return FaultKind::Unevaluated(Unevaluated::Associated);
-        }
+#[tactic(auto, unfolding(crate::specs::Resolving::unknown))]
+fn unknown(cx: &Context<'_, '_>, setting: Setting<'_>, path: &Path, name: Symbol) -> FaultKind
+    ensures { result ≡ unknown cx.now (where_of setting.entry) path.now name }
+{
+    if is_behind_type(cx, setting, path) {
+        return FaultKind::Unevaluated(Unevaluated::Associated);
     }
     match find(cx.items, cx.scope, setting.module, path, Space::Values) {
         Some(_) => FaultKind::NotAType(name),
@@ -137,19 +245,55 @@ fn unknown(cx: &Context<'_>, setting: Setting<'_>, path: &Path, name: Symbol) ->
 
 /// The type that an item is under what the last name of a path gives it.
 #[cycle(resolving)]
+#[tactic(auto, using(crate::proofs::Rooms::item_less, crate::proofs::Rooms::item_none))]
 fn resolve_item<'a>(
-    cx: &Context<'a>,
+    cx: &Context<'a, '_>,
     work: &mut Work<'a>,
     setting: Setting<'_>,
     number: u32,
     last: &'a Segment,
     room: u32,
-) -> Result<Ty, Stop> {
+) -> Result<Ty, Stop>
+    ensures { Answers ty_of ((inner cx.now room).item_of (where_of setting.entry) number last.now) result }
+{
     let room = less(room)?;
-    let Some(item) = cx.items.items.get(number as usize) else {
+    resolve_item_with(cx, work, setting, number, last, room)
+}
+
+/// The type that an item is under what the last name of a path gives it, within less room.
+#[cycle(resolving)]
+#[tactic(auto, unfolding(crate::specs::Resolving::item_with))]
+fn resolve_item_with<'a>(
+    cx: &Context<'a, '_>,
+    work: &mut Work<'a>,
+    setting: Setting<'_>,
+    number: u32,
+    last: &'a Segment,
+    room: u32,
+) -> Result<Ty, Stop>
+    ensures { Answers ty_of
+        (item_with cx.now (inner cx.now room) (where_of setting.entry) number last.now) result }
+{
+    let Some(item) = item_at(cx.items, number) else {
         return Err(stop_at(last.at, FaultKind::UnknownType(last.name)));
     };
     let given = give(cx, work, setting, number, item, last, room)?;
+    item_under(cx, work, number, item, given, room)
+}
+
+/// The type that an item is under what its parameters are given.
+#[cycle(resolving)]
+fn item_under<'a>(
+    cx: &Context<'a, '_>,
+    work: &mut Work<'a>,
+    number: u32,
+    item: &'a Item,
+    given: Vec<Given>,
+    room: u32,
+) -> Result<Ty, Stop>
+    ensures { Answers ty_of
+        (item_under cx.now (inner cx.now room) number item.now item.now.kind (all_given given.items)) result }
+{
     match &item.kind {
         ItemKind::Alias(ty) => {
             let inside = Setting {
@@ -168,96 +312,195 @@ fn resolve_item<'a>(
 
 /// What an item's parameters are given: arguments, and then defaults.
 #[cycle(resolving)]
+#[tactic(auto, unfolding(crate::specs::Resolving::give), using(crate::proofs::Lists::give_more, crate::proofs::Lists::give_done))]
 fn give<'a>(
-    cx: &Context<'a>,
+    cx: &Context<'a, '_>,
     work: &mut Work<'a>,
     setting: Setting<'_>,
     number: u32,
     item: &'a Item,
     last: &'a Segment,
     room: u32,
-) -> Result<Vec<Given>, Stop> {
+) -> Result<Vec<Given>, Stop>
+    ensures { Answers (λ given. all_given given.items)
+        (give cx.now (inner cx.now room) (where_of setting.entry) number item.now last.now) result }
+{
     if last.arguments.len() > item.parameters.len() {
         return Err(stop_at(last.at, FaultKind::WrongArguments(last.name)));
     }
     let mut given = Vec::new(cx.alloc);
     for (index, parameter) in item.parameters.iter().enumerate() {
-        let one = match last.arguments.get(index) {
-            Some(argument) => {
-                given_by(
-                    cx,
-                    work,
-                    setting,
-                    item.module,
-                    parameter,
-                    argument,
-                    last.at,
-                    room,
-                )?
-            }
-            None => {
-                let inside = Setting {
-                    module: item.module,
-                    item: Some(number),
-                    given: given.as_slice(),
-                };
-                given_by_default(cx, work, inside, parameter, last, room)?
-            }
-        };
-        given.push(one)?;
+        let argument = last.arguments.get(index);
+        let one = give_one(
+            cx, work, setting, number, item, last, &given, parameter, argument, room,
+        )?;
+        push_given(&mut given, one)?;
     }
     Ok(given)
 }
 
-/// What an argument gives a parameter.
+/// What one more parameter is given: by an argument, or else by default.
+#[cycle(resolving)]
+fn give_one<'a>(
+    cx: &Context<'a, '_>,
+    work: &mut Work<'a>,
+    setting: Setting<'_>,
+    number: u32,
+    item: &'a Item,
+    last: &'a Segment,
+    given: &Vec<Given>,
+    parameter: &'a Parameter,
+    argument: Option<&'a Argument>,
+    room: u32,
+) -> Result<Given, Stop>
+    ensures { Answers given_of
+        (one_given cx.now (inner cx.now room) (where_of setting.entry) number item.now last.now
+        (all_given given.now.items) parameter.now.kind (option_copied argument.entry)) result }
+{
+    match argument {
+        Some(argument) => {
+            given_by(
+                cx,
+                work,
+                setting,
+                item.module,
+                &parameter.kind,
+                argument,
+                last.at,
+                room,
+            )
+        }
+        None => {
+            let inside = Setting {
+                module: item.module,
+                item: Some(number),
+                given: given.as_slice(),
+            };
+            given_by_default(cx, work, inside, &parameter.kind, last, room)
+        }
+    }
+}
+
+/// What an argument gives a parameter of an item of this module.
 #[cycle(resolving)]
 fn given_by<'a>(
-    cx: &Context<'a>,
+    cx: &Context<'a, '_>,
     work: &mut Work<'a>,
     setting: Setting<'_>,
     module: u32,
-    parameter: &'a Parameter,
+    kind: &'a ParameterKind,
     argument: &'a Argument,
     at: Place,
     room: u32,
-) -> Result<Given, Stop> {
-    match (&parameter.kind, argument) {
-        (ParameterKind::Type(_), Argument::Type(ty)) => {
-            Ok(Given::Type(resolve(cx, work, setting, ty, room)?))
-        }
-        (ParameterKind::Const(ty, _), Argument::Const(expr)) => {
+) -> Result<Given, Stop>
+    ensures { Answers given_of
+        (argument_given cx.now (inner cx.now room) (where_of setting.entry) «module» at argument.now kind.now) result }
+{
+    match kind {
+        ParameterKind::Type(_) => type_given_by(cx, work, setting, argument, at, room),
+        ParameterKind::Const(ty, _) => {
             let wanted = kind_written(cx, outside(module), ty);
-            let value = evaluate(cx, work, setting, expr, wanted, crate::work::MOST_DEEP)?;
+            constant_given_by(cx, work, setting, argument, wanted, at, room)
+        }
+    }
+}
+
+/// What an argument gives a type's parameter.
+#[cycle(resolving)]
+fn type_given_by<'a>(
+    cx: &Context<'a, '_>,
+    work: &mut Work<'a>,
+    setting: Setting<'_>,
+    argument: &'a Argument,
+    at: Place,
+    room: u32,
+) -> Result<Given, Stop>
+    ensures { Answers given_of
+        (given_type cx.now (inner cx.now room) (where_of setting.entry) at (out-Argument argument.now)) result }
+{
+    match argument {
+        Argument::Type(ty) => Ok(Given::Type(resolve(cx, work, setting, ty, room)?)),
+        Argument::Const(_) => Err(stop_at(at, FaultKind::WrongKindOfArgument)),
+        Argument::Binding(at) => Err(stop_at(*at, FaultKind::Binding)),
+    }
+}
+
+/// What an argument gives a constant's parameter.
+fn constant_given_by<'a>(
+    cx: &Context<'a, '_>,
+    work: &mut Work<'a>,
+    setting: Setting<'_>,
+    argument: &'a Argument,
+    wanted: Option<Kind>,
+    at: Place,
+    room: u32,
+) -> Result<Given, Stop>
+    ensures { Answers given_of
+        (given_constant cx.now (inner cx.now room) (where_of setting.entry) at wanted (out-Argument argument.now)) result }
+{
+    match argument {
+        Argument::Type(ty) => type_as_constant(cx, work, setting, ty, wanted, at, room),
+        Argument::Const(expr) => {
+            let value = evaluate(cx, work, setting, expr, wanted, most_deep())?;
             Ok(Given::Value(value))
         }
-        (ParameterKind::Const(ty, _), Argument::Type(Type::Path(path))) => {
-            let wanted = kind_written(cx, outside(module), ty);
-            let value = evaluate_path(cx, work, setting, path, crate::work::MOST_DEEP)?;
-            if wanted != Some(value.kind()) {
+        Argument::Binding(at) => Err(stop_at(*at, FaultKind::Binding)),
+    }
+}
+
+/// The constant that a name is that is read as a type.
+fn type_as_constant<'a>(
+    cx: &Context<'a, '_>,
+    work: &mut Work<'a>,
+    setting: Setting<'_>,
+    ty: &'a Type,
+    wanted: Option<Kind>,
+    at: Place,
+    room: u32,
+) -> Result<Given, Stop>
+    ensures { Answers given_of
+        (type_as_constant cx.now (inner cx.now room) (where_of setting.entry) at wanted ty.now) result }
+{
+    match ty {
+        Type::Path(path) => {
+            let value = evaluate_path(cx, work, setting, path, most_deep())?;
+            if !is_wanted(wanted, value) {
                 return Err(stop_at(at, FaultKind::WrongType));
             }
             Ok(Given::Value(value))
         }
-        (_, Argument::Binding(at)) => Err(stop_at(*at, FaultKind::Binding)),
         _ => Err(stop_at(at, FaultKind::WrongKindOfArgument)),
+    }
+}
+
+/// Whether a value is of the type that is wanted.
+fn is_wanted(wanted: Option<Kind>, value: Value) -> bool
+    ensures { result ≡ is_wanted wanted (value_of value) }
+{
+    match wanted {
+        Some(kind) => same_kind(kind, value.kind()),
+        None => false,
     }
 }
 
 /// What a parameter is given where no argument stands.
 #[cycle(resolving)]
 fn given_by_default<'a>(
-    cx: &Context<'a>,
+    cx: &Context<'a, '_>,
     work: &mut Work<'a>,
     inside: Setting<'_>,
-    parameter: &'a Parameter,
+    kind: &'a ParameterKind,
     last: &Segment,
     room: u32,
-) -> Result<Given, Stop> {
-    match &parameter.kind {
+) -> Result<Given, Stop>
+    ensures { Answers given_of
+        (default_given cx.now (inner cx.now room) (where_of inside.entry) last.now kind.now) result }
+{
+    match kind {
         ParameterKind::Type(Some(ty)) => Ok(Given::Type(resolve(cx, work, inside, ty, room)?)),
         ParameterKind::Const(ty, Some(expr)) => {
             let wanted = kind_written(cx, outside(inside.module), ty);
-            let value = evaluate(cx, work, inside, expr, wanted, crate::work::MOST_DEEP)?;
+            let value = evaluate(cx, work, inside, expr, wanted, most_deep())?;
             Ok(Given::Value(value))
         }
         _ => Err(stop_at(last.at, FaultKind::WrongArguments(last.name))),

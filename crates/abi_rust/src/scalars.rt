@@ -2,12 +2,12 @@
 
 ghost use Rattle.std.specs.Prelude.{◌≡◌, ◌≤◌};
 ghost use Rattle.abi_base.specs.DataLayout.{index_integer as integer_of_index};
-ghost use Rattle.abi_base.specs.Primitive.{KnowsPrimitive};
-ghost use Rattle.abi_rust.specs.Scalars.{scalar_width, full_scalar, ranged_scalar, type_of_kind, integer_primitive, named_tree};
+ghost use Rattle.abi_laid.specs.Tree.{tree_of};
+ghost use Rattle.abi_rust.specs.Scalars.{address, cut_scalar, function_tree, instruction_space, limited_tree, pointer_tree, scalar_width, full_scalar, ranged_scalar, type_of_kind, integer_primitive, named_tree};
 
 use crate::tail::Tail;
 use crate::ty::Primitive as Named;
-use abi_base::{Integer, IntegerType, Primitive, Size, TargetDataLayout};
+use abi_base::{AddressSpace, Integer, IntegerType, Primitive, Size, TargetDataLayout};
 use abi_laid::TypeTree;
 use abi_scalar::{Scalar, WrappingRange};
 use rust_source::IntegerKind;
@@ -19,7 +19,7 @@ const LAST_CHAR: u128 = 0x10ffff;
 fn width(dl: &TargetDataLayout, value: Primitive) -> Size
     ensures some { 1 ≤ result }
     ensures most { result ≤ 16 }
-    ensures value { KnowsPrimitive dl.now value → result ≡ scalar_width dl.now value }
+    ensures value { result ≡ scalar_width dl.now value }
 {
     let size = match value {
         Primitive::Int(integer, _) => integer.size(),
@@ -37,7 +37,7 @@ fn width(dl: &TargetDataLayout, value: Primitive) -> Size
 
 /// A primitive with every number of its width.
 fn full(dl: &TargetDataLayout, value: Primitive) -> Scalar
-    ensures { KnowsPrimitive dl.now value → result ≡ full_scalar dl.now value }
+    ensures { result ≡ full_scalar dl.now value }
 {
     Scalar::Initialized {
         value,
@@ -47,7 +47,7 @@ fn full(dl: &TargetDataLayout, value: Primitive) -> Scalar
 
 /// A primitive with the numbers of a range, cut to its width.
 fn ranged(dl: &TargetDataLayout, value: Primitive, start: u128, end: u128) -> Scalar
-    ensures { KnowsPrimitive dl.now value → result ≡ ranged_scalar dl.now value start end }
+    ensures { result ≡ ranged_scalar dl.now value start end }
 {
     let all = WrappingRange::full(width(dl, value));
     Scalar::Initialized {
@@ -116,38 +116,56 @@ pub(crate) fn named(dl: &TargetDataLayout, primitive: Named) -> Option<TypeTree>
     }
 }
 
-/// The tree of a pointer, which is null only where it may be.
-pub(crate) fn pointer(dl: &TargetDataLayout, tail: Tail, may_be_null: bool) -> TypeTree {
+/// A pointer's address, which is null only where it may be.
+fn address_of(dl: &TargetDataLayout, may_be_null: bool) -> Scalar
+    ensures { result ≡ address dl.now may_be_null }
+{
     let value = Primitive::Pointer(dl.default_address_space);
-    let never_null = ranged(dl, value, 1, u128::MAX);
-    let address = if may_be_null {
+    if may_be_null {
         full(dl, value)
     } else {
-        never_null
-    };
+        ranged(dl, value, 1, u128::MAX)
+    }
+}
+
+/// The tree of a pointer, which is null only where it may be.
+pub(crate) fn pointer(dl: &TargetDataLayout, tail: Tail, may_be_null: bool) -> TypeTree
+    ensures { result ≡ pointer_tree dl.now tail may_be_null }
+{
+    let address = address_of(dl, may_be_null);
     match tail {
         Tail::Sized => TypeTree::Scalar(address),
         Tail::Length => {
             let length = full(dl, Primitive::Int(index_integer(dl), false));
             TypeTree::Pair(address, length)
         }
-        Tail::Table => TypeTree::Pair(address, never_null),
+        Tail::Table => TypeTree::Pair(address, address_of(dl, false)),
+    }
+}
+
+/// The space of instructions, or the default one where the data layout doesn't know it.
+fn instruction_space(dl: &TargetDataLayout) -> AddressSpace
+    ensures { result ≡ instruction_space dl.now }
+{
+    if dl.knows(dl.instruction_address_space) {
+        dl.instruction_address_space
+    } else {
+        dl.default_address_space
     }
 }
 
 /// The tree of a function pointer, which is never null.
-pub(crate) fn function(dl: &TargetDataLayout) -> TypeTree {
-    let space = if dl.knows(dl.instruction_address_space) {
-        dl.instruction_address_space
-    } else {
-        dl.default_address_space
-    };
-    let value = Primitive::Pointer(space);
+pub(crate) fn function(dl: &TargetDataLayout) -> TypeTree
+    ensures { result ≡ function_tree dl.now }
+{
+    let value = Primitive::Pointer(instruction_space(dl));
     TypeTree::Scalar(ranged(dl, value, 1, u128::MAX))
 }
 
 /// The scalar with the numbers of a range alone, as far as it has them.
-fn cut(dl: &TargetDataLayout, scalar: Scalar, start: u128, end: u128) -> Scalar {
+fn cut(dl: &TargetDataLayout, scalar: Scalar, start: u128, end: u128) -> Scalar
+    ensures { result ≡ cut_scalar dl.now start end scalar }
+{
     match scalar {
         Scalar::Initialized { value, valid_range } => {
             ranged(dl, value, start, end.min(valid_range.end))
@@ -157,7 +175,9 @@ fn cut(dl: &TargetDataLayout, scalar: Scalar, start: u128, end: u128) -> Scalar 
 }
 
 /// The tree with its first scalar limited to a range, where it is one scalar or two.
-pub(crate) fn limited(dl: &TargetDataLayout, tree: TypeTree, start: u128, end: u128) -> TypeTree {
+pub(crate) fn limited(dl: &TargetDataLayout, tree: TypeTree, start: u128, end: u128) -> TypeTree
+    ensures { tree_of result ≡ limited_tree dl.now start end (tree_of tree) }
+{
     match tree {
         TypeTree::Scalar(scalar) => TypeTree::Scalar(cut(dl, scalar, start, end)),
         TypeTree::Pair(first, second) => TypeTree::Pair(cut(dl, first, start, end), second),

@@ -1,49 +1,87 @@
 //! Calls that ask for the size or the alignment of a type.
 
+ghost use Rattle.std.specs.Prelude.{◌≡◌, Err, Some};
+ghost use Rattle.std.specs.Option.{option_copied};
+ghost use Rattle.abi_rust.specs.Evaluating.{argument_type, asks_by, asks_size, call, only_argument, only_type};
+ghost use Rattle.abi_rust.specs.Kinds.{item_at};
+ghost use Rattle.abi_rust.specs.Meaning.{Answers};
+ghost use Rattle.abi_rust.specs.Scope.{module_in};
+ghost use Rattle.abi_rust.specs.Types.{where_of};
+ghost use Rattle.abi_rust.specs.Values.{value_of};
+ghost use Rattle.abi_rust.specs.Words.{symbol_of};
+
 use crate::fault::{FaultKind, Stop, stop_at};
 use crate::int::Int;
-use crate::paths::{Found, Space, find};
+use crate::paths::{Found, Space, find, item_at};
 use crate::ty::Value;
 use crate::words::Word;
-use crate::work::{Context, Request, Setting, Work, copies_of};
-use rust_source::{Argument, IntegerKind, Path, Place, Type, Unevaluated};
+use crate::work::{Context, Request, Setting, Work, copies_of, size_at};
+use rust_source::{Argument, IntegerKind, Item, Path, Place, Type, Unevaluated};
 
 /// The value of `size_of::<T>()` or `align_of::<T>()`.
+#[tactic(auto, unfolding(crate::specs::Evaluating::call))]
 pub(crate) fn call<'a>(
-    cx: &Context<'a>,
+    cx: &Context<'a, '_>,
     work: &mut Work<'a>,
     setting: Setting<'_>,
     path: &'a Path,
     at: Place,
-) -> Result<Value, Stop> {
+) -> Result<Value, Stop>
+    ensures { Answers value_of (call cx.now (where_of setting.entry) path.now at) result }
+{
     let unevaluated = FaultKind::Unevaluated(Unevaluated::Expression);
-    let Some(asks_size) = size_call(cx, setting, path) else {
+    let Some(asks_size) = size_call(cx, setting.module, path) else {
         return Err(stop_at(at, unevaluated));
     };
     let Some(ty) = only_type(path) else {
         return Err(stop_at(at, unevaluated));
     };
-    if let Some((size, align)) = work.size_at(at, setting.given) {
-        let number = if asks_size { size } else { align };
-        return Ok(Value::Integer(IntegerKind::Usize, Int::positive(u128::from(number))));
+    match size_at(cx.known, at, setting.given) {
+        Some((size, align)) => {
+            let number = if asks_size { size } else { align };
+            Ok(Value::Integer(IntegerKind::Usize, Int::positive(u128::from(number))))
+        }
+        None => await_size(cx, work, setting, ty, at),
     }
+}
+
+/// Asks for the size of a type.
+fn await_size<'a>(
+    cx: &Context<'a, '_>,
+    work: &mut Work<'a>,
+    setting: Setting<'_>,
+    ty: &'a Type,
+    at: Place,
+) -> Result<Value, Stop>
+    ensures { Answers value_of (Err Stop.Size) result }
+{
+    let given = copies_of(cx.alloc, work, setting.given)?;
     work.wanted = Some(Request {
         at,
         ty,
         module: setting.module,
         item: setting.item,
-        given: copies_of(cx.alloc, work, setting.given)?,
+        given,
     });
     Err(Stop::Size)
 }
 
 /// Whether a path names `size_of`, or else `align_of`. None for other paths.
-fn size_call(cx: &Context<'_>, setting: Setting<'_>, path: &Path) -> Option<bool> {
-    let found = find(cx.items, cx.scope, setting.module, path, Space::Values)?;
-    let Found::Item(number) = found else {
-        return None;
-    };
-    let item = cx.items.items.get(number as usize)?;
+#[tactic(auto, unfolding(crate::specs::Evaluating::asks_size))]
+fn size_call(cx: &Context<'_, '_>, module: u32, path: &Path) -> Option<bool>
+    ensures { result ≡ asks_size cx.now «module» path.now }
+{
+    match find(cx.items, cx.scope, module, path, Space::Values) {
+        Some(Found::Item(number)) => asks(cx, item_at(cx.items, number)?),
+        _ => None,
+    }
+}
+
+/// Whether an item is `size_of`, or else `align_of`.
+fn asks(cx: &Context<'_, '_>, item: &Item) -> Option<bool>
+    ensures { result ≡ asks_by cx.now (module_in cx.now.scope.now cx.now.scope.now.std_root
+        (symbol_of cx.now.scope.now.words Word.Mem)) (Some item.now) }
+{
     let words = cx.scope.words;
     if item.module != cx.scope.module(cx.scope.std_root, words.symbol(Word::Mem))? {
         return None;
@@ -58,12 +96,29 @@ fn size_call(cx: &Context<'_>, setting: Setting<'_>, path: &Path) -> Option<bool
 }
 
 /// The type that a path's last name is given, where that is all.
-fn only_type(path: &Path) -> Option<&Type> {
+#[tactic(auto, unfolding(crate::specs::Evaluating::only_type))]
+fn only_type(path: &Path) -> Option<&Type>
+    ensures { option_copied result ≡ only_type path.now }
+{
     let segment = path.segments.last()?;
-    if segment.arguments.len() != 1 {
+    only_argument(segment.arguments.as_slice())
+}
+
+/// The type that arguments are, where that is all.
+fn only_argument(arguments: &[Argument]) -> Option<&Type>
+    ensures { option_copied result ≡ only_argument arguments.now }
+{
+    if arguments.len() != 1 {
         return None;
     }
-    match segment.arguments.first()? {
+    argument_type(arguments.first()?)
+}
+
+/// The type that an argument is.
+fn argument_type(argument: &Argument) -> Option<&Type>
+    ensures { option_copied result ≡ argument_type argument.now }
+{
+    match argument {
         Argument::Type(ty) => Some(ty),
         Argument::Const(_) => None,
         Argument::Binding(_) => None,

@@ -250,6 +250,7 @@ impl Sources {
             scope,
             dl,
             pointer_bits: pointer_bits(dl),
+            known: &[],
         };
         match tell(&cx, subject, self.file) {
             Ok(found) => Ok(found),

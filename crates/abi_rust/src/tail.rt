@@ -1,12 +1,20 @@
 //! Whether a type's size is known, and else what a pointer to it tells.
 
-use crate::above::{Above, stands_in};
+ghost use Rattle.std.specs.Prelude.{◌≡◌, IfErr, IfOk, Some, map, true};
+ghost use Rattle.std.specs.Option.{option_copied, option_map};
+ghost use Rattle.abi_rust.specs.Meaning.{Answers, is_beside};
+ghost use Rattle.abi_rust.specs.Tails.{always_sized, assumed, field_tail, is_sized, last_field, last_of, last_type, may_any, outer_of, pointee_tail, tail_inner, tail_of_item_with, tail_of_last, tail_with};
+ghost use Rattle.abi_rust.specs.Types.{all_given, given_of, givens, ty_of, types};
+
+use crate::above::{Above, stands_in, within};
 use crate::fault::{FaultKind, Stop, stop_at};
 use crate::int::Int;
+use crate::paths::item_at;
 use crate::resolve::resolve;
 use crate::ty::{Given, Primitive, Ty, Value};
-use crate::work::{Context, MOST_DEEP, Setting, Work, less};
-use rust_source::{Field, IntegerKind, Item, ItemKind, ParameterKind};
+use crate::work::{Context, Setting, Work, less, most_deep, push_given};
+use rust_source::{Field, IntegerKind, Item, ItemKind, Parameter, ParameterKind};
+use std::alloc::Global;
 
 /// What a pointer to a type tells beside its address.
 #[derive(Clone, Copy, PartialEq, Eq)]
@@ -19,31 +27,66 @@ pub(crate) enum Tail {
     Table,
 }
 
+impl Tail {
+    /// Whether the size is known.
+    pub(crate) fn is_sized(self) -> bool
+        ensures { result ≡ is_sized self }
+    {
+        match self {
+            Tail::Sized => true,
+            _ => false,
+        }
+    }
+}
+
 /// What a pointer to the type tells.
+#[tactic(auto, unfolding(crate::specs::Tails::pointee_tail))]
 pub(crate) fn pointee_tail<'a>(
-    cx: &Context<'a>,
+    cx: &Context<'a, '_>,
     work: &mut Work<'a>,
     ty: &Ty,
-) -> Result<Tail, Stop> {
-    tail_of(cx, work, &Above::Nothing, ty, MOST_DEEP)
+) -> Result<Tail, Stop>
+    ensures { Answers (λ tail. tail) (pointee_tail cx.now (ty_of ty.now)) result }
+{
+    tail_of(cx, work, &Above::Nothing, ty, most_deep())
 }
 
 /// What a pointer to the type tells, by the type's last field. `Recursive` where that stands in itself.
 #[cycle(tails)]
+#[tactic(auto, using(crate::proofs::Rooms::tail_less, crate::proofs::Rooms::tail_none))]
 fn tail_of<'a>(
-    cx: &Context<'a>,
+    cx: &Context<'a, '_>,
     work: &mut Work<'a>,
     above: &Above<'_>,
     ty: &Ty,
     room: u32,
-) -> Result<Tail, Stop> {
+) -> Result<Tail, Stop>
+    ensures { Answers (λ tail. tail)
+        ((tail_inner cx.now room).tail_of (outer_of above.now) (ty_of ty.now)) result }
+{
     work.spend()?;
     let room = less(room)?;
+    tail_with(cx, work, above, ty, room)
+}
+
+/// What a pointer to the type tells, within less room.
+#[cycle(tails)]
+#[tactic(auto, unfolding(crate::specs::Tails::tail_with))]
+fn tail_with<'a>(
+    cx: &Context<'a, '_>,
+    work: &mut Work<'a>,
+    above: &Above<'_>,
+    ty: &Ty,
+    room: u32,
+) -> Result<Tail, Stop>
+    ensures { Answers (λ tail. tail)
+        (tail_with cx.now (tail_inner cx.now room) (outer_of above.now) (ty_of ty.now)) result }
+{
     match ty {
         Ty::Slice(_) => Ok(Tail::Length),
         Ty::Primitive(Primitive::Str) => Ok(Tail::Length),
         Ty::Dyn => Ok(Tail::Table),
-        Ty::Tuple(parts) => match parts.last() {
+        Ty::Tuple(parts) => match last_part(parts) {
             Some(last) => tail_of(cx, work, above, last, room),
             None => Ok(Tail::Sized),
         },
@@ -52,76 +95,163 @@ fn tail_of<'a>(
     }
 }
 
+/// The last of some types.
+#[tactic(auto, using(crate::proofs::Lasts::last_part_is))]
+fn last_part(parts: &[Ty]) -> Option<&Ty>
+    ensures { option_map (λ ty. ty_of ty.now) result ≡ last_type (types (map ty_of parts.now)) }
+{
+    parts.last()
+}
+
 /// What a pointer to the type tells that an item is.
 #[cycle(tails)]
+#[tactic(auto, using(crate::proofs::Rooms::tail_item_less, crate::proofs::Rooms::tail_item_none))]
 fn tail_of_item<'a>(
-    cx: &Context<'a>,
+    cx: &Context<'a, '_>,
     work: &mut Work<'a>,
     above: &Above<'_>,
     number: u32,
     given: &[Given],
     room: u32,
-) -> Result<Tail, Stop> {
+) -> Result<Tail, Stop>
+    ensures { Answers (λ tail. tail)
+        ((tail_inner cx.now room).tail_of_item (outer_of above.now) number (givens (all_given given.now))) result }
+{
     let room = less(room)?;
-    let Some(item) = cx.items.items.get(number as usize) else {
+    tail_of_item_with(cx, work, above, number, given, room)
+}
+
+/// What a pointer to the type tells that an item is, within less room.
+#[cycle(tails)]
+#[tactic(auto, unfolding(crate::specs::Tails::tail_of_item_with))]
+fn tail_of_item_with<'a>(
+    cx: &Context<'a, '_>,
+    work: &mut Work<'a>,
+    above: &Above<'_>,
+    number: u32,
+    given: &[Given],
+    room: u32,
+) -> Result<Tail, Stop>
+    ensures { Answers (λ tail. tail)
+        (tail_of_item_with cx.now (tail_inner cx.now room) (outer_of above.now) number
+        (givens (all_given given.now))) result }
+{
+    let Some(item) = item_at(cx.items, number) else {
         return Ok(Tail::Sized);
     };
-    let Some(last) = last_field(item) else {
-        return Ok(Tail::Sized);
-    };
+    match last_field(item) {
+        Some(last) => tail_of_field(cx, work, above, number, given, item, last, room),
+        None => Ok(Tail::Sized),
+    }
+}
+
+/// What a pointer to the type tells that an item is, whose last field this is.
+#[cycle(tails)]
+#[tactic(auto, using(crate::proofs::Lasts::list_given_is))]
+fn tail_of_field<'a>(
+    cx: &Context<'a, '_>,
+    work: &mut Work<'a>,
+    above: &Above<'_>,
+    number: u32,
+    given: &[Given],
+    item: &Item,
+    last: &'a Field,
+    room: u32,
+) -> Result<Tail, Stop>
+    ensures { Answers (λ tail. tail) (field_tail cx.now (tail_inner cx.now room) (outer_of above.now) number
+        (givens (all_given given.now)) item.now (Some last.now)) result }
+{
     if stands_in(above, number, given) {
         return Err(stop_at(item.at, FaultKind::Recursive(item.name)));
     }
-    let own = Above::Type(number, given, &*above);
+    let own = within(number, &*given, &*above);
     let inside = Setting {
         module: item.module,
         item: Some(number),
         given,
     };
-    let ty = resolve(cx, work, inside, &last.ty, MOST_DEEP)?;
+    let ty = resolve(cx, work, inside, &last.ty, most_deep())?;
     tail_of(cx, work, &own, &ty, room)
 }
 
 /// The last field of a struct or a union.
-fn last_field(item: &Item) -> Option<&Field> {
+fn last_field(item: &Item) -> Option<&Field>
+    ensures { option_copied result ≡ last_field item.now.kind }
+{
     match &item.kind {
-        ItemKind::Struct(fields) => fields.all.last(),
-        ItemKind::Union(fields) => fields.all.last(),
+        ItemKind::Struct(fields) => last_of(fields.all.as_slice()),
+        ItemKind::Union(fields) => last_of(fields.all.as_slice()),
         _ => None,
     }
 }
 
+/// The last of some fields.
+#[tactic(auto, using(crate::proofs::Lasts::last_field_is))]
+fn last_of(fields: &[Field]) -> Option<&Field>
+    ensures { option_copied result ≡ last_of fields.now }
+{
+    fields.last()
+}
+
+/// Whether a parameter may be given what has no size.
+fn may_any(parameters: &[Parameter]) -> bool
+    ensures { result ≡ may_any parameters.now }
+{
+    for parameter in parameters {
+        if parameter.may_be_unsized {
+            return true;
+        }
+    }
+    false
+}
+
+/// What a parameter is assumed to be given: what has no size where it may have none.
+fn assumed(parameter: &Parameter) -> Given
+    ensures { given_of result ≡ assumed parameter.now }
+{
+    match parameter.kind {
+        ParameterKind::Type(_) => {
+            if parameter.may_be_unsized {
+                Given::Type(Ty::Dyn)
+            } else {
+                Given::Type(Ty::Never)
+            }
+        }
+        ParameterKind::Const(_, _) => Given::Value(Value::Integer(
+            IntegerKind::Usize,
+            Int::positive(0),
+        )),
+    }
+}
+
+/// What parameters are assumed to be given.
+#[tactic(auto, using(crate::proofs::Lasts::assumed_more, crate::proofs::Lasts::assumed_all))]
+fn all_assumed(alloc: Global, parameters: &[Parameter]) -> Result<Vec<Given>, Stop>
+    ensures ok { IfOk result (λ given. all_given given.items ≡ map assumed parameters.now) }
+    ensures err { IfErr result (λ e. is_beside e ≡ true) }
+{
+    let mut given = Vec::new(alloc);
+    for parameter in parameters {
+        push_given(&mut given, assumed(parameter))?;
+    }
+    Ok(given)
+}
+
 /// Whether a struct's last field has a known size whatever types its parameters are given.
+#[tactic(auto, unfolding(crate::specs::Tails::always_sized))]
 pub(crate) fn is_always_sized<'a>(
-    cx: &Context<'a>,
+    cx: &Context<'a, '_>,
     work: &mut Work<'a>,
     number: u32,
     item: &Item,
-) -> Result<bool, Stop> {
-    let mut may_be_unsized = false;
-    for parameter in &item.parameters {
-        may_be_unsized = may_be_unsized || parameter.may_be_unsized;
-    }
-    if !may_be_unsized {
+) -> Result<bool, Stop>
+    ensures { Answers (λ is. is) (always_sized cx.now number item.now) result }
+{
+    if !may_any(item.parameters.as_slice()) {
         return Ok(true);
     }
-    let mut given = Vec::new(cx.alloc);
-    for parameter in &item.parameters {
-        let one = match parameter.kind {
-            ParameterKind::Type(_) => {
-                if parameter.may_be_unsized {
-                    Given::Type(Ty::Dyn)
-                } else {
-                    Given::Type(Ty::Never)
-                }
-            }
-            ParameterKind::Const(_, _) => Given::Value(Value::Integer(
-                IntegerKind::Usize,
-                Int::positive(0),
-            )),
-        };
-        given.push(one)?;
-    }
+    let given = all_assumed(cx.alloc, item.parameters.as_slice())?;
     let above = Above::Nothing;
-    Ok(tail_of_item(cx, work, &above, number, given.as_slice(), MOST_DEEP)? == Tail::Sized)
+    let tail = tail_of_item(cx, work, &above, number, given.as_slice(), most_deep())?;
+    Ok(tail.is_sized())
 }

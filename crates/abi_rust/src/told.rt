@@ -1,12 +1,19 @@
 //! Types as trees with the names of their parts.
 
+ghost use Rattle.std.specs.Prelude.{slice_get};
+ghost use Rattle.abi_rust.specs.Meaning.{Answers};
+ghost use Rattle.abi_rust.specs.Told.{item_type, subject_type};
+ghost use Rattle.abi_rust.specs.Types.{ty_of};
+
 use crate::above::Above;
 use crate::fault::{FaultKind, Stop};
+use crate::kind::outside;
+use crate::paths::item_at;
 use crate::resolve::resolve;
 use crate::tail::{Tail, pointee_tail};
 use crate::tree::tree;
 use crate::ty::Ty;
-use crate::work::{Context, KnownSize, MOST_DEEP, Request, Setting, Work};
+use crate::work::{Context, KnownSize, Request, Setting, Work, most_deep};
 use abi_laid::TypeTree;
 use rust_source::{FieldName, Fields, ItemKind, Place, Symbol, Type};
 use rustc_abi::lay_out;
@@ -68,47 +75,43 @@ pub(crate) enum Subject<'a> {
 }
 
 /// A subject's type.
-fn type_of<'a>(cx: &Context<'a>, work: &mut Work<'a>, subject: Subject<'a>) -> Result<Ty, Stop> {
+fn type_of<'a>(cx: &Context<'a, '_>, work: &mut Work<'a>, subject: Subject<'a>) -> Result<Ty, Stop>
+    ensures { Answers ty_of (subject_type cx.now subject.entry) result }
+{
     match subject {
-        Subject::Written(module, ty) => {
-            let setting = Setting {
-                module,
-                item: None,
-                given: &[],
-            };
-            resolve(cx, work, setting, ty, MOST_DEEP)
-        }
-        Subject::Item(number) => {
-            if let Some(item) = cx.items.items.get(number as usize) {
-                if let ItemKind::Alias(ty) = &item.kind {
-                    let setting = Setting {
-                        module: item.module,
-                        item: None,
-                        given: &[],
-                    };
-                    return resolve(cx, work, setting, ty, MOST_DEEP);
-                }
-            }
-            Ok(Ty::Adt(number, Vec::new(cx.alloc)))
-        }
+        Subject::Written(module, ty) => resolve(cx, work, outside(module), ty, most_deep()),
+        Subject::Item(number) => type_of_item(cx, work, number),
+    }
+}
+
+/// The type that an item without parameters is.
+fn type_of_item<'a>(cx: &Context<'a, '_>, work: &mut Work<'a>, number: u32) -> Result<Ty, Stop>
+    ensures { Answers ty_of (item_type cx.now number (slice_get cx.now.items.now.items.items number)) result }
+{
+    let Some(item) = item_at(cx.items, number) else {
+        return Ok(Ty::Adt(number, Vec::new(cx.alloc)));
+    };
+    match &item.kind {
+        ItemKind::Alias(ty) => resolve(cx, work, outside(item.module), ty, most_deep()),
+        _ => Ok(Ty::Adt(number, Vec::new(cx.alloc))),
     }
 }
 
 /// A type's tree. None where its size isn't known.
 fn sized_tree<'a>(
-    cx: &Context<'a>,
+    cx: &Context<'a, '_>,
     work: &mut Work<'a>,
     ty: &Ty,
 ) -> Result<Option<TypeTree>, Stop> {
     if pointee_tail(cx, work, ty)? != Tail::Sized {
         return Ok(None);
     }
-    Ok(Some(tree(cx, work, &Above::Nothing, ty, MOST_DEEP)?))
+    Ok(Some(tree(cx, work, &Above::Nothing, ty, most_deep())?))
 }
 
 /// Tells of a subject once the sizes that it asks for are known. None where its own isn't.
 fn attempt<'a>(
-    cx: &Context<'a>,
+    cx: &Context<'a, '_>,
     work: &mut Work<'a>,
     subject: Subject<'a>,
     file: Place,
@@ -124,23 +127,39 @@ fn attempt<'a>(
 
 /// Tells of a subject. None where its size isn't known.
 pub(crate) fn tell<'a>(
-    cx: &Context<'a>,
+    cx: &Context<'a, '_>,
     subject: Subject<'a>,
     file: Place,
 ) -> Result<Option<Told>, Stop> {
-    let mut work = Work::new(cx.alloc);
+    let mut work = Work::new();
+    let mut known = Vec::new(cx.alloc);
     let mut pending = Vec::new(cx.alloc);
     for _size in 0..MOST_SIZES {
         match pending.pop() {
-            None => match attempt(cx, &mut work, subject, file) {
+            None => match attempt(&knowing(cx, &known), &mut work, subject, file) {
                 Ok(found) => return Ok(found),
                 Err(Stop::Size) => await_size(&mut work, &mut pending)?,
                 Err(other) => return Err(other),
             },
-            Some(request) => settle(cx, &mut work, &mut pending, request)?,
+            Some(request) => {
+                let found = size_of(&knowing(cx, &known), &mut work, &request);
+                settle(&mut work, &mut known, &mut pending, request, found)?;
+            }
         }
     }
     Err(Stop::Fault(None, FaultKind::TooLarge))
+}
+
+/// The same with these sizes known.
+fn knowing<'a, 'k>(cx: &Context<'a, '_>, known: &'k Vec<KnownSize>) -> Context<'a, 'k> {
+    Context {
+        alloc: cx.alloc,
+        items: cx.items,
+        scope: cx.scope,
+        dl: cx.dl,
+        pointer_bits: cx.pointer_bits,
+        known: known.as_slice(),
+    }
 }
 
 /// Puts the size that is wanted before the others that are pending.
@@ -157,15 +176,16 @@ fn await_size<'a>(work: &mut Work<'a>, pending: &mut Vec<Request<'a>>) -> Result
     }
 }
 
-/// Finds the size that a request asks for and notes it, or puts the size before it that has to be known first.
+/// Notes the size that is found for a request, or puts the size before it that has to be known first.
 fn settle<'a>(
-    cx: &Context<'a>,
     work: &mut Work<'a>,
+    known: &mut Vec<KnownSize>,
     pending: &mut Vec<Request<'a>>,
     request: Request<'a>,
+    found: Result<(u64, u64), Stop>,
 ) -> Result<(), Stop> {
-    match size_of(cx, work, &request) {
-        Ok((size, align)) => note(work, request, size, align),
+    match found {
+        Ok((size, align)) => note(known, request, size, align),
         Err(Stop::Size) => {
             pending.push(request)?;
             await_size(work, pending)
@@ -175,7 +195,12 @@ fn settle<'a>(
 }
 
 /// Notes the size and the alignment that a request asks for.
-fn note<'a>(work: &mut Work<'a>, request: Request<'a>, size: u64, align: u64) -> Result<(), Stop> {
+fn note(
+    known: &mut Vec<KnownSize>,
+    request: Request<'_>,
+    size: u64,
+    align: u64,
+) -> Result<(), Stop> {
     let Request {
         at,
         ty: _,
@@ -183,7 +208,7 @@ fn note<'a>(work: &mut Work<'a>, request: Request<'a>, size: u64, align: u64) ->
         item: _,
         given,
     } = request;
-    work.known.push(KnownSize {
+    known.push(KnownSize {
         at,
         given,
         size,
@@ -194,7 +219,7 @@ fn note<'a>(work: &mut Work<'a>, request: Request<'a>, size: u64, align: u64) ->
 
 /// The size and the alignment that a request asks for, in bytes.
 fn size_of<'a>(
-    cx: &Context<'a>,
+    cx: &Context<'a, '_>,
     work: &mut Work<'a>,
     request: &Request<'a>,
 ) -> Result<(u64, u64), Stop> {
@@ -203,7 +228,7 @@ fn size_of<'a>(
         item: request.item,
         given: request.given.as_slice(),
     };
-    let ty = resolve(cx, work, setting, request.ty, MOST_DEEP)?;
+    let ty = resolve(cx, work, setting, request.ty, most_deep())?;
     match sized_tree(cx, work, &ty)? {
         Some(tree) => size_and_align(cx, &tree),
         None => Err(Stop::Fault(Some(request.at), FaultKind::Unsized)),
@@ -211,7 +236,7 @@ fn size_of<'a>(
 }
 
 /// The size and the alignment of a tree, in bytes.
-pub(crate) fn size_and_align(cx: &Context<'_>, tree: &TypeTree) -> Result<(u64, u64), Stop> {
+pub(crate) fn size_and_align(cx: &Context<'_, '_>, tree: &TypeTree) -> Result<(u64, u64), Stop> {
     match lay_out(cx.alloc, cx.dl, tree) {
         Ok(laid) => {
             let layout = laid.layout();
@@ -222,7 +247,12 @@ pub(crate) fn size_and_align(cx: &Context<'_>, tree: &TypeTree) -> Result<(u64, 
 }
 
 /// The names of a type's parts, where it is told of by itself or is written.
-fn shape_of(cx: &Context<'_>, subject: Subject<'_>, ty: &Ty, file: Place) -> Result<Shape, Stop> {
+fn shape_of(
+    cx: &Context<'_, '_>,
+    subject: Subject<'_>,
+    ty: &Ty,
+    file: Place,
+) -> Result<Shape, Stop> {
     let Ty::Adt(number, _) = ty else {
         return Ok(Shape::Plain);
     };
@@ -253,7 +283,7 @@ fn shape_of(cx: &Context<'_>, subject: Subject<'_>, ty: &Ty, file: Place) -> Res
 }
 
 /// The names of fields, and where their types are written in the file.
-fn labels_of(cx: &Context<'_>, fields: &Fields, file: Place) -> Result<Vec<Label>, Stop> {
+fn labels_of(cx: &Context<'_, '_>, fields: &Fields, file: Place) -> Result<Vec<Label>, Stop> {
     let mut labels = Vec::new(cx.alloc);
     for field in &fields.all {
         labels.push(Label {

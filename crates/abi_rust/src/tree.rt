@@ -16,14 +16,14 @@ use crate::resolve::resolve;
 use crate::scalars::{function, limited, named, pointer};
 use crate::tail::{is_always_sized, pointee_tail};
 use crate::ty::{Given, Kind, Ty, Value};
-use crate::work::{Context, MOST_DEEP, Setting, Work, less};
+use crate::work::{Context, Setting, Work, less, most_deep};
 use abi_laid::TypeTree;
 use rust_source::{Enum, Fields, Item, ItemKind, Variant};
 
 /// The tree of a type. `Stop::Size` where a type's size has to be known first.
 #[cycle(trees)]
 pub(crate) fn tree<'a>(
-    cx: &Context<'a>,
+    cx: &Context<'a, '_>,
     work: &mut Work<'a>,
     above: &Above<'_>,
     ty: &Ty,
@@ -54,7 +54,7 @@ pub(crate) fn tree<'a>(
 /// The tree of a tuple.
 #[cycle(trees)]
 fn tree_of_tuple<'a>(
-    cx: &Context<'a>,
+    cx: &Context<'a, '_>,
     work: &mut Work<'a>,
     above: &Above<'_>,
     parts: &Vec<Ty>,
@@ -78,7 +78,7 @@ fn tree_of_tuple<'a>(
 /// The tree of an item under what its parameters are given.
 #[cycle(trees)]
 fn tree_of_item<'a>(
-    cx: &Context<'a>,
+    cx: &Context<'a, '_>,
     work: &mut Work<'a>,
     above: &Above<'_>,
     number: u32,
@@ -102,7 +102,7 @@ fn tree_of_item<'a>(
         ItemKind::Struct(fields) => tree_of_struct(cx, work, &own, inside, item, fields, room),
         ItemKind::Union(fields) => {
             let repr = repr_of(item)?;
-            check_packed(cx, work, item, fields, MOST_DEEP)?;
+            check_packed(cx, work, item, fields, most_deep())?;
             let fields = trees_of(cx, work, &own, inside, fields, room)?;
             Ok(TypeTree::Union { repr, fields })
         }
@@ -114,7 +114,7 @@ fn tree_of_item<'a>(
 /// The tree of a struct.
 #[cycle(trees)]
 fn tree_of_struct<'a>(
-    cx: &Context<'a>,
+    cx: &Context<'a, '_>,
     work: &mut Work<'a>,
     above: &Above<'_>,
     inside: Setting<'_>,
@@ -127,7 +127,7 @@ fn tree_of_struct<'a>(
         Some(number) => is_always_sized(cx, work, number, item)?,
         None => true,
     };
-    check_packed(cx, work, item, fields, MOST_DEEP)?;
+    check_packed(cx, work, item, fields, most_deep())?;
     let mut trees = trees_of(cx, work, above, inside, fields, room)?;
     check_transparent(cx, item, trees.as_slice())?;
     if let Some((start, end)) = item.valid_range {
@@ -142,7 +142,7 @@ fn tree_of_struct<'a>(
 
 /// Limits the first tree's first scalar to a range.
 fn limit_first(
-    cx: &Context<'_>,
+    cx: &Context<'_, '_>,
     trees: &mut Vec<TypeTree>,
     start: u128,
     end: u128,
@@ -158,7 +158,7 @@ fn limit_first(
 /// The trees of fields.
 #[cycle(trees)]
 fn trees_of<'a>(
-    cx: &Context<'a>,
+    cx: &Context<'a, '_>,
     work: &mut Work<'a>,
     above: &Above<'_>,
     inside: Setting<'_>,
@@ -167,7 +167,7 @@ fn trees_of<'a>(
 ) -> Result<Vec<TypeTree>, Stop> {
     let mut trees = Vec::new(cx.alloc);
     for field in &fields.all {
-        let ty = resolve(cx, work, inside, &field.ty, MOST_DEEP)?;
+        let ty = resolve(cx, work, inside, &field.ty, most_deep())?;
         let one = match tree(cx, work, above, &ty, room) {
             Ok(one) => one,
             Err(Stop::Fault(None, kind)) => return Err(stop_at(field.start, kind)),
@@ -181,7 +181,7 @@ fn trees_of<'a>(
 /// The tree of an enum.
 #[cycle(trees)]
 fn tree_of_enum<'a>(
-    cx: &Context<'a>,
+    cx: &Context<'a, '_>,
     work: &mut Work<'a>,
     above: &Above<'_>,
     inside: Setting<'_>,
@@ -205,7 +205,7 @@ fn tree_of_enum<'a>(
 
 /// A variant's discriminant: what is written, or else the number that comes next.
 fn discriminant_of<'a>(
-    cx: &Context<'a>,
+    cx: &Context<'a, '_>,
     work: &mut Work<'a>,
     item: &'a Item,
     variant: &'a Variant,
@@ -217,7 +217,7 @@ fn discriminant_of<'a>(
     let value = match &variant.discriminant {
         Some(expr) => {
             let wanted = Some(Kind::Integer(kind));
-            evaluate(cx, work, outside(item.module), expr, wanted, MOST_DEEP)?
+            evaluate(cx, work, outside(item.module), expr, wanted, most_deep())?
         }
         None => match fitting(kind, Width::of(kind, cx.pointer_bits), next) {
             Ok(value) => value,

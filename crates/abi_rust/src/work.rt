@@ -1,29 +1,35 @@
 //! What work at a type knows and asks for.
 
-ghost use Rattle.std.specs.Prelude.{◌≡◌, ◌+◌, IfOk};
+ghost use Rattle.std.specs.Prelude.{◌≡◌, ◌+◌, ◌&&◌, nat_eq, true, IfErr, IfOk, OnOk, Some, None, [], ◌∷◌, ◌++◌, map};
+ghost use Rattle.abi_rust.specs.Known.{known_at, same_givens};
+ghost use Rattle.abi_rust.specs.Meaning.{Answers, is_beside};
+ghost use Rattle.abi_rust.specs.Resolving.{most_deep};
+ghost use Rattle.abi_rust.specs.Types.{all_given, given_of, givens, ty_of};
 
 use crate::fault::{FaultKind, Stop};
 use crate::scope::Scope;
-use crate::ty::{Given, Ty};
+use crate::ty::{Given, Ty, same_givens};
 use abi_base::TargetDataLayout;
 use rust_source::{Items, Place, Type};
 use std::alloc::Global;
 
 /// How deep types and constants may need one another.
-pub(crate) const MOST_DEEP: u32 = 200;
+const MOST_DEEP: u32 = 200;
 
 /// How many parts of types, constants and trees are looked at for one type.
 pub(crate) const MOST_PARTS: u32 = 1 << 22;
 
 /// What all work rests on.
 #[derive(Clone, Copy)]
-pub(crate) struct Context<'a> {
+pub(crate) struct Context<'a, 'k> {
     pub(crate) alloc: Global,
     pub(crate) items: &'a Items,
     pub(crate) scope: &'a Scope,
     pub(crate) dl: &'a TargetDataLayout,
     /// How many bits a pointer has.
     pub(crate) pointer_bits: u32,
+    /// The sizes that are known.
+    pub(crate) known: &'k [KnownSize],
 }
 
 /// Where a type or an expression stands.
@@ -67,22 +73,21 @@ pub(crate) struct Work<'a> {
     left: u32,
     /// The size that has to be known.
     pub(crate) wanted: Option<Request<'a>>,
-    /// The sizes that are known.
-    pub(crate) known: Vec<KnownSize>,
 }
 
 impl<'a> Work<'a> {
     /// Work that has spent nothing.
-    pub(crate) fn new(alloc: Global) -> Work<'a> {
+    pub(crate) fn new() -> Work<'a> {
         Work {
             left: MOST_PARTS,
             wanted: None,
-            known: Vec::new(alloc),
         }
     }
 
     /// Looks at one more part.
-    pub(crate) fn spend(&mut self) -> Result<(), Stop> {
+    pub(crate) fn spend(&mut self) -> Result<(), Stop>
+        ensures { IfErr result (λ e. is_beside e ≡ true) }
+    {
         match self.left.checked_sub(1) {
             Some(left) => {
                 self.left = left;
@@ -91,21 +96,40 @@ impl<'a> Work<'a> {
             None => Err(Stop::Fault(None, FaultKind::TooLarge)),
         }
     }
+}
 
-    /// The size and the alignment that a call asks for, where they are known.
-    pub(crate) fn size_at(&self, at: Place, given: &[Given]) -> Option<(u64, u64)> {
-        for known in &self.known {
-            if known.at == at && known.given.as_slice() == given {
-                return Some((known.size, known.align));
-            }
+/// The size and the alignment that a call asks for, where they are known.
+pub(crate) fn size_at(known: &[KnownSize], at: Place, given: &[Given]) -> Option<(u64, u64)>
+    ensures { result ≡ known_at known.now at (givens (all_given given.now)) }
+{
+    for one in known {
+        if is_for(one, at, given) {
+            return Some((one.size, one.align));
         }
-        None
     }
+    None
+}
+
+/// Whether a size is known for the call at a place, under what is given there.
+fn is_for(known: &KnownSize, at: Place, given: &[Given]) -> bool
+    ensures { result
+        ≡ (nat_eq known.now.at.0 at.0 && same_givens (givens (all_given known.now.given.items)) (givens (all_given given.now))) }
+{
+    known.at.0 == at.0 && same_givens(known.given.as_slice(), given)
+}
+
+/// How deep types and constants may need one another.
+#[tactic(auto, unfolding(crate::specs::Resolving::most_deep))]
+pub(crate) fn most_deep() -> u32
+    ensures { result ≡ most_deep }
+{
+    MOST_DEEP
 }
 
 /// One less room, or a fault where there is none.
 pub(crate) fn less(room: u32) -> Result<u32, Stop>
-    ensures { IfOk result (λ rest. rest + 1 ≡ room) }
+    ensures ok { IfOk result (λ rest. rest + 1 ≡ room) }
+    ensures err { IfErr result (λ e. (room ≡ 0) × (e ≡ Stop.Fault None FaultKind.TooDeep)) }
 {
     match room.checked_sub(1) {
         Some(room) => Ok(room),
@@ -115,21 +139,17 @@ pub(crate) fn less(room: u32) -> Result<u32, Stop>
 
 /// A copy of a type.
 #[cycle(copying)]
-pub(crate) fn copy_of(alloc: Global, work: &mut Work<'_>, ty: &Ty) -> Result<Ty, Stop> {
+pub(crate) fn copy_of(alloc: Global, work: &mut Work<'_>, ty: &Ty) -> Result<Ty, Stop>
+    ensures ok { IfOk result (λ copy. ty_of copy ≡ ty_of ty.now) }
+    ensures err { IfErr result (λ e. is_beside e ≡ true) }
+{
     work.spend()?;
     match ty {
         Ty::Never => Ok(Ty::Never),
         Ty::Primitive(primitive) => Ok(Ty::Primitive(*primitive)),
         Ty::Function => Ok(Ty::Function),
         Ty::Dyn => Ok(Ty::Dyn),
-        Ty::Tuple(parts) => {
-            let mut copies = Vec::new(alloc);
-            for part in parts {
-                let copy = copy_of(alloc, work, part)?;
-                copies.push(copy)?;
-            }
-            Ok(Ty::Tuple(copies))
-        }
+        Ty::Tuple(parts) => Ok(Ty::Tuple(tys_copied(alloc, work, parts)?)),
         Ty::Array(element, count) => {
             let element = copy_of(alloc, work, element)?;
             Ok(Ty::Array(Box::new(alloc, element)?, *count))
@@ -150,20 +170,66 @@ pub(crate) fn copy_of(alloc: Global, work: &mut Work<'_>, ty: &Ty) -> Result<Ty,
     }
 }
 
+/// Puts a type behind the others.
+pub(crate) fn push_ty(all: &mut Vec<Ty>, one: Ty) -> Result<(), Stop>
+    ensures ok { OnOk result (map ty_of all.new.items ≡ map ty_of all.old.items ++ ty_of one ∷ []) }
+    ensures err { IfErr result (λ e. is_beside e ≡ true) }
+{
+    all.push(one)?;
+    Ok(())
+}
+
+/// Puts what a parameter is given behind what the others are.
+pub(crate) fn push_given(all: &mut Vec<Given>, one: Given) -> Result<(), Stop>
+    ensures ok { OnOk result (all_given all.new.items ≡ all_given all.old.items ++ given_of one ∷ []) }
+    ensures err { IfErr result (λ e. is_beside e ≡ true) }
+{
+    all.push(one)?;
+    Ok(())
+}
+
+/// Copies of types.
+#[cycle(copying)]
+#[tactic(auto, using(crate::proofs::Copies::tys_more, crate::proofs::Copies::tys_all))]
+fn tys_copied(alloc: Global, work: &mut Work<'_>, parts: &[Ty]) -> Result<Vec<Ty>, Stop>
+    ensures ok { IfOk result (λ copies. map ty_of copies.items ≡ map ty_of parts.now) }
+    ensures err { IfErr result (λ e. is_beside e ≡ true) }
+{
+    let mut copies = Vec::new(alloc);
+    for part in parts {
+        let copy = copy_of(alloc, work, part)?;
+        push_ty(&mut copies, copy)?;
+    }
+    Ok(copies)
+}
+
+/// A copy of what a parameter is given.
+#[cycle(copying)]
+fn given_copied(alloc: Global, work: &mut Work<'_>, given: &Given) -> Result<Given, Stop>
+    ensures ok { IfOk result (λ copy. given_of copy ≡ given_of given.now) }
+    ensures err { IfErr result (λ e. is_beside e ≡ true) }
+{
+    match given {
+        Given::Type(ty) => Ok(Given::Type(copy_of(alloc, work, ty)?)),
+        Given::Value(value) => Ok(Given::Value(*value)),
+    }
+}
+
 /// Copies of what parameters are given.
 #[cycle(copying)]
+#[tactic(auto, using(crate::proofs::Copies::given_more, crate::proofs::Copies::given_all))]
 pub(crate) fn copies_of(
     alloc: Global,
     work: &mut Work<'_>,
     given: &[Given],
-) -> Result<Vec<Given>, Stop> {
+) -> Result<Vec<Given>, Stop>
+    ensures ok { IfOk result (λ copies. all_given copies.items ≡ all_given given.now) }
+    ensures err { IfErr result (λ e. is_beside e ≡ true) }
+{
     let mut copies = Vec::new(alloc);
     for one in given {
-        let copy = match one {
-            Given::Type(ty) => Given::Type(copy_of(alloc, work, ty)?),
-            Given::Value(value) => Given::Value(*value),
-        };
-        copies.push(copy)?;
+        let copy = given_copied(alloc, work, one)?;
+        push_given(&mut copies, copy)?;
     }
     Ok(copies)
 }

@@ -1,5 +1,5 @@
-use Rattle.std.proofs.Common.{◌≡◌, length, map, ℕ, ◌+◌, ◌-◌, ◌<◌, ◌≤◌, List, ◌∷◌, drop, Some, sym, ap, ◌∙◌, arith}
-use Rattle.abi_rust.specs.Names.{behind_all, space_before, target}
+use Rattle.std.proofs.Common.{◌≡◌, length, map, ◌+◌, ◌<◌, drop, Some, sym, ◌∙◌, arith}
+use Rattle.abi_rust.specs.Names.{target}
 use Rattle.abi_rust.proofs.Rooms.{all_named, names_on, names_past, names_end}
 use Rattle.abi_rust.proofs.paths.+names.Goals as goal
 

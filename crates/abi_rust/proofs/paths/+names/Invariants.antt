@@ -1,7 +1,6 @@
 -- Each of these looks for a name within less room, or within the same room what stands lower.
 use Rattle.std.proofs.Common.{◌≡◌, ◌+◌, ◌*◌, drop, map}
-use Rattle.std.specs.Prelude.{Some}
-use Rattle.abi_rust.specs.Names.{among, behind_all, path_named, target, within}
+use Rattle.abi_rust.specs.Names.{among, behind_all, target}
 use Rattle.abi_rust.proofs.paths.+names.Given as goal
 
 abbrev pub decreases-follow : goal.decreases-follow

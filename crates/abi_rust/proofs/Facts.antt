@@ -1,0 +1,40 @@
+-- Worked facts: what a few expressions and types mean wherever they stand.
+use Rattle.std.proofs.Common.{◌≡◌, Box, Global, Some, None, Ok, refl}
+use Rattle.std.specs.Prelude.{pos, negsuc}
+use Rattle.rust_source.specs.declared.place.Place.{Place}
+use Rattle.rust_source.specs.declared.syntax.Binary.TheVariants.{Add, Shl}
+use Rattle.rust_source.specs.declared.syntax.Expr.{Integer, Binary'}
+use Rattle.rust_source.specs.declared.syntax.IntegerKind.TheVariants.{I32, U8, U32}
+use Rattle.abi_rust.specs.declared.fault.FaultKind.TheVariants.{Overflow, WrongType}
+use Rattle.abi_rust.specs.declared.ty.Kind.TheVariants.{Integer as KindInteger}
+use Rattle.abi_rust.specs.declared.work.Context.{Context}
+use Rattle.abi_rust.specs.Evaluating.{binary_value, evaluator, value_with}
+use Rattle.abi_rust.specs.Meaning.{fault_at}
+use Rattle.abi_rust.specs.Operators.{cast_of}
+use Rattle.abi_rust.specs.Types.{Where}
+use Rattle.abi_rust.specs.Values.{number}
+
+module _ (cx : Context) (w : Where) (at : Place) (p q : Box (Unit {0}) Global) where
+  -- `2 + 3` where a `u8` is wanted
+  sum : evaluator cx 2 w (Binary' Add p (Integer 2 None at) q (Integer 3 None at) at) (Some (KindInteger U8)) ≡ Ok (number U8 (pos 5))
+  unfolding evaluator value_with binary_value
+  sum = refl
+
+  -- `200u8 + 100` overflows at its left operand's place
+  too_large : evaluator cx 2 w (Binary' Add p (Integer 200 (Some U8) at) q (Integer 100 None at) at) None ≡ fault_at at (Overflow U8)
+  unfolding evaluator value_with binary_value
+  too_large = refl
+
+  -- `1u8 << 3u32`: a shift's right operand has a type of its own
+  shift : evaluator cx 2 w (Binary' Shl p (Integer 1 (Some U8) at) q (Integer 3 (Some U32) at) at) None ≡ Ok (number U8 (pos 8))
+  unfolding evaluator value_with binary_value
+  shift = refl
+
+  -- `1u8 + 3u32` is of two types
+  apart : evaluator cx 2 w (Binary' Add p (Integer 1 (Some U8) at) q (Integer 3 (Some U32) at) at) None ≡ fault_at at WrongType
+  unfolding evaluator value_with binary_value
+  apart = refl
+
+-- `-1i32 as u8`
+low_bits : cast_of 64 (KindInteger U8) (number I32 (negsuc 0)) ≡ Ok (number U8 (pos 255))
+low_bits = refl

@@ -1,0 +1,42 @@
+-- Lists that are gone through, one more.
+use Rattle.std.proofs.Common.{◌≡◌, ℕ, zero, suc, ◌+◌, ◌<◌, ◌≤◌, List, [], ◌∷◌, ◌++◌, Ok, length, drop, get_or, drop-cons, add-one, refl, ap}
+use Rattle.std.proofs.lemmas.List.{drop_all}
+use Rattle.std.specs.Prelude.{Option, slice_get}
+use Rattle.rust_source.specs.declared.item.Item.{Item}
+use Rattle.rust_source.specs.declared.item.Parameter.{Parameter}
+use Rattle.rust_source.specs.declared.syntax.Argument.{Argument}
+use Rattle.rust_source.specs.declared.syntax.Segment.{Segment}
+use Rattle.rust_source.specs.declared.syntax.«Type».{«Type» as Written}
+use Rattle.abi_rust.specs.declared.work.Context.{Context}
+use Rattle.abi_rust.specs.Meaning.{after}
+use Rattle.abi_rust.specs.Resolving.{Inner, first_argument, give_from, one_given, other_arguments, tuple_from}
+use Rattle.abi_rust.specs.Types.{GivenRead, TyRead, Where, tuple, types}
+
+module _ (cx : Context) (R : Inner) where
+  first_at : (all : List Argument) (i : ℕ) → first_argument cx R (drop i all) ≡ slice_get all i
+  first_at [] zero = refl
+  first_at [] (suc i) = refl
+  first_at (a ∷ all) zero = refl
+  first_at (a ∷ all) (suc i) = first_at all i
+
+  others_at : (all : List Argument) (i : ℕ) → other_arguments cx R (drop i all) ≡ drop (suc i) all
+  others_at [] zero = refl
+  others_at [] (suc i) = refl
+  others_at (a ∷ all) zero = refl
+  others_at (a ∷ all) (suc i) = others_at all i
+
+module _ (cx : Context) (R : Inner) (w : Where) where
+  pub tuple_more : (all : List Written) (i : ℕ) (t : Written) (made : List TyRead) → i < length all → t ≡ get_or all i t
+      → tuple_from cx R w made (drop i all) ≡ after (λ r. tuple_from cx R w (made ++ r ∷ []) (drop (i + 1) all)) (R.type_of w t)
+  tuple_more all i t made more is = rw (drop-cons all i t, ← is, add-one i) refl
+
+  pub tuple_done : (all : List Written) (i : ℕ) (made : List TyRead) → length all ≤ i → tuple_from cx R w made (drop i all) ≡ Ok (tuple (types made))
+  tuple_done all i made done = ap (λ rest. tuple_from cx R w made rest) (drop_all i all done)
+
+  pub give_more : (n : ℕ) (it : Item) (s : Segment) (ps : List Parameter) (all : List Argument) (i : ℕ) (p : Parameter) (a : Option Argument) (given : List GivenRead) → i < length ps → p ≡ get_or ps i p → a ≡ slice_get all i
+      → give_from cx R w n it s given (drop i ps) (drop i all) ≡ after (λ g. give_from cx R w n it s (given ++ g ∷ []) (drop (i + 1) ps) (drop (i + 1) all)) (one_given cx R w n it s given p.kind a)
+  give_more n it s ps all i p a given more is at =
+      rw (drop-cons ps i p, ← is, add-one i, first_at cx R all i, others_at cx R all i, at) refl
+
+  pub give_done : (n : ℕ) (it : Item) (s : Segment) (ps : List Parameter) (all : List Argument) (i : ℕ) (given : List GivenRead) → length ps ≤ i → give_from cx R w n it s given (drop i ps) all ≡ Ok given
+  give_done n it s ps all i given done = ap (λ rest. give_from cx R w n it s given rest all) (drop_all i ps done)

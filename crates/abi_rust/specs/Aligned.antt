@@ -1,0 +1,88 @@
+-- What a repr asks of the fields of a type.
+use Rattle.std.specs.Prelude.{ℕ, zero, suc, ◌&&◌, ◌||◌, not, nat_eq, is_some, Bool, true, false, List, [], ◌∷◌, length, Option, Some, None, Ok, if◌then◌else◌}
+use Rattle.rust_source.specs.declared.item.Field.{Field}
+use Rattle.rust_source.specs.declared.item.Item.{Item}
+use Rattle.rust_source.specs.declared.item.ItemKind.{ItemKind}
+use Rattle.rust_source.specs.declared.item.ItemKind.TheVariants.{Alias as AliasItem, Struct as StructItem, Union as UnionItem}
+use Rattle.rust_source.specs.declared.item.Variant.{Variant}
+use Rattle.rust_source.specs.declared.place.Place.{Place}
+use Rattle.rust_source.specs.declared.syntax.«Type».{«Type» as Written}
+use Rattle.abi_rust.specs.declared.fault.FaultKind.TheVariants.{AlignedInPacked, DiscriminantWithoutRepr}
+use Rattle.abi_rust.specs.declared.paths.Found.{Found}
+use Rattle.abi_rust.specs.declared.paths.Found.TheVariants.{Item as ItemFound}
+use Rattle.abi_rust.specs.declared.work.Context.{Context}
+use Rattle.abi_rust.specs.Kinds.{found_by, item_at}
+use Rattle.abi_rust.specs.Meaning.{Meaning, after, fault_at, too_deep}
+use Rattle.abi_rust.specs.Names.{root}
+
+-- whether fields that are written in a module, a type that is, or an item has `align`, or a field of it
+pub record Aligning : Type 0 where
+  pub of_fields : (inside : ℕ) → List Field → Meaning Bool
+  pub of_type : (inside : ℕ) → Written → Meaning Bool
+  pub of_item : Item → List Field → Meaning Bool
+
+abbrev pub place_or : Place → Option Place → Place
+place_or at None = at
+place_or at (Some repr) = repr
+
+-- where an item's repr stands, or its name where it has none
+abbrev pub place_of_repr : Item → Place
+place_of_repr it = place_or it.at it.repr.at
+
+-- a discriminant of these variants is written
+abbrev pub any_written : List Variant → Bool
+any_written [] = false
+any_written (v ∷ vs) = is_some v.discriminant || any_written vs
+
+-- one of these variants has fields, or parentheses for them
+abbrev pub any_fields : List Variant → Bool
+any_fields [] = false
+any_fields (v ∷ vs) = (v.fields.is_tuple || not (nat_eq (length v.fields.all.items) 0)) || any_fields vs
+
+-- an enum with a discriminant and a variant with fields has an integer as its repr
+abbrev pub discriminants_checked : Item → List Variant → Meaning Bool
+discriminants_checked it vs =
+    if not (is_some it.repr.integer) && (any_written vs && any_fields vs) then fault_at it.at DiscriminantWithoutRepr else Ok true
+
+module _ (cx : Context) where
+  module _ (A : Aligning) where
+    -- one of these fields has `align` in its type, or in a field of that
+    abbrev pub any_aligned : (inside : ℕ) → List Field → Meaning Bool
+    any_aligned m [] = Ok false
+    any_aligned m (f ∷ fs) = after (λ is. if is then Ok true else any_aligned m fs) (A.of_type m f.ty)
+
+    abbrev pub kind_aligned : Item → ItemKind → Meaning Bool
+    kind_aligned it (AliasItem t) = A.of_type it.«module» t
+    kind_aligned it (StructItem fields) = A.of_item it fields.all.items
+    kind_aligned it (UnionItem fields) = A.of_item it fields.all.items
+    kind_aligned it _ = Ok false
+
+    abbrev pub item_aligned : Option Item → Meaning Bool
+    item_aligned None = Ok false
+    item_aligned (Some it) = kind_aligned it it.kind
+
+    abbrev pub found_aligned : Option Found → Meaning Bool
+    found_aligned (Some (ItemFound n)) = item_aligned (item_at cx.items.now cx.scope.now n)
+    found_aligned _ = Ok false
+
+    -- a type has `align`, or a field of it: by what it names alone
+    unfoldable pub type_aligned : (inside : ℕ) → Written → Meaning Bool
+    type_aligned m t = found_aligned (found_by cx.items.now cx.scope.now m t)
+
+    -- a struct or a union has `align`, or a field of it, of which the standard library's aren't looked at
+    unfoldable pub fields_aligned : Item → List Field → Meaning Bool
+    fields_aligned it fs =
+        if is_some it.repr.align then Ok true
+        else (if nat_eq (root cx.items.now it.«module») cx.scope.now.std_root then Ok false else A.of_fields it.«module» fs)
+
+  -- the same, where types may need one another so deep
+  unfoldable pub aligning : (room : ℕ) → Aligning
+  aligning zero = record { of_fields = λ m fs. too_deep; of_type = λ m t. too_deep; of_item = λ it fs. too_deep }
+  aligning (suc room) = record { of_fields = any_aligned (aligning room); of_type = type_aligned (aligning room); of_item = fields_aligned (aligning room) }
+
+  -- a packed struct or union has no field whose type has `align`
+  unfoldable pub packed_checked : (room : ℕ) → Item → List Field → Meaning Bool
+  packed_checked room it fs =
+      if is_some it.repr.packed
+      then after (λ is. if is then fault_at (place_of_repr it) AlignedInPacked else Ok true) ((aligning room).of_fields it.«module» fs)
+      else Ok true

@@ -1,0 +1,341 @@
+-- The value of a constant expression.
+use Rattle.std.specs.Prelude.{ℕ, zero, suc, ◌-◌, ◌^◌, ◌&&◌, not, nat_eq, Bool, true, false, cond, List, [], ◌∷◌, length, ℤ, pos, neg_ℤ, ◌+ℤ◌, int_lt, Option, Some, None, Ok, Err, if◌then◌else◌}
+use Rattle.std.specs.Option.{option_and_then, option_map, option_or}
+use Rattle.rust_source.specs.declared.item.Item.{Item}
+use Rattle.rust_source.specs.declared.item.ItemKind.{ItemKind}
+use Rattle.rust_source.specs.declared.item.ItemKind.TheVariants.{Const as ConstItem, Enum as EnumItem}
+use Rattle.rust_source.specs.declared.item.Variant.{Variant}
+use Rattle.rust_source.specs.declared.place.Place.{Place}
+use Rattle.rust_source.specs.declared.place.Symbol.{Symbol}
+use Rattle.rust_source.specs.declared.syntax.Argument.{Argument, out-Argument}
+use Rattle.rust_source.specs.declared.syntax.Argument.TheOpen as layer
+use Rattle.rust_source.specs.declared.syntax.Binary.{Binary}
+use Rattle.rust_source.specs.declared.syntax.Expr.{Expr, out-Expr, Integer as IntegerExpr, Char as CharExpr, Bool as BoolExpr, Path as PathExpr, Call', Unary', Binary', Cast', If', Unevaluated as UnevaluatedExpr}
+use Rattle.rust_source.specs.declared.syntax.IntegerKind.{IntegerKind}
+use Rattle.rust_source.specs.declared.syntax.IntegerKind.TheVariants.{I32, Isize, U8, U32, Usize}
+use Rattle.rust_source.specs.declared.syntax.Path.{Path, out-Path}
+use Rattle.rust_source.specs.declared.syntax.Segment.{Segment, out-Segment}
+use Rattle.rust_source.specs.declared.syntax.«Type».{«Type» as Written}
+use Rattle.rust_source.specs.declared.syntax.Unary.{Unary}
+use Rattle.rust_source.specs.declared.syntax.Unary.TheVariants.{Minus}
+use Rattle.rust_source.specs.declared.syntax.Unevaluated.TheVariants.{Associated, Expression}
+use Rattle.abi_rust.specs.declared.fault.FaultKind.{FaultKind}
+use Rattle.abi_rust.specs.declared.fault.FaultKind.TheVariants.{Unevaluated, UnknownConstant, WrongType}
+use Rattle.abi_rust.specs.declared.fault.Stop.TheVariants.{Fault, Size}
+use Rattle.abi_rust.specs.declared.paths.Found.{Found}
+use Rattle.abi_rust.specs.declared.paths.Found.TheVariants.{Module, Item as ItemFound}
+use Rattle.abi_rust.specs.declared.paths.Space.TheVariants.{Types, Values}
+use Rattle.abi_rust.specs.declared.ty.Kind.{Kind}
+use Rattle.abi_rust.specs.declared.ty.Kind.TheVariants.{Bool as BoolKind, Char as CharKind, Integer as KindInteger}
+use Rattle.abi_rust.specs.declared.work.Context.{Context}
+use Rattle.abi_rust.specs.declared.words.Word.TheVariants as word
+use Rattle.abi_rust.specs.Kinds.{constant_named, constant_place, given_named, is_shift, item_at, kind_at, kind_of, kind_written, operand_kind, outside, single_name}
+use Rattle.abi_rust.specs.Known.{known_at}
+use Rattle.abi_rust.specs.Meaning.{Meaning, after, fault_at, too_deep}
+use Rattle.abi_rust.specs.Names.{found, found_of}
+use Rattle.abi_rust.specs.Operators.{Made, binary_of, bits_in, cast_of, fitted, is_settled, is_signed, same_kind, unary_of}
+use Rattle.abi_rust.specs.Places.{last_name, place_of, place_of_path}
+use Rattle.abi_rust.specs.Scope.{module_in}
+use Rattle.abi_rust.specs.Types.{GivenRead, Where, givens, of_value}
+use Rattle.abi_rust.specs.Values.{ValueRead, code, kind_read, number, truth}
+use Rattle.abi_rust.specs.Words.{is_word, same_name, symbol_of}
+
+-- a value, or a fault at the place
+abbrev pub made_at : Place → Made → Meaning ValueRead
+made_at at (Ok v) = Ok v
+made_at at (Err kind) = fault_at at kind
+
+-- the value, where it is of the type that is wanted
+abbrev pub typed : Place → (wanted : Option Kind) → ValueRead → Meaning ValueRead
+typed at None v = Ok v
+typed at (Some kind) v = if same_kind (kind_read v) kind then Ok v else fault_at at WrongType
+
+-- the type of a literal: of its suffix, or the one that is wanted, or else `i32`
+abbrev pub literal_kind : (suffix : Option IntegerKind) → (wanted : Option Kind) → Option IntegerKind
+literal_kind (Some kind) wanted = Some kind
+literal_kind None (Some (KindInteger kind)) = Some kind
+literal_kind None (Some _) = None
+literal_kind None None = Some I32
+
+abbrev pub literal_by : (pointer_bits : ℕ) → ℤ → Place → Option IntegerKind → Meaning ValueRead
+literal_by n z at None = fault_at at WrongType
+literal_by n z at (Some kind) =
+    if int_lt z (pos 0) && not (is_signed kind) then fault_at at WrongType
+    else made_at at (fitted kind (is_signed kind) (bits_in n kind) z)
+
+-- a literal's value
+abbrev pub literal : (pointer_bits : ℕ) → ℤ → (suffix : Option IntegerKind) → (wanted : Option Kind) → Place → Meaning ValueRead
+literal n z suffix wanted at = literal_by n z at (literal_kind suffix wanted)
+
+-- the type that a literal has behind which a cast to a type stands
+abbrev pub inner_kind : Kind → Expr → Option Kind
+inner_kind CharKind (IntegerExpr n suffix at) = Some (KindInteger U8)
+inner_kind (KindInteger kind) (IntegerExpr n suffix at) = Some (KindInteger kind)
+inner_kind BoolKind (IntegerExpr n suffix at) = None
+inner_kind kind (Unary' u p e at) = inner_kind kind e
+inner_kind kind _ = None
+
+-- the integer type of an enum's discriminants
+abbrev pub integer_or_isize : Option IntegerKind → IntegerKind
+integer_or_isize (Some kind) = kind
+integer_or_isize None = Isize
+
+abbrev pub discriminant_kind : Item → IntegerKind
+discriminant_kind it = integer_or_isize it.repr.integer
+
+-- the discriminant that is written last up to a variant, and how far that one stands behind it, or behind the first
+abbrev pub written_on : (go_on : ℕ → Option Expr → ℕ × Option Expr) → (behind : ℕ) → (before : Option Expr) → Option Expr → ℕ × Option Expr
+written_on go_on behind before None = go_on (suc behind) before
+written_on go_on behind before (Some e) = go_on 0 (Some e)
+
+abbrev pub written_from : (left : ℕ) → List Variant → (behind : ℕ) → (before : Option Expr) → ℕ × Option Expr
+written_from zero vs behind before = (behind, before)
+written_from (suc left) [] behind before = (behind, before)
+written_from (suc left) (v ∷ vs) behind before = written_on (written_from left vs) behind before v.discriminant
+
+unfoldable pub written_before : (index : ℕ) → List Variant → ℕ × Option Expr
+written_before index [] = (0, None)
+written_before index (v ∷ vs) = written_from index vs 0 v.discriminant
+
+-- the number of the first of these variants that has the name, counted from one on
+abbrev pub variant_from : (counted : ℕ) → Symbol → List Variant → Option ℕ
+variant_from n name [] = None
+variant_from n name (v ∷ vs) = if same_name v.name name then Some n else variant_from (suc n) name vs
+
+-- the type that an argument is
+abbrev pub argument_type : Argument → Option Written
+argument_type a = elim (out-Argument a) as (λ _. Option Written) [ layer.«Type» t ↦ Some t | layer.Const e ↦ None | layer.Binding at ↦ None ]
+
+abbrev pub only_argument : List Argument → Option Written
+only_argument (a ∷ []) = argument_type a
+only_argument _ = None
+
+-- the type that a path's last name is given, where that is all
+unfoldable pub only_type : Path → Option Written
+only_type p = option_and_then (λ s. only_argument (out-Segment s).arguments.items) (last_name p)
+
+-- the limit of this name of an integer type
+abbrev pub limit_named : Context → IntegerKind → Symbol → Option ValueRead
+limit_named cx kind name =
+    let k = bits_in cx.pointer_bits kind in
+    let s = is_signed kind in
+    let words = cx.scope.now.words in
+    if is_word words name word.Max then Some (number kind (pos (cond s (2 ^ (k - 1) - 1) (2 ^ k - 1))))
+    else (if is_word words name word.Min then Some (number kind (cond s (neg_ℤ (pos (2 ^ (k - 1)))) (pos 0)))
+    else (if is_word words name word.Bits then Some (number U32 (pos k)) else None))
+
+-- how expressions are evaluated where they stand, of the type that is wanted
+abbrev pub Evaluator : Type 0
+Evaluator = Where → Expr → (wanted : Option Kind) → Meaning ValueRead
+
+module _ (cx : Context) where
+  -- what is wrong with a path whose last name is no constant's
+  abbrev pub unknown_by : Symbol → Option Found → FaultKind
+  unknown_by name (Some (Module m)) = UnknownConstant name
+  unknown_by name _ = Unevaluated Associated
+
+  unfoldable pub unknown_of : (inside : ℕ) → Path → (count : ℕ) → Symbol → FaultKind
+  unknown_of m p count name = unknown_by name (found_of cx.items.now cx.scope.now m p count Types)
+
+  abbrev pub limit_of : Symbol → Option Kind → Option ValueRead
+  limit_of name (Some (KindInteger kind)) = limit_named cx kind name
+  limit_of name _ = None
+
+  abbrev pub limit_or : Place → FaultKind → Option ValueRead → Meaning ValueRead
+  limit_or at kind (Some v) = Ok v
+  limit_or at kind None = fault_at at kind
+
+  abbrev pub limit_by : Where → Path → (count : ℕ) → Option Segment → Meaning ValueRead
+  limit_by w p count None = Err (Fault None (Unevaluated Expression))
+  limit_by w p count (Some s) =
+      let name = (out-Segment s).name in
+      if nat_eq count 0 then fault_at (out-Segment s).at (UnknownConstant name)
+      else limit_or (out-Segment s).at (unknown_of w.inside p count name) (limit_of name (kind_at cx.items.now cx.scope.now w p count))
+
+  -- `T::MAX`, `T::MIN` or `T::BITS` of an integer type
+  unfoldable pub limit : Where → Path → Meaning ValueRead
+  limit w p = limit_by w p (length (out-Path p).segments.items - 1) (last_name p)
+
+  abbrev pub asks_by : Option ℕ → Option Item → Option Bool
+  asks_by m None = None
+  asks_by None (Some it) = None
+  asks_by (Some m) (Some it) =
+      if nat_eq it.«module» m
+      then (if is_word cx.scope.now.words it.name word.SizeOf then Some true
+      else (if is_word cx.scope.now.words it.name word.AlignOf then Some false else None))
+      else None
+
+  abbrev pub asks_found : Option Found → Option Bool
+  asks_found (Some (ItemFound n)) =
+      asks_by (module_in cx.scope.now cx.scope.now.std_root (symbol_of cx.scope.now.words word.Mem)) (item_at cx.items.now cx.scope.now n)
+  asks_found _ = None
+
+  -- a path names `size_of`, or else `align_of`; nothing for other paths
+  unfoldable pub asks_size : (inside : ℕ) → Path → Option Bool
+  asks_size m p = asks_found (found cx.items.now cx.scope.now m p Values)
+
+  -- the size or the alignment that is known
+  abbrev pub size_or_align : Bool → ℕ × ℕ → ℕ
+  size_or_align true known = known.0
+  size_or_align false known = known.1
+
+  abbrev pub known_by : Bool → Option (ℕ × ℕ) → Meaning ValueRead
+  known_by asks (Some known) = Ok (number Usize (pos (size_or_align asks known)))
+  known_by asks None = Err Size
+
+  abbrev pub call_by : Where → Place → Option Bool → Option Written → Meaning ValueRead
+  call_by w at None t = fault_at at (Unevaluated Expression)
+  call_by w at (Some asks) None = fault_at at (Unevaluated Expression)
+  call_by w at (Some asks) (Some t) = known_by asks (known_at cx.known.now at (givens w.given))
+
+  -- the value of `size_of::<T>()` or `align_of::<T>()`, once it is known
+  unfoldable pub call : Where → Path → Place → Meaning ValueRead
+  call w p at = call_by w at (asks_size w.inside p) (only_type p)
+
+  abbrev pub variant_in : Symbol → Item → ItemKind → Option (Item × ℕ)
+  variant_in name it (EnumItem all) = option_map (λ n. (it, n)) (variant_from 0 name all.variants.items)
+  variant_in name it _ = None
+
+  abbrev pub variant_by : Symbol → Option Item → Option (Item × ℕ)
+  variant_by name None = None
+  variant_by name (Some it) = variant_in name it it.kind
+
+  abbrev pub variant_found : Symbol → Option Found → Option (Item × ℕ)
+  variant_found name (Some (ItemFound n)) = variant_by name (item_at cx.items.now cx.scope.now n)
+  variant_found name _ = None
+
+  abbrev pub variant_of : (inside : ℕ) → Path → Option Segment → Option (Item × ℕ)
+  variant_of m p None = None
+  variant_of m p (Some s) = variant_found (out-Segment s).name (found_of cx.items.now cx.scope.now m p (length (out-Path p).segments.items - 1) Types)
+
+  -- the enum and the number of the variant that a path names
+  unfoldable pub variant_named : (inside : ℕ) → Path → Option (Item × ℕ)
+  variant_named m p = variant_of m p (last_name p)
+
+  abbrev pub value_in : Option GivenRead → Option ValueRead
+  value_in (Some (of_value v)) = Some v
+  value_in _ = None
+
+  -- the value that the parameter is given that a path names
+  abbrev pub value_given : Where → Path → Option ValueRead
+  value_given w p = value_in (option_and_then (given_named cx.items.now cx.scope.now w) (single_name p))
+
+  -- the enum and the number of the variant that an operand of a cast names
+  abbrev pub cast_variant : (inside : ℕ) → Expr → Option (Item × ℕ)
+  cast_variant m (PathExpr p) = variant_named m p
+  cast_variant m _ = None
+
+  -- the right operand has the left one's type, but for a shift
+  abbrev pub right_kind : Where → Binary → ValueRead → Expr → Option Kind
+  right_kind w b v r = if is_shift b then kind_of cx.items.now cx.scope.now w r else Some (kind_read v)
+
+  -- the number that stands so far behind it
+  abbrev pub counted : Item → (behind : ℕ) → ValueRead → Meaning ValueRead
+  counted it behind (number kind z) =
+      let k = discriminant_kind it in
+      made_at it.at (fitted k (is_signed k) (bits_in cx.pointer_bits k) (z +ℤ pos behind))
+  counted it behind _ = fault_at it.at WrongType
+
+  module _ (E : Evaluator) where
+    -- the value of an operator before its operand
+    abbrev pub unary_value : Where → Unary → Expr → (wanted : Option Kind) → Meaning ValueRead
+    unary_value w Minus (IntegerExpr n suffix at) wanted = literal cx.pointer_bits (neg_ℤ (pos n)) suffix wanted at
+    unary_value w u e wanted = after (λ v. made_at (place_of e) (unary_of cx.pointer_bits u v)) (E w e wanted)
+
+    abbrev pub second_value : Where → Binary → (left right : Expr) → ValueRead → Meaning ValueRead
+    second_value w b l r v =
+        if is_settled b v then Ok v
+        else after (λ u. made_at (place_of l) (binary_of cx.pointer_bits b v u)) (E w r (right_kind w b v r))
+
+    -- the value of an operator between its operands
+    unfoldable pub binary_value : Where → Binary → (left right : Expr) → (wanted : Option Kind) → Meaning ValueRead
+    binary_value w b l r wanted =
+        after (second_value w b l r) (E w l (operand_kind cx.items.now cx.scope.now w b l r wanted))
+
+    -- a discriminant that is written, or the first
+    abbrev pub begun : Item → Option Expr → Meaning ValueRead
+    begun it None = Ok (number (discriminant_kind it) (pos 0))
+    begun it (Some e) = E (outside it.«module») e (Some (KindInteger (discriminant_kind it)))
+
+    abbrev pub discriminant_in : Item → (index : ℕ) → ItemKind → Meaning ValueRead
+    discriminant_in it index (EnumItem all) =
+        let w = written_before index all.variants.items in
+        after (counted it w.0) (begun it w.1)
+    discriminant_in it index _ = fault_at it.at WrongType
+
+    -- a variant's discriminant: the one that is written last before it, and one more for each variant behind that
+    unfoldable pub discriminant : Item → (index : ℕ) → Meaning ValueRead
+    discriminant it index = discriminant_in it index it.kind
+
+    -- the value that is cast: a variant's discriminant, or that of the operand
+    abbrev pub operand_value : Where → Expr → Kind → Option (Item × ℕ) → Meaning ValueRead
+    operand_value w e kind (Some v) = discriminant v.0 v.1
+    operand_value w e kind None = E w e (option_or (kind_of cx.items.now cx.scope.now w e) (inner_kind kind e))
+
+    abbrev pub cast_by : Where → Expr → Place → Option Kind → Meaning ValueRead
+    cast_by w e at None = fault_at at (Unevaluated Expression)
+    cast_by w e at (Some kind) =
+        after (λ v. made_at at (cast_of cx.pointer_bits kind v)) (operand_value w e kind (cast_variant w.inside e))
+
+    -- the value of a cast
+    unfoldable pub cast_value : Where → Expr → Written → Place → Meaning ValueRead
+    cast_value w e t at = cast_by w e at (kind_written cx.items.now cx.scope.now w t)
+
+    abbrev pub constant_on : ℕ → Item → Place → (kind : Option Kind) → Option Expr → Meaning ValueRead
+    constant_on n it at (Some kind) (Some e) = E (constant_place cx.scope.now n it) e (Some kind)
+    constant_on n it at _ _ = fault_at at (Unevaluated Expression)
+
+    abbrev pub constant_in : ℕ → Item → Place → ItemKind → Meaning ValueRead
+    constant_in n it at (ConstItem c) = constant_on n it at (kind_written cx.items.now cx.scope.now (constant_place cx.scope.now n it) c.ty) c.value
+    constant_in n it at _ = fault_at at (Unevaluated Expression)
+
+    abbrev pub constant_by : ℕ → Place → Option Item → Meaning ValueRead
+    constant_by n at None = fault_at at (Unevaluated Expression)
+    constant_by n at (Some it) = constant_in n it at it.kind
+
+    -- the value of the constant of this number
+    unfoldable pub constant_value : ℕ → Place → Meaning ValueRead
+    constant_value n at = constant_by n at (item_at cx.items.now cx.scope.now n)
+
+    abbrev pub named_value : Where → Path → Option ℕ → Meaning ValueRead
+    named_value w p (Some n) = constant_value n (place_of_path p)
+    named_value w p None = limit w p
+
+    abbrev pub path_by : Where → Path → Option ValueRead → Meaning ValueRead
+    path_by w p (Some v) = Ok v
+    path_by w p None = named_value w p (constant_named cx.items.now cx.scope.now w p)
+
+    -- the value of the constant that a path names: what a parameter is given, a constant's, or a limit
+    unfoldable pub path_value : Where → Path → Meaning ValueRead
+    path_value w p = path_by w p (value_given w p)
+
+    -- a call without arguments
+    abbrev pub is_bare : Expr → Bool
+    is_bare e = elim (out-Expr e) as (λ _. Bool) [ layer.Call p all at ↦ nat_eq (length all.items) 0 | _ ↦ false ]
+
+    abbrev pub branch_value : Where → (yes no : Expr) → (wanted : Option Kind) → ValueRead → Meaning ValueRead
+    branch_value w l r wanted (truth true) = E w l wanted
+    branch_value w l r wanted _ = E w r wanted
+
+    -- the value of an expression, of whatever type
+    abbrev pub value_by : Where → (wanted : Option Kind) → Expr → Meaning ValueRead
+    value_by w wanted (IntegerExpr n suffix at) = literal cx.pointer_bits (pos n) suffix wanted at
+    value_by w wanted (CharExpr c at) = Ok (code c)
+    value_by w wanted (BoolExpr b at) = Ok (truth b)
+    value_by w wanted (PathExpr p) = path_value w p
+    value_by w wanted (Call' p shape all at) =
+        if is_bare (Call' p shape all at) then call w p at else fault_at at (Unevaluated Expression)
+    value_by w wanted (Unary' u p e at) = unary_value w u e wanted
+    value_by w wanted (Binary' b p l q r at) = binary_value w b l r wanted
+    value_by w wanted (Cast' p e q t at) = cast_value w e t at
+    value_by w wanted (If' p c q l o r at) = after (branch_value w l r wanted) (E w c (Some BoolKind))
+    value_by w wanted (UnevaluatedExpr what at) = fault_at at (Unevaluated what)
+
+    -- the value of an expression
+    unfoldable pub value_with : Evaluator
+    value_with w e wanted = after (typed (place_of e) wanted) (value_by w wanted e)
+
+  -- how expressions are evaluated, where constants may need one another so deep
+  unfoldable pub evaluator : (room : ℕ) → Evaluator
+  evaluator zero w e wanted = too_deep
+  evaluator (suc room) w e wanted = value_with (evaluator room) w e wanted

@@ -1,0 +1,295 @@
+-- The type that a written type means.
+use Rattle.std.specs.Prelude.{ℕ, zero, suc, ◌^◌, ◌&&◌, ◌||◌, nat_eq, nat_lt, is_some, unsigned_abs, Bool, false, List, [], ◌∷◌, ◌++◌, length, slice_get, Option, Some, None, Ok, if◌then◌else◌}
+use Rattle.std.specs.Option.{option_and_then}
+use Rattle.rust_source.specs.declared.item.Item.{Item}
+use Rattle.rust_source.specs.declared.item.ItemKind.{ItemKind}
+use Rattle.rust_source.specs.declared.item.ItemKind.TheVariants.{Alias as AliasItem}
+use Rattle.rust_source.specs.declared.item.Parameter.{Parameter}
+use Rattle.rust_source.specs.declared.item.ParameterKind.{ParameterKind}
+use Rattle.rust_source.specs.declared.item.ParameterKind.TheVariants.{Const as ConstParameter, «Type» as TypeParameter}
+use Rattle.rust_source.specs.declared.place.Place.{Place}
+use Rattle.rust_source.specs.declared.place.Symbol.{Symbol}
+use Rattle.rust_source.specs.declared.place.TheConstants.Symbol.{SELF_TYPE}
+use Rattle.rust_source.specs.declared.syntax.Argument.{Argument, out-Argument}
+use Rattle.rust_source.specs.declared.syntax.Argument.TheOpen.{Argument-F, Type-F}
+use Rattle.rust_source.specs.declared.syntax.Argument.TheOpen as layer
+use Rattle.rust_source.specs.declared.syntax.Expr.{Expr}
+use Rattle.rust_source.specs.declared.syntax.IntegerKind.TheVariants.{Usize}
+use Rattle.rust_source.specs.declared.syntax.Path.{Path, out-Path}
+use Rattle.rust_source.specs.declared.syntax.Segment.{Segment, out-Segment}
+use Rattle.rust_source.specs.declared.syntax.«Type».{«Type» as Written, out-Type, Path as PathType}
+use Rattle.rust_source.specs.declared.syntax.Unevaluated.TheVariants.{Associated, Inferred}
+use Rattle.abi_rust.specs.declared.fault.FaultKind.{FaultKind}
+use Rattle.abi_rust.specs.declared.fault.FaultKind.TheVariants.{Binding, NotAType, Overflow, Unevaluated, UnknownType, WrongArguments, WrongKindOfArgument, WrongType}
+use Rattle.abi_rust.specs.declared.paths.Found.{Found}
+use Rattle.abi_rust.specs.declared.paths.Found.TheVariants.{Module, Item as ItemFound, Primitive as PrimitiveFound}
+use Rattle.abi_rust.specs.declared.paths.Space.TheVariants.{Types, Values}
+use Rattle.abi_rust.specs.declared.ty.Kind.{Kind}
+use Rattle.abi_rust.specs.declared.ty.Kind.TheVariants.{Integer as KindInteger}
+use Rattle.abi_rust.specs.declared.ty.Primitive.TheVariants.{Str}
+use Rattle.abi_rust.specs.declared.work.Context.{Context}
+use Rattle.abi_rust.specs.declared.words.Word.{Word}
+use Rattle.abi_rust.specs.declared.words.Word.TheVariants as word
+use Rattle.abi_rust.specs.Evaluating.{evaluator, path_value}
+use Rattle.abi_rust.specs.Kinds.{given_named, item_at, kind_written, outside, parameter_named, single_name}
+use Rattle.abi_rust.specs.Meaning.{Meaning, after, fault_at, too_deep}
+use Rattle.abi_rust.specs.Names.{found}
+use Rattle.abi_rust.specs.Operators.{same_kind}
+use Rattle.abi_rust.specs.Places.{last_name, place_of, place_of_path}
+use Rattle.abi_rust.specs.Scope.{module_in, type_in}
+use Rattle.abi_rust.specs.Types.{GivenRead, TyRead, Where, adt, array, dyn, function, givens, never, no_types, of_type, of_value, pointer, primitive, reference, slice, tuple, types}
+use Rattle.abi_rust.specs.Values.{ValueRead, kind_read, number}
+use Rattle.abi_rust.specs.Words.{same_name, symbol_of}
+
+-- how deep types and constants may need one another
+unfoldable pub most_deep : ℕ
+most_deep = 200
+
+-- how types are resolved, and items under what a path's last name gives them
+pub record Inner : Type 0 where
+  pub type_of : Where → Written → Meaning TyRead
+  pub item_of : Where → (item : ℕ) → Segment → Meaning TyRead
+
+-- the item is the one of this number
+abbrev pub is_item : Option ℕ → ℕ → Bool
+is_item None n = false
+is_item (Some m) n = nat_eq m n
+
+-- the value is of the type that is wanted
+abbrev pub is_wanted : Option Kind → ValueRead → Bool
+is_wanted None v = false
+is_wanted (Some kind) v = same_kind kind (kind_read v)
+
+-- the inside of an item, under what its parameters are given
+abbrev pub inside_item : ℕ → Item → List GivenRead → Where
+inside_item n it given = record { inside = it.«module»; item = Some n; given = given }
+
+-- the name of the first segment
+abbrev pub first_name : List Segment → Option Symbol
+first_name [] = None
+first_name (s ∷ ss) = Some (out-Segment s).name
+
+abbrev pub is_self_name : Option Symbol → Bool
+is_self_name None = false
+is_self_name (Some name) = same_name name SELF_TYPE
+
+-- a path is `Self` alone
+abbrev pub is_self : Path → Bool
+is_self p = is_self_name (single_name p)
+
+module _ (cx : Context) where
+  -- a constant's value
+  abbrev pub evaluated : Where → Expr → (wanted : Option Kind) → Meaning ValueRead
+  evaluated w e wanted = evaluator cx most_deep w e wanted
+
+  abbrev pub length_by : Expr → ValueRead → Meaning ℕ
+  length_by e (number kind z) = if nat_lt (unsigned_abs z) (2 ^ 64) then Ok (unsigned_abs z) else fault_at (place_of e) (Overflow Usize)
+  length_by e _ = fault_at (place_of e) (Overflow Usize)
+
+  -- an array's length
+  unfoldable pub length_of : Where → Expr → Meaning ℕ
+  length_of w e = after (length_by e) (evaluated w e (Some (KindInteger Usize)))
+
+  -- the type of this name in a module of the standard library
+  unfoldable pub item_in : (inside name : Word) → Option ℕ
+  item_in m name =
+      option_and_then (λ found. type_in cx.scope.now found (symbol_of cx.scope.now.words name))
+      (module_in cx.scope.now cx.scope.now.std_root (symbol_of cx.scope.now.words m))
+
+  -- the owned form of a struct of the standard library that has one
+  abbrev pub form_of_item : ℕ → Option ℕ
+  form_of_item n =
+      if is_item (item_in word.Ffi word.CStr) n then item_in word.Ffi word.CString
+      else (if is_item (item_in word.Ffi word.OsStr) n then item_in word.Ffi word.OsString
+      else (if is_item (item_in word.PathModule word.Path) n then item_in word.PathModule word.PathBuf else None))
+
+  -- the item that is a borrowed type's owned form, where that is another type
+  abbrev pub form_of : TyRead → Option ℕ
+  form_of (primitive Str) = item_in word.StringModule word.String
+  form_of (slice t) = item_in word.VecModule word.Vec
+  form_of (adt n given) = form_of_item n
+  form_of _ = None
+
+  -- what a slice's owned form is given: its element, and an allocator of no bytes
+  abbrev pub form_given : TyRead → List GivenRead
+  form_given (slice t) = of_type t ∷ of_type (tuple no_types) ∷ []
+  form_given _ = []
+
+  abbrev pub owned_form : TyRead → Option ℕ → TyRead
+  owned_form t None = t
+  owned_form t (Some n) = adt n (givens (form_given t))
+
+  abbrev pub owned_by : Option GivenRead → Option TyRead
+  owned_by (Some (of_type t)) = Some (owned_form t (form_of t))
+  owned_by _ = None
+
+  -- the owned form of what the parameter is given, where the item is the one that stands for it
+  unfoldable pub owned_of : ℕ → List GivenRead → Option TyRead
+  owned_of n given = if is_item (item_in word.Borrow word.Owned) n then owned_by (slice_get given 0) else None
+
+  abbrev pub owned_or : ℕ → List GivenRead → Option TyRead → TyRead
+  owned_or n given (Some t) = t
+  owned_or n given None = adt n (givens given)
+
+  abbrev pub type_in_given : Option GivenRead → Option TyRead
+  type_in_given (Some (of_type t)) = Some t
+  type_in_given _ = None
+
+  -- the type that the parameter is given that a path names
+  abbrev pub type_given : Where → Path → Option TyRead
+  type_given w p = type_in_given (option_and_then (given_named cx.items.now cx.scope.now w) (single_name p))
+
+  abbrev pub self_by : Where → Path → Option ℕ → Meaning TyRead
+  self_by w p (Some item) = Ok (adt item (givens w.given))
+  self_by w p None = fault_at (place_of_path p) (UnknownType SELF_TYPE)
+
+  -- the first of several names is a parameter's, or `Self`
+  abbrev pub is_behind_type : Where → Path → Option Symbol → Bool
+  is_behind_type w p None = false
+  is_behind_type w p (Some name) =
+      nat_lt 1 (length (out-Path p).segments.items)
+      && (is_some (parameter_named cx.items.now cx.scope.now w.item name) || same_name name SELF_TYPE)
+
+  abbrev pub unknown_by : Symbol → Option Found → FaultKind
+  unknown_by name (Some found) = NotAType name
+  unknown_by name None = UnknownType name
+
+  -- what is wrong with a path that names no type
+  unfoldable pub unknown : Where → Path → Symbol → FaultKind
+  unknown w p name =
+      if is_behind_type w p (first_name (out-Path p).segments.items) then Unevaluated Associated
+      else unknown_by name (found cx.items.now cx.scope.now w.inside p Values)
+
+  module _ (R : Inner) where
+    -- the types of a tuple, behind these
+    abbrev pub tuple_from : Where → List TyRead → List Written → Meaning TyRead
+    tuple_from w made [] = Ok (tuple (types made))
+    tuple_from w made (t ∷ ts) = after (λ r. tuple_from w (made ++ r ∷ []) ts) (R.type_of w t)
+
+    abbrev pub named_by : Where → Path → Segment → Option Found → Meaning TyRead
+    named_by w p s (Some (PrimitiveFound found)) = Ok (primitive found)
+    named_by w p s (Some (ItemFound n)) = R.item_of w n s
+    named_by w p s (Some (Module m)) = fault_at (place_of_path p) (NotAType (out-Segment s).name)
+    named_by w p s None = fault_at (place_of_path p) (unknown w p (out-Segment s).name)
+
+    abbrev pub named_in : Where → Path → Option Segment → Meaning TyRead
+    named_in w p None = fault_at (place_of_path p) (Unevaluated Inferred)
+    named_in w p (Some s) = named_by w p s (found cx.items.now cx.scope.now w.inside p Types)
+
+    -- the type that names name
+    unfoldable pub named_type : Where → Path → Meaning TyRead
+    named_type w p = named_in w p (last_name p)
+
+    abbrev pub path_by : Where → Path → Option TyRead → Meaning TyRead
+    path_by w p (Some t) = Ok t
+    path_by w p None = if is_self p then self_by w p w.item else named_type w p
+
+    -- the type that a path names: what a parameter is given, `Self`, or what its names name
+    unfoldable pub path_type : Where → Path → Meaning TyRead
+    path_type w p = path_by w p (type_given w p)
+
+    -- the array of so many of a type
+    abbrev pub array_of : Where → Written → ℕ → Meaning TyRead
+    array_of w t n = after (λ e. Ok (array e n)) (R.type_of w t)
+
+    abbrev pub type_on : Where → Type-F Argument Expr Written Path Segment → Meaning TyRead
+    type_on w layer.Never = Ok never
+    type_on w layer.Function = Ok function
+    type_on w layer.Dyn = Ok dyn
+    type_on w (layer.Tuple all) = tuple_from w [] all.items
+    type_on w (layer.Array t e) = after (array_of w t.value) (length_of w e.value)
+    type_on w (layer.Slice t) = after (λ e. Ok (slice e)) (R.type_of w t.value)
+    type_on w (layer.Reference t) = after (λ e. Ok (reference e)) (R.type_of w t.value)
+    type_on w (layer.Pointer t) = after (λ e. Ok (pointer e)) (R.type_of w t.value)
+    type_on w (layer.Type::Path p) = path_type w p
+    type_on w (layer.Type::Unevaluated what at) = fault_at at (Unevaluated what)
+
+    -- the type that is written where it stands
+    unfoldable pub type_with : Where → Written → Meaning TyRead
+    type_with w t = type_on w (out-Type t)
+
+    -- the constant that a path names, of the type that is wanted
+    abbrev pub constant_given : Place → (wanted : Option Kind) → ValueRead → Meaning GivenRead
+    constant_given at wanted v = if is_wanted wanted v then Ok (of_value v) else fault_at at WrongType
+
+    abbrev pub type_as_constant : Where → Place → (wanted : Option Kind) → Written → Meaning GivenRead
+    type_as_constant w at wanted (PathType p) = after (constant_given at wanted) (path_value cx (evaluator cx most_deep) w p)
+    type_as_constant w at wanted _ = fault_at at WrongKindOfArgument
+
+    -- what an argument gives a constant's parameter, evaluated where the argument stands
+    abbrev pub given_constant : Where → Place → (wanted : Option Kind) → Argument-F Argument Expr Written Path Segment → Meaning GivenRead
+    given_constant w at wanted (layer.«Type» t) = type_as_constant w at wanted t
+    given_constant w at wanted (layer.Const e) = after (λ v. Ok (of_value v)) (evaluated w e wanted)
+    given_constant w at wanted (layer.Binding place) = fault_at place Binding
+
+    -- what an argument gives a type's parameter
+    abbrev pub given_type : Where → Place → Argument-F Argument Expr Written Path Segment → Meaning GivenRead
+    given_type w at (layer.«Type» t) = after (λ r. Ok (of_type r)) (R.type_of w t)
+    given_type w at (layer.Const e) = fault_at at WrongKindOfArgument
+    given_type w at (layer.Binding place) = fault_at place Binding
+
+    -- what an argument gives a parameter of an item of this module
+    abbrev pub argument_given : Where → (inside : ℕ) → Place → Argument → ParameterKind → Meaning GivenRead
+    argument_given w m at a (TypeParameter default) = given_type w at (out-Argument a)
+    argument_given w m at a (ConstParameter t default) =
+        given_constant w at (kind_written cx.items.now cx.scope.now (outside m) t) (out-Argument a)
+
+    -- what a parameter is given where no argument stands: its default, in the item itself
+    abbrev pub default_given : Where → Segment → ParameterKind → Meaning GivenRead
+    default_given w s (TypeParameter (Some t)) = after (λ r. Ok (of_type r)) (R.type_of w t)
+    default_given w s (ConstParameter t (Some e)) =
+        after (λ v. Ok (of_value v)) (evaluated w e (kind_written cx.items.now cx.scope.now (outside w.inside) t))
+    default_given w s _ = fault_at (out-Segment s).at (WrongArguments (out-Segment s).name)
+
+    -- what one more parameter is given: by an argument, or else by default
+    abbrev pub one_given : Where → ℕ → Item → Segment → List GivenRead → ParameterKind → Option Argument → Meaning GivenRead
+    one_given w n it s given kind (Some a) = argument_given w it.«module» (out-Segment s).at a kind
+    one_given w n it s given kind None = default_given (inside_item n it given) s kind
+
+    abbrev pub first_argument : List Argument → Option Argument
+    first_argument [] = None
+    first_argument (a ∷ more) = Some a
+
+    abbrev pub other_arguments : List Argument → List Argument
+    other_arguments [] = []
+    other_arguments (a ∷ more) = more
+
+    -- what these parameters are given behind those that are given so much
+    abbrev pub give_from : Where → ℕ → Item → Segment → List GivenRead → List Parameter → List Argument → Meaning (List GivenRead)
+    give_from w n it s given [] arguments = Ok given
+    give_from w n it s given (p ∷ ps) arguments =
+        after (λ g. give_from w n it s (given ++ g ∷ []) ps (other_arguments arguments))
+        (one_given w n it s given p.kind (first_argument arguments))
+
+    -- what an item's parameters are given: arguments, and then defaults
+    unfoldable pub give : Where → ℕ → Item → Segment → Meaning (List GivenRead)
+    give w n it s =
+        if nat_lt (length it.parameters.items) (length (out-Segment s).arguments.items)
+        then fault_at (out-Segment s).at (WrongArguments (out-Segment s).name)
+        else give_from w n it s [] it.parameters.items (out-Segment s).arguments.items
+
+    -- the type that an item is under what its parameters are given
+    abbrev pub item_under : ℕ → Item → ItemKind → List GivenRead → Meaning TyRead
+    item_under n it (AliasItem t) given = R.type_of (inside_item n it given) t
+    item_under n it _ given = Ok (owned_or n given (owned_of n given))
+
+    abbrev pub item_by : Where → ℕ → Segment → Option Item → Meaning TyRead
+    item_by w n s None = fault_at (out-Segment s).at (UnknownType (out-Segment s).name)
+    item_by w n s (Some it) = after (item_under n it it.kind) (give w n it s)
+
+    -- the type that an item is under what the last name of a path gives it
+    unfoldable pub item_with : Where → ℕ → Segment → Meaning TyRead
+    item_with w n s = item_by w n s (item_at cx.items.now cx.scope.now n)
+
+  -- how types are resolved that may need one another so deep
+  unfoldable pub inner : (room : ℕ) → Inner
+  inner zero = record { type_of = λ w t. too_deep; item_of = λ w n s. too_deep }
+  inner (suc room) = record { type_of = type_with (inner room); item_of = item_with (inner room) }
+
+  -- the type that is written where it stands
+  abbrev pub resolver : (room : ℕ) → Where → Written → Meaning TyRead
+  resolver room = (inner room).type_of
+
+  -- the type that is written where it stands, with the most room
+  abbrev pub resolved : Where → Written → Meaning TyRead
+  resolved = resolver most_deep
