@@ -8,7 +8,7 @@ use crate::fault::{SourceFault, SourceFaultKind};
 use crate::reader::cursor::{Cursor, fault};
 
 /// How many others a type, an expression, an attribute or a module may stand in.
-pub(crate) const MOST_NESTED: u32 = 200;
+const MOST_NESTED: u32 = 200;
 
 /// How many others a type or an expression may stand in.
 #[tactic(auto, unfolding(crate::specs::Simple::most_nested))]
