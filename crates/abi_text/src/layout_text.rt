@@ -12,6 +12,9 @@ use abi_laid::Laid;
 use std::alloc::{AllocError, Global};
 use std::io::{Read, Write};
 
+/// For how many bytes of a text room is asked for at the first.
+const FIRST_ROOM: usize = 256;
+
 /// A type is told by all lines of its layout.
 pub struct LayoutText;
 
@@ -19,7 +22,7 @@ impl Telling for LayoutText {
     ghost tells = { TellsLayout };
 
     fn told(alloc: Global, _dl: &TargetDataLayout, laid: &Laid) -> Result<String, AllocError> {
-        let mut text = String::new(alloc);
+        let mut text = String::with_capacity(alloc, FIRST_ROOM)?;
         write_type(alloc, &mut text, laid)?;
         Ok(text)
     }
