@@ -21,6 +21,7 @@ pub record Aligning : Type 0 where
   pub of_type : (inside : ℕ) → Written → Meaning Bool
   pub of_item : Item → List Field → Meaning Bool
 
+-- the place of the `repr`, where there is one; else this place
 abbrev pub place_or : Place → Option Place → Place
 place_or at None = at
 place_or at (Some repr) = repr

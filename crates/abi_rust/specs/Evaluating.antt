@@ -57,6 +57,7 @@ literal_kind None (Some (KindInteger kind)) = Some kind
 literal_kind None (Some _) = None
 literal_kind None None = Some I32
 
+-- a literal of this type, at this place; negative only where the type has a sign
 abbrev pub literal_by : (pointer_bits : ℕ) → ℤ → Place → Option IntegerKind → Meaning ValueRead
 literal_by n z at None = fault_at at WrongType
 literal_by n z at (Some kind) =
@@ -80,6 +81,7 @@ abbrev pub integer_or_isize : Option IntegerKind → IntegerKind
 integer_or_isize (Some kind) = kind
 integer_or_isize None = Isize
 
+-- that of its `repr`, or else `isize`
 abbrev pub discriminant_kind : Item → IntegerKind
 discriminant_kind it = integer_or_isize it.repr.integer
 
@@ -88,6 +90,7 @@ abbrev pub written_on : (go_on : ℕ → Option Expr → ℕ × Option Expr) →
 written_on go_on behind before None = go_on (suc behind) before
 written_on go_on behind before (Some e) = go_on 0 (Some e)
 
+-- the same, from the first of these variants on, with what was written before them
 abbrev pub written_from : (left : ℕ) → List Variant → (behind : ℕ) → (before : Option Expr) → ℕ × Option Expr
 written_from zero vs behind before = (behind, before)
 written_from (suc left) [] behind before = (behind, before)
@@ -106,6 +109,7 @@ variant_from n name (v ∷ vs) = if same_name v.name name then Some n else varia
 abbrev pub argument_type : Argument → Option Written
 argument_type a = elim (out-Argument a) as (λ _. Option Written) [ layer.«Type» t ↦ Some t | layer.Const e ↦ None | layer.Binding at ↦ None ]
 
+-- the type that is the only argument
 abbrev pub only_argument : List Argument → Option Written
 only_argument (a ∷ []) = argument_type a
 only_argument _ = None

@@ -32,6 +32,7 @@ is_want (Layout LayOutOfMemory) = true
 is_want (Layout _) = false
 is_want _ = false
 
+-- the stop is such a want
 abbrev pub is_beside : Stop → Bool
 is_beside (Fault at kind) = is_want kind
 is_beside Size = false

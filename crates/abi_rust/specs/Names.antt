@@ -27,6 +27,7 @@ most_modules = 256
 abbrev pub parent : Items → (inside : ℕ) → Option ℕ
 parent items m = option_and_then (λ found. found.parent) (slice_get items.modules.items m)
 
+-- the root of the module above, or this one where none is above
 abbrev pub root_above : (go_on : ℕ → ℕ) → (inside : ℕ) → Option ℕ → ℕ
 root_above go_on m None = m
 root_above go_on m (Some above) = go_on above

@@ -129,6 +129,7 @@ abbrev pub shifted_right : IntegerKind → (signed : Bool) (bits : ℕ) → (a b
 shifted_right kind s k a b =
     if is_shift_by k b then fitted kind s k (int_div_euclid a (pos (2 ^ unsigned_abs b))) else Err (Overflow kind)
 
+-- the number is 0, by which nothing is divided
 abbrev pub is_zero : ℤ → Bool
 is_zero (pos n) = nat_eq n 0
 is_zero (negsuc n) = false
@@ -183,6 +184,7 @@ as_code (code c) = Ok (code c)
 as_code (number U8 z) = Ok (code (unsigned_abs z % 256))
 as_code _ = Err WrongType
 
+-- a truth value, and nothing else
 abbrev pub as_truth : ValueRead → Made
 as_truth (truth b) = Ok (truth b)
 as_truth _ = Err WrongType

@@ -5,6 +5,7 @@ use Rattle.rust_source.specs.declared.syntax.Expr.{Expr, Integer, Char, Bool, Pa
 use Rattle.rust_source.specs.declared.syntax.Path.{Path, out-Path}
 use Rattle.rust_source.specs.declared.syntax.Segment.{Segment, out-Segment}
 
+-- where a segment stands; the first place of all where there is none
 abbrev pub place_of_segment : Option Segment → Place
 place_of_segment None = record { 0 = 0 }
 place_of_segment (Some s) = (out-Segment s).at

@@ -61,6 +61,7 @@ abbrev pub align_or : Place → Result ℕ AlignFromBytesError → Meaning (Opti
 align_or at (Ok a) = Ok (Some a)
 align_or at (Err e) = fault_at at BadAlignment
 
+-- the alignment of so many bytes, where some are asked for; a fault where they are none or no power of two below the limit
 abbrev pub alignment_in : Place → Option ℕ → Meaning (Option ℕ)
 alignment_in at None = Ok None
 alignment_in at (Some bytes) = if nat_eq bytes 0 then fault_at at BadAlignment else align_or at (align_of_bytes bytes)
@@ -73,14 +74,17 @@ flags_of r = record { 0 = bit_or (if r.c then 1 else 0) (if r.transparent then 4
 abbrev pub plain : ReprOptions
 plain = record { int = None; align = None; pack = None; flags = record { 0 = 0 }; scalable = None; field_shuffle_seed = 0 }
 
+-- what a `repr` asks for, with these alignments
 abbrev pub options : Repr → (align pack : Option ℕ) → ReprOptions
 options r align pack =
     record { int = option_map type_of_kind r.integer; align = align; pack = pack; flags = flags_of r; scalable = None; field_shuffle_seed = 0 }
 
+-- what a `repr` asks for, or the fault of its words, or that of its alignments, `packed` behind `align`
 abbrev pub repr_by : Place → Repr → Option FaultKind → Meaning ReprOptions
 repr_by at r (Some fault) = fault_at at fault
 repr_by at r None = after (λ align. after (λ pack. Ok (options r align pack)) (alignment_in at r.packed)) (alignment_in at r.align)
 
+-- what the `repr` of an item asks for, where it has one, at that place
 abbrev pub repr_in : Item → Option Place → Meaning ReprOptions
 repr_in it None = Ok plain
 repr_in it (Some at) = repr_by at it.repr (repr_fault it.repr it.kind)

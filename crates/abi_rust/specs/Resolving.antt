@@ -69,6 +69,7 @@ abbrev pub first_name : List Segment → Option Symbol
 first_name [] = None
 first_name (s ∷ ss) = Some (out-Segment s).name
 
+-- the name is `Self`
 abbrev pub is_self_name : Option Symbol → Bool
 is_self_name None = false
 is_self_name (Some name) = same_name name SELF_TYPE

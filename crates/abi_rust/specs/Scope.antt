@@ -32,6 +32,7 @@ owner_of s c = get nat_eq s.owners c
 unfoldable pub use_in : Scope → (inside : ℕ) → Symbol → Option ℕ
 use_in s m name = get same_key s.uses (m, name.0)
 
+-- the modules of the list, none where there is no list
 abbrev pub list_of : {S : Type 0} → Option (Vec ℕ S) → List ℕ
 list_of None = []
 list_of (Some ms) = ms.items

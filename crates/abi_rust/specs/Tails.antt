@@ -28,6 +28,7 @@ use Rattle.abi_rust.specs.Values.{number}
 abbrev pub Outer : Type 0
 Outer = List (ℕ × GivensRead)
 
+-- one layer of the program's list of them
 abbrev pub layer_above : Above-F Outer → Outer
 layer_above layer.Nothing = []
 layer_above (layer.«Type» n given next) = (n, givens (all_given given.now)) ∷ next.now
@@ -70,6 +71,7 @@ assumed_by true (TypeParameter default) = of_type dyn
 assumed_by false (TypeParameter default) = of_type never
 assumed_by may (ConstParameter t default) = of_value (number Usize (pos 0))
 
+-- what a parameter is assumed to be given, by its kind and whether it may be without a size
 abbrev pub assumed : Parameter → GivenRead
 assumed p = assumed_by p.may_be_unsized p.kind
 

@@ -11,6 +11,7 @@ use Rattle.abi_rust.specs.Meaning.{Meaning}
 use Rattle.abi_rust.specs.Resolving.{resolved}
 use Rattle.abi_rust.specs.Types.{TyRead, adt, no_given}
 
+-- an alias is the type that it names; any other item the type that it defines, with nothing given
 abbrev pub kind_type : Context → ℕ → Item → ItemKind → Meaning TyRead
 kind_type cx n it (AliasItem t) = resolved cx (outside it.«module») t
 kind_type cx n it _ = Ok (adt n no_given)

@@ -64,6 +64,7 @@ abbrev pub layer_given : Given-F GivenRead TyRead → GivenRead
 layer_given (layer.«Type» t) = of_type t
 layer_given (layer.Value v) = of_value (value_of v)
 
+-- one layer of a type
 abbrev pub layer_ty : Ty-F GivenRead TyRead → TyRead
 layer_ty layer.Never = never
 layer_ty (layer.Primitive p) = primitive p

@@ -65,6 +65,7 @@ integer_at n =
     else (if n == 13 then Some U128
     else (if n == 14 then Some Usize else None)))))))))))
 
+-- the integer type of this kind, where there is a kind
 abbrev pub integer_type_by : Option IntegerKind → Option Primitive
 integer_type_by None = None
 integer_type_by (Some kind) = Some (Integer kind)

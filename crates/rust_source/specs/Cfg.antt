@@ -49,6 +49,7 @@ family_name family.Windows = codes "windows"
 family_name family.Wasm = codes "wasm"
 family_name family.Neither = []
 
+-- the number, without a suffix, is the one that the target has
 abbrev pub is_wanted : (wanted : ℕ) → Number → Bool
 is_wanted wanted (number.Integer n None) = n == wanted
 is_wanted wanted _ = false
@@ -79,10 +80,12 @@ has_value t name value =
     else (if bytes_eq name (codes "target_os") then Some (bytes_eq value t.os.now)
     else (if bytes_eq name (codes "target_env") then Some (bytes_eq value t.env.now) else other_value t name value))))
 
+-- the family is that of Unix
 abbrev pub is_unix : Family → Bool
 is_unix family.Unix = true
 is_unix _ = false
 
+-- the family is that of Windows
 abbrev pub is_windows : Family → Bool
 is_windows family.Windows = true
 is_windows _ = false
@@ -104,6 +107,7 @@ abbrev pub string_of : (text : List ℕ) → TokenKind → Option (List ℕ)
 string_of text kind.Text = Some text
 string_of text _ = None
 
+-- the text that a token is, where there is a token and it is a string
 abbrev pub string_by : Cursor → Option Token → Option (List ℕ)
 string_by c None = None
 string_by c (Some t) = string_of (token_text c t) t.kind

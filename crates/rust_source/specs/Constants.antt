@@ -51,6 +51,7 @@ abbrev pub owner_by : Result (PathRead × Cursor) SourceFault → Known → Read
 owner_by (Ok p) names = done (Some p) names
 owner_by (Err e) names = done None names
 
+-- the same of what was read, with what is known behind it
 abbrev pub owner_of : Reading (PathRead × Cursor) → Reading (Option (PathRead × Cursor))
 owner_of read = owner_by read.0 read.1
 
@@ -65,6 +66,7 @@ abbrev pub own_by : (number : ℕ) → Attributes → ItemsRead → Result (Writ
 own_by number said items (Ok w) names = done tt (names, with_item (item_in number said w.0) items)
 own_by number said items (Err e) names = done tt (names, items)
 
+-- the same of what was read, with what is known behind it
 abbrev pub own_of : (number : ℕ) → Attributes → ItemsRead → Reading (WrittenRead × Cursor) → Result (Unit {0}) SourceFault × Having
 own_of number said items read = own_by number said items read.0 read.1
 

@@ -38,6 +38,7 @@ restricts keyword.SelfValue second = is_none second
 restricts keyword.Super second = is_none second
 restricts _ second = false
 
+-- the first of both tokens is a keyword, and both begin so
 abbrev pub restricts_by : (first : Option TokenKind) → (second : Option Token) → Bool
 restricts_by (Some (kind.Keyword k)) second = restricts k second
 restricts_by _ second = false

@@ -121,6 +121,7 @@ where_one all c names =
 abbrev pub where_on : (go_on : List ParameterRead → Reader (List ParameterRead)) → List ParameterRead → Reader (List ParameterRead)
 where_on go_on all c names = if is_next c 44 then go_on all (passed c 1) names else done (all, c) names
 
+-- parameters, with what `where` asks of them from here on; at most so many asks are read
 abbrev pub where_from : (limit : ℕ) → List ParameterRead → Reader (List ParameterRead)
 where_from zero all c names = done (all, c) names
 where_from (suc limit) all c names =

@@ -17,6 +17,7 @@ Having = Known × ItemsRead
 abbrev pub noted_within : {A : Type 0} → (items : ItemsRead) → Result A SourceFault × Noted → Result A SourceFault × Having
 noted_within items read = (read.0, (read.1.0, record items { unknown = read.1.1 }))
 
+-- the names that have numbers, and the unknown names of `cfg`
 abbrev pub noted : Having → Noted
 noted known = (known.0, known.1.unknown)
 

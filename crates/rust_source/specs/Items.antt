@@ -96,22 +96,28 @@ no_items = record { modules = []; items = []; uses = []; owners = []; passed_ove
 abbrev pub field_of : Field → FieldRead
 field_of f = record { name = f.name; at = f.at; ty = type_of f.ty; start = f.start; end = f.end }
 
+-- fields, by whether they are a tuple's
 abbrev pub fields_of : Fields → FieldsRead
 fields_of f = record { is_tuple = f.is_tuple; all = map field_of f.all.items }
 
+-- a variant
 abbrev pub variant_of : Variant → VariantRead
 variant_of v = record { name = v.name; at = v.at; fields = fields_of v.fields; discriminant = option_map expr_of v.discriminant }
 
+-- what a parameter stands for, with its default
 abbrev pub parameter_kind_of : ParameterKind → ParameterKindRead
 parameter_kind_of (parameter.«Type» default) = for_type (option_map type_of default)
 parameter_kind_of (parameter.Const t default) = for_constant (type_of t) (option_map expr_of default)
 
+-- a parameter
 abbrev pub parameter_of : Parameter → ParameterRead
 parameter_of p = record { name = p.name; at = p.at; may_be_unsized = p.may_be_unsized; kind = parameter_kind_of p.kind }
 
+-- a constant, with the type that it is of
 abbrev pub constant_of : Const → ItemKindRead
 constant_of c = const_of (type_of c.ty) (option_map expr_of c.value) c.owner
 
+-- what an item is
 abbrev pub item_kind_of : ItemKind → ItemKindRead
 item_kind_of (item.Struct f) = struct_of (fields_of f)
 item_kind_of (item.Enum e) = enum_of (map variant_of e.variants.items)
@@ -119,6 +125,7 @@ item_kind_of (item.Union f) = union_of (fields_of f)
 item_kind_of (item.Alias t) = alias_of (type_of t)
 item_kind_of (item.Const c) = constant_of c
 
+-- an item
 abbrev pub item_of : Item → ItemRead
 item_of i = record {
   name = i.name;
@@ -130,9 +137,11 @@ item_of i = record {
   kind = item_kind_of i.kind;
 }
 
+-- a use
 abbrev pub use_of : Use → UseRead
 use_of u = record { inside = u.«module»; is_global = u.is_global; path = u.path.items; name = u.name; is_glob = u.is_glob }
 
+-- all that sources have
 abbrev pub items_of : Items → ItemsRead
 items_of i = record {
   modules = i.modules.items;

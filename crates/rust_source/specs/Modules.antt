@@ -55,6 +55,7 @@ passes keyword.Const = true
 passes keyword.Mod = true
 passes _ = false
 
+-- the token is a keyword that begins what is passed over
 abbrev pub passes_kind : Option TokenKind → Bool
 passes_kind (Some (kind.Keyword k)) = passes k
 passes_kind _ = false

@@ -95,6 +95,7 @@ keeps_semicolon keyword.Type second = true
 keeps_semicolon keyword.Use second = true
 keeps_semicolon _ second = false
 
+-- the first of both tokens is a keyword, and what begins with both ends so
 abbrev pub ends_at_semicolon_by : (first second : Option TokenKind) → Bool
 ends_at_semicolon_by (Some (kind.Keyword k)) second = keeps_semicolon k second
 ends_at_semicolon_by _ second = false

@@ -24,6 +24,7 @@ abbrev pub after_by : {S A B : Type 0} → (A → S → Result B SourceFault × 
 after_by next (Ok a) known = next a known
 after_by next (Err e) known = (Err e, known)
 
+-- the same of what was read, with what is known behind it
 abbrev pub after : {S A B : Type 0} → (A → S → Result B SourceFault × S) → Result A SourceFault × S → Result B SourceFault × S
 after next r = after_by next r.0 r.1
 
@@ -62,6 +63,7 @@ as_name t kind.Name = Some t
 as_name t kind.RawName = Some t
 as_name t _ = None
 
+-- the token, where there is one and it is of the kind of a name
 abbrev pub name_in : Option Token → Option Token
 name_in None = None
 name_in (Some t) = as_name t t.kind
@@ -74,6 +76,7 @@ path_word keyword.Super = Some (record { 0 = 2 })
 path_word keyword.SelfType = Some (record { 0 = 3 })
 path_word _ = None
 
+-- the name that a token is, where it is such a keyword
 abbrev pub word_in : Option TokenKind → Option Symbol
 word_in (Some (kind.Keyword k)) = path_word k
 word_in _ = None
@@ -102,10 +105,12 @@ path_name_by c names None = name c names
 unfoldable pub path_name : Cursor → (names : List (List ℕ)) → Reading Named
 path_name c names = path_name_by c names (word_in (next_kind c))
 
+-- there is a token that is a name
 abbrev pub is_some_name : Option Token → Bool
 is_some_name None = false
 is_some_name (Some t) = true
 
+-- there is a keyword that is a name
 abbrev pub is_some_word : Option Symbol → Bool
 is_some_word None = false
 is_some_word (Some n) = true
@@ -115,6 +120,7 @@ abbrev pub has_name : (own text : List ℕ) → TokenKind → Bool
 has_name own text kind.Name = bytes_eq own text
 has_name own text _ = false
 
+-- there is a token, and it is the name of this text
 abbrev pub is_named_by : Cursor → (text : List ℕ) → Option Token → Bool
 is_named_by c text None = false
 is_named_by c text (Some t) = has_name (token_text c t) text t.kind
@@ -129,6 +135,7 @@ word_text_of text kind.Name = text
 word_text_of text (kind.Keyword k) = text
 word_text_of text _ = []
 
+-- the text of a token that is a name or a keyword; nothing where there is none
 abbrev pub word_text_by : Cursor → Option Token → List ℕ
 word_text_by c None = []
 word_text_by c (Some t) = word_text_of (token_text c t) t.kind

@@ -24,6 +24,7 @@ abbrev pub number_of_kind : (text : List ℕ) → TokenKind → Number
 number_of_kind text kind.Number = number_written text
 number_of_kind text _ = number.Bad
 
+-- the number that a token is, a bad one where there is no token
 abbrev pub number_by : Cursor → Option Token → Number
 number_by c None = number.Bad
 number_by c (Some t) = number_of_kind (token_text c t) t.kind
@@ -46,6 +47,7 @@ packed_by r bytes None = record r { packed = Some bytes }
 packed_by r bytes (Some before) =
     record r { packed = Some (min before bytes); is_packed_apart = r.is_packed_apart || not (before == bytes) }
 
+-- the `repr` with `packed` to so many bytes more
 abbrev pub with_packed : Repr → (bytes : ℕ) → Repr
 with_packed r bytes = packed_by r bytes r.packed
 
@@ -59,6 +61,7 @@ abbrev pub kind_by : Cursor → Repr → IntegerKind → (before : Option Intege
 kind_by c r k None = Ok (record r { integer = Some k })
 kind_by c r k (Some before) = if sameb the_type before k then Ok (record r { integer = Some k }) else Err (fault c RepeatedInteger)
 
+-- the `repr` with this integer type more; a fault where the word is none
 abbrev pub integer_by : Cursor → Repr → Option IntegerKind → Result Repr SourceFault
 integer_by c r None = Err (fault c BadRepr)
 integer_by c r (Some k) = kind_by c r k r.integer

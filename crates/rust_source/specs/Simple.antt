@@ -56,6 +56,7 @@ abbrev pub pointing_by : (go_on : List Pointing → Cursor → PointingsRead) �
 pointing_by go_on all None c = Ok (all, c)
 pointing_by go_on all (Some p) c = go_on (all ++ p ∷ []) c
 
+-- the fault, or what comes of the next that points
 abbrev pub pointing_step : (go_on : List Pointing → Cursor → PointingsRead) → List Pointing → Result (Option Pointing × Cursor) SourceFault → PointingsRead
 pointing_step go_on all (Err e) = Err e
 pointing_step go_on all (Ok p) = pointing_by go_on all p.0 p.1
@@ -201,6 +202,7 @@ sign_of _ = None
 abbrev pub Signs : Type 0
 Signs = List (Unary × Place)
 
+-- all operators before an operand, one of which is here, or none
 abbrev pub sign_step : (go_on : Signs → Cursor → Result (Signs × Cursor) SourceFault) → Signs → Cursor → Option Unary → Result (Signs × Cursor) SourceFault
 sign_step go_on all c None = Ok (all, c)
 sign_step go_on all c (Some s) = go_on (all ++ (s, place c) ∷ []) (passed c 1)
@@ -214,6 +216,7 @@ signs_from (suc limit) all c = sign_step (signs_from limit) all c (sign_of (next
 unfoldable pub signs : Cursor → Result (Signs × Cursor) SourceFault
 signs c = signs_from most_nested [] c
 
+-- the literal behind its operators, and nothing else
 abbrev pub literal_behind : Result (Signs × Cursor) SourceFault → Result (ExprRead × Cursor) SourceFault
 literal_behind (Err e) = Err e
 literal_behind (Ok s) =

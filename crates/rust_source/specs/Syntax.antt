@@ -103,6 +103,7 @@ layer_argument (layer.«Type» t) = of_type t
 layer_argument (layer.Const e) = of_const e
 layer_argument (layer.Binding at) = binding at
 
+-- of an expression
 abbrev pub layer_expr : Expr-F ArgumentRead ExprRead TypeRead PathRead SegmentRead → ExprRead
 layer_expr (layer.Integer n kind at) = integer n kind at
 layer_expr (layer.Char code at) = char code at
@@ -115,6 +116,7 @@ layer_expr (layer.Cast e t at) = cast e.value t.value at
 layer_expr (layer.If a b c at) = choice a.value b.value c.value at
 layer_expr (layer.Expr::Unevaluated u at) = other_expr u at
 
+-- of a type
 abbrev pub layer_type : Type-F ArgumentRead ExprRead TypeRead PathRead SegmentRead → TypeRead
 layer_type layer.Never = never
 layer_type (layer.Tuple all) = tuple (types all.items)
@@ -127,9 +129,11 @@ layer_type layer.Dyn = dyn
 layer_type (layer.Type::Path p) = named p
 layer_type (layer.Type::Unevaluated u at) = other_type u at
 
+-- of a path
 abbrev pub layer_path : Path-F ArgumentRead ExprRead TypeRead PathRead SegmentRead → PathRead
 layer_path p = path p.is_global (segments p.segments.items)
 
+-- of a segment of a path
 abbrev pub layer_segment : Segment-F ArgumentRead ExprRead TypeRead PathRead SegmentRead → SegmentRead
 layer_segment s = segment s.name.0 s.at (arguments s.arguments.items)
 

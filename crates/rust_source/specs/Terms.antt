@@ -293,8 +293,10 @@ inner (suc room) = record { type_in = type_with (inner room); expr_in = expr_wit
 abbrev pub type_read : (room : ℕ) → Reader TypeRead
 type_read room = (inner room).type_in
 
+-- the expression
 abbrev pub expr_read : (room : ℕ) → Reader ExprRead
 expr_read room = (inner room).expr_in
 
+-- the choice between two expressions, behind its `if` at this place
 abbrev pub choice_read : (room : ℕ) → Place → Reader ExprRead
 choice_read room = (inner room).choice_in

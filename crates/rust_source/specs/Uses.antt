@@ -83,6 +83,7 @@ names_read path c names = path_names_from (c.end - c.at) path c names
 abbrev pub begins_globally : (before : List UsedName) → Cursor → Bool
 begins_globally before c = (length before == 0) && is_pair c 58 58
 
+-- the place of a path, which begins with `::` where this says so
 abbrev pub used_place : UsePlace → (is_global : Bool) → UsePlace
 used_place place is_global = if is_global then record place { is_global = true } else place
 

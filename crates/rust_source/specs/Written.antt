@@ -31,9 +31,11 @@ pub record WrittenRead : Type 0 where
   pub head : HeadRead
   pub kind : ItemKindRead
 
+-- the name of an item, where it stands, and its parameters
 abbrev pub head_of : Head → HeadRead
 head_of h = record { name = h.name; at = h.at; parameters = map parameter_of h.parameters.items }
 
+-- an item by itself, as the program keeps it
 abbrev pub written_of : Written → WrittenRead
 written_of w = record { head = head_of w.head; kind = item_kind_of w.kind }
 
