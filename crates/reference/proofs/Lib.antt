@@ -44,3 +44,5 @@ mod PlainFacts
 mod OptionFacts
 mod Wide
 mod Departures
+-- the rules, by sections
+mod Sections

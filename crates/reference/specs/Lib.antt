@@ -15,3 +15,5 @@ pub mod Modifiers
 pub mod Transparent
 -- `Option`, by its own documentation
 pub mod Option
+-- the rules, by sections
+pub mod Chapter

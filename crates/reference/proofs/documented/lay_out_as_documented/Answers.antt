@@ -28,139 +28,85 @@ use Rattle.reference.proofs.Rust.{known_apart, known_packed}
 use Rattle.reference.proofs.Transparents.{known_transparent}
 use Rattle.reference.proofs.Variants.{known_aligned}
 use Rattle.reference.proofs.Small.{laid_by_size, laid_c_union, laid_scalar, laid_unit}
+use Rattle.reference.proofs.Sections.{given}
+use Rattle.reference.proofs.Sections as sections
+use Rattle.reference.specs.Chapter.{HasLayout}
 use Rattle.reference.proofs.documented.lay_out_as_documented.Goals as goal
 
-pub returns-clause-properties_align : goal.returns-clause-properties_align
-returns-clause-properties_align c =
-    each_lawful c.args.dl.now (tree_of c.args.tree.now) HasPowerAlign (λ t p law. ((layout_of p).align.abi, law.limit, refl)) c.lay_out.result c.lay_out.ensures.lawful
-    c.lay_out.ensures.each_layout
+pub returns-clause-properties : goal.returns-clause-properties
+returns-clause-properties c =
+    sections.properties c.args.dl.now (tree_of c.args.tree.now) c.lay_out.result
+    (each_lawful c.args.dl.now (tree_of c.args.tree.now) HasPowerAlign (λ t p law. ((layout_of p).align.abi, law.limit, refl)) c.lay_out.result c.lay_out.ensures.lawful c.lay_out.ensures.each_layout)
+    (each_lawful c.args.dl.now (tree_of c.args.tree.now) IsWhole (λ t p law. law.multiple) c.lay_out.result c.lay_out.ensures.lawful c.lay_out.ensures.each_layout)
 
-pub returns-clause-properties_size : goal.returns-clause-properties_size
-returns-clause-properties_size c =
-    each_lawful c.args.dl.now (tree_of c.args.tree.now) IsWhole (λ t p law. law.multiple) c.lay_out.result c.lay_out.ensures.lawful c.lay_out.ensures.each_layout
+pub returns-clause-simple : goal.returns-clause-simple
+returns-clause-simple c =
+    sections.simple c.args.dl.now (tree_of c.args.tree.now) c.lay_out.result
+    (each_laid c.args.dl.now (tree_of c.args.tree.now) IsSizedByTable (λ law. laid_scalar c.args.dl.now) c.lay_out.result c.lay_out.ensures.lawful c.lay_out.ensures.parts)
+    (each_laid_if c.args.dl.now (tree_of c.args.tree.now) (HasWideIndex c.args.dl.now) (HoldsAddresses c.args.dl.now) (λ given law. laid_addresses c.args.dl.now law given) c.lay_out.result c.lay_out.ensures.lawful c.lay_out.ensures.parts)
+    (each_laid c.args.dl.now (tree_of c.args.tree.now) (IsSignless (λ t p. IsLaying c.args.dl.now t (Ok p))) (λ law. laid_signless c.args.dl.now) c.lay_out.result c.lay_out.ensures.lawful c.lay_out.ensures.parts)
+    (each_laid c.args.dl.now (tree_of c.args.tree.now) IsAlignedBySize (λ law. laid_by_size c.args.dl.now law) c.lay_out.result c.lay_out.ensures.lawful c.lay_out.ensures.parts)
+    (each_laid_if c.args.dl.now (tree_of c.args.tree.now) (HasPointersOfIndex c.args.dl.now) (IsThin c.args.dl.now (λ t p. IsLaying c.args.dl.now t (Ok p))) (λ given law. laid_thin c.args.dl.now law given) c.lay_out.result c.lay_out.ensures.lawful c.lay_out.ensures.parts)
+    (each_laid c.args.dl.now (tree_of c.args.tree.now) (IsWide (λ t p. IsLaying c.args.dl.now t (Ok p))) (λ law. laid_wide c.args.dl.now) c.lay_out.result c.lay_out.ensures.lawful c.lay_out.ensures.parts)
+    (each_laid c.args.dl.now (tree_of c.args.tree.now) IsArray (λ law. laid_array c.args.dl.now) c.lay_out.result c.lay_out.ensures.lawful c.lay_out.ensures.parts)
+    (each_laid c.args.dl.now (tree_of c.args.tree.now) IsUnit (λ law. laid_unit c.args.dl.now law) c.lay_out.result c.lay_out.ensures.lawful c.lay_out.ensures.parts)
 
-pub returns-clause-primitive_size : goal.returns-clause-primitive_size
-returns-clause-primitive_size c =
-    each_laid c.args.dl.now (tree_of c.args.tree.now) IsSizedByTable (λ law. laid_scalar c.args.dl.now) c.lay_out.result c.lay_out.ensures.lawful c.lay_out.ensures.parts
-
-pub returns-clause-primitive_size_minimum : goal.returns-clause-primitive_size_minimum
-returns-clause-primitive_size_minimum c =
-    each_laid_if c.args.dl.now (tree_of c.args.tree.now) (HasWideIndex c.args.dl.now) (HoldsAddresses c.args.dl.now) (λ given law. laid_addresses c.args.dl.now law given) c.lay_out.result c.lay_out.ensures.lawful
-    c.lay_out.ensures.parts
-
-pub returns-clause-primitive_integer_alignment : goal.returns-clause-primitive_integer_alignment
-returns-clause-primitive_integer_alignment c =
-    each_laid c.args.dl.now (tree_of c.args.tree.now) (IsSignless (λ t p. IsLaying c.args.dl.now t (Ok p))) (λ law. laid_signless c.args.dl.now) c.lay_out.result c.lay_out.ensures.lawful c.lay_out.ensures.parts
-
-pub returns-clause-primitive_platform_specific_alignment : goal.returns-clause-primitive_platform_specific_alignment
-returns-clause-primitive_platform_specific_alignment c =
-    each_laid c.args.dl.now (tree_of c.args.tree.now) IsAlignedBySize (λ law. laid_by_size c.args.dl.now law) c.lay_out.result c.lay_out.ensures.lawful c.lay_out.ensures.parts
-
-pub returns-clause-pointer_thin : goal.returns-clause-pointer_thin
-returns-clause-pointer_thin c =
-    each_laid_if c.args.dl.now (tree_of c.args.tree.now) (HasPointersOfIndex c.args.dl.now) (IsThin c.args.dl.now (λ t p. IsLaying c.args.dl.now t (Ok p))) (λ given law. laid_thin c.args.dl.now law given) c.lay_out.result c.lay_out.ensures.lawful
-    c.lay_out.ensures.parts
-
-pub returns-clause-pointer_unsized : goal.returns-clause-pointer_unsized
-returns-clause-pointer_unsized c =
-    each_laid c.args.dl.now (tree_of c.args.tree.now) (IsWide (λ t p. IsLaying c.args.dl.now t (Ok p))) (λ law. laid_wide c.args.dl.now) c.lay_out.result c.lay_out.ensures.lawful c.lay_out.ensures.parts
-
-pub returns-clause-array : goal.returns-clause-array
-returns-clause-array c =
-    each_laid c.args.dl.now (tree_of c.args.tree.now) IsArray (λ law. laid_array c.args.dl.now) c.lay_out.result c.lay_out.ensures.lawful c.lay_out.ensures.parts
-
-pub returns-clause-tuple_unit : goal.returns-clause-tuple_unit
-returns-clause-tuple_unit c =
-    each_laid c.args.dl.now (tree_of c.args.tree.now) IsUnit (λ law. laid_unit c.args.dl.now law) c.lay_out.result c.lay_out.ensures.lawful c.lay_out.ensures.parts
-
-pub returns-clause-repr_inter_field : goal.returns-clause-repr_inter_field
-returns-clause-repr_inter_field c =
-    each_only c.args.dl.now (tree_of c.args.tree.now) c.lay_out.result c.lay_out.ensures.one_each c.lay_out.ensures.parts
-
-pub returns-clause-repr_rust_layout : goal.returns-clause-repr_rust_layout
-returns-clause-repr_rust_layout c =
-    each_ordered c.args.dl.now (tree_of c.args.tree.now) IsAligned (λ law. known_aligned c.args.dl.now law) c.lay_out.result c.lay_out.ensures.lawful
+pub returns-clause-rust : goal.returns-clause-rust
+returns-clause-rust c =
+    sections.rust c.args.dl.now (tree_of c.args.tree.now) c.lay_out.result
+    (each_only c.args.dl.now (tree_of c.args.tree.now) c.lay_out.result c.lay_out.ensures.one_each c.lay_out.ensures.parts)
+    (each_ordered c.args.dl.now (tree_of c.args.tree.now) IsAligned (λ law. known_aligned c.args.dl.now law) c.lay_out.result c.lay_out.ensures.lawful
     (each_known c.args.dl.now (tree_of c.args.tree.now) c.lay_out.result
-    (each_only c.args.dl.now (tree_of c.args.tree.now) c.lay_out.result c.lay_out.ensures.one_each c.lay_out.ensures.parts) c.lay_out.ensures.placed c.lay_out.ensures.each_list)
-
-pub returns-clause-repr_rust_layout_struct : goal.returns-clause-repr_rust_layout_struct
-returns-clause-repr_rust_layout_struct c =
-    each_ordered c.args.dl.now (tree_of c.args.tree.now) IsApart (λ law t p h asked lists. known_apart c.args.dl.now t p h asked) c.lay_out.result c.lay_out.ensures.lawful
+    (each_only c.args.dl.now (tree_of c.args.tree.now) c.lay_out.result c.lay_out.ensures.one_each c.lay_out.ensures.parts) c.lay_out.ensures.placed c.lay_out.ensures.each_list))
+    (each_ordered c.args.dl.now (tree_of c.args.tree.now) IsApart (λ law t p h asked lists. known_apart c.args.dl.now t p h asked) c.lay_out.result c.lay_out.ensures.lawful
     (each_known c.args.dl.now (tree_of c.args.tree.now) c.lay_out.result
-    (each_only c.args.dl.now (tree_of c.args.tree.now) c.lay_out.result c.lay_out.ensures.one_each c.lay_out.ensures.parts) c.lay_out.ensures.placed c.lay_out.ensures.each_list)
+    (each_only c.args.dl.now (tree_of c.args.tree.now) c.lay_out.result c.lay_out.ensures.one_each c.lay_out.ensures.parts) c.lay_out.ensures.placed c.lay_out.ensures.each_list))
 
-pub returns-clause-repr_c_struct : goal.returns-clause-repr_c_struct
-returns-clause-repr_c_struct c =
-    each_laid_if c.args.dl.now (tree_of c.args.tree.now) (c.args.dl.now.aggregate_align ≡ 0) IsCStruct (λ given law. laid_c_struct c.args.dl.now given) c.lay_out.result c.lay_out.ensures.lawful
-    c.lay_out.ensures.parts
+pub returns-clause-modifiers : goal.returns-clause-modifiers
+returns-clause-modifiers c =
+    sections.modifiers c.args.dl.now (tree_of c.args.tree.now) c.lay_out.result
+    (each_beside c.args.dl.now (tree_of c.args.tree.now) (IsRaised (λ t p. IsLaying c.args.dl.now t (Ok p))) (λ law. only_raised c.args.dl.now law) c.lay_out.result c.lay_out.ensures.lawful
+    (each_only c.args.dl.now (tree_of c.args.tree.now) c.lay_out.result c.lay_out.ensures.one_each c.lay_out.ensures.parts))
+    (each_laid c.args.dl.now (tree_of c.args.tree.now) IsPackedC (λ law. laid_packed_c c.args.dl.now law) c.lay_out.result c.lay_out.ensures.lawful c.lay_out.ensures.parts)
+    (each_ordered c.args.dl.now (tree_of c.args.tree.now) IsPacked (λ law t p h asked lists. known_packed c.args.dl.now t p h asked) c.lay_out.result c.lay_out.ensures.lawful
+    (each_known c.args.dl.now (tree_of c.args.tree.now) c.lay_out.result
+    (each_only c.args.dl.now (tree_of c.args.tree.now) c.lay_out.result c.lay_out.ensures.one_each c.lay_out.ensures.parts) c.lay_out.ensures.placed c.lay_out.ensures.each_list))
+    (each_beside c.args.dl.now (tree_of c.args.tree.now) (IsRaisedEnum (λ t p. IsLaying c.args.dl.now t (Ok p)))
+    (λ law. only_raised_enum c.args.dl.now law) c.lay_out.result c.lay_out.ensures.lawful
+    (each_only c.args.dl.now (tree_of c.args.tree.now) c.lay_out.result c.lay_out.ensures.one_each c.lay_out.ensures.parts))
 
-pub returns-clause-repr_c_union : goal.returns-clause-repr_c_union
-returns-clause-repr_c_union c =
-    each_laid_if c.args.dl.now (tree_of c.args.tree.now) (c.args.dl.now.aggregate_align ≡ 0) IsCUnion (λ given law. laid_c_union c.args.dl.now given) c.lay_out.result c.lay_out.ensures.lawful
-    c.lay_out.ensures.parts
+pub returns-clause-c : goal.returns-clause-c
+returns-clause-c c unpadded =
+    sections.c c.args.dl.now (tree_of c.args.tree.now) c.lay_out.result
+    (given c.args.dl.now (tree_of c.args.tree.now) IsCStruct c.lay_out.result (each_laid_if c.args.dl.now (tree_of c.args.tree.now) (c.args.dl.now.aggregate_align ≡ 0) IsCStruct (λ given law. laid_c_struct c.args.dl.now given) c.lay_out.result c.lay_out.ensures.lawful c.lay_out.ensures.parts) unpadded)
+    (given c.args.dl.now (tree_of c.args.tree.now) IsCUnion c.lay_out.result (each_laid_if c.args.dl.now (tree_of c.args.tree.now) (c.args.dl.now.aggregate_align ≡ 0) IsCUnion (λ given law. laid_c_union c.args.dl.now given) c.lay_out.result c.lay_out.ensures.lawful c.lay_out.ensures.parts) unpadded)
+    (given c.args.dl.now (tree_of c.args.tree.now) (IsCEnum c.args.dl.now) c.lay_out.result (each_laid_if c.args.dl.now (tree_of c.args.tree.now) (c.args.dl.now.aggregate_align ≡ 0) (IsCEnum c.args.dl.now) (λ given law. laid_c_enum c.args.dl.now given law) c.lay_out.result c.lay_out.ensures.lawful c.lay_out.ensures.parts) unpadded)
+    (given c.args.dl.now (tree_of c.args.tree.now) (IsPrimitiveEnum c.args.dl.now) c.lay_out.result (each_laid_if c.args.dl.now (tree_of c.args.tree.now) (c.args.dl.now.aggregate_align ≡ 0) (IsPrimitiveEnum c.args.dl.now) (λ given law. laid_primitive_enum c.args.dl.now given law) c.lay_out.result c.lay_out.ensures.lawful c.lay_out.ensures.parts) unpadded)
 
-pub returns-clause-repr_c_adt : goal.returns-clause-repr_c_adt
-returns-clause-repr_c_adt c =
-    each_laid_if c.args.dl.now (tree_of c.args.tree.now) (c.args.dl.now.aggregate_align ≡ 0) (IsCEnum c.args.dl.now) (λ given law. laid_c_enum c.args.dl.now given law) c.lay_out.result c.lay_out.ensures.lawful
-    c.lay_out.ensures.parts
+pub returns-clause-option : goal.returns-clause-option
+returns-clause-option c unpadded =
+    sections.option c.args.dl.now (tree_of c.args.tree.now) c.lay_out.result
+    (given c.args.dl.now (tree_of c.args.tree.now) (OfOption c.args.dl.now (HasLayout c.args.dl.now) IsAsLarge) c.lay_out.result (each_inner_if c.args.dl.now (tree_of c.args.tree.now) (c.args.dl.now.aggregate_align ≡ 0) (OfOption c.args.dl.now (λ t p. IsLaying c.args.dl.now t (Ok p)) IsAsLarge)
+    (known_size c.args.dl.now) c.lay_out.result
+    (each_only c.args.dl.now (tree_of c.args.tree.now) c.lay_out.result c.lay_out.ensures.one_each c.lay_out.ensures.parts) c.lay_out.ensures.each_layout) unpadded)
+    (given c.args.dl.now (tree_of c.args.tree.now) (OfOption c.args.dl.now (HasLayout c.args.dl.now) (IsNoneZero c.args.dl.now)) c.lay_out.result (each_inner_if c.args.dl.now (tree_of c.args.tree.now) (c.args.dl.now.aggregate_align ≡ 0) (OfOption c.args.dl.now (λ t p. IsLaying c.args.dl.now t (Ok p)) (IsNoneZero c.args.dl.now))
+    (known_none c.args.dl.now) c.lay_out.result
+    (each_only c.args.dl.now (tree_of c.args.tree.now) c.lay_out.result c.lay_out.ensures.one_each c.lay_out.ensures.parts) c.lay_out.ensures.each_layout) unpadded)
+    (given c.args.dl.now (tree_of c.args.tree.now) (OfOption c.args.dl.now (HasLayout c.args.dl.now) (IsSomeAlike c.args.dl.now)) c.lay_out.result (each_inner_if c.args.dl.now (tree_of c.args.tree.now) (c.args.dl.now.aggregate_align ≡ 0) (OfOption c.args.dl.now (λ t p. IsLaying c.args.dl.now t (Ok p)) (IsSomeAlike c.args.dl.now))
+    (known_some c.args.dl.now) c.lay_out.result
+    (each_only c.args.dl.now (tree_of c.args.tree.now) c.lay_out.result c.lay_out.ensures.one_each c.lay_out.ensures.parts) c.lay_out.ensures.each_layout) unpadded)
 
 pub returns-clause-repr_c_enum : goal.returns-clause-repr_c_enum
-returns-clause-repr_c_enum c =
-    each_laid_if c.args.dl.now (tree_of c.args.tree.now) (HasEnumsOfIndex c.args.dl.now) (IsCTag c.args.dl.now) (λ given law. laid_c_tag c.args.dl.now given law) c.lay_out.result c.lay_out.ensures.lawful
-    c.lay_out.ensures.parts
-
-pub returns-clause-repr_primitive_adt : goal.returns-clause-repr_primitive_adt
-returns-clause-repr_primitive_adt c =
-    each_laid_if c.args.dl.now (tree_of c.args.tree.now) (c.args.dl.now.aggregate_align ≡ 0) (IsPrimitiveEnum c.args.dl.now) (λ given law. laid_primitive_enum c.args.dl.now given law) c.lay_out.result c.lay_out.ensures.lawful
-    c.lay_out.ensures.parts
-
-pub returns-clause-repr_alignment_align : goal.returns-clause-repr_alignment_align
-returns-clause-repr_alignment_align c =
-    each_beside c.args.dl.now (tree_of c.args.tree.now) (IsRaised (λ t p. IsLaying c.args.dl.now t (Ok p))) (λ law. only_raised c.args.dl.now law) c.lay_out.result c.lay_out.ensures.lawful
-    (each_only c.args.dl.now (tree_of c.args.tree.now) c.lay_out.result c.lay_out.ensures.one_each c.lay_out.ensures.parts)
+returns-clause-repr_c_enum c premise =
+    given c.args.dl.now (tree_of c.args.tree.now) (IsCTag c.args.dl.now) c.lay_out.result (each_laid_if c.args.dl.now (tree_of c.args.tree.now) (HasEnumsOfIndex c.args.dl.now) (IsCTag c.args.dl.now) (λ given law. laid_c_tag c.args.dl.now given law) c.lay_out.result c.lay_out.ensures.lawful c.lay_out.ensures.parts) premise
 
 pub returns-clause-repr_alignment_packed : goal.returns-clause-repr_alignment_packed
-returns-clause-repr_alignment_packed c =
-    each_beside_if c.args.dl.now (tree_of c.args.tree.now) (c.args.dl.now.aggregate_align ≡ 0) (IsPackedWide (λ t p. IsLaying c.args.dl.now t (Ok p))) (λ given law. only_wide c.args.dl.now law given) c.lay_out.result c.lay_out.ensures.lawful
-    (each_only c.args.dl.now (tree_of c.args.tree.now) c.lay_out.result c.lay_out.ensures.one_each c.lay_out.ensures.parts)
-
-pub returns-clause-repr_alignment_packed_fields : goal.returns-clause-repr_alignment_packed_fields
-returns-clause-repr_alignment_packed_fields c =
-    each_laid c.args.dl.now (tree_of c.args.tree.now) IsPackedC (λ law. laid_packed_c c.args.dl.now law) c.lay_out.result c.lay_out.ensures.lawful c.lay_out.ensures.parts
-
-pub returns-clause-repr_alignment_packed_padding : goal.returns-clause-repr_alignment_packed_padding
-returns-clause-repr_alignment_packed_padding c =
-    each_ordered c.args.dl.now (tree_of c.args.tree.now) IsPacked (λ law t p h asked lists. known_packed c.args.dl.now t p h asked) c.lay_out.result c.lay_out.ensures.lawful
-    (each_known c.args.dl.now (tree_of c.args.tree.now) c.lay_out.result
-    (each_only c.args.dl.now (tree_of c.args.tree.now) c.lay_out.result c.lay_out.ensures.one_each c.lay_out.ensures.parts) c.lay_out.ensures.placed c.lay_out.ensures.each_list)
-
-pub returns-clause-repr_alignment_enum : goal.returns-clause-repr_alignment_enum
-returns-clause-repr_alignment_enum c =
-    each_beside c.args.dl.now (tree_of c.args.tree.now) (IsRaisedEnum (λ t p. IsLaying c.args.dl.now t (Ok p)))
-    (λ law. only_raised_enum c.args.dl.now law) c.lay_out.result c.lay_out.ensures.lawful
-    (each_only c.args.dl.now (tree_of c.args.tree.now) c.lay_out.result c.lay_out.ensures.one_each c.lay_out.ensures.parts)
+returns-clause-repr_alignment_packed c premise =
+    given c.args.dl.now (tree_of c.args.tree.now) (IsPackedWide (HasLayout c.args.dl.now)) c.lay_out.result (each_beside_if c.args.dl.now (tree_of c.args.tree.now) (c.args.dl.now.aggregate_align ≡ 0) (IsPackedWide (λ t p. IsLaying c.args.dl.now t (Ok p))) (λ given law. only_wide c.args.dl.now law given) c.lay_out.result c.lay_out.ensures.lawful
+    (each_only c.args.dl.now (tree_of c.args.tree.now) c.lay_out.result c.lay_out.ensures.one_each c.lay_out.ensures.parts)) premise
 
 pub returns-clause-repr_transparent_layout_abi : goal.returns-clause-repr_transparent_layout_abi
-returns-clause-repr_transparent_layout_abi c =
-    each_lawful_if c.args.dl.now (tree_of c.args.tree.now) (c.args.dl.now.aggregate_align ≡ 0) IsTransparent (known_transparent c.args.dl.now) c.lay_out.result c.lay_out.ensures.lawful
+returns-clause-repr_transparent_layout_abi c premise =
+    given c.args.dl.now (tree_of c.args.tree.now) IsTransparent c.lay_out.result (each_lawful_if c.args.dl.now (tree_of c.args.tree.now) (c.args.dl.now.aggregate_align ≡ 0) IsTransparent (known_transparent c.args.dl.now) c.lay_out.result c.lay_out.ensures.lawful
     (each_known c.args.dl.now (tree_of c.args.tree.now) c.lay_out.result
-    (each_only c.args.dl.now (tree_of c.args.tree.now) c.lay_out.result c.lay_out.ensures.one_each c.lay_out.ensures.parts)
-    c.lay_out.ensures.placed c.lay_out.ensures.each_list) c.lay_out.ensures.each_layout
-
-pub returns-clause-option_size : goal.returns-clause-option_size
-returns-clause-option_size c =
-    each_inner_if c.args.dl.now (tree_of c.args.tree.now) (c.args.dl.now.aggregate_align ≡ 0) (OfOption c.args.dl.now (λ t p. IsLaying c.args.dl.now t (Ok p)) IsAsLarge)
-    (known_size c.args.dl.now) c.lay_out.result
-    (each_only c.args.dl.now (tree_of c.args.tree.now) c.lay_out.result c.lay_out.ensures.one_each c.lay_out.ensures.parts) c.lay_out.ensures.each_layout
-
-pub returns-clause-option_none_is_zero : goal.returns-clause-option_none_is_zero
-returns-clause-option_none_is_zero c =
-    each_inner_if c.args.dl.now (tree_of c.args.tree.now) (c.args.dl.now.aggregate_align ≡ 0) (OfOption c.args.dl.now (λ t p. IsLaying c.args.dl.now t (Ok p)) (IsNoneZero c.args.dl.now))
-    (known_none c.args.dl.now) c.lay_out.result
-    (each_only c.args.dl.now (tree_of c.args.tree.now) c.lay_out.result c.lay_out.ensures.one_each c.lay_out.ensures.parts) c.lay_out.ensures.each_layout
-
-pub returns-clause-option_some_is_its_value : goal.returns-clause-option_some_is_its_value
-returns-clause-option_some_is_its_value c =
-    each_inner_if c.args.dl.now (tree_of c.args.tree.now) (c.args.dl.now.aggregate_align ≡ 0) (OfOption c.args.dl.now (λ t p. IsLaying c.args.dl.now t (Ok p)) (IsSomeAlike c.args.dl.now))
-    (known_some c.args.dl.now) c.lay_out.result
-    (each_only c.args.dl.now (tree_of c.args.tree.now) c.lay_out.result c.lay_out.ensures.one_each c.lay_out.ensures.parts) c.lay_out.ensures.each_layout
+    (each_only c.args.dl.now (tree_of c.args.tree.now) c.lay_out.result c.lay_out.ensures.one_each c.lay_out.ensures.parts) c.lay_out.ensures.placed c.lay_out.ensures.each_list) c.lay_out.ensures.each_layout) premise
